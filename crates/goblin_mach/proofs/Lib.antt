@@ -1,0 +1,12 @@
+pub mod Computing
+pub mod Binds
+pub mod Faults
+pub mod Records
+pub mod Groups
+pub mod Runs
+pub mod Spellings
+pub mod Chains
+pub mod TrieLevels
+pub mod TrieSteps
+pub mod TrieFaults
+pub mod TrieRelation

@@ -1,0 +1,5 @@
+use Rattle.std.proofs.Common.{refl}
+use Rattle.goblin_mach.proofs.laws.rows.chain_of_file_a.Goals as goal
+
+pub returns : goal.returns
+returns c = record { there = (refl, tt); begins = refl; linked = tt }

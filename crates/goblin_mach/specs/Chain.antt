@@ -1,0 +1,66 @@
+-- The chain of load commands (`mach-o/loader.h`, struct load_command).
+use Rattle.std.specs.Prelude.{◌≡◌, ℕ, ◌+◌, ◌-◌, ◌<◌, List, [], ◌∷◌, length, Result, Ok, Err, nat_lt, if◌then◌else◌}
+use Rattle.goblin_mach.specs.declared.base.context.Endian.{Endian}
+use Rattle.goblin_mach.specs.Answer.{◌>>=◌}
+use Rattle.goblin_mach.specs.Fault.{Fault, malformed}
+use Rattle.goblin_mach.specs.Record.{Field, num, Value, number_among, record_at}
+
+-- a load command: where it stands, and the values of its record, of which the first two are cmd and cmdsize
+pub record Command : Type 0 where
+  pub offset : ℕ
+  pub values : List Value
+
+abbrev pub cmd_of : Command → ℕ
+cmd_of c = number_among c.values 0
+
+abbrev pub cmdsize_of : Command → ℕ
+cmdsize_of c = number_among c.values 1
+
+-- the header with which every load command begins
+abbrev pub header_fields : List Field
+header_fields = num 4 ∷ num 4 ∷ []
+
+-- The load command at s: its header, whose cmdsize is no more than what is left; or why there is none.
+abbrev pub command_at : Endian → List ℕ → ℕ → Result Command Fault
+command_at le bytes s =
+    record_at le header_fields bytes s >>= λ values.
+    if nat_lt (length bytes - s) (number_among values 1) then Err malformed
+    else Ok (record { offset = s; values = values })
+
+-- the command is the one that stands at its offset
+abbrev pub IsThere : Endian → List ℕ → Command → Type 0
+IsThere le bytes c = command_at le bytes c.offset ≡ Ok c
+
+abbrev pub AllThere : Endian → List ℕ → List Command → Type 0
+AllThere le bytes [] = Unit {0}
+AllThere le bytes (c ∷ cs) = IsThere le bytes c × AllThere le bytes cs
+
+-- the first of them stands at s
+abbrev pub BeginsAt : ℕ → List Command → Type 0
+BeginsAt s [] = Unit {0}
+BeginsAt s (c ∷ cs) = c.offset ≡ s
+
+-- each begins as many bytes after the one before it as that one's cmdsize says
+abbrev pub IsLinked : List Command → Type 0
+IsLinked [] = Unit {0}
+IsLinked (c ∷ []) = Unit {0}
+IsLinked (c ∷ d ∷ cs) = (d.offset ≡ c.offset + cmdsize_of c) × IsLinked (d ∷ cs)
+
+-- A chain from s: commands that stand at their offsets, linked from s on.
+pub record IsChain (le : Endian) (bytes : List ℕ) (s : ℕ) (cs : List Command) : Type 0 where
+  pub there : AllThere le bytes cs
+  pub begins : BeginsAt s cs
+  pub linked : IsLinked cs
+
+-- the place after the last of them, or s
+abbrev pub end_of : ℕ → List Command → ℕ
+end_of s [] = s
+end_of s (c ∷ []) = c.offset + cmdsize_of c
+end_of s (c ∷ d ∷ cs) = end_of s (d ∷ cs)
+
+-- A chain of n commands from s is broken: after fewer than n stands none, for this fault.
+pub record IsBroken (le : Endian) (bytes : List ℕ) (s n : ℕ) (f : Fault) : Type 0 where
+  pub front : List Command
+  pub chain : IsChain le bytes s front
+  pub fewer : length front < n
+  pub fault : command_at le bytes (end_of s front) ≡ Err f

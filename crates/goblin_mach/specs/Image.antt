@@ -1,0 +1,50 @@
+-- When an image opens, and the faults that stand where it doesn't (`mach-o/loader.h`).
+use Rattle.std.specs.Prelude.{◌≡◌, ℕ, ◌+◌, ◌/◌, ◌<◌, ◌≤◌, ◌⊎◌, List, length, codes, Some, None, Ok, Err}
+use Rattle.goblin_mach.specs.declared.base.context.Ctx.{Ctx}
+use Rattle.goblin_mach.specs.Fault.{Fault, malformed, bad_magic, too_short}
+use Rattle.goblin_mach.specs.Magic.{magic_at, header_size, ncmds_at, sizeofcmds_at}
+use Rattle.goblin_mach.specs.Chain.{Command, IsChain, IsBroken}
+
+-- the magic at o is one of an image, of which ctx speaks, and 32 bytes are there
+pub record HasHeader (bytes : List ℕ) (o magic : ℕ) (ctx : Ctx) : Type 0 where
+  pub magic_is : magic_at bytes o ≡ Ok (magic, Some ctx)
+  pub room : o + 32 ≤ length bytes
+
+-- the header's counts can be those of an image of so many bytes
+pub record CountsFit (bytes : List ℕ) (o : ℕ) (ctx : Ctx) : Type 0 where
+  pub ncmds : ncmds_at ctx bytes o ≤ sizeofcmds_at ctx bytes o / 8
+  pub sizeofcmds : sizeofcmds_at ctx bytes o ≤ length bytes
+
+-- as many commands as the header says stand one after the other behind it
+pub record HasChain (bytes : List ℕ) (o : ℕ) (ctx : Ctx) (cs : List Command) : Type 0 where
+  pub chain : IsChain ctx.le bytes (o + header_size ctx.container) cs
+  pub count : length cs ≡ ncmds_at ctx bytes o
+
+-- An image with this magic, this context and this chain of commands opens at o. Each condition is a field.
+pub record OpensAs (bytes : List ℕ) (o magic : ℕ) (ctx : Ctx) (cs : List Command) : Type 0 where
+  pub header : HasHeader bytes o magic ctx
+  pub counts : CountsFit bytes o ctx
+  pub chain : HasChain bytes o ctx cs
+
+abbrev pub Opens : List ℕ → ℕ → Type 0
+Opens bytes o = (magic : ℕ) × (ctx : Ctx) × (cs : List Command) × OpensAs bytes o magic ctx cs
+
+-- A fault that stands where an image is opened at o: a header after its magic, the counts after the
+-- header, the chain after the counts.
+pub data ImageFault (bytes : List ℕ) (o : ℕ) : Fault → Type 0 where
+  no_magic : (f : Fault) → magic_at bytes o ≡ Err f → ImageFault bytes o f
+  other_magic : (magic : ℕ) → magic_at bytes o ≡ Ok (magic, None) → ImageFault bytes o (bad_magic magic)
+  short_header : (magic : ℕ) (ctx : Ctx) → magic_at bytes o ≡ Ok (magic, Some ctx) → length bytes < o + 32 → ImageFault bytes o malformed
+  too_many_commands : (magic : ℕ) (ctx : Ctx) → HasHeader bytes o magic ctx → (sizeofcmds_at ctx bytes o / 8 < ncmds_at ctx bytes o) ⊎ (length bytes < sizeofcmds_at ctx bytes o)
+      → ImageFault bytes o (too_short (ncmds_at ctx bytes o) (codes "load commands"))
+  broken_chain : (magic : ℕ) (ctx : Ctx) (f : Fault) → HasHeader bytes o magic ctx → CountsFit bytes o ctx
+      → IsBroken ctx.le bytes (o + header_size ctx.container) (ncmds_at ctx bytes o) f → ImageFault bytes o f
+
+-- The bytes open as a file: four bytes for a magic, and the image at 0.
+pub record MachOpens (bytes : List ℕ) : Type 0 where
+  pub magic : 4 ≤ length bytes
+  pub image : Opens bytes 0
+
+pub data MachFault (bytes : List ℕ) : Fault → Type 0 where
+  no_room : length bytes < 4 → MachFault bytes malformed
+  of_image : (f : Fault) → ImageFault bytes 0 f → MachFault bytes f

@@ -1,0 +1,16 @@
+pub mod Fault
+pub mod Answer
+pub mod Context
+pub mod Number
+pub mod Text
+pub mod Leb128
+pub mod Record
+pub mod Trie
+pub mod Lists
+pub mod Paths
+pub mod Nodes
+pub mod TrieFault
+pub mod Magic
+pub mod Chain
+pub mod Image
+pub mod Rows

@@ -1,0 +1,3 @@
+//! The export trie.
+
+pub mod laws;

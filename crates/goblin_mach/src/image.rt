@@ -1,0 +1,3 @@
+//! The image.
+
+pub mod laws;

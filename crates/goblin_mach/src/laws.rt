@@ -1,0 +1,9 @@
+//! Theorems on the definitions alone: functions with nothing to do, whose contracts are laws.
+
+pub mod rows;
+
+pub use crate::base::laws::one_spelling;
+pub use crate::dyld::laws::{
+    blocked_root_has_no_list, lists_within_levels, one_list, other_roots_have_lists,
+};
+pub use crate::image::laws::one_chain;

@@ -1,0 +1,59 @@
+//! The worked rows of docs/FORMAT.md that the definitions are checked on, as theorems.
+
+ghost use Rattle.std.specs.Prelude.{◌≡◌, ◌∷◌, ◌++◌, [], ℕ, List, codes, replicate, Ok, Err};
+ghost use Rattle.goblin_mach.specs.declared.base.context.Endian.TheVariants.{Little};
+ghost use Rattle.goblin_mach.specs.Fault.{malformed, bad_input};
+ghost use Rattle.goblin_mach.specs.Leb128.{Spells, uleb_at};
+ghost use Rattle.goblin_mach.specs.Record.{number_is};
+ghost use Rattle.goblin_mach.specs.Chain.{IsChain};
+ghost use Rattle.goblin_mach.specs.Trie.{entry, regular};
+ghost use Rattle.goblin_mach.specs.Lists.{Lists};
+ghost use Rattle.goblin_mach.specs.Paths.{Blocks};
+ghost use Rattle.goblin_mach.specs.Nodes.{trie_of};
+ghost use Rattle.goblin_mach.specs.TrieFault.{TrieFault};
+ghost use Rattle.goblin_mach.specs.Rows.{file_a, file_b, exports_vector, back_to_root, terminal_with_child, shared_node};
+
+/// Three spellings: one of 624485, the longest of the largest number, and one too long.
+pub fn spellings()
+    ensures three_bytes { Spells (0xe5 ∷ 0x8e ∷ 0x26 ∷ []) 0 (0xe5 ∷ 0x8e ∷ 0x26 ∷ []) 624485 }
+    ensures nine_ff_01 { uleb_at (replicate 9 0xff ++ 0x01 ∷ []) 0 ≡ Ok (18446744073709551615, 10) }
+    ensures nine_ff_02 { uleb_at (replicate 9 0xff ++ 0x02 ∷ []) 0 ≡ Err (bad_input 10) }
+{}
+
+/// The one command of file A.
+pub fn chain_of_file_a()
+    ensures { IsChain Little file_a 32 (record { offset = 32; values = number_is 0x1b ∷ number_is 24 ∷ [] } ∷ []) }
+{}
+
+/// The five commands of file B.
+pub fn chain_of_file_b()
+    ensures { IsChain Little file_b 32
+        (record { offset = 0x20; values = number_is 0x19 ∷ number_is 152 ∷ [] }
+        ∷ record { offset = 0xb8; values = number_is 0xc ∷ number_is 32 ∷ [] }
+        ∷ record { offset = 0xd8; values = number_is 0x80000022 ∷ number_is 48 ∷ [] }
+        ∷ record { offset = 0x108; values = number_is 0x2 ∷ number_is 24 ∷ [] }
+        ∷ record { offset = 0x120; values = number_is 0x80000028 ∷ number_is 24 ∷ [] } ∷ []) }
+{}
+
+/// The three exports of the trie `exports_vector`.
+pub fn list_of_exports_vector()
+    ensures { Lists (trie_of exports_vector [] 0 64) 0 []
+        (entry (codes "__mh_execute_header") (regular 0x0 0)
+        ∷ entry (codes "_maximum") (regular 0xf40 0)
+        ∷ entry (codes "_main") (regular 0xf50 0) ∷ []) }
+{}
+
+/// A node that leads back to the root: a fault stands, and there is no list.
+pub fn fault_of_back_to_root()
+    ensures { TrieFault back_to_root [] 0 5 0 malformed }
+{}
+
+/// A node with an own export lists it before its child's.
+pub fn list_of_terminal_with_child()
+    ensures { Lists (trie_of terminal_with_child [] 0 11) 0 [] (entry [] (regular 7 0) ∷ entry (codes "a") (regular 9 0) ∷ []) }
+{}
+
+/// A node reached by two branches is listed by both.
+pub fn list_of_shared_node()
+    ensures { Lists (trie_of shared_node [] 0 12) 0 [] (entry (codes "a") (regular 5 0) ∷ entry (codes "b") (regular 5 0) ∷ []) }
+{}
