@@ -1,11 +1,13 @@
 pub mod Computing
 pub mod Binds
 pub mod Faults
-pub mod Records
+pub mod Spelled
+pub mod Headers
 pub mod Groups
 pub mod Runs
 pub mod Spellings
 pub mod Chains
+pub mod Images
 pub mod TrieLevels
 pub mod TrieSteps
 pub mod TrieFaults

@@ -14,3 +14,7 @@ pub mod Magic
 pub mod Chain
 pub mod Image
 pub mod Rows
+pub mod CommandName
+pub mod Header
+pub mod LoadCommands
+pub mod OpenImage

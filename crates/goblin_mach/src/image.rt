@@ -1,3 +1,6 @@
-//! The image.
+//! The image, and what a file is.
 
 pub mod laws;
+pub mod mach;
+pub mod macho;
+pub mod magic;

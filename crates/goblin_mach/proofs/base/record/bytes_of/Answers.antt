@@ -1,5 +1,5 @@
 use Rattle.std.proofs.Common.{[], ◌∙◌}
-use Rattle.goblin_mach.proofs.Records.{spelled_after-front}
+use Rattle.goblin_mach.proofs.Spelled.{spelled_after-front}
 use Rattle.goblin_mach.proofs.base.record.bytes_of.Goals as goal
 
 pub returns-clause-spelled : goal.returns-clause-spelled

@@ -1,7 +1,7 @@
 use Rattle.std.proofs.Common.{◌-◌, length, drop, sym, ap, ◌∙◌, arith}
 use Rattle.std.proofs.lemmas.List.{length-drop, length-take, take_all}
 use Rattle.goblin_mach.specs.Record.{values_in}
-use Rattle.goblin_mach.proofs.Records.{record_at-ok}
+use Rattle.goblin_mach.proofs.Spelled.{record_at-ok}
 use Rattle.goblin_mach.proofs.base.record.Record.read.Goals as goal
 
 pub returns : goal.returns

@@ -1,6 +1,6 @@
 use Rattle.std.proofs.Common.{◌≡◌, ◌+◌, ◌-◌, length, take, drop, ap, ◌∙◌, arith}
 use Rattle.std.proofs.lemmas.List.{length-drop, length-take}
-use Rattle.goblin_mach.proofs.Records.{length-spelling, record_at-spelling}
+use Rattle.goblin_mach.proofs.Spelled.{length-spelling, record_at-spelling}
 use Rattle.goblin_mach.proofs.base.record.Record.write.Goals as goal
 
 pub copy_from_slice-requires : goal.copy_from_slice-requires

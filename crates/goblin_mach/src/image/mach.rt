@@ -1,0 +1,33 @@
+//! What a file is.
+
+ghost use Rattle.std.specs.Prelude.{IfOk, IfErr};
+ghost use Rattle.goblin_mach.specs.Answer.{Stands, IsOkUnlessMemory};
+ghost use Rattle.goblin_mach.specs.Image.{MachOpens, MachFault};
+
+use crate::base::error::{Error, Result};
+use crate::image::macho::MachO;
+use std::alloc::{Allocator, Global};
+
+/// What a file is.
+#[derive(Drop)]
+#[derive_where(Debug)]
+pub enum Mach<'a, A: Allocator = Global> {
+    /// One image.
+    Binary(MachO<'a, A>),
+}
+
+impl<'a, A: Allocator> Mach<'a, A> {
+    ghost use Rattle.goblin_mach.specs.OpenImage.{IsMach};
+
+    /// Opens a file. Each refusal but `Error::Memory` is a fault that stands in it.
+    pub fn parse(alloc: A, bytes: &'a [u8]) -> Result<Mach<'a, A>>
+        ensures opened { IfOk result (IsMach bytes.now) }
+        ensures only { MachOpens bytes.now → IsOkUnlessMemory result }
+        ensures refused { IfErr result (Stands (MachFault bytes.now)) }
+    {
+        if bytes.len() < 4 {
+            return Err(Error::Malformed("a magic is 4 bytes"));
+        }
+        Ok(Mach::Binary(MachO::parse(alloc, bytes, 0)?))
+    }
+}

@@ -1,0 +1,3 @@
+//! Load commands, one after the other.
+
+pub mod load_command;

@@ -1,0 +1,3 @@
+//! The parts of an image: its header.
+
+pub mod header;
