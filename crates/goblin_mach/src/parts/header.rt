@@ -196,9 +196,9 @@ impl From<Header64> for Header {
     }
 }
 
-/// The header at a place behind which 32 bytes are left.
+/// The header at a place from which its bytes are there.
 pub fn header_at(bytes: &[u8], offset: usize, ctx: Ctx) -> Header
-    requires { offset + 32 ≤ length bytes.now }
+    requires { offset + header_size ctx.container ≤ length bytes.now }
     ensures { IsHeader ctx bytes.now offset result }
 {
     let rest = rest_at(bytes, offset);

@@ -1,0 +1,45 @@
+//! Prints the load commands of a Mach-O file, a line each.
+#![tactic(auto)]
+
+mod run;
+#[cfg(test)]
+mod tests;
+
+use run::{Word, run};
+use std::process::ExitCode;
+use std::{env, fs, io};
+
+const USAGE: &str = "usage: machdump commands|exports|imports FILE";
+
+fn main(rt: HostRuntime) -> ExitCode {
+    let alloc = rt.alloc();
+    let Ok(args) = env::args(&rt) else {
+        return bad_usage(&rt);
+    };
+    let Ok(args) = args.collect::<Vec<String>>(alloc) else {
+        return bad_usage(&rt);
+    };
+    let [_, word, file] = args.as_slice() else {
+        return bad_usage(&rt);
+    };
+    let Some(word) = Word::parse(word.as_str()) else {
+        return bad_usage(&rt);
+    };
+    let Ok(bytes) = fs::read(&rt, file) else {
+        let _ = rt.eprintln(format_args!("machdump: cannot read {file}"));
+        return ExitCode::from(2);
+    };
+    let status = run(
+        alloc,
+        word,
+        bytes.as_slice(),
+        &mut io::writer(&rt),
+        &mut rt.stderr(),
+    );
+    ExitCode::from(status)
+}
+
+fn bad_usage(rt: &impl Eprint) -> ExitCode {
+    let _ = rt.eprintln(USAGE);
+    ExitCode::from(2)
+}

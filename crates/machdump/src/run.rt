@@ -1,0 +1,115 @@
+//! What the program prints of some bytes, and its exit status.
+
+ghost use Rattle.std.specs.Prelude.{◌≡◌, ◌≤◌, ◌↔◌, IsSome, OnOk, codes};
+ghost use Rattle.goblin_mach.specs.Image.{MachOpens};
+
+use goblin_mach::load_command::{CommandVariant, LoadCommand};
+use goblin_mach::{Error, Mach};
+use std::alloc::{AllocError, Allocator};
+use std::io;
+use std::io::{BufWriter, Write};
+
+/// What is asked of a file: the program's first argument.
+#[derive(Clone, Copy, Debug, PartialEq)]
+pub enum Word {
+    /// The load commands.
+    Commands,
+}
+
+impl Word {
+    /// The word that a text spells, if it spells one.
+    pub fn parse(text: &str) -> Option<Word>
+        ensures { IsSome result ↔ (text.now ≡ codes "commands") }
+    {
+        match text {
+            "commands" => Some(Word::Commands),
+            _ => None,
+        }
+    }
+}
+
+/// Prints what the word asks of the bytes, and answers the exit status: 0, or 1 where the bytes are
+/// refused, and then `err` has the reason and `out` nothing, or 2 where a write fails.
+pub fn run<A: Allocator + Clone, O: Write, E: Write>(
+    alloc: A,
+    word: Word,
+    bytes: &[u8],
+    out: &mut O,
+    err: &mut E,
+) -> u8
+    ensures status { result ≤ 2 }
+    ensures printed { result ≡ 0 → MachOpens bytes.now }
+{
+    match print(alloc, word, bytes, out) {
+        Ok(()) => 0,
+        Err(Failure::Unwritten) => 2,
+        Err(Failure::Refused(error)) => match writeln!(err, "machdump: {}", reason(&error)) {
+            Ok(()) => 1,
+            Err(_) => 2,
+        },
+    }
+}
+
+// Why the lines were not all printed.
+#[derive(Drop)]
+enum Failure {
+    Refused(Error),
+    Unwritten,
+}
+
+impl From<Error> for Failure {
+    fn from(error: Error) -> Failure {
+        Failure::Refused(error)
+    }
+}
+
+impl From<AllocError> for Failure {
+    fn from(error: AllocError) -> Failure {
+        Failure::Refused(Error::from(error))
+    }
+}
+
+impl From<io::Error> for Failure {
+    fn from(_error: io::Error) -> Failure {
+        Failure::Unwritten
+    }
+}
+
+fn print<A: Allocator + Clone, O: Write>(
+    alloc: A,
+    word: Word,
+    bytes: &[u8],
+    out: &mut O,
+) -> Result<(), Failure>
+    ensures { OnOk result (MachOpens bytes.now) }
+{
+    let file = Mach::parse(alloc.clone()?, bytes)?;
+    let Ok(mut lines) = BufWriter::new(alloc, out) else {
+        return Err(Failure::from(AllocError));
+    };
+    match (word, file) {
+        (Word::Commands, Mach::Binary(image)) => {
+            print_commands(&mut lines, image.load_commands.as_slice())?;
+        }
+    }
+    lines.flush()?;
+    Ok(())
+}
+
+fn print_commands<O: Write>(out: &mut O, commands: &[LoadCommand]) -> io::Result<()> {
+    for command in commands {
+        let CommandVariant::Unimplemented(header) = command.command;
+        writeln!(out, "{:#x} {}", command.offset, header)?;
+    }
+    Ok(())
+}
+
+// The word for an error.
+fn reason(error: &Error) -> &'static str {
+    match error {
+        Error::Malformed(_) => "malformed",
+        Error::BadMagic(_) => "bad magic",
+        Error::Scroll(_) | Error::BufferTooShort(..) => "short or bad bytes",
+        Error::Memory(_) => "out of memory",
+    }
+}

@@ -1,0 +1,7 @@
+//! The worked rows of docs/FORMAT.md, and what no clause says: printed lines, and which answers come
+//! where memory runs out.
+
+mod chain;
+mod files;
+mod lines;
+mod shown;
