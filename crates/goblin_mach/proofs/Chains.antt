@@ -3,17 +3,9 @@ use Rattle.std.proofs.Common.{◌≡◌, ℕ, ◌+◌, ◌-◌, ◌<◌, cond, l
 use Rattle.goblin_mach.specs.declared.base.context.Endian.{Endian}
 use Rattle.goblin_mach.specs.Fault.{Fault, malformed}
 use Rattle.goblin_mach.specs.Record.{Value, number_among, record_at}
-use Rattle.goblin_mach.specs.Chain.{Command, cmdsize_of, header_fields, command_at, AllThere, BeginsAt, IsLinked, IsChain, end_of, IsBroken}
-use Rattle.goblin_mach.proofs.Binds.{bind_ok, chosen, same_ok}
-
--- a command stands at the place where it was read
-pub offset_is : (le : Endian) (bytes : List ℕ) (s : ℕ) (c : Command) → command_at le bytes s ≡ Ok c → c.offset ≡ s
-offset_is le bytes s c e =
-    let header = bind_ok (record_at le header_fields bytes s) (λ (vs : List Value). cond (ltb (length bytes - s) (number_among vs 1)) (Err malformed) (Ok (record { offset = s; values = vs }))) c e in
-    elim (chosen (ltb (length bytes - s) (number_among header.0 1)) (Err malformed) (Ok (record { offset = s; values = header.0 })) (Ok c) header.2) [
-      | inl none ↦ absurd (let wrong = none.1 in cc)
-      | inr is ↦ sym (ap (λ (x : Command). x.offset) (same_ok is.1))
-    ]
+use Rattle.goblin_mach.specs.Chain.{Command, cmdsize_of, command_at, AllThere, BeginsAt, IsLinked, IsChain, end_of, IsBroken}
+use Rattle.goblin_mach.proofs.Binds.{same_ok}
+use Rattle.goblin_mach.proofs.CommandAt.{offset_is}
 
 -- a chain with its place carried along
 abbrev pub Carries : Endian → List ℕ → ℕ → List Command → Type 0

@@ -6,8 +6,14 @@ pub mod Headers
 pub mod Groups
 pub mod Runs
 pub mod Spellings
+pub mod CommandAt
 pub mod Chains
+pub mod Naming
 pub mod Images
+pub mod NodeFaults
+pub mod Starts
+pub mod TrieRanges
+pub mod BranchSteps
 pub mod TrieLevels
 pub mod TrieSteps
 pub mod TrieFaults

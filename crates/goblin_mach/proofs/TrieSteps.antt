@@ -2,10 +2,13 @@
 use Rattle.std.proofs.Common.{◌≡◌, ◌<◌, ◌≤◌, ◌+◌, ℕ, zero, suc, List, [], ◌∷◌, ◌++◌, inl, inr, length, drop, Option, Some, None, Ok, Err, refl, sym, ap, ◌∙◌, append_assoc, add-one}
 use Rattle.std.specs.Prelude.{slice_get}
 use Rattle.std.proofs.lemmas.List.{append-nil, drop_all}
+use Rattle.goblin_mach.specs.declared.base.error.Error.{Error}
+use Rattle.goblin_mach.specs.Answer.{Stands}
 use Rattle.goblin_mach.specs.Fault.{Fault, malformed}
 use Rattle.goblin_mach.specs.Trie.{Branch, Node, Trie, Entry, own_entries}
 use Rattle.goblin_mach.specs.Lists.{◌>>=◌, lists_of, list_within}
 use Rattle.goblin_mach.specs.Paths.{BlocksWithin}
+use Rattle.goblin_mach.proofs.Faults.{Stands-in}
 use Rattle.goblin_mach.proofs.TrieLevels.{bind_some, at_node}
 
 -- what was listed before, and what is still listed
@@ -47,6 +50,9 @@ module _ (t : Trie) (levels m start : ℕ) (prefix : List ℕ) (node : Node) (st
   pub refused_below : (f : Fault) (i : ℕ) (b : Branch) → slice_get node.branches i ≡ Some b → BlocksWithin t m b.start f → BlocksWithin t levels start f
   refused_below f i b e below =
       (i ∷ below.0, below.1, (node, b, inside, at, e, below.2), below.3, elim below.4 [ inl h ↦ inl h | inr h ↦ inr (h.0, sym (step ∙ ap suc (sym h.1))) ])
+
+  pub stands_below : (i : ℕ) (b : Branch) → slice_get node.branches i ≡ Some b → (e : Error) → Stands (BlocksWithin t m b.start) e → Stands (BlocksWithin t levels start) e
+  stands_below i b at_i e h = Stands-in (BlocksWithin t m b.start) (BlocksWithin t levels start) e (λ f below. refused_below f i b at_i below) h
 
 pub refused_here : (t : Trie) (levels start : ℕ) (f : Fault) → start < t.upto → t.node start ≡ Err f → BlocksWithin t levels start f
 refused_here t levels start f inside e = ([], start, refl, inside, inl e)

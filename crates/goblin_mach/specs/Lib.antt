@@ -11,6 +11,7 @@ pub mod Paths
 pub mod Nodes
 pub mod TrieFault
 pub mod Magic
+pub mod Commands
 pub mod Chain
 pub mod Image
 pub mod Rows
@@ -18,3 +19,7 @@ pub mod CommandName
 pub mod Header
 pub mod LoadCommands
 pub mod OpenImage
+pub mod Names
+pub mod TrieRange
+pub mod Exports
+pub mod NodeViews

@@ -2,7 +2,7 @@
 use Rattle.std.specs.Prelude.{◌≡◌, ℕ, zero, suc, ◌+◌, ◌-◌, ◌<◌, ◌^◌, List, [], ◌∷◌, ◌++◌, length, take, drop, Result, Ok, Err, nat_le, if◌then◌else◌}
 use Rattle.goblin_mach.specs.declared.base.context.Endian.{Endian}
 use Rattle.goblin_mach.specs.Fault.{Fault, bad_offset, too_big}
-use Rattle.goblin_mach.specs.Number.{number, number_bytes}
+use Rattle.goblin_mach.specs.Number.{number, number_bytes, bounded}
 
 -- a number of some bytes, or an array of bytes
 pub data Field : Type 0 where
@@ -64,9 +64,7 @@ AllFit (f ∷ fs) (v ∷ vs) = Fits f v × AllFit fs vs
 
 -- the values of the record at a place, or why there is none
 abbrev pub record_at : Endian → List Field → List ℕ → ℕ → Result (List Value) Fault
-record_at le fields bytes s =
-    if nat_le (length bytes) s then Err (bad_offset s)
-    else (if nat_le (s + size fields) (length bytes) then Ok (values_in le fields s bytes) else Err (too_big (size fields) (length bytes - s)))
+record_at le fields bytes s = bounded (size fields) bytes s (values_in le fields s bytes)
 
 -- new is old with these bytes at a place
 abbrev pub IsWritten : List ℕ → List ℕ → ℕ → List ℕ → Type 0

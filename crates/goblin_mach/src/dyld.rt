@@ -1,3 +1,5 @@
 //! The export trie.
 
+pub mod exports;
 pub mod laws;
+pub mod node;

@@ -4,3 +4,4 @@ pub mod laws;
 pub mod mach;
 pub mod macho;
 pub mod magic;
+pub mod names;

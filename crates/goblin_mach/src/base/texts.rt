@@ -1,6 +1,6 @@
 //! Texts at a place.
 
-ghost use Rattle.std.specs.Prelude.{◌≡◌, ◌≤◌, length, drop, IfOk, IsUtf8};
+ghost use Rattle.std.specs.Prelude.{◌≡◌, ◌≤◌, ◌+◌, length, drop, IfOk, IsUtf8};
 ghost use Rattle.std.specs.List.{before_first, position_or_len};
 ghost use Rattle.goblin_mach.specs.Text.{text_at, run_at, is_zero};
 ghost use Rattle.goblin_mach.specs.Answer.{Reads};
@@ -20,7 +20,8 @@ fn len_before_zero(bytes: &[u8]) -> usize
 // The bytes from a place on, up to the first zero byte.
 fn run_from(bytes: &[u8], offset: usize) -> &[u8]
     requires { offset ≤ length bytes.now }
-    ensures { result.now ≡ run_at bytes.now offset }
+    ensures run { result.now ≡ run_at bytes.now offset }
+    ensures within { offset + length result.now ≤ length bytes.now }
 {
     let rest = rest_at(bytes, offset);
     &rest[..len_before_zero(rest)]
@@ -29,7 +30,8 @@ fn run_from(bytes: &[u8], offset: usize) -> &[u8]
 /// The text at a place: it runs to the first zero byte or to the end, and is UTF-8.
 #[tactic(auto, unfolding(crate::specs::Text::text_at))]
 pub fn read_text(bytes: &[u8], offset: usize) -> Result<&str>
-    ensures { Reads (λ text. text.now) result (text_at bytes.now offset) }
+    ensures text { Reads (λ text. text.now) result (text_at bytes.now offset) }
+    ensures within { IfOk result (λ text. offset + length text.now ≤ length bytes.now) }
 {
     if offset >= bytes.len() {
         return Err(Error::Scroll(ScrollError::BadOffset(offset)));

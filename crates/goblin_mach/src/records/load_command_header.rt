@@ -19,7 +19,7 @@ impl Record for LoadCommandHeader {
 
     ghost SIZE = { 8 };
 
-    ghost use Rattle.goblin_mach.specs.Chain.{header_fields};
+    ghost use Rattle.goblin_mach.specs.Commands.{header_fields};
     ghost use Rattle.goblin_mach.specs.LoadCommands.{header_values, header_of_values};
 
     ghost fields = { header_fields };

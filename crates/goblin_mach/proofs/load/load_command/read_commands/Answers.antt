@@ -3,7 +3,8 @@ use Rattle.std.proofs.lemmas.List.{map_push, length_push}
 use Rattle.std.proofs.lemmas.Result.{err_from_is_err_and}
 use Rattle.goblin_mach.specs.Chain.{cmdsize_of, command_at, end_of, IsBroken}
 use Rattle.goblin_mach.specs.LoadCommands.{command_of}
-use Rattle.goblin_mach.proofs.Chains.{IsChain-push, end_of-push, offset_is}
+use Rattle.goblin_mach.proofs.Chains.{IsChain-push, end_of-push}
+use Rattle.goblin_mach.proofs.CommandAt.{offset_is}
 use Rattle.goblin_mach.proofs.Faults.{Stands-reported}
 use Rattle.goblin_mach.proofs.load.load_command.read_commands.Goals as goal
 
@@ -12,7 +13,7 @@ returns-in_err-parse-clause-refused g c =
     let p = err_from_is_err_and c.from_residual.result c.from_residual.ensures.1 in
     let front = map command_of c.loop.commands.items in
     rw (p.1, p.2) (Stands-reported (IsBroken c.args.le c.args.bytes.now c.args.first c.args.count) c.in_err-parse.field-0.0
-      (record { front = front; chain = c.loop.invariant.chain; fewer = omega (arith, c.loop.invariant.count); fault = rw (← c.loop.invariant.place) c.in_err-parse.ensures.found }))
+    (record { front = front; chain = c.loop.invariant.chain; fewer = omega (arith, c.loop.invariant.count); fault = rw (← c.loop.invariant.place) c.in_err-parse.ensures.found }))
 
 pub loop-preserved : goal.loop-preserved
 loop-preserved g c =

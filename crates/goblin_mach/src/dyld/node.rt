@@ -1,0 +1,226 @@
+//! One node of an export trie, as dyld reads it.
+
+ghost use Rattle.std.specs.Prelude.{◌≡◌};
+ghost use Rattle.goblin_mach.specs.Answer.{Reads, Gives};
+ghost use Rattle.goblin_mach.specs.Nodes.{sum_of, library, name_of, regular_at, reexport_at, info_at, branch_at, branches_at, children_at, terminal_at, inner_at, node_at};
+ghost use Rattle.goblin_mach.specs.Exports.{texts, text_in, info_of};
+ghost use Rattle.goblin_mach.specs.NodeViews.{branch_of, branches_of, node_of};
+
+use crate::base::error::{Error, Result};
+use crate::base::leb128::uleb;
+use crate::base::texts::read_text;
+use std::alloc::Allocator;
+
+/// The bits of an export's flags that tell its kind.
+pub const EXPORT_SYMBOL_FLAGS_KIND_MASK: u64 = 0x03;
+
+/// The export is one of another library.
+pub const EXPORT_SYMBOL_FLAGS_REEXPORT: u64 = 0x08;
+
+/// The export is a stub with a resolver.
+pub const EXPORT_SYMBOL_FLAGS_STUB_AND_RESOLVER: u64 = 0x10;
+
+// The bits that are those of a stub in kind 0.
+const KIND_AND_STUB: u64 = 0x13;
+
+/// What an export stands for.
+#[derive(Debug, Drop)]
+pub enum ExportInfo<'a> {
+    /// An address in the image, counted from its start.
+    Regular {
+        address: u64,
+        flags: u64,
+    },
+    /// A symbol of another library, under its own name or another.
+    Reexport {
+        lib: &'a str,
+        lib_symbol_name: Option<&'a str>,
+        flags: u64,
+    },
+}
+
+/// A label, and where the child begins.
+#[derive(Debug, Drop)]
+pub struct Branch<'a> {
+    pub label: &'a str,
+    pub start: usize,
+}
+
+/// A node: its own export, if it has one, and its branches in order.
+#[derive(Drop)]
+pub struct Node<'a, A: Allocator> {
+    pub own: Option<ExportInfo<'a>>,
+    pub branches: Vec<Branch<'a>, A>,
+}
+
+// The sum, where it has at most 64 bits.
+#[tactic(auto, unfolding(crate::specs::Nodes::sum_of))]
+fn sum(place: usize, n: u64) -> Result<usize>
+    ensures { Reads (λ sum. sum) result (sum_of place n) }
+{
+    match place.checked_add(n as usize) {
+        Some(sum) => Ok(sum),
+        None => Err(Error::Malformed("a place in a trie has at most 64 bits")),
+    }
+}
+
+// The library of an ordinal.
+fn library<'a>(libs: &[&'a str], ordinal: u64) -> Result<&'a str>
+    ensures { Reads (λ lib. lib.now) result (library (texts libs.now) ordinal) }
+{
+    match libs.get(ordinal as usize) {
+        Some(lib) => Ok(*lib),
+        None => Err(Error::Malformed("an ordinal is one of a library")),
+    }
+}
+
+// The name in the other library, where it is not the export's own.
+fn name_of(text: &str) -> Option<&str>
+    ensures { text_in result ≡ name_of text.now }
+{
+    if text.is_empty() { None } else { Some(text) }
+}
+
+#[tactic(auto, unfolding(crate::specs::Nodes::regular_at))]
+fn regular(bytes: &[u8], flags: u64, place: usize) -> Result<ExportInfo<'_>>
+    ensures { Reads info_of result (regular_at bytes.now flags place) }
+{
+    let (address, _) = uleb(bytes, place)?;
+    Ok(ExportInfo::Regular { address, flags })
+}
+
+#[tactic(auto, unfolding(crate::specs::Nodes::reexport_at))]
+fn reexport<'a>(
+    bytes: &'a [u8],
+    libs: &[&'a str],
+    flags: u64,
+    place: usize,
+) -> Result<ExportInfo<'a>>
+    ensures { Reads info_of result (reexport_at bytes.now (texts libs.now) flags place) }
+{
+    let (ordinal, place) = uleb(bytes, place)?;
+    let name = read_text(bytes, place)?;
+    let lib = library(libs, ordinal)?;
+    let lib_symbol_name = name_of(name);
+    Ok(ExportInfo::Reexport {
+        lib,
+        lib_symbol_name,
+        flags,
+    })
+}
+
+// What an export with these flags stands for.
+#[tactic(auto, unfolding(crate::specs::Nodes::info_at))]
+fn info<'a>(bytes: &'a [u8], libs: &[&'a str], flags: u64, place: usize) -> Result<ExportInfo<'a>>
+    ensures { Reads info_of result (info_at bytes.now (texts libs.now) flags place) }
+{
+    if flags & EXPORT_SYMBOL_FLAGS_KIND_MASK == 3 {
+        regular(bytes, flags, place)
+    } else if flags & EXPORT_SYMBOL_FLAGS_REEXPORT != 0 {
+        reexport(bytes, libs, flags, place)
+    } else if flags & KIND_AND_STUB == EXPORT_SYMBOL_FLAGS_STUB_AND_RESOLVER {
+        Err(Error::Malformed("stubs are not read yet"))
+    } else {
+        regular(bytes, flags, place)
+    }
+}
+
+// A branch of a trie that begins at `from`, and the place after it.
+#[tactic(auto, unfolding(crate::specs::Nodes::branch_at))]
+fn read_branch(bytes: &[u8], from: usize, place: usize) -> Result<(Branch<'_>, usize)>
+    ensures { Reads (λ found. (branch_of found.0, found.1)) result (branch_at bytes.now from place) }
+{
+    let label = read_text(bytes, place)?;
+    let (offset, after) = uleb(bytes, place + label.len() + 1)?;
+    let start = sum(from, offset)?;
+    Ok((Branch { label, start }, after))
+}
+
+// So many branches, one after the other.
+fn branches<A: Allocator>(
+    alloc: A,
+    bytes: &[u8],
+    from: usize,
+    count: usize,
+    first: usize,
+) -> Result<Vec<Branch<'_>, A>>
+    ensures { Gives (λ v. branches_of v.items) result (branches_at bytes.now from count first) }
+{
+    let mut branches = Vec::new(alloc);
+    let mut place = first;
+    for _ in 0..count {
+        let (next, after) = read_branch(bytes, from, place)?;
+        branches.push(next)?;
+        place = after;
+    }
+    Ok(branches)
+}
+
+// The branches behind their count.
+#[tactic(auto, unfolding(crate::specs::Nodes::children_at))]
+fn children<A: Allocator>(
+    alloc: A,
+    bytes: &[u8],
+    from: usize,
+    place: usize,
+) -> Result<Vec<Branch<'_>, A>>
+    ensures { Gives (λ v. branches_of v.items) result (children_at bytes.now from place) }
+{
+    let (count, first) = uleb(bytes, place)?;
+    let count = count as usize;
+    if count > bytes.len() {
+        return Err(Error::BufferTooShort(count, "branches"));
+    }
+    branches(alloc, bytes, from, count, first)
+}
+
+#[tactic(auto, unfolding(crate::specs::Nodes::inner_at))]
+fn inner<A: Allocator>(alloc: A, bytes: &[u8], from: usize, place: usize) -> Result<Node<'_, A>>
+    ensures { Gives node_of result (inner_at bytes.now from place) }
+{
+    let branches = children(alloc, bytes, from, place)?;
+    Ok(Node {
+        own: None,
+        branches,
+    })
+}
+
+#[tactic(auto, unfolding(crate::specs::Nodes::terminal_at))]
+fn terminal<'a, A: Allocator>(
+    alloc: A,
+    bytes: &'a [u8],
+    libs: &[&'a str],
+    from: usize,
+    size: u64,
+    place: usize,
+) -> Result<Node<'a, A>>
+    ensures { Gives node_of result (terminal_at bytes.now (texts libs.now) from size place) }
+{
+    let (flags, rest) = uleb(bytes, place)?;
+    let info = info(bytes, libs, flags, rest)?;
+    let after = sum(place, size)?;
+    let branches = children(alloc, bytes, from, after)?;
+    Ok(Node {
+        own: Some(info),
+        branches,
+    })
+}
+
+/// Reads the node at a start, all its branches included.
+#[tactic(auto, unfolding(crate::specs::Nodes::node_at))]
+pub fn read_node<'a, A: Allocator>(
+    alloc: A,
+    bytes: &'a [u8],
+    libs: &[&'a str],
+    from: usize,
+    start: usize,
+) -> Result<Node<'a, A>>
+    ensures { Gives node_of result (node_at bytes.now (texts libs.now) from start) }
+{
+    let (size, place) = uleb(bytes, start)?;
+    if size == 0 {
+        inner(alloc, bytes, from, place)
+    } else {
+        terminal(alloc, bytes, libs, from, size, place)
+    }
+}
