@@ -1,9 +1,9 @@
 -- Chains of load commands: the same with the place carried along, how they grow, and that there is at most one.
-use Rattle.std.proofs.Common.{◌≡◌, ℕ, ◌+◌, ◌-◌, ◌<◌, cond, ltb, List, [], ◌∷◌, ◌++◌, length, Ok, Err, inl, inr, refl, sym, ap, subst, ◌∙◌, arith}
+use Rattle.std.proofs.Common.{◌≡◌, ℕ, ◌+◌, ◌-◌, ◌<◌, ◌≤◌, cond, ltb, List, [], ◌∷◌, ◌++◌, length, Ok, Err, inl, inr, refl, sym, ap, subst, ◌∙◌, arith}
 use Rattle.goblin_mach.specs.declared.base.context.Endian.{Endian}
 use Rattle.goblin_mach.specs.Fault.{Fault, malformed}
 use Rattle.goblin_mach.specs.Record.{Value, number_among, record_at}
-use Rattle.goblin_mach.specs.Chain.{Command, cmdsize_of, command_at, AllThere, BeginsAt, IsLinked, IsChain, end_of, IsBroken}
+use Rattle.goblin_mach.specs.Chain.{Command, IsAmong, cmdsize_of, command_at, AllThere, BeginsAt, IsLinked, IsChain, end_of, IsBroken}
 use Rattle.goblin_mach.proofs.Binds.{same_ok}
 use Rattle.goblin_mach.proofs.CommandAt.{offset_is}
 
@@ -97,3 +97,18 @@ broken_carried le bytes s (d ∷ ds) (c ∷ cs) f p q lt e =
 pub broken-excludes_chain : (le : Endian) (bytes : List ℕ) (s n : ℕ) (f : Fault) (cs : List Command) → IsBroken le bytes s n f → IsChain le bytes s cs → length cs ≡ n → ⊥
 broken-excludes_chain le bytes s n f cs broken chain count =
     broken_carried le bytes s broken.front cs f (chain_carries le bytes s broken.front broken.chain) (chain_carries le bytes s cs chain) (let few = broken.fewer in omega arith) broken.fault
+
+among_carried : (le : Endian) (bytes : List ℕ) (s : ℕ) (front cs : List Command) (c : Command) → Carries le bytes s front → Carries le bytes s cs → length front ≤ length cs → IsAmong c front → IsAmong c cs
+among_carried le bytes s [] cs c p q few among = absurd among
+among_carried le bytes s (d ∷ ds) [] c p q few among = absurd (omega arith)
+among_carried le bytes s (d ∷ ds) (e ∷ es) c p q few among =
+    let same = same_first le bytes s d e p.0 q.0 in
+    let q' : Carries le bytes (s + cmdsize_of d) es = subst (λ (x : Command). Carries le bytes (s + cmdsize_of x) es) (sym same) q.1 in
+    elim among [
+      | inl here ↦ inl (here ∙ same)
+      | inr later ↦ inr (among_carried le bytes (s + cmdsize_of d) ds es c p.1 q' (omega arith) later)
+    ]
+
+-- a command of a front is one of the whole chain
+pub among-front : (le : Endian) (bytes : List ℕ) (s : ℕ) (front cs : List Command) (c : Command) → IsChain le bytes s front → IsChain le bytes s cs → length front ≤ length cs → IsAmong c front → IsAmong c cs
+among-front le bytes s front cs c p q few among = among_carried le bytes s front cs c (chain_carries le bytes s front p) (chain_carries le bytes s cs q) few among

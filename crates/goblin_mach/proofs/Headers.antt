@@ -23,11 +23,11 @@ loaded64 le bytes rest o h same e =
     let there : header64_values h ≡ values_in le header64_fields o bytes = e ∙ (ap (λ (r : List ℕ). values_in le header64_fields 0 r) same ∙ sym (values_in-front le header64_fields o bytes)) in
     ap header64_of_values there
 
-ncmds_in : (w : Container) (le : Endian) (bytes : List ℕ) (o : ℕ) → (header_in w le bytes o).ncmds ≡ number le 4 (drop (o + 16) bytes)
+pub ncmds_in : (w : Container) (le : Endian) (bytes : List ℕ) (o : ℕ) → (header_in w le bytes o).ncmds ≡ number le 4 (drop (o + 16) bytes)
 ncmds_in Little le bytes o = ap (λ (p : ℕ). number le 4 (drop p bytes)) (let e : o + 4 + 4 + 4 + 4 ≡ o + 16 = omega arith in e)
 ncmds_in Big le bytes o = ap (λ (p : ℕ). number le 4 (drop p bytes)) (let e : o + 4 + 4 + 4 + 4 ≡ o + 16 = omega arith in e)
 
-sizeofcmds_in : (w : Container) (le : Endian) (bytes : List ℕ) (o : ℕ) → (header_in w le bytes o).sizeofcmds ≡ number le 4 (drop (o + 20) bytes)
+pub sizeofcmds_in : (w : Container) (le : Endian) (bytes : List ℕ) (o : ℕ) → (header_in w le bytes o).sizeofcmds ≡ number le 4 (drop (o + 20) bytes)
 sizeofcmds_in Little le bytes o = ap (λ (p : ℕ). number le 4 (drop p bytes)) (let e : o + 4 + 4 + 4 + 4 + 4 ≡ o + 20 = omega arith in e)
 sizeofcmds_in Big le bytes o = ap (λ (p : ℕ). number le 4 (drop p bytes)) (let e : o + 4 + 4 + 4 + 4 + 4 ≡ o + 20 = omega arith in e)
 

@@ -7,9 +7,10 @@ use Rattle.goblin_mach.specs.Answer.{Stands, IsOkUnlessMemory}
 use Rattle.goblin_mach.specs.Fault.{Fault}
 use Rattle.goblin_mach.specs.Magic.{magic_at, header_size}
 use Rattle.goblin_mach.specs.Chain.{Command}
-use Rattle.goblin_mach.specs.Image.{HasHeader, CountsFit, HasChain, Opens, ImageFault, no_magic, other_magic, short_header, too_many_commands, broken_chain, MachOpens, MachFault, no_room, of_image}
+use Rattle.goblin_mach.specs.Image.{HasHeader, CountsFit, HasChain, Opens, ImageFault, no_magic, other_magic, short_header, too_many_commands, broken_chain, unreadable_name, MachOpens, MachFault, no_room, of_image}
 use Rattle.goblin_mach.proofs.Binds.{same_ok}
-use Rattle.goblin_mach.proofs.Chains.{broken-excludes_chain}
+use Rattle.goblin_mach.proofs.Chains.{broken-excludes_chain, among-front}
+use Rattle.goblin_mach.proofs.Naming.{unnamed-excludes_named}
 use Rattle.goblin_mach.proofs.Faults.{Stands-in}
 
 some_is : (c d : Ctx) → Some c ≡ Some d → c ≡ d
@@ -21,6 +22,9 @@ same_ctx bytes o m n c d p q =
     let made : ◌≡◌ {A = ℕ × Option Ctx} (m, Some c) (n, Some d) = same_ok (sym p ∙ q) in
     some_is c d (ap (λ (x : ℕ × Option Ctx). x.1) made)
 
+same_header : (bytes : List ℕ) (o : ℕ) (c d : Ctx) → HasHeader bytes o c → HasHeader bytes o d → c ≡ d
+same_header bytes o c d p q = same_ctx bytes o p.magic q.magic c d p.magic_is q.magic_is
+
 not_other : (bytes : List ℕ) (o m n : ℕ) (c : Ctx) → magic_at bytes o ≡ Ok (m, None) → magic_at bytes o ≡ Ok (n, Some c) → ⊥
 not_other bytes o m n c p q =
     let made : ◌≡◌ {A = ℕ × Option Ctx} (m, None) (n, Some c) = same_ok (sym p ∙ q) in
@@ -28,17 +32,20 @@ not_other bytes o m n c p q =
     cc
 
 pub fault-excludes_image : (bytes : List ℕ) (o : ℕ) (f : Fault) → ImageFault bytes o f → Opens bytes o → ⊥
-fault-excludes_image bytes o _ (no_magic f e) opens = let h = opens.3.header.magic_is in cc
-fault-excludes_image bytes o _ (other_magic m e) opens = not_other bytes o m opens.0 opens.1 e opens.3.header.magic_is
-fault-excludes_image bytes o _ (short_header m c e lt) opens = let r = opens.3.header.room in omega arith
-fault-excludes_image bytes o _ (too_many_commands m c held many) opens =
-    let same = same_ctx bytes o opens.0 m opens.1 c opens.3.header.magic_is held.magic_is in
-    let fit : CountsFit bytes o c = subst (λ (x : Ctx). CountsFit bytes o x) same opens.3.counts in
+fault-excludes_image bytes o _ (no_magic f e) opens = let h = opens.2.header.magic_is in cc
+fault-excludes_image bytes o _ (other_magic m e) opens = not_other bytes o m opens.2.header.magic opens.0 e opens.2.header.magic_is
+fault-excludes_image bytes o _ (short_header m c e lt) opens = let r = opens.2.header.room in omega arith
+fault-excludes_image bytes o _ (too_many_commands c held many) opens =
+    let fit : CountsFit bytes o c = subst (λ (x : Ctx). CountsFit bytes o x) (same_header bytes o opens.0 c opens.2.header held) opens.2.counts in
     elim many [ inl h ↦ omega (arith, h, fit.ncmds) | inr h ↦ omega (arith, h, fit.sizeofcmds) ]
-fault-excludes_image bytes o _ (broken_chain m c f held counts broken) opens =
-    let same = same_ctx bytes o opens.0 m opens.1 c opens.3.header.magic_is held.magic_is in
-    let whole : HasChain bytes o c opens.2 = subst (λ (x : Ctx). HasChain bytes o x opens.2) same opens.3.chain in
-    broken-excludes_chain c.le bytes (o + header_size c.container) _ f opens.2 broken whole.chain whole.count
+fault-excludes_image bytes o _ (broken_chain c f held counts broken) opens =
+    let whole : HasChain bytes o c opens.1 = subst (λ (x : Ctx). HasChain bytes o x opens.1) (same_header bytes o opens.0 c opens.2.header held) opens.2.chain in
+    broken-excludes_chain c.le bytes (o + header_size c.container) _ f opens.1 broken whole.chain whole.count
+fault-excludes_image bytes o _ (unreadable_name c front f some unnamed) opens =
+    let whole : HasChain bytes o c opens.1 = subst (λ (x : Ctx). HasChain bytes o x opens.1) (same_header bytes o opens.0 c opens.2.header some.header) opens.2.chain in
+    let few : length front ≤ length opens.1 = (let fewer = some.count in let all = whole.count in omega arith) in
+    let among = among-front c.le bytes (o + header_size c.container) front opens.1 unnamed.command some.chain whole.chain few unnamed.among in
+    unnamed-excludes_named bytes opens.1 f (record { command = unnamed.command; among = among; named = unnamed.named; fault = unnamed.fault }) opens.2.names
 
 pub ok_where_opens : {X : Type 0} (r : Result X Error) (bytes : List ℕ) (o : ℕ) → IfErr r (Stands (ImageFault bytes o)) → Opens bytes o → IsOkUnlessMemory r
 ok_where_opens (Ok x) bytes o h opens = tt

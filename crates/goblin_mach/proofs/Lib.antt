@@ -9,6 +9,7 @@ pub mod Spellings
 pub mod CommandAt
 pub mod Chains
 pub mod Naming
+pub mod Ranges
 pub mod Images
 pub mod NodeFaults
 pub mod Starts

@@ -1,14 +1,15 @@
 -- Reading names command by command.
 use Rattle.std.proofs.Common.{◌≡◌, ℕ, zero, suc, ◌+◌, ◌<◌, ◌≤◌, Bool, true, false, cond, ◌||◌, List, [], ◌∷◌, ◌++◌, ◌⊎◌, length, map, drop, get_or, Option, Some, None, Result, Ok, Err, IsOk, inl, inr, refl, sym, ap, subst, ◌∙◌, arith, add-one, append_assoc}
-use Rattle.std.proofs.lemmas.List.{drop_all, length-map}
-use Rattle.std.proofs.lemmas.Bool.{cases_Bool}
+use Rattle.std.specs.Prelude.{option_map, unwrap_or}
+use Rattle.std.specs.Borrow.{Bor}
+use Rattle.std.proofs.lemmas.Bool.{or_cases}
 use Rattle.goblin_mach.specs.declared.load.load_command.LoadCommand.{LoadCommand}
 use Rattle.goblin_mach.specs.Fault.{Fault}
 use Rattle.goblin_mach.specs.Text.{text_at}
 use Rattle.goblin_mach.specs.Commands.{Kind, is_library, is_id}
 use Rattle.goblin_mach.specs.Chain.{Command, IsAmong}
 use Rattle.goblin_mach.specs.LoadCommands.{command_of}
-use Rattle.goblin_mach.specs.Names.{name_place, cons_readable, names_of, last_or, AllReadable, is_named, IsUnnamed}
+use Rattle.goblin_mach.specs.Names.{name_place, cons_readable, names_of, last_or, AllReadable, AllNamed, is_named, IsUnnamed}
 
 -- the commands from one on begin with it
 pub from_here : (xs : List LoadCommand) (i : ℕ) (d : LoadCommand) → i < length xs → drop i (map command_of xs) ≡ command_of (get_or xs i d) ∷ drop (i + 1) (map command_of xs)
@@ -92,3 +93,25 @@ or_true false = refl
 
 pub named_id : (k : Kind) → is_id k ≡ true → is_named k ≡ true
 named_id k e = rw e (or_true (is_library k))
+
+readable_among : (is : Kind → Bool) (bytes : List ℕ) (cs : List Command) (c : Command) → AllReadable is bytes cs → IsAmong c cs → is c.kind ≡ true → IsOk (text_at bytes (name_place c))
+readable_among is bytes [] c all among named = absurd among
+readable_among is bytes (d ∷ ds) c all among named = elim among [
+  | inl here ↦ subst (λ (x : Command). is x.kind ≡ true → IsOk (text_at bytes (name_place x))) (sym here) all.0 named
+  | inr later ↦ readable_among is bytes ds c all.1 later named
+]
+
+not_ok : (bytes : List ℕ) (p : ℕ) (f : Fault) → text_at bytes p ≡ Err f → IsOk (text_at bytes p) → ⊥
+not_ok bytes p f e ok = let wrong = rw e at ok in cc
+
+-- where every name is a text, none is unreadable
+pub unnamed-excludes_named : (bytes : List ℕ) (cs : List Command) (f : Fault) → IsUnnamed bytes cs f → AllNamed bytes cs → ⊥
+unnamed-excludes_named bytes cs f u named = elim (or_cases (is_library u.command.kind) (is_id u.command.kind) u.named) [
+  | inl library ↦ not_ok bytes (name_place u.command) f u.fault (readable_among is_library bytes cs u.command named.0 u.among library)
+  | inr id ↦ not_ok bytes (name_place u.command) f u.fault (readable_among is_id bytes cs u.command named.1 u.among id)
+]
+
+-- the name of the image, or "self", as it was read
+pub itself : (name : Option (Bor (List ℕ))) (default : Bor (List ℕ)) (text : List ℕ) (held : Option (List ℕ)) → default.now ≡ text → option_map (λ t. t.now) name ≡ held → (unwrap_or name default).now ≡ unwrap_or held text
+itself None default text held e same = e ∙ ap (λ (o : Option (List ℕ)). unwrap_or o text) same
+itself (Some t) default text held e same = ap (λ (o : Option (List ℕ)). unwrap_or o text) same

@@ -4,9 +4,11 @@ use Rattle.goblin_mach.specs.declared.base.context.Ctx.{Ctx}
 use Rattle.goblin_mach.specs.Fault.{Fault, malformed, bad_magic, too_short}
 use Rattle.goblin_mach.specs.Magic.{magic_at, header_size, ncmds_at, sizeofcmds_at}
 use Rattle.goblin_mach.specs.Chain.{Command, IsChain, IsBroken}
+use Rattle.goblin_mach.specs.Names.{AllNamed, IsUnnamed}
 
 -- the magic at o is one of an image, of which ctx speaks, and 32 bytes are there
-pub record HasHeader (bytes : List ℕ) (o magic : ℕ) (ctx : Ctx) : Type 0 where
+pub record HasHeader (bytes : List ℕ) (o : ℕ) (ctx : Ctx) : Type 0 where
+  pub magic : ℕ
   pub magic_is : magic_at bytes o ≡ Ok (magic, Some ctx)
   pub room : o + 32 ≤ length bytes
 
@@ -20,25 +22,34 @@ pub record HasChain (bytes : List ℕ) (o : ℕ) (ctx : Ctx) (cs : List Command)
   pub chain : IsChain ctx.le bytes (o + header_size ctx.container) cs
   pub count : length cs ≡ ncmds_at ctx bytes o
 
--- An image with this magic, this context and this chain of commands opens at o. Each condition is a field.
-pub record OpensAs (bytes : List ℕ) (o magic : ℕ) (ctx : Ctx) (cs : List Command) : Type 0 where
-  pub header : HasHeader bytes o magic ctx
+-- An image with this context and this chain of commands opens at o. Each condition is a field.
+pub record OpensAs (bytes : List ℕ) (o : ℕ) (ctx : Ctx) (cs : List Command) : Type 0 where
+  pub header : HasHeader bytes o ctx
   pub counts : CountsFit bytes o ctx
   pub chain : HasChain bytes o ctx cs
+  pub names : AllNamed bytes cs
 
 abbrev pub Opens : List ℕ → ℕ → Type 0
-Opens bytes o = (magic : ℕ) × (ctx : Ctx) × (cs : List Command) × OpensAs bytes o magic ctx cs
+Opens bytes o = (ctx : Ctx) × (cs : List Command) × OpensAs bytes o ctx cs
+
+-- Some of the image's commands, from the first on: those that stand before a fault is met.
+pub record HasFront (bytes : List ℕ) (o : ℕ) (ctx : Ctx) (front : List Command) : Type 0 where
+  pub header : HasHeader bytes o ctx
+  pub counts : CountsFit bytes o ctx
+  pub chain : IsChain ctx.le bytes (o + header_size ctx.container) front
+  pub count : length front ≤ ncmds_at ctx bytes o
 
 -- A fault that stands where an image is opened at o: a header after its magic, the counts after the
--- header, the chain after the counts.
+-- header, a command after those before it, a name after the command that names it.
 pub data ImageFault (bytes : List ℕ) (o : ℕ) : Fault → Type 0 where
   no_magic : (f : Fault) → magic_at bytes o ≡ Err f → ImageFault bytes o f
   other_magic : (magic : ℕ) → magic_at bytes o ≡ Ok (magic, None) → ImageFault bytes o (bad_magic magic)
   short_header : (magic : ℕ) (ctx : Ctx) → magic_at bytes o ≡ Ok (magic, Some ctx) → length bytes < o + 32 → ImageFault bytes o malformed
-  too_many_commands : (magic : ℕ) (ctx : Ctx) → HasHeader bytes o magic ctx → (sizeofcmds_at ctx bytes o / 8 < ncmds_at ctx bytes o) ⊎ (length bytes < sizeofcmds_at ctx bytes o)
+  too_many_commands : (ctx : Ctx) → HasHeader bytes o ctx → (sizeofcmds_at ctx bytes o / 8 < ncmds_at ctx bytes o) ⊎ (length bytes < sizeofcmds_at ctx bytes o)
       → ImageFault bytes o (too_short (ncmds_at ctx bytes o) (codes "load commands"))
-  broken_chain : (magic : ℕ) (ctx : Ctx) (f : Fault) → HasHeader bytes o magic ctx → CountsFit bytes o ctx
+  broken_chain : (ctx : Ctx) (f : Fault) → HasHeader bytes o ctx → CountsFit bytes o ctx
       → IsBroken ctx.le bytes (o + header_size ctx.container) (ncmds_at ctx bytes o) f → ImageFault bytes o f
+  unreadable_name : (ctx : Ctx) (front : List Command) (f : Fault) → HasFront bytes o ctx front → IsUnnamed bytes front f → ImageFault bytes o f
 
 -- The bytes open as a file: four bytes for a magic, and the image at 0.
 pub record MachOpens (bytes : List ℕ) : Type 0 where

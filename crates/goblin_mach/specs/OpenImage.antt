@@ -1,24 +1,33 @@
 -- An image as it was opened.
-use Rattle.std.specs.Prelude.{◌↔◌, ◌≡◌, ℕ, List, map, IsTrue}
+use Rattle.std.specs.Prelude.{◌↔◌, ◌≡◌, ℕ, List, map, IsTrue, Option}
 use Rattle.goblin_mach.specs.declared.base.context.Endian.TheVariants.{Little}
 use Rattle.goblin_mach.specs.declared.base.context.Container.TheVariants.{Big}
 use Rattle.goblin_mach.specs.declared.base.context.Ctx.{Ctx}
 use Rattle.goblin_mach.specs.Header.{IsHeader}
 use Rattle.goblin_mach.specs.Image.{OpensAs}
 use Rattle.goblin_mach.specs.LoadCommands.{command_of}
+use Rattle.goblin_mach.specs.Names.{name_in, libs_in}
+use Rattle.goblin_mach.specs.TrieRange.{TrieRange, trie_in}
+use Rattle.goblin_mach.specs.Exports.{texts, text_in}
 use Rattle.goblin_mach.specs.declared.image.macho.MachO.{MachO}
 use Rattle.goblin_mach.specs.declared.image.mach.Mach.{Mach}
 use Rattle.goblin_mach.specs.declared.image.mach.Mach.TheVariants.{Binary}
 
--- The fields of the image at o: an image with some magic and context opens there with these commands,
--- and each field is the header's record, the chain, or the magic's word.
+-- the range of the export trie that an image holds, if it holds one
+abbrev pub trie_held : {A : Type 0} → MachO A → Option TrieRange
+trie_held m = m.export_trie
+
+-- The fields of the image at o: an image with some context opens there with these commands,
+-- and each field is the header's record, the chain, the magic's word, or a filter or a last over the chain.
 pub record IsImage {A : Type 0} (bytes : List ℕ) (o : ℕ) (m : MachO A) : Type 0 where
-  pub magic : ℕ
   pub ctx : Ctx
-  pub opens : OpensAs bytes o magic ctx (map command_of m.load_commands.items)
+  pub opens : OpensAs bytes o ctx (map command_of m.load_commands.items)
   pub header : IsHeader ctx bytes o m.header
   pub little_endian : IsTrue m.little_endian ↔ (ctx.le ≡ Little)
   pub is_64 : IsTrue m.is_64 ↔ (ctx.container ≡ Big)
+  pub libs : texts m.libs.items ≡ libs_in bytes (map command_of m.load_commands.items)
+  pub name : text_in m.name ≡ name_in bytes (map command_of m.load_commands.items)
+  pub trie : trie_held m ≡ trie_in bytes (map command_of m.load_commands.items)
 
 -- the file is the image at 0
 abbrev pub IsMach : {A : Type 0} → List ℕ → Mach A → Type 0

@@ -1,15 +1,17 @@
 //! The exports of an image, which a trie lists.
 
-ghost use Rattle.std.specs.Prelude.{◌≡◌, ◌≤◌, ◌++◌, List, length, IfOk, IfErr, OnOk, option_map, string_bytes};
+ghost use Rattle.std.specs.Prelude.{◌≡◌, ◌≤◌, ◌++◌, List, length, IfOk, IfErr, OnOk, map, option_map, string_bytes};
 ghost use Rattle.goblin_mach.specs.Answer.{Stands, IsOkUnlessMemory};
 ghost use Rattle.goblin_mach.specs.Trie.{Entry, offset_of, own_entries};
 ghost use Rattle.goblin_mach.specs.Lists.{list_within};
 ghost use Rattle.goblin_mach.specs.Paths.{BlocksWithin};
 ghost use Rattle.goblin_mach.specs.Exports.{texts, info_of, entries, Appends};
-ghost use Rattle.goblin_mach.specs.TrieRange.{range_in, trie_there, ListsExports, ExportsFault};
+ghost use Rattle.goblin_mach.specs.LoadCommands.{kind_in, variant_values, command_of};
+ghost use Rattle.goblin_mach.specs.TrieRange.{range_in, range_by, trie_in, trie_there, ListsExports, ExportsFault};
 
 use crate::base::error::{Error, Result};
 use crate::dyld::node::{ExportInfo, read_node};
+use crate::load::load_command::{CommandVariant, LoadCommand};
 use crate::records::linkedit::{DyldInfoCommand, LinkeditDataCommand};
 use std::alloc::{AllocError, Allocator, Global};
 use std::marker::Model;
@@ -192,4 +194,33 @@ fn walk<'a, A: Allocator + Clone>(
         )?;
     }
     Ok(())
+}
+
+// The trie that a command brings, if it brings one.
+fn trie_of_command<'a>(bytes: &'a [u8], command: &CommandVariant) -> Option<ExportTrie<'a>>
+    ensures { result ≡ range_by (kind_in command.now) bytes.now (variant_values command.now) }
+{
+    match command {
+        CommandVariant::DyldInfo(c) | CommandVariant::DyldInfoOnly(c) => {
+            Some(ExportTrie::new(bytes, c))
+        }
+        CommandVariant::DyldExportsTrie(c) => {
+            Some(ExportTrie::new_from_linkedit_data_command(bytes, c))
+        }
+        _ => None,
+    }
+}
+
+/// The trie of an image: that of the last command that brings one.
+pub fn last_export_trie<'a>(bytes: &'a [u8], commands: &[LoadCommand]) -> Option<ExportTrie<'a>>
+    ensures { result ≡ trie_in bytes.now (map command_of commands.now) }
+{
+    let mut last = None;
+    for command in commands {
+        let Some(trie) = trie_of_command(bytes, &command.command) else {
+            continue;
+        };
+        last = Some(trie);
+    }
+    last
 }

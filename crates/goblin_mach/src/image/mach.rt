@@ -16,7 +16,7 @@ pub enum Mach<'a, A: Allocator = Global> {
     Binary(MachO<'a, A>),
 }
 
-impl<'a, A: Allocator> Mach<'a, A> {
+impl<'a, A: Allocator + Clone> Mach<'a, A> {
     ghost use Rattle.goblin_mach.specs.OpenImage.{IsMach};
 
     /// Opens a file. Each refusal but `Error::Memory` is a fault that stands in it.

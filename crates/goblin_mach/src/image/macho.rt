@@ -1,11 +1,19 @@
 //! One image.
 
-ghost use Rattle.std.specs.Prelude.{IfOk, IfErr};
+ghost use Rattle.std.specs.Prelude.{◌≡◌, List, IfOk, IfErr};
 ghost use Rattle.goblin_mach.specs.Answer.{Stands, IsOkUnlessMemory};
-ghost use Rattle.goblin_mach.specs.Image.{Opens, ImageFault};
+ghost use Rattle.goblin_mach.specs.Magic.{ncmds_at};
+ghost use Rattle.goblin_mach.specs.Header.{IsHeader};
+ghost use Rattle.goblin_mach.specs.Image.{HasHeader, CountsFit, Opens, ImageFault};
+ghost use Rattle.goblin_mach.specs.Trie.{Entry};
+ghost use Rattle.goblin_mach.specs.Exports.{texts, entries};
+ghost use Rattle.goblin_mach.specs.TrieRange.{ListsImageExports, ImageExportsFault};
 
+use crate::base::context::Ctx;
 use crate::base::error::{Error, Result};
+use crate::dyld::exports::{Export, ExportTrie, last_export_trie};
 use crate::image::magic::parse_magic_and_ctx;
+use crate::image::names::{id_name, libraries};
 use crate::load::load_command::{LoadCommand, read_commands};
 use crate::parts::header::{Header, header_at, header_len};
 use std::alloc::{Allocator, Global};
@@ -18,14 +26,19 @@ pub struct MachO<'a, A: Allocator = Global> {
     pub header: Header,
     /// The load commands, in order.
     pub load_commands: Vec<LoadCommand, A>,
+    /// The image's own name or "self", and then the libraries that it names, in the order of their commands:
+    /// a library's place here is its ordinal.
+    pub libs: Vec<&'a str, A>,
+    /// The name by which the image is known as a library, if it has one.
+    pub name: Option<&'a str>,
     /// Whether the image is little-endian.
     pub little_endian: bool,
     /// Whether the image has 64 bits.
     pub is_64: bool,
-    bytes: &'a [u8],
+    export_trie: Option<ExportTrie<'a>>,
 }
 
-impl<'a, A: Allocator> MachO<'a, A> {
+impl<'a, A: Allocator + Clone> MachO<'a, A> {
     ghost use Rattle.goblin_mach.specs.OpenImage.{IsImage};
 
     /// Opens the image at a place of the bytes. Each refusal but `Error::Memory` is a fault that stands there.
@@ -41,26 +54,60 @@ impl<'a, A: Allocator> MachO<'a, A> {
         ensures opened { IfOk result (IsImage bytes.now offset) }
         ensures refused { IfErr result (Stands (ImageFault bytes.now offset)) }
     {
-        let (magic, ctx) = parse_magic_and_ctx(bytes, offset)?;
-        let Some(ctx) = ctx else {
-            return Err(Error::BadMagic(u64::from(magic)));
-        };
-        if bytes.len() - offset < 32 {
-            return Err(Error::Malformed("a header is 32 bytes"));
-        }
-        let header = header_at(bytes, offset, ctx);
-        let size = header.sizeofcmds as usize;
-        if header.ncmds > size / 8 || size > bytes.len() {
-            return Err(Error::BufferTooShort(header.ncmds, "load commands"));
-        }
+        let (ctx, header) = read_header(bytes, offset)?;
         let first = offset + header_len(ctx.container);
-        let load_commands = read_commands(alloc, bytes, first, header.ncmds, ctx.le)?;
+        let load_commands = read_commands(alloc.clone()?, bytes, first, header.ncmds, ctx.le)?;
+        let name = id_name(bytes, &load_commands)?;
+        let libs = libraries(alloc, bytes, &load_commands, name.unwrap_or("self"))?;
+        let export_trie = last_export_trie(bytes, &load_commands);
         Ok(MachO {
             header,
             load_commands,
+            libs,
+            name,
             little_endian: ctx.le.is_little(),
             is_64: ctx.is_big(),
-            bytes,
+            export_trie,
         })
+    }
+}
+
+// The context and the header of the image at a place, where its counts can be those of an image.
+fn read_header(bytes: &[u8], offset: usize) -> Result<(Ctx, Header)>
+    ensures found { IfOk result (λ found. HasHeader bytes.now offset found.0) }
+    ensures counts { IfOk result (λ found. CountsFit bytes.now offset found.0) }
+    ensures header { IfOk result (λ found. IsHeader found.0 bytes.now offset found.1) }
+    ensures ncmds { IfOk result (λ found. found.1.ncmds ≡ ncmds_at found.0 bytes.now offset) }
+    ensures refused { IfErr result (Stands (ImageFault bytes.now offset)) }
+{
+    let (magic, ctx) = parse_magic_and_ctx(bytes, offset)?;
+    let Some(ctx) = ctx else {
+        return Err(Error::BadMagic(u64::from(magic)));
+    };
+    if bytes.len() - offset < 32 {
+        return Err(Error::Malformed("a header is 32 bytes"));
+    }
+    let header = header_at(bytes, offset, ctx);
+    let size = header.sizeofcmds as usize;
+    if header.ncmds > size / 8 || size > bytes.len() {
+        return Err(Error::BufferTooShort(header.ncmds, "load commands"));
+    }
+    Ok((ctx, header))
+}
+
+impl<'a, A: Allocator> MachO<'a, A> {
+    ghost use Rattle.goblin_mach.specs.OpenImage.{trie_held};
+
+    /// The exports of the image, over the libraries that it holds at the call; none where no command
+    /// brings a trie. Each refusal but `Error::Memory` is a fault that stands in the trie.
+    pub fn exports<B: Allocator + Clone>(&self, alloc: B) -> Result<Vec<Export<'a, B>, B>>
+        ensures listed { IfOk result (λ v. ListsImageExports (trie_held self.now) (texts self.now.libs.items) (entries v.items)) }
+        ensures only { (list : List Entry) → ListsImageExports (trie_held self.now) (texts self.now.libs.items) list → IsOkUnlessMemory result }
+        ensures refused { IfErr result (Stands (ImageExportsFault (trie_held self.now) (texts self.now.libs.items))) }
+    {
+        match &self.export_trie {
+            Some(trie) => trie.exports(alloc, self.libs.as_slice()),
+            None => Ok(Vec::new(alloc)),
+        }
     }
 }

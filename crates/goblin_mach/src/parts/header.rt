@@ -1,7 +1,7 @@
 //! The header of an image (`mach-o/loader.h`).
 
 ghost use Rattle.std.specs.Prelude.{◌≡◌, ◌≤◌, ◌+◌, length};
-ghost use Rattle.goblin_mach.specs.Magic.{header_size};
+ghost use Rattle.goblin_mach.specs.Magic.{header_size, ncmds_at, sizeofcmds_at};
 ghost use Rattle.goblin_mach.specs.Header.{IsHeader};
 
 use crate::base::context::{Container, Ctx, Endian};
@@ -199,7 +199,9 @@ impl From<Header64> for Header {
 /// The header at a place from which its bytes are there.
 pub fn header_at(bytes: &[u8], offset: usize, ctx: Ctx) -> Header
     requires { offset + header_size ctx.container ≤ length bytes.now }
-    ensures { IsHeader ctx bytes.now offset result }
+    ensures header { IsHeader ctx bytes.now offset result }
+    ensures ncmds { result.ncmds ≡ ncmds_at ctx bytes.now offset }
+    ensures sizeofcmds { result.sizeofcmds ≡ sizeofcmds_at ctx bytes.now offset }
 {
     let rest = rest_at(bytes, offset);
     match ctx.container {

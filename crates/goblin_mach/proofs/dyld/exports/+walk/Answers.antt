@@ -27,7 +27,7 @@ returns-in_err-walk-clause-err g t c =
     let same = c.deref-branch-items.ensures.value in
     let whole = trie_there c.args.trie.now (texts c.args.libs.now) in
     rw (p.1, p.2) (stands_below whole c.args.levels (c.args.levels - 1) c.args.start c.args.prefix.now (node_of c.in_ok-node.node) step inside node c.loop-branch.branch-index _
-      (ap (λ xs. slice_get (branches_of xs) c.loop-branch.branch-index) (sym same) ∙ branch_seen items c.loop-branch.branch-index _ lt) c.in_err-walk.field-0.0 c.in_err-walk.ensures.err)
+    (ap (λ xs. slice_get (branches_of xs) c.loop-branch.branch-index) (sym same) ∙ branch_seen items c.loop-branch.branch-index _ lt) c.in_err-walk.field-0.0 c.in_err-walk.ensures.err)
 
 pub loop-branch-preserved : goal.loop-branch-preserved
 loop-branch-preserved g t c =
@@ -38,8 +38,8 @@ loop-branch-preserved g t c =
     let list = list_within (trie_there c.args.trie.now (texts c.args.libs.now)) (c.args.levels - 1) in
     let name = c.as_str.ensures.value ∙ c.in_ok-name.ensures in
     rw (ok.2) (goes_on list c.args.prefix.now (branches_of items)
-        (with_front (entries c.push_own.new.found.items) (lists_of list c.args.prefix.now (branches_of items)))
-        (entries c.loop-branch.found.items) ok.0 i _ (branch_seen items i _ lt) (ap (list _) (sym name) ∙ ok.1) c.loop-branch.invariant)
+    (with_front (entries c.push_own.new.found.items) (lists_of list c.args.prefix.now (branches_of items)))
+    (entries c.loop-branch.found.items) ok.0 i _ (branch_seen items i _ lt) (ap (list _) (sym name) ∙ ok.1) c.loop-branch.invariant)
 
 pub returns-clause-ok : goal.returns-clause-ok
 returns-clause-ok g t c =
