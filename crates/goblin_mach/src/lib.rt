@@ -23,6 +23,15 @@ pub mod header {
     };
 }
 
+/// The exports of an image.
+pub mod exports {
+    pub use crate::dyld::exports::{Export, ExportTrie};
+    pub use crate::dyld::node::{
+        EXPORT_SYMBOL_FLAGS_KIND_MASK, EXPORT_SYMBOL_FLAGS_REEXPORT,
+        EXPORT_SYMBOL_FLAGS_STUB_AND_RESOLVER, ExportInfo,
+    };
+}
+
 /// Load commands.
 pub mod load_command {
     pub use crate::load::load_command::{CommandVariant, LoadCommand};
@@ -40,5 +49,7 @@ pub mod load_command {
         LC_UUID, LC_VERSION_MIN_IPHONEOS, LC_VERSION_MIN_MACOSX, LC_VERSION_MIN_TVOS,
         LC_VERSION_MIN_WATCHOS, cmd_to_str,
     };
+    pub use crate::records::dylib::{Dylib, DylibCommand};
+    pub use crate::records::linkedit::{DyldInfoCommand, LinkeditDataCommand};
     pub use crate::records::load_command_header::LoadCommandHeader;
 }

@@ -1,10 +1,11 @@
 //! What the program prints of some bytes, and its exit status.
 
-ghost use Rattle.std.specs.Prelude.{◌≡◌, ◌≤◌, ◌↔◌, IsSome, OnOk, codes};
+ghost use Rattle.std.specs.Prelude.{◌≡◌, ◌≤◌, ◌↔◌, OnOk, codes};
 ghost use Rattle.goblin_mach.specs.Image.{MachOpens};
 
-use goblin_mach::load_command::{CommandVariant, LoadCommand};
-use goblin_mach::{Error, Mach};
+use goblin_mach::exports::Export;
+use goblin_mach::load_command::LoadCommandHeader;
+use goblin_mach::{Error, Mach, MachO};
 use std::alloc::{AllocError, Allocator};
 use std::io;
 use std::io::{BufWriter, Write};
@@ -14,15 +15,19 @@ use std::io::{BufWriter, Write};
 pub enum Word {
     /// The load commands.
     Commands,
+    /// The exports.
+    Exports,
 }
 
 impl Word {
     /// The word that a text spells, if it spells one.
     pub fn parse(text: &str) -> Option<Word>
-        ensures { IsSome result ↔ (text.now ≡ codes "commands") }
+        ensures commands { result ≡ Some Word.Commands ↔ (text.now ≡ codes "commands") }
+        ensures exports { result ≡ Some Word.Exports ↔ (text.now ≡ codes "exports") }
     {
         match text {
             "commands" => Some(Word::Commands),
+            "exports" => Some(Word::Exports),
             _ => None,
         }
     }
@@ -83,25 +88,41 @@ fn print<A: Allocator + Clone, O: Write>(
 ) -> Result<(), Failure>
     ensures { OnOk result (MachOpens bytes.now) }
 {
-    let file = Mach::parse(alloc.clone()?, bytes)?;
-    let Ok(mut lines) = BufWriter::new(alloc, out) else {
-        return Err(Failure::from(AllocError));
-    };
-    match (word, file) {
-        (Word::Commands, Mach::Binary(image)) => {
-            print_commands(&mut lines, image.load_commands.as_slice())?;
+    let Mach::Binary(image) = Mach::parse(alloc.clone()?, bytes)?;
+    match word {
+        Word::Commands => print_commands(&mut buffered(alloc, out)?, &image)?,
+        Word::Exports => {
+            let exports = image.exports(alloc.clone()?)?;
+            print_exports(&mut buffered(alloc, out)?, &exports)?;
         }
     }
-    lines.flush()?;
     Ok(())
 }
 
-fn print_commands<O: Write>(out: &mut O, commands: &[LoadCommand]) -> io::Result<()> {
-    for command in commands {
-        let CommandVariant::Unimplemented(header) = command.command;
+// A writer that gathers lines.
+fn buffered<A: Allocator, O: Write>(
+    alloc: A,
+    out: &mut O,
+) -> Result<BufWriter<&mut O, A>, Failure> {
+    BufWriter::new(alloc, out).map_err(|_| Failure::from(AllocError))
+}
+
+fn print_commands<A: Allocator, O: Write>(out: &mut O, image: &MachO<'_, A>) -> io::Result<()> {
+    for command in &image.load_commands {
+        let header = LoadCommandHeader {
+            cmd: command.command.cmd(),
+            cmdsize: command.command.cmdsize() as u32,
+        };
         writeln!(out, "{:#x} {}", command.offset, header)?;
     }
-    Ok(())
+    out.flush()
+}
+
+fn print_exports<A: Allocator, O: Write>(out: &mut O, exports: &[Export<'_, A>]) -> io::Result<()> {
+    for export in exports {
+        writeln!(out, "{:#x} {}", export.offset, export.name)?;
+    }
+    out.flush()
 }
 
 // The word for an error.

@@ -2,6 +2,7 @@
 //! where memory runs out.
 
 mod chain;
+mod exports;
 mod files;
 mod lines;
 mod shown;

@@ -1,6 +1,6 @@
 //! Load commands, one after the other.
 
-ghost use Rattle.std.specs.Prelude.{◌≡◌, ◌+◌, Ok, Err, IfOk, IfErr, map, length};
+ghost use Rattle.std.specs.Prelude.{◌≡◌, ◌<◌, ◌+◌, ◌^◌, Ok, Err, IfOk, IfErr, map, length};
 ghost use Rattle.goblin_mach.specs.Answer.{Reads, Stands};
 ghost use Rattle.goblin_mach.specs.Record.{number_among, record_at};
 ghost use Rattle.goblin_mach.specs.Commands.{header_fields, row_of};
@@ -64,7 +64,8 @@ impl CommandVariant {
 
     /// How many bytes lie between this command's offset and the next one's.
     pub fn cmdsize(&self) -> usize
-        ensures { result ≡ number_among (variant_values self.now) 1 }
+        ensures value { result ≡ number_among (variant_values self.now) 1 }
+        ensures fits { result < 2 ^ 32 }
     {
         let size = match self {
             CommandVariant::LoadDylib(c)

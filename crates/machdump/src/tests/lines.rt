@@ -27,7 +27,7 @@ impl std::io::Write for Full {
 
 #[test]
 fn lines(rt: HostRuntime) -> Result<(), Fail> {
-    let rows: [(&str, Word, &[u8], u8, &str, &str); 4] = [
+    let rows: [(&str, Word, &[u8], u8, &str, &str); 6] = [
         (
             "file A",
             Word::Commands,
@@ -44,6 +44,8 @@ fn lines(rt: HostRuntime) -> Result<(), Fail> {
             "0x20 LoadCommandHeader: LC_SEGMENT_64 size: 152\n0xb8 LoadCommandHeader: LC_LOAD_DYLIB size: 32\n0xd8 LoadCommandHeader: LC_DYLD_INFO_ONLY size: 48\n0x108 LoadCommandHeader: LC_SYMTAB size: 24\n0x120 LoadCommandHeader: LC_MAIN size: 24\n",
             "",
         ),
+        ("file B", Word::Exports, &FILE_B, 0, "0x7 \n0x9 a\n", ""),
+        ("no trie", Word::Exports, &FILE_A, 0, "", ""),
         (
             "file_a_cut",
             Word::Commands,
@@ -91,5 +93,6 @@ fn a_failed_write(rt: HostRuntime) {
 #[test]
 fn words(rt: HostRuntime) {
     assert_eq!(rt; Word::parse("commands"), Some(Word::Commands));
+    assert_eq!(rt; Word::parse("exports"), Some(Word::Exports));
     assert_eq!(rt; Word::parse("command"), None);
 }

@@ -1,5 +1,6 @@
 //! Answers as short texts, to be compared in tables.
 
+use goblin_mach::exports::{Export, ExportInfo};
 use goblin_mach::{Error, MachO, ScrollError};
 use std::alloc::{AllocError, Allocator, Global};
 use std::fmt::Write;
@@ -29,6 +30,34 @@ pub fn image<A: Allocator>(alloc: Global, image: &MachO<'_, A>) -> Result<String
         let cmd = command.command.cmd();
         let size = command.command.cmdsize();
         write!(text, ", {cmd:#x} at {offset} of {size}")?;
+    }
+    Ok(text)
+}
+
+/// The exports of a list: names, what they stand for, offsets.
+pub fn exports<A: Allocator>(
+    alloc: Global,
+    exports: &[Export<'_, A>],
+) -> Result<String, AllocError> {
+    let mut text = String::new(alloc);
+    for export in exports {
+        let name = &export.name;
+        match &export.info {
+            ExportInfo::Regular { address, flags } => write!(
+                text,
+                "[{name}] regular {address:#x} flags {flags:#x}"
+            )?,
+            ExportInfo::Reexport {
+                lib,
+                lib_symbol_name,
+                flags,
+            } => write!(
+                text,
+                "[{name}] {} of {lib} flags {flags:#x}",
+                lib_symbol_name.unwrap_or("the same")
+            )?,
+        }
+        write!(text, " at {:#x} of {}; ", export.offset, export.size)?;
     }
     Ok(text)
 }

@@ -1,0 +1,147 @@
+//! The exports of tries.
+
+use crate::tests::files::{EXPORTS, FILE_B};
+use crate::tests::shown;
+use goblin_mach::exports::ExportTrie;
+use goblin_mach::load_command::{DyldInfoCommand, LinkeditDataCommand};
+use goblin_mach::{Error, MachO};
+use linked_list_allocator::LocalHeap;
+use std::alloc::{AllocError, Global};
+use std::test::Fail;
+
+// The command whose range is all the bytes.
+fn whole(bytes: &[u8]) -> DyldInfoCommand {
+    DyldInfoCommand {
+        export_size: (bytes.len() & 0xffff) as u32,
+        ..DyldInfoCommand::default()
+    }
+}
+
+// The exports of a trie, or why there are none.
+fn listed(alloc: Global, trie: &ExportTrie<'_>, libs: &[&str]) -> Result<String, AllocError> {
+    match trie.exports(alloc, libs) {
+        Ok(exports) => shown::exports(alloc, &exports),
+        Err(error) => shown::error(alloc, &error),
+    }
+}
+
+const THREE: &str =
+    "[__mh_execute_header] regular 0x0 flags 0x0 at 0x0 of 0; [_maximum] regular 0xf40 flags 0x0 at 0xf40 of 0; [_main] regular 0xf50 flags 0x0 at 0xf50 of 0; ";
+
+#[test]
+fn rows(rt: HostRuntime) -> Result<(), Fail> {
+    let alloc = rt.alloc();
+    let libs = ["self", "/usr/lib/libfoo.dylib"];
+    let rows: [(&str, &[u8], &str); 9] = [
+        ("exports_vector", &EXPORTS, THREE),
+        ("back_to_root", &[0, 1, 0x61, 0, 0], "malformed"),
+        ("child_past_range", &[0, 1, 0x61, 0, 5], ""),
+        (
+            "terminal_with_child",
+            &[2, 0, 7, 1, 0x61, 0, 7, 2, 0, 9, 0],
+            "[] regular 0x7 flags 0x0 at 0x7 of 0; [a] regular 0x9 flags 0x0 at 0x9 of 0; ",
+        ),
+        (
+            "shared_node",
+            &[0, 2, 0x61, 0, 8, 0x62, 0, 8, 2, 0, 5, 0],
+            "[a] regular 0x5 flags 0x0 at 0x5 of 0; [b] regular 0x5 flags 0x0 at 0x5 of 0; ",
+        ),
+        (
+            "reexport",
+            &[3, 8, 1, 0, 0],
+            "[] the same of /usr/lib/libfoo.dylib flags 0x8 at 0x0 of 0; ",
+        ),
+        ("reexport_bad_ordinal", &[3, 8, 2, 0, 0], "malformed"),
+        ("trie_count_127", &[0, 0x7f], "too short 127 branches"),
+        (
+            "a stub, until stubs are read",
+            &[3, 0x10, 0x20, 0x30, 0],
+            "malformed",
+        ),
+    ];
+    for (name, bytes, want) in rows {
+        let got = listed(alloc, &ExportTrie::new(bytes, &whole(bytes)), &libs)?;
+        assert_eq!(rt; got.as_str(), want, "{name}");
+    }
+    Ok(())
+}
+
+#[test]
+fn ranges(rt: HostRuntime) -> Result<(), Fail> {
+    let alloc = rt.alloc();
+    let command = LinkeditDataCommand {
+        dataoff: 0,
+        datasize: 64,
+        ..LinkeditDataCommand::default()
+    };
+    let trie = ExportTrie::new_from_linkedit_data_command(&EXPORTS, &command);
+    assert_eq!(rt;
+        listed(alloc, &trie, &[])?.as_str(),
+        THREE,
+        "exports_vector"
+    );
+    let out = DyldInfoCommand {
+        export_off: 0xffff_ff00,
+        export_size: 0x00ff_ff00,
+        ..DyldInfoCommand::default()
+    };
+    assert_eq!(rt;
+        listed(alloc, &ExportTrie::new(&[], &out), &[])?.as_str(),
+        "",
+        "trie_range_out"
+    );
+    Ok(())
+}
+
+#[test]
+fn file_b(rt: HostRuntime) -> Result<(), Fail> {
+    let alloc = rt.alloc();
+    let image = MachO::parse(alloc, &FILE_B, 0)?;
+    assert_eq!(rt; image.libs.as_slice(), ["self", "L"].as_slice());
+    assert!(rt; image.name.is_none());
+    let text = shown::exports(alloc, &image.exports(alloc)?)?;
+    assert_eq!(rt;
+        text.as_str(),
+        "[] regular 0x7 flags 0x0 at 0x7 of 0; [a] regular 0x9 flags 0x0 at 0x9 of 0; "
+    );
+    Ok(())
+}
+
+#[test]
+fn refused_memory_is_answered(rt: HostRuntime) -> Result<(), Fail> {
+    let image = MachO::parse(rt.alloc(), &FILE_B, 0)?;
+    let trie = ExportTrie::new(&EXPORTS, &whole(&EXPORTS));
+    let mut refused = 0u32;
+    let mut of_image = 0u32;
+    let mut of_trie = 0u32;
+    for size in 0..128 {
+        let heap = LocalHeap::new(rt.alloc(), 16 * size)?;
+        match image.exports(&heap) {
+            Ok(exports) => {
+                assert_eq!(rt; exports.len(), 2);
+                of_image = of_image.saturating_add(1);
+            }
+            Err(Error::Memory(_)) => {
+                assert_eq!(rt; of_image, 0, "more memory is refused");
+                refused = refused.saturating_add(1);
+            }
+            Err(_) => assert!(rt; false, "another error with {size} blocks"),
+        };
+        let heap = LocalHeap::new(rt.alloc(), 16 * size)?;
+        match trie.exports(&heap, &[]) {
+            Ok(exports) => {
+                assert_eq!(rt; exports.len(), 3);
+                of_trie = of_trie.saturating_add(1);
+            }
+            Err(Error::Memory(_)) => {
+                assert_eq!(rt; of_trie, 0, "more memory is refused");
+                refused = refused.saturating_add(1);
+            }
+            Err(_) => assert!(rt; false, "another error with {size} blocks"),
+        };
+    }
+    assert!(rt; refused > 2);
+    assert!(rt; of_image > 1);
+    assert!(rt; of_trie > 1);
+    Ok(())
+}
