@@ -1,13 +1,10 @@
 -- How the command at a place was read.
-use Rattle.std.proofs.Common.{◌≡◌, ℕ, ◌+◌, ◌-◌, ◌<◌, ◌≤◌, Bool, true, false, cond, ltb, eqb, List, [], ◌∷◌, ◌⊎◌, length, drop, Result, Ok, Err, inl, inr, refl, sym, ap, subst, ◌∙◌, nat_lt, nat_le, leb}
-use Rattle.std.proofs.lemmas.Bool.{cases_Bool}
+use Rattle.std.proofs.Common.{◌≡◌, ℕ, ◌-◌, false, cond, ltb, List, length, Ok, Err, inl, inr, sym, ap, nat_lt}
 use Rattle.goblin_mach.specs.declared.base.context.Endian.{Endian}
-use Rattle.goblin_mach.specs.Answer.{◌>>=◌}
-use Rattle.goblin_mach.specs.Fault.{Fault, malformed, bad_offset, too_big}
-use Rattle.goblin_mach.specs.Number.{number, bounded}
-use Rattle.goblin_mach.specs.Record.{Field, num, Value, number_among, size, values_in, record_at}
-use Rattle.goblin_mach.specs.Commands.{Kind, CommandRow, header_fields, command_rows, row_among, row_of}
-use Rattle.goblin_mach.specs.Chain.{Command, cmdsize_of, command_by, command_at}
+use Rattle.goblin_mach.specs.Fault.{malformed}
+use Rattle.goblin_mach.specs.Record.{Value, number_among, record_at}
+use Rattle.goblin_mach.specs.Commands.{header_fields, row_of}
+use Rattle.goblin_mach.specs.Chain.{Command, command_by, command_at}
 use Rattle.goblin_mach.proofs.Binds.{bind_ok, chosen, same_ok}
 
 -- how a command at a place was read: its header, and then its record

@@ -1,5 +1,5 @@
 -- A header loaded from the bytes at a place is the header at that place.
-use Rattle.std.proofs.Common.{◌≡◌, ℕ, ◌+◌, List, drop, refl, sym, ap, ◌∙◌, arith}
+use Rattle.std.proofs.Common.{◌≡◌, ℕ, ◌+◌, List, drop, sym, ap, ◌∙◌, arith}
 use Rattle.goblin_mach.specs.declared.base.context.Endian.{Endian}
 use Rattle.goblin_mach.specs.declared.base.context.Container.{Container}
 use Rattle.goblin_mach.specs.declared.base.context.Container.TheVariants.{Little, Big}
@@ -7,7 +7,7 @@ use Rattle.goblin_mach.specs.declared.base.context.Ctx.{Ctx}
 use Rattle.goblin_mach.specs.declared.parts.header.Header.{Header}
 use Rattle.goblin_mach.specs.declared.parts.header.Header32.{Header32}
 use Rattle.goblin_mach.specs.declared.parts.header.Header64.{Header64}
-use Rattle.goblin_mach.specs.Record.{Value, values_in}
+use Rattle.goblin_mach.specs.Record.{values_in}
 use Rattle.goblin_mach.specs.Header.{header32_fields, header32_values, header32_of_values, header64_fields, header64_values, header64_of_values, header_in, IsHeader}
 use Rattle.goblin_mach.specs.Number.{number}
 use Rattle.goblin_mach.specs.Magic.{ncmds_at, sizeofcmds_at}

@@ -1,12 +1,11 @@
 -- No fault stands where an image opens.
-use Rattle.std.proofs.Common.{◌≡◌, ℕ, ◌+◌, ◌<◌, ◌≤◌, ◌⊎◌, inl, inr, List, length, Option, Some, None, Result, Ok, Err, sym, ap, subst, ◌∙◌, arith}
+use Rattle.std.proofs.Common.{◌≡◌, ℕ, ◌+◌, ◌≤◌, inl, inr, List, length, Option, Some, None, Result, Ok, Err, sym, ap, subst, ◌∙◌, arith}
 use Rattle.std.specs.Prelude.{IfErr}
 use Rattle.goblin_mach.specs.declared.base.context.Ctx.{Ctx}
 use Rattle.goblin_mach.specs.declared.base.error.Error.{Error}
 use Rattle.goblin_mach.specs.Answer.{Stands, IsOkUnlessMemory}
 use Rattle.goblin_mach.specs.Fault.{Fault}
 use Rattle.goblin_mach.specs.Magic.{magic_at, header_size}
-use Rattle.goblin_mach.specs.Chain.{Command}
 use Rattle.goblin_mach.specs.Image.{HasHeader, CountsFit, HasChain, Opens, ImageFault, no_magic, other_magic, short_header, too_many_commands, broken_chain, unreadable_name, MachOpens, MachFault, no_room, of_image}
 use Rattle.goblin_mach.proofs.Binds.{same_ok}
 use Rattle.goblin_mach.proofs.Chains.{broken-excludes_chain, among-front}

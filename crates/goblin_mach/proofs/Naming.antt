@@ -1,5 +1,5 @@
 -- Reading names command by command.
-use Rattle.std.proofs.Common.{◌≡◌, ℕ, zero, suc, ◌+◌, ◌<◌, ◌≤◌, Bool, true, false, cond, ◌||◌, List, [], ◌∷◌, ◌++◌, ◌⊎◌, length, map, drop, get_or, Option, Some, None, Result, Ok, Err, IsOk, inl, inr, refl, sym, ap, subst, ◌∙◌, arith, add-one, append_assoc}
+use Rattle.std.proofs.Common.{◌≡◌, ℕ, zero, suc, ◌+◌, ◌<◌, Bool, true, false, cond, ◌||◌, List, [], ◌∷◌, length, map, drop, get_or, Option, Some, None, Ok, Err, IsOk, inl, inr, refl, sym, ap, subst, ◌∙◌, arith, add-one}
 use Rattle.std.specs.Prelude.{option_map, unwrap_or}
 use Rattle.std.specs.Borrow.{Bor}
 use Rattle.std.proofs.lemmas.Bool.{or_cases}
@@ -9,7 +9,7 @@ use Rattle.goblin_mach.specs.Text.{text_at}
 use Rattle.goblin_mach.specs.Commands.{Kind, is_library, is_id}
 use Rattle.goblin_mach.specs.Chain.{Command, IsAmong}
 use Rattle.goblin_mach.specs.LoadCommands.{command_of}
-use Rattle.goblin_mach.specs.Names.{name_place, cons_readable, names_of, last_or, AllReadable, AllNamed, is_named, IsUnnamed}
+use Rattle.goblin_mach.specs.Names.{name_place, names_of, AllReadable, AllNamed, is_named, IsUnnamed}
 
 -- the commands from one on begin with it
 pub from_here : (xs : List LoadCommand) (i : ℕ) (d : LoadCommand) → i < length xs → drop i (map command_of xs) ≡ command_of (get_or xs i d) ∷ drop (i + 1) (map command_of xs)

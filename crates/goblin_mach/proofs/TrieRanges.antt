@@ -1,5 +1,5 @@
 -- The trie of a range: what its walk lists, and why it lists nothing.
-use Rattle.std.proofs.Common.{◌≡◌, ◌-◌, ◌≤◌, ℕ, List, [], Option, Some, Result, Ok, Err, ap, sym, ◌∙◌, arith}
+use Rattle.std.proofs.Common.{◌≡◌, ◌-◌, ◌≤◌, ℕ, List, [], Some, Result, Ok, Err, arith}
 use Rattle.std.specs.Prelude.{IfErr}
 use Rattle.goblin_mach.specs.declared.base.error.Error.{Error}
 use Rattle.goblin_mach.specs.Answer.{Stands, IsOkUnlessMemory}

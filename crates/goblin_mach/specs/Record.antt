@@ -1,7 +1,7 @@
 -- Records: fields one after the other, in one byte order.
-use Rattle.std.specs.Prelude.{◌≡◌, ℕ, zero, suc, ◌+◌, ◌-◌, ◌<◌, ◌^◌, List, [], ◌∷◌, ◌++◌, length, take, drop, Result, Ok, Err, nat_le, if◌then◌else◌}
+use Rattle.std.specs.Prelude.{◌≡◌, ℕ, zero, suc, ◌+◌, ◌<◌, ◌^◌, List, [], ◌∷◌, ◌++◌, length, take, drop, Result}
 use Rattle.goblin_mach.specs.declared.base.context.Endian.{Endian}
-use Rattle.goblin_mach.specs.Fault.{Fault, bad_offset, too_big}
+use Rattle.goblin_mach.specs.Fault.{Fault}
 use Rattle.goblin_mach.specs.Number.{number, number_bytes, bounded}
 
 -- a number of some bytes, or an array of bytes

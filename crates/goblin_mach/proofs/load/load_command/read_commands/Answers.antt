@@ -1,7 +1,7 @@
-use Rattle.std.proofs.Common.{◌≡◌, ◌+◌, ◌++◌, ◌∷◌, [], Ok, length, map, arith, ap, ◌∙◌}
+use Rattle.std.proofs.Common.{◌≡◌, ◌++◌, ◌∷◌, [], Ok, map, arith}
 use Rattle.std.proofs.lemmas.List.{map_push, length_push}
 use Rattle.std.proofs.lemmas.Result.{err_from_is_err_and}
-use Rattle.goblin_mach.specs.Chain.{cmdsize_of, command_at, end_of, IsBroken}
+use Rattle.goblin_mach.specs.Chain.{command_at, end_of, IsBroken}
 use Rattle.goblin_mach.specs.LoadCommands.{command_of}
 use Rattle.goblin_mach.proofs.Chains.{IsChain-push, end_of-push}
 use Rattle.goblin_mach.proofs.CommandAt.{offset_is}
