@@ -3,8 +3,8 @@ use Rattle.std.proofs.Common.{◌≡◌, ℕ, suc, ◌-◌, ◌+◌, ◌≤◌, 
 use Rattle.std.proofs.lemmas.List.{append-nil}
 use Rattle.std.proofs.lemmas.Option.{slice_get-map, slice_get-get_or}
 use Rattle.std.specs.Prelude.{slice_get, option_map}
-use Rattle.goblin_mach.specs.Answer.{◌>>=◌}
-use Rattle.goblin_mach.specs.Fault.{Fault}
+use Rattle.mach_base.specs.Answer.{◌>>=◌}
+use Rattle.mach_base.specs.Fault.{Fault}
 use Rattle.goblin_mach.specs.Trie.{Branch}
 use Rattle.goblin_mach.specs.Nodes.{branch_at, branches_at}
 use Rattle.goblin_mach.specs.NodeViews.{branch_of, branches_of}

@@ -1,9 +1,10 @@
 -- Chains of load commands: the same with the place carried along, how they grow, and that there is at most one.
 use Rattle.std.proofs.Common.{◌≡◌, ℕ, ◌+◌, ◌<◌, ◌≤◌, List, [], ◌∷◌, ◌++◌, length, Ok, Err, inl, inr, refl, sym, ap, subst, ◌∙◌, arith}
-use Rattle.goblin_mach.specs.declared.base.context.Endian.{Endian}
-use Rattle.goblin_mach.specs.Fault.{Fault}
-use Rattle.goblin_mach.specs.Chain.{Command, IsAmong, cmdsize_of, command_at, AllThere, BeginsAt, IsLinked, IsChain, end_of, IsBroken}
-use Rattle.goblin_mach.proofs.Binds.{same_ok}
+use Rattle.mach_base.specs.declared.context.Endian.{Endian}
+use Rattle.mach_base.specs.Fault.{Fault}
+use Rattle.mach_load.specs.Command.{Command, cmdsize_of, command_at}
+use Rattle.goblin_mach.specs.Chain.{IsAmong, AllThere, BeginsAt, IsLinked, IsChain, end_of, IsBroken}
+use Rattle.mach_base.proofs.Binds.{same_ok}
 use Rattle.goblin_mach.proofs.CommandAt.{offset_is}
 
 -- a chain with its place carried along

@@ -2,8 +2,8 @@
 use Rattle.std.specs.Prelude.{⊤}
 use Rattle.std.specs.Str.{is_utf8, chars}
 use lib.Utf8.{encode}
-use Rattle.goblin_mach.specs.Leb128.{uleb_at}
-use Rattle.goblin_mach.specs.Text.{text_at}
+use Rattle.mach_base.specs.Leb128.{uleb_at}
+use Rattle.mach_base.specs.Text.{text_at}
 use Rattle.goblin_mach.specs.Lists.{list_within}
 use Rattle.goblin_mach.specs.Nodes.{sum_of, regular_at, reexport_at, info_at, branch_at, branches_at, children_at, terminal_at, inner_at, node_at}
 

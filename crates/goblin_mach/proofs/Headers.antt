@@ -1,17 +1,17 @@
 -- A header loaded from the bytes at a place is the header at that place.
 use Rattle.std.proofs.Common.{◌≡◌, ℕ, ◌+◌, List, drop, sym, ap, ◌∙◌, arith}
-use Rattle.goblin_mach.specs.declared.base.context.Endian.{Endian}
-use Rattle.goblin_mach.specs.declared.base.context.Container.{Container}
-use Rattle.goblin_mach.specs.declared.base.context.Container.TheVariants.{Little, Big}
-use Rattle.goblin_mach.specs.declared.base.context.Ctx.{Ctx}
+use Rattle.mach_base.specs.declared.context.Endian.{Endian}
+use Rattle.mach_base.specs.declared.context.Container.{Container}
+use Rattle.mach_base.specs.declared.context.Container.TheVariants.{Little, Big}
+use Rattle.mach_base.specs.declared.context.Ctx.{Ctx}
 use Rattle.goblin_mach.specs.declared.parts.header.Header.{Header}
 use Rattle.goblin_mach.specs.declared.parts.header.Header32.{Header32}
 use Rattle.goblin_mach.specs.declared.parts.header.Header64.{Header64}
-use Rattle.goblin_mach.specs.Record.{values_in}
+use Rattle.mach_base.specs.Record.{values_in}
 use Rattle.goblin_mach.specs.Header.{header32_fields, header32_values, header32_of_values, header64_fields, header64_values, header64_of_values, header_in, IsHeader}
-use Rattle.goblin_mach.specs.Number.{number}
+use Rattle.mach_base.specs.Number.{number}
 use Rattle.goblin_mach.specs.Magic.{ncmds_at, sizeofcmds_at}
-use Rattle.goblin_mach.proofs.Spelled.{values_in-front}
+use Rattle.mach_base.proofs.Spelled.{values_in-front}
 
 pub loaded32 : (le : Endian) (bytes rest : List ℕ) (o : ℕ) (h : Header32) → rest ≡ drop o bytes → header32_values h ≡ values_in le header32_fields 0 rest → h ≡ header32_of_values (values_in le header32_fields o bytes)
 loaded32 le bytes rest o h same e =

@@ -1,16 +1,16 @@
 -- No fault stands where an image opens.
 use Rattle.std.proofs.Common.{◌≡◌, ℕ, ◌+◌, ◌≤◌, inl, inr, List, length, Option, Some, None, Result, Ok, Err, sym, ap, subst, ◌∙◌, arith}
 use Rattle.std.specs.Prelude.{IfErr}
-use Rattle.goblin_mach.specs.declared.base.context.Ctx.{Ctx}
-use Rattle.goblin_mach.specs.declared.base.error.Error.{Error}
-use Rattle.goblin_mach.specs.Answer.{Stands, IsOkUnlessMemory}
-use Rattle.goblin_mach.specs.Fault.{Fault}
+use Rattle.mach_base.specs.declared.context.Ctx.{Ctx}
+use Rattle.mach_base.specs.declared.error.Error.{Error}
+use Rattle.mach_base.specs.Answer.{Stands, IsOkUnlessMemory}
+use Rattle.mach_base.specs.Fault.{Fault}
 use Rattle.goblin_mach.specs.Magic.{magic_at, header_size}
 use Rattle.goblin_mach.specs.Image.{HasHeader, CountsFit, HasChain, Opens, ImageFault, no_magic, other_magic, short_header, too_many_commands, broken_chain, unreadable_name, MachOpens, MachFault, no_room, of_image}
-use Rattle.goblin_mach.proofs.Binds.{same_ok}
+use Rattle.mach_base.proofs.Binds.{same_ok}
 use Rattle.goblin_mach.proofs.Chains.{broken-excludes_chain, among-front}
 use Rattle.goblin_mach.proofs.Naming.{unnamed-excludes_named}
-use Rattle.goblin_mach.proofs.Faults.{Stands-in}
+use Rattle.mach_base.proofs.Faults.{Stands-in}
 
 some_is : (c d : Ctx) → Some c ≡ Some d → c ≡ d
 some_is c d e = cc

@@ -1,11 +1,5 @@
 pub mod Computing
-pub mod Binds
-pub mod Faults
-pub mod Spelled
 pub mod Headers
-pub mod Groups
-pub mod Runs
-pub mod Spellings
 pub mod CommandAt
 pub mod Chains
 pub mod Naming

@@ -3,13 +3,14 @@ use Rattle.std.proofs.Common.{◌≡◌, ℕ, zero, suc, ◌+◌, ◌<◌, Bool,
 use Rattle.std.specs.Prelude.{option_map, unwrap_or}
 use Rattle.std.specs.Borrow.{Bor}
 use Rattle.std.proofs.lemmas.Bool.{or_cases}
-use Rattle.goblin_mach.specs.declared.load.load_command.LoadCommand.{LoadCommand}
-use Rattle.goblin_mach.specs.Fault.{Fault}
-use Rattle.goblin_mach.specs.Text.{text_at}
-use Rattle.goblin_mach.specs.Commands.{Kind, is_library, is_id}
-use Rattle.goblin_mach.specs.Chain.{Command, IsAmong}
-use Rattle.goblin_mach.specs.LoadCommands.{command_of}
-use Rattle.goblin_mach.specs.Names.{name_place, names_of, AllReadable, AllNamed, is_named, IsUnnamed}
+use Rattle.mach_load.specs.declared.load_command.LoadCommand.{LoadCommand}
+use Rattle.mach_base.specs.Fault.{Fault}
+use Rattle.mach_base.specs.Text.{text_at}
+use Rattle.mach_load.specs.Commands.{Kind}
+use Rattle.mach_load.specs.Command.{Command}
+use Rattle.goblin_mach.specs.Chain.{IsAmong}
+use Rattle.mach_load.specs.Variants.{command_of}
+use Rattle.goblin_mach.specs.Names.{is_library, is_id, name_place, names_of, AllReadable, AllNamed, is_named, IsUnnamed}
 
 -- the commands from one on begin with it
 pub from_here : (xs : List LoadCommand) (i : ℕ) (d : LoadCommand) → i < length xs → drop i (map command_of xs) ≡ command_of (get_or xs i d) ∷ drop (i + 1) (map command_of xs)

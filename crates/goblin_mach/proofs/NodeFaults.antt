@@ -2,15 +2,15 @@
 use Rattle.std.proofs.Common.{◌≡◌, ◌<◌, ◌≤◌, ◌+◌, ◌^◌, ℕ, zero, suc, true, false, cond, eqb, ltb, List, [], ◌∷◌, inl, inr, length, Option, Some, None, Result, Ok, Err, refl, sym, ap, subst, ◌∙◌, arith}
 use Rattle.std.specs.Prelude.{codes, slice_get}
 use Rattle.std.proofs.lemmas.Bool.{lt-ltb, le-ltb, ltb-true, ltb-false, eqb-true, eqb-false, ne_eqb}
-use Rattle.goblin_mach.specs.Answer.{◌>>=◌}
-use Rattle.goblin_mach.specs.Fault.{Fault, malformed, too_short}
-use Rattle.goblin_mach.specs.Leb128.{uleb_at}
-use Rattle.goblin_mach.specs.Text.{text_at}
+use Rattle.mach_base.specs.Answer.{◌>>=◌}
+use Rattle.mach_base.specs.Fault.{Fault, malformed, too_short}
+use Rattle.mach_base.specs.Leb128.{uleb_at}
+use Rattle.mach_base.specs.Text.{text_at}
 use Rattle.goblin_mach.specs.Trie.{Info, regular, reexport, Branch, Node}
 use Rattle.goblin_mach.specs.Nodes.{Kind, a_regular, a_reexport, a_stub, kind_of, sum_of, lib_of, library, name_of, regular_at, reexport_at, info_of_kind, info_at, branch_at, branches_at, children_at, terminal_at, inner_at, node_at, trie_of}
 use Rattle.goblin_mach.specs.TrieFault.{InfoFault, no_address, no_ordinal, no_name, no_library, a_stub_yet, BranchFault, no_label, no_offset, no_start, later, ChildrenFault, no_count, too_many, in_branch, NodeFault, no_size, in_inner, no_flags, in_info, no_place, in_children, TrieFault, at_node, met_again}
 use Rattle.goblin_mach.specs.Paths.{Blocks}
-use Rattle.goblin_mach.proofs.Binds.{bind_ok, bind_err, chosen, same_ok, same_err}
+use Rattle.mach_base.proofs.Binds.{bind_ok, bind_err, chosen, same_ok, same_err}
 use Rattle.goblin_mach.proofs.TrieFaults.{cases_Result}
 
 -- sums

@@ -1,7 +1,7 @@
 -- The trie of the last command that brings one, command by command.
 use Rattle.std.proofs.Common.{◌≡◌, ℕ, ◌+◌, ◌<◌, List, ◌∷◌, length, map, drop, get_or, Option, Some, None, refl, ap, ◌∙◌}
-use Rattle.goblin_mach.specs.declared.load.load_command.LoadCommand.{LoadCommand}
-use Rattle.goblin_mach.specs.LoadCommands.{kind_in, variant_values, command_of}
+use Rattle.mach_load.specs.declared.load_command.LoadCommand.{LoadCommand}
+use Rattle.mach_load.specs.Variants.{kind_in, variant_values, command_of}
 use Rattle.goblin_mach.specs.TrieRange.{TrieRange, range_by, cons_some, ranges_of}
 use Rattle.goblin_mach.proofs.Naming.{from_here}
 

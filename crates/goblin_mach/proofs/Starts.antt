@@ -1,13 +1,13 @@
 -- A branch leads to a place from the range's start on.
 use Rattle.std.proofs.Common.{◌≡◌, ◌≤◌, ◌+◌, ◌^◌, ℕ, zero, suc, cond, eqb, ltb, List, [], ◌∷◌, inl, inr, length, Some, None, Ok, Err, subst, arith}
 use Rattle.std.specs.Prelude.{slice_get, codes}
-use Rattle.goblin_mach.specs.Answer.{◌>>=◌}
-use Rattle.goblin_mach.specs.Fault.{malformed, too_short}
-use Rattle.goblin_mach.specs.Leb128.{uleb_at}
+use Rattle.mach_base.specs.Answer.{◌>>=◌}
+use Rattle.mach_base.specs.Fault.{malformed, too_short}
+use Rattle.mach_base.specs.Leb128.{uleb_at}
 use Rattle.goblin_mach.specs.Trie.{Info, Branch, Node}
 use Rattle.goblin_mach.specs.Nodes.{sum_of, info_at, branch_at, branches_at, children_at, inner_at, terminal_at, node_at, trie_of}
 use Rattle.goblin_mach.specs.Paths.{StartsFrom}
-use Rattle.goblin_mach.proofs.Binds.{bind_ok, chosen, same_ok}
+use Rattle.mach_base.proofs.Binds.{bind_ok, chosen, same_ok}
 use Rattle.goblin_mach.proofs.NodeFaults.{branch_ok}
 
 -- each branch starts from there on

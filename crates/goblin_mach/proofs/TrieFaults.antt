@@ -5,7 +5,7 @@ use Rattle.std.specs.List.{IsDistinct, AllByRecursion, list_any}
 use Rattle.std.proofs.lemmas.Bool.{cases_lt, cases_Bool}
 use Rattle.std.proofs.lemmas.Bool.Decides.{nat_tests}
 use Rattle.std.proofs.lemmas.Map.Steps.{length-le_from_distinct_below}
-use Rattle.goblin_mach.specs.Fault.{Fault, malformed}
+use Rattle.mach_base.specs.Fault.{Fault, malformed}
 use Rattle.goblin_mach.specs.Trie.{Info, Branch, Node, Trie, Entry, own_entries}
 use Rattle.goblin_mach.specs.Lists.{◌>>=◌, lists_of, node_list, list_within, ListsWithin}
 use Rattle.goblin_mach.specs.Paths.{Leads, IsOnCycle, Blocks, BlocksWithin, StartsFrom}

@@ -2,7 +2,7 @@
 use Rattle.std.proofs.Common.{◌-◌, zero-add, inl, inr, ◌≡◌, ◌<◌, ◌≤◌, ◌+◌, ℕ, zero, suc, true, false, List, [], ◌∷◌, ◌++◌, Option, Some, None, Result, Ok, Err, refl, sym, ◌∙◌, arith, nat_le}
 use Rattle.std.proofs.lemmas.Bool.Decides.{nat_tests}
 use Rattle.std.proofs.lemmas.Bool.{cases_lt}
-use Rattle.goblin_mach.specs.Fault.{Fault}
+use Rattle.mach_base.specs.Fault.{Fault}
 use Rattle.goblin_mach.specs.Trie.{Branch, Node, Trie, Entry, own_entries}
 use Rattle.goblin_mach.specs.Lists.{◌>>=◌, lists_of, node_list, list_within, ListsWithin}
 

@@ -1,14 +1,14 @@
 -- The trie of a range: what its walk lists, and why it lists nothing.
 use Rattle.std.proofs.Common.{◌≡◌, ◌-◌, ◌≤◌, ℕ, List, [], Some, Result, Ok, Err, arith}
 use Rattle.std.specs.Prelude.{IfErr}
-use Rattle.goblin_mach.specs.declared.base.error.Error.{Error}
-use Rattle.goblin_mach.specs.Answer.{Stands, IsOkUnlessMemory}
-use Rattle.goblin_mach.specs.Fault.{Fault}
+use Rattle.mach_base.specs.declared.error.Error.{Error}
+use Rattle.mach_base.specs.Answer.{Stands, IsOkUnlessMemory}
+use Rattle.mach_base.specs.Fault.{Fault}
 use Rattle.goblin_mach.specs.Trie.{Entry}
 use Rattle.goblin_mach.specs.Lists.{list_within}
 use Rattle.goblin_mach.specs.Paths.{BlocksWithin}
 use Rattle.goblin_mach.specs.TrieRange.{TrieRange, trie_there, ListsExports, ExportsFault}
-use Rattle.goblin_mach.proofs.Faults.{Stands-in}
+use Rattle.mach_base.proofs.Faults.{Stands-in}
 use Rattle.goblin_mach.proofs.TrieFaults.{fault_stands, no_list}
 use Rattle.goblin_mach.proofs.TrieRelation.{within, listed}
 use Rattle.goblin_mach.proofs.NodeFaults.{trie_fault, fault_blocks}

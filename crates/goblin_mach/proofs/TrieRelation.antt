@@ -12,9 +12,9 @@ lists_of-grows t n m h p bs es e = lists_of-keeps (list_within t n) (list_within
 mutual
   pub within : (t : Trie) (s : ℕ) (p : List ℕ) (xs : List Entry) → Lists t s p xs → ListsWithin t s p xs
   within t s p [] (nothing out) = (0, at_nothing t 0 s p out)
-  within t s p xs (a_node node inside at all e) =
+  within t s p xs (a_node node is all e) =
       let below = all_within t p node.branches _ all in
-      (suc below.0, at_node t below.0 s p inside ∙ (ap (node_list (list_within t below.0) p) at ∙ (ap (λ (o : Option (List Entry)). o >>= λ others. Some (own_entries p node.own ++ others)) below.1 ∙ ap Some (sym e))))
+      (suc below.0, at_node t below.0 s p is.0 ∙ (ap (node_list (list_within t below.0) p) is.1 ∙ (ap (λ (o : Option (List Entry)). o >>= λ others. Some (own_entries p node.own ++ others)) below.1 ∙ ap Some (sym e))))
 
   pub all_within : (t : Trie) (p : List ℕ) (bs : List Branch) (xs : List Entry) → BranchesList t p bs xs → (n : ℕ) × (lists_of (list_within t n) p bs ≡ Some xs)
   all_within t p [] [] no_more = (0, refl)
@@ -45,6 +45,6 @@ listed t (suc n) s p xs e = elim (cases_lt s t.upto) [
     | inl good ↦ (
         let list : node_list (list_within t n) p (Ok good.0) ≡ Some xs = rw good.1 at (sym (at_node t n s p inside) ∙ e) in
         let others = bind_some (lists_of (list_within t n) p good.0.branches) (λ (y : List Entry). Some (own_entries p good.0.own ++ y)) xs list in
-        a_node good.0 inside good.1 (listed_of t n (listed t n) p good.0.branches others.0 others.1) cc)
+        a_node good.0 (inside, good.1) (listed_of t n (listed t n) p good.0.branches others.0 others.1) cc)
   ]
 ]

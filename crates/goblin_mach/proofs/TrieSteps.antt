@@ -2,13 +2,13 @@
 use Rattle.std.proofs.Common.{◌≡◌, ◌<◌, ◌≤◌, ◌+◌, ℕ, zero, suc, List, [], ◌∷◌, ◌++◌, inl, inr, length, drop, Option, Some, None, Ok, Err, refl, sym, ap, ◌∙◌, append_assoc, add-one}
 use Rattle.std.specs.Prelude.{slice_get}
 use Rattle.std.proofs.lemmas.List.{append-nil, drop_all}
-use Rattle.goblin_mach.specs.declared.base.error.Error.{Error}
-use Rattle.goblin_mach.specs.Answer.{Stands}
-use Rattle.goblin_mach.specs.Fault.{Fault, malformed}
+use Rattle.mach_base.specs.declared.error.Error.{Error}
+use Rattle.mach_base.specs.Answer.{Stands}
+use Rattle.mach_base.specs.Fault.{Fault, malformed}
 use Rattle.goblin_mach.specs.Trie.{Branch, Node, Trie, Entry, own_entries}
 use Rattle.goblin_mach.specs.Lists.{◌>>=◌, lists_of, list_within}
 use Rattle.goblin_mach.specs.Paths.{BlocksWithin}
-use Rattle.goblin_mach.proofs.Faults.{Stands-in}
+use Rattle.mach_base.proofs.Faults.{Stands-in}
 use Rattle.goblin_mach.proofs.TrieLevels.{bind_some, at_node}
 
 -- what was listed before, and what is still listed

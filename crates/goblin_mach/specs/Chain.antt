@@ -1,36 +1,8 @@
 -- The chain of load commands (`mach-o/loader.h`, struct load_command).
-use Rattle.std.specs.Prelude.{◌≡◌, ℕ, ◌+◌, ◌-◌, ◌<◌, ◌⊎◌, List, [], ◌∷◌, length, Result, Ok, Err, nat_lt, if◌then◌else◌}
-use Rattle.goblin_mach.specs.declared.base.context.Endian.{Endian}
-use Rattle.goblin_mach.specs.Answer.{◌>>=◌}
-use Rattle.goblin_mach.specs.Fault.{Fault, malformed}
-use Rattle.goblin_mach.specs.Record.{Value, number_among, record_at}
-use Rattle.goblin_mach.specs.Commands.{Kind, CommandRow, header_fields, row_of}
-
--- a load command: where it stands, what it is, and the values of its record, which begin with cmd and cmdsize
-pub record Command : Type 0 where
-  pub offset : ℕ
-  pub kind : Kind
-  pub values : List Value
-
-abbrev pub cmd_of : Command → ℕ
-cmd_of c = number_among c.values 0
-
-abbrev pub cmdsize_of : Command → ℕ
-cmdsize_of c = number_among c.values 1
-
--- the record at s that this row of the table says
-abbrev pub command_by : CommandRow → Endian → List ℕ → ℕ → Result Command Fault
-command_by row le bytes s = do
-  values ← record_at le row.fields bytes s
-  Ok (record { offset = s; kind = row.kind; values = values })
-
--- The load command at s: its header, whose cmdsize is no more than what is left, and then the record
--- that the table says for its cmd; or why there is none.
-abbrev pub command_at : Endian → List ℕ → ℕ → Result Command Fault
-command_at le bytes s =
-    record_at le header_fields bytes s >>= λ header.
-    if nat_lt (length bytes - s) (number_among header 1) then Err malformed
-    else command_by (row_of (number_among header 0)) le bytes s
+use Rattle.std.specs.Prelude.{◌≡◌, ℕ, ◌+◌, ◌<◌, ◌⊎◌, List, [], ◌∷◌, length, Ok, Err}
+use Rattle.mach_base.specs.declared.context.Endian.{Endian}
+use Rattle.mach_base.specs.Fault.{Fault}
+use Rattle.mach_load.specs.Command.{Command, cmdsize_of, command_at}
 
 -- the command is the one that stands at its offset
 abbrev pub IsThere : Endian → List ℕ → Command → Type 0

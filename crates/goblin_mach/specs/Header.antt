@@ -1,13 +1,13 @@
 -- The header of an image (`mach-o/loader.h`, struct mach_header and mach_header_64).
 use Rattle.std.specs.Prelude.{◌≡◌, ℕ, List, [], ◌∷◌}
-use Rattle.goblin_mach.specs.declared.base.context.Endian.{Endian}
-use Rattle.goblin_mach.specs.declared.base.context.Container.{Container}
-use Rattle.goblin_mach.specs.declared.base.context.Container.TheVariants.{Little, Big}
-use Rattle.goblin_mach.specs.declared.base.context.Ctx.{Ctx}
+use Rattle.mach_base.specs.declared.context.Endian.{Endian}
+use Rattle.mach_base.specs.declared.context.Container.{Container}
+use Rattle.mach_base.specs.declared.context.Container.TheVariants.{Little, Big}
+use Rattle.mach_base.specs.declared.context.Ctx.{Ctx}
 use Rattle.goblin_mach.specs.declared.parts.header.Header32.{Header32}
 use Rattle.goblin_mach.specs.declared.parts.header.Header64.{Header64}
 use Rattle.goblin_mach.specs.declared.parts.header.Header.{Header}
-use Rattle.goblin_mach.specs.Record.{Field, num, Value, number_is, number_among, values_in}
+use Rattle.mach_base.specs.Record.{Field, num, Value, number_is, number_among, values_in}
 
 abbrev pub header32_fields : List Field
 header32_fields = num 4 ∷ num 4 ∷ num 4 ∷ num 4 ∷ num 4 ∷ num 4 ∷ num 4 ∷ []

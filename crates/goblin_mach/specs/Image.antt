@@ -1,9 +1,10 @@
 -- When an image opens, and the faults that stand where it doesn't (`mach-o/loader.h`).
 use Rattle.std.specs.Prelude.{◌≡◌, ℕ, ◌+◌, ◌/◌, ◌<◌, ◌≤◌, ◌⊎◌, List, length, codes, Some, None, Ok, Err}
-use Rattle.goblin_mach.specs.declared.base.context.Ctx.{Ctx}
-use Rattle.goblin_mach.specs.Fault.{Fault, malformed, bad_magic, too_short}
+use Rattle.mach_base.specs.declared.context.Ctx.{Ctx}
+use Rattle.mach_base.specs.Fault.{Fault, malformed, bad_magic, too_short}
 use Rattle.goblin_mach.specs.Magic.{magic_at, header_size, ncmds_at, sizeofcmds_at}
-use Rattle.goblin_mach.specs.Chain.{Command, IsChain, IsBroken}
+use Rattle.mach_load.specs.Command.{Command}
+use Rattle.goblin_mach.specs.Chain.{IsChain, IsBroken}
 use Rattle.goblin_mach.specs.Names.{AllNamed, IsUnnamed}
 
 -- the magic at o is one of an image, of which ctx speaks, and 32 bytes are there

@@ -1,7 +1,7 @@
 -- The list of exports of a start: its own export first, then the lists of its children in order.
-use Rattle.std.specs.Prelude.{◌≡◌, ◌<◌, ◌≤◌, ℕ, zero, suc, List, [], ◌∷◌, ◌++◌, Option, Some, None, Result, Ok, Err, nat_le, if◌then◌else◌}
-use Rattle.goblin_mach.specs.Fault.{Fault}
-use Rattle.goblin_mach.specs.Trie.{Branch, Node, Trie, Entry, own_entries}
+use Rattle.std.specs.Prelude.{◌≡◌, ◌≤◌, ℕ, zero, suc, List, [], ◌∷◌, ◌++◌, Option, Some, None, Result, Ok, Err, nat_le, if◌then◌else◌}
+use Rattle.mach_base.specs.Fault.{Fault}
+use Rattle.goblin_mach.specs.Trie.{Branch, Node, Trie, IsNode, Entry, own_entries}
 
 -- A start, a prefix and a list of exports: the least relation with two cases. Nothing has the empty
 -- list. A node has its own export, named by the prefix, followed by the lists of its children, each
@@ -9,7 +9,7 @@ use Rattle.goblin_mach.specs.Trie.{Branch, Node, Trie, Entry, own_entries}
 mutual
   pub data Lists (t : Trie) : ℕ → List ℕ → List Entry → Type 0 where
     nothing : {start : ℕ} {prefix : List ℕ} → t.upto ≤ start → Lists t start prefix []
-    a_node : {start : ℕ} {prefix : List ℕ} {list others : List Entry} (node : Node) → start < t.upto → t.node start ≡ Ok node
+    a_node : {start : ℕ} {prefix : List ℕ} {list others : List Entry} (node : Node) → IsNode t start node
         → BranchesList t prefix node.branches others → list ≡ own_entries prefix node.own ++ others → Lists t start prefix list
 
   pub data BranchesList (t : Trie) : List ℕ → List Branch → List Entry → Type 0 where

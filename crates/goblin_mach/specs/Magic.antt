@@ -1,12 +1,12 @@
 -- The magic numbers (`mach-o/loader.h`, `mach-o/fat.h`), and the header of an image.
 use Rattle.std.specs.Prelude.{◌==◌, ℕ, ◌+◌, List, [], ◌∷◌, drop, Option, Some, None, Result, Ok, if◌then◌else◌}
-use Rattle.goblin_mach.specs.declared.base.context.Endian.TheVariants.{Little, Big}
-use Rattle.goblin_mach.specs.declared.base.context.Container.{Container}
-use Rattle.goblin_mach.specs.declared.base.context.Container.TheVariants as width
-use Rattle.goblin_mach.specs.declared.base.context.Ctx.{Ctx}
-use Rattle.goblin_mach.specs.Answer.{◌>>=◌}
-use Rattle.goblin_mach.specs.Fault.{Fault}
-use Rattle.goblin_mach.specs.Number.{number, number_at}
+use Rattle.mach_base.specs.declared.context.Endian.TheVariants.{Little, Big}
+use Rattle.mach_base.specs.declared.context.Container.{Container}
+use Rattle.mach_base.specs.declared.context.Container.TheVariants as width
+use Rattle.mach_base.specs.declared.context.Ctx.{Ctx}
+use Rattle.mach_base.specs.Answer.{◌>>=◌}
+use Rattle.mach_base.specs.Fault.{Fault}
+use Rattle.mach_base.specs.Number.{number, number_at}
 
 -- a magic number, read with its highest byte first, and the context of the image that it begins
 pub record Magic : Type 0 where

@@ -1,10 +1,25 @@
 -- The libraries and the name of an image: texts that its commands name (`mach-o/loader.h`, struct dylib).
-use Rattle.std.specs.Prelude.{◌≡◌, ◌+◌, ◌-◌, ◌^◌, ℕ, min, List, [], ◌∷◌, codes, Bool, true, Option, Some, None, unwrap_or, Result, Ok, Err, IsOk, ◌||◌, if◌then◌else◌}
-use Rattle.goblin_mach.specs.Fault.{Fault}
-use Rattle.goblin_mach.specs.Record.{number_among}
-use Rattle.goblin_mach.specs.Text.{text_at}
-use Rattle.goblin_mach.specs.Commands.{Kind, is_library, is_id}
-use Rattle.goblin_mach.specs.Chain.{Command, IsAmong}
+use Rattle.std.specs.Prelude.{◌≡◌, ◌+◌, ◌-◌, ◌^◌, ℕ, min, List, [], ◌∷◌, codes, Bool, true, false, Option, Some, None, unwrap_or, Result, Ok, Err, IsOk, ◌||◌, if◌then◌else◌}
+use Rattle.mach_base.specs.Fault.{Fault}
+use Rattle.mach_base.specs.Record.{number_among}
+use Rattle.mach_base.specs.Text.{text_at}
+use Rattle.mach_load.specs.Commands.{Kind, load_dylib, load_upward_dylib, reexport_dylib, load_weak_dylib, lazy_load_dylib, id_dylib}
+use Rattle.mach_load.specs.Command.{Command}
+use Rattle.goblin_mach.specs.Chain.{IsAmong}
+
+-- the five commands that bring a library in
+abbrev pub is_library : Kind → Bool
+is_library load_dylib = true
+is_library load_upward_dylib = true
+is_library reexport_dylib = true
+is_library load_weak_dylib = true
+is_library lazy_load_dylib = true
+is_library _ = false
+
+-- the command that names the image itself
+abbrev pub is_id : Kind → Bool
+is_id id_dylib = true
+is_id _ = false
 
 -- the place after so many bytes; one past 64 bits is the last place that 64 bits have, where nothing stands
 abbrev pub place_after : ℕ → ℕ → ℕ

@@ -1,10 +1,10 @@
 -- The nodes of an export trie in some bytes, as dyld reads them: how long the own export is, its flags
 -- and what it stands for, then the branches.
 use Rattle.std.specs.Prelude.{◌+◌, ◌^◌, ℕ, zero, suc, List, [], ◌∷◌, length, codes, Option, Some, None, Result, Ok, Err, nat_lt, ◌==◌, if◌then◌else◌, bit_and, slice_get}
-use Rattle.goblin_mach.specs.Answer.{◌>>=◌}
-use Rattle.goblin_mach.specs.Fault.{Fault, malformed, too_short}
-use Rattle.goblin_mach.specs.Leb128.{uleb_at}
-use Rattle.goblin_mach.specs.Text.{text_at}
+use Rattle.mach_base.specs.Answer.{◌>>=◌}
+use Rattle.mach_base.specs.Fault.{Fault, malformed, too_short}
+use Rattle.mach_base.specs.Leb128.{uleb_at}
+use Rattle.mach_base.specs.Text.{text_at}
 use Rattle.goblin_mach.specs.Trie.{Info, regular, reexport, Branch, Node, Trie}
 
 -- a sum of 64 bits

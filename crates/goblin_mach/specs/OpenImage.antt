@@ -1,11 +1,11 @@
 -- An image as it was opened.
 use Rattle.std.specs.Prelude.{◌↔◌, ◌≡◌, ℕ, List, map, IsTrue, Option}
-use Rattle.goblin_mach.specs.declared.base.context.Endian.TheVariants.{Little}
-use Rattle.goblin_mach.specs.declared.base.context.Container.TheVariants.{Big}
-use Rattle.goblin_mach.specs.declared.base.context.Ctx.{Ctx}
+use Rattle.mach_base.specs.declared.context.Endian.TheVariants.{Little}
+use Rattle.mach_base.specs.declared.context.Container.TheVariants.{Big}
+use Rattle.mach_base.specs.declared.context.Ctx.{Ctx}
 use Rattle.goblin_mach.specs.Header.{IsHeader}
 use Rattle.goblin_mach.specs.Image.{OpensAs}
-use Rattle.goblin_mach.specs.LoadCommands.{command_of}
+use Rattle.mach_load.specs.Variants.{command_of}
 use Rattle.goblin_mach.specs.Names.{name_in, libs_in}
 use Rattle.goblin_mach.specs.TrieRange.{TrieRange, trie_in}
 use Rattle.goblin_mach.specs.Exports.{texts, text_in}

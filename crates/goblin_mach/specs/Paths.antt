@@ -1,6 +1,6 @@
 -- Paths of the export trie by branch numbers, and the malformed nodes that they lead to.
 use Rattle.std.specs.Prelude.{◌≡◌, ◌<◌, ◌≤◌, ℕ, List, [], ◌∷◌, ◌++◌, ◌⊎◌, Option, Some, None, Result, Ok, Err, length, slice_get, option_map}
-use Rattle.goblin_mach.specs.Fault.{Fault, malformed}
+use Rattle.mach_base.specs.Fault.{Fault, malformed}
 use Rattle.goblin_mach.specs.Trie.{Branch, Node, Trie, Entry, entry}
 
 -- from the one start the branch numbers lead to the other, through nodes that aren't malformed
@@ -9,8 +9,8 @@ Leads t [] from to = from ≡ to
 Leads t (k ∷ ks) from to = (node : Node) × (branch : Branch) × (from < t.upto) × (t.node from ≡ Ok node) × (slice_get node.branches k ≡ Some branch) × Leads t ks branch.start to
 
 -- a path from the root to a node
-abbrev pub IsPath : Trie → ℕ → List ℕ → Type 0
-IsPath t root path = (at : ℕ) × Leads t path root at × (at < t.upto)
+abbrev pub Path : Trie → ℕ → List ℕ → Type 0
+Path t root path = (at : ℕ) × Leads t path root at × (at < t.upto)
 
 -- the order of paths: that of lists of numbers, a beginning before what it begins
 abbrev pub Before : List ℕ → List ℕ → Type 0

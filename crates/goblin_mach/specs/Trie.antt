@@ -1,6 +1,6 @@
 -- The export trie (dyld's export info), whatever its bytes: a node or the fault of one at each start.
-use Rattle.std.specs.Prelude.{ℕ, List, [], ◌∷◌, Option, Some, None, Result}
-use Rattle.goblin_mach.specs.Fault.{Fault}
+use Rattle.std.specs.Prelude.{◌≡◌, ◌<◌, ℕ, List, [], ◌∷◌, Option, Some, None, Result, Ok}
+use Rattle.mach_base.specs.Fault.{Fault}
 
 -- what an export stands for
 pub data Info : Type 0 where
@@ -22,6 +22,10 @@ pub record Node : Type 0 where
 pub record Trie : Type 0 where
   pub node : ℕ → Result Node Fault
   pub upto : ℕ
+
+-- at the start stands this node
+abbrev pub IsNode : Trie → ℕ → Node → Type 0
+IsNode t start node = (start < t.upto) × (t.node start ≡ Ok node)
 
 -- an export: its name, what it stands for, its size and its offset
 pub record Entry : Type 0 where

@@ -2,9 +2,9 @@
 -- flags before what it stands for, the count before the branches, a branch's label and offset before
 -- the next branch. Several may stand at once.
 use Rattle.std.specs.Prelude.{◌≡◌, ◌<◌, ◌≤◌, ◌≢◌, ◌+◌, ◌^◌, ℕ, suc, List, length, codes, Ok, Err}
-use Rattle.goblin_mach.specs.Fault.{Fault, malformed, too_short}
-use Rattle.goblin_mach.specs.Leb128.{uleb_at}
-use Rattle.goblin_mach.specs.Text.{text_at}
+use Rattle.mach_base.specs.Fault.{Fault, malformed, too_short}
+use Rattle.mach_base.specs.Leb128.{uleb_at}
+use Rattle.mach_base.specs.Text.{text_at}
 use Rattle.goblin_mach.specs.Nodes.{a_regular, a_reexport, a_stub, kind_of, trie_of}
 use Rattle.goblin_mach.specs.Paths.{Leads, IsOnCycle}
 

@@ -1,15 +1,15 @@
 -- The range of the export trie of an image (`mach-o/loader.h`, struct dyld_info_command and
 -- linkedit_data_command).
 use Rattle.std.specs.Prelude.{◌≡◌, ◌+◌, ℕ, List, [], ◌∷◌, length, nat_le, Option, Some, None, if◌then◌else◌}
-use Rattle.goblin_mach.specs.Record.{Value, number_among}
-use Rattle.goblin_mach.specs.Commands.{Kind, load_dylib, id_dylib, load_weak_dylib, reexport_dylib, lazy_load_dylib, load_upward_dylib, dyld_info, dyld_info_only, dyld_exports_trie, unimplemented}
-use Rattle.goblin_mach.specs.Chain.{Command}
+use Rattle.mach_base.specs.Record.{Value, number_among}
+use Rattle.mach_load.specs.Commands.{Kind, dyld_info, dyld_info_only, dyld_exports_trie}
+use Rattle.mach_load.specs.Command.{Command}
 use Rattle.goblin_mach.specs.Names.{last_of}
 use Rattle.goblin_mach.specs.Trie.{Entry, Trie}
 use Rattle.goblin_mach.specs.Lists.{Lists}
 use Rattle.goblin_mach.specs.Nodes.{trie_of}
 use Rattle.goblin_mach.specs.TrieFault.{TrieFault}
-use Rattle.goblin_mach.specs.Fault.{Fault}
+use Rattle.mach_base.specs.Fault.{Fault}
 
 -- a range of some bytes in which a trie lies, with the root at its start
 pub record TrieRange : Type 0 where
@@ -28,13 +28,7 @@ abbrev pub range_by : Kind → List ℕ → List Value → Option TrieRange
 range_by dyld_info bytes values = Some (range_in bytes (number_among values 10) (number_among values 11))
 range_by dyld_info_only bytes values = Some (range_in bytes (number_among values 10) (number_among values 11))
 range_by dyld_exports_trie bytes values = Some (range_in bytes (number_among values 2) (number_among values 3))
-range_by load_dylib bytes values = None
-range_by id_dylib bytes values = None
-range_by load_weak_dylib bytes values = None
-range_by reexport_dylib bytes values = None
-range_by lazy_load_dylib bytes values = None
-range_by load_upward_dylib bytes values = None
-range_by unimplemented bytes values = None
+range_by _ bytes values = None
 
 abbrev pub cons_some : {A : Type 0} → Option A → List A → List A
 cons_some None xs = xs

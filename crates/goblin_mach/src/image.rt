@@ -1,5 +1,6 @@
 //! The image, and what a file is.
 
+pub mod commands;
 pub mod laws;
 pub mod mach;
 pub mod macho;

@@ -2,19 +2,19 @@
 //! in, and every refusal a fault that stands in them.
 #![tactic(auto)]
 
-mod base;
 mod dyld;
 mod image;
 pub mod laws;
-mod load;
 mod parts;
-mod records;
 
-pub use crate::base::context::{BE, Container, Ctx, Endian, LE};
-pub use crate::base::error::{Error, Result, ScrollError};
 pub use crate::image::mach::Mach;
 pub use crate::image::macho::MachO;
 pub use crate::image::magic::{parse_magic_and_ctx, peek};
+pub use mach_base::{
+    BE, Container, Ctx, Endian, Error, IntoCtx, LE, Record, Result, ScrollError, SizeWith, Sleb128,
+    TryFromCtx, TryIntoCtx, Uleb128, gread_with, pread_with, pwrite_with, read_text,
+};
+pub use mach_records::{constants, cputype};
 
 /// The header of an image.
 pub mod header {
@@ -32,24 +32,157 @@ pub mod exports {
     };
 }
 
-/// Load commands.
+/// Load commands: their records, constants and names.
 pub mod load_command {
-    pub use crate::load::load_command::{CommandVariant, LoadCommand};
-    pub use crate::records::command_name::{
-        LC_BUILD_VERSION, LC_CODE_SIGNATURE, LC_DATA_IN_CODE, LC_DYLD_CHAINED_FIXUPS,
-        LC_DYLD_ENVIRONMENT, LC_DYLD_EXPORTS_TRIE, LC_DYLD_INFO, LC_DYLD_INFO_ONLY,
-        LC_DYLIB_CODE_SIGN_DRS, LC_DYSYMTAB, LC_ENCRYPTION_INFO, LC_ENCRYPTION_INFO_64,
-        LC_FILESET_ENTRY, LC_FUNCTION_STARTS, LC_FVMFILE, LC_ID_DYLIB, LC_ID_DYLINKER, LC_IDENT,
-        LC_IDFVMLIB, LC_LAZY_LOAD_DYLIB, LC_LINKER_OPTIMIZATION_HINT, LC_LINKER_OPTION,
-        LC_LOAD_DYLIB, LC_LOAD_DYLINKER, LC_LOAD_UPWARD_DYLIB, LC_LOAD_WEAK_DYLIB, LC_LOADFVMLIB,
-        LC_MAIN, LC_NOTE, LC_PREBIND_CKSUM, LC_PREBOUND_DYLIB, LC_PREPAGE, LC_REEXPORT_DYLIB,
-        LC_REQ_DYLD, LC_ROUTINES, LC_ROUTINES_64, LC_RPATH, LC_SEGMENT, LC_SEGMENT_64,
-        LC_SEGMENT_SPLIT_INFO, LC_SOURCE_VERSION, LC_SUB_CLIENT, LC_SUB_FRAMEWORK, LC_SUB_LIBRARY,
-        LC_SUB_UMBRELLA, LC_SYMSEG, LC_SYMTAB, LC_THREAD, LC_TWOLEVEL_HINTS, LC_UNIXTHREAD,
-        LC_UUID, LC_VERSION_MIN_IPHONEOS, LC_VERSION_MIN_MACOSX, LC_VERSION_MIN_TVOS,
-        LC_VERSION_MIN_WATCHOS, cmd_to_str,
-    };
-    pub use crate::records::dylib::{Dylib, DylibCommand};
-    pub use crate::records::linkedit::{DyldInfoCommand, LinkeditDataCommand};
-    pub use crate::records::load_command_header::LoadCommandHeader;
+    pub use mach_load::CommandVariant;
+    pub use mach_load::LoadCommand;
+    pub use mach_load::ThreadCommand;
+    pub use mach_records::BuildToolVersion;
+    pub use mach_records::BuildVersionCommand;
+    pub use mach_records::DataInCodeEntry;
+    pub use mach_records::DyldInfoCommand;
+    pub use mach_records::Dylib;
+    pub use mach_records::DylibCommand;
+    pub use mach_records::DylibModule;
+    pub use mach_records::DylibModule64;
+    pub use mach_records::DylibReference;
+    pub use mach_records::DylibTableOfContents;
+    pub use mach_records::DylinkerCommand;
+    pub use mach_records::DysymtabCommand;
+    pub use mach_records::EncryptionInfoCommand32;
+    pub use mach_records::EncryptionInfoCommand64;
+    pub use mach_records::EntryPointCommand;
+    pub use mach_records::FilesetEntryCommand;
+    pub use mach_records::FvmfileCommand;
+    pub use mach_records::Fvmlib;
+    pub use mach_records::FvmlibCommand;
+    pub use mach_records::IdentCommand;
+    pub use mach_records::LC_BUILD_VERSION;
+    pub use mach_records::LC_CODE_SIGNATURE;
+    pub use mach_records::LC_DATA_IN_CODE;
+    pub use mach_records::LC_DYLD_CHAINED_FIXUPS;
+    pub use mach_records::LC_DYLD_ENVIRONMENT;
+    pub use mach_records::LC_DYLD_EXPORTS_TRIE;
+    pub use mach_records::LC_DYLD_INFO;
+    pub use mach_records::LC_DYLD_INFO_ONLY;
+    pub use mach_records::LC_DYLIB_CODE_SIGN_DRS;
+    pub use mach_records::LC_DYSYMTAB;
+    pub use mach_records::LC_ENCRYPTION_INFO;
+    pub use mach_records::LC_ENCRYPTION_INFO_64;
+    pub use mach_records::LC_FILESET_ENTRY;
+    pub use mach_records::LC_FUNCTION_STARTS;
+    pub use mach_records::LC_FVMFILE;
+    pub use mach_records::LC_ID_DYLIB;
+    pub use mach_records::LC_ID_DYLINKER;
+    pub use mach_records::LC_IDENT;
+    pub use mach_records::LC_IDFVMLIB;
+    pub use mach_records::LC_LAZY_LOAD_DYLIB;
+    pub use mach_records::LC_LINKER_OPTIMIZATION_HINT;
+    pub use mach_records::LC_LINKER_OPTION;
+    pub use mach_records::LC_LOAD_DYLIB;
+    pub use mach_records::LC_LOAD_DYLINKER;
+    pub use mach_records::LC_LOAD_UPWARD_DYLIB;
+    pub use mach_records::LC_LOAD_WEAK_DYLIB;
+    pub use mach_records::LC_LOADFVMLIB;
+    pub use mach_records::LC_MAIN;
+    pub use mach_records::LC_NOTE;
+    pub use mach_records::LC_PREBIND_CKSUM;
+    pub use mach_records::LC_PREBOUND_DYLIB;
+    pub use mach_records::LC_PREPAGE;
+    pub use mach_records::LC_REEXPORT_DYLIB;
+    pub use mach_records::LC_REQ_DYLD;
+    pub use mach_records::LC_ROUTINES;
+    pub use mach_records::LC_ROUTINES_64;
+    pub use mach_records::LC_RPATH;
+    pub use mach_records::LC_SEGMENT;
+    pub use mach_records::LC_SEGMENT_64;
+    pub use mach_records::LC_SEGMENT_SPLIT_INFO;
+    pub use mach_records::LC_SOURCE_VERSION;
+    pub use mach_records::LC_SUB_CLIENT;
+    pub use mach_records::LC_SUB_FRAMEWORK;
+    pub use mach_records::LC_SUB_LIBRARY;
+    pub use mach_records::LC_SUB_UMBRELLA;
+    pub use mach_records::LC_SYMSEG;
+    pub use mach_records::LC_SYMTAB;
+    pub use mach_records::LC_THREAD;
+    pub use mach_records::LC_TWOLEVEL_HINTS;
+    pub use mach_records::LC_UNIXTHREAD;
+    pub use mach_records::LC_UUID;
+    pub use mach_records::LC_VERSION_MIN_IPHONEOS;
+    pub use mach_records::LC_VERSION_MIN_MACOSX;
+    pub use mach_records::LC_VERSION_MIN_TVOS;
+    pub use mach_records::LC_VERSION_MIN_WATCHOS;
+    pub use mach_records::LcStr;
+    pub use mach_records::LinkeditDataCommand;
+    pub use mach_records::LinkerOptionCommand;
+    pub use mach_records::LoadCommandHeader;
+    pub use mach_records::NoteCommand;
+    pub use mach_records::PLATFORM_BRIDGEOS;
+    pub use mach_records::PLATFORM_DRIVERKIT;
+    pub use mach_records::PLATFORM_IOS;
+    pub use mach_records::PLATFORM_IOSSIMULATOR;
+    pub use mach_records::PLATFORM_MACCATALYST;
+    pub use mach_records::PLATFORM_MACOS;
+    pub use mach_records::PLATFORM_TVOS;
+    pub use mach_records::PLATFORM_TVOSSIMULATOR;
+    pub use mach_records::PLATFORM_VISIONOS;
+    pub use mach_records::PLATFORM_VISIONOSSIMULATOR;
+    pub use mach_records::PLATFORM_WATCHOS;
+    pub use mach_records::PLATFORM_WATCHOSSIMULATOR;
+    pub use mach_records::Platform;
+    pub use mach_records::PrebindCksumCommand;
+    pub use mach_records::PreboundDylibCommand;
+    pub use mach_records::RoutinesCommand32;
+    pub use mach_records::RoutinesCommand64;
+    pub use mach_records::RpathCommand;
+    pub use mach_records::SIZEOF_DYLIB;
+    pub use mach_records::SIZEOF_DYLIB_COMMAND;
+    pub use mach_records::SIZEOF_DYLIB_INFO_COMMAND;
+    pub use mach_records::SIZEOF_DYLINKER_COMMAND;
+    pub use mach_records::SIZEOF_DYSYMTAB_COMMAND;
+    pub use mach_records::SIZEOF_ENCRYPTION_INFO_COMMAND_32;
+    pub use mach_records::SIZEOF_ENCRYPTION_INFO_COMMAND_64;
+    pub use mach_records::SIZEOF_ENTRY_POINT_COMMAND;
+    pub use mach_records::SIZEOF_FVMFILE_COMMAND;
+    pub use mach_records::SIZEOF_FVMLIB;
+    pub use mach_records::SIZEOF_FVMLIB_COMMAND;
+    pub use mach_records::SIZEOF_IDENT_COMMAND;
+    pub use mach_records::SIZEOF_LC_STR;
+    pub use mach_records::SIZEOF_LINKEDIT_DATA_COMMAND;
+    pub use mach_records::SIZEOF_LINKER_OPTION_COMMAND;
+    pub use mach_records::SIZEOF_LOAD_COMMAND;
+    pub use mach_records::SIZEOF_PREBOUND_DYLIB_COMMAND;
+    pub use mach_records::SIZEOF_RPATH_COMMAND;
+    pub use mach_records::SIZEOF_SECTION_32;
+    pub use mach_records::SIZEOF_SECTION_64;
+    pub use mach_records::SIZEOF_SEGMENT_COMMAND_32;
+    pub use mach_records::SIZEOF_SEGMENT_COMMAND_64;
+    pub use mach_records::SIZEOF_SUB_CLIENT_COMMAND;
+    pub use mach_records::SIZEOF_SUB_FRAMEWORK_COMMAND;
+    pub use mach_records::SIZEOF_SUB_LIBRARY_COMMAND;
+    pub use mach_records::SIZEOF_SUB_UMBRELLA_COMMAND;
+    pub use mach_records::SIZEOF_SYMSEG_COMMAND;
+    pub use mach_records::SIZEOF_SYMTAB_COMMAND;
+    pub use mach_records::SIZEOF_UUID_COMMAND;
+    pub use mach_records::SIZEOF_VERSION_MIN_COMMAND;
+    pub use mach_records::Section32;
+    pub use mach_records::Section64;
+    pub use mach_records::SegmentCommand32;
+    pub use mach_records::SegmentCommand64;
+    pub use mach_records::SourceVersionCommand;
+    pub use mach_records::SubClientCommand;
+    pub use mach_records::SubFrameworkCommand;
+    pub use mach_records::SubLibraryCommand;
+    pub use mach_records::SubUmbrellaCommand;
+    pub use mach_records::SymsegCommand;
+    pub use mach_records::SymtabCommand;
+    pub use mach_records::TOOL_CLANG;
+    pub use mach_records::TOOL_LD;
+    pub use mach_records::TOOL_LLD;
+    pub use mach_records::TOOL_SWIFT;
+    pub use mach_records::TwolevelHint;
+    pub use mach_records::TwolevelHintsCommand;
+    pub use mach_records::UuidCommand;
+    pub use mach_records::VersionMinCommand;
+    pub use mach_records::cmd_to_str;
 }

@@ -1,18 +1,18 @@
 //! The exports of an image, which a trie lists.
 
 ghost use Rattle.std.specs.Prelude.{◌≡◌, ◌≤◌, ◌++◌, List, length, IfOk, IfErr, OnOk, map, option_map, string_bytes};
-ghost use Rattle.goblin_mach.specs.Answer.{Stands, IsOkUnlessMemory};
+ghost use Rattle.mach_base.specs.Answer.{Stands, IsOkUnlessMemory};
 ghost use Rattle.goblin_mach.specs.Trie.{Entry, offset_of, own_entries};
 ghost use Rattle.goblin_mach.specs.Lists.{list_within};
 ghost use Rattle.goblin_mach.specs.Paths.{BlocksWithin};
 ghost use Rattle.goblin_mach.specs.Exports.{texts, info_of, entries, Appends};
-ghost use Rattle.goblin_mach.specs.LoadCommands.{kind_in, variant_values, command_of};
+ghost use Rattle.mach_load.specs.Variants.{kind_in, variant_values, command_of};
 ghost use Rattle.goblin_mach.specs.TrieRange.{range_in, range_by, trie_in, trie_there, ListsExports, ExportsFault};
 
-use crate::base::error::{Error, Result};
 use crate::dyld::node::{ExportInfo, read_node};
-use crate::load::load_command::{CommandVariant, LoadCommand};
-use crate::records::linkedit::{DyldInfoCommand, LinkeditDataCommand};
+use mach_base::{Error, Result};
+use mach_load::{CommandVariant, LoadCommand};
+use mach_records::{DyldInfoCommand, LinkeditDataCommand};
 use std::alloc::{AllocError, Allocator, Global};
 use std::marker::Model;
 

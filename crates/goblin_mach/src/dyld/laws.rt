@@ -1,7 +1,7 @@
 //! Laws of the export trie.
 
 ghost use Rattle.std.specs.Prelude.{◌≡◌, ◌≤◌, ◌-◌, ◌↔◌, ℕ, List, Some};
-ghost use Rattle.goblin_mach.specs.Fault.{Fault};
+ghost use Rattle.mach_base.specs.Fault.{Fault};
 ghost use Rattle.goblin_mach.specs.Trie.{Trie, Entry};
 ghost use Rattle.goblin_mach.specs.Lists.{Lists, ListsWithin, list_within};
 ghost use Rattle.goblin_mach.specs.Paths.{Blocks, StartsFrom};

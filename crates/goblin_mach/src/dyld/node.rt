@@ -1,14 +1,12 @@
 //! One node of an export trie, as dyld reads it.
 
 ghost use Rattle.std.specs.Prelude.{◌≡◌};
-ghost use Rattle.goblin_mach.specs.Answer.{Reads, Gives};
+ghost use Rattle.mach_base.specs.Answer.{Reads, Gives};
 ghost use Rattle.goblin_mach.specs.Nodes.{sum_of, library, name_of, regular_at, reexport_at, info_at, branch_at, branches_at, children_at, terminal_at, inner_at, node_at};
 ghost use Rattle.goblin_mach.specs.Exports.{texts, text_in, info_of};
 ghost use Rattle.goblin_mach.specs.NodeViews.{branch_of, branches_of, node_of};
 
-use crate::base::error::{Error, Result};
-use crate::base::leb128::uleb;
-use crate::base::texts::read_text;
+use mach_base::{Error, Result, read_text, uleb};
 use std::alloc::Allocator;
 
 /// The bits of an export's flags that tell its kind.

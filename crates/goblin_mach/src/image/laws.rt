@@ -1,8 +1,9 @@
 //! Laws of an image.
 
 ghost use Rattle.std.specs.Prelude.{◌≡◌, ℕ, List, length};
-ghost use Rattle.goblin_mach.specs.declared.base.context.Endian.{Endian};
-ghost use Rattle.goblin_mach.specs.Chain.{Command, IsChain};
+ghost use Rattle.mach_base.specs.declared.context.Endian.{Endian};
+ghost use Rattle.mach_load.specs.Command.{Command};
+ghost use Rattle.goblin_mach.specs.Chain.{IsChain};
 
 /// At most one chain of so many load commands stands at a place.
 pub fn one_chain()

@@ -1,11 +1,11 @@
 //! What a file is.
 
 ghost use Rattle.std.specs.Prelude.{IfOk, IfErr};
-ghost use Rattle.goblin_mach.specs.Answer.{Stands, IsOkUnlessMemory};
+ghost use Rattle.mach_base.specs.Answer.{Stands, IsOkUnlessMemory};
 ghost use Rattle.goblin_mach.specs.Image.{MachOpens, MachFault};
 
-use crate::base::error::{Error, Result};
 use crate::image::macho::MachO;
+use mach_base::{Error, Result};
 use std::alloc::{Allocator, Global};
 
 /// What a file is.

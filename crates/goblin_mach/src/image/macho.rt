@@ -1,7 +1,7 @@
 //! One image.
 
 ghost use Rattle.std.specs.Prelude.{◌≡◌, List, IfOk, IfErr};
-ghost use Rattle.goblin_mach.specs.Answer.{Stands, IsOkUnlessMemory};
+ghost use Rattle.mach_base.specs.Answer.{Stands, IsOkUnlessMemory};
 ghost use Rattle.goblin_mach.specs.Magic.{ncmds_at};
 ghost use Rattle.goblin_mach.specs.Header.{IsHeader};
 ghost use Rattle.goblin_mach.specs.Image.{HasHeader, CountsFit, Opens, ImageFault};
@@ -9,13 +9,13 @@ ghost use Rattle.goblin_mach.specs.Trie.{Entry};
 ghost use Rattle.goblin_mach.specs.Exports.{texts, entries};
 ghost use Rattle.goblin_mach.specs.TrieRange.{ListsImageExports, ImageExportsFault};
 
-use crate::base::context::Ctx;
-use crate::base::error::{Error, Result};
 use crate::dyld::exports::{Export, ExportTrie, last_export_trie};
+use crate::image::commands::read_commands;
 use crate::image::magic::parse_magic_and_ctx;
 use crate::image::names::{id_name, libraries};
-use crate::load::load_command::{LoadCommand, read_commands};
 use crate::parts::header::{Header, header_at, header_len};
+use mach_base::{Ctx, Error, Result};
+use mach_load::LoadCommand;
 use std::alloc::{Allocator, Global};
 
 /// A Mach-O image: an executable, a library or an object file for one cpu.

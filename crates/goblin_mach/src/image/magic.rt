@@ -1,15 +1,13 @@
 //! What the first four bytes say.
 
 ghost use Rattle.std.specs.Prelude.{◌≡◌};
-ghost use Rattle.goblin_mach.specs.declared.base.context.Endian.TheVariants.{Big};
-ghost use Rattle.goblin_mach.specs.Answer.{Reads};
-ghost use Rattle.goblin_mach.specs.Number.{number_at};
+ghost use Rattle.mach_base.specs.declared.context.Endian.TheVariants.{Big};
+ghost use Rattle.mach_base.specs.Answer.{Reads};
+ghost use Rattle.mach_base.specs.Number.{number_at};
 ghost use Rattle.goblin_mach.specs.Magic.{magic_at, ctx_of};
 
-use crate::base::context::{Container, Ctx, Endian};
-use crate::base::error::Result;
-use crate::base::numbers::read_u32;
 use crate::parts::header::{MH_CIGAM, MH_CIGAM_64, MH_MAGIC, MH_MAGIC_64};
+use mach_base::{Container, Ctx, Endian, Result, read_u32};
 
 /// The number of the four bytes at a place, the highest byte first.
 pub fn peek(bytes: &[u8], offset: usize) -> Result<u32>

@@ -1,14 +1,12 @@
 //! The name and the libraries of an image.
 
 ghost use Rattle.std.specs.Prelude.{◌≡◌, ◌∷◌, IfOk, IfErr, map, option_map, Some, None, if◌then◌else◌};
-ghost use Rattle.goblin_mach.specs.Answer.{Stands};
-ghost use Rattle.goblin_mach.specs.Commands.{is_library, is_id};
-ghost use Rattle.goblin_mach.specs.LoadCommands.{command_of};
-ghost use Rattle.goblin_mach.specs.Names.{place_after, name_place, names_of, name_in, IsUnnamed, AllReadable};
+ghost use Rattle.mach_base.specs.Answer.{Stands};
+ghost use Rattle.goblin_mach.specs.Names.{is_library, is_id, place_after, name_place, names_of, name_in, IsUnnamed, AllReadable};
+ghost use Rattle.mach_load.specs.Variants.{command_of};
 
-use crate::base::error::Result;
-use crate::base::texts::read_text;
-use crate::load::load_command::{CommandVariant, LoadCommand};
+use mach_base::{Result, read_text};
+use mach_load::{CommandVariant, LoadCommand};
 use std::alloc::Allocator;
 
 // The place so many bytes after another, or the last place there is.

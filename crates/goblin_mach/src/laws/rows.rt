@@ -1,11 +1,11 @@
 //! The worked rows of docs/FORMAT.md that the definitions are checked on, as theorems.
 
 ghost use Rattle.std.specs.Prelude.{◌≡◌, ◌∷◌, ◌++◌, [], ℕ, List, codes, map, replicate, Ok, Err};
-ghost use Rattle.goblin_mach.specs.declared.base.context.Endian.TheVariants.{Little};
-ghost use Rattle.goblin_mach.specs.Fault.{malformed, bad_input};
-ghost use Rattle.goblin_mach.specs.Leb128.{Spells, uleb_at};
-ghost use Rattle.goblin_mach.specs.Record.{number_is};
-ghost use Rattle.goblin_mach.specs.Commands.{load_dylib, dyld_info_only, unimplemented};
+ghost use Rattle.mach_base.specs.declared.context.Endian.TheVariants.{Little};
+ghost use Rattle.mach_base.specs.Fault.{malformed, bad_input};
+ghost use Rattle.mach_base.specs.Leb128.{Spells, uleb_at};
+ghost use Rattle.mach_base.specs.Record.{number_is, bytes_are};
+ghost use Rattle.mach_load.specs.Commands.{uuid, segment64, load_dylib, dyld_info_only, symtab, main};
 ghost use Rattle.goblin_mach.specs.Chain.{IsChain};
 ghost use Rattle.goblin_mach.specs.Trie.{entry, regular};
 ghost use Rattle.goblin_mach.specs.Lists.{Lists};
@@ -23,17 +23,24 @@ pub fn spellings()
 
 /// The one command of file A.
 pub fn chain_of_file_a()
-    ensures { IsChain Little file_a 32 (record { offset = 32; kind = unimplemented; values = number_is 0x1b ∷ number_is 24 ∷ [] } ∷ []) }
+    ensures { IsChain Little file_a 32
+        (record { offset = 32; kind = uuid; values = number_is 0x1b ∷ number_is 24 ∷ bytes_are (1 ∷ 2 ∷ 3 ∷ 4 ∷ 5 ∷ 6 ∷ 7 ∷ 8 ∷ 9 ∷ 10 ∷ 11 ∷ 12 ∷ 13 ∷ 14 ∷ 15 ∷ 16 ∷ []) ∷ [] } ∷ []) }
 {}
 
 /// The five commands of file B.
 pub fn chain_of_file_b()
     ensures { IsChain Little file_b 32
-        (record { offset = 0x20; kind = unimplemented; values = number_is 0x19 ∷ number_is 152 ∷ [] }
+        (record {
+          offset = 0x20;
+          kind = segment64;
+          values =
+              number_is 0x19 ∷ number_is 152 ∷ bytes_are (codes "__TEXT" ++ replicate 10 0)
+              ∷ map number_is (0x100000000 ∷ 0x1000 ∷ 0 ∷ 376 ∷ 0 ∷ 0 ∷ 1 ∷ 0 ∷ []);
+        }
         ∷ record { offset = 0xb8; kind = load_dylib; values = map number_is (0xc ∷ 32 ∷ 24 ∷ 0 ∷ 0 ∷ 0 ∷ []) }
         ∷ record { offset = 0xd8; kind = dyld_info_only; values = map number_is (0x80000022 ∷ 48 ∷ 0 ∷ 0 ∷ 312 ∷ 8 ∷ 0 ∷ 0 ∷ 320 ∷ 8 ∷ 328 ∷ 11 ∷ []) }
-        ∷ record { offset = 0x108; kind = unimplemented; values = number_is 0x2 ∷ number_is 24 ∷ [] }
-        ∷ record { offset = 0x120; kind = unimplemented; values = number_is 0x80000028 ∷ number_is 24 ∷ [] } ∷ []) }
+        ∷ record { offset = 0x108; kind = symtab; values = map number_is (0x2 ∷ 24 ∷ 352 ∷ 1 ∷ 368 ∷ 8 ∷ []) }
+        ∷ record { offset = 0x120; kind = main; values = map number_is (0x80000028 ∷ 24 ∷ 0x138 ∷ 0 ∷ []) } ∷ []) }
 {}
 
 /// The three exports of the trie `exports_vector`.

@@ -4,9 +4,7 @@ ghost use Rattle.std.specs.Prelude.{◌≡◌, ◌≤◌, ◌+◌, length};
 ghost use Rattle.goblin_mach.specs.Magic.{header_size, ncmds_at, sizeofcmds_at};
 ghost use Rattle.goblin_mach.specs.Header.{IsHeader};
 
-use crate::base::context::{Container, Ctx, Endian};
-use crate::base::numbers::rest_at;
-use crate::base::record::{Record, RecordBytes};
+use mach_base::{Container, Ctx, Endian, Record, RecordBytes, rest_at};
 
 /// The magic of a 32-bit image.
 pub const MH_MAGIC: u32 = 0xfeed_face;

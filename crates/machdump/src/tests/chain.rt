@@ -114,8 +114,8 @@ fn command_text(rt: HostRuntime) -> Result<(), Fail> {
 fn refused_memory_is_answered(rt: HostRuntime) -> Result<(), Fail> {
     let mut refused = 0u32;
     let mut opened = 0u32;
-    for size in 0..64 {
-        let heap = LocalHeap::new(rt.alloc(), 16 * size)?;
+    for size in 0..128 {
+        let heap = LocalHeap::new(rt.alloc(), 64 * size)?;
         match MachO::parse(&heap, &FILE_B, 0) {
             Ok(image) => {
                 assert_eq!(rt; image.load_commands.len(), 5);

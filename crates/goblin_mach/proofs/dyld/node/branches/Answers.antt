@@ -1,10 +1,10 @@
 use Rattle.std.proofs.Common.{◌≡◌, ◌++◌, ◌∷◌, []}
 use Rattle.std.proofs.lemmas.Result.{err_from_is_err_and}
 use Rattle.std.proofs.lemmas.List.{map_push}
-use Rattle.goblin_mach.specs.Fault.{fault_of}
+use Rattle.mach_base.specs.Fault.{fault_of}
 use Rattle.goblin_mach.specs.Nodes.{branches_at}
 use Rattle.goblin_mach.specs.NodeViews.{branch_of, branches_of}
-use Rattle.goblin_mach.proofs.Faults.{FailsAs-read}
+use Rattle.mach_base.proofs.Faults.{FailsAs-read}
 use Rattle.goblin_mach.proofs.BranchSteps.{goes_on, ends, is_done}
 use Rattle.goblin_mach.proofs.dyld.node.branches.Goals as goal
 

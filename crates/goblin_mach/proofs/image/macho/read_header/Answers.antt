@@ -1,7 +1,7 @@
 use Rattle.std.proofs.Common.{rules, arith, inl, inr}
 use Rattle.std.proofs.lemmas.Result.{err_from_is_err_and}
 use Rattle.goblin_mach.specs.Image.{ImageFault, HasHeader, no_magic, other_magic, short_header, too_many_commands}
-use Rattle.goblin_mach.proofs.Faults.{Stands-reported}
+use Rattle.mach_base.proofs.Faults.{Stands-reported}
 use Rattle.goblin_mach.proofs.image.macho.read_header.Goals as goal
 
 pub returns-in_err-magic-clause-refused : goal.returns-in_err-magic-clause-refused

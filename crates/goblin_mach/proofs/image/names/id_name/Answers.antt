@@ -1,9 +1,8 @@
 use Rattle.std.proofs.Common.{◌∙◌, sym, ap, map}
 use Rattle.std.proofs.lemmas.Result.{err_from_is_err_and}
-use Rattle.goblin_mach.specs.Commands.{is_id}
-use Rattle.goblin_mach.specs.LoadCommands.{command_of}
-use Rattle.goblin_mach.specs.Names.{last_or, IsUnnamed}
-use Rattle.goblin_mach.proofs.Faults.{Stands-reported}
+use Rattle.goblin_mach.specs.Names.{is_id, last_or, IsUnnamed}
+use Rattle.mach_load.specs.Variants.{command_of}
+use Rattle.mach_base.proofs.Faults.{Stands-reported}
 use Rattle.goblin_mach.proofs.Naming.{skip_here, take_here, unnamed_here, named_id}
 use Rattle.goblin_mach.proofs.image.names.id_name.Goals as goal
 

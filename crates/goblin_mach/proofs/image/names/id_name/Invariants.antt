@@ -1,7 +1,6 @@
 use Rattle.std.proofs.Common.{◌≡◌, map, option_map, drop}
-use Rattle.goblin_mach.specs.Commands.{is_id}
-use Rattle.goblin_mach.specs.LoadCommands.{command_of}
-use Rattle.goblin_mach.specs.Names.{names_of, name_in, last_or, AllReadable}
+use Rattle.goblin_mach.specs.Names.{is_id, names_of, name_in, last_or, AllReadable}
+use Rattle.mach_load.specs.Variants.{command_of}
 use Rattle.goblin_mach.proofs.image.names.id_name.Given as goal
 
 abbrev pub invariant-loop-command : goal.invariant-loop-command

@@ -1,10 +1,9 @@
 use Rattle.std.proofs.Common.{◌≡◌, ◌∙◌, ◌++◌, ◌∷◌, [], List, ℕ, sym, ap, map, append_assoc}
 use Rattle.std.proofs.lemmas.List.{map_push}
 use Rattle.std.proofs.lemmas.Result.{err_from_is_err_and}
-use Rattle.goblin_mach.specs.Commands.{is_library}
-use Rattle.goblin_mach.specs.LoadCommands.{command_of}
-use Rattle.goblin_mach.specs.Names.{IsUnnamed}
-use Rattle.goblin_mach.proofs.Faults.{Stands-reported}
+use Rattle.goblin_mach.specs.Names.{is_library, IsUnnamed}
+use Rattle.mach_load.specs.Variants.{command_of}
+use Rattle.mach_base.proofs.Faults.{Stands-reported}
 use Rattle.goblin_mach.proofs.Naming.{skip_here, take_here, unnamed_here, named_library}
 use Rattle.goblin_mach.proofs.image.names.libraries.Goals as goal
 

@@ -1,7 +1,6 @@
 use Rattle.std.proofs.Common.{◌≡◌, ◌∷◌, ◌++◌, map, drop}
-use Rattle.goblin_mach.specs.Commands.{is_library}
-use Rattle.goblin_mach.specs.LoadCommands.{command_of}
-use Rattle.goblin_mach.specs.Names.{names_of, AllReadable}
+use Rattle.goblin_mach.specs.Names.{is_library, names_of, AllReadable}
+use Rattle.mach_load.specs.Variants.{command_of}
 use Rattle.goblin_mach.proofs.image.names.libraries.Given as goal
 
 abbrev pub invariant-loop-command : goal.invariant-loop-command

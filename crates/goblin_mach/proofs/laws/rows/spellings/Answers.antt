@@ -1,5 +1,5 @@
 use Rattle.std.proofs.Common.{refl, lit≤, lit<}
-use Rattle.goblin_mach.specs.Leb128.{uleb_at}
+use Rattle.mach_base.specs.Leb128.{uleb_at}
 use Rattle.goblin_mach.proofs.laws.rows.spellings.Goals as goal
 
 pub returns-clause-three_bytes : goal.returns-clause-three_bytes

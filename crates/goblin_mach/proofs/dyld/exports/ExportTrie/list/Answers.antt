@@ -1,11 +1,11 @@
 use Rattle.std.proofs.Common.{◌≡◌, ◌∙◌, ◌-◌, [], ap, sym, subst, refl, Some}
 use Rattle.std.proofs.lemmas.Result.{err_from_is_err_and}
-use Rattle.goblin_mach.specs.Answer.{Stands}
+use Rattle.mach_base.specs.Answer.{Stands}
 use Rattle.goblin_mach.specs.Lists.{list_within}
 use Rattle.goblin_mach.specs.Paths.{BlocksWithin}
 use Rattle.goblin_mach.specs.Exports.{texts, entries}
 use Rattle.goblin_mach.specs.TrieRange.{TrieRange, trie_there, ExportsFault}
-use Rattle.goblin_mach.proofs.Faults.{Stands-in}
+use Rattle.mach_base.proofs.Faults.{Stands-in}
 use Rattle.goblin_mach.proofs.TrieRanges.{lists_exports, walk_fault}
 use Rattle.goblin_mach.proofs.dyld.exports.ExportTrie.list.Goals as goal
 

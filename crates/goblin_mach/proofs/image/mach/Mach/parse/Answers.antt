@@ -1,6 +1,6 @@
 use Rattle.std.proofs.Common.{rules}
 use Rattle.std.proofs.lemmas.Result.{err_from_is_err_and}
-use Rattle.goblin_mach.proofs.Faults.{Stands-in}
+use Rattle.mach_base.proofs.Faults.{Stands-in}
 use Rattle.goblin_mach.specs.Image.{MachFault, no_room, of_image}
 use Rattle.goblin_mach.proofs.image.mach.Mach.parse.Goals as goal
 

@@ -1,8 +1,8 @@
 use Rattle.std.proofs.Common.{arith, map}
 use Rattle.std.proofs.lemmas.Result.{err_from_is_err_and}
 use Rattle.goblin_mach.specs.Image.{ImageFault, HasFront, broken_chain, unreadable_name}
-use Rattle.goblin_mach.specs.LoadCommands.{command_of}
-use Rattle.goblin_mach.proofs.Faults.{Stands-in}
+use Rattle.mach_load.specs.Variants.{command_of}
+use Rattle.mach_base.proofs.Faults.{Stands-in}
 use Rattle.goblin_mach.proofs.image.macho.MachO.open.Goals as goal
 
 pub returns-in_err-load_commands-clause-refused : goal.returns-in_err-load_commands-clause-refused

@@ -1,7 +1,0 @@
-use Rattle.std.proofs.Common.{◌∙◌}
-use Rattle.goblin_mach.proofs.Runs.{first_len}
-use Rattle.memchr.specs.Find.{is_byte}
-use Rattle.goblin_mach.proofs.base.texts.len_before_zero.Goals as goal
-
-pub returns-clause-value : goal.returns-clause-value
-returns-clause-value c = c.unwrap_or.ensures ∙ first_len (is_byte 0) c.args.bytes.now c.memchr.result c.memchr.ensures

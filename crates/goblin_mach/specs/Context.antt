@@ -1,9 +1,0 @@
--- The width of an image.
-use Rattle.std.specs.Prelude.{ℕ}
-use Rattle.goblin_mach.specs.declared.base.context.Container.{Container}
-use Rattle.goblin_mach.specs.declared.base.context.Container.TheVariants.{Little, Big}
-
--- how many bytes a pointer has
-abbrev pub pointer_size : Container → ℕ
-pointer_size Little = 4
-pointer_size Big = 8

@@ -1,3 +1,0 @@
-//! Load commands, one after the other.
-
-pub mod load_command;

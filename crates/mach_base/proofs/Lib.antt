@@ -1,0 +1,10 @@
+pub mod Binds
+pub mod Fronts
+pub mod Faults
+pub mod Spelled
+pub mod Groups
+pub mod Runs
+pub mod Spellings
+pub mod Unsigned
+pub mod Signed
+pub mod FrontGroups

@@ -1,0 +1,9 @@
+-- The width of an image.
+use Rattle.std.specs.Prelude.{ℕ}
+use Rattle.mach_base.specs.declared.context.Container.{Container}
+use Rattle.mach_base.specs.declared.context.Container.TheVariants.{Little, Big}
+
+-- how many bytes a pointer has
+abbrev pub pointer_size : Container → ℕ
+pointer_size Little = 4
+pointer_size Big = 8

@@ -1,0 +1,28 @@
+-- What is wrong with some bytes: the kind of an error with its numbers, its wording left out.
+use Rattle.std.specs.Prelude.{ℕ, List}
+use Rattle.mach_base.specs.declared.error.ScrollError.{ScrollError}
+use Rattle.mach_base.specs.declared.error.ScrollError.TheVariants as scroll
+use Rattle.mach_base.specs.declared.error.Error.{Error}
+use Rattle.mach_base.specs.declared.error.Error.TheVariants as errors
+
+pub data Fault : Type 0 where
+  malformed : Fault
+  bad_magic : (magic : ℕ) → Fault
+  bad_offset : (place : ℕ) → Fault
+  too_big : (size len : ℕ) → Fault
+  bad_input : (size : ℕ) → Fault
+  too_short : (count : ℕ) (what : List ℕ) → Fault
+  no_memory : Fault
+
+abbrev pub fault_of_scroll : ScrollError → Fault
+fault_of_scroll (scroll.BadOffset place) = bad_offset place
+fault_of_scroll (scroll.TooBig size len) = too_big size len
+fault_of_scroll (scroll.BadInput size msg) = bad_input size
+
+-- the fault that an error reports
+abbrev pub fault_of : Error → Fault
+fault_of (errors.Malformed msg) = malformed
+fault_of (errors.BadMagic magic) = bad_magic magic
+fault_of (errors.Scroll e) = fault_of_scroll e
+fault_of (errors.BufferTooShort count what) = too_short count what.now
+fault_of (errors.Memory e) = no_memory

@@ -1,0 +1,9 @@
+pub mod Fault
+pub mod Answer
+pub mod Context
+pub mod Number
+pub mod Text
+pub mod Leb128
+pub mod FrontGroups
+pub mod Record
+pub mod Front

@@ -1,0 +1,18 @@
+-- Texts: bytes up to a zero, as names stand in load commands, string tables and tries.
+use Rattle.std.specs.Prelude.{◌==◌, ℕ, ◌-◌, Bool, List, length, drop, Result, Ok, Err, nat_le, if◌then◌else◌}
+use Rattle.std.specs.List.{before_first}
+use Rattle.std.specs.Str.{is_utf8}
+use Rattle.mach_base.specs.Fault.{Fault, bad_offset, bad_input}
+
+abbrev pub is_zero : ℕ → Bool
+is_zero b = b == 0
+
+-- the longest run without a zero byte that begins at s
+abbrev pub run_at : List ℕ → ℕ → List ℕ
+run_at bytes s = before_first is_zero (drop s bytes)
+
+-- the text at s: the run there, where s lies in the bytes and the run is UTF-8; else why not
+unfoldable pub text_at : List ℕ → ℕ → Result (List ℕ) Fault
+text_at bytes s =
+    if nat_le (length bytes) s then Err (bad_offset s)
+    else (if is_utf8 (run_at bytes s) then Ok (run_at bytes s) else Err (bad_input (length bytes - s)))

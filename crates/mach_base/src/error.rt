@@ -1,0 +1,60 @@
+//! Why bytes could not be read.
+
+ghost use Rattle.std.specs.Prelude.{◌≡◌};
+ghost use Rattle.mach_base.specs.declared.error.Error.TheVariants as errors;
+
+use std::alloc::{AllocError, AllocFailed};
+
+/// A read or a write that failed at its place.
+#[derive(Debug, Drop)]
+pub enum ScrollError {
+    /// The offset lies at or past the end of the bytes.
+    BadOffset(usize),
+    /// `size` bytes were asked for, and only `len` are left.
+    TooBig { size: usize, len: usize },
+    /// The bytes that are left, `size` of them, begin with no such value.
+    BadInput { size: usize, msg: &'static str },
+}
+
+/// Why a file, or a part of one, was refused.
+#[derive(Debug, Drop)]
+pub enum Error {
+    /// The bytes break a rule of the format.
+    Malformed(&'static str),
+    /// The magic number is none of those that are read.
+    BadMagic(u64),
+    /// A read or a write failed at its place.
+    Scroll(ScrollError),
+    /// So many of the things named cannot lie in the bytes.
+    BufferTooShort(usize, &'static str),
+    /// Memory was refused.
+    Memory(AllocError),
+}
+
+pub type Result<T> = std::result::Result<T, Error>;
+
+impl From<ScrollError> for Error {
+    ghost from_gives = { λ s e. e ≡ errors.Scroll s };
+
+    fn from(e: ScrollError) -> Error {
+        Error::Scroll(e)
+    }
+}
+
+impl From<AllocError> for Error {
+    ghost from_gives = { λ a e. e ≡ errors.Memory a };
+
+    fn from(e: AllocError) -> Error {
+        Error::Memory(e)
+    }
+}
+
+impl<T: Drop> From<AllocFailed<T>> for Error {
+    ghost from_gives = { λ _ e. e ≡ errors.Memory alloc_error };
+
+    ghost use Rattle.std.specs.Prelude.{alloc_error};
+
+    fn from(e: AllocFailed<T>) -> Error {
+        Error::Memory(AllocError::from(e))
+    }
+}

@@ -1,0 +1,229 @@
+//! LEB128: numbers in groups of seven bits, the lowest first.
+
+ghost use Rattle.std.specs.Prelude.{◌≡◌, ◌<◌, ◌≤◌, ◌+◌, ◌^◌, ◌-ℤ◌, ℕ, ℤ, pos, length, take, IfOk, IfSome, IfNone, OnErr, if◌then◌else◌};
+ghost use Rattle.mach_base.specs.Leb128.{IsUleb, IsSleb, uleb_at, sleb_at, uleb_number, uleb_size, sleb_number, sleb_size};
+ghost use Rattle.mach_base.specs.FrontGroups.{GoOn, AreFront};
+ghost use Rattle.mach_base.specs.Answer.{Reads};
+
+use crate::error::{Error, Result, ScrollError};
+use crate::numbers::try_rest_at;
+
+/// A number without a sign, and how many bytes spell it.
+#[derive(Clone, Copy, Debug, PartialEq)]
+pub struct Uleb128 {
+    value: u64,
+    size: usize,
+}
+
+impl Uleb128 {
+    /// The number spelled at the offset, which moves behind its one to ten bytes. A refused read
+    /// leaves the offset.
+    pub fn read(bytes: &[u8], offset: &mut usize) -> Result<u64>
+        ensures value { Reads (λ n. (n, offset.new)) result (uleb_at bytes.now offset.old) }
+        ensures refused { OnErr result (offset.new ≡ offset.old) }
+    {
+        let (value, after) = uleb(bytes, *offset)?;
+        *offset = after;
+        Ok(value)
+    }
+
+    /// The number spelled at the offset.
+    pub fn parse(bytes: &[u8], offset: usize) -> Result<Self>
+        ensures { Reads (λ u. (uleb_number u, offset + uleb_size u)) result (uleb_at bytes.now offset) }
+    {
+        let (value, after) = uleb(bytes, offset)?;
+        Ok(Uleb128 {
+            value,
+            size: after - offset,
+        })
+    }
+
+    /// How many bytes spell the number.
+    pub fn size(&self) -> usize
+        ensures { result ≡ uleb_size self.now }
+    {
+        self.size
+    }
+}
+
+impl From<Uleb128> for u64 {
+    ghost from_gives = { λ u n. n ≡ uleb_number u };
+
+    fn from(spelled: Uleb128) -> u64 {
+        spelled.value
+    }
+}
+
+/// A number with a sign, and how many bytes spell it.
+#[derive(Clone, Copy, Debug, PartialEq)]
+pub struct Sleb128 {
+    value: i64,
+    size: usize,
+}
+
+impl Sleb128 {
+    /// The signed number spelled at the offset, which moves behind its one to ten bytes. A refused
+    /// read leaves the offset.
+    pub fn read(bytes: &[u8], offset: &mut usize) -> Result<i64>
+        ensures value { Reads (λ z. (z, offset.new)) result (sleb_at bytes.now offset.old) }
+        ensures refused { OnErr result (offset.new ≡ offset.old) }
+    {
+        let (value, after) = sleb(bytes, *offset)?;
+        *offset = after;
+        Ok(value)
+    }
+
+    /// The signed number spelled at the offset.
+    pub fn parse(bytes: &[u8], offset: usize) -> Result<Self>
+        ensures { Reads (λ u. (sleb_number u, offset + sleb_size u)) result (sleb_at bytes.now offset) }
+    {
+        let (value, after) = sleb(bytes, offset)?;
+        Ok(Sleb128 {
+            value,
+            size: after - offset,
+        })
+    }
+
+    /// How many bytes spell the number.
+    pub fn size(&self) -> usize
+        ensures { result ≡ sleb_size self.now }
+    {
+        self.size
+    }
+}
+
+impl From<Sleb128> for i64 {
+    ghost from_gives = { λ u z. z ≡ sleb_number u };
+
+    fn from(spelled: Sleb128) -> i64 {
+        spelled.value
+    }
+}
+
+// The groups with which some bytes begin: up to the last of their number, or nine of them.
+#[derive(Clone, Copy)]
+struct Groups {
+    value: u64,
+    // 128 to the power of how many they are
+    weight: u64,
+    // the place of the last, and that byte
+    index: usize,
+    last: u8,
+}
+
+impl Groups {
+    // The number of the groups, less their weight where it is negative.
+    fn signed(self, negative: bool) -> i64
+        requires below { self.value < self.weight }
+        requires fits { self.weight ≤ 2 ^ 63 }
+        ensures { result ≡ (if negative then pos self.value -ℤ pos self.weight else pos self.value) }
+    {
+        if negative {
+            -1 - (self.weight - 1 - self.value) as i64
+        } else {
+            self.value as i64
+        }
+    }
+}
+
+// The groups with which the bytes begin.
+fn front_groups(bytes: &[u8]) -> Option<Groups>
+    ensures found { IfSome result (AreFront bytes.now) }
+    ensures cut { IfNone result (length bytes.now < 9) }
+    ensures go_on { IfNone result (GoOn bytes.now (length bytes.now)) }
+{
+    let mut value = 0u64;
+    let mut weight = 1u64;
+    'groups: for index in 0..9 {
+        if index >= bytes.len() {
+            return None;
+        }
+        let last = bytes[index];
+        value += u64::from(last % 128) * weight;
+        weight *= 128;
+        if last < 128 {
+            return Some(Groups {
+                value,
+                weight,
+                index,
+                last,
+            });
+        }
+    }
+    Some(Groups {
+        value,
+        weight,
+        index: 8,
+        last: bytes[8],
+    })
+}
+
+// The number with which the bytes begin, and how many bytes spell it.
+fn uleb_front(bytes: &[u8]) -> Option<(u64, usize)>
+    ensures found { IfSome result (λ found. IsUleb (take found.1 bytes.now) found.0) }
+    ensures within { IfSome result (λ found. found.1 ≤ length bytes.now) }
+    ensures none { IfNone result ((k n : ℕ) → IsUleb (take k bytes.now) n → ⊥) }
+{
+    let groups = front_groups(bytes)?;
+    if groups.last < 128 {
+        return Some((groups.value, groups.index + 1));
+    }
+    if bytes.len() < 10 || bytes[9] > 1 {
+        return None;
+    }
+    Some((groups.value + u64::from(bytes[9]) * groups.weight, 10))
+}
+
+// The signed number with which the bytes begin, and how many bytes spell it.
+fn sleb_front(bytes: &[u8]) -> Option<(i64, usize)>
+    ensures found { IfSome result (λ found. IsSleb (take found.1 bytes.now) found.0) }
+    ensures within { IfSome result (λ found. found.1 ≤ length bytes.now) }
+    ensures none { IfNone result ((k : ℕ) (z : ℤ) → IsSleb (take k bytes.now) z → ⊥) }
+{
+    let groups = front_groups(bytes)?;
+    if groups.last < 128 {
+        return Some((groups.signed(groups.last >= 64), groups.index + 1));
+    }
+    if bytes.len() < 10 {
+        return None;
+    }
+    match bytes[9] {
+        0 => Some((groups.signed(false), 10)),
+        0x7f => Some((groups.signed(true), 10)),
+        _ => None,
+    }
+}
+
+/// The ULEB128 number at a place, and the place after its one to ten bytes.
+#[tactic(auto, unfolding(crate::specs::Leb128::uleb_at))]
+pub fn uleb(bytes: &[u8], place: usize) -> Result<(u64, usize)>
+    ensures value { Reads (λ found. found) result (uleb_at bytes.now place) }
+    ensures after { IfOk result (λ found. place ≤ found.1) }
+    ensures within { IfOk result (λ found. found.1 ≤ length bytes.now) }
+{
+    let rest = try_rest_at(bytes, place)?;
+    match uleb_front(rest) {
+        Some((value, len)) => Ok((value, place + len)),
+        None => Err(Error::Scroll(ScrollError::BadInput {
+            size: rest.len(),
+            msg: "a ULEB128 number has at most ten bytes",
+        })),
+    }
+}
+
+/// The SLEB128 number at a place, and the place after its one to ten bytes.
+#[tactic(auto, unfolding(crate::specs::Leb128::sleb_at))]
+pub fn sleb(bytes: &[u8], place: usize) -> Result<(i64, usize)>
+    ensures value { Reads (λ found. found) result (sleb_at bytes.now place) }
+    ensures after { IfOk result (λ found. place ≤ found.1) }
+    ensures within { IfOk result (λ found. found.1 ≤ length bytes.now) }
+{
+    let rest = try_rest_at(bytes, place)?;
+    match sleb_front(rest) {
+        Some((value, len)) => Ok((value, place + len)),
+        None => Err(Error::Scroll(ScrollError::BadInput {
+            size: rest.len(),
+            msg: "an SLEB128 number has at most ten bytes",
+        })),
+    }
+}

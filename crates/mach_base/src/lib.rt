@@ -1,0 +1,23 @@
+//! What every reader stands on: errors, byte orders, numbers, texts, LEB128, records.
+#![tactic(auto)]
+
+mod context;
+mod error;
+pub mod laws;
+mod leb128;
+mod numbers;
+mod offsets;
+mod record;
+#[cfg(test)]
+mod tests;
+mod texts;
+mod traits;
+
+pub use crate::context::{BE, Container, Ctx, Endian, LE};
+pub use crate::error::{Error, Result, ScrollError};
+pub use crate::leb128::{Sleb128, Uleb128, sleb, uleb};
+pub use crate::numbers::{array_at, bytes_at, read_u32, rest_at, try_rest_at};
+pub use crate::offsets::{gread_with, pread_with, pwrite_with};
+pub use crate::record::{Record, RecordBytes, written_and_read};
+pub use crate::texts::read_text;
+pub use crate::traits::{IntoCtx, SizeWith, TryFromCtx, TryIntoCtx};

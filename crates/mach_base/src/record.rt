@@ -1,0 +1,214 @@
+//! Records: fields one after the other, in one byte order.
+
+ghost use Rattle.std.specs.Prelude.{◌≡◌, ◌≤◌, ◌<◌, ◌+◌, ℕ, List, length, drop, take, ◌++◌, ◌∷◌, [], IfOk, IfErr, OnOk, IsOk, ◌↔◌, Ok, Err};
+ghost use Rattle.mach_base.specs.Number.{number_bytes};
+ghost use Rattle.mach_base.specs.Answer.{Reads};
+ghost use Rattle.mach_base.specs.Fault.{fault_of};
+ghost use Rattle.mach_base.specs.Record.{Field, Value, values_in, spelling, spelled_after, size, AllFit, record_at, IsWritten};
+
+use crate::context::Endian;
+use crate::error::{Error, Result, ScrollError};
+use byteorder::{BigEndian, ByteOrder, LittleEndian};
+use std::marker::Model;
+
+/// The bytes of a record, which are at most 80.
+#[derive(Drop)]
+pub struct RecordBytes {
+    buffer: [u8; 80],
+    len: usize,
+}
+
+impl Model for RecordBytes {
+    ghost Value = { List ℕ };
+
+    ghost view = { λ r. take r.len r.buffer };
+
+    ghost invariant = { λ r. r.len ≤ 80 };
+}
+
+impl RecordBytes {
+    pub fn new() -> Self
+        ensures { result ≡ [] }
+    {
+        RecordBytes {
+            buffer: [0; 80],
+            len: 0,
+        }
+    }
+
+    fn push(&mut self, bytes: &[u8])
+        requires { length self.old + length bytes.now ≤ 80 }
+        ensures { self.new ≡ self.old ++ bytes.now }
+    {
+        let end = self.len + bytes.len();
+        self.buffer[self.len..end].copy_from_slice(bytes);
+        self.len = end;
+    }
+
+    /// The bytes with one byte after them.
+    pub fn u8(mut self, le: Endian, x: u8) -> Self
+        requires { length self + 1 ≤ 80 }
+        ensures { result ≡ self ++ number_bytes le 1 x }
+    {
+        self.push(&[x]);
+        self
+    }
+
+    /// The bytes with a number of two bytes after them.
+    pub fn u16(mut self, le: Endian, x: u16) -> Self
+        requires { length self + 2 ≤ 80 }
+        ensures { result ≡ self ++ number_bytes le 2 x }
+    {
+        let mut field = [0; 2];
+        match le {
+            Endian::Little => LittleEndian::write_u16(&mut field, x),
+            Endian::Big => BigEndian::write_u16(&mut field, x),
+        }
+        self.push(&field);
+        self
+    }
+
+    /// The bytes with a number of four bytes after them.
+    pub fn u32(mut self, le: Endian, x: u32) -> Self
+        requires { length self + 4 ≤ 80 }
+        ensures { result ≡ self ++ number_bytes le 4 x }
+    {
+        let mut field = [0; 4];
+        match le {
+            Endian::Little => LittleEndian::write_u32(&mut field, x),
+            Endian::Big => BigEndian::write_u32(&mut field, x),
+        }
+        self.push(&field);
+        self
+    }
+
+    /// The bytes with a number of eight bytes after them.
+    pub fn u64(mut self, le: Endian, x: u64) -> Self
+        requires { length self + 8 ≤ 80 }
+        ensures { result ≡ self ++ number_bytes le 8 x }
+    {
+        let mut field = [0; 8];
+        match le {
+            Endian::Little => LittleEndian::write_u64(&mut field, x),
+            Endian::Big => BigEndian::write_u64(&mut field, x),
+        }
+        self.push(&field);
+        self
+    }
+
+    /// The bytes with others after them.
+    pub fn bytes(mut self, bytes: &[u8]) -> Self
+        requires { length self + length bytes.now ≤ 80 }
+        ensures { result ≡ self ++ bytes.now }
+    {
+        self.push(bytes);
+        self
+    }
+
+    fn as_slice(&self) -> &[u8]
+        ensures { result.now ≡ self.now }
+    {
+        &self.buffer[..self.len]
+    }
+}
+
+/// Fields one after the other, all in one byte order.
+pub trait Record: Copy {
+    /// How many bytes the record has.
+    const SIZE: usize;
+
+    ghost SIZE: { ℕ };
+
+    // The fields, from the first.
+    ghost fields: { List Field };
+
+    // The value of each field.
+    ghost values: { Self → List Value };
+
+    // The record of some values.
+    ghost of_values: { List Value → Self };
+
+    /// The record at the front of some bytes.
+    fn load(bytes: &[u8], le: Endian) -> Self
+        requires { SIZE ≤ length bytes.now }
+        ensures { values result ≡ values_in le fields 0 bytes.now };
+
+    /// The bytes of the record.
+    fn store(self, le: Endian) -> RecordBytes
+        ensures spelled { result ≡ spelled_after le [] fields (values self) }
+        ensures fits { AllFit fields (values self) };
+
+    // The size is the sum of the widths.
+    ghost size_is: { SIZE ≡ size fields };
+
+    // The values give the record back.
+    ghost whole: { (x : Self) → of_values (values x) ≡ x };
+
+    // No record is empty.
+    ghost not_empty: { 0 < SIZE };
+
+    /// The record at a place.
+    final fn read(bytes: &[u8], offset: usize, le: Endian) -> Result<Self>
+        ensures { Reads values result (record_at le fields bytes.now offset) }
+    {
+        if offset >= bytes.len() {
+            return Err(Error::Scroll(ScrollError::BadOffset(offset)));
+        }
+        let rest = &bytes[offset..];
+        if rest.len() < Self::SIZE {
+            return Err(Error::Scroll(ScrollError::TooBig {
+                size: Self::SIZE,
+                len: rest.len(),
+            }));
+        }
+        Ok(Self::load(rest, le))
+    }
+
+    /// Writes the record at a place. A refused write leaves the bytes.
+    final fn write(&self, bytes: &mut [u8], offset: usize, le: Endian) -> Result<usize>
+        ensures written { IfOk result (λ n. (n ≡ SIZE) × IsWritten bytes.old bytes.new offset (spelling le fields (values self.now))) }
+        ensures room { IsOk result ↔ (offset + SIZE ≤ length bytes.old) }
+        ensures refused { IfErr result (λ e. (bytes.new ≡ bytes.old) × (record_at le fields bytes.old offset ≡ Err (fault_of e))) }
+        ensures read_back { OnOk result (record_at le fields bytes.new offset ≡ Ok (values self.now)) }
+        ensures sized { OnOk result (length (spelling le fields (values self.now)) ≡ SIZE) }
+    {
+        if offset >= bytes.len() {
+            return Err(Error::Scroll(ScrollError::BadOffset(offset)));
+        }
+        let len = bytes.len() - offset;
+        if len < Self::SIZE {
+            return Err(Error::Scroll(ScrollError::TooBig {
+                size: Self::SIZE,
+                len,
+            }));
+        }
+        let spelled = bytes_of(*self, le);
+        let end = offset + Self::SIZE;
+        bytes[offset..end].copy_from_slice(spelled.as_slice());
+        Ok(Self::SIZE)
+    }
+}
+
+/// Writes a record, and reads it again: it is the same. A refused write leaves the bytes.
+pub fn written_and_read<R: Record>(
+    held: R,
+    bytes: &mut [u8],
+    offset: usize,
+    le: Endian,
+) -> Result<R>
+    ensures again { IfOk result (λ again. again ≡ held) }
+    ensures room { IsOk result ↔ (offset + R.SIZE ≤ length bytes.old) }
+    ensures written { OnOk result (IsWritten bytes.old bytes.new offset (spelling le R.fields (R.values held))) }
+    ensures refused { IfErr result (λ e. (bytes.new ≡ bytes.old) × (record_at le R.fields bytes.old offset ≡ Err (fault_of e))) }
+{
+    held.write(bytes, offset, le)?;
+    R::read(bytes, offset, le)
+}
+
+// The bytes of a record, as one list after the other.
+fn bytes_of<R: Record>(held: R, le: Endian) -> RecordBytes
+    ensures spelled { result ≡ spelling le R.fields (R.values held) }
+    ensures fits { AllFit R.fields (R.values held) }
+{
+    held.store(le)
+}

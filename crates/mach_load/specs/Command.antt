@@ -1,0 +1,44 @@
+-- The load command at a place (`mach-o/loader.h`, struct load_command).
+use Rattle.std.specs.Prelude.{ℕ, ◌-◌, List, length, Result, Ok, Err, nat_lt, if◌then◌else◌}
+use Rattle.mach_base.specs.declared.context.Endian.{Endian}
+use Rattle.mach_base.specs.Answer.{◌>>=◌}
+use Rattle.mach_base.specs.Fault.{Fault, malformed}
+use Rattle.mach_base.specs.Record.{Value, number_among, record_at}
+use Rattle.mach_records.specs.LoadCommandHeader.{header_fields}
+use Rattle.mach_load.specs.Commands.{Kind, Body, by_fields, by_thread, CommandRow, row_of}
+use Rattle.mach_load.specs.ThreadState.{thread_at}
+
+-- a load command: where it stands, what it is, and the values of its record, which begin with cmd and cmdsize
+pub record Command : Type 0 where
+  pub offset : ℕ
+  pub kind : Kind
+  pub values : List Value
+
+abbrev pub cmd_of : Command → ℕ
+cmd_of c = number_among c.values 0
+
+abbrev pub cmdsize_of : Command → ℕ
+cmdsize_of c = number_among c.values 1
+
+-- the values of the record at s
+abbrev pub body_at : Body → Endian → List ℕ → ℕ → Result (List Value) Fault
+body_at (by_fields fields) le bytes s = record_at le fields bytes s
+body_at by_thread le bytes s = thread_at le bytes s
+
+-- the command at s that this row of the table says
+abbrev pub command_by : CommandRow → Endian → List ℕ → ℕ → Result Command Fault
+command_by row le bytes s = do
+  values ← body_at row.body le bytes s
+  Ok (record { offset = s; kind = row.kind; values = values })
+
+-- The load command at s: its header, whose cmdsize is no more than what is left, and then the record
+-- that the table says for its cmd, whatever the cmdsize; or why there is none.
+abbrev pub command_at : Endian → List ℕ → ℕ → Result Command Fault
+command_at le bytes s =
+    record_at le header_fields bytes s >>= λ header.
+    if nat_lt (length bytes - s) (number_among header 1) then Err malformed
+    else command_by (row_of (number_among header 0)) le bytes s
+
+-- the load command at the front of some bytes and its cmdsize, which is how wide it is
+abbrev pub command_front : Endian → List ℕ → Result (Command × ℕ) Fault
+command_front le bytes = command_at le bytes 0 >>= λ c. Ok (c, cmdsize_of c)

@@ -1,0 +1,4 @@
+pub mod Commands
+pub mod ThreadState
+pub mod Command
+pub mod Variants

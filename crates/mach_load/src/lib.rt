@@ -1,0 +1,12 @@
+//! Load commands: which record each is read as, and what it says (`mach-o/loader.h`).
+#![tactic(auto)]
+
+mod load_command;
+#[cfg(test)]
+mod tests;
+mod thread;
+mod variant;
+
+pub use crate::load_command::LoadCommand;
+pub use crate::thread::ThreadCommand;
+pub use crate::variant::CommandVariant;

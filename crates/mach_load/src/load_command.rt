@@ -1,0 +1,66 @@
+//! Load commands, one after the other.
+
+ghost use Rattle.std.specs.Prelude.{◌≡◌, ◌+◌, IfOk, IfErr};
+ghost use Rattle.mach_base.specs.Answer.{Reads};
+ghost use Rattle.mach_load.specs.Command.{command_at, cmdsize_of};
+ghost use Rattle.mach_load.specs.Variants.{command_of};
+
+use crate::variant::CommandVariant;
+use mach_base::{Endian, Error, Record, Result, TryFromCtx};
+use mach_records::LoadCommandHeader;
+
+/// A load command and where it stands.
+#[derive(Clone, Copy, Debug)]
+pub struct LoadCommand {
+    /// The place of its first byte, counted from byte 0.
+    pub offset: usize,
+    pub command: CommandVariant,
+}
+
+impl LoadCommand {
+    /// Reads the load command at a place and moves the place by its `cmdsize`. A refusal leaves the place.
+    pub fn parse(bytes: &[u8], offset: &mut usize, le: Endian) -> Result<LoadCommand>
+        ensures found { Reads command_of result (command_at le bytes.now offset.old) }
+        ensures offset { IfOk result (λ c. c.offset ≡ offset.old) }
+        ensures moved { IfOk result (λ c. offset.new ≡ offset.old + cmdsize_of (command_of c)) }
+        ensures stays { IfErr result (λ _. offset.new ≡ offset.old) }
+    {
+        let start = *offset;
+        let header = LoadCommandHeader::read(bytes, start, le)?;
+        let size = header.cmdsize as usize;
+        if size > bytes.len() - start {
+            return Err(Error::Malformed("a load command passes the end"));
+        }
+        let command = CommandVariant::read(bytes, start, le, header)?;
+        *offset += size;
+        Ok(LoadCommand {
+            offset: start,
+            command,
+        })
+    }
+}
+
+impl<'a> TryFromCtx<'a, Endian> for CommandVariant {
+    type Error = Error;
+
+    ghost use Rattle.mach_base.specs.Fault.{fault_of};
+    ghost use Rattle.mach_base.specs.Front.{same_fault};
+    ghost use Rattle.mach_load.specs.Command.{Command, command_front};
+
+    ghost fault = { fault_of };
+
+    ghost keeps_fault = { same_fault };
+
+    ghost View = { Command };
+
+    ghost view = { λ v. command_of (record { offset = 0; command = v }) };
+
+    ghost front = { command_front };
+
+    /// The load command at the front, which is as wide as its `cmdsize` says.
+    fn try_from_ctx(bytes: &'a [u8], le: Endian) -> Result<(Self, usize)> {
+        let mut width = 0;
+        let command = LoadCommand::parse(bytes, &mut width, le)?;
+        Ok((command.command, width))
+    }
+}

@@ -1,0 +1,11 @@
+pub mod CommandName
+pub mod LoadCommandHeader
+pub mod Segments
+pub mod Libraries
+pub mod Umbrellas
+pub mod SymbolTables
+pub mod Modules
+pub mod Linkedit
+pub mod Versions
+pub mod Contents
+pub mod Platform

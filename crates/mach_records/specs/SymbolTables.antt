@@ -1,0 +1,153 @@
+-- The symbol table, and the tables that order it (`mach-o/loader.h`).
+-- Of each record: its fields, from the first; what they hold; and the record that holds it.
+use Rattle.std.specs.Prelude.{List, [], ◌∷◌}
+use Rattle.mach_base.specs.Record.{Field, num, arr, Value, number_is, bytes_are, number_among, bytes_among}
+use Rattle.mach_records.specs.declared.command_name.TheConstants.{LC_SYMTAB, LC_DYSYMTAB}
+use Rattle.mach_records.specs.declared.symbol_tables.TheConstants.{SIZEOF_SYMTAB_COMMAND, SIZEOF_DYSYMTAB_COMMAND}
+use Rattle.mach_records.specs.declared.symbol_tables.SymtabCommand.{SymtabCommand}
+use Rattle.mach_records.specs.declared.symbol_tables.DysymtabCommand.{DysymtabCommand}
+use Rattle.mach_records.specs.declared.symbol_tables.TwolevelHintsCommand.{TwolevelHintsCommand}
+use Rattle.mach_records.specs.declared.symbol_tables.TwolevelHint.{TwolevelHint}
+use Rattle.mach_records.specs.declared.symbol_tables.SymsegCommand.{SymsegCommand}
+
+-- struct symtab_command
+abbrev pub symtab_command_fields : List Field
+symtab_command_fields = num 4 ∷ num 4 ∷ num 4 ∷ num 4 ∷ num 4 ∷ num 4 ∷ []
+
+abbrev pub symtab_command_values : SymtabCommand → List Value
+symtab_command_values r =
+    number_is r.cmd ∷ number_is r.cmdsize ∷ number_is r.symoff ∷ number_is r.nsyms
+    ∷ number_is r.stroff ∷ number_is r.strsize ∷ []
+
+abbrev pub symtab_command_of_values : List Value → SymtabCommand
+symtab_command_of_values vs =
+    record {
+      cmd = number_among vs 0;
+      cmdsize = number_among vs 1;
+      symoff = number_among vs 2;
+      nsyms = number_among vs 3;
+      stroff = number_among vs 4;
+      strsize = number_among vs 5;
+    }
+
+-- the command of a table with no symbols
+abbrev pub new_symtab : SymtabCommand
+new_symtab =
+    record {
+      cmd = LC_SYMTAB;
+      cmdsize = SIZEOF_SYMTAB_COMMAND;
+      symoff = 0;
+      nsyms = 0;
+      stroff = 0;
+      strsize = 0;
+    }
+
+-- struct dysymtab_command
+abbrev pub dysymtab_command_fields : List Field
+dysymtab_command_fields =
+    num 4 ∷ num 4 ∷ num 4 ∷ num 4 ∷ num 4 ∷ num 4 ∷ num 4 ∷ num 4 ∷ num 4 ∷ num 4 ∷ num 4 ∷ num 4
+    ∷ num 4 ∷ num 4 ∷ num 4 ∷ num 4 ∷ num 4 ∷ num 4 ∷ num 4 ∷ num 4 ∷ []
+
+abbrev pub dysymtab_command_values : DysymtabCommand → List Value
+dysymtab_command_values r =
+    number_is r.cmd ∷ number_is r.cmdsize ∷ number_is r.ilocalsym ∷ number_is r.nlocalsym
+    ∷ number_is r.iextdefsym ∷ number_is r.nextdefsym ∷ number_is r.iundefsym
+    ∷ number_is r.nundefsym ∷ number_is r.tocoff ∷ number_is r.ntoc ∷ number_is r.modtaboff
+    ∷ number_is r.nmodtab ∷ number_is r.extrefsymoff ∷ number_is r.nextrefsyms
+    ∷ number_is r.indirectsymoff ∷ number_is r.nindirectsyms ∷ number_is r.extreloff
+    ∷ number_is r.nextrel ∷ number_is r.locreloff ∷ number_is r.nlocrel ∷ []
+
+abbrev pub dysymtab_command_of_values : List Value → DysymtabCommand
+dysymtab_command_of_values vs =
+    record {
+      cmd = number_among vs 0;
+      cmdsize = number_among vs 1;
+      ilocalsym = number_among vs 2;
+      nlocalsym = number_among vs 3;
+      iextdefsym = number_among vs 4;
+      nextdefsym = number_among vs 5;
+      iundefsym = number_among vs 6;
+      nundefsym = number_among vs 7;
+      tocoff = number_among vs 8;
+      ntoc = number_among vs 9;
+      modtaboff = number_among vs 10;
+      nmodtab = number_among vs 11;
+      extrefsymoff = number_among vs 12;
+      nextrefsyms = number_among vs 13;
+      indirectsymoff = number_among vs 14;
+      nindirectsyms = number_among vs 15;
+      extreloff = number_among vs 16;
+      nextrel = number_among vs 17;
+      locreloff = number_among vs 18;
+      nlocrel = number_among vs 19;
+    }
+
+-- the command of tables with no entries
+abbrev pub new_dysymtab : DysymtabCommand
+new_dysymtab =
+    record {
+      cmd = LC_DYSYMTAB;
+      cmdsize = SIZEOF_DYSYMTAB_COMMAND;
+      ilocalsym = 0;
+      nlocalsym = 0;
+      iextdefsym = 0;
+      nextdefsym = 0;
+      iundefsym = 0;
+      nundefsym = 0;
+      tocoff = 0;
+      ntoc = 0;
+      modtaboff = 0;
+      nmodtab = 0;
+      extrefsymoff = 0;
+      nextrefsyms = 0;
+      indirectsymoff = 0;
+      nindirectsyms = 0;
+      extreloff = 0;
+      nextrel = 0;
+      locreloff = 0;
+      nlocrel = 0;
+    }
+
+-- struct twolevel_hints_command
+abbrev pub twolevel_hints_command_fields : List Field
+twolevel_hints_command_fields = num 4 ∷ num 4 ∷ num 4 ∷ num 4 ∷ []
+
+abbrev pub twolevel_hints_command_values : TwolevelHintsCommand → List Value
+twolevel_hints_command_values r =
+    number_is r.cmd ∷ number_is r.cmdsize ∷ number_is r.offset ∷ number_is r.nhints ∷ []
+
+abbrev pub twolevel_hints_command_of_values : List Value → TwolevelHintsCommand
+twolevel_hints_command_of_values vs =
+    record {
+      cmd = number_among vs 0;
+      cmdsize = number_among vs 1;
+      offset = number_among vs 2;
+      nhints = number_among vs 3;
+    }
+
+-- struct twolevel_hint
+abbrev pub twolevel_hint_fields : List Field
+twolevel_hint_fields = num 8 ∷ arr 24 ∷ []
+
+abbrev pub twolevel_hint_values : TwolevelHint → List Value
+twolevel_hint_values r = number_is r.isub_image ∷ bytes_are r.itoc ∷ []
+
+abbrev pub twolevel_hint_of_values : List Value → TwolevelHint
+twolevel_hint_of_values vs = record { isub_image = number_among vs 0; itoc = bytes_among vs 1 }
+
+-- struct symseg_command
+abbrev pub symseg_command_fields : List Field
+symseg_command_fields = num 4 ∷ num 4 ∷ num 4 ∷ num 4 ∷ []
+
+abbrev pub symseg_command_values : SymsegCommand → List Value
+symseg_command_values r =
+    number_is r.cmd ∷ number_is r.cmdsize ∷ number_is r.offset ∷ number_is r.size ∷ []
+
+abbrev pub symseg_command_of_values : List Value → SymsegCommand
+symseg_command_of_values vs =
+    record {
+      cmd = number_among vs 0;
+      cmdsize = number_among vs 1;
+      offset = number_among vs 2;
+      size = number_among vs 3;
+    }

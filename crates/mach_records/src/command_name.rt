@@ -1,0 +1,178 @@
+//! The numbers and the names of load commands (`mach-o/loader.h`).
+
+ghost use Rattle.std.specs.Prelude.{◌≡◌};
+ghost use Rattle.mach_records.specs.CommandName.{command_name};
+
+/// The bit of a command that the dynamic linker has to understand.
+pub const LC_REQ_DYLD: u32 = 0x8000_0000;
+
+pub const LC_SEGMENT: u32 = 0x1;
+
+pub const LC_SYMTAB: u32 = 0x2;
+
+pub const LC_SYMSEG: u32 = 0x3;
+
+pub const LC_THREAD: u32 = 0x4;
+
+pub const LC_UNIXTHREAD: u32 = 0x5;
+
+pub const LC_LOADFVMLIB: u32 = 0x6;
+
+pub const LC_IDFVMLIB: u32 = 0x7;
+
+pub const LC_IDENT: u32 = 0x8;
+
+pub const LC_FVMFILE: u32 = 0x9;
+
+pub const LC_PREPAGE: u32 = 0xa;
+
+pub const LC_DYSYMTAB: u32 = 0xb;
+
+pub const LC_LOAD_DYLIB: u32 = 0xc;
+
+pub const LC_ID_DYLIB: u32 = 0xd;
+
+pub const LC_LOAD_DYLINKER: u32 = 0xe;
+
+pub const LC_ID_DYLINKER: u32 = 0xf;
+
+pub const LC_PREBOUND_DYLIB: u32 = 0x10;
+
+pub const LC_ROUTINES: u32 = 0x11;
+
+pub const LC_SUB_FRAMEWORK: u32 = 0x12;
+
+pub const LC_SUB_UMBRELLA: u32 = 0x13;
+
+pub const LC_SUB_CLIENT: u32 = 0x14;
+
+pub const LC_SUB_LIBRARY: u32 = 0x15;
+
+pub const LC_TWOLEVEL_HINTS: u32 = 0x16;
+
+pub const LC_PREBIND_CKSUM: u32 = 0x17;
+
+pub const LC_SEGMENT_64: u32 = 0x19;
+
+pub const LC_ROUTINES_64: u32 = 0x1a;
+
+pub const LC_UUID: u32 = 0x1b;
+
+pub const LC_CODE_SIGNATURE: u32 = 0x1d;
+
+pub const LC_SEGMENT_SPLIT_INFO: u32 = 0x1e;
+
+pub const LC_LAZY_LOAD_DYLIB: u32 = 0x20;
+
+pub const LC_ENCRYPTION_INFO: u32 = 0x21;
+
+pub const LC_DYLD_INFO: u32 = 0x22;
+
+pub const LC_VERSION_MIN_MACOSX: u32 = 0x24;
+
+pub const LC_VERSION_MIN_IPHONEOS: u32 = 0x25;
+
+pub const LC_FUNCTION_STARTS: u32 = 0x26;
+
+pub const LC_DYLD_ENVIRONMENT: u32 = 0x27;
+
+pub const LC_DATA_IN_CODE: u32 = 0x29;
+
+pub const LC_SOURCE_VERSION: u32 = 0x2a;
+
+pub const LC_DYLIB_CODE_SIGN_DRS: u32 = 0x2b;
+
+pub const LC_ENCRYPTION_INFO_64: u32 = 0x2c;
+
+pub const LC_LINKER_OPTION: u32 = 0x2d;
+
+pub const LC_LINKER_OPTIMIZATION_HINT: u32 = 0x2e;
+
+pub const LC_VERSION_MIN_TVOS: u32 = 0x2f;
+
+pub const LC_VERSION_MIN_WATCHOS: u32 = 0x30;
+
+pub const LC_NOTE: u32 = 0x31;
+
+pub const LC_BUILD_VERSION: u32 = 0x32;
+
+pub const LC_LOAD_WEAK_DYLIB: u32 = 0x8000_0018;
+
+pub const LC_RPATH: u32 = 0x8000_001c;
+
+pub const LC_REEXPORT_DYLIB: u32 = 0x8000_001f;
+
+pub const LC_DYLD_INFO_ONLY: u32 = 0x8000_0022;
+
+pub const LC_LOAD_UPWARD_DYLIB: u32 = 0x8000_0023;
+
+pub const LC_MAIN: u32 = 0x8000_0028;
+
+pub const LC_DYLD_EXPORTS_TRIE: u32 = 0x8000_0033;
+
+pub const LC_DYLD_CHAINED_FIXUPS: u32 = 0x8000_0034;
+
+pub const LC_FILESET_ENTRY: u32 = 0x8000_0035;
+
+/// The name of a command's constant, or `LC_UNKNOWN`.
+pub fn cmd_to_str(cmd: u32) -> &'static str
+    ensures { result.now ≡ command_name cmd }
+{
+    match cmd {
+        LC_SEGMENT => "LC_SEGMENT",
+        LC_SYMTAB => "LC_SYMTAB",
+        LC_SYMSEG => "LC_SYMSEG",
+        LC_THREAD => "LC_THREAD",
+        LC_UNIXTHREAD => "LC_UNIXTHREAD",
+        LC_LOADFVMLIB => "LC_LOADFVMLIB",
+        LC_IDFVMLIB => "LC_IDFVMLIB",
+        LC_IDENT => "LC_IDENT",
+        LC_FVMFILE => "LC_FVMFILE",
+        LC_PREPAGE => "LC_PREPAGE",
+        LC_DYSYMTAB => "LC_DYSYMTAB",
+        LC_LOAD_DYLIB => "LC_LOAD_DYLIB",
+        LC_ID_DYLIB => "LC_ID_DYLIB",
+        LC_LOAD_DYLINKER => "LC_LOAD_DYLINKER",
+        LC_ID_DYLINKER => "LC_ID_DYLINKER",
+        LC_PREBOUND_DYLIB => "LC_PREBOUND_DYLIB",
+        LC_ROUTINES => "LC_ROUTINES",
+        LC_SUB_FRAMEWORK => "LC_SUB_FRAMEWORK",
+        LC_SUB_UMBRELLA => "LC_SUB_UMBRELLA",
+        LC_SUB_CLIENT => "LC_SUB_CLIENT",
+        LC_SUB_LIBRARY => "LC_SUB_LIBRARY",
+        LC_TWOLEVEL_HINTS => "LC_TWOLEVEL_HINTS",
+        LC_PREBIND_CKSUM => "LC_PREBIND_CKSUM",
+        LC_SEGMENT_64 => "LC_SEGMENT_64",
+        LC_ROUTINES_64 => "LC_ROUTINES_64",
+        LC_UUID => "LC_UUID",
+        LC_CODE_SIGNATURE => "LC_CODE_SIGNATURE",
+        LC_SEGMENT_SPLIT_INFO => "LC_SEGMENT_SPLIT_INFO",
+        LC_LAZY_LOAD_DYLIB => "LC_LAZY_LOAD_DYLIB",
+        LC_ENCRYPTION_INFO => "LC_ENCRYPTION_INFO",
+        LC_DYLD_INFO => "LC_DYLD_INFO",
+        LC_VERSION_MIN_MACOSX => "LC_VERSION_MIN_MACOSX",
+        LC_VERSION_MIN_IPHONEOS => "LC_VERSION_MIN_IPHONEOS",
+        LC_FUNCTION_STARTS => "LC_FUNCTION_STARTS",
+        LC_DYLD_ENVIRONMENT => "LC_DYLD_ENVIRONMENT",
+        LC_DATA_IN_CODE => "LC_DATA_IN_CODE",
+        LC_SOURCE_VERSION => "LC_SOURCE_VERSION",
+        LC_DYLIB_CODE_SIGN_DRS => "LC_DYLIB_CODE_SIGN_DRS",
+        LC_ENCRYPTION_INFO_64 => "LC_ENCRYPTION_INFO_64",
+        LC_LINKER_OPTION => "LC_LINKER_OPTION",
+        LC_LINKER_OPTIMIZATION_HINT => "LC_LINKER_OPTIMIZATION_HINT",
+        LC_VERSION_MIN_TVOS => "LC_VERSION_MIN_TVOS",
+        LC_VERSION_MIN_WATCHOS => "LC_VERSION_MIN_WATCHOS",
+        LC_NOTE => "LC_NOTE",
+        LC_BUILD_VERSION => "LC_BUILD_VERSION",
+        LC_LOAD_WEAK_DYLIB => "LC_LOAD_WEAK_DYLIB",
+        LC_RPATH => "LC_RPATH",
+        LC_REEXPORT_DYLIB => "LC_REEXPORT_DYLIB",
+        LC_DYLD_INFO_ONLY => "LC_DYLD_INFO_ONLY",
+        LC_LOAD_UPWARD_DYLIB => "LC_LOAD_UPWARD_DYLIB",
+        LC_MAIN => "LC_MAIN",
+        LC_DYLD_EXPORTS_TRIE => "LC_DYLD_EXPORTS_TRIE",
+        LC_DYLD_CHAINED_FIXUPS => "LC_DYLD_CHAINED_FIXUPS",
+        LC_FILESET_ENTRY => "LC_FILESET_ENTRY",
+        _ => "LC_UNKNOWN",
+    }
+}

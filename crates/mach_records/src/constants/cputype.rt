@@ -1,0 +1,26 @@
+//! The numbers of cpus (`mach/machine.h`).
+
+/// The number of a cpu, one of the `CPU_TYPE_` constants.
+pub type CpuType = u32;
+
+/// The number of a cpu's kind, and its capabilities in the top 8 bits.
+pub type CpuSubType = u32;
+
+/// The bits of a cpu's kind that hold its capabilities.
+pub const CPU_SUBTYPE_MASK: u32 = 0xff00_0000;
+
+/// The bit of a cpu whose addresses have 64 bits.
+pub const CPU_ARCH_ABI64: u32 = 0x0100_0000;
+
+pub const CPU_TYPE_X86: u32 = 0x7;
+
+pub const CPU_TYPE_X86_64: u32 = 0x0100_0007;
+
+pub const CPU_TYPE_ARM: u32 = 0xc;
+
+pub const CPU_TYPE_ARM64: u32 = 0x0100_000c;
+
+/// An ARM64 whose addresses have 32 bits.
+pub const CPU_TYPE_ARM64_32: u32 = 0x0200_000c;
+
+pub const CPU_TYPE_POWERPC: u32 = 0x12;

@@ -1,0 +1,345 @@
+//! What else an image says of itself (`mach-o/loader.h`).
+
+use crate::load_command_header::LcStr;
+use mach_base::{Endian, Record, RecordBytes, array_at};
+
+/// The number that tells the image from all others (struct uuid_command, by `LC_UUID`).
+#[derive(Clone, Copy, Debug)]
+pub struct UuidCommand {
+    pub cmd: u32,
+    pub cmdsize: u32,
+    pub uuid: [u8; 16],
+}
+
+pub const SIZEOF_UUID_COMMAND: usize = 24;
+
+impl Record for UuidCommand {
+    const SIZE: usize = SIZEOF_UUID_COMMAND;
+
+    ghost SIZE = { 24 };
+
+    ghost use Rattle.mach_records.specs.Contents.{uuid_command_fields, uuid_command_of_values, uuid_command_values};
+    ghost use Rattle.std.proofs.Common.{refl, arith};
+
+    ghost fields = { uuid_command_fields };
+
+    ghost values = { uuid_command_values };
+
+    ghost of_values = { uuid_command_of_values };
+
+    ghost size_is = { refl };
+
+    ghost whole = { λ _. refl };
+
+    ghost not_empty = { omega arith };
+
+    fn load(bytes: &[u8], le: Endian) -> Self {
+        UuidCommand {
+            cmd: le.u32_at(bytes, 0),
+            cmdsize: le.u32_at(bytes, 4),
+            uuid: array_at(bytes, 8),
+        }
+    }
+
+    fn store(self, le: Endian) -> RecordBytes {
+        RecordBytes::new()
+            .u32(le, self.cmd)
+            .u32(le, self.cmdsize)
+            .bytes(&self.uuid)
+    }
+}
+
+/// Where a program begins (struct entry_point_command, by `LC_MAIN`).
+#[derive(Clone, Copy, Debug)]
+pub struct EntryPointCommand {
+    pub cmd: u32,
+    pub cmdsize: u32,
+    /// The place of its first instruction in the file.
+    pub entryoff: u64,
+    /// How many bytes its first stack has; 0 for the usual.
+    pub stacksize: u64,
+}
+
+pub const SIZEOF_ENTRY_POINT_COMMAND: usize = 24;
+
+impl Record for EntryPointCommand {
+    const SIZE: usize = SIZEOF_ENTRY_POINT_COMMAND;
+
+    ghost SIZE = { 24 };
+
+    ghost use Rattle.mach_records.specs.Contents.{entry_point_command_fields, entry_point_command_of_values, entry_point_command_values};
+    ghost use Rattle.std.proofs.Common.{refl, arith};
+
+    ghost fields = { entry_point_command_fields };
+
+    ghost values = { entry_point_command_values };
+
+    ghost of_values = { entry_point_command_of_values };
+
+    ghost size_is = { refl };
+
+    ghost whole = { λ _. refl };
+
+    ghost not_empty = { omega arith };
+
+    fn load(bytes: &[u8], le: Endian) -> Self {
+        EntryPointCommand {
+            cmd: le.u32_at(bytes, 0),
+            cmdsize: le.u32_at(bytes, 4),
+            entryoff: le.u64_at(bytes, 8),
+            stacksize: le.u64_at(bytes, 16),
+        }
+    }
+
+    fn store(self, le: Endian) -> RecordBytes {
+        RecordBytes::new()
+            .u32(le, self.cmd)
+            .u32(le, self.cmdsize)
+            .u64(le, self.entryoff)
+            .u64(le, self.stacksize)
+    }
+}
+
+/// An image inside a set of images (struct fileset_entry_command, by `LC_FILESET_ENTRY`).
+#[derive(Clone, Copy, Debug)]
+pub struct FilesetEntryCommand {
+    pub cmd: u32,
+    pub cmdsize: u32,
+    /// Its address in memory.
+    pub vmaddr: u64,
+    /// Its place in the file.
+    pub fileoff: u64,
+    /// Its name.
+    pub entry_id: LcStr,
+    pub reserved: u32,
+}
+
+impl Record for FilesetEntryCommand {
+    const SIZE: usize = 32;
+
+    ghost SIZE = { 32 };
+
+    ghost use Rattle.mach_records.specs.Contents.{fileset_entry_command_fields, fileset_entry_command_of_values, fileset_entry_command_values};
+    ghost use Rattle.std.proofs.Common.{refl, arith};
+
+    ghost fields = { fileset_entry_command_fields };
+
+    ghost values = { fileset_entry_command_values };
+
+    ghost of_values = { fileset_entry_command_of_values };
+
+    ghost size_is = { refl };
+
+    ghost whole = { λ _. refl };
+
+    ghost not_empty = { omega arith };
+
+    fn load(bytes: &[u8], le: Endian) -> Self {
+        FilesetEntryCommand {
+            cmd: le.u32_at(bytes, 0),
+            cmdsize: le.u32_at(bytes, 4),
+            vmaddr: le.u64_at(bytes, 8),
+            fileoff: le.u64_at(bytes, 16),
+            entry_id: le.u32_at(bytes, 24),
+            reserved: le.u32_at(bytes, 28),
+        }
+    }
+
+    fn store(self, le: Endian) -> RecordBytes {
+        RecordBytes::new()
+            .u32(le, self.cmd)
+            .u32(le, self.cmdsize)
+            .u64(le, self.vmaddr)
+            .u64(le, self.fileoff)
+            .u32(le, self.entry_id)
+            .u32(le, self.reserved)
+    }
+}
+
+/// A run of bytes that a tool has put into the file (struct note_command, by `LC_NOTE`).
+#[derive(Clone, Copy, Debug)]
+pub struct NoteCommand {
+    pub cmd: u32,
+    pub cmdsize: u32,
+    /// The name of the tool, with zeros behind it.
+    pub data_owner: [u8; 16],
+    /// Their place in the file.
+    pub offset: u64,
+    /// How many there are.
+    pub size: u64,
+}
+
+impl Record for NoteCommand {
+    const SIZE: usize = 40;
+
+    ghost SIZE = { 40 };
+
+    ghost use Rattle.mach_records.specs.Contents.{note_command_fields, note_command_of_values, note_command_values};
+    ghost use Rattle.std.proofs.Common.{refl, arith};
+
+    ghost fields = { note_command_fields };
+
+    ghost values = { note_command_values };
+
+    ghost of_values = { note_command_of_values };
+
+    ghost size_is = { refl };
+
+    ghost whole = { λ _. refl };
+
+    ghost not_empty = { omega arith };
+
+    fn load(bytes: &[u8], le: Endian) -> Self {
+        NoteCommand {
+            cmd: le.u32_at(bytes, 0),
+            cmdsize: le.u32_at(bytes, 4),
+            data_owner: array_at(bytes, 8),
+            offset: le.u64_at(bytes, 24),
+            size: le.u64_at(bytes, 32),
+        }
+    }
+
+    fn store(self, le: Endian) -> RecordBytes {
+        RecordBytes::new()
+            .u32(le, self.cmd)
+            .u32(le, self.cmdsize)
+            .bytes(&self.data_owner)
+            .u64(le, self.offset)
+            .u64(le, self.size)
+    }
+}
+
+/// A check of the image as it was before it was bound (struct prebind_cksum_command, by
+/// `LC_PREBIND_CKSUM`).
+#[derive(Clone, Copy, Debug)]
+pub struct PrebindCksumCommand {
+    pub cmd: u32,
+    pub cmdsize: u32,
+    /// The check sum, or 0 where none was taken.
+    pub cksum: u32,
+}
+
+impl Record for PrebindCksumCommand {
+    const SIZE: usize = 12;
+
+    ghost SIZE = { 12 };
+
+    ghost use Rattle.mach_records.specs.Contents.{prebind_cksum_command_fields, prebind_cksum_command_of_values, prebind_cksum_command_values};
+    ghost use Rattle.std.proofs.Common.{refl, arith};
+
+    ghost fields = { prebind_cksum_command_fields };
+
+    ghost values = { prebind_cksum_command_values };
+
+    ghost of_values = { prebind_cksum_command_of_values };
+
+    ghost size_is = { refl };
+
+    ghost whole = { λ _. refl };
+
+    ghost not_empty = { omega arith };
+
+    fn load(bytes: &[u8], le: Endian) -> Self {
+        PrebindCksumCommand {
+            cmd: le.u32_at(bytes, 0),
+            cmdsize: le.u32_at(bytes, 4),
+            cksum: le.u32_at(bytes, 8),
+        }
+    }
+
+    fn store(self, le: Endian) -> RecordBytes {
+        RecordBytes::new()
+            .u32(le, self.cmd)
+            .u32(le, self.cmdsize)
+            .u32(le, self.cksum)
+    }
+}
+
+/// Options that an object file has for the linker (struct linker_option_command, by
+/// `LC_LINKER_OPTION`).
+#[derive(Clone, Copy, Debug)]
+pub struct LinkerOptionCommand {
+    pub cmd: u32,
+    pub cmdsize: u32,
+    /// How many texts stand behind this record, each ended by a zero.
+    pub count: u32,
+}
+
+pub const SIZEOF_LINKER_OPTION_COMMAND: usize = 12;
+
+impl Record for LinkerOptionCommand {
+    const SIZE: usize = SIZEOF_LINKER_OPTION_COMMAND;
+
+    ghost SIZE = { 12 };
+
+    ghost use Rattle.mach_records.specs.Contents.{linker_option_command_fields, linker_option_command_of_values, linker_option_command_values};
+    ghost use Rattle.std.proofs.Common.{refl, arith};
+
+    ghost fields = { linker_option_command_fields };
+
+    ghost values = { linker_option_command_values };
+
+    ghost of_values = { linker_option_command_of_values };
+
+    ghost size_is = { refl };
+
+    ghost whole = { λ _. refl };
+
+    ghost not_empty = { omega arith };
+
+    fn load(bytes: &[u8], le: Endian) -> Self {
+        LinkerOptionCommand {
+            cmd: le.u32_at(bytes, 0),
+            cmdsize: le.u32_at(bytes, 4),
+            count: le.u32_at(bytes, 8),
+        }
+    }
+
+    fn store(self, le: Endian) -> RecordBytes {
+        RecordBytes::new()
+            .u32(le, self.cmd)
+            .u32(le, self.cmdsize)
+            .u32(le, self.count)
+    }
+}
+
+/// Texts that stand behind this record, which is obsolete (struct ident_command, by `LC_IDENT`).
+#[derive(Clone, Copy, Debug)]
+pub struct IdentCommand {
+    pub cmd: u32,
+    pub cmdsize: u32,
+}
+
+pub const SIZEOF_IDENT_COMMAND: usize = 8;
+
+impl Record for IdentCommand {
+    const SIZE: usize = SIZEOF_IDENT_COMMAND;
+
+    ghost SIZE = { 8 };
+
+    ghost use Rattle.mach_records.specs.Contents.{ident_command_fields, ident_command_of_values, ident_command_values};
+    ghost use Rattle.std.proofs.Common.{refl, arith};
+
+    ghost fields = { ident_command_fields };
+
+    ghost values = { ident_command_values };
+
+    ghost of_values = { ident_command_of_values };
+
+    ghost size_is = { refl };
+
+    ghost whole = { λ _. refl };
+
+    ghost not_empty = { omega arith };
+
+    fn load(bytes: &[u8], le: Endian) -> Self {
+        IdentCommand {
+            cmd: le.u32_at(bytes, 0),
+            cmdsize: le.u32_at(bytes, 4),
+        }
+    }
+
+    fn store(self, le: Endian) -> RecordBytes {
+        RecordBytes::new().u32(le, self.cmd).u32(le, self.cmdsize)
+    }
+}

@@ -1,0 +1,69 @@
+//! The header with which every load command begins (`mach-o/loader.h`).
+
+use crate::command_name::cmd_to_str;
+use mach_base::{Endian, Record, RecordBytes};
+use std::fmt;
+
+/// Where a text of a command begins, counted in bytes from the command's first byte.
+pub type LcStr = u32;
+
+pub const SIZEOF_LC_STR: usize = 4;
+
+const _: () = prove!(SIZEOF_LC_STR == size_of::<LcStr>());
+
+/// What a command is, and how many bytes it takes (struct load_command). Every record whose name
+/// ends in `Command` begins with these two fields.
+#[derive(Clone, Copy, Debug)]
+pub struct LoadCommandHeader {
+    /// The command's number, one of the `LC_` constants.
+    pub cmd: u32,
+    /// How many bytes lie between this command's place and the next one's.
+    pub cmdsize: u32,
+}
+
+pub const SIZEOF_LOAD_COMMAND: usize = 8;
+
+impl Record for LoadCommandHeader {
+    const SIZE: usize = SIZEOF_LOAD_COMMAND;
+
+    ghost SIZE = { 8 };
+
+    ghost use Rattle.mach_records.specs.LoadCommandHeader.{header_fields, header_of_values, header_values};
+    ghost use Rattle.std.proofs.Common.{refl, arith};
+
+    ghost fields = { header_fields };
+
+    ghost values = { header_values };
+
+    ghost of_values = { header_of_values };
+
+    ghost size_is = { refl };
+
+    ghost whole = { λ _. refl };
+
+    ghost not_empty = { omega arith };
+
+    fn load(bytes: &[u8], le: Endian) -> Self {
+        LoadCommandHeader {
+            cmd: le.u32_at(bytes, 0),
+            cmdsize: le.u32_at(bytes, 4),
+        }
+    }
+
+    fn store(self, le: Endian) -> RecordBytes {
+        RecordBytes::new().u32(le, self.cmd).u32(le, self.cmdsize)
+    }
+}
+
+impl fmt::Display for LoadCommandHeader {
+    ghost use Rattle.std.specs.Prelude.{Some};
+    ghost use Rattle.mach_records.specs.LoadCommandHeader.{header_text};
+
+    ghost output = { λ h. Some (header_text h) };
+
+    fn fmt<W: fmt::Write>(&self, f: &mut fmt::Formatter<W>) -> fmt::Result {
+        let name = cmd_to_str(self.cmd);
+        let size = self.cmdsize;
+        write!(f, "LoadCommandHeader: {name} size: {size}")
+    }
+}

@@ -1,0 +1,356 @@
+//! Segments and their sections (`mach-o/loader.h`).
+
+ghost use Rattle.mach_base.specs.Answer.{Reads};
+ghost use Rattle.mach_base.specs.Text.{text_at};
+
+use mach_base::{Endian, Record, RecordBytes, Result, array_at, read_text};
+
+// The text with which the 16 bytes of a name begin.
+fn name_in(bytes: &[u8; 16]) -> Result<&str>
+    ensures { Reads (λ name. name.now) result (text_at bytes.now 0) }
+{
+    read_text(bytes, 0)
+}
+
+/// A part of a segment of a 32-bit image (struct section).
+#[derive(Clone, Copy, Debug)]
+pub struct Section32 {
+    /// Its name, with zeros behind it.
+    pub sectname: [u8; 16],
+    /// The name of its segment, with zeros behind it.
+    pub segname: [u8; 16],
+    /// Its address in memory.
+    pub addr: u32,
+    /// How many bytes it has in memory.
+    pub size: u32,
+    /// Its place in the file.
+    pub offset: u32,
+    /// Its address is a multiple of 2 to this power.
+    pub align: u32,
+    /// The place of its relocations in the file.
+    pub reloff: u32,
+    /// How many relocations it has.
+    pub nreloc: u32,
+    /// Its type in the low 8 bits, its attributes above them.
+    pub flags: u32,
+    /// Of pointers and stubs: the index of their first indirect symbol.
+    pub reserved1: u32,
+    /// Of stubs: how many bytes one has.
+    pub reserved2: u32,
+}
+
+pub const SIZEOF_SECTION_32: usize = 68;
+
+impl Record for Section32 {
+    const SIZE: usize = SIZEOF_SECTION_32;
+
+    ghost SIZE = { 68 };
+
+    ghost use Rattle.mach_records.specs.Segments.{section32_fields, section32_of_values, section32_values};
+    ghost use Rattle.std.proofs.Common.{refl, arith};
+
+    ghost fields = { section32_fields };
+
+    ghost values = { section32_values };
+
+    ghost of_values = { section32_of_values };
+
+    ghost size_is = { refl };
+
+    ghost whole = { λ _. refl };
+
+    ghost not_empty = { omega arith };
+
+    fn load(bytes: &[u8], le: Endian) -> Self {
+        Section32 {
+            sectname: array_at(bytes, 0),
+            segname: array_at(bytes, 16),
+            addr: le.u32_at(bytes, 32),
+            size: le.u32_at(bytes, 36),
+            offset: le.u32_at(bytes, 40),
+            align: le.u32_at(bytes, 44),
+            reloff: le.u32_at(bytes, 48),
+            nreloc: le.u32_at(bytes, 52),
+            flags: le.u32_at(bytes, 56),
+            reserved1: le.u32_at(bytes, 60),
+            reserved2: le.u32_at(bytes, 64),
+        }
+    }
+
+    fn store(self, le: Endian) -> RecordBytes {
+        RecordBytes::new()
+            .bytes(&self.sectname)
+            .bytes(&self.segname)
+            .u32(le, self.addr)
+            .u32(le, self.size)
+            .u32(le, self.offset)
+            .u32(le, self.align)
+            .u32(le, self.reloff)
+            .u32(le, self.nreloc)
+            .u32(le, self.flags)
+            .u32(le, self.reserved1)
+            .u32(le, self.reserved2)
+    }
+}
+
+/// A part of a segment of a 64-bit image (struct section_64).
+#[derive(Clone, Copy, Debug)]
+pub struct Section64 {
+    /// Its name, with zeros behind it.
+    pub sectname: [u8; 16],
+    /// The name of its segment, with zeros behind it.
+    pub segname: [u8; 16],
+    /// Its address in memory.
+    pub addr: u64,
+    /// How many bytes it has in memory.
+    pub size: u64,
+    /// Its place in the file.
+    pub offset: u32,
+    /// Its address is a multiple of 2 to this power.
+    pub align: u32,
+    /// The place of its relocations in the file.
+    pub reloff: u32,
+    /// How many relocations it has.
+    pub nreloc: u32,
+    /// Its type in the low 8 bits, its attributes above them.
+    pub flags: u32,
+    /// Of pointers and stubs: the index of their first indirect symbol.
+    pub reserved1: u32,
+    /// Of stubs: how many bytes one has.
+    pub reserved2: u32,
+    pub reserved3: u32,
+}
+
+pub const SIZEOF_SECTION_64: usize = 80;
+
+impl Record for Section64 {
+    const SIZE: usize = SIZEOF_SECTION_64;
+
+    ghost SIZE = { 80 };
+
+    ghost use Rattle.mach_records.specs.Segments.{section64_fields, section64_of_values, section64_values};
+    ghost use Rattle.std.proofs.Common.{refl, arith};
+
+    ghost fields = { section64_fields };
+
+    ghost values = { section64_values };
+
+    ghost of_values = { section64_of_values };
+
+    ghost size_is = { refl };
+
+    ghost whole = { λ _. refl };
+
+    ghost not_empty = { omega arith };
+
+    fn load(bytes: &[u8], le: Endian) -> Self {
+        Section64 {
+            sectname: array_at(bytes, 0),
+            segname: array_at(bytes, 16),
+            addr: le.u64_at(bytes, 32),
+            size: le.u64_at(bytes, 40),
+            offset: le.u32_at(bytes, 48),
+            align: le.u32_at(bytes, 52),
+            reloff: le.u32_at(bytes, 56),
+            nreloc: le.u32_at(bytes, 60),
+            flags: le.u32_at(bytes, 64),
+            reserved1: le.u32_at(bytes, 68),
+            reserved2: le.u32_at(bytes, 72),
+            reserved3: le.u32_at(bytes, 76),
+        }
+    }
+
+    fn store(self, le: Endian) -> RecordBytes {
+        RecordBytes::new()
+            .bytes(&self.sectname)
+            .bytes(&self.segname)
+            .u64(le, self.addr)
+            .u64(le, self.size)
+            .u32(le, self.offset)
+            .u32(le, self.align)
+            .u32(le, self.reloff)
+            .u32(le, self.nreloc)
+            .u32(le, self.flags)
+            .u32(le, self.reserved1)
+            .u32(le, self.reserved2)
+            .u32(le, self.reserved3)
+    }
+}
+
+/// A part of the file that a 32-bit image has mapped into memory (struct segment_command, by
+/// `LC_SEGMENT`).
+#[derive(Clone, Copy, Debug)]
+pub struct SegmentCommand32 {
+    pub cmd: u32,
+    pub cmdsize: u32,
+    /// Its name, with zeros behind it.
+    pub segname: [u8; 16],
+    /// Its address in memory.
+    pub vmaddr: u32,
+    /// How many bytes it has in memory.
+    pub vmsize: u32,
+    /// Its place in the file.
+    pub fileoff: u32,
+    /// How many bytes it has in the file; in memory zeros stand behind them.
+    pub filesize: u32,
+    /// What its memory may ever allow: bit 0 reading, bit 1 writing, bit 2 running.
+    pub maxprot: u32,
+    /// What its memory allows at first, in the same bits.
+    pub initprot: u32,
+    /// How many sections stand behind this record.
+    pub nsects: u32,
+    /// One bit for each `SG_` flag.
+    pub flags: u32,
+}
+
+pub const SIZEOF_SEGMENT_COMMAND_32: usize = 56;
+
+impl Record for SegmentCommand32 {
+    const SIZE: usize = SIZEOF_SEGMENT_COMMAND_32;
+
+    ghost SIZE = { 56 };
+
+    ghost use Rattle.mach_records.specs.Segments.{segment_command32_fields, segment_command32_of_values, segment_command32_values};
+    ghost use Rattle.std.proofs.Common.{refl, arith};
+
+    ghost fields = { segment_command32_fields };
+
+    ghost values = { segment_command32_values };
+
+    ghost of_values = { segment_command32_of_values };
+
+    ghost size_is = { refl };
+
+    ghost whole = { λ _. refl };
+
+    ghost not_empty = { omega arith };
+
+    fn load(bytes: &[u8], le: Endian) -> Self {
+        SegmentCommand32 {
+            cmd: le.u32_at(bytes, 0),
+            cmdsize: le.u32_at(bytes, 4),
+            segname: array_at(bytes, 8),
+            vmaddr: le.u32_at(bytes, 24),
+            vmsize: le.u32_at(bytes, 28),
+            fileoff: le.u32_at(bytes, 32),
+            filesize: le.u32_at(bytes, 36),
+            maxprot: le.u32_at(bytes, 40),
+            initprot: le.u32_at(bytes, 44),
+            nsects: le.u32_at(bytes, 48),
+            flags: le.u32_at(bytes, 52),
+        }
+    }
+
+    fn store(self, le: Endian) -> RecordBytes {
+        RecordBytes::new()
+            .u32(le, self.cmd)
+            .u32(le, self.cmdsize)
+            .bytes(&self.segname)
+            .u32(le, self.vmaddr)
+            .u32(le, self.vmsize)
+            .u32(le, self.fileoff)
+            .u32(le, self.filesize)
+            .u32(le, self.maxprot)
+            .u32(le, self.initprot)
+            .u32(le, self.nsects)
+            .u32(le, self.flags)
+    }
+}
+
+impl SegmentCommand32 {
+    /// The segment's name: the text with which `segname` begins.
+    pub fn name(&self) -> Result<&str>
+        ensures { Reads (λ name. name.now) result (text_at self.now.segname 0) }
+    {
+        name_in(&self.segname)
+    }
+}
+
+/// A part of the file that a 64-bit image has mapped into memory (struct segment_command_64, by
+/// `LC_SEGMENT_64`).
+#[derive(Clone, Copy, Debug)]
+pub struct SegmentCommand64 {
+    pub cmd: u32,
+    pub cmdsize: u32,
+    /// Its name, with zeros behind it.
+    pub segname: [u8; 16],
+    /// Its address in memory.
+    pub vmaddr: u64,
+    /// How many bytes it has in memory.
+    pub vmsize: u64,
+    /// Its place in the file.
+    pub fileoff: u64,
+    /// How many bytes it has in the file; in memory zeros stand behind them.
+    pub filesize: u64,
+    /// What its memory may ever allow: bit 0 reading, bit 1 writing, bit 2 running.
+    pub maxprot: u32,
+    /// What its memory allows at first, in the same bits.
+    pub initprot: u32,
+    /// How many sections stand behind this record.
+    pub nsects: u32,
+    /// One bit for each `SG_` flag.
+    pub flags: u32,
+}
+
+pub const SIZEOF_SEGMENT_COMMAND_64: usize = 72;
+
+impl Record for SegmentCommand64 {
+    const SIZE: usize = SIZEOF_SEGMENT_COMMAND_64;
+
+    ghost SIZE = { 72 };
+
+    ghost use Rattle.mach_records.specs.Segments.{segment_command64_fields, segment_command64_of_values, segment_command64_values};
+    ghost use Rattle.std.proofs.Common.{refl, arith};
+
+    ghost fields = { segment_command64_fields };
+
+    ghost values = { segment_command64_values };
+
+    ghost of_values = { segment_command64_of_values };
+
+    ghost size_is = { refl };
+
+    ghost whole = { λ _. refl };
+
+    ghost not_empty = { omega arith };
+
+    fn load(bytes: &[u8], le: Endian) -> Self {
+        SegmentCommand64 {
+            cmd: le.u32_at(bytes, 0),
+            cmdsize: le.u32_at(bytes, 4),
+            segname: array_at(bytes, 8),
+            vmaddr: le.u64_at(bytes, 24),
+            vmsize: le.u64_at(bytes, 32),
+            fileoff: le.u64_at(bytes, 40),
+            filesize: le.u64_at(bytes, 48),
+            maxprot: le.u32_at(bytes, 56),
+            initprot: le.u32_at(bytes, 60),
+            nsects: le.u32_at(bytes, 64),
+            flags: le.u32_at(bytes, 68),
+        }
+    }
+
+    fn store(self, le: Endian) -> RecordBytes {
+        RecordBytes::new()
+            .u32(le, self.cmd)
+            .u32(le, self.cmdsize)
+            .bytes(&self.segname)
+            .u64(le, self.vmaddr)
+            .u64(le, self.vmsize)
+            .u64(le, self.fileoff)
+            .u64(le, self.filesize)
+            .u32(le, self.maxprot)
+            .u32(le, self.initprot)
+            .u32(le, self.nsects)
+            .u32(le, self.flags)
+    }
+}
+
+impl SegmentCommand64 {
+    /// The segment's name: the text with which `segname` begins.
+    pub fn name(&self) -> Result<&str>
+        ensures { Reads (λ name. name.now) result (text_at self.now.segname 0) }
+    {
+        name_in(&self.segname)
+    }
+}

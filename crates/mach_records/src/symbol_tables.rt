@@ -1,0 +1,396 @@
+//! The symbol table, and the tables that order it (`mach-o/loader.h`).
+
+ghost use Rattle.std.specs.Prelude.{◌≡◌};
+
+use crate::command_name::{LC_DYSYMTAB, LC_SYMTAB};
+use mach_base::{Endian, Record, RecordBytes, array_at};
+
+/// Where the symbols and their texts stand (struct symtab_command, by `LC_SYMTAB`).
+#[derive(Clone, Copy, Debug)]
+pub struct SymtabCommand {
+    pub cmd: u32,
+    pub cmdsize: u32,
+    /// The place of the first symbol in the file.
+    pub symoff: u32,
+    /// How many symbols there are.
+    pub nsyms: u32,
+    /// The place of the texts in the file.
+    pub stroff: u32,
+    /// How many bytes the texts have.
+    pub strsize: u32,
+}
+
+pub const SIZEOF_SYMTAB_COMMAND: usize = 24;
+
+impl Record for SymtabCommand {
+    const SIZE: usize = SIZEOF_SYMTAB_COMMAND;
+
+    ghost SIZE = { 24 };
+
+    ghost use Rattle.mach_records.specs.SymbolTables.{symtab_command_fields, symtab_command_of_values, symtab_command_values};
+    ghost use Rattle.std.proofs.Common.{refl, arith};
+
+    ghost fields = { symtab_command_fields };
+
+    ghost values = { symtab_command_values };
+
+    ghost of_values = { symtab_command_of_values };
+
+    ghost size_is = { refl };
+
+    ghost whole = { λ _. refl };
+
+    ghost not_empty = { omega arith };
+
+    fn load(bytes: &[u8], le: Endian) -> Self {
+        SymtabCommand {
+            cmd: le.u32_at(bytes, 0),
+            cmdsize: le.u32_at(bytes, 4),
+            symoff: le.u32_at(bytes, 8),
+            nsyms: le.u32_at(bytes, 12),
+            stroff: le.u32_at(bytes, 16),
+            strsize: le.u32_at(bytes, 20),
+        }
+    }
+
+    fn store(self, le: Endian) -> RecordBytes {
+        RecordBytes::new()
+            .u32(le, self.cmd)
+            .u32(le, self.cmdsize)
+            .u32(le, self.symoff)
+            .u32(le, self.nsyms)
+            .u32(le, self.stroff)
+            .u32(le, self.strsize)
+    }
+}
+
+impl SymtabCommand {
+    ghost use Rattle.mach_records.specs.SymbolTables.{new_symtab};
+
+    /// The command of a table with no symbols.
+    pub fn new() -> Self
+        ensures { result ≡ new_symtab }
+    {
+        SymtabCommand {
+            cmd: LC_SYMTAB,
+            cmdsize: SIZEOF_SYMTAB_COMMAND as u32,
+            symoff: 0,
+            nsyms: 0,
+            stroff: 0,
+            strsize: 0,
+        }
+    }
+}
+
+impl Default for SymtabCommand {
+    ghost use Rattle.mach_records.specs.SymbolTables.{new_symtab};
+
+    ghost is_default = { λ command. command ≡ new_symtab };
+
+    fn default() -> Self {
+        SymtabCommand::new()
+    }
+}
+
+/// How the symbols are ordered, and where the tables of the dynamic linker stand (struct
+/// dysymtab_command, by `LC_DYSYMTAB`).
+#[derive(Clone, Copy, Debug)]
+pub struct DysymtabCommand {
+    pub cmd: u32,
+    pub cmdsize: u32,
+    /// The index of the first local symbol.
+    pub ilocalsym: u32,
+    /// How many local symbols there are.
+    pub nlocalsym: u32,
+    /// The index of the first external symbol that the image defines.
+    pub iextdefsym: u32,
+    /// How many of these there are.
+    pub nextdefsym: u32,
+    /// The index of the first symbol that the image leaves undefined.
+    pub iundefsym: u32,
+    /// How many of these there are.
+    pub nundefsym: u32,
+    /// The place of the table of contents in the file.
+    pub tocoff: u32,
+    /// How many entries it has.
+    pub ntoc: u32,
+    /// The place of the module table in the file.
+    pub modtaboff: u32,
+    /// How many modules it has.
+    pub nmodtab: u32,
+    /// The place of the reference table in the file.
+    pub extrefsymoff: u32,
+    /// How many references it has.
+    pub nextrefsyms: u32,
+    /// The place of the indirect symbols in the file, each the index of a symbol.
+    pub indirectsymoff: u32,
+    /// How many indirect symbols there are.
+    pub nindirectsyms: u32,
+    /// The place of the external relocations in the file.
+    pub extreloff: u32,
+    /// How many of these there are.
+    pub nextrel: u32,
+    /// The place of the local relocations in the file.
+    pub locreloff: u32,
+    /// How many of these there are.
+    pub nlocrel: u32,
+}
+
+pub const SIZEOF_DYSYMTAB_COMMAND: usize = 80;
+
+impl Record for DysymtabCommand {
+    const SIZE: usize = SIZEOF_DYSYMTAB_COMMAND;
+
+    ghost SIZE = { 80 };
+
+    ghost use Rattle.mach_records.specs.SymbolTables.{dysymtab_command_fields, dysymtab_command_of_values, dysymtab_command_values};
+    ghost use Rattle.std.proofs.Common.{refl, arith};
+
+    ghost fields = { dysymtab_command_fields };
+
+    ghost values = { dysymtab_command_values };
+
+    ghost of_values = { dysymtab_command_of_values };
+
+    ghost size_is = { refl };
+
+    ghost whole = { λ _. refl };
+
+    ghost not_empty = { omega arith };
+
+    fn load(bytes: &[u8], le: Endian) -> Self {
+        DysymtabCommand {
+            cmd: le.u32_at(bytes, 0),
+            cmdsize: le.u32_at(bytes, 4),
+            ilocalsym: le.u32_at(bytes, 8),
+            nlocalsym: le.u32_at(bytes, 12),
+            iextdefsym: le.u32_at(bytes, 16),
+            nextdefsym: le.u32_at(bytes, 20),
+            iundefsym: le.u32_at(bytes, 24),
+            nundefsym: le.u32_at(bytes, 28),
+            tocoff: le.u32_at(bytes, 32),
+            ntoc: le.u32_at(bytes, 36),
+            modtaboff: le.u32_at(bytes, 40),
+            nmodtab: le.u32_at(bytes, 44),
+            extrefsymoff: le.u32_at(bytes, 48),
+            nextrefsyms: le.u32_at(bytes, 52),
+            indirectsymoff: le.u32_at(bytes, 56),
+            nindirectsyms: le.u32_at(bytes, 60),
+            extreloff: le.u32_at(bytes, 64),
+            nextrel: le.u32_at(bytes, 68),
+            locreloff: le.u32_at(bytes, 72),
+            nlocrel: le.u32_at(bytes, 76),
+        }
+    }
+
+    fn store(self, le: Endian) -> RecordBytes {
+        RecordBytes::new()
+            .u32(le, self.cmd)
+            .u32(le, self.cmdsize)
+            .u32(le, self.ilocalsym)
+            .u32(le, self.nlocalsym)
+            .u32(le, self.iextdefsym)
+            .u32(le, self.nextdefsym)
+            .u32(le, self.iundefsym)
+            .u32(le, self.nundefsym)
+            .u32(le, self.tocoff)
+            .u32(le, self.ntoc)
+            .u32(le, self.modtaboff)
+            .u32(le, self.nmodtab)
+            .u32(le, self.extrefsymoff)
+            .u32(le, self.nextrefsyms)
+            .u32(le, self.indirectsymoff)
+            .u32(le, self.nindirectsyms)
+            .u32(le, self.extreloff)
+            .u32(le, self.nextrel)
+            .u32(le, self.locreloff)
+            .u32(le, self.nlocrel)
+    }
+}
+
+impl DysymtabCommand {
+    ghost use Rattle.mach_records.specs.SymbolTables.{new_dysymtab};
+
+    /// The command of tables with no entries.
+    pub fn new() -> Self
+        ensures { result ≡ new_dysymtab }
+    {
+        DysymtabCommand {
+            cmd: LC_DYSYMTAB,
+            cmdsize: SIZEOF_DYSYMTAB_COMMAND as u32,
+            ilocalsym: 0,
+            nlocalsym: 0,
+            iextdefsym: 0,
+            nextdefsym: 0,
+            iundefsym: 0,
+            nundefsym: 0,
+            tocoff: 0,
+            ntoc: 0,
+            modtaboff: 0,
+            nmodtab: 0,
+            extrefsymoff: 0,
+            nextrefsyms: 0,
+            indirectsymoff: 0,
+            nindirectsyms: 0,
+            extreloff: 0,
+            nextrel: 0,
+            locreloff: 0,
+            nlocrel: 0,
+        }
+    }
+}
+
+impl Default for DysymtabCommand {
+    ghost use Rattle.mach_records.specs.SymbolTables.{new_dysymtab};
+
+    ghost is_default = { λ command. command ≡ new_dysymtab };
+
+    fn default() -> Self {
+        DysymtabCommand::new()
+    }
+}
+
+/// Where the hints of a two-level namespace stand (struct twolevel_hints_command, by
+/// `LC_TWOLEVEL_HINTS`).
+#[derive(Clone, Copy, Debug)]
+pub struct TwolevelHintsCommand {
+    pub cmd: u32,
+    pub cmdsize: u32,
+    /// The place of the first hint in the file.
+    pub offset: u32,
+    /// How many hints there are.
+    pub nhints: u32,
+}
+
+impl Record for TwolevelHintsCommand {
+    const SIZE: usize = 16;
+
+    ghost SIZE = { 16 };
+
+    ghost use Rattle.mach_records.specs.SymbolTables.{twolevel_hints_command_fields, twolevel_hints_command_of_values, twolevel_hints_command_values};
+    ghost use Rattle.std.proofs.Common.{refl, arith};
+
+    ghost fields = { twolevel_hints_command_fields };
+
+    ghost values = { twolevel_hints_command_values };
+
+    ghost of_values = { twolevel_hints_command_of_values };
+
+    ghost size_is = { refl };
+
+    ghost whole = { λ _. refl };
+
+    ghost not_empty = { omega arith };
+
+    fn load(bytes: &[u8], le: Endian) -> Self {
+        TwolevelHintsCommand {
+            cmd: le.u32_at(bytes, 0),
+            cmdsize: le.u32_at(bytes, 4),
+            offset: le.u32_at(bytes, 8),
+            nhints: le.u32_at(bytes, 12),
+        }
+    }
+
+    fn store(self, le: Endian) -> RecordBytes {
+        RecordBytes::new()
+            .u32(le, self.cmd)
+            .u32(le, self.cmdsize)
+            .u32(le, self.offset)
+            .u32(le, self.nhints)
+    }
+}
+
+/// Where to begin to look for an undefined symbol (struct twolevel_hint, whose 8 and 24 bits are
+/// kept in 8 and 24 bytes).
+#[derive(Clone, Copy, Debug)]
+pub struct TwolevelHint {
+    /// 0 for the library itself, else the number of a part of it, from 1.
+    pub isub_image: u64,
+    /// An index into the table of contents.
+    pub itoc: [u8; 24],
+}
+
+impl Record for TwolevelHint {
+    const SIZE: usize = 32;
+
+    ghost SIZE = { 32 };
+
+    ghost use Rattle.mach_records.specs.SymbolTables.{twolevel_hint_fields, twolevel_hint_of_values, twolevel_hint_values};
+    ghost use Rattle.std.proofs.Common.{refl, arith};
+
+    ghost fields = { twolevel_hint_fields };
+
+    ghost values = { twolevel_hint_values };
+
+    ghost of_values = { twolevel_hint_of_values };
+
+    ghost size_is = { refl };
+
+    ghost whole = { λ _. refl };
+
+    ghost not_empty = { omega arith };
+
+    fn load(bytes: &[u8], le: Endian) -> Self {
+        TwolevelHint {
+            isub_image: le.u64_at(bytes, 0),
+            itoc: array_at(bytes, 8),
+        }
+    }
+
+    fn store(self, le: Endian) -> RecordBytes {
+        RecordBytes::new()
+            .u64(le, self.isub_image)
+            .bytes(&self.itoc)
+    }
+}
+
+/// A symbol segment of the old GNU form, which is obsolete (struct symseg_command, by `LC_SYMSEG`).
+#[derive(Clone, Copy, Debug)]
+pub struct SymsegCommand {
+    pub cmd: u32,
+    pub cmdsize: u32,
+    /// Its place in the file.
+    pub offset: u32,
+    /// How many bytes it has.
+    pub size: u32,
+}
+
+pub const SIZEOF_SYMSEG_COMMAND: usize = 16;
+
+impl Record for SymsegCommand {
+    const SIZE: usize = SIZEOF_SYMSEG_COMMAND;
+
+    ghost SIZE = { 16 };
+
+    ghost use Rattle.mach_records.specs.SymbolTables.{symseg_command_fields, symseg_command_of_values, symseg_command_values};
+    ghost use Rattle.std.proofs.Common.{refl, arith};
+
+    ghost fields = { symseg_command_fields };
+
+    ghost values = { symseg_command_values };
+
+    ghost of_values = { symseg_command_of_values };
+
+    ghost size_is = { refl };
+
+    ghost whole = { λ _. refl };
+
+    ghost not_empty = { omega arith };
+
+    fn load(bytes: &[u8], le: Endian) -> Self {
+        SymsegCommand {
+            cmd: le.u32_at(bytes, 0),
+            cmdsize: le.u32_at(bytes, 4),
+            offset: le.u32_at(bytes, 8),
+            size: le.u32_at(bytes, 12),
+        }
+    }
+
+    fn store(self, le: Endian) -> RecordBytes {
+        RecordBytes::new()
+            .u32(le, self.cmd)
+            .u32(le, self.cmdsize)
+            .u32(le, self.offset)
+            .u32(le, self.size)
+    }
+}

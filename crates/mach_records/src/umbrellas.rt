@@ -1,0 +1,194 @@
+//! Frameworks and libraries that stand for others (`mach-o/loader.h`).
+
+use crate::load_command_header::LcStr;
+use mach_base::{Endian, Record, RecordBytes};
+
+/// The umbrella that the image is a part of (struct sub_framework_command, by `LC_SUB_FRAMEWORK`).
+#[derive(Clone, Copy, Debug)]
+pub struct SubFrameworkCommand {
+    pub cmd: u32,
+    pub cmdsize: u32,
+    /// The name of the umbrella framework.
+    pub umbrella: LcStr,
+}
+
+pub const SIZEOF_SUB_FRAMEWORK_COMMAND: usize = 12;
+
+impl Record for SubFrameworkCommand {
+    const SIZE: usize = SIZEOF_SUB_FRAMEWORK_COMMAND;
+
+    ghost SIZE = { 12 };
+
+    ghost use Rattle.mach_records.specs.Umbrellas.{sub_framework_command_fields, sub_framework_command_of_values, sub_framework_command_values};
+    ghost use Rattle.std.proofs.Common.{refl, arith};
+
+    ghost fields = { sub_framework_command_fields };
+
+    ghost values = { sub_framework_command_values };
+
+    ghost of_values = { sub_framework_command_of_values };
+
+    ghost size_is = { refl };
+
+    ghost whole = { λ _. refl };
+
+    ghost not_empty = { omega arith };
+
+    fn load(bytes: &[u8], le: Endian) -> Self {
+        SubFrameworkCommand {
+            cmd: le.u32_at(bytes, 0),
+            cmdsize: le.u32_at(bytes, 4),
+            umbrella: le.u32_at(bytes, 8),
+        }
+    }
+
+    fn store(self, le: Endian) -> RecordBytes {
+        RecordBytes::new()
+            .u32(le, self.cmd)
+            .u32(le, self.cmdsize)
+            .u32(le, self.umbrella)
+    }
+}
+
+/// A client that may link to the image, though it is a part of an umbrella (struct
+/// sub_client_command, by `LC_SUB_CLIENT`).
+#[derive(Clone, Copy, Debug)]
+pub struct SubClientCommand {
+    pub cmd: u32,
+    pub cmdsize: u32,
+    /// The name of the client.
+    pub client: LcStr,
+}
+
+pub const SIZEOF_SUB_CLIENT_COMMAND: usize = 12;
+
+impl Record for SubClientCommand {
+    const SIZE: usize = SIZEOF_SUB_CLIENT_COMMAND;
+
+    ghost SIZE = { 12 };
+
+    ghost use Rattle.mach_records.specs.Umbrellas.{sub_client_command_fields, sub_client_command_of_values, sub_client_command_values};
+    ghost use Rattle.std.proofs.Common.{refl, arith};
+
+    ghost fields = { sub_client_command_fields };
+
+    ghost values = { sub_client_command_values };
+
+    ghost of_values = { sub_client_command_of_values };
+
+    ghost size_is = { refl };
+
+    ghost whole = { λ _. refl };
+
+    ghost not_empty = { omega arith };
+
+    fn load(bytes: &[u8], le: Endian) -> Self {
+        SubClientCommand {
+            cmd: le.u32_at(bytes, 0),
+            cmdsize: le.u32_at(bytes, 4),
+            client: le.u32_at(bytes, 8),
+        }
+    }
+
+    fn store(self, le: Endian) -> RecordBytes {
+        RecordBytes::new()
+            .u32(le, self.cmd)
+            .u32(le, self.cmdsize)
+            .u32(le, self.client)
+    }
+}
+
+/// An umbrella framework whose symbols the image passes on (struct sub_umbrella_command, by
+/// `LC_SUB_UMBRELLA`).
+#[derive(Clone, Copy, Debug)]
+pub struct SubUmbrellaCommand {
+    pub cmd: u32,
+    pub cmdsize: u32,
+    /// The name of the framework.
+    pub sub_umbrella: LcStr,
+}
+
+pub const SIZEOF_SUB_UMBRELLA_COMMAND: usize = 12;
+
+impl Record for SubUmbrellaCommand {
+    const SIZE: usize = SIZEOF_SUB_UMBRELLA_COMMAND;
+
+    ghost SIZE = { 12 };
+
+    ghost use Rattle.mach_records.specs.Umbrellas.{sub_umbrella_command_fields, sub_umbrella_command_of_values, sub_umbrella_command_values};
+    ghost use Rattle.std.proofs.Common.{refl, arith};
+
+    ghost fields = { sub_umbrella_command_fields };
+
+    ghost values = { sub_umbrella_command_values };
+
+    ghost of_values = { sub_umbrella_command_of_values };
+
+    ghost size_is = { refl };
+
+    ghost whole = { λ _. refl };
+
+    ghost not_empty = { omega arith };
+
+    fn load(bytes: &[u8], le: Endian) -> Self {
+        SubUmbrellaCommand {
+            cmd: le.u32_at(bytes, 0),
+            cmdsize: le.u32_at(bytes, 4),
+            sub_umbrella: le.u32_at(bytes, 8),
+        }
+    }
+
+    fn store(self, le: Endian) -> RecordBytes {
+        RecordBytes::new()
+            .u32(le, self.cmd)
+            .u32(le, self.cmdsize)
+            .u32(le, self.sub_umbrella)
+    }
+}
+
+/// A library whose symbols the image passes on (struct sub_library_command, by `LC_SUB_LIBRARY`).
+#[derive(Clone, Copy, Debug)]
+pub struct SubLibraryCommand {
+    pub cmd: u32,
+    pub cmdsize: u32,
+    /// The name of the library.
+    pub sub_library: LcStr,
+}
+
+pub const SIZEOF_SUB_LIBRARY_COMMAND: usize = 12;
+
+impl Record for SubLibraryCommand {
+    const SIZE: usize = SIZEOF_SUB_LIBRARY_COMMAND;
+
+    ghost SIZE = { 12 };
+
+    ghost use Rattle.mach_records.specs.Umbrellas.{sub_library_command_fields, sub_library_command_of_values, sub_library_command_values};
+    ghost use Rattle.std.proofs.Common.{refl, arith};
+
+    ghost fields = { sub_library_command_fields };
+
+    ghost values = { sub_library_command_values };
+
+    ghost of_values = { sub_library_command_of_values };
+
+    ghost size_is = { refl };
+
+    ghost whole = { λ _. refl };
+
+    ghost not_empty = { omega arith };
+
+    fn load(bytes: &[u8], le: Endian) -> Self {
+        SubLibraryCommand {
+            cmd: le.u32_at(bytes, 0),
+            cmdsize: le.u32_at(bytes, 4),
+            sub_library: le.u32_at(bytes, 8),
+        }
+    }
+
+    fn store(self, le: Endian) -> RecordBytes {
+        RecordBytes::new()
+            .u32(le, self.cmd)
+            .u32(le, self.cmdsize)
+            .u32(le, self.sub_library)
+    }
+}
