@@ -1,0 +1,4 @@
+//! The parts of an image: headers, fat records, segments, sections, relocations and symbols.
+#![tactic(auto)]
+
+pub mod segment;
