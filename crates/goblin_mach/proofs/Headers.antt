@@ -1,27 +1,18 @@
--- A header loaded from the bytes at a place is the header at that place.
-use Rattle.std.proofs.Common.{◌≡◌, ℕ, ◌+◌, List, drop, sym, ap, ◌∙◌, arith}
+-- The counts of a header are those at its place.
+use Rattle.std.proofs.Common.{◌≡◌, ℕ, ◌+◌, ◌<◌, ◌≤◌, true, List, length, drop, Option, Some, Ok, Err, nat_le, inl, inr, ap, ◌∙◌, arith}
+use Rattle.std.proofs.lemmas.Bool.{cases_lt, le-leb}
 use Rattle.mach_base.specs.declared.context.Endian.{Endian}
 use Rattle.mach_base.specs.declared.context.Container.{Container}
 use Rattle.mach_base.specs.declared.context.Container.TheVariants.{Little, Big}
 use Rattle.mach_base.specs.declared.context.Ctx.{Ctx}
-use Rattle.goblin_mach.specs.declared.parts.header.Header.{Header}
-use Rattle.goblin_mach.specs.declared.parts.header.Header32.{Header32}
-use Rattle.goblin_mach.specs.declared.parts.header.Header64.{Header64}
-use Rattle.mach_base.specs.Record.{values_in}
-use Rattle.goblin_mach.specs.Header.{header32_fields, header32_values, header32_of_values, header64_fields, header64_values, header64_of_values, header_in, IsHeader}
+use Rattle.mach_parts.specs.declared.header.Header.{Header}
+use Rattle.mach_base.specs.Fault.{Fault}
+use Rattle.mach_base.specs.Front.{front_at, value_of}
+use Rattle.mach_parts.specs.Header.{header_in, header_front, IsHeader}
+use Rattle.mach_parts.proofs.Headers.{header-found, header-missed}
+use Rattle.goblin_mach.specs.Image.{ImageFault, short_header}
 use Rattle.mach_base.specs.Number.{number}
-use Rattle.goblin_mach.specs.Magic.{ncmds_at, sizeofcmds_at}
-use Rattle.mach_base.proofs.Spelled.{values_in-front}
-
-pub loaded32 : (le : Endian) (bytes rest : List ℕ) (o : ℕ) (h : Header32) → rest ≡ drop o bytes → header32_values h ≡ values_in le header32_fields 0 rest → h ≡ header32_of_values (values_in le header32_fields o bytes)
-loaded32 le bytes rest o h same e =
-    let there : header32_values h ≡ values_in le header32_fields o bytes = e ∙ (ap (λ (r : List ℕ). values_in le header32_fields 0 r) same ∙ sym (values_in-front le header32_fields o bytes)) in
-    ap header32_of_values there
-
-pub loaded64 : (le : Endian) (bytes rest : List ℕ) (o : ℕ) (h : Header64) → rest ≡ drop o bytes → header64_values h ≡ values_in le header64_fields 0 rest → h ≡ header64_of_values (values_in le header64_fields o bytes)
-loaded64 le bytes rest o h same e =
-    let there : header64_values h ≡ values_in le header64_fields o bytes = e ∙ (ap (λ (r : List ℕ). values_in le header64_fields 0 r) same ∙ sym (values_in-front le header64_fields o bytes)) in
-    ap header64_of_values there
+use Rattle.goblin_mach.specs.Magic.{magic_at, ncmds_at, sizeofcmds_at}
 
 pub ncmds_in : (w : Container) (le : Endian) (bytes : List ℕ) (o : ℕ) → (header_in w le bytes o).ncmds ≡ number le 4 (drop (o + 16) bytes)
 ncmds_in Little le bytes o = ap (λ (p : ℕ). number le 4 (drop p bytes)) (let e : o + 4 + 4 + 4 + 4 ≡ o + 16 = omega arith in e)
@@ -37,3 +28,22 @@ ncmds_is ctx bytes o h e = ap (λ (x : Header). x.ncmds) e ∙ ncmds_in ctx.cont
 
 pub sizeofcmds_is : (ctx : Ctx) (bytes : List ℕ) (o : ℕ) (h : Header) → IsHeader ctx bytes o h → h.sizeofcmds ≡ sizeofcmds_at ctx bytes o
 sizeofcmds_is ctx bytes o h e = ap (λ (x : Header). x.sizeofcmds) e ∙ sizeofcmds_in ctx.container ctx.le bytes o
+
+-- a magic stands inside the bytes
+pub magic-inside : (bytes : List ℕ) (o : ℕ) (found : ℕ × Option Ctx) → magic_at bytes o ≡ Ok found → o < length bytes
+magic-inside bytes o found e = elim (cases_lt o (length bytes)) [
+  | inl inside ↦ inside
+  | inr out ↦ absurd (let test : nat_le (length bytes) o ≡ true = le-leb (length bytes) o out in let wrong = rw test at e in cc)
+]
+
+-- where a magic stands, no header is found only for want of 32 bytes
+pub header-short : (ctx : Ctx) (bytes : List ℕ) (o magic : ℕ) (f : Fault) → magic_at bytes o ≡ Ok (magic, Some ctx) → value_of (front_at (header_front ctx) bytes o) ≡ Err f → ImageFault bytes o f
+header-short ctx bytes o magic f there e =
+    let missed = header-missed ctx bytes o f (magic-inside bytes o (magic, Some ctx) there) e in
+    rw missed.1 (short_header magic ctx there missed.0)
+
+-- a header that is found has 32 bytes, and its counts
+pub header-known : (ctx : Ctx) (bytes : List ℕ) (o : ℕ) (h : Header) → value_of (front_at (header_front ctx) bytes o) ≡ Ok h → (o + 32 ≤ length bytes) × IsHeader ctx bytes o h × (h.ncmds ≡ ncmds_at ctx bytes o) × (h.sizeofcmds ≡ sizeofcmds_at ctx bytes o)
+header-known ctx bytes o h e =
+    let found = header-found ctx bytes o h e in
+    (found.0, found.1, ncmds_is ctx bytes o h found.1, sizeofcmds_is ctx bytes o h found.1)

@@ -5,7 +5,8 @@ use Rattle.mach_base.specs.declared.context.Ctx.{Ctx}
 use Rattle.mach_base.specs.declared.error.Error.{Error}
 use Rattle.mach_base.specs.Answer.{Stands, IsOkUnlessMemory}
 use Rattle.mach_base.specs.Fault.{Fault}
-use Rattle.goblin_mach.specs.Magic.{magic_at, header_size}
+use Rattle.mach_parts.specs.Header.{header_size}
+use Rattle.goblin_mach.specs.Magic.{magic_at}
 use Rattle.goblin_mach.specs.Image.{HasHeader, CountsFit, HasChain, Opens, ImageFault, no_magic, other_magic, short_header, too_many_commands, broken_chain, unreadable_name, MachOpens, MachFault, no_room, of_image}
 use Rattle.mach_base.proofs.Binds.{same_ok}
 use Rattle.goblin_mach.proofs.Chains.{broken-excludes_chain, among-front}

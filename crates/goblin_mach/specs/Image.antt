@@ -2,7 +2,8 @@
 use Rattle.std.specs.Prelude.{◌≡◌, ℕ, ◌+◌, ◌/◌, ◌<◌, ◌≤◌, ◌⊎◌, List, length, codes, Some, None, Ok, Err}
 use Rattle.mach_base.specs.declared.context.Ctx.{Ctx}
 use Rattle.mach_base.specs.Fault.{Fault, malformed, bad_magic, too_short}
-use Rattle.goblin_mach.specs.Magic.{magic_at, header_size, ncmds_at, sizeofcmds_at}
+use Rattle.goblin_mach.specs.Magic.{magic_at, ncmds_at, sizeofcmds_at}
+use Rattle.mach_parts.specs.Header.{header_size}
 use Rattle.mach_load.specs.Command.{Command}
 use Rattle.goblin_mach.specs.Chain.{IsChain, IsBroken}
 use Rattle.goblin_mach.specs.Names.{AllNamed, IsUnnamed}

@@ -1,7 +1,6 @@
 -- The magic numbers (`mach-o/loader.h`, `mach-o/fat.h`), and the header of an image.
 use Rattle.std.specs.Prelude.{◌==◌, ℕ, ◌+◌, List, [], ◌∷◌, drop, Option, Some, None, Result, Ok, if◌then◌else◌}
 use Rattle.mach_base.specs.declared.context.Endian.TheVariants.{Little, Big}
-use Rattle.mach_base.specs.declared.context.Container.{Container}
 use Rattle.mach_base.specs.declared.context.Container.TheVariants as width
 use Rattle.mach_base.specs.declared.context.Ctx.{Ctx}
 use Rattle.mach_base.specs.Answer.{◌>>=◌}
@@ -34,11 +33,6 @@ ctx_of magic = ctx_among magics magic
 -- the magic at a place with its context, or why there is none
 abbrev pub magic_at : List ℕ → ℕ → Result (ℕ × Option Ctx) Fault
 magic_at bytes s = number_at Big 4 bytes s >>= λ magic. Ok (magic, ctx_of magic)
-
--- how many bytes the header of an image has
-abbrev pub header_size : Container → ℕ
-header_size width.Little = 28
-header_size width.Big = 32
 
 -- the header's field `ncmds`, of the image at o
 abbrev pub ncmds_at : Ctx → List ℕ → ℕ → ℕ

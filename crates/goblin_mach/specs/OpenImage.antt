@@ -3,7 +3,7 @@ use Rattle.std.specs.Prelude.{◌↔◌, ◌≡◌, ℕ, List, map, IsTrue, Opti
 use Rattle.mach_base.specs.declared.context.Endian.TheVariants.{Little}
 use Rattle.mach_base.specs.declared.context.Container.TheVariants.{Big}
 use Rattle.mach_base.specs.declared.context.Ctx.{Ctx}
-use Rattle.goblin_mach.specs.Header.{IsHeader}
+use Rattle.mach_parts.specs.Header.{IsHeader}
 use Rattle.goblin_mach.specs.Image.{OpensAs}
 use Rattle.mach_load.specs.Variants.{command_of}
 use Rattle.goblin_mach.specs.Names.{name_in, libs_in}

@@ -5,7 +5,6 @@
 mod dyld;
 mod image;
 pub mod laws;
-mod parts;
 
 pub use crate::image::mach::Mach;
 pub use crate::image::macho::MachO;
@@ -14,14 +13,8 @@ pub use mach_base::{
     BE, Container, Ctx, Endian, Error, IntoCtx, LE, Record, Result, ScrollError, SizeWith, Sleb128,
     TryFromCtx, TryIntoCtx, Uleb128, gread_with, pread_with, pwrite_with, read_text,
 };
+pub use mach_parts::{fat, header};
 pub use mach_records::{constants, cputype};
-
-/// The header of an image.
-pub mod header {
-    pub use crate::parts::header::{
-        Header, Header32, Header64, MH_CIGAM, MH_CIGAM_64, MH_MAGIC, MH_MAGIC_64,
-    };
-}
 
 /// The exports of an image.
 pub mod exports {

@@ -2,6 +2,7 @@ pub mod Fault
 pub mod Answer
 pub mod Context
 pub mod Number
+pub mod Named
 pub mod Text
 pub mod Leb128
 pub mod FrontGroups

@@ -1,0 +1,3 @@
+pub mod Header
+pub mod HeaderNames
+pub mod Fat

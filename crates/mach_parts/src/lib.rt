@@ -1,4 +1,6 @@
 //! The parts of an image: headers, fat records, segments, sections, relocations and symbols.
 #![tactic(auto)]
 
+pub mod fat;
+pub mod header;
 pub mod segment;

@@ -1,11 +1,29 @@
 //! Laws of an image.
 
-ghost use Rattle.std.specs.Prelude.{◌≡◌, ℕ, List, length};
+ghost use Rattle.std.specs.Prelude.{◌≡◌, ℕ, List, length, Some, Ok, Err, IfOk, IfErr};
 ghost use Rattle.mach_base.specs.declared.context.Endian.{Endian};
+ghost use Rattle.mach_base.specs.Fault.{fault_of};
+ghost use Rattle.mach_base.specs.Number.{room_at};
 ghost use Rattle.mach_load.specs.Command.{Command};
+ghost use Rattle.mach_parts.specs.Header.{header_size};
 ghost use Rattle.goblin_mach.specs.Chain.{IsChain};
+
+use crate::image::magic::parse_magic_and_ctx;
+use mach_base::{Ctx, Result, TryIntoCtx};
+use mach_parts::header::Header;
 
 /// At most one chain of so many load commands stands at a place.
 pub fn one_chain()
     ensures { (le : Endian) (bytes : List ℕ) (s : ℕ) (cs ds : List Command) → IsChain le bytes s cs → IsChain le bytes s ds → length cs ≡ length ds → cs ≡ ds }
 {}
+
+/// Writes a new header of a context, and reads what its magic says: it is that context. It is
+/// refused only where the bytes don't hold the header.
+pub fn new_header_recognised(ctx: Ctx, bytes: &mut [u8]) -> Result<Option<Ctx>>
+    ensures recognised { IfOk result (λ found. found ≡ Some ctx) }
+    ensures refused { IfErr result (λ e. room_at (header_size ctx.container) bytes.old 0 ≡ Err (fault_of e)) }
+{
+    Header::new(ctx).try_into_ctx(bytes, ctx)?;
+    let (_, found) = parse_magic_and_ctx(bytes, 0)?;
+    Ok(found)
+}

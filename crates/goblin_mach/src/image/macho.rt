@@ -3,7 +3,7 @@
 ghost use Rattle.std.specs.Prelude.{◌≡◌, List, IfOk, IfErr};
 ghost use Rattle.mach_base.specs.Answer.{Stands, IsOkUnlessMemory};
 ghost use Rattle.goblin_mach.specs.Magic.{ncmds_at};
-ghost use Rattle.goblin_mach.specs.Header.{IsHeader};
+ghost use Rattle.mach_parts.specs.Header.{IsHeader};
 ghost use Rattle.goblin_mach.specs.Image.{HasHeader, CountsFit, Opens, ImageFault};
 ghost use Rattle.goblin_mach.specs.Trie.{Entry};
 ghost use Rattle.goblin_mach.specs.Exports.{texts, entries};
@@ -13,9 +13,9 @@ use crate::dyld::exports::{Export, ExportTrie, last_export_trie};
 use crate::image::commands::read_commands;
 use crate::image::magic::parse_magic_and_ctx;
 use crate::image::names::{id_name, libraries};
-use crate::parts::header::{Header, header_at, header_len};
-use mach_base::{Ctx, Error, Result};
+use mach_base::{Ctx, Error, Result, SizeWith, pread_with};
 use mach_load::LoadCommand;
+use mach_parts::header::Header;
 use std::alloc::{Allocator, Global};
 
 /// A Mach-O image: an executable, a library or an object file for one cpu.
@@ -55,7 +55,7 @@ impl<'a, A: Allocator + Clone> MachO<'a, A> {
         ensures refused { IfErr result (Stands (ImageFault bytes.now offset)) }
     {
         let (ctx, header) = read_header(bytes, offset)?;
-        let first = offset + header_len(ctx.container);
+        let first = offset + Header::size_with(&ctx);
         let load_commands = read_commands(alloc.clone()?, bytes, first, header.ncmds, ctx.le)?;
         let name = id_name(bytes, &load_commands)?;
         let libs = libraries(alloc, bytes, &load_commands, name.unwrap_or("self"))?;
@@ -84,10 +84,7 @@ fn read_header(bytes: &[u8], offset: usize) -> Result<(Ctx, Header)>
     let Some(ctx) = ctx else {
         return Err(Error::BadMagic(u64::from(magic)));
     };
-    if bytes.len() - offset < 32 {
-        return Err(Error::Malformed("a header is 32 bytes"));
-    }
-    let header = header_at(bytes, offset, ctx);
+    let header: Header = pread_with(bytes, offset, ctx)?;
     let size = header.sizeofcmds as usize;
     if header.ncmds > size / 8 || size > bytes.len() {
         return Err(Error::BufferTooShort(header.ncmds, "load commands"));

@@ -9,7 +9,7 @@ pub returns-in_err-load_commands-clause-refused : goal.returns-in_err-load_comma
 returns-in_err-load_commands-clause-refused g c =
     let known = c.in_ok-ctx.ensures in
     let p = err_from_is_err_and c.from_residual-in_err-load_commands.result c.from_residual-in_err-load_commands.ensures.1 in
-    let broken = rw (c.header_len.ensures.value, known.ncmds) at c.in_err-load_commands.ensures.refused in
+    let broken = rw (c.size_with.ensures, known.ncmds) at c.in_err-load_commands.ensures.refused in
     rw (p.1, p.2) (Stands-in _ (ImageFault c.args.bytes.now c.args.offset) c.in_err-load_commands.field-0.0 (λ f b. broken_chain c.in_ok-ctx.ctx f known.found known.counts b) broken)
 
 pub returns-in_err-name-clause-refused : goal.returns-in_err-name-clause-refused
@@ -17,7 +17,7 @@ returns-in_err-name-clause-refused g c =
     let known = c.in_ok-ctx.ensures in
     let commands = c.in_ok-load_commands.ensures in
     let front : HasFront c.args.bytes.now c.args.offset c.in_ok-ctx.ctx (map command_of c.in_ok-load_commands.load_commands.items) =
-    record { header = known.found; counts = known.counts; chain = rw c.header_len.ensures.value at commands.chain; count = omega (arith, commands.count, known.ncmds) } in
+    record { header = known.found; counts = known.counts; chain = rw c.size_with.ensures at commands.chain; count = omega (arith, commands.count, known.ncmds) } in
     let p = err_from_is_err_and c.from_residual-in_err-name.result c.from_residual-in_err-name.ensures.1 in
     let unnamed = rw c.deref.ensures.value at c.in_err-name.ensures.refused in
     rw (p.1, p.2) (Stands-in _ (ImageFault c.args.bytes.now c.args.offset) c.in_err-name.field-0.0 (λ f u. unreadable_name c.in_ok-ctx.ctx _ f front u) unnamed)
@@ -27,7 +27,7 @@ returns-in_err-libs-clause-refused g c =
     let known = c.in_ok-ctx.ensures in
     let commands = c.in_ok-load_commands.ensures in
     let front : HasFront c.args.bytes.now c.args.offset c.in_ok-ctx.ctx (map command_of c.in_ok-load_commands.load_commands.items) =
-    record { header = known.found; counts = known.counts; chain = rw c.header_len.ensures.value at commands.chain; count = omega (arith, commands.count, known.ncmds) } in
+    record { header = known.found; counts = known.counts; chain = rw c.size_with.ensures at commands.chain; count = omega (arith, commands.count, known.ncmds) } in
     let p = err_from_is_err_and c.from_residual-in_err-libs.result c.from_residual-in_err-libs.ensures.1 in
     let unnamed = rw c.deref-2.ensures.value at c.in_err-libs.ensures.refused in
     rw (p.1, p.2) (Stands-in _ (ImageFault c.args.bytes.now c.args.offset) c.in_err-libs.field-0.0 (λ f u. unreadable_name c.in_ok-ctx.ctx _ f front u) unnamed)

@@ -1,3 +1,0 @@
-//! The parts of an image: its header.
-
-pub mod header;

@@ -1,0 +1,12 @@
+-- Names of numbers, as tables.
+use Rattle.std.specs.Prelude.{◌==◌, ℕ, List, [], ◌∷◌, if◌then◌else◌}
+
+-- a number and its name
+pub record Named : Type 0 where
+  pub number : ℕ
+  pub name : List ℕ
+
+-- the name of a number in a table, or another one where the table doesn't have it
+abbrev pub name_or : List ℕ → List Named → ℕ → List ℕ
+name_or other [] n = other
+name_or other (x ∷ xs) n = if n == x.number then x.name else name_or other xs n
