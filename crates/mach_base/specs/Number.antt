@@ -1,6 +1,6 @@
 -- Numbers of some bytes in either byte order, and the bounded read (`mach-o/loader.h`: every field is
 -- such a number).
-use Rattle.std.specs.Prelude.{ℕ, ◌+◌, ◌-◌, List, length, take, drop, Result, Ok, Err, nat_le, if◌then◌else◌}
+use Rattle.std.specs.Prelude.{ℕ, ◌+◌, ◌-◌, ◌^◌, min, List, length, take, drop, Result, Ok, Err, nat_le, if◌then◌else◌}
 use Rattle.byteorder.specs.Endian.{little_number, big_number, little_bytes, big_bytes}
 use Rattle.mach_base.specs.declared.context.Endian.{Endian}
 use Rattle.mach_base.specs.declared.context.Endian.TheVariants.{Little, Big}
@@ -38,3 +38,8 @@ number_at le n bytes s = bounded n bytes s (number le n (drop s bytes))
 -- n, where n bytes lie at s; else why they don't
 abbrev pub room_at : ℕ → List ℕ → ℕ → Result ℕ Fault
 room_at n bytes s = bounded n bytes s n
+
+-- s + n, or the last place that 64 bits have where the sum passes them: nothing stands there, so a
+-- read there fails as it would at the sum
+abbrev pub place_after : ℕ → ℕ → ℕ
+place_after s n = min (s + n) (2 ^ 64 - 1)

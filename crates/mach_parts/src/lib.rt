@@ -4,3 +4,4 @@
 pub mod fat;
 pub mod header;
 pub mod segment;
+pub mod symbols;
