@@ -16,17 +16,19 @@ fn thread(alloc: Global, cmdsize: u16, count: u8, words: usize) -> Result<Vec<u8
     Ok(bytes)
 }
 
-// Whether the bytes are a Unixthread, and its instruction pointer for a cpu.
-fn pointer(bytes: &[u8], cputype: u32) -> Option<u64> {
+// What the bytes are as a thread, and its instruction pointer for a cpu.
+fn shown(bytes: &[u8], cputype: u32) -> (&'static str, Option<u64>) {
     let mut offset = 0;
-    match LoadCommand::parse(bytes, &mut offset, Endian::Little)
-        .ok()?
-        .command
-    {
-        CommandVariant::Unixthread(thread) | CommandVariant::Thread(thread) => {
-            thread.instruction_pointer(cputype).ok()
-        }
-        _ => None,
+    match LoadCommand::parse(bytes, &mut offset, Endian::Little) {
+        Ok(found) => match found.command {
+            CommandVariant::Unixthread(thread) => {
+                ("Unixthread", thread.instruction_pointer(cputype).ok())
+            }
+            CommandVariant::Thread(thread) => ("Thread", thread.instruction_pointer(cputype).ok()),
+            _ => ("another command", None),
+        },
+        Err(Error::Malformed(_)) => ("malformed", None),
+        Err(_) => ("another error", None),
     }
 }
 
@@ -49,17 +51,6 @@ fn a_command_cut_short(rt: HostRuntime) {
 fn threads(rt: HostRuntime) -> Result<(), Fail> {
     let alloc = rt.alloc();
     let bare = thread(alloc, 16, 0, 0)?;
-    assert_eq!(rt; pointer(&bare, CPU_TYPE_X86_64), Some(0));
-    assert_eq!(rt; pointer(&bare, 0), None);
-    assert_eq!(rt; pointer(&thread(alloc, 16, 1, 0)?, CPU_TYPE_X86_64), None);
-    assert_eq!(rt;
-        pointer(&thread(alloc, 300, 71, 71)?, CPU_TYPE_X86_64),
-        None
-    );
-    assert_eq!(rt;
-        pointer(&thread(alloc, 296, 70, 70)?, CPU_TYPE_X86_64),
-        Some(0)
-    );
     let mut state = [0; 184];
     state[0] = 4;
     state[4] = 184;
@@ -67,7 +58,20 @@ fn threads(rt: HostRuntime) -> Result<(), Fail> {
     state[144] = 0x50;
     state[145] = 0x0f;
     state[148] = 1;
-    assert_eq!(rt; pointer(&state, CPU_TYPE_X86_64), Some(0x1_0000_0f50));
+    let one_word = thread(alloc, 16, 1, 0)?;
+    let too_many = thread(alloc, 300, 71, 71)?;
+    let longest = thread(alloc, 296, 70, 70)?;
+    let rows: [(&[u8], u32, (&str, Option<u64>)); 6] = [
+        (&bare, CPU_TYPE_X86_64, ("Unixthread", Some(0))),
+        (&bare, 0, ("Unixthread", None)),
+        (&one_word, CPU_TYPE_X86_64, ("malformed", None)),
+        (&too_many, CPU_TYPE_X86_64, ("malformed", None)),
+        (&longest, CPU_TYPE_X86_64, ("Unixthread", Some(0))),
+        (&state, CPU_TYPE_X86_64, ("Thread", Some(0x1_0000_0f50))),
+    ];
+    for (bytes, cputype, answer) in rows {
+        assert_eq!(rt; shown(bytes, cputype), answer);
+    }
     Ok(())
 }
 

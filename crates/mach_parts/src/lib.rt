@@ -5,3 +5,5 @@ pub mod fat;
 pub mod header;
 pub mod segment;
 pub mod symbols;
+#[cfg(test)]
+mod tests;

@@ -1,0 +1,107 @@
+//! Symbols: those of file B.
+
+use crate::symbols::{N_SECT, Nlist, SymbolIterator, Symbols, SymbolsCtx};
+use mach_base::{Ctx, Error, Result, ScrollError, pread_with};
+use mach_records::SymtabCommand;
+use std::test::Fail;
+
+// File B has zeros here up to its symbol, and its names at the end.
+fn file_b() -> [u8; 376] {
+    let mut bytes = [0; 376];
+    bytes[352..].copy_from_slice(&[
+        1, 0, 0, 0, 0x0f, 1, 0, 0, 0x60, 1, 0, 0, 1, 0, 0, 0, 0, 0x5f, 0x6d, 0x61, 0x69, 0x6e, 0, 0,
+    ]);
+    bytes
+}
+
+fn command(nsyms: u32) -> SymtabCommand {
+    let mut command = SymtabCommand::new();
+    command.symoff = 352;
+    command.nsyms = nsyms;
+    command.stroff = 368;
+    command.strsize = 8;
+    command
+}
+
+// The place of a read that found nothing, and the bytes it wanted and had.
+fn missed(answer: Result<(&str, Nlist)>) -> Option<(usize, usize, usize)> {
+    match answer {
+        Err(Error::Scroll(ScrollError::BadOffset(place))) => Some((place, 0, 0)),
+        Err(Error::Scroll(ScrollError::TooBig { size, len })) => Some((0, size, len)),
+        _ => None,
+    }
+}
+
+#[test]
+fn the_symbol_of_file_b(rt: HostRuntime) -> std::result::Result<(), Fail> {
+    let mut bytes = file_b();
+    {
+        let symbols = Symbols::parse(&bytes, &command(1), Ctx::default())?;
+        let (name, symbol) = symbols.get(0)?;
+        assert_eq!(rt; name, "_main");
+        assert_eq!(rt; symbol.n_value, 0x1_0000_0160);
+        assert_eq!(rt; symbol.get_type(), N_SECT);
+        assert_eq!(rt; symbol.type_str(), "N_SECT");
+        assert!(rt; symbol.is_global());
+        assert!(rt; !symbol.is_weak());
+        assert!(rt; !symbol.is_undefined());
+        assert!(rt; !symbol.is_stab());
+        assert_eq!(rt; missed(symbols.get(1)), Some((0, 16, 8)));
+        assert_eq!(rt; missed(symbols.get(2)), Some((384, 0, 0)));
+        assert_eq!(rt; missed(symbols.get(usize::MAX)), Some((usize::MAX, 0, 0)));
+    }
+    bytes[352] = 8;
+    let symbols = Symbols::parse(&bytes, &command(1), Ctx::default())?;
+    assert_eq!(rt; missed(symbols.get(0)), Some((376, 0, 0)));
+    Ok(())
+}
+
+#[test]
+fn exactly_as_many_as_said(rt: HostRuntime) -> std::result::Result<(), Fail> {
+    let bytes = file_b();
+    let symbols = Symbols::parse(&bytes, &command(3), Ctx::default())?;
+    let mut items = symbols.iter();
+    assert!(rt; matches!(items.next(), Some(Ok(_))));
+    assert!(rt; matches!(items.next(), Some(Err(_))));
+    assert!(rt; matches!(items.next(), Some(Err(_))));
+    assert!(rt; items.next().is_none());
+    assert!(rt; items.next().is_none());
+    let mut good = 0;
+    for item in &symbols {
+        if item.is_ok() {
+            good = 1;
+        }
+    }
+    assert_eq!(rt; good, 1);
+    assert!(rt; SymbolIterator::default().next().is_none());
+    Ok(())
+}
+
+#[test]
+fn tables(rt: HostRuntime) -> std::result::Result<(), Fail> {
+    let bytes = file_b();
+    let mut names_first = command(1);
+    names_first.stroff = 351;
+    assert!(rt;
+        matches!(
+            Symbols::parse(&bytes, &names_first, Ctx::default()),
+            Err(Error::Malformed(_))
+        )
+    );
+    assert!(rt;
+        matches!(
+            Symbols::parse(&bytes[..352], &command(0), Ctx::default()),
+            Err(Error::Scroll(ScrollError::BadOffset(352)))
+        )
+    );
+    let (name, _) = Symbols::new(&bytes, 352, 1, 368)?.get(0)?;
+    assert_eq!(rt; name, "_main");
+    let ctx = SymbolsCtx {
+        nsyms: 1,
+        strtab: 16,
+        ctx: Ctx::default(),
+    };
+    let behind: Symbols = pread_with(&bytes, 352, ctx)?;
+    assert_eq!(rt; behind.get(0)?.0, "_main");
+    Ok(())
+}
