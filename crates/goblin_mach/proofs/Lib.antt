@@ -2,7 +2,7 @@ pub mod Computing
 pub mod Headers
 pub mod CommandAt
 pub mod Chains
-pub mod Naming
+pub mod Readings
 pub mod Ranges
 pub mod Images
 pub mod NodeFaults

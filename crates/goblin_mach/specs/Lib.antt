@@ -8,7 +8,9 @@ pub mod Chain
 pub mod Image
 pub mod Rows
 pub mod OpenImage
+pub mod Readings
 pub mod Names
+pub mod Tables
 pub mod TrieRange
 pub mod Exports
 pub mod NodeViews

@@ -1,12 +1,14 @@
 -- An image as it was opened.
-use Rattle.std.specs.Prelude.{◌↔◌, ◌≡◌, ℕ, List, map, IsTrue, Option}
+use Rattle.std.specs.Prelude.{◌↔◌, ◌≡◌, ℕ, List, map, IsTrue, Option, option_map}
 use Rattle.mach_base.specs.declared.context.Endian.TheVariants.{Little}
 use Rattle.mach_base.specs.declared.context.Container.TheVariants.{Big}
 use Rattle.mach_base.specs.declared.context.Ctx.{Ctx}
 use Rattle.mach_parts.specs.Header.{IsHeader}
 use Rattle.goblin_mach.specs.Image.{OpensAs}
 use Rattle.mach_load.specs.Variants.{command_of}
+use Rattle.mach_parts.specs.SymbolViews.{table_of}
 use Rattle.goblin_mach.specs.Names.{name_in, libs_in}
+use Rattle.goblin_mach.specs.Tables.{table_in}
 use Rattle.goblin_mach.specs.TrieRange.{TrieRange, trie_in}
 use Rattle.goblin_mach.specs.Exports.{texts, text_in}
 use Rattle.goblin_mach.specs.declared.image.macho.MachO.{MachO}
@@ -27,6 +29,7 @@ pub record IsImage {A : Type 0} (bytes : List ℕ) (o : ℕ) (m : MachO A) : Typ
   pub is_64 : IsTrue m.is_64 ↔ (ctx.container ≡ Big)
   pub libs : texts m.libs.items ≡ libs_in bytes (map command_of m.load_commands.items)
   pub name : text_in m.name ≡ name_in bytes (map command_of m.load_commands.items)
+  pub symbols : option_map table_of m.symbols ≡ table_in ctx bytes (map command_of m.load_commands.items)
   pub trie : trie_held m ≡ trie_in bytes (map command_of m.load_commands.items)
 
 -- the file is the image at 0

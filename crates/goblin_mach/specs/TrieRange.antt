@@ -4,7 +4,7 @@ use Rattle.std.specs.Prelude.{◌≡◌, ◌+◌, ℕ, List, [], ◌∷◌, leng
 use Rattle.mach_base.specs.Record.{Value, number_among}
 use Rattle.mach_load.specs.Commands.{Kind, dyld_info, dyld_info_only, dyld_exports_trie}
 use Rattle.mach_load.specs.Command.{Command}
-use Rattle.goblin_mach.specs.Names.{last_of}
+use Rattle.goblin_mach.specs.Readings.{last_of}
 use Rattle.goblin_mach.specs.Trie.{Entry, Trie}
 use Rattle.goblin_mach.specs.Lists.{Lists}
 use Rattle.goblin_mach.specs.Nodes.{trie_of}

@@ -5,4 +5,5 @@ pub mod laws;
 pub mod mach;
 pub mod macho;
 pub mod magic;
-pub mod names;
+pub mod readings;
+pub mod subjects;

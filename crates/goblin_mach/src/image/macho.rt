@@ -12,10 +12,12 @@ ghost use Rattle.goblin_mach.specs.TrieRange.{ListsImageExports, ImageExportsFau
 use crate::dyld::exports::{Export, ExportTrie, last_export_trie};
 use crate::image::commands::read_commands;
 use crate::image::magic::parse_magic_and_ctx;
-use crate::image::names::{id_name, libraries};
+use crate::image::readings::{all_read, last_read};
+use crate::image::subjects::{Ids, Libraries, SymbolTables};
 use mach_base::{Ctx, Error, Result, SizeWith, pread_with};
 use mach_load::LoadCommand;
 use mach_parts::header::Header;
+use mach_parts::symbols::{SymbolIterator, Symbols};
 use std::alloc::{Allocator, Global};
 
 /// A Mach-O image: an executable, a library or an object file for one cpu.
@@ -26,6 +28,8 @@ pub struct MachO<'a, A: Allocator = Global> {
     pub header: Header,
     /// The load commands, in order.
     pub load_commands: Vec<LoadCommand, A>,
+    /// The symbols, if a command describes them: those of the last one that does.
+    pub symbols: Option<Symbols<'a>>,
     /// The image's own name or "self", and then the libraries that it names, in the order of their commands:
     /// a library's place here is its ordinal.
     pub libs: Vec<&'a str, A>,
@@ -57,12 +61,15 @@ impl<'a, A: Allocator + Clone> MachO<'a, A> {
         let (ctx, header) = read_header(bytes, offset)?;
         let first = offset + Header::size_with(&ctx);
         let load_commands = read_commands(alloc.clone()?, bytes, first, header.ncmds, ctx.le)?;
-        let name = id_name(bytes, &load_commands)?;
-        let libs = libraries(alloc, bytes, &load_commands, name.unwrap_or("self"))?;
+        let name = last_read(&Ids { bytes }, &load_commands)?;
+        let itself = vec![in alloc; name.unwrap_or("self")]?;
+        let libs = all_read(itself, &Libraries { bytes }, &load_commands)?;
+        let symbols = last_read(&SymbolTables { bytes, ctx }, &load_commands)?;
         let export_trie = last_export_trie(bytes, &load_commands);
         Ok(MachO {
             header,
             load_commands,
+            symbols,
             libs,
             name,
             little_endian: ctx.le.is_little(),
@@ -94,6 +101,18 @@ fn read_header(bytes: &[u8], offset: usize) -> Result<(Ctx, Header)>
 
 impl<'a, A: Allocator> MachO<'a, A> {
     ghost use Rattle.goblin_mach.specs.OpenImage.{trie_held};
+    ghost use Rattle.mach_parts.specs.SymbolViews.{symbols_left};
+    ghost use Rattle.goblin_mach.specs.Tables.{symbols_held};
+
+    /// The symbols that the image holds at the call, one after the other; none where it holds no table.
+    pub fn symbols(&self) -> SymbolIterator<'a>
+        ensures { symbols_left result ≡ symbols_held self.now.symbols }
+    {
+        match &self.symbols {
+            Some(symbols) => symbols.iter(),
+            None => SymbolIterator::default(),
+        }
+    }
 
     /// The exports of the image, over the libraries that it holds at the call; none where no command
     /// brings a trie. Each refusal but `Error::Memory` is a fault that stands in the trie.

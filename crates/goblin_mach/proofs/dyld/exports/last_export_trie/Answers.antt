@@ -1,5 +1,5 @@
 use Rattle.std.proofs.Common.{◌∙◌, sym, ap}
-use Rattle.goblin_mach.specs.Names.{last_or}
+use Rattle.goblin_mach.specs.Readings.{last_or}
 use Rattle.goblin_mach.proofs.Ranges.{range_skip, range_take}
 use Rattle.goblin_mach.proofs.dyld.exports.last_export_trie.Goals as goal
 

@@ -1,6 +1,6 @@
 use Rattle.std.proofs.Common.{◌≡◌, map, drop}
 use Rattle.mach_load.specs.Variants.{command_of}
-use Rattle.goblin_mach.specs.Names.{last_or}
+use Rattle.goblin_mach.specs.Readings.{last_or}
 use Rattle.goblin_mach.specs.TrieRange.{ranges_of, trie_in}
 use Rattle.goblin_mach.proofs.dyld.exports.last_export_trie.Given as goal
 

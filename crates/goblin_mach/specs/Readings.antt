@@ -1,0 +1,49 @@
+-- What is read off the commands of a chain, subject by subject.
+use Rattle.std.specs.Prelude.{◌≡◌, ℕ, List, [], ◌∷◌, Option, Some, None, Result, Ok, Err, IsOk}
+use Rattle.mach_base.specs.declared.error.Error.{Error}
+use Rattle.mach_base.specs.Fault.{Fault, fault_of}
+use Rattle.mach_load.specs.Command.{Command}
+use Rattle.goblin_mach.specs.Chain.{IsAmong}
+
+-- What is read off a command, or why it can't be read; none where the command is of another subject.
+abbrev pub Reading : Type 0 → Type 0
+Reading V = Command → Option (Result V Fault)
+
+abbrev pub keep : {V : Type 0} → Option (Result V Fault) → List V → List V
+keep None vs = vs
+keep (Some (Ok v)) vs = v ∷ vs
+keep (Some (Err f)) vs = vs
+
+-- what can be read off the commands of a subject, in order
+abbrev pub read_of : {V : Type 0} → Reading V → List Command → List V
+read_of reading [] = []
+read_of reading (c ∷ cs) = keep (reading c) (read_of reading cs)
+
+abbrev pub IsRead : {V : Type 0} → Option (Result V Fault) → Type 0
+IsRead None = Unit {0}
+IsRead (Some found) = IsOk found
+
+-- every command of the subject can be read
+abbrev pub AllRead : {V : Type 0} → Reading V → List Command → Type 0
+AllRead reading [] = Unit {0}
+AllRead reading (c ∷ cs) = IsRead (reading c) × AllRead reading cs
+
+-- a command of the subject among these can't be read, for this fault
+pub record IsUnread {V : Type 0} (reading : Reading V) (cs : List Command) (f : Fault) : Type 0 where
+  pub command : Command
+  pub among : IsAmong command cs
+  pub fault : reading command ≡ Some (Err f)
+
+abbrev pub last_or : {A : Type 0} → Option A → List A → Option A
+last_or default [] = default
+last_or default (x ∷ xs) = last_or (Some x) xs
+
+-- the last of a list, if it has one
+abbrev pub last_of : {A : Type 0} → List A → Option A
+last_of xs = last_or None xs
+
+-- an answer as contracts see it
+abbrev pub seen_of : {X V : Type 0} → (X → V) → Option (Result X Error) → Option (Result V Fault)
+seen_of view None = None
+seen_of view (Some (Ok x)) = Some (Ok (view x))
+seen_of view (Some (Err e)) = Some (Err (fault_of e))
