@@ -6,3 +6,4 @@ mod exports;
 mod files;
 mod lines;
 mod shown;
+mod symbols;
