@@ -1,6 +1,12 @@
 //! Segments (`mach-o/loader.h`).
 
-use mach_base::Ctx;
+ghost use Rattle.std.specs.Prelude.{◌≡◌, ◌+◌, ◌<◌, ◌^◌, length};
+ghost use Rattle.mach_base.specs.Answer.{Reads};
+ghost use Rattle.mach_base.specs.Text.{text_at};
+ghost use Rattle.mach_parts.specs.Segment.{command_size, segment_data, segment_at, lossy_segment_at, segment_view, widened, new_segment, with_data};
+
+use mach_base::{Container, Ctx, Result, bytes_at, read_text};
+use mach_records::{LC_SEGMENT, LC_SEGMENT_64, SegmentCommand32, SegmentCommand64};
 
 /// A part of an image that is mapped into memory as a whole, with its bytes in the file.
 #[derive(Debug, Drop)]
@@ -33,4 +39,152 @@ pub struct Segment<'a> {
     file: &'a [u8],
     offset: usize,
     ctx: Ctx,
+}
+
+// The data of a segment: `size` bytes at a place of the file, and none where `size` is 0.
+fn data_at(bytes: &[u8], place: u64, size: u64) -> Result<&[u8]>
+    ensures { Reads (λ found. found.now) result (segment_data bytes.now place size) }
+{
+    if size == 0 {
+        return Ok(&[]);
+    }
+    bytes_at(bytes, place as usize, size as usize)
+}
+
+// A command of a 32-bit image in the wider form.
+fn widen(segment: &SegmentCommand32) -> SegmentCommand64
+    ensures { result ≡ widened segment.now }
+{
+    SegmentCommand64 {
+        cmd: segment.cmd,
+        cmdsize: segment.cmdsize,
+        segname: segment.segname,
+        vmaddr: u64::from(segment.vmaddr),
+        vmsize: u64::from(segment.vmsize),
+        fileoff: u64::from(segment.fileoff),
+        filesize: u64::from(segment.filesize),
+        maxprot: segment.maxprot,
+        initprot: segment.initprot,
+        nsects: segment.nsects,
+        flags: segment.flags,
+    }
+}
+
+impl<'a> Segment<'a> {
+    /// A segment to be written: its command's number by the context, its size, its sections as
+    /// they will be written behind it; all else is 0, and there are no sections to go over.
+    pub fn new(ctx: Ctx, sections: &'a [u8]) -> Self
+        requires { command_size ctx.container + length sections.now < 2 ^ 32 }
+        ensures { segment_view result ≡ new_segment ctx sections.now }
+    {
+        let (cmd, size) = match ctx.container {
+            Container::Little => (LC_SEGMENT, 56),
+            Container::Big => (LC_SEGMENT_64, 72),
+        };
+        Segment {
+            cmd,
+            cmdsize: (size + sections.len()) as u32,
+            segname: [0; 16],
+            vmaddr: 0,
+            vmsize: 0,
+            fileoff: 0,
+            filesize: 0,
+            maxprot: 0,
+            initprot: 0,
+            nsects: 0,
+            flags: 0,
+            bytes: sections,
+            file: &[],
+            offset: 0,
+            ctx,
+        }
+    }
+
+    /// The segment of a command of a 32-bit image, which stands at `offset` of the bytes. Refused
+    /// where its data are out of the bytes.
+    pub fn from_32(
+        bytes: &'a [u8],
+        segment: &SegmentCommand32,
+        offset: usize,
+        ctx: Ctx,
+    ) -> Result<Self>
+        ensures { Reads segment_view result (segment_at ctx bytes.now offset (widened segment.now)) }
+    {
+        Segment::from_64(bytes, &widen(segment), offset, ctx)
+    }
+
+    /// The segment of a command of a 64-bit image, which stands at `offset` of the bytes. Refused
+    /// where its data are out of the bytes.
+    pub fn from_64(
+        bytes: &'a [u8],
+        segment: &SegmentCommand64,
+        offset: usize,
+        ctx: Ctx,
+    ) -> Result<Self>
+        ensures { Reads segment_view result (segment_at ctx bytes.now offset segment.now) }
+    {
+        let data = data_at(bytes, segment.fileoff, segment.filesize)?;
+        Ok(Segment::of(bytes, segment, offset, ctx, data))
+    }
+
+    /// As `from_32`, but data out of the bytes are empty. It is always Ok.
+    pub fn from_32_lossy(
+        bytes: &'a [u8],
+        segment: &SegmentCommand32,
+        offset: usize,
+        ctx: Ctx,
+    ) -> Result<Self>
+        ensures { Reads segment_view result (lossy_segment_at ctx bytes.now offset (widened segment.now)) }
+    {
+        Segment::from_64_lossy(bytes, &widen(segment), offset, ctx)
+    }
+
+    /// As `from_64`, but data out of the bytes are empty. It is always Ok.
+    pub fn from_64_lossy(
+        bytes: &'a [u8],
+        segment: &SegmentCommand64,
+        offset: usize,
+        ctx: Ctx,
+    ) -> Result<Self>
+        ensures { Reads segment_view result (lossy_segment_at ctx bytes.now offset segment.now) }
+    {
+        let found = data_at(bytes, segment.fileoff, segment.filesize);
+        Ok(Segment::of(bytes, segment, offset, ctx, found.unwrap_or(&[])))
+    }
+
+    // The segment of a command and its data.
+    fn of(
+        file: &'a [u8],
+        segment: &SegmentCommand64,
+        offset: usize,
+        ctx: Ctx,
+        bytes: &'a [u8],
+    ) -> Self
+        ensures { segment_view result ≡ with_data ctx file.now offset segment.now bytes.now }
+    {
+        Segment {
+            cmd: segment.cmd,
+            cmdsize: segment.cmdsize,
+            segname: segment.segname,
+            vmaddr: segment.vmaddr,
+            vmsize: segment.vmsize,
+            fileoff: segment.fileoff,
+            filesize: segment.filesize,
+            maxprot: segment.maxprot,
+            initprot: segment.initprot,
+            nsects: segment.nsects,
+            flags: segment.flags,
+            bytes,
+            file,
+            offset,
+            ctx,
+        }
+    }
+
+    /// The segment's name: the text with which `segname` begins.
+    pub fn name(&self) -> Result<&str>
+        ensures { Reads (λ name. name.now) result (text_at self.now.segname 0) }
+    {
+        read_text(&self.segname, 0)
+    }
 }
