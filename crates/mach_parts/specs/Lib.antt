@@ -1,1 +1,7 @@
+pub mod Items
+pub mod Relocation
+pub mod RelocationName
+pub mod RelocationItems
+pub mod Section
+pub mod SectionItems
 pub mod Segment

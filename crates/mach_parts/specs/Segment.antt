@@ -12,12 +12,9 @@ use Rattle.mach_base.specs.Record.{spelling}
 use Rattle.mach_records.specs.declared.segments.SegmentCommand32.{SegmentCommand32}
 use Rattle.mach_records.specs.declared.segments.SegmentCommand64.{SegmentCommand64}
 use Rattle.mach_records.specs.Segments.{segment_command32_fields, segment_command32_values, segment_command64_fields, segment_command64_values}
+use Rattle.mach_parts.specs.Section.{command_size, sections_at}
 use Rattle.mach_parts.specs.declared.segment.Segment.{Segment}
-
--- how many bytes the command of a segment has
-abbrev pub command_size : Container → ℕ
-command_size Little = 56
-command_size Big = 72
+use Rattle.mach_parts.specs.declared.segment.section.Section.{Section}
 
 -- the number of the command (LC_SEGMENT, LC_SEGMENT_64)
 abbrev pub command_number : Container → ℕ
@@ -138,3 +135,7 @@ new_command container len =
 -- a new segment: its data are its sections as they will be written, and it has none to read
 abbrev pub new_segment : Ctx → List ℕ → SegmentView
 new_segment ctx sections = with_data ctx [] 0 (new_command ctx.container (length sections)) sections
+
+-- the sections of a segment with their data, each or why it isn't there
+abbrev pub sections_of : SegmentView → List (Result (Section × List ℕ) Fault)
+sections_of s = sections_at s.ctx s.file s.offset s.command.nsects

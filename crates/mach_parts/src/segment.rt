@@ -1,11 +1,19 @@
-//! Segments (`mach-o/loader.h`).
+//! Segments and their sections (`mach-o/loader.h`).
 
 ghost use Rattle.std.specs.Prelude.{◌≡◌, ◌+◌, ◌<◌, ◌^◌, length};
 ghost use Rattle.mach_base.specs.Answer.{Reads};
 ghost use Rattle.mach_base.specs.Text.{text_at};
-ghost use Rattle.mach_parts.specs.Segment.{command_size, segment_data, segment_at, lossy_segment_at, segment_view, widened, new_segment, with_data};
+ghost use Rattle.mach_parts.specs.Section.{command_size};
+ghost use Rattle.mach_parts.specs.Segment.{segment_data, segment_at, lossy_segment_at, segment_view, widened, new_segment, with_data};
 
-use mach_base::{Container, Ctx, Result, bytes_at, read_text};
+mod relocations;
+mod section;
+mod sections;
+
+pub use crate::segment::relocations::RelocationIterator;
+pub use crate::segment::section::{Section, SectionData};
+pub use crate::segment::sections::SectionIterator;
+use mach_base::{Container, Ctx, Record, Result, bytes_at, read_text};
 use mach_records::{LC_SEGMENT, LC_SEGMENT_64, SegmentCommand32, SegmentCommand64};
 
 /// A part of an image that is mapped into memory as a whole, with its bytes in the file.
@@ -39,6 +47,16 @@ pub struct Segment<'a> {
     file: &'a [u8],
     offset: usize,
     ctx: Ctx,
+}
+
+// How many bytes the command of a segment has.
+fn command_len(container: Container) -> usize
+    ensures { result ≡ command_size container }
+{
+    match container {
+        Container::Little => SegmentCommand32::SIZE,
+        Container::Big => SegmentCommand64::SIZE,
+    }
 }
 
 // The data of a segment: `size` bytes at a place of the file, and none where `size` is 0.
@@ -77,13 +95,13 @@ impl<'a> Segment<'a> {
         requires { command_size ctx.container + length sections.now < 2 ^ 32 }
         ensures { segment_view result ≡ new_segment ctx sections.now }
     {
-        let (cmd, size) = match ctx.container {
-            Container::Little => (LC_SEGMENT, 56),
-            Container::Big => (LC_SEGMENT_64, 72),
+        let cmd = match ctx.container {
+            Container::Little => LC_SEGMENT,
+            Container::Big => LC_SEGMENT_64,
         };
         Segment {
             cmd,
-            cmdsize: (size + sections.len()) as u32,
+            cmdsize: (command_len(ctx.container) + sections.len()) as u32,
             segname: [0; 16],
             vmaddr: 0,
             vmsize: 0,
