@@ -5,3 +5,4 @@ pub mod RelocationItems
 pub mod Section
 pub mod SectionItems
 pub mod Segment
+pub mod Segments

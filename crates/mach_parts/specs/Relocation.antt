@@ -1,5 +1,5 @@
 -- Relocations (`mach-o/reloc.h`, struct relocation_info).
-use Rattle.std.specs.Prelude.{◌≡◌, ℕ, suc, ◌+◌, ◌-◌, ◌*◌, ◌/◌, ◌%◌, ◌^◌, ℤ, pos, negsuc, List, [], ◌∷◌, Result, Ok, nat_lt, if◌then◌else◌}
+use Rattle.std.specs.Prelude.{◌≡◌, ℕ, ◌+◌, ◌-◌, ◌*◌, ◌/◌, ◌%◌, ◌^◌, ℤ, pos, negsuc, List, [], ◌∷◌, Result, Ok, nat_lt, if◌then◌else◌}
 use Rattle.std.proofs.Common.{◌≤◌, ap, refl, inl, inr, arith, lt-ltb, le-ltb}
 use Rattle.std.proofs.lemmas.Bool.{cases_lt}
 use Rattle.mach_base.specs.declared.context.Endian.{Endian}

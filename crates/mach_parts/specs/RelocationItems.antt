@@ -1,8 +1,7 @@
 -- What is left to an iterator over relocations.
-use Rattle.std.specs.Prelude.{ℕ, ◌-◌, List, Result}
-use Rattle.mach_base.specs.Answer.{◌>>=◌}
+use Rattle.std.specs.Prelude.{◌-◌, List, Result}
 use Rattle.mach_base.specs.declared.error.Error.{Error}
-use Rattle.mach_base.specs.Fault.{Fault, fault_of}
+use Rattle.mach_base.specs.Fault.{Fault}
 use Rattle.mach_parts.specs.Items.{items_from, read_as}
 use Rattle.mach_parts.specs.Relocation.{relocation_item}
 use Rattle.mach_parts.specs.declared.relocation.RelocationInfo.{RelocationInfo}

@@ -142,6 +142,11 @@ abbrev pub command_size : Container → ℕ
 command_size Little = 56
 command_size Big = 72
 
+-- no command is empty
+pub command_not_empty : (container : Container) → 0 < command_size container
+command_not_empty Little = omega arith
+command_not_empty Big = omega arith
+
 -- where section k stands behind the command at an offset; a place past 64 bits is the last place that
 -- 64 bits have, where nothing stands
 abbrev pub section_place : Container → ℕ → ℕ → ℕ

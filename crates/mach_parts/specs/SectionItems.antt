@@ -8,9 +8,13 @@ use Rattle.mach_parts.specs.Section.{section_item}
 use Rattle.mach_parts.specs.declared.segment.section.Section.{Section}
 use Rattle.mach_parts.specs.declared.segment.sections.SectionIterator.{SectionIterator}
 
+-- a section and the bytes that its data are
+abbrev pub section_and_bytes : Section × Bor (List ℕ) → Section × List ℕ
+section_and_bytes found = (found.0, found.1.now)
+
 -- an item, as it was answered
 abbrev pub section_read : Result (Section × Bor (List ℕ)) Error → Result (Section × List ℕ) Fault
-section_read item = read_as (λ found. (found.0, found.1.now)) item
+section_read item = read_as section_and_bytes item
 
 -- the sections that are left, with their data
 abbrev pub sections_left : SectionIterator → List (Result (Section × List ℕ) Fault)

@@ -1,20 +1,25 @@
 //! Segments and their sections (`mach-o/loader.h`).
 
-ghost use Rattle.std.specs.Prelude.{◌≡◌, ◌+◌, ◌<◌, ◌^◌, length};
+ghost use Rattle.std.specs.Prelude.{◌≡◌, ◌+◌, ◌%◌, ◌<◌, ◌^◌, length};
 ghost use Rattle.mach_base.specs.Answer.{Reads};
 ghost use Rattle.mach_base.specs.Text.{text_at};
 ghost use Rattle.mach_parts.specs.Section.{command_size};
 ghost use Rattle.mach_parts.specs.Segment.{segment_data, segment_at, lossy_segment_at, segment_view, widened, new_segment, with_data};
 
+mod list;
 mod relocations;
 mod section;
 mod sections;
 
+pub use crate::segment::list::{SegmentSections, Segments};
 pub use crate::segment::relocations::RelocationIterator;
 pub use crate::segment::section::{Section, SectionData};
 pub use crate::segment::sections::SectionIterator;
-use mach_base::{Container, Ctx, Record, Result, bytes_at, read_text};
+use mach_base::{
+    Container, Ctx, IntoCtx, Record, Result, SizeWith, TryIntoCtx, bytes_at, read_text,
+};
 use mach_records::{LC_SEGMENT, LC_SEGMENT_64, SegmentCommand32, SegmentCommand64};
+use std::alloc::Allocator;
 
 /// A part of an image that is mapped into memory as a whole, with its bytes in the file.
 #[derive(Debug, Drop)]
@@ -57,6 +62,13 @@ fn command_len(container: Container) -> usize
         Container::Little => SegmentCommand32::SIZE,
         Container::Big => SegmentCommand64::SIZE,
     }
+}
+
+// The low 32 bits of a number.
+fn low_bits(x: u64) -> u32
+    ensures { result ≡ x % 2 ^ 32 }
+{
+    (x % (1 << 32)) as u32
 }
 
 // The data of a segment: `size` bytes at a place of the file, and none where `size` is 0.
@@ -204,5 +216,116 @@ impl<'a> Segment<'a> {
         ensures { Reads (λ name. name.now) result (text_at self.now.segname 0) }
     {
         read_text(&self.segname, 0)
+    }
+
+    ghost use Rattle.std.specs.Prelude.{map};
+    ghost use Rattle.mach_base.specs.Answer.{Gives};
+    ghost use Rattle.mach_parts.specs.Items.{all_read};
+    ghost use Rattle.mach_parts.specs.Segment.{sections_of};
+    ghost use Rattle.mach_parts.specs.SectionItems.{section_and_bytes};
+
+    /// The segment's sections with their data. The first that is out of the bytes refuses them all.
+    pub fn sections<A: Allocator>(&self, alloc: A) -> Result<Vec<(Section, SectionData<'a>), A>>
+        ensures { Gives (λ v. map section_and_bytes v.items) result (all_read (sections_of (segment_view self.now))) }
+    {
+        let mut sections = Vec::new(alloc);
+        'sections: for section in self {
+            sections.push(section?)?;
+        }
+        Ok(sections)
+    }
+}
+
+impl<'a, 'b> IntoIterator for &'b Segment<'a> {
+    type Item = Result<(Section, SectionData<'a>)>;
+
+    type IntoIter = SectionIterator<'a>;
+
+    ghost use Rattle.mach_parts.specs.Segment.{sections_of};
+    ghost use Rattle.mach_parts.specs.SectionItems.{sections_left};
+
+    ghost into_iter_gives = { λ s it. sections_left it ≡ sections_of (segment_view s.now) };
+
+    fn into_iter(self) -> SectionIterator<'a> {
+        SectionIterator::new(self.file, self.offset, self.nsects, self.ctx)
+    }
+}
+
+impl<'a> From<Segment<'a>> for SegmentCommand32 {
+    ghost use Rattle.mach_parts.specs.Segment.{command_of, narrowed};
+
+    ghost from_gives = { λ s command. command ≡ narrowed (command_of s) };
+
+    /// The low 32 bits of addresses, places and sizes.
+    fn from(segment: Segment<'a>) -> SegmentCommand32 {
+        let segname = segment.segname;
+        SegmentCommand32 {
+            cmd: segment.cmd,
+            cmdsize: segment.cmdsize,
+            segname,
+            vmaddr: low_bits(segment.vmaddr),
+            vmsize: low_bits(segment.vmsize),
+            fileoff: low_bits(segment.fileoff),
+            filesize: low_bits(segment.filesize),
+            maxprot: segment.maxprot,
+            initprot: segment.initprot,
+            nsects: segment.nsects,
+            flags: segment.flags,
+        }
+    }
+}
+
+impl<'a> From<Segment<'a>> for SegmentCommand64 {
+    ghost use Rattle.mach_parts.specs.Segment.{command_of};
+
+    ghost from_gives = { λ s command. command ≡ command_of s };
+
+    fn from(segment: Segment<'a>) -> SegmentCommand64 {
+        let segname = segment.segname;
+        SegmentCommand64 {
+            cmd: segment.cmd,
+            cmdsize: segment.cmdsize,
+            segname,
+            vmaddr: segment.vmaddr,
+            vmsize: segment.vmsize,
+            fileoff: segment.fileoff,
+            filesize: segment.filesize,
+            maxprot: segment.maxprot,
+            initprot: segment.initprot,
+            nsects: segment.nsects,
+            flags: segment.flags,
+        }
+    }
+}
+
+impl<'a> TryIntoCtx<Ctx> for Segment<'a> {
+    ghost use Rattle.mach_parts.specs.Segment.{command_bytes, command_of};
+    ghost use Rattle.mach_parts.specs.Section.{command_not_empty};
+
+    ghost spelled = { λ ctx s. command_bytes ctx.container ctx.le (command_of s) };
+
+    ghost width = { λ ctx _. command_size ctx.container };
+
+    ghost not_empty = { λ ctx _. command_not_empty ctx.container };
+
+    /// Writes the command alone, in the form of the context's width.
+    fn try_into_ctx(self, bytes: &mut [u8], ctx: Ctx) -> Result<usize> {
+        match ctx.container {
+            Container::Little => SegmentCommand32::from(self).try_into_ctx(bytes, ctx.le),
+            Container::Big => SegmentCommand64::from(self).try_into_ctx(bytes, ctx.le),
+        }
+    }
+}
+
+impl<'a> IntoCtx<Ctx> for Segment<'a> {}
+
+impl<'a> SizeWith<Ctx> for Segment<'a> {
+    ghost size = { λ ctx. command_size ctx.container };
+
+    /// 56 or 72, by the context's width.
+    fn size_with(ctx: &Ctx) -> usize
+        ensures { result ≡ command_size ctx.now.container }
+    {
+        command_len(ctx.container)
     }
 }

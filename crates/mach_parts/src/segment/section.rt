@@ -5,6 +5,7 @@ ghost use Rattle.mach_base.specs.Answer.{Reads};
 ghost use Rattle.mach_base.specs.Text.{text_at};
 ghost use Rattle.mach_parts.specs.Section.{is_zero_fill, section_at, section_data};
 
+use crate::segment::low_bits;
 use crate::segment::relocations::RelocationIterator;
 use mach_base::{
     Container, Ctx, Error, IntoCtx, Record, Result, SizeWith, TryFromCtx, TryIntoCtx, bytes_at,
@@ -172,8 +173,8 @@ impl From<Section> for Section32 {
         Section32 {
             sectname,
             segname,
-            addr: (section.addr % (1 << 32)) as u32,
-            size: (section.size % (1 << 32)) as u32,
+            addr: low_bits(section.addr),
+            size: low_bits(section.size),
             offset: section.offset,
             align: section.align,
             reloff: section.reloff,
