@@ -1,5 +1,5 @@
 -- Lists whose items go by their number.
-use Rattle.std.proofs.Common.{◌≡◌, ℕ, zero, suc, ◌+◌, ◌-◌, ◌<◌, ◌∷◌, length, Result, Ok, Err, refl, sym, ap, arith}
+use Rattle.std.proofs.Common.{◌≡◌, ℕ, zero, suc, ◌+◌, ◌-◌, ◌<◌, ◌∷◌, length, Result, Ok, Err, Some, slice_get, refl, sym, ap, ◌∙◌, arith}
 use Rattle.mach_base.specs.declared.error.Error.{Error}
 use Rattle.mach_base.specs.Answer.{Reads}
 use Rattle.mach_base.specs.Fault.{Fault}
@@ -27,3 +27,14 @@ fewer_left item first count inside =
 pub read_as-Reads : {X Y : Type 0} (view : X → Y) (answer : Result X Error) (there : Result Y Fault) → Reads view answer there → read_as view answer ≡ there
 read_as-Reads view (Ok x) there reads = sym reads
 read_as-Reads view (Err e) there reads = sym reads
+
+-- an item of a list is that of its number
+pub slice_get-items_from : {A : Type 0} (item : ℕ → A) (first count k : ℕ) → k < count → slice_get (items_from item first count) k ≡ Some (item (first + k))
+slice_get-items_from item first zero k inside = absurd (omega (arith, inside))
+slice_get-items_from item first (suc count) zero inside = ap (λ (n : ℕ). Some (item n)) (omega arith)
+slice_get-items_from item first (suc count) (suc k) inside =
+    slice_get-items_from item (first + 1) count k (omega (arith, inside)) ∙ ap (λ (n : ℕ). Some (item n)) (omega arith)
+
+-- an item of a list that begins with the first
+pub slice_get-items : {A : Type 0} (item : ℕ → A) (count k : ℕ) → k < count → slice_get (items_from item 0 count) k ≡ Some (item k)
+slice_get-items item count k inside = slice_get-items_from item 0 count k inside ∙ ap (λ (n : ℕ). Some (item n)) (omega arith)

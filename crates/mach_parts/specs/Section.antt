@@ -9,7 +9,7 @@ use Rattle.mach_base.specs.declared.context.Ctx.{Ctx}
 use Rattle.mach_base.specs.Answer.{◌>>=◌}
 use Rattle.mach_base.specs.Fault.{Fault}
 use Rattle.mach_base.specs.Front.{Found, with_width}
-use Rattle.mach_base.specs.Number.{slice_at}
+use Rattle.mach_base.specs.Number.{room_at, slice_at}
 use Rattle.mach_base.specs.Record.{spelling, record_at}
 use Rattle.mach_records.specs.declared.segments.Section32.{Section32}
 use Rattle.mach_records.specs.declared.segments.Section64.{Section64}
@@ -122,6 +122,10 @@ section_at Little le bytes s =
     record_at le section32_fields bytes s >>= (λ vs. Ok (section_of_32 (section32_of_values vs)))
 section_at Big le bytes s =
     record_at le section64_fields bytes s >>= (λ vs. Ok (section_of_64 (section64_of_values vs)))
+
+-- what is read of a section that was written at the front, or why it can't be written there
+abbrev pub read_back : Ctx → Section → List ℕ → Result Section Fault
+read_back ctx s bytes = room_at (section_size ctx.container) bytes 0 >>= (λ _. Ok (kept ctx.container s))
 
 -- the section at the front and how wide it is, or why there is none
 abbrev pub section_front : Ctx → List ℕ → Found Section

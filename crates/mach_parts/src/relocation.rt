@@ -4,6 +4,7 @@ ghost use Rattle.std.specs.Prelude.{◌≡◌, ◌<◌, ◌↔◌, IsTrue};
 ghost use Rattle.mach_parts.specs.Relocation.{bits_from};
 ghost use Rattle.mach_parts.specs.RelocationName.{relocation_name};
 
+pub mod laws;
 mod types;
 
 pub use crate::relocation::types::{

@@ -6,6 +6,7 @@ ghost use Rattle.mach_base.specs.Text.{text_at};
 ghost use Rattle.mach_parts.specs.Section.{command_size};
 ghost use Rattle.mach_parts.specs.Segment.{segment_data, segment_at, lossy_segment_at, segment_view, widened, new_segment, with_data};
 
+pub mod laws;
 mod list;
 mod relocations;
 mod section;

@@ -45,6 +45,16 @@ impl<'a, A: Allocator> Segments<'a, A> {
         self.segments.as_slice()
     }
 
+    ghost use Rattle.std.specs.Prelude.{slice_get};
+    ghost use Rattle.std.specs.Option.{option_copied_mut};
+
+    /// The segment at an index, to be changed in place, if there is one.
+    pub fn get_mut(&mut self, index: usize) -> Option<&mut Segment<'a>>
+        ensures { option_copied_mut result ≡ slice_get (segments_in self.old) index }
+    {
+        self.segments.get_mut(index)
+    }
+
     ghost use Rattle.std.specs.Slice.Iter.{iter_rest};
 
     /// Goes over the segments.

@@ -236,8 +236,10 @@ impl<'a> TryFromCtx<'a, Ctx> for Section {
 }
 
 impl TryIntoCtx<Ctx> for Section {
-    ghost use Rattle.mach_base.specs.declared.context.Ctx.{Ctx};
-    ghost use Rattle.mach_parts.specs.Section.{section_bytes, section_size, section_not_empty};
+    ghost use Rattle.std.specs.Prelude.{length, Ok, OnErr, OnOk};
+    ghost use Rattle.mach_base.specs.Number.{room_at};
+    ghost use Rattle.mach_base.specs.Record.{IsWritten};
+    ghost use Rattle.mach_parts.specs.Section.{kept, section_bytes, section_size, section_not_empty};
 
     ghost spelled = { λ ctx s. section_bytes ctx.container ctx.le s };
 
@@ -245,10 +247,17 @@ impl TryIntoCtx<Ctx> for Section {
 
     ghost not_empty = { λ ctx _. section_not_empty ctx.container };
 
-    fn try_into_ctx(self, bytes: &mut [u8], ctx: Ctx) -> Result<usize> {
+    /// Writes the section in the form of the context's width.
+    fn try_into_ctx(self, bytes: &mut [u8], ctx: Ctx) -> Result<usize>
+        ensures answer { Reads (λ n. n) result (room_at (section_size ctx.container) bytes.old 0) }
+        ensures written { OnOk result (IsWritten bytes.old bytes.new 0 (section_bytes ctx.container ctx.le self)) }
+        ensures sized { OnOk result (length (section_bytes ctx.container ctx.le self) ≡ section_size ctx.container) }
+        ensures refused { OnErr result (bytes.new ≡ bytes.old) }
+        ensures read_back { OnOk result (section_at ctx.container ctx.le bytes.new 0 ≡ Ok (kept ctx.container self)) }
+    {
         match ctx.container {
-            Container::Little => Section32::from(self).try_into_ctx(bytes, ctx.le),
-            Container::Big => Section64::from(self).try_into_ctx(bytes, ctx.le),
+            Container::Little => Section32::from(self).write(bytes, 0, ctx.le),
+            Container::Big => Section64::from(self).write(bytes, 0, ctx.le),
         }
     }
 }
