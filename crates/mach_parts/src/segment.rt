@@ -11,6 +11,8 @@ mod list;
 mod relocations;
 mod section;
 mod sections;
+#[cfg(test)]
+mod tests;
 
 pub use crate::segment::list::{SegmentSections, Segments};
 pub use crate::segment::relocations::RelocationIterator;
