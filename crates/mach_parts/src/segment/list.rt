@@ -55,11 +55,14 @@ impl<'a, A: Allocator> Segments<'a, A> {
         self.segments.get_mut(index)
     }
 
+    ghost use Rattle.std.specs.Iterator.Adapters.{IterYieldsInOrder};
     ghost use Rattle.std.specs.Slice.Iter.{iter_rest};
+    ghost use Rattle.mach_parts.specs.declared.segment.Segment.{Segment};
 
     /// Goes over the segments.
     pub fn iter(&self) -> Iter<'_, Segment<'a>>
-        ensures { iter_rest result ≡ segments_in self.now }
+        ensures items { iter_rest result ≡ segments_in self.now }
+        ensures runs { IterYieldsInOrder Segment }
     {
         self.segments.as_slice().iter()
     }
@@ -79,10 +82,12 @@ impl<'a, 'b, A: Allocator> IntoIterator for &'b Segments<'a, A> {
 
     type IntoIter = Iter<'b, Segment<'a>>;
 
+    ghost use Rattle.std.specs.Iterator.Adapters.{IterYieldsInOrder};
     ghost use Rattle.std.specs.Slice.Iter.{iter_rest};
     ghost use Rattle.mach_parts.specs.Segments.{segments_in};
+    ghost use Rattle.mach_parts.specs.declared.segment.Segment.{Segment};
 
-    ghost into_iter_gives = { λ s it. iter_rest it ≡ segments_in s.now };
+    ghost into_iter_gives = { λ s it. (iter_rest it ≡ segments_in s.now) × IterYieldsInOrder Segment };
 
     fn into_iter(self) -> Iter<'b, Segment<'a>> {
         self.iter()
