@@ -1,5 +1,13 @@
 pub mod Header
 pub mod HeaderNames
 pub mod Fat
+pub mod Items
+pub mod Relocation
+pub mod RelocationName
+pub mod RelocationItems
+pub mod Section
+pub mod SectionItems
+pub mod Segment
+pub mod Segments
 pub mod Symbols
 pub mod SymbolViews

@@ -3,6 +3,8 @@
 
 pub mod fat;
 pub mod header;
+pub mod laws;
+pub mod relocation;
 pub mod segment;
 pub mod symbols;
 #[cfg(test)]

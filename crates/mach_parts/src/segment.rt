@@ -1,6 +1,28 @@
-//! Segments (`mach-o/loader.h`).
+//! Segments and their sections (`mach-o/loader.h`).
 
-use mach_base::Ctx;
+ghost use Rattle.std.specs.Prelude.{◌≡◌, ◌+◌, ◌%◌, ◌<◌, ◌^◌, length};
+ghost use Rattle.mach_base.specs.Answer.{Reads};
+ghost use Rattle.mach_base.specs.Text.{text_at};
+ghost use Rattle.mach_parts.specs.Section.{command_size};
+ghost use Rattle.mach_parts.specs.Segment.{segment_data, segment_at, lossy_segment_at, segment_view, widened, new_segment, with_data};
+
+pub mod laws;
+mod list;
+mod relocations;
+mod section;
+mod sections;
+#[cfg(test)]
+mod tests;
+
+pub use crate::segment::list::{SegmentSections, Segments};
+pub use crate::segment::relocations::RelocationIterator;
+pub use crate::segment::section::{Section, SectionData};
+pub use crate::segment::sections::SectionIterator;
+use mach_base::{
+    Container, Ctx, IntoCtx, Record, Result, SizeWith, TryIntoCtx, bytes_at, read_text,
+};
+use mach_records::{LC_SEGMENT, LC_SEGMENT_64, SegmentCommand32, SegmentCommand64};
+use std::alloc::Allocator;
 
 /// A part of an image that is mapped into memory as a whole, with its bytes in the file.
 #[derive(Debug, Drop)]
@@ -33,4 +55,280 @@ pub struct Segment<'a> {
     file: &'a [u8],
     offset: usize,
     ctx: Ctx,
+}
+
+// How many bytes the command of a segment has.
+fn command_len(container: Container) -> usize
+    ensures { result ≡ command_size container }
+{
+    match container {
+        Container::Little => SegmentCommand32::SIZE,
+        Container::Big => SegmentCommand64::SIZE,
+    }
+}
+
+// The low 32 bits of a number.
+fn low_bits(x: u64) -> u32
+    ensures { result ≡ x % 2 ^ 32 }
+{
+    (x % (1 << 32)) as u32
+}
+
+// The data of a segment: `size` bytes at a place of the file, and none where `size` is 0.
+fn data_at(bytes: &[u8], place: u64, size: u64) -> Result<&[u8]>
+    ensures { Reads (λ found. found.now) result (segment_data bytes.now place size) }
+{
+    if size == 0 {
+        return Ok(&[]);
+    }
+    bytes_at(bytes, place as usize, size as usize)
+}
+
+// A command of a 32-bit image in the wider form.
+fn widen(segment: &SegmentCommand32) -> SegmentCommand64
+    ensures { result ≡ widened segment.now }
+{
+    SegmentCommand64 {
+        cmd: segment.cmd,
+        cmdsize: segment.cmdsize,
+        segname: segment.segname,
+        vmaddr: u64::from(segment.vmaddr),
+        vmsize: u64::from(segment.vmsize),
+        fileoff: u64::from(segment.fileoff),
+        filesize: u64::from(segment.filesize),
+        maxprot: segment.maxprot,
+        initprot: segment.initprot,
+        nsects: segment.nsects,
+        flags: segment.flags,
+    }
+}
+
+impl<'a> Segment<'a> {
+    /// A segment to be written: its command's number by the context, its size, its sections as
+    /// they will be written behind it; all else is 0, and there are no sections to go over.
+    pub fn new(ctx: Ctx, sections: &'a [u8]) -> Self
+        requires { command_size ctx.container + length sections.now < 2 ^ 32 }
+        ensures { segment_view result ≡ new_segment ctx sections.now }
+    {
+        let cmd = match ctx.container {
+            Container::Little => LC_SEGMENT,
+            Container::Big => LC_SEGMENT_64,
+        };
+        Segment {
+            cmd,
+            cmdsize: (command_len(ctx.container) + sections.len()) as u32,
+            segname: [0; 16],
+            vmaddr: 0,
+            vmsize: 0,
+            fileoff: 0,
+            filesize: 0,
+            maxprot: 0,
+            initprot: 0,
+            nsects: 0,
+            flags: 0,
+            bytes: sections,
+            file: &[],
+            offset: 0,
+            ctx,
+        }
+    }
+
+    /// The segment of a command of a 32-bit image, which stands at `offset` of the bytes. Refused
+    /// where its data are out of the bytes.
+    pub fn from_32(
+        bytes: &'a [u8],
+        segment: &SegmentCommand32,
+        offset: usize,
+        ctx: Ctx,
+    ) -> Result<Self>
+        ensures { Reads segment_view result (segment_at ctx bytes.now offset (widened segment.now)) }
+    {
+        Segment::from_64(bytes, &widen(segment), offset, ctx)
+    }
+
+    /// The segment of a command of a 64-bit image, which stands at `offset` of the bytes. Refused
+    /// where its data are out of the bytes.
+    pub fn from_64(
+        bytes: &'a [u8],
+        segment: &SegmentCommand64,
+        offset: usize,
+        ctx: Ctx,
+    ) -> Result<Self>
+        ensures { Reads segment_view result (segment_at ctx bytes.now offset segment.now) }
+    {
+        let data = data_at(bytes, segment.fileoff, segment.filesize)?;
+        Ok(Segment::of(bytes, segment, offset, ctx, data))
+    }
+
+    /// As `from_32`, but data out of the bytes are empty. It is always Ok.
+    pub fn from_32_lossy(
+        bytes: &'a [u8],
+        segment: &SegmentCommand32,
+        offset: usize,
+        ctx: Ctx,
+    ) -> Result<Self>
+        ensures { Reads segment_view result (lossy_segment_at ctx bytes.now offset (widened segment.now)) }
+    {
+        Segment::from_64_lossy(bytes, &widen(segment), offset, ctx)
+    }
+
+    /// As `from_64`, but data out of the bytes are empty. It is always Ok.
+    pub fn from_64_lossy(
+        bytes: &'a [u8],
+        segment: &SegmentCommand64,
+        offset: usize,
+        ctx: Ctx,
+    ) -> Result<Self>
+        ensures { Reads segment_view result (lossy_segment_at ctx bytes.now offset segment.now) }
+    {
+        let found = data_at(bytes, segment.fileoff, segment.filesize);
+        Ok(Segment::of(bytes, segment, offset, ctx, found.unwrap_or(&[])))
+    }
+
+    // The segment of a command and its data.
+    fn of(
+        file: &'a [u8],
+        segment: &SegmentCommand64,
+        offset: usize,
+        ctx: Ctx,
+        bytes: &'a [u8],
+    ) -> Self
+        ensures { segment_view result ≡ with_data ctx file.now offset segment.now bytes.now }
+    {
+        Segment {
+            cmd: segment.cmd,
+            cmdsize: segment.cmdsize,
+            segname: segment.segname,
+            vmaddr: segment.vmaddr,
+            vmsize: segment.vmsize,
+            fileoff: segment.fileoff,
+            filesize: segment.filesize,
+            maxprot: segment.maxprot,
+            initprot: segment.initprot,
+            nsects: segment.nsects,
+            flags: segment.flags,
+            bytes,
+            file,
+            offset,
+            ctx,
+        }
+    }
+
+    /// The segment's name: the text with which `segname` begins.
+    pub fn name(&self) -> Result<&str>
+        ensures { Reads (λ name. name.now) result (text_at self.now.segname 0) }
+    {
+        read_text(&self.segname, 0)
+    }
+
+    ghost use Rattle.std.specs.Prelude.{map};
+    ghost use Rattle.mach_base.specs.Answer.{Gives};
+    ghost use Rattle.mach_parts.specs.Items.{all_read};
+    ghost use Rattle.mach_parts.specs.Segment.{sections_of};
+    ghost use Rattle.mach_parts.specs.SectionItems.{section_and_bytes};
+
+    /// The segment's sections with their data. The first that is out of the bytes refuses them all.
+    pub fn sections<A: Allocator>(&self, alloc: A) -> Result<Vec<(Section, SectionData<'a>), A>>
+        ensures { Gives (λ v. map section_and_bytes v.items) result (all_read (sections_of (segment_view self.now))) }
+    {
+        let mut sections = Vec::new(alloc);
+        'sections: for section in self {
+            sections.push(section?)?;
+        }
+        Ok(sections)
+    }
+}
+
+impl<'a, 'b> IntoIterator for &'b Segment<'a> {
+    type Item = Result<(Section, SectionData<'a>)>;
+
+    type IntoIter = SectionIterator<'a>;
+
+    ghost use Rattle.mach_parts.specs.Segment.{sections_of};
+    ghost use Rattle.mach_parts.specs.SectionItems.{sections_left};
+
+    ghost into_iter_gives = { λ s it. sections_left it ≡ sections_of (segment_view s.now) };
+
+    fn into_iter(self) -> SectionIterator<'a> {
+        SectionIterator::new(self.file, self.offset, self.nsects, self.ctx)
+    }
+}
+
+impl<'a> From<Segment<'a>> for SegmentCommand32 {
+    ghost use Rattle.mach_parts.specs.Segment.{command_of, narrowed};
+
+    ghost from_gives = { λ s command. command ≡ narrowed (command_of s) };
+
+    /// The low 32 bits of addresses, places and sizes.
+    fn from(segment: Segment<'a>) -> SegmentCommand32 {
+        let segname = segment.segname;
+        SegmentCommand32 {
+            cmd: segment.cmd,
+            cmdsize: segment.cmdsize,
+            segname,
+            vmaddr: low_bits(segment.vmaddr),
+            vmsize: low_bits(segment.vmsize),
+            fileoff: low_bits(segment.fileoff),
+            filesize: low_bits(segment.filesize),
+            maxprot: segment.maxprot,
+            initprot: segment.initprot,
+            nsects: segment.nsects,
+            flags: segment.flags,
+        }
+    }
+}
+
+impl<'a> From<Segment<'a>> for SegmentCommand64 {
+    ghost use Rattle.mach_parts.specs.Segment.{command_of};
+
+    ghost from_gives = { λ s command. command ≡ command_of s };
+
+    fn from(segment: Segment<'a>) -> SegmentCommand64 {
+        let segname = segment.segname;
+        SegmentCommand64 {
+            cmd: segment.cmd,
+            cmdsize: segment.cmdsize,
+            segname,
+            vmaddr: segment.vmaddr,
+            vmsize: segment.vmsize,
+            fileoff: segment.fileoff,
+            filesize: segment.filesize,
+            maxprot: segment.maxprot,
+            initprot: segment.initprot,
+            nsects: segment.nsects,
+            flags: segment.flags,
+        }
+    }
+}
+
+impl<'a> TryIntoCtx<Ctx> for Segment<'a> {
+    ghost use Rattle.mach_parts.specs.Segment.{command_bytes, command_of};
+    ghost use Rattle.mach_parts.specs.Section.{command_not_empty};
+
+    ghost spelled = { λ ctx s. command_bytes ctx.container ctx.le (command_of s) };
+
+    ghost width = { λ ctx _. command_size ctx.container };
+
+    ghost not_empty = { λ ctx _. command_not_empty ctx.container };
+
+    /// Writes the command alone, in the form of the context's width.
+    fn try_into_ctx(self, bytes: &mut [u8], ctx: Ctx) -> Result<usize> {
+        match ctx.container {
+            Container::Little => SegmentCommand32::from(self).try_into_ctx(bytes, ctx.le),
+            Container::Big => SegmentCommand64::from(self).try_into_ctx(bytes, ctx.le),
+        }
+    }
+}
+
+impl<'a> IntoCtx<Ctx> for Segment<'a> {}
+
+impl<'a> SizeWith<Ctx> for Segment<'a> {
+    ghost size = { λ ctx. command_size ctx.container };
+
+    /// 56 or 72, by the context's width.
+    fn size_with(ctx: &Ctx) -> usize
+        ensures { result ≡ command_size ctx.now.container }
+    {
+        command_len(ctx.container)
+    }
 }
