@@ -1,7 +1,6 @@
 -- Sections of either width, and their data (`mach-o/loader.h`, struct section and section_64).
-use Rattle.std.specs.Prelude.{◌==◌, ℕ, ◌+◌, ◌-◌, ◌*◌, ◌%◌, ◌^◌, ◌<◌, min, bit_and, Bool, ◌||◌, List, [], replicate, Result, Ok, if◌then◌else◌}
+use Rattle.std.specs.Prelude.{◌==◌, ℕ, ◌+◌, ◌*◌, ◌%◌, ◌^◌, bit_and, Bool, ◌||◌, List, [], replicate, Result, Ok, if◌then◌else◌}
 use Rattle.std.specs.Result.{result_unwrap_or}
-use Rattle.std.proofs.Common.{arith}
 use Rattle.mach_base.specs.declared.context.Endian.{Endian}
 use Rattle.mach_base.specs.declared.context.Container.{Container}
 use Rattle.mach_base.specs.declared.context.Container.TheVariants.{Little, Big}
@@ -9,7 +8,7 @@ use Rattle.mach_base.specs.declared.context.Ctx.{Ctx}
 use Rattle.mach_base.specs.Answer.{◌>>=◌}
 use Rattle.mach_base.specs.Fault.{Fault}
 use Rattle.mach_base.specs.Front.{Found, with_width}
-use Rattle.mach_base.specs.Number.{room_at, slice_at}
+use Rattle.mach_base.specs.Number.{room_at, slice_at, place_after}
 use Rattle.mach_base.specs.Record.{spelling, record_at}
 use Rattle.mach_records.specs.declared.segments.Section32.{Section32}
 use Rattle.mach_records.specs.declared.segments.Section64.{Section64}
@@ -21,11 +20,6 @@ use Rattle.mach_parts.specs.declared.segment.section.Section.{Section}
 abbrev pub section_size : Container → ℕ
 section_size Little = 68
 section_size Big = 80
-
--- no section is empty
-pub section_not_empty : (container : Container) → 0 < section_size container
-section_not_empty Little = omega arith
-section_not_empty Big = omega arith
 
 -- the section of a record
 abbrev pub section_of_32 : Section32 → Section
@@ -146,15 +140,9 @@ abbrev pub command_size : Container → ℕ
 command_size Little = 56
 command_size Big = 72
 
--- no command is empty
-pub command_not_empty : (container : Container) → 0 < command_size container
-command_not_empty Little = omega arith
-command_not_empty Big = omega arith
-
--- where section k stands behind the command at an offset; a place past 64 bits is the last place that
--- 64 bits have, where nothing stands
+-- where section k stands behind the command at an offset
 abbrev pub section_place : Container → ℕ → ℕ → ℕ
-section_place container offset k = min (offset + command_size container + k * section_size container) (2 ^ 64 - 1)
+section_place container offset k = place_after offset (command_size container + k * section_size container)
 
 -- the section at a place with its data, or why it isn't there
 abbrev pub section_with_data : Ctx → List ℕ → ℕ → Result (Section × List ℕ) Fault

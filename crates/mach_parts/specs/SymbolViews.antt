@@ -1,10 +1,11 @@
 -- What contracts see of symbols.
-use Rattle.std.specs.Prelude.{ℕ, ◌-◌, List, Result, Ok, Err, length}
+use Rattle.std.specs.Prelude.{ℕ, ◌-◌, List, Result, Ok, length}
 use Rattle.std.specs.Borrow.{Bor}
 use Rattle.mach_base.specs.declared.error.Error.{Error}
-use Rattle.mach_base.specs.Fault.{Fault, fault_of}
+use Rattle.mach_base.specs.Fault.{Fault}
 use Rattle.mach_base.specs.Front.{Found}
-use Rattle.mach_parts.specs.Symbols.{SymbolTable, symbols_from}
+use Rattle.mach_parts.specs.Items.{items_from, read_as}
+use Rattle.mach_parts.specs.Symbols.{SymbolTable, symbol_at}
 use Rattle.mach_parts.specs.declared.symbols.nlist.Nlist.{Nlist}
 use Rattle.mach_parts.specs.declared.symbols.Table.{Table}
 use Rattle.mach_parts.specs.declared.symbols.Symbols.{Symbols}
@@ -20,12 +21,11 @@ table_of s = table_view s.table
 
 -- a symbol with its name, as it was read
 abbrev pub symbol_read : Result (Bor (List ℕ) × Nlist) Error → Result (List ℕ × Nlist) Fault
-symbol_read (Ok found) = Ok (found.0.now, found.1)
-symbol_read (Err e) = Err (fault_of e)
+symbol_read answer = read_as (λ found. (found.0.now, found.1)) answer
 
 -- what an iterator has yet to give
 abbrev pub symbols_left : SymbolIterator → List (Result (List ℕ × Nlist) Fault)
-symbols_left i = symbols_from (table_view i.table) i.index (i.table.nsyms - i.index)
+symbols_left i = items_from (symbol_at (table_view i.table)) i.index (i.table.nsyms - i.index)
 
 -- all bytes as a table without a command: records from 0 on
 abbrev pub symbols_front : SymbolsCtx → List ℕ → Found SymbolTable

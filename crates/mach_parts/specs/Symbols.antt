@@ -1,7 +1,6 @@
 -- Symbols (`mach-o/nlist.h`) and where they stand (`mach-o/loader.h`, struct symtab_command).
-use Rattle.std.specs.Prelude.{◌≡◌, ◌≢◌, ℕ, ◌+◌, ◌-◌, ◌*◌, ◌%◌, ◌^◌, List, [], ◌∷◌, map, length, Result, Ok, Err, nat_lt, nat_le, bit_and, codes, if◌then◌else◌}
+use Rattle.std.specs.Prelude.{◌≡◌, ◌≢◌, ℕ, ◌+◌, ◌-◌, ◌*◌, ◌%◌, ◌^◌, List, [], ◌∷◌, length, Result, Ok, Err, nat_lt, nat_le, bit_and, codes, if◌then◌else◌}
 use Rattle.std.specs.Int.{IsBitSet}
-use Rattle.std.specs.List.{range_with_len}
 use Rattle.mach_base.specs.declared.context.Endian.{Endian}
 use Rattle.mach_base.specs.declared.context.Container.{Container}
 use Rattle.mach_base.specs.declared.context.Container.TheVariants.{Little, Big}
@@ -13,6 +12,7 @@ use Rattle.mach_base.specs.Number.{bounded, place_after}
 use Rattle.mach_base.specs.Record.{Field, num, Value, number_is, number_among, values_in, spelling}
 use Rattle.mach_base.specs.Text.{text_at}
 use Rattle.mach_records.specs.declared.symbol_tables.SymtabCommand.{SymtabCommand}
+use Rattle.mach_parts.specs.Items.{items_from}
 use Rattle.mach_parts.specs.declared.symbols.nlist.Nlist32.{Nlist32}
 use Rattle.mach_parts.specs.declared.symbols.nlist.Nlist64.{Nlist64}
 use Rattle.mach_parts.specs.declared.symbols.nlist.Nlist.{Nlist}
@@ -157,13 +157,9 @@ symbol_at t k = do
   name ← text_at t.bytes (place_after t.strtab symbol.n_strx)
   Ok (name, symbol)
 
--- so many symbols from k on
-abbrev pub symbols_from : SymbolTable → ℕ → ℕ → List (Result (List ℕ × Nlist) Fault)
-symbols_from t k n = map (symbol_at t) (range_with_len k n)
-
 -- all symbols of a table
 abbrev pub symbols_of : SymbolTable → List (Result (List ℕ × Nlist) Fault)
-symbols_of t = symbols_from t 0 t.nsyms
+symbols_of t = items_from (symbol_at t) 0 t.nsyms
 
 -- the table that a command describes: its names don't stand before its records, which begin inside
 -- the bytes

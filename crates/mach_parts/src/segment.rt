@@ -303,13 +303,14 @@ impl<'a> From<Segment<'a>> for SegmentCommand64 {
 
 impl<'a> TryIntoCtx<Ctx> for Segment<'a> {
     ghost use Rattle.mach_parts.specs.Segment.{command_bytes, command_of};
-    ghost use Rattle.mach_parts.specs.Section.{command_not_empty};
+    ghost use Rattle.std.proofs.Common.{arith};
+    ghost use Rattle.mach_base.specs.declared.context.Container.TheVariants.{Little, Big};
 
     ghost spelled = { λ ctx s. command_bytes ctx.container ctx.le (command_of s) };
 
     ghost width = { λ ctx _. command_size ctx.container };
 
-    ghost not_empty = { λ ctx _. command_not_empty ctx.container };
+    ghost not_empty = { λ ctx _. elim ctx.container as (λ w. 0 < command_size w) [ Little ↦ omega arith | Big ↦ omega arith ] };
 
     /// Writes the command alone, in the form of the context's width.
     fn try_into_ctx(self, bytes: &mut [u8], ctx: Ctx) -> Result<usize> {

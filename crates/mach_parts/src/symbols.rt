@@ -7,6 +7,7 @@ ghost use Rattle.mach_base.specs.Answer.{Reads};
 ghost use Rattle.mach_parts.specs.Symbols.{symbol_place, symbol_at, symbols_of, table_at};
 ghost use Rattle.mach_parts.specs.SymbolViews.{table_of, table_view, symbol_read, symbols_left};
 
+pub mod laws;
 mod names;
 mod nlist;
 

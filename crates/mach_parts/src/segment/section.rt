@@ -1,6 +1,6 @@
 //! Sections (`mach-o/loader.h`).
 
-ghost use Rattle.std.specs.Prelude.{◌≡◌, IsTrue, ◌↔◌};
+ghost use Rattle.std.specs.Prelude.{◌≡◌, ◌<◌, IsTrue, ◌↔◌};
 ghost use Rattle.mach_base.specs.Answer.{Reads};
 ghost use Rattle.mach_base.specs.Text.{text_at};
 ghost use Rattle.mach_parts.specs.Section.{is_zero_fill, section_at, section_data};
@@ -239,13 +239,15 @@ impl TryIntoCtx<Ctx> for Section {
     ghost use Rattle.std.specs.Prelude.{length, Ok, OnErr, OnOk};
     ghost use Rattle.mach_base.specs.Number.{room_at};
     ghost use Rattle.mach_base.specs.Record.{IsWritten};
-    ghost use Rattle.mach_parts.specs.Section.{kept, section_bytes, section_size, section_not_empty};
+    ghost use Rattle.mach_parts.specs.Section.{kept, section_bytes, section_size};
+    ghost use Rattle.std.proofs.Common.{arith};
+    ghost use Rattle.mach_base.specs.declared.context.Container.TheVariants.{Little, Big};
 
     ghost spelled = { λ ctx s. section_bytes ctx.container ctx.le s };
 
     ghost width = { λ ctx _. section_size ctx.container };
 
-    ghost not_empty = { λ ctx _. section_not_empty ctx.container };
+    ghost not_empty = { λ ctx _. elim ctx.container as (λ w. 0 < section_size w) [ Little ↦ omega arith | Big ↦ omega arith ] };
 
     /// Writes the section in the form of the context's width.
     fn try_into_ctx(self, bytes: &mut [u8], ctx: Ctx) -> Result<usize>

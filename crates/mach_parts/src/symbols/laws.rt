@@ -1,0 +1,11 @@
+//! Laws of symbols.
+
+ghost use Rattle.std.specs.Prelude.{◌≡◌, ◌<◌, ℕ, Some, length, slice_get};
+ghost use Rattle.mach_parts.specs.Symbols.{SymbolTable, symbols_of, symbol_at};
+
+/// Symbols go by their number: there are so many as the table says, and the one of a number is the
+/// one that `get` gives, whatever the others are.
+pub fn symbols_by_number()
+    ensures count { (t : SymbolTable) → length (symbols_of t) ≡ t.nsyms }
+    ensures item { (t : SymbolTable) (k : ℕ) → k < t.nsyms → slice_get (symbols_of t) k ≡ Some (symbol_at t k) }
+{}
