@@ -2,7 +2,8 @@
 use Rattle.std.proofs.Common.{◌≡◌, ℕ, ◌+◌, ◌<◌, List, ◌∷◌, length, map, drop, get_or, Option, Some, None, refl, ap, ◌∙◌}
 use Rattle.mach_load.specs.declared.load_command.LoadCommand.{LoadCommand}
 use Rattle.mach_load.specs.Variants.{kind_in, variant_values, command_of}
-use Rattle.goblin_mach.specs.TrieRange.{TrieRange, range_by, cons_some, ranges_of}
+use Rattle.mach_dyld.specs.TrieRange.{TrieRange}
+use Rattle.goblin_mach.specs.ImageTrie.{range_by, cons_some, ranges_of}
 use Rattle.goblin_mach.proofs.Naming.{from_here}
 
 module _ (bytes : List ℕ) (xs : List LoadCommand) (i : ℕ) (d : LoadCommand) (lt : i < length xs) where

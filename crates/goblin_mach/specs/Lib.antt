@@ -1,8 +1,3 @@
-pub mod Trie
-pub mod Lists
-pub mod Paths
-pub mod Nodes
-pub mod TrieFault
 pub mod Magic
 pub mod Chain
 pub mod Image
@@ -10,6 +5,4 @@ pub mod Rows
 pub mod Header
 pub mod OpenImage
 pub mod Names
-pub mod TrieRange
-pub mod Exports
-pub mod NodeViews
+pub mod ImageTrie

@@ -7,8 +7,9 @@ use Rattle.goblin_mach.specs.Header.{IsHeader}
 use Rattle.goblin_mach.specs.Image.{OpensAs}
 use Rattle.mach_load.specs.Variants.{command_of}
 use Rattle.goblin_mach.specs.Names.{name_in, libs_in}
-use Rattle.goblin_mach.specs.TrieRange.{TrieRange, trie_in}
-use Rattle.goblin_mach.specs.Exports.{texts, text_in}
+use Rattle.goblin_mach.specs.ImageTrie.{trie_in}
+use Rattle.mach_dyld.specs.TrieRange.{TrieRange}
+use Rattle.mach_dyld.specs.Exports.{texts, text_in}
 use Rattle.goblin_mach.specs.declared.image.macho.MachO.{MachO}
 use Rattle.goblin_mach.specs.declared.image.mach.Mach.{Mach}
 use Rattle.goblin_mach.specs.declared.image.mach.Mach.TheVariants.{Binary}

@@ -6,3 +6,4 @@ pub mod mach;
 pub mod macho;
 pub mod magic;
 pub mod names;
+pub mod trie;

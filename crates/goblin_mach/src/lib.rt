@@ -2,7 +2,6 @@
 //! in, and every refusal a fault that stands in them.
 #![tactic(auto)]
 
-mod dyld;
 mod image;
 pub mod laws;
 mod parts;
@@ -14,21 +13,13 @@ pub use mach_base::{
     BE, Container, Ctx, Endian, Error, IntoCtx, LE, Record, Result, ScrollError, SizeWith, Sleb128,
     TryFromCtx, TryIntoCtx, Uleb128, gread_with, pread_with, pwrite_with, read_text,
 };
+pub use mach_dyld::exports;
 pub use mach_records::{constants, cputype};
 
 /// The header of an image.
 pub mod header {
     pub use crate::parts::header::{
         Header, Header32, Header64, MH_CIGAM, MH_CIGAM_64, MH_MAGIC, MH_MAGIC_64,
-    };
-}
-
-/// The exports of an image.
-pub mod exports {
-    pub use crate::dyld::exports::{Export, ExportTrie};
-    pub use crate::dyld::node::{
-        EXPORT_SYMBOL_FLAGS_KIND_MASK, EXPORT_SYMBOL_FLAGS_REEXPORT,
-        EXPORT_SYMBOL_FLAGS_STUB_AND_RESOLVER, ExportInfo,
     };
 }
 

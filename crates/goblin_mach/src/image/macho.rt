@@ -5,16 +5,17 @@ ghost use Rattle.mach_base.specs.Answer.{Stands, IsOkUnlessMemory};
 ghost use Rattle.goblin_mach.specs.Magic.{ncmds_at};
 ghost use Rattle.goblin_mach.specs.Header.{IsHeader};
 ghost use Rattle.goblin_mach.specs.Image.{HasHeader, CountsFit, Opens, ImageFault};
-ghost use Rattle.goblin_mach.specs.Trie.{Entry};
-ghost use Rattle.goblin_mach.specs.Exports.{texts, entries};
-ghost use Rattle.goblin_mach.specs.TrieRange.{ListsImageExports, ImageExportsFault};
+ghost use Rattle.mach_dyld.specs.Trie.{Entry};
+ghost use Rattle.mach_dyld.specs.Exports.{texts, entries};
+ghost use Rattle.goblin_mach.specs.ImageTrie.{ListsImageExports, ImageExportsFault};
 
-use crate::dyld::exports::{Export, ExportTrie, last_export_trie};
 use crate::image::commands::read_commands;
 use crate::image::magic::parse_magic_and_ctx;
 use crate::image::names::{id_name, libraries};
+use crate::image::trie::last_export_trie;
 use crate::parts::header::{Header, header_at, header_len};
 use mach_base::{Ctx, Error, Result};
+use mach_dyld::exports::{Export, ExportTrie};
 use mach_load::LoadCommand;
 use std::alloc::{Allocator, Global};
 
