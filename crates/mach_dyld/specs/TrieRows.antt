@@ -20,3 +20,13 @@ terminal_with_child =
 abbrev pub shared_node : List ℕ
 shared_node =
     (0x00 ∷ 0x02 ∷ 0x61 ∷ 0x00 ∷ 0x08 ∷ 0x62 ∷ 0x00 ∷ 0x08 ∷ 0x02 ∷ 0x00 ∷ 0x05 ∷ 0x00 ∷ [])
+
+-- a stub; an export of kind 3 with the bit of a re-export; one of kind 1 with the bit of a stub
+abbrev pub a_stub : List ℕ
+a_stub = (0x03 ∷ 0x10 ∷ 0x20 ∷ 0x30 ∷ 0x00 ∷ [])
+
+abbrev pub kind_3_with_reexport_bit : List ℕ
+kind_3_with_reexport_bit = (0x03 ∷ 0x0b ∷ 0x07 ∷ 0x00 ∷ 0x00 ∷ [])
+
+abbrev pub kind_1_with_stub_bit : List ℕ
+kind_1_with_stub_bit = (0x03 ∷ 0x11 ∷ 0x20 ∷ 0x30 ∷ 0x00 ∷ [])

@@ -5,3 +5,5 @@ pub mod exports;
 mod info;
 pub mod laws;
 mod node;
+#[cfg(test)]
+mod tests;
