@@ -8,3 +8,5 @@ pub mod TrieLevels
 pub mod TrieSteps
 pub mod TrieFaults
 pub mod TrieRelation
+pub mod AllPaths
+pub mod TerminalPaths

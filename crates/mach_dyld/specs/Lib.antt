@@ -1,6 +1,7 @@
 pub mod Trie
 pub mod Lists
 pub mod Paths
+pub mod TerminalPaths
 pub mod Nodes
 pub mod TrieFault
 pub mod TrieRange

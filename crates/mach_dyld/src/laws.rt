@@ -5,6 +5,7 @@ ghost use Rattle.mach_base.specs.Fault.{Fault};
 ghost use Rattle.mach_dyld.specs.Trie.{Trie, Entry};
 ghost use Rattle.mach_dyld.specs.Lists.{Lists, ListsWithin, list_within};
 ghost use Rattle.mach_dyld.specs.Paths.{Blocks, StartsFrom};
+ghost use Rattle.mach_dyld.specs.TerminalPaths.{ListsPaths};
 
 pub mod rows;
 
@@ -27,4 +28,10 @@ pub fn blocked_root_has_no_list()
 pub fn other_roots_have_lists()
     ensures { (t : Trie) (root from : ℕ) (prefix : List ℕ) → StartsFrom t from → from ≤ root → ((f : Fault) → Blocks t root f → ⊥)
         → (xs : List Entry) × (list_within t (t.upto - from) root prefix ≡ Some xs) }
+{}
+
+/// The list of a root has an export for each terminal path, in the order of paths, and nothing else: each
+/// has the name of its path, behind the prefix, and the own export of the node that the path leads to.
+pub fn exports_of_terminal_paths()
+    ensures { (t : Trie) (root : ℕ) (prefix : List ℕ) (xs : List Entry) → Lists t root prefix xs → (paths : List (List ℕ)) × ListsPaths t root prefix paths xs }
 {}
