@@ -1,15 +1,5 @@
-pub mod Computing
 pub mod Headers
 pub mod CommandAt
 pub mod Chains
 pub mod Readings
-pub mod Ranges
 pub mod Images
-pub mod NodeFaults
-pub mod Starts
-pub mod TrieRanges
-pub mod BranchSteps
-pub mod TrieLevels
-pub mod TrieSteps
-pub mod TrieFaults
-pub mod TrieRelation

@@ -40,9 +40,17 @@ module _ {V : Type 0} (reading : Reading V) (xs : List LoadCommand) (i : ℕ) (d
   taken v some =
       (ap (read_of reading) here ∙ rw some refl, λ rest. subst (AllRead reading) (sym here) (rw some refl, rest))
 
+  -- it may be passed over where it can't be read
+  pub dropped : (f : Fault) → this ≡ Some (Err f) → read_of reading (left i) ≡ read_of reading (left (i + 1))
+  dropped f some = ap (read_of reading) here ∙ rw some refl
+
   -- or it can't be read
   pub missed : (f : Fault) → this ≡ Some (Err f) → IsUnread reading (map command_of xs) f
   missed f some = record { command = command_of (get_or xs i d); among = among_here xs i d lt; fault = some }
+
+-- one more of a list moves to its front
+pub one_more : {V : Type 0} (front rest all : List V) (v : V) → front ++ (v ∷ rest) ≡ all → (front ++ v ∷ []) ++ rest ≡ all
+one_more front rest all v e = append_assoc front (v ∷ []) rest ∙ e
 
 -- an answer and how it is seen
 pub seen_none : {X V : Type 0} (view : X → V) (r : Option (Result X Error)) (there : Option (Result V Fault)) → seen_of view r ≡ there → r ≡ None → there ≡ None

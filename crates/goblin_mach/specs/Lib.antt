@@ -1,8 +1,3 @@
-pub mod Trie
-pub mod Lists
-pub mod Paths
-pub mod Nodes
-pub mod TrieFault
 pub mod Magic
 pub mod Chain
 pub mod Image
@@ -11,6 +6,4 @@ pub mod OpenImage
 pub mod Readings
 pub mod Names
 pub mod Tables
-pub mod TrieRange
-pub mod Exports
-pub mod NodeViews
+pub mod ImageTrie

@@ -9,8 +9,9 @@ use Rattle.mach_load.specs.Variants.{command_of}
 use Rattle.mach_parts.specs.SymbolViews.{table_of}
 use Rattle.goblin_mach.specs.Names.{name_in, libs_in}
 use Rattle.goblin_mach.specs.Tables.{table_in}
-use Rattle.goblin_mach.specs.TrieRange.{TrieRange, trie_in}
-use Rattle.goblin_mach.specs.Exports.{texts, text_in}
+use Rattle.goblin_mach.specs.ImageTrie.{trie_in}
+use Rattle.mach_dyld.specs.TrieRange.{TrieRange}
+use Rattle.mach_dyld.specs.Exports.{texts, text_in}
 use Rattle.goblin_mach.specs.declared.image.macho.MachO.{MachO}
 use Rattle.goblin_mach.specs.declared.image.mach.Mach.{Mach}
 use Rattle.goblin_mach.specs.declared.image.mach.Mach.TheVariants.{Binary}

@@ -2,7 +2,6 @@
 //! in, and every refusal a fault that stands in them.
 #![tactic(auto)]
 
-mod dyld;
 mod image;
 pub mod laws;
 
@@ -13,17 +12,9 @@ pub use mach_base::{
     BE, Container, Ctx, Endian, Error, IntoCtx, LE, Record, Result, ScrollError, SizeWith, Sleb128,
     TryFromCtx, TryIntoCtx, Uleb128, gread_with, pread_with, pwrite_with, read_text,
 };
-pub use mach_parts::{fat, header};
+pub use mach_dyld::exports;
+pub use mach_parts::{fat, header, relocation, segment, symbols};
 pub use mach_records::{constants, cputype};
-
-/// The exports of an image.
-pub mod exports {
-    pub use crate::dyld::exports::{Export, ExportTrie};
-    pub use crate::dyld::node::{
-        EXPORT_SYMBOL_FLAGS_KIND_MASK, EXPORT_SYMBOL_FLAGS_REEXPORT,
-        EXPORT_SYMBOL_FLAGS_STUB_AND_RESOLVER, ExportInfo,
-    };
-}
 
 /// Load commands: their records, constants and names.
 pub mod load_command {

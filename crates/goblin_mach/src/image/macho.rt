@@ -5,16 +5,16 @@ ghost use Rattle.mach_base.specs.Answer.{Stands, IsOkUnlessMemory};
 ghost use Rattle.goblin_mach.specs.Magic.{ncmds_at};
 ghost use Rattle.mach_parts.specs.Header.{IsHeader};
 ghost use Rattle.goblin_mach.specs.Image.{HasHeader, CountsFit, Opens, ImageFault};
-ghost use Rattle.goblin_mach.specs.Trie.{Entry};
-ghost use Rattle.goblin_mach.specs.Exports.{texts, entries};
-ghost use Rattle.goblin_mach.specs.TrieRange.{ListsImageExports, ImageExportsFault};
+ghost use Rattle.mach_dyld.specs.Trie.{Entry};
+ghost use Rattle.mach_dyld.specs.Exports.{texts, entries};
+ghost use Rattle.goblin_mach.specs.ImageTrie.{ListsImageExports, ImageExportsFault};
 
-use crate::dyld::exports::{Export, ExportTrie, last_export_trie};
 use crate::image::commands::read_commands;
 use crate::image::magic::parse_magic_and_ctx;
-use crate::image::readings::{all_read, last_read};
-use crate::image::subjects::{Ids, Libraries, SymbolTables};
+use crate::image::readings::{all_read, last_read, last_readable};
+use crate::image::subjects::{Ids, Libraries, SymbolTables, Tries};
 use mach_base::{Ctx, Error, Result, SizeWith, pread_with};
+use mach_dyld::exports::{Export, ExportTrie};
 use mach_load::LoadCommand;
 use mach_parts::header::Header;
 use mach_parts::symbols::{SymbolIterator, Symbols};
@@ -65,7 +65,7 @@ impl<'a, A: Allocator + Clone> MachO<'a, A> {
         let itself = vec![in alloc; name.unwrap_or("self")]?;
         let libs = all_read(itself, &Libraries { bytes }, &load_commands)?;
         let symbols = last_read(&SymbolTables { bytes, ctx }, &load_commands)?;
-        let export_trie = last_export_trie(bytes, &load_commands);
+        let export_trie = last_readable(&Tries { bytes }, &load_commands);
         Ok(MachO {
             header,
             load_commands,

@@ -1,7 +1,7 @@
 //! What is read off the commands of an image, subject by subject.
 
 ghost use Rattle.std.specs.Prelude.{◌≡◌, ◌++◌, List, map, option_map, IfOk, IfErr};
-ghost use Rattle.mach_base.specs.Answer.{Stands};
+ghost use Rattle.mach_base.specs.Answer.{Stands, IsOkUnlessMemory};
 ghost use Rattle.mach_load.specs.Variants.{command_of};
 ghost use Rattle.goblin_mach.specs.Readings.{Reading, read_of, last_of, AllRead, IsUnread, seen_of};
 
@@ -58,6 +58,45 @@ pub fn all_read<S: Subject, A: Allocator>(
             continue;
         };
         values.push(found?)?;
+    }
+    Ok(values)
+}
+
+/// What the last readable command of a subject says.
+pub fn last_readable<S: Subject>(subject: &S, commands: &[LoadCommand]) -> Option<S::Value>
+    ensures { option_map S.seen result ≡ last_of (read_of (S.reading subject.now) (map command_of commands.now)) }
+{
+    let mut last = None;
+    for command in commands {
+        let Some(found) = subject.read(command) else {
+            continue;
+        };
+        let Ok(value) = found else {
+            continue;
+        };
+        last = Some(value);
+    }
+    last
+}
+
+/// What the readable commands of a subject say, after the values given.
+pub fn all_readable<S: Subject, A: Allocator>(
+    first: Vec<S::Value, A>,
+    subject: &S,
+    commands: &[LoadCommand],
+) -> Result<Vec<S::Value, A>>
+    ensures found { IfOk result (λ values. map S.seen values.items ≡ map S.seen first.items ++ read_of (S.reading subject.now) (map command_of commands.now)) }
+    ensures only { IsOkUnlessMemory result }
+{
+    let mut values = first;
+    for command in commands {
+        let Some(found) = subject.read(command) else {
+            continue;
+        };
+        let Ok(value) = found else {
+            continue;
+        };
+        values.push(value)?;
     }
     Ok(values)
 }

@@ -1,4 +1,4 @@
-//! The subjects of an image's commands: libraries, its own name, symbols.
+//! The subjects of an image's commands: libraries, its own name, symbols, the export trie.
 
 ghost use Rattle.std.specs.Prelude.{◌≡◌, List, ℕ, Some, None, if◌then◌else◌};
 ghost use Rattle.mach_base.specs.Number.{place_after};
@@ -8,6 +8,7 @@ ghost use Rattle.goblin_mach.specs.Tables.{table_by};
 
 use crate::image::readings::Subject;
 use mach_base::{Ctx, Result, read_text};
+use mach_dyld::exports::ExportTrie;
 use mach_load::{CommandVariant, LoadCommand};
 use mach_parts::symbols::Symbols;
 
@@ -104,6 +105,38 @@ impl<'a> Subject for SymbolTables<'a> {
     fn read(&self, command: &LoadCommand) -> Option<Result<Symbols<'a>>> {
         match &command.command {
             CommandVariant::Symtab(c) => Some(Symbols::parse(self.bytes, c, self.ctx)),
+            _ => None,
+        }
+    }
+}
+
+/// The export trie of the image.
+#[derive(Clone, Copy)]
+pub struct Tries<'a> {
+    pub bytes: &'a [u8],
+}
+
+impl<'a> Subject for Tries<'a> {
+    type Value = ExportTrie<'a>;
+
+    ghost use Rattle.mach_dyld.specs.TrieRange.{TrieRange};
+    ghost use Rattle.goblin_mach.specs.ImageTrie.{trie_by};
+
+    ghost Seen = { TrieRange };
+
+    ghost seen = { λ trie. trie };
+
+    ghost reading = { λ s. trie_by s.bytes.now };
+
+    /// It is never refused.
+    fn read(&self, command: &LoadCommand) -> Option<Result<ExportTrie<'a>>> {
+        match &command.command {
+            CommandVariant::DyldInfo(c) | CommandVariant::DyldInfoOnly(c) => {
+                Some(Ok(ExportTrie::new(self.bytes, c)))
+            }
+            CommandVariant::DyldExportsTrie(c) => Some(Ok(
+                ExportTrie::new_from_linkedit_data_command(self.bytes, c),
+            )),
             _ => None,
         }
     }

@@ -2,17 +2,12 @@
 
 ghost use Rattle.std.specs.Prelude.{◌≡◌, ◌∷◌, ◌++◌, [], ℕ, List, codes, map, replicate, Ok, Err};
 ghost use Rattle.mach_base.specs.declared.context.Endian.TheVariants.{Little};
-ghost use Rattle.mach_base.specs.Fault.{malformed, bad_input};
+ghost use Rattle.mach_base.specs.Fault.{bad_input};
 ghost use Rattle.mach_base.specs.Leb128.{Spells, uleb_at};
 ghost use Rattle.mach_base.specs.Record.{number_is, bytes_are};
 ghost use Rattle.mach_load.specs.Commands.{uuid, segment64, load_dylib, dyld_info_only, symtab, main};
 ghost use Rattle.goblin_mach.specs.Chain.{IsChain};
-ghost use Rattle.goblin_mach.specs.Trie.{entry, regular};
-ghost use Rattle.goblin_mach.specs.Lists.{Lists};
-ghost use Rattle.goblin_mach.specs.Paths.{Blocks};
-ghost use Rattle.goblin_mach.specs.Nodes.{trie_of};
-ghost use Rattle.goblin_mach.specs.TrieFault.{TrieFault};
-ghost use Rattle.goblin_mach.specs.Rows.{file_a, file_b, exports_vector, back_to_root, terminal_with_child, shared_node};
+ghost use Rattle.goblin_mach.specs.Rows.{file_a, file_b};
 
 /// Three spellings: one of 624485, the longest of the largest number, and one too long.
 pub fn spellings()
@@ -41,27 +36,4 @@ pub fn chain_of_file_b()
         ∷ record { offset = 0xd8; kind = dyld_info_only; values = map number_is (0x80000022 ∷ 48 ∷ 0 ∷ 0 ∷ 312 ∷ 8 ∷ 0 ∷ 0 ∷ 320 ∷ 8 ∷ 328 ∷ 11 ∷ []) }
         ∷ record { offset = 0x108; kind = symtab; values = map number_is (0x2 ∷ 24 ∷ 352 ∷ 1 ∷ 368 ∷ 8 ∷ []) }
         ∷ record { offset = 0x120; kind = main; values = map number_is (0x80000028 ∷ 24 ∷ 0x138 ∷ 0 ∷ []) } ∷ []) }
-{}
-
-/// The three exports of the trie `exports_vector`.
-pub fn list_of_exports_vector()
-    ensures { Lists (trie_of exports_vector [] 0 64) 0 []
-        (entry (codes "__mh_execute_header") (regular 0x0 0)
-        ∷ entry (codes "_maximum") (regular 0xf40 0)
-        ∷ entry (codes "_main") (regular 0xf50 0) ∷ []) }
-{}
-
-/// A node that leads back to the root: a fault stands, and there is no list.
-pub fn fault_of_back_to_root()
-    ensures { TrieFault back_to_root [] 0 5 0 malformed }
-{}
-
-/// A node with an own export lists it before its child's.
-pub fn list_of_terminal_with_child()
-    ensures { Lists (trie_of terminal_with_child [] 0 11) 0 [] (entry [] (regular 7 0) ∷ entry (codes "a") (regular 9 0) ∷ []) }
-{}
-
-/// A node reached by two branches is listed by both.
-pub fn list_of_shared_node()
-    ensures { Lists (trie_of shared_node [] 0 12) 0 [] (entry (codes "a") (regular 5 0) ∷ entry (codes "b") (regular 5 0) ∷ []) }
 {}

@@ -90,7 +90,7 @@ fn tables(rt: HostRuntime) -> std::result::Result<(), Fail> {
     );
     assert!(rt;
         matches!(
-            Symbols::parse(&bytes[..352], &command(0), Ctx::default()),
+            Symbols::parse(bytes.get(..352).unwrap_or(&[]), &command(0), Ctx::default()),
             Err(Error::Scroll(ScrollError::BadOffset(352)))
         )
     );

@@ -32,7 +32,7 @@ const THREE: &str =
 fn rows(rt: HostRuntime) -> Result<(), Fail> {
     let alloc = rt.alloc();
     let libs = ["self", "/usr/lib/libfoo.dylib"];
-    let rows: [(&str, &[u8], &str); 9] = [
+    let rows: [(&str, &[u8], &str); 11] = [
         ("exports_vector", &EXPORTS, THREE),
         ("back_to_root", &[0, 1, 0x61, 0, 0], "malformed"),
         ("child_past_range", &[0, 1, 0x61, 0, 5], ""),
@@ -54,9 +54,19 @@ fn rows(rt: HostRuntime) -> Result<(), Fail> {
         ("reexport_bad_ordinal", &[3, 8, 2, 0, 0], "malformed"),
         ("trie_count_127", &[0, 0x7f], "too short 127 branches"),
         (
-            "a stub, until stubs are read",
+            "stub",
             &[3, 0x10, 0x20, 0x30, 0],
-            "malformed",
+            "[] stub 0x20 resolver 0x30 flags 0x10 at 0x0 of 0; ",
+        ),
+        (
+            "kind 3 with the bit of a re-export",
+            &[3, 0x0b, 7, 0, 0],
+            "[] regular 0x7 flags 0xb at 0x7 of 0; ",
+        ),
+        (
+            "kind 1 with the bit of a stub",
+            &[3, 0x11, 0x20, 0x30, 0],
+            "[] regular 0x20 flags 0x11 at 0x20 of 0; ",
         ),
     ];
     for (name, bytes, want) in rows {

@@ -56,6 +56,16 @@ pub fn exports<A: Allocator>(
                 "[{name}] {} of {lib} flags {flags:#x}",
                 lib_symbol_name.unwrap_or("the same")
             )?,
+            ExportInfo::Stub {
+                stub_offset,
+                resolver_offset,
+                flags,
+            } => write!(
+                text,
+                "[{name}] stub {:#x} resolver {:#x} flags {flags:#x}",
+                u64::from(*stub_offset),
+                u64::from(*resolver_offset)
+            )?,
         }
         write!(text, " at {:#x} of {}; ", export.offset, export.size)?;
     }

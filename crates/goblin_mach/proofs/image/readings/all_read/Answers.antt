@@ -1,15 +1,11 @@
-use Rattle.std.proofs.Common.{◌≡◌, ◌∙◌, ◌++◌, ◌∷◌, [], List, Some, sym, ap, map, append_assoc}
+use Rattle.std.proofs.Common.{◌∙◌, ◌++◌, Some, sym, ap, map}
 use Rattle.std.proofs.lemmas.List.{map_push}
 use Rattle.std.proofs.lemmas.Result.{err_from_is_err_and}
 use Rattle.mach_load.specs.Variants.{command_of}
 use Rattle.mach_base.proofs.Faults.{Stands-reported}
 use Rattle.goblin_mach.specs.Readings.{IsUnread}
-use Rattle.goblin_mach.proofs.Readings.{passed, taken, missed, seen_none, seen_some, seen_fault}
+use Rattle.goblin_mach.proofs.Readings.{passed, taken, missed, seen_none, seen_some, seen_fault, one_more}
 use Rattle.goblin_mach.proofs.image.readings.all_read.Goals as goal
-
--- one more of a list moves to its front
-moved : {V : Type 0} (front rest all : List V) (v : V) → front ++ (v ∷ rest) ≡ all → (front ++ v ∷ []) ++ rest ≡ all
-moved front rest all v e = append_assoc front (v ∷ []) rest ∙ e
 
 pub loop-command-preserved-in_default : goal.loop-command-preserved-in_default
 loop-command-preserved-in_default g c =
@@ -32,6 +28,6 @@ loop-command-preserved g c =
     let step = taken (g.S.Subject.reading c.args.subject.now) c.args.commands.now c.loop-command.command-index _ c.loop-command-test.true _ (seen_some g.S.Subject.seen c.read.result _ _ c.read.ensures (c.in-Some.is ∙ ap Some c.in_ok-found.was)) in
     let all = sym (ap (λ rest. map g.S.Subject.seen c.loop-command.values.items ++ rest) step.0) ∙ c.loop-command.invariant.found in
     record {
-      found = rw (c.in_ok-push.ensures.items, map_push) (moved _ _ _ (g.S.Subject.seen value) all);
+      found = rw (c.in_ok-push.ensures.items, map_push) (one_more _ _ _ (g.S.Subject.seen value) all);
       all = λ rest. c.loop-command.invariant.all (step.1 rest);
     }

@@ -1,6 +1,0 @@
-use Rattle.goblin_mach.proofs.TrieFaults.{no_list}
-use Rattle.goblin_mach.proofs.TrieRelation.{within}
-use Rattle.goblin_mach.proofs.dyld.laws.blocked_root_has_no_list.Goals as goal
-
-pub returns : goal.returns
-returns c = λ t root f prefix xs blocks list. no_list t root f prefix xs blocks (within t root prefix xs list)

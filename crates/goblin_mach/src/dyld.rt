@@ -1,5 +1,0 @@
-//! The export trie.
-
-pub mod exports;
-pub mod laws;
-pub mod node;

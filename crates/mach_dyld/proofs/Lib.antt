@@ -1,0 +1,12 @@
+pub mod Computing
+pub mod NodeFaults
+pub mod Starts
+pub mod Spellings
+pub mod TrieRanges
+pub mod BranchSteps
+pub mod TrieLevels
+pub mod TrieSteps
+pub mod TrieFaults
+pub mod TrieRelation
+pub mod AllPaths
+pub mod TerminalPaths

@@ -1,0 +1,11 @@
+pub mod Trie
+pub mod Lists
+pub mod Paths
+pub mod TerminalPaths
+pub mod Nodes
+pub mod TrieFault
+pub mod TrieRange
+pub mod TrieRows
+pub mod Exports
+pub mod SymbolKind
+pub mod NodeViews

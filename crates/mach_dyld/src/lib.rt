@@ -1,0 +1,9 @@
+//! What dyld reads of an image: its export trie, and the opcodes that bind its imports.
+#![tactic(auto)]
+
+pub mod exports;
+mod info;
+pub mod laws;
+mod node;
+#[cfg(test)]
+mod tests;

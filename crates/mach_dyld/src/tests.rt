@@ -1,0 +1,3 @@
+//! Tests of what dyld reads.
+
+mod exports;
