@@ -2,10 +2,12 @@
 
 mod file_b;
 
+use crate::segment::laws::section_written_and_read;
 use crate::segment::tests::file_b::FILE_B;
 use crate::segment::{Section, Segment, Segments};
 use mach_base::{
-    Container, Ctx, Error, LE, Record, ScrollError, TryFromCtx, TryIntoCtx, pread_with, pwrite_with,
+    BE, Container, Ctx, Error, LE, Record, ScrollError, TryFromCtx, TryIntoCtx, pread_with,
+    pwrite_with,
 };
 use mach_records::{LC_SEGMENT, Section32, SegmentCommand32, SegmentCommand64};
 use std::test::Fail;
@@ -82,18 +84,40 @@ fn relocations_past_the_end(rt: HostRuntime) {
     assert!(rt; relocations.next().is_none());
 }
 
+// A section whose address has 33 bits.
+fn high_section() -> Section {
+    let mut section = Section::default();
+    section.addr = 0x1_0000_0001;
+    section
+}
+
 #[test]
 fn low_bits_of_an_address(rt: HostRuntime) -> Result<(), Fail> {
-    let mut section = Section::default();
-    section.addr = 0x1_0000_0001;
-    assert_eq!(rt; Section32::from(section).addr, 1);
-    let mut section = Section::default();
-    section.addr = 0x1_0000_0001;
-    let mut bytes = [0; 80];
+    assert_eq!(rt; Section32::from(high_section()).addr, 1);
+    let mut bytes = [0; 84];
     let narrow = Ctx::new(Container::Little, LE);
-    assert_eq!(rt; pwrite_with(&mut bytes, section, 4, narrow)?, 68);
+    assert_eq!(rt; pwrite_with(&mut bytes, high_section(), 4, narrow)?, 68);
     let again: Section = pread_with(&bytes, 4, narrow)?;
     assert_eq!(rt; again.addr, 1);
+    Ok(())
+}
+
+#[test]
+fn section_written(rt: HostRuntime) -> Result<(), Fail> {
+    let mut bytes = [7; 81];
+    let wide = Ctx::new(Container::Big, BE);
+    let again = section_written_and_read(high_section(), &mut bytes, wide)?;
+    assert_eq!(rt; again.addr, 0x1_0000_0001);
+    assert_eq!(rt; &bytes[32..40], [0, 0, 0, 1, 0, 0, 0, 1].as_slice());
+    assert_eq!(rt; bytes[80], 7);
+    let mut short = [7; 79];
+    assert!(rt;
+        matches!(
+            section_written_and_read(high_section(), &mut short, wide),
+            Err(Error::Scroll(ScrollError::TooBig { size: 80, len: 79 }))
+        )
+    );
+    assert_eq!(rt; short, [7; 79]);
     Ok(())
 }
 
@@ -156,6 +180,9 @@ fn segments_in_order(rt: HostRuntime) -> Result<(), Fail> {
     }
     assert!(rt; segments.get_mut(2).is_none());
     assert_eq!(rt; segments.iter().count(), 2);
+    for segment in &segments {
+        assert_eq!(rt; segment.filesize, segment.bytes.len() as u64);
+    }
     let mut sections = segments.sections();
     assert_eq!(rt; sections.next().map(|found| found.len()), Some(0));
     assert_eq!(rt; sections.next().map(|found| found.len()), Some(1));
