@@ -1,0 +1,6 @@
+pub mod BindPlaces
+pub mod BindReading
+pub mod BindModulus
+pub mod BindSettings
+pub mod BindSteps
+pub mod BindLists

@@ -1,0 +1,5 @@
+//! What the dynamic linker reads: bind opcodes and the imports that they list.
+#![tactic(auto)]
+
+pub mod bind_opcodes;
+pub mod imports;
