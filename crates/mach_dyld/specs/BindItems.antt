@@ -2,7 +2,6 @@
 -- need it; that of `iter` says that the items at the start are those of the definitions.
 use Rattle.std.specs.Prelude.{◌≡◌, ◌+◌, ◌-◌, ◌%◌, ◌^◌, ◌<◌, ◌≤◌, ℕ, zero, suc, pos, List, [], ◌∷◌, ◌++◌, map, Bool, true, false, Option, Some, None, Result, Ok, Err, nat_lt, if◌then◌else◌}
 use Rattle.mach_base.specs.declared.error.Error.{Error}
-use Rattle.mach_base.specs.Context.{pointer_size}
 use Rattle.mach_base.specs.Fault.{Fault, fault_of}
 use Rattle.mach_dyld.specs.Instructions as instructions
 use Rattle.mach_dyld.specs.Instructions.{done, library, symbol, addend, segment, advance, binds, nothing, instruction_at}

@@ -3,3 +3,5 @@
 
 pub mod bind_opcodes;
 pub mod imports;
+#[cfg(test)]
+mod tests;

@@ -10,7 +10,7 @@ use crate::imports::Import;
 use crate::imports::instruction::{Instruction, read_instruction};
 use crate::imports::settings::Settings;
 use crate::imports::source::Source;
-use mach_base::{Error, Result};
+use mach_base::Result;
 
 // How far the reading of a stream has come.
 #[derive(Clone, Copy, Debug)]

@@ -52,12 +52,7 @@ fn library<'a>(libs: &[&'a str], number: u64) -> Result<&'a str>
 
 // Where an offset in a segment lies in the file, and in memory.
 #[tactic(auto, unfolding(crate::specs::Imports::target_of))]
-fn target<'a>(
-    source: &Source<'a, '_>,
-    number: u64,
-    segment: u8,
-    offset: u64,
-) -> Result<Place<'a>>
+fn target<'a>(source: &Source<'a, '_>, number: u64, segment: u8, offset: u64) -> Result<Place<'a>>
     ensures { Reads target_in result (target_of (input_of source.now) number segment offset) }
 {
     let dylib = library(source.libs, number)?;

@@ -1,0 +1,3 @@
+//! The worked rows of docs/FORMAT.md, and which answers come where memory runs out.
+
+mod imports;
