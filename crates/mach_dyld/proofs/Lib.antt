@@ -4,3 +4,4 @@ pub mod BindModulus
 pub mod BindSettings
 pub mod BindSteps
 pub mod BindLists
+pub mod BindTotal

@@ -203,3 +203,7 @@ state_of s = record {
 -- the items that are left
 unfoldable pub items_left : BindIterator → List (Result imports.Import Fault)
 items_left it = items_of (input_of it.source) (lazy_of it) (state_of it.state)
+
+-- all that was left is the error's fault, and now nothing is left
+abbrev pub FailsWith : BindIterator → BindIterator → Error → Type 0
+FailsWith old new e = (items_left old ≡ Err (fault_of e) ∷ []) × (items_left new ≡ [])

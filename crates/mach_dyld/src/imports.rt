@@ -17,7 +17,7 @@ mod source;
 
 use crate::imports::iterator::{BindIterator, State};
 use crate::imports::source::Source;
-use mach_base::{Ctx, Result};
+use mach_base::{Container, Ctx, Result};
 use mach_parts::segment::Segment;
 use mach_records::DyldInfoCommand;
 use std::alloc::Allocator;
@@ -62,13 +62,28 @@ impl<'a> Model for BindInterpreter<'a> {
 
     ghost Value = { BindRanges };
 
-    ghost view = { λ b. record { bytes = b.bytes.now; non_lazy = record { from = b.from; upto = b.upto; is_lazy = false }; lazy = record { from = b.lazy_from; upto = b.lazy_upto; is_lazy = true } } };
+    ghost view = { λ b. record {
+      bytes = b.bytes.now;
+      non_lazy = record { from = b.from; upto = b.upto; is_lazy = false };
+      lazy = record { from = b.lazy_from; upto = b.lazy_upto; is_lazy = true };
+    } };
+}
+
+// How many bytes a pointer has.
+fn pointer_len(ctx: Ctx) -> u8
+    ensures { result ≡ pointer_size ctx.container }
+{
+    match ctx.container {
+        Container::Little => 4,
+        Container::Big => 8,
+    }
 }
 
 impl<'a> BindInterpreter<'a> {
     /// The streams that a command with the dynamic linker's information brings.
     pub fn new(bytes: &'a [u8], command: &DyldInfoCommand) -> Self
-        ensures { result ≡ bind_ranges bytes.now command.now.bind_off command.now.bind_size command.now.lazy_bind_off command.now.lazy_bind_size }
+        ensures { result ≡ bind_ranges bytes.now command.now.bind_off command.now.bind_size
+            command.now.lazy_bind_off command.now.lazy_bind_size }
     {
         let from = command.bind_off as usize;
         let lazy_from = command.lazy_bind_off as usize;
@@ -88,13 +103,14 @@ impl<'a> BindInterpreter<'a> {
         segments: &'b [Segment<'a>],
         ctx: Ctx,
     ) -> BindIterator<'a, 'b>
-        ensures items { (ps : List Placed) × (qs : List Placed) × AreItems (input_in self.now (pointer_size ctx.container) (lib_names libs.now) segments.now) self.now.non_lazy self.now.lazy ps qs (items_left result) }
-        ensures pointer { result.source.pointer ≡ pointer_size ctx.container }
+        ensures { (ps : List Placed) × (qs : List Placed)
+            × AreItems (input_in self.now (pointer_size ctx.container) (lib_names libs.now) segments.now)
+            self.now.non_lazy self.now.lazy ps qs (items_left result) }
     {
         BindIterator {
             source: Source {
                 bytes: self.bytes,
-                pointer: ctx.size() as u64,
+                pointer: pointer_len(ctx),
                 libs,
                 segments,
             },
@@ -114,9 +130,12 @@ impl<'a> BindInterpreter<'a> {
         segments: &[Segment<'a>],
         ctx: Ctx,
     ) -> Result<Vec<Import<'a>, A>>
-        ensures listed { IfOk result (λ v. ListsImports self.now (pointer_size ctx.container) (lib_names libs.now) segments.now (imports_seen v.items)) }
-        ensures only { (list : List (defined.Import)) → ListsImports self.now (pointer_size ctx.container) (lib_names libs.now) segments.now list → IsOkUnlessMemory result }
-        ensures refused { IfErr result (Stands (BindFault self.now (pointer_size ctx.container) (lib_names libs.now) segments.now)) }
+        ensures listed { IfOk result (λ v. ListsImports self.now (pointer_size ctx.container)
+            (lib_names libs.now) segments.now (imports_seen v.items)) }
+        ensures only { (list : List (defined.Import)) → ListsImports self.now (pointer_size ctx.container)
+            (lib_names libs.now) segments.now list → IsOkUnlessMemory result }
+        ensures refused { IfErr result (Stands (BindFault self.now (pointer_size ctx.container)
+            (lib_names libs.now) segments.now)) }
     {
         let mut left = self.iter(libs, segments, ctx);
         let mut found = Vec::new(alloc);

@@ -9,7 +9,7 @@ use crate::bind_opcodes::*;
 use mach_base::{Error, Result, ScrollError, read_text, sleb, uleb};
 
 /// An instruction with its operands.
-#[derive(Clone, Copy, Debug)]
+#[derive(Clone, Copy)]
 pub enum Instruction<'a> {
     /// Fresh values.
     Done,
@@ -72,12 +72,11 @@ fn times(bytes: &[u8], place: usize) -> Result<(Instruction<'_>, usize)>
 #[tactic(auto, unfolding(crate::specs::Instructions::row_at, crate::specs::Instructions::with_uleb))]
 fn row(
     bytes: &[u8],
-    pointer: u64,
+    pointer: u8,
     opcode: Opcode,
     imm: u8,
     place: usize,
 ) -> Result<(Instruction<'_>, usize)>
-    requires { pointer ≤ 8 }
     ensures { Reads (λ found. (instruction_of found.0, found.1)) result (row_at pointer bytes.now opcode imm place) }
 {
     match opcode {
@@ -104,7 +103,7 @@ fn row(
             Ok((Instruction::Binds { count: 1, skip }, after))
         }
         BIND_OPCODE_DO_BIND_ADD_ADDR_IMM_SCALED => {
-            let skip = u64::from(imm) * pointer;
+            let skip = u64::from(imm) * u64::from(pointer);
             Ok((Instruction::Binds { count: 1, skip }, place))
         }
         BIND_OPCODE_DO_BIND_ULEB_TIMES_SKIPPING_ULEB => times(bytes, place),
@@ -114,12 +113,7 @@ fn row(
 
 /// The instruction at a place, and the place after it. A pointer has so many bytes.
 #[tactic(auto, unfolding(crate::specs::Instructions::instruction_at))]
-pub fn read_instruction(
-    bytes: &[u8],
-    pointer: u64,
-    place: usize,
-) -> Result<(Instruction<'_>, usize)>
-    requires { pointer ≤ 8 }
+pub fn read_instruction(bytes: &[u8], pointer: u8, place: usize) -> Result<(Instruction<'_>, usize)>
     ensures { Reads (λ found. (instruction_of found.0, found.1)) result (instruction_at pointer bytes.now place) }
 {
     let byte = byte(bytes, place)?;

@@ -13,17 +13,17 @@ use mach_base::{Error, Result};
 use mach_parts::segment::Segment;
 
 /// What the binds of an image are read from.
-#[derive(Clone, Copy, Debug)]
+#[derive(Drop)]
 pub struct Source<'a, 'b> {
     pub bytes: &'a [u8],
     /// How many bytes a pointer has.
-    pub pointer: u64,
+    pub pointer: u8,
     pub libs: &'b [&'a str],
     pub segments: &'b [Segment<'a>],
 }
 
 // What a library, a segment and an offset in it stand for.
-#[derive(Clone, Copy)]
+#[derive(Drop)]
 struct Place<'a> {
     dylib: &'a str,
     offset: u64,

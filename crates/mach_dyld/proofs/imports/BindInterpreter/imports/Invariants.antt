@@ -5,10 +5,7 @@ use Rattle.mach_dyld.proofs.BindLists.{oks}
 use Rattle.mach_dyld.proofs.imports.BindInterpreter.imports.Given as goal
 
 abbrev pub invariant-items : goal.invariant-items
-invariant-items g l = record {
-  items : items_left l.initial.left ≡ oks (imports_seen l.found.items) ++ items_left l.left;
-  small : l.left.source.pointer ≤ 8;
-}
+invariant-items g l = items_left l.initial.left ≡ oks (imports_seen l.found.items) ++ items_left l.left
 
 abbrev pub decreases-items : goal.decreases-items
 decreases-items g l = length (items_left l.left)

@@ -6,13 +6,13 @@ use Rattle.mach_dyld.specs.BindItems.{items_left, start_of}
 use Rattle.mach_dyld.proofs.BindLists.{start_of_ranges}
 use Rattle.mach_dyld.proofs.imports.BindInterpreter.iter.Goals as goal
 
-pub returns-clause-items : goal.returns-clause-items
+pub returns : goal.returns
 unfolding items_left
-returns-clause-items c =
+returns c =
     let b = c.args.self.now in
     let libs = lib_names c.args.libs.now in
     let segments = c.args.segments.now in
     let view = c.self.view_is in
     start_of_ranges b (pointer_size c.args.ctx.container) libs segments _ _ _ (ap (λ (r : BindRanges). r.non_lazy.is_lazy) (sym view))
-    (ap (λ (r : BindRanges). input_in r c.size.result libs segments) view ∙ ap (λ p. input_in b p libs segments) c.size.ensures)
+    (ap (λ (r : BindRanges). input_in r c.pointer_len.result libs segments) view ∙ ap (λ p. input_in b p libs segments) c.pointer_len.ensures)
     (ap (λ (r : BindRanges). r.lazy) view) (c.start.ensures ∙ ap (λ (r : BindRanges). start_of r.non_lazy) view)

@@ -6,8 +6,6 @@ abbrev pub invariant-reading : goal.invariant-reading
 invariant-reading l = record {
   items : items_left l.initial.self ≡ items_left l.self;
   on : l.self.state.ended ≡ false;
-  pointer : l.self.source.pointer ≡ l.initial.self.source.pointer;
-  small : l.self.source.pointer ≤ 8;
   is_lazy : l.self.state.settings.is_lazy ≡ l.initial.self.state.settings.is_lazy;
 }
 
