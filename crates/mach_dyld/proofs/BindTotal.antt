@@ -82,11 +82,11 @@ behind x upto place (p ∷ front) (q ∷ ps) a f b g h =
     let more = behind x upto p.after front ps a.1 f.1 b.1 follow whole in
     (more.0, ap (λ y. y ∷ ps) (sym same) ∙ ap (λ ys. p ∷ ys) more.1)
 
-abbrev onto : List Placed → List Placed → List Placed
+abbrev pub onto : List Placed → List Placed → List Placed
 onto [] back = back
 onto (p ∷ ps) back = onto ps (p ∷ back)
 
-binds-append : (pointer : ℕ) (r : Range) (back ps qs : List Placed) → binds_from pointer r back (ps ++ qs) ≡ binds_from pointer r back ps ++ binds_from pointer r (onto ps back) qs
+pub binds-append : (pointer : ℕ) (r : Range) (back ps qs : List Placed) → binds_from pointer r back (ps ++ qs) ≡ binds_from pointer r back ps ++ binds_from pointer r (onto ps back) qs
 unfolding binds_from
 binds-append pointer r back [] qs = refl
 binds-append pointer r back (p ∷ ps) qs =

@@ -5,3 +5,4 @@ pub mod BindSettings
 pub mod BindSteps
 pub mod BindLists
 pub mod BindTotal
+pub mod BindLast

@@ -6,3 +6,4 @@ pub mod Imports
 pub mod BindFault
 pub mod BindViews
 pub mod BindItems
+pub mod BindLast
