@@ -1,11 +1,11 @@
 -- Looking back finds the last one of the instructions in order.
-use Rattle.std.proofs.Common.{◌≡◌, ℕ, ◌+◌, List, [], ◌∷◌, ◌++◌, reverse, map, Bool, true, false, Option, Some, None, refl, sym, ap, subst, ◌∙◌, cond, append_assoc}
+use Rattle.std.proofs.Common.{◌≡◌, List, [], ◌∷◌, ◌++◌, reverse, Bool, true, false, Option, Some, None, refl, sym, ap, subst, ◌∙◌, cond, append_assoc}
 use Rattle.std.specs.Prelude.{pos}
-use Rattle.std.specs.List.{filter_map, cons_option}
+use Rattle.std.specs.List.{filter_map}
 use Rattle.std.proofs.lemmas.List.{append-nil, reverse-append, reverse-reverse}
-use Rattle.mach_dyld.specs.Streams.{Range, Placed}
+use Rattle.mach_dyld.specs.Streams.{Placed}
 use Rattle.mach_dyld.specs.Binds.{is_done, nearer_than, nearest_or, last_of, library_in, flags_in, name_in, addend_in, segment_in, bind_after, binds_at, binds_from, binds_of}
-use Rattle.mach_dyld.specs.BindLast.{Silent, IsLast, found, behind_done, at_start, HasLast, LooksBack, AddsBinds}
+use Rattle.mach_dyld.specs.BindLast.{Silent, IsLast, found, behind_done, at_start, LooksBack, AddsBinds}
 use Rattle.mach_dyld.proofs.BindTotal.{onto, binds-append}
 
 module _ {A : Type 0} (fresh : A) (operand : Placed → Option A) where

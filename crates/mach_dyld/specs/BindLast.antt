@@ -1,5 +1,5 @@
 -- The settings of a bind, said of the instructions before it in their own order.
-use Rattle.std.specs.Prelude.{◌≡◌, ◌*◌, ℕ, pos, List, [], ◌∷◌, ◌++◌, map, reverse, Bool, true, false, Option, Some, None}
+use Rattle.std.specs.Prelude.{◌≡◌, ◌*◌, ℕ, pos, List, [], ◌∷◌, ◌++◌, map, reverse, true, false, Option, Some, None}
 use Rattle.std.specs.List.{range_with_len}
 use Rattle.mach_dyld.specs.Streams.{Range, Placed}
 use Rattle.mach_dyld.specs.Binds.{is_done, library_in, flags_in, name_in, addend_in, segment_in, count_in, stride_in, Bind, bind_after, binds_of}
