@@ -5,6 +5,11 @@ pub mod rows;
 pub use crate::image::laws::{new_header_recognised, one_chain};
 pub use mach_base::laws::{one_signed_spelling, one_spelling, record_at_an_offset};
 pub use mach_dyld::laws::{
-    blocked_root_has_no_list, exports_of_terminal_paths, lists_within_levels, one_list,
+    adds_binds, blocked_root_has_no_list, exports_of_terminal_paths, faulty_binds_have_no_list,
+    lists_within_levels, looks_back, one_list, one_list_of_imports, other_binds_have_a_list,
     other_roots_have_lists,
+};
+pub use mach_parts::laws::{
+    bits_together, relocations_by_number, section_written_and_read, sections_by_number,
+    symbols_by_number,
 };

@@ -12,7 +12,7 @@ pub use mach_base::{
     BE, Container, Ctx, Endian, Error, IntoCtx, LE, Record, Result, ScrollError, SizeWith, Sleb128,
     TryFromCtx, TryIntoCtx, Uleb128, gread_with, pread_with, pwrite_with, read_text,
 };
-pub use mach_dyld::exports;
+pub use mach_dyld::{bind_opcodes, exports, imports};
 pub use mach_parts::{fat, header, relocation, segment, symbols};
 pub use mach_records::{constants, cputype};
 

@@ -10,3 +10,11 @@ pub mod TrieFaults
 pub mod TrieRelation
 pub mod AllPaths
 pub mod TerminalPaths
+pub mod BindPlaces
+pub mod BindReading
+pub mod BindModulus
+pub mod BindSettings
+pub mod BindSteps
+pub mod BindLists
+pub mod BindTotal
+pub mod BindLast

@@ -9,3 +9,12 @@ pub mod TrieRows
 pub mod Exports
 pub mod SymbolKind
 pub mod NodeViews
+pub mod Opcodes
+pub mod Instructions
+pub mod Streams
+pub mod Binds
+pub mod Imports
+pub mod BindFault
+pub mod BindViews
+pub mod BindItems
+pub mod BindLast

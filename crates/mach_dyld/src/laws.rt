@@ -7,7 +7,12 @@ ghost use Rattle.mach_dyld.specs.Lists.{Lists, ListsWithin, list_within};
 ghost use Rattle.mach_dyld.specs.Paths.{Blocks, StartsFrom};
 ghost use Rattle.mach_dyld.specs.TerminalPaths.{ListsPaths};
 
+mod binds;
 pub mod rows;
+
+pub use crate::laws::binds::{
+    adds_binds, faulty_binds_have_no_list, looks_back, one_list_of_imports, other_binds_have_a_list,
+};
 
 /// A start has at most one list for a prefix.
 pub fn one_list()

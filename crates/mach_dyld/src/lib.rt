@@ -1,7 +1,9 @@
 //! What dyld reads of an image: its export trie, and the opcodes that bind its imports.
 #![tactic(auto)]
 
+pub mod bind_opcodes;
 pub mod exports;
+pub mod imports;
 mod info;
 pub mod laws;
 mod node;

@@ -1,3 +1,4 @@
-//! Tests of what dyld reads.
+//! The worked rows of docs/FORMAT.md, and which answers come where memory runs out.
 
 mod exports;
+mod imports;
