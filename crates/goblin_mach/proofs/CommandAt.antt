@@ -1,8 +1,7 @@
 -- A command stands at the place where it was read.
-use Rattle.std.proofs.Common.{◌≡◌, ℕ, ◌-◌, cond, ltb, List, ◌⊎◌, length, Result, Ok, Err, inl, inr, sym, ap}
+use Rattle.std.proofs.Common.{◌≡◌, ℕ, ◌-◌, cond, ltb, List, length, Ok, Err, inl, inr, sym, ap}
 use Rattle.mach_base.specs.declared.context.Endian.{Endian}
-use Rattle.mach_base.specs.Answer.{◌>>=◌}
-use Rattle.mach_base.specs.Fault.{Fault, malformed}
+use Rattle.mach_base.specs.Fault.{malformed}
 use Rattle.mach_base.specs.Record.{Value, number_among, record_at}
 use Rattle.mach_base.proofs.Binds.{bind_ok, chosen, same_ok}
 use Rattle.mach_records.specs.LoadCommandHeader.{header_fields}

@@ -1,5 +1,5 @@
 -- What is read off the commands of a chain, subject by subject.
-use Rattle.std.specs.Prelude.{◌≡◌, ℕ, List, [], ◌∷◌, Option, Some, None, Result, Ok, Err, IsOk}
+use Rattle.std.specs.Prelude.{◌≡◌, List, [], ◌∷◌, Option, Some, None, Result, Ok, Err, IsOk}
 use Rattle.mach_base.specs.declared.error.Error.{Error}
 use Rattle.mach_base.specs.Fault.{Fault, fault_of}
 use Rattle.mach_load.specs.Command.{Command}

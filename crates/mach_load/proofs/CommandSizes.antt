@@ -1,14 +1,13 @@
 -- Every record of a load command begins with cmd and cmdsize, so its cmdsize is that of its header.
-use Rattle.std.proofs.Common.{◌≡◌, ℕ, ◌+◌, ◌-◌, ◌*◌, Bool, true, false, cond, ltb, leb, eqb, List, [], ◌∷◌, ◌++◌, ◌⊎◌, map, length, drop, Result, Ok, Err, inl, inr, refl, sym, ap, subst, ◌∙◌}
+use Rattle.std.proofs.Common.{◌≡◌, ℕ, ◌+◌, ◌-◌, ◌*◌, Bool, cond, ltb, leb, eqb, List, [], ◌∷◌, ◌++◌, map, length, drop, Ok, Err, inl, inr, refl, sym, ap, subst, ◌∙◌}
 use Rattle.std.proofs.lemmas.Bool.{cases_Bool}
 use Rattle.mach_base.specs.declared.context.Endian.{Endian}
-use Rattle.mach_base.specs.Answer.{◌>>=◌}
-use Rattle.mach_base.specs.Fault.{Fault, malformed, bad_offset, too_big}
+use Rattle.mach_base.specs.Fault.{malformed, bad_offset, too_big}
 use Rattle.mach_base.specs.Number.{number, bounded}
 use Rattle.mach_base.specs.Record.{Field, num, Value, number_is, number_among, size, values_in, record_at}
 use Rattle.mach_base.proofs.Binds.{bind_ok, chosen, same_ok}
 use Rattle.mach_records.specs.LoadCommandHeader.{header_fields}
-use Rattle.mach_load.specs.Commands.{Kind, Body, by_fields, by_thread, CommandRow, command_rows, row_among, row_of}
+use Rattle.mach_load.specs.Commands.{Body, by_fields, by_thread, CommandRow, command_rows, row_among, row_of}
 use Rattle.mach_load.specs.ThreadState.{thread_fields, state_at, state_behind, thread_at}
 use Rattle.mach_load.specs.Command.{Command, cmdsize_of, body_at, command_by}
 

@@ -1,5 +1,5 @@
 -- What a caller sees of load commands as they were read.
-use Rattle.std.specs.Prelude.{ℕ, List}
+use Rattle.std.specs.Prelude.{List}
 use Rattle.mach_base.specs.Record.{Value}
 use Rattle.mach_records.specs.Contents.{entry_point_command_values, fileset_entry_command_values, ident_command_values, note_command_values, prebind_cksum_command_values, uuid_command_values}
 use Rattle.mach_records.specs.Libraries.{dylib_command_values, dylinker_command_values, fvmfile_command_values, fvmlib_command_values, prebound_dylib_command_values, rpath_command_values}

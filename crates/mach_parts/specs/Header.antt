@@ -1,5 +1,5 @@
 -- The header of an image (`mach-o/loader.h`, struct mach_header and mach_header_64).
-use Rattle.std.specs.Prelude.{◌≡◌, ℕ, ◌+◌, ◌%◌, ◌/◌, ◌^◌, List, [], ◌∷◌, length, Ok, Err, nat_le, if◌then◌else◌}
+use Rattle.std.specs.Prelude.{◌≡◌, ℕ, ◌%◌, ◌/◌, ◌^◌, List, [], ◌∷◌, length, Ok, Err, nat_le, if◌then◌else◌}
 use Rattle.mach_base.specs.declared.context.Endian.{Endian}
 use Rattle.mach_base.specs.declared.context.Container.{Container}
 use Rattle.mach_base.specs.declared.context.Container.TheVariants.{Little, Big}

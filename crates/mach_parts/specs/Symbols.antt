@@ -1,5 +1,5 @@
 -- Symbols (`mach-o/nlist.h`) and where they stand (`mach-o/loader.h`, struct symtab_command).
-use Rattle.std.specs.Prelude.{◌≡◌, ◌≢◌, ℕ, ◌+◌, ◌-◌, ◌*◌, ◌%◌, ◌^◌, List, [], ◌∷◌, length, Result, Ok, Err, nat_lt, nat_le, bit_and, codes, if◌then◌else◌}
+use Rattle.std.specs.Prelude.{◌≡◌, ◌≢◌, ℕ, ◌*◌, ◌%◌, ◌^◌, List, [], ◌∷◌, length, Result, Ok, Err, nat_lt, nat_le, bit_and, codes, if◌then◌else◌}
 use Rattle.std.specs.Int.{IsBitSet}
 use Rattle.mach_base.specs.declared.context.Endian.{Endian}
 use Rattle.mach_base.specs.declared.context.Container.{Container}

@@ -1,5 +1,4 @@
 use Rattle.std.proofs.Common.{◌∙◌, Some, sym, ap}
-use Rattle.mach_base.specs.Fault.{fault_of}
 use Rattle.goblin_mach.specs.Readings.{last_or}
 use Rattle.goblin_mach.proofs.Readings.{passed, taken, dropped, seen_none, seen_some, seen_fault}
 use Rattle.goblin_mach.proofs.image.readings.last_readable.Goals as goal
