@@ -1,12 +1,14 @@
 -- Reading the commands of a subject, one by one.
-use Rattle.std.proofs.Common.{◌≡◌, ℕ, zero, suc, ◌+◌, ◌<◌, List, [], ◌∷◌, ◌++◌, length, map, drop, get_or, Option, Some, None, Result, Ok, Err, inl, inr, refl, sym, ap, subst, ◌∙◌, append_assoc, arith, add-one}
+use Rattle.std.proofs.Common.{◌≡◌, ℕ, zero, suc, ◌+◌, ◌<◌, true, false, List, [], ◌∷◌, ◌++◌, length, map, drop, get_or, Option, Some, None, Result, Ok, Err, inl, inr, refl, sym, ap, subst, ◌∙◌, append_assoc, arith, add-one}
+use Rattle.std.specs.Prelude.{option_map}
+use Rattle.std.specs.Option.{is_some}
 use Rattle.mach_base.specs.declared.error.Error.{Error}
 use Rattle.mach_base.specs.Fault.{Fault, fault_of}
 use Rattle.mach_load.specs.declared.load_command.LoadCommand.{LoadCommand}
 use Rattle.mach_load.specs.Command.{Command}
 use Rattle.mach_load.specs.Variants.{command_of}
 use Rattle.goblin_mach.specs.Chain.{IsAmong}
-use Rattle.goblin_mach.specs.Readings.{Reading, read_of, IsRead, AllRead, IsUnread, seen_of}
+use Rattle.goblin_mach.specs.Readings.{Reading, read_of, first_of, IsRead, AllRead, IsUnread, seen_of}
 
 -- the commands from one on begin with it
 pub from_here : (xs : List LoadCommand) (i : ℕ) (d : LoadCommand) → i < length xs → drop i (map command_of xs) ≡ command_of (get_or xs i d) ∷ drop (i + 1) (map command_of xs)
@@ -71,3 +73,18 @@ unread-excludes_all {V} reading (c ∷ cs) f u all = elim u.among [
       let wrong = rw u.fault at read in cc
   | inr later ↦ unread-excludes_all reading cs f (record { command = u.command; among = later; fault = u.fault }) all.1
 ]
+
+-- the first value, where it was met already, or the first of those that are left
+abbrev pub first_or : {A : Type 0} → Option A → List A → Option A
+first_or None xs = first_of xs
+first_or (Some x) xs = Some x
+
+-- where the first was met nothing changes
+pub first_kept : {X V : Type 0} (view : X → V) (met : Option X) (v : V) (vs : List V) → is_some met ≡ true → first_or (option_map view met) (v ∷ vs) ≡ first_or (option_map view met) vs
+first_kept view None v vs e = absurd (cc)
+first_kept view (Some x) v vs e = refl
+
+-- else it is met now
+pub first_met : {X V : Type 0} (view : X → V) (met : Option X) (v : V) (vs : List V) → is_some met ≡ false → first_or (option_map view met) (v ∷ vs) ≡ Some v
+first_met view None v vs e = refl
+first_met view (Some x) v vs e = absurd (cc)

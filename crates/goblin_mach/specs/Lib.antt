@@ -3,7 +3,14 @@ pub mod Chain
 pub mod Image
 pub mod Rows
 pub mod OpenImage
+pub mod ImageFields
 pub mod Readings
 pub mod Names
 pub mod Tables
+pub mod ImageSegments
+pub mod Entry
+pub mod EntryViews
 pub mod ImageTrie
+pub mod ImageBinds
+pub mod Relocations
+pub mod SameFields

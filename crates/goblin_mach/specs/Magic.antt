@@ -34,7 +34,11 @@ ctx_of magic = ctx_among magics magic
 abbrev pub magic_at : List ℕ → ℕ → Result (ℕ × Option Ctx) Fault
 magic_at bytes s = number_at Big 4 bytes s >>= λ magic. Ok (magic, ctx_of magic)
 
--- the header's field `ncmds`, of the image at o
+-- the header's field `cputype`, of the image at o
+abbrev pub cputype_at : Ctx → List ℕ → ℕ → ℕ
+cputype_at ctx bytes o = number ctx.le 4 (drop (o + 4) bytes)
+
+-- the header's field `ncmds`
 abbrev pub ncmds_at : Ctx → List ℕ → ℕ → ℕ
 ncmds_at ctx bytes o = number ctx.le 4 (drop (o + 16) bytes)
 

@@ -3,7 +3,7 @@ use Rattle.std.specs.Prelude.{ℕ, List, ◌∷◌, codes, Bool, true, false, Op
 use Rattle.mach_base.specs.Number.{place_after}
 use Rattle.mach_base.specs.Record.{number_among}
 use Rattle.mach_base.specs.Text.{text_at}
-use Rattle.mach_load.specs.Commands.{Kind, load_dylib, load_upward_dylib, reexport_dylib, load_weak_dylib, lazy_load_dylib, id_dylib}
+use Rattle.mach_load.specs.Commands.{Kind, load_dylib, load_upward_dylib, reexport_dylib, load_weak_dylib, lazy_load_dylib, id_dylib, rpath}
 use Rattle.mach_load.specs.Command.{Command}
 use Rattle.goblin_mach.specs.Readings.{Reading, read_of, last_of}
 
@@ -21,7 +21,12 @@ abbrev pub is_id : Kind → Bool
 is_id id_dylib = true
 is_id _ = false
 
--- where the name of a library command or an id stands: its field `name` counts from the command's offset
+-- the command that names a path on which libraries are sought
+abbrev pub is_run_path : Kind → Bool
+is_run_path rpath = true
+is_run_path _ = false
+
+-- where the name of a library command, an id or a run path stands: its field `name` counts from the command's offset
 abbrev pub name_place : Command → ℕ
 name_place c = place_after c.offset (number_among c.values 2)
 
@@ -32,6 +37,10 @@ library_by bytes c = if is_library c.kind then Some (text_at bytes (name_place c
 -- the name that a command gives the image
 abbrev pub id_by : List ℕ → Reading (List ℕ)
 id_by bytes c = if is_id c.kind then Some (text_at bytes (name_place c)) else None
+
+-- the path that a command names
+abbrev pub run_path_by : List ℕ → Reading (List ℕ)
+run_path_by bytes c = if is_run_path c.kind then Some (text_at bytes (name_place c)) else None
 
 -- the name of the image: that of its last id
 abbrev pub name_in : List ℕ → List Command → Option (List ℕ)

@@ -1,17 +1,26 @@
 -- An image as it was opened.
-use Rattle.std.specs.Prelude.{◌↔◌, ◌≡◌, ℕ, List, map, IsTrue, Option, option_map}
+use Rattle.std.specs.Prelude.{◌↔◌, ◌≡◌, ℕ, List, map, IsTrue, Ok, Option, option_map}
+use Rattle.mach_base.specs.declared.context.Ctx.{Ctx}
 use Rattle.mach_base.specs.declared.context.Endian.TheVariants.{Little}
 use Rattle.mach_base.specs.declared.context.Container.TheVariants.{Big}
-use Rattle.mach_base.specs.declared.context.Ctx.{Ctx}
-use Rattle.mach_parts.specs.Header.{IsHeader}
-use Rattle.goblin_mach.specs.Image.{OpensAs}
+use Rattle.mach_load.specs.Command.{Command}
 use Rattle.mach_load.specs.Variants.{command_of}
+use Rattle.mach_parts.specs.Header.{IsHeader}
+use Rattle.mach_parts.specs.Segment.{SegmentView, segment_view}
+use Rattle.mach_parts.specs.Segments.{segments_in}
 use Rattle.mach_parts.specs.SymbolViews.{table_of}
-use Rattle.goblin_mach.specs.Names.{name_in, libs_in}
-use Rattle.goblin_mach.specs.Tables.{table_in}
-use Rattle.goblin_mach.specs.ImageTrie.{trie_in}
-use Rattle.mach_dyld.specs.TrieRange.{TrieRange}
 use Rattle.mach_dyld.specs.Exports.{texts, text_in}
+use Rattle.mach_dyld.specs.Imports.{BindRanges}
+use Rattle.mach_dyld.specs.TrieRange.{TrieRange}
+use Rattle.goblin_mach.specs.Entry.{entry_in}
+use Rattle.goblin_mach.specs.Image.{OpensAs, LossyOpensAs}
+use Rattle.goblin_mach.specs.ImageBinds.{binds_in}
+use Rattle.goblin_mach.specs.ImageSegments.{segment_by, lossy_segment_by}
+use Rattle.goblin_mach.specs.ImageTrie.{trie_in}
+use Rattle.goblin_mach.specs.Magic.{cputype_at}
+use Rattle.goblin_mach.specs.Names.{name_in, libs_in, run_path_by}
+use Rattle.goblin_mach.specs.Readings.{read_of}
+use Rattle.goblin_mach.specs.Tables.{table_in}
 use Rattle.goblin_mach.specs.declared.image.macho.MachO.{MachO}
 use Rattle.goblin_mach.specs.declared.image.mach.Mach.{Mach}
 use Rattle.goblin_mach.specs.declared.image.mach.Mach.TheVariants.{Binary}
@@ -20,19 +29,57 @@ use Rattle.goblin_mach.specs.declared.image.mach.Mach.TheVariants.{Binary}
 abbrev pub trie_held : {A : Type 0} → MachO A → Option TrieRange
 trie_held m = m.export_trie
 
--- The fields of the image at o: an image with some context opens there with these commands,
--- and each field is the header's record, the chain, the magic's word, or a filter or a last over the chain.
-pub record IsImage {A : Type 0} (bytes : List ℕ) (o : ℕ) (m : MachO A) : Type 0 where
-  pub ctx : Ctx
-  pub opens : OpensAs bytes o ctx (map command_of m.load_commands.items)
+-- the ranges of the binds that it holds
+abbrev pub binds_held : {A : Type 0} → MachO A → Option BindRanges
+binds_held m = m.bind_interpreter
+
+-- its segments
+abbrev pub segments_held : {A : Type 0} → MachO A → List SegmentView
+segments_held m = map segment_view (segments_in m.segments)
+
+-- its commands
+abbrev pub commands_held : {A : Type 0} → MachO A → List Command
+commands_held m = map command_of m.load_commands.items
+
+-- the bytes and the context that it was opened in, in which its own calls read on
+abbrev pub bytes_held : {A : Type 0} → MachO A → List ℕ
+bytes_held m = m.bytes.now
+
+abbrev pub ctx_held : {A : Type 0} → MachO A → Ctx
+ctx_held m = m.ctx
+
+-- The fields of the image at o with this context, these commands and these segments: each is the header's
+-- record, the chain, the magic's word, or a filter, a first or a last over the chain.
+pub record HasFields {A : Type 0} (bytes : List ℕ) (o : ℕ) (ctx : Ctx) (parts : List SegmentView) (m : MachO A) : Type 0 where
   pub header : IsHeader ctx bytes o m.header
   pub little_endian : IsTrue m.little_endian ↔ (ctx.le ≡ Little)
   pub is_64 : IsTrue m.is_64 ↔ (ctx.container ≡ Big)
-  pub libs : texts m.libs.items ≡ libs_in bytes (map command_of m.load_commands.items)
-  pub name : text_in m.name ≡ name_in bytes (map command_of m.load_commands.items)
-  pub symbols : option_map table_of m.symbols ≡ table_in ctx bytes (map command_of m.load_commands.items)
-  pub trie : trie_held m ≡ trie_in bytes (map command_of m.load_commands.items)
+  pub segments : segments_held m ≡ parts
+  pub symbols : option_map table_of m.symbols ≡ table_in ctx bytes (commands_held m)
+  pub libs : texts m.libs.items ≡ libs_in bytes (commands_held m)
+  pub rpaths : texts m.rpaths.items ≡ read_of (run_path_by bytes) (commands_held m)
+  pub entry : entry_in (cputype_at ctx bytes o) (commands_held m) ≡ Ok (record { address = m.entry; old_style = m.old_style_entry })
+  pub name : text_in m.name ≡ name_in bytes (commands_held m)
+  pub trie : trie_held m ≡ trie_in bytes (commands_held m)
+  pub binds : binds_held m ≡ binds_in bytes (commands_held m)
+  pub bytes_is : bytes_held m ≡ bytes
+  pub ctx_is : ctx_held m ≡ ctx
+
+-- The image that opens at o, strictly: an image with some context opens there with its commands.
+pub record IsImage {A : Type 0} (bytes : List ℕ) (o : ℕ) (m : MachO A) : Type 0 where
+  pub ctx : Ctx
+  pub opens : OpensAs bytes o ctx (commands_held m)
+  pub fields : HasFields bytes o ctx (read_of (segment_by ctx bytes) (commands_held m)) m
+
+-- The image that opens at o in lossy mode.
+pub record IsLossyImage {A : Type 0} (bytes : List ℕ) (o : ℕ) (m : MachO A) : Type 0 where
+  pub ctx : Ctx
+  pub opens : LossyOpensAs bytes o ctx (commands_held m)
+  pub fields : HasFields bytes o ctx (read_of (lossy_segment_by ctx bytes) (commands_held m)) m
 
 -- the file is the image at 0
 abbrev pub IsMach : {A : Type 0} → List ℕ → Mach A → Type 0
 IsMach bytes (Binary m) = IsImage bytes 0 m
+
+abbrev pub IsLossyMach : {A : Type 0} → List ℕ → Mach A → Type 0
+IsLossyMach bytes (Binary m) = IsLossyImage bytes 0 m

@@ -42,6 +42,11 @@ last_or default (x ∷ xs) = last_or (Some x) xs
 abbrev pub last_of : {A : Type 0} → List A → Option A
 last_of xs = last_or None xs
 
+-- the first of a list, if it has one
+abbrev pub first_of : {A : Type 0} → List A → Option A
+first_of [] = None
+first_of (x ∷ xs) = Some x
+
 -- an answer as contracts see it
 abbrev pub seen_of : {X V : Type 0} → (X → V) → Option (Result X Error) → Option (Result V Fault)
 seen_of view None = None

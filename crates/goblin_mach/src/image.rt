@@ -1,9 +1,13 @@
 //! The image, and what a file is.
 
 pub mod commands;
+pub mod entry;
+pub mod fields;
 pub mod laws;
 pub mod mach;
 pub mod macho;
 pub mod magic;
+pub mod opened;
 pub mod readings;
+pub mod relocations;
 pub mod subjects;

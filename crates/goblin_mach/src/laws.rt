@@ -2,7 +2,9 @@
 
 pub mod rows;
 
-pub use crate::image::laws::{new_header_recognised, one_chain};
+pub use crate::image::laws::{
+    lossy_agrees, new_header_recognised, one_chain, strict_opens_lossily,
+};
 pub use mach_base::laws::{one_signed_spelling, one_spelling, record_at_an_offset};
 pub use mach_dyld::laws::{
     adds_binds, blocked_root_has_no_list, exports_of_terminal_paths, faulty_binds_have_no_list,

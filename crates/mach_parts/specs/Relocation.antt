@@ -37,7 +37,7 @@ relocation_values r = signed_value r.r_address ∷ number_is r.r_info ∷ []
 abbrev pub relocation_of_values : List Value → RelocationInfo
 relocation_of_values vs = record { r_address = first_signed vs; r_info = number_among vs 1 }
 
--- the number that some bits make: so many, counted from the lowest
+-- the number that `count` bits of n make, the lowest of them bit `first`
 abbrev pub bits_from : ℕ → ℕ → ℕ → ℕ
 bits_from first count n = n / 2 ^ first % 2 ^ count
 

@@ -1,11 +1,12 @@
 //! Segments and their sections (`mach-o/loader.h`).
 
-ghost use Rattle.std.specs.Prelude.{◌≡◌, ◌+◌, ◌%◌, ◌<◌, ◌^◌, length};
+ghost use Rattle.std.specs.Prelude.{◌≡◌, ◌+◌, ◌<◌, ◌^◌, length};
 ghost use Rattle.mach_base.specs.Answer.{Reads};
 ghost use Rattle.mach_base.specs.Text.{text_at};
 ghost use Rattle.mach_parts.specs.Section.{command_size};
 ghost use Rattle.mach_parts.specs.Segment.{segment_data, segment_at, lossy_segment_at, segment_view, widened, new_segment, with_data};
 
+mod conversions;
 pub mod laws;
 mod list;
 mod relocations;
@@ -14,13 +15,12 @@ mod sections;
 #[cfg(test)]
 mod tests;
 
+use crate::segment::conversions::{command_len, widen};
 pub use crate::segment::list::{SegmentSections, Segments};
 pub use crate::segment::relocations::RelocationIterator;
 pub use crate::segment::section::{Section, SectionData};
 pub use crate::segment::sections::SectionIterator;
-use mach_base::{
-    Container, Ctx, IntoCtx, Record, Result, SizeWith, TryIntoCtx, bytes_at, read_text,
-};
+use mach_base::{Container, Ctx, Result, bytes_at, read_text};
 use mach_records::{LC_SEGMENT, LC_SEGMENT_64, SegmentCommand32, SegmentCommand64};
 use std::alloc::Allocator;
 
@@ -57,23 +57,6 @@ pub struct Segment<'a> {
     ctx: Ctx,
 }
 
-// How many bytes the command of a segment has.
-fn command_len(container: Container) -> usize
-    ensures { result ≡ command_size container }
-{
-    match container {
-        Container::Little => SegmentCommand32::SIZE,
-        Container::Big => SegmentCommand64::SIZE,
-    }
-}
-
-// The low 32 bits of a number.
-fn low_bits(x: u64) -> u32
-    ensures { result ≡ x % 2 ^ 32 }
-{
-    (x % (1 << 32)) as u32
-}
-
 // The data of a segment: `size` bytes at a place of the file, and none where `size` is 0.
 fn data_at(bytes: &[u8], place: u64, size: u64) -> Result<&[u8]>
     ensures { Reads (λ found. found.now) result (segment_data bytes.now place size) }
@@ -82,25 +65,6 @@ fn data_at(bytes: &[u8], place: u64, size: u64) -> Result<&[u8]>
         return Ok(&[]);
     }
     bytes_at(bytes, place as usize, size as usize)
-}
-
-// A command of a 32-bit image in the wider form.
-fn widen(segment: &SegmentCommand32) -> SegmentCommand64
-    ensures { result ≡ widened segment.now }
-{
-    SegmentCommand64 {
-        cmd: segment.cmd,
-        cmdsize: segment.cmdsize,
-        segname: segment.segname,
-        vmaddr: u64::from(segment.vmaddr),
-        vmsize: u64::from(segment.vmsize),
-        fileoff: u64::from(segment.fileoff),
-        filesize: u64::from(segment.filesize),
-        maxprot: segment.maxprot,
-        initprot: segment.initprot,
-        nsects: segment.nsects,
-        flags: segment.flags,
-    }
 }
 
 impl<'a> Segment<'a> {
@@ -251,85 +215,5 @@ impl<'a, 'b> IntoIterator for &'b Segment<'a> {
 
     fn into_iter(self) -> SectionIterator<'a> {
         SectionIterator::new(self.file, self.offset, self.nsects, self.ctx)
-    }
-}
-
-impl<'a> From<Segment<'a>> for SegmentCommand32 {
-    ghost use Rattle.mach_parts.specs.Segment.{command_of, narrowed};
-
-    ghost from_gives = { λ s command. command ≡ narrowed (command_of s) };
-
-    /// The low 32 bits of addresses, places and sizes.
-    fn from(segment: Segment<'a>) -> SegmentCommand32 {
-        let segname = segment.segname;
-        SegmentCommand32 {
-            cmd: segment.cmd,
-            cmdsize: segment.cmdsize,
-            segname,
-            vmaddr: low_bits(segment.vmaddr),
-            vmsize: low_bits(segment.vmsize),
-            fileoff: low_bits(segment.fileoff),
-            filesize: low_bits(segment.filesize),
-            maxprot: segment.maxprot,
-            initprot: segment.initprot,
-            nsects: segment.nsects,
-            flags: segment.flags,
-        }
-    }
-}
-
-impl<'a> From<Segment<'a>> for SegmentCommand64 {
-    ghost use Rattle.mach_parts.specs.Segment.{command_of};
-
-    ghost from_gives = { λ s command. command ≡ command_of s };
-
-    fn from(segment: Segment<'a>) -> SegmentCommand64 {
-        let segname = segment.segname;
-        SegmentCommand64 {
-            cmd: segment.cmd,
-            cmdsize: segment.cmdsize,
-            segname,
-            vmaddr: segment.vmaddr,
-            vmsize: segment.vmsize,
-            fileoff: segment.fileoff,
-            filesize: segment.filesize,
-            maxprot: segment.maxprot,
-            initprot: segment.initprot,
-            nsects: segment.nsects,
-            flags: segment.flags,
-        }
-    }
-}
-
-impl<'a> TryIntoCtx<Ctx> for Segment<'a> {
-    ghost use Rattle.mach_parts.specs.Segment.{command_bytes, command_of};
-    ghost use Rattle.std.proofs.Common.{arith};
-    ghost use Rattle.mach_base.specs.declared.context.Container.TheVariants.{Little, Big};
-
-    ghost spelled = { λ ctx s. command_bytes ctx.container ctx.le (command_of s) };
-
-    ghost width = { λ ctx _. command_size ctx.container };
-
-    ghost not_empty = { λ ctx _. elim ctx.container as (λ w. 0 < command_size w) [ Little ↦ omega arith | Big ↦ omega arith ] };
-
-    /// Writes the command alone, in the form of the context's width.
-    fn try_into_ctx(self, bytes: &mut [u8], ctx: Ctx) -> Result<usize> {
-        match ctx.container {
-            Container::Little => SegmentCommand32::from(self).try_into_ctx(bytes, ctx.le),
-            Container::Big => SegmentCommand64::from(self).try_into_ctx(bytes, ctx.le),
-        }
-    }
-}
-
-impl<'a> IntoCtx<Ctx> for Segment<'a> {}
-
-impl<'a> SizeWith<Ctx> for Segment<'a> {
-    ghost size = { λ ctx. command_size ctx.container };
-
-    /// 56 or 72, by the context's width.
-    fn size_with(ctx: &Ctx) -> usize
-        ensures { result ≡ command_size ctx.now.container }
-    {
-        command_len(ctx.container)
     }
 }

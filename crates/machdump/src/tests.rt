@@ -4,6 +4,7 @@
 mod chain;
 mod exports;
 mod files;
+mod image;
 mod lines;
 mod shown;
 mod symbols;

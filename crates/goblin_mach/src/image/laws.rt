@@ -7,10 +7,15 @@ ghost use Rattle.mach_base.specs.Number.{room_at};
 ghost use Rattle.mach_load.specs.Command.{Command};
 ghost use Rattle.mach_parts.specs.Header.{header_size};
 ghost use Rattle.goblin_mach.specs.Chain.{IsChain};
+ghost use Rattle.goblin_mach.specs.Image.{Opens, LossyOpens};
+ghost use Rattle.goblin_mach.specs.OpenImage.{IsImage, IsLossyImage};
+ghost use Rattle.goblin_mach.specs.SameFields.{SameFields};
 
+use crate::image::macho::MachO;
 use crate::image::magic::parse_magic_and_ctx;
 use mach_base::{Ctx, Result, TryIntoCtx};
 use mach_parts::header::Header;
+use std::alloc::Allocator;
 
 /// At most one chain of so many load commands stands at a place.
 pub fn one_chain()
@@ -27,3 +32,18 @@ pub fn new_header_recognised(ctx: Ctx, bytes: &mut [u8]) -> Result<Option<Ctx>>
     let (_, found) = parse_magic_and_ctx(bytes, 0)?;
     Ok(found)
 }
+
+/// Where an image opens strictly it opens in lossy mode.
+pub fn strict_opens_lossily()
+    ensures { (bytes : List ℕ) (o : ℕ) → Opens bytes o → LossyOpens bytes o }
+{}
+
+/// The fields of an image that was opened strictly, and of the same image opened in lossy mode, are equal.
+pub fn lossy_agrees<A: Allocator, B: Allocator>(
+    bytes: &[u8],
+    offset: usize,
+    strict: &MachO<'_, A>,
+    lossy: &MachO<'_, B>,
+)
+    ensures { IsImage bytes.now offset strict.now → IsLossyImage bytes.now offset lossy.now → SameFields strict.now lossy.now }
+{}

@@ -1,22 +1,28 @@
 //! One image.
 
-ghost use Rattle.std.specs.Prelude.{◌≡◌, List, IfOk, IfErr};
+ghost use Rattle.std.specs.Prelude.{◌≡◌, ◌↔◌, List, IsTrue, IfOk, IfErr};
 ghost use Rattle.mach_base.specs.Answer.{Stands, IsOkUnlessMemory};
-ghost use Rattle.goblin_mach.specs.Magic.{ncmds_at};
-ghost use Rattle.mach_parts.specs.Header.{IsHeader};
-ghost use Rattle.goblin_mach.specs.Image.{HasHeader, CountsFit, Opens, ImageFault};
-ghost use Rattle.mach_dyld.specs.Trie.{Entry};
+ghost use Rattle.mach_base.specs.Context.{pointer_size};
+ghost use Rattle.mach_dyld.specs.BindViews.{imports_seen};
 ghost use Rattle.mach_dyld.specs.Exports.{texts, entries};
+ghost use Rattle.mach_dyld.specs.Imports as binds;
+ghost use Rattle.mach_dyld.specs.Trie.{Entry};
+ghost use Rattle.mach_parts.specs.Segments.{segments_in};
+ghost use Rattle.goblin_mach.specs.Image.{Opens, LossyOpens, ImageFault, LossyFault};
+ghost use Rattle.goblin_mach.specs.ImageBinds.{ListsImageImports, ImageImportsFault};
 ghost use Rattle.goblin_mach.specs.ImageTrie.{ListsImageExports, ImageExportsFault};
 
-use crate::image::commands::read_commands;
-use crate::image::magic::parse_magic_and_ctx;
-use crate::image::readings::{all_read, last_read, last_readable};
-use crate::image::subjects::{Ids, Libraries, SymbolTables, Tries};
-use mach_base::{Ctx, Error, Result, SizeWith, pread_with};
+use crate::image::fields::Fields;
+use crate::image::opened::Opened;
+use crate::image::readings::last_readable;
+use crate::image::relocations::{RelocatedSection, relocations};
+use crate::image::subjects::{Binds, Tries};
+use mach_base::{Ctx, Result};
 use mach_dyld::exports::{Export, ExportTrie};
+use mach_dyld::imports::{BindInterpreter, Import};
 use mach_load::LoadCommand;
-use mach_parts::header::Header;
+use mach_parts::header::{Header, MH_OBJECT};
+use mach_parts::segment::Segments;
 use mach_parts::symbols::{SymbolIterator, Symbols};
 use std::alloc::{Allocator, Global};
 
@@ -28,11 +34,19 @@ pub struct MachO<'a, A: Allocator = Global> {
     pub header: Header,
     /// The load commands, in order.
     pub load_commands: Vec<LoadCommand, A>,
+    /// The segments, in the order of their commands.
+    pub segments: Segments<'a, A>,
     /// The symbols, if a command describes them: those of the last one that does.
     pub symbols: Option<Symbols<'a>>,
     /// The image's own name or "self", and then the libraries that it names, in the order of their commands:
     /// a library's place here is its ordinal.
     pub libs: Vec<&'a str, A>,
+    /// The paths on which its libraries are sought, in order.
+    pub rpaths: Vec<&'a str, A>,
+    /// The address at which it begins to run, or 0.
+    pub entry: u64,
+    /// Whether the state of a thread says where it begins to run.
+    pub old_style_entry: bool,
     /// The name by which the image is known as a library, if it has one.
     pub name: Option<&'a str>,
     /// Whether the image is little-endian.
@@ -40,10 +54,13 @@ pub struct MachO<'a, A: Allocator = Global> {
     /// Whether the image has 64 bits.
     pub is_64: bool,
     export_trie: Option<ExportTrie<'a>>,
+    bind_interpreter: Option<BindInterpreter<'a>>,
+    bytes: &'a [u8],
+    ctx: Ctx,
 }
 
 impl<'a, A: Allocator + Clone> MachO<'a, A> {
-    ghost use Rattle.goblin_mach.specs.OpenImage.{IsImage};
+    ghost use Rattle.goblin_mach.specs.OpenImage.{IsImage, IsLossyImage};
 
     /// Opens the image at a place of the bytes. Each refusal but `Error::Memory` is a fault that stands there.
     pub fn parse(alloc: A, bytes: &'a [u8], offset: usize) -> Result<MachO<'a, A>>
@@ -54,49 +71,63 @@ impl<'a, A: Allocator + Clone> MachO<'a, A> {
         MachO::open(alloc, bytes, offset)
     }
 
+    /// Opens the image at a place of the bytes, and passes over what can't be read of it: data that are
+    /// not in the bytes are empty, and symbol tables, names, ids and run paths are left out. Each refusal
+    /// but `Error::Memory` is a fault that stands there all the same.
+    pub fn parse_lossy(alloc: A, bytes: &'a [u8], offset: usize) -> Result<MachO<'a, A>>
+        ensures opened { IfOk result (IsLossyImage bytes.now offset) }
+        ensures only { LossyOpens bytes.now offset → IsOkUnlessMemory result }
+        ensures refused { IfErr result (Stands (LossyFault bytes.now offset)) }
+    {
+        MachO::open_lossy(alloc, bytes, offset)
+    }
+
     fn open(alloc: A, bytes: &'a [u8], offset: usize) -> Result<MachO<'a, A>>
         ensures opened { IfOk result (IsImage bytes.now offset) }
         ensures refused { IfErr result (Stands (ImageFault bytes.now offset)) }
     {
-        let (ctx, header) = read_header(bytes, offset)?;
-        let first = offset + Header::size_with(&ctx);
-        let load_commands = read_commands(alloc.clone()?, bytes, first, header.ncmds, ctx.le)?;
-        let name = last_read(&Ids { bytes }, &load_commands)?;
-        let itself = vec![in alloc; name.unwrap_or("self")]?;
-        let libs = all_read(itself, &Libraries { bytes }, &load_commands)?;
-        let symbols = last_read(&SymbolTables { bytes, ctx }, &load_commands)?;
-        let export_trie = last_readable(&Tries { bytes }, &load_commands);
-        Ok(MachO {
-            header,
-            load_commands,
-            symbols,
-            libs,
-            name,
-            little_endian: ctx.le.is_little(),
-            is_64: ctx.is_big(),
-            export_trie,
-        })
+        let opened = Opened::read(alloc.clone()?, bytes, offset)?;
+        let fields = Fields::read(alloc, bytes, opened.ctx, &opened.load_commands)?;
+        Ok(MachO::of(bytes, opened, fields))
+    }
+
+    fn open_lossy(alloc: A, bytes: &'a [u8], offset: usize) -> Result<MachO<'a, A>>
+        ensures opened { IfOk result (IsLossyImage bytes.now offset) }
+        ensures refused { IfErr result (Stands (LossyFault bytes.now offset)) }
+    {
+        let opened = Opened::read(alloc.clone()?, bytes, offset)?;
+        let fields = Fields::read_lossy(alloc, bytes, opened.ctx, &opened.load_commands)?;
+        Ok(MachO::of(bytes, opened, fields))
     }
 }
 
-// The context and the header of the image at a place, where its counts can be those of an image.
-fn read_header(bytes: &[u8], offset: usize) -> Result<(Ctx, Header)>
-    ensures found { IfOk result (λ found. HasHeader bytes.now offset found.0) }
-    ensures counts { IfOk result (λ found. CountsFit bytes.now offset found.0) }
-    ensures header { IfOk result (λ found. IsHeader found.0 bytes.now offset found.1) }
-    ensures ncmds { IfOk result (λ found. found.1.ncmds ≡ ncmds_at found.0 bytes.now offset) }
-    ensures refused { IfErr result (Stands (ImageFault bytes.now offset)) }
-{
-    let (magic, ctx) = parse_magic_and_ctx(bytes, offset)?;
-    let Some(ctx) = ctx else {
-        return Err(Error::BadMagic(u64::from(magic)));
-    };
-    let header: Header = pread_with(bytes, offset, ctx)?;
-    let size = header.sizeofcmds as usize;
-    if header.ncmds > size / 8 || size > bytes.len() {
-        return Err(Error::BufferTooShort(header.ncmds, "load commands"));
+impl<'a, A: Allocator> MachO<'a, A> {
+    ghost use Rattle.goblin_mach.specs.ImageFields.{commands_of, IsMadeOf};
+
+    // The image of what was read.
+    fn of(bytes: &'a [u8], opened: Opened<A>, fields: Fields<'a, A>) -> MachO<'a, A>
+        ensures { IsMadeOf bytes.now opened fields.entry result }
+    {
+        let export_trie = last_readable(&Tries { bytes }, &opened.load_commands);
+        let bind_interpreter = last_readable(&Binds { bytes }, &opened.load_commands);
+        MachO {
+            header: opened.header,
+            load_commands: opened.load_commands,
+            segments: fields.segments,
+            symbols: fields.symbols,
+            libs: fields.libs,
+            rpaths: fields.rpaths,
+            entry: opened.address,
+            old_style_entry: opened.old_style_entry,
+            name: fields.name,
+            little_endian: opened.ctx.le.is_little(),
+            is_64: opened.ctx.is_big(),
+            export_trie,
+            bind_interpreter,
+            bytes,
+            ctx: opened.ctx,
+        }
     }
-    Ok((ctx, header))
 }
 
 impl<'a, A: Allocator> MachO<'a, A> {
@@ -125,5 +156,51 @@ impl<'a, A: Allocator> MachO<'a, A> {
             Some(trie) => trie.exports(alloc, self.libs.as_slice()),
             None => Ok(Vec::new(alloc)),
         }
+    }
+
+    ghost use Rattle.goblin_mach.specs.OpenImage.{binds_held, ctx_held};
+
+    /// The imports of the image, over the libraries and the segments that it holds at the call; none where
+    /// no command brings binds. Each refusal but `Error::Memory` is a fault that stands in the binds.
+    pub fn imports<B: Allocator>(&self, alloc: B) -> Result<Vec<Import<'a>, B>>
+        ensures listed { IfOk result (λ v. ListsImageImports (binds_held self.now) (pointer_size (ctx_held self.now).container)
+            (texts self.now.libs.items) (segments_in self.now.segments) (imports_seen v.items)) }
+        ensures only { (list : List (binds.Import)) → ListsImageImports (binds_held self.now) (pointer_size (ctx_held self.now).container)
+            (texts self.now.libs.items) (segments_in self.now.segments) list → IsOkUnlessMemory result }
+        ensures refused { IfErr result (Stands (ImageImportsFault (binds_held self.now) (pointer_size (ctx_held self.now).container)
+            (texts self.now.libs.items) (segments_in self.now.segments))) }
+    {
+        match &self.bind_interpreter {
+            Some(binds) => {
+                binds.imports(
+                    alloc,
+                    self.libs.as_slice(),
+                    self.segments.as_slice(),
+                    self.ctx,
+                )
+            }
+            None => Ok(Vec::new(alloc)),
+        }
+    }
+
+    /// Whether the image is an object file.
+    pub fn is_object_file(&self) -> bool
+        ensures { IsTrue result ↔ (self.now.header.filetype ≡ 1) }
+    {
+        self.header.filetype == MH_OBJECT
+    }
+
+    ghost use Rattle.std.specs.Prelude.{map};
+    ghost use Rattle.mach_base.specs.Answer.{Gives};
+    ghost use Rattle.goblin_mach.specs.OpenImage.{bytes_held, segments_held};
+    ghost use Rattle.goblin_mach.specs.Relocations.{relocated_view, relocated_sections_in};
+
+    /// The sections that have relocations, over the segments that the image holds at the call: each
+    /// with its number in its segment, counted from 0, and an iterator over its relocations. The first
+    /// unreadable section of any segment refuses them all.
+    pub fn relocations<B: Allocator>(&self, alloc: B) -> Result<Vec<RelocatedSection<'a>, B>>
+        ensures { Gives (λ v. map relocated_view v.items) result (relocated_sections_in (ctx_held self.now) (bytes_held self.now) (segments_held self.now)) }
+    {
+        relocations(alloc, self.bytes, self.segments.as_slice(), self.ctx)
     }
 }

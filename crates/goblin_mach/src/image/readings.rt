@@ -3,7 +3,7 @@
 ghost use Rattle.std.specs.Prelude.{◌≡◌, ◌++◌, List, map, option_map, IfOk, IfErr};
 ghost use Rattle.mach_base.specs.Answer.{Stands, IsOkUnlessMemory};
 ghost use Rattle.mach_load.specs.Variants.{command_of};
-ghost use Rattle.goblin_mach.specs.Readings.{Reading, read_of, last_of, AllRead, IsUnread, seen_of};
+ghost use Rattle.goblin_mach.specs.Readings.{Reading, read_of, last_of, first_of, AllRead, IsUnread, seen_of};
 
 use mach_base::Result;
 use mach_load::LoadCommand;
@@ -99,4 +99,40 @@ pub fn all_readable<S: Subject, A: Allocator>(
         values.push(value)?;
     }
     Ok(values)
+}
+
+/// What the first command of a subject says, where all that speak of it can be read.
+pub fn first_read<S: Subject>(subject: &S, commands: &[LoadCommand]) -> Result<Option<S::Value>>
+    ensures found { IfOk result (λ first. option_map S.seen first ≡ first_of (read_of (S.reading subject.now) (map command_of commands.now))) }
+    ensures all { IfOk result (λ _. AllRead (S.reading subject.now) (map command_of commands.now)) }
+    ensures refused { IfErr result (Stands (IsUnread (S.reading subject.now) (map command_of commands.now))) }
+{
+    let mut first = None;
+    for command in commands {
+        let Some(found) = subject.read(command) else {
+            continue;
+        };
+        let value = found?;
+        if first.is_some() {
+            continue;
+        }
+        first = Some(value);
+    }
+    Ok(first)
+}
+
+/// What the first readable command of a subject says.
+pub fn first_readable<S: Subject>(subject: &S, commands: &[LoadCommand]) -> Option<S::Value>
+    ensures { option_map S.seen result ≡ first_of (read_of (S.reading subject.now) (map command_of commands.now)) }
+{
+    for command in commands {
+        let Some(found) = subject.read(command) else {
+            continue;
+        };
+        let Ok(value) = found else {
+            continue;
+        };
+        return Some(value);
+    }
+    None
 }

@@ -1,15 +1,18 @@
-//! The subjects of an image's commands: libraries, its own name, symbols, the export trie.
+//! The subjects of an image's commands: segments, libraries, its own name, run paths, symbols, the
+//! export trie and the binds.
 
 ghost use Rattle.std.specs.Prelude.{◌≡◌, List, ℕ, Some, None, if◌then◌else◌};
 ghost use Rattle.mach_base.specs.Number.{place_after};
 ghost use Rattle.mach_load.specs.Variants.{command_of};
-ghost use Rattle.goblin_mach.specs.Names.{is_library, is_id, name_place, library_by, id_by};
+ghost use Rattle.goblin_mach.specs.Names.{is_library, is_id, is_run_path, name_place, library_by, id_by, run_path_by};
 ghost use Rattle.goblin_mach.specs.Tables.{table_by};
 
 use crate::image::readings::Subject;
 use mach_base::{Ctx, Result, read_text};
 use mach_dyld::exports::ExportTrie;
+use mach_dyld::imports::BindInterpreter;
 use mach_load::{CommandVariant, LoadCommand};
+use mach_parts::segment::Segment;
 use mach_parts::symbols::Symbols;
 
 // The place so many bytes after another, or the last place there is.
@@ -39,6 +42,16 @@ fn id_place(command: &LoadCommand) -> Option<usize>
 {
     match &command.command {
         CommandVariant::IdDylib(c) => Some(place_of(command.offset, c.dylib.name)),
+        _ => None,
+    }
+}
+
+// Where the path on which libraries are sought stands, if the command names one.
+fn run_path_place(command: &LoadCommand) -> Option<usize>
+    ensures { let c = command_of command.now in result ≡ (if is_run_path c.kind then Some (name_place c) else None) }
+{
+    match &command.command {
+        CommandVariant::Rpath(c) => Some(place_of(command.offset, c.path)),
         _ => None,
     }
 }
@@ -80,6 +93,93 @@ impl<'a> Subject for Ids<'a> {
 
     fn read(&self, command: &LoadCommand) -> Option<Result<&'a str>> {
         id_place(command).map(|place| read_text(self.bytes, place))
+    }
+}
+
+/// The paths on which the image's libraries are sought.
+#[derive(Clone, Copy)]
+pub struct RunPaths<'a> {
+    pub bytes: &'a [u8],
+}
+
+impl<'a> Subject for RunPaths<'a> {
+    type Value = &'a str;
+
+    ghost Seen = { List ℕ };
+
+    ghost seen = { λ path. path.now };
+
+    ghost reading = { λ s. run_path_by s.bytes.now };
+
+    fn read(&self, command: &LoadCommand) -> Option<Result<&'a str>> {
+        run_path_place(command).map(|place| read_text(self.bytes, place))
+    }
+}
+
+/// The segments of the image, with their data.
+#[derive(Clone, Copy)]
+pub struct SegmentData<'a> {
+    pub bytes: &'a [u8],
+    pub ctx: Ctx,
+}
+
+impl<'a> Subject for SegmentData<'a> {
+    type Value = Segment<'a>;
+
+    ghost use Rattle.mach_parts.specs.Segment.{SegmentView, segment_view};
+    ghost use Rattle.goblin_mach.specs.ImageSegments.{segment_by};
+
+    ghost Seen = { SegmentView };
+
+    ghost seen = { segment_view };
+
+    ghost reading = { λ s. segment_by s.ctx s.bytes.now };
+
+    fn read(&self, command: &LoadCommand) -> Option<Result<Segment<'a>>> {
+        let offset = command.offset;
+        match &command.command {
+            CommandVariant::Segment32(c) => {
+                Some(Segment::from_32(self.bytes, c, offset, self.ctx))
+            }
+            CommandVariant::Segment64(c) => {
+                Some(Segment::from_64(self.bytes, c, offset, self.ctx))
+            }
+            _ => None,
+        }
+    }
+}
+
+/// The segments of the image; data that are not in the bytes are empty.
+#[derive(Clone, Copy)]
+pub struct LossySegmentData<'a> {
+    pub bytes: &'a [u8],
+    pub ctx: Ctx,
+}
+
+impl<'a> Subject for LossySegmentData<'a> {
+    type Value = Segment<'a>;
+
+    ghost use Rattle.mach_parts.specs.Segment.{SegmentView, segment_view};
+    ghost use Rattle.goblin_mach.specs.ImageSegments.{lossy_segment_by};
+
+    ghost Seen = { SegmentView };
+
+    ghost seen = { segment_view };
+
+    ghost reading = { λ s. lossy_segment_by s.ctx s.bytes.now };
+
+    /// It is never refused.
+    fn read(&self, command: &LoadCommand) -> Option<Result<Segment<'a>>> {
+        let offset = command.offset;
+        match &command.command {
+            CommandVariant::Segment32(c) => {
+                Some(Segment::from_32_lossy(self.bytes, c, offset, self.ctx))
+            }
+            CommandVariant::Segment64(c) => {
+                Some(Segment::from_64_lossy(self.bytes, c, offset, self.ctx))
+            }
+            _ => None,
+        }
     }
 }
 
@@ -137,6 +237,35 @@ impl<'a> Subject for Tries<'a> {
             CommandVariant::DyldExportsTrie(c) => Some(Ok(
                 ExportTrie::new_from_linkedit_data_command(self.bytes, c),
             )),
+            _ => None,
+        }
+    }
+}
+
+/// The binds of the image.
+#[derive(Clone, Copy)]
+pub struct Binds<'a> {
+    pub bytes: &'a [u8],
+}
+
+impl<'a> Subject for Binds<'a> {
+    type Value = BindInterpreter<'a>;
+
+    ghost use Rattle.mach_dyld.specs.Imports.{BindRanges};
+    ghost use Rattle.goblin_mach.specs.ImageBinds.{binds_by};
+
+    ghost Seen = { BindRanges };
+
+    ghost seen = { λ binds. binds };
+
+    ghost reading = { λ s. binds_by s.bytes.now };
+
+    /// It is never refused.
+    fn read(&self, command: &LoadCommand) -> Option<Result<BindInterpreter<'a>>> {
+        match &command.command {
+            CommandVariant::DyldInfo(c) | CommandVariant::DyldInfoOnly(c) => {
+                Some(Ok(BindInterpreter::new(self.bytes, c)))
+            }
             _ => None,
         }
     }

@@ -77,6 +77,16 @@ impl<'a, A: Allocator> Segments<'a, A> {
     }
 }
 
+impl<'a, A: Allocator> From<Vec<Segment<'a>, A>> for Segments<'a, A> {
+    ghost use Rattle.mach_parts.specs.Segments.{segments_in};
+
+    ghost from_gives = { λ list segments. segments_in segments ≡ list.items };
+
+    fn from(segments: Vec<Segment<'a>, A>) -> Segments<'a, A> {
+        Segments { segments }
+    }
+}
+
 impl<'a, 'b, A: Allocator> IntoIterator for &'b Segments<'a, A> {
     type Item = &'b Segment<'a>;
 

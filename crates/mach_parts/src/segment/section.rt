@@ -5,7 +5,7 @@ ghost use Rattle.mach_base.specs.Answer.{Reads};
 ghost use Rattle.mach_base.specs.Text.{text_at};
 ghost use Rattle.mach_parts.specs.Section.{is_zero_fill, section_at, section_data};
 
-use crate::segment::low_bits;
+use crate::segment::conversions::low_bits;
 use crate::segment::relocations::RelocationIterator;
 use mach_base::{
     Container, Ctx, Error, IntoCtx, Record, Result, SizeWith, TryFromCtx, TryIntoCtx, bytes_at,

@@ -4,7 +4,7 @@ ghost use Rattle.std.specs.Prelude.{◌≡◌, ◌<◌, ◌^◌};
 ghost use Rattle.mach_base.specs.Answer.{Reads};
 ghost use Rattle.mach_parts.specs.Section.{section_place, section_with_data};
 
-use crate::segment::command_len;
+use crate::segment::conversions::command_len;
 use crate::segment::section::{Section, SectionData};
 use mach_base::{Ctx, Result, SizeWith};
 

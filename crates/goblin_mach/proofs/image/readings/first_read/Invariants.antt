@@ -1,0 +1,11 @@
+use Rattle.std.proofs.Common.{◌≡◌, map, option_map, drop}
+use Rattle.mach_load.specs.Variants.{command_of}
+use Rattle.goblin_mach.specs.Readings.{read_of, first_of, AllRead}
+use Rattle.goblin_mach.proofs.Readings.{first_or}
+use Rattle.goblin_mach.proofs.image.readings.first_read.Given as goal
+
+abbrev pub invariant-loop-command : goal.invariant-loop-command
+invariant-loop-command g l = record {
+  found : first_or (option_map g.S.Subject.seen l.first) (read_of (g.S.Subject.reading l.subject) (drop l.command-index (map command_of l.commands))) ≡ first_of (read_of (g.S.Subject.reading l.subject) (map command_of l.commands));
+  all : AllRead (g.S.Subject.reading l.subject) (drop l.command-index (map command_of l.commands)) → AllRead (g.S.Subject.reading l.subject) (map command_of l.commands);
+}
