@@ -1,9 +1,10 @@
 -- No fault stands where an image opens.
-use Rattle.std.proofs.Common.{◌≡◌, ℕ, ◌+◌, ◌≤◌, inl, inr, List, length, Option, Some, None, Result, Ok, Err, IsOk, sym, ap, subst, ◌∙◌, arith}
+use Rattle.std.proofs.Common.{◌≡◌, ℕ, ◌+◌, ◌≤◌, inl, inr, List, length, Option, Some, None, Result, Ok, Err, IsOk, true, false, nat_le, sym, ap, subst, ◌∙◌, arith}
+use Rattle.std.proofs.lemmas.Bool.{le-leb, lt-leb}
 use Rattle.std.specs.Prelude.{IfErr}
 use Rattle.mach_base.specs.declared.context.Ctx.{Ctx}
 use Rattle.mach_base.specs.declared.error.Error.{Error}
-use Rattle.mach_base.specs.Answer.{Stands, IsOkUnlessMemory}
+use Rattle.mach_base.specs.Answer.{◌>>=◌, Stands, IsOkUnlessMemory}
 use Rattle.mach_base.specs.Fault.{Fault}
 use Rattle.mach_base.proofs.Binds.{same_ok}
 use Rattle.mach_base.proofs.Faults.{Stands-in}
@@ -11,9 +12,10 @@ use Rattle.mach_load.specs.Command.{Command}
 use Rattle.mach_parts.specs.Header.{header_size}
 use Rattle.goblin_mach.specs.Chain.{IsAmong}
 use Rattle.goblin_mach.specs.Entry.{Entry, entry_in, pointer_by}
-use Rattle.goblin_mach.specs.Image.{HasHeader, CountsFit, HasChain, HasFront, OpensAs, Opens, LossyOpensAs, LossyOpens, LossyFault, no_magic, other_magic, short_header, too_many_commands, broken_chain, unknown_thread, no_entry, IsUnreadable, segment, library, id, run_path, table, ImageFault, of_lossy, unreadable, MachOpens, MachFault, no_room, of_image, LossyMachOpens, LossyMachFault, no_lossy_room, of_lossy_image}
+use Rattle.goblin_mach.specs.Image.{HasHeader, CountsFit, HasChain, HasFront, OpensAs, Opens, LossyOpensAs, LossyOpens, LossyFault, no_magic, other_magic, short_header, too_many_commands, broken_chain, unknown_thread, no_entry, IsUnreadable, segment, library, id, run_path, table, ImageFault, of_lossy, unreadable, HasFatMagic, MachOpens, MachFault, no_room, of_fat, of_image, LossyMachOpens, LossyMachFault, no_lossy_room, of_lossy_fat, of_lossy_image}
 use Rattle.goblin_mach.specs.ImageSegments.{segment_by}
-use Rattle.goblin_mach.specs.Magic.{magic_at, cputype_at}
+use Rattle.goblin_mach.specs.FatFile.{fat_file_in}
+use Rattle.goblin_mach.specs.Magic.{magic_at, ctx_of, cputype_at}
 use Rattle.goblin_mach.specs.Names.{library_by, id_by, run_path_by}
 use Rattle.goblin_mach.specs.Readings.{Reading, AllRead, IsUnread}
 use Rattle.goblin_mach.specs.Tables.{table_by}
@@ -97,10 +99,37 @@ pub ok_where_opens_lossily : {X : Type 0} (r : Result X Error) (bytes : List ℕ
 ok_where_opens_lossily (Ok x) bytes o h opens = tt
 ok_where_opens_lossily (Err e) bytes o h opens = Stands-in (LossyFault bytes o) (λ _. ⊥) e (λ f k. fault-excludes_lossy bytes o f k opens) h
 
+-- a fat file is not an image
+pub fat-excludes_image : (bytes : List ℕ) → HasFatMagic bytes → LossyOpens bytes 0 → ⊥
+fat-excludes_image bytes fat opens =
+    not_other bytes 0 0xcafe_babe opens.2.header.magic opens.0 (ap (λ (r : Result ℕ Fault). r >>= λ magic. Ok (magic, ctx_of magic)) fat) opens.2.header.magic_is
+
+-- 8 bytes have a header
+pub header-there : (bytes : List ℕ) (f : Fault) → 8 ≤ length bytes → fat_file_in bytes ≡ Err f → ⊥
+header-there bytes f room e =
+    let inside : nat_le (length bytes) 0 ≡ false = lt-leb (length bytes) 0 (omega (arith, room)) in
+    let whole : nat_le 8 (length bytes) ≡ true = le-leb 8 (length bytes) room in
+    let wrong = rw (inside, whole) at e in
+    cc
+
 pub fault-excludes_mach : (bytes : List ℕ) (f : Fault) → MachFault bytes f → MachOpens bytes → ⊥
 fault-excludes_mach bytes _ (no_room lt) opens = let h = opens.magic in omega arith
-fault-excludes_mach bytes _ (of_image f fault) opens = fault-excludes_image bytes 0 f fault opens.image
+fault-excludes_mach bytes _ (of_fat f fat e) opens = elim opens.file [
+  | inl is ↦ header-there bytes f is.header e
+  | inr image ↦ fat-excludes_image bytes fat (image.0, image.1, image.2.lossy)
+]
+fault-excludes_mach bytes _ (of_image f other fault) opens = elim opens.file [
+  | inl is ↦ other is.magic
+  | inr image ↦ fault-excludes_image bytes 0 f fault image
+]
 
 pub fault-excludes_lossy_mach : (bytes : List ℕ) (f : Fault) → LossyMachFault bytes f → LossyMachOpens bytes → ⊥
 fault-excludes_lossy_mach bytes _ (no_lossy_room lt) opens = let h = opens.magic in omega arith
-fault-excludes_lossy_mach bytes _ (of_lossy_image f fault) opens = fault-excludes_lossy bytes 0 f fault opens.image
+fault-excludes_lossy_mach bytes _ (of_lossy_fat f fat e) opens = elim opens.file [
+  | inl is ↦ header-there bytes f is.header e
+  | inr image ↦ fat-excludes_image bytes fat image
+]
+fault-excludes_lossy_mach bytes _ (of_lossy_image f other fault) opens = elim opens.file [
+  | inl is ↦ other is.magic
+  | inr image ↦ fault-excludes_lossy bytes 0 f fault image
+]

@@ -6,3 +6,8 @@ pub mod Entries
 pub mod Images
 pub mod Relocations
 pub mod Lossy
+pub mod FatMagics
+pub mod FatRecords
+pub mod FatEntries
+pub mod Views
+pub mod WholeFiles

@@ -1,11 +1,14 @@
 -- When an image opens, and the faults that stand where it doesn't (`mach-o/loader.h`).
 use Rattle.std.specs.Prelude.{◌≡◌, ℕ, ◌+◌, ◌/◌, ◌<◌, ◌≤◌, ◌⊎◌, List, length, codes, Some, None, Ok, Err, IsOk}
 use Rattle.mach_base.specs.declared.context.Ctx.{Ctx}
+use Rattle.mach_base.specs.declared.context.Endian.TheVariants.{Big}
 use Rattle.mach_base.specs.Fault.{Fault, malformed, bad_magic, too_short}
+use Rattle.mach_base.specs.Number.{number_at}
 use Rattle.mach_load.specs.Command.{Command}
 use Rattle.mach_parts.specs.Header.{header_size}
 use Rattle.goblin_mach.specs.Chain.{IsChain, IsBroken}
 use Rattle.goblin_mach.specs.Entry.{pointer_by, entry_in}
+use Rattle.goblin_mach.specs.FatFile.{fat_file_in}
 use Rattle.goblin_mach.specs.ImageSegments.{segment_by}
 use Rattle.goblin_mach.specs.Magic.{magic_at, cputype_at, ncmds_at, sizeofcmds_at}
 use Rattle.goblin_mach.specs.Names.{library_by, id_by, run_path_by}
@@ -100,20 +103,32 @@ pub data ImageFault (bytes : List ℕ) (o : ℕ) : Fault → Type 0 where
   of_lossy : (f : Fault) → LossyFault bytes o f → ImageFault bytes o f
   unreadable : (ctx : Ctx) (front : List Command) (f : Fault) → HasFront bytes o ctx front → IsUnreadable ctx bytes front f → ImageFault bytes o f
 
--- The bytes open as a file: four bytes for a magic, and the image at 0.
+-- the bytes begin with the magic of a fat file (`mach-o/fat.h`, FAT_MAGIC)
+abbrev pub HasFatMagic : List ℕ → Type 0
+HasFatMagic bytes = number_at Big 4 bytes 0 ≡ Ok 0xcafe_babe
+
+-- the bytes begin as a fat file, whose header has 8 bytes
+pub record IsFat (bytes : List ℕ) : Type 0 where
+  pub magic : HasFatMagic bytes
+  pub header : 8 ≤ length bytes
+
+-- The bytes open as a file: four bytes for a magic, and a fat file, or an image at 0.
 pub record MachOpens (bytes : List ℕ) : Type 0 where
   pub magic : 4 ≤ length bytes
-  pub image : Opens bytes 0
+  pub file : IsFat bytes ⊎ Opens bytes 0
 
+-- Behind the magic of a fat file its header may be short; any other magic is one of an image or of none.
 pub data MachFault (bytes : List ℕ) : Fault → Type 0 where
   no_room : length bytes < 4 → MachFault bytes malformed
-  of_image : (f : Fault) → ImageFault bytes 0 f → MachFault bytes f
+  of_fat : (f : Fault) → HasFatMagic bytes → fat_file_in bytes ≡ Err f → MachFault bytes f
+  of_image : (f : Fault) → ¬ (HasFatMagic bytes) → ImageFault bytes 0 f → MachFault bytes f
 
 -- The same in lossy mode.
 pub record LossyMachOpens (bytes : List ℕ) : Type 0 where
   pub magic : 4 ≤ length bytes
-  pub image : LossyOpens bytes 0
+  pub file : IsFat bytes ⊎ LossyOpens bytes 0
 
 pub data LossyMachFault (bytes : List ℕ) : Fault → Type 0 where
   no_lossy_room : length bytes < 4 → LossyMachFault bytes malformed
-  of_lossy_image : (f : Fault) → LossyFault bytes 0 f → LossyMachFault bytes f
+  of_lossy_fat : (f : Fault) → HasFatMagic bytes → fat_file_in bytes ≡ Err f → LossyMachFault bytes f
+  of_lossy_image : (f : Fault) → ¬ (HasFatMagic bytes) → LossyFault bytes 0 f → LossyMachFault bytes f

@@ -1,8 +1,13 @@
 pub mod Magic
+pub mod Peek
 pub mod Chain
 pub mod Image
 pub mod Rows
 pub mod OpenImage
+pub mod FatFile
+pub mod FatEntry
+pub mod FatViews
+pub mod FatEntryViews
 pub mod ImageFields
 pub mod Readings
 pub mod Names
@@ -14,3 +19,5 @@ pub mod ImageTrie
 pub mod ImageBinds
 pub mod Relocations
 pub mod SameFields
+pub mod View
+pub mod ViewSeen

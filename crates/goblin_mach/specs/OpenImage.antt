@@ -13,7 +13,9 @@ use Rattle.mach_dyld.specs.Exports.{texts, text_in}
 use Rattle.mach_dyld.specs.Imports.{BindRanges}
 use Rattle.mach_dyld.specs.TrieRange.{TrieRange}
 use Rattle.goblin_mach.specs.Entry.{entry_in}
-use Rattle.goblin_mach.specs.Image.{OpensAs, LossyOpensAs}
+use Rattle.goblin_mach.specs.FatFile.{fat_file_in}
+use Rattle.goblin_mach.specs.FatViews.{file_held}
+use Rattle.goblin_mach.specs.Image.{OpensAs, LossyOpensAs, HasFatMagic}
 use Rattle.goblin_mach.specs.ImageBinds.{binds_in}
 use Rattle.goblin_mach.specs.ImageSegments.{segment_by, lossy_segment_by}
 use Rattle.goblin_mach.specs.ImageTrie.{trie_in}
@@ -23,7 +25,8 @@ use Rattle.goblin_mach.specs.Readings.{read_of}
 use Rattle.goblin_mach.specs.Tables.{table_in}
 use Rattle.goblin_mach.specs.declared.image.macho.MachO.{MachO}
 use Rattle.goblin_mach.specs.declared.image.mach.Mach.{Mach}
-use Rattle.goblin_mach.specs.declared.image.mach.Mach.TheVariants.{Binary}
+use Rattle.goblin_mach.specs.declared.fat_file.multi_arch.MultiArch.{MultiArch}
+use Rattle.goblin_mach.specs.declared.image.mach.Mach.TheVariants.{Fat, Binary}
 
 -- the range of the export trie that an image holds, if it holds one
 abbrev pub trie_held : {A : Type 0} → MachO A → Option TrieRange
@@ -77,9 +80,17 @@ pub record IsLossyImage {A : Type 0} (bytes : List ℕ) (o : ℕ) (m : MachO A) 
   pub opens : LossyOpensAs bytes o ctx (commands_held m)
   pub fields : HasFields bytes o ctx (read_of (lossy_segment_by ctx bytes) (commands_held m)) m
 
--- the file is the image at 0
+-- the file is a fat file, with the count of its header
+pub record IsFatMach {A : Type 0} (bytes : List ℕ) (m : MultiArch A) : Type 0 where
+  pub magic : HasFatMagic bytes
+  pub file : fat_file_in bytes ≡ Ok (file_held m)
+
+-- the file is a fat file, or the image at 0
 abbrev pub IsMach : {A : Type 0} → List ℕ → Mach A → Type 0
+IsMach bytes (Fat m) = IsFatMach bytes m
 IsMach bytes (Binary m) = IsImage bytes 0 m
 
+-- the same in lossy mode
 abbrev pub IsLossyMach : {A : Type 0} → List ℕ → Mach A → Type 0
+IsLossyMach bytes (Fat m) = IsFatMach bytes m
 IsLossyMach bytes (Binary m) = IsLossyImage bytes 0 m

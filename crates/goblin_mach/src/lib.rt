@@ -2,15 +2,22 @@
 //! in, and every refusal a fault that stands in them.
 #![tactic(auto)]
 
+mod fat_file;
 mod image;
 pub mod laws;
+mod view;
 
+pub use crate::fat_file::arches::FatArchIterator;
+pub use crate::fat_file::entry::SingleArch;
+pub use crate::fat_file::multi_arch::{MultiArch, SingleArchIterator};
 pub use crate::image::mach::Mach;
 pub use crate::image::macho::MachO;
-pub use crate::image::magic::{parse_magic_and_ctx, peek};
+pub use crate::image::magic::{parse_magic_and_ctx, peek, peek_bytes};
+pub use crate::view::{LinkView, link_view};
 pub use mach_base::{
-    BE, Container, Ctx, Endian, Error, IntoCtx, LE, Record, Result, ScrollError, SizeWith, Sleb128,
-    TryFromCtx, TryIntoCtx, Uleb128, gread_with, pread_with, pwrite_with, read_text,
+    BE, Container, Ctx, Endian, Error, Hint, HintData, IntoCtx, LE, Record, Result, ScrollError,
+    SizeWith, Sleb128, TryFromCtx, TryIntoCtx, Uleb128, gread_with, pread_with, pwrite_with,
+    read_text, take_hint_bytes,
 };
 pub use mach_dyld::{bind_opcodes, exports, imports};
 pub use mach_parts::{fat, header, relocation, segment, symbols};

@@ -3,6 +3,7 @@
 
 mod context;
 mod error;
+mod hint;
 pub mod laws;
 mod leb128;
 mod numbers;
@@ -15,6 +16,7 @@ mod traits;
 
 pub use crate::context::{BE, Container, Ctx, Endian, LE};
 pub use crate::error::{Error, Result, ScrollError};
+pub use crate::hint::{Hint, HintData, take_hint_bytes};
 pub use crate::leb128::{Sleb128, Uleb128, sleb, uleb};
 pub use crate::numbers::{array_at, bytes_at, read_u32, rest_at, try_rest_at};
 pub use crate::offsets::{gread_with, pread_with, pwrite_with};

@@ -9,5 +9,6 @@ pub mod Section
 pub mod SectionItems
 pub mod Segment
 pub mod Segments
+pub mod SegmentLending
 pub mod Symbols
 pub mod SymbolViews

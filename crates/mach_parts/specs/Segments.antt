@@ -3,13 +3,12 @@ use Rattle.std.specs.Prelude.{ℕ, List, map, Result}
 use Rattle.std.specs.Slice.Iter.{iter_rest}
 use Rattle.mach_base.specs.Fault.{Fault}
 use Rattle.mach_parts.specs.Segment.{segment_view, sections_of}
-use Rattle.mach_parts.specs.declared.segment.Segment.{Segment}
 use Rattle.mach_parts.specs.declared.segment.list.Segments.{Segments}
 use Rattle.mach_parts.specs.declared.segment.list.SegmentSections.{SegmentSections}
 use Rattle.mach_parts.specs.declared.segment.section.Section.{Section}
 
 -- the segments, in order
-abbrev pub segments_in : {A : Type 0} → Segments A → List Segment
+abbrev pub segments_in : {S A : Type 0} → Segments S A → List S
 segments_in s = s.segments.items
 
 -- the sections of each segment that is left

@@ -16,13 +16,16 @@ mod sections;
 mod tests;
 
 use crate::segment::conversions::{command_len, widen};
-pub use crate::segment::list::{SegmentSections, Segments};
+pub use crate::segment::list::SegmentSections;
 pub use crate::segment::relocations::RelocationIterator;
 pub use crate::segment::section::{Section, SectionData};
 pub use crate::segment::sections::SectionIterator;
 use mach_base::{Container, Ctx, Result, bytes_at, read_text};
 use mach_records::{LC_SEGMENT, LC_SEGMENT_64, SegmentCommand32, SegmentCommand64};
-use std::alloc::Allocator;
+use std::alloc::{Allocator, Global};
+
+/// The segments of an image, in order.
+pub type Segments<'a, A = Global> = list::Segments<Segment<'a>, A>;
 
 /// A part of an image that is mapped into memory as a whole, with its bytes in the file.
 #[derive(Debug, Drop)]

@@ -1,4 +1,5 @@
-//! Prints the load commands of a Mach-O file, a line each.
+//! Prints the load commands, the exports or the imports of a Mach-O file, a line each; of a fat file
+//! those of each entry.
 #![tactic(auto)]
 
 mod run;

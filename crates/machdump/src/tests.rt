@@ -2,9 +2,11 @@
 //! where memory runs out.
 
 mod chain;
+mod container;
 mod exports;
 mod files;
 mod image;
 mod lines;
 mod shown;
 mod symbols;
+mod view;

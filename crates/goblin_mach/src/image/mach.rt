@@ -1,17 +1,21 @@
 //! What a file is.
 
-ghost use Rattle.std.specs.Prelude.{IfOk, IfErr};
+ghost use Rattle.std.specs.Prelude.{IfOk, IfErr, IsOk};
 ghost use Rattle.mach_base.specs.Answer.{Stands, IsOkUnlessMemory};
-ghost use Rattle.goblin_mach.specs.Image.{MachOpens, MachFault, LossyMachOpens, LossyMachFault};
+ghost use Rattle.goblin_mach.specs.Image.{IsFat, MachOpens, MachFault, LossyMachOpens, LossyMachFault};
 
+use crate::fat_file::multi_arch::MultiArch;
 use crate::image::macho::MachO;
-use mach_base::{Error, Result};
+use mach_base::{Endian, Error, Result};
+use mach_parts::fat::FAT_MAGIC;
 use std::alloc::{Allocator, Global};
 
 /// What a file is.
 #[derive(Drop)]
 #[derive_where(Debug)]
 pub enum Mach<'a, A: Allocator = Global> {
+    /// Images and archives for several cpus.
+    Fat(MultiArch<'a, A>),
     /// One image.
     Binary(MachO<'a, A>),
 }
@@ -19,26 +23,36 @@ pub enum Mach<'a, A: Allocator = Global> {
 impl<'a, A: Allocator + Clone> Mach<'a, A> {
     ghost use Rattle.goblin_mach.specs.OpenImage.{IsMach, IsLossyMach};
 
-    /// Opens a file. Each refusal but `Error::Memory` is a fault that stands in it.
+    /// Opens a file: a fat file where its magic says so, which takes no memory, else an image. Each refusal
+    /// but `Error::Memory` is a fault that stands in it.
     pub fn parse(alloc: A, bytes: &'a [u8]) -> Result<Mach<'a, A>>
         ensures opened { IfOk result (IsMach bytes.now) }
         ensures only { MachOpens bytes.now → IsOkUnlessMemory result }
+        ensures fat { IsFat bytes.now → IsOk result }
         ensures refused { IfErr result (Stands (MachFault bytes.now)) }
     {
         if bytes.len() < 4 {
             return Err(Error::Malformed("a magic is 4 bytes"));
         }
+        if Endian::Big.u32_at(bytes, 0) == FAT_MAGIC {
+            return Ok(Mach::Fat(MultiArch::new(alloc, bytes)?));
+        }
         Ok(Mach::Binary(MachO::parse(alloc, bytes, 0)?))
     }
 
-    /// Opens a file, and passes over what can't be read of its image, as `MachO::parse_lossy` does.
+    /// Opens a file, and passes over what can't be read of its image, as `MachO::parse_lossy` does. The
+    /// images of a fat file are opened strictly all the same.
     pub fn parse_lossy(alloc: A, bytes: &'a [u8]) -> Result<Mach<'a, A>>
         ensures opened { IfOk result (IsLossyMach bytes.now) }
         ensures only { LossyMachOpens bytes.now → IsOkUnlessMemory result }
+        ensures fat { IsFat bytes.now → IsOk result }
         ensures refused { IfErr result (Stands (LossyMachFault bytes.now)) }
     {
         if bytes.len() < 4 {
             return Err(Error::Malformed("a magic is 4 bytes"));
+        }
+        if Endian::Big.u32_at(bytes, 0) == FAT_MAGIC {
+            return Ok(Mach::Fat(MultiArch::new(alloc, bytes)?));
         }
         Ok(Mach::Binary(MachO::parse_lossy(alloc, bytes, 0)?))
     }

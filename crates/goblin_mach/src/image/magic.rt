@@ -1,12 +1,14 @@
 //! What the first four bytes say.
 
-ghost use Rattle.std.specs.Prelude.{◌≡◌};
+ghost use Rattle.std.specs.Prelude.{◌≡◌, Ok};
 ghost use Rattle.mach_base.specs.declared.context.Endian.TheVariants.{Big};
 ghost use Rattle.mach_base.specs.Answer.{Reads};
 ghost use Rattle.mach_base.specs.Number.{number_at};
 ghost use Rattle.goblin_mach.specs.Magic.{magic_at, ctx_of};
+ghost use Rattle.goblin_mach.specs.Peek.{hint_in};
 
-use mach_base::{Container, Ctx, Endian, Result, read_u32};
+use mach_base::{Container, Ctx, Endian, Hint, HintData, Result, read_u32};
+use mach_parts::fat::FAT_MAGIC;
 use mach_parts::header::{MH_CIGAM, MH_CIGAM_64, MH_MAGIC, MH_MAGIC_64};
 
 /// The number of the four bytes at a place, the highest byte first.
@@ -35,4 +37,25 @@ pub fn parse_magic_and_ctx(bytes: &[u8], offset: usize) -> Result<(u32, Option<C
 {
     let magic = peek(bytes, offset)?;
     Ok((magic, ctx_of_magic(magic)))
+}
+
+/// What the first 16 bytes of a file hint at; it is always Ok.
+pub fn peek_bytes(bytes: &[u8; 16]) -> Result<Hint>
+    ensures { result ≡ Ok (hint_in bytes.now) }
+{
+    if bytes.starts_with(b"!<arch>\n") {
+        return Ok(Hint::Archive);
+    }
+    let magic = Endian::Big.u32_at(bytes, 0);
+    if let Some(ctx) = ctx_of_magic(magic) {
+        return Ok(Hint::Mach(HintData {
+            is_lsb: ctx.le.is_little(),
+            is_64: Some(ctx.is_big()),
+        }));
+    }
+    if magic == FAT_MAGIC {
+        Ok(Hint::MachFat(Endian::Big.u32_at(bytes, 4) as usize))
+    } else {
+        Ok(Hint::Unknown(Endian::Little.u64_at(bytes, 0)))
+    }
 }

@@ -5,17 +5,35 @@ ghost use Rattle.mach_parts.specs.Segment.{segment_view, sections_of};
 
 use crate::segment::{SectionIterator, Segment};
 use mach_base::{Ctx, Result};
-use std::alloc::{Allocator, Global};
+use std::alloc::Allocator;
 use std::slice::Iter;
 
-/// The segments of an image, in order.
+/// The segments of an image, in order: a list of `S`, which is `Segment<'a>`.
+// `S` is a parameter for the sake of `get_mut`: what a list ends as once an element was lent is
+// proved only where the element's type names no lifetime.
 #[derive(Drop)]
-#[derive_where(Debug)]
-pub struct Segments<'a, A: Allocator = Global> {
-    segments: Vec<Segment<'a>, A>,
+#[derive_where(Debug; S)]
+pub struct Segments<S, A: Allocator> {
+    segments: Vec<S, A>,
 }
 
-impl<'a, A: Allocator> Segments<'a, A> {
+impl<S, A: Allocator> Segments<S, A> {
+    ghost use Rattle.std.specs.Prelude.{slice_get};
+    ghost use Rattle.std.specs.Borrow.{sem};
+    ghost use Rattle.std.specs.Option.{option_copied_mut};
+    ghost use Rattle.mach_parts.specs.Segments.{segments_in};
+    ghost use Rattle.mach_parts.specs.SegmentLending.{LendsSegment};
+
+    /// The segment at an index, to be changed in place, if there is one. The others stay as they are.
+    pub fn get_mut(&mut self, index: usize) -> Option<&mut S>
+        ensures* writes_back { sem 𝓛 (LendsSegment S.row A.row A.Allocator self.entry index result) }
+        ensures lent { option_copied_mut result ≡ slice_get (segments_in self.old) index }
+    {
+        self.segments.get_mut(index)
+    }
+}
+
+impl<'a, A: Allocator> Segments<Segment<'a>, A> {
     ghost use Rattle.mach_base.specs.Answer.{IsOkUnlessMemory};
     ghost use Rattle.mach_parts.specs.Segments.{segments_in, sections_in};
 
@@ -45,16 +63,6 @@ impl<'a, A: Allocator> Segments<'a, A> {
         self.segments.as_slice()
     }
 
-    ghost use Rattle.std.specs.Prelude.{slice_get};
-    ghost use Rattle.std.specs.Option.{option_copied_mut};
-
-    /// The segment at an index, to be changed in place, if there is one.
-    pub fn get_mut(&mut self, index: usize) -> Option<&mut Segment<'a>>
-        ensures { option_copied_mut result ≡ slice_get (segments_in self.old) index }
-    {
-        self.segments.get_mut(index)
-    }
-
     ghost use Rattle.std.specs.Iterator.Adapters.{IterYieldsInOrder};
     ghost use Rattle.std.specs.Slice.Iter.{iter_rest};
     ghost use Rattle.mach_parts.specs.declared.segment.Segment.{Segment};
@@ -77,17 +85,17 @@ impl<'a, A: Allocator> Segments<'a, A> {
     }
 }
 
-impl<'a, A: Allocator> From<Vec<Segment<'a>, A>> for Segments<'a, A> {
+impl<'a, A: Allocator> From<Vec<Segment<'a>, A>> for Segments<Segment<'a>, A> {
     ghost use Rattle.mach_parts.specs.Segments.{segments_in};
 
     ghost from_gives = { λ list segments. segments_in segments ≡ list.items };
 
-    fn from(segments: Vec<Segment<'a>, A>) -> Segments<'a, A> {
+    fn from(segments: Vec<Segment<'a>, A>) -> Segments<Segment<'a>, A> {
         Segments { segments }
     }
 }
 
-impl<'a, 'b, A: Allocator> IntoIterator for &'b Segments<'a, A> {
+impl<'a, 'b, A: Allocator> IntoIterator for &'b Segments<Segment<'a>, A> {
     type Item = &'b Segment<'a>;
 
     type IntoIter = Iter<'b, Segment<'a>>;

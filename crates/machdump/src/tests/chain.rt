@@ -12,6 +12,7 @@ use std::test::Fail;
 fn opened(alloc: Global, bytes: &[u8]) -> Result<String, AllocError> {
     match Mach::parse(alloc, bytes) {
         Ok(Mach::Binary(image)) => shown::image(alloc, &image),
+        Ok(Mach::Fat(file)) => format!(in alloc; "fat of {}", file.narches),
         Err(error) => shown::error(alloc, &error),
     }
 }
@@ -49,9 +50,9 @@ fn rows(rt: HostRuntime) -> Result<(), Fail> {
             "bad magic 0x7f454c46",
         ),
         (
-            "fat magic",
+            "fat_magic_alone",
             &[0xca, 0xfe, 0xba, 0xbe],
-            "bad magic 0xcafebabe",
+            "too big 8 of 4",
         ),
         ("three_bytes", &[0xcf, 0xfa, 0xed], "malformed"),
         (

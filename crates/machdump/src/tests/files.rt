@@ -55,3 +55,39 @@ pub fn image(alloc: Global, ncmds: u8, sizeofcmds: u8, rest: &[u8]) -> Result<Ve
     bytes.extend_from_slice(rest)?;
     Ok(bytes)
 }
+
+/// An archive of no members, with eight bytes behind its magic.
+pub const ARCHIVE: [u8; 16] = [
+    0x21, 0x3c, 0x61, 0x72, 0x63, 0x68, 0x3e, 0x0a, 0, 0, 0, 0, 0, 0, 0, 0,
+];
+
+/// A fat file of one entry, which stands at 28 and has so many bytes.
+pub fn of_one(alloc: Global, size: u8, entry: &[u8]) -> Result<Vec<u8>, AllocError> {
+    let mut bytes = vec![in alloc;
+        0xca, 0xfe, 0xba, 0xbe, 0, 0, 0, 1, 0, 0, 0, 0, 0, 0, 0, 0, 0, 0, 0, 28, 0, 0, 0, size, 0,
+        0, 0, 0,
+    ]?;
+    bytes.extend_from_slice(entry)?;
+    Ok(bytes)
+}
+
+/// A fat file said to have two entries, of which there is one record, of cpu 7.
+pub fn of_one_record(alloc: Global, zeros: &[u8]) -> Result<Vec<u8>, AllocError> {
+    let mut bytes = vec![in alloc;
+        0xca, 0xfe, 0xba, 0xbe, 0, 0, 0, 2, 0, 0, 0, 7, 0, 0, 0, 0, 0, 0, 0, 0, 0, 0, 0, 0, 0, 0,
+        0, 0,
+    ]?;
+    bytes.extend_from_slice(zeros)?;
+    Ok(bytes)
+}
+
+/// File C: file B at 48 and an archive at 424.
+pub fn file_c(alloc: Global) -> Result<Vec<u8>, AllocError> {
+    let mut bytes = vec![in alloc;
+        0xca, 0xfe, 0xba, 0xbe, 0, 0, 0, 2, 1, 0, 0, 7, 0, 0, 0, 3, 0, 0, 0, 48, 0, 0, 1, 0x78, 0,
+        0, 0, 4, 1, 0, 0, 0x0c, 0, 0, 0, 0, 0, 0, 1, 0xa8, 0, 0, 0, 16, 0, 0, 0, 0,
+    ]?;
+    bytes.extend_from_slice(&FILE_B)?;
+    bytes.extend_from_slice(&ARCHIVE)?;
+    Ok(bytes)
+}

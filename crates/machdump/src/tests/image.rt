@@ -75,6 +75,7 @@ fn opened(alloc: Global, bytes: &[u8], lossy: bool) -> Result<String, AllocError
     };
     match answer {
         Ok(Mach::Binary(image)) => fields(alloc, &image),
+        Ok(Mach::Fat(_)) => String::from_str(alloc, "fat"),
         Err(error) => shown::error(alloc, &error),
     }
 }

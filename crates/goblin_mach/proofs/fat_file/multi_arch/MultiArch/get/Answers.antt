@@ -1,0 +1,21 @@
+use Rattle.std.proofs.Common.{rules, Result, Ok, sym, subst, ◌∙◌, ap}
+use Rattle.std.proofs.lemmas.Result.{err_from_is_err_and}
+use Rattle.mach_base.specs.Fault.{Fault}
+use Rattle.goblin_mach.proofs.FatEntries.{OpensEntry-refused, entry_at-none, entry_at-record}
+use Rattle.goblin_mach.specs.FatEntry.{Entry, OpensEntry, entry_of}
+use Rattle.goblin_mach.specs.FatViews.{file_held}
+use Rattle.goblin_mach.proofs.fat_file.multi_arch.MultiArch.get.Goals as goal
+
+pub returns-then-index-self : goal.returns-then-index-self
+returns-then-index-self g c =
+    OpensEntry-refused _ _ (entry_at-none (file_held c.args.self.now) c.args.index (search rules))
+
+pub returns-in_err-arch : goal.returns-in_err-arch
+returns-in_err-arch g c =
+    let p = err_from_is_err_and c.from_residual.result c.from_residual.ensures.1 in
+    rw (p.1, p.2) (OpensEntry-refused _ _ (entry_at-record (file_held c.args.self.now) c.args.index _ (search rules) c.in_err-arch.ensures))
+
+pub returns : goal.returns
+returns g c =
+    let is = entry_at-record (file_held c.args.self.now) c.args.index (Ok c.in_ok-arch.arch) (search rules) c.in_ok-arch.ensures in
+    subst (λ (x : Result Entry Fault). OpensEntry x c.open.result) (ap entry_of c.slice.ensures ∙ sym is) c.open.ensures

@@ -1,0 +1,18 @@
+use Rattle.mach_parts.proofs.ItemLists.{items_from-first, fewer_left}
+use Rattle.goblin_mach.specs.FatEntry.{entry_at}
+use Rattle.goblin_mach.specs.FatViews.{file_held}
+use Rattle.goblin_mach.proofs.fat_file.multi_arch.SingleArchIteratorIterator.next.Goals as goal
+
+pub returns-clause-steps : goal.returns-clause-steps
+returns-clause-steps g c =
+    let it = c.args.self.now in
+    (entry_at (file_held it.file.now) it.index, items_from-first (entry_at (file_held it.file.now)) it.index it.file.now.narches c.if-self.false, c.get-item.ensures)
+
+pub returns-clause-goes : goal.returns-clause-goes
+returns-clause-goes g c =
+    let it = c.args.self.now in
+    record {
+      on = λ _. (tt, tt, fewer_left (entry_at (file_held it.file.now)) it.index it.file.now.narches c.if-self.false);
+      keeps = tt;
+      rests = λ _. tt;
+    }

@@ -1,0 +1,5 @@
+//! A fat file: images and archives for several cpus.
+
+pub mod arches;
+pub mod entry;
+pub mod multi_arch;

@@ -1,0 +1,68 @@
+//! The records of a fat file, one at a time.
+
+ghost use Rattle.std.specs.Prelude.{◌≡◌};
+ghost use Rattle.mach_base.specs.Answer.{Reads};
+ghost use Rattle.goblin_mach.specs.FatFile.{arch_place, arch_at};
+
+use mach_base::Result;
+use mach_parts::fat::{FatArch, SIZEOF_FAT_ARCH, SIZEOF_FAT_HEADER};
+
+/// The records of a fat file: exactly so many items as it is said to have entries, of which each is
+/// the record at its own place or the error of the read there.
+#[derive(Clone, Copy, Debug)]
+pub struct FatArchIterator<'a> {
+    bytes: &'a [u8],
+    index: usize,
+    narches: usize,
+}
+
+// Where the record of an entry stands; the last place that 64 bits have where it passes them.
+fn place_of(index: usize) -> usize
+    ensures { result ≡ arch_place index }
+{
+    let before = index.saturating_mul(SIZEOF_FAT_ARCH);
+    before.saturating_add(SIZEOF_FAT_HEADER)
+}
+
+/// The record of an entry.
+pub fn arch_at(bytes: &[u8], index: usize) -> Result<FatArch>
+    ensures { Reads (λ arch. arch) result (arch_at bytes.now index) }
+{
+    FatArch::parse(bytes, place_of(index))
+}
+
+impl<'a> FatArchIterator<'a> {
+    ghost use Rattle.goblin_mach.specs.FatFile.{archs_of};
+    ghost use Rattle.goblin_mach.specs.FatViews.{archs_left};
+
+    /// So many records of these bytes.
+    pub fn new(bytes: &'a [u8], narches: usize) -> Self
+        ensures { archs_left result ≡ archs_of (record { bytes = bytes.now; narches = narches }) }
+    {
+        FatArchIterator {
+            bytes,
+            index: 0,
+            narches,
+        }
+    }
+}
+
+impl<'a> Iterator for FatArchIterator<'a> {
+    type Item = Result<FatArch>;
+
+    ghost use Rattle.std.specs.Iterator.{YieldsFirstBy, item_count};
+    ghost use Rattle.goblin_mach.specs.FatViews.{arch_read, archs_left};
+
+    ghost next_gives = { YieldsFirstBy arch_read archs_left };
+
+    ghost remaining = { item_count archs_left };
+
+    fn next(&mut self) -> Option<Result<FatArch>> {
+        if self.index >= self.narches {
+            return None;
+        }
+        let item = arch_at(self.bytes, self.index);
+        self.index += 1;
+        Some(item)
+    }
+}

@@ -1,0 +1,36 @@
+//! The entries of a fat file.
+
+ghost use Rattle.goblin_mach.specs.FatEntry.{OpensEntry, entry_of};
+
+use crate::image::macho::MachO;
+use crate::image::magic::peek_bytes;
+use mach_base::{Error, Hint, Result, take_hint_bytes};
+use std::alloc::{Allocator, Global};
+
+/// An entry of a fat file.
+#[derive(Drop)]
+#[derive_where(Debug)]
+pub enum SingleArch<'a, A: Allocator = Global> {
+    /// An image.
+    MachO(MachO<'a, A>),
+    /// An archive: its bytes, of which only the first eight were looked at.
+    Archive(&'a [u8]),
+}
+
+impl<'a, A: Allocator + Clone> SingleArch<'a, A> {
+    /// Opens the entry of these bytes; an image is opened strictly.
+    pub(crate) fn open(alloc: &A, bytes: &'a [u8]) -> Result<SingleArch<'a, A>>
+        ensures { OpensEntry (entry_of bytes.now) result }
+    {
+        let Some(front) = take_hint_bytes(bytes) else {
+            return Err(Error::Malformed("an entry has 16 bytes or more"));
+        };
+        match peek_bytes(front)? {
+            Hint::Archive => Ok(SingleArch::Archive(bytes)),
+            Hint::Mach(_) => Ok(SingleArch::MachO(MachO::parse(alloc.clone()?, bytes, 0)?)),
+            Hint::MachFat(_) | Hint::Unknown(_) => {
+                Err(Error::Malformed("an entry is an image or an archive"))
+            }
+        }
+    }
+}

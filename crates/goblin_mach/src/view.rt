@@ -1,0 +1,135 @@
+//! What a whole file links.
+
+ghost use Rattle.std.specs.Prelude.{◌≡◌, ℕ, List, Result, IfOk, IfErr, Ok};
+ghost use Rattle.mach_base.specs.Fault.{Fault};
+ghost use Rattle.mach_base.specs.Answer.{Stands, IsOkUnlessMemory};
+ghost use Rattle.goblin_mach.specs.FatEntry.{Entry, entry_at, entries_of, image};
+ghost use Rattle.goblin_mach.specs.FatViews.{file_held};
+ghost use Rattle.goblin_mach.specs.OpenImage.{IsImage};
+ghost use Rattle.goblin_mach.specs.View.{HasEntries, ViewFault};
+ghost use Rattle.goblin_mach.specs.ViewSeen.{LinksHeld, FaultHeld, IsTold, IsItem, AreItems};
+
+use crate::fat_file::entry::SingleArch;
+use crate::fat_file::multi_arch::MultiArch;
+use crate::image::mach::Mach;
+use crate::image::macho::MachO;
+use mach_base::{Error, Result};
+use mach_dyld::exports::Export;
+use mach_dyld::imports::Import;
+use std::alloc::{Allocator, Global};
+
+/// What one image or archive links.
+#[derive(Drop)]
+#[derive_where(Debug)]
+pub enum LinkView<'a, A: Allocator = Global> {
+    /// An image.
+    Image {
+        /// What it gives to others.
+        exports: Vec<Export<'a, A>, A>,
+        /// What it takes from others.
+        imports: Vec<Import<'a>, A>,
+    },
+    /// An archive: its bytes.
+    Archive(&'a [u8]),
+}
+
+// The exports and the imports of an image.
+#[derive(Drop)]
+struct Links<'a, A: Allocator> {
+    exports: Vec<Export<'a, A>, A>,
+    imports: Vec<Import<'a>, A>,
+}
+
+// Lists both of an image.
+fn links_of<'a, A: Allocator, B: Allocator + Clone>(
+    alloc: B,
+    image: &MachO<'a, A>,
+) -> Result<Links<'a, B>>
+    ensures held { IfOk result (LinksHeld image.now) }
+    ensures refused { IfErr result (Stands (FaultHeld image.now)) }
+{
+    let exports = image.exports(alloc.clone()?)?;
+    let imports = image.imports(alloc)?;
+    Ok(Links { exports, imports })
+}
+
+// An error that an item may tell of; want of memory is answered for the whole.
+fn told(error: Error) -> Result<Error>
+    ensures same { IfOk result (λ e. (e ≡ error) × IsTold e) }
+    ensures only { IsOkUnlessMemory result }
+{
+    match error {
+        Error::Memory(refused) => Err(Error::Memory(refused)),
+        other => Ok(other),
+    }
+}
+
+// The item of an image that opened strictly at 0 of some bytes.
+fn image_item<'a, A: Allocator, B: Allocator + Clone>(
+    alloc: B,
+    opened: &MachO<'a, A>,
+) -> Result<Result<LinkView<'a, B>>>
+    ensures item { (bytes : List ℕ) → IsImage bytes 0 opened.now → IfOk result (IsItem (Ok (image bytes))) }
+    ensures only { IsOkUnlessMemory result }
+{
+    match links_of(alloc, opened) {
+        Ok(Links { exports, imports }) => Ok(Ok(LinkView::Image { exports, imports })),
+        Err(error) => Ok(Err(told(error)?)),
+    }
+}
+
+// The item of an entry of a fat file.
+fn entry_item<'a, A: Allocator + Clone, B: Allocator + Clone>(
+    alloc: B,
+    container: &MultiArch<'a, A>,
+    index: usize,
+) -> Result<Result<LinkView<'a, B>>>
+    ensures item { IfOk result (IsItem (entry_at (file_held container.now) index)) }
+    ensures only { IsOkUnlessMemory result }
+{
+    match container.get(index) {
+        Ok(SingleArch::Archive(bytes)) => Ok(Ok(LinkView::Archive(bytes))),
+        Ok(SingleArch::MachO(image)) => image_item(alloc, &image),
+        Err(error) => Ok(Err(told(error)?)),
+    }
+}
+
+// The items of all entries of a fat file, in order.
+fn entry_items<'a, A: Allocator + Clone, B: Allocator + Clone>(
+    alloc: B,
+    container: &MultiArch<'a, A>,
+) -> Result<Vec<Result<LinkView<'a, B>>, B>>
+    ensures items { IfOk result (λ v. AreItems (entries_of (file_held container.now)) v.items) }
+    ensures only { IsOkUnlessMemory result }
+{
+    let mut items = Vec::new(alloc.clone()?);
+    for index in 0..container.narches {
+        items.push(entry_item(alloc.clone()?, container, index)?)?;
+    }
+    Ok(items)
+}
+
+/// What a file links: an item for its one image, or one for each entry of a fat file, in order, and
+/// never fewer. An item is an archive's bytes, or the exports and the imports of an image that opens
+/// strictly; else an error that tells of a fault in that entry alone. The whole is refused where the
+/// file does not open, where the table of a fat file can't be read, and for want of memory.
+pub fn link_view<'a, A: Allocator + Clone>(
+    alloc: A,
+    bytes: &'a [u8],
+) -> Result<Vec<Result<LinkView<'a, A>>, A>>
+    ensures viewed { IfOk result (λ v. (entries : List (Result Entry Fault)) × HasEntries bytes.now entries × AreItems entries v.items) }
+    ensures only { (entries : List (Result Entry Fault)) → HasEntries bytes.now entries → IsOkUnlessMemory result }
+    ensures refused { IfErr result (Stands (ViewFault bytes.now)) }
+{
+    match Mach::parse(alloc.clone()?, bytes)? {
+        Mach::Binary(image) => {
+            let mut items = Vec::new(alloc.clone()?);
+            items.push(image_item(alloc, &image)?)?;
+            Ok(items)
+        }
+        Mach::Fat(container) => {
+            container.arches()?;
+            entry_items(alloc, &container)
+        }
+    }
+}
