@@ -136,6 +136,8 @@ impl<'a, 'b> IntoIterator for &'b Symbols<'a> {
 
     type IntoIter = SymbolIterator<'a>;
 
+    ghost into_iter_gives = { λ symbols it. symbols_left it ≡ symbols_of (table_of symbols.now) };
+
     fn into_iter(self) -> SymbolIterator<'a> {
         self.iter()
     }
