@@ -7,5 +7,9 @@ pub mod imports;
 mod info;
 pub mod laws;
 mod node;
+mod steps;
+mod tally;
 #[cfg(test)]
 mod tests;
+
+pub use crate::steps::Steps;

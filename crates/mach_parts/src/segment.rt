@@ -1,6 +1,6 @@
 //! Segments and their sections (`mach-o/loader.h`).
 
-ghost use Rattle.std.specs.Prelude.{◌≡◌, ◌+◌, ◌<◌, ◌^◌, length};
+ghost use Rattle.std.specs.Prelude.{◌≡◌, ◌+◌, ◌<◌, ◌^◌, ◌↔◌, IsTrue, length};
 ghost use Rattle.mach_base.specs.Answer.{Reads};
 ghost use Rattle.mach_base.specs.Text.{text_at};
 ghost use Rattle.mach_parts.specs.Section.{command_size};
@@ -186,6 +186,13 @@ impl<'a> Segment<'a> {
         ensures { Reads (λ name. name.now) result (text_at self.now.segname 0) }
     {
         read_text(&self.segname, 0)
+    }
+
+    /// Whether an offset from the segment's start lies in the segment's memory.
+    pub fn holds(&self, seg_offset: u64) -> bool
+        ensures { IsTrue result ↔ (seg_offset < self.now.vmsize) }
+    {
+        seg_offset < self.vmsize
     }
 
     ghost use Rattle.std.specs.Prelude.{map};
