@@ -13,10 +13,6 @@ use Rattle.mach_dyld.proofs.TrieFaults.{Leads-append}
 
 -- visits
 
-abbrev pub IsIn : {X : Type 0} → X → List X → Type 0
-IsIn x [] = ⊥
-IsIn x (y ∷ ys) = (x ≡ y) ⊎ IsIn x ys
-
 -- a node that was visited, and the path on which it was met
 pub record Visit : Type 0 where
   pub path : List ℕ
@@ -27,15 +23,15 @@ visit path at = record { path = path; at = at }
 
 abbrev pub Apart : List Visit → Type 0
 Apart [] = Unit {0}
-Apart (v ∷ vs) = ((w : Visit) → IsIn w vs → w.at ≡ v.at → ⊥) × Apart vs
+Apart (v ∷ vs) = ((w : Visit) → IsAmong w vs → w.at ≡ v.at → ⊥) × Apart vs
 
 -- what was visited, the last first, is what is marked
 pub record Visited (t : Trie) (from : ℕ) (marks : List Bool) (vs : List Visit) : Type 0 where
   pub size : length marks ≡ t.upto - from
-  pub leads : (v : Visit) → IsIn v vs → Leads t v.path from v.at × (from ≤ v.at) × (v.at < t.upto)
-  pub marked : (v : Visit) → IsIn v vs → get_or marks (v.at - from) false ≡ true
-  pub met : (o : ℕ) → get_or marks o false ≡ true → (p : List ℕ) × IsIn (visit p (from + o)) vs
-  pub parents : (v : Visit) (p : List ℕ) (k : ℕ) → IsIn v vs → v.path ≡ p ++ k ∷ [] → (a : ℕ) × IsIn (visit p a) vs
+  pub leads : (v : Visit) → IsAmong v vs → Leads t v.path from v.at × (from ≤ v.at) × (v.at < t.upto)
+  pub marked : (v : Visit) → IsAmong v vs → get_or marks (v.at - from) false ≡ true
+  pub met : (o : ℕ) → get_or marks o false ≡ true → (p : List ℕ) × IsAmong (visit p (from + o)) vs
+  pub parents : (v : Visit) (p : List ℕ) (k : ℕ) → IsAmong v vs → v.path ≡ p ++ k ∷ [] → (a : ℕ) × IsAmong (visit p a) vs
   pub apart : Apart vs
   pub count : length vs ≤ count_by (λ b. b) marks
 
@@ -91,7 +87,7 @@ root_visited t from inside =
     }
 
 module _ (t : Trie) (from : ℕ) (marks : List Bool) (vs : List Visit) (h : Visited t from marks vs)
-    (p : List ℕ) (a k b : ℕ) (known : IsIn (visit p a) vs) (lead : Leads t (p ++ k ∷ []) from b) (low : from ≤ b) (inside : b < t.upto) (clear : get_or marks (b - from) false ≡ false) where
+    (p : List ℕ) (a k b : ℕ) (known : IsAmong (visit p a) vs) (lead : Leads t (p ++ k ∷ []) from b) (low : from ≤ b) (inside : b < t.upto) (clear : get_or marks (b - from) false ≡ false) where
   -- a child that isn't marked is visited
   pub child_visited : Visited t from (set marks (b - from) true) (visit (p ++ k ∷ []) b ∷ vs)
   child_visited =
@@ -108,7 +104,7 @@ module _ (t : Trie) (from : ℕ) (marks : List Bool) (vs : List Visit) (h : Visi
           | inr other ↦ (let old = h.met o (sym (get_or-set_other marks (b - from) o true false other) ∙ is) in (old.0, inr old.1))
         ];
         parents = λ v q j i e. elim i [
-          | inl same ↦ (let front = same_front p q k j (sym (ap (λ (x : Visit). x.path) same) ∙ e) in (a, inr (subst (λ x. IsIn (visit x a) vs) front known)))
+          | inl same ↦ (let front = same_front p q k j (sym (ap (λ (x : Visit). x.path) same) ∙ e) in (a, inr (subst (λ x. IsAmong (visit x a) vs) front known)))
           | inr old ↦ (let up = h.parents v q j old e in (up.0, inr up.1))
         ];
         apart = (λ w i e. not_both (h.marked w i) (ap (λ x. get_or marks (x - from) false) e ∙ clear), h.apart);
@@ -123,11 +119,11 @@ few_visited t from marks vs h = let most = count_by-le-length (λ (b : Bool). b)
 abbrev pub paths_in : List Visit → List (List ℕ)
 paths_in vs = map (λ v. v.path) vs
 
-in_paths : (p : List ℕ) (vs : List Visit) → IsAmong p (paths_in vs) → (v : Visit) × IsIn v vs × (p ≡ v.path)
+in_paths : (p : List ℕ) (vs : List Visit) → IsAmong p (paths_in vs) → (v : Visit) × IsAmong v vs × (p ≡ v.path)
 in_paths p [] i = absurd i
 in_paths p (v ∷ vs) i = elim i [ inl e ↦ (v, inl refl, e) | inr more ↦ (let rest = in_paths p vs more in (rest.0, inr rest.1, rest.2)) ]
 
-pub path_in : (v : Visit) (vs : List Visit) → IsIn v vs → IsAmong v.path (paths_in vs)
+pub path_in : (v : Visit) (vs : List Visit) → IsAmong v vs → IsAmong v.path (paths_in vs)
 path_in v [] i = absurd i
 path_in v (w ∷ vs) i = elim i [ inl e ↦ inl (ap (λ (x : Visit). x.path) e) | inr more ↦ inr (path_in v vs more) ]
 
@@ -146,10 +142,10 @@ leads_to_one t (k ∷ ks) s a b x y =
     leads_to_one t ks x.1.start a b x.5 (subst (λ (c : Branch). Leads t ks c.start b) (sym branch) y.5)
 
 module _ (t : Trie) (from : ℕ) where
-  pub each_leads : (vs : List Visit) → ((v : Visit) → IsIn v vs → Leads t v.path from v.at × (from ≤ v.at) × (v.at < t.upto)) → (p : List ℕ) → IsAmong p (paths_in vs) → Path t from p
+  pub each_leads : (vs : List Visit) → ((v : Visit) → IsAmong v vs → Leads t v.path from v.at × (from ≤ v.at) × (v.at < t.upto)) → (p : List ℕ) → IsAmong p (paths_in vs) → Path t from p
   each_leads vs leads p i = let v = in_paths p vs i in let l = leads v.0 v.1 in (v.0.at, subst (λ x. Leads t x from v.0.at) (sym v.2) l.0, l.2)
 
-  pub paths_apart : (vs : List Visit) → ((v : Visit) → IsIn v vs → Leads t v.path from v.at × (from ≤ v.at) × (v.at < t.upto)) → Apart vs → AreApart t from (paths_in vs)
+  pub paths_apart : (vs : List Visit) → ((v : Visit) → IsAmong v vs → Leads t v.path from v.at × (from ≤ v.at) × (v.at < t.upto)) → Apart vs → AreApart t from (paths_in vs)
   paths_apart [] leads apart = tt
   paths_apart (v ∷ vs) leads apart = (
     λ q at i x y.
@@ -160,7 +156,7 @@ module _ (t : Trie) (from : ℕ) where
     paths_apart vs (λ w i. leads w (inr i)) apart.1,
   )
 
-  same_path : (vs : List Visit) → Apart vs → (v w : Visit) → IsIn v vs → IsIn w vs → v.at ≡ w.at → v.path ≡ w.path
+  same_path : (vs : List Visit) → Apart vs → (v w : Visit) → IsAmong v vs → IsAmong w vs → v.at ≡ w.at → v.path ≡ w.path
   same_path [] apart v w i j e = absurd i
   same_path (u ∷ vs) apart v w i j e = elim i [
     | inl v_here ↦ elim j [
@@ -188,10 +184,10 @@ abbrev pub more : Frame → Frame
 more f = record { path = f.path; start = f.start; prefix = f.prefix; node = f.node; next = suc f.next }
 
 pub record IsOpen (t : Trie) (vs : List Visit) (f : Frame) (nested : ℕ) : Type 0 where
-  pub known : IsIn (visit f.path f.start) vs
+  pub known : IsAmong (visit f.path f.start) vs
   pub node : t.node f.start ≡ Ok f.node
   pub depth : length f.path ≡ nested
-  pub fresh : (k : ℕ) (w : Visit) → f.next ≤ k → IsIn w vs → w.path ≡ f.path ++ k ∷ [] → ⊥
+  pub fresh : (k : ℕ) (w : Visit) → f.next ≤ k → IsAmong w vs → w.path ≡ f.path ++ k ∷ [] → ⊥
 
 abbrev pub AreOpen : Trie → List Visit → List Frame → Type 0
 AreOpen t vs [] = Unit {0}
@@ -204,10 +200,10 @@ IsLeft v k (f ∷ fs) = ((f.path ≡ v.path) × (f.start ≡ v.at) × (f.next �
 
 -- each child of a visited node is nothing, or was visited, or is left
 abbrev pub IsDone : Trie → List Visit → List Frame → Visit → ℕ → ℕ → Type 0
-IsDone t vs fs v k start = (t.upto ≤ start) ⊎ (IsIn (visit (v.path ++ k ∷ []) start) vs ⊎ IsLeft v k fs)
+IsDone t vs fs v k start = (t.upto ≤ start) ⊎ (IsAmong (visit (v.path ++ k ∷ []) start) vs ⊎ IsLeft v k fs)
 
 abbrev pub Closed : Trie → List Visit → List Frame → Type 0
-Closed t vs fs = (v : Visit) (node : Node) (k : ℕ) (b : Branch) → IsIn v vs → t.node v.at ≡ Ok node → slice_get node.branches k ≡ Some b → IsDone t vs fs v k b.start
+Closed t vs fs = (v : Visit) (node : Node) (k : ℕ) (b : Branch) → IsAmong v vs → t.node v.at ≡ Ok node → slice_get node.branches k ≡ Some b → IsDone t vs fs v k b.start
 
 -- what the open nodes still have to list
 abbrev pub Pending : Trie → List Frame → List Entry → Type 0
@@ -216,7 +212,7 @@ Pending t (f ∷ fs) es = (here : List Entry) × (others : List Entry) × Branch
 
 pub record Walk (t : Trie) (from : ℕ) (marks : List Bool) (fs : List Frame) (found : List Entry) (vs : List Visit) : Type 0 where
   pub visited : Visited t from marks vs
-  pub root : IsIn (visit [] from) vs
+  pub root : IsAmong (visit [] from) vs
   pub opened : AreOpen t vs fs
   pub closed : Closed t vs fs
   pub list : (es : List Entry) → Pending t fs es → Lists t from [] (found ++ es)
@@ -289,14 +285,14 @@ module _ (t : Trie) (from : ℕ) (marks : List Bool) (f : Frame) (fs : List Fram
         Leads-append t f.path (f.next ∷ []) from f.start b.start (h.visited.leads (visit f.path f.start) h.opened.0.known).0 (f.node, b, inside_top, h.opened.0.node, taken, refl)
 
     -- the child is not yet visited by this path
-    pub not_yet : (w : Visit) → IsIn w vs → w.path ≡ f.path ++ f.next ∷ [] → ⊥
+    pub not_yet : (w : Visit) → IsAmong w vs → w.path ≡ f.path ++ f.next ∷ [] → ⊥
     not_yet w i e = h.opened.0.fresh f.next w (omega arith) i e
 
     open_more : IsOpen t vs (more f) (length fs)
     open_more = record { known = h.opened.0.known; node = h.opened.0.node; depth = h.opened.0.depth; fresh = λ k w le i e. h.opened.0.fresh k w (omega arith) i e }
 
-    done_more : (ws : List Visit) → ((w : Visit) → IsIn w vs → IsIn w ws) → ((t.upto ≤ b.start) ⊎ IsIn (visit (f.path ++ f.next ∷ []) b.start) ws)
-        → (v : Visit) (node : Node) (k : ℕ) (c : Branch) → IsIn v vs → t.node v.at ≡ Ok node → slice_get node.branches k ≡ Some c → IsDone t ws (more f ∷ fs) v k c.start
+    done_more : (ws : List Visit) → ((w : Visit) → IsAmong w vs → IsAmong w ws) → ((t.upto ≤ b.start) ⊎ IsAmong (visit (f.path ++ f.next ∷ []) b.start) ws)
+        → (v : Visit) (node : Node) (k : ℕ) (c : Branch) → IsAmong v vs → t.node v.at ≡ Ok node → slice_get node.branches k ≡ Some c → IsDone t ws (more f ∷ fs) v k c.start
     done_more ws keeps handled v node k c i a s = elim (h.closed v node k c i a s) [
       | inl out ↦ inl out
       | inr other ↦ elim other [
@@ -310,7 +306,7 @@ module _ (t : Trie) (from : ℕ) (marks : List Bool) (f : Frame) (fs : List Fram
                   | inl out ↦ inl (subst (λ (x : Branch). t.upto ≤ x.start) (sym branch) out)
                   | inr met ↦ inr (inl (
                       let path : visit (f.path ++ f.next ∷ []) b.start ≡ visit (v.path ++ k ∷ []) c.start = rw (here.0, now, branch) refl in
-                      subst (λ (x : Visit). IsIn x ws) path met))
+                      subst (λ (x : Visit). IsAmong x ws) path met))
                 ])
             | inr later ↦ inr (inr (inl (here.0, here.1, omega (arith, here.2))))
           ]
@@ -419,17 +415,17 @@ leads_inside t [] s at l inside = subst (λ x. x < t.upto) (sym l) inside
 leads_inside t (k ∷ ks) s at l inside = l.2
 
 module _ (t : Trie) (from : ℕ) (marks : List Bool) (found : List Entry) (vs : List Visit) (h : Walk t from marks [] found vs) where
-  reaches : (ks p : List ℕ) (a at : ℕ) → IsIn (visit p a) vs → Leads t ks a at → at < t.upto → IsIn (visit (p ++ ks) at) vs
-  reaches [] p a at i l inside = subst (λ (x : Visit). IsIn x vs) (let path = append-nil p in rw (path, l) refl) i
+  reaches : (ks p : List ℕ) (a at : ℕ) → IsAmong (visit p a) vs → Leads t ks a at → at < t.upto → IsAmong (visit (p ++ ks) at) vs
+  reaches [] p a at i l inside = subst (λ (x : Visit). IsAmong x vs) (let path = append-nil p in rw (path, l) refl) i
   reaches (k ∷ ks) p a at i l inside = elim (h.closed (visit p a) l.0 k l.1 i l.3 l.4) [
     | inl out ↦ absurd (let inner = leads_inside t ks l.1.start at l.5 inside in omega arith)
     | inr other ↦ elim other [
-      | inl met ↦ subst (λ (x : List ℕ). IsIn (visit x at) vs) (append_assoc p (k ∷ []) ks) (reaches ks (p ++ k ∷ []) l.1.start at met l.5 inside)
+      | inl met ↦ subst (λ (x : List ℕ). IsAmong (visit x at) vs) (append_assoc p (k ∷ []) ks) (reaches ks (p ++ k ∷ []) l.1.start at met l.5 inside)
       | inr none ↦ absurd none
     ]
   ]
 
-  pub all_visited : (p : List ℕ) (at : ℕ) → Leads t p from at → at < t.upto → IsIn (visit p at) vs
+  pub all_visited : (p : List ℕ) (at : ℕ) → Leads t p from at → at < t.upto → IsAmong (visit p at) vs
   all_visited p at l inside = reaches p [] from at h.root l inside
 
   pub all_paths : (p : List ℕ) → Path t from p → IsAmong p (paths_in vs)

@@ -14,7 +14,7 @@ pub use crate::info::{
     EXPORT_SYMBOL_FLAGS_WEAK_DEFINITION, ExportInfo, SymbolKind,
 };
 use crate::steps::Steps;
-use crate::walk::walk;
+use crate::walk::{Source, walk};
 use mach_base::Result;
 use mach_records::{DyldInfoCommand, LinkeditDataCommand};
 use std::alloc::{Allocator, Global};
@@ -136,6 +136,12 @@ impl<'a> ExportTrie<'a> {
         ensures visits { Visits (trie_there self.now (texts libs.now)) self.now.from steps.old steps.new result }
         ensures few_visits { steps.new ≤ steps.old + (self.now.upto - self.now.from) }
     {
-        walk(&alloc, self.bytes, libs, self.from, self.upto, steps)
+        let source = Source {
+            bytes: self.bytes,
+            libs,
+            from: self.from,
+            upto: self.upto,
+        };
+        walk(&alloc, &source, steps)
     }
 }

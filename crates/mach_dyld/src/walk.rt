@@ -6,17 +6,24 @@ ghost use Rattle.mach_base.specs.Answer.{Stands, FailsAs};
 ghost use Rattle.mach_dyld.specs.Trie.{own_entries};
 ghost use Rattle.mach_dyld.specs.Lists.{Lists};
 ghost use Rattle.mach_dyld.specs.Paths.{IsTree};
-ghost use Rattle.mach_dyld.specs.Nodes.{node_at, trie_of};
-ghost use Rattle.mach_dyld.specs.TrieFault.{TrieFault};
 ghost use Rattle.mach_dyld.specs.Visits.{Visits};
-ghost use Rattle.mach_dyld.specs.Exports.{texts, info_of, entries};
-ghost use Rattle.mach_dyld.specs.Opens.{Opens};
+ghost use Rattle.mach_dyld.specs.Exports.{info_of, entries};
+ghost use Rattle.mach_dyld.specs.WalkViews.{trie_in, node_in, fault_in, Opens};
 
 use crate::exports::{Export, ExportInfo};
 use crate::node::{Branches, read_again, read_node};
 use crate::steps::Steps;
 use mach_base::{Error, Result};
 use std::alloc::{AllocError, Allocator};
+
+/// What exports are read from: some bytes, the libraries of the image, and where the trie begins and ends.
+#[derive(Debug, Drop)]
+pub struct Source<'a, 'b> {
+    pub bytes: &'a [u8],
+    pub libs: &'b [&'a str],
+    pub from: usize,
+    pub upto: usize,
+}
 
 /// An open node: its branches that are left, and how long its name is.
 #[derive(Clone, Copy, Debug)]
@@ -45,9 +52,7 @@ fn push_own<'a, A: Allocator + Clone>(
 // Opens the node at a start: reads it, and lists its own export.
 fn open_node<'a, A: Allocator + Clone>(
     alloc: &A,
-    bytes: &'a [u8],
-    libs: &[&'a str],
-    from: usize,
+    source: &Source<'a, '_>,
     start: usize,
     name: &[u8],
     found: &mut Vec<Export<'a, A>, A>,
@@ -55,10 +60,10 @@ fn open_node<'a, A: Allocator + Clone>(
 ) -> Result<Open>
     requires { IsUtf8 name.now }
     ensures visits { steps.new ≡ steps.old + 1 }
-    ensures ok { IfOk result (Opens bytes.now (texts libs.now) from start name.now (entries found.old.items) (entries found.new.items)) }
-    ensures err { IfErr result (λ e. FailsAs e (node_at bytes.now (texts libs.now) from start)) }
+    ensures ok { IfOk result (Opens source.now start name.now (entries found.old.items) (entries found.new.items)) }
+    ensures err { IfErr result (λ e. FailsAs e (node_in source.now start)) }
 {
-    let node = read_node(bytes, libs, from, start, steps)?;
+    let node = read_node(source.bytes, source.libs, source.from, start, steps)?;
     push_own(alloc, node.own, name, found)?;
     Ok(Open {
         branches: node.branches,
@@ -66,23 +71,22 @@ fn open_node<'a, A: Allocator + Clone>(
     })
 }
 
-/// The exports of a trie in a range, depth first, or a fault that stands there.
+/// The exports of a trie, depth first, or a fault that stands there.
 pub fn walk<'a, A: Allocator + Clone>(
     alloc: &A,
-    bytes: &'a [u8],
-    libs: &[&'a str],
-    from: usize,
-    upto: usize,
+    source: &Source<'a, '_>,
     steps: &mut Steps,
 ) -> Result<Vec<Export<'a, A>, A>>
-    ensures tree { OnOk result (IsTree (trie_of bytes.now (texts libs.now) from upto) from) }
-    ensures listed { IfOk result (λ v. Lists (trie_of bytes.now (texts libs.now) from upto) from [] (entries v.items)) }
-    ensures few_exports { IfOk result (λ v. length v.items ≤ upto - from) }
-    ensures visits { Visits (trie_of bytes.now (texts libs.now) from upto) from steps.old steps.new result }
-    ensures few_visits { steps.new ≤ steps.old + (upto - from) }
-    ensures refused { IfErr result (Stands (TrieFault bytes.now (texts libs.now) from upto from)) }
+    ensures tree { OnOk result (IsTree (trie_in source.now) source.now.from) }
+    ensures listed { IfOk result (λ v. Lists (trie_in source.now) source.now.from [] (entries v.items)) }
+    ensures few_exports { IfOk result (λ v. length v.items ≤ source.now.upto - source.now.from) }
+    ensures visits { Visits (trie_in source.now) source.now.from steps.old steps.new result }
+    ensures few_visits { steps.new ≤ steps.old + (source.now.upto - source.now.from) }
+    ensures refused { IfErr result (Stands (fault_in source.now)) }
 {
     let mut found = Vec::new(alloc.clone()?);
+    let from = source.from;
+    let upto = source.upto;
     if from >= upto {
         return Ok(found);
     }
@@ -90,16 +94,7 @@ pub fn walk<'a, A: Allocator + Clone>(
     let mut name = Vec::new(alloc.clone()?);
     let mut open = Vec::new(alloc.clone()?);
     marks[0] = true;
-    let mut top = open_node(
-        alloc,
-        bytes,
-        libs,
-        from,
-        from,
-        name.as_slice(),
-        &mut found,
-        steps,
-    )?;
+    let mut top = open_node(alloc, source, from, name.as_slice(), &mut found, steps)?;
     'turns: loop {
         if top.branches.left == 0 {
             match open.pop() {
@@ -110,7 +105,7 @@ pub fn walk<'a, A: Allocator + Clone>(
                 }
             }
         } else {
-            let (label, start, after) = read_again(bytes, from, top.branches.place);
+            let (label, start, after) = read_again(source.bytes, from, top.branches.place);
             top.branches = Branches {
                 left: top.branches.left - 1,
                 place: after,
@@ -121,16 +116,7 @@ pub fn walk<'a, A: Allocator + Clone>(
                 }
                 marks[start - from] = true;
                 name.extend_from_slice(label)?;
-                let child = open_node(
-                    alloc,
-                    bytes,
-                    libs,
-                    from,
-                    start,
-                    name.as_slice(),
-                    &mut found,
-                    steps,
-                )?;
+                let child = open_node(alloc, source, start, name.as_slice(), &mut found, steps)?;
                 open.push(top)?;
                 top = child;
             }
