@@ -1,6 +1,6 @@
 //! Symbols and their names (`mach-o/nlist.h`).
 
-ghost use Rattle.std.specs.Prelude.{◌≡◌, [], Ok};
+ghost use Rattle.std.specs.Prelude.{◌≡◌, ◌<◌, ◌^◌, [], Ok, length};
 ghost use Rattle.mach_base.specs.declared.context.Endian.TheVariants.{Little};
 ghost use Rattle.mach_base.specs.declared.context.Container.TheVariants.{Big};
 ghost use Rattle.mach_base.specs.Answer.{Reads};
@@ -115,12 +115,10 @@ impl<'a> Symbols<'a> {
 
     /// The symbols in order, exactly as many as there are said to be, unreadable ones included.
     pub fn iter(&self) -> SymbolIterator<'a>
-        ensures { symbols_left result ≡ symbols_of (table_of self.now) }
+        ensures items { symbols_left result ≡ symbols_of (table_of self.now) }
+        ensures bounded { length (symbols_left result) < 2 ^ 64 }
     {
-        SymbolIterator {
-            table: self.table,
-            index: 0,
-        }
+        SymbolIterator::new(self.table)
     }
 
     /// A symbol with its name; how many there are said to be is not tested.
@@ -175,10 +173,20 @@ impl<'a> TryFromCtx<'a, SymbolsCtx> for Symbols<'a> {
 }
 
 /// Symbols one after the other, each as `get` gives it.
-#[derive(Drop)]
+#[derive(Clone, Drop)]
 pub struct SymbolIterator<'a> {
     table: Table<'a>,
     index: usize,
+}
+
+impl<'a> SymbolIterator<'a> {
+    // The symbols of a table, from the first.
+    fn new(table: Table<'a>) -> Self
+        ensures items { symbols_left result ≡ symbols_of (table_view table.entry) }
+        ensures bounded { length (symbols_left result) < 2 ^ 64 }
+    {
+        SymbolIterator { table, index: 0 }
+    }
 }
 
 impl<'a> Default for SymbolIterator<'a> {
@@ -202,7 +210,9 @@ impl<'a> Default for SymbolIterator<'a> {
 impl<'a> Iterator for SymbolIterator<'a> {
     type Item = Result<(&'a str, Nlist)>;
 
-    ghost use Rattle.std.specs.Iterator.{YieldsFirstBy, item_count};
+    ghost use Rattle.std.specs.Prelude.{Some, IfSome};
+    ghost use Rattle.std.specs.Iterator.{YieldsFirstBy, UpTo, item_count};
+    ghost use Rattle.std.specs.Iterator.SizeHint.{IsWithinCount};
 
     ghost next_gives = { YieldsFirstBy symbol_read symbols_left };
 
@@ -215,5 +225,22 @@ impl<'a> Iterator for SymbolIterator<'a> {
         let item = self.table.symbol(self.index);
         self.index += 1;
         Some(item)
+    }
+
+    /// How many items are left, exactly.
+    fn size_hint(&self) -> (usize, Option<usize>)
+        ensures lower { IsWithinCount result.0 (item_count symbols_left self.now) }
+        ensures upper { IfSome result.1 (UpTo (item_count symbols_left self.now)) }
+        ensures exact { result ≡ (length (symbols_left self.now), Some (length (symbols_left self.now))) }
+    {
+        let left = self.len();
+        (left, Some(left))
+    }
+}
+
+impl<'a> ExactSizeIterator for SymbolIterator<'a> {
+    /// How many items are left.
+    fn len(&self) -> usize {
+        self.table.nsyms.saturating_sub(self.index)
     }
 }

@@ -49,6 +49,7 @@ fn sections_left(rt: HostRuntime) -> Result<(), Fail> {
     assert_eq!(rt; sections.len(), 2);
     assert!(rt; matches!(sections.next(), Some(Ok(_))));
     assert_eq!(rt; sections.len(), 1);
+    assert_eq!(rt; sections.clone()?.size_hint(), (1, Some(1)));
     Ok(())
 }
 
@@ -68,12 +69,14 @@ fn unreadable_sections(rt: HostRuntime) -> Result<(), Fail> {
 }
 
 #[test]
-fn relocations_past_the_end(rt: HostRuntime) {
+fn relocations_past_the_end(rt: HostRuntime) -> Result<(), Fail> {
     let mut section = Section::default();
     section.nreloc = 2;
     section.reloff = 368;
     let mut relocations = section.iter_relocations(&FILE_B, Ctx::default());
     assert!(rt; matches!(relocations.next(), Some(Ok(_))));
+    assert_eq!(rt; relocations.size_hint(), (1, Some(1)));
+    let again = relocations.clone()?;
     assert!(rt;
         matches!(
             relocations.next(),
@@ -82,6 +85,8 @@ fn relocations_past_the_end(rt: HostRuntime) {
     );
     assert!(rt; relocations.next().is_none());
     assert!(rt; relocations.next().is_none());
+    assert_eq!(rt; (relocations.len(), again.len()), (0, 1));
+    Ok(())
 }
 
 // A section whose address has 33 bits.
