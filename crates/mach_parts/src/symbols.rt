@@ -11,6 +11,7 @@ pub mod laws;
 mod names;
 mod nlist;
 
+use crate::byte_count::ByteCount;
 pub use crate::symbols::names::{
     MAX_SECT, N_ABS, N_AST, N_BCOMM, N_BINCL, N_BNSYM, N_DESC_DISCARDED, N_ECOML, N_ECOMM, N_EINCL,
     N_ENSYM, N_ENTRY, N_EXCL, N_EXT, N_FNAME, N_FUN, N_GSYM, N_INDR, N_LBRAC, N_LCSYM, N_LENG,
@@ -25,6 +26,7 @@ pub use crate::symbols::names::{
 pub use crate::symbols::nlist::{Nlist, Nlist32, Nlist64, SIZEOF_NLIST_32, SIZEOF_NLIST_64};
 use mach_base::{Ctx, Error, Result, ScrollError, SizeWith, TryFromCtx, read_text};
 use mach_records::SymtabCommand;
+use std::fmt;
 
 /// How the symbols in some bytes are read.
 #[derive(Clone, Copy, Debug, Default)]
@@ -38,7 +40,7 @@ pub struct SymbolsCtx {
 }
 
 // Records from a place on, and names from another.
-#[derive(Clone, Copy, Debug)]
+#[derive(Clone, Copy)]
 struct Table<'a> {
     bytes: &'a [u8],
     start: usize,
@@ -68,9 +70,22 @@ impl<'a> Table<'a> {
 }
 
 /// The symbols of an image, with their names: slices of its bytes.
-#[derive(Debug, Drop)]
+#[derive(Drop)]
 pub struct Symbols<'a> {
     table: Table<'a>,
+}
+
+impl fmt::Debug for Symbols<'_> {
+    /// Where the symbols stand; of the bytes only how many they are.
+    fn fmt<W: fmt::Write>(&self, f: &mut fmt::Formatter<W>) -> fmt::Result {
+        f.debug_struct("Symbols")
+            .field("bytes", &ByteCount(self.table.bytes))
+            .field("start", &self.table.start)
+            .field("nsyms", &self.table.nsyms)
+            .field("strtab", &self.table.strtab)
+            .field("ctx", &self.table.ctx)
+            .finish()
+    }
 }
 
 impl<'a> Symbols<'a> {

@@ -42,6 +42,22 @@ fn segment_of_a_known_image(rt: HostRuntime) -> Result<(), Fail> {
 }
 
 #[test]
+fn segment_shown(rt: HostRuntime) -> Result<(), Fail> {
+    let mut segments = Segments::new(rt.alloc(), Ctx::default());
+    segments.push(segment_of_file_b()?)?;
+    let shown = format!(in rt.alloc(); "{segments:?}")?;
+    assert_eq!(rt;
+        shown.as_str(),
+        "Segments { segments: [Segment { cmd: 25, cmdsize: 152, \
+         segname: [95, 95, 84, 69, 88, 84, 0, 0, 0, 0, 0, 0, 0, 0, 0, 0], \
+         vmaddr: 4294967296, vmsize: 4096, fileoff: 0, filesize: 376, maxprot: 0, initprot: 0, \
+         nsects: 1, flags: 0, bytes: 376 bytes, file: 376 bytes, offset: 32, \
+         ctx: Ctx { container: Big, le: Little } }] }"
+    );
+    Ok(())
+}
+
+#[test]
 fn sections_left(rt: HostRuntime) -> Result<(), Fail> {
     let mut segment = segment_of_file_b()?;
     segment.nsects = 2;

@@ -95,6 +95,19 @@ fn how_many_symbols_are_left(rt: HostRuntime) -> std::result::Result<(), Fail> {
 }
 
 #[test]
+fn symbols_shown(rt: HostRuntime) -> std::result::Result<(), Fail> {
+    let bytes = file_b();
+    let symbols = Symbols::parse(&bytes, &command(1), Ctx::default())?;
+    let shown = format!(in rt.alloc(); "{symbols:?}")?;
+    assert_eq!(rt;
+        shown.as_str(),
+        "Symbols { bytes: 376 bytes, start: 352, nsyms: 1, strtab: 368, \
+         ctx: Ctx { container: Big, le: Little } }"
+    );
+    Ok(())
+}
+
+#[test]
 fn tables(rt: HostRuntime) -> std::result::Result<(), Fail> {
     let bytes = file_b();
     let mut names_first = command(1);
