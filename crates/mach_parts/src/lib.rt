@@ -2,9 +2,11 @@
 #![tactic(auto)]
 
 mod byte_count;
+mod cpu;
 pub mod fat;
 pub mod header;
 pub mod laws;
+mod low_bits;
 pub mod relocation;
 pub mod segment;
 pub mod symbols;
