@@ -15,7 +15,7 @@ mod texts;
 mod traits;
 
 pub use crate::context::{BE, Container, Ctx, Endian, LE};
-pub use crate::error::{Error, Result, ScrollError};
+pub use crate::error::{Description, Error, Result, ScrollError, describe};
 pub use crate::hint::{Hint, HintData, take_hint_bytes};
 pub use crate::leb128::{Sleb128, Uleb128, quick_uleb, sleb, uleb};
 pub use crate::numbers::{array_at, bytes_at, read_u32, rest_at, try_rest_at};

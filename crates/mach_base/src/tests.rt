@@ -7,6 +7,7 @@ ghost use Rattle.mach_base.specs.Front.{same_fault};
 ghost use Rattle.mach_base.specs.Record.{num, number_is, number_among};
 
 use crate::*;
+use std::alloc::AllocError;
 
 // The kind of an error, with its numbers.
 #[derive(Clone, Copy, Debug, PartialEq)]
@@ -295,5 +296,43 @@ fn written_again<T: IntoCtx<C> + SizeWith<C> + Copy, C: Copy>(
 #[test]
 fn writes_by_bounds(rt: HostRuntime) -> Result<()> {
     assert_eq!(rt; written_again(BIG, BE)?, ([1, 2, 3, 4, 5, 6, 0, 0], 6));
+    Ok(())
+}
+
+#[test]
+fn errors_in_words(rt: HostRuntime) -> Result<()> {
+    let rows = [
+        (
+            Error::Malformed("a load command passes the end"),
+            "malformed: a load command passes the end",
+        ),
+        (Error::BadMagic(0x7f45_4c46), "bad magic 0x7f454c46"),
+        (
+            Error::from(ScrollError::BadOffset(65_535)),
+            "offset 65535 is past the end",
+        ),
+        (
+            Error::from(ScrollError::TooBig { size: 24, len: 8 }),
+            "24 bytes are wanted and 8 are left",
+        ),
+        (
+            Error::from(ScrollError::BadInput {
+                size: 5,
+                msg: "a text is UTF-8",
+            }),
+            "a text is UTF-8, 5 bytes left",
+        ),
+        (
+            Error::BufferTooShort(70, "fat entries"),
+            "70 fat entries do not fit the file",
+        ),
+        (Error::from(AllocError), "out of memory"),
+    ];
+    for (error, want) in &rows {
+        assert_eq!(rt;
+            format!(in rt.alloc(); "{}", describe(error))?.as_str(),
+            *want
+        );
+    }
     Ok(())
 }
