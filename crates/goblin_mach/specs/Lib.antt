@@ -19,5 +19,6 @@ pub mod ImageTrie
 pub mod ImageBinds
 pub mod Relocations
 pub mod SameFields
+pub mod Facts
 pub mod View
 pub mod ViewSeen

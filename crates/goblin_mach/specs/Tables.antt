@@ -1,5 +1,5 @@
 -- The symbols of an image (`mach-o/loader.h`, struct symtab_command).
-use Rattle.std.specs.Prelude.{ℕ, List, Bool, true, false, Option, Some, None, [], Result, if◌then◌else◌}
+use Rattle.std.specs.Prelude.{ℕ, List, Bool, true, false, Option, Some, None, option_map, [], Result, if◌then◌else◌}
 use Rattle.mach_base.specs.declared.context.Ctx.{Ctx}
 use Rattle.mach_records.specs.SymbolTables.{symtab_command_of_values}
 use Rattle.mach_load.specs.Commands.{Kind, symtab}
@@ -24,7 +24,11 @@ table_by ctx bytes c = if is_symtab c.kind then Some (table_at ctx bytes (symtab
 abbrev pub table_in : Ctx → List ℕ → List Command → Option SymbolTable
 table_in ctx bytes cs = last_of (read_of (table_by ctx bytes) cs)
 
--- the symbols that are held, each with its name or why one of them is missing
+-- the symbols of a table, if there is one, each with its name or why one of them is missing
+abbrev pub symbols_in : Option SymbolTable → List (Result (List ℕ × Nlist) Fault)
+symbols_in None = []
+symbols_in (Some t) = symbols_of t
+
+-- the symbols that are held
 abbrev pub symbols_held : Option Symbols → List (Result (List ℕ × Nlist) Fault)
-symbols_held None = []
-symbols_held (Some s) = symbols_of (table_of s)
+symbols_held symbols = symbols_in (option_map table_of symbols)

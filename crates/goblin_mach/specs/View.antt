@@ -1,45 +1,23 @@
 -- What a whole file links: the lists of its images, and its archives (`mach-o/fat.h`, dyld).
-use Rattle.std.specs.Prelude.{◌≡◌, ◌⊎◌, ℕ, List, [], ◌∷◌, map, Result, Ok, Err, IsOk}
-use Rattle.mach_base.specs.declared.context.Ctx.{Ctx}
-use Rattle.mach_base.specs.Context.{pointer_size}
+use Rattle.std.specs.Prelude.{◌≡◌, ◌⊎◌, ℕ, List, [], ◌∷◌, Result, Ok, Err, IsOk}
 use Rattle.mach_base.specs.Fault.{Fault}
-use Rattle.mach_load.specs.Command.{Command}
-use Rattle.mach_parts.specs.declared.segment.Segment.{Segment}
-use Rattle.mach_parts.specs.Segment.{segment_view}
 use Rattle.mach_dyld.specs.Imports.{Import}
 use Rattle.mach_dyld.specs.Trie as trie
+use Rattle.goblin_mach.specs.Facts.{HasExports, HasExportsFault, HasImports, HasImportsFault}
 use Rattle.goblin_mach.specs.FatEntry.{Entry, image, entries_of, EntryFault}
 use Rattle.goblin_mach.specs.FatFile.{FatFile, fat_file_in, arches_in}
-use Rattle.goblin_mach.specs.Image.{OpensAs, Opens, HasFatMagic, MachFault}
-use Rattle.goblin_mach.specs.ImageBinds.{binds_in, ListsImageImports, ImageImportsFault}
-use Rattle.goblin_mach.specs.ImageSegments.{segment_by}
-use Rattle.goblin_mach.specs.ImageTrie.{trie_in, ListsImageExports, ImageExportsFault}
-use Rattle.goblin_mach.specs.Names.{libs_in}
-use Rattle.goblin_mach.specs.Readings.{read_of}
-
--- some segments as they are held, which are those of the commands
-abbrev pub AreSegments : Ctx → List ℕ → List Command → List Segment → Type 0
-AreSegments ctx bytes cs segments = map segment_view segments ≡ read_of (segment_by ctx bytes) cs
+use Rattle.goblin_mach.specs.Image.{Opens, HasFatMagic, MachFault}
 
 -- These are the exports and the imports of the image at 0, which opens strictly.
 pub record LinksImage (bytes : List ℕ) (exports : List trie.Entry) (imports : List Import) : Type 0 where
-  pub ctx : Ctx
-  pub cs : List Command
-  pub segments : List Segment
-  pub opens : OpensAs bytes 0 ctx cs
-  pub are_segments : AreSegments ctx bytes cs segments
-  pub lists_exports : ListsImageExports (trie_in bytes cs) (libs_in bytes cs) exports
-  pub lists_imports : ListsImageImports (binds_in bytes cs) (pointer_size ctx.container) (libs_in bytes cs) segments imports
+  pub opens : Opens bytes 0
+  pub exports_are : HasExports bytes 0 exports
+  pub imports_are : HasImports bytes 0 imports
 
 -- A fault stands in the exports or in the imports of the image at 0, which opens strictly.
 pub record LinksFault (bytes : List ℕ) (f : Fault) : Type 0 where
-  pub ctx : Ctx
-  pub cs : List Command
-  pub segments : List Segment
-  pub opens : OpensAs bytes 0 ctx cs
-  pub are_segments : AreSegments ctx bytes cs segments
-  pub fault : ImageExportsFault (trie_in bytes cs) (libs_in bytes cs) f
-      ⊎ ImageImportsFault (binds_in bytes cs) (pointer_size ctx.container) (libs_in bytes cs) segments f
+  pub opens : Opens bytes 0
+  pub fault : HasExportsFault bytes 0 f ⊎ HasImportsFault bytes 0 f
 
 -- A fault stands in an item: in the entry, or in a list of the image that it is.
 pub data ItemFault (entry : Result Entry Fault) : Fault → Type 0 where
