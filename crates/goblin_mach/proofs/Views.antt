@@ -43,7 +43,7 @@ image-fails bytes m f p fault =
     let q = strict-lossy bytes 0 m p in
     record {
       opens = (p.ctx, commands_held m, p.opens);
-      fault = elim fault [ | inl e ↦ inl ((exports_fail bytes 0 m q f).1 e) | inr i ↦ inr (imports_fail bytes 0 m q f i) ];
+      fault = elim fault [ inl e ↦ inl ((exports_fail bytes 0 m q f).1 e) | inr i ↦ inr (imports_fail bytes 0 m q f i) ];
     }
 
 pub item_fault : {A : Type 0} (bytes : List ℕ) (m : MachO A) (f : Fault) → IsImage bytes 0 m → FaultHeld m f → ItemFault (Ok (image bytes)) f

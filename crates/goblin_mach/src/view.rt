@@ -9,6 +9,7 @@ ghost use Rattle.goblin_mach.specs.OpenImage.{IsImage};
 ghost use Rattle.goblin_mach.specs.View.{HasEntries, ViewFault};
 ghost use Rattle.goblin_mach.specs.ViewSeen.{LinksHeld, FaultHeld, IsTold, IsItem, AreItems};
 
+use crate::byte_count::ByteCount;
 use crate::fat_file::entry::SingleArch;
 use crate::fat_file::multi_arch::MultiArch;
 use crate::image::mach::Mach;
@@ -17,10 +18,11 @@ use mach_base::{Error, Result};
 use mach_dyld::exports::Export;
 use mach_dyld::imports::Import;
 use std::alloc::{Allocator, Global};
+use std::fmt;
+use std::fmt::{Debug, Formatter, Write};
 
 /// What one image or archive links.
 #[derive(Drop)]
-#[derive_where(Debug)]
 pub enum LinkView<'a, A: Allocator = Global> {
     /// An image.
     Image {
@@ -31,6 +33,22 @@ pub enum LinkView<'a, A: Allocator = Global> {
     },
     /// An archive: its bytes.
     Archive(&'a [u8]),
+}
+
+impl<'a, A: Allocator> Debug for LinkView<'a, A> {
+    /// The two lists of an image, or of an archive only how many bytes it has.
+    fn fmt<W: Write>(&self, f: &mut Formatter<W>) -> fmt::Result {
+        match self {
+            LinkView::Image { exports, imports } => f
+                .debug_struct("Image")
+                .field("exports", exports)
+                .field("imports", imports)
+                .finish(),
+            LinkView::Archive(bytes) => {
+                f.debug_tuple("Archive").field(&ByteCount(bytes)).finish()
+            }
+        }
+    }
 }
 
 // The exports and the imports of an image.

@@ -2,14 +2,16 @@
 
 ghost use Rattle.goblin_mach.specs.FatEntry.{OpensEntry, entry_of};
 
+use crate::byte_count::ByteCount;
 use crate::image::macho::MachO;
 use crate::image::magic::peek_bytes;
 use mach_base::{Error, Hint, Result, take_hint_bytes};
 use std::alloc::{Allocator, Global};
+use std::fmt;
+use std::fmt::{Debug, Formatter, Write};
 
 /// An entry of a fat file.
 #[derive(Drop)]
-#[derive_where(Debug)]
 pub enum SingleArch<'a, A: Allocator = Global> {
     /// An image.
     MachO(MachO<'a, A>),
@@ -30,6 +32,18 @@ impl<'a, A: Allocator + Clone> SingleArch<'a, A> {
             Hint::Mach(_) => Ok(SingleArch::MachO(MachO::parse(alloc.clone()?, bytes, 0)?)),
             Hint::MachFat(_) | Hint::Unknown(_) => {
                 Err(Error::Malformed("an entry is an image or an archive"))
+            }
+        }
+    }
+}
+
+impl<'a, A: Allocator> Debug for SingleArch<'a, A> {
+    /// The image, or of an archive only how many bytes it has.
+    fn fmt<W: Write>(&self, f: &mut Formatter<W>) -> fmt::Result {
+        match self {
+            SingleArch::MachO(image) => f.debug_tuple("MachO").field(image).finish(),
+            SingleArch::Archive(bytes) => {
+                f.debug_tuple("Archive").field(&ByteCount(bytes)).finish()
             }
         }
     }

@@ -12,6 +12,8 @@ ghost use Rattle.goblin_mach.specs.Image.{Opens, LossyOpens, ImageFault, LossyFa
 ghost use Rattle.goblin_mach.specs.ImageBinds.{ListsImageImports, ImageImportsFault};
 ghost use Rattle.goblin_mach.specs.ImageTrie.{ListsImageExports, ImageExportsFault};
 
+mod debug;
+
 use crate::image::fields::Fields;
 use crate::image::opened::Opened;
 use crate::image::readings::last_readable;
@@ -28,7 +30,6 @@ use std::alloc::{Allocator, Global};
 
 /// A Mach-O image: an executable, a library or an object file for one cpu.
 #[derive(Drop)]
-#[derive_where(Debug)]
 pub struct MachO<'a, A: Allocator = Global> {
     /// The header, in the form of either width.
     pub header: Header,
