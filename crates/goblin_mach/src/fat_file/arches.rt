@@ -35,8 +35,7 @@ pub fn arch_at(bytes: &[u8], index: usize) -> Result<FatArch>
 }
 
 impl<'a> FatArchIterator<'a> {
-    ghost use Rattle.goblin_mach.specs.FatFile.{archs_of};
-    ghost use Rattle.goblin_mach.specs.FatViews.{archs_left};
+    ghost use Rattle.goblin_mach.specs.FatFile.{archs_of, archs_left};
 
     // So many records of these bytes.
     pub(crate) fn new(bytes: &'a [u8], narches: usize) -> Self
@@ -57,7 +56,7 @@ impl<'a> Iterator for FatArchIterator<'a> {
     ghost use Rattle.std.specs.Prelude.{Some, IfSome};
     ghost use Rattle.std.specs.Iterator.{YieldsFirstBy, UpTo, item_count};
     ghost use Rattle.std.specs.Iterator.SizeHint.{IsWithinCount};
-    ghost use Rattle.goblin_mach.specs.FatViews.{arch_read, archs_left};
+    ghost use Rattle.goblin_mach.specs.FatFile.{arch_read, archs_left};
 
     ghost next_gives = { YieldsFirstBy arch_read archs_left };
 

@@ -1,6 +1,6 @@
 //! The entries of a fat file.
 
-ghost use Rattle.goblin_mach.specs.FatEntry.{OpensEntry, entry_of};
+ghost use Rattle.goblin_mach.specs.FatEntry.{OpensEntry, fat_entry_of};
 
 use crate::byte_count::ByteCount;
 use crate::image::macho::MachO;
@@ -22,7 +22,7 @@ pub enum SingleArch<'a, A: Allocator = Global> {
 impl<'a, A: Allocator + Clone> SingleArch<'a, A> {
     /// Opens the entry of these bytes; an image is opened strictly.
     pub(crate) fn open(alloc: &A, bytes: &'a [u8]) -> Result<SingleArch<'a, A>>
-        ensures { OpensEntry (entry_of bytes.now) result }
+        ensures { OpensEntry (fat_entry_of bytes.now) result }
     {
         let Some(front) = take_hint_bytes(bytes) else {
             return Err(Error::Malformed("an entry has 16 bytes or more"));

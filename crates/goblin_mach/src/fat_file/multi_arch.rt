@@ -2,9 +2,8 @@
 
 ghost use Rattle.std.specs.Prelude.{◌≡◌, ◌<◌, ◌^◌, length};
 ghost use Rattle.mach_base.specs.Answer.{Reads};
-ghost use Rattle.goblin_mach.specs.FatFile.{fat_file_in, archs_of, IsAbout};
+ghost use Rattle.goblin_mach.specs.FatFile.{fat_file_in, archs_of, IsAbout, file_held, archs_left};
 ghost use Rattle.goblin_mach.specs.FatEntry.{OpensEntry, entry_at};
-ghost use Rattle.goblin_mach.specs.FatViews.{file_held, archs_left};
 
 use crate::byte_count::ByteCount;
 use crate::fat_file::arches::{FatArchIterator, arch_at};
@@ -84,7 +83,7 @@ impl<'a, A: Allocator + Clone> MultiArch<'a, A> {
     }
 
     ghost use Rattle.std.specs.Prelude.{IfSome, IfNone, ℕ};
-    ghost use Rattle.goblin_mach.specs.FatFile.{IsFirstTaken, NoneTaken, MayAsk};
+    ghost use Rattle.goblin_mach.specs.FatFile.{IsFirstTaken, NoneTaken, MayAsk, arches_in};
 
     /// The first entry whose record, or the error of reading it, `f` takes: `f` is asked about one after
     /// the other. None where it takes none. The closure says which error it is asked about, an `Error` or
@@ -107,7 +106,6 @@ impl<'a, A: Allocator + Clone> MultiArch<'a, A> {
     }
 
     ghost use Rattle.mach_base.specs.Answer.{Gives};
-    ghost use Rattle.goblin_mach.specs.FatFile.{arches_in};
 
     /// The records of all entries, in order. More entries than the bytes could hold are
     /// `BufferTooShort`; else the first unreadable record refuses them all.
@@ -130,8 +128,7 @@ impl<'a, 'b, A: Allocator + Clone> IntoIterator for &'b MultiArch<'a, A> {
 
     type IntoIter = SingleArchIterator<'a, 'b, A>;
 
-    ghost use Rattle.goblin_mach.specs.FatEntry.{entries_of};
-    ghost use Rattle.goblin_mach.specs.FatEntryViews.{entries_left};
+    ghost use Rattle.goblin_mach.specs.FatEntry.{entries_of, entries_left};
 
     ghost into_iter_gives = { λ file it. entries_left it ≡ entries_of (file_held file.now) };
 
@@ -157,7 +154,7 @@ impl<'a, 'b, A: Allocator + Clone> Iterator for SingleArchIterator<'a, 'b, A> {
     ghost use Rattle.std.specs.Prelude.{Some, IfSome};
     ghost use Rattle.std.specs.Iterator.{UpTo, item_count};
     ghost use Rattle.std.specs.Iterator.SizeHint.{IsWithinCount};
-    ghost use Rattle.goblin_mach.specs.FatEntryViews.{entries_left, GivesEntry};
+    ghost use Rattle.goblin_mach.specs.FatEntry.{entries_left, GivesEntry};
 
     ghost next_gives = { GivesEntry };
 
