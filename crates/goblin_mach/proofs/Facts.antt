@@ -15,18 +15,14 @@ use Rattle.mach_dyld.specs.Exports.{texts, text_in}
 use Rattle.mach_dyld.specs.Imports.{BindRanges, Import}
 use Rattle.mach_dyld.specs.Trie as trie
 use Rattle.mach_dyld.specs.TrieRange.{TrieRange}
-use Rattle.goblin_mach.specs.Entry.{Entry, entry_in}
+use Rattle.goblin_mach.specs.EntryPoint.{EntryPoint, entry_point_in}
 use Rattle.goblin_mach.specs.Facts.{OfImage, HasSymbols, HasSegments, HasRelocations, HasName, HasLibraries, HasRunPaths, HasEntryPoint, HasExports, HasExportsFault, HasImports, HasImportsFault, AreSegments}
 use Rattle.goblin_mach.specs.Image.{LossyOpensAs}
-use Rattle.goblin_mach.specs.ImageBinds.{binds_in, ListsImageImports, ImageImportsFault}
-use Rattle.goblin_mach.specs.ImageSegments.{lossy_segment_by}
-use Rattle.goblin_mach.specs.ImageTrie.{trie_in, ListsImageExports, ImageExportsFault}
+use Rattle.goblin_mach.specs.Subjects.{binds_in, ListsImageImports, ImageImportsFault, lossy_segment_by, trie_in, ListsImageExports, ImageExportsFault, own_name_in, libs_in, run_path_by, table_in, symbols_in, symbols_held}
 use Rattle.goblin_mach.specs.Magic.{cputype_at}
-use Rattle.goblin_mach.specs.Names.{name_in, libs_in, run_path_by}
 use Rattle.goblin_mach.specs.OpenImage.{IsImage, IsLossyImage, HasFields, commands_held, segments_held, trie_held, binds_held, ctx_held, bytes_held}
 use Rattle.goblin_mach.specs.Readings.{read_of}
 use Rattle.goblin_mach.specs.Relocations.{RelocatedSection, relocated_sections_in}
-use Rattle.goblin_mach.specs.Tables.{table_in, symbols_in, symbols_held}
 use Rattle.goblin_mach.specs.declared.image.macho.MachO.{MachO}
 use Rattle.goblin_mach.proofs.Chains.{same_chain}
 use Rattle.goblin_mach.proofs.Images.{same_header}
@@ -78,7 +74,7 @@ module _ {A : Type 0} (bytes : List ℕ) (o : ℕ) (m : MachO A) (p : IsLossyIma
       ∙ ap (relocated_sections_in p.ctx bytes) p.fields.segments)
 
   pub name_is : (name : Option (List ℕ)) → HasName bytes o name ↔ (name ≡ text_in m.name)
-  name_is name = is_just (λ ctx cs. name_in bytes cs) (text_in m.name) name p.fields.name
+  name_is name = is_just (λ ctx cs. own_name_in bytes cs) (text_in m.name) name p.fields.name
 
   pub libraries_are : (libs : List (List ℕ)) → HasLibraries bytes o libs ↔ (libs ≡ texts m.libs.items)
   libraries_are libs = is_just (λ ctx cs. libs_in bytes cs) (texts m.libs.items) libs p.fields.libs
@@ -86,10 +82,10 @@ module _ {A : Type 0} (bytes : List ℕ) (o : ℕ) (m : MachO A) (p : IsLossyIma
   pub run_paths_are : (paths : List (List ℕ)) → HasRunPaths bytes o paths ↔ (paths ≡ texts m.rpaths.items)
   run_paths_are paths = is_just (λ ctx cs. read_of (run_path_by bytes) cs) (texts m.rpaths.items) paths p.fields.rpaths
 
-  pub entry_point_is : (point : Entry) → HasEntryPoint bytes o point ↔ (point ≡ record { address = m.entry; old_style = m.old_style_entry })
+  pub entry_point_is : (point : EntryPoint) → HasEntryPoint bytes o point ↔ (point ≡ record { address = m.entry; old_style = m.old_style_entry })
   entry_point_is point = (
-    λ h. same_ok (sym (image_of (λ ctx cs. entry_in (cputype_at ctx bytes o) cs ≡ Ok point) h) ∙ p.fields.entry),
-    λ e. of_image (λ ctx cs. entry_in (cputype_at ctx bytes o) cs ≡ Ok point) (p.fields.entry ∙ ap Ok (sym e)),
+    λ h. same_ok (sym (image_of (λ ctx cs. entry_point_in (cputype_at ctx bytes o) cs ≡ Ok point) h) ∙ p.fields.entry),
+    λ e. of_image (λ ctx cs. entry_point_in (cputype_at ctx bytes o) cs ≡ Ok point) (p.fields.entry ∙ ap Ok (sym e)),
   )
 
   pub exports_are : (list : List trie.Entry) → HasExports bytes o list ↔ ListsImageExports (trie_held m) (texts m.libs.items) list

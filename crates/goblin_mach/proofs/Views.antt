@@ -12,12 +12,10 @@ use Rattle.mach_dyld.specs.Imports.{Import}
 use Rattle.mach_dyld.specs.Trie as trie
 use Rattle.mach_parts.specs.Items.{items_from}
 use Rattle.mach_parts.proofs.ItemLists.{items_from-first}
-use Rattle.goblin_mach.specs.FatEntry.{Entry, image}
-use Rattle.goblin_mach.specs.ImageBinds.{ListsImageImports}
-use Rattle.goblin_mach.specs.ImageTrie.{ListsImageExports}
+use Rattle.goblin_mach.specs.FatEntry.{FatEntry, image}
+use Rattle.goblin_mach.specs.Subjects.{ListsImageImports, ListsImageExports}
 use Rattle.goblin_mach.specs.OpenImage.{IsImage, commands_held, trie_held, binds_held, ctx_held}
-use Rattle.goblin_mach.specs.View.{LinksImage, LinksFault, ItemFault, of_links}
-use Rattle.goblin_mach.specs.ViewSeen.{FaultHeld, IsTold, Tells, IsItem, AreItems}
+use Rattle.goblin_mach.specs.View.{LinksImage, LinksFault, ItemFault, of_links, FaultHeld, IsTold, Tells, IsViewItem, AreViewItems}
 use Rattle.goblin_mach.specs.declared.view.LinkView.{LinkView}
 use Rattle.goblin_mach.specs.declared.image.macho.MachO.{MachO}
 use Rattle.goblin_mach.proofs.Facts.{strict-lossy, exports_are, exports_fail, imports_are, imports_fail}
@@ -43,24 +41,24 @@ image-fails bytes m f p fault =
     let q = strict-lossy bytes 0 m p in
     record {
       opens = (p.ctx, commands_held m, p.opens);
-      fault = elim fault [ | inl e ↦ inl ((exports_fail bytes 0 m q f).1 e) | inr i ↦ inr (imports_fail bytes 0 m q f i) ];
+      fault = elim fault [ inl e ↦ inl ((exports_fail bytes 0 m q f).1 e) | inr i ↦ inr (imports_fail bytes 0 m q f i) ];
     }
 
 pub item_fault : {A : Type 0} (bytes : List ℕ) (m : MachO A) (f : Fault) → IsImage bytes 0 m → FaultHeld m f → ItemFault (Ok (image bytes)) f
 item_fault bytes m f p fault = of_links bytes f refl (image-fails bytes m f p fault)
 
 -- one more item, where those that are left follow it
-pub one_more_item : {A : Type 0} (entry : ℕ → Result Entry Fault) (i n : ℕ) (items : List (Result (LinkView A) Error)) (x : Result (LinkView A) Error) (all : List (Result Entry Fault)) → i < n → IsItem (entry i) x
-    → ((rest : List (Result (LinkView A) Error)) → AreItems (items_from entry i (n - i)) rest → AreItems all (items ++ rest))
-    → (rest : List (Result (LinkView A) Error)) → AreItems (items_from entry (i + 1) (n - (i + 1))) rest → AreItems all ((items ++ x ∷ []) ++ rest)
+pub one_more_item : {A : Type 0} (entry : ℕ → Result FatEntry Fault) (i n : ℕ) (items : List (Result (LinkView A) Error)) (x : Result (LinkView A) Error) (all : List (Result FatEntry Fault)) → i < n → IsViewItem (entry i) x
+    → ((rest : List (Result (LinkView A) Error)) → AreViewItems (items_from entry i (n - i)) rest → AreViewItems all (items ++ rest))
+    → (rest : List (Result (LinkView A) Error)) → AreViewItems (items_from entry (i + 1) (n - (i + 1))) rest → AreViewItems all ((items ++ x ∷ []) ++ rest)
 one_more_item entry i n items x all inside is go rest later =
-    subst (AreItems all) (sym (append_assoc items (x ∷ []) rest))
-    (go (x ∷ rest) (subst (λ (es : List (Result Entry Fault)). AreItems es (x ∷ rest)) (sym (items_from-first entry i n inside)) (is, later)))
+    subst (AreViewItems all) (sym (append_assoc items (x ∷ []) rest))
+    (go (x ∷ rest) (subst (λ (es : List (Result FatEntry Fault)). AreViewItems es (x ∷ rest)) (sym (items_from-first entry i n inside)) (is, later)))
 
 -- where none are left all are there
-pub all_items : {A : Type 0} (entry : ℕ → Result Entry Fault) (i n : ℕ) (items : List (Result (LinkView A) Error)) (all : List (Result Entry Fault)) → n ≤ i
-    → ((rest : List (Result (LinkView A) Error)) → AreItems (items_from entry i (n - i)) rest → AreItems all (items ++ rest)) → AreItems all items
+pub all_items : {A : Type 0} (entry : ℕ → Result FatEntry Fault) (i n : ℕ) (items : List (Result (LinkView A) Error)) (all : List (Result FatEntry Fault)) → n ≤ i
+    → ((rest : List (Result (LinkView A) Error)) → AreViewItems (items_from entry i (n - i)) rest → AreViewItems all (items ++ rest)) → AreViewItems all items
 all_items {A} entry i n items all past go =
     let none : n - i ≡ 0 = omega (arith, past) in
-    let no_items : AreItems {A = A} (items_from entry i (n - i)) [] = subst (λ (k : ℕ). AreItems {A = A} (items_from entry i k) []) (sym none) tt in
-    subst (AreItems all) (append-nil items) (go [] no_items)
+    let no_items : AreViewItems {A = A} (items_from entry i (n - i)) [] = subst (λ (k : ℕ). AreViewItems {A = A} (items_from entry i k) []) (sym none) tt in
+    subst (AreViewItems all) (append-nil items) (go [] no_items)

@@ -1,24 +1,20 @@
 -- What the bytes say of the image that opens at a place, subject by subject, and of a list of exports.
 use Rattle.std.specs.Prelude.{◌≡◌, ◌≢◌, ℕ, List, map, take, Option, Some, Result, Ok, All, Any, slice_get}
-use Rattle.mach_base.specs.declared.context.Ctx.{Ctx}
 use Rattle.mach_base.specs.Context.{pointer_size}
 use Rattle.mach_base.specs.Fault.{Fault}
+use Rattle.mach_base.specs.declared.context.Ctx.{Ctx}
 use Rattle.mach_load.specs.Command.{Command}
 use Rattle.mach_parts.specs.Segment.{SegmentView, segment_view}
 use Rattle.mach_parts.specs.declared.segment.Segment.{Segment}
 use Rattle.mach_parts.specs.declared.symbols.nlist.Nlist.{Nlist}
 use Rattle.mach_dyld.specs.Imports.{Import}
 use Rattle.mach_dyld.specs.Trie as trie
-use Rattle.goblin_mach.specs.Entry.{Entry, entry_in}
+use Rattle.goblin_mach.specs.EntryPoint.{EntryPoint, entry_point_in}
 use Rattle.goblin_mach.specs.Image.{LossyOpensAs}
-use Rattle.goblin_mach.specs.ImageBinds.{binds_in, ListsImageImports, ImageImportsFault}
-use Rattle.goblin_mach.specs.ImageSegments.{lossy_segment_by}
-use Rattle.goblin_mach.specs.ImageTrie.{trie_in, ListsImageExports, ImageExportsFault}
 use Rattle.goblin_mach.specs.Magic.{cputype_at}
-use Rattle.goblin_mach.specs.Names.{name_in, libs_in, run_path_by}
 use Rattle.goblin_mach.specs.Readings.{read_of}
 use Rattle.goblin_mach.specs.Relocations.{RelocatedSection, relocated_sections_in}
-use Rattle.goblin_mach.specs.Tables.{table_in, symbols_in}
+use Rattle.goblin_mach.specs.Subjects.{binds_in, ListsImageImports, ImageImportsFault, lossy_segment_by, trie_in, ListsImageExports, ImageExportsFault, own_name_in, libs_in, run_path_by, table_in, symbols_in}
 
 -- An image opens at o, in lossy mode at least, and this holds of its context and its commands.
 pub record OfImage (bytes : List ℕ) (o : ℕ) (Holds : Ctx → List Command → Type 0) : Type 0 where
@@ -42,7 +38,7 @@ HasRelocations bytes o found =
 
 -- the name by which it is known as a library, if it has one
 abbrev pub HasName : List ℕ → ℕ → Option (List ℕ) → Type 0
-HasName bytes o name = OfImage bytes o (λ ctx cs. name ≡ name_in bytes cs)
+HasName bytes o name = OfImage bytes o (λ ctx cs. name ≡ own_name_in bytes cs)
 
 -- its own name or "self", and then the libraries that it names: the place of each is its ordinal
 abbrev pub HasLibraries : List ℕ → ℕ → List (List ℕ) → Type 0
@@ -53,8 +49,8 @@ abbrev pub HasRunPaths : List ℕ → ℕ → List (List ℕ) → Type 0
 HasRunPaths bytes o paths = OfImage bytes o (λ ctx cs. paths ≡ read_of (run_path_by bytes) cs)
 
 -- where it begins to run
-abbrev pub HasEntryPoint : List ℕ → ℕ → Entry → Type 0
-HasEntryPoint bytes o point = OfImage bytes o (λ ctx cs. entry_in (cputype_at ctx bytes o) cs ≡ Ok point)
+abbrev pub HasEntryPoint : List ℕ → ℕ → EntryPoint → Type 0
+HasEntryPoint bytes o point = OfImage bytes o (λ ctx cs. entry_point_in (cputype_at ctx bytes o) cs ≡ Ok point)
 
 -- its exports: the list of its last trie, over its libraries
 abbrev pub HasExports : List ℕ → ℕ → List trie.Entry → Type 0

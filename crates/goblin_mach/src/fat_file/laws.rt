@@ -5,7 +5,7 @@ ghost use Rattle.mach_base.specs.declared.context.Endian.TheVariants.{Big};
 ghost use Rattle.mach_base.specs.Fault.{Fault};
 ghost use Rattle.mach_base.specs.Number.{number};
 ghost use Rattle.mach_parts.specs.declared.fat.FatArch.{FatArch};
-ghost use Rattle.goblin_mach.specs.FatEntry.{Entry, entry_at, entries_of};
+ghost use Rattle.goblin_mach.specs.FatEntry.{FatEntry, entry_at, entries_of};
 ghost use Rattle.goblin_mach.specs.FatFile.{FatFile, fat_file_in, arch_at, archs_of};
 
 /// The records of a fat file go by their number: there are so many as it is said to have entries, and
@@ -20,7 +20,7 @@ pub fn records_by_number()
 pub fn entries_by_number()
     ensures count { (file : FatFile) → length (entries_of file) ≡ file.narches }
     ensures item { (file : FatFile) (k : ℕ) → k < file.narches → slice_get (entries_of file) k ≡ Some (entry_at file k) }
-    ensures only { (file : FatFile) (k : ℕ) (entry : Result Entry Fault) → slice_get (entries_of file) k ≡ Some entry → (k < file.narches) × (entry_at file k ≡ entry) }
+    ensures only { (file : FatFile) (k : ℕ) (entry : Result FatEntry Fault) → slice_get (entries_of file) k ≡ Some entry → (k < file.narches) × (entry_at file k ≡ entry) }
 {}
 
 /// The fat file of some bytes is those bytes, with the count of their header, which has 8 bytes.

@@ -11,15 +11,12 @@ ghost use Rattle.mach_dyld.specs.Trie as trie;
 ghost use Rattle.mach_parts.specs.Segment.{SegmentView};
 ghost use Rattle.mach_parts.specs.Segments.{segments_in};
 ghost use Rattle.mach_parts.specs.declared.symbols.nlist.Nlist.{Nlist};
-ghost use Rattle.goblin_mach.specs.Entry.{Entry};
+ghost use Rattle.goblin_mach.specs.EntryPoint.{EntryPoint};
 ghost use Rattle.goblin_mach.specs.Facts.{HasSymbols, HasSegments, HasRelocations, HasName, HasLibraries, HasRunPaths, HasEntryPoint, HasExports, HasExportsFault, HasImports, HasImportsFault};
-ghost use Rattle.goblin_mach.specs.ImageBinds.{ListsImageImports, ImageImportsFault};
-ghost use Rattle.goblin_mach.specs.ImageTrie.{ListsImageExports, ImageExportsFault};
+ghost use Rattle.goblin_mach.specs.Subjects.{ListsImageImports, ImageImportsFault, ListsImageExports, ImageExportsFault, symbols_held};
 ghost use Rattle.goblin_mach.specs.OpenImage.{IsImage, IsLossyImage, segments_held, trie_held, binds_held, ctx_held, bytes_held};
 ghost use Rattle.goblin_mach.specs.Relocations.{RelocatedSection, relocated_sections_in};
-ghost use Rattle.goblin_mach.specs.Tables.{symbols_held};
-ghost use Rattle.goblin_mach.specs.View.{LinksImage, LinksFault};
-ghost use Rattle.goblin_mach.specs.ViewSeen.{FaultHeld};
+ghost use Rattle.goblin_mach.specs.View.{LinksImage, LinksFault, FaultHeld};
 
 use crate::image::macho::MachO;
 use std::alloc::Allocator;
@@ -69,8 +66,8 @@ pub fn run_paths_of_image<A: Allocator>(image: &MachO<'_, A>)
 
 /// Where an image that was opened begins to run is what the bytes say.
 pub fn entry_point_of_image<A: Allocator>(image: &MachO<'_, A>)
-    ensures strict { (bytes : List ℕ) (o : ℕ) → IsImage bytes o image.now → (point : Entry) → HasEntryPoint bytes o point ↔ (point ≡ record { address = image.now.entry; old_style = image.now.old_style_entry }) }
-    ensures lossy { (bytes : List ℕ) (o : ℕ) → IsLossyImage bytes o image.now → (point : Entry) → HasEntryPoint bytes o point ↔ (point ≡ record { address = image.now.entry; old_style = image.now.old_style_entry }) }
+    ensures strict { (bytes : List ℕ) (o : ℕ) → IsImage bytes o image.now → (point : EntryPoint) → HasEntryPoint bytes o point ↔ (point ≡ record { address = image.now.entry; old_style = image.now.old_style_entry }) }
+    ensures lossy { (bytes : List ℕ) (o : ℕ) → IsLossyImage bytes o image.now → (point : EntryPoint) → HasEntryPoint bytes o point ↔ (point ≡ record { address = image.now.entry; old_style = image.now.old_style_entry }) }
 {}
 
 /// The exports that `MachO::exports` lists, and the faults that it reports, are those of the bytes.

@@ -1,7 +1,6 @@
 use Rattle.std.proofs.Common.{Ok, refl}
 use Rattle.goblin_mach.specs.FatEntry.{image}
-use Rattle.goblin_mach.specs.View.{ItemFault}
-use Rattle.goblin_mach.specs.ViewSeen.{FaultHeld}
+use Rattle.goblin_mach.specs.View.{ItemFault, FaultHeld}
 use Rattle.goblin_mach.proofs.Views.{tells, image-links, item_fault}
 use Rattle.goblin_mach.proofs.view.image_item.Goals as goal
 
