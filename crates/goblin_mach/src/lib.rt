@@ -21,7 +21,7 @@ pub use mach_base::{
     ScrollError, SizeWith, Sleb128, TryFromCtx, TryIntoCtx, Uleb128, describe, gread_with,
     pread_with, pwrite_with, read_text, take_hint_bytes,
 };
-pub use mach_dyld::{bind_opcodes, exports, imports};
+pub use mach_dyld::{Steps, bind_opcodes, exports, imports};
 pub use mach_parts::{fat, header, relocation, segment, symbols};
 pub use mach_records::{constants, cputype};
 
