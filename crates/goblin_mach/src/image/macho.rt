@@ -191,10 +191,10 @@ impl<'a, A: Allocator> MachO<'a, A> {
         ensures { AreImageBindItems (binds_held self.now) (pointer_size (ctx_held self.now).container)
             (texts self.now.libs.items) (segments_in self.now.segments) (imports_left result) }
     {
-        match &self.bind_interpreter {
-            Some(binds) => binds.iter(self.libs.as_slice(), self.segments.as_slice(), self.ctx),
-            None => BindIterator::default(),
-        }
+        let Some(binds) = &self.bind_interpreter else {
+            return BindIterator::default();
+        };
+        binds.iter(self.libs.as_slice(), self.segments.as_slice(), self.ctx)
     }
 
     /// Whether the image is an object file.
