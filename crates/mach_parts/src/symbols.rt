@@ -51,6 +51,7 @@ struct Table<'a> {
 
 impl<'a> Table<'a> {
     // Where the record of a symbol stands; the last place that 64 bits have where it passes them.
+    #[inline(always)]
     fn place(self, index: usize) -> usize
         ensures { result ≡ symbol_place (table_view self.entry) index }
     {
@@ -60,6 +61,7 @@ impl<'a> Table<'a> {
 
     // A symbol with its name.
     #[tactic(auto, unfolding(crate::specs::Symbols::symbol_at))]
+    #[inline(always)]
     fn symbol(self, index: usize) -> Result<(&'a str, Nlist)>
         ensures { symbol_read result ≡ symbol_at (table_view self.entry) index }
     {
@@ -233,6 +235,7 @@ impl<'a> Iterator for SymbolIterator<'a> {
 
     ghost remaining = { item_count symbols_left };
 
+    #[inline(always)]
     fn next(&mut self) -> Option<Result<(&'a str, Nlist)>> {
         if self.index >= self.table.nsyms {
             return None;
