@@ -9,3 +9,5 @@ pub mod Leb128
 pub mod FrontGroups
 pub mod Record
 pub mod Front
+pub mod Among
+pub mod Sums

@@ -4,7 +4,7 @@ ghost use Rattle.std.specs.Prelude.{◌∷◌, [], ◌≤◌, ℕ, List, Ok};
 ghost use Rattle.std.proofs.Common.{rules};
 ghost use Rattle.mach_base.specs.Fault.{fault_of};
 ghost use Rattle.mach_base.specs.Front.{same_fault};
-ghost use Rattle.mach_base.specs.Record.{num, number_is, number_among};
+ghost use Rattle.mach_base.specs.Record.{num, number_is};
 
 use crate::*;
 use std::alloc::AllocError;
@@ -45,8 +45,6 @@ impl Record for Pair {
 
     ghost values = { λ x. number_is x.first ∷ number_is x.second ∷ [] };
 
-    ghost of_values = { λ vs. record { first = number_among vs 0; second = number_among vs 1 } };
-
     fn load(bytes: &[u8], le: Endian) -> Self {
         Pair {
             first: le.u32_at(bytes, 0),
@@ -58,11 +56,7 @@ impl Record for Pair {
         RecordBytes::new().u32(le, self.first).u16(le, self.second)
     }
 
-    ghost size_is = { Prim.search rules };
-
-    ghost whole = { Prim.search rules };
-
-    ghost not_empty = { Prim.search rules };
+    ghost lawful = { Prim.search rules };
 }
 
 // Bytes that say themselves how wide they are.

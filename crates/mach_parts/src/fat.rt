@@ -35,20 +35,13 @@ impl Record for FatHeader {
 
     ghost SIZE = { 8 };
 
-    ghost use Rattle.mach_parts.specs.Fat.{fat_header_of_values};
-    ghost use Rattle.std.proofs.Common.{refl, zero-lt-suc};
+    ghost use Rattle.std.proofs.Common.{rules};
 
     ghost fields = { fat_header_fields };
 
     ghost values = { fat_header_values };
 
-    ghost of_values = { fat_header_of_values };
-
-    ghost size_is = { refl };
-
-    ghost whole = { λ _. refl };
-
-    ghost not_empty = { zero-lt-suc _ };
+    ghost lawful = { Prim.search rules };
 
     fn load(bytes: &[u8], le: Endian) -> Self {
         FatHeader {
@@ -100,20 +93,13 @@ impl Record for FatArch {
 
     ghost SIZE = { 20 };
 
-    ghost use Rattle.mach_parts.specs.Fat.{fat_arch_of_values};
-    ghost use Rattle.std.proofs.Common.{refl, zero-lt-suc};
+    ghost use Rattle.std.proofs.Common.{rules};
 
     ghost fields = { fat_arch_fields };
 
     ghost values = { fat_arch_values };
 
-    ghost of_values = { fat_arch_of_values };
-
-    ghost size_is = { refl };
-
-    ghost whole = { λ _. refl };
-
-    ghost not_empty = { zero-lt-suc _ };
+    ghost lawful = { Prim.search rules };
 
     fn load(bytes: &[u8], le: Endian) -> Self {
         FatArch {

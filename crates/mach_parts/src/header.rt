@@ -54,20 +54,14 @@ impl Record for Header32 {
 
     ghost SIZE = { 28 };
 
-    ghost use Rattle.mach_parts.specs.Header.{header32_fields, header32_values, header32_of_values};
-    ghost use Rattle.std.proofs.Common.{refl, zero-lt-suc};
+    ghost use Rattle.mach_parts.specs.Header.{header32_fields, header32_values};
+    ghost use Rattle.std.proofs.Common.{rules};
 
     ghost fields = { header32_fields };
 
     ghost values = { header32_values };
 
-    ghost of_values = { header32_of_values };
-
-    ghost size_is = { refl };
-
-    ghost whole = { λ _. refl };
-
-    ghost not_empty = { zero-lt-suc _ };
+    ghost lawful = { Prim.search rules };
 
     fn load(bytes: &[u8], le: Endian) -> Self {
         Header32 {
@@ -131,20 +125,14 @@ impl Record for Header64 {
 
     ghost SIZE = { 32 };
 
-    ghost use Rattle.mach_parts.specs.Header.{header64_fields, header64_values, header64_of_values};
-    ghost use Rattle.std.proofs.Common.{refl, zero-lt-suc};
+    ghost use Rattle.mach_parts.specs.Header.{header64_fields, header64_values};
+    ghost use Rattle.std.proofs.Common.{rules};
 
     ghost fields = { header64_fields };
 
     ghost values = { header64_values };
 
-    ghost of_values = { header64_of_values };
-
-    ghost size_is = { refl };
-
-    ghost whole = { λ _. refl };
-
-    ghost not_empty = { zero-lt-suc _ };
+    ghost lawful = { Prim.search rules };
 
     fn load(bytes: &[u8], le: Endian) -> Self {
         Header64 {

@@ -35,20 +35,14 @@ impl Record for Nlist32 {
 
     ghost SIZE = { 12 };
 
-    ghost use Rattle.mach_parts.specs.Symbols.{nlist32_fields, nlist32_values, nlist32_of_values};
-    ghost use Rattle.std.proofs.Common.{refl, zero-lt-suc};
+    ghost use Rattle.mach_parts.specs.Symbols.{nlist32_fields, nlist32_values};
+    ghost use Rattle.std.proofs.Common.{rules};
 
     ghost fields = { nlist32_fields };
 
     ghost values = { nlist32_values };
 
-    ghost of_values = { nlist32_of_values };
-
-    ghost size_is = { refl };
-
-    ghost whole = { λ _. refl };
-
-    ghost not_empty = { zero-lt-suc _ };
+    ghost lawful = { Prim.search rules };
 
     fn load(bytes: &[u8], le: Endian) -> Self {
         Nlist32 {
@@ -90,20 +84,14 @@ impl Record for Nlist64 {
 
     ghost SIZE = { 16 };
 
-    ghost use Rattle.mach_parts.specs.Symbols.{nlist64_fields, nlist64_values, nlist64_of_values};
-    ghost use Rattle.std.proofs.Common.{refl, zero-lt-suc};
+    ghost use Rattle.mach_parts.specs.Symbols.{nlist64_fields, nlist64_values};
+    ghost use Rattle.std.proofs.Common.{rules};
 
     ghost fields = { nlist64_fields };
 
     ghost values = { nlist64_values };
 
-    ghost of_values = { nlist64_of_values };
-
-    ghost size_is = { refl };
-
-    ghost whole = { λ _. refl };
-
-    ghost not_empty = { zero-lt-suc _ };
+    ghost lawful = { Prim.search rules };
 
     fn load(bytes: &[u8], le: Endian) -> Self {
         Nlist64 {
