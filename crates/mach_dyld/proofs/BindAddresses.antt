@@ -9,7 +9,8 @@ use Rattle.mach_base.proofs.Binds.{bind_ok, chosen, same_ok}
 use Rattle.mach_parts.specs.declared.segment.Segment.{Segment}
 use Rattle.mach_dyld.specs.Streams.{Input, Range, Placed}
 use Rattle.mach_dyld.specs.Binds.{Bind, binds_of}
-use Rattle.mach_dyld.specs.Imports.{Import, Target, listed, holding, sum_of, target_of, import_of, import_with, imports_in, BindRanges, input_in, ListsImports}
+use Rattle.mach_dyld.specs.Imports.{Import, Target, holding, target_of, import_of, import_with, imports_in, BindRanges, input_in, ListsImports}
+use Rattle.mach_base.specs.Sums.{found_or_malformed, sum_of}
 use Rattle.mach_dyld.specs.BindItems.{fault_item, upto_fault, AreBindItems}
 use Rattle.mach_dyld.specs.BindAddresses.{LiesIn, LiesInSome, BindLiesIn, ListLiesIn, ItemsLieIn}
 
@@ -22,7 +23,7 @@ summed a b n e = by_test (nat_lt (a + b) (2 ^ 64)) e
     by_test true e = sym (same_ok e)
     by_test false e = absurd (cc)
 
-found_there : (o : Option Segment) (s : Segment) → listed o ≡ Ok s → o ≡ Some s
+found_there : (o : Option Segment) (s : Segment) → found_or_malformed o ≡ Ok s → o ≡ Some s
 found_there None s e = absurd (cc)
 found_there (Some r) s e = ap (λ (q : Segment). Some q) (same_ok e)
 
@@ -42,8 +43,8 @@ summed_at dylib offset s = sum_of s.fileoff offset >>= λ (o : ℕ). sum_of s.vm
 target_lies : (x : Input) (number k offset : ℕ) (t : Target) → target_of x number k offset ≡ Ok t → LiesIn x.segments k t.address
 unfolding target_of
 target_lies x number k offset t e =
-    let a = bind_ok (listed (slice_get x.libs number)) (λ (dylib : List ℕ). listed (slice_get x.segments k) >>= λ (s : Segment). holding offset s >>= λ (h : Segment). summed_at dylib offset h) t e in
-    let b = bind_ok (listed (slice_get x.segments k)) (λ (s : Segment). holding offset s >>= λ (h : Segment). summed_at a.0 offset h) t a.2 in
+    let a = bind_ok (found_or_malformed (slice_get x.libs number)) (λ (dylib : List ℕ). found_or_malformed (slice_get x.segments k) >>= λ (s : Segment). holding offset s >>= λ (h : Segment). summed_at dylib offset h) t e in
+    let b = bind_ok (found_or_malformed (slice_get x.segments k)) (λ (s : Segment). holding offset s >>= λ (h : Segment). summed_at a.0 offset h) t a.2 in
     let c = bind_ok (holding offset b.0) (λ (h : Segment). summed_at a.0 offset h) t b.2 in
     let o = bind_ok (sum_of c.0.fileoff offset) (λ (o : ℕ). sum_of c.0.vmaddr offset >>= λ (v : ℕ). target_at a.0 o v) t c.2 in
     let v = bind_ok (sum_of c.0.vmaddr offset) (λ (v : ℕ). target_at a.0 o.0 v) t o.2 in

@@ -7,7 +7,7 @@ use Rattle.std.proofs.lemmas.List.Sums.{sum_by-set, count_by-le-length}
 use Rattle.mach_dyld.specs.Trie.{Info, Branch, Node, Trie, Entry, own_entries}
 use Rattle.mach_dyld.specs.Lists.{Lists, BranchesList, nothing, a_node, no_more, one_more}
 use Rattle.mach_dyld.specs.Paths.{Leads, Path, IsTree}
-use Rattle.mach_dyld.specs.TerminalPaths.{IsAmong}
+use Rattle.mach_base.specs.Among.{IsAmong}
 use Rattle.mach_dyld.specs.Visits.{AreApart}
 use Rattle.mach_dyld.proofs.TrieFaults.{Leads-append}
 

@@ -5,7 +5,8 @@ use Rattle.std.proofs.lemmas.Bool.{cases_Bool, leb-true}
 use Rattle.mach_base.specs.Fault.{Fault}
 use Rattle.mach_dyld.specs.Trie.{Branch, Node, Trie}
 use Rattle.mach_dyld.specs.Paths.{Leads, Path, Before}
-use Rattle.mach_dyld.specs.TerminalPaths.{IsAmong, AreInOrder}
+use Rattle.mach_dyld.specs.TerminalPaths.{AreInOrder}
+use Rattle.mach_base.specs.Among.{IsAmong}
 use Rattle.mach_dyld.specs.Visits.{AreApart, Visits}
 use Rattle.mach_dyld.proofs.TrieFaults.{same_number}
 use Rattle.mach_dyld.proofs.TreeWalk.{leads_inside}

@@ -6,7 +6,8 @@ ghost use Rattle.mach_base.specs.Answer.{Reads};
 ghost use Rattle.mach_base.specs.Leb128.{uleb_at};
 ghost use Rattle.mach_base.specs.Text.{is_zero, run_at};
 ghost use Rattle.mach_dyld.specs.Trie as trie;
-ghost use Rattle.mach_dyld.specs.Nodes.{sum_of, branch_at, branches_at, children_at, terminal_at, inner_at, node_at};
+ghost use Rattle.mach_dyld.specs.Nodes.{branch_at, branches_at, children_at, terminal_at, inner_at, node_at};
+ghost use Rattle.mach_base.specs.Sums.{sum_of};
 ghost use Rattle.mach_dyld.specs.Exports.{texts};
 ghost use Rattle.mach_dyld.specs.NodeViews.{branch_of, those_read, branches_of, AreReadable, node_of};
 
@@ -37,7 +38,6 @@ pub struct Node<'a> {
 }
 
 // The sum, where it has at most 64 bits.
-#[tactic(auto, unfolding(crate::specs::Nodes::sum_of))]
 fn sum(place: usize, n: u64) -> Result<usize>
     ensures { Reads (λ sum. sum) result (sum_of place n) }
 {
