@@ -1,6 +1,6 @@
 //! One image.
 
-ghost use Rattle.std.specs.Prelude.{◌≡◌, ◌↔◌, List, IsTrue, IfOk, IfErr};
+ghost use Rattle.std.specs.Prelude.{◌≡◌, ◌↔◌, ◌<◌, ◌^◌, length, List, IsTrue, IfOk, IfErr};
 ghost use Rattle.mach_base.specs.Answer.{Stands, IsOkUnlessMemory};
 ghost use Rattle.mach_base.specs.Context.{pointer_size};
 ghost use Rattle.mach_dyld.specs.BindViews.{imports_seen};
@@ -137,7 +137,8 @@ impl<'a, A: Allocator> MachO<'a, A> {
 
     /// The symbols that the image holds at the call, one after the other; none where it holds no table.
     pub fn symbols(&self) -> SymbolIterator<'a>
-        ensures { symbols_left result ≡ symbols_held self.now.symbols }
+        ensures items { symbols_left result ≡ symbols_held self.now.symbols }
+        ensures bounded { length (symbols_left result) < 2 ^ 64 }
     {
         match &self.symbols {
             Some(symbols) => symbols.iter(),
