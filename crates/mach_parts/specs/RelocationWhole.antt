@@ -1,7 +1,7 @@
 -- A relocation is that of its values: what its record shows of itself. It stands here, since a record's own
 -- facts may cite only what stands beside the definitions.
-use Rattle.std.specs.Prelude.{◌≡◌, ◌<◌, ℕ, suc, ◌+◌, ◌-◌, ◌^◌, true, false, ℤ, pos, negsuc, [], ◌∷◌, nat_lt, if◌then◌else◌}
-use Rattle.std.proofs.Common.{◌≤◌, ◌∙◌, ap, refl, inl, inr, lt-ltb, le-ltb, le_trans, le-add_right, pred, add-one, subst, sym}
+use Rattle.std.specs.Prelude.{◌≡◌, ℕ, ◌+◌, ◌-◌, ◌^◌, true, ℤ, pos, negsuc, [], ◌∷◌, nat_lt, if◌then◌else◌}
+use Rattle.std.proofs.Common.{◌≤◌, ◌∙◌, ap, inl, inr, lt-ltb, le-ltb, le_trans, le-add_right, pred, add-one, subst, sym}
 use Rattle.std.proofs.Math.Nat.{sub-suc, sub-le-sub_left}
 use Rattle.std.proofs.Math.Arith.{sub-sub_self}
 use Rattle.std.proofs.lemmas.Bool.{cases_lt}

@@ -1,6 +1,6 @@
-use Rattle.std.proofs.Common.{◌-◌, ◌<◌, ◌^◌, length, arith}
+use Rattle.std.proofs.Common.{◌-◌, arith}
 use Rattle.mach_parts.specs.Symbols.{symbol_at}
-use Rattle.mach_parts.specs.SymbolViews.{table_view, symbols_left}
+use Rattle.mach_parts.specs.SymbolViews.{table_view}
 use Rattle.mach_parts.proofs.ItemLists.{length-items_from}
 use Rattle.mach_parts.proofs.symbols.SymbolIterator.new.Goals as goal
 
