@@ -36,6 +36,11 @@ impl<A> Refusing<A> {
         Refusing::between(inner, number, u64::MAX)
     }
 
+    /// The allocator that refuses nothing.
+    pub fn none(inner: A) -> Refusing<A> {
+        Refusing::between(inner, u64::MAX, u64::MAX)
+    }
+
     /// How many growths it was asked for.
     pub fn asked(&self) -> u64 {
         self.asked.get()
