@@ -1,4 +1,5 @@
 pub mod Fault
+pub mod Words
 pub mod Answer
 pub mod Context
 pub mod Number

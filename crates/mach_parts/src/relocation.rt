@@ -43,8 +43,9 @@ impl Record for RelocationInfo {
 
     ghost SIZE = { 8 };
 
-    ghost use Rattle.mach_parts.specs.Relocation.{relocation_fields, relocation_of_values, relocation_values, relocation_whole};
-    ghost use Rattle.std.proofs.Common.{refl, arith};
+    ghost use Rattle.mach_parts.specs.Relocation.{relocation_fields, relocation_of_values, relocation_values};
+    ghost use Rattle.mach_parts.specs.RelocationWhole.{relocation_whole};
+    ghost use Rattle.std.proofs.Common.{refl, zero-lt-suc};
 
     ghost fields = { relocation_fields };
 
@@ -56,7 +57,7 @@ impl Record for RelocationInfo {
 
     ghost whole = { relocation_whole };
 
-    ghost not_empty = { omega arith };
+    ghost not_empty = { zero-lt-suc _ };
 
     fn load(bytes: &[u8], le: Endian) -> Self {
         RelocationInfo {

@@ -9,8 +9,9 @@ ghost use Rattle.mach_dyld.specs.Imports as binds;
 ghost use Rattle.mach_dyld.specs.Trie.{Entry};
 ghost use Rattle.mach_parts.specs.Segments.{segments_in};
 ghost use Rattle.goblin_mach.specs.Image.{Opens, LossyOpens, ImageFault, LossyFault};
-ghost use Rattle.goblin_mach.specs.ImageBinds.{ListsImageImports, ImageImportsFault};
-ghost use Rattle.goblin_mach.specs.ImageTrie.{ListsImageExports, ImageExportsFault};
+ghost use Rattle.goblin_mach.specs.Subjects.{ListsImageImports, ImageImportsFault, ListsImageExports, ImageExportsFault};
+
+mod debug;
 
 use crate::image::fields::Fields;
 use crate::image::opened::Opened;
@@ -19,7 +20,7 @@ use crate::image::relocations::{RelocatedSection, relocations};
 use crate::image::subjects::{Binds, Tries};
 use mach_base::{Ctx, Result};
 use mach_dyld::exports::{Export, ExportTrie};
-use mach_dyld::imports::{BindInterpreter, Import};
+use mach_dyld::imports::{BindInterpreter, BindIterator, Import};
 use mach_load::LoadCommand;
 use mach_parts::header::{Header, MH_OBJECT};
 use mach_parts::segment::Segments;
@@ -28,7 +29,6 @@ use std::alloc::{Allocator, Global};
 
 /// A Mach-O image: an executable, a library or an object file for one cpu.
 #[derive(Drop)]
-#[derive_where(Debug)]
 pub struct MachO<'a, A: Allocator = Global> {
     /// The header, in the form of either width.
     pub header: Header,
@@ -102,7 +102,7 @@ impl<'a, A: Allocator + Clone> MachO<'a, A> {
 }
 
 impl<'a, A: Allocator> MachO<'a, A> {
-    ghost use Rattle.goblin_mach.specs.ImageFields.{commands_of, IsMadeOf};
+    ghost use Rattle.goblin_mach.specs.OpenImage.{commands_of, IsMadeOf};
 
     // The image of what was read.
     fn of(bytes: &'a [u8], opened: Opened<A>, fields: Fields<'a, A>) -> MachO<'a, A>
@@ -131,9 +131,9 @@ impl<'a, A: Allocator> MachO<'a, A> {
 }
 
 impl<'a, A: Allocator> MachO<'a, A> {
-    ghost use Rattle.goblin_mach.specs.OpenImage.{trie_held};
+    ghost use Rattle.goblin_mach.specs.OpenImage.{trie_held, binds_held, ctx_held, bytes_held, segments_held};
     ghost use Rattle.mach_parts.specs.SymbolViews.{symbols_left};
-    ghost use Rattle.goblin_mach.specs.Tables.{symbols_held};
+    ghost use Rattle.goblin_mach.specs.Subjects.{symbols_held};
 
     /// The symbols that the image holds at the call, one after the other; none where it holds no table.
     pub fn symbols(&self) -> SymbolIterator<'a>
@@ -158,8 +158,6 @@ impl<'a, A: Allocator> MachO<'a, A> {
         }
     }
 
-    ghost use Rattle.goblin_mach.specs.OpenImage.{binds_held, ctx_held};
-
     /// The imports of the image, over the libraries and the segments that it holds at the call; none where
     /// no command brings binds. Each refusal but `Error::Memory` is a fault that stands in the binds.
     pub fn imports<B: Allocator>(&self, alloc: B) -> Result<Vec<Import<'a>, B>>
@@ -183,6 +181,22 @@ impl<'a, A: Allocator> MachO<'a, A> {
         }
     }
 
+    ghost use Rattle.mach_dyld.specs.BindLeft.{imports_left};
+    ghost use Rattle.goblin_mach.specs.Subjects.{AreImageBindItems};
+
+    /// The imports of the image one at a time, over the libraries and the segments that it holds: those of
+    /// the non-lazy stream, then those of the lazy one, up to the first fault, and its error last; none
+    /// where no command brings binds. It takes no memory.
+    pub fn iter_imports<'b>(&'b self) -> BindIterator<'a, 'b>
+        ensures { AreImageBindItems (binds_held self.now) (pointer_size (ctx_held self.now).container)
+            (texts self.now.libs.items) (segments_in self.now.segments) (imports_left result) }
+    {
+        let Some(binds) = &self.bind_interpreter else {
+            return BindIterator::default();
+        };
+        binds.iter(self.libs.as_slice(), self.segments.as_slice(), self.ctx)
+    }
+
     /// Whether the image is an object file.
     pub fn is_object_file(&self) -> bool
         ensures { IsTrue result ↔ (self.now.header.filetype ≡ 1) }
@@ -192,7 +206,6 @@ impl<'a, A: Allocator> MachO<'a, A> {
 
     ghost use Rattle.std.specs.Prelude.{map};
     ghost use Rattle.mach_base.specs.Answer.{Gives};
-    ghost use Rattle.goblin_mach.specs.OpenImage.{bytes_held, segments_held};
     ghost use Rattle.goblin_mach.specs.Relocations.{relocated_view, relocated_sections_in};
 
     /// The sections that have relocations, over the segments that the image holds at the call: each
