@@ -75,9 +75,9 @@ fn tries(rt: HostRuntime) -> Result<(), Fail> {
     Ok(())
 }
 
-// A count of 2^64 - 1 asks for more room than there is, unless the binds leave their segment first.
+// A count of 2^64 - 1 asks for more room than there is; of a segment of 4,096 bytes 512 binds come first.
 #[test]
-fn binds(rt: HostRuntime) {
+fn binds(rt: HostRuntime) -> Result<(), Fail> {
     let bytes = [
         0x11, 0x70, 0, 0xc0, 255, 255, 255, 255, 255, 255, 255, 255, 255, 1, 0,
     ];
@@ -88,6 +88,17 @@ fn binds(rt: HostRuntime) {
     let binds = BindInterpreter::new(&bytes, &command);
     let answer = binds.imports(rt.alloc(), &["self", "L"], &[page()], Ctx::default());
     assert!(rt; matches!(answer, Err(Error::Memory(_) | Error::Malformed(_))));
+    let segments = [page()];
+    let mut items = binds.iter(&["self", "L"], &segments, Ctx::default());
+    for k in 0..512 {
+        let Some(Ok(import)) = items.next() else {
+            return Err(Fail::from("an import"));
+        };
+        assert_eq!(rt; import.offset, 8 * k);
+    }
+    assert!(rt; matches!(items.next(), Some(Err(Error::Malformed(_)))));
+    assert!(rt; items.next().is_none());
+    Ok(())
 }
 
 // A segment of 4,096 bytes of memory.

@@ -43,7 +43,7 @@ fn rows(rt: HostRuntime) -> Result<(), Fail> {
         (
             "shared_node",
             &[0, 2, 0x61, 0, 8, 0x62, 0, 8, 2, 0, 5, 0],
-            "[a] regular 0x5 flags 0x0 at 0x5 of 0; [b] regular 0x5 flags 0x0 at 0x5 of 0; ",
+            "malformed",
         ),
         (
             "reexport",

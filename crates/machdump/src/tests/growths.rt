@@ -81,7 +81,7 @@ const ROWS: [Row; 15] = [
     },
     Row {
         call: Call::Exports,
-        growths: 4,
+        growths: 5,
         refused: MEMORY,
         answer: EXPORTS_OF_B,
     },
@@ -105,7 +105,7 @@ const ROWS: [Row; 15] = [
     },
     Row {
         call: Call::Trie,
-        growths: 16,
+        growths: 8,
         refused: MEMORY,
         answer: EXPORTS_OF_VECTOR,
     },
@@ -141,7 +141,7 @@ const ROWS: [Row; 15] = [
     },
     Row {
         call: Call::View,
-        growths: 12,
+        growths: 13,
         refused: MEMORY,
         answer: "image 0x7 \"\" 0x9 \"a\" 0x100000010 L _a 0x100000018 L _b;archive of 16;",
     },

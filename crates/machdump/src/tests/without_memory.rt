@@ -19,8 +19,8 @@ use goblin_mach::segment::{Segment, Segments};
 use goblin_mach::symbols::{SymbolIterator, Symbols, SymbolsCtx, n_type_to_str};
 use goblin_mach::{
     Container, Ctx, Endian, Error, IntoCtx, LE, Mach, MachO, MultiArch, Record, Result as Read,
-    SizeWith, Sleb128, TryFromCtx, TryIntoCtx, Uleb128, gread_with, parse_magic_and_ctx, peek,
-    peek_bytes, pread_with, pwrite_with, read_text, take_hint_bytes,
+    SizeWith, Sleb128, Steps, TryFromCtx, TryIntoCtx, Uleb128, gread_with, parse_magic_and_ctx,
+    peek, peek_bytes, pread_with, pwrite_with, read_text, take_hint_bytes,
 };
 use std::alloc::AllocError;
 use std::test::Fail;
@@ -199,7 +199,13 @@ fn tries_and_binds(rt: HostRuntime) -> Result<(), Fail> {
     assert_eq!(rt; Export::new(String::new(&heap), info).offset, 0);
     assert_eq!(rt; opcode_to_str(0), "BIND_OPCODE_DONE");
     assert_eq!(rt; SymbolKind::new(0).to_str(), "Regular");
-    let _ = BindInterpreter::new(&FILE_B, &command);
+    let binds = BindInterpreter::new(&FILE_B, &command);
+    let segments = [segment_of_b()?];
+    let mut items = binds.iter(&["self", "L"], &segments, Ctx::default());
+    assert!(rt; matches!(items.next(), Some(Ok(_))));
+    assert!(rt; matches!(items.next(), Some(Ok(_))));
+    assert!(rt; items.next().is_none());
+    let _ = Steps::new();
     assert_eq!(rt; heap.asked(), 0);
     Ok(())
 }
@@ -214,6 +220,10 @@ fn images(rt: HostRuntime) -> Result<(), Fail> {
     assert!(rt; parse_magic_and_ctx(&FILE_B, 0).is_ok());
     assert!(rt; !image.is_object_file());
     let mut items = image.symbols();
+    assert!(rt; matches!(items.next(), Some(Ok(_))));
+    assert!(rt; items.next().is_none());
+    let mut items = image.iter_imports();
+    assert!(rt; matches!(items.next(), Some(Ok(_))));
     assert!(rt; matches!(items.next(), Some(Ok(_))));
     assert!(rt; items.next().is_none());
     assert_eq!(rt; heap.asked(), asked);
