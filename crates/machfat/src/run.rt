@@ -1,0 +1,49 @@
+//! What the program's words do, and its exit status.
+
+ghost use Rattle.std.specs.Prelude.{◌≤◌};
+
+use crate::entry::{list, write_entry};
+use crate::refusal::Failure;
+use std::alloc::Allocator;
+use std::io::Write;
+
+/// Prints the records of a fat file, and answers the exit status: 0; 1 where the file is refused, and then
+/// `err` has the reason and `out` nothing; 2 where a write fails.
+pub fn run_list<A: Allocator + Clone, O: Write, E: Write>(
+    alloc: A,
+    bytes: &[u8],
+    out: &mut O,
+    err: &mut E,
+) -> u8
+    ensures { result ≤ 2 }
+{
+    status(list(alloc, bytes, out), err)
+}
+
+/// Writes an entry of a fat file, and answers the exit status: 0; 1 where there is no such entry, and then
+/// `err` has the reason and `out` nothing; 2 where a write fails.
+pub fn run_extract<A: Allocator + Clone, O: Write, E: Write>(
+    alloc: A,
+    bytes: &[u8],
+    index: usize,
+    out: &mut O,
+    err: &mut E,
+) -> u8
+    ensures { result ≤ 2 }
+{
+    status(write_entry(alloc, bytes, index, out), err)
+}
+
+/// The exit status of an answer, whose reason goes to `err`.
+pub fn status<E: Write>(answer: Result<(), Failure>, err: &mut E) -> u8
+    ensures { result ≤ 2 }
+{
+    match answer {
+        Ok(()) => 0,
+        Err(Failure::Unwritten) => 2,
+        Err(Failure::Refused(refusal)) => match writeln!(err, "machfat: {refusal}") {
+            Ok(()) => 1,
+            Err(_) => 2,
+        },
+    }
+}
