@@ -1,23 +1,40 @@
 //! The letters by which `nm` tells what a symbol is.
 
-ghost use Rattle.std.specs.Prelude.{◌≡◌, ◌++◌, ◌≤◌, length, take, map, OnOk, IfOk};
-ghost use Rattle.mach_base.specs.declared.error.Error.{Error};
-ghost use Rattle.mach_parts.specs.Segment.{segment_view, sections_of};
-ghost use Rattle.goblin_mach.specs.OpenImage.{segments_held};
-ghost use Rattle.machsyms.specs.Letters.{section_letter, item_letter, letters_of, symbol_letter, type_letter, letter_at, is_called};
+ghost use Rattle.std.specs.Prelude.{◌≡◌, ◌++◌, ◌≤◌, ℕ, List, length, take, map, OnOk, IfOk};
+ghost use Rattle.mach_parts.specs.Items.{read_as};
+ghost use Rattle.mach_parts.specs.SectionItems.{section_read};
+ghost use Rattle.mach_parts.specs.Segment.{SegmentView, segment_view, sections_of};
+ghost use Rattle.goblin_mach.specs.Facts.{HasSegments};
+ghost use Rattle.goblin_mach.specs.OpenImage.{IsImage};
+ghost use Rattle.machsyms.specs.Letters.{section_letter, item_letter, letters_of, symbol_letter, type_letter, letter_at, is_called, is_text};
 
-use goblin_mach::MachO;
-use goblin_mach::segment::{Section, Segment};
+use goblin_mach::segment::{Section, SectionData, Segment};
 use goblin_mach::symbols::{MAX_SECT, N_ABS, N_EXT, N_INDR, N_SECT, N_UNDF, Nlist};
+use goblin_mach::{MachO, laws};
 use std::alloc::{AllocError, Allocator};
 
-/// A letter for each section of an image, over all segments in order, as many as a symbol can name.
+/// A letter for each section that the image has in its bytes, over all segments in order, as many as a
+/// symbol can name.
 pub fn section_letters<A: Allocator, B: Allocator>(
     alloc: B,
     image: &MachO<'_, A>,
-) -> Result<Vec<char, B>, AllocError> {
+) -> Result<Vec<char, B>, AllocError>
+    ensures { (bytes : List ℕ) (o : ℕ) → IsImage bytes o image.now → IfOk result (λ v. (segments : List SegmentView) × HasSegments bytes o segments
+        × (v.items ≡ letters_of segments)) }
+{
+    laws::segments_of_image(image);
+    letters_held(alloc, image.segments.as_slice())
+}
+
+// The letters of the sections of some segments.
+fn letters_held<B: Allocator>(
+    alloc: B,
+    segments: &[Segment<'_>],
+) -> Result<Vec<char, B>, AllocError>
+    ensures { IfOk result (λ v. v.items ≡ letters_of (map segment_view segments.now)) }
+{
     let mut letters = Vec::new(alloc);
-    for segment in image.segments.as_slice() {
+    'segments: for segment in segments {
         add_letters(&mut letters, segment)?;
     }
     Ok(letters)
@@ -27,17 +44,27 @@ pub fn section_letters<A: Allocator, B: Allocator>(
 fn add_letters<B: Allocator>(
     letters: &mut Vec<char, B>,
     segment: &Segment<'_>,
-) -> Result<(), AllocError> {
+) -> Result<(), AllocError>
+    requires { length letters.old.items ≤ 255 }
+    ensures { OnOk result (letters.new.items ≡ take 255 (letters.old.items ++ map item_letter (sections_of (segment_view segment.now)))) }
+{
     'sections: for item in segment {
         if letters.len() >= usize::from(MAX_SECT) {
             return Ok(());
         }
-        letters.push(match item {
-            Ok((section, _)) => letter_of(&section),
-            Err(_) => 's',
-        })?;
+        letters.push(item_letter(&item))?;
     }
     Ok(())
+}
+
+// The letter of a section that may be unreadable.
+fn item_letter(item: &goblin_mach::Result<(Section, SectionData<'_>)>) -> char
+    ensures { result ≡ item_letter (section_read item.now) }
+{
+    match item {
+        Ok((section, _)) => letter_of(section),
+        Err(_) => 's',
+    }
 }
 
 // The letter of a section.
@@ -61,10 +88,6 @@ fn is_called(section: &Section, segment: &str, name: &str) -> bool
 {
     is_text(section.segname(), segment) && is_text(section.name(), name)
 }
-
-ghost use Rattle.mach_base.specs.Fault.{fault_of};
-ghost use Rattle.mach_parts.specs.Items.{read_as};
-ghost use Rattle.machsyms.specs.Letters.{is_text};
 
 // Whether a name is this one.
 fn is_text(name: goblin_mach::Result<&str>, wanted: &str) -> bool

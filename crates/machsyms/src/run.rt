@@ -1,7 +1,7 @@
 //! What the program prints of some bytes, and its exit status.
 
 ghost use Rattle.std.specs.Prelude.{◌≡◌, ◌≤◌, OnOk};
-ghost use Rattle.goblin_mach.specs.Image.{MachOpens};
+ghost use Rattle.goblin_mach.specs.Image.{MachOpens, Opens};
 
 use crate::letters::section_letters;
 use crate::print::print_symbols;
@@ -21,7 +21,7 @@ pub fn run<A: Allocator + Clone, O: Write, E: Write>(
     err: &mut E,
 ) -> u8
     ensures status { result ≤ 2 }
-    ensures printed { result ≡ 0 → MachOpens bytes.now }
+    ensures printed { result ≡ 0 → MachOpens Opens bytes.now }
 {
     match print(alloc, bytes, out) {
         Ok(true) => 0,
@@ -65,7 +65,7 @@ fn print<A: Allocator + Clone, O: Write>(
     bytes: &[u8],
     out: &mut O,
 ) -> Result<bool, Failure>
-    ensures { OnOk result (MachOpens bytes.now) }
+    ensures { OnOk result (MachOpens Opens bytes.now) }
 {
     match Mach::parse(alloc.clone()?, bytes)? {
         Mach::Binary(image) => {

@@ -2,9 +2,9 @@ use Rattle.std.proofs.Common.{◌≡◌, ◌++◌, ℕ, List, Result}
 use Rattle.mach_base.specs.Fault.{Fault}
 use Rattle.mach_parts.specs.SymbolViews.{symbols_left}
 use Rattle.mach_parts.specs.declared.symbols.nlist.Nlist.{Nlist}
-use Rattle.goblin_mach.specs.Tables.{symbols_held}
+use Rattle.goblin_mach.specs.Subjects.{symbols_held}
 use Rattle.machsyms.specs.Lines.{WritesLines}
-use Rattle.machsyms.proofs.print.print_symbols.Given as goal
+use Rattle.machsyms.proofs.print.print_held.Given as goal
 
 abbrev pub invariant-symbols : goal.invariant-symbols
 invariant-symbols g l =
