@@ -1,13 +1,11 @@
 -- The lines that are printed of the records of a fat file.
-use Rattle.std.specs.Prelude.{◌≡◌, ℕ, List, ◌++◌, codes, false, length, take, Option, Some, None, if◌then◌else◌, nat_le}
+use Rattle.std.specs.Prelude.{ℕ, ◌+◌, List, [], ◌∷◌, ◌++◌, codes, false, length, take, if◌then◌else◌, nat_le}
 use Rattle.std.specs.Fmt.{decimal, digits}
-use Rattle.std.specs.Io.KnownBytes.{Appends}
-use Rattle.std.specs.List.{flat_map, enumerate_from}
 use Rattle.mach_base.specs.declared.hint.Hint.{Hint}
 use Rattle.mach_base.specs.declared.hint.Hint.TheVariants.{Mach, MachFat, Archive, Unknown}
 use Rattle.mach_parts.specs.Fat.{part_of}
 use Rattle.mach_parts.specs.declared.fat.FatArch.{FatArch}
-use Rattle.goblin_mach.specs.Peek.{hint_in}
+use Rattle.goblin_mach.specs.Magic.{hint_in}
 
 -- what the first bytes of an entry hint at
 abbrev pub kind_by : Hint → List ℕ
@@ -28,12 +26,15 @@ cpu_text arch = codes "cputype 0x" ++ digits 16 false arch.cputype ++ codes ", c
 abbrev pub place_text : FatArch → List ℕ
 place_text arch = codes "offset " ++ decimal arch.offset ++ codes ", size " ++ decimal arch.size ++ codes ", align 2^" ++ decimal arch.align
 
--- the line of a numbered record
-abbrev pub line_of : List ℕ → ℕ × FatArch → List ℕ
-line_of bytes row =
-    codes "arch " ++ decimal row.0 ++ codes ": " ++ cpu_text row.1 ++ codes ", " ++ place_text row.1 ++ codes ", "
-    ++ kind_of (part_of bytes row.1.offset row.1.size) ++ codes "\n"
+-- a record, and the kind of its entry
+abbrev pub record_text : List ℕ → FatArch → List ℕ
+record_text bytes arch = cpu_text arch ++ codes ", " ++ place_text arch ++ codes ", " ++ kind_of (part_of bytes arch.offset arch.size)
 
--- the lines of records, numbered from 0
-abbrev pub lines_of : List ℕ → List FatArch → List ℕ
-lines_of bytes records = flat_map (line_of bytes) (enumerate_from 0 records)
+-- the line of a record with its number
+abbrev pub line_of : List ℕ → ℕ → FatArch → List ℕ
+line_of bytes i arch = codes "arch " ++ decimal i ++ codes ": " ++ record_text bytes arch ++ codes "\n"
+
+-- the lines of records, numbered from i on
+abbrev pub lines_from : List ℕ → ℕ → List FatArch → List ℕ
+lines_from bytes i [] = []
+lines_from bytes i (arch ∷ archs) = line_of bytes i arch ++ lines_from bytes (i + 1) archs

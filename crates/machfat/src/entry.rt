@@ -3,20 +3,21 @@
 ghost use Rattle.std.specs.Prelude.{◌≡◌, ◌≤◌, ℕ, List, IfOk, OnOk, Ok, Err, length};
 ghost use Rattle.std.specs.Io.KnownBytes.{Appends};
 ghost use Rattle.mach_parts.specs.declared.fat.FatArch.{FatArch};
-ghost use Rattle.machfat.specs.Entry.{HasRecords, IsRecordOf, IsEntryOf};
-ghost use Rattle.machfat.specs.Lines.{line_of, lines_of};
+ghost use Rattle.goblin_mach.specs.FatFile.{file_held};
+ghost use Rattle.machfat.specs.Entry.{IsFatFile, HasRecords, IsRecordOf, IsEntryOf};
+ghost use Rattle.machfat.specs.Lines.{line_of, lines_from};
 
 use crate::refusal::{Failure, Refusal};
-use crate::text::{CpuText, PlaceText, kind_of};
+use crate::text::RecordText;
 use goblin_mach::fat::FatArch;
-use goblin_mach::{Mach, MultiArch};
-use std::alloc::{AllocError, Allocator};
+use goblin_mach::{Mach, MultiArch, laws};
+use std::alloc::Allocator;
 use std::io;
-use std::io::{BufWriter, Write};
+use std::io::Write;
 
 // The fat file of the bytes.
 fn fat_file<A: Allocator + Clone>(alloc: A, bytes: &[u8]) -> Result<MultiArch<'_, A>, Refusal>
-    ensures { IfOk result (IsFatMach bytes.now) }
+    ensures { IfOk result (λ m. IsFatFile bytes.now (file_held m)) }
 {
     match Mach::parse(alloc, bytes)? {
         Mach::Fat(container) => Ok(container),
@@ -24,18 +25,16 @@ fn fat_file<A: Allocator + Clone>(alloc: A, bytes: &[u8]) -> Result<MultiArch<'_
     }
 }
 
-ghost use Rattle.goblin_mach.specs.OpenImage.{IsFatMach};
-
-/// The records of a fat file, in order.
-pub fn records<A: Allocator + Clone>(alloc: A, bytes: &[u8]) -> Result<Vec<FatArch, A>, Refusal>
+// The records of a fat file, in order.
+fn records<A: Allocator + Clone>(alloc: A, bytes: &[u8]) -> Result<Vec<FatArch, A>, Refusal>
     ensures { IfOk result (λ v. HasRecords bytes.now v.items) }
 {
     Ok(fat_file(alloc, bytes)?.arches()?)
 }
 
-/// Prints some records of a fat file, a line each, with the kinds of their entries.
-pub fn print_records<O: Write>(bytes: &[u8], records: &[FatArch], out: &mut O) -> io::Result<()>
-    ensures { OnOk result (Appends (O.contents out.old) (O.contents out.new) (lines_of bytes.now records.now)) }
+// Prints some records of a fat file, a line each, with the kinds of their entries.
+fn print_records<O: Write>(bytes: &[u8], records: &[FatArch], out: &mut O) -> io::Result<()>
+    ensures { OnOk result (Appends (O.contents out.old) (O.contents out.new) (lines_from bytes.now 0 records.now)) }
 {
     'records: for (index, arch) in records.iter().enumerate() {
         print_record(bytes, index, *arch, out)?;
@@ -50,12 +49,10 @@ fn print_record<O: Write>(
     arch: FatArch,
     out: &mut O,
 ) -> io::Result<()>
-    ensures { OnOk result (Appends (O.contents out.old) (O.contents out.new) (line_of bytes.now (index, arch))) }
+    ensures { OnOk result (Appends (O.contents out.old) (O.contents out.new) (line_of bytes.now index arch)) }
 {
-    let cpu = CpuText(arch);
-    let place = PlaceText(arch);
-    let kind = kind_of(arch.slice(bytes));
-    writeln!(out, "arch {index}: {cpu}, {place}, {kind}")
+    let record = RecordText { bytes, arch };
+    writeln!(out, "arch {index}: {record}")
 }
 
 /// Prints the list of a fat file: a line for each of its records, in order, and nothing else.
@@ -64,27 +61,20 @@ pub fn list<A: Allocator + Clone, O: Write>(
     bytes: &[u8],
     out: &mut O,
 ) -> Result<(), Failure>
-    ensures { OnOk result ((records : List FatArch) × HasRecords bytes.now records × Appends (O.contents out.old) (O.contents out.new) (lines_of bytes.now records)) }
+    ensures { OnOk result ((records : List FatArch) × HasRecords bytes.now records × Appends (O.contents out.old) (O.contents out.new) (lines_from bytes.now 0 records)) }
 {
-    let records = records(alloc.clone()?, bytes)?;
-    let mut lines = buffered(alloc, out)?;
-    print_records(bytes, &records, &mut lines)?;
-    lines.flush()?;
+    let records = records(alloc, bytes)?;
+    print_records(bytes, &records, out)?;
+    out.flush()?;
     Ok(())
-}
-
-// A writer that gathers lines.
-fn buffered<A: Allocator, O: Write>(
-    alloc: A,
-    out: &mut O,
-) -> Result<BufWriter<&mut O, A>, Failure> {
-    BufWriter::new(alloc, out).map_err(|_| Failure::from(AllocError))
 }
 
 // The record of an index.
 fn record_of<A: Allocator + Clone>(alloc: A, bytes: &[u8], index: usize) -> Result<FatArch, Refusal>
     ensures { IfOk result (IsRecordOf bytes.now index) }
 {
+    laws::fat_file_of_bytes();
+    laws::records_by_number();
     match fat_file(alloc, bytes)?.iter_arches().nth(index) {
         Some(arch) => Ok(arch?),
         None => Err(Refusal::NoEntry(index)),
@@ -118,5 +108,6 @@ pub fn write_entry<A: Allocator + Clone, O: Write>(
 {
     let entry = entry_bytes(alloc, bytes, index)?;
     out.write_all(entry)?;
+    out.flush()?;
     Ok(())
 }

@@ -17,6 +17,7 @@ mod words;
 use entry::entry_bytes;
 use refusal::Failure;
 use run::{run_extract, run_list, status};
+use std::io::BufWriter;
 use std::process::ExitCode;
 use std::{env, fs, io};
 
@@ -56,12 +57,11 @@ fn list_file(rt: &HostRuntime, file: &str) -> u8 {
         let _ = rt.eprintln(format_args!("machfat: cannot read {file}"));
         return 2;
     };
-    run_list(
-        rt.alloc(),
-        bytes.as_slice(),
-        &mut io::writer(rt),
-        &mut rt.stderr(),
-    )
+    let Ok(mut lines) = BufWriter::new(rt.alloc(), io::writer(rt)) else {
+        let _ = rt.eprintln("machfat: out of memory");
+        return 1;
+    };
+    run_list(rt.alloc(), bytes.as_slice(), &mut lines, &mut rt.stderr())
 }
 
 // The entry is sought before the file is made, so that a refusal makes none.

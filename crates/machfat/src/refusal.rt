@@ -2,7 +2,6 @@
 
 use crate::words::describe;
 use goblin_mach::Error;
-use std::alloc::AllocError;
 use std::fmt;
 use std::fmt::{Display, Formatter, Write};
 use std::io;
@@ -49,12 +48,6 @@ pub enum Failure {
 impl From<Refusal> for Failure {
     fn from(refusal: Refusal) -> Failure {
         Failure::Refused(refusal)
-    }
-}
-
-impl From<AllocError> for Failure {
-    fn from(error: AllocError) -> Failure {
-        Failure::Refused(Refusal::Refused(Error::from(error)))
     }
 }
 

@@ -1,6 +1,10 @@
 //! What the program's words do, and its exit status.
 
-ghost use Rattle.std.specs.Prelude.{◌≤◌};
+ghost use Rattle.std.specs.Prelude.{◌≡◌, ◌≤◌, ℕ, List, IsOk};
+ghost use Rattle.std.specs.Io.KnownBytes.{Appends};
+ghost use Rattle.mach_parts.specs.declared.fat.FatArch.{FatArch};
+ghost use Rattle.machfat.specs.Entry.{HasRecords, IsEntryOf};
+ghost use Rattle.machfat.specs.Lines.{lines_from};
 
 use crate::entry::{list, write_entry};
 use crate::refusal::Failure;
@@ -15,7 +19,8 @@ pub fn run_list<A: Allocator + Clone, O: Write, E: Write>(
     out: &mut O,
     err: &mut E,
 ) -> u8
-    ensures { result ≤ 2 }
+    ensures status { result ≤ 2 }
+    ensures listed { result ≡ 0 → (records : List FatArch) × HasRecords bytes.now records × Appends (O.contents out.old) (O.contents out.new) (lines_from bytes.now 0 records) }
 {
     status(list(alloc, bytes, out), err)
 }
@@ -29,14 +34,16 @@ pub fn run_extract<A: Allocator + Clone, O: Write, E: Write>(
     out: &mut O,
     err: &mut E,
 ) -> u8
-    ensures { result ≤ 2 }
+    ensures status { result ≤ 2 }
+    ensures extracted { result ≡ 0 → (entry : List ℕ) × IsEntryOf bytes.now index entry × Appends (O.contents out.old) (O.contents out.new) entry }
 {
     status(write_entry(alloc, bytes, index, out), err)
 }
 
 /// The exit status of an answer, whose reason goes to `err`.
 pub fn status<E: Write>(answer: Result<(), Failure>, err: &mut E) -> u8
-    ensures { result ≤ 2 }
+    ensures bound { result ≤ 2 }
+    ensures only { result ≡ 0 → IsOk answer }
 {
     match answer {
         Ok(()) => 0,
