@@ -1,0 +1,4 @@
+pub mod Letters
+pub mod Stabs
+pub mod Lines
+pub mod Words
