@@ -1,5 +1,5 @@
 -- Imports depend on no more of their segments than contracts see.
-use Rattle.std.proofs.Common.{◌≡◌, ◌++◌, ℕ, ◌<◌, Bool, true, false, cond, List, [], ◌∷◌, map, Option, Some, None, Result, Ok, Err, inl, inr, slice_get, nat_lt, refl, sym, ap, ◌∙◌}
+use Rattle.std.proofs.Common.{◌≡◌, ◌++◌, ℕ, Bool, true, false, cond, List, [], ◌∷◌, map, Option, Some, None, Result, Ok, Err, inl, inr, slice_get, nat_lt, refl, sym, ap, ◌∙◌}
 use Rattle.std.specs.Prelude.{option_map}
 use Rattle.std.proofs.lemmas.Option.{slice_get-map}
 use Rattle.mach_base.specs.Answer.{◌>>=◌}
@@ -9,7 +9,7 @@ use Rattle.mach_parts.specs.declared.segment.Segment.{Segment}
 use Rattle.mach_dyld.specs.BindFault.{BindFault, StreamFault, unreadable, no_import}
 use Rattle.mach_dyld.specs.Binds.{Bind}
 use Rattle.mach_dyld.specs.Imports.{BindRanges, Import, ListsImports, Target, holding, import_of, import_with, imports_in, input_in, listed, sum_of, target_of}
-use Rattle.mach_dyld.specs.Streams.{AllStand, Input, IsBeginning, IsStream, Placed, Range, StandsIn}
+use Rattle.mach_dyld.specs.Streams.{AllStand, Input, IsBeginning, IsStream, Placed, Range}
 use Rattle.goblin_mach.specs.Subjects.{ListsImageImports, ImageImportsFault}
 
 -- a target, with the segment as it is sought
