@@ -2,9 +2,8 @@
 
 use crate::words::describe;
 use goblin_mach::Error;
-use std::fmt;
 use std::fmt::{Display, Formatter, Write};
-use std::io;
+use std::{fmt, io};
 
 /// Why a file has no such list or entry.
 #[derive(Drop)]

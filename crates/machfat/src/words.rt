@@ -32,12 +32,8 @@ impl fmt::Display for Description<'_> {
             Error::Scroll(ScrollError::BadOffset(place)) => {
                 write!(f, "offset {place} is past the end")
             }
-            Error::Scroll(ScrollError::TooBig { len, .. }) => {
-                write!(f, "{len} are left")
-            }
-            Error::Scroll(ScrollError::BadInput { size, .. }) => {
-                write!(f, "{size} bytes left")
-            }
+            Error::Scroll(ScrollError::TooBig { len, .. }) => { write!(f, "{len} are left") }
+            Error::Scroll(ScrollError::BadInput { size, .. }) => { write!(f, "{size} bytes left") }
             Error::BufferTooShort(count, _) => write!(f, "{count} do not fit the file"),
             Error::Memory(_) => f.write_str("out of memory"),
         }

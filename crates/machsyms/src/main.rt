@@ -17,10 +17,10 @@ mod letters;
 mod print;
 mod run;
 mod stabs;
-mod text;
-mod words;
 #[cfg(test)]
 mod tests;
+mod text;
+mod words;
 
 use run::run;
 use std::process::ExitCode;

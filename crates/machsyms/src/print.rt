@@ -10,8 +10,8 @@ ghost use Rattle.goblin_mach.specs.Subjects.{symbols_held};
 ghost use Rattle.machsyms.specs.Lines.{line_of, WritesLines};
 
 use crate::text::SymbolText;
-use goblin_mach::symbols::Nlist;
 use crate::words::describe;
+use goblin_mach::symbols::Nlist;
 use goblin_mach::{MachO, laws};
 use std::alloc::Allocator;
 use std::io;
