@@ -1,7 +1,6 @@
 //! Why an answer is not given.
 
-use crate::words::describe;
-use goblin_mach::Error;
+use goblin_mach::{Error, describe};
 use std::fmt::{Display, Formatter, Write};
 use std::{fmt, io};
 

@@ -20,7 +20,6 @@ mod stabs;
 #[cfg(test)]
 mod tests;
 mod text;
-mod words;
 
 use run::run;
 use std::process::ExitCode;

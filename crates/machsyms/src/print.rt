@@ -10,9 +10,8 @@ ghost use Rattle.goblin_mach.specs.Subjects.{symbols_held};
 ghost use Rattle.machsyms.specs.Lines.{line_of, WritesLines};
 
 use crate::text::SymbolText;
-use crate::words::describe;
 use goblin_mach::symbols::Nlist;
-use goblin_mach::{MachO, laws};
+use goblin_mach::{MachO, describe, laws};
 use std::alloc::Allocator;
 use std::io;
 use std::io::Write;

@@ -7,7 +7,7 @@ use Rattle.machsyms.proofs.print.print_held.Goals as goal
 pub symbols-init : goal.symbols-init
 symbols-init g c = (
   [],
-  sym c.symbols-symbol-items.ensures ∙ sym (ap symbols_left c.into_iter-symbol-iterator.ensures.into_iter_gives),
+  sym c.symbols-symbol-items.ensures.items ∙ sym (ap symbols_left c.into_iter-symbol-iterator.ensures.into_iter_gives),
   no_lines c.args.image.now.is_64 c.args.sections.now (g.O.Write.contents c.args.out.now),
 )
 
