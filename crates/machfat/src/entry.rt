@@ -43,12 +43,7 @@ fn print_records<O: Write>(bytes: &[u8], records: &[FatArch], out: &mut O) -> io
 }
 
 // Prints the line of a record.
-fn print_record<O: Write>(
-    bytes: &[u8],
-    index: usize,
-    arch: FatArch,
-    out: &mut O,
-) -> io::Result<()>
+fn print_record<O: Write>(bytes: &[u8], index: usize, arch: FatArch, out: &mut O) -> io::Result<()>
     ensures { OnOk result (Appends (O.contents out.old) (O.contents out.new) (line_of bytes.now index arch)) }
 {
     let record = RecordText { bytes, arch };

@@ -12,7 +12,6 @@ mod run;
 #[cfg(test)]
 mod tests;
 mod text;
-mod words;
 
 use entry::entry_bytes;
 use refusal::Failure;

@@ -1,10 +1,8 @@
 //! Why an answer is not given.
 
-use crate::words::describe;
-use goblin_mach::Error;
-use std::fmt;
+use goblin_mach::{Error, describe};
 use std::fmt::{Display, Formatter, Write};
-use std::io;
+use std::{fmt, io};
 
 /// Why a file has no such list or entry.
 #[derive(Drop)]

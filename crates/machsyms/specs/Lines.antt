@@ -12,7 +12,7 @@ use Rattle.mach_parts.specs.SymbolViews.{symbol_read}
 use Rattle.mach_parts.specs.declared.symbols.nlist.Nlist.{Nlist}
 use Rattle.machsyms.specs.Letters.{is_local, symbol_letter}
 use Rattle.machsyms.specs.Stabs.{stab_name}
-use Rattle.machsyms.specs.Words.{words_of}
+use Rattle.mach_base.specs.Words.{words_of}
 
 -- a number in so many hexadecimal digits, zeros before it
 abbrev pub hex : ℕ → ℕ → List ℕ

@@ -17,10 +17,9 @@ mod letters;
 mod print;
 mod run;
 mod stabs;
-mod text;
-mod words;
 #[cfg(test)]
 mod tests;
+mod text;
 
 use run::run;
 use std::process::ExitCode;

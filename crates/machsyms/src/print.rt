@@ -11,8 +11,7 @@ ghost use Rattle.machsyms.specs.Lines.{line_of, WritesLines};
 
 use crate::text::SymbolText;
 use goblin_mach::symbols::Nlist;
-use crate::words::describe;
-use goblin_mach::{MachO, laws};
+use goblin_mach::{MachO, describe, laws};
 use std::alloc::Allocator;
 use std::io;
 use std::io::Write;

@@ -5,8 +5,7 @@ ghost use Rattle.goblin_mach.specs.Image.{MachOpens, Opens};
 
 use crate::letters::section_letters;
 use crate::print::print_symbols;
-use crate::words::describe;
-use goblin_mach::{Error, Mach, MachO, MultiArch, SingleArch};
+use goblin_mach::{Error, Mach, MachO, MultiArch, SingleArch, describe};
 use std::alloc::{AllocError, Allocator};
 use std::io;
 use std::io::{BufWriter, Write};

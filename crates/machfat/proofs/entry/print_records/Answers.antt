@@ -14,17 +14,18 @@ records-preserved g c =
     let bytes = c.args.bytes.now in
     let records = c.args.records.now in
     let i = c.records.index in
-    let line = line_of bytes i (get_or records i _) in
-    (before.0 ++ line,
+    let line = line_of bytes i (get_or records i _) in (
+      before.0 ++ line,
       Appends-both _ _ _ before.0 line before.1 c.in_ok-print_record.ensures,
       append_assoc before.0 line (lines_from bytes (i + 1) (drop (i + 1) records))
-      ∙ ap (λ rest. before.0 ++ rest) (sym (at_drop_more (λ left. lines_from bytes i left) records i _ c.records-test.true))
-      ∙ before.2)
+          ∙ ap (λ rest. before.0 ++ rest) (sym (at_drop_more (λ left. lines_from bytes i left) records i _ c.records-test.true))
+          ∙ before.2,
+    )
 
 pub returns : goal.returns
 returns g c =
     let done = c.records.invariant in
     let none = drop_all c.records.index c.args.records.now c.records-test.false in
     subst (λ text. Appends (g.O.Write.contents c.args.out.now) (g.O.Write.contents c.records.out) text)
-        (sym (append-nil done.0) ∙ ap (λ left. done.0 ++ lines_from c.args.bytes.now c.records.index left) (sym none) ∙ done.2)
-        done.1
+    (sym (append-nil done.0) ∙ ap (λ left. done.0 ++ lines_from c.args.bytes.now c.records.index left) (sym none) ∙ done.2)
+    done.1
