@@ -69,18 +69,18 @@ abbrev pub libs_in : List ℕ → List Command → List (List ℕ)
 libs_in bytes cs = unwrap_or (own_name_in bytes cs) (codes "self") ∷ read_of (library_by bytes) cs
 
 -- a command of a segment in the wider form, if it is one
-abbrev pub segment_command_of : Kind → List Value → Option SegmentCommand64
-segment_command_of segment32 values = Some (widened (segment_command32_of_values values))
-segment_command_of segment64 values = Some (segment_command64_of_values values)
-segment_command_of _ values = None
+abbrev pub segment_command_by : Kind → List Value → Option SegmentCommand64
+segment_command_by segment32 values = Some (widened (segment_command32_of_values values))
+segment_command_by segment64 values = Some (segment_command64_of_values values)
+segment_command_by _ values = None
 
 -- the segment of a command with its data, or why its data are not in the bytes
 abbrev pub segment_by : Ctx → List ℕ → Reading SegmentView
-segment_by ctx bytes c = option_map (segment_at ctx bytes c.offset) (segment_command_of c.kind c.values)
+segment_by ctx bytes c = option_map (segment_at ctx bytes c.offset) (segment_command_by c.kind c.values)
 
 -- the same in lossy mode, which is never refused: data that are not in the bytes are empty
 abbrev pub lossy_segment_by : Ctx → List ℕ → Reading SegmentView
-lossy_segment_by ctx bytes c = option_map (lossy_segment_at ctx bytes c.offset) (segment_command_of c.kind c.values)
+lossy_segment_by ctx bytes c = option_map (lossy_segment_at ctx bytes c.offset) (segment_command_by c.kind c.values)
 
 -- the command that describes symbols
 abbrev pub is_symtab : Kind → Bool
