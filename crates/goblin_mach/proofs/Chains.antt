@@ -3,7 +3,7 @@ use Rattle.std.proofs.Common.{◌≡◌, ℕ, ◌+◌, ◌<◌, ◌≤◌, List,
 use Rattle.mach_base.specs.declared.context.Endian.{Endian}
 use Rattle.mach_base.specs.Fault.{Fault}
 use Rattle.mach_load.specs.Command.{Command, cmdsize_of, command_at}
-use Rattle.goblin_mach.specs.Chain.{IsAmong, AllThere, BeginsAt, IsLinked, IsChain, end_of, IsBroken}
+use Rattle.goblin_mach.specs.Chain.{IsAmong, AllThere, BeginsAt, IsLinked, IsChain, chain_end, IsBroken}
 use Rattle.mach_base.proofs.Binds.{same_ok}
 use Rattle.goblin_mach.proofs.CommandAt.{offset_is}
 
@@ -44,28 +44,28 @@ pub chain_carries : (le : Endian) (bytes : List ℕ) (s : ℕ) (cs : List Comman
 chain_carries le bytes s cs h = carries le bytes s cs h.there h.begins h.linked
 
 -- the place after the last
-pub end_carried : (le : Endian) (bytes : List ℕ) (s : ℕ) (c : Command) (cs : List Command) → Carries le bytes s (c ∷ cs) → end_of s (c ∷ cs) ≡ end_of (s + cmdsize_of c) cs
+pub end_carried : (le : Endian) (bytes : List ℕ) (s : ℕ) (c : Command) (cs : List Command) → Carries le bytes s (c ∷ cs) → chain_end s (c ∷ cs) ≡ chain_end (s + cmdsize_of c) cs
 end_carried le bytes s c [] h = ap (λ (x : ℕ). x + cmdsize_of c) (offset_is le bytes s c h.0)
 end_carried le bytes s c (d ∷ []) h = refl
 end_carried le bytes s c (d ∷ e ∷ cs) h = end_anywhere s (s + cmdsize_of c) e cs
   where
-    end_anywhere : (s t : ℕ) (c : Command) (cs : List Command) → end_of s (c ∷ cs) ≡ end_of t (c ∷ cs)
+    end_anywhere : (s t : ℕ) (c : Command) (cs : List Command) → chain_end s (c ∷ cs) ≡ chain_end t (c ∷ cs)
     end_anywhere s t c [] = refl
     end_anywhere s t c (d ∷ cs) = end_anywhere s t d cs
 
 -- a chain grows by the command that stands at its end
-Carries-push : (le : Endian) (bytes : List ℕ) (s : ℕ) (cs : List Command) (c : Command) → Carries le bytes s cs → command_at le bytes (end_of s cs) ≡ Ok c → Carries le bytes s (cs ++ c ∷ [])
+Carries-push : (le : Endian) (bytes : List ℕ) (s : ℕ) (cs : List Command) (c : Command) → Carries le bytes s cs → command_at le bytes (chain_end s cs) ≡ Ok c → Carries le bytes s (cs ++ c ∷ [])
 Carries-push le bytes s [] c h e = (e, tt)
 Carries-push le bytes s (d ∷ ds) c h e =
     (h.0, Carries-push le bytes (s + cmdsize_of d) ds c h.1 (subst (λ (x : ℕ). command_at le bytes x ≡ Ok c) (end_carried le bytes s d ds h) e))
 
-pub IsChain-push : (le : Endian) (bytes : List ℕ) (s : ℕ) (cs : List Command) (c : Command) → IsChain le bytes s cs → command_at le bytes (end_of s cs) ≡ Ok c → IsChain le bytes s (cs ++ c ∷ [])
+pub IsChain-push : (le : Endian) (bytes : List ℕ) (s : ℕ) (cs : List Command) (c : Command) → IsChain le bytes s cs → command_at le bytes (chain_end s cs) ≡ Ok c → IsChain le bytes s (cs ++ c ∷ [])
 IsChain-push le bytes s cs c h e = chain_carried le bytes s (cs ++ c ∷ []) (Carries-push le bytes s cs c (chain_carries le bytes s cs h) e)
 
-pub end_of-push : (s : ℕ) (cs : List Command) (c : Command) → end_of s (cs ++ c ∷ []) ≡ c.offset + cmdsize_of c
-end_of-push s [] c = refl
-end_of-push s (d ∷ []) c = refl
-end_of-push s (d ∷ e ∷ cs) c = end_of-push s (e ∷ cs) c
+pub chain_end-push : (s : ℕ) (cs : List Command) (c : Command) → chain_end s (cs ++ c ∷ []) ≡ c.offset + cmdsize_of c
+chain_end-push s [] c = refl
+chain_end-push s (d ∷ []) c = refl
+chain_end-push s (d ∷ e ∷ cs) c = chain_end-push s (e ∷ cs) c
 
 same_first : (le : Endian) (bytes : List ℕ) (s : ℕ) (c d : Command) → command_at le bytes s ≡ Ok c → command_at le bytes s ≡ Ok d → c ≡ d
 same_first le bytes s c d p q = same_ok (sym p ∙ q)
@@ -84,7 +84,7 @@ same_carried le bytes s (c ∷ cs) (d ∷ ds) p q e =
 pub same_chain : (le : Endian) (bytes : List ℕ) (s : ℕ) (cs ds : List Command) → IsChain le bytes s cs → IsChain le bytes s ds → length cs ≡ length ds → cs ≡ ds
 same_chain le bytes s cs ds p q e = same_carried le bytes s cs ds (chain_carries le bytes s cs p) (chain_carries le bytes s ds q) e
 
-broken_carried : (le : Endian) (bytes : List ℕ) (s : ℕ) (front cs : List Command) (f : Fault) → Carries le bytes s front → Carries le bytes s cs → length front < length cs → command_at le bytes (end_of s front) ≡ Err f → ⊥
+broken_carried : (le : Endian) (bytes : List ℕ) (s : ℕ) (front cs : List Command) (f : Fault) → Carries le bytes s front → Carries le bytes s cs → length front < length cs → command_at le bytes (chain_end s front) ≡ Err f → ⊥
 broken_carried le bytes s [] [] f p q lt e = omega arith
 broken_carried le bytes s [] (c ∷ cs) f p q lt e = let h = q.0 in cc
 broken_carried le bytes s (d ∷ ds) [] f p q lt e = omega arith

@@ -4,7 +4,7 @@ use Rattle.mach_base.specs.declared.error.Error.{Error}
 use Rattle.mach_base.specs.Answer.{Reads}
 use Rattle.mach_base.specs.Fault.{Fault}
 use Rattle.mach_base.specs.Record.{number_is}
-use Rattle.goblin_mach.specs.Entry.{number_of}
+use Rattle.goblin_mach.specs.EntryPoint.{number_of}
 use Rattle.goblin_mach.specs.Readings.{seen_of}
 
 -- the numbers of words are the words

@@ -10,41 +10,41 @@ use Rattle.mach_base.proofs.Faults.{Stands-reported, Stands-in}
 use Rattle.mach_parts.specs.Fat.{part_of}
 use Rattle.mach_parts.specs.declared.fat.FatArch.{FatArch}
 use Rattle.goblin_mach.specs.FatFile.{FatFile, arch_at}
-use Rattle.goblin_mach.specs.FatEntry.{Entry, archive, image, entry_by, entry_of, entry_at, EntryFault, no_entry, no_image, OpensEntry}
+use Rattle.goblin_mach.specs.FatEntry.{FatEntry, archive, image, entry_by, fat_entry_of, entry_at, FatEntryFault, no_entry, no_image, OpensEntry}
 use Rattle.goblin_mach.specs.Image.{ImageFault}
 use Rattle.goblin_mach.specs.OpenImage.{IsImage}
-use Rattle.goblin_mach.specs.Peek.{hint_in}
+use Rattle.goblin_mach.specs.Magic.{hint_in}
 use Rattle.goblin_mach.specs.declared.fat_file.entry.SingleArch.{SingleArch}
 use Rattle.goblin_mach.specs.declared.fat_file.entry.SingleArch.TheVariants.{MachO, Archive}
 use Rattle.goblin_mach.specs.declared.image.macho.MachO as held
 use Rattle.goblin_mach.proofs.Images.{ok_where_opens}
 
 -- an error that reports why there is no entry
-pub OpensEntry-refused : {A : Type 0} (entry : Result Entry Fault) (e : Error) → entry ≡ Err (fault_of e) → OpensEntry {A = A} entry (Err e)
+pub OpensEntry-refused : {A : Type 0} (entry : Result FatEntry Fault) (e : Error) → entry ≡ Err (fault_of e) → OpensEntry {A = A} entry (Err e)
 OpensEntry-refused {A} entry e none =
-    subst (λ (x : Result Entry Fault). OpensEntry {A = A} x (Err e)) (sym none)
-    (record { opened = tt; only = λ opens. absurd opens; refused = Stands-reported (EntryFault (Err (fault_of e))) e (no_entry (fault_of e)) })
+    subst (λ (x : Result FatEntry Fault). OpensEntry {A = A} x (Err e)) (sym none)
+    (record { opened = tt; only = λ opens. absurd opens; refused = Stands-reported (FatEntryFault (Err (fault_of e))) e (no_entry (fault_of e)) })
 
 -- the bytes of an archive
-pub OpensEntry-archive : {A : Type 0} (entry : Result Entry Fault) (bytes : Bor (List ℕ)) → entry ≡ Ok (archive bytes.now) → OpensEntry {A = A} entry (Ok (Archive bytes))
+pub OpensEntry-archive : {A : Type 0} (entry : Result FatEntry Fault) (bytes : Bor (List ℕ)) → entry ≡ Ok (archive bytes.now) → OpensEntry {A = A} entry (Ok (Archive bytes))
 OpensEntry-archive entry bytes is =
     record { opened = (archive bytes.now, is, refl); only = λ opens. tt; refused = tt }
 
 -- an image that opened
-pub OpensEntry-image : {A : Type 0} (entry : Result Entry Fault) (slice : List ℕ) (m : held.MachO A) → entry ≡ Ok (image slice) → IsImage slice 0 m → OpensEntry {A = A} entry (Ok (MachO m))
+pub OpensEntry-image : {A : Type 0} (entry : Result FatEntry Fault) (slice : List ℕ) (m : held.MachO A) → entry ≡ Ok (image slice) → IsImage slice 0 m → OpensEntry {A = A} entry (Ok (MachO m))
 OpensEntry-image entry slice m is opened = record { opened = (image slice, is, opened); only = λ opens. tt; refused = tt }
 
 -- an image that did not open
-pub OpensEntry-no_image : {A : Type 0} (entry : Result Entry Fault) (slice : List ℕ) (e : Error) → entry ≡ Ok (image slice) → Stands (ImageFault slice 0) e → OpensEntry {A = A} entry (Err e)
+pub OpensEntry-no_image : {A : Type 0} (entry : Result FatEntry Fault) (slice : List ℕ) (e : Error) → entry ≡ Ok (image slice) → Stands (ImageFault slice 0) e → OpensEntry {A = A} entry (Err e)
 OpensEntry-no_image {A} entry slice e is stands =
-    subst (λ (x : Result Entry Fault). OpensEntry {A = A} x (Err e)) (sym is)
+    subst (λ (x : Result FatEntry Fault). OpensEntry {A = A} x (Err e)) (sym is)
     (record {
       opened = tt;
       only = ok_where_opens {X = SingleArch A} (Err e) slice 0 stands;
-      refused = Stands-in (ImageFault slice 0) (EntryFault (Ok (image slice))) e (no_image slice) stands;
+      refused = Stands-in (ImageFault slice 0) (FatEntryFault (Ok (image slice))) e (no_image slice) stands;
     })
 
-not_hinted : (b : Bool) (front : List ℕ) (found : Result Entry Fault) → None ≡ cond b (Some front) None → cond b found (Err malformed) ≡ Err malformed
+not_hinted : (b : Bool) (front : List ℕ) (found : Result FatEntry Fault) → None ≡ cond b (Some front) None → cond b found (Err malformed) ≡ Err malformed
 not_hinted true front found e = absurd (cc)
 not_hinted false front found e = refl
 
@@ -53,24 +53,24 @@ hinted true front there bytes e = let same : there ≡ front = cc in ap (λ (x :
 hinted false front there bytes e = absurd (cc)
 
 -- fewer than 16 bytes are no entry
-pub entry-short : (bytes : List ℕ) (r : Option (Bor (List ℕ))) → option_map (λ front. front.now) r ≡ cond (nat_le 16 (length bytes)) (Some (take 16 bytes)) None → r ≡ None → entry_of bytes ≡ Err malformed
+pub entry-short : (bytes : List ℕ) (r : Option (Bor (List ℕ))) → option_map (λ front. front.now) r ≡ cond (nat_le 16 (length bytes)) (Some (take 16 bytes)) None → r ≡ None → fat_entry_of bytes ≡ Err malformed
 entry-short bytes r front none =
     not_hinted (nat_le 16 (length bytes)) (take 16 bytes) (entry_by (hint_in (take 16 bytes)) bytes)
     (sym (ap (option_map (λ (x : Bor (List ℕ)). x.now)) none) ∙ front)
 
 -- else the first 16 say what it is
 pub entry-hinted : (bytes : List ℕ) (r : Option (Bor (List ℕ))) (there : Bor (List ℕ)) (hint : Hint)
-    → option_map (λ front. front.now) r ≡ cond (nat_le 16 (length bytes)) (Some (take 16 bytes)) None → r ≡ Some there → hint_in there.now ≡ hint → entry_of bytes ≡ entry_by hint bytes
+    → option_map (λ front. front.now) r ≡ cond (nat_le 16 (length bytes)) (Some (take 16 bytes)) None → r ≡ Some there → hint_in there.now ≡ hint → fat_entry_of bytes ≡ entry_by hint bytes
 entry-hinted bytes r there hint front some is =
     hinted (nat_le 16 (length bytes)) (take 16 bytes) there.now bytes (sym (ap (option_map (λ (x : Bor (List ℕ)). x.now)) some) ∙ front)
     ∙ ap (λ (h : Hint). entry_by h bytes) is
 
 -- an entry that is below the count has a record
 pub entry_at-none : (file : FatFile) (i : ℕ) → nat_lt i file.narches ≡ false → entry_at file i ≡ Err malformed
-entry_at-none file i out = ap (λ (b : Bool). cond b (arch_at file.bytes i >>= λ arch. entry_of (part_of file.bytes arch.offset arch.size)) (Err malformed)) out
+entry_at-none file i out = ap (λ (b : Bool). cond b (arch_at file.bytes i >>= λ arch. fat_entry_of (part_of file.bytes arch.offset arch.size)) (Err malformed)) out
 
 pub entry_at-record : (file : FatFile) (i : ℕ) (found : Result FatArch Fault) → nat_lt i file.narches ≡ true → arch_at file.bytes i ≡ found
-    → entry_at file i ≡ (found >>= λ arch. entry_of (part_of file.bytes arch.offset arch.size))
+    → entry_at file i ≡ (found >>= λ arch. fat_entry_of (part_of file.bytes arch.offset arch.size))
 entry_at-record file i found inside is =
-    ap (λ (b : Bool). cond b (arch_at file.bytes i >>= λ arch. entry_of (part_of file.bytes arch.offset arch.size)) (Err malformed)) inside
-    ∙ ap (λ (r : Result FatArch Fault). r >>= λ arch. entry_of (part_of file.bytes arch.offset arch.size)) is
+    ap (λ (b : Bool). cond b (arch_at file.bytes i >>= λ arch. fat_entry_of (part_of file.bytes arch.offset arch.size)) (Err malformed)) inside
+    ∙ ap (λ (r : Result FatArch Fault). r >>= λ arch. fat_entry_of (part_of file.bytes arch.offset arch.size)) is

@@ -11,14 +11,12 @@ use Rattle.mach_base.proofs.Faults.{Stands-in}
 use Rattle.mach_load.specs.Command.{Command}
 use Rattle.mach_parts.specs.Header.{header_size}
 use Rattle.goblin_mach.specs.Chain.{IsAmong}
-use Rattle.goblin_mach.specs.Entry.{Entry, entry_in, pointer_by}
-use Rattle.goblin_mach.specs.Image.{HasHeader, CountsFit, HasChain, HasFront, OpensAs, Opens, LossyOpensAs, LossyOpens, LossyFault, no_magic, other_magic, short_header, too_many_commands, broken_chain, unknown_thread, no_entry, IsUnreadable, segment, library, id, run_path, table, ImageFault, of_lossy, unreadable, HasFatMagic, MachOpens, MachFault, no_room, of_fat, of_image, LossyMachOpens, LossyMachFault, no_lossy_room, of_lossy_fat, of_lossy_image}
-use Rattle.goblin_mach.specs.ImageSegments.{segment_by}
+use Rattle.goblin_mach.specs.EntryPoint.{EntryPoint, entry_point_in, pointer_by}
+use Rattle.goblin_mach.specs.Image.{HasHeader, CountsFit, HasChain, HasFront, OpensAs, Opens, LossyOpensAs, LossyOpens, LossyFault, no_magic, other_magic, short_header, too_many_commands, broken_chain, unknown_thread, no_entry_point, IsUnreadable, segment, library, id, run_path, table, ImageFault, of_lossy, unreadable, HasFatMagic, MachOpens, MachFault, no_room, of_fat, of_image}
+use Rattle.goblin_mach.specs.Subjects.{segment_by, library_by, id_by, run_path_by, table_by}
 use Rattle.goblin_mach.specs.FatFile.{fat_file_in}
 use Rattle.goblin_mach.specs.Magic.{magic_at, ctx_of, cputype_at}
-use Rattle.goblin_mach.specs.Names.{library_by, id_by, run_path_by}
 use Rattle.goblin_mach.specs.Readings.{Reading, AllRead, IsUnread}
-use Rattle.goblin_mach.specs.Tables.{table_by}
 use Rattle.goblin_mach.proofs.Chains.{broken-excludes_chain, among-front, same_chain}
 use Rattle.goblin_mach.proofs.Readings.{unread-excludes_all}
 
@@ -55,7 +53,7 @@ unread_in_chain : {V : Type 0} (reading : Reading V) (bytes : List ℕ) (o : ℕ
 unread_in_chain reading bytes o c front cs f some chain unread all =
     unread-excludes_all reading cs f (record { command = unread.command; among = in_chain bytes o c front cs unread.command some chain unread.among; fault = unread.fault }) all
 
-not_ok : (r : Result Entry Fault) (f : Fault) → r ≡ Err f → IsOk r → ⊥
+not_ok : (r : Result EntryPoint Fault) (f : Fault) → r ≡ Err f → IsOk r → ⊥
 not_ok r f e ok = let wrong = rw e at ok in cc
 
 -- no fault stands where an image opens in lossy mode
@@ -72,10 +70,10 @@ fault-excludes_lossy bytes o _ (broken_chain c f held counts broken) opens =
 fault-excludes_lossy bytes o _ (unknown_thread c front f some unread) opens =
     let opened = as_header bytes o c opens.0 opens.1 some.header opens.2 in
     unread_in_chain (pointer_by (cputype_at c bytes o)) bytes o c front opens.1 f some opened.chain unread opened.threads
-fault-excludes_lossy bytes o _ (no_entry c cs f has e) opens =
+fault-excludes_lossy bytes o _ (no_entry_point c cs f has e) opens =
     let opened = as_header bytes o c opens.0 opens.1 has.header opens.2 in
     let same : cs ≡ opens.1 = same_chain c.le bytes (o + header_size c.container) cs opens.1 has.chain.chain opened.chain.chain (has.chain.count ∙ sym opened.chain.count) in
-    not_ok (entry_in (cputype_at c bytes o) opens.1) f (ap (entry_in (cputype_at c bytes o)) (sym same) ∙ e) opened.entry
+    not_ok (entry_point_in (cputype_at c bytes o) opens.1) f (ap (entry_point_in (cputype_at c bytes o)) (sym same) ∙ e) opened.entry
 
 unreadable-excludes_image : (bytes : List ℕ) (o : ℕ) (c : Ctx) (front cs : List Command) (f : Fault) → HasFront bytes o c front → OpensAs bytes o c cs → IsUnreadable c bytes front f → ⊥
 unreadable-excludes_image bytes o c front cs f some opened (segment g u) = unread_in_chain (segment_by c bytes) bytes o c front cs g some opened.lossy.chain u opened.readable.segments
@@ -112,7 +110,7 @@ header-there bytes f room e =
     let wrong = rw (inside, whole) at e in
     cc
 
-pub fault-excludes_mach : (bytes : List ℕ) (f : Fault) → MachFault bytes f → MachOpens bytes → ⊥
+pub fault-excludes_mach : (bytes : List ℕ) (f : Fault) → MachFault ImageFault bytes f → MachOpens Opens bytes → ⊥
 fault-excludes_mach bytes _ (no_room lt) opens = let h = opens.magic in omega arith
 fault-excludes_mach bytes _ (of_fat f fat e) opens = elim opens.file [
   | inl is ↦ header-there bytes f is.header e
@@ -121,15 +119,4 @@ fault-excludes_mach bytes _ (of_fat f fat e) opens = elim opens.file [
 fault-excludes_mach bytes _ (of_image f other fault) opens = elim opens.file [
   | inl is ↦ other is.magic
   | inr image ↦ fault-excludes_image bytes 0 f fault image
-]
-
-pub fault-excludes_lossy_mach : (bytes : List ℕ) (f : Fault) → LossyMachFault bytes f → LossyMachOpens bytes → ⊥
-fault-excludes_lossy_mach bytes _ (no_lossy_room lt) opens = let h = opens.magic in omega arith
-fault-excludes_lossy_mach bytes _ (of_lossy_fat f fat e) opens = elim opens.file [
-  | inl is ↦ header-there bytes f is.header e
-  | inr image ↦ fat-excludes_image bytes fat image
-]
-fault-excludes_lossy_mach bytes _ (of_lossy_image f other fault) opens = elim opens.file [
-  | inl is ↦ other is.magic
-  | inr image ↦ fault-excludes_lossy bytes 0 f fault image
 ]

@@ -6,6 +6,9 @@ pub mod Entries
 pub mod Images
 pub mod Relocations
 pub mod Lossy
+pub mod Facts
+pub mod Exported
+pub mod FatNumbers
 pub mod FatMagics
 pub mod FatRecords
 pub mod FatEntries

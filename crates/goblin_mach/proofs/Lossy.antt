@@ -8,17 +8,12 @@ use Rattle.mach_records.specs.declared.segments.SegmentCommand64.{SegmentCommand
 use Rattle.mach_load.specs.Command.{Command}
 use Rattle.mach_parts.specs.Header.{header_size}
 use Rattle.mach_parts.specs.Segment.{SegmentView, segment_data, segment_at, lossy_segment_at}
-use Rattle.goblin_mach.specs.Entry.{Entry, entry_in}
+use Rattle.goblin_mach.specs.EntryPoint.{EntryPoint, entry_point_in}
 use Rattle.goblin_mach.specs.Image.{LossyOpensAs}
-use Rattle.goblin_mach.specs.ImageSegments.{segment_of, segment_by, lossy_segment_by}
-use Rattle.goblin_mach.specs.ImageBinds.{binds_in}
-use Rattle.goblin_mach.specs.ImageTrie.{trie_in}
+use Rattle.goblin_mach.specs.Subjects.{segment_command_of, segment_by, lossy_segment_by, binds_in, trie_in, own_name_in, libs_in, run_path_by, table_in}
 use Rattle.goblin_mach.specs.Magic.{cputype_at}
-use Rattle.goblin_mach.specs.Names.{name_in, libs_in, run_path_by}
-use Rattle.goblin_mach.specs.Tables.{table_in}
-use Rattle.goblin_mach.specs.OpenImage.{IsImage, IsLossyImage, HasFields, commands_held}
+use Rattle.goblin_mach.specs.OpenImage.{IsImage, IsLossyImage, HasFields, commands_held, SameFields}
 use Rattle.goblin_mach.specs.Readings.{read_of, keep, IsRead, AllRead}
-use Rattle.goblin_mach.specs.SameFields.{SameFields}
 use Rattle.goblin_mach.specs.declared.image.macho.MachO.{MachO}
 use Rattle.goblin_mach.proofs.Chains.{same_chain}
 use Rattle.goblin_mach.proofs.Images.{same_header}
@@ -36,7 +31,7 @@ same_segment ctx bytes o (Some c) read = ap (λ (r : Result SegmentView Fault). 
 pub same_segments : (ctx : Ctx) (bytes : List ℕ) (cs : List Command) → AllRead (segment_by ctx bytes) cs → read_of (segment_by ctx bytes) cs ≡ read_of (lossy_segment_by ctx bytes) cs
 same_segments ctx bytes [] all = refl
 same_segments ctx bytes (c ∷ cs) all =
-    let here : segment_by ctx bytes c ≡ lossy_segment_by ctx bytes c = same_segment ctx bytes c.offset (segment_of c.kind c.values) all.0 in
+    let here : segment_by ctx bytes c ≡ lossy_segment_by ctx bytes c = same_segment ctx bytes c.offset (segment_command_of c.kind c.values) all.0 in
     ap (λ (r : Option (Result SegmentView Fault)). keep r (read_of (segment_by ctx bytes) cs)) here
     ∙ ap (keep (lossy_segment_by ctx bytes c)) (same_segments ctx bytes cs all.1)
 
@@ -44,7 +39,7 @@ same_segments ctx bytes (c ∷ cs) all =
 same_fields : {A B : Type 0} (bytes : List ℕ) (o : ℕ) (ctx : Ctx) (parts : List SegmentView) (m : MachO A) (n : MachO B) → commands_held m ≡ commands_held n → HasFields bytes o ctx parts m → HasFields bytes o ctx parts n → SameFields m n
 same_fields bytes o ctx parts m n cs p q =
     let entry : record { address = m.entry; old_style = m.old_style_entry } ≡ record { address = n.entry; old_style = n.old_style_entry } =
-    same_ok {A = Entry} (sym p.entry ∙ ap (entry_in (cputype_at ctx bytes o)) cs ∙ q.entry) in
+    same_ok {A = EntryPoint} (sym p.entry ∙ ap (entry_point_in (cputype_at ctx bytes o)) cs ∙ q.entry) in
     record {
       header = p.header ∙ sym q.header;
       commands = cs;
@@ -52,9 +47,9 @@ same_fields bytes o ctx parts m n cs p q =
       symbols = p.symbols ∙ ap (table_in ctx bytes) cs ∙ sym q.symbols;
       libs = p.libs ∙ ap (libs_in bytes) cs ∙ sym q.libs;
       rpaths = p.rpaths ∙ ap (read_of (run_path_by bytes)) cs ∙ sym q.rpaths;
-      entry = ap (λ (e : Entry). e.address) entry;
-      old_style_entry = ap (λ (e : Entry). e.old_style) entry;
-      name = p.name ∙ ap (name_in bytes) cs ∙ sym q.name;
+      entry = ap (λ (e : EntryPoint). e.address) entry;
+      old_style_entry = ap (λ (e : EntryPoint). e.old_style) entry;
+      name = p.name ∙ ap (own_name_in bytes) cs ∙ sym q.name;
       little_endian = ((λ t. q.little_endian.1 (p.little_endian.0 t)), (λ t. p.little_endian.1 (q.little_endian.0 t)));
       is_64 = ((λ t. q.is_64.1 (p.is_64.0 t)), (λ t. p.is_64.1 (q.is_64.0 t)));
       trie = p.trie ∙ ap (trie_in bytes) cs ∙ sym q.trie;

@@ -1,7 +1,6 @@
 -- The items of a view.
 use Rattle.std.proofs.Common.{◌≡◌, ℕ, ◌+◌, ◌-◌, ◌<◌, ◌≤◌, List, [], ◌∷◌, ◌++◌, Option, Result, Ok, inl, inr, refl, sym, subst, append_assoc, arith}
 use Rattle.std.proofs.lemmas.List.{append-nil}
-use Rattle.mach_base.specs.declared.context.Ctx.{Ctx}
 use Rattle.mach_base.specs.declared.error.Error.{Error}
 use Rattle.mach_base.specs.declared.error.Error.TheVariants as errors
 use Rattle.mach_base.specs.Answer.{Stands}
@@ -9,18 +8,17 @@ use Rattle.mach_base.specs.Context.{pointer_size}
 use Rattle.mach_base.specs.Fault.{Fault, malformed, bad_magic, too_short, fault_of_scroll}
 use Rattle.mach_parts.specs.Segments.{segments_in}
 use Rattle.mach_dyld.specs.Exports.{texts}
-use Rattle.mach_dyld.specs.Imports.{BindRanges}
-use Rattle.mach_dyld.specs.TrieRange.{TrieRange}
+use Rattle.mach_dyld.specs.Imports.{Import}
+use Rattle.mach_dyld.specs.Trie as trie
 use Rattle.mach_parts.specs.Items.{items_from}
 use Rattle.mach_parts.proofs.ItemLists.{items_from-first}
-use Rattle.goblin_mach.specs.FatEntry.{Entry, image}
-use Rattle.goblin_mach.specs.ImageBinds.{binds_in, ImageImportsFault}
-use Rattle.goblin_mach.specs.ImageTrie.{trie_in, ImageExportsFault}
-use Rattle.goblin_mach.specs.OpenImage.{IsImage, commands_held, binds_held}
-use Rattle.goblin_mach.specs.View.{ItemFault, of_links}
-use Rattle.goblin_mach.specs.ViewSeen.{FaultHeld, IsTold, Tells, IsItem, AreItems}
+use Rattle.goblin_mach.specs.FatEntry.{FatEntry, image}
+use Rattle.goblin_mach.specs.Subjects.{ListsImageImports, ListsImageExports}
+use Rattle.goblin_mach.specs.OpenImage.{IsImage, commands_held, trie_held, binds_held, ctx_held}
+use Rattle.goblin_mach.specs.View.{LinksImage, LinksFault, ItemFault, of_links, FaultHeld, IsTold, Tells, IsViewItem, AreViewItems}
 use Rattle.goblin_mach.specs.declared.view.LinkView.{LinkView}
 use Rattle.goblin_mach.specs.declared.image.macho.MachO.{MachO}
+use Rattle.goblin_mach.proofs.Facts.{strict-lossy, exports_are, exports_fail, imports_are, imports_fail}
 
 -- an error that stands is told
 pub tells : (P Q : Fault → Type 0) (e : Error) → IsTold e → ((f : Fault) → P f → Q f) → Stands P e → Tells Q e
@@ -30,38 +28,37 @@ tells P Q (errors.Scroll e) t to h = to (fault_of_scroll e) h
 tells P Q (errors.BufferTooShort n m) t to h = to (too_short n m.now) h
 tells P Q (errors.Memory e) t to h = absurd t
 
--- a fault in a list of the image that is held is one in the entry's
+-- the lists that an image holds are those that it links
+pub image-links : {A : Type 0} (bytes : List ℕ) (m : MachO A) (list : List trie.Entry) (imports : List Import) → IsImage bytes 0 m → ListsImageExports (trie_held m) (texts m.libs.items) list
+    → ListsImageImports (binds_held m) (pointer_size (ctx_held m).container) (texts m.libs.items) (segments_in m.segments) imports → LinksImage bytes list imports
+image-links bytes m list imports p exported imported =
+    let q = strict-lossy bytes 0 m p in
+    record { opens = (p.ctx, commands_held m, p.opens); exports_are = (exports_are bytes 0 m q list).1 exported; imports_are = imports_are bytes 0 m q imports imported }
+
+-- a fault in one of them stands in the bytes
+pub image-fails : {A : Type 0} (bytes : List ℕ) (m : MachO A) (f : Fault) → IsImage bytes 0 m → FaultHeld m f → LinksFault bytes f
+image-fails bytes m f p fault =
+    let q = strict-lossy bytes 0 m p in
+    record {
+      opens = (p.ctx, commands_held m, p.opens);
+      fault = elim fault [ inl e ↦ inl ((exports_fail bytes 0 m q f).1 e) | inr i ↦ inr (imports_fail bytes 0 m q f i) ];
+    }
+
 pub item_fault : {A : Type 0} (bytes : List ℕ) (m : MachO A) (f : Fault) → IsImage bytes 0 m → FaultHeld m f → ItemFault (Ok (image bytes)) f
-item_fault bytes m f p fault =
-    let libs = texts m.libs.items in
-    let cs = commands_held m in
-    let segments = segments_in m.segments in
-    of_links bytes f refl (record {
-      ctx = p.ctx;
-      cs = commands_held m;
-      segments = segments;
-      opens = p.opens;
-      are_segments = p.fields.segments;
-      fault = elim fault [
-        | inl e ↦ inl (subst (λ (x : List (List ℕ)). ImageExportsFault (trie_in bytes cs) x f) p.fields.libs (subst (λ (x : Option TrieRange). ImageExportsFault x libs f) p.fields.trie e))
-        | inr i ↦ inr (subst (λ (x : List (List ℕ)). ImageImportsFault (binds_in bytes cs) (pointer_size p.ctx.container) x segments f) p.fields.libs
-            (subst (λ (x : Option BindRanges). ImageImportsFault x (pointer_size p.ctx.container) libs segments f) p.fields.binds
-            (subst (λ (x : Ctx). ImageImportsFault (binds_held m) (pointer_size x.container) libs segments f) p.fields.ctx_is i)))
-      ];
-    })
+item_fault bytes m f p fault = of_links bytes f refl (image-fails bytes m f p fault)
 
 -- one more item, where those that are left follow it
-pub one_more_item : {A : Type 0} (entry : ℕ → Result Entry Fault) (i n : ℕ) (items : List (Result (LinkView A) Error)) (x : Result (LinkView A) Error) (all : List (Result Entry Fault)) → i < n → IsItem (entry i) x
-    → ((rest : List (Result (LinkView A) Error)) → AreItems (items_from entry i (n - i)) rest → AreItems all (items ++ rest))
-    → (rest : List (Result (LinkView A) Error)) → AreItems (items_from entry (i + 1) (n - (i + 1))) rest → AreItems all ((items ++ x ∷ []) ++ rest)
+pub one_more_item : {A : Type 0} (entry : ℕ → Result FatEntry Fault) (i n : ℕ) (items : List (Result (LinkView A) Error)) (x : Result (LinkView A) Error) (all : List (Result FatEntry Fault)) → i < n → IsViewItem (entry i) x
+    → ((rest : List (Result (LinkView A) Error)) → AreViewItems (items_from entry i (n - i)) rest → AreViewItems all (items ++ rest))
+    → (rest : List (Result (LinkView A) Error)) → AreViewItems (items_from entry (i + 1) (n - (i + 1))) rest → AreViewItems all ((items ++ x ∷ []) ++ rest)
 one_more_item entry i n items x all inside is go rest later =
-    subst (AreItems all) (sym (append_assoc items (x ∷ []) rest))
-    (go (x ∷ rest) (subst (λ (es : List (Result Entry Fault)). AreItems es (x ∷ rest)) (sym (items_from-first entry i n inside)) (is, later)))
+    subst (AreViewItems all) (sym (append_assoc items (x ∷ []) rest))
+    (go (x ∷ rest) (subst (λ (es : List (Result FatEntry Fault)). AreViewItems es (x ∷ rest)) (sym (items_from-first entry i n inside)) (is, later)))
 
 -- where none are left all are there
-pub all_items : {A : Type 0} (entry : ℕ → Result Entry Fault) (i n : ℕ) (items : List (Result (LinkView A) Error)) (all : List (Result Entry Fault)) → n ≤ i
-    → ((rest : List (Result (LinkView A) Error)) → AreItems (items_from entry i (n - i)) rest → AreItems all (items ++ rest)) → AreItems all items
+pub all_items : {A : Type 0} (entry : ℕ → Result FatEntry Fault) (i n : ℕ) (items : List (Result (LinkView A) Error)) (all : List (Result FatEntry Fault)) → n ≤ i
+    → ((rest : List (Result (LinkView A) Error)) → AreViewItems (items_from entry i (n - i)) rest → AreViewItems all (items ++ rest)) → AreViewItems all items
 all_items {A} entry i n items all past go =
     let none : n - i ≡ 0 = omega (arith, past) in
-    let no_items : AreItems {A = A} (items_from entry i (n - i)) [] = subst (λ (k : ℕ). AreItems {A = A} (items_from entry i k) []) (sym none) tt in
-    subst (AreItems all) (append-nil items) (go [] no_items)
+    let no_items : AreViewItems {A = A} (items_from entry i (n - i)) [] = subst (λ (k : ℕ). AreViewItems {A = A} (items_from entry i k) []) (sym none) tt in
+    subst (AreViewItems all) (append-nil items) (go [] no_items)

@@ -8,7 +8,7 @@ use Rattle.mach_base.specs.Fault.{Fault}
 use Rattle.mach_base.proofs.Binds.{same_ok}
 use Rattle.mach_base.proofs.Faults.{Stands-in}
 use Rattle.mach_parts.specs.declared.fat.FatArch.{FatArch}
-use Rattle.goblin_mach.specs.FatEntry.{Entry, image}
+use Rattle.goblin_mach.specs.FatEntry.{FatEntry, image}
 use Rattle.goblin_mach.specs.FatFile.{FatFile, fat_file_in, arches_in}
 use Rattle.goblin_mach.specs.Image.{Opens}
 use Rattle.goblin_mach.specs.View.{HasEntries, one_image, fat_table, ViewFault, of_file, of_table}
@@ -32,7 +32,7 @@ not_both : (r : Result (List FatArch) Fault) (f : Fault) → IsOk r → r ≡ Er
 not_both (Ok x) f ok is = cc
 not_both (Err e) f ok is = cc
 
-pub view_fault-excludes : (bytes : List ℕ) (f : Fault) (entries : List (Result Entry Fault)) → ViewFault bytes f → HasEntries bytes entries → ⊥
+pub view_fault-excludes : (bytes : List ℕ) (f : Fault) (entries : List (Result FatEntry Fault)) → ViewFault bytes f → HasEntries bytes entries → ⊥
 view_fault-excludes bytes _ entries (of_file f fault) (one_image opens other) =
     fault-excludes_mach bytes f fault (record { magic = let h = opens.2.lossy.header.room in omega arith; file = inr opens })
 view_fault-excludes bytes _ entries (of_file f fault) (fat_table file fat is table) =
@@ -43,7 +43,7 @@ view_fault-excludes bytes _ entries (of_table file f fat is bad) (fat_table othe
     let same : other ≡ file = same_ok (sym is_2 ∙ is) in
     not_both (arches_in file) f (subst (λ (x : FatFile). IsOk (arches_in x)) same table) bad
 
-pub ok_where_viewed : {X : Type 0} (r : Result X Error) (bytes : List ℕ) (entries : List (Result Entry Fault)) → IfErr r (Stands (ViewFault bytes)) → HasEntries bytes entries → IsOkUnlessMemory r
+pub ok_where_viewed : {X : Type 0} (r : Result X Error) (bytes : List ℕ) (entries : List (Result FatEntry Fault)) → IfErr r (Stands (ViewFault bytes)) → HasEntries bytes entries → IsOkUnlessMemory r
 ok_where_viewed (Ok x) bytes entries h has = tt
 ok_where_viewed (Err e) bytes entries h has = Stands-in (ViewFault bytes) (λ _. ⊥) e (λ f k. view_fault-excludes bytes f entries k has) h
 

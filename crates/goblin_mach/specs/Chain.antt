@@ -34,14 +34,14 @@ pub record IsChain (le : Endian) (bytes : List ℕ) (s : ℕ) (cs : List Command
   pub linked : IsLinked cs
 
 -- the place after the last of them, or s
-abbrev pub end_of : ℕ → List Command → ℕ
-end_of s [] = s
-end_of s (c ∷ []) = c.offset + cmdsize_of c
-end_of s (c ∷ d ∷ cs) = end_of s (d ∷ cs)
+abbrev pub chain_end : ℕ → List Command → ℕ
+chain_end s [] = s
+chain_end s (c ∷ []) = c.offset + cmdsize_of c
+chain_end s (c ∷ d ∷ cs) = chain_end s (d ∷ cs)
 
 -- A chain of n commands from s is broken: after fewer than n stands none, for this fault.
 pub record IsBroken (le : Endian) (bytes : List ℕ) (s n : ℕ) (f : Fault) : Type 0 where
   pub front : List Command
   pub chain : IsChain le bytes s front
   pub fewer : length front < n
-  pub fault : command_at le bytes (end_of s front) ≡ Err f
+  pub fault : command_at le bytes (chain_end s front) ≡ Err f

@@ -1,65 +1,76 @@
 -- The entries of a fat file: archives and images (`mach-o/fat.h`, `ar.h`).
-use Rattle.std.specs.Prelude.{◌≡◌, ℕ, List, length, take, nat_le, nat_lt, Result, Ok, Err, IfOk, IfErr, if◌then◌else◌}
-use Rattle.mach_base.specs.declared.error.Error.{Error}
-use Rattle.mach_base.specs.declared.hint.Hint.{Hint}
-use Rattle.mach_base.specs.declared.hint.Hint.TheVariants as hints
+use Rattle.std.specs.Prelude.{◌≡◌, ℕ, List, length, take, nat_le, nat_lt, Result, Ok, Err, IfOk, IfErr, if◌then◌else◌, ◌-◌, [], ◌∷◌, Option, MatchOption}
 use Rattle.mach_base.specs.Answer.{◌>>=◌, Stands, IsOkUnlessMemory}
 use Rattle.mach_base.specs.Fault.{Fault, malformed}
+use Rattle.mach_base.specs.declared.error.Error.{Error}
+use Rattle.mach_base.specs.declared.hint.Hint.TheVariants as hints
+use Rattle.mach_base.specs.declared.hint.Hint.{Hint}
 use Rattle.mach_parts.specs.Fat.{part_of}
 use Rattle.mach_parts.specs.Items.{items_from}
-use Rattle.goblin_mach.specs.FatFile.{FatFile, arch_at}
+use Rattle.goblin_mach.specs.FatFile.{FatFile, arch_at, file_held}
 use Rattle.goblin_mach.specs.Image.{Opens, ImageFault}
+use Rattle.goblin_mach.specs.Magic.{hint_in}
 use Rattle.goblin_mach.specs.OpenImage.{IsImage}
-use Rattle.goblin_mach.specs.Peek.{hint_in}
-use Rattle.goblin_mach.specs.declared.fat_file.entry.SingleArch.{SingleArch}
 use Rattle.goblin_mach.specs.declared.fat_file.entry.SingleArch.TheVariants.{MachO, Archive}
+use Rattle.goblin_mach.specs.declared.fat_file.entry.SingleArch.{SingleArch}
+use Rattle.goblin_mach.specs.declared.fat_file.multi_arch.SingleArchIterator.{SingleArchIterator}
 
 -- an entry: the bytes of an archive, or the bytes at whose front an image is to open
-pub data Entry : Type 0 where
-  archive : List ℕ → Entry
-  image : List ℕ → Entry
+pub data FatEntry : Type 0 where
+  archive : List ℕ → FatEntry
+  image : List ℕ → FatEntry
 
-abbrev pub entry_by : Hint → List ℕ → Result Entry Fault
+abbrev pub entry_by : Hint → List ℕ → Result FatEntry Fault
 entry_by hints.Archive slice = Ok (archive slice)
 entry_by (hints.Mach said) slice = Ok (image slice)
 entry_by (hints.MachFat count) slice = Err malformed
 entry_by (hints.Unknown n) slice = Err malformed
 
 -- what the bytes of an entry are, by what their first 16 hint at; fewer are no entry
-abbrev pub entry_of : List ℕ → Result Entry Fault
-entry_of slice = if nat_le 16 (length slice) then entry_by (hint_in (take 16 slice)) slice else Err malformed
+abbrev pub fat_entry_of : List ℕ → Result FatEntry Fault
+fat_entry_of slice = if nat_le 16 (length slice) then entry_by (hint_in (take 16 slice)) slice else Err malformed
 
 -- Entry i of a fat file: it is below the count, its record is there, and its slice is an archive or
 -- begins as an image.
-abbrev pub entry_at : FatFile → ℕ → Result Entry Fault
+abbrev pub entry_at : FatFile → ℕ → Result FatEntry Fault
 entry_at file i =
-    if nat_lt i file.narches then (arch_at file.bytes i >>= λ arch. entry_of (part_of file.bytes arch.offset arch.size))
+    if nat_lt i file.narches then (arch_at file.bytes i >>= λ arch. fat_entry_of (part_of file.bytes arch.offset arch.size))
     else Err malformed
 
 -- all entries, in order
-abbrev pub entries_of : FatFile → List (Result Entry Fault)
+abbrev pub entries_of : FatFile → List (Result FatEntry Fault)
 entries_of file = items_from (entry_at file) 0 file.narches
 
 -- an entry as it was opened: an archive's bytes, or the image that opens strictly at 0 of its bytes
-abbrev pub IsEntry : {A : Type 0} → Entry → SingleArch A → Type 0
+abbrev pub IsEntry : {A : Type 0} → FatEntry → SingleArch A → Type 0
 IsEntry (archive slice) (Archive bytes) = bytes.now ≡ slice
 IsEntry (archive slice) (MachO m) = ⊥
 IsEntry (image slice) (Archive bytes) = ⊥
 IsEntry (image slice) (MachO m) = IsImage slice 0 m
 
 -- an archive always opens
-abbrev pub EntryOpens : Result Entry Fault → Type 0
+abbrev pub EntryOpens : Result FatEntry Fault → Type 0
 EntryOpens (Ok (archive slice)) = Unit {0}
 EntryOpens (Ok (image slice)) = Opens slice 0
 EntryOpens (Err f) = ⊥
 
-pub data EntryFault : Result Entry Fault → Fault → Type 0 where
-  no_entry : (f : Fault) → EntryFault (Err f) f
-  no_image : (slice : List ℕ) (f : Fault) → ImageFault slice 0 f → EntryFault (Ok (image slice)) f
+pub data FatEntryFault : Result FatEntry Fault → Fault → Type 0 where
+  no_entry : (f : Fault) → FatEntryFault (Err f) f
+  no_image : (slice : List ℕ) (f : Fault) → ImageFault slice 0 f → FatEntryFault (Ok (image slice)) f
 
 -- How an answer stands to an entry: it is the entry as it opens, want of memory aside it is that wherever
 -- the entry opens, and each error is a fault that stands in the entry.
-pub record OpensEntry {A : Type 0} (entry : Result Entry Fault) (answer : Result (SingleArch A) Error) : Type 0 where
-  pub opened : IfOk answer (λ x. (e : Entry) × (entry ≡ Ok e) × IsEntry e x)
+pub record OpensEntry {A : Type 0} (entry : Result FatEntry Fault) (answer : Result (SingleArch A) Error) : Type 0 where
+  pub opened : IfOk answer (λ x. (e : FatEntry) × (entry ≡ Ok e) × IsEntry e x)
   pub only : EntryOpens entry → IsOkUnlessMemory answer
-  pub refused : IfErr answer (Stands (EntryFault entry))
+  pub refused : IfErr answer (Stands (FatEntryFault entry))
+
+-- the entries that are left
+abbrev pub entries_left : {A : Type 0} → SingleArchIterator A → List (Result FatEntry Fault)
+entries_left it = items_from (entry_at (file_held it.file.now)) it.index (it.file.now.narches - it.index)
+
+-- the answer is the first of the entries that were left, as it opens, and the others are left now
+abbrev pub GivesEntry : {A : Type 0} → SingleArchIterator A → Option (Result (SingleArch A) Error) → SingleArchIterator A → Type 0
+GivesEntry it item after =
+    MatchOption item ((entries_left it ≡ []) × (entries_left after ≡ []))
+    (λ answer. (entry : Result FatEntry Fault) × (entries_left it ≡ entry ∷ entries_left after) × OpensEntry entry answer)

@@ -1,14 +1,16 @@
 -- A fat file: a header, and a table of records of 20 bytes behind it (`mach-o/fat.h`).
-use Rattle.std.specs.Prelude.{◌==◌, ◌≡◌, ℕ, ◌*◌, ◌/◌, ◌<◌, List, [], ◌∷◌, length, drop, codes, nat_le, Bool, true, false, Option, Some, None, Result, Ok, Err, if◌then◌else◌}
-use Rattle.mach_base.specs.declared.context.Endian.TheVariants.{Big}
-use Rattle.mach_base.specs.declared.error.Error.{Error}
+use Rattle.std.specs.Prelude.{◌==◌, ◌≡◌, ℕ, ◌*◌, ◌/◌, ◌<◌, List, [], ◌∷◌, length, drop, codes, nat_le, Bool, true, false, Option, Some, None, Result, Ok, Err, if◌then◌else◌, ◌-◌}
 use Rattle.mach_base.specs.Answer.{◌>>=◌}
 use Rattle.mach_base.specs.Fault.{Fault, too_short, fault_of}
 use Rattle.mach_base.specs.Number.{number, bounded, place_after}
 use Rattle.mach_base.specs.Record.{record_at}
+use Rattle.mach_base.specs.declared.context.Endian.TheVariants.{Big}
+use Rattle.mach_base.specs.declared.error.Error.{Error}
 use Rattle.mach_parts.specs.Fat.{fat_arch_fields, fat_arch_of_values}
-use Rattle.mach_parts.specs.Items.{items_from, all_read}
+use Rattle.mach_parts.specs.Items.{items_from, all_read, read_as}
 use Rattle.mach_parts.specs.declared.fat.FatArch.{FatArch}
+use Rattle.goblin_mach.specs.declared.fat_file.arches.FatArchIterator.{FatArchIterator}
+use Rattle.goblin_mach.specs.declared.fat_file.multi_arch.MultiArch.{MultiArch}
 
 -- a fat file: its bytes, and how many entries it is said to have
 pub record FatFile : Type 0 where
@@ -67,3 +69,15 @@ NoneTaken Made Answers file = (k : ℕ) → k < file.narches → IsAsked Made An
 -- the question may be asked about each entry below the count
 abbrev pub MayAsk : {E : Type 0} → (Error → E → Type 0) → (Result FatArch E → Type 0) → FatFile → Type 0
 MayAsk {E} Made May file = (i : ℕ) (about : Result FatArch E) → i < file.narches → IsAbout Made file.bytes i about → May about
+
+-- the fat file that a container holds
+abbrev pub file_held : {A : Type 0} → MultiArch A → FatFile
+file_held m = record { bytes = m.bytes.now; narches = m.narches }
+
+-- a record, as it was answered
+abbrev pub arch_read : Result FatArch Error → Result FatArch Fault
+arch_read item = read_as (λ arch. arch) item
+
+-- the records that are left
+abbrev pub archs_left : FatArchIterator → List (Result FatArch Fault)
+archs_left it = items_from (arch_at it.bytes.now) it.index (it.narches - it.index)

@@ -7,13 +7,11 @@ use Rattle.mach_base.specs.Number.{number_at}
 use Rattle.mach_load.specs.Command.{Command}
 use Rattle.mach_parts.specs.Header.{header_size}
 use Rattle.goblin_mach.specs.Chain.{IsChain, IsBroken}
-use Rattle.goblin_mach.specs.Entry.{pointer_by, entry_in}
+use Rattle.goblin_mach.specs.EntryPoint.{pointer_by, entry_point_in}
 use Rattle.goblin_mach.specs.FatFile.{fat_file_in}
-use Rattle.goblin_mach.specs.ImageSegments.{segment_by}
+use Rattle.goblin_mach.specs.Subjects.{segment_by, library_by, id_by, run_path_by, table_by}
 use Rattle.goblin_mach.specs.Magic.{magic_at, cputype_at, ncmds_at, sizeofcmds_at}
-use Rattle.goblin_mach.specs.Names.{library_by, id_by, run_path_by}
 use Rattle.goblin_mach.specs.Readings.{AllRead, IsUnread}
-use Rattle.goblin_mach.specs.Tables.{table_by}
 
 -- the magic at o is one of an image, of which ctx speaks, and 32 bytes are there
 pub record HasHeader (bytes : List ℕ) (o : ℕ) (ctx : Ctx) : Type 0 where
@@ -39,7 +37,7 @@ pub record LossyOpensAs (bytes : List ℕ) (o : ℕ) (ctx : Ctx) (cs : List Comm
   pub counts : CountsFit bytes o ctx
   pub chain : HasChain bytes o ctx cs
   pub threads : AllRead (pointer_by (cputype_at ctx bytes o)) cs
-  pub entry : IsOk (entry_in (cputype_at ctx bytes o) cs)
+  pub entry : IsOk (entry_point_in (cputype_at ctx bytes o) cs)
 
 -- All segments have their data, all names, ids and run paths are texts, and all symbol tables meet
 -- their condition.
@@ -87,8 +85,8 @@ pub data LossyFault (bytes : List ℕ) (o : ℕ) : Fault → Type 0 where
       → IsBroken ctx.le bytes (o + header_size ctx.container) (ncmds_at ctx bytes o) f → LossyFault bytes o f
   unknown_thread : (ctx : Ctx) (front : List Command) (f : Fault) → HasFront bytes o ctx front
       → IsUnread (pointer_by (cputype_at ctx bytes o)) front f → LossyFault bytes o f
-  no_entry : (ctx : Ctx) (cs : List Command) (f : Fault) → HasCommands bytes o ctx cs
-      → entry_in (cputype_at ctx bytes o) cs ≡ Err f → LossyFault bytes o f
+  no_entry_point : (ctx : Ctx) (cs : List Command) (f : Fault) → HasCommands bytes o ctx cs
+      → entry_point_in (cputype_at ctx bytes o) cs ≡ Err f → LossyFault bytes o f
 
 -- A command among these can't be read as its subject asks, for this fault; lossy mode passes it over.
 pub data IsUnreadable (ctx : Ctx) (bytes : List ℕ) (cs : List Command) : Fault → Type 0 where
@@ -112,23 +110,15 @@ pub record IsFat (bytes : List ℕ) : Type 0 where
   pub magic : HasFatMagic bytes
   pub header : 8 ≤ length bytes
 
--- The bytes open as a file: four bytes for a magic, and a fat file, or an image at 0.
-pub record MachOpens (bytes : List ℕ) : Type 0 where
+-- The bytes open as a file, with its image in a mode: `Opens` or `LossyOpens`. They are four bytes for a
+-- magic, and a fat file, or an image at 0.
+pub record MachOpens (InMode : List ℕ → ℕ → Type 0) (bytes : List ℕ) : Type 0 where
   pub magic : 4 ≤ length bytes
-  pub file : IsFat bytes ⊎ Opens bytes 0
+  pub file : IsFat bytes ⊎ InMode bytes 0
 
--- Behind the magic of a fat file its header may be short; any other magic is one of an image or of none.
-pub data MachFault (bytes : List ℕ) : Fault → Type 0 where
-  no_room : length bytes < 4 → MachFault bytes malformed
-  of_fat : (f : Fault) → HasFatMagic bytes → fat_file_in bytes ≡ Err f → MachFault bytes f
-  of_image : (f : Fault) → ¬ (HasFatMagic bytes) → ImageFault bytes 0 f → MachFault bytes f
-
--- The same in lossy mode.
-pub record LossyMachOpens (bytes : List ℕ) : Type 0 where
-  pub magic : 4 ≤ length bytes
-  pub file : IsFat bytes ⊎ LossyOpens bytes 0
-
-pub data LossyMachFault (bytes : List ℕ) : Fault → Type 0 where
-  no_lossy_room : length bytes < 4 → LossyMachFault bytes malformed
-  of_lossy_fat : (f : Fault) → HasFatMagic bytes → fat_file_in bytes ≡ Err f → LossyMachFault bytes f
-  of_lossy_image : (f : Fault) → ¬ (HasFatMagic bytes) → LossyFault bytes 0 f → LossyMachFault bytes f
+-- A fault stands where they are opened, with those of an image in a mode: `ImageFault` or `LossyFault`. Behind
+-- the magic of a fat file its header may be short; any other magic is one of an image or of none.
+pub data MachFault (InMode : List ℕ → ℕ → Fault → Type 0) (bytes : List ℕ) : Fault → Type 0 where
+  no_room : length bytes < 4 → MachFault InMode bytes malformed
+  of_fat : (f : Fault) → HasFatMagic bytes → fat_file_in bytes ≡ Err f → MachFault InMode bytes f
+  of_image : (f : Fault) → ¬ (HasFatMagic bytes) → InMode bytes 0 f → MachFault InMode bytes f

@@ -1,8 +1,8 @@
--- An image as it was opened.
+-- An image as it was opened, and as its fields were read.
 use Rattle.std.specs.Prelude.{◌↔◌, ◌≡◌, ℕ, List, map, IsTrue, Ok, Option, option_map}
+use Rattle.mach_base.specs.declared.context.Container.TheVariants.{Big}
 use Rattle.mach_base.specs.declared.context.Ctx.{Ctx}
 use Rattle.mach_base.specs.declared.context.Endian.TheVariants.{Little}
-use Rattle.mach_base.specs.declared.context.Container.TheVariants.{Big}
 use Rattle.mach_load.specs.Command.{Command}
 use Rattle.mach_load.specs.Variants.{command_of}
 use Rattle.mach_parts.specs.Header.{IsHeader}
@@ -12,21 +12,18 @@ use Rattle.mach_parts.specs.SymbolViews.{table_of}
 use Rattle.mach_dyld.specs.Exports.{texts, text_in}
 use Rattle.mach_dyld.specs.Imports.{BindRanges}
 use Rattle.mach_dyld.specs.TrieRange.{TrieRange}
-use Rattle.goblin_mach.specs.Entry.{entry_in}
-use Rattle.goblin_mach.specs.FatFile.{fat_file_in}
-use Rattle.goblin_mach.specs.FatViews.{file_held}
+use Rattle.goblin_mach.specs.EntryPoint.{entry_point_in}
+use Rattle.goblin_mach.specs.FatFile.{fat_file_in, file_held}
 use Rattle.goblin_mach.specs.Image.{OpensAs, LossyOpensAs, HasFatMagic}
-use Rattle.goblin_mach.specs.ImageBinds.{binds_in}
-use Rattle.goblin_mach.specs.ImageSegments.{segment_by, lossy_segment_by}
-use Rattle.goblin_mach.specs.ImageTrie.{trie_in}
 use Rattle.goblin_mach.specs.Magic.{cputype_at}
-use Rattle.goblin_mach.specs.Names.{name_in, libs_in, run_path_by}
 use Rattle.goblin_mach.specs.Readings.{read_of}
-use Rattle.goblin_mach.specs.Tables.{table_in}
-use Rattle.goblin_mach.specs.declared.image.macho.MachO.{MachO}
-use Rattle.goblin_mach.specs.declared.image.mach.Mach.{Mach}
+use Rattle.goblin_mach.specs.Subjects.{binds_in, segment_by, lossy_segment_by, trie_in, own_name_in, libs_in, run_path_by, table_in}
 use Rattle.goblin_mach.specs.declared.fat_file.multi_arch.MultiArch.{MultiArch}
+use Rattle.goblin_mach.specs.declared.image.fields.Fields.{Fields}
 use Rattle.goblin_mach.specs.declared.image.mach.Mach.TheVariants.{Fat, Binary}
+use Rattle.goblin_mach.specs.declared.image.mach.Mach.{Mach}
+use Rattle.goblin_mach.specs.declared.image.macho.MachO.{MachO}
+use Rattle.goblin_mach.specs.declared.image.opened.Opened.{Opened}
 
 -- the range of the export trie that an image holds, if it holds one
 abbrev pub trie_held : {A : Type 0} → MachO A → Option TrieRange
@@ -61,8 +58,8 @@ pub record HasFields {A : Type 0} (bytes : List ℕ) (o : ℕ) (ctx : Ctx) (part
   pub symbols : option_map table_of m.symbols ≡ table_in ctx bytes (commands_held m)
   pub libs : texts m.libs.items ≡ libs_in bytes (commands_held m)
   pub rpaths : texts m.rpaths.items ≡ read_of (run_path_by bytes) (commands_held m)
-  pub entry : entry_in (cputype_at ctx bytes o) (commands_held m) ≡ Ok (record { address = m.entry; old_style = m.old_style_entry })
-  pub name : text_in m.name ≡ name_in bytes (commands_held m)
+  pub entry : entry_point_in (cputype_at ctx bytes o) (commands_held m) ≡ Ok (record { address = m.entry; old_style = m.old_style_entry })
+  pub name : text_in m.name ≡ own_name_in bytes (commands_held m)
   pub trie : trie_held m ≡ trie_in bytes (commands_held m)
   pub binds : binds_held m ≡ binds_in bytes (commands_held m)
   pub bytes_is : bytes_held m ≡ bytes
@@ -85,12 +82,52 @@ pub record IsFatMach {A : Type 0} (bytes : List ℕ) (m : MultiArch A) : Type 0 
   pub magic : HasFatMagic bytes
   pub file : fat_file_in bytes ≡ Ok (file_held m)
 
--- the file is a fat file, or the image at 0
-abbrev pub IsMach : {A : Type 0} → List ℕ → Mach A → Type 0
-IsMach bytes (Fat m) = IsFatMach bytes m
-IsMach bytes (Binary m) = IsImage bytes 0 m
+-- the file is a fat file, or the image at 0 as it opens in a mode: `IsImage` or `IsLossyImage`
+abbrev pub IsMach : {A : Type 0} → (List ℕ → ℕ → MachO A → Type 0) → List ℕ → Mach A → Type 0
+IsMach InMode bytes (Fat m) = IsFatMach bytes m
+IsMach InMode bytes (Binary m) = InMode bytes 0 m
 
--- the same in lossy mode
-abbrev pub IsLossyMach : {A : Type 0} → List ℕ → Mach A → Type 0
-IsLossyMach bytes (Fat m) = IsFatMach bytes m
-IsLossyMach bytes (Binary m) = IsLossyImage bytes 0 m
+-- the commands that were read
+abbrev pub commands_of : {A : Type 0} → Opened A → List Command
+commands_of x = map command_of x.load_commands.items
+
+-- each is a filter or a last over the commands, the segments being these
+pub record AreFields {A : Type 0} (ctx : Ctx) (bytes : List ℕ) (parts : List SegmentView) (cs : List Command) (f : Fields A) : Type 0 where
+  pub segments : map segment_view (segments_in f.segments) ≡ parts
+  pub symbols : option_map table_of f.symbols ≡ table_in ctx bytes cs
+  pub libs : texts f.libs.items ≡ libs_in bytes cs
+  pub rpaths : texts f.rpaths.items ≡ read_of (run_path_by bytes) cs
+  pub name : text_in f.name ≡ own_name_in bytes cs
+
+-- the image of what was read: these fields, with the trie and the binds of the commands
+pub record IsMadeOf {A : Type 0} (bytes : List ℕ) (x : Opened A) (f : Fields A) (m : MachO A) : Type 0 where
+  pub commands : m.load_commands ≡ x.load_commands
+  pub header : m.header ≡ x.header
+  pub little_endian : IsTrue m.little_endian ↔ (x.ctx.le ≡ Little)
+  pub is_64 : IsTrue m.is_64 ↔ (x.ctx.container ≡ Big)
+  pub segments : m.segments ≡ f.segments
+  pub symbols : m.symbols ≡ f.symbols
+  pub libs : m.libs ≡ f.libs
+  pub rpaths : m.rpaths ≡ f.rpaths
+  pub entry : m.entry ≡ x.address
+  pub old_style_entry : m.old_style_entry ≡ x.old_style_entry
+  pub name : m.name ≡ f.name
+  pub trie : trie_held m ≡ trie_in bytes (commands_of x)
+  pub binds : binds_held m ≡ binds_in bytes (commands_of x)
+  pub bytes_is : bytes_held m ≡ bytes
+  pub ctx_is : ctx_held m ≡ x.ctx
+
+pub record SameFields {A B : Type 0} (m : MachO A) (n : MachO B) : Type 0 where
+  pub header : m.header ≡ n.header
+  pub commands : commands_held m ≡ commands_held n
+  pub segments : segments_held m ≡ segments_held n
+  pub symbols : option_map table_of m.symbols ≡ option_map table_of n.symbols
+  pub libs : texts m.libs.items ≡ texts n.libs.items
+  pub rpaths : texts m.rpaths.items ≡ texts n.rpaths.items
+  pub entry : m.entry ≡ n.entry
+  pub old_style_entry : m.old_style_entry ≡ n.old_style_entry
+  pub name : text_in m.name ≡ text_in n.name
+  pub little_endian : IsTrue m.little_endian ↔ IsTrue n.little_endian
+  pub is_64 : IsTrue m.is_64 ↔ IsTrue n.is_64
+  pub trie : trie_held m ≡ trie_held n
+  pub binds : binds_held m ≡ binds_held n

@@ -1,58 +1,91 @@
 -- What a whole file links: the lists of its images, and its archives (`mach-o/fat.h`, dyld).
-use Rattle.std.specs.Prelude.{◌≡◌, ◌⊎◌, ℕ, List, [], ◌∷◌, map, Result, Ok, Err, IsOk}
-use Rattle.mach_base.specs.declared.context.Ctx.{Ctx}
+use Rattle.std.specs.Prelude.{◌≡◌, ◌⊎◌, ℕ, List, [], ◌∷◌, Result, Ok, Err, IsOk}
 use Rattle.mach_base.specs.Context.{pointer_size}
-use Rattle.mach_base.specs.Fault.{Fault}
-use Rattle.mach_load.specs.Command.{Command}
-use Rattle.mach_parts.specs.declared.segment.Segment.{Segment}
-use Rattle.mach_parts.specs.Segment.{segment_view}
+use Rattle.mach_base.specs.Fault.{Fault, bad_magic, malformed, too_short, fault_of_scroll}
+use Rattle.mach_base.specs.declared.error.Error.TheVariants as errors
+use Rattle.mach_base.specs.declared.error.Error.{Error}
+use Rattle.mach_parts.specs.Segments.{segments_in}
+use Rattle.mach_dyld.specs.BindViews.{imports_seen}
+use Rattle.mach_dyld.specs.Exports.{texts, entries}
 use Rattle.mach_dyld.specs.Imports.{Import}
 use Rattle.mach_dyld.specs.Trie as trie
-use Rattle.goblin_mach.specs.FatEntry.{Entry, image, entries_of, EntryFault}
+use Rattle.goblin_mach.specs.Facts.{HasExports, HasExportsFault, HasImports, HasImportsFault}
+use Rattle.goblin_mach.specs.FatEntry.{FatEntry, image, entries_of, FatEntryFault, archive}
 use Rattle.goblin_mach.specs.FatFile.{FatFile, fat_file_in, arches_in}
-use Rattle.goblin_mach.specs.Image.{OpensAs, Opens, HasFatMagic, MachFault}
-use Rattle.goblin_mach.specs.ImageBinds.{binds_in, ListsImageImports, ImageImportsFault}
-use Rattle.goblin_mach.specs.ImageSegments.{segment_by}
-use Rattle.goblin_mach.specs.ImageTrie.{trie_in, ListsImageExports, ImageExportsFault}
-use Rattle.goblin_mach.specs.Names.{libs_in}
-use Rattle.goblin_mach.specs.Readings.{read_of}
-
--- some segments as they are held, which are those of the commands
-abbrev pub AreSegments : Ctx → List ℕ → List Command → List Segment → Type 0
-AreSegments ctx bytes cs segments = map segment_view segments ≡ read_of (segment_by ctx bytes) cs
+use Rattle.goblin_mach.specs.Image.{Opens, ImageFault, HasFatMagic, MachFault}
+use Rattle.goblin_mach.specs.OpenImage.{trie_held, binds_held, ctx_held}
+use Rattle.goblin_mach.specs.Subjects.{ListsImageImports, ImageImportsFault, ListsImageExports, ImageExportsFault}
+use Rattle.goblin_mach.specs.declared.image.macho.MachO.{MachO}
+use Rattle.goblin_mach.specs.declared.view.LinkView.TheVariants.{Image, Archive}
+use Rattle.goblin_mach.specs.declared.view.LinkView.{LinkView}
+use Rattle.goblin_mach.specs.declared.view.Links.{Links}
 
 -- These are the exports and the imports of the image at 0, which opens strictly.
 pub record LinksImage (bytes : List ℕ) (exports : List trie.Entry) (imports : List Import) : Type 0 where
-  pub ctx : Ctx
-  pub cs : List Command
-  pub segments : List Segment
-  pub opens : OpensAs bytes 0 ctx cs
-  pub are_segments : AreSegments ctx bytes cs segments
-  pub lists_exports : ListsImageExports (trie_in bytes cs) (libs_in bytes cs) exports
-  pub lists_imports : ListsImageImports (binds_in bytes cs) (pointer_size ctx.container) (libs_in bytes cs) segments imports
+  pub opens : Opens bytes 0
+  pub exports_are : HasExports bytes 0 exports
+  pub imports_are : HasImports bytes 0 imports
 
 -- A fault stands in the exports or in the imports of the image at 0, which opens strictly.
 pub record LinksFault (bytes : List ℕ) (f : Fault) : Type 0 where
-  pub ctx : Ctx
-  pub cs : List Command
-  pub segments : List Segment
-  pub opens : OpensAs bytes 0 ctx cs
-  pub are_segments : AreSegments ctx bytes cs segments
-  pub fault : ImageExportsFault (trie_in bytes cs) (libs_in bytes cs) f
-      ⊎ ImageImportsFault (binds_in bytes cs) (pointer_size ctx.container) (libs_in bytes cs) segments f
+  pub opens : Opens bytes 0
+  pub fault : HasExportsFault bytes 0 f ⊎ HasImportsFault bytes 0 f
 
 -- A fault stands in an item: in the entry, or in a list of the image that it is.
-pub data ItemFault (entry : Result Entry Fault) : Fault → Type 0 where
-  of_entry : (f : Fault) → EntryFault entry f → ItemFault entry f
+pub data ItemFault (entry : Result FatEntry Fault) : Fault → Type 0 where
+  of_entry : (f : Fault) → FatEntryFault entry f → ItemFault entry f
   of_links : (slice : List ℕ) (f : Fault) → entry ≡ Ok (image slice) → LinksFault slice f → ItemFault entry f
 
 -- These are the entries of a whole file: that of its one image, which opens, or those of a fat file whose
 -- table lies in the bytes.
-pub data HasEntries (bytes : List ℕ) : List (Result Entry Fault) → Type 0 where
+pub data HasEntries (bytes : List ℕ) : List (Result FatEntry Fault) → Type 0 where
   one_image : Opens bytes 0 → ¬ (HasFatMagic bytes) → HasEntries bytes (Ok (image bytes) ∷ [])
   fat_table : (file : FatFile) → HasFatMagic bytes → fat_file_in bytes ≡ Ok file → IsOk (arches_in file) → HasEntries bytes (entries_of file)
 
 -- A fault stands where a whole file is viewed: where it is opened, or in the table of a fat file.
 pub data ViewFault (bytes : List ℕ) : Fault → Type 0 where
-  of_file : (f : Fault) → MachFault bytes f → ViewFault bytes f
+  of_file : (f : Fault) → MachFault ImageFault bytes f → ViewFault bytes f
   of_table : (file : FatFile) (f : Fault) → HasFatMagic bytes → fat_file_in bytes ≡ Ok file → arches_in file ≡ Err f → ViewFault bytes f
+
+-- the two lists are those of an image as it is held
+pub record LinksHeld {A B : Type 0} (m : MachO A) (l : Links B) : Type 0 where
+  pub exports : ListsImageExports (trie_held m) (texts m.libs.items) (entries l.exports.items)
+  pub imports : ListsImageImports (binds_held m) (pointer_size (ctx_held m).container) (texts m.libs.items) (segments_in m.segments) (imports_seen l.imports.items)
+
+-- a fault stands in one of them
+abbrev pub FaultHeld : {A : Type 0} → MachO A → Fault → Type 0
+FaultHeld m f =
+    ImageExportsFault (trie_held m) (texts m.libs.items) f
+    ⊎ ImageImportsFault (binds_held m) (pointer_size (ctx_held m).container) (texts m.libs.items) (segments_in m.segments) f
+
+-- what an item shows of an entry: an archive's bytes, or the two lists of an image
+abbrev pub Shows : {A : Type 0} → FatEntry → LinkView A → Type 0
+Shows (archive slice) (Archive bytes) = bytes.now ≡ slice
+Shows (archive slice) (Image exports imports) = ⊥
+Shows (image slice) (Archive bytes) = ⊥
+Shows (image slice) (Image exports imports) = LinksImage slice (entries exports.items) (imports_seen imports.items)
+
+-- the error tells of a fault that stands; want of memory is told of the whole file alone
+abbrev pub Tells : (Fault → Type 0) → Error → Type 0
+Tells IsFault (errors.Malformed msg) = IsFault malformed
+Tells IsFault (errors.BadMagic magic) = IsFault (bad_magic magic)
+Tells IsFault (errors.Scroll e) = IsFault (fault_of_scroll e)
+Tells IsFault (errors.BufferTooShort count what) = IsFault (too_short count what.now)
+Tells IsFault (errors.Memory e) = ⊥
+
+-- it is no want of memory
+abbrev pub IsTold : Error → Type 0
+IsTold (errors.Memory e) = ⊥
+IsTold _ = Unit {0}
+
+-- an item of the view is that of an entry, or tells of a fault that stands in it
+abbrev pub IsViewItem : {A : Type 0} → Result FatEntry Fault → Result (LinkView A) Error → Type 0
+IsViewItem entry (Ok view) = (e : FatEntry) × (entry ≡ Ok e) × Shows e view
+IsViewItem entry (Err e) = Tells (ItemFault entry) e
+
+-- there is an item for each entry, in order
+abbrev pub AreViewItems : {A : Type 0} → List (Result FatEntry Fault) → List (Result (LinkView A) Error) → Type 0
+AreViewItems [] [] = Unit {0}
+AreViewItems [] (item ∷ items) = ⊥
+AreViewItems (entry ∷ entries) [] = ⊥
+AreViewItems (entry ∷ entries) (item ∷ items) = IsViewItem entry item × AreViewItems entries items

@@ -2,4 +2,5 @@
 
 pub mod arches;
 pub mod entry;
+pub mod laws;
 pub mod multi_arch;

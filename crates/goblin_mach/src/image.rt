@@ -2,6 +2,8 @@
 
 pub mod commands;
 pub mod entry;
+pub mod exported;
+pub mod facts;
 pub mod fields;
 pub mod laws;
 pub mod mach;

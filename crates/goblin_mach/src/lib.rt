@@ -2,6 +2,7 @@
 //! in, and every refusal a fault that stands in them.
 #![tactic(auto)]
 
+mod byte_count;
 mod fat_file;
 mod image;
 pub mod laws;
@@ -10,6 +11,7 @@ mod view;
 pub use crate::fat_file::arches::FatArchIterator;
 pub use crate::fat_file::entry::SingleArch;
 pub use crate::fat_file::multi_arch::{MultiArch, SingleArchIterator};
+pub use crate::image::exported::find_export;
 pub use crate::image::mach::Mach;
 pub use crate::image::macho::MachO;
 pub use crate::image::magic::{parse_magic_and_ctx, peek, peek_bytes};

@@ -3,12 +3,12 @@
 ghost use Rattle.std.specs.Prelude.{◌≡◌, ℕ, List, Result, IfOk, IfErr, Ok};
 ghost use Rattle.mach_base.specs.Fault.{Fault};
 ghost use Rattle.mach_base.specs.Answer.{Stands, IsOkUnlessMemory};
-ghost use Rattle.goblin_mach.specs.FatEntry.{Entry, entry_at, entries_of, image};
-ghost use Rattle.goblin_mach.specs.FatViews.{file_held};
+ghost use Rattle.goblin_mach.specs.FatEntry.{FatEntry, entry_at, entries_of, image};
+ghost use Rattle.goblin_mach.specs.FatFile.{file_held};
 ghost use Rattle.goblin_mach.specs.OpenImage.{IsImage};
-ghost use Rattle.goblin_mach.specs.View.{HasEntries, ViewFault};
-ghost use Rattle.goblin_mach.specs.ViewSeen.{LinksHeld, FaultHeld, IsTold, IsItem, AreItems};
+ghost use Rattle.goblin_mach.specs.View.{HasEntries, ViewFault, LinksHeld, FaultHeld, IsTold, IsViewItem, AreViewItems};
 
+use crate::byte_count::ByteCount;
 use crate::fat_file::entry::SingleArch;
 use crate::fat_file::multi_arch::MultiArch;
 use crate::image::mach::Mach;
@@ -17,10 +17,11 @@ use mach_base::{Error, Result};
 use mach_dyld::exports::Export;
 use mach_dyld::imports::Import;
 use std::alloc::{Allocator, Global};
+use std::fmt;
+use std::fmt::{Debug, Formatter, Write};
 
 /// What one image or archive links.
 #[derive(Drop)]
-#[derive_where(Debug)]
 pub enum LinkView<'a, A: Allocator = Global> {
     /// An image.
     Image {
@@ -31,6 +32,22 @@ pub enum LinkView<'a, A: Allocator = Global> {
     },
     /// An archive: its bytes.
     Archive(&'a [u8]),
+}
+
+impl<'a, A: Allocator> Debug for LinkView<'a, A> {
+    /// The two lists of an image, or of an archive only how many bytes it has.
+    fn fmt<W: Write>(&self, f: &mut Formatter<W>) -> fmt::Result {
+        match self {
+            LinkView::Image { exports, imports } => f
+                .debug_struct("Image")
+                .field("exports", exports)
+                .field("imports", imports)
+                .finish(),
+            LinkView::Archive(bytes) => {
+                f.debug_tuple("Archive").field(&ByteCount(bytes)).finish()
+            }
+        }
+    }
 }
 
 // The exports and the imports of an image.
@@ -69,7 +86,7 @@ fn image_item<'a, A: Allocator, B: Allocator + Clone>(
     alloc: B,
     opened: &MachO<'a, A>,
 ) -> Result<Result<LinkView<'a, B>>>
-    ensures item { (bytes : List ℕ) → IsImage bytes 0 opened.now → IfOk result (IsItem (Ok (image bytes))) }
+    ensures item { (bytes : List ℕ) → IsImage bytes 0 opened.now → IfOk result (IsViewItem (Ok (image bytes))) }
     ensures only { IsOkUnlessMemory result }
 {
     match links_of(alloc, opened) {
@@ -84,7 +101,7 @@ fn entry_item<'a, A: Allocator + Clone, B: Allocator + Clone>(
     container: &MultiArch<'a, A>,
     index: usize,
 ) -> Result<Result<LinkView<'a, B>>>
-    ensures item { IfOk result (IsItem (entry_at (file_held container.now) index)) }
+    ensures item { IfOk result (IsViewItem (entry_at (file_held container.now) index)) }
     ensures only { IsOkUnlessMemory result }
 {
     match container.get(index) {
@@ -99,7 +116,7 @@ fn entry_items<'a, A: Allocator + Clone, B: Allocator + Clone>(
     alloc: B,
     container: &MultiArch<'a, A>,
 ) -> Result<Vec<Result<LinkView<'a, B>>, B>>
-    ensures items { IfOk result (λ v. AreItems (entries_of (file_held container.now)) v.items) }
+    ensures items { IfOk result (λ v. AreViewItems (entries_of (file_held container.now)) v.items) }
     ensures only { IsOkUnlessMemory result }
 {
     let mut items = Vec::new(alloc.clone()?);
@@ -117,8 +134,8 @@ pub fn link_view<'a, A: Allocator + Clone>(
     alloc: A,
     bytes: &'a [u8],
 ) -> Result<Vec<Result<LinkView<'a, A>>, A>>
-    ensures viewed { IfOk result (λ v. (entries : List (Result Entry Fault)) × HasEntries bytes.now entries × AreItems entries v.items) }
-    ensures only { (entries : List (Result Entry Fault)) → HasEntries bytes.now entries → IsOkUnlessMemory result }
+    ensures viewed { IfOk result (λ v. (entries : List (Result FatEntry Fault)) × HasEntries bytes.now entries × AreViewItems entries v.items) }
+    ensures only { (entries : List (Result FatEntry Fault)) → HasEntries bytes.now entries → IsOkUnlessMemory result }
     ensures refused { IfErr result (Stands (ViewFault bytes.now)) }
 {
     match Mach::parse(alloc.clone()?, bytes)? {

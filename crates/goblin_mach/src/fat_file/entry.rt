@@ -1,15 +1,17 @@
 //! The entries of a fat file.
 
-ghost use Rattle.goblin_mach.specs.FatEntry.{OpensEntry, entry_of};
+ghost use Rattle.goblin_mach.specs.FatEntry.{OpensEntry, fat_entry_of};
 
+use crate::byte_count::ByteCount;
 use crate::image::macho::MachO;
 use crate::image::magic::peek_bytes;
 use mach_base::{Error, Hint, Result, take_hint_bytes};
 use std::alloc::{Allocator, Global};
+use std::fmt;
+use std::fmt::{Debug, Formatter, Write};
 
 /// An entry of a fat file.
 #[derive(Drop)]
-#[derive_where(Debug)]
 pub enum SingleArch<'a, A: Allocator = Global> {
     /// An image.
     MachO(MachO<'a, A>),
@@ -20,7 +22,7 @@ pub enum SingleArch<'a, A: Allocator = Global> {
 impl<'a, A: Allocator + Clone> SingleArch<'a, A> {
     /// Opens the entry of these bytes; an image is opened strictly.
     pub(crate) fn open(alloc: &A, bytes: &'a [u8]) -> Result<SingleArch<'a, A>>
-        ensures { OpensEntry (entry_of bytes.now) result }
+        ensures { OpensEntry (fat_entry_of bytes.now) result }
     {
         let Some(front) = take_hint_bytes(bytes) else {
             return Err(Error::Malformed("an entry has 16 bytes or more"));
@@ -30,6 +32,18 @@ impl<'a, A: Allocator + Clone> SingleArch<'a, A> {
             Hint::Mach(_) => Ok(SingleArch::MachO(MachO::parse(alloc.clone()?, bytes, 0)?)),
             Hint::MachFat(_) | Hint::Unknown(_) => {
                 Err(Error::Malformed("an entry is an image or an archive"))
+            }
+        }
+    }
+}
+
+impl<'a, A: Allocator> Debug for SingleArch<'a, A> {
+    /// The image, or of an archive only how many bytes it has.
+    fn fmt<W: Write>(&self, f: &mut Formatter<W>) -> fmt::Result {
+        match self {
+            SingleArch::MachO(image) => f.debug_tuple("MachO").field(image).finish(),
+            SingleArch::Archive(bytes) => {
+                f.debug_tuple("Archive").field(&ByteCount(bytes)).finish()
             }
         }
     }

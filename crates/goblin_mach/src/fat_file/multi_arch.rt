@@ -1,16 +1,16 @@
 //! A fat file as a whole.
 
-ghost use Rattle.std.specs.Prelude.{◌≡◌};
+ghost use Rattle.std.specs.Prelude.{◌≡◌, ◌<◌, ◌^◌, length};
 ghost use Rattle.mach_base.specs.Answer.{Reads};
-ghost use Rattle.goblin_mach.specs.FatFile.{fat_file_in, archs_of, IsAbout};
+ghost use Rattle.goblin_mach.specs.FatFile.{fat_file_in, archs_of, IsAbout, file_held, archs_left};
 ghost use Rattle.goblin_mach.specs.FatEntry.{OpensEntry, entry_at};
-ghost use Rattle.goblin_mach.specs.FatViews.{file_held, archs_left};
 
+use crate::byte_count::ByteCount;
 use crate::fat_file::arches::{FatArchIterator, arch_at};
 use crate::fat_file::entry::SingleArch;
 use mach_base::{Error, Result};
 use mach_parts::fat::{FatArch, FatHeader, SIZEOF_FAT_ARCH};
-use std::alloc::{Allocator, Global};
+use std::alloc::{AllocError, Allocator, Global};
 use std::fmt;
 use std::fmt::{Debug, Formatter, Write};
 
@@ -46,7 +46,8 @@ impl<'a, A: Allocator> MultiArch<'a, A> {
 
     /// The records of all entries in order, each or its error.
     pub fn iter_arches(&self) -> FatArchIterator<'a>
-        ensures { archs_left result ≡ archs_of (file_held self.now) }
+        ensures items { archs_left result ≡ archs_of (file_held self.now) }
+        ensures bounded { length (archs_left result) < 2 ^ 64 }
     {
         FatArchIterator::new(self.bytes, self.narches)
     }
@@ -82,7 +83,7 @@ impl<'a, A: Allocator + Clone> MultiArch<'a, A> {
     }
 
     ghost use Rattle.std.specs.Prelude.{IfSome, IfNone, ℕ};
-    ghost use Rattle.goblin_mach.specs.FatFile.{IsFirstTaken, NoneTaken, MayAsk};
+    ghost use Rattle.goblin_mach.specs.FatFile.{IsFirstTaken, NoneTaken, MayAsk, arches_in};
 
     /// The first entry whose record, or the error of reading it, `f` takes: `f` is asked about one after
     /// the other. None where it takes none. The closure says which error it is asked about, an `Error` or
@@ -105,7 +106,6 @@ impl<'a, A: Allocator + Clone> MultiArch<'a, A> {
     }
 
     ghost use Rattle.mach_base.specs.Answer.{Gives};
-    ghost use Rattle.goblin_mach.specs.FatFile.{arches_in};
 
     /// The records of all entries, in order. More entries than the bytes could hold are
     /// `BufferTooShort`; else the first unreadable record refuses them all.
@@ -128,8 +128,7 @@ impl<'a, 'b, A: Allocator + Clone> IntoIterator for &'b MultiArch<'a, A> {
 
     type IntoIter = SingleArchIterator<'a, 'b, A>;
 
-    ghost use Rattle.goblin_mach.specs.FatEntry.{entries_of};
-    ghost use Rattle.goblin_mach.specs.FatEntryViews.{entries_left};
+    ghost use Rattle.goblin_mach.specs.FatEntry.{entries_of, entries_left};
 
     ghost into_iter_gives = { λ file it. entries_left it ≡ entries_of (file_held file.now) };
 
@@ -152,8 +151,10 @@ pub struct SingleArchIterator<'a, 'b, A: Allocator = Global> {
 impl<'a, 'b, A: Allocator + Clone> Iterator for SingleArchIterator<'a, 'b, A> {
     type Item = Result<SingleArch<'a, A>>;
 
-    ghost use Rattle.std.specs.Iterator.{item_count};
-    ghost use Rattle.goblin_mach.specs.FatEntryViews.{entries_left, GivesEntry};
+    ghost use Rattle.std.specs.Prelude.{Some, IfSome};
+    ghost use Rattle.std.specs.Iterator.{UpTo, item_count};
+    ghost use Rattle.std.specs.Iterator.SizeHint.{IsWithinCount};
+    ghost use Rattle.goblin_mach.specs.FatEntry.{entries_left, GivesEntry};
 
     ghost next_gives = { GivesEntry };
 
@@ -167,13 +168,45 @@ impl<'a, 'b, A: Allocator + Clone> Iterator for SingleArchIterator<'a, 'b, A> {
         self.index += 1;
         Some(item)
     }
+
+    /// How many entries are left, exactly.
+    fn size_hint(&self) -> (usize, Option<usize>)
+        ensures lower { IsWithinCount result.0 (item_count entries_left self.now) }
+        ensures upper { IfSome result.1 (UpTo (item_count entries_left self.now)) }
+        ensures exact { result ≡ (length (entries_left self.now), Some (length (entries_left self.now))) }
+    {
+        let left = self.len();
+        (left, Some(left))
+    }
+}
+
+impl<'a, 'b, A: Allocator + Clone> ExactSizeIterator for SingleArchIterator<'a, 'b, A> {
+    /// How many entries are left.
+    fn len(&self) -> usize {
+        self.file.narches.saturating_sub(self.index)
+    }
+}
+
+impl<'a, 'b, A: Allocator> Clone for SingleArchIterator<'a, 'b, A> {
+    ghost is_clone = { λ it copy. copy ≡ it };
+
+    ghost is_infallible = { λ _. Unit {0} };
+
+    /// The same entries; it takes no memory.
+    fn clone(&self) -> std::result::Result<Self, AllocError> {
+        Ok(SingleArchIterator {
+            file: self.file,
+            index: self.index,
+        })
+    }
 }
 
 impl<'a, A: Allocator> Debug for MultiArch<'a, A> {
+    /// How many entries it has; of the bytes only how many they are.
     fn fmt<W: Write>(&self, f: &mut Formatter<W>) -> fmt::Result {
         f.debug_struct("MultiArch")
             .field("narches", &self.narches)
-            .field("bytes", &self.bytes)
+            .field("bytes", &ByteCount(self.bytes))
             .finish()
     }
 }

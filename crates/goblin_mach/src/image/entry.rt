@@ -1,11 +1,9 @@
 //! Where an image begins to run.
 
-ghost use Rattle.std.specs.Prelude.{◌≡◌, ℕ, Some, None, Ok, if◌then◌else◌, IfOk, IfErr, map, option_map};
+ghost use Rattle.std.specs.Prelude.{◌≡◌, ℕ, Some, None, Ok, if◌then◌else◌, IfOk, IfErr, map};
 ghost use Rattle.mach_base.specs.Answer.{Reads, Stands};
 ghost use Rattle.mach_load.specs.Variants.{command_of};
-ghost use Rattle.goblin_mach.specs.Entry as defined;
-ghost use Rattle.goblin_mach.specs.Entry.{address_in, main_address, main_by, pointer_by, is_text, text_by, entry_in, EntryFault};
-ghost use Rattle.goblin_mach.specs.EntryViews.{mapping_of};
+ghost use Rattle.goblin_mach.specs.EntryPoint.{address_in, main_address, main_by, pointer_by, is_text, text_by, entry_point_in, EntryPointFault};
 ghost use Rattle.goblin_mach.specs.Readings.{AllRead};
 
 use crate::image::readings::{Subject, first_read, first_readable};
@@ -22,7 +20,7 @@ pub struct Mapping {
 impl Mapping {
     // The address of a place in the file.
     fn address(self, place: u64) -> Result<u64>
-        ensures { Reads (λ address. address) result (address_in (mapping_of self) place) }
+        ensures { Reads (λ address. address) result (address_in self place) }
     {
         let sum = u128::from(place) + u128::from(self.vmaddr);
         match sum.checked_sub(u128::from(self.fileoff)) {
@@ -34,7 +32,7 @@ impl Mapping {
 
 // The mapping of a segment of the program's text, if it is one.
 fn text_mapping(segname: &[u8; 16], vmaddr: u64, fileoff: u64) -> Option<Mapping>
-    ensures { option_map mapping_of result ≡ (if is_text segname.now then Some (record { vmaddr = vmaddr; fileoff = fileoff }) else None) }
+    ensures { result ≡ (if is_text segname.now then Some (record { vmaddr = vmaddr; fileoff = fileoff }) else None) }
 {
     if segname.starts_with(b"__TEXT\0") {
         Some(Mapping { vmaddr, fileoff })
@@ -50,9 +48,11 @@ pub struct Texts;
 impl Subject for Texts {
     type Value = Mapping;
 
-    ghost Seen = { defined.Mapping };
+    ghost use Rattle.goblin_mach.specs.declared.image.entry.Mapping.{Mapping};
 
-    ghost seen = { mapping_of };
+    ghost Seen = { Mapping };
+
+    ghost seen = { λ mapping. mapping };
 
     ghost reading = { λ _. text_by };
 
@@ -114,7 +114,7 @@ impl Subject for Pointers {
 
 // The address of the main program, by the segment of its text.
 fn address_of_main(text: Option<Mapping>, entryoff: u64) -> Result<u64>
-    ensures { Reads (λ address. address) result (main_address (option_map mapping_of text) entryoff) }
+    ensures { Reads (λ address. address) result (main_address text entryoff) }
 {
     match text {
         Some(text) => text.address(entryoff),
@@ -125,9 +125,9 @@ fn address_of_main(text: Option<Mapping>, entryoff: u64) -> Result<u64>
 /// Where an image begins, and whether a thread's state says so: that of the first main program, else
 /// of the first thread, else 0.
 pub fn entry(commands: &[LoadCommand], cputype: u32) -> Result<(u64, bool)>
-    ensures found { IfOk result (λ e. entry_in cputype (map command_of commands.now) ≡ Ok (record { address = e.0; old_style = e.1 })) }
+    ensures found { IfOk result (λ e. entry_point_in cputype (map command_of commands.now) ≡ Ok (record { address = e.0; old_style = e.1 })) }
     ensures threads { IfOk result (λ _. AllRead (pointer_by cputype) (map command_of commands.now)) }
-    ensures refused { IfErr result (Stands (EntryFault cputype (map command_of commands.now))) }
+    ensures refused { IfErr result (Stands (EntryPointFault cputype (map command_of commands.now))) }
 {
     let pointer = first_read(&Pointers { cputype }, commands)?;
     match first_readable(&Mains, commands) {

@@ -4,7 +4,7 @@ ghost use Rattle.std.specs.Prelude.{map, IfOk, IfErr};
 ghost use Rattle.mach_base.specs.Answer.{Stands, IsOkUnlessMemory};
 ghost use Rattle.mach_load.specs.Variants.{command_of};
 ghost use Rattle.goblin_mach.specs.Image.{AllReadable, IsUnreadable};
-ghost use Rattle.goblin_mach.specs.ImageSegments.{segment_by, lossy_segment_by};
+ghost use Rattle.goblin_mach.specs.Subjects.{segment_by, lossy_segment_by};
 ghost use Rattle.goblin_mach.specs.Readings.{read_of};
 
 use crate::image::readings::{all_read, all_readable, last_read, last_readable};
@@ -28,7 +28,7 @@ pub struct Fields<'a, A: Allocator> {
 }
 
 impl<'a, A: Allocator + Clone> Fields<'a, A> {
-    ghost use Rattle.goblin_mach.specs.ImageFields.{AreFields};
+    ghost use Rattle.goblin_mach.specs.OpenImage.{AreFields};
 
     /// Everything, where all of it can be read.
     pub fn read(

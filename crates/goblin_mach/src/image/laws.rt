@@ -8,8 +8,7 @@ ghost use Rattle.mach_load.specs.Command.{Command};
 ghost use Rattle.mach_parts.specs.Header.{header_size};
 ghost use Rattle.goblin_mach.specs.Chain.{IsChain};
 ghost use Rattle.goblin_mach.specs.Image.{Opens, LossyOpens};
-ghost use Rattle.goblin_mach.specs.OpenImage.{IsImage, IsLossyImage};
-ghost use Rattle.goblin_mach.specs.SameFields.{SameFields};
+ghost use Rattle.goblin_mach.specs.OpenImage.{IsImage, IsLossyImage, SameFields};
 
 use crate::image::macho::MachO;
 use crate::image::magic::parse_magic_and_ctx;

@@ -2,7 +2,7 @@
 
 ghost use Rattle.std.specs.Prelude.{IfOk, IfErr, IsOk};
 ghost use Rattle.mach_base.specs.Answer.{Stands, IsOkUnlessMemory};
-ghost use Rattle.goblin_mach.specs.Image.{IsFat, MachOpens, MachFault, LossyMachOpens, LossyMachFault};
+ghost use Rattle.goblin_mach.specs.Image.{Opens, LossyOpens, ImageFault, LossyFault, IsFat, MachOpens, MachFault};
 
 use crate::fat_file::multi_arch::MultiArch;
 use crate::image::macho::MachO;
@@ -21,15 +21,15 @@ pub enum Mach<'a, A: Allocator = Global> {
 }
 
 impl<'a, A: Allocator + Clone> Mach<'a, A> {
-    ghost use Rattle.goblin_mach.specs.OpenImage.{IsMach, IsLossyMach};
+    ghost use Rattle.goblin_mach.specs.OpenImage.{IsImage, IsLossyImage, IsMach};
 
     /// Opens a file: a fat file where its magic says so, which takes no memory, else an image. Each refusal
     /// but `Error::Memory` is a fault that stands in it.
     pub fn parse(alloc: A, bytes: &'a [u8]) -> Result<Mach<'a, A>>
-        ensures opened { IfOk result (IsMach bytes.now) }
-        ensures only { MachOpens bytes.now → IsOkUnlessMemory result }
+        ensures opened { IfOk result (IsMach IsImage bytes.now) }
+        ensures only { MachOpens Opens bytes.now → IsOkUnlessMemory result }
         ensures fat { IsFat bytes.now → IsOk result }
-        ensures refused { IfErr result (Stands (MachFault bytes.now)) }
+        ensures refused { IfErr result (Stands (MachFault ImageFault bytes.now)) }
     {
         if bytes.len() < 4 {
             return Err(Error::Malformed("a magic is 4 bytes"));
@@ -43,10 +43,10 @@ impl<'a, A: Allocator + Clone> Mach<'a, A> {
     /// Opens a file, and passes over what can't be read of its image, as `MachO::parse_lossy` does. The
     /// images of a fat file are opened strictly all the same.
     pub fn parse_lossy(alloc: A, bytes: &'a [u8]) -> Result<Mach<'a, A>>
-        ensures opened { IfOk result (IsLossyMach bytes.now) }
-        ensures only { LossyMachOpens bytes.now → IsOkUnlessMemory result }
+        ensures opened { IfOk result (IsMach IsLossyImage bytes.now) }
+        ensures only { MachOpens LossyOpens bytes.now → IsOkUnlessMemory result }
         ensures fat { IsFat bytes.now → IsOk result }
-        ensures refused { IfErr result (Stands (LossyMachFault bytes.now)) }
+        ensures refused { IfErr result (Stands (MachFault LossyFault bytes.now)) }
     {
         if bytes.len() < 4 {
             return Err(Error::Malformed("a magic is 4 bytes"));

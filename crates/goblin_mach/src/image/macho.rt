@@ -9,8 +9,9 @@ ghost use Rattle.mach_dyld.specs.Imports as binds;
 ghost use Rattle.mach_dyld.specs.Trie.{Entry};
 ghost use Rattle.mach_parts.specs.Segments.{segments_in};
 ghost use Rattle.goblin_mach.specs.Image.{Opens, LossyOpens, ImageFault, LossyFault};
-ghost use Rattle.goblin_mach.specs.ImageBinds.{ListsImageImports, ImageImportsFault};
-ghost use Rattle.goblin_mach.specs.ImageTrie.{ListsImageExports, ImageExportsFault};
+ghost use Rattle.goblin_mach.specs.Subjects.{ListsImageImports, ImageImportsFault, ListsImageExports, ImageExportsFault};
+
+mod debug;
 
 use crate::image::fields::Fields;
 use crate::image::opened::Opened;
@@ -28,7 +29,6 @@ use std::alloc::{Allocator, Global};
 
 /// A Mach-O image: an executable, a library or an object file for one cpu.
 #[derive(Drop)]
-#[derive_where(Debug)]
 pub struct MachO<'a, A: Allocator = Global> {
     /// The header, in the form of either width.
     pub header: Header,
@@ -102,7 +102,7 @@ impl<'a, A: Allocator + Clone> MachO<'a, A> {
 }
 
 impl<'a, A: Allocator> MachO<'a, A> {
-    ghost use Rattle.goblin_mach.specs.ImageFields.{commands_of, IsMadeOf};
+    ghost use Rattle.goblin_mach.specs.OpenImage.{commands_of, IsMadeOf};
 
     // The image of what was read.
     fn of(bytes: &'a [u8], opened: Opened<A>, fields: Fields<'a, A>) -> MachO<'a, A>
@@ -131,9 +131,9 @@ impl<'a, A: Allocator> MachO<'a, A> {
 }
 
 impl<'a, A: Allocator> MachO<'a, A> {
-    ghost use Rattle.goblin_mach.specs.OpenImage.{trie_held};
+    ghost use Rattle.goblin_mach.specs.OpenImage.{trie_held, binds_held, ctx_held, bytes_held, segments_held};
     ghost use Rattle.mach_parts.specs.SymbolViews.{symbols_left};
-    ghost use Rattle.goblin_mach.specs.Tables.{symbols_held};
+    ghost use Rattle.goblin_mach.specs.Subjects.{symbols_held};
 
     /// The symbols that the image holds at the call, one after the other; none where it holds no table.
     pub fn symbols(&self) -> SymbolIterator<'a>
@@ -158,7 +158,6 @@ impl<'a, A: Allocator> MachO<'a, A> {
         }
     }
 
-    ghost use Rattle.goblin_mach.specs.OpenImage.{binds_held, ctx_held};
 
     /// The imports of the image, over the libraries and the segments that it holds at the call; none where
     /// no command brings binds. Each refusal but `Error::Memory` is a fault that stands in the binds.
@@ -192,7 +191,6 @@ impl<'a, A: Allocator> MachO<'a, A> {
 
     ghost use Rattle.std.specs.Prelude.{map};
     ghost use Rattle.mach_base.specs.Answer.{Gives};
-    ghost use Rattle.goblin_mach.specs.OpenImage.{bytes_held, segments_held};
     ghost use Rattle.goblin_mach.specs.Relocations.{relocated_view, relocated_sections_in};
 
     /// The sections that have relocations, over the segments that the image holds at the call: each

@@ -4,8 +4,7 @@ ghost use Rattle.std.specs.Prelude.{◌≡◌, Ok};
 ghost use Rattle.mach_base.specs.declared.context.Endian.TheVariants.{Big};
 ghost use Rattle.mach_base.specs.Answer.{Reads};
 ghost use Rattle.mach_base.specs.Number.{number_at};
-ghost use Rattle.goblin_mach.specs.Magic.{magic_at, ctx_of};
-ghost use Rattle.goblin_mach.specs.Peek.{hint_in};
+ghost use Rattle.goblin_mach.specs.Magic.{magic_at, ctx_of, hint_in};
 
 use mach_base::{Container, Ctx, Endian, Hint, HintData, Result, read_u32};
 use mach_parts::fat::FAT_MAGIC;

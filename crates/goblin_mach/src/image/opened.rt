@@ -4,7 +4,7 @@ ghost use Rattle.std.specs.Prelude.{◌≡◌, map, Ok, IfOk, IfErr};
 ghost use Rattle.mach_base.specs.Answer.{Stands};
 ghost use Rattle.mach_load.specs.Variants.{command_of};
 ghost use Rattle.mach_parts.specs.Header.{IsHeader};
-ghost use Rattle.goblin_mach.specs.Entry.{entry_in};
+ghost use Rattle.goblin_mach.specs.EntryPoint.{entry_point_in};
 ghost use Rattle.goblin_mach.specs.Image.{HasHeader, CountsFit, HasCommands, LossyOpensAs, LossyFault};
 ghost use Rattle.goblin_mach.specs.Magic.{cputype_at, ncmds_at};
 
@@ -49,13 +49,13 @@ fn read_header(bytes: &[u8], offset: usize) -> Result<(Ctx, Header)>
 }
 
 impl<A: Allocator> Opened<A> {
-    ghost use Rattle.goblin_mach.specs.ImageFields.{commands_of};
+    ghost use Rattle.goblin_mach.specs.OpenImage.{commands_of};
 
     /// Reads them at a place.
     pub fn read(alloc: A, bytes: &[u8], offset: usize) -> Result<Opened<A>>
         ensures opened { IfOk result (λ x. LossyOpensAs bytes.now offset x.ctx (commands_of x)) }
         ensures header { IfOk result (λ x. IsHeader x.ctx bytes.now offset x.header) }
-        ensures entry { IfOk result (λ x. entry_in (cputype_at x.ctx bytes.now offset) (commands_of x) ≡ Ok (record { address = x.address; old_style = x.old_style_entry })) }
+        ensures entry { IfOk result (λ x. entry_point_in (cputype_at x.ctx bytes.now offset) (commands_of x) ≡ Ok (record { address = x.address; old_style = x.old_style_entry })) }
         ensures refused { IfErr result (Stands (LossyFault bytes.now offset)) }
     {
         let (ctx, header) = read_header(bytes, offset)?;

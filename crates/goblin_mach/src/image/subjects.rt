@@ -4,8 +4,7 @@
 ghost use Rattle.std.specs.Prelude.{◌≡◌, List, ℕ, Some, None, if◌then◌else◌};
 ghost use Rattle.mach_base.specs.Number.{place_after};
 ghost use Rattle.mach_load.specs.Variants.{command_of};
-ghost use Rattle.goblin_mach.specs.Names.{is_library, is_id, is_run_path, name_place, library_by, id_by, run_path_by};
-ghost use Rattle.goblin_mach.specs.Tables.{table_by};
+ghost use Rattle.goblin_mach.specs.Subjects.{is_library, is_id, is_run_path, name_place, library_by, id_by, run_path_by, table_by};
 
 use crate::image::readings::Subject;
 use mach_base::{Ctx, Result, read_text};
@@ -127,7 +126,7 @@ impl<'a> Subject for SegmentData<'a> {
     type Value = Segment<'a>;
 
     ghost use Rattle.mach_parts.specs.Segment.{SegmentView, segment_view};
-    ghost use Rattle.goblin_mach.specs.ImageSegments.{segment_by};
+    ghost use Rattle.goblin_mach.specs.Subjects.{segment_by};
 
     ghost Seen = { SegmentView };
 
@@ -160,7 +159,7 @@ impl<'a> Subject for LossySegmentData<'a> {
     type Value = Segment<'a>;
 
     ghost use Rattle.mach_parts.specs.Segment.{SegmentView, segment_view};
-    ghost use Rattle.goblin_mach.specs.ImageSegments.{lossy_segment_by};
+    ghost use Rattle.goblin_mach.specs.Subjects.{lossy_segment_by};
 
     ghost Seen = { SegmentView };
 
@@ -220,7 +219,7 @@ impl<'a> Subject for Tries<'a> {
     type Value = ExportTrie<'a>;
 
     ghost use Rattle.mach_dyld.specs.TrieRange.{TrieRange};
-    ghost use Rattle.goblin_mach.specs.ImageTrie.{trie_by};
+    ghost use Rattle.goblin_mach.specs.Subjects.{trie_by};
 
     ghost Seen = { TrieRange };
 
@@ -252,7 +251,7 @@ impl<'a> Subject for Binds<'a> {
     type Value = BindInterpreter<'a>;
 
     ghost use Rattle.mach_dyld.specs.Imports.{BindRanges};
-    ghost use Rattle.goblin_mach.specs.ImageBinds.{binds_by};
+    ghost use Rattle.goblin_mach.specs.Subjects.{binds_by};
 
     ghost Seen = { BindRanges };
 

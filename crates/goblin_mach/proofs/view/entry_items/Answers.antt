@@ -1,6 +1,6 @@
 use Rattle.std.proofs.Common.{arith}
 use Rattle.goblin_mach.specs.FatEntry.{entry_at, entries_of}
-use Rattle.goblin_mach.specs.FatViews.{file_held}
+use Rattle.goblin_mach.specs.FatFile.{file_held}
 use Rattle.goblin_mach.proofs.Views.{one_more_item, all_items}
 use Rattle.goblin_mach.proofs.view.entry_items.Goals as goal
 

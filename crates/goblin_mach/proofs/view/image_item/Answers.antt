@@ -1,8 +1,7 @@
-use Rattle.std.proofs.Common.{Ok}
+use Rattle.std.proofs.Common.{Ok, refl}
 use Rattle.goblin_mach.specs.FatEntry.{image}
-use Rattle.goblin_mach.specs.View.{ItemFault}
-use Rattle.goblin_mach.specs.ViewSeen.{FaultHeld}
-use Rattle.goblin_mach.proofs.Views.{tells, item_fault}
+use Rattle.goblin_mach.specs.View.{ItemFault, FaultHeld}
+use Rattle.goblin_mach.proofs.Views.{tells, image-links, item_fault}
 use Rattle.goblin_mach.proofs.view.image_item.Goals as goal
 
 pub returns-in_ok-told-in-Err-clause-item : goal.returns-in_ok-told-in-Err-clause-item
@@ -11,3 +10,9 @@ returns-in_ok-told-in-Err-clause-item g c =
     let same = c.in_ok-told-in-Err.ensures.same in
     tells (FaultHeld c.args.opened.now) (ItemFault (Ok (image bytes))) c.in_ok-told-in-Err.field-0 same.1
     (λ f fault. item_fault bytes c.args.opened.now f opened fault) (rw same.0 c.in-Err.ensures.refused)
+
+pub returns-in-Ok-clause-item : goal.returns-in-Ok-clause-item
+returns-in-Ok-clause-item g c =
+    λ bytes opened.
+    let held = c.in-Ok.ensures.held in
+    (image bytes, refl, image-links bytes c.args.opened.now _ _ opened held.exports held.imports)

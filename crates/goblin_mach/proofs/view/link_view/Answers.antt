@@ -2,11 +2,9 @@ use Rattle.std.proofs.Common.{[], ◌∷◌, List, Result, Ok, IsOk, refl}
 use Rattle.std.proofs.lemmas.Result.{err_from_is_err_and, IfOk-weaker}
 use Rattle.mach_base.specs.Fault.{Fault}
 use Rattle.mach_base.proofs.Faults.{Stands-in, Stands-failed}
-use Rattle.goblin_mach.specs.FatEntry.{Entry, entries_of, image}
-use Rattle.goblin_mach.specs.FatFile.{arches_in}
-use Rattle.goblin_mach.specs.FatViews.{file_held}
-use Rattle.goblin_mach.specs.View.{HasEntries, ViewFault, of_file, of_table, fat_table}
-use Rattle.goblin_mach.specs.ViewSeen.{AreItems}
+use Rattle.goblin_mach.specs.FatEntry.{FatEntry, entries_of, image}
+use Rattle.goblin_mach.specs.FatFile.{arches_in, file_held}
+use Rattle.goblin_mach.specs.View.{HasEntries, ViewFault, of_file, of_table, fat_table, AreViewItems}
 use Rattle.goblin_mach.proofs.WholeFiles.{ok_where_viewed, entries_of_image}
 use Rattle.goblin_mach.proofs.view.link_view.Goals as goal
 
@@ -43,6 +41,6 @@ returns-in_ok-arches-in-Fat-clause-viewed g c =
     let file = file_held c.in-Fat.container in
     let fat = rw c.in-Fat.is at c.in_ok-image.ensures.opened in
     let table : IsOk (arches_in file) = rw c.in_ok-arches-in-Fat.ensures refl in
-    IfOk-weaker c.entry_items.result (λ v. AreItems (entries_of file) v.items)
-    (λ v. (entries : List (Result Entry Fault)) × HasEntries bytes entries × AreItems entries v.items)
+    IfOk-weaker c.entry_items.result (λ v. AreViewItems (entries_of file) v.items)
+    (λ v. (entries : List (Result FatEntry Fault)) × HasEntries bytes entries × AreViewItems entries v.items)
     (λ v items. (entries_of file, fat_table file fat.magic fat.file table, items)) c.entry_items.ensures.items

@@ -2,9 +2,9 @@ use Rattle.std.proofs.Common.{◌≡◌, ◌++◌, ◌∷◌, [], Ok, map, arith
 use Rattle.std.proofs.lemmas.List.{map_push, length_push}
 use Rattle.std.proofs.lemmas.Result.{err_from_is_err_and}
 use Rattle.mach_load.specs.Command.{command_at}
-use Rattle.goblin_mach.specs.Chain.{end_of, IsBroken}
+use Rattle.goblin_mach.specs.Chain.{chain_end, IsBroken}
 use Rattle.mach_load.specs.Variants.{command_of}
-use Rattle.goblin_mach.proofs.Chains.{IsChain-push, end_of-push}
+use Rattle.goblin_mach.proofs.Chains.{IsChain-push, chain_end-push}
 use Rattle.goblin_mach.proofs.CommandAt.{offset_is}
 use Rattle.mach_base.proofs.Faults.{Stands-reported}
 use Rattle.goblin_mach.proofs.image.commands.read_commands.Goals as goal
@@ -21,10 +21,10 @@ loop-preserved g c =
     let command = c.in_ok-parse.field-0 in
     let before = map command_of c.loop.commands.items in
     let pushed : map command_of c.push.new.self.items ≡ before ++ command_of command ∷ [] = rw c.in_ok-push.ensures.items (map_push command_of c.loop.commands.items command) in
-    let here : command_at c.args.le c.args.bytes.now (end_of c.args.first before) ≡ Ok (command_of command) = rw (← c.loop.invariant.place) c.in_ok-parse.ensures.found in
+    let here : command_at c.args.le c.args.bytes.now (chain_end c.args.first before) ≡ Ok (command_of command) = rw (← c.loop.invariant.place) c.in_ok-parse.ensures.found in
     let moved = c.in_ok-parse.ensures.moved in
-    let at = offset_is c.args.le c.args.bytes.now (end_of c.args.first before) (command_of command) here in
-    let end = end_of-push c.args.first before (command_of command) in
+    let at = offset_is c.args.le c.args.bytes.now (chain_end c.args.first before) (command_of command) here in
+    let end = chain_end-push c.args.first before (command_of command) in
     rw pushed (record {
       chain = IsChain-push c.args.le c.args.bytes.now c.args.first before (command_of command) c.loop.invariant.chain here;
       count = omega (arith, length_push before (command_of command), c.loop.invariant.count);

@@ -1,6 +1,5 @@
 use Rattle.std.proofs.Common.{◌≡◌}
-use Rattle.goblin_mach.specs.FatFile.{archs_of, first_of_cpu}
-use Rattle.goblin_mach.specs.FatViews.{file_held, archs_left}
+use Rattle.goblin_mach.specs.FatFile.{archs_of, first_of_cpu, file_held, archs_left}
 use Rattle.goblin_mach.proofs.fat_file.multi_arch.MultiArch.find_cputype.Given as goal
 
 abbrev pub invariant-arches : goal.invariant-arches

@@ -2,8 +2,8 @@ use Rattle.std.proofs.Common.{rules, Result, Ok, sym, subst, ◌∙◌, ap}
 use Rattle.std.proofs.lemmas.Result.{err_from_is_err_and}
 use Rattle.mach_base.specs.Fault.{Fault}
 use Rattle.goblin_mach.proofs.FatEntries.{OpensEntry-refused, entry_at-none, entry_at-record}
-use Rattle.goblin_mach.specs.FatEntry.{Entry, OpensEntry, entry_of}
-use Rattle.goblin_mach.specs.FatViews.{file_held}
+use Rattle.goblin_mach.specs.FatEntry.{FatEntry, OpensEntry, fat_entry_of}
+use Rattle.goblin_mach.specs.FatFile.{file_held}
 use Rattle.goblin_mach.proofs.fat_file.multi_arch.MultiArch.get.Goals as goal
 
 pub returns-then-index-self : goal.returns-then-index-self
@@ -18,4 +18,4 @@ returns-in_err-arch g c =
 pub returns : goal.returns
 returns g c =
     let is = entry_at-record (file_held c.args.self.now) c.args.index (Ok c.in_ok-arch.arch) (search rules) c.in_ok-arch.ensures in
-    subst (λ (x : Result Entry Fault). OpensEntry x c.open.result) (ap entry_of c.slice.ensures ∙ sym is) c.open.ensures
+    subst (λ (x : Result FatEntry Fault). OpensEntry x c.open.result) (ap fat_entry_of c.slice.ensures ∙ sym is) c.open.ensures

@@ -1,6 +1,6 @@
 use Rattle.mach_parts.proofs.ItemLists.{items_from-first, fewer_left}
 use Rattle.goblin_mach.specs.FatEntry.{entry_at}
-use Rattle.goblin_mach.specs.FatViews.{file_held}
+use Rattle.goblin_mach.specs.FatFile.{file_held}
 use Rattle.goblin_mach.proofs.fat_file.multi_arch.SingleArchIteratorIterator.next.Goals as goal
 
 pub returns-clause-steps : goal.returns-clause-steps

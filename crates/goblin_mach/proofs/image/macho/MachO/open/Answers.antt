@@ -2,7 +2,7 @@ use Rattle.std.proofs.Common.{arith}
 use Rattle.std.proofs.lemmas.Result.{err_from_is_err_and}
 use Rattle.mach_base.proofs.Faults.{Stands-in}
 use Rattle.goblin_mach.specs.Image.{ImageFault, HasFront, of_lossy, unreadable}
-use Rattle.goblin_mach.specs.ImageFields.{commands_of}
+use Rattle.goblin_mach.specs.OpenImage.{commands_of}
 use Rattle.goblin_mach.proofs.image.macho.MachO.open.Goals as goal
 
 pub returns-in_err-opened-clause-refused : goal.returns-in_err-opened-clause-refused

@@ -4,10 +4,11 @@ use Rattle.std.specs.List.{starts_with}
 use Rattle.mach_base.specs.Answer.{◌>>=◌}
 use Rattle.mach_base.specs.Fault.{Fault, malformed}
 use Rattle.mach_base.specs.Record.{Value, number_is, bytes_are, number_among, bytes_among}
-use Rattle.mach_load.specs.Commands.{Kind, main, segment32, segment64, unixthread}
 use Rattle.mach_load.specs.Command.{Command}
+use Rattle.mach_load.specs.Commands.{Kind, main, segment32, segment64, unixthread}
 use Rattle.mach_load.specs.ThreadState.{pointer_in}
 use Rattle.goblin_mach.specs.Readings.{Reading, read_of, first_of, IsUnread}
+use Rattle.goblin_mach.specs.declared.image.entry.Mapping.{Mapping}
 
 -- the place in the file of the main program, by a command that names it
 abbrev pub main_of : Kind → List Value → Option ℕ
@@ -33,11 +34,6 @@ thread_of _ values = None
 -- its instruction pointer, by the cpu; of a cpu whose registers aren't known it can't be read
 abbrev pub pointer_by : ℕ → Reading ℕ
 pointer_by cputype c = option_map (λ words. pointer_in words cputype) (thread_of c.kind c.values)
-
--- where a segment is mapped
-pub record Mapping : Type 0 where
-  pub vmaddr : ℕ
-  pub fileoff : ℕ
 
 -- whether a name begins with "__TEXT" and a zero byte
 abbrev pub is_text : List ℕ → Bool
@@ -70,21 +66,21 @@ main_address None entryoff = Err malformed
 main_address (Some text) entryoff = address_in text entryoff
 
 -- where an image begins, and whether it is a thread's state that says so
-pub record Entry : Type 0 where
+pub record EntryPoint : Type 0 where
   pub address : ℕ
   pub old_style : Bool
 
 -- The main program comes before a thread's state; where neither is named it is 0.
-abbrev pub entry_of : (main pointer : Option ℕ) → Option Mapping → Result Entry Fault
-entry_of (Some entryoff) pointer text = main_address text entryoff >>= λ address. Ok (record { address = address; old_style = false })
-entry_of None (Some pointer) text = Ok (record { address = pointer; old_style = true })
-entry_of None None text = Ok (record { address = 0; old_style = false })
+abbrev pub entry_point_of : (main pointer : Option ℕ) → Option Mapping → Result EntryPoint Fault
+entry_point_of (Some entryoff) pointer text = main_address text entryoff >>= λ address. Ok (record { address = address; old_style = false })
+entry_point_of None (Some pointer) text = Ok (record { address = pointer; old_style = true })
+entry_point_of None None text = Ok (record { address = 0; old_style = false })
 
 -- the entry of an image: by the first main program, the first thread's state and the first segment of text
-abbrev pub entry_in : ℕ → List Command → Result Entry Fault
-entry_in cputype cs =
-    entry_of (first_of (read_of main_by cs)) (first_of (read_of (pointer_by cputype) cs)) (first_of (read_of text_by cs))
+abbrev pub entry_point_in : ℕ → List Command → Result EntryPoint Fault
+entry_point_in cputype cs =
+    entry_point_of (first_of (read_of main_by cs)) (first_of (read_of (pointer_by cputype) cs)) (first_of (read_of text_by cs))
 
 -- Why an image has no entry: a thread's state of a cpu that isn't known, or no such address.
-abbrev pub EntryFault : ℕ → List Command → Fault → Type 0
-EntryFault cputype cs f = IsUnread (pointer_by cputype) cs f ⊎ (entry_in cputype cs ≡ Err f)
+abbrev pub EntryPointFault : ℕ → List Command → Fault → Type 0
+EntryPointFault cputype cs f = IsUnread (pointer_by cputype) cs f ⊎ (entry_point_in cputype cs ≡ Err f)

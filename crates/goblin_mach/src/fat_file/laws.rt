@@ -1,0 +1,31 @@
+//! Laws of a fat file.
+
+ghost use Rattle.std.specs.Prelude.{◌≡◌, ◌<◌, ◌≤◌, ℕ, List, Result, Some, Ok, length, drop, slice_get};
+ghost use Rattle.mach_base.specs.declared.context.Endian.TheVariants.{Big};
+ghost use Rattle.mach_base.specs.Fault.{Fault};
+ghost use Rattle.mach_base.specs.Number.{number};
+ghost use Rattle.mach_parts.specs.declared.fat.FatArch.{FatArch};
+ghost use Rattle.goblin_mach.specs.FatEntry.{FatEntry, entry_at, entries_of};
+ghost use Rattle.goblin_mach.specs.FatFile.{FatFile, fat_file_in, arch_at, archs_of};
+
+/// The records of a fat file go by their number: there are so many as it is said to have entries, and
+/// the one of a number is that at its own place, whatever the others are.
+pub fn records_by_number()
+    ensures count { (file : FatFile) → length (archs_of file) ≡ file.narches }
+    ensures item { (file : FatFile) (k : ℕ) → k < file.narches → slice_get (archs_of file) k ≡ Some (arch_at file.bytes k) }
+    ensures only { (file : FatFile) (k : ℕ) (arch : Result FatArch Fault) → slice_get (archs_of file) k ≡ Some arch → (k < file.narches) × (arch_at file.bytes k ≡ arch) }
+{}
+
+/// The entries of a fat file go by their number.
+pub fn entries_by_number()
+    ensures count { (file : FatFile) → length (entries_of file) ≡ file.narches }
+    ensures item { (file : FatFile) (k : ℕ) → k < file.narches → slice_get (entries_of file) k ≡ Some (entry_at file k) }
+    ensures only { (file : FatFile) (k : ℕ) (entry : Result FatEntry Fault) → slice_get (entries_of file) k ≡ Some entry → (k < file.narches) × (entry_at file k ≡ entry) }
+{}
+
+/// The fat file of some bytes is those bytes, with the count of their header, which has 8 bytes.
+pub fn fat_file_of_bytes()
+    ensures same { (bytes : List ℕ) (file : FatFile) → fat_file_in bytes ≡ Ok file → file.bytes ≡ bytes }
+    ensures count { (bytes : List ℕ) (file : FatFile) → fat_file_in bytes ≡ Ok file → file.narches ≡ number Big 4 (drop 4 bytes) }
+    ensures header { (bytes : List ℕ) (file : FatFile) → fat_file_in bytes ≡ Ok file → 8 ≤ length bytes }
+{}

@@ -1,0 +1,101 @@
+//! Laws between an image that was opened and the facts on the bytes that it was opened in: each of
+//! its fields and lists is what the bytes say, and nothing else is. An image in any memory is meant, so
+//! each law is a function of one.
+
+ghost use Rattle.std.specs.Prelude.{◌≡◌, ◌↔◌, ℕ, List, Option, Result};
+ghost use Rattle.mach_base.specs.Context.{pointer_size};
+ghost use Rattle.mach_base.specs.Fault.{Fault};
+ghost use Rattle.mach_dyld.specs.Exports.{texts, text_in};
+ghost use Rattle.mach_dyld.specs.Imports.{Import};
+ghost use Rattle.mach_dyld.specs.Trie as trie;
+ghost use Rattle.mach_parts.specs.Segment.{SegmentView};
+ghost use Rattle.mach_parts.specs.Segments.{segments_in};
+ghost use Rattle.mach_parts.specs.declared.symbols.nlist.Nlist.{Nlist};
+ghost use Rattle.goblin_mach.specs.EntryPoint.{EntryPoint};
+ghost use Rattle.goblin_mach.specs.Facts.{HasSymbols, HasSegments, HasRelocations, HasName, HasLibraries, HasRunPaths, HasEntryPoint, HasExports, HasExportsFault, HasImports, HasImportsFault};
+ghost use Rattle.goblin_mach.specs.Subjects.{ListsImageImports, ImageImportsFault, ListsImageExports, ImageExportsFault, symbols_held};
+ghost use Rattle.goblin_mach.specs.OpenImage.{IsImage, IsLossyImage, segments_held, trie_held, binds_held, ctx_held, bytes_held};
+ghost use Rattle.goblin_mach.specs.Relocations.{RelocatedSection, relocated_sections_in};
+ghost use Rattle.goblin_mach.specs.View.{LinksImage, LinksFault, FaultHeld};
+
+use crate::image::macho::MachO;
+use std::alloc::Allocator;
+
+/// An image that was opened strictly is the one that opens in lossy mode.
+pub fn strict_image_is_lossy<A: Allocator>(image: &MachO<'_, A>)
+    ensures { (bytes : List ℕ) (o : ℕ) → IsImage bytes o image.now → IsLossyImage bytes o image.now }
+{}
+
+/// The symbols that an image holds are those of the bytes.
+pub fn symbols_of_image<A: Allocator>(image: &MachO<'_, A>)
+    ensures strict { (bytes : List ℕ) (o : ℕ) → IsImage bytes o image.now → (rows : List (Result (List ℕ × Nlist) Fault)) → HasSymbols bytes o rows ↔ (rows ≡ symbols_held image.now.symbols) }
+    ensures lossy { (bytes : List ℕ) (o : ℕ) → IsLossyImage bytes o image.now → (rows : List (Result (List ℕ × Nlist) Fault)) → HasSymbols bytes o rows ↔ (rows ≡ symbols_held image.now.symbols) }
+{}
+
+/// The segments that an image holds are those of the bytes.
+pub fn segments_of_image<A: Allocator>(image: &MachO<'_, A>)
+    ensures strict { (bytes : List ℕ) (o : ℕ) → IsImage bytes o image.now → (segments : List SegmentView) → HasSegments bytes o segments ↔ (segments ≡ segments_held image.now) }
+    ensures lossy { (bytes : List ℕ) (o : ℕ) → IsLossyImage bytes o image.now → (segments : List SegmentView) → HasSegments bytes o segments ↔ (segments ≡ segments_held image.now) }
+{}
+
+/// What `MachO::relocations` answers is what the bytes say.
+pub fn relocations_of_image<A: Allocator>(image: &MachO<'_, A>)
+    ensures strict { (bytes : List ℕ) (o : ℕ) → IsImage bytes o image.now → (found : Result (List RelocatedSection) Fault)
+        → HasRelocations bytes o found ↔ (found ≡ relocated_sections_in (ctx_held image.now) (bytes_held image.now) (segments_held image.now)) }
+    ensures lossy { (bytes : List ℕ) (o : ℕ) → IsLossyImage bytes o image.now → (found : Result (List RelocatedSection) Fault)
+        → HasRelocations bytes o found ↔ (found ≡ relocated_sections_in (ctx_held image.now) (bytes_held image.now) (segments_held image.now)) }
+{}
+
+/// The name that an image holds is that of the bytes.
+pub fn name_of_image<A: Allocator>(image: &MachO<'_, A>)
+    ensures strict { (bytes : List ℕ) (o : ℕ) → IsImage bytes o image.now → (name : Option (List ℕ)) → HasName bytes o name ↔ (name ≡ text_in image.now.name) }
+    ensures lossy { (bytes : List ℕ) (o : ℕ) → IsLossyImage bytes o image.now → (name : Option (List ℕ)) → HasName bytes o name ↔ (name ≡ text_in image.now.name) }
+{}
+
+/// The libraries that an image holds are those of the bytes.
+pub fn libraries_of_image<A: Allocator>(image: &MachO<'_, A>)
+    ensures strict { (bytes : List ℕ) (o : ℕ) → IsImage bytes o image.now → (libs : List (List ℕ)) → HasLibraries bytes o libs ↔ (libs ≡ texts image.now.libs.items) }
+    ensures lossy { (bytes : List ℕ) (o : ℕ) → IsLossyImage bytes o image.now → (libs : List (List ℕ)) → HasLibraries bytes o libs ↔ (libs ≡ texts image.now.libs.items) }
+{}
+
+/// The run paths that an image holds are those of the bytes.
+pub fn run_paths_of_image<A: Allocator>(image: &MachO<'_, A>)
+    ensures strict { (bytes : List ℕ) (o : ℕ) → IsImage bytes o image.now → (paths : List (List ℕ)) → HasRunPaths bytes o paths ↔ (paths ≡ texts image.now.rpaths.items) }
+    ensures lossy { (bytes : List ℕ) (o : ℕ) → IsLossyImage bytes o image.now → (paths : List (List ℕ)) → HasRunPaths bytes o paths ↔ (paths ≡ texts image.now.rpaths.items) }
+{}
+
+/// Where an image that was opened begins to run is what the bytes say.
+pub fn entry_point_of_image<A: Allocator>(image: &MachO<'_, A>)
+    ensures strict { (bytes : List ℕ) (o : ℕ) → IsImage bytes o image.now → (point : EntryPoint) → HasEntryPoint bytes o point ↔ (point ≡ record { address = image.now.entry; old_style = image.now.old_style_entry }) }
+    ensures lossy { (bytes : List ℕ) (o : ℕ) → IsLossyImage bytes o image.now → (point : EntryPoint) → HasEntryPoint bytes o point ↔ (point ≡ record { address = image.now.entry; old_style = image.now.old_style_entry }) }
+{}
+
+/// The exports that `MachO::exports` lists, and the faults that it reports, are those of the bytes.
+pub fn exports_of_image<A: Allocator>(image: &MachO<'_, A>)
+    ensures strict { (bytes : List ℕ) (o : ℕ) → IsImage bytes o image.now → (list : List trie.Entry) → HasExports bytes o list ↔ ListsImageExports (trie_held image.now) (texts image.now.libs.items) list }
+    ensures lossy { (bytes : List ℕ) (o : ℕ) → IsLossyImage bytes o image.now → (list : List trie.Entry) → HasExports bytes o list ↔ ListsImageExports (trie_held image.now) (texts image.now.libs.items) list }
+    ensures strict_faults { (bytes : List ℕ) (o : ℕ) → IsImage bytes o image.now → (f : Fault) → HasExportsFault bytes o f ↔ ImageExportsFault (trie_held image.now) (texts image.now.libs.items) f }
+    ensures lossy_faults { (bytes : List ℕ) (o : ℕ) → IsLossyImage bytes o image.now → (f : Fault) → HasExportsFault bytes o f ↔ ImageExportsFault (trie_held image.now) (texts image.now.libs.items) f }
+{}
+
+/// The imports that `MachO::imports` lists, and the faults that it reports, are those of the bytes.
+pub fn imports_of_image<A: Allocator>(image: &MachO<'_, A>)
+    ensures strict { (bytes : List ℕ) (o : ℕ) → IsImage bytes o image.now → (list : List Import)
+        → ListsImageImports (binds_held image.now) (pointer_size (ctx_held image.now).container) (texts image.now.libs.items) (segments_in image.now.segments) list → HasImports bytes o list }
+    ensures lossy { (bytes : List ℕ) (o : ℕ) → IsLossyImage bytes o image.now → (list : List Import)
+        → ListsImageImports (binds_held image.now) (pointer_size (ctx_held image.now).container) (texts image.now.libs.items) (segments_in image.now.segments) list → HasImports bytes o list }
+    ensures strict_faults { (bytes : List ℕ) (o : ℕ) → IsImage bytes o image.now → (f : Fault)
+        → ImageImportsFault (binds_held image.now) (pointer_size (ctx_held image.now).container) (texts image.now.libs.items) (segments_in image.now.segments) f → HasImportsFault bytes o f }
+    ensures lossy_faults { (bytes : List ℕ) (o : ℕ) → IsLossyImage bytes o image.now → (f : Fault)
+        → ImageImportsFault (binds_held image.now) (pointer_size (ctx_held image.now).container) (texts image.now.libs.items) (segments_in image.now.segments) f → HasImportsFault bytes o f }
+{}
+
+/// An image that was opened strictly at 0 links the lists that it holds, and a fault that stands in one
+/// of them stands in the bytes.
+pub fn links_of_image<A: Allocator>(image: &MachO<'_, A>)
+    ensures listed { (bytes : List ℕ) (list : List trie.Entry) (imports : List Import) → IsImage bytes 0 image.now
+        → ListsImageExports (trie_held image.now) (texts image.now.libs.items) list
+        → ListsImageImports (binds_held image.now) (pointer_size (ctx_held image.now).container) (texts image.now.libs.items) (segments_in image.now.segments) imports
+        → LinksImage bytes list imports }
+    ensures refused { (bytes : List ℕ) (f : Fault) → IsImage bytes 0 image.now → FaultHeld image.now f → LinksFault bytes f }
+{}

@@ -1,0 +1,30 @@
+//! An image as Debug shows it.
+
+use crate::byte_count::ByteCount;
+use crate::image::macho::MachO;
+use std::alloc::Allocator;
+use std::fmt;
+use std::fmt::{Debug, Formatter, Write};
+
+impl<'a, A: Allocator> Debug for MachO<'a, A> {
+    /// What is read of the image; of its bytes only how many they are.
+    fn fmt<W: Write>(&self, f: &mut Formatter<W>) -> fmt::Result {
+        f.debug_struct("MachO")
+            .field("header", &self.header)
+            .field("load_commands", &self.load_commands)
+            .field("segments", &self.segments)
+            .field("symbols", &self.symbols)
+            .field("libs", &self.libs)
+            .field("rpaths", &self.rpaths)
+            .field("entry", &self.entry)
+            .field("old_style_entry", &self.old_style_entry)
+            .field("name", &self.name)
+            .field("little_endian", &self.little_endian)
+            .field("is_64", &self.is_64)
+            .field("export_trie", &self.export_trie)
+            .field("bind_interpreter", &self.bind_interpreter)
+            .field("bytes", &ByteCount(self.bytes))
+            .field("ctx", &self.ctx)
+            .finish()
+    }
+}
