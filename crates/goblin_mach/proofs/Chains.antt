@@ -3,7 +3,8 @@ use Rattle.std.proofs.Common.{◌≡◌, ℕ, ◌+◌, ◌<◌, ◌≤◌, List,
 use Rattle.mach_base.specs.declared.context.Endian.{Endian}
 use Rattle.mach_base.specs.Fault.{Fault}
 use Rattle.mach_load.specs.Command.{Command, cmdsize_of, command_at}
-use Rattle.goblin_mach.specs.Chain.{IsAmong, AllThere, BeginsAt, IsLinked, IsChain, chain_end, IsBroken}
+use Rattle.goblin_mach.specs.Chain.{AllThere, BeginsAt, IsLinked, IsChain, chain_end, IsBroken}
+use Rattle.mach_base.specs.Among.{IsAmong}
 use Rattle.mach_base.proofs.Binds.{same_ok}
 use Rattle.goblin_mach.proofs.CommandAt.{offset_is}
 

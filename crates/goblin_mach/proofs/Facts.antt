@@ -1,5 +1,5 @@
 -- Facts on bytes, and the image that was opened there.
-use Rattle.std.proofs.Common.{◌≡◌, ℕ, ◌+◌, List, Option, Result, Ok, sym, ap, subst, ◌∙◌}
+use Rattle.std.proofs.Common.{◌≡◌, ℕ, ◌+◌, List, map, Option, Result, Ok, sym, ap, subst, ◌∙◌}
 use Rattle.std.specs.Prelude.{◌↔◌}
 use Rattle.mach_base.specs.declared.context.Ctx.{Ctx}
 use Rattle.mach_base.specs.Context.{pointer_size}
@@ -7,18 +7,17 @@ use Rattle.mach_base.specs.Fault.{Fault}
 use Rattle.mach_base.proofs.Binds.{same_ok}
 use Rattle.mach_load.specs.Command.{Command}
 use Rattle.mach_parts.specs.Header.{header_size}
-use Rattle.mach_parts.specs.Segment.{SegmentView}
+use Rattle.mach_parts.specs.Segment.{SegmentView, segment_view}
 use Rattle.mach_parts.specs.Segments.{segments_in}
 use Rattle.mach_parts.specs.declared.segment.Segment.{Segment}
 use Rattle.mach_parts.specs.declared.symbols.nlist.Nlist.{Nlist}
 use Rattle.mach_dyld.specs.Exports.{texts, text_in}
 use Rattle.mach_dyld.specs.Imports.{BindRanges, Import}
 use Rattle.mach_dyld.specs.Trie as trie
-use Rattle.mach_dyld.specs.TrieRange.{TrieRange}
 use Rattle.goblin_mach.specs.EntryPoint.{EntryPoint, entry_point_in}
-use Rattle.goblin_mach.specs.Facts.{OfImage, HasSymbols, HasSegments, HasRelocations, HasName, HasLibraries, HasRunPaths, HasEntryPoint, HasExports, HasExportsFault, HasImports, HasImportsFault, AreSegments}
+use Rattle.goblin_mach.specs.Facts.{OfImage, HasSymbols, HasSegments, HasRelocations, HasName, HasLibraries, HasRunPaths, HasEntryPoint, HasExports, HasExportsFault, HasImports, HasImportsFault, HasImportItems, AreSegments}
 use Rattle.goblin_mach.specs.Image.{LossyOpensAs}
-use Rattle.goblin_mach.specs.Subjects.{binds_in, ListsImageImports, ImageImportsFault, lossy_segment_by, trie_in, ListsImageExports, ImageExportsFault, own_name_in, libs_in, run_path_by, table_in, symbols_in, symbols_held}
+use Rattle.goblin_mach.specs.Subjects.{binds_in, ListsImageImports, ImageImportsFault, AreImageBindItems, lossy_segment_by, trie_in, ListsImageExports, ImageExportsFault, own_name_in, libs_in, run_path_by, table_in, symbols_in, symbols_held}
 use Rattle.goblin_mach.specs.Magic.{cputype_at}
 use Rattle.goblin_mach.specs.OpenImage.{IsImage, IsLossyImage, HasFields, commands_held, segments_held, trie_held, binds_held, ctx_held, bytes_held}
 use Rattle.goblin_mach.specs.Readings.{read_of}
@@ -27,6 +26,7 @@ use Rattle.goblin_mach.specs.declared.image.macho.MachO.{MachO}
 use Rattle.goblin_mach.proofs.Chains.{same_chain}
 use Rattle.goblin_mach.proofs.Images.{same_header}
 use Rattle.goblin_mach.proofs.Lossy.{same_segments}
+use Rattle.goblin_mach.proofs.SameSegments.{same_image_list, same_image_fault}
 
 -- an image that was opened strictly is the one that opens in lossy mode
 pub strict-lossy : {A : Type 0} (bytes : List ℕ) (o : ℕ) (m : MachO A) → IsImage bytes o m → IsLossyImage bytes o m
@@ -114,8 +114,29 @@ module _ {A : Type 0} (bytes : List ℕ) (o : ℕ) (m : MachO A) (p : IsLossyIma
       of_image (λ ctx cs. (segments : List Segment) × AreSegments ctx bytes cs segments × Says (binds_in bytes cs) (pointer_size ctx.container) (libs_in bytes cs) segments)
       (segments, p.fields.segments, moved (λ b l. Says b (pointer_size p.ctx.container) l segments) _ _ _ _ p.fields.binds p.fields.libs here)
 
-  pub imports_are : (list : List Import) → ListsImageImports (binds_held m) (pointer_size (ctx_held m).container) (texts m.libs.items) (segments_in m.segments) list → HasImports bytes o list
-  imports_are list h = bound (λ b n l s. ListsImageImports b n l s list) h
+  -- and back: segments that look alike make the same imports
+  unbound : (Says : Option BindRanges → ℕ → List (List ℕ) → List Segment → Type 0)
+      → ((b : Option BindRanges) (n : ℕ) (l : List (List ℕ)) (xs ys : List Segment) → map segment_view xs ≡ map segment_view ys → Says b n l xs → Says b n l ys)
+      → OfImage bytes o (λ ctx cs. (segments : List Segment) × AreSegments ctx bytes cs segments × Says (binds_in bytes cs) (pointer_size ctx.container) (libs_in bytes cs) segments)
+      → Says (binds_held m) (pointer_size (ctx_held m).container) (texts m.libs.items) (segments_in m.segments)
+  unbound Says kept q =
+      let segments = segments_in m.segments in
+      let h = image_of (λ ctx cs. (segments : List Segment) × AreSegments ctx bytes cs segments × Says (binds_in bytes cs) (pointer_size ctx.container) (libs_in bytes cs) segments) q in
+      let there = kept (binds_in bytes (commands_held m)) (pointer_size p.ctx.container) (libs_in bytes (commands_held m)) h.0 segments (h.1 ∙ sym p.fields.segments) h.2 in
+      subst (λ (c : Ctx). Says (binds_held m) (pointer_size c.container) (texts m.libs.items) segments) (sym p.fields.ctx_is)
+      (moved (λ b l. Says b (pointer_size p.ctx.container) l segments) _ _ _ _ (sym p.fields.binds) (sym p.fields.libs) there)
 
-  pub imports_fail : (f : Fault) → ImageImportsFault (binds_held m) (pointer_size (ctx_held m).container) (texts m.libs.items) (segments_in m.segments) f → HasImportsFault bytes o f
-  imports_fail f h = bound (λ b n l s. ImageImportsFault b n l s f) h
+  pub imports_are : (list : List Import) → HasImports bytes o list ↔ ListsImageImports (binds_held m) (pointer_size (ctx_held m).container) (texts m.libs.items) (segments_in m.segments) list
+  imports_are list = (
+    λ h. unbound (λ b n l s. ListsImageImports b n l s list) (λ b n l xs ys same k. same_image_list b n l xs ys same list k) h,
+    λ h. bound (λ b n l s. ListsImageImports b n l s list) h,
+  )
+
+  pub imports_fail : (f : Fault) → HasImportsFault bytes o f ↔ ImageImportsFault (binds_held m) (pointer_size (ctx_held m).container) (texts m.libs.items) (segments_in m.segments) f
+  imports_fail f = (
+    λ h. unbound (λ b n l s. ImageImportsFault b n l s f) (λ b n l xs ys same k. same_image_fault b n l xs ys same f k) h,
+    λ h. bound (λ b n l s. ImageImportsFault b n l s f) h,
+  )
+
+  pub import_items_are : (items : List (Result Import Fault)) → AreImageBindItems (binds_held m) (pointer_size (ctx_held m).container) (texts m.libs.items) (segments_in m.segments) items → HasImportItems bytes o items
+  import_items_are items h = bound (λ b n l s. AreImageBindItems b n l s items) h

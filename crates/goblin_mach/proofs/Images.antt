@@ -10,7 +10,7 @@ use Rattle.mach_base.proofs.Binds.{same_ok}
 use Rattle.mach_base.proofs.Faults.{Stands-in}
 use Rattle.mach_load.specs.Command.{Command}
 use Rattle.mach_parts.specs.Header.{header_size}
-use Rattle.goblin_mach.specs.Chain.{IsAmong}
+use Rattle.mach_base.specs.Among.{IsAmong}
 use Rattle.goblin_mach.specs.EntryPoint.{EntryPoint, entry_point_in, pointer_by}
 use Rattle.goblin_mach.specs.Image.{HasHeader, CountsFit, HasChain, HasFront, OpensAs, Opens, LossyOpensAs, LossyOpens, LossyFault, no_magic, other_magic, short_header, too_many_commands, broken_chain, unknown_thread, no_entry_point, IsUnreadable, segment, library, id, run_path, table, ImageFault, of_lossy, unreadable, HasFatMagic, MachOpens, MachFault, no_room, of_fat, of_image}
 use Rattle.goblin_mach.specs.Subjects.{segment_by, library_by, id_by, run_path_by, table_by}

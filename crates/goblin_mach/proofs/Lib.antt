@@ -6,6 +6,7 @@ pub mod Entries
 pub mod Images
 pub mod Relocations
 pub mod Lossy
+pub mod SameSegments
 pub mod Facts
 pub mod Exported
 pub mod FatNumbers

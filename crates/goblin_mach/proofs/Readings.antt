@@ -7,7 +7,7 @@ use Rattle.mach_base.specs.Fault.{Fault, fault_of}
 use Rattle.mach_load.specs.declared.load_command.LoadCommand.{LoadCommand}
 use Rattle.mach_load.specs.Command.{Command}
 use Rattle.mach_load.specs.Variants.{command_of}
-use Rattle.goblin_mach.specs.Chain.{IsAmong}
+use Rattle.mach_base.specs.Among.{IsAmong}
 use Rattle.goblin_mach.specs.Readings.{Reading, read_of, first_of, IsRead, AllRead, IsUnread, seen_of}
 
 -- the commands from one on begin with it

@@ -1,5 +1,5 @@
 -- The items of a view.
-use Rattle.std.proofs.Common.{◌≡◌, ℕ, ◌+◌, ◌-◌, ◌<◌, ◌≤◌, List, [], ◌∷◌, ◌++◌, Option, Result, Ok, inl, inr, refl, sym, subst, append_assoc, arith}
+use Rattle.std.proofs.Common.{◌≡◌, ℕ, ◌+◌, ◌-◌, ◌<◌, ◌≤◌, List, [], ◌∷◌, ◌++◌, Result, Ok, inl, inr, refl, sym, subst, append_assoc, arith}
 use Rattle.std.proofs.lemmas.List.{append-nil}
 use Rattle.mach_base.specs.declared.error.Error.{Error}
 use Rattle.mach_base.specs.declared.error.Error.TheVariants as errors
@@ -33,7 +33,7 @@ pub image-links : {A : Type 0} (bytes : List ℕ) (m : MachO A) (list : List tri
     → ListsImageImports (binds_held m) (pointer_size (ctx_held m).container) (texts m.libs.items) (segments_in m.segments) imports → LinksImage bytes list imports
 image-links bytes m list imports p exported imported =
     let q = strict-lossy bytes 0 m p in
-    record { opens = (p.ctx, commands_held m, p.opens); exports_are = (exports_are bytes 0 m q list).1 exported; imports_are = imports_are bytes 0 m q imports imported }
+    record { opens = (p.ctx, commands_held m, p.opens); exports_are = (exports_are bytes 0 m q list).1 exported; imports_are = (imports_are bytes 0 m q imports).1 imported }
 
 -- a fault in one of them stands in the bytes
 pub image-fails : {A : Type 0} (bytes : List ℕ) (m : MachO A) (f : Fault) → IsImage bytes 0 m → FaultHeld m f → LinksFault bytes f
@@ -41,7 +41,7 @@ image-fails bytes m f p fault =
     let q = strict-lossy bytes 0 m p in
     record {
       opens = (p.ctx, commands_held m, p.opens);
-      fault = elim fault [ inl e ↦ inl ((exports_fail bytes 0 m q f).1 e) | inr i ↦ inr (imports_fail bytes 0 m q f i) ];
+      fault = elim fault [ inl e ↦ inl ((exports_fail bytes 0 m q f).1 e) | inr i ↦ inr ((imports_fail bytes 0 m q f).1 i) ];
     }
 
 pub item_fault : {A : Type 0} (bytes : List ℕ) (m : MachO A) (f : Fault) → IsImage bytes 0 m → FaultHeld m f → ItemFault (Ok (image bytes)) f

@@ -12,10 +12,6 @@ abbrev pub AllThere : Endian → List ℕ → List Command → Type 0
 AllThere le bytes [] = Unit {0}
 AllThere le bytes (c ∷ cs) = IsThere le bytes c × AllThere le bytes cs
 
-abbrev pub IsAmong : Command → List Command → Type 0
-IsAmong c [] = ⊥
-IsAmong c (d ∷ ds) = (c ≡ d) ⊎ IsAmong c ds
-
 -- the first of them stands at s
 abbrev pub BeginsAt : ℕ → List Command → Type 0
 BeginsAt s [] = Unit {0}

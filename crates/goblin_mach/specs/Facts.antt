@@ -14,7 +14,7 @@ use Rattle.goblin_mach.specs.Image.{LossyOpensAs}
 use Rattle.goblin_mach.specs.Magic.{cputype_at}
 use Rattle.goblin_mach.specs.Readings.{read_of}
 use Rattle.goblin_mach.specs.Relocations.{RelocatedSection, relocated_sections_in}
-use Rattle.goblin_mach.specs.Subjects.{binds_in, ListsImageImports, ImageImportsFault, lossy_segment_by, trie_in, ListsImageExports, ImageExportsFault, own_name_in, libs_in, run_path_by, table_in, symbols_in}
+use Rattle.goblin_mach.specs.Subjects.{binds_in, ListsImageImports, ImageImportsFault, AreImageBindItems, lossy_segment_by, trie_in, ListsImageExports, ImageExportsFault, own_name_in, libs_in, run_path_by, table_in, symbols_in}
 
 -- An image opens at o, in lossy mode at least, and this holds of its context and its commands.
 pub record OfImage (bytes : List ℕ) (o : ℕ) (Holds : Ctx → List Command → Type 0) : Type 0 where
@@ -73,6 +73,11 @@ HasImports bytes o list = OfImage bytes o (λ ctx cs. (segments : List Segment) 
 abbrev pub HasImportsFault : List ℕ → ℕ → Fault → Type 0
 HasImportsFault bytes o f = OfImage bytes o (λ ctx cs. (segments : List Segment) × AreSegments ctx bytes cs segments
     × ImageImportsFault (binds_in bytes cs) (pointer_size ctx.container) (libs_in bytes cs) segments f)
+
+-- its imports one at a time, up to the first fault
+abbrev pub HasImportItems : List ℕ → ℕ → List (Result Import Fault) → Type 0
+HasImportItems bytes o items = OfImage bytes o (λ ctx cs. (segments : List Segment) × AreSegments ctx bytes cs segments
+    × AreImageBindItems (binds_in bytes cs) (pointer_size ctx.container) (libs_in bytes cs) segments items)
 
 -- an export of this name with this address is among them
 abbrev pub IsExportedAt : List ℕ → ℕ → List trie.Entry → Type 0

@@ -3,7 +3,7 @@ use Rattle.std.specs.Prelude.{◌≡◌, List, [], ◌∷◌, Option, Some, None
 use Rattle.mach_base.specs.declared.error.Error.{Error}
 use Rattle.mach_base.specs.Fault.{Fault, fault_of}
 use Rattle.mach_load.specs.Command.{Command}
-use Rattle.goblin_mach.specs.Chain.{IsAmong}
+use Rattle.mach_base.specs.Among.{IsAmong}
 
 -- What is read off a command, or why it can't be read; none where the command is of another subject.
 abbrev pub Reading : Type 0 → Type 0

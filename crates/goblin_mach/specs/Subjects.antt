@@ -18,7 +18,9 @@ use Rattle.mach_parts.specs.declared.segment.Segment.{Segment}
 use Rattle.mach_parts.specs.declared.symbols.Symbols.{Symbols}
 use Rattle.mach_parts.specs.declared.symbols.nlist.Nlist.{Nlist}
 use Rattle.mach_dyld.specs.BindFault.{BindFault}
-use Rattle.mach_dyld.specs.Imports.{BindRanges, Import, ListsImports, bind_ranges}
+use Rattle.mach_dyld.specs.BindItems.{AreBindItems}
+use Rattle.mach_dyld.specs.Imports.{BindRanges, Import, ListsImports, bind_ranges, input_in}
+use Rattle.mach_dyld.specs.Streams.{Placed}
 use Rattle.mach_dyld.specs.Trie.{Entry}
 use Rattle.mach_dyld.specs.TrieRange.{TrieRange, range_in, ListsExports, ExportsFault}
 use Rattle.goblin_mach.specs.Readings.{Reading, read_of, last_of}
@@ -148,3 +150,9 @@ ListsImageImports (Some b) pointer libs segments list = ListsImports b pointer l
 abbrev pub ImageImportsFault : Option BindRanges → ℕ → List (List ℕ) → List Segment → Fault → Type 0
 ImageImportsFault None pointer libs segments f = ⊥
 ImageImportsFault (Some b) pointer libs segments f = BindFault b pointer libs segments f
+
+-- the imports of an image one at a time, up to the first fault; none where it has no binds
+abbrev pub AreImageBindItems : Option BindRanges → ℕ → List (List ℕ) → List Segment → List (Result Import Fault) → Type 0
+AreImageBindItems None pointer libs segments items = items ≡ []
+AreImageBindItems (Some b) pointer libs segments items =
+    (ps : List Placed) × (qs : List Placed) × AreBindItems (input_in b pointer libs segments) b.non_lazy b.lazy ps qs items

@@ -17,11 +17,11 @@ pub use crate::image::macho::MachO;
 pub use crate::image::magic::{parse_magic_and_ctx, peek, peek_bytes};
 pub use crate::view::{LinkView, link_view};
 pub use mach_base::{
-    BE, Container, Ctx, Endian, Error, Hint, HintData, IntoCtx, LE, Record, Result, ScrollError,
-    SizeWith, Sleb128, TryFromCtx, TryIntoCtx, Uleb128, gread_with, pread_with, pwrite_with,
-    read_text, take_hint_bytes,
+    BE, Container, Ctx, Description, Endian, Error, Hint, HintData, IntoCtx, LE, Record, Result,
+    ScrollError, SizeWith, Sleb128, TryFromCtx, TryIntoCtx, Uleb128, describe, gread_with,
+    pread_with, pwrite_with, read_text, take_hint_bytes,
 };
-pub use mach_dyld::{bind_opcodes, exports, imports};
+pub use mach_dyld::{Steps, bind_opcodes, exports, imports};
 pub use mach_parts::{fat, header, relocation, segment, symbols};
 pub use mach_records::{constants, cputype};
 

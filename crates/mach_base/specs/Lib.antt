@@ -1,4 +1,5 @@
 pub mod Fault
+pub mod Words
 pub mod Answer
 pub mod Context
 pub mod Number
@@ -8,3 +9,5 @@ pub mod Leb128
 pub mod FrontGroups
 pub mod Record
 pub mod Front
+pub mod Among
+pub mod Sums

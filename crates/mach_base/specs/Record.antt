@@ -21,6 +21,12 @@ abbrev pub size : List Field → ℕ
 size [] = 0
 size (f ∷ fs) = width f + size fs
 
+-- The size is that of the fields, no record is empty, and no other one has the same values.
+pub record IsRecord {R : Type 0} (bytes : ℕ) (fields : List Field) (values : R → List Value) : Type 0 where
+  pub sized : bytes ≡ size fields
+  pub some : 0 < bytes
+  pub same : (x y : R) → values x ≡ values y → x ≡ y
+
 -- the value of a field at a place
 abbrev pub value_in : Endian → Field → List ℕ → Value
 value_in le (num n) bytes = number_is (number le n bytes)

@@ -2,8 +2,10 @@
 
 ghost use Rattle.std.specs.Prelude.{◌≡◌};
 ghost use Rattle.mach_base.specs.declared.error.Error.TheVariants as errors;
+ghost use Rattle.mach_base.specs.Words.{described};
 
 use std::alloc::{AllocError, AllocFailed};
+use std::fmt;
 
 /// A read or a write that failed at its place.
 #[derive(Debug, Drop)]
@@ -56,5 +58,43 @@ impl<T: Drop> From<AllocFailed<T>> for Error {
 
     fn from(e: AllocFailed<T>) -> Error {
         Error::Memory(AllocError::from(e))
+    }
+}
+
+/// An error that is written in words.
+#[derive(Clone, Copy, Debug)]
+pub struct Description<'a> {
+    error: &'a Error,
+}
+
+/// The words of an error, with its place and numbers: one line, to be written by `{}`.
+pub fn describe(error: &Error) -> Description<'_>
+    ensures { described result ≡ error.now }
+{
+    Description { error }
+}
+
+impl fmt::Display for Description<'_> {
+    ghost use Rattle.std.specs.Prelude.{Some};
+    ghost use Rattle.mach_base.specs.Words.{words_of};
+
+    ghost output = { λ d. Some (words_of (described d)) };
+
+    fn fmt<W: fmt::Write>(&self, f: &mut fmt::Formatter<W>) -> fmt::Result {
+        match self.error {
+            Error::Malformed(msg) => write!(f, "malformed: {msg}"),
+            Error::BadMagic(magic) => write!(f, "bad magic 0x{magic:x}"),
+            Error::Scroll(ScrollError::BadOffset(place)) => {
+                write!(f, "offset {place} is past the end")
+            }
+            Error::Scroll(ScrollError::TooBig { size, len }) => {
+                write!(f, "{size} bytes are wanted and {len} are left")
+            }
+            Error::Scroll(ScrollError::BadInput { size, msg }) => {
+                write!(f, "{msg}, {size} bytes left")
+            }
+            Error::BufferTooShort(count, what) => write!(f, "{count} {what} do not fit the file"),
+            Error::Memory(_) => f.write_str("out of memory"),
+        }
     }
 }

@@ -15,11 +15,11 @@ mod texts;
 mod traits;
 
 pub use crate::context::{BE, Container, Ctx, Endian, LE};
-pub use crate::error::{Error, Result, ScrollError};
+pub use crate::error::{Description, Error, Result, ScrollError, describe};
 pub use crate::hint::{Hint, HintData, take_hint_bytes};
-pub use crate::leb128::{Sleb128, Uleb128, sleb, uleb};
+pub use crate::leb128::{Sleb128, Uleb128, quick_uleb, sleb, uleb};
 pub use crate::numbers::{array_at, bytes_at, read_u32, rest_at, try_rest_at};
 pub use crate::offsets::{gread_with, pread_with, pwrite_with};
 pub use crate::record::{Record, RecordBytes, written_and_read};
-pub use crate::texts::read_text;
+pub use crate::texts::{quick_text, read_text};
 pub use crate::traits::{IntoCtx, SizeWith, TryFromCtx, TryIntoCtx};

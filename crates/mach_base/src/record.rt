@@ -1,10 +1,10 @@
 //! Records: fields one after the other, in one byte order.
 
-ghost use Rattle.std.specs.Prelude.{◌≡◌, ◌≤◌, ◌<◌, ◌+◌, ℕ, List, length, drop, take, ◌++◌, ◌∷◌, [], IfOk, IfErr, OnOk, IsOk, ◌↔◌, Ok, Err};
+ghost use Rattle.std.specs.Prelude.{◌≡◌, ◌≤◌, ◌+◌, ℕ, List, length, drop, take, ◌++◌, ◌∷◌, [], IfOk, IfErr, OnOk, IsOk, IsErr, MatchOption, ◌↔◌, Ok, Err};
 ghost use Rattle.mach_base.specs.Number.{number_bytes};
 ghost use Rattle.mach_base.specs.Answer.{Reads};
 ghost use Rattle.mach_base.specs.Fault.{fault_of};
-ghost use Rattle.mach_base.specs.Record.{Field, Value, values_in, spelling, spelled_after, size, AllFit, record_at, IsWritten};
+ghost use Rattle.mach_base.specs.Record.{Field, Value, values_in, spelling, spelled_after, IsRecord, AllFit, record_at, IsWritten};
 
 use crate::context::Endian;
 use crate::error::{Error, Result, ScrollError};
@@ -125,9 +125,6 @@ pub trait Record: Copy {
     // The value of each field.
     ghost values: { Self → List Value };
 
-    // The record of some values.
-    ghost of_values: { List Value → Self };
-
     /// The record at the front of some bytes.
     fn load(bytes: &[u8], le: Endian) -> Self
         requires { SIZE ≤ length bytes.now }
@@ -138,16 +135,26 @@ pub trait Record: Copy {
         ensures spelled { result ≡ spelled_after le [] fields (values self) }
         ensures fits { AllFit fields (values self) };
 
-    // The size is the sum of the widths.
-    ghost size_is: { SIZE ≡ size fields };
+    // The size is that of the fields, no record is empty, and no other one has the same values.
+    ghost lawful: { IsRecord SIZE fields values };
 
-    // The values give the record back.
-    ghost whole: { (x : Self) → of_values (values x) ≡ x };
-
-    // No record is empty.
-    ghost not_empty: { 0 < SIZE };
+    /// The record at a place, where it stands whole there.
+    #[inline(always)]
+    final fn quick(bytes: &[u8], offset: usize, le: Endian) -> Option<Self>
+        ensures { MatchOption result (IsErr (record_at le fields bytes.now offset)) (λ found. record_at le fields bytes.now offset ≡ Ok (values found)) }
+    {
+        if offset >= bytes.len() {
+            return None;
+        }
+        let rest = &bytes[offset..];
+        if rest.len() < Self::SIZE {
+            return None;
+        }
+        Some(Self::load(rest, le))
+    }
 
     /// The record at a place.
+    #[inline(always)]
     final fn read(bytes: &[u8], offset: usize, le: Endian) -> Result<Self>
         ensures { Reads values result (record_at le fields bytes.now offset) }
     {

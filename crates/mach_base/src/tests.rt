@@ -4,9 +4,10 @@ ghost use Rattle.std.specs.Prelude.{◌∷◌, [], ◌≤◌, ℕ, List, Ok};
 ghost use Rattle.std.proofs.Common.{rules};
 ghost use Rattle.mach_base.specs.Fault.{fault_of};
 ghost use Rattle.mach_base.specs.Front.{same_fault};
-ghost use Rattle.mach_base.specs.Record.{num, number_is, number_among};
+ghost use Rattle.mach_base.specs.Record.{num, number_is};
 
 use crate::*;
+use std::alloc::AllocError;
 
 // The kind of an error, with its numbers.
 #[derive(Clone, Copy, Debug, PartialEq)]
@@ -44,8 +45,6 @@ impl Record for Pair {
 
     ghost values = { λ x. number_is x.first ∷ number_is x.second ∷ [] };
 
-    ghost of_values = { λ vs. record { first = number_among vs 0; second = number_among vs 1 } };
-
     fn load(bytes: &[u8], le: Endian) -> Self {
         Pair {
             first: le.u32_at(bytes, 0),
@@ -57,11 +56,7 @@ impl Record for Pair {
         RecordBytes::new().u32(le, self.first).u16(le, self.second)
     }
 
-    ghost size_is = { Prim.search rules };
-
-    ghost whole = { Prim.search rules };
-
-    ghost not_empty = { Prim.search rules };
+    ghost lawful = { Prim.search rules };
 }
 
 // Bytes that say themselves how wide they are.
@@ -105,6 +100,9 @@ fn uleb128_vectors(rt: HostRuntime) -> Result<()> {
     for (bytes, want, after) in [
         (&[0xe5, 0x8e, 0x26][..], 624_485, 3),
         (&[0x7f, 0x80], 127, 1),
+        (&[0x80, 0x01], 128, 2),
+        (&[0xff, 0xff, 0xff, 0x7f], 268_435_455, 4),
+        (&[0x80, 0x80, 0x80, 0x80, 0x01, 0x00], 268_435_456, 5),
         (
             &[0x80, 0x80, 0x80, 0x80, 0x80, 0x80, 0x80, 0x80, 0x80, 0x00],
             0,
@@ -119,6 +117,7 @@ fn uleb128_vectors(rt: HostRuntime) -> Result<()> {
         let mut offset = 0;
         let value = Uleb128::read(bytes, &mut offset)?;
         assert_eq!(rt; (value, offset), (want, after));
+        assert_eq!(rt; quick_uleb(bytes, 0), Some((want, after)));
         let spelled = Uleb128::parse(bytes, 0)?;
         assert_eq!(rt; u64::from(spelled), want);
         assert_eq!(rt; spelled.size(), after);
@@ -176,6 +175,7 @@ fn leb128_refusals(rt: HostRuntime) {
             Uleb128::read(bytes, &mut offset).map_err(kind_of),
             Err(want)
         );
+        assert_eq!(rt; quick_uleb(bytes, 0), None);
         assert_eq!(rt;
             Sleb128::read(bytes, &mut offset).map_err(kind_of),
             Err(want)
@@ -188,6 +188,11 @@ fn leb128_refusals(rt: HostRuntime) {
 fn texts(rt: HostRuntime) -> Result<()> {
     assert_eq!(rt; read_text(b"ab", 0)?, "ab");
     assert_eq!(rt; read_text(b"ab\0c", 1)?, "b");
+    assert_eq!(rt; read_text(&[0xc3, 0xa9, 0], 0)?, "é");
+    assert_eq!(rt; quick_text(b"ab\0c", 0), Some("ab"));
+    assert_eq!(rt; quick_text(&[0xc3, 0xa9, 0], 0), Some("é"));
+    assert_eq!(rt; quick_text(&[0xff, 0], 0), None);
+    assert_eq!(rt; quick_text(b"ab", 2), None);
     assert_eq!(rt;
         read_text(b"ab", 2).map(str::len).map_err(kind_of),
         Err(Kind::BadOffset(2))
@@ -285,5 +290,43 @@ fn written_again<T: IntoCtx<C> + SizeWith<C> + Copy, C: Copy>(
 #[test]
 fn writes_by_bounds(rt: HostRuntime) -> Result<()> {
     assert_eq!(rt; written_again(BIG, BE)?, ([1, 2, 3, 4, 5, 6, 0, 0], 6));
+    Ok(())
+}
+
+#[test]
+fn errors_in_words(rt: HostRuntime) -> Result<()> {
+    let rows = [
+        (
+            Error::Malformed("a load command passes the end"),
+            "malformed: a load command passes the end",
+        ),
+        (Error::BadMagic(0x7f45_4c46), "bad magic 0x7f454c46"),
+        (
+            Error::from(ScrollError::BadOffset(65_535)),
+            "offset 65535 is past the end",
+        ),
+        (
+            Error::from(ScrollError::TooBig { size: 24, len: 8 }),
+            "24 bytes are wanted and 8 are left",
+        ),
+        (
+            Error::from(ScrollError::BadInput {
+                size: 5,
+                msg: "a text is UTF-8",
+            }),
+            "a text is UTF-8, 5 bytes left",
+        ),
+        (
+            Error::BufferTooShort(70, "fat entries"),
+            "70 fat entries do not fit the file",
+        ),
+        (Error::from(AllocError), "out of memory"),
+    ];
+    for (error, want) in &rows {
+        assert_eq!(rt;
+            format!(in rt.alloc(); "{}", describe(error))?.as_str(),
+            *want
+        );
+    }
     Ok(())
 }

@@ -97,7 +97,7 @@ impl<R: Record> TryIntoCtx<Endian> for R {
 
     ghost width = { λ _ _. R.SIZE };
 
-    ghost not_empty = { λ _ _. R.not_empty };
+    ghost not_empty = { λ _ _. R.lawful.some };
 
     fn try_into_ctx(self, bytes: &mut [u8], le: Endian) -> Result<usize> {
         self.write(bytes, 0, le)

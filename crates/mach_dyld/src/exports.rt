@@ -1,12 +1,11 @@
 //! The exports of an image, which a trie lists.
 
-ghost use Rattle.std.specs.Prelude.{◌≡◌, ◌≤◌, ◌++◌, List, length, IfOk, IfErr, OnOk, map, option_map, string_bytes};
+ghost use Rattle.std.specs.Prelude.{◌≡◌, ◌≤◌, ◌<◌, ◌+◌, ◌-◌, List, length, IfOk, IfErr};
 ghost use Rattle.mach_base.specs.Answer.{Stands, IsOkUnlessMemory};
-ghost use Rattle.mach_dyld.specs.Trie.{Entry, offset_of, own_entries};
-ghost use Rattle.mach_dyld.specs.Lists.{list_within};
-ghost use Rattle.mach_dyld.specs.Paths.{BlocksWithin};
-ghost use Rattle.mach_dyld.specs.Exports.{texts, info_of, entries, Appends};
+ghost use Rattle.mach_dyld.specs.Trie.{Entry, offset_of};
+ghost use Rattle.mach_dyld.specs.Exports.{texts, info_of, entries};
 ghost use Rattle.mach_dyld.specs.TrieRange.{range_in, trie_there, ListsExports, ExportsFault};
+ghost use Rattle.mach_dyld.specs.Visits.{Visits};
 
 pub use crate::info::{
     EXPORT_SYMBOL_FLAGS_KIND_ABSOLUTE, EXPORT_SYMBOL_FLAGS_KIND_MASK,
@@ -14,10 +13,11 @@ pub use crate::info::{
     EXPORT_SYMBOL_FLAGS_REEXPORT, EXPORT_SYMBOL_FLAGS_STUB_AND_RESOLVER,
     EXPORT_SYMBOL_FLAGS_WEAK_DEFINITION, ExportInfo, SymbolKind,
 };
-use crate::node::read_node;
-use mach_base::{Error, Result};
+use crate::steps::Steps;
+use crate::walk::{Source, walk};
+use mach_base::Result;
 use mach_records::{DyldInfoCommand, LinkeditDataCommand};
-use std::alloc::{AllocError, Allocator, Global};
+use std::alloc::{Allocator, Global};
 use std::marker::Model;
 
 /// An export: a name that the image offers to others.
@@ -53,35 +53,6 @@ impl<'a, A: Allocator> Export<'a, A> {
             offset,
         }
     }
-}
-
-// Two texts joined.
-fn joined<A: Allocator>(
-    alloc: A,
-    front: &str,
-    back: &str,
-) -> std::result::Result<String<A>, AllocError>
-    ensures { IfOk result (λ text. string_bytes text ≡ front.now ++ back.now) }
-{
-    let mut text = String::from_str(alloc, front)?;
-    text.push_str(back)?;
-    Ok(text)
-}
-
-// Lists a node's own export, if it has one.
-fn push_own<'a, A: Allocator + Clone>(
-    alloc: &A,
-    own: Option<ExportInfo<'a>>,
-    prefix: &str,
-    found: &mut Vec<Export<'a, A>, A>,
-) -> std::result::Result<(), AllocError>
-    ensures { OnOk result (entries found.new.items ≡ entries found.old.items ++ own_entries prefix.now (option_map info_of own.entry)) }
-{
-    if let Some(info) = own {
-        let name = String::from_str(alloc.clone()?, prefix)?;
-        found.push(Export::new(name, info))?;
-    }
-    Ok(())
 }
 
 /// An export trie in a range of the bytes, with its root at the range's start.
@@ -145,57 +116,32 @@ impl<'a> ExportTrie<'a> {
         ensures listed { IfOk result (λ v. ListsExports self.now (texts libs.now) (entries v.items)) }
         ensures only { (list : List Entry) → ListsExports self.now (texts libs.now) list → IsOkUnlessMemory result }
         ensures refused { IfErr result (Stands (ExportsFault self.now (texts libs.now))) }
+        ensures few_exports { IfOk result (λ v. length v.items ≤ self.now.upto - self.now.from) }
     {
-        self.list(alloc, libs)
+        self.exports_counted(alloc, libs, &mut Steps::new())
     }
 
-    fn list<A: Allocator + Clone>(
+    /// The same, with the nodes visited added to a count: where the answer is Ok as many as there are paths
+    /// to nodes, and never more than there are different nodes to which paths lead.
+    pub fn exports_counted<A: Allocator + Clone>(
         &self,
         alloc: A,
         libs: &[&'a str],
+        steps: &mut Steps,
     ) -> Result<Vec<Export<'a, A>, A>>
         ensures listed { IfOk result (λ v. ListsExports self.now (texts libs.now) (entries v.items)) }
+        ensures only { (list : List Entry) → ListsExports self.now (texts libs.now) list → IsOkUnlessMemory result }
         ensures refused { IfErr result (Stands (ExportsFault self.now (texts libs.now))) }
+        ensures few_exports { IfOk result (λ v. length v.items ≤ self.now.upto - self.now.from) }
+        ensures visits { Visits (trie_there self.now (texts libs.now)) self.now.from steps.old steps.new result }
+        ensures few_visits { steps.new ≤ steps.old + (self.now.upto - self.now.from) }
     {
-        let mut found = Vec::new(alloc.clone()?);
-        let levels = self.upto - self.from;
-        walk(&alloc, self, libs, levels, self.from, "", &mut found)?;
-        Ok(found)
-    }
-}
-
-// Lists a start within so many levels of nested nodes.
-fn walk<'a, A: Allocator + Clone>(
-    alloc: &A,
-    trie: &ExportTrie<'a>,
-    libs: &[&'a str],
-    levels: usize,
-    start: usize,
-    prefix: &str,
-    found: &mut Vec<Export<'a, A>, A>,
-) -> Result<()>
-    ensures ok { OnOk result (Appends (entries found.old.items) (entries found.new.items) (list_within (trie_there trie.now (texts libs.now)) levels start prefix.now)) }
-    ensures err { IfErr result (Stands (BlocksWithin (trie_there trie.now (texts libs.now)) levels start)) }
-{
-    if start >= trie.upto {
-        return Ok(());
-    }
-    if levels == 0 {
-        return Err(Error::Malformed("a node is met again on its own path"));
-    }
-    let node = read_node(alloc, trie.bytes, libs, trie.from, start)?;
-    push_own(alloc, node.own, prefix, found)?;
-    for branch in &node.branches {
-        let name = joined(alloc, prefix, branch.label)?;
-        walk(
-            alloc,
-            trie,
+        let source = Source {
+            bytes: self.bytes,
             libs,
-            levels - 1,
-            branch.start,
-            name.as_str(),
-            found,
-        )?;
+            from: self.from,
+            upto: self.upto,
+        };
+        walk(&alloc, &source, steps)
     }
-    Ok(())
 }

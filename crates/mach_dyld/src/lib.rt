@@ -11,5 +11,6 @@ mod steps;
 mod tally;
 #[cfg(test)]
 mod tests;
+mod walk;
 
 pub use crate::steps::Steps;

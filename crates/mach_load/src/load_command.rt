@@ -1,6 +1,6 @@
 //! Load commands, one after the other.
 
-ghost use Rattle.std.specs.Prelude.{◌≡◌, ◌+◌, IfOk, IfErr};
+ghost use Rattle.std.specs.Prelude.{◌≡◌, ◌+◌, Ok, IfOk, IfErr, IfSome, IfNone};
 ghost use Rattle.mach_base.specs.Answer.{Reads};
 ghost use Rattle.mach_load.specs.Command.{command_at, cmdsize_of};
 ghost use Rattle.mach_load.specs.Variants.{command_of};
@@ -35,6 +35,27 @@ impl LoadCommand {
         *offset += size;
         Ok(LoadCommand {
             offset: start,
+            command,
+        })
+    }
+
+    /// The same, unless the command is a thread or refused: `parse` then says which.
+    #[inline(always)]
+    pub fn quick(bytes: &[u8], offset: &mut usize, le: Endian) -> Option<LoadCommand>
+        ensures found { IfSome result (λ c. command_at le bytes.now offset.old ≡ Ok (command_of c)) }
+        ensures moved { IfSome result (λ c. offset.new ≡ offset.old + cmdsize_of (command_of c)) }
+        ensures stays { IfNone result (offset.new ≡ offset.old) }
+    {
+        let place = *offset;
+        let header = LoadCommandHeader::quick(bytes, place, le)?;
+        let left = bytes.len() - place;
+        if header.cmdsize as usize > left {
+            return None;
+        }
+        let command = CommandVariant::quick(bytes, place, le, header)?;
+        *offset = place + header.cmdsize as usize;
+        Some(LoadCommand {
+            offset: place,
             command,
         })
     }

@@ -38,7 +38,7 @@ impl Record for ThreadHead {
     ghost SIZE = { 16 };
 
     ghost use Rattle.std.specs.Prelude.{[], ◌∷◌};
-    ghost use Rattle.std.proofs.Common.{refl, arith};
+    ghost use Rattle.std.proofs.Common.{rules};
     ghost use Rattle.mach_base.specs.Record.{number_is, number_among};
     ghost use Rattle.mach_load.specs.ThreadState.{thread_fields};
 
@@ -46,13 +46,7 @@ impl Record for ThreadHead {
 
     ghost values = { λ r. number_is r.cmd ∷ number_is r.cmdsize ∷ number_is r.flavor ∷ number_is r.count ∷ [] };
 
-    ghost of_values = { λ vs. record { cmd = number_among vs 0; cmdsize = number_among vs 1; flavor = number_among vs 2; count = number_among vs 3 } };
-
-    ghost size_is = { refl };
-
-    ghost whole = { λ _. refl };
-
-    ghost not_empty = { omega arith };
+    ghost lawful = { Prim.search rules };
 
     fn load(bytes: &[u8], le: Endian) -> Self {
         ThreadHead {
@@ -88,7 +82,8 @@ fn state(bytes: &[u8], place: usize, count: usize, le: Endian) -> [u32; 70]
 impl ThreadCommand {
     /// Reads the thread command at a place.
     #[tactic(auto, unfolding(crate::specs::ThreadState::thread_at))]
-    pub fn read(bytes: &[u8], offset: usize, le: Endian) -> Result<Self>
+    #[inline(never)]
+    pub(crate) fn read(bytes: &[u8], offset: usize, le: Endian) -> Result<Self>
         ensures { Reads thread_values result (thread_at le bytes.now offset) }
     {
         let head = ThreadHead::read(bytes, offset, le)?;

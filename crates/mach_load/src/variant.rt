@@ -1,6 +1,6 @@
 //! What a load command says, by its number.
 
-ghost use Rattle.std.specs.Prelude.{◌≡◌, ◌<◌, ◌^◌, Ok};
+ghost use Rattle.std.specs.Prelude.{◌≡◌, ◌<◌, ◌^◌, Ok, IfSome};
 ghost use Rattle.mach_base.specs.Answer.{Reads};
 ghost use Rattle.mach_base.specs.Record.{number_among, record_at};
 ghost use Rattle.mach_records.specs.LoadCommandHeader.{header_fields, header_values};
@@ -30,6 +30,68 @@ use mach_records::{
     SubUmbrellaCommand, SymsegCommand, SymtabCommand, TwolevelHintsCommand, UuidCommand,
     VersionMinCommand,
 };
+
+// The table of the commands but threads: `$read` reads the record that the number says, and `$found`
+// answers the command with it.
+macro_rules! command_by_number {
+    ($header:ident, $found:ident, $read:path, $($at:ident),*) => {
+        match $header.cmd {
+            LC_SEGMENT => $found(CommandVariant::Segment32($read($($at),*)?)),
+            LC_SYMTAB => $found(CommandVariant::Symtab($read($($at),*)?)),
+            LC_SYMSEG => $found(CommandVariant::Symseg($read($($at),*)?)),
+            LC_LOADFVMLIB => $found(CommandVariant::LoadFvmlib($read($($at),*)?)),
+            LC_IDFVMLIB => $found(CommandVariant::IdFvmlib($read($($at),*)?)),
+            LC_IDENT => $found(CommandVariant::Ident($read($($at),*)?)),
+            LC_FVMFILE => $found(CommandVariant::Fvmfile($read($($at),*)?)),
+            LC_PREPAGE => $found(CommandVariant::Prepage($header)),
+            LC_DYSYMTAB => $found(CommandVariant::Dysymtab($read($($at),*)?)),
+            LC_LOAD_DYLIB => $found(CommandVariant::LoadDylib($read($($at),*)?)),
+            LC_ID_DYLIB => $found(CommandVariant::IdDylib($read($($at),*)?)),
+            LC_LOAD_DYLINKER => $found(CommandVariant::LoadDylinker($read($($at),*)?)),
+            LC_ID_DYLINKER => $found(CommandVariant::IdDylinker($read($($at),*)?)),
+            LC_PREBOUND_DYLIB => $found(CommandVariant::PreboundDylib($read($($at),*)?)),
+            LC_ROUTINES => $found(CommandVariant::Routines32($read($($at),*)?)),
+            LC_SUB_FRAMEWORK => $found(CommandVariant::SubFramework($read($($at),*)?)),
+            LC_SUB_UMBRELLA => $found(CommandVariant::SubUmbrella($read($($at),*)?)),
+            LC_SUB_CLIENT => $found(CommandVariant::SubClient($read($($at),*)?)),
+            LC_SUB_LIBRARY => $found(CommandVariant::SubLibrary($read($($at),*)?)),
+            LC_TWOLEVEL_HINTS => $found(CommandVariant::TwolevelHints($read($($at),*)?)),
+            LC_PREBIND_CKSUM => $found(CommandVariant::PrebindCksum($read($($at),*)?)),
+            LC_SEGMENT_64 => $found(CommandVariant::Segment64($read($($at),*)?)),
+            LC_ROUTINES_64 => $found(CommandVariant::Routines64($read($($at),*)?)),
+            LC_UUID => $found(CommandVariant::Uuid($read($($at),*)?)),
+            LC_CODE_SIGNATURE => $found(CommandVariant::CodeSignature($read($($at),*)?)),
+            LC_SEGMENT_SPLIT_INFO => $found(CommandVariant::SegmentSplitInfo($read($($at),*)?)),
+            LC_LAZY_LOAD_DYLIB => $found(CommandVariant::LazyLoadDylib($read($($at),*)?)),
+            LC_ENCRYPTION_INFO => $found(CommandVariant::EncryptionInfo32($read($($at),*)?)),
+            LC_DYLD_INFO => $found(CommandVariant::DyldInfo($read($($at),*)?)),
+            LC_VERSION_MIN_MACOSX => $found(CommandVariant::VersionMinMacosx($read($($at),*)?)),
+            LC_VERSION_MIN_IPHONEOS => $found(CommandVariant::VersionMinIphoneos($read($($at),*)?)),
+            LC_FUNCTION_STARTS => $found(CommandVariant::FunctionStarts($read($($at),*)?)),
+            LC_DYLD_ENVIRONMENT => $found(CommandVariant::DyldEnvironment($read($($at),*)?)),
+            LC_DATA_IN_CODE => $found(CommandVariant::DataInCode($read($($at),*)?)),
+            LC_SOURCE_VERSION => $found(CommandVariant::SourceVersion($read($($at),*)?)),
+            LC_DYLIB_CODE_SIGN_DRS => $found(CommandVariant::DylibCodeSignDrs($read($($at),*)?)),
+            LC_ENCRYPTION_INFO_64 => $found(CommandVariant::EncryptionInfo64($read($($at),*)?)),
+            LC_LINKER_OPTION => $found(CommandVariant::LinkerOption($read($($at),*)?)),
+            LC_LINKER_OPTIMIZATION_HINT => $found(CommandVariant::LinkerOptimizationHint($read($($at),*)?)),
+            LC_VERSION_MIN_TVOS => $found(CommandVariant::VersionMinTvos($read($($at),*)?)),
+            LC_VERSION_MIN_WATCHOS => $found(CommandVariant::VersionMinWatchos($read($($at),*)?)),
+            LC_NOTE => $found(CommandVariant::Note($read($($at),*)?)),
+            LC_BUILD_VERSION => $found(CommandVariant::BuildVersion($read($($at),*)?)),
+            LC_LOAD_WEAK_DYLIB => $found(CommandVariant::LoadWeakDylib($read($($at),*)?)),
+            LC_RPATH => $found(CommandVariant::Rpath($read($($at),*)?)),
+            LC_REEXPORT_DYLIB => $found(CommandVariant::ReexportDylib($read($($at),*)?)),
+            LC_DYLD_INFO_ONLY => $found(CommandVariant::DyldInfoOnly($read($($at),*)?)),
+            LC_LOAD_UPWARD_DYLIB => $found(CommandVariant::LoadUpwardDylib($read($($at),*)?)),
+            LC_MAIN => $found(CommandVariant::Main($read($($at),*)?)),
+            LC_DYLD_EXPORTS_TRIE => $found(CommandVariant::DyldExportsTrie($read($($at),*)?)),
+            LC_DYLD_CHAINED_FIXUPS => $found(CommandVariant::DyldChainedFixups($read($($at),*)?)),
+            LC_FILESET_ENTRY => $found(CommandVariant::FilesetEntry($read($($at),*)?)),
+            _ => $found(CommandVariant::Unimplemented($header)),
+        }
+    };
+}
 
 /// What a load command says, by its number.
 #[derive(Clone, Copy, Debug)]
@@ -147,40 +209,41 @@ pub enum CommandVariant {
 }
 
 impl CommandVariant {
-    /// The command's number, one of the `LC_` constants.
-    pub fn cmd(&self) -> u32
-        ensures { result ≡ number_among (variant_values self.now) 0 }
+    // The command's number, and how many bytes lie between its offset and the next one's.
+    fn header(&self) -> (u32, u32)
+        ensures number { result.0 ≡ number_among (variant_values self.now) 0 }
+        ensures size { result.1 ≡ number_among (variant_values self.now) 1 }
     {
         match self {
-            CommandVariant::Segment32(c) => c.cmd,
-            CommandVariant::Symtab(c) => c.cmd,
-            CommandVariant::Symseg(c) => c.cmd,
-            CommandVariant::Thread(c) | CommandVariant::Unixthread(c) => c.cmd,
-            CommandVariant::LoadFvmlib(c) | CommandVariant::IdFvmlib(c) => c.cmd,
-            CommandVariant::Ident(c) => c.cmd,
-            CommandVariant::Fvmfile(c) => c.cmd,
-            CommandVariant::Prepage(c) | CommandVariant::Unimplemented(c) => c.cmd,
-            CommandVariant::Dysymtab(c) => c.cmd,
+            CommandVariant::Segment32(c) => (c.cmd, c.cmdsize),
+            CommandVariant::Symtab(c) => (c.cmd, c.cmdsize),
+            CommandVariant::Symseg(c) => (c.cmd, c.cmdsize),
+            CommandVariant::Thread(c) | CommandVariant::Unixthread(c) => (c.cmd, c.cmdsize),
+            CommandVariant::LoadFvmlib(c) | CommandVariant::IdFvmlib(c) => (c.cmd, c.cmdsize),
+            CommandVariant::Ident(c) => (c.cmd, c.cmdsize),
+            CommandVariant::Fvmfile(c) => (c.cmd, c.cmdsize),
+            CommandVariant::Prepage(c) | CommandVariant::Unimplemented(c) => (c.cmd, c.cmdsize),
+            CommandVariant::Dysymtab(c) => (c.cmd, c.cmdsize),
             CommandVariant::LoadDylib(c)
             | CommandVariant::IdDylib(c)
             | CommandVariant::LazyLoadDylib(c)
             | CommandVariant::LoadWeakDylib(c)
             | CommandVariant::ReexportDylib(c)
-            | CommandVariant::LoadUpwardDylib(c) => c.cmd,
+            | CommandVariant::LoadUpwardDylib(c) => (c.cmd, c.cmdsize),
             CommandVariant::LoadDylinker(c)
             | CommandVariant::IdDylinker(c)
-            | CommandVariant::DyldEnvironment(c) => c.cmd,
-            CommandVariant::PreboundDylib(c) => c.cmd,
-            CommandVariant::Routines32(c) => c.cmd,
-            CommandVariant::SubFramework(c) => c.cmd,
-            CommandVariant::SubUmbrella(c) => c.cmd,
-            CommandVariant::SubClient(c) => c.cmd,
-            CommandVariant::SubLibrary(c) => c.cmd,
-            CommandVariant::TwolevelHints(c) => c.cmd,
-            CommandVariant::PrebindCksum(c) => c.cmd,
-            CommandVariant::Segment64(c) => c.cmd,
-            CommandVariant::Routines64(c) => c.cmd,
-            CommandVariant::Uuid(c) => c.cmd,
+            | CommandVariant::DyldEnvironment(c) => (c.cmd, c.cmdsize),
+            CommandVariant::PreboundDylib(c) => (c.cmd, c.cmdsize),
+            CommandVariant::Routines32(c) => (c.cmd, c.cmdsize),
+            CommandVariant::SubFramework(c) => (c.cmd, c.cmdsize),
+            CommandVariant::SubUmbrella(c) => (c.cmd, c.cmdsize),
+            CommandVariant::SubClient(c) => (c.cmd, c.cmdsize),
+            CommandVariant::SubLibrary(c) => (c.cmd, c.cmdsize),
+            CommandVariant::TwolevelHints(c) => (c.cmd, c.cmdsize),
+            CommandVariant::PrebindCksum(c) => (c.cmd, c.cmdsize),
+            CommandVariant::Segment64(c) => (c.cmd, c.cmdsize),
+            CommandVariant::Routines64(c) => (c.cmd, c.cmdsize),
+            CommandVariant::Uuid(c) => (c.cmd, c.cmdsize),
             CommandVariant::CodeSignature(c)
             | CommandVariant::SegmentSplitInfo(c)
             | CommandVariant::FunctionStarts(c)
@@ -189,21 +252,28 @@ impl CommandVariant {
             | CommandVariant::LinkerOption(c)
             | CommandVariant::LinkerOptimizationHint(c)
             | CommandVariant::DyldExportsTrie(c)
-            | CommandVariant::DyldChainedFixups(c) => c.cmd,
-            CommandVariant::EncryptionInfo32(c) => c.cmd,
-            CommandVariant::DyldInfo(c) | CommandVariant::DyldInfoOnly(c) => c.cmd,
+            | CommandVariant::DyldChainedFixups(c) => (c.cmd, c.cmdsize),
+            CommandVariant::EncryptionInfo32(c) => (c.cmd, c.cmdsize),
+            CommandVariant::DyldInfo(c) | CommandVariant::DyldInfoOnly(c) => (c.cmd, c.cmdsize),
             CommandVariant::VersionMinMacosx(c)
             | CommandVariant::VersionMinIphoneos(c)
             | CommandVariant::VersionMinTvos(c)
-            | CommandVariant::VersionMinWatchos(c) => c.cmd,
-            CommandVariant::SourceVersion(c) => c.cmd,
-            CommandVariant::EncryptionInfo64(c) => c.cmd,
-            CommandVariant::Note(c) => c.cmd,
-            CommandVariant::BuildVersion(c) => c.cmd,
-            CommandVariant::Rpath(c) => c.cmd,
-            CommandVariant::Main(c) => c.cmd,
-            CommandVariant::FilesetEntry(c) => c.cmd,
+            | CommandVariant::VersionMinWatchos(c) => (c.cmd, c.cmdsize),
+            CommandVariant::SourceVersion(c) => (c.cmd, c.cmdsize),
+            CommandVariant::EncryptionInfo64(c) => (c.cmd, c.cmdsize),
+            CommandVariant::Note(c) => (c.cmd, c.cmdsize),
+            CommandVariant::BuildVersion(c) => (c.cmd, c.cmdsize),
+            CommandVariant::Rpath(c) => (c.cmd, c.cmdsize),
+            CommandVariant::Main(c) => (c.cmd, c.cmdsize),
+            CommandVariant::FilesetEntry(c) => (c.cmd, c.cmdsize),
         }
+    }
+
+    /// The command's number, one of the `LC_` constants.
+    pub fn cmd(&self) -> u32
+        ensures { result ≡ number_among (variant_values self.now) 0 }
+    {
+        self.header().0
     }
 
     /// How many bytes lie between this command's offset and the next one's.
@@ -211,199 +281,42 @@ impl CommandVariant {
         ensures value { result ≡ number_among (variant_values self.now) 1 }
         ensures fits { result < 2 ^ 32 }
     {
-        let size = match self {
-            CommandVariant::Segment32(c) => c.cmdsize,
-            CommandVariant::Symtab(c) => c.cmdsize,
-            CommandVariant::Symseg(c) => c.cmdsize,
-            CommandVariant::Thread(c) | CommandVariant::Unixthread(c) => c.cmdsize,
-            CommandVariant::LoadFvmlib(c) | CommandVariant::IdFvmlib(c) => c.cmdsize,
-            CommandVariant::Ident(c) => c.cmdsize,
-            CommandVariant::Fvmfile(c) => c.cmdsize,
-            CommandVariant::Prepage(c) | CommandVariant::Unimplemented(c) => c.cmdsize,
-            CommandVariant::Dysymtab(c) => c.cmdsize,
-            CommandVariant::LoadDylib(c)
-            | CommandVariant::IdDylib(c)
-            | CommandVariant::LazyLoadDylib(c)
-            | CommandVariant::LoadWeakDylib(c)
-            | CommandVariant::ReexportDylib(c)
-            | CommandVariant::LoadUpwardDylib(c) => c.cmdsize,
-            CommandVariant::LoadDylinker(c)
-            | CommandVariant::IdDylinker(c)
-            | CommandVariant::DyldEnvironment(c) => c.cmdsize,
-            CommandVariant::PreboundDylib(c) => c.cmdsize,
-            CommandVariant::Routines32(c) => c.cmdsize,
-            CommandVariant::SubFramework(c) => c.cmdsize,
-            CommandVariant::SubUmbrella(c) => c.cmdsize,
-            CommandVariant::SubClient(c) => c.cmdsize,
-            CommandVariant::SubLibrary(c) => c.cmdsize,
-            CommandVariant::TwolevelHints(c) => c.cmdsize,
-            CommandVariant::PrebindCksum(c) => c.cmdsize,
-            CommandVariant::Segment64(c) => c.cmdsize,
-            CommandVariant::Routines64(c) => c.cmdsize,
-            CommandVariant::Uuid(c) => c.cmdsize,
-            CommandVariant::CodeSignature(c)
-            | CommandVariant::SegmentSplitInfo(c)
-            | CommandVariant::FunctionStarts(c)
-            | CommandVariant::DataInCode(c)
-            | CommandVariant::DylibCodeSignDrs(c)
-            | CommandVariant::LinkerOption(c)
-            | CommandVariant::LinkerOptimizationHint(c)
-            | CommandVariant::DyldExportsTrie(c)
-            | CommandVariant::DyldChainedFixups(c) => c.cmdsize,
-            CommandVariant::EncryptionInfo32(c) => c.cmdsize,
-            CommandVariant::DyldInfo(c) | CommandVariant::DyldInfoOnly(c) => c.cmdsize,
-            CommandVariant::VersionMinMacosx(c)
-            | CommandVariant::VersionMinIphoneos(c)
-            | CommandVariant::VersionMinTvos(c)
-            | CommandVariant::VersionMinWatchos(c) => c.cmdsize,
-            CommandVariant::SourceVersion(c) => c.cmdsize,
-            CommandVariant::EncryptionInfo64(c) => c.cmdsize,
-            CommandVariant::Note(c) => c.cmdsize,
-            CommandVariant::BuildVersion(c) => c.cmdsize,
-            CommandVariant::Rpath(c) => c.cmdsize,
-            CommandVariant::Main(c) => c.cmdsize,
-            CommandVariant::FilesetEntry(c) => c.cmdsize,
-        };
-        size as usize
+        self.header().1 as usize
     }
 
     /// Reads the record that a command's number says, at the command's place, where its header is this one.
-    pub fn read(bytes: &[u8], offset: usize, le: Endian, header: LoadCommandHeader) -> Result<Self>
+    pub(crate) fn read(
+        bytes: &[u8],
+        offset: usize,
+        le: Endian,
+        header: LoadCommandHeader,
+    ) -> Result<Self>
         requires { record_at le header_fields bytes.now offset ≡ Ok (header_values header) }
         ensures { Reads (λ v. command_of (record { offset = offset; command = v })) result (command_by (row_of header.cmd) le bytes.now offset) }
     {
         match header.cmd {
-            LC_SEGMENT => Ok(CommandVariant::Segment32(SegmentCommand32::read(bytes, offset, le)?)),
-            LC_SYMTAB => Ok(CommandVariant::Symtab(SymtabCommand::read(bytes, offset, le)?)),
-            LC_SYMSEG => Ok(CommandVariant::Symseg(SymsegCommand::read(bytes, offset, le)?)),
             LC_THREAD => Ok(CommandVariant::Thread(ThreadCommand::read(bytes, offset, le)?)),
             LC_UNIXTHREAD => Ok(CommandVariant::Unixthread(ThreadCommand::read(
                 bytes, offset, le,
             )?)),
-            LC_LOADFVMLIB => Ok(CommandVariant::LoadFvmlib(FvmlibCommand::read(
-                bytes, offset, le,
-            )?)),
-            LC_IDFVMLIB => Ok(CommandVariant::IdFvmlib(FvmlibCommand::read(bytes, offset, le)?)),
-            LC_IDENT => Ok(CommandVariant::Ident(IdentCommand::read(bytes, offset, le)?)),
-            LC_FVMFILE => Ok(CommandVariant::Fvmfile(FvmfileCommand::read(bytes, offset, le)?)),
-            LC_PREPAGE => Ok(CommandVariant::Prepage(header)),
-            LC_DYSYMTAB => Ok(CommandVariant::Dysymtab(DysymtabCommand::read(bytes, offset, le)?)),
-            LC_LOAD_DYLIB => Ok(CommandVariant::LoadDylib(DylibCommand::read(bytes, offset, le)?)),
-            LC_ID_DYLIB => Ok(CommandVariant::IdDylib(DylibCommand::read(bytes, offset, le)?)),
-            LC_LOAD_DYLINKER => Ok(CommandVariant::LoadDylinker(DylinkerCommand::read(
-                bytes, offset, le,
-            )?)),
-            LC_ID_DYLINKER => Ok(CommandVariant::IdDylinker(DylinkerCommand::read(
-                bytes, offset, le,
-            )?)),
-            LC_PREBOUND_DYLIB => Ok(CommandVariant::PreboundDylib(PreboundDylibCommand::read(
-                bytes, offset, le,
-            )?)),
-            LC_ROUTINES => Ok(CommandVariant::Routines32(RoutinesCommand32::read(
-                bytes, offset, le,
-            )?)),
-            LC_SUB_FRAMEWORK => Ok(CommandVariant::SubFramework(SubFrameworkCommand::read(
-                bytes, offset, le,
-            )?)),
-            LC_SUB_UMBRELLA => Ok(CommandVariant::SubUmbrella(SubUmbrellaCommand::read(
-                bytes, offset, le,
-            )?)),
-            LC_SUB_CLIENT => Ok(CommandVariant::SubClient(SubClientCommand::read(
-                bytes, offset, le,
-            )?)),
-            LC_SUB_LIBRARY => Ok(CommandVariant::SubLibrary(SubLibraryCommand::read(
-                bytes, offset, le,
-            )?)),
-            LC_TWOLEVEL_HINTS => Ok(CommandVariant::TwolevelHints(TwolevelHintsCommand::read(
-                bytes, offset, le,
-            )?)),
-            LC_PREBIND_CKSUM => Ok(CommandVariant::PrebindCksum(PrebindCksumCommand::read(
-                bytes, offset, le,
-            )?)),
-            LC_SEGMENT_64 => Ok(CommandVariant::Segment64(SegmentCommand64::read(
-                bytes, offset, le,
-            )?)),
-            LC_ROUTINES_64 => Ok(CommandVariant::Routines64(RoutinesCommand64::read(
-                bytes, offset, le,
-            )?)),
-            LC_UUID => Ok(CommandVariant::Uuid(UuidCommand::read(bytes, offset, le)?)),
-            LC_CODE_SIGNATURE => Ok(CommandVariant::CodeSignature(LinkeditDataCommand::read(
-                bytes, offset, le,
-            )?)),
-            LC_SEGMENT_SPLIT_INFO => Ok(CommandVariant::SegmentSplitInfo(LinkeditDataCommand::read(
-                bytes, offset, le,
-            )?)),
-            LC_LAZY_LOAD_DYLIB => Ok(CommandVariant::LazyLoadDylib(DylibCommand::read(
-                bytes, offset, le,
-            )?)),
-            LC_ENCRYPTION_INFO => Ok(CommandVariant::EncryptionInfo32(EncryptionInfoCommand32::read(
-                bytes, offset, le,
-            )?)),
-            LC_DYLD_INFO => Ok(CommandVariant::DyldInfo(DyldInfoCommand::read(bytes, offset, le)?)),
-            LC_VERSION_MIN_MACOSX => Ok(CommandVariant::VersionMinMacosx(VersionMinCommand::read(
-                bytes, offset, le,
-            )?)),
-            LC_VERSION_MIN_IPHONEOS => Ok(CommandVariant::VersionMinIphoneos(
-                VersionMinCommand::read(bytes, offset, le)?,
-            )),
-            LC_FUNCTION_STARTS => Ok(CommandVariant::FunctionStarts(LinkeditDataCommand::read(
-                bytes, offset, le,
-            )?)),
-            LC_DYLD_ENVIRONMENT => Ok(CommandVariant::DyldEnvironment(DylinkerCommand::read(
-                bytes, offset, le,
-            )?)),
-            LC_DATA_IN_CODE => Ok(CommandVariant::DataInCode(LinkeditDataCommand::read(
-                bytes, offset, le,
-            )?)),
-            LC_SOURCE_VERSION => Ok(CommandVariant::SourceVersion(SourceVersionCommand::read(
-                bytes, offset, le,
-            )?)),
-            LC_DYLIB_CODE_SIGN_DRS => Ok(CommandVariant::DylibCodeSignDrs(LinkeditDataCommand::read(
-                bytes, offset, le,
-            )?)),
-            LC_ENCRYPTION_INFO_64 => Ok(CommandVariant::EncryptionInfo64(
-                EncryptionInfoCommand64::read(bytes, offset, le)?,
-            )),
-            LC_LINKER_OPTION => Ok(CommandVariant::LinkerOption(LinkeditDataCommand::read(
-                bytes, offset, le,
-            )?)),
-            LC_LINKER_OPTIMIZATION_HINT => Ok(CommandVariant::LinkerOptimizationHint(
-                LinkeditDataCommand::read(bytes, offset, le)?,
-            )),
-            LC_VERSION_MIN_TVOS => Ok(CommandVariant::VersionMinTvos(VersionMinCommand::read(
-                bytes, offset, le,
-            )?)),
-            LC_VERSION_MIN_WATCHOS => Ok(CommandVariant::VersionMinWatchos(VersionMinCommand::read(
-                bytes, offset, le,
-            )?)),
-            LC_NOTE => Ok(CommandVariant::Note(NoteCommand::read(bytes, offset, le)?)),
-            LC_BUILD_VERSION => Ok(CommandVariant::BuildVersion(BuildVersionCommand::read(
-                bytes, offset, le,
-            )?)),
-            LC_LOAD_WEAK_DYLIB => Ok(CommandVariant::LoadWeakDylib(DylibCommand::read(
-                bytes, offset, le,
-            )?)),
-            LC_RPATH => Ok(CommandVariant::Rpath(RpathCommand::read(bytes, offset, le)?)),
-            LC_REEXPORT_DYLIB => Ok(CommandVariant::ReexportDylib(DylibCommand::read(
-                bytes, offset, le,
-            )?)),
-            LC_DYLD_INFO_ONLY => Ok(CommandVariant::DyldInfoOnly(DyldInfoCommand::read(
-                bytes, offset, le,
-            )?)),
-            LC_LOAD_UPWARD_DYLIB => Ok(CommandVariant::LoadUpwardDylib(DylibCommand::read(
-                bytes, offset, le,
-            )?)),
-            LC_MAIN => Ok(CommandVariant::Main(EntryPointCommand::read(bytes, offset, le)?)),
-            LC_DYLD_EXPORTS_TRIE => Ok(CommandVariant::DyldExportsTrie(LinkeditDataCommand::read(
-                bytes, offset, le,
-            )?)),
-            LC_DYLD_CHAINED_FIXUPS => Ok(CommandVariant::DyldChainedFixups(
-                LinkeditDataCommand::read(bytes, offset, le)?,
-            )),
-            LC_FILESET_ENTRY => Ok(CommandVariant::FilesetEntry(FilesetEntryCommand::read(
-                bytes, offset, le,
-            )?)),
-            _ => Ok(CommandVariant::Unimplemented(header)),
+            _ => command_by_number!(header, Ok, Record::read, bytes, offset, le),
+        }
+    }
+
+    /// The same, unless it is a thread or refused.
+    #[inline(always)]
+    pub(crate) fn quick(
+        bytes: &[u8],
+        offset: usize,
+        le: Endian,
+        header: LoadCommandHeader,
+    ) -> Option<Self>
+        requires { record_at le header_fields bytes.now offset ≡ Ok (header_values header) }
+        ensures { IfSome result (λ v. command_by (row_of header.cmd) le bytes.now offset ≡ Ok (command_of (record { offset = offset; command = v }))) }
+    {
+        match header.cmd {
+            LC_THREAD | LC_UNIXTHREAD => None,
+            _ => command_by_number!(header, Some, Record::quick, bytes, offset, le),
         }
     }
 }

@@ -1,6 +1,5 @@
 -- The table at the front of a fat file (`mach-o/fat.h`, struct fat_header and fat_arch).
 use Rattle.std.specs.Prelude.{ℕ, ◌+◌, List, [], ◌∷◌, length, take, drop, nat_le, if◌then◌else◌}
-use Rattle.std.specs.Int.{IsBitSet}
 use Rattle.mach_base.specs.Record.{Field, num, Value, number_is, number_among}
 use Rattle.mach_parts.specs.declared.fat.FatHeader.{FatHeader}
 use Rattle.mach_parts.specs.declared.fat.FatArch.{FatArch}
@@ -37,7 +36,3 @@ fat_arch_of_values vs =
 -- the n bytes at s where they lie in the bytes, else none
 abbrev pub part_of : List ℕ → ℕ → ℕ → List ℕ
 part_of bytes s n = if nat_le (s + n) (length bytes) then take n (drop s bytes) else []
-
--- the addresses of this cpu have 64 bits: bit 24 of its number (`mach/machine.h`, CPU_ARCH_ABI64)
-abbrev pub HasAbi64 : ℕ → Type 0
-HasAbi64 cputype = IsBitSet cputype 24

@@ -1,5 +1,5 @@
 -- The header of an image (`mach-o/loader.h`, struct mach_header and mach_header_64).
-use Rattle.std.specs.Prelude.{◌≡◌, ℕ, ◌%◌, ◌/◌, ◌^◌, List, [], ◌∷◌, length, Ok, Err, nat_le, if◌then◌else◌}
+use Rattle.std.specs.Prelude.{◌≡◌, ℕ, ◌%◌, ◌^◌, List, [], ◌∷◌, length, Ok, Err, nat_le, if◌then◌else◌}
 use Rattle.mach_base.specs.declared.context.Endian.{Endian}
 use Rattle.mach_base.specs.declared.context.Container.{Container}
 use Rattle.mach_base.specs.declared.context.Container.TheVariants.{Little, Big}
@@ -150,11 +150,3 @@ magic_alone magic =
 abbrev pub new_header : Container → Header
 new_header Little = magic_alone 0xfeed_face
 new_header Big = magic_alone 0xfeed_facf
-
--- the kind of a cpu without its capabilities, the top 8 bits (`mach/machine.h`, CPU_SUBTYPE_MASK)
-abbrev pub kind_of_cpu : ℕ → ℕ
-kind_of_cpu cpusubtype = cpusubtype % 2 ^ 24
-
--- these 8 bits
-abbrev pub caps_of_cpu : ℕ → ℕ
-caps_of_cpu cpusubtype = cpusubtype / 2 ^ 24

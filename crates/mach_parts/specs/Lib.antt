@@ -1,3 +1,4 @@
+pub mod Cpu
 pub mod Header
 pub mod HeaderNames
 pub mod Fat
@@ -5,6 +6,7 @@ pub mod Items
 pub mod Relocation
 pub mod RelocationName
 pub mod RelocationItems
+pub mod RelocationWhole
 pub mod Section
 pub mod SectionItems
 pub mod Segment

@@ -1,7 +1,5 @@
 -- Relocations (`mach-o/reloc.h`, struct relocation_info).
-use Rattle.std.specs.Prelude.{◌≡◌, ℕ, ◌+◌, ◌-◌, ◌*◌, ◌/◌, ◌%◌, ◌^◌, ℤ, pos, negsuc, List, [], ◌∷◌, Result, Ok, nat_lt, if◌then◌else◌}
-use Rattle.std.proofs.Common.{◌≤◌, ap, refl, inl, inr, arith, lt-ltb, le-ltb}
-use Rattle.std.proofs.lemmas.Bool.{cases_lt}
+use Rattle.std.specs.Prelude.{ℕ, ◌+◌, ◌-◌, ◌*◌, ◌/◌, ◌%◌, ◌^◌, ℤ, pos, negsuc, List, [], ◌∷◌, Result, Ok, nat_lt, if◌then◌else◌}
 use Rattle.mach_base.specs.declared.context.Endian.{Endian}
 use Rattle.mach_base.specs.Answer.{◌>>=◌}
 use Rattle.mach_base.specs.Fault.{Fault}
@@ -52,28 +50,3 @@ relocation_item le bytes reloff k = relocation_at le bytes (reloff + 8 * k)
 -- so many relocations that begin at a place, from the first
 abbrev pub relocations_at : Endian → List ℕ → ℕ → ℕ → List (Result RelocationInfo Fault)
 relocations_at le bytes reloff count = items_from (relocation_item le bytes reloff) 0 count
-
-whole_pos : (n : ℕ) → signed_of (signed_value (pos n)) ≡ pos n
-whole_pos n = elim (cases_lt n (2 ^ 31)) [
-  | inl low ↦ simp (lt-ltb n (2 ^ 31) low) refl
-  | inr high ↦ simp (le-ltb n (2 ^ 31) high) refl
-]
-
-whole_negsuc : (n : ℕ) → signed_of (signed_value (negsuc n)) ≡ negsuc n
-whole_negsuc n = elim (cases_lt n (2 ^ 31)) [
-  | inl low ↦
-      let above : 2 ^ 31 ≤ 2 ^ 32 - (n + 1) = omega arith in
-      let back : 2 ^ 32 - (2 ^ 32 - (n + 1) + 1) ≡ n = omega arith in
-      simp (lt-ltb n (2 ^ 31) low, le-ltb (2 ^ 32 - (n + 1)) (2 ^ 31) above) (ap negsuc back)
-  | inr high ↦ simp (le-ltb n (2 ^ 31) high) refl
-]
-
--- a signed number is that of its value
-signed_whole : (z : ℤ) → signed_of (signed_value z) ≡ z
-signed_whole (pos n) = whole_pos n
-signed_whole (negsuc n) = whole_negsuc n
-
--- a relocation is that of its values
-pub relocation_whole : (r : RelocationInfo) → relocation_of_values (relocation_values r) ≡ r
-relocation_whole r =
-    ap (λ (z : ℤ). let made : RelocationInfo = record { r_address = z; r_info = r.r_info } in made) (signed_whole r.r_address)

@@ -59,17 +59,17 @@ arm64_names =
     ∷ []
 
 -- the name of a type among those of a cpu, or UNKNOWN
-abbrev pub name_of : List (List ℕ) → ℕ → List ℕ
-name_of [] k = codes "UNKNOWN"
-name_of (name ∷ names) zero = name
-name_of (name ∷ names) (suc k) = name_of names k
+abbrev pub type_name_of : List (List ℕ) → ℕ → List ℕ
+type_name_of [] k = codes "UNKNOWN"
+type_name_of (name ∷ names) zero = name
+type_name_of (name ∷ names) (suc k) = type_name_of names k
 
 -- the name of a type for a cpu (CPU_TYPE_ARM64 and CPU_TYPE_ARM64_32, CPU_TYPE_X86_64, CPU_TYPE_ARM,
 -- CPU_TYPE_X86), or BAD_CPUTYPE
 abbrev pub relocation_name : ℕ → ℕ → List ℕ
 relocation_name reloc cputype =
-    if cputype == 0x100_000c || cputype == 0x200_000c then name_of arm64_names reloc
-    else (if cputype == 0x100_0007 then name_of x86_64_names reloc
-    else (if cputype == 0xc then name_of arm_names reloc
-    else (if cputype == 0x7 then name_of x86_names reloc
+    if cputype == 0x100_000c || cputype == 0x200_000c then type_name_of arm64_names reloc
+    else (if cputype == 0x100_0007 then type_name_of x86_64_names reloc
+    else (if cputype == 0xc then type_name_of arm_names reloc
+    else (if cputype == 0x7 then type_name_of x86_names reloc
     else codes "BAD_CPUTYPE")))

@@ -70,8 +70,8 @@ pub record SegmentView : Type 0 where
   pub ctx : Ctx
 
 -- the fields that a segment holds
-abbrev pub command_of : Segment → SegmentCommand64
-command_of s =
+abbrev pub segment_command_of : Segment → SegmentCommand64
+segment_command_of s =
     record {
       cmd = s.cmd;
       cmdsize = s.cmdsize;
@@ -89,7 +89,7 @@ command_of s =
 abbrev pub segment_view : Segment → SegmentView
 segment_view s =
     record {
-      command = command_of s;
+      command = segment_command_of s;
       bytes = s.bytes.now;
       file = s.file.now;
       offset = s.offset;

@@ -4,11 +4,12 @@ ghost use Rattle.std.specs.Prelude.{◌≡◌, ◌↔◌, IsTrue};
 ghost use Rattle.mach_base.specs.declared.context.Endian.TheVariants.{Big};
 ghost use Rattle.mach_base.specs.Answer.{Reads};
 ghost use Rattle.mach_base.specs.Record.{record_at, values_in};
-ghost use Rattle.mach_parts.specs.Header.{kind_of_cpu, caps_of_cpu};
-ghost use Rattle.mach_parts.specs.Fat.{fat_header_fields, fat_header_values, fat_arch_fields, fat_arch_values, part_of, HasAbi64};
+ghost use Rattle.mach_parts.specs.Cpu.{kind_of_cpu, caps_of_cpu, HasAbi64};
+ghost use Rattle.mach_parts.specs.Fat.{fat_header_fields, fat_header_values, fat_arch_fields, fat_arch_values, part_of};
 
+use crate::cpu::{caps_of, kind_of};
 use mach_base::{Endian, Record, RecordBytes, Result};
-use mach_records::cputype::{CPU_ARCH_ABI64, CPU_SUBTYPE_MASK, CpuSubType, CpuType};
+use mach_records::cputype::{CPU_ARCH_ABI64, CpuSubType, CpuType};
 
 /// The magic of a fat file.
 pub const FAT_MAGIC: u32 = 0xcafe_babe;
@@ -34,20 +35,13 @@ impl Record for FatHeader {
 
     ghost SIZE = { 8 };
 
-    ghost use Rattle.mach_parts.specs.Fat.{fat_header_of_values};
-    ghost use Rattle.std.proofs.Common.{refl, arith};
+    ghost use Rattle.std.proofs.Common.{rules};
 
     ghost fields = { fat_header_fields };
 
     ghost values = { fat_header_values };
 
-    ghost of_values = { fat_header_of_values };
-
-    ghost size_is = { refl };
-
-    ghost whole = { λ _. refl };
-
-    ghost not_empty = { omega arith };
+    ghost lawful = { Prim.search rules };
 
     fn load(bytes: &[u8], le: Endian) -> Self {
         FatHeader {
@@ -99,20 +93,13 @@ impl Record for FatArch {
 
     ghost SIZE = { 20 };
 
-    ghost use Rattle.mach_parts.specs.Fat.{fat_arch_of_values};
-    ghost use Rattle.std.proofs.Common.{refl, arith};
+    ghost use Rattle.std.proofs.Common.{rules};
 
     ghost fields = { fat_arch_fields };
 
     ghost values = { fat_arch_values };
 
-    ghost of_values = { fat_arch_of_values };
-
-    ghost size_is = { refl };
-
-    ghost whole = { λ _. refl };
-
-    ghost not_empty = { omega arith };
+    ghost lawful = { Prim.search rules };
 
     fn load(bytes: &[u8], le: Endian) -> Self {
         FatArch {
@@ -154,14 +141,14 @@ impl FatArch {
     pub fn cpusubtype(&self) -> CpuSubType
         ensures { result ≡ kind_of_cpu self.now.cpusubtype }
     {
-        self.cpusubtype & !CPU_SUBTYPE_MASK
+        kind_of(self.cpusubtype)
     }
 
     /// The capabilities of the cpu, below 256.
     pub fn cpu_caps(&self) -> u32
         ensures { result ≡ caps_of_cpu self.now.cpusubtype }
     {
-        (self.cpusubtype & CPU_SUBTYPE_MASK) >> 24
+        caps_of(self.cpusubtype)
     }
 
     /// Whether the cpu's addresses have 64 bits.

@@ -1,11 +1,13 @@
 //! The header of an image (`mach-o/loader.h`).
 
 ghost use Rattle.std.specs.Prelude.{◌≡◌};
-ghost use Rattle.mach_parts.specs.Header.{kind_of_cpu, caps_of_cpu, new_header};
+ghost use Rattle.mach_parts.specs.Cpu.{kind_of_cpu, caps_of_cpu};
+ghost use Rattle.mach_parts.specs.Header.{new_header};
 
 mod forms;
 mod names;
 
+use crate::cpu::{caps_of, kind_of};
 pub use crate::header::names::{
     MH_ALLMODSBOUND, MH_ALLOW_STACK_EXECUTION, MH_APP_EXTENSION_SAFE, MH_BINDATLOAD,
     MH_BINDS_TO_WEAK, MH_BUNDLE, MH_CANONICAL, MH_CORE, MH_DEAD_STRIPPABLE_DYLIB, MH_DSYM,
@@ -17,7 +19,7 @@ pub use crate::header::names::{
     MH_WEAK_DEFINES, filetype_to_str, flag_to_str,
 };
 use mach_base::{Container, Ctx, Endian, Record, RecordBytes};
-use mach_records::cputype::{CPU_SUBTYPE_MASK, CpuSubType, CpuType};
+use mach_records::cputype::{CpuSubType, CpuType};
 
 /// The magic of a 32-bit image.
 pub const MH_MAGIC: u32 = 0xfeed_face;
@@ -52,20 +54,14 @@ impl Record for Header32 {
 
     ghost SIZE = { 28 };
 
-    ghost use Rattle.mach_parts.specs.Header.{header32_fields, header32_values, header32_of_values};
-    ghost use Rattle.std.proofs.Common.{refl, arith};
+    ghost use Rattle.mach_parts.specs.Header.{header32_fields, header32_values};
+    ghost use Rattle.std.proofs.Common.{rules};
 
     ghost fields = { header32_fields };
 
     ghost values = { header32_values };
 
-    ghost of_values = { header32_of_values };
-
-    ghost size_is = { refl };
-
-    ghost whole = { λ _. refl };
-
-    ghost not_empty = { omega arith };
+    ghost lawful = { Prim.search rules };
 
     fn load(bytes: &[u8], le: Endian) -> Self {
         Header32 {
@@ -129,20 +125,14 @@ impl Record for Header64 {
 
     ghost SIZE = { 32 };
 
-    ghost use Rattle.mach_parts.specs.Header.{header64_fields, header64_values, header64_of_values};
-    ghost use Rattle.std.proofs.Common.{refl, arith};
+    ghost use Rattle.mach_parts.specs.Header.{header64_fields, header64_values};
+    ghost use Rattle.std.proofs.Common.{rules};
 
     ghost fields = { header64_fields };
 
     ghost values = { header64_values };
 
-    ghost of_values = { header64_of_values };
-
-    ghost size_is = { refl };
-
-    ghost whole = { λ _. refl };
-
-    ghost not_empty = { omega arith };
+    ghost lawful = { Prim.search rules };
 
     fn load(bytes: &[u8], le: Endian) -> Self {
         Header64 {
@@ -243,13 +233,13 @@ impl Header {
     pub fn cpusubtype(&self) -> CpuSubType
         ensures { result ≡ kind_of_cpu self.now.cpusubtype }
     {
-        self.cpusubtype & !CPU_SUBTYPE_MASK
+        kind_of(self.cpusubtype)
     }
 
     /// The capabilities of the cpu, below 256.
     pub fn cpu_caps(&self) -> u32
         ensures { result ≡ caps_of_cpu self.now.cpusubtype }
     {
-        (self.cpusubtype & CPU_SUBTYPE_MASK) >> 24
+        caps_of(self.cpusubtype)
     }
 }

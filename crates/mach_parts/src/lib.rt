@@ -1,9 +1,12 @@
 //! The parts of an image: headers, fat records, segments, sections, relocations and symbols.
 #![tactic(auto)]
 
+mod byte_count;
+mod cpu;
 pub mod fat;
 pub mod header;
 pub mod laws;
+mod low_bits;
 pub mod relocation;
 pub mod segment;
 pub mod symbols;

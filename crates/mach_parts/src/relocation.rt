@@ -43,20 +43,15 @@ impl Record for RelocationInfo {
 
     ghost SIZE = { 8 };
 
-    ghost use Rattle.mach_parts.specs.Relocation.{relocation_fields, relocation_of_values, relocation_values, relocation_whole};
-    ghost use Rattle.std.proofs.Common.{refl, arith};
+    ghost use Rattle.mach_parts.specs.Relocation.{relocation_fields, relocation_of_values, relocation_values};
+    ghost use Rattle.mach_parts.specs.RelocationWhole.{relocation_whole};
+    ghost use Rattle.std.proofs.Common.{refl, sym, ap, ◌∙◌, zero-lt-suc};
 
     ghost fields = { relocation_fields };
 
     ghost values = { relocation_values };
 
-    ghost of_values = { relocation_of_values };
-
-    ghost size_is = { refl };
-
-    ghost whole = { relocation_whole };
-
-    ghost not_empty = { omega arith };
+    ghost lawful = { record { sized = refl; some = zero-lt-suc _; same = λ x y e. sym (relocation_whole x) ∙ ap relocation_of_values e ∙ relocation_whole y } };
 
     fn load(bytes: &[u8], le: Endian) -> Self {
         RelocationInfo {

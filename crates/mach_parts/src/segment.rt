@@ -7,6 +7,7 @@ ghost use Rattle.mach_parts.specs.Section.{command_size};
 ghost use Rattle.mach_parts.specs.Segment.{segment_data, segment_at, lossy_segment_at, segment_view, widened, new_segment, with_data};
 
 mod conversions;
+mod debug;
 pub mod laws;
 mod list;
 mod relocations;
@@ -28,7 +29,7 @@ use std::alloc::{Allocator, Global};
 pub type Segments<'a, A = Global> = list::Segments<Segment<'a>, A>;
 
 /// A part of an image that is mapped into memory as a whole, with its bytes in the file.
-#[derive(Debug, Drop)]
+#[derive(Drop)]
 pub struct Segment<'a> {
     /// The number of the command.
     pub cmd: u32,

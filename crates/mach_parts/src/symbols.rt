@@ -1,6 +1,6 @@
 //! Symbols and their names (`mach-o/nlist.h`).
 
-ghost use Rattle.std.specs.Prelude.{◌≡◌, [], Ok};
+ghost use Rattle.std.specs.Prelude.{◌≡◌, ◌<◌, ◌^◌, [], Ok, length};
 ghost use Rattle.mach_base.specs.declared.context.Endian.TheVariants.{Little};
 ghost use Rattle.mach_base.specs.declared.context.Container.TheVariants.{Big};
 ghost use Rattle.mach_base.specs.Answer.{Reads};
@@ -11,6 +11,7 @@ pub mod laws;
 mod names;
 mod nlist;
 
+use crate::byte_count::ByteCount;
 pub use crate::symbols::names::{
     MAX_SECT, N_ABS, N_AST, N_BCOMM, N_BINCL, N_BNSYM, N_DESC_DISCARDED, N_ECOML, N_ECOMM, N_EINCL,
     N_ENSYM, N_ENTRY, N_EXCL, N_EXT, N_FNAME, N_FUN, N_GSYM, N_INDR, N_LBRAC, N_LCSYM, N_LENG,
@@ -25,6 +26,7 @@ pub use crate::symbols::names::{
 pub use crate::symbols::nlist::{Nlist, Nlist32, Nlist64, SIZEOF_NLIST_32, SIZEOF_NLIST_64};
 use mach_base::{Ctx, Error, Result, ScrollError, SizeWith, TryFromCtx, read_text};
 use mach_records::SymtabCommand;
+use std::fmt;
 
 /// How the symbols in some bytes are read.
 #[derive(Clone, Copy, Debug, Default)]
@@ -38,7 +40,7 @@ pub struct SymbolsCtx {
 }
 
 // Records from a place on, and names from another.
-#[derive(Clone, Copy, Debug)]
+#[derive(Clone, Copy)]
 struct Table<'a> {
     bytes: &'a [u8],
     start: usize,
@@ -49,6 +51,7 @@ struct Table<'a> {
 
 impl<'a> Table<'a> {
     // Where the record of a symbol stands; the last place that 64 bits have where it passes them.
+    #[inline(always)]
     fn place(self, index: usize) -> usize
         ensures { result ≡ symbol_place (table_view self.entry) index }
     {
@@ -58,6 +61,7 @@ impl<'a> Table<'a> {
 
     // A symbol with its name.
     #[tactic(auto, unfolding(crate::specs::Symbols::symbol_at))]
+    #[inline(always)]
     fn symbol(self, index: usize) -> Result<(&'a str, Nlist)>
         ensures { symbol_read result ≡ symbol_at (table_view self.entry) index }
     {
@@ -68,9 +72,22 @@ impl<'a> Table<'a> {
 }
 
 /// The symbols of an image, with their names: slices of its bytes.
-#[derive(Debug, Drop)]
+#[derive(Drop)]
 pub struct Symbols<'a> {
     table: Table<'a>,
+}
+
+impl fmt::Debug for Symbols<'_> {
+    /// Where the symbols stand; of the bytes only how many they are.
+    fn fmt<W: fmt::Write>(&self, f: &mut fmt::Formatter<W>) -> fmt::Result {
+        f.debug_struct("Symbols")
+            .field("bytes", &ByteCount(self.table.bytes))
+            .field("start", &self.table.start)
+            .field("nsyms", &self.table.nsyms)
+            .field("strtab", &self.table.strtab)
+            .field("ctx", &self.table.ctx)
+            .finish()
+    }
 }
 
 impl<'a> Symbols<'a> {
@@ -115,12 +132,10 @@ impl<'a> Symbols<'a> {
 
     /// The symbols in order, exactly as many as there are said to be, unreadable ones included.
     pub fn iter(&self) -> SymbolIterator<'a>
-        ensures { symbols_left result ≡ symbols_of (table_of self.now) }
+        ensures items { symbols_left result ≡ symbols_of (table_of self.now) }
+        ensures bounded { length (symbols_left result) < 2 ^ 64 }
     {
-        SymbolIterator {
-            table: self.table,
-            index: 0,
-        }
+        SymbolIterator::new(self.table)
     }
 
     /// A symbol with its name; how many there are said to be is not tested.
@@ -175,10 +190,20 @@ impl<'a> TryFromCtx<'a, SymbolsCtx> for Symbols<'a> {
 }
 
 /// Symbols one after the other, each as `get` gives it.
-#[derive(Drop)]
+#[derive(Clone, Drop)]
 pub struct SymbolIterator<'a> {
     table: Table<'a>,
     index: usize,
+}
+
+impl<'a> SymbolIterator<'a> {
+    // The symbols of a table, from the first.
+    fn new(table: Table<'a>) -> Self
+        ensures items { symbols_left result ≡ symbols_of (table_view table.entry) }
+        ensures bounded { length (symbols_left result) < 2 ^ 64 }
+    {
+        SymbolIterator { table, index: 0 }
+    }
 }
 
 impl<'a> Default for SymbolIterator<'a> {
@@ -202,12 +227,15 @@ impl<'a> Default for SymbolIterator<'a> {
 impl<'a> Iterator for SymbolIterator<'a> {
     type Item = Result<(&'a str, Nlist)>;
 
-    ghost use Rattle.std.specs.Iterator.{YieldsFirstBy, item_count};
+    ghost use Rattle.std.specs.Prelude.{Some, IfSome};
+    ghost use Rattle.std.specs.Iterator.{YieldsFirstBy, UpTo, item_count};
+    ghost use Rattle.std.specs.Iterator.SizeHint.{IsWithinCount};
 
     ghost next_gives = { YieldsFirstBy symbol_read symbols_left };
 
     ghost remaining = { item_count symbols_left };
 
+    #[inline(always)]
     fn next(&mut self) -> Option<Result<(&'a str, Nlist)>> {
         if self.index >= self.table.nsyms {
             return None;
@@ -215,5 +243,22 @@ impl<'a> Iterator for SymbolIterator<'a> {
         let item = self.table.symbol(self.index);
         self.index += 1;
         Some(item)
+    }
+
+    /// How many items are left, exactly.
+    fn size_hint(&self) -> (usize, Option<usize>)
+        ensures lower { IsWithinCount result.0 (item_count symbols_left self.now) }
+        ensures upper { IfSome result.1 (UpTo (item_count symbols_left self.now)) }
+        ensures exact { result ≡ (length (symbols_left self.now), Some (length (symbols_left self.now))) }
+    {
+        let left = self.len();
+        (left, Some(left))
+    }
+}
+
+impl<'a> ExactSizeIterator for SymbolIterator<'a> {
+    /// How many items are left.
+    fn len(&self) -> usize {
+        self.table.nsyms.saturating_sub(self.index)
     }
 }

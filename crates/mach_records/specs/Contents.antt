@@ -1,5 +1,5 @@
 -- What else an image says of itself (`mach-o/loader.h`).
--- Of each record: its fields, from the first; what they hold; and the record that holds it.
+-- Of each record: its fields, from the first, and what they hold.
 use Rattle.std.specs.Prelude.{List, [], ◌∷◌}
 use Rattle.mach_base.specs.Record.{Field, num, arr, Value, number_is, bytes_are, number_among, bytes_among}
 use Rattle.mach_records.specs.declared.contents.UuidCommand.{UuidCommand}
@@ -17,10 +17,6 @@ uuid_command_fields = num 4 ∷ num 4 ∷ arr 16 ∷ []
 abbrev pub uuid_command_values : UuidCommand → List Value
 uuid_command_values r = number_is r.cmd ∷ number_is r.cmdsize ∷ bytes_are r.uuid ∷ []
 
-abbrev pub uuid_command_of_values : List Value → UuidCommand
-uuid_command_of_values vs =
-    record { cmd = number_among vs 0; cmdsize = number_among vs 1; uuid = bytes_among vs 2 }
-
 -- struct entry_point_command
 abbrev pub entry_point_command_fields : List Field
 entry_point_command_fields = num 4 ∷ num 4 ∷ num 8 ∷ num 8 ∷ []
@@ -28,15 +24,6 @@ entry_point_command_fields = num 4 ∷ num 4 ∷ num 8 ∷ num 8 ∷ []
 abbrev pub entry_point_command_values : EntryPointCommand → List Value
 entry_point_command_values r =
     number_is r.cmd ∷ number_is r.cmdsize ∷ number_is r.entryoff ∷ number_is r.stacksize ∷ []
-
-abbrev pub entry_point_command_of_values : List Value → EntryPointCommand
-entry_point_command_of_values vs =
-    record {
-      cmd = number_among vs 0;
-      cmdsize = number_among vs 1;
-      entryoff = number_among vs 2;
-      stacksize = number_among vs 3;
-    }
 
 -- struct fileset_entry_command
 abbrev pub fileset_entry_command_fields : List Field
@@ -47,17 +34,6 @@ fileset_entry_command_values r =
     number_is r.cmd ∷ number_is r.cmdsize ∷ number_is r.vmaddr ∷ number_is r.fileoff
     ∷ number_is r.entry_id ∷ number_is r.reserved ∷ []
 
-abbrev pub fileset_entry_command_of_values : List Value → FilesetEntryCommand
-fileset_entry_command_of_values vs =
-    record {
-      cmd = number_among vs 0;
-      cmdsize = number_among vs 1;
-      vmaddr = number_among vs 2;
-      fileoff = number_among vs 3;
-      entry_id = number_among vs 4;
-      reserved = number_among vs 5;
-    }
-
 -- struct note_command
 abbrev pub note_command_fields : List Field
 note_command_fields = num 4 ∷ num 4 ∷ arr 16 ∷ num 8 ∷ num 8 ∷ []
@@ -67,26 +43,12 @@ note_command_values r =
     number_is r.cmd ∷ number_is r.cmdsize ∷ bytes_are r.data_owner ∷ number_is r.offset
     ∷ number_is r.size ∷ []
 
-abbrev pub note_command_of_values : List Value → NoteCommand
-note_command_of_values vs =
-    record {
-      cmd = number_among vs 0;
-      cmdsize = number_among vs 1;
-      data_owner = bytes_among vs 2;
-      offset = number_among vs 3;
-      size = number_among vs 4;
-    }
-
 -- struct prebind_cksum_command
 abbrev pub prebind_cksum_command_fields : List Field
 prebind_cksum_command_fields = num 4 ∷ num 4 ∷ num 4 ∷ []
 
 abbrev pub prebind_cksum_command_values : PrebindCksumCommand → List Value
 prebind_cksum_command_values r = number_is r.cmd ∷ number_is r.cmdsize ∷ number_is r.cksum ∷ []
-
-abbrev pub prebind_cksum_command_of_values : List Value → PrebindCksumCommand
-prebind_cksum_command_of_values vs =
-    record { cmd = number_among vs 0; cmdsize = number_among vs 1; cksum = number_among vs 2 }
 
 -- struct linker_option_command
 abbrev pub linker_option_command_fields : List Field
@@ -95,16 +57,9 @@ linker_option_command_fields = num 4 ∷ num 4 ∷ num 4 ∷ []
 abbrev pub linker_option_command_values : LinkerOptionCommand → List Value
 linker_option_command_values r = number_is r.cmd ∷ number_is r.cmdsize ∷ number_is r.count ∷ []
 
-abbrev pub linker_option_command_of_values : List Value → LinkerOptionCommand
-linker_option_command_of_values vs =
-    record { cmd = number_among vs 0; cmdsize = number_among vs 1; count = number_among vs 2 }
-
 -- struct ident_command
 abbrev pub ident_command_fields : List Field
 ident_command_fields = num 4 ∷ num 4 ∷ []
 
 abbrev pub ident_command_values : IdentCommand → List Value
 ident_command_values r = number_is r.cmd ∷ number_is r.cmdsize ∷ []
-
-abbrev pub ident_command_of_values : List Value → IdentCommand
-ident_command_of_values vs = record { cmd = number_among vs 0; cmdsize = number_among vs 1 }

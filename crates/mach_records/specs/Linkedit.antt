@@ -1,5 +1,5 @@
 -- What stands in the link-edit segment, and what is encrypted (`mach-o/loader.h`).
--- Of each record: its fields, from the first; what they hold; and the record that holds it.
+-- Of each record: its fields, from the first, and what they hold.
 use Rattle.std.specs.Prelude.{List, [], ◌∷◌}
 use Rattle.mach_base.specs.Record.{Field, num, Value, number_is, number_among}
 use Rattle.mach_records.specs.declared.linkedit.LinkeditDataCommand.{LinkeditDataCommand}
@@ -16,15 +16,6 @@ abbrev pub linkedit_data_command_values : LinkeditDataCommand → List Value
 linkedit_data_command_values r =
     number_is r.cmd ∷ number_is r.cmdsize ∷ number_is r.dataoff ∷ number_is r.datasize ∷ []
 
-abbrev pub linkedit_data_command_of_values : List Value → LinkeditDataCommand
-linkedit_data_command_of_values vs =
-    record {
-      cmd = number_among vs 0;
-      cmdsize = number_among vs 1;
-      dataoff = number_among vs 2;
-      datasize = number_among vs 3;
-    }
-
 -- struct dyld_info_command
 abbrev pub dyld_info_command_fields : List Field
 dyld_info_command_fields =
@@ -38,33 +29,12 @@ dyld_info_command_values r =
     ∷ number_is r.weak_bind_size ∷ number_is r.lazy_bind_off ∷ number_is r.lazy_bind_size
     ∷ number_is r.export_off ∷ number_is r.export_size ∷ []
 
-abbrev pub dyld_info_command_of_values : List Value → DyldInfoCommand
-dyld_info_command_of_values vs =
-    record {
-      cmd = number_among vs 0;
-      cmdsize = number_among vs 1;
-      rebase_off = number_among vs 2;
-      rebase_size = number_among vs 3;
-      bind_off = number_among vs 4;
-      bind_size = number_among vs 5;
-      weak_bind_off = number_among vs 6;
-      weak_bind_size = number_among vs 7;
-      lazy_bind_off = number_among vs 8;
-      lazy_bind_size = number_among vs 9;
-      export_off = number_among vs 10;
-      export_size = number_among vs 11;
-    }
-
 -- struct data_in_code_entry
 abbrev pub data_in_code_entry_fields : List Field
 data_in_code_entry_fields = num 4 ∷ num 2 ∷ num 2 ∷ []
 
 abbrev pub data_in_code_entry_values : DataInCodeEntry → List Value
 data_in_code_entry_values r = number_is r.offset ∷ number_is r.length ∷ number_is r.kind ∷ []
-
-abbrev pub data_in_code_entry_of_values : List Value → DataInCodeEntry
-data_in_code_entry_of_values vs =
-    record { offset = number_among vs 0; length = number_among vs 1; kind = number_among vs 2 }
 
 -- struct encryption_info_command
 abbrev pub encryption_info_command32_fields : List Field
@@ -75,16 +45,6 @@ encryption_info_command32_values r =
     number_is r.cmd ∷ number_is r.cmdsize ∷ number_is r.cryptoff ∷ number_is r.cryptsize
     ∷ number_is r.cryptid ∷ []
 
-abbrev pub encryption_info_command32_of_values : List Value → EncryptionInfoCommand32
-encryption_info_command32_of_values vs =
-    record {
-      cmd = number_among vs 0;
-      cmdsize = number_among vs 1;
-      cryptoff = number_among vs 2;
-      cryptsize = number_among vs 3;
-      cryptid = number_among vs 4;
-    }
-
 -- struct encryption_info_command_64
 abbrev pub encryption_info_command64_fields : List Field
 encryption_info_command64_fields = num 4 ∷ num 4 ∷ num 4 ∷ num 4 ∷ num 4 ∷ num 4 ∷ []
@@ -93,14 +53,3 @@ abbrev pub encryption_info_command64_values : EncryptionInfoCommand64 → List V
 encryption_info_command64_values r =
     number_is r.cmd ∷ number_is r.cmdsize ∷ number_is r.cryptoff ∷ number_is r.cryptsize
     ∷ number_is r.cryptid ∷ number_is r.pad ∷ []
-
-abbrev pub encryption_info_command64_of_values : List Value → EncryptionInfoCommand64
-encryption_info_command64_of_values vs =
-    record {
-      cmd = number_among vs 0;
-      cmdsize = number_among vs 1;
-      cryptoff = number_among vs 2;
-      cryptsize = number_among vs 3;
-      cryptid = number_among vs 4;
-      pad = number_among vs 5;
-    }

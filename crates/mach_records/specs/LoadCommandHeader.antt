@@ -1,5 +1,5 @@
--- The header of a load command (`mach-o/loader.h`): its fields, what they hold, the record that holds
--- it, and the line that shows it.
+-- The header of a load command (`mach-o/loader.h`): its fields, what they hold, and the line that shows
+-- it.
 use Rattle.std.specs.Prelude.{ℕ, List, [], ◌∷◌, ◌++◌, codes}
 use Rattle.std.specs.Fmt.{decimal}
 use Rattle.mach_base.specs.Record.{Field, num, Value, number_is, number_among}
@@ -12,9 +12,6 @@ header_fields = num 4 ∷ num 4 ∷ []
 
 abbrev pub header_values : LoadCommandHeader → List Value
 header_values h = number_is h.cmd ∷ number_is h.cmdsize ∷ []
-
-abbrev pub header_of_values : List Value → LoadCommandHeader
-header_of_values vs = record { cmd = number_among vs 0; cmdsize = number_among vs 1 }
 
 -- the line that Display writes
 abbrev pub header_text : LoadCommandHeader → List ℕ

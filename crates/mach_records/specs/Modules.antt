@@ -1,5 +1,5 @@
 -- Tables of a dynamic library that is made of modules (`mach-o/loader.h`).
--- Of each record: its fields, from the first; what they hold; and the record that holds it.
+-- Of each record: its fields, from the first, and what they hold.
 use Rattle.std.specs.Prelude.{List, [], ◌∷◌}
 use Rattle.mach_base.specs.Record.{Field, num, arr, Value, number_is, bytes_are, number_among, bytes_among}
 use Rattle.mach_records.specs.declared.modules.DylibTableOfContents.{DylibTableOfContents}
@@ -16,10 +16,6 @@ dylib_table_of_contents_fields = num 4 ∷ num 4 ∷ []
 abbrev pub dylib_table_of_contents_values : DylibTableOfContents → List Value
 dylib_table_of_contents_values r = number_is r.symbol_index ∷ number_is r.module_index ∷ []
 
-abbrev pub dylib_table_of_contents_of_values : List Value → DylibTableOfContents
-dylib_table_of_contents_of_values vs =
-    record { symbol_index = number_among vs 0; module_index = number_among vs 1 }
-
 -- struct dylib_module
 abbrev pub dylib_module_fields : List Field
 dylib_module_fields =
@@ -32,24 +28,6 @@ dylib_module_values r =
     ∷ number_is r.nrefsym ∷ number_is r.ilocalsym ∷ number_is r.nlocalsym ∷ number_is r.iextrel
     ∷ number_is r.nextrel ∷ number_is r.iinit_iterm ∷ number_is r.ninit_nterm
     ∷ number_is r.objc_module_info_addr ∷ number_is r.objc_module_info_size ∷ []
-
-abbrev pub dylib_module_of_values : List Value → DylibModule
-dylib_module_of_values vs =
-    record {
-      module_name = number_among vs 0;
-      iextdefsym = number_among vs 1;
-      nextdefsym = number_among vs 2;
-      irefsym = number_among vs 3;
-      nrefsym = number_among vs 4;
-      ilocalsym = number_among vs 5;
-      nlocalsym = number_among vs 6;
-      iextrel = number_among vs 7;
-      nextrel = number_among vs 8;
-      iinit_iterm = number_among vs 9;
-      ninit_nterm = number_among vs 10;
-      objc_module_info_addr = number_among vs 11;
-      objc_module_info_size = number_among vs 12;
-    }
 
 -- struct dylib_module_64
 abbrev pub dylib_module64_fields : List Field
@@ -64,33 +42,12 @@ dylib_module64_values r =
     ∷ number_is r.nextrel ∷ number_is r.iinit_iterm ∷ number_is r.ninit_nterm
     ∷ number_is r.objc_module_info_size ∷ number_is r.objc_module_info_addr ∷ []
 
-abbrev pub dylib_module64_of_values : List Value → DylibModule64
-dylib_module64_of_values vs =
-    record {
-      module_name = number_among vs 0;
-      iextdefsym = number_among vs 1;
-      nextdefsym = number_among vs 2;
-      irefsym = number_among vs 3;
-      nrefsym = number_among vs 4;
-      ilocalsym = number_among vs 5;
-      nlocalsym = number_among vs 6;
-      iextrel = number_among vs 7;
-      nextrel = number_among vs 8;
-      iinit_iterm = number_among vs 9;
-      ninit_nterm = number_among vs 10;
-      objc_module_info_size = number_among vs 11;
-      objc_module_info_addr = number_among vs 12;
-    }
-
 -- struct dylib_reference
 abbrev pub dylib_reference_fields : List Field
 dylib_reference_fields = arr 24 ∷ num 8 ∷ []
 
 abbrev pub dylib_reference_values : DylibReference → List Value
 dylib_reference_values r = bytes_are r.isym ∷ number_is r.flags ∷ []
-
-abbrev pub dylib_reference_of_values : List Value → DylibReference
-dylib_reference_of_values vs = record { isym = bytes_among vs 0; flags = number_among vs 1 }
 
 -- struct routines_command
 abbrev pub routines_command32_fields : List Field
@@ -103,21 +60,6 @@ routines_command32_values r =
     ∷ number_is r.reserved1 ∷ number_is r.reserved2 ∷ number_is r.reserved3 ∷ number_is r.reserved4
     ∷ number_is r.reserved5 ∷ number_is r.reserved6 ∷ []
 
-abbrev pub routines_command32_of_values : List Value → RoutinesCommand32
-routines_command32_of_values vs =
-    record {
-      cmd = number_among vs 0;
-      cmdsize = number_among vs 1;
-      init_address = number_among vs 2;
-      init_module = number_among vs 3;
-      reserved1 = number_among vs 4;
-      reserved2 = number_among vs 5;
-      reserved3 = number_among vs 6;
-      reserved4 = number_among vs 7;
-      reserved5 = number_among vs 8;
-      reserved6 = number_among vs 9;
-    }
-
 -- struct routines_command_64
 abbrev pub routines_command64_fields : List Field
 routines_command64_fields =
@@ -128,18 +70,3 @@ routines_command64_values r =
     number_is r.cmd ∷ number_is r.cmdsize ∷ number_is r.init_address ∷ number_is r.init_module
     ∷ number_is r.reserved1 ∷ number_is r.reserved2 ∷ number_is r.reserved3 ∷ number_is r.reserved4
     ∷ number_is r.reserved5 ∷ number_is r.reserved6 ∷ []
-
-abbrev pub routines_command64_of_values : List Value → RoutinesCommand64
-routines_command64_of_values vs =
-    record {
-      cmd = number_among vs 0;
-      cmdsize = number_among vs 1;
-      init_address = number_among vs 2;
-      init_module = number_among vs 3;
-      reserved1 = number_among vs 4;
-      reserved2 = number_among vs 5;
-      reserved3 = number_among vs 6;
-      reserved4 = number_among vs 7;
-      reserved5 = number_among vs 8;
-      reserved6 = number_among vs 9;
-    }

@@ -1,5 +1,5 @@
 -- The symbol table, and the tables that order it (`mach-o/loader.h`).
--- Of each record: its fields, from the first; what they hold; and the record that holds it.
+-- Of each record: its fields, from the first, and what they hold.
 use Rattle.std.specs.Prelude.{List, [], ◌∷◌}
 use Rattle.mach_base.specs.Record.{Field, num, arr, Value, number_is, bytes_are, number_among, bytes_among}
 use Rattle.mach_records.specs.declared.command_name.TheConstants.{LC_SYMTAB, LC_DYSYMTAB}
@@ -57,31 +57,6 @@ dysymtab_command_values r =
     ∷ number_is r.indirectsymoff ∷ number_is r.nindirectsyms ∷ number_is r.extreloff
     ∷ number_is r.nextrel ∷ number_is r.locreloff ∷ number_is r.nlocrel ∷ []
 
-abbrev pub dysymtab_command_of_values : List Value → DysymtabCommand
-dysymtab_command_of_values vs =
-    record {
-      cmd = number_among vs 0;
-      cmdsize = number_among vs 1;
-      ilocalsym = number_among vs 2;
-      nlocalsym = number_among vs 3;
-      iextdefsym = number_among vs 4;
-      nextdefsym = number_among vs 5;
-      iundefsym = number_among vs 6;
-      nundefsym = number_among vs 7;
-      tocoff = number_among vs 8;
-      ntoc = number_among vs 9;
-      modtaboff = number_among vs 10;
-      nmodtab = number_among vs 11;
-      extrefsymoff = number_among vs 12;
-      nextrefsyms = number_among vs 13;
-      indirectsymoff = number_among vs 14;
-      nindirectsyms = number_among vs 15;
-      extreloff = number_among vs 16;
-      nextrel = number_among vs 17;
-      locreloff = number_among vs 18;
-      nlocrel = number_among vs 19;
-    }
-
 -- the command of tables with no entries
 abbrev pub new_dysymtab : DysymtabCommand
 new_dysymtab =
@@ -116,24 +91,12 @@ abbrev pub twolevel_hints_command_values : TwolevelHintsCommand → List Value
 twolevel_hints_command_values r =
     number_is r.cmd ∷ number_is r.cmdsize ∷ number_is r.offset ∷ number_is r.nhints ∷ []
 
-abbrev pub twolevel_hints_command_of_values : List Value → TwolevelHintsCommand
-twolevel_hints_command_of_values vs =
-    record {
-      cmd = number_among vs 0;
-      cmdsize = number_among vs 1;
-      offset = number_among vs 2;
-      nhints = number_among vs 3;
-    }
-
 -- struct twolevel_hint
 abbrev pub twolevel_hint_fields : List Field
 twolevel_hint_fields = num 8 ∷ arr 24 ∷ []
 
 abbrev pub twolevel_hint_values : TwolevelHint → List Value
 twolevel_hint_values r = number_is r.isub_image ∷ bytes_are r.itoc ∷ []
-
-abbrev pub twolevel_hint_of_values : List Value → TwolevelHint
-twolevel_hint_of_values vs = record { isub_image = number_among vs 0; itoc = bytes_among vs 1 }
 
 -- struct symseg_command
 abbrev pub symseg_command_fields : List Field
@@ -142,12 +105,3 @@ symseg_command_fields = num 4 ∷ num 4 ∷ num 4 ∷ num 4 ∷ []
 abbrev pub symseg_command_values : SymsegCommand → List Value
 symseg_command_values r =
     number_is r.cmd ∷ number_is r.cmdsize ∷ number_is r.offset ∷ number_is r.size ∷ []
-
-abbrev pub symseg_command_of_values : List Value → SymsegCommand
-symseg_command_of_values vs =
-    record {
-      cmd = number_among vs 0;
-      cmdsize = number_among vs 1;
-      offset = number_among vs 2;
-      size = number_among vs 3;
-    }

@@ -1,5 +1,5 @@
 -- Frameworks and libraries that stand for others (`mach-o/loader.h`).
--- Of each record: its fields, from the first; what they hold; and the record that holds it.
+-- Of each record: its fields, from the first, and what they hold.
 use Rattle.std.specs.Prelude.{List, [], ◌∷◌}
 use Rattle.mach_base.specs.Record.{Field, num, Value, number_is, number_among}
 use Rattle.mach_records.specs.declared.umbrellas.SubFrameworkCommand.{SubFrameworkCommand}
@@ -14,20 +14,12 @@ sub_framework_command_fields = num 4 ∷ num 4 ∷ num 4 ∷ []
 abbrev pub sub_framework_command_values : SubFrameworkCommand → List Value
 sub_framework_command_values r = number_is r.cmd ∷ number_is r.cmdsize ∷ number_is r.umbrella ∷ []
 
-abbrev pub sub_framework_command_of_values : List Value → SubFrameworkCommand
-sub_framework_command_of_values vs =
-    record { cmd = number_among vs 0; cmdsize = number_among vs 1; umbrella = number_among vs 2 }
-
 -- struct sub_client_command
 abbrev pub sub_client_command_fields : List Field
 sub_client_command_fields = num 4 ∷ num 4 ∷ num 4 ∷ []
 
 abbrev pub sub_client_command_values : SubClientCommand → List Value
 sub_client_command_values r = number_is r.cmd ∷ number_is r.cmdsize ∷ number_is r.client ∷ []
-
-abbrev pub sub_client_command_of_values : List Value → SubClientCommand
-sub_client_command_of_values vs =
-    record { cmd = number_among vs 0; cmdsize = number_among vs 1; client = number_among vs 2 }
 
 -- struct sub_umbrella_command
 abbrev pub sub_umbrella_command_fields : List Field
@@ -37,21 +29,9 @@ abbrev pub sub_umbrella_command_values : SubUmbrellaCommand → List Value
 sub_umbrella_command_values r =
     number_is r.cmd ∷ number_is r.cmdsize ∷ number_is r.sub_umbrella ∷ []
 
-abbrev pub sub_umbrella_command_of_values : List Value → SubUmbrellaCommand
-sub_umbrella_command_of_values vs =
-    record {
-      cmd = number_among vs 0;
-      cmdsize = number_among vs 1;
-      sub_umbrella = number_among vs 2;
-    }
-
 -- struct sub_library_command
 abbrev pub sub_library_command_fields : List Field
 sub_library_command_fields = num 4 ∷ num 4 ∷ num 4 ∷ []
 
 abbrev pub sub_library_command_values : SubLibraryCommand → List Value
 sub_library_command_values r = number_is r.cmd ∷ number_is r.cmdsize ∷ number_is r.sub_library ∷ []
-
-abbrev pub sub_library_command_of_values : List Value → SubLibraryCommand
-sub_library_command_of_values vs =
-    record { cmd = number_among vs 0; cmdsize = number_among vs 1; sub_library = number_among vs 2 }

@@ -1,5 +1,5 @@
 -- What an image was built for, and with (`mach-o/loader.h`).
--- Of each record: its fields, from the first; what they hold; and the record that holds it.
+-- Of each record: its fields, from the first, and what they hold.
 use Rattle.std.specs.Prelude.{List, [], ◌∷◌}
 use Rattle.mach_base.specs.Record.{Field, num, Value, number_is, number_among}
 use Rattle.mach_records.specs.declared.versions.VersionMinCommand.{VersionMinCommand}
@@ -15,15 +15,6 @@ abbrev pub version_min_command_values : VersionMinCommand → List Value
 version_min_command_values r =
     number_is r.cmd ∷ number_is r.cmdsize ∷ number_is r.version ∷ number_is r.sdk ∷ []
 
-abbrev pub version_min_command_of_values : List Value → VersionMinCommand
-version_min_command_of_values vs =
-    record {
-      cmd = number_among vs 0;
-      cmdsize = number_among vs 1;
-      version = number_among vs 2;
-      sdk = number_among vs 3;
-    }
-
 -- struct build_version_command
 abbrev pub build_version_command_fields : List Field
 build_version_command_fields = num 4 ∷ num 4 ∷ num 4 ∷ num 4 ∷ num 4 ∷ num 4 ∷ []
@@ -33,17 +24,6 @@ build_version_command_values r =
     number_is r.cmd ∷ number_is r.cmdsize ∷ number_is r.platform ∷ number_is r.minos
     ∷ number_is r.sdk ∷ number_is r.ntools ∷ []
 
-abbrev pub build_version_command_of_values : List Value → BuildVersionCommand
-build_version_command_of_values vs =
-    record {
-      cmd = number_among vs 0;
-      cmdsize = number_among vs 1;
-      platform = number_among vs 2;
-      minos = number_among vs 3;
-      sdk = number_among vs 4;
-      ntools = number_among vs 5;
-    }
-
 -- struct build_tool_version
 abbrev pub build_tool_version_fields : List Field
 build_tool_version_fields = num 4 ∷ num 4 ∷ []
@@ -51,16 +31,9 @@ build_tool_version_fields = num 4 ∷ num 4 ∷ []
 abbrev pub build_tool_version_values : BuildToolVersion → List Value
 build_tool_version_values r = number_is r.tool ∷ number_is r.version ∷ []
 
-abbrev pub build_tool_version_of_values : List Value → BuildToolVersion
-build_tool_version_of_values vs = record { tool = number_among vs 0; version = number_among vs 1 }
-
 -- struct source_version_command
 abbrev pub source_version_command_fields : List Field
 source_version_command_fields = num 4 ∷ num 4 ∷ num 8 ∷ []
 
 abbrev pub source_version_command_values : SourceVersionCommand → List Value
 source_version_command_values r = number_is r.cmd ∷ number_is r.cmdsize ∷ number_is r.version ∷ []
-
-abbrev pub source_version_command_of_values : List Value → SourceVersionCommand
-source_version_command_of_values vs =
-    record { cmd = number_among vs 0; cmdsize = number_among vs 1; version = number_among vs 2 }

@@ -18,20 +18,14 @@ impl Record for UuidCommand {
 
     ghost SIZE = { 24 };
 
-    ghost use Rattle.mach_records.specs.Contents.{uuid_command_fields, uuid_command_of_values, uuid_command_values};
-    ghost use Rattle.std.proofs.Common.{refl, arith};
+    ghost use Rattle.mach_records.specs.Contents.{uuid_command_fields, uuid_command_values};
+    ghost use Rattle.std.proofs.Common.{rules};
 
     ghost fields = { uuid_command_fields };
 
     ghost values = { uuid_command_values };
 
-    ghost of_values = { uuid_command_of_values };
-
-    ghost size_is = { refl };
-
-    ghost whole = { λ _. refl };
-
-    ghost not_empty = { omega arith };
+    ghost lawful = { Prim.search rules };
 
     fn load(bytes: &[u8], le: Endian) -> Self {
         UuidCommand {
@@ -67,20 +61,14 @@ impl Record for EntryPointCommand {
 
     ghost SIZE = { 24 };
 
-    ghost use Rattle.mach_records.specs.Contents.{entry_point_command_fields, entry_point_command_of_values, entry_point_command_values};
-    ghost use Rattle.std.proofs.Common.{refl, arith};
+    ghost use Rattle.mach_records.specs.Contents.{entry_point_command_fields, entry_point_command_values};
+    ghost use Rattle.std.proofs.Common.{rules};
 
     ghost fields = { entry_point_command_fields };
 
     ghost values = { entry_point_command_values };
 
-    ghost of_values = { entry_point_command_of_values };
-
-    ghost size_is = { refl };
-
-    ghost whole = { λ _. refl };
-
-    ghost not_empty = { omega arith };
+    ghost lawful = { Prim.search rules };
 
     fn load(bytes: &[u8], le: Endian) -> Self {
         EntryPointCommand {
@@ -119,20 +107,14 @@ impl Record for FilesetEntryCommand {
 
     ghost SIZE = { 32 };
 
-    ghost use Rattle.mach_records.specs.Contents.{fileset_entry_command_fields, fileset_entry_command_of_values, fileset_entry_command_values};
-    ghost use Rattle.std.proofs.Common.{refl, arith};
+    ghost use Rattle.mach_records.specs.Contents.{fileset_entry_command_fields, fileset_entry_command_values};
+    ghost use Rattle.std.proofs.Common.{rules};
 
     ghost fields = { fileset_entry_command_fields };
 
     ghost values = { fileset_entry_command_values };
 
-    ghost of_values = { fileset_entry_command_of_values };
-
-    ghost size_is = { refl };
-
-    ghost whole = { λ _. refl };
-
-    ghost not_empty = { omega arith };
+    ghost lawful = { Prim.search rules };
 
     fn load(bytes: &[u8], le: Endian) -> Self {
         FilesetEntryCommand {
@@ -174,20 +156,14 @@ impl Record for NoteCommand {
 
     ghost SIZE = { 40 };
 
-    ghost use Rattle.mach_records.specs.Contents.{note_command_fields, note_command_of_values, note_command_values};
-    ghost use Rattle.std.proofs.Common.{refl, arith};
+    ghost use Rattle.mach_records.specs.Contents.{note_command_fields, note_command_values};
+    ghost use Rattle.std.proofs.Common.{rules};
 
     ghost fields = { note_command_fields };
 
     ghost values = { note_command_values };
 
-    ghost of_values = { note_command_of_values };
-
-    ghost size_is = { refl };
-
-    ghost whole = { λ _. refl };
-
-    ghost not_empty = { omega arith };
+    ghost lawful = { Prim.search rules };
 
     fn load(bytes: &[u8], le: Endian) -> Self {
         NoteCommand {
@@ -224,20 +200,14 @@ impl Record for PrebindCksumCommand {
 
     ghost SIZE = { 12 };
 
-    ghost use Rattle.mach_records.specs.Contents.{prebind_cksum_command_fields, prebind_cksum_command_of_values, prebind_cksum_command_values};
-    ghost use Rattle.std.proofs.Common.{refl, arith};
+    ghost use Rattle.mach_records.specs.Contents.{prebind_cksum_command_fields, prebind_cksum_command_values};
+    ghost use Rattle.std.proofs.Common.{rules};
 
     ghost fields = { prebind_cksum_command_fields };
 
     ghost values = { prebind_cksum_command_values };
 
-    ghost of_values = { prebind_cksum_command_of_values };
-
-    ghost size_is = { refl };
-
-    ghost whole = { λ _. refl };
-
-    ghost not_empty = { omega arith };
+    ghost lawful = { Prim.search rules };
 
     fn load(bytes: &[u8], le: Endian) -> Self {
         PrebindCksumCommand {
@@ -272,20 +242,14 @@ impl Record for LinkerOptionCommand {
 
     ghost SIZE = { 12 };
 
-    ghost use Rattle.mach_records.specs.Contents.{linker_option_command_fields, linker_option_command_of_values, linker_option_command_values};
-    ghost use Rattle.std.proofs.Common.{refl, arith};
+    ghost use Rattle.mach_records.specs.Contents.{linker_option_command_fields, linker_option_command_values};
+    ghost use Rattle.std.proofs.Common.{rules};
 
     ghost fields = { linker_option_command_fields };
 
     ghost values = { linker_option_command_values };
 
-    ghost of_values = { linker_option_command_of_values };
-
-    ghost size_is = { refl };
-
-    ghost whole = { λ _. refl };
-
-    ghost not_empty = { omega arith };
+    ghost lawful = { Prim.search rules };
 
     fn load(bytes: &[u8], le: Endian) -> Self {
         LinkerOptionCommand {
@@ -317,20 +281,14 @@ impl Record for IdentCommand {
 
     ghost SIZE = { 8 };
 
-    ghost use Rattle.mach_records.specs.Contents.{ident_command_fields, ident_command_of_values, ident_command_values};
-    ghost use Rattle.std.proofs.Common.{refl, arith};
+    ghost use Rattle.mach_records.specs.Contents.{ident_command_fields, ident_command_values};
+    ghost use Rattle.std.proofs.Common.{rules};
 
     ghost fields = { ident_command_fields };
 
     ghost values = { ident_command_values };
 
-    ghost of_values = { ident_command_of_values };
-
-    ghost size_is = { refl };
-
-    ghost whole = { λ _. refl };
-
-    ghost not_empty = { omega arith };
+    ghost lawful = { Prim.search rules };
 
     fn load(bytes: &[u8], le: Endian) -> Self {
         IdentCommand {

@@ -23,20 +23,14 @@ impl Record for Dylib {
 
     ghost SIZE = { 16 };
 
-    ghost use Rattle.mach_records.specs.Libraries.{dylib_fields, dylib_of_values, dylib_values};
-    ghost use Rattle.std.proofs.Common.{refl, arith};
+    ghost use Rattle.mach_records.specs.Libraries.{dylib_fields, dylib_values};
+    ghost use Rattle.std.proofs.Common.{rules};
 
     ghost fields = { dylib_fields };
 
     ghost values = { dylib_values };
 
-    ghost of_values = { dylib_of_values };
-
-    ghost size_is = { refl };
-
-    ghost whole = { λ _. refl };
-
-    ghost not_empty = { omega arith };
+    ghost lawful = { Prim.search rules };
 
     fn load(bytes: &[u8], le: Endian) -> Self {
         Dylib {
@@ -72,20 +66,14 @@ impl Record for DylibCommand {
 
     ghost SIZE = { 24 };
 
-    ghost use Rattle.mach_records.specs.Libraries.{dylib_command_fields, dylib_command_of_values, dylib_command_values};
-    ghost use Rattle.std.proofs.Common.{refl, arith};
+    ghost use Rattle.mach_records.specs.Libraries.{dylib_command_fields, dylib_command_values};
+    ghost use Rattle.std.proofs.Common.{rules};
 
     ghost fields = { dylib_command_fields };
 
     ghost values = { dylib_command_values };
 
-    ghost of_values = { dylib_command_of_values };
-
-    ghost size_is = { refl };
-
-    ghost whole = { λ _. refl };
-
-    ghost not_empty = { omega arith };
+    ghost lawful = { Prim.search rules };
 
     fn load(bytes: &[u8], le: Endian) -> Self {
         DylibCommand {
@@ -132,20 +120,14 @@ impl Record for PreboundDylibCommand {
 
     ghost SIZE = { 20 };
 
-    ghost use Rattle.mach_records.specs.Libraries.{prebound_dylib_command_fields, prebound_dylib_command_of_values, prebound_dylib_command_values};
-    ghost use Rattle.std.proofs.Common.{refl, arith};
+    ghost use Rattle.mach_records.specs.Libraries.{prebound_dylib_command_fields, prebound_dylib_command_values};
+    ghost use Rattle.std.proofs.Common.{rules};
 
     ghost fields = { prebound_dylib_command_fields };
 
     ghost values = { prebound_dylib_command_values };
 
-    ghost of_values = { prebound_dylib_command_of_values };
-
-    ghost size_is = { refl };
-
-    ghost whole = { λ _. refl };
-
-    ghost not_empty = { omega arith };
+    ghost lawful = { Prim.search rules };
 
     fn load(bytes: &[u8], le: Endian) -> Self {
         PreboundDylibCommand {
@@ -184,20 +166,14 @@ impl Record for DylinkerCommand {
 
     ghost SIZE = { 12 };
 
-    ghost use Rattle.mach_records.specs.Libraries.{dylinker_command_fields, dylinker_command_of_values, dylinker_command_values};
-    ghost use Rattle.std.proofs.Common.{refl, arith};
+    ghost use Rattle.mach_records.specs.Libraries.{dylinker_command_fields, dylinker_command_values};
+    ghost use Rattle.std.proofs.Common.{rules};
 
     ghost fields = { dylinker_command_fields };
 
     ghost values = { dylinker_command_values };
 
-    ghost of_values = { dylinker_command_of_values };
-
-    ghost size_is = { refl };
-
-    ghost whole = { λ _. refl };
-
-    ghost not_empty = { omega arith };
+    ghost lawful = { Prim.search rules };
 
     fn load(bytes: &[u8], le: Endian) -> Self {
         DylinkerCommand {
@@ -230,20 +206,14 @@ impl Record for RpathCommand {
 
     ghost SIZE = { 12 };
 
-    ghost use Rattle.mach_records.specs.Libraries.{rpath_command_fields, rpath_command_of_values, rpath_command_values};
-    ghost use Rattle.std.proofs.Common.{refl, arith};
+    ghost use Rattle.mach_records.specs.Libraries.{rpath_command_fields, rpath_command_values};
+    ghost use Rattle.std.proofs.Common.{rules};
 
     ghost fields = { rpath_command_fields };
 
     ghost values = { rpath_command_values };
 
-    ghost of_values = { rpath_command_of_values };
-
-    ghost size_is = { refl };
-
-    ghost whole = { λ _. refl };
-
-    ghost not_empty = { omega arith };
+    ghost lawful = { Prim.search rules };
 
     fn load(bytes: &[u8], le: Endian) -> Self {
         RpathCommand {
@@ -278,20 +248,14 @@ impl Record for Fvmlib {
 
     ghost SIZE = { 12 };
 
-    ghost use Rattle.mach_records.specs.Libraries.{fvmlib_fields, fvmlib_of_values, fvmlib_values};
-    ghost use Rattle.std.proofs.Common.{refl, arith};
+    ghost use Rattle.mach_records.specs.Libraries.{fvmlib_fields, fvmlib_values};
+    ghost use Rattle.std.proofs.Common.{rules};
 
     ghost fields = { fvmlib_fields };
 
     ghost values = { fvmlib_values };
 
-    ghost of_values = { fvmlib_of_values };
-
-    ghost size_is = { refl };
-
-    ghost whole = { λ _. refl };
-
-    ghost not_empty = { omega arith };
+    ghost lawful = { Prim.search rules };
 
     fn load(bytes: &[u8], le: Endian) -> Self {
         Fvmlib {
@@ -325,20 +289,14 @@ impl Record for FvmlibCommand {
 
     ghost SIZE = { 20 };
 
-    ghost use Rattle.mach_records.specs.Libraries.{fvmlib_command_fields, fvmlib_command_of_values, fvmlib_command_values};
-    ghost use Rattle.std.proofs.Common.{refl, arith};
+    ghost use Rattle.mach_records.specs.Libraries.{fvmlib_command_fields, fvmlib_command_values};
+    ghost use Rattle.std.proofs.Common.{rules};
 
     ghost fields = { fvmlib_command_fields };
 
     ghost values = { fvmlib_command_values };
 
-    ghost of_values = { fvmlib_command_of_values };
-
-    ghost size_is = { refl };
-
-    ghost whole = { λ _. refl };
-
-    ghost not_empty = { omega arith };
+    ghost lawful = { Prim.search rules };
 
     fn load(bytes: &[u8], le: Endian) -> Self {
         FvmlibCommand {
@@ -380,20 +338,14 @@ impl Record for FvmfileCommand {
 
     ghost SIZE = { 16 };
 
-    ghost use Rattle.mach_records.specs.Libraries.{fvmfile_command_fields, fvmfile_command_of_values, fvmfile_command_values};
-    ghost use Rattle.std.proofs.Common.{refl, arith};
+    ghost use Rattle.mach_records.specs.Libraries.{fvmfile_command_fields, fvmfile_command_values};
+    ghost use Rattle.std.proofs.Common.{rules};
 
     ghost fields = { fvmfile_command_fields };
 
     ghost values = { fvmfile_command_values };
 
-    ghost of_values = { fvmfile_command_of_values };
-
-    ghost size_is = { refl };
-
-    ghost whole = { λ _. refl };
-
-    ghost not_empty = { omega arith };
+    ghost lawful = { Prim.search rules };
 
     fn load(bytes: &[u8], le: Endian) -> Self {
         FvmfileCommand {

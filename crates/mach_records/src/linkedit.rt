@@ -21,20 +21,14 @@ impl Record for LinkeditDataCommand {
 
     ghost SIZE = { 16 };
 
-    ghost use Rattle.mach_records.specs.Linkedit.{linkedit_data_command_fields, linkedit_data_command_of_values, linkedit_data_command_values};
-    ghost use Rattle.std.proofs.Common.{refl, arith};
+    ghost use Rattle.mach_records.specs.Linkedit.{linkedit_data_command_fields, linkedit_data_command_values};
+    ghost use Rattle.std.proofs.Common.{rules};
 
     ghost fields = { linkedit_data_command_fields };
 
     ghost values = { linkedit_data_command_values };
 
-    ghost of_values = { linkedit_data_command_of_values };
-
-    ghost size_is = { refl };
-
-    ghost whole = { λ _. refl };
-
-    ghost not_empty = { omega arith };
+    ghost lawful = { Prim.search rules };
 
     fn load(bytes: &[u8], le: Endian) -> Self {
         LinkeditDataCommand {
@@ -84,20 +78,14 @@ impl Record for DyldInfoCommand {
 
     ghost SIZE = { 48 };
 
-    ghost use Rattle.mach_records.specs.Linkedit.{dyld_info_command_fields, dyld_info_command_of_values, dyld_info_command_values};
-    ghost use Rattle.std.proofs.Common.{refl, arith};
+    ghost use Rattle.mach_records.specs.Linkedit.{dyld_info_command_fields, dyld_info_command_values};
+    ghost use Rattle.std.proofs.Common.{rules};
 
     ghost fields = { dyld_info_command_fields };
 
     ghost values = { dyld_info_command_values };
 
-    ghost of_values = { dyld_info_command_of_values };
-
-    ghost size_is = { refl };
-
-    ghost whole = { λ _. refl };
-
-    ghost not_empty = { omega arith };
+    ghost lawful = { Prim.search rules };
 
     fn load(bytes: &[u8], le: Endian) -> Self {
         DyldInfoCommand {
@@ -149,20 +137,14 @@ impl Record for DataInCodeEntry {
 
     ghost SIZE = { 8 };
 
-    ghost use Rattle.mach_records.specs.Linkedit.{data_in_code_entry_fields, data_in_code_entry_of_values, data_in_code_entry_values};
-    ghost use Rattle.std.proofs.Common.{refl, arith};
+    ghost use Rattle.mach_records.specs.Linkedit.{data_in_code_entry_fields, data_in_code_entry_values};
+    ghost use Rattle.std.proofs.Common.{rules};
 
     ghost fields = { data_in_code_entry_fields };
 
     ghost values = { data_in_code_entry_values };
 
-    ghost of_values = { data_in_code_entry_of_values };
-
-    ghost size_is = { refl };
-
-    ghost whole = { λ _. refl };
-
-    ghost not_empty = { omega arith };
+    ghost lawful = { Prim.search rules };
 
     fn load(bytes: &[u8], le: Endian) -> Self {
         DataInCodeEntry {
@@ -201,20 +183,14 @@ impl Record for EncryptionInfoCommand32 {
 
     ghost SIZE = { 20 };
 
-    ghost use Rattle.mach_records.specs.Linkedit.{encryption_info_command32_fields, encryption_info_command32_of_values, encryption_info_command32_values};
-    ghost use Rattle.std.proofs.Common.{refl, arith};
+    ghost use Rattle.mach_records.specs.Linkedit.{encryption_info_command32_fields, encryption_info_command32_values};
+    ghost use Rattle.std.proofs.Common.{rules};
 
     ghost fields = { encryption_info_command32_fields };
 
     ghost values = { encryption_info_command32_values };
 
-    ghost of_values = { encryption_info_command32_of_values };
-
-    ghost size_is = { refl };
-
-    ghost whole = { λ _. refl };
-
-    ghost not_empty = { omega arith };
+    ghost lawful = { Prim.search rules };
 
     fn load(bytes: &[u8], le: Endian) -> Self {
         EncryptionInfoCommand32 {
@@ -258,20 +234,14 @@ impl Record for EncryptionInfoCommand64 {
 
     ghost SIZE = { 24 };
 
-    ghost use Rattle.mach_records.specs.Linkedit.{encryption_info_command64_fields, encryption_info_command64_of_values, encryption_info_command64_values};
-    ghost use Rattle.std.proofs.Common.{refl, arith};
+    ghost use Rattle.mach_records.specs.Linkedit.{encryption_info_command64_fields, encryption_info_command64_values};
+    ghost use Rattle.std.proofs.Common.{rules};
 
     ghost fields = { encryption_info_command64_fields };
 
     ghost values = { encryption_info_command64_values };
 
-    ghost of_values = { encryption_info_command64_of_values };
-
-    ghost size_is = { refl };
-
-    ghost whole = { λ _. refl };
-
-    ghost not_empty = { omega arith };
+    ghost lawful = { Prim.search rules };
 
     fn load(bytes: &[u8], le: Endian) -> Self {
         EncryptionInfoCommand64 {

@@ -28,20 +28,14 @@ impl Record for LoadCommandHeader {
 
     ghost SIZE = { 8 };
 
-    ghost use Rattle.mach_records.specs.LoadCommandHeader.{header_fields, header_of_values, header_values};
-    ghost use Rattle.std.proofs.Common.{refl, arith};
+    ghost use Rattle.mach_records.specs.LoadCommandHeader.{header_fields, header_values};
+    ghost use Rattle.std.proofs.Common.{rules};
 
     ghost fields = { header_fields };
 
     ghost values = { header_values };
 
-    ghost of_values = { header_of_values };
-
-    ghost size_is = { refl };
-
-    ghost whole = { λ _. refl };
-
-    ghost not_empty = { omega arith };
+    ghost lawful = { Prim.search rules };
 
     fn load(bytes: &[u8], le: Endian) -> Self {
         LoadCommandHeader {

@@ -16,20 +16,14 @@ impl Record for DylibTableOfContents {
 
     ghost SIZE = { 8 };
 
-    ghost use Rattle.mach_records.specs.Modules.{dylib_table_of_contents_fields, dylib_table_of_contents_of_values, dylib_table_of_contents_values};
-    ghost use Rattle.std.proofs.Common.{refl, arith};
+    ghost use Rattle.mach_records.specs.Modules.{dylib_table_of_contents_fields, dylib_table_of_contents_values};
+    ghost use Rattle.std.proofs.Common.{rules};
 
     ghost fields = { dylib_table_of_contents_fields };
 
     ghost values = { dylib_table_of_contents_values };
 
-    ghost of_values = { dylib_table_of_contents_of_values };
-
-    ghost size_is = { refl };
-
-    ghost whole = { λ _. refl };
-
-    ghost not_empty = { omega arith };
+    ghost lawful = { Prim.search rules };
 
     fn load(bytes: &[u8], le: Endian) -> Self {
         DylibTableOfContents {
@@ -81,20 +75,14 @@ impl Record for DylibModule {
 
     ghost SIZE = { 52 };
 
-    ghost use Rattle.mach_records.specs.Modules.{dylib_module_fields, dylib_module_of_values, dylib_module_values};
-    ghost use Rattle.std.proofs.Common.{refl, arith};
+    ghost use Rattle.mach_records.specs.Modules.{dylib_module_fields, dylib_module_values};
+    ghost use Rattle.std.proofs.Common.{rules};
 
     ghost fields = { dylib_module_fields };
 
     ghost values = { dylib_module_values };
 
-    ghost of_values = { dylib_module_of_values };
-
-    ghost size_is = { refl };
-
-    ghost whole = { λ _. refl };
-
-    ghost not_empty = { omega arith };
+    ghost lawful = { Prim.search rules };
 
     fn load(bytes: &[u8], le: Endian) -> Self {
         DylibModule {
@@ -168,20 +156,14 @@ impl Record for DylibModule64 {
 
     ghost SIZE = { 56 };
 
-    ghost use Rattle.mach_records.specs.Modules.{dylib_module64_fields, dylib_module64_of_values, dylib_module64_values};
-    ghost use Rattle.std.proofs.Common.{refl, arith};
+    ghost use Rattle.mach_records.specs.Modules.{dylib_module64_fields, dylib_module64_values};
+    ghost use Rattle.std.proofs.Common.{rules};
 
     ghost fields = { dylib_module64_fields };
 
     ghost values = { dylib_module64_values };
 
-    ghost of_values = { dylib_module64_of_values };
-
-    ghost size_is = { refl };
-
-    ghost whole = { λ _. refl };
-
-    ghost not_empty = { omega arith };
+    ghost lawful = { Prim.search rules };
 
     fn load(bytes: &[u8], le: Endian) -> Self {
         DylibModule64 {
@@ -234,20 +216,14 @@ impl Record for DylibReference {
 
     ghost SIZE = { 32 };
 
-    ghost use Rattle.mach_records.specs.Modules.{dylib_reference_fields, dylib_reference_of_values, dylib_reference_values};
-    ghost use Rattle.std.proofs.Common.{refl, arith};
+    ghost use Rattle.mach_records.specs.Modules.{dylib_reference_fields, dylib_reference_values};
+    ghost use Rattle.std.proofs.Common.{rules};
 
     ghost fields = { dylib_reference_fields };
 
     ghost values = { dylib_reference_values };
 
-    ghost of_values = { dylib_reference_of_values };
-
-    ghost size_is = { refl };
-
-    ghost whole = { λ _. refl };
-
-    ghost not_empty = { omega arith };
+    ghost lawful = { Prim.search rules };
 
     fn load(bytes: &[u8], le: Endian) -> Self {
         DylibReference {
@@ -284,20 +260,14 @@ impl Record for RoutinesCommand32 {
 
     ghost SIZE = { 40 };
 
-    ghost use Rattle.mach_records.specs.Modules.{routines_command32_fields, routines_command32_of_values, routines_command32_values};
-    ghost use Rattle.std.proofs.Common.{refl, arith};
+    ghost use Rattle.mach_records.specs.Modules.{routines_command32_fields, routines_command32_values};
+    ghost use Rattle.std.proofs.Common.{rules};
 
     ghost fields = { routines_command32_fields };
 
     ghost values = { routines_command32_values };
 
-    ghost of_values = { routines_command32_of_values };
-
-    ghost size_is = { refl };
-
-    ghost whole = { λ _. refl };
-
-    ghost not_empty = { omega arith };
+    ghost lawful = { Prim.search rules };
 
     fn load(bytes: &[u8], le: Endian) -> Self {
         RoutinesCommand32 {
@@ -352,20 +322,14 @@ impl Record for RoutinesCommand64 {
 
     ghost SIZE = { 72 };
 
-    ghost use Rattle.mach_records.specs.Modules.{routines_command64_fields, routines_command64_of_values, routines_command64_values};
-    ghost use Rattle.std.proofs.Common.{refl, arith};
+    ghost use Rattle.mach_records.specs.Modules.{routines_command64_fields, routines_command64_values};
+    ghost use Rattle.std.proofs.Common.{rules};
 
     ghost fields = { routines_command64_fields };
 
     ghost values = { routines_command64_values };
 
-    ghost of_values = { routines_command64_of_values };
-
-    ghost size_is = { refl };
-
-    ghost whole = { λ _. refl };
-
-    ghost not_empty = { omega arith };
+    ghost lawful = { Prim.search rules };
 
     fn load(bytes: &[u8], le: Endian) -> Self {
         RoutinesCommand64 {

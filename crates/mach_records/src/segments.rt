@@ -46,20 +46,14 @@ impl Record for Section32 {
 
     ghost SIZE = { 68 };
 
-    ghost use Rattle.mach_records.specs.Segments.{section32_fields, section32_of_values, section32_values};
-    ghost use Rattle.std.proofs.Common.{refl, arith};
+    ghost use Rattle.mach_records.specs.Segments.{section32_fields, section32_values};
+    ghost use Rattle.std.proofs.Common.{rules};
 
     ghost fields = { section32_fields };
 
     ghost values = { section32_values };
 
-    ghost of_values = { section32_of_values };
-
-    ghost size_is = { refl };
-
-    ghost whole = { λ _. refl };
-
-    ghost not_empty = { omega arith };
+    ghost lawful = { Prim.search rules };
 
     fn load(bytes: &[u8], le: Endian) -> Self {
         Section32 {
@@ -128,20 +122,14 @@ impl Record for Section64 {
 
     ghost SIZE = { 80 };
 
-    ghost use Rattle.mach_records.specs.Segments.{section64_fields, section64_of_values, section64_values};
-    ghost use Rattle.std.proofs.Common.{refl, arith};
+    ghost use Rattle.mach_records.specs.Segments.{section64_fields, section64_values};
+    ghost use Rattle.std.proofs.Common.{rules};
 
     ghost fields = { section64_fields };
 
     ghost values = { section64_values };
 
-    ghost of_values = { section64_of_values };
-
-    ghost size_is = { refl };
-
-    ghost whole = { λ _. refl };
-
-    ghost not_empty = { omega arith };
+    ghost lawful = { Prim.search rules };
 
     fn load(bytes: &[u8], le: Endian) -> Self {
         Section64 {
@@ -210,20 +198,14 @@ impl Record for SegmentCommand32 {
 
     ghost SIZE = { 56 };
 
-    ghost use Rattle.mach_records.specs.Segments.{segment_command32_fields, segment_command32_of_values, segment_command32_values};
-    ghost use Rattle.std.proofs.Common.{refl, arith};
+    ghost use Rattle.mach_records.specs.Segments.{segment_command32_fields, segment_command32_values};
+    ghost use Rattle.std.proofs.Common.{rules};
 
     ghost fields = { segment_command32_fields };
 
     ghost values = { segment_command32_values };
 
-    ghost of_values = { segment_command32_of_values };
-
-    ghost size_is = { refl };
-
-    ghost whole = { λ _. refl };
-
-    ghost not_empty = { omega arith };
+    ghost lawful = { Prim.search rules };
 
     fn load(bytes: &[u8], le: Endian) -> Self {
         SegmentCommand32 {
@@ -299,20 +281,14 @@ impl Record for SegmentCommand64 {
 
     ghost SIZE = { 72 };
 
-    ghost use Rattle.mach_records.specs.Segments.{segment_command64_fields, segment_command64_of_values, segment_command64_values};
-    ghost use Rattle.std.proofs.Common.{refl, arith};
+    ghost use Rattle.mach_records.specs.Segments.{segment_command64_fields, segment_command64_values};
+    ghost use Rattle.std.proofs.Common.{rules};
 
     ghost fields = { segment_command64_fields };
 
     ghost values = { segment_command64_values };
 
-    ghost of_values = { segment_command64_of_values };
-
-    ghost size_is = { refl };
-
-    ghost whole = { λ _. refl };
-
-    ghost not_empty = { omega arith };
+    ghost lawful = { Prim.search rules };
 
     fn load(bytes: &[u8], le: Endian) -> Self {
         SegmentCommand64 {

@@ -27,20 +27,14 @@ impl Record for SymtabCommand {
 
     ghost SIZE = { 24 };
 
-    ghost use Rattle.mach_records.specs.SymbolTables.{symtab_command_fields, symtab_command_of_values, symtab_command_values};
-    ghost use Rattle.std.proofs.Common.{refl, arith};
+    ghost use Rattle.mach_records.specs.SymbolTables.{symtab_command_fields, symtab_command_values};
+    ghost use Rattle.std.proofs.Common.{rules};
 
     ghost fields = { symtab_command_fields };
 
     ghost values = { symtab_command_values };
 
-    ghost of_values = { symtab_command_of_values };
-
-    ghost size_is = { refl };
-
-    ghost whole = { λ _. refl };
-
-    ghost not_empty = { omega arith };
+    ghost lawful = { Prim.search rules };
 
     fn load(bytes: &[u8], le: Endian) -> Self {
         SymtabCommand {
@@ -143,20 +137,14 @@ impl Record for DysymtabCommand {
 
     ghost SIZE = { 80 };
 
-    ghost use Rattle.mach_records.specs.SymbolTables.{dysymtab_command_fields, dysymtab_command_of_values, dysymtab_command_values};
-    ghost use Rattle.std.proofs.Common.{refl, arith};
+    ghost use Rattle.mach_records.specs.SymbolTables.{dysymtab_command_fields, dysymtab_command_values};
+    ghost use Rattle.std.proofs.Common.{rules};
 
     ghost fields = { dysymtab_command_fields };
 
     ghost values = { dysymtab_command_values };
 
-    ghost of_values = { dysymtab_command_of_values };
-
-    ghost size_is = { refl };
-
-    ghost whole = { λ _. refl };
-
-    ghost not_empty = { omega arith };
+    ghost lawful = { Prim.search rules };
 
     fn load(bytes: &[u8], le: Endian) -> Self {
         DysymtabCommand {
@@ -267,20 +255,14 @@ impl Record for TwolevelHintsCommand {
 
     ghost SIZE = { 16 };
 
-    ghost use Rattle.mach_records.specs.SymbolTables.{twolevel_hints_command_fields, twolevel_hints_command_of_values, twolevel_hints_command_values};
-    ghost use Rattle.std.proofs.Common.{refl, arith};
+    ghost use Rattle.mach_records.specs.SymbolTables.{twolevel_hints_command_fields, twolevel_hints_command_values};
+    ghost use Rattle.std.proofs.Common.{rules};
 
     ghost fields = { twolevel_hints_command_fields };
 
     ghost values = { twolevel_hints_command_values };
 
-    ghost of_values = { twolevel_hints_command_of_values };
-
-    ghost size_is = { refl };
-
-    ghost whole = { λ _. refl };
-
-    ghost not_empty = { omega arith };
+    ghost lawful = { Prim.search rules };
 
     fn load(bytes: &[u8], le: Endian) -> Self {
         TwolevelHintsCommand {
@@ -315,20 +297,14 @@ impl Record for TwolevelHint {
 
     ghost SIZE = { 32 };
 
-    ghost use Rattle.mach_records.specs.SymbolTables.{twolevel_hint_fields, twolevel_hint_of_values, twolevel_hint_values};
-    ghost use Rattle.std.proofs.Common.{refl, arith};
+    ghost use Rattle.mach_records.specs.SymbolTables.{twolevel_hint_fields, twolevel_hint_values};
+    ghost use Rattle.std.proofs.Common.{rules};
 
     ghost fields = { twolevel_hint_fields };
 
     ghost values = { twolevel_hint_values };
 
-    ghost of_values = { twolevel_hint_of_values };
-
-    ghost size_is = { refl };
-
-    ghost whole = { λ _. refl };
-
-    ghost not_empty = { omega arith };
+    ghost lawful = { Prim.search rules };
 
     fn load(bytes: &[u8], le: Endian) -> Self {
         TwolevelHint {
@@ -362,20 +338,14 @@ impl Record for SymsegCommand {
 
     ghost SIZE = { 16 };
 
-    ghost use Rattle.mach_records.specs.SymbolTables.{symseg_command_fields, symseg_command_of_values, symseg_command_values};
-    ghost use Rattle.std.proofs.Common.{refl, arith};
+    ghost use Rattle.mach_records.specs.SymbolTables.{symseg_command_fields, symseg_command_values};
+    ghost use Rattle.std.proofs.Common.{rules};
 
     ghost fields = { symseg_command_fields };
 
     ghost values = { symseg_command_values };
 
-    ghost of_values = { symseg_command_of_values };
-
-    ghost size_is = { refl };
-
-    ghost whole = { λ _. refl };
-
-    ghost not_empty = { omega arith };
+    ghost lawful = { Prim.search rules };
 
     fn load(bytes: &[u8], le: Endian) -> Self {
         SymsegCommand {

@@ -19,20 +19,14 @@ impl Record for SubFrameworkCommand {
 
     ghost SIZE = { 12 };
 
-    ghost use Rattle.mach_records.specs.Umbrellas.{sub_framework_command_fields, sub_framework_command_of_values, sub_framework_command_values};
-    ghost use Rattle.std.proofs.Common.{refl, arith};
+    ghost use Rattle.mach_records.specs.Umbrellas.{sub_framework_command_fields, sub_framework_command_values};
+    ghost use Rattle.std.proofs.Common.{rules};
 
     ghost fields = { sub_framework_command_fields };
 
     ghost values = { sub_framework_command_values };
 
-    ghost of_values = { sub_framework_command_of_values };
-
-    ghost size_is = { refl };
-
-    ghost whole = { λ _. refl };
-
-    ghost not_empty = { omega arith };
+    ghost lawful = { Prim.search rules };
 
     fn load(bytes: &[u8], le: Endian) -> Self {
         SubFrameworkCommand {
@@ -67,20 +61,14 @@ impl Record for SubClientCommand {
 
     ghost SIZE = { 12 };
 
-    ghost use Rattle.mach_records.specs.Umbrellas.{sub_client_command_fields, sub_client_command_of_values, sub_client_command_values};
-    ghost use Rattle.std.proofs.Common.{refl, arith};
+    ghost use Rattle.mach_records.specs.Umbrellas.{sub_client_command_fields, sub_client_command_values};
+    ghost use Rattle.std.proofs.Common.{rules};
 
     ghost fields = { sub_client_command_fields };
 
     ghost values = { sub_client_command_values };
 
-    ghost of_values = { sub_client_command_of_values };
-
-    ghost size_is = { refl };
-
-    ghost whole = { λ _. refl };
-
-    ghost not_empty = { omega arith };
+    ghost lawful = { Prim.search rules };
 
     fn load(bytes: &[u8], le: Endian) -> Self {
         SubClientCommand {
@@ -115,20 +103,14 @@ impl Record for SubUmbrellaCommand {
 
     ghost SIZE = { 12 };
 
-    ghost use Rattle.mach_records.specs.Umbrellas.{sub_umbrella_command_fields, sub_umbrella_command_of_values, sub_umbrella_command_values};
-    ghost use Rattle.std.proofs.Common.{refl, arith};
+    ghost use Rattle.mach_records.specs.Umbrellas.{sub_umbrella_command_fields, sub_umbrella_command_values};
+    ghost use Rattle.std.proofs.Common.{rules};
 
     ghost fields = { sub_umbrella_command_fields };
 
     ghost values = { sub_umbrella_command_values };
 
-    ghost of_values = { sub_umbrella_command_of_values };
-
-    ghost size_is = { refl };
-
-    ghost whole = { λ _. refl };
-
-    ghost not_empty = { omega arith };
+    ghost lawful = { Prim.search rules };
 
     fn load(bytes: &[u8], le: Endian) -> Self {
         SubUmbrellaCommand {
@@ -162,20 +144,14 @@ impl Record for SubLibraryCommand {
 
     ghost SIZE = { 12 };
 
-    ghost use Rattle.mach_records.specs.Umbrellas.{sub_library_command_fields, sub_library_command_of_values, sub_library_command_values};
-    ghost use Rattle.std.proofs.Common.{refl, arith};
+    ghost use Rattle.mach_records.specs.Umbrellas.{sub_library_command_fields, sub_library_command_values};
+    ghost use Rattle.std.proofs.Common.{rules};
 
     ghost fields = { sub_library_command_fields };
 
     ghost values = { sub_library_command_values };
 
-    ghost of_values = { sub_library_command_of_values };
-
-    ghost size_is = { refl };
-
-    ghost whole = { λ _. refl };
-
-    ghost not_empty = { omega arith };
+    ghost lawful = { Prim.search rules };
 
     fn load(bytes: &[u8], le: Endian) -> Self {
         SubLibraryCommand {

@@ -54,20 +54,14 @@ impl Record for VersionMinCommand {
 
     ghost SIZE = { 16 };
 
-    ghost use Rattle.mach_records.specs.Versions.{version_min_command_fields, version_min_command_of_values, version_min_command_values};
-    ghost use Rattle.std.proofs.Common.{refl, arith};
+    ghost use Rattle.mach_records.specs.Versions.{version_min_command_fields, version_min_command_values};
+    ghost use Rattle.std.proofs.Common.{rules};
 
     ghost fields = { version_min_command_fields };
 
     ghost values = { version_min_command_values };
 
-    ghost of_values = { version_min_command_of_values };
-
-    ghost size_is = { refl };
-
-    ghost whole = { λ _. refl };
-
-    ghost not_empty = { omega arith };
+    ghost lawful = { Prim.search rules };
 
     fn load(bytes: &[u8], le: Endian) -> Self {
         VersionMinCommand {
@@ -131,20 +125,14 @@ impl Record for BuildVersionCommand {
 
     ghost SIZE = { 24 };
 
-    ghost use Rattle.mach_records.specs.Versions.{build_version_command_fields, build_version_command_of_values, build_version_command_values};
-    ghost use Rattle.std.proofs.Common.{refl, arith};
+    ghost use Rattle.mach_records.specs.Versions.{build_version_command_fields, build_version_command_values};
+    ghost use Rattle.std.proofs.Common.{rules};
 
     ghost fields = { build_version_command_fields };
 
     ghost values = { build_version_command_values };
 
-    ghost of_values = { build_version_command_of_values };
-
-    ghost size_is = { refl };
-
-    ghost whole = { λ _. refl };
-
-    ghost not_empty = { omega arith };
+    ghost lawful = { Prim.search rules };
 
     fn load(bytes: &[u8], le: Endian) -> Self {
         BuildVersionCommand {
@@ -206,20 +194,14 @@ impl Record for BuildToolVersion {
 
     ghost SIZE = { 8 };
 
-    ghost use Rattle.mach_records.specs.Versions.{build_tool_version_fields, build_tool_version_of_values, build_tool_version_values};
-    ghost use Rattle.std.proofs.Common.{refl, arith};
+    ghost use Rattle.mach_records.specs.Versions.{build_tool_version_fields, build_tool_version_values};
+    ghost use Rattle.std.proofs.Common.{rules};
 
     ghost fields = { build_tool_version_fields };
 
     ghost values = { build_tool_version_values };
 
-    ghost of_values = { build_tool_version_of_values };
-
-    ghost size_is = { refl };
-
-    ghost whole = { λ _. refl };
-
-    ghost not_empty = { omega arith };
+    ghost lawful = { Prim.search rules };
 
     fn load(bytes: &[u8], le: Endian) -> Self {
         BuildToolVersion {
@@ -256,20 +238,14 @@ impl Record for SourceVersionCommand {
 
     ghost SIZE = { 16 };
 
-    ghost use Rattle.mach_records.specs.Versions.{source_version_command_fields, source_version_command_of_values, source_version_command_values};
-    ghost use Rattle.std.proofs.Common.{refl, arith};
+    ghost use Rattle.mach_records.specs.Versions.{source_version_command_fields, source_version_command_values};
+    ghost use Rattle.std.proofs.Common.{rules};
 
     ghost fields = { source_version_command_fields };
 
     ghost values = { source_version_command_values };
 
-    ghost of_values = { source_version_command_of_values };
-
-    ghost size_is = { refl };
-
-    ghost whole = { λ _. refl };
-
-    ghost not_empty = { omega arith };
+    ghost lawful = { Prim.search rules };
 
     fn load(bytes: &[u8], le: Endian) -> Self {
         SourceVersionCommand {

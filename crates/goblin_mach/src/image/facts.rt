@@ -12,8 +12,8 @@ ghost use Rattle.mach_parts.specs.Segment.{SegmentView};
 ghost use Rattle.mach_parts.specs.Segments.{segments_in};
 ghost use Rattle.mach_parts.specs.declared.symbols.nlist.Nlist.{Nlist};
 ghost use Rattle.goblin_mach.specs.EntryPoint.{EntryPoint};
-ghost use Rattle.goblin_mach.specs.Facts.{HasSymbols, HasSegments, HasRelocations, HasName, HasLibraries, HasRunPaths, HasEntryPoint, HasExports, HasExportsFault, HasImports, HasImportsFault};
-ghost use Rattle.goblin_mach.specs.Subjects.{ListsImageImports, ImageImportsFault, ListsImageExports, ImageExportsFault, symbols_held};
+ghost use Rattle.goblin_mach.specs.Facts.{HasSymbols, HasSegments, HasRelocations, HasName, HasLibraries, HasRunPaths, HasEntryPoint, HasExports, HasExportsFault, HasImports, HasImportsFault, HasImportItems};
+ghost use Rattle.goblin_mach.specs.Subjects.{ListsImageImports, ImageImportsFault, AreImageBindItems, ListsImageExports, ImageExportsFault, symbols_held};
 ghost use Rattle.goblin_mach.specs.OpenImage.{IsImage, IsLossyImage, segments_held, trie_held, binds_held, ctx_held, bytes_held};
 ghost use Rattle.goblin_mach.specs.Relocations.{RelocatedSection, relocated_sections_in};
 ghost use Rattle.goblin_mach.specs.View.{LinksImage, LinksFault, FaultHeld};
@@ -81,13 +81,21 @@ pub fn exports_of_image<A: Allocator>(image: &MachO<'_, A>)
 /// The imports that `MachO::imports` lists, and the faults that it reports, are those of the bytes.
 pub fn imports_of_image<A: Allocator>(image: &MachO<'_, A>)
     ensures strict { (bytes : List ℕ) (o : ℕ) → IsImage bytes o image.now → (list : List Import)
-        → ListsImageImports (binds_held image.now) (pointer_size (ctx_held image.now).container) (texts image.now.libs.items) (segments_in image.now.segments) list → HasImports bytes o list }
+        → HasImports bytes o list ↔ ListsImageImports (binds_held image.now) (pointer_size (ctx_held image.now).container) (texts image.now.libs.items) (segments_in image.now.segments) list }
     ensures lossy { (bytes : List ℕ) (o : ℕ) → IsLossyImage bytes o image.now → (list : List Import)
-        → ListsImageImports (binds_held image.now) (pointer_size (ctx_held image.now).container) (texts image.now.libs.items) (segments_in image.now.segments) list → HasImports bytes o list }
+        → HasImports bytes o list ↔ ListsImageImports (binds_held image.now) (pointer_size (ctx_held image.now).container) (texts image.now.libs.items) (segments_in image.now.segments) list }
     ensures strict_faults { (bytes : List ℕ) (o : ℕ) → IsImage bytes o image.now → (f : Fault)
-        → ImageImportsFault (binds_held image.now) (pointer_size (ctx_held image.now).container) (texts image.now.libs.items) (segments_in image.now.segments) f → HasImportsFault bytes o f }
+        → HasImportsFault bytes o f ↔ ImageImportsFault (binds_held image.now) (pointer_size (ctx_held image.now).container) (texts image.now.libs.items) (segments_in image.now.segments) f }
     ensures lossy_faults { (bytes : List ℕ) (o : ℕ) → IsLossyImage bytes o image.now → (f : Fault)
-        → ImageImportsFault (binds_held image.now) (pointer_size (ctx_held image.now).container) (texts image.now.libs.items) (segments_in image.now.segments) f → HasImportsFault bytes o f }
+        → HasImportsFault bytes o f ↔ ImageImportsFault (binds_held image.now) (pointer_size (ctx_held image.now).container) (texts image.now.libs.items) (segments_in image.now.segments) f }
+{}
+
+/// The imports that `MachO::iter_imports` gives one at a time are those of the bytes.
+pub fn import_items_of_image<A: Allocator>(image: &MachO<'_, A>)
+    ensures strict { (bytes : List ℕ) (o : ℕ) → IsImage bytes o image.now → (items : List (Result Import Fault))
+        → AreImageBindItems (binds_held image.now) (pointer_size (ctx_held image.now).container) (texts image.now.libs.items) (segments_in image.now.segments) items → HasImportItems bytes o items }
+    ensures lossy { (bytes : List ℕ) (o : ℕ) → IsLossyImage bytes o image.now → (items : List (Result Import Fault))
+        → AreImageBindItems (binds_held image.now) (pointer_size (ctx_held image.now).container) (texts image.now.libs.items) (segments_in image.now.segments) items → HasImportItems bytes o items }
 {}
 
 /// An image that was opened strictly at 0 links the lists that it holds, and a fault that stands in one

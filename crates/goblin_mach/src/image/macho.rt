@@ -1,6 +1,6 @@
 //! One image.
 
-ghost use Rattle.std.specs.Prelude.{◌≡◌, ◌↔◌, List, IsTrue, IfOk, IfErr};
+ghost use Rattle.std.specs.Prelude.{◌≡◌, ◌↔◌, ◌<◌, ◌^◌, length, List, IsTrue, IfOk, IfErr};
 ghost use Rattle.mach_base.specs.Answer.{Stands, IsOkUnlessMemory};
 ghost use Rattle.mach_base.specs.Context.{pointer_size};
 ghost use Rattle.mach_dyld.specs.BindViews.{imports_seen};
@@ -20,7 +20,7 @@ use crate::image::relocations::{RelocatedSection, relocations};
 use crate::image::subjects::{Binds, Tries};
 use mach_base::{Ctx, Result};
 use mach_dyld::exports::{Export, ExportTrie};
-use mach_dyld::imports::{BindInterpreter, Import};
+use mach_dyld::imports::{BindInterpreter, BindIterator, Import};
 use mach_load::LoadCommand;
 use mach_parts::header::{Header, MH_OBJECT};
 use mach_parts::segment::Segments;
@@ -137,7 +137,8 @@ impl<'a, A: Allocator> MachO<'a, A> {
 
     /// The symbols that the image holds at the call, one after the other; none where it holds no table.
     pub fn symbols(&self) -> SymbolIterator<'a>
-        ensures { symbols_left result ≡ symbols_held self.now.symbols }
+        ensures items { symbols_left result ≡ symbols_held self.now.symbols }
+        ensures bounded { length (symbols_left result) < 2 ^ 64 }
     {
         match &self.symbols {
             Some(symbols) => symbols.iter(),
@@ -157,7 +158,6 @@ impl<'a, A: Allocator> MachO<'a, A> {
             None => Ok(Vec::new(alloc)),
         }
     }
-
 
     /// The imports of the image, over the libraries and the segments that it holds at the call; none where
     /// no command brings binds. Each refusal but `Error::Memory` is a fault that stands in the binds.
@@ -180,6 +180,22 @@ impl<'a, A: Allocator> MachO<'a, A> {
             }
             None => Ok(Vec::new(alloc)),
         }
+    }
+
+    ghost use Rattle.mach_dyld.specs.BindLeft.{imports_left};
+    ghost use Rattle.goblin_mach.specs.Subjects.{AreImageBindItems};
+
+    /// The imports of the image one at a time, over the libraries and the segments that it holds: those of
+    /// the non-lazy stream, then those of the lazy one, up to the first fault, and its error last; none
+    /// where no command brings binds. It takes no memory.
+    pub fn iter_imports<'b>(&'b self) -> BindIterator<'a, 'b>
+        ensures { AreImageBindItems (binds_held self.now) (pointer_size (ctx_held self.now).container)
+            (texts self.now.libs.items) (segments_in self.now.segments) (imports_left result) }
+    {
+        let Some(binds) = &self.bind_interpreter else {
+            return BindIterator::default();
+        };
+        binds.iter(self.libs.as_slice(), self.segments.as_slice(), self.ctx)
     }
 
     /// Whether the image is an object file.

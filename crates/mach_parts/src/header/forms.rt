@@ -3,6 +3,7 @@
 ghost use Rattle.std.specs.Prelude.{◌≡◌, ◌<◌};
 
 use crate::header::{Header, Header32, Header64, SIZEOF_HEADER_32, SIZEOF_HEADER_64};
+use crate::low_bits::low_bits;
 use mach_base::{Container, Ctx, Error, IntoCtx, Record, Result, SizeWith, TryFromCtx, TryIntoCtx};
 
 impl From<Header32> for Header {
@@ -55,7 +56,7 @@ impl From<Header> for Header32 {
             cputype: header.cputype,
             cpusubtype: header.cpusubtype,
             filetype: header.filetype,
-            ncmds: (header.ncmds & 0xffff_ffff) as u32,
+            ncmds: low_bits(header.ncmds as u64),
             sizeofcmds: header.sizeofcmds,
             flags: header.flags,
         }
@@ -74,7 +75,7 @@ impl From<Header> for Header64 {
             cputype: header.cputype,
             cpusubtype: header.cpusubtype,
             filetype: header.filetype,
-            ncmds: (header.ncmds & 0xffff_ffff) as u32,
+            ncmds: low_bits(header.ncmds as u64),
             sizeofcmds: header.sizeofcmds,
             flags: header.flags,
             reserved: header.reserved,
@@ -119,7 +120,7 @@ impl<'a> TryFromCtx<'a, Ctx> for Header {
 }
 
 impl TryIntoCtx<Ctx> for Header {
-    ghost use Rattle.std.proofs.Common.{arith};
+    ghost use Rattle.std.proofs.Common.{zero-lt-suc};
     ghost use Rattle.mach_parts.specs.Header.{header_size, header_spelling};
     ghost use Rattle.mach_base.specs.declared.context.Container.TheVariants.{Little, Big};
 
@@ -127,7 +128,7 @@ impl TryIntoCtx<Ctx> for Header {
 
     ghost width = { λ ctx _. header_size ctx.container };
 
-    ghost not_empty = { λ ctx _. elim ctx.container as (λ w. 0 < header_size w) [ Little ↦ omega arith | Big ↦ omega arith ] };
+    ghost not_empty = { λ ctx _. elim ctx.container as (λ w. 0 < header_size w) [ Little ↦ zero-lt-suc _ | Big ↦ zero-lt-suc _ ] };
 
     /// Writes the header in the width of the context, its magic as it is held.
     fn try_into_ctx(self, bytes: &mut [u8], ctx: Ctx) -> Result<usize> {

@@ -1,7 +1,7 @@
 //! The types of relocations, by cpu (`mach-o/reloc.h` and the `reloc.h` of each cpu).
 
 ghost use Rattle.std.specs.Prelude.{◌≡◌};
-ghost use Rattle.mach_parts.specs.RelocationName.{relocation_name, name_of, x86_64_names, x86_names, arm_names, arm64_names};
+ghost use Rattle.mach_parts.specs.RelocationName.{relocation_name, type_name_of, x86_64_names, x86_names, arm_names, arm64_names};
 
 use mach_records::cputype::{
     CPU_TYPE_ARM, CPU_TYPE_ARM64, CPU_TYPE_ARM64_32, CPU_TYPE_X86, CPU_TYPE_X86_64, CpuType,
@@ -130,7 +130,7 @@ pub const ARM64_RELOC_ADDEND: RelocType = 10;
 
 // The name of a type of x86-64.
 fn x86_64_name(reloc: RelocType) -> &'static str
-    ensures { result.now ≡ name_of x86_64_names reloc }
+    ensures { result.now ≡ type_name_of x86_64_names reloc }
 {
     match reloc {
         X86_64_RELOC_UNSIGNED => "X86_64_RELOC_UNSIGNED",
@@ -149,7 +149,7 @@ fn x86_64_name(reloc: RelocType) -> &'static str
 
 // The name of a type of x86.
 fn x86_name(reloc: RelocType) -> &'static str
-    ensures { result.now ≡ name_of x86_names reloc }
+    ensures { result.now ≡ type_name_of x86_names reloc }
 {
     match reloc {
         GENERIC_RELOC_VANILLA => "GENERIC_RELOC_VANILLA",
@@ -164,7 +164,7 @@ fn x86_name(reloc: RelocType) -> &'static str
 
 // The name of a type of ARM.
 fn arm_name(reloc: RelocType) -> &'static str
-    ensures { result.now ≡ name_of arm_names reloc }
+    ensures { result.now ≡ type_name_of arm_names reloc }
 {
     match reloc {
         ARM_RELOC_VANILLA => "ARM_RELOC_VANILLA",
@@ -183,7 +183,7 @@ fn arm_name(reloc: RelocType) -> &'static str
 
 // The name of a type of ARM64.
 fn arm64_name(reloc: RelocType) -> &'static str
-    ensures { result.now ≡ name_of arm64_names reloc }
+    ensures { result.now ≡ type_name_of arm64_names reloc }
 {
     match reloc {
         ARM64_RELOC_UNSIGNED => "ARM64_RELOC_UNSIGNED",

@@ -1,9 +1,10 @@
 //! A segment as the command of either width.
 
-ghost use Rattle.std.specs.Prelude.{◌≡◌, ◌<◌, ◌%◌, ◌^◌};
+ghost use Rattle.std.specs.Prelude.{◌≡◌, ◌<◌};
 ghost use Rattle.mach_parts.specs.Section.{command_size};
 ghost use Rattle.mach_parts.specs.Segment.{widened};
 
+use crate::low_bits::low_bits;
 use crate::segment::Segment;
 use mach_base::{Container, Ctx, IntoCtx, Record, Result, SizeWith, TryIntoCtx};
 use mach_records::{SegmentCommand32, SegmentCommand64};
@@ -16,13 +17,6 @@ pub(crate) fn command_len(container: Container) -> usize
         Container::Little => SegmentCommand32::SIZE,
         Container::Big => SegmentCommand64::SIZE,
     }
-}
-
-// The low 32 bits of a number.
-pub(crate) fn low_bits(x: u64) -> u32
-    ensures { result ≡ x % 2 ^ 32 }
-{
-    (x % (1 << 32)) as u32
 }
 
 // A command of a 32-bit image in the wider form.
@@ -45,9 +39,9 @@ pub(crate) fn widen(segment: &SegmentCommand32) -> SegmentCommand64
 }
 
 impl<'a> From<Segment<'a>> for SegmentCommand32 {
-    ghost use Rattle.mach_parts.specs.Segment.{command_of, narrowed};
+    ghost use Rattle.mach_parts.specs.Segment.{segment_command_of, narrowed};
 
-    ghost from_gives = { λ s command. command ≡ narrowed (command_of s) };
+    ghost from_gives = { λ s command. command ≡ narrowed (segment_command_of s) };
 
     /// The low 32 bits of addresses, places and sizes.
     fn from(segment: Segment<'a>) -> SegmentCommand32 {
@@ -69,9 +63,9 @@ impl<'a> From<Segment<'a>> for SegmentCommand32 {
 }
 
 impl<'a> From<Segment<'a>> for SegmentCommand64 {
-    ghost use Rattle.mach_parts.specs.Segment.{command_of};
+    ghost use Rattle.mach_parts.specs.Segment.{segment_command_of};
 
-    ghost from_gives = { λ s command. command ≡ command_of s };
+    ghost from_gives = { λ s command. command ≡ segment_command_of s };
 
     fn from(segment: Segment<'a>) -> SegmentCommand64 {
         let segname = segment.segname;
@@ -92,15 +86,15 @@ impl<'a> From<Segment<'a>> for SegmentCommand64 {
 }
 
 impl<'a> TryIntoCtx<Ctx> for Segment<'a> {
-    ghost use Rattle.mach_parts.specs.Segment.{command_bytes, command_of};
-    ghost use Rattle.std.proofs.Common.{arith};
+    ghost use Rattle.mach_parts.specs.Segment.{command_bytes, segment_command_of};
+    ghost use Rattle.std.proofs.Common.{zero-lt-suc};
     ghost use Rattle.mach_base.specs.declared.context.Container.TheVariants.{Little, Big};
 
-    ghost spelled = { λ ctx s. command_bytes ctx.container ctx.le (command_of s) };
+    ghost spelled = { λ ctx s. command_bytes ctx.container ctx.le (segment_command_of s) };
 
     ghost width = { λ ctx _. command_size ctx.container };
 
-    ghost not_empty = { λ ctx _. elim ctx.container as (λ w. 0 < command_size w) [ Little ↦ omega arith | Big ↦ omega arith ] };
+    ghost not_empty = { λ ctx _. elim ctx.container as (λ w. 0 < command_size w) [ Little ↦ zero-lt-suc _ | Big ↦ zero-lt-suc _ ] };
 
     /// Writes the command alone, in the form of the context's width.
     fn try_into_ctx(self, bytes: &mut [u8], ctx: Ctx) -> Result<usize> {

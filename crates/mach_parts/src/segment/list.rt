@@ -113,7 +113,7 @@ impl<'a, 'b, A: Allocator> IntoIterator for &'b Segments<Segment<'a>, A> {
 }
 
 /// The segments' iterators over their sections, in order.
-#[derive(Drop)]
+#[derive(Clone, Drop)]
 pub struct SegmentSections<'b, 'a> {
     segments: Iter<'b, Segment<'a>>,
 }

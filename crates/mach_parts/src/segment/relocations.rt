@@ -9,7 +9,7 @@ use mach_base::{Endian, Record, Result};
 
 /// The relocations of a section: exactly so many items, of which each is the relocation at its own
 /// place or the error of the read there.
-#[derive(Clone, Copy)]
+#[derive(Clone, Drop)]
 pub struct RelocationIterator<'a> {
     bytes: &'a [u8],
     reloff: u32,
@@ -39,7 +39,9 @@ impl<'a> RelocationIterator<'a> {
 impl<'a> Iterator for RelocationIterator<'a> {
     type Item = Result<RelocationInfo>;
 
-    ghost use Rattle.std.specs.Iterator.{YieldsFirstBy, item_count};
+    ghost use Rattle.std.specs.Prelude.{Some, IfSome, length};
+    ghost use Rattle.std.specs.Iterator.{YieldsFirstBy, UpTo, item_count};
+    ghost use Rattle.std.specs.Iterator.SizeHint.{IsWithinCount};
     ghost use Rattle.mach_parts.specs.RelocationItems.{relocation_read, relocations_left};
 
     ghost next_gives = { YieldsFirstBy relocation_read relocations_left };
@@ -53,6 +55,23 @@ impl<'a> Iterator for RelocationIterator<'a> {
         let place = self.reloff as usize + self.next_item as usize * SIZEOF_RELOCATION_INFO;
         self.next_item += 1;
         Some(read_at(self.bytes, place, self.le))
+    }
+
+    /// How many items are left, exactly.
+    fn size_hint(&self) -> (usize, Option<usize>)
+        ensures lower { IsWithinCount result.0 (item_count relocations_left self.now) }
+        ensures upper { IfSome result.1 (UpTo (item_count relocations_left self.now)) }
+        ensures exact { result ≡ (length (relocations_left self.now), Some (length (relocations_left self.now))) }
+    {
+        let left = self.len();
+        (left, Some(left))
+    }
+}
+
+impl<'a> ExactSizeIterator for RelocationIterator<'a> {
+    /// How many items are left.
+    fn len(&self) -> usize {
+        self.count.saturating_sub(self.next_item) as usize
     }
 }
 

@@ -5,7 +5,7 @@ ghost use Rattle.mach_base.specs.Answer.{Reads};
 ghost use Rattle.mach_base.specs.Text.{text_at};
 ghost use Rattle.mach_parts.specs.Section.{is_zero_fill, section_at, section_data};
 
-use crate::segment::conversions::low_bits;
+use crate::low_bits::low_bits;
 use crate::segment::relocations::RelocationIterator;
 use mach_base::{
     Container, Ctx, Error, IntoCtx, Record, Result, SizeWith, TryFromCtx, TryIntoCtx, bytes_at,
@@ -240,14 +240,14 @@ impl TryIntoCtx<Ctx> for Section {
     ghost use Rattle.mach_base.specs.Number.{room_at};
     ghost use Rattle.mach_base.specs.Record.{IsWritten};
     ghost use Rattle.mach_parts.specs.Section.{kept, section_bytes, section_size};
-    ghost use Rattle.std.proofs.Common.{arith};
+    ghost use Rattle.std.proofs.Common.{zero-lt-suc};
     ghost use Rattle.mach_base.specs.declared.context.Container.TheVariants.{Little, Big};
 
     ghost spelled = { λ ctx s. section_bytes ctx.container ctx.le s };
 
     ghost width = { λ ctx _. section_size ctx.container };
 
-    ghost not_empty = { λ ctx _. elim ctx.container as (λ w. 0 < section_size w) [ Little ↦ omega arith | Big ↦ omega arith ] };
+    ghost not_empty = { λ ctx _. elim ctx.container as (λ w. 0 < section_size w) [ Little ↦ zero-lt-suc _ | Big ↦ zero-lt-suc _ ] };
 
     /// Writes the section in the form of the context's width.
     fn try_into_ctx(self, bytes: &mut [u8], ctx: Ctx) -> Result<usize>

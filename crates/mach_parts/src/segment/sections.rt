@@ -10,7 +10,7 @@ use mach_base::{Ctx, Result, SizeWith};
 
 /// The sections of a segment with their data: exactly so many items as the segment says, of which
 /// each is the section at its own place or the error of the read there.
-#[derive(Clone, Copy)]
+#[derive(Clone, Drop)]
 pub struct SectionIterator<'a> {
     bytes: &'a [u8],
     offset: usize,
@@ -57,7 +57,9 @@ impl<'a> SectionIterator<'a> {
 impl<'a> Iterator for SectionIterator<'a> {
     type Item = Result<(Section, SectionData<'a>)>;
 
-    ghost use Rattle.std.specs.Iterator.{YieldsFirstBy, item_count};
+    ghost use Rattle.std.specs.Prelude.{Some, IfSome, length};
+    ghost use Rattle.std.specs.Iterator.{YieldsFirstBy, UpTo, item_count};
+    ghost use Rattle.std.specs.Iterator.SizeHint.{IsWithinCount};
     ghost use Rattle.mach_parts.specs.SectionItems.{section_read, sections_left};
 
     ghost next_gives = { YieldsFirstBy section_read sections_left };
@@ -71,6 +73,16 @@ impl<'a> Iterator for SectionIterator<'a> {
         let place = place_of(self.ctx, self.offset, self.next_item);
         self.next_item += 1;
         Some(read_at(self.bytes, place, self.ctx))
+    }
+
+    /// How many items are left, exactly.
+    fn size_hint(&self) -> (usize, Option<usize>)
+        ensures lower { IsWithinCount result.0 (item_count sections_left self.now) }
+        ensures upper { IfSome result.1 (UpTo (item_count sections_left self.now)) }
+        ensures exact { result ≡ (length (sections_left self.now), Some (length (sections_left self.now))) }
+    {
+        let left = self.len();
+        (left, Some(left))
     }
 }
 

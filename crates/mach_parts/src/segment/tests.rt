@@ -42,6 +42,22 @@ fn segment_of_a_known_image(rt: HostRuntime) -> Result<(), Fail> {
 }
 
 #[test]
+fn segment_shown(rt: HostRuntime) -> Result<(), Fail> {
+    let mut segments = Segments::new(rt.alloc(), Ctx::default());
+    segments.push(segment_of_file_b()?)?;
+    let shown = format!(in rt.alloc(); "{segments:?}")?;
+    assert_eq!(rt;
+        shown.as_str(),
+        "Segments { segments: [Segment { cmd: 25, cmdsize: 152, \
+         segname: [95, 95, 84, 69, 88, 84, 0, 0, 0, 0, 0, 0, 0, 0, 0, 0], \
+         vmaddr: 4294967296, vmsize: 4096, fileoff: 0, filesize: 376, maxprot: 0, initprot: 0, \
+         nsects: 1, flags: 0, bytes: 376 bytes, file: 376 bytes, offset: 32, \
+         ctx: Ctx { container: Big, le: Little } }] }"
+    );
+    Ok(())
+}
+
+#[test]
 fn sections_left(rt: HostRuntime) -> Result<(), Fail> {
     let mut segment = segment_of_file_b()?;
     segment.nsects = 2;
@@ -49,6 +65,7 @@ fn sections_left(rt: HostRuntime) -> Result<(), Fail> {
     assert_eq!(rt; sections.len(), 2);
     assert!(rt; matches!(sections.next(), Some(Ok(_))));
     assert_eq!(rt; sections.len(), 1);
+    assert_eq!(rt; sections.clone()?.size_hint(), (1, Some(1)));
     Ok(())
 }
 
@@ -68,12 +85,14 @@ fn unreadable_sections(rt: HostRuntime) -> Result<(), Fail> {
 }
 
 #[test]
-fn relocations_past_the_end(rt: HostRuntime) {
+fn relocations_past_the_end(rt: HostRuntime) -> Result<(), Fail> {
     let mut section = Section::default();
     section.nreloc = 2;
     section.reloff = 368;
     let mut relocations = section.iter_relocations(&FILE_B, Ctx::default());
     assert!(rt; matches!(relocations.next(), Some(Ok(_))));
+    assert_eq!(rt; relocations.size_hint(), (1, Some(1)));
+    let again = relocations.clone()?;
     assert!(rt;
         matches!(
             relocations.next(),
@@ -82,6 +101,8 @@ fn relocations_past_the_end(rt: HostRuntime) {
     );
     assert!(rt; relocations.next().is_none());
     assert!(rt; relocations.next().is_none());
+    assert_eq!(rt; (relocations.len(), again.len()), (0, 1));
+    Ok(())
 }
 
 // A section whose address has 33 bits.

@@ -4,6 +4,7 @@ ghost use Rattle.std.specs.Prelude.{◌≡◌, ◌<◌, ◌↔◌, IsTrue};
 ghost use Rattle.mach_base.specs.Answer.{Reads};
 ghost use Rattle.mach_parts.specs.Symbols.{nlist_at, type_of, type_name, IsGlobal, IsWeak, IsUndefined, IsStab};
 
+use crate::low_bits::low_bits;
 use crate::symbols::names::{N_EXT, N_STAB, N_TYPE, N_UNDF, N_WEAK_DEF, N_WEAK_REF, n_type_to_str};
 use mach_base::{
     Container, Ctx, Endian, Error, IntoCtx, Record, RecordBytes, Result, SizeWith, TryFromCtx,
@@ -34,20 +35,14 @@ impl Record for Nlist32 {
 
     ghost SIZE = { 12 };
 
-    ghost use Rattle.mach_parts.specs.Symbols.{nlist32_fields, nlist32_values, nlist32_of_values};
-    ghost use Rattle.std.proofs.Common.{refl, arith};
+    ghost use Rattle.mach_parts.specs.Symbols.{nlist32_fields, nlist32_values};
+    ghost use Rattle.std.proofs.Common.{rules};
 
     ghost fields = { nlist32_fields };
 
     ghost values = { nlist32_values };
 
-    ghost of_values = { nlist32_of_values };
-
-    ghost size_is = { refl };
-
-    ghost whole = { λ _. refl };
-
-    ghost not_empty = { omega arith };
+    ghost lawful = { Prim.search rules };
 
     fn load(bytes: &[u8], le: Endian) -> Self {
         Nlist32 {
@@ -89,20 +84,14 @@ impl Record for Nlist64 {
 
     ghost SIZE = { 16 };
 
-    ghost use Rattle.mach_parts.specs.Symbols.{nlist64_fields, nlist64_values, nlist64_of_values};
-    ghost use Rattle.std.proofs.Common.{refl, arith};
+    ghost use Rattle.mach_parts.specs.Symbols.{nlist64_fields, nlist64_values};
+    ghost use Rattle.std.proofs.Common.{rules};
 
     ghost fields = { nlist64_fields };
 
     ghost values = { nlist64_values };
 
-    ghost of_values = { nlist64_of_values };
-
-    ghost size_is = { refl };
-
-    ghost whole = { λ _. refl };
-
-    ghost not_empty = { omega arith };
+    ghost lawful = { Prim.search rules };
 
     fn load(bytes: &[u8], le: Endian) -> Self {
         Nlist64 {
@@ -233,11 +222,11 @@ impl From<Nlist> for Nlist32 {
     /// Of the name's place and the value the low 32 bits are kept, of the section's number the low 8.
     fn from(symbol: Nlist) -> Nlist32 {
         Nlist32 {
-            n_strx: (symbol.n_strx & 0xffff_ffff) as u32,
+            n_strx: low_bits(symbol.n_strx as u64),
             n_type: symbol.n_type,
             n_sect: (symbol.n_sect & 0xff) as u8,
             n_desc: symbol.n_desc,
-            n_value: (symbol.n_value & 0xffff_ffff) as u32,
+            n_value: low_bits(symbol.n_value),
         }
     }
 }
@@ -250,7 +239,7 @@ impl From<Nlist> for Nlist64 {
     /// Of the name's place the low 32 bits are kept, of the section's number the low 8.
     fn from(symbol: Nlist) -> Nlist64 {
         Nlist64 {
-            n_strx: (symbol.n_strx & 0xffff_ffff) as u32,
+            n_strx: low_bits(symbol.n_strx as u64),
             n_type: symbol.n_type,
             n_sect: (symbol.n_sect & 0xff) as u8,
             n_desc: symbol.n_desc,
@@ -284,7 +273,7 @@ impl<'a> TryFromCtx<'a, Ctx> for Nlist {
 }
 
 impl TryIntoCtx<Ctx> for Nlist {
-    ghost use Rattle.std.proofs.Common.{arith};
+    ghost use Rattle.std.proofs.Common.{zero-lt-suc};
     ghost use Rattle.mach_base.specs.declared.context.Container.TheVariants.{Little, Big};
     ghost use Rattle.mach_parts.specs.Symbols.{nlist_size, nlist_spelling};
 
@@ -292,7 +281,7 @@ impl TryIntoCtx<Ctx> for Nlist {
 
     ghost width = { λ ctx _. nlist_size ctx.container };
 
-    ghost not_empty = { λ ctx _. elim ctx.container as (λ w. 0 < nlist_size w) [ Little ↦ omega arith | Big ↦ omega arith ] };
+    ghost not_empty = { λ ctx _. elim ctx.container as (λ w. 0 < nlist_size w) [ Little ↦ zero-lt-suc _ | Big ↦ zero-lt-suc _ ] };
 
     /// Writes the record in the width of the context.
     fn try_into_ctx(self, bytes: &mut [u8], ctx: Ctx) -> Result<usize> {

@@ -1,5 +1,6 @@
 //! Symbols: those of file B.
 
+use crate::laws::symbols_counted;
 use crate::symbols::{N_SECT, Nlist, SymbolIterator, Symbols, SymbolsCtx};
 use mach_base::{Ctx, Error, Result, ScrollError, pread_with};
 use mach_records::SymtabCommand;
@@ -74,6 +75,35 @@ fn exactly_as_many_as_said(rt: HostRuntime) -> std::result::Result<(), Fail> {
     }
     assert_eq!(rt; good, 1);
     assert!(rt; SymbolIterator::default().next().is_none());
+    Ok(())
+}
+
+#[test]
+fn how_many_symbols_are_left(rt: HostRuntime) -> std::result::Result<(), Fail> {
+    let bytes = file_b();
+    let symbols = Symbols::parse(&bytes, &command(3), Ctx::default())?;
+    assert_eq!(rt; symbols.iter().count(), 3);
+    assert_eq!(rt; symbols_counted(&symbols), 3);
+    let mut items = symbols.iter();
+    let _ = items.next();
+    assert_eq!(rt; items.size_hint(), (2, Some(2)));
+    let again = items.clone()?;
+    assert_eq!(rt; items.count(), 2);
+    assert_eq!(rt; again.len(), 2);
+    assert_eq!(rt; SymbolIterator::default().len(), 0);
+    Ok(())
+}
+
+#[test]
+fn symbols_shown(rt: HostRuntime) -> std::result::Result<(), Fail> {
+    let bytes = file_b();
+    let symbols = Symbols::parse(&bytes, &command(1), Ctx::default())?;
+    let shown = format!(in rt.alloc(); "{symbols:?}")?;
+    assert_eq!(rt;
+        shown.as_str(),
+        "Symbols { bytes: 376 bytes, start: 352, nsyms: 1, strtab: 368, \
+         ctx: Ctx { container: Big, le: Little } }"
+    );
     Ok(())
 }
 

@@ -3,8 +3,7 @@
 use crate::tests::files::{FILE_A, FILE_B, image};
 use crate::tests::shown;
 use goblin_mach::load_command::LoadCommandHeader;
-use goblin_mach::{Error, Mach, MachO, parse_magic_and_ctx, peek};
-use linked_list_allocator::LocalHeap;
+use goblin_mach::{Mach, MachO, parse_magic_and_ctx, peek};
 use std::alloc::{AllocError, Global};
 use std::test::Fail;
 
@@ -108,28 +107,5 @@ fn command_text(rt: HostRuntime) -> Result<(), Fail> {
     };
     let text = header.to_string(rt.alloc())?;
     assert_eq!(rt; text.as_str(), "LoadCommandHeader: LC_UUID size: 24");
-    Ok(())
-}
-
-#[test]
-fn refused_memory_is_answered(rt: HostRuntime) -> Result<(), Fail> {
-    let mut refused = 0u32;
-    let mut opened = 0u32;
-    for size in 0..128 {
-        let heap = LocalHeap::new(rt.alloc(), 64 * size)?;
-        match MachO::parse(&heap, &FILE_B, 0) {
-            Ok(image) => {
-                assert_eq!(rt; image.load_commands.len(), 5);
-                opened = opened.saturating_add(1);
-            }
-            Err(Error::Memory(_)) => {
-                assert_eq!(rt; opened, 0, "more memory is refused");
-                refused = refused.saturating_add(1);
-            }
-            Err(_) => assert!(rt; false, "another error with {size} blocks"),
-        };
-    }
-    assert!(rt; refused > 1);
-    assert!(rt; opened > 1);
     Ok(())
 }

@@ -3,11 +3,8 @@
 use crate::tests::files::{ARCHIVE, FILE_A, file_c, image, of_one, of_one_record};
 use crate::tests::shown;
 use goblin_mach::fat::FatArch;
-use goblin_mach::{
-    Error, Hint, Mach, MultiArch, Result as Read, SingleArch, peek_bytes, take_hint_bytes,
-};
-use linked_list_allocator::LocalHeap;
-use std::alloc::{AllocError, Allocator, Global};
+use goblin_mach::{Hint, Mach, MultiArch, Result as Read, SingleArch, peek_bytes, take_hint_bytes};
+use std::alloc::{AllocError, Global};
 use std::fmt::Write;
 use std::test::Fail;
 
@@ -28,25 +25,13 @@ fn hint(alloc: Global, bytes: &[u8]) -> Result<String, AllocError> {
     }
 }
 
-// An entry: an archive by its length, an image by its entry.
-fn entry<A: Allocator>(
-    alloc: Global,
-    answer: &Read<SingleArch<'_, A>>,
-) -> Result<String, AllocError> {
-    match answer {
-        Ok(SingleArch::MachO(image)) => format!(in alloc; "image {:#x}", image.entry),
-        Ok(SingleArch::Archive(bytes)) => format!(in alloc; "archive of {}", bytes.len()),
-        Err(error) => shown::error(alloc, error),
-    }
-}
-
 // What the bytes open as: the count and all entries of a fat file.
 fn opened(alloc: Global, bytes: &[u8]) -> Result<String, AllocError> {
     match Mach::parse(alloc, bytes) {
         Ok(Mach::Fat(file)) => {
             let mut text = format!(in alloc; "fat of {}", file.narches)?;
             for answer in &file {
-                let shown = entry(alloc, &answer)?;
+                let shown = shown::entry(alloc, &answer)?;
                 write!(text, ", {shown}")?;
             }
             Ok(text)
@@ -59,13 +44,7 @@ fn opened(alloc: Global, bytes: &[u8]) -> Result<String, AllocError> {
 // The cpus of all records.
 fn arches(alloc: Global, answer: &Read<Vec<FatArch>>) -> Result<String, AllocError> {
     match answer {
-        Ok(list) => {
-            let mut text = String::new(alloc);
-            for arch in list {
-                write!(text, "{:#x} at {};", arch.cputype, arch.offset)?;
-            }
-            Ok(text)
-        }
+        Ok(list) => shown::arches(alloc, list),
         Err(error) => shown::error(alloc, error),
     }
 }
@@ -170,7 +149,7 @@ fn records(rt: HostRuntime) -> Result<(), Fail> {
         "too short 18446744073709551615 arches"
     );
     assert_eq!(rt;
-        entry(alloc, &file.get(usize::MAX - 1))?.as_str(),
+        shown::entry(alloc, &file.get(usize::MAX - 1))?.as_str(),
         "bad offset 18446744073709551615"
     );
     Ok(())
@@ -181,8 +160,11 @@ fn found_entries(rt: HostRuntime) -> Result<(), Fail> {
     let alloc = rt.alloc();
     let c = file_c(alloc)?;
     let file = MultiArch::new(alloc, &c)?;
-    assert_eq!(rt; entry(alloc, &file.get(0))?.as_str(), "image 0x100000138");
-    assert_eq!(rt; entry(alloc, &file.get(2))?.as_str(), "malformed");
+    assert_eq!(rt;
+        shown::entry(alloc, &file.get(0))?.as_str(),
+        "image 0x100000138"
+    );
+    assert_eq!(rt; shown::entry(alloc, &file.get(2))?.as_str(), "malformed");
     let found = file.find(|arch: Read<FatArch>| match arch {
         Ok(arch) => arch.cputype == 0x0100_000c,
         Err(_) => false,
@@ -193,33 +175,5 @@ fn found_entries(rt: HostRuntime) -> Result<(), Fail> {
     assert_eq!(rt; bytes, ARCHIVE.as_slice());
     let none = file.find(|arch: Read<FatArch>| arch.is_err());
     assert!(rt; none.is_none());
-    Ok(())
-}
-
-#[test]
-fn refused_memory_is_an_item(rt: HostRuntime) -> Result<(), Fail> {
-    let c = file_c(rt.alloc())?;
-    let mut refused = 0u32;
-    let mut opened = 0u32;
-    for size in 0..400 {
-        let heap = LocalHeap::new(rt.alloc(), 16 * size)?;
-        let file = MultiArch::new(&heap, &c)?;
-        let mut entries = (&file).into_iter();
-        match entries.next() {
-            Some(Ok(SingleArch::MachO(image))) => {
-                assert_eq!(rt; image.libs.len(), 2);
-                opened = opened.saturating_add(1);
-            }
-            Some(Err(Error::Memory(_))) => {
-                assert_eq!(rt; opened, 0, "more memory is refused");
-                refused = refused.saturating_add(1);
-            }
-            _ => assert!(rt; false, "another answer with {size} blocks"),
-        };
-        assert!(rt; matches!(entries.next(), Some(Ok(SingleArch::Archive(_)))));
-        assert!(rt; entries.next().is_none());
-    }
-    assert!(rt; refused > 2);
-    assert!(rt; opened > 0);
     Ok(())
 }

@@ -2,10 +2,9 @@
 
 use crate::tests::files::{EXPORTS, FILE_B};
 use crate::tests::shown;
+use goblin_mach::MachO;
 use goblin_mach::exports::ExportTrie;
 use goblin_mach::load_command::{DyldInfoCommand, LinkeditDataCommand};
-use goblin_mach::{Error, MachO};
-use linked_list_allocator::LocalHeap;
 use std::alloc::{AllocError, Global};
 use std::test::Fail;
 
@@ -44,7 +43,7 @@ fn rows(rt: HostRuntime) -> Result<(), Fail> {
         (
             "shared_node",
             &[0, 2, 0x61, 0, 8, 0x62, 0, 8, 2, 0, 5, 0],
-            "[a] regular 0x5 flags 0x0 at 0x5 of 0; [b] regular 0x5 flags 0x0 at 0x5 of 0; ",
+            "malformed",
         ),
         (
             "reexport",
@@ -114,44 +113,5 @@ fn file_b(rt: HostRuntime) -> Result<(), Fail> {
         text.as_str(),
         "[] regular 0x7 flags 0x0 at 0x7 of 0; [a] regular 0x9 flags 0x0 at 0x9 of 0; "
     );
-    Ok(())
-}
-
-#[test]
-fn refused_memory_is_answered(rt: HostRuntime) -> Result<(), Fail> {
-    let image = MachO::parse(rt.alloc(), &FILE_B, 0)?;
-    let trie = ExportTrie::new(&EXPORTS, &whole(&EXPORTS));
-    let mut refused = 0u32;
-    let mut of_image = 0u32;
-    let mut of_trie = 0u32;
-    for size in 0..128 {
-        let heap = LocalHeap::new(rt.alloc(), 16 * size)?;
-        match image.exports(&heap) {
-            Ok(exports) => {
-                assert_eq!(rt; exports.len(), 2);
-                of_image = of_image.saturating_add(1);
-            }
-            Err(Error::Memory(_)) => {
-                assert_eq!(rt; of_image, 0, "more memory is refused");
-                refused = refused.saturating_add(1);
-            }
-            Err(_) => assert!(rt; false, "another error with {size} blocks"),
-        };
-        let heap = LocalHeap::new(rt.alloc(), 16 * size)?;
-        match trie.exports(&heap, &[]) {
-            Ok(exports) => {
-                assert_eq!(rt; exports.len(), 3);
-                of_trie = of_trie.saturating_add(1);
-            }
-            Err(Error::Memory(_)) => {
-                assert_eq!(rt; of_trie, 0, "more memory is refused");
-                refused = refused.saturating_add(1);
-            }
-            Err(_) => assert!(rt; false, "another error with {size} blocks"),
-        };
-    }
-    assert!(rt; refused > 2);
-    assert!(rt; of_image > 1);
-    assert!(rt; of_trie > 1);
     Ok(())
 }

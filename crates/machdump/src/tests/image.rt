@@ -2,9 +2,8 @@
 
 use crate::tests::files::{FILE_B, image};
 use crate::tests::shown;
-use goblin_mach::{Error, Mach, MachO};
-use linked_list_allocator::LocalHeap;
-use std::alloc::{AllocError, Allocator, Global};
+use goblin_mach::{Mach, MachO};
+use std::alloc::{AllocError, Global};
 use std::fmt::Write;
 use std::test::Fail;
 
@@ -47,25 +46,6 @@ fn main_at(entryoff: u8) -> [u8; 24] {
     command
 }
 
-// What is read off an image: entry, libraries, run paths, how many segments with how many bytes, symbols.
-fn fields<A: Allocator>(alloc: Global, image: &MachO<'_, A>) -> Result<String, AllocError> {
-    let old = if image.old_style_entry { " old" } else { "" };
-    let mut text = format!(in alloc; "{:#x}{old}", image.entry)?;
-    for lib in &image.libs {
-        write!(text, " {lib}")?;
-    }
-    for path in &image.rpaths {
-        write!(text, " @{path}")?;
-    }
-    for segment in image.segments.as_slice() {
-        write!(text, ", segment of {}", segment.bytes.len())?;
-    }
-    if image.symbols.is_some() {
-        write!(text, ", symbols")?;
-    }
-    Ok(text)
-}
-
 // What the bytes open as, strictly or in lossy mode, or why they don't.
 fn opened(alloc: Global, bytes: &[u8], lossy: bool) -> Result<String, AllocError> {
     let answer = if lossy {
@@ -74,8 +54,7 @@ fn opened(alloc: Global, bytes: &[u8], lossy: bool) -> Result<String, AllocError
         Mach::parse(alloc, bytes)
     };
     match answer {
-        Ok(Mach::Binary(image)) => fields(alloc, &image),
-        Ok(Mach::Fat(_)) => String::from_str(alloc, "fat"),
+        Ok(file) => shown::file(alloc, &file),
         Err(error) => shown::error(alloc, &error),
     }
 }
@@ -188,68 +167,5 @@ fn file_b(rt: HostRuntime) -> Result<(), Fail> {
     assert_eq!(rt; relocation.r_address, 4);
     assert_eq!(rt; relocation.r_info, 0x2d00_0001);
     assert!(rt; items.next().is_none());
-    Ok(())
-}
-
-#[test]
-fn refused_memory_is_answered(rt: HostRuntime) -> Result<(), Fail> {
-    let image = MachO::parse(rt.alloc(), &FILE_B, 0)?;
-    let mut refused = 0u32;
-    let mut opened = 0u32;
-    let mut listed = 0u32;
-    for size in 0..400 {
-        let heap = LocalHeap::new(rt.alloc(), 16 * size)?;
-        match MachO::parse_lossy(&heap, &FILE_B, 0) {
-            Ok(image) => {
-                assert_eq!(rt; image.libs.len(), 2);
-                assert_eq!(rt; image.segments.as_slice().len(), 1);
-                opened = opened.saturating_add(1);
-            }
-            Err(Error::Memory(_)) => {
-                assert_eq!(rt; opened, 0, "more memory is refused");
-                refused = refused.saturating_add(1);
-            }
-            Err(_) => assert!(rt; false, "another error with {size} blocks"),
-        };
-        let heap = LocalHeap::new(rt.alloc(), 16 * size)?;
-        match image.imports(&heap) {
-            Ok(imports) => {
-                assert_eq!(rt; imports.len(), 2);
-                listed = listed.saturating_add(1);
-            }
-            Err(Error::Memory(_)) => {
-                assert_eq!(rt; listed, 0, "more memory is refused");
-                refused = refused.saturating_add(1);
-            }
-            Err(_) => assert!(rt; false, "another error with {size} blocks"),
-        };
-    }
-    assert!(rt; refused > 2);
-    assert!(rt; opened > 0);
-    assert!(rt; listed > 0);
-    Ok(())
-}
-
-#[test]
-fn refused_memory_of_relocations(rt: HostRuntime) -> Result<(), Fail> {
-    let image = MachO::parse(rt.alloc(), &FILE_B, 0)?;
-    let mut refused = 0u32;
-    let mut listed = 0u32;
-    for size in 0..100 {
-        let heap = LocalHeap::new(rt.alloc(), 16 * size)?;
-        match image.relocations(&heap) {
-            Ok(relocations) => {
-                assert_eq!(rt; relocations.len(), 1);
-                listed = listed.saturating_add(1);
-            }
-            Err(Error::Memory(_)) => {
-                assert_eq!(rt; listed, 0, "more memory is refused");
-                refused = refused.saturating_add(1);
-            }
-            Err(_) => assert!(rt; false, "another error with {size} blocks"),
-        };
-    }
-    assert!(rt; refused > 2);
-    assert!(rt; listed > 0);
     Ok(())
 }

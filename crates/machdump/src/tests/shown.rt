@@ -1,7 +1,11 @@
 //! Answers as short texts, to be compared in tables.
 
 use goblin_mach::exports::{Export, ExportInfo};
-use goblin_mach::{Error, MachO, ScrollError};
+use goblin_mach::fat::FatArch;
+use goblin_mach::imports::Import;
+use goblin_mach::relocation::RelocationInfo;
+use goblin_mach::segment::{RelocationIterator, Section, SectionData};
+use goblin_mach::{Error, LinkView, Mach, MachO, Result as Read, ScrollError, SingleArch};
 use std::alloc::{AllocError, Allocator, Global};
 use std::fmt::Write;
 
@@ -68,6 +72,141 @@ pub fn exports<A: Allocator>(
             )?,
         }
         write!(text, " at {:#x} of {}; ", export.offset, export.size)?;
+    }
+    Ok(text)
+}
+
+/// What is read off an image: entry, libraries, run paths, how many segments with how many bytes, symbols.
+pub fn fields<A: Allocator>(alloc: Global, image: &MachO<'_, A>) -> Result<String, AllocError> {
+    let old = if image.old_style_entry { " old" } else { "" };
+    let mut text = format!(in alloc; "{:#x}{old}", image.entry)?;
+    for lib in &image.libs {
+        write!(text, " {lib}")?;
+    }
+    for path in &image.rpaths {
+        write!(text, " @{path}")?;
+    }
+    for segment in image.segments.as_slice() {
+        write!(text, ", segment of {}", segment.bytes.len())?;
+    }
+    if image.symbols.is_some() {
+        write!(text, ", symbols")?;
+    }
+    Ok(text)
+}
+
+/// An opened file: the fields of an image, or the count of a fat file.
+pub fn file<A: Allocator>(alloc: Global, file: &Mach<'_, A>) -> Result<String, AllocError> {
+    match file {
+        Mach::Binary(image) => fields(alloc, image),
+        Mach::Fat(container) => format!(in alloc; "fat of {}", container.narches),
+    }
+}
+
+/// The imports of a list: libraries, names, offsets.
+pub fn imports(alloc: Global, imports: &[Import<'_>]) -> Result<String, AllocError> {
+    let mut text = String::new(alloc);
+    for import in imports {
+        let Import {
+            name,
+            dylib,
+            offset,
+            ..
+        } = import;
+        write!(text, "{name} of {dylib} at {offset:#x}; ")?;
+    }
+    Ok(text)
+}
+
+/// Sections with relocations: the number of each, its name, how many relocations.
+pub fn relocations(
+    alloc: Global,
+    sections: &[(usize, RelocationIterator<'_>, Section)],
+) -> Result<String, AllocError> {
+    let mut text = String::new(alloc);
+    for (number, _, section) in sections {
+        let name = section.name().unwrap_or("no name");
+        write!(text, "{number} {name} of {}; ", section.nreloc)?;
+    }
+    Ok(text)
+}
+
+/// A relocation: its place, and its bits.
+pub fn relocation(alloc: Global, item: &Read<RelocationInfo>) -> Result<String, AllocError> {
+    match item {
+        Ok(relocation) => { format!(in alloc; "{} {:#x}", relocation.r_address, relocation.r_info) }
+        Err(why) => error(alloc, why),
+    }
+}
+
+/// Sections: the name of each, how many bytes.
+pub fn sections(
+    alloc: Global,
+    sections: &[(Section, SectionData<'_>)],
+) -> Result<String, AllocError> {
+    let mut text = String::new(alloc);
+    for (section, data) in sections {
+        let name = section.name().unwrap_or("no name");
+        write!(text, "{name} of {}; ", data.len())?;
+    }
+    Ok(text)
+}
+
+/// Records of a fat file: the cpu of each, and where it stands.
+pub fn arches(alloc: Global, records: &[FatArch]) -> Result<String, AllocError> {
+    let mut text = String::new(alloc);
+    for arch in records {
+        write!(text, "{:#x} at {};", arch.cputype, arch.offset)?;
+    }
+    Ok(text)
+}
+
+/// An entry of a fat file: an archive by its length, an image by its entry.
+pub fn entry<A: Allocator>(
+    alloc: Global,
+    answer: &Read<SingleArch<'_, A>>,
+) -> Result<String, AllocError> {
+    match answer {
+        Ok(SingleArch::MachO(image)) => format!(in alloc; "image {:#x}", image.entry),
+        Ok(SingleArch::Archive(bytes)) => format!(in alloc; "archive of {}", bytes.len()),
+        Err(why) => error(alloc, why),
+    }
+}
+
+/// An item of a view: the lists of an image, or an archive by its length.
+pub fn item<A: Allocator>(
+    alloc: Global,
+    item: &Read<LinkView<'_, A>>,
+) -> Result<String, AllocError> {
+    match item {
+        Ok(LinkView::Image { exports, imports }) => {
+            let mut text = String::from_str(alloc, "image")?;
+            for export in exports {
+                write!(text, " {:#x} {:?}", export.offset, export.name.as_str())?;
+            }
+            for import in imports {
+                write!(
+                    text,
+                    " {:#x} {} {}",
+                    import.address, import.dylib, import.name
+                )?;
+            }
+            Ok(text)
+        }
+        Ok(LinkView::Archive(bytes)) => format!(in alloc; "archive of {}", bytes.len()),
+        Err(why) => error(alloc, why),
+    }
+}
+
+/// All items of a view.
+pub fn view<A: Allocator>(
+    alloc: Global,
+    items: &[Read<LinkView<'_, A>>],
+) -> Result<String, AllocError> {
+    let mut text = String::new(alloc);
+    for answer in items {
+        let shown = item(alloc, answer)?;
+        write!(text, "{shown};")?;
     }
     Ok(text)
 }

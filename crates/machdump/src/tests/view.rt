@@ -2,45 +2,14 @@
 
 use crate::tests::files::{ARCHIVE, FILE_A, FILE_B, file_c, image, of_one, of_one_record};
 use crate::tests::shown;
-use goblin_mach::{Error, LinkView, Result as Read, link_view};
-use linked_list_allocator::LocalHeap;
-use std::alloc::{AllocError, Allocator, Global};
-use std::fmt::Write;
+use goblin_mach::link_view;
+use std::alloc::{AllocError, Global};
 use std::test::Fail;
-
-// An item: the lists of an image, or an archive by its length.
-fn item<A: Allocator>(alloc: Global, item: &Read<LinkView<'_, A>>) -> Result<String, AllocError> {
-    match item {
-        Ok(LinkView::Image { exports, imports }) => {
-            let mut text = String::from_str(alloc, "image")?;
-            for export in exports {
-                write!(text, " {:#x} {:?}", export.offset, export.name.as_str())?;
-            }
-            for import in imports {
-                write!(
-                    text,
-                    " {:#x} {} {}",
-                    import.address, import.dylib, import.name
-                )?;
-            }
-            Ok(text)
-        }
-        Ok(LinkView::Archive(bytes)) => format!(in alloc; "archive of {}", bytes.len()),
-        Err(error) => shown::error(alloc, error),
-    }
-}
 
 // The items of a file, or why it has none.
 fn viewed(alloc: Global, bytes: &[u8]) -> Result<String, AllocError> {
     match link_view(alloc, bytes) {
-        Ok(items) => {
-            let mut text = String::new(alloc);
-            for answer in &items {
-                let shown = item(alloc, answer)?;
-                write!(text, "{shown};")?;
-            }
-            Ok(text)
-        }
+        Ok(items) => shown::view(alloc, &items),
         Err(error) => shown::error(alloc, &error),
     }
 }
@@ -90,31 +59,5 @@ fn file_c_cut(rt: HostRuntime) -> Result<(), Fail> {
         let want = format!(in alloc; "{first}{second}")?;
         assert_eq!(rt; got.as_str(), want.as_str(), "{length}");
     }
-    Ok(())
-}
-
-#[test]
-fn refused_memory_is_answered_for_the_whole(rt: HostRuntime) -> Result<(), Fail> {
-    let whole = file_c(rt.alloc())?;
-    let mut refused = 0u32;
-    let mut opened = 0u32;
-    for size in 0..400 {
-        let heap = LocalHeap::new(rt.alloc(), 16 * size)?;
-        match link_view(&heap, &whole) {
-            Ok(items) => {
-                for answer in &items {
-                    assert!(rt; answer.is_ok(), "an item of {size} blocks");
-                }
-                opened = opened.saturating_add(1);
-            }
-            Err(Error::Memory(_)) => {
-                assert_eq!(rt; opened, 0, "more memory is refused");
-                refused = refused.saturating_add(1);
-            }
-            Err(_) => assert!(rt; false, "another answer with {size} blocks"),
-        };
-    }
-    assert!(rt; refused > 2);
-    assert!(rt; opened > 0);
     Ok(())
 }

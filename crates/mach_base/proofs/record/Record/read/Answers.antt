@@ -10,5 +10,5 @@ returns g c =
     let s = c.args.offset in
     let whole = take_all (length bytes - s) (drop s bytes) (omega (arith, length-drop s bytes)) in
     record_at-ok c.args.le g.Self.Record.fields bytes s _ c.if-offset-bytes.false
-    (omega (arith, length-take (length bytes - s) (drop s bytes), length-drop s bytes, c.SIZE.ensures, g.met.Self.Record.size_is))
+    (omega (arith, length-take (length bytes - s) (drop s bytes), length-drop s bytes, c.SIZE.ensures, g.met.Self.Record.lawful.sized))
     (ap (values_in c.args.le g.Self.Record.fields 0) (sym whole) ∙ sym c.load.ensures)

@@ -1,0 +1,27 @@
+-- What is seen of a walk of the export trie.
+use Rattle.std.specs.Prelude.{◌≡◌, ◌≤◌, ◌++◌, ℕ, List, length, Result, Ok}
+use Rattle.mach_base.specs.Fault.{Fault}
+use Rattle.mach_dyld.specs.Trie.{Entry, Node, Trie, own_entries}
+use Rattle.mach_dyld.specs.Nodes.{node_at, branches_at, trie_of}
+use Rattle.mach_dyld.specs.TrieFault.{TrieFault}
+use Rattle.mach_dyld.specs.Exports.{texts}
+use Rattle.mach_dyld.specs.declared.walk.Source.{Source}
+use Rattle.mach_dyld.specs.declared.walk.Open.{Open}
+
+abbrev pub trie_in : Source → Trie
+trie_in s = trie_of s.bytes.now (texts s.libs.now) s.from s.upto
+
+abbrev pub node_in : Source → ℕ → Result Node Fault
+node_in s start = node_at s.bytes.now (texts s.libs.now) s.from start
+
+abbrev pub fault_in : Source → Fault → Type 0
+fault_in s f = TrieFault s.bytes.now (texts s.libs.now) s.from s.upto s.from f
+
+-- a node was opened: its branches can be read, all of them, and its own export was listed
+pub record Opens (s : Source) (start : ℕ) (name : List ℕ) (old new : List Entry) (o : Open) : Type 0 where
+  pub node : Node
+  pub there : node_in s start ≡ Ok node
+  pub branches : branches_at s.bytes.now s.from o.branches.left o.branches.place ≡ Ok node.branches
+  pub few : o.branches.left ≤ length s.bytes.now
+  pub name_len : o.name_len ≡ length name
+  pub own : new ≡ old ++ own_entries name node.own

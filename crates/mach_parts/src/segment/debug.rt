@@ -1,0 +1,28 @@
+//! A segment as Debug shows it.
+
+use crate::byte_count::ByteCount;
+use crate::segment::Segment;
+use std::fmt;
+
+impl fmt::Debug for Segment<'_> {
+    /// The fields; of the data and of the file only how many bytes they are.
+    fn fmt<W: fmt::Write>(&self, f: &mut fmt::Formatter<W>) -> fmt::Result {
+        f.debug_struct("Segment")
+            .field("cmd", &self.cmd)
+            .field("cmdsize", &self.cmdsize)
+            .field("segname", &self.segname)
+            .field("vmaddr", &self.vmaddr)
+            .field("vmsize", &self.vmsize)
+            .field("fileoff", &self.fileoff)
+            .field("filesize", &self.filesize)
+            .field("maxprot", &self.maxprot)
+            .field("initprot", &self.initprot)
+            .field("nsects", &self.nsects)
+            .field("flags", &self.flags)
+            .field("bytes", &ByteCount(self.bytes))
+            .field("file", &ByteCount(self.file))
+            .field("offset", &self.offset)
+            .field("ctx", &self.ctx)
+            .finish()
+    }
+}

@@ -1,0 +1,108 @@
+//! The records and the entries of a fat file.
+
+ghost use Rattle.std.specs.Prelude.{◌≡◌, ◌≤◌, ℕ, List, IfOk, OnOk, Ok, Err, length};
+ghost use Rattle.std.specs.Io.KnownBytes.{Appends};
+ghost use Rattle.mach_parts.specs.declared.fat.FatArch.{FatArch};
+ghost use Rattle.goblin_mach.specs.FatFile.{file_held};
+ghost use Rattle.machfat.specs.Entry.{IsFatFile, HasRecords, IsRecordOf, IsEntryOf};
+ghost use Rattle.machfat.specs.Lines.{line_of, lines_from};
+
+use crate::refusal::{Failure, Refusal};
+use crate::text::RecordText;
+use goblin_mach::fat::FatArch;
+use goblin_mach::{Mach, MultiArch, laws};
+use std::alloc::Allocator;
+use std::io;
+use std::io::Write;
+
+// The fat file of the bytes.
+fn fat_file<A: Allocator + Clone>(alloc: A, bytes: &[u8]) -> Result<MultiArch<'_, A>, Refusal>
+    ensures { IfOk result (λ m. IsFatFile bytes.now (file_held m)) }
+{
+    match Mach::parse(alloc, bytes)? {
+        Mach::Fat(container) => Ok(container),
+        Mach::Binary(_) => Err(Refusal::NotFat),
+    }
+}
+
+// The records of a fat file, in order.
+fn records<A: Allocator + Clone>(alloc: A, bytes: &[u8]) -> Result<Vec<FatArch, A>, Refusal>
+    ensures { IfOk result (λ v. HasRecords bytes.now v.items) }
+{
+    Ok(fat_file(alloc, bytes)?.arches()?)
+}
+
+// Prints some records of a fat file, a line each, with the kinds of their entries.
+fn print_records<O: Write>(bytes: &[u8], records: &[FatArch], out: &mut O) -> io::Result<()>
+    ensures { OnOk result (Appends (O.contents out.old) (O.contents out.new) (lines_from bytes.now 0 records.now)) }
+{
+    'records: for (index, arch) in records.iter().enumerate() {
+        print_record(bytes, index, *arch, out)?;
+    }
+    Ok(())
+}
+
+// Prints the line of a record.
+fn print_record<O: Write>(bytes: &[u8], index: usize, arch: FatArch, out: &mut O) -> io::Result<()>
+    ensures { OnOk result (Appends (O.contents out.old) (O.contents out.new) (line_of bytes.now index arch)) }
+{
+    let record = RecordText { bytes, arch };
+    writeln!(out, "arch {index}: {record}")
+}
+
+/// Prints the list of a fat file: a line for each of its records, in order, and nothing else.
+pub fn list<A: Allocator + Clone, O: Write>(
+    alloc: A,
+    bytes: &[u8],
+    out: &mut O,
+) -> Result<(), Failure>
+    ensures { OnOk result ((records : List FatArch) × HasRecords bytes.now records × Appends (O.contents out.old) (O.contents out.new) (lines_from bytes.now 0 records)) }
+{
+    let records = records(alloc, bytes)?;
+    print_records(bytes, &records, out)?;
+    out.flush()?;
+    Ok(())
+}
+
+// The record of an index.
+fn record_of<A: Allocator + Clone>(alloc: A, bytes: &[u8], index: usize) -> Result<FatArch, Refusal>
+    ensures { IfOk result (IsRecordOf bytes.now index) }
+{
+    laws::fat_file_of_bytes();
+    laws::records_by_number();
+    match fat_file(alloc, bytes)?.iter_arches().nth(index) {
+        Some(arch) => Ok(arch?),
+        None => Err(Refusal::NoEntry(index)),
+    }
+}
+
+/// The bytes of an entry of a fat file.
+pub fn entry_bytes<A: Allocator + Clone>(
+    alloc: A,
+    bytes: &[u8],
+    index: usize,
+) -> Result<&[u8], Refusal>
+    ensures { IfOk result (λ entry. IsEntryOf bytes.now index entry.now) }
+{
+    let arch = record_of(alloc, bytes, index)?;
+    let start = arch.offset as usize;
+    match bytes.get(start..start + arch.size as usize) {
+        Some(entry) => Ok(entry),
+        None => Err(Refusal::OutOfFile(index)),
+    }
+}
+
+/// Writes an entry of a fat file: exactly the bytes that its record names.
+pub fn write_entry<A: Allocator + Clone, O: Write>(
+    alloc: A,
+    bytes: &[u8],
+    index: usize,
+    out: &mut O,
+) -> Result<(), Failure>
+    ensures { OnOk result ((entry : List ℕ) × IsEntryOf bytes.now index entry × Appends (O.contents out.old) (O.contents out.new) entry) }
+{
+    let entry = entry_bytes(alloc, bytes, index)?;
+    out.write_all(entry)?;
+    out.flush()?;
+    Ok(())
+}

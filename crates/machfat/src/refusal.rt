@@ -1,0 +1,56 @@
+//! Why an answer is not given.
+
+use goblin_mach::{Error, describe};
+use std::fmt::{Display, Formatter, Write};
+use std::{fmt, io};
+
+/// Why a file has no such list or entry.
+#[derive(Drop)]
+pub enum Refusal {
+    /// The library refuses it.
+    Refused(Error),
+    /// It is one image.
+    NotFat,
+    /// It has no entry of this index.
+    NoEntry(usize),
+    /// The entry of this index is not in the file.
+    OutOfFile(usize),
+}
+
+impl From<Error> for Refusal {
+    fn from(error: Error) -> Refusal {
+        Refusal::Refused(error)
+    }
+}
+
+impl Display for Refusal {
+    fn fmt<W: Write>(&self, f: &mut Formatter<W>) -> fmt::Result {
+        match self {
+            Refusal::Refused(error) => write!(f, "{}", describe(error)),
+            Refusal::NotFat => write!(f, "not a fat file"),
+            Refusal::NoEntry(index) => write!(f, "no entry {index}"),
+            Refusal::OutOfFile(index) => write!(f, "entry {index} is out of the file"),
+        }
+    }
+}
+
+/// Why something was not written.
+#[derive(Drop)]
+pub enum Failure {
+    /// There is nothing to write.
+    Refused(Refusal),
+    /// A write failed.
+    Unwritten,
+}
+
+impl From<Refusal> for Failure {
+    fn from(refusal: Refusal) -> Failure {
+        Failure::Refused(refusal)
+    }
+}
+
+impl From<io::Error> for Failure {
+    fn from(_error: io::Error) -> Failure {
+        Failure::Unwritten
+    }
+}

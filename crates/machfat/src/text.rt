@@ -1,0 +1,77 @@
+//! A record of a fat file as it is printed.
+
+ghost use Rattle.std.specs.Prelude.{◌≡◌, Some};
+ghost use Rattle.machfat.specs.Lines.{cpu_text, place_text, kind_of, record_text};
+
+use goblin_mach::fat::FatArch;
+use goblin_mach::{Hint, peek_bytes, take_hint_bytes};
+use std::fmt;
+use std::fmt::{Display, Formatter, Write};
+
+// The cpu that a record names.
+#[derive(Clone, Copy)]
+struct CpuText(FatArch);
+
+impl Display for CpuText {
+    ghost output = { λ t. Some (cpu_text t.0) };
+
+    fn fmt<W: Write>(&self, f: &mut Formatter<W>) -> fmt::Result {
+        let FatArch {
+            cputype,
+            cpusubtype,
+            ..
+        } = self.0;
+        write!(f, "cputype 0x{cputype:x}, cpusubtype 0x{cpusubtype:x}")
+    }
+}
+
+// Where the entry of a record stands.
+#[derive(Clone, Copy)]
+struct PlaceText(FatArch);
+
+impl Display for PlaceText {
+    ghost output = { λ t. Some (place_text t.0) };
+
+    fn fmt<W: Write>(&self, f: &mut Formatter<W>) -> fmt::Result {
+        let FatArch {
+            offset,
+            size,
+            align,
+            ..
+        } = self.0;
+        write!(f, "offset {offset}, size {size}, align 2^{align}")
+    }
+}
+
+/// A record of the fat file that these bytes are, with the kind of its entry.
+#[derive(Clone, Copy)]
+pub struct RecordText<'a> {
+    pub bytes: &'a [u8],
+    pub arch: FatArch,
+}
+
+impl<'a> Display for RecordText<'a> {
+    ghost output = { λ t. Some (record_text t.bytes.now t.arch) };
+
+    fn fmt<W: Write>(&self, f: &mut Formatter<W>) -> fmt::Result {
+        let cpu = CpuText(self.arch);
+        let place = PlaceText(self.arch);
+        let kind = kind_of(self.arch.slice(self.bytes));
+        write!(f, "{cpu}, {place}, {kind}")
+    }
+}
+
+// The kind of an entry, by its first 16 bytes.
+fn kind_of(entry: &[u8]) -> &'static str
+    ensures { result.now ≡ kind_of entry.now }
+{
+    let Some(front) = take_hint_bytes(entry) else {
+        return "too short";
+    };
+    match peek_bytes(front) {
+        Ok(Hint::Archive) => "archive",
+        Ok(Hint::Mach(_)) => "image",
+        Ok(Hint::MachFat(_)) => "fat file",
+        Ok(Hint::Unknown(_)) | Err(_) => "unknown",
+    }
+}

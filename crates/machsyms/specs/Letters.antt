@@ -1,0 +1,63 @@
+-- The letters by which `nm` tells what a symbol is (`mach-o/nlist.h`).
+use Rattle.std.specs.Prelude.{◌==◌, ℕ, zero, suc, List, codes, take, map, slice_index, slice_get, bit_and, unwrap_or, Bool, false, ◌&&◌, Result, Ok, Err, if◌then◌else◌}
+use Rattle.std.specs.Char.{to_ascii_uppercase}
+use Rattle.std.specs.List.{flat_map}
+use Rattle.std.specs.Str.{bytes_eq}
+use Rattle.mach_base.specs.Fault.{Fault}
+use Rattle.mach_base.specs.Text.{text_at}
+use Rattle.mach_parts.specs.Segment.{SegmentView, sections_of}
+use Rattle.mach_parts.specs.Symbols.{type_of}
+use Rattle.mach_parts.specs.declared.segment.section.Section.{Section}
+use Rattle.mach_parts.specs.declared.symbols.nlist.Nlist.{Nlist}
+
+-- the one letter of a text
+abbrev pub letter : List ℕ → ℕ
+letter text = slice_index text 0
+
+-- whether a name can be read and is this one
+abbrev pub is_text : List ℕ → Result (List ℕ) Fault → Bool
+is_text wanted (Ok name) = bytes_eq name wanted
+is_text wanted (Err f) = false
+
+-- whether these are the names of a section's segment and of the section
+abbrev pub is_called : List ℕ → List ℕ → Section → Bool
+is_called segment name s = is_text segment (text_at s.segname 0) && is_text name (text_at s.sectname 0)
+
+abbrev pub section_letter : Section → ℕ
+section_letter s =
+    if is_called (codes "__TEXT") (codes "__text") s then letter (codes "t")
+    else (if is_called (codes "__DATA") (codes "__data") s then letter (codes "d")
+    else (if is_called (codes "__DATA") (codes "__bss") s then letter (codes "b")
+    else letter (codes "s")))
+
+-- one that can't be read is any other
+abbrev pub item_letter : Result (Section × List ℕ) Fault → ℕ
+item_letter (Ok found) = section_letter found.0
+item_letter (Err f) = letter (codes "s")
+
+-- a letter for each section over all segments, as many as a symbol can name: MAX_SECT
+abbrev pub letters_of : List SegmentView → List ℕ
+letters_of segments = take 255 (map item_letter (flat_map sections_of segments))
+
+-- the letter of a section by its number, counted from 1
+abbrev pub letter_at : List ℕ → ℕ → ℕ
+letter_at sections zero = letter (codes "s")
+letter_at sections (suc index) = unwrap_or (slice_get sections index) (letter (codes "s"))
+
+-- not known outside the image: the bit N_EXT is 0
+abbrev pub is_local : Nlist → Bool
+is_local s = bit_and s.n_type 0x1 == 0
+
+-- the letter of a type: N_UNDF is undefined, or common where it has a value; N_ABS, N_INDR, N_SECT
+abbrev pub type_letter : List ℕ → Nlist → ℕ
+type_letter sections s =
+    let kind = type_of s.n_type in
+    if kind == 0x0 then (if is_local s then letter (codes "?") else (if s.n_value == 0 then letter (codes "u") else letter (codes "c")))
+    else (if kind == 0x2 then letter (codes "a")
+    else (if kind == 0xa then letter (codes "i")
+    else (if kind == 0xe then letter_at sections s.n_sect
+    else letter (codes "?"))))
+
+-- the letter of a symbol: a capital where it is known outside the image
+abbrev pub symbol_letter : List ℕ → Nlist → ℕ
+symbol_letter sections s = if is_local s then type_letter sections s else to_ascii_uppercase (type_letter sections s)

@@ -1,0 +1,137 @@
+//! What no clause says: whole outputs, hostile bytes, and writes that fail.
+
+mod files;
+
+use crate::run::run;
+use crate::tests::files::{ARCHIVE, FILE_B, file_c};
+use std::io::{Error, ErrorKind, Result as Written, Write};
+use std::test::Fail;
+
+// A writer that takes so many bytes.
+#[derive(Drop)]
+struct Full {
+    left: usize,
+}
+
+impl Write for Full {
+    fn write(&mut self, buf: &[u8]) -> Written<usize> {
+        if self.left == 0 {
+            return Err(Error::from(ErrorKind::StorageFull));
+        }
+        let taken = buf.len().min(self.left);
+        self.left -= taken;
+        Ok(taken)
+    }
+
+    fn flush(&mut self) -> Written<()> {
+        Ok(())
+    }
+}
+
+// The line of file B's one symbol.
+const LINE: &str = "0000000100000160 T _main\n";
+
+#[test]
+fn lines(rt: HostRuntime) -> Result<(), Fail> {
+    let alloc = rt.alloc();
+    let whole = file_c(alloc)?;
+    let mut nameless = FILE_B;
+    nameless[352] = 0xff;
+    let rows: [(&str, &[u8], u8, &str, &str); 7] = [
+        ("file B", &FILE_B, 0, LINE, ""),
+        (
+            "a name out of the bytes",
+            &nameless,
+            0,
+            "unreadable: offset 623 is past the end\n",
+            "",
+        ),
+        (
+            "file C",
+            &whole,
+            0,
+            "arch 0\n0000000100000160 T _main\narch 1\narchive\n",
+            "",
+        ),
+        (
+            "file C, cut",
+            &whole[..439],
+            1,
+            "arch 0\n0000000100000160 T _main\narch 1\nrefused: malformed: an entry has 16 bytes or more\n",
+            "",
+        ),
+        (
+            "a fat file of no entries",
+            &[0xca, 0xfe, 0xba, 0xbe, 0, 0, 0, 0],
+            0,
+            "",
+            "",
+        ),
+        (
+            "no bytes",
+            &[],
+            1,
+            "",
+            "machsyms: malformed: a magic is 4 bytes\n",
+        ),
+        (
+            "an archive",
+            &ARCHIVE,
+            1,
+            "",
+            "machsyms: bad magic 0x213c6172\n",
+        ),
+    ];
+    for (name, bytes, status, out, err) in rows {
+        let mut lines = Vec::new(alloc);
+        let mut reasons = Vec::new(alloc);
+        let answer = run(alloc, bytes, &mut lines, &mut reasons);
+        assert_eq!(rt; answer, status, "{name}");
+        assert_eq!(rt; lines.as_slice(), out.as_bytes(), "{name}");
+        assert_eq!(rt; reasons.as_slice(), err.as_bytes(), "{name}");
+    }
+    Ok(())
+}
+
+#[test]
+fn prefixes(rt: HostRuntime) -> Result<(), Fail> {
+    let alloc = rt.alloc();
+    let whole = file_c(alloc)?;
+    let files: [&[u8]; 2] = [&FILE_B, &whole];
+    for file in files {
+        for length in 0..file.len() {
+            let mut lines = Vec::new(alloc);
+            let mut reasons = Vec::new(alloc);
+            let answer = run(alloc, &file[..length], &mut lines, &mut reasons);
+            assert_eq!(rt; answer, 1, "{length} bytes");
+            assert_eq!(rt; lines.is_empty(), !reasons.is_empty(), "{length} bytes");
+        }
+    }
+    Ok(())
+}
+
+#[test]
+fn failed_writes(rt: HostRuntime) {
+    let alloc = rt.alloc();
+    for left in 0..LINE.len() {
+        let mut reasons = Vec::new(alloc);
+        let answer = run(alloc, &FILE_B, &mut Full { left }, &mut reasons);
+        assert_eq!(rt; answer, 2, "after {left} bytes");
+        assert!(rt; reasons.is_empty());
+    }
+    let answer = run(alloc, &[], &mut Vec::new(alloc), &mut Full { left: 3 });
+    assert_eq!(rt; answer, 2);
+}
+
+#[test]
+fn many_symbols_take_no_memory(rt: HostRuntime) {
+    let alloc = rt.alloc();
+    let mut many = FILE_B;
+    for byte in &mut many[276..280] {
+        *byte = 0xff;
+    }
+    let mut reasons = Vec::new(alloc);
+    let answer = run(alloc, &many, &mut Full { left: 1 << 20 }, &mut reasons);
+    assert_eq!(rt; answer, 2);
+    assert!(rt; reasons.is_empty());
+}
