@@ -1,0 +1,11 @@
+use Rattle.std.proofs.Common.{◌≡◌, ◌<◌}
+use Rattle.mach_parts.specs.SymbolViews.{symbols_left}
+use Rattle.goblin_mach.specs.Tables.{symbols_held}
+use Rattle.machaudit.specs.Sound.{all_read}
+use Rattle.machaudit.proofs.audit.audit_symbols.Given as goal
+
+abbrev pub invariant-symbols : goal.invariant-symbols
+invariant-symbols g l = record {
+  few : l.faults < 10;
+  same : l.faults ≡ 0 → all_read (symbols_held l.image.symbols) ≡ all_read (symbols_left l.symbol-iterator);
+}

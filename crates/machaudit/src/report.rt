@@ -1,0 +1,115 @@
+//! The lines of an audit.
+
+ghost use Rattle.std.specs.Prelude.{◌≡◌, IfOk};
+
+use goblin_mach::{Error, ScrollError};
+use std::alloc::AllocError;
+use std::io::Write;
+use std::{fmt, io};
+
+/// Why an audit was not ended.
+#[derive(Drop)]
+pub enum Failure {
+    /// Memory was refused.
+    Memory,
+    /// A line was not written.
+    Unwritten,
+}
+
+impl From<AllocError> for Failure {
+    fn from(_error: AllocError) -> Failure {
+        Failure::Memory
+    }
+}
+
+impl From<io::Error> for Failure {
+    fn from(_error: io::Error) -> Failure {
+        Failure::Unwritten
+    }
+}
+
+// An error in words.
+#[derive(Clone, Copy)]
+struct Words<'a>(&'a Error);
+
+impl<'a> fmt::Display for Words<'a> {
+    fn fmt<W: fmt::Write>(&self, f: &mut fmt::Formatter<W>) -> fmt::Result {
+        match self.0 {
+            Error::Malformed(rule) => write!(f, "malformed: {rule}"),
+            Error::BadMagic(magic) => write!(f, "bad magic {magic:#x}"),
+            Error::Scroll(ScrollError::BadOffset(place)) => {
+                write!(f, "nothing stands at {place:#x}")
+            }
+            Error::Scroll(ScrollError::TooBig { size, len }) => {
+                write!(f, "{size} bytes are asked for and {len} are left")
+            }
+            Error::Scroll(ScrollError::BadInput { msg, .. }) => write!(f, "bad bytes: {msg}"),
+            Error::BufferTooShort(count, what) => write!(f, "no room for {count} {what}"),
+            Error::Memory(_) => write!(f, "out of memory"),
+        }
+    }
+}
+
+/// Where a fault stands.
+#[derive(Clone, Copy)]
+pub enum Place {
+    /// Where the image is opened.
+    Opening,
+    /// The same in lossy mode.
+    LossyOpening,
+    /// The table of a fat file.
+    Table,
+    /// A section of a segment, both by their numbers.
+    Section { segment: usize, index: usize },
+    /// The sections that have relocations, as a whole.
+    Relocations,
+    /// A relocation of a section, which has this number in its segment.
+    Relocation { section: usize, index: usize },
+    /// A symbol.
+    Symbol(usize),
+    /// The export trie.
+    Trie,
+    /// The binds.
+    Binds,
+}
+
+impl fmt::Display for Place {
+    fn fmt<W: fmt::Write>(&self, f: &mut fmt::Formatter<W>) -> fmt::Result {
+        match self {
+            Place::Opening => write!(f, "opens"),
+            Place::LossyOpening => write!(f, "opens lossily"),
+            Place::Table => write!(f, "table"),
+            Place::Section { segment, index } => {
+                write!(f, "sections: segment {segment}, section {index}")
+            }
+            Place::Relocations => write!(f, "relocations"),
+            Place::Relocation { section, index } => {
+                write!(f, "relocations: section {section}, relocation {index}")
+            }
+            Place::Symbol(index) => write!(f, "symbols: symbol {index}"),
+            Place::Trie => write!(f, "trie"),
+            Place::Binds => write!(f, "binds"),
+        }
+    }
+}
+
+/// Prints a fault, and answers that it is one. Want of memory is none.
+pub fn print_fault<O: Write>(place: Place, error: &Error, out: &mut O) -> Result<usize, Failure>
+    ensures { IfOk result (λ faults. faults ≡ 1) }
+{
+    if let Error::Memory(_) = error {
+        return Err(Failure::Memory);
+    }
+    writeln!(out, "  {place}: {}", Words(error))?;
+    Ok(1)
+}
+
+/// Prints that a part is readable, where it has no faults, and answers how many it has.
+pub fn print_part<O: Write>(part: &str, faults: usize, out: &mut O) -> Result<usize, Failure>
+    ensures { IfOk result (λ answer. answer ≡ faults) }
+{
+    if faults == 0 {
+        writeln!(out, "  {part}: ok")?;
+    }
+    Ok(faults)
+}

@@ -1,0 +1,195 @@
+//! What is printed, the status, and hostile bytes.
+
+mod files;
+
+use crate::run::run;
+use crate::tests::files::{FILE_B, changed, file_c};
+use linked_list_allocator::LocalHeap;
+use std::alloc::Global;
+use std::test::Fail;
+
+// A writer that takes so many bytes.
+#[derive(Drop)]
+struct Full {
+    left: usize,
+}
+
+impl std::io::Write for Full {
+    fn write(&mut self, buf: &[u8]) -> std::io::Result<usize> {
+        if self.left == 0 {
+            return Err(std::io::Error::from(std::io::ErrorKind::StorageFull));
+        }
+        let taken = buf.len().min(self.left);
+        self.left -= taken;
+        Ok(taken)
+    }
+
+    fn flush(&mut self) -> std::io::Result<()> {
+        Ok(())
+    }
+}
+
+// The status of an audit, and what it prints.
+fn audited(alloc: Global, bytes: &[u8]) -> Result<(u8, String), Fail> {
+    let mut out = Vec::new(alloc);
+    let mut err = Vec::new(alloc);
+    let status = run(alloc, bytes, &mut out, &mut err);
+    if !err.is_empty() {
+        return Err(Fail::from("words on standard error"));
+    }
+    Ok((status, String::from_utf8(out)?))
+}
+
+const READABLE: &str =
+    "  opens: ok\n  data: ok\n  sections: ok\n  relocations: ok\n  symbols: ok\n  trie: ok\n  binds: ok\n";
+
+#[test]
+fn lines(rt: HostRuntime) -> Result<(), Fail> {
+    let alloc = rt.alloc();
+    let file_c = file_c(alloc)?;
+    let data_out = changed(alloc, 72, &[0xff, 0xff])?;
+    let two_sections = changed(alloc, 96, &[99])?;
+    let far_relocation = changed(alloc, 160, &[0x74, 1])?;
+    let many_symbols = changed(alloc, 276, &[0xff, 0xff, 0xff, 0xff])?;
+    let back_to_root = changed(alloc, 0x14c, &[0])?;
+    let no_segment = changed(alloc, 0x13d, &[0x71])?;
+    let rows: [(&str, &[u8], u8, &str); 8] = [
+        (
+            "three bytes",
+            &FILE_B[..3],
+            1,
+            "refused\n  opens: malformed: a magic is 4 bytes\n  opens lossily: malformed: a magic is 4 bytes\nnot sound: 1 shown\n",
+        ),
+        (
+            "a fat magic alone",
+            &file_c[..4],
+            1,
+            "refused\n  opens: 8 bytes are asked for and 4 are left\n  opens lossily: 8 bytes are asked for and 4 are left\nnot sound: 1 shown\n",
+        ),
+        (
+            "segment_data_out",
+            &data_out,
+            1,
+            "refused\n  opens: nothing stands at 0xffff\n  opens lossily: ok\n  data: segment 0: 376 bytes at 0xffff are not in the file\n  sections: ok\n  relocations: ok\n  symbols: ok\n  trie: ok\n  binds: ok\nnot sound: 2 shown\n",
+        ),
+        (
+            "sections past the end",
+            &two_sections,
+            1,
+            "image\n  opens: ok\n  data: ok\n  sections: segment 0, section 3: 80 bytes are asked for and 32 are left\n  sections: segment 0, section 4: nothing stands at 0x1a8\n  sections: segment 0, section 5: nothing stands at 0x1f8\n  sections: segment 0, section 6: nothing stands at 0x248\n  sections: segment 0, section 7: nothing stands at 0x298\n  sections: segment 0, section 8: nothing stands at 0x2e8\n  sections: segment 0, section 9: nothing stands at 0x338\n  sections: segment 0, section 10: nothing stands at 0x388\n  sections: segment 0, section 11: nothing stands at 0x3d8\n  sections: segment 0, section 12: nothing stands at 0x428\n  relocations: 80 bytes are asked for and 32 are left\n  symbols: ok\n  trie: ok\n  binds: ok\nnot sound: 11 shown\n",
+        ),
+        (
+            "a relocation past the end",
+            &far_relocation,
+            1,
+            "image\n  opens: ok\n  data: ok\n  sections: ok\n  relocations: section 0, relocation 0: 8 bytes are asked for and 4 are left\n  symbols: ok\n  trie: ok\n  binds: ok\nnot sound: 1 shown\n",
+        ),
+        (
+            "symbols past the end",
+            &many_symbols,
+            1,
+            "image\n  opens: ok\n  data: ok\n  sections: ok\n  relocations: ok\n  symbols: symbol 1: 16 bytes are asked for and 8 are left\n  symbols: symbol 2: nothing stands at 0x180\n  symbols: symbol 3: nothing stands at 0x190\n  symbols: symbol 4: nothing stands at 0x1a0\n  symbols: symbol 5: nothing stands at 0x1b0\n  symbols: symbol 6: nothing stands at 0x1c0\n  symbols: symbol 7: nothing stands at 0x1d0\n  symbols: symbol 8: nothing stands at 0x1e0\n  symbols: symbol 9: nothing stands at 0x1f0\n  symbols: symbol 10: nothing stands at 0x200\n  trie: ok\n  binds: ok\nnot sound: 10 shown\n",
+        ),
+        (
+            "back_to_root",
+            &back_to_root,
+            1,
+            "image\n  opens: ok\n  data: ok\n  sections: ok\n  relocations: ok\n  symbols: ok\n  trie: malformed: a node is met again on its own path\n  binds: ok\nnot sound: 1 shown\n",
+        ),
+        (
+            "a bind in no segment",
+            &no_segment,
+            1,
+            "image\n  opens: ok\n  data: ok\n  sections: ok\n  relocations: ok\n  symbols: ok\n  trie: ok\n  binds: malformed: a bind's segment is one of the list\nnot sound: 1 shown\n",
+        ),
+    ];
+    for (name, bytes, status, text) in rows {
+        let got = audited(alloc, bytes)?;
+        assert_eq!(rt; (got.0, got.1.as_str()), (status, text), "{name}");
+    }
+    Ok(())
+}
+
+#[test]
+fn sound_files(rt: HostRuntime) -> Result<(), Fail> {
+    let alloc = rt.alloc();
+    let (status, text) = audited(alloc, &FILE_B)?;
+    let want = format!(in alloc; "image\n{READABLE}sound\n")?;
+    assert_eq!(rt; (status, text.as_str()), (0, want.as_str()));
+    let (status, text) = audited(alloc, &file_c(alloc)?)?;
+    let want = format!(in alloc;
+        "fat file of 2\n  table: ok\narch 0\n{READABLE}arch 1\n  archive: ok\nsound\n"
+    )?;
+    assert_eq!(rt; (status, text.as_str()), (0, want.as_str()));
+    Ok(())
+}
+
+#[test]
+fn every_prefix(rt: HostRuntime) -> Result<(), Fail> {
+    let alloc = rt.alloc();
+    let file_c = file_c(alloc)?;
+    for length in 0..FILE_B.len() {
+        let Some(front) = FILE_B.get(..length) else {
+            return Err(Fail::from("a prefix of B"));
+        };
+        let (status, text) = audited(alloc, front)?;
+        assert_eq!(rt; status, 1, "B cut at {length}");
+        assert!(rt; text.as_str().contains("not sound: "));
+    }
+    for length in 0..file_c.len() {
+        let Some(front) = file_c.get(..length) else {
+            return Err(Fail::from("a prefix of C"));
+        };
+        let (status, text) = audited(alloc, front)?;
+        assert_eq!(rt; status, 1, "C cut at {length}");
+        assert!(rt; text.as_str().contains("not sound: "));
+    }
+    Ok(())
+}
+
+#[test]
+fn every_byte(rt: HostRuntime) -> Result<(), Fail> {
+    let alloc = rt.alloc();
+    for place in 0..FILE_B.len() {
+        for byte in [0, 0x7f, 0x80, 0xff] {
+            let (status, _) = audited(alloc, &changed(alloc, place, &[byte])?)?;
+            assert!(rt; status < 2, "{byte} at {place}");
+        }
+    }
+    Ok(())
+}
+
+#[test]
+fn failed_writes(rt: HostRuntime) -> Result<(), Fail> {
+    let alloc = rt.alloc();
+    let whole = audited(alloc, &FILE_B)?.1.len();
+    for left in [0, 1, whole - 1] {
+        let mut err = Vec::new(alloc);
+        assert_eq!(rt; run(alloc, &FILE_B, &mut Full { left }, &mut err), 2);
+        assert_eq!(rt; err.as_slice(), b"machaudit: cannot write\n".as_slice());
+    }
+    let mut err = Vec::new(alloc);
+    assert_eq!(rt; run(alloc, &FILE_B, &mut Full { left: whole }, &mut err), 0);
+    Ok(())
+}
+
+#[test]
+fn refused_memory(rt: HostRuntime) -> Result<(), Fail> {
+    let mut refused = 0u32;
+    let mut sound = 0u32;
+    for size in 0..400 {
+        let heap = LocalHeap::new(rt.alloc(), 64 * size)?;
+        let mut err = Vec::new(rt.alloc());
+        let status = run(&heap, &FILE_B, &mut Full { left: usize::MAX }, &mut err);
+        if status == 0 {
+            sound = sound.saturating_add(1);
+        } else {
+            assert_eq!(rt; (status, sound), (2, 0), "{size}");
+            assert_eq!(rt; err.as_slice(), b"machaudit: out of memory\n".as_slice());
+            refused = refused.saturating_add(1);
+        }
+    }
+    assert!(rt; refused > 2);
+    assert!(rt; sound > 0);
+    Ok(())
+}

@@ -1,0 +1,89 @@
+//! Why a program was not resolved.
+
+ghost use Rattle.std.specs.Prelude.{◌≤◌};
+
+use goblin_mach::{Error, ScrollError};
+use std::alloc::{AllocError, AllocFailed};
+use std::{fmt, io};
+
+/// Why no lines, or not all of them, were printed.
+#[derive(Drop)]
+pub enum Failure {
+    /// A file was refused: the program, which is file 0, or a library by its number.
+    Refused { file: usize, error: Error },
+    /// Memory was refused.
+    Memory,
+    /// A line was not written.
+    Unwritten,
+}
+
+impl Failure {
+    /// A file was refused for an error, which may be want of memory.
+    pub fn refused(file: usize, error: Error) -> Failure {
+        match error {
+            Error::Memory(_) => Failure::Memory,
+            other => Failure::Refused { file, error: other },
+        }
+    }
+
+    /// The exit status: 1 where a file is refused, else 2.
+    pub fn status(&self) -> u8
+        ensures { (1 ≤ result) × (result ≤ 2) }
+    {
+        match self {
+            Failure::Refused { .. } => 1,
+            Failure::Memory | Failure::Unwritten => 2,
+        }
+    }
+}
+
+impl From<AllocError> for Failure {
+    fn from(_error: AllocError) -> Failure {
+        Failure::Memory
+    }
+}
+
+impl<T: Drop> From<AllocFailed<T>> for Failure {
+    fn from(_error: AllocFailed<T>) -> Failure {
+        Failure::Memory
+    }
+}
+
+impl From<io::Error> for Failure {
+    fn from(_error: io::Error) -> Failure {
+        Failure::Unwritten
+    }
+}
+
+impl fmt::Display for Failure {
+    fn fmt<W: fmt::Write>(&self, f: &mut fmt::Formatter<W>) -> fmt::Result {
+        match self {
+            Failure::Refused { file: 0, error } => write!(f, "the program: {}", Words(error)),
+            Failure::Refused { file, error } => write!(f, "library {file}: {}", Words(error)),
+            Failure::Memory => write!(f, "out of memory"),
+            Failure::Unwritten => write!(f, "cannot write"),
+        }
+    }
+}
+
+// An error in words.
+#[derive(Clone, Copy)]
+struct Words<'a>(&'a Error);
+
+impl<'a> fmt::Display for Words<'a> {
+    fn fmt<W: fmt::Write>(&self, f: &mut fmt::Formatter<W>) -> fmt::Result {
+        match self.0 {
+            Error::Malformed(rule) => write!(f, "malformed: {rule}"),
+            Error::BadMagic(magic) => write!(f, "bad magic {magic:#x}"),
+            Error::Scroll(ScrollError::BadOffset(place)) => {
+                write!(f, "nothing stands at {place:#x}")
+            }
+            Error::Scroll(ScrollError::TooBig { size, len }) => {
+                write!(f, "{size} bytes are asked for and {len} are left")
+            }
+            Error::Scroll(ScrollError::BadInput { msg, .. }) => write!(f, "bad bytes: {msg}"),
+            Error::BufferTooShort(count, what) => write!(f, "no room for {count} {what}"),
+            Error::Memory(_) => write!(f, "out of memory"),
+        }
+    }
+}

@@ -1,0 +1,53 @@
+//! The program: a line for each import, and the exit status.
+
+ghost use Rattle.std.specs.Prelude.{◌≡◌, ◌≤◌, List, OnOk, map};
+ghost use Rattle.machresolve.specs.Seen.{IsResolved};
+ghost use Rattle.machresolve.specs.declared.resolve.Resolution.{Resolution};
+
+use crate::failure::Failure;
+use crate::resolve::resolve;
+use std::alloc::Allocator;
+use std::io::{BufWriter, Write};
+
+/// Prints where each import of a program is found among libraries, and answers the exit status: 0 where
+/// each is found, or may be missing, or is not sought among the libraries; 1 where one is not found, or a
+/// file is refused, and then `err` has the reason; 2 where memory is refused or a write fails.
+pub fn run<A: Allocator + Clone, O: Write, E: Write>(
+    alloc: A,
+    program: &[u8],
+    libraries: &[&[u8]],
+    out: &mut O,
+    err: &mut E,
+) -> u8
+    ensures status { result ≤ 2 }
+    ensures resolved { result ≡ 0 → (answers : List Resolution) × IsResolved (map (λ f. f.now) libraries.now) program.now answers }
+{
+    match print(&alloc, program, libraries, out) {
+        Ok(true) => 0,
+        Ok(false) => 1,
+        Err(failure) => match writeln!(err, "machresolve: {failure}") {
+            Ok(()) => failure.status(),
+            Err(_) => 2,
+        },
+    }
+}
+
+// Prints the lines through one buffer, and answers whether no symbol was sought in vain.
+fn print<A: Allocator + Clone, O: Write>(
+    alloc: &A,
+    program: &[u8],
+    libraries: &[&[u8]],
+    out: &mut O,
+) -> Result<bool, Failure>
+    ensures { OnOk result ((answers : List Resolution) × IsResolved (map (λ f. f.now) libraries.now) program.now answers) }
+{
+    let resolutions = resolve(alloc, program, libraries)?;
+    let mut lines = BufWriter::new(alloc.clone()?, out).map_err(|_| Failure::Memory)?;
+    let mut settled = true;
+    for resolution in &resolutions {
+        writeln!(lines, "{resolution}")?;
+        settled = settled && resolution.is_settled();
+    }
+    lines.flush()?;
+    Ok(settled)
+}

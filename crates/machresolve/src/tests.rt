@@ -1,0 +1,178 @@
+//! What is printed, the status, and hostile bytes.
+
+mod files;
+
+use crate::run::run;
+use crate::tests::files::{FILE_B, FILE_C, LIBRARY_L, LIBRARY_M, PROGRAM};
+use linked_list_allocator::LocalHeap;
+use std::alloc::Global;
+use std::test::Fail;
+
+// A writer that takes so many bytes.
+#[derive(Drop)]
+struct Full {
+    left: usize,
+}
+
+impl std::io::Write for Full {
+    fn write(&mut self, buf: &[u8]) -> std::io::Result<usize> {
+        if self.left == 0 {
+            return Err(std::io::Error::from(std::io::ErrorKind::StorageFull));
+        }
+        let taken = buf.len().min(self.left);
+        self.left -= taken;
+        Ok(taken)
+    }
+
+    fn flush(&mut self) -> std::io::Result<()> {
+        Ok(())
+    }
+}
+
+// The status, and what is printed on standard output and then on standard error.
+fn resolved(alloc: Global, program: &[u8], libraries: &[&[u8]]) -> Result<(u8, String), Fail> {
+    let mut out = Vec::new(alloc);
+    let mut err = Vec::new(alloc);
+    let status = run(alloc, program, libraries, &mut out, &mut err);
+    out.extend_from_slice(err.as_slice())?;
+    Ok((status, String::from_utf8(out)?))
+}
+
+#[test]
+fn lines(rt: HostRuntime) -> Result<(), Fail> {
+    let alloc = rt.alloc();
+    let rows: [(&str, &[u8], &[u8], u8, &str); 7] = [
+        (
+            "both libraries",
+            &PROGRAM,
+            &LIBRARY_M,
+            1,
+            "_direct L 0x1234 in L\n_renamed L 0x20 in M\n_absent L missing in L\n_maybe L weak, missing in L\n_round L leads back to L\n_stub M 0x40 in M\n_far N no library N\n_own self self\n_lost L no library N\n",
+        ),
+        (
+            "one library, twice",
+            &PROGRAM,
+            &LIBRARY_L,
+            1,
+            "_direct L 0x1234 in L\n_renamed L no library M\n_absent L missing in L\n_maybe L weak, missing in L\n_round L no library M\n_stub M no library M\n_far N no library N\n_own self self\n_lost L no library N\n",
+        ),
+        (
+            "no two-level names",
+            &FILE_B,
+            &LIBRARY_M,
+            0,
+            "_a L flat\n_b L flat\n",
+        ),
+        ("no imports", &LIBRARY_L, &LIBRARY_M, 0, ""),
+        (
+            "a fat program",
+            &FILE_C,
+            &LIBRARY_M,
+            1,
+            "machresolve: the program: bad magic 0xcafebabe\n",
+        ),
+        (
+            "a library of no name",
+            &PROGRAM,
+            &FILE_B,
+            1,
+            "machresolve: library 2: malformed: a library has a name\n",
+        ),
+        (
+            "a cut program",
+            &PROGRAM[..31],
+            &LIBRARY_M,
+            1,
+            "machresolve: the program: malformed: a header is 32 bytes\n",
+        ),
+    ];
+    for (name, program, second, status, text) in rows {
+        let got = resolved(alloc, program, &[&LIBRARY_L, second])?;
+        assert_eq!(rt; (got.0, got.1.as_str()), (status, text), "{name}");
+    }
+    Ok(())
+}
+
+#[test]
+fn every_prefix(rt: HostRuntime) -> Result<(), Fail> {
+    let alloc = rt.alloc();
+    let whole: [&[u8]; 1] = [&LIBRARY_L];
+    for file in [FILE_B.as_slice(), FILE_C.as_slice(), PROGRAM.as_slice()] {
+        for length in 0..file.len() {
+            let Some(front) = file.get(..length) else {
+                return Err(Fail::from("a prefix"));
+            };
+            let (status, _) = resolved(alloc, front, &whole)?;
+            assert_eq!(rt; status, 1, "a program cut at {length}");
+            let (status, _) = resolved(alloc, &PROGRAM, &[front])?;
+            assert_eq!(rt; status, 1, "a library cut at {length}");
+        }
+    }
+    Ok(())
+}
+
+#[test]
+fn every_byte(rt: HostRuntime) -> Result<(), Fail> {
+    let alloc = rt.alloc();
+    let mut library = Vec::new(alloc);
+    library.extend_from_slice(&LIBRARY_L)?;
+    for place in 0..library.len() {
+        for byte in [0, 0x7f, 0x80, 0xff] {
+            let before = library[place];
+            library[place] = byte;
+            let (status, _) = resolved(alloc, &PROGRAM, &[library.as_slice(), &LIBRARY_M])?;
+            assert_eq!(rt; status, 1, "{byte} at {place}");
+            library[place] = before;
+        }
+    }
+    Ok(())
+}
+
+#[test]
+fn failed_writes(rt: HostRuntime) -> Result<(), Fail> {
+    let alloc = rt.alloc();
+    for left in [0, 1, 19] {
+        let mut err = Vec::new(alloc);
+        assert_eq!(rt; run(alloc, &FILE_B, &[], &mut Full { left }, &mut err), 2);
+        assert_eq!(rt; err.as_slice(), b"machresolve: cannot write\n".as_slice());
+    }
+    let mut err = Vec::new(alloc);
+    assert_eq!(rt;
+        run(alloc, &FILE_B, &[], &mut Full { left: 20 }, &mut err),
+        0
+    );
+    assert_eq!(rt;
+        run(
+            alloc,
+            &FILE_C,
+            &[],
+            &mut Full { left: 20 },
+            &mut Full { left: 3 }
+        ),
+        2
+    );
+    Ok(())
+}
+
+#[test]
+fn refused_memory(rt: HostRuntime) -> Result<(), Fail> {
+    let libraries: [&[u8]; 2] = [&LIBRARY_L, &LIBRARY_M];
+    let mut refused = 0u32;
+    let mut answered = 0u32;
+    for size in 0..400 {
+        let heap = LocalHeap::new(rt.alloc(), 64 * size)?;
+        let mut out = Vec::new(rt.alloc());
+        let mut err = Vec::new(rt.alloc());
+        if run(&heap, &PROGRAM, &libraries, &mut out, &mut err) == 1 {
+            assert_eq!(rt; out.len(), 193);
+            answered = answered.saturating_add(1);
+        } else {
+            assert_eq!(rt; (answered, out.len()), (0, 0), "{size}");
+            assert_eq!(rt; err.as_slice(), b"machresolve: out of memory\n".as_slice());
+            refused = refused.saturating_add(1);
+        }
+    }
+    assert!(rt; refused > 2);
+    assert!(rt; answered > 0);
+    Ok(())
+}
