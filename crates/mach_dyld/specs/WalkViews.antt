@@ -1,8 +1,9 @@
 -- What is seen of a walk of the export trie.
-use Rattle.std.specs.Prelude.{◌≡◌, ◌≤◌, ◌++◌, ℕ, List, length, Result, Ok}
+use Rattle.std.specs.Prelude.{◌≡◌, ◌≤◌, ◌++◌, ◌∷◌, [], ℕ, List, length, Result, Ok}
 use Rattle.mach_base.specs.Fault.{Fault}
-use Rattle.mach_dyld.specs.Trie.{Entry, Node, Trie, own_entries}
+use Rattle.mach_dyld.specs.Trie.{Info, Entry, Node, Trie, entry, own_entries}
 use Rattle.mach_dyld.specs.Nodes.{node_at, branches_at, trie_of}
+use Rattle.mach_dyld.specs.NodeViews.{own_at}
 use Rattle.mach_dyld.specs.TrieFault.{TrieFault}
 use Rattle.mach_dyld.specs.Exports.{texts}
 use Rattle.mach_dyld.specs.declared.walk.Source.{Source}
@@ -14,8 +15,17 @@ trie_in s = trie_of s.bytes.now (texts s.libs.now) s.from s.upto
 abbrev pub node_in : Source → ℕ → Result Node Fault
 node_in s start = node_at s.bytes.now (texts s.libs.now) s.from start
 
+abbrev pub own_in : Source → ℕ → ℕ → Result (Info × ℕ) Fault
+own_in s size place = own_at s.bytes.now (texts s.libs.now) size place
+
 abbrev pub fault_in : Source → Fault → Type 0
 fault_in s f = TrieFault s.bytes.now (texts s.libs.now) s.from s.upto s.from f
+
+-- a node's own export was listed: it is there, and the branches come after it
+pub record ListsOwn (s : Source) (size place : ℕ) (name : List ℕ) (old new : List Entry) (after : ℕ) : Type 0 where
+  pub info : Info
+  pub there : own_in s size place ≡ Ok (info, after)
+  pub listed : new ≡ old ++ entry name info ∷ []
 
 -- a node was opened: its branches can be read, all of them, and its own export was listed
 pub record Opens (s : Source) (start : ℕ) (name : List ℕ) (old new : List Entry) (o : Open) : Type 0 where

@@ -36,6 +36,7 @@ pub struct Export<'a, A: Allocator = Global> {
 
 impl<'a, A: Allocator> Export<'a, A> {
     /// An export of a name.
+    #[inline(always)]
     pub fn new(name: String<A>, info: ExportInfo<'a>) -> Self
         ensures name { result.name ≡ name }
         ensures info { result.info ≡ info.entry }

@@ -1,19 +1,22 @@
-//! One node of an export trie, as dyld reads it.
+//! One node of an export trie, as dyld reads it. Quick readers read what most nodes hold with no call; where one
+//! of them finds nothing, the exact reader says what is there, or why nothing is.
 
-ghost use Rattle.std.specs.Prelude.{◌≡◌, ◌≤◌, ◌+◌, ℕ, length, IfOk, Ok};
+ghost use Rattle.std.specs.Prelude.{◌≡◌, ◌≤◌, ◌+◌, ℕ, List, length, IfOk, IfSome, IsTrue, Ok};
 ghost use Rattle.std.specs.List.{position_or_len};
 ghost use Rattle.mach_base.specs.Answer.{Reads};
 ghost use Rattle.mach_base.specs.Leb128.{uleb_at};
 ghost use Rattle.mach_base.specs.Text.{is_zero, run_at};
 ghost use Rattle.mach_dyld.specs.Trie as trie;
-ghost use Rattle.mach_dyld.specs.Nodes.{branch_at, branches_at, children_at, terminal_at, inner_at, node_at};
+ghost use Rattle.mach_dyld.specs.Trie.{regular};
+ghost use Rattle.mach_dyld.specs.Nodes.{a_regular, kind_of, branch_at, branches_at, children_at};
 ghost use Rattle.mach_base.specs.Sums.{sum_of};
-ghost use Rattle.mach_dyld.specs.Exports.{texts};
-ghost use Rattle.mach_dyld.specs.NodeViews.{branch_of, those_read, branches_of, AreReadable, node_of};
+ghost use Rattle.mach_dyld.specs.Exports.{texts, info_of};
+ghost use Rattle.mach_dyld.specs.NodeViews.{branch_of, those_read, branches_of, AreReadable, own_at};
 
-use crate::info::ExportInfo;
-use crate::steps::Steps;
-use mach_base::{Error, Result, read_text, rest_at, uleb};
+use crate::info::{
+    EXPORT_SYMBOL_FLAGS_REEXPORT, EXPORT_SYMBOL_FLAGS_STUB_AND_RESOLVER, ExportInfo,
+};
+use mach_base::{Error, Result, quick_text, quick_uleb, read_text, rest_at, uleb};
 use memchr::memchr;
 
 /// A label, and where the child begins.
@@ -30,14 +33,28 @@ pub struct Branches {
     pub place: usize,
 }
 
-/// A node: its own export, if it has one, and its branches.
-#[derive(Debug, Drop)]
-pub struct Node<'a> {
-    pub own: Option<ExportInfo<'a>>,
-    pub branches: Branches,
+// The exact reader of a number, for those that the quick one leaves.
+#[cold]
+#[inline(never)]
+fn rare_number(bytes: &[u8], place: usize) -> Result<(u64, usize)>
+    ensures { Reads (λ found. found) result (uleb_at bytes.now place) }
+{
+    uleb(bytes, place)
+}
+
+/// The number at a place, and the place after it.
+#[inline(always)]
+pub fn number(bytes: &[u8], place: usize) -> Result<(u64, usize)>
+    ensures { Reads (λ found. found) result (uleb_at bytes.now place) }
+{
+    match quick_uleb(bytes, place) {
+        Some(found) => Ok(found),
+        None => rare_number(bytes, place),
+    }
 }
 
 // The sum, where it has at most 64 bits.
+#[inline(always)]
 fn sum(place: usize, n: u64) -> Result<usize>
     ensures { Reads (λ sum. sum) result (sum_of place n) }
 {
@@ -59,6 +76,8 @@ fn read_branch(bytes: &[u8], from: usize, place: usize) -> Result<(Branch<'_>, u
 }
 
 // Whether so many branches can be read, one after the other.
+#[cold]
+#[inline(never)]
 fn test_branches(bytes: &[u8], from: usize, count: usize, first: usize) -> Result<()>
     ensures { Reads (λ _. those_read (branches_at bytes.now from count first)) result (branches_at bytes.now from count first) }
 {
@@ -70,89 +89,96 @@ fn test_branches(bytes: &[u8], from: usize, count: usize, first: usize) -> Resul
     Ok(())
 }
 
-// The branches behind their count.
+// The place after a branch, wherever the branch can be read.
+#[tactic(auto, unfolding(crate::specs::Nodes::branch_at, crate::specs::Nodes::sum_of))]
+#[inline(always)]
+fn quick_branch(bytes: &[u8], from: usize, place: usize) -> Option<usize>
+    ensures { IfSome result (λ after. (branch : trie.Branch) × (branch_at bytes.now from place ≡ Ok (branch, after))) }
+{
+    let label = quick_text(bytes, place)?;
+    let (offset, after) = quick_uleb(bytes, place + label.len() + 1)?;
+    match from.checked_add(offset as usize) {
+        Some(_) => Some(after),
+        None => None,
+    }
+}
+
+// Whether so many branches can be read, as far as quick readers tell.
+#[inline(always)]
+fn quick_test(bytes: &[u8], from: usize, count: usize, first: usize) -> bool
+    ensures { IsTrue result → branches_at bytes.now from count first ≡ Ok (those_read (branches_at bytes.now from count first)) }
+{
+    let mut place = first;
+    for _ in 0..count {
+        match quick_branch(bytes, from, place) {
+            Some(after) => place = after,
+            None => return false,
+        }
+    }
+    true
+}
+
+/// The branches behind their count, all of which can be read.
 #[tactic(auto, unfolding(crate::specs::Nodes::children_at))]
-fn children(bytes: &[u8], from: usize, place: usize) -> Result<Branches>
+#[inline(always)]
+pub fn read_branches(bytes: &[u8], from: usize, place: usize) -> Result<Branches>
     ensures value { Reads (branches_of bytes.now from) result (children_at bytes.now from place) }
     ensures readable { IfOk result (AreReadable bytes.now from) }
     ensures few { IfOk result (λ branches. branches.left ≤ length bytes.now) }
 {
-    let (count, place) = uleb(bytes, place)?;
+    let (count, place) = number(bytes, place)?;
     let left = count as usize;
     if left > bytes.len() {
         return Err(Error::BufferTooShort(left, "branches"));
     }
-    test_branches(bytes, from, left, place)?;
+    if !quick_test(bytes, from, left, place) {
+        test_branches(bytes, from, left, place)?;
+    }
     Ok(Branches { left, place })
 }
 
-#[tactic(auto, unfolding(crate::specs::Nodes::inner_at))]
-fn inner(bytes: &[u8], from: usize, place: usize) -> Result<Node<'_>>
-    ensures value { Reads (node_of bytes.now from) result (inner_at bytes.now from place) }
-    ensures readable { IfOk result (λ node. AreReadable bytes.now from node.branches) }
-    ensures few { IfOk result (λ node. node.branches.left ≤ length bytes.now) }
-{
-    let branches = children(bytes, from, place)?;
-    Ok(Node {
-        own: None,
-        branches,
-    })
-}
-
-#[tactic(auto, unfolding(crate::specs::Nodes::terminal_at))]
-fn terminal<'a>(
+/// A node's own export of so many bytes, and the place of the branches behind it.
+pub fn read_own<'a>(
     bytes: &'a [u8],
     libs: &[&'a str],
-    from: usize,
     size: u64,
     place: usize,
-) -> Result<Node<'a>>
-    ensures value { Reads (node_of bytes.now from) result (terminal_at bytes.now (texts libs.now) from size place) }
-    ensures readable { IfOk result (λ node. AreReadable bytes.now from node.branches) }
-    ensures few { IfOk result (λ node. node.branches.left ≤ length bytes.now) }
+) -> Result<(ExportInfo<'a>, usize)>
+    ensures { Reads (λ own. (info_of own.0, own.1)) result (own_at bytes.now (texts libs.now) size place) }
 {
     let (flags, rest) = uleb(bytes, place)?;
     let info = ExportInfo::parse(bytes, libs, flags, rest)?;
     let after = sum(place, size)?;
-    let branches = children(bytes, from, after)?;
-    Ok(Node {
-        own: Some(info),
-        branches,
-    })
+    Ok((info, after))
 }
 
-// Reads how long a node's own export is: the one read that counts as a visit.
-fn visit(bytes: &[u8], start: usize, steps: &mut Steps) -> Result<(u64, usize)>
-    ensures value { Reads (λ found. found) result (uleb_at bytes.now start) }
-    ensures visits { steps.new ≡ steps.old + 1 }
+// Whether the flags say a regular export, whatever its kind: neither a re-export nor a stub.
+#[inline(always)]
+fn is_plain(flags: u64) -> bool
+    ensures { IsTrue result → kind_of flags ≡ a_regular }
 {
-    steps.tick();
-    uleb(bytes, start)
+    flags & EXPORT_SYMBOL_FLAGS_REEXPORT == 0 && flags & EXPORT_SYMBOL_FLAGS_STUB_AND_RESOLVER == 0
 }
 
-/// Reads the node at a start, and tests that all its branches can be read.
-#[tactic(auto, unfolding(crate::specs::Nodes::node_at))]
-pub fn read_node<'a>(
-    bytes: &'a [u8],
-    libs: &[&'a str],
-    from: usize,
-    start: usize,
-    steps: &mut Steps,
-) -> Result<Node<'a>>
-    ensures value { Reads (node_of bytes.now from) result (node_at bytes.now (texts libs.now) from start) }
-    ensures readable { IfOk result (λ node. AreReadable bytes.now from node.branches) }
-    ensures few { IfOk result (λ node. node.branches.left ≤ length bytes.now) }
-    ensures visits { steps.new ≡ steps.old + 1 }
+/// The same of a regular export: its address, its flags, and the place of the branches behind it.
+#[tactic(auto, unfolding(crate::specs::Nodes::info_at, crate::specs::Nodes::regular_at, crate::specs::Nodes::sum_of))]
+#[inline(always)]
+pub fn quick_own(bytes: &[u8], size: u64, place: usize) -> Option<(u64, u64, usize)>
+    ensures { IfSome result (λ own. (libs : List (List ℕ)) → own_at bytes.now libs size place ≡ Ok (regular own.0 own.1, own.2)) }
 {
-    let (size, place) = visit(bytes, start, steps)?;
-    if size == 0 {
-        inner(bytes, from, place)
-    } else {
-        terminal(bytes, libs, from, size, place)
+    let (flags, rest) = quick_uleb(bytes, place)?;
+    if !is_plain(flags) {
+        return None;
+    }
+    let (address, _) = quick_uleb(bytes, rest)?;
+    match place.checked_add(size as usize) {
+        Some(after) => Some((address, flags, after)),
+        None => None,
     }
 }
 
 // How many bytes stand before the first zero byte.
+#[inline(always)]
 fn len_before_zero(bytes: &[u8]) -> usize
     ensures value { result ≡ position_or_len is_zero bytes.now }
     ensures within { result ≤ length bytes.now }
@@ -161,6 +187,7 @@ fn len_before_zero(bytes: &[u8]) -> usize
 }
 
 // The bytes from a place up to the first zero byte.
+#[inline(always)]
 fn run_from(bytes: &[u8], place: usize) -> &[u8]
     requires { place ≤ length bytes.now }
     ensures run { result.now ≡ run_at bytes.now place }
@@ -171,6 +198,7 @@ fn run_from(bytes: &[u8], place: usize) -> &[u8]
 }
 
 /// A branch that was tested, read again: its label, where the child begins, and the place after it.
+#[inline(always)]
 pub fn read_again(bytes: &[u8], from: usize, place: usize) -> (&[u8], usize, usize)
     requires { (found : trie.Branch × ℕ) × (branch_at bytes.now from place ≡ Ok found) }
     ensures { branch_at bytes.now from place ≡ Ok (record { label = result.0.now; start = result.1 }, result.2) }

@@ -1,17 +1,18 @@
 //! The walk of an export trie, on a stack of open nodes.
 
-ghost use Rattle.std.specs.Prelude.{◌≡◌, ◌≤◌, ◌+◌, ◌-◌, ◌++◌, [], IfOk, IfErr, OnOk, length, option_map};
+ghost use Rattle.std.specs.Prelude.{◌≡◌, ◌≤◌, ◌+◌, ◌-◌, ◌++◌, ◌∷◌, [], IfOk, IfErr, OnOk, length};
 ghost use Rattle.std.specs.Str.{IsUtf8};
-ghost use Rattle.mach_base.specs.Answer.{Stands, FailsAs};
-ghost use Rattle.mach_dyld.specs.Trie.{own_entries};
+ghost use Rattle.mach_base.specs.Answer.{Reads, Stands, FailsAs};
+ghost use Rattle.mach_base.specs.Leb128.{uleb_at};
+ghost use Rattle.mach_dyld.specs.Trie.{entry};
 ghost use Rattle.mach_dyld.specs.Lists.{Lists};
 ghost use Rattle.mach_dyld.specs.Paths.{IsTree};
 ghost use Rattle.mach_dyld.specs.Visits.{Visits};
 ghost use Rattle.mach_dyld.specs.Exports.{info_of, entries};
-ghost use Rattle.mach_dyld.specs.WalkViews.{trie_in, node_in, fault_in, Opens};
+ghost use Rattle.mach_dyld.specs.WalkViews.{trie_in, node_in, own_in, fault_in, ListsOwn, Opens};
 
 use crate::exports::{Export, ExportInfo};
-use crate::node::{Branches, read_again, read_node};
+use crate::node::{Branches, number, quick_own, read_again, read_branches, read_own};
 use crate::steps::Steps;
 use mach_base::{Error, Result};
 use std::alloc::{AllocError, Allocator};
@@ -32,24 +33,76 @@ pub struct Open {
     pub name_len: usize,
 }
 
-// Lists a node's own export, if it has one. Its name takes one allocation, of exactly its length.
-fn push_own<'a, A: Allocator + Clone>(
+// Reads how long the own export of the node at a start is: the one read that counts as a visit.
+// Answers that and the place behind.
+#[inline(always)]
+fn visit(bytes: &[u8], start: usize, steps: &mut Steps) -> Result<(u64, usize)>
+    ensures value { Reads (λ found. found) result (uleb_at bytes.now start) }
+    ensures visits { steps.new ≡ steps.old + 1 }
+{
+    steps.tick();
+    number(bytes, start)
+}
+
+// Lists an export. Its name takes one allocation, of exactly its length.
+#[inline(always)]
+fn push_export<'a, A: Allocator + Clone>(
     alloc: &A,
-    own: Option<ExportInfo<'a>>,
+    info: ExportInfo<'a>,
     name: &[u8],
     found: &mut Vec<Export<'a, A>, A>,
 ) -> std::result::Result<(), AllocError>
     requires { IsUtf8 name.now }
-    ensures { OnOk result (entries found.new.items ≡ entries found.old.items ++ own_entries name.now (option_map info_of own.entry)) }
+    ensures { OnOk result (entries found.new.items ≡ entries found.old.items ++ entry name.now (info_of info.entry) ∷ []) }
 {
-    if let Some(info) = own {
-        let name = unsafe { str::from_utf8_unchecked(name) };
-        found.push(Export::new(String::from_str(alloc.clone()?, name)?, info))?;
-    }
+    let name = unsafe { str::from_utf8_unchecked(name) };
+    found.push(Export::new(String::from_str(alloc.clone()?, name)?, info))?;
     Ok(())
 }
 
+// Lists an own export of so many bytes that the quick reader leaves. Answers the place of the branches.
+#[cold]
+#[inline(never)]
+fn list_rare<'a, A: Allocator + Clone>(
+    alloc: &A,
+    source: &Source<'a, '_>,
+    size: u64,
+    place: usize,
+    name: &[u8],
+    found: &mut Vec<Export<'a, A>, A>,
+) -> Result<usize>
+    requires { IsUtf8 name.now }
+    ensures ok { IfOk result (ListsOwn source.now size place name.now (entries found.old.items) (entries found.new.items)) }
+    ensures err { IfErr result (λ e. FailsAs e (own_in source.now size place)) }
+{
+    let (info, after) = read_own(source.bytes, source.libs, size, place)?;
+    push_export(alloc, info, name, found)?;
+    Ok(after)
+}
+
+// Lists an own export of so many bytes. Answers the place of the branches.
+#[inline(always)]
+fn list_own<'a, A: Allocator + Clone>(
+    alloc: &A,
+    source: &Source<'a, '_>,
+    size: u64,
+    place: usize,
+    name: &[u8],
+    found: &mut Vec<Export<'a, A>, A>,
+) -> Result<usize>
+    requires { IsUtf8 name.now }
+    ensures ok { IfOk result (ListsOwn source.now size place name.now (entries found.old.items) (entries found.new.items)) }
+    ensures err { IfErr result (λ e. FailsAs e (own_in source.now size place)) }
+{
+    let Some((address, flags, after)) = quick_own(source.bytes, size, place) else {
+        return list_rare(alloc, source, size, place, name, found);
+    };
+    push_export(alloc, ExportInfo::Regular { address, flags }, name, found)?;
+    Ok(after)
+}
+
 // Opens the node at a start: reads it, and lists its own export.
+#[inline(always)]
 fn open_node<'a, A: Allocator + Clone>(
     alloc: &A,
     source: &Source<'a, '_>,
@@ -63,10 +116,15 @@ fn open_node<'a, A: Allocator + Clone>(
     ensures ok { IfOk result (Opens source.now start name.now (entries found.old.items) (entries found.new.items)) }
     ensures err { IfErr result (λ e. FailsAs e (node_in source.now start)) }
 {
-    let node = read_node(source.bytes, source.libs, source.from, start, steps)?;
-    push_own(alloc, node.own, name, found)?;
+    let (size, place) = visit(source.bytes, start, steps)?;
+    let place = if size == 0 {
+        place
+    } else {
+        list_own(alloc, source, size, place, name, found)?
+    };
+    let branches = read_branches(source.bytes, source.from, place)?;
     Ok(Open {
-        branches: node.branches,
+        branches,
         name_len: name.len(),
     })
 }
