@@ -1,5 +1,5 @@
 -- The export of a name, sought one after the other.
-use Rattle.std.proofs.Common.{◌≡◌, ◌≢◌, ◌∙◌, ℕ, ◌<◌, List, length, take, get_or, slice_get, Some, refl, sym, ap, subst}
+use Rattle.std.proofs.Common.{◌≡◌, ◌≢◌, ◌∙◌, ℕ, ◌<◌, List, length, take, get_or, refl, sym, ap, subst}
 use Rattle.std.specs.Prelude.{All, option_map, string_bytes}
 use Rattle.std.proofs.lemmas.List.{take-map}
 use Rattle.std.proofs.lemmas.List.Elements.{All-map}

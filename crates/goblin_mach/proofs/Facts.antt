@@ -14,7 +14,6 @@ use Rattle.mach_parts.specs.declared.symbols.nlist.Nlist.{Nlist}
 use Rattle.mach_dyld.specs.Exports.{texts, text_in}
 use Rattle.mach_dyld.specs.Imports.{BindRanges, Import}
 use Rattle.mach_dyld.specs.Trie as trie
-use Rattle.mach_dyld.specs.TrieRange.{TrieRange}
 use Rattle.goblin_mach.specs.EntryPoint.{EntryPoint, entry_point_in}
 use Rattle.goblin_mach.specs.Facts.{OfImage, HasSymbols, HasSegments, HasRelocations, HasName, HasLibraries, HasRunPaths, HasEntryPoint, HasExports, HasExportsFault, HasImports, HasImportsFault, HasImportItems, AreSegments}
 use Rattle.goblin_mach.specs.Image.{LossyOpensAs}

@@ -1,22 +1,23 @@
 -- Imports depend on no more of their segments than contracts see.
-use Rattle.std.proofs.Common.{◌≡◌, ◌++◌, ℕ, ◌<◌, Bool, true, false, cond, List, [], ◌∷◌, map, Option, Some, None, Result, Ok, Err, inl, inr, slice_get, nat_lt, refl, sym, ap, ◌∙◌}
+use Rattle.std.proofs.Common.{◌≡◌, ◌++◌, ℕ, Bool, true, false, cond, List, [], ◌∷◌, map, Option, Some, None, Result, Ok, Err, inl, inr, slice_get, nat_lt, refl, sym, ap, ◌∙◌}
 use Rattle.std.specs.Prelude.{option_map}
 use Rattle.std.proofs.lemmas.Option.{slice_get-map}
 use Rattle.mach_base.specs.Answer.{◌>>=◌}
 use Rattle.mach_base.specs.Fault.{Fault, malformed}
+use Rattle.mach_base.specs.Sums.{found_or_malformed, sum_of}
 use Rattle.mach_parts.specs.Segment.{SegmentView, segment_view}
 use Rattle.mach_parts.specs.declared.segment.Segment.{Segment}
 use Rattle.mach_dyld.specs.BindFault.{BindFault, StreamFault, unreadable, no_import}
 use Rattle.mach_dyld.specs.Binds.{Bind}
-use Rattle.mach_dyld.specs.Imports.{BindRanges, Import, ListsImports, Target, holding, import_of, import_with, imports_in, input_in, listed, sum_of, target_of}
-use Rattle.mach_dyld.specs.Streams.{AllStand, Input, IsBeginning, IsStream, Placed, Range, StandsIn}
+use Rattle.mach_dyld.specs.Imports.{BindRanges, Import, ListsImports, Target, holding, import_of, import_with, imports_in, input_in, target_of}
+use Rattle.mach_dyld.specs.Streams.{AllStand, Input, IsBeginning, IsStream, Placed, Range}
 use Rattle.goblin_mach.specs.Subjects.{ListsImageImports, ImageImportsFault}
 
 -- a target, with the segment as it is sought
 abbrev target_with : Result (List ℕ) Fault → Option Segment → ℕ → Result Target Fault
 target_with library found offset = do
   dylib ← library
-  segment ← listed found
+  segment ← found_or_malformed found
   holder ← holding offset segment
   in_file ← sum_of holder.fileoff offset
   address ← sum_of holder.vmaddr offset
@@ -62,7 +63,7 @@ module _ (b : BindRanges) (pointer : ℕ) (libs : List (List ℕ)) (xs ys : List
 
   same_target : (library segment offset : ℕ) → target_of x library segment offset ≡ target_of y library segment offset
   unfolding target_of
-  same_target library segment offset = same_with (listed (slice_get libs library)) (slice_get xs segment) (slice_get ys segment) offset (same_place segment)
+  same_target library segment offset = same_with (found_or_malformed (slice_get libs library)) (slice_get xs segment) (slice_get ys segment) offset (same_place segment)
 
   same_import : (d : Bind) → import_of x d ≡ import_of y d
   unfolding import_of

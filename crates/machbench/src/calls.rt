@@ -17,6 +17,8 @@ pub enum Call {
     Exports,
     /// `MachO::imports` of each image.
     Imports,
+    /// `MachO::iter_imports` of each image, gone over to the end.
+    ImportsOneByOne,
     /// `MachO::symbols` of each image, gone over to the end.
     Symbols,
     /// `MachO::relocations` of each image, gone over to the end.
@@ -27,10 +29,11 @@ pub enum Call {
 
 impl Call {
     /// All calls, in the order of their lines.
-    pub const ALL: [Call; 6] = [
+    pub const ALL: [Call; 7] = [
         Call::Parse,
         Call::Exports,
         Call::Imports,
+        Call::ImportsOneByOne,
         Call::Symbols,
         Call::Relocations,
         Call::LinkView,
@@ -42,6 +45,7 @@ impl Call {
             Call::Parse => "parse",
             Call::Exports => "exports",
             Call::Imports => "imports",
+            Call::ImportsOneByOne => "iter_imports",
             Call::Symbols => "symbols",
             Call::Relocations => "relocations",
             Call::LinkView => "link_view",
@@ -120,6 +124,7 @@ impl<'a> Subject<'a> {
             Call::Parse => self.parse(alloc),
             Call::Exports => self.exports(alloc),
             Call::Imports => self.imports(alloc),
+            Call::ImportsOneByOne => self.imports_one_by_one(),
             Call::Symbols => Ok(self.symbols()),
             Call::Relocations => self.relocations(alloc),
             Call::LinkView => self.link_view(alloc),
@@ -149,6 +154,17 @@ impl<'a> Subject<'a> {
         let mut work = Work::default();
         for image in &self.images {
             work.add_imports(&image.imports(alloc)?);
+        }
+        Ok(work)
+    }
+
+    fn imports_one_by_one(&self) -> Result<Work> {
+        let mut work = Work::default();
+        for image in &self.images {
+            for item in image.iter_imports() {
+                let import = item?;
+                work.add(1, import.address.wrapping_add(import.name.len() as u64));
+            }
         }
         Ok(work)
     }
