@@ -7,7 +7,7 @@ use std::fmt;
 use std::fmt::{Debug, Formatter, Write};
 
 impl<'a, A: Allocator> Debug for MachO<'a, A> {
-    /// What is read of the image; of its bytes only how many they are.
+    /// What is read of the image, and whether it has a trie and binds; of its bytes only how many they are.
     fn fmt<W: Write>(&self, f: &mut Formatter<W>) -> fmt::Result {
         f.debug_struct("MachO")
             .field("header", &self.header)
@@ -21,8 +21,8 @@ impl<'a, A: Allocator> Debug for MachO<'a, A> {
             .field("name", &self.name)
             .field("little_endian", &self.little_endian)
             .field("is_64", &self.is_64)
-            .field("export_trie", &self.export_trie)
-            .field("bind_interpreter", &self.bind_interpreter)
+            .field("has_export_trie", &self.export_trie.is_some())
+            .field("has_binds", &self.bind_interpreter.is_some())
             .field("bytes", &ByteCount(self.bytes))
             .field("ctx", &self.ctx)
             .finish()
