@@ -1,11 +1,11 @@
 -- Where the root has a list of exports: no path leads to a malformed node, and no two lead to one node.
-use Rattle.std.proofs.Common.{◌≡◌, ◌≢◌, ◌<◌, ◌≤◌, ◌-◌, ℕ, List, [], ◌∷◌, ◌++◌, ◌⊎◌, inl, inr, Some, refl, sym, ap, ◌∙◌}
+use Rattle.std.proofs.Common.{◌≡◌, ◌≢◌, ◌≤◌, ◌-◌, ℕ, List, [], ◌∷◌, ◌++◌, ◌⊎◌, inl, inr, Some, refl, ◌∙◌}
 use Rattle.std.proofs.lemmas.Bool.{cases_eq}
 use Rattle.std.proofs.lemmas.List.{append-nil, append_cancel_left}
 use Rattle.mach_base.specs.Fault.{Fault, malformed}
 use Rattle.mach_dyld.specs.Trie.{Trie, Entry}
 use Rattle.mach_dyld.specs.Lists.{list_within, ListsWithin}
-use Rattle.mach_dyld.specs.Paths.{Leads, IsTree, Blocks, StartsFrom}
+use Rattle.mach_dyld.specs.Paths.{IsTree, Blocks, StartsFrom}
 use Rattle.mach_dyld.proofs.TrieFaults.{Leads-append, Stops, no_list, list_or_fault}
 
 same_or_not : (p q : List ℕ) → (p ≡ q) ⊎ (p ≢ q)

@@ -1,6 +1,5 @@
-use Rattle.std.proofs.Common.{◌≡◌, ◌+◌, ℕ, zero, suc, Bool, true, List, refl, [], ◌∷◌, None, inl, lit<}
-use Rattle.mach_base.specs.Fault.{malformed}
-use Rattle.mach_dyld.specs.Trie.{Branch, Node}
+use Rattle.std.proofs.Common.{◌≡◌, ◌+◌, ℕ, zero, suc, true, List, refl, [], ◌∷◌, None, inl, lit<}
+use Rattle.mach_dyld.specs.Trie.{Node}
 use Rattle.mach_dyld.specs.Nodes.{trie_of}
 use Rattle.mach_dyld.specs.Paths.{Leads}
 use Rattle.mach_dyld.specs.TrieFault.{met_again}
