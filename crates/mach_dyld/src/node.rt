@@ -90,7 +90,7 @@ fn test_branches(bytes: &[u8], from: usize, count: usize, first: usize) -> Resul
 }
 
 // The place after a branch, wherever the branch can be read.
-#[tactic(auto, unfolding(crate::specs::Nodes::branch_at, crate::specs::Nodes::sum_of))]
+#[tactic(auto, unfolding(crate::specs::Nodes::branch_at))]
 #[inline(always)]
 fn quick_branch(bytes: &[u8], from: usize, place: usize) -> Option<usize>
     ensures { IfSome result (λ after. (branch : trie.Branch) × (branch_at bytes.now from place ≡ Ok (branch, after))) }
@@ -161,7 +161,7 @@ fn is_plain(flags: u64) -> bool
 }
 
 /// The same of a regular export: its address, its flags, and the place of the branches behind it.
-#[tactic(auto, unfolding(crate::specs::Nodes::info_at, crate::specs::Nodes::regular_at, crate::specs::Nodes::sum_of))]
+#[tactic(auto, unfolding(crate::specs::Nodes::info_at, crate::specs::Nodes::regular_at))]
 #[inline(always)]
 pub fn quick_own(bytes: &[u8], size: u64, place: usize) -> Option<(u64, u64, usize)>
     ensures { IfSome result (λ own. (libs : List (List ℕ)) → own_at bytes.now libs size place ≡ Ok (regular own.0 own.1, own.2)) }
