@@ -1,6 +1,6 @@
 //! Records: fields one after the other, in one byte order.
 
-ghost use Rattle.std.specs.Prelude.{◌≡◌, ◌≤◌, ◌+◌, ℕ, List, length, drop, take, ◌++◌, ◌∷◌, [], IfOk, IfErr, OnOk, IsOk, IsErr, MatchOption, ◌↔◌, Ok, Err};
+ghost use Rattle.std.specs.Prelude.{◌≡◌, ◌≤◌, ◌+◌, ℕ, List, length, drop, take, ◌++◌, ◌∷◌, [], IfOk, IfErr, OnOk, IsOk, ◌↔◌, Ok, Err};
 ghost use Rattle.mach_base.specs.Number.{number_bytes};
 ghost use Rattle.mach_base.specs.Answer.{Reads};
 ghost use Rattle.mach_base.specs.Fault.{fault_of};
@@ -137,21 +137,6 @@ pub trait Record: Copy {
 
     // The size is that of the fields, no record is empty, and no other one has the same values.
     ghost lawful: { IsRecord SIZE fields values };
-
-    /// The record at a place, where it stands whole there.
-    #[inline(always)]
-    final fn quick(bytes: &[u8], offset: usize, le: Endian) -> Option<Self>
-        ensures { MatchOption result (IsErr (record_at le fields bytes.now offset)) (λ found. record_at le fields bytes.now offset ≡ Ok (values found)) }
-    {
-        if offset >= bytes.len() {
-            return None;
-        }
-        let rest = &bytes[offset..];
-        if rest.len() < Self::SIZE {
-            return None;
-        }
-        Some(Self::load(rest, le))
-    }
 
     /// The record at a place.
     #[inline(always)]

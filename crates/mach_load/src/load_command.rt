@@ -5,9 +5,9 @@ ghost use Rattle.mach_base.specs.Answer.{Reads};
 ghost use Rattle.mach_load.specs.Command.{command_at, cmdsize_of};
 ghost use Rattle.mach_load.specs.Variants.{command_of};
 
-use crate::variant::CommandVariant;
-use mach_base::{Endian, Error, Record, Result, TryFromCtx};
-use mach_records::LoadCommandHeader;
+use crate::variant::{CommandVariant, record};
+use mach_base::{Endian, Error, Record, Result, TryFromCtx, rest_at};
+use mach_records::{LC_THREAD, LC_UNIXTHREAD, LoadCommandHeader};
 
 /// A load command and where it stands.
 #[derive(Clone, Copy, Debug)]
@@ -47,12 +47,18 @@ impl LoadCommand {
         ensures stays { IfNone result (offset.new ≡ offset.old) }
     {
         let place = *offset;
-        let header = LoadCommandHeader::quick(bytes, place, le)?;
-        let left = bytes.len() - place;
-        if header.cmdsize as usize > left {
+        if place >= bytes.len() {
             return None;
         }
-        let command = CommandVariant::quick(bytes, place, le, header)?;
+        let rest = rest_at(bytes, place);
+        let header: LoadCommandHeader = record(rest, le)?;
+        if header.cmd == LC_THREAD || header.cmd == LC_UNIXTHREAD {
+            return None;
+        }
+        if header.cmdsize as usize > rest.len() {
+            return None;
+        }
+        let command = CommandVariant::quick(rest, le, header)?;
         *offset = place + header.cmdsize as usize;
         Some(LoadCommand {
             offset: place,

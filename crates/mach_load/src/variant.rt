@@ -31,64 +31,65 @@ use mach_records::{
     VersionMinCommand,
 };
 
-// The table of the commands but threads: `$read` reads the record that the number says, and `$found`
-// answers the command with it.
+// The table of the commands but threads: `$read` reads the record that the number says. Each arm is
+// the command, in `$found` where that is given: one wrapping of them all makes faster code, and one in
+// each arm a shorter proof.
 macro_rules! command_by_number {
-    ($header:ident, $found:ident, $read:path, $($at:ident),*) => {
+    ([$($found:ident)?] $header:ident, $read:path, $($at:ident),*) => {
         match $header.cmd {
-            LC_SEGMENT => $found(CommandVariant::Segment32($read($($at),*)?)),
-            LC_SYMTAB => $found(CommandVariant::Symtab($read($($at),*)?)),
-            LC_SYMSEG => $found(CommandVariant::Symseg($read($($at),*)?)),
-            LC_LOADFVMLIB => $found(CommandVariant::LoadFvmlib($read($($at),*)?)),
-            LC_IDFVMLIB => $found(CommandVariant::IdFvmlib($read($($at),*)?)),
-            LC_IDENT => $found(CommandVariant::Ident($read($($at),*)?)),
-            LC_FVMFILE => $found(CommandVariant::Fvmfile($read($($at),*)?)),
-            LC_PREPAGE => $found(CommandVariant::Prepage($header)),
-            LC_DYSYMTAB => $found(CommandVariant::Dysymtab($read($($at),*)?)),
-            LC_LOAD_DYLIB => $found(CommandVariant::LoadDylib($read($($at),*)?)),
-            LC_ID_DYLIB => $found(CommandVariant::IdDylib($read($($at),*)?)),
-            LC_LOAD_DYLINKER => $found(CommandVariant::LoadDylinker($read($($at),*)?)),
-            LC_ID_DYLINKER => $found(CommandVariant::IdDylinker($read($($at),*)?)),
-            LC_PREBOUND_DYLIB => $found(CommandVariant::PreboundDylib($read($($at),*)?)),
-            LC_ROUTINES => $found(CommandVariant::Routines32($read($($at),*)?)),
-            LC_SUB_FRAMEWORK => $found(CommandVariant::SubFramework($read($($at),*)?)),
-            LC_SUB_UMBRELLA => $found(CommandVariant::SubUmbrella($read($($at),*)?)),
-            LC_SUB_CLIENT => $found(CommandVariant::SubClient($read($($at),*)?)),
-            LC_SUB_LIBRARY => $found(CommandVariant::SubLibrary($read($($at),*)?)),
-            LC_TWOLEVEL_HINTS => $found(CommandVariant::TwolevelHints($read($($at),*)?)),
-            LC_PREBIND_CKSUM => $found(CommandVariant::PrebindCksum($read($($at),*)?)),
-            LC_SEGMENT_64 => $found(CommandVariant::Segment64($read($($at),*)?)),
-            LC_ROUTINES_64 => $found(CommandVariant::Routines64($read($($at),*)?)),
-            LC_UUID => $found(CommandVariant::Uuid($read($($at),*)?)),
-            LC_CODE_SIGNATURE => $found(CommandVariant::CodeSignature($read($($at),*)?)),
-            LC_SEGMENT_SPLIT_INFO => $found(CommandVariant::SegmentSplitInfo($read($($at),*)?)),
-            LC_LAZY_LOAD_DYLIB => $found(CommandVariant::LazyLoadDylib($read($($at),*)?)),
-            LC_ENCRYPTION_INFO => $found(CommandVariant::EncryptionInfo32($read($($at),*)?)),
-            LC_DYLD_INFO => $found(CommandVariant::DyldInfo($read($($at),*)?)),
-            LC_VERSION_MIN_MACOSX => $found(CommandVariant::VersionMinMacosx($read($($at),*)?)),
-            LC_VERSION_MIN_IPHONEOS => $found(CommandVariant::VersionMinIphoneos($read($($at),*)?)),
-            LC_FUNCTION_STARTS => $found(CommandVariant::FunctionStarts($read($($at),*)?)),
-            LC_DYLD_ENVIRONMENT => $found(CommandVariant::DyldEnvironment($read($($at),*)?)),
-            LC_DATA_IN_CODE => $found(CommandVariant::DataInCode($read($($at),*)?)),
-            LC_SOURCE_VERSION => $found(CommandVariant::SourceVersion($read($($at),*)?)),
-            LC_DYLIB_CODE_SIGN_DRS => $found(CommandVariant::DylibCodeSignDrs($read($($at),*)?)),
-            LC_ENCRYPTION_INFO_64 => $found(CommandVariant::EncryptionInfo64($read($($at),*)?)),
-            LC_LINKER_OPTION => $found(CommandVariant::LinkerOption($read($($at),*)?)),
-            LC_LINKER_OPTIMIZATION_HINT => $found(CommandVariant::LinkerOptimizationHint($read($($at),*)?)),
-            LC_VERSION_MIN_TVOS => $found(CommandVariant::VersionMinTvos($read($($at),*)?)),
-            LC_VERSION_MIN_WATCHOS => $found(CommandVariant::VersionMinWatchos($read($($at),*)?)),
-            LC_NOTE => $found(CommandVariant::Note($read($($at),*)?)),
-            LC_BUILD_VERSION => $found(CommandVariant::BuildVersion($read($($at),*)?)),
-            LC_LOAD_WEAK_DYLIB => $found(CommandVariant::LoadWeakDylib($read($($at),*)?)),
-            LC_RPATH => $found(CommandVariant::Rpath($read($($at),*)?)),
-            LC_REEXPORT_DYLIB => $found(CommandVariant::ReexportDylib($read($($at),*)?)),
-            LC_DYLD_INFO_ONLY => $found(CommandVariant::DyldInfoOnly($read($($at),*)?)),
-            LC_LOAD_UPWARD_DYLIB => $found(CommandVariant::LoadUpwardDylib($read($($at),*)?)),
-            LC_MAIN => $found(CommandVariant::Main($read($($at),*)?)),
-            LC_DYLD_EXPORTS_TRIE => $found(CommandVariant::DyldExportsTrie($read($($at),*)?)),
-            LC_DYLD_CHAINED_FIXUPS => $found(CommandVariant::DyldChainedFixups($read($($at),*)?)),
-            LC_FILESET_ENTRY => $found(CommandVariant::FilesetEntry($read($($at),*)?)),
-            _ => $found(CommandVariant::Unimplemented($header)),
+            LC_SEGMENT => $($found)?(CommandVariant::Segment32($read($($at),*)?)),
+            LC_SYMTAB => $($found)?(CommandVariant::Symtab($read($($at),*)?)),
+            LC_SYMSEG => $($found)?(CommandVariant::Symseg($read($($at),*)?)),
+            LC_LOADFVMLIB => $($found)?(CommandVariant::LoadFvmlib($read($($at),*)?)),
+            LC_IDFVMLIB => $($found)?(CommandVariant::IdFvmlib($read($($at),*)?)),
+            LC_IDENT => $($found)?(CommandVariant::Ident($read($($at),*)?)),
+            LC_FVMFILE => $($found)?(CommandVariant::Fvmfile($read($($at),*)?)),
+            LC_PREPAGE => $($found)?(CommandVariant::Prepage($header)),
+            LC_DYSYMTAB => $($found)?(CommandVariant::Dysymtab($read($($at),*)?)),
+            LC_LOAD_DYLIB => $($found)?(CommandVariant::LoadDylib($read($($at),*)?)),
+            LC_ID_DYLIB => $($found)?(CommandVariant::IdDylib($read($($at),*)?)),
+            LC_LOAD_DYLINKER => $($found)?(CommandVariant::LoadDylinker($read($($at),*)?)),
+            LC_ID_DYLINKER => $($found)?(CommandVariant::IdDylinker($read($($at),*)?)),
+            LC_PREBOUND_DYLIB => $($found)?(CommandVariant::PreboundDylib($read($($at),*)?)),
+            LC_ROUTINES => $($found)?(CommandVariant::Routines32($read($($at),*)?)),
+            LC_SUB_FRAMEWORK => $($found)?(CommandVariant::SubFramework($read($($at),*)?)),
+            LC_SUB_UMBRELLA => $($found)?(CommandVariant::SubUmbrella($read($($at),*)?)),
+            LC_SUB_CLIENT => $($found)?(CommandVariant::SubClient($read($($at),*)?)),
+            LC_SUB_LIBRARY => $($found)?(CommandVariant::SubLibrary($read($($at),*)?)),
+            LC_TWOLEVEL_HINTS => $($found)?(CommandVariant::TwolevelHints($read($($at),*)?)),
+            LC_PREBIND_CKSUM => $($found)?(CommandVariant::PrebindCksum($read($($at),*)?)),
+            LC_SEGMENT_64 => $($found)?(CommandVariant::Segment64($read($($at),*)?)),
+            LC_ROUTINES_64 => $($found)?(CommandVariant::Routines64($read($($at),*)?)),
+            LC_UUID => $($found)?(CommandVariant::Uuid($read($($at),*)?)),
+            LC_CODE_SIGNATURE => $($found)?(CommandVariant::CodeSignature($read($($at),*)?)),
+            LC_SEGMENT_SPLIT_INFO => $($found)?(CommandVariant::SegmentSplitInfo($read($($at),*)?)),
+            LC_LAZY_LOAD_DYLIB => $($found)?(CommandVariant::LazyLoadDylib($read($($at),*)?)),
+            LC_ENCRYPTION_INFO => $($found)?(CommandVariant::EncryptionInfo32($read($($at),*)?)),
+            LC_DYLD_INFO => $($found)?(CommandVariant::DyldInfo($read($($at),*)?)),
+            LC_VERSION_MIN_MACOSX => $($found)?(CommandVariant::VersionMinMacosx($read($($at),*)?)),
+            LC_VERSION_MIN_IPHONEOS => $($found)?(CommandVariant::VersionMinIphoneos($read($($at),*)?)),
+            LC_FUNCTION_STARTS => $($found)?(CommandVariant::FunctionStarts($read($($at),*)?)),
+            LC_DYLD_ENVIRONMENT => $($found)?(CommandVariant::DyldEnvironment($read($($at),*)?)),
+            LC_DATA_IN_CODE => $($found)?(CommandVariant::DataInCode($read($($at),*)?)),
+            LC_SOURCE_VERSION => $($found)?(CommandVariant::SourceVersion($read($($at),*)?)),
+            LC_DYLIB_CODE_SIGN_DRS => $($found)?(CommandVariant::DylibCodeSignDrs($read($($at),*)?)),
+            LC_ENCRYPTION_INFO_64 => $($found)?(CommandVariant::EncryptionInfo64($read($($at),*)?)),
+            LC_LINKER_OPTION => $($found)?(CommandVariant::LinkerOption($read($($at),*)?)),
+            LC_LINKER_OPTIMIZATION_HINT => $($found)?(CommandVariant::LinkerOptimizationHint($read($($at),*)?)),
+            LC_VERSION_MIN_TVOS => $($found)?(CommandVariant::VersionMinTvos($read($($at),*)?)),
+            LC_VERSION_MIN_WATCHOS => $($found)?(CommandVariant::VersionMinWatchos($read($($at),*)?)),
+            LC_NOTE => $($found)?(CommandVariant::Note($read($($at),*)?)),
+            LC_BUILD_VERSION => $($found)?(CommandVariant::BuildVersion($read($($at),*)?)),
+            LC_LOAD_WEAK_DYLIB => $($found)?(CommandVariant::LoadWeakDylib($read($($at),*)?)),
+            LC_RPATH => $($found)?(CommandVariant::Rpath($read($($at),*)?)),
+            LC_REEXPORT_DYLIB => $($found)?(CommandVariant::ReexportDylib($read($($at),*)?)),
+            LC_DYLD_INFO_ONLY => $($found)?(CommandVariant::DyldInfoOnly($read($($at),*)?)),
+            LC_LOAD_UPWARD_DYLIB => $($found)?(CommandVariant::LoadUpwardDylib($read($($at),*)?)),
+            LC_MAIN => $($found)?(CommandVariant::Main($read($($at),*)?)),
+            LC_DYLD_EXPORTS_TRIE => $($found)?(CommandVariant::DyldExportsTrie($read($($at),*)?)),
+            LC_DYLD_CHAINED_FIXUPS => $($found)?(CommandVariant::DyldChainedFixups($read($($at),*)?)),
+            LC_FILESET_ENTRY => $($found)?(CommandVariant::FilesetEntry($read($($at),*)?)),
+            _ => $($found)?(CommandVariant::Unimplemented($header)),
         }
     };
 }
@@ -299,24 +300,28 @@ impl CommandVariant {
             LC_UNIXTHREAD => Ok(CommandVariant::Unixthread(ThreadCommand::read(
                 bytes, offset, le,
             )?)),
-            _ => command_by_number!(header, Ok, Record::read, bytes, offset, le),
+            _ => command_by_number!([Ok] header, Record::read, bytes, offset, le),
         }
     }
 
-    /// The same, unless it is a thread or refused.
+    /// The same, of the command at the front of some bytes, unless it is refused.
     #[inline(always)]
-    pub(crate) fn quick(
-        bytes: &[u8],
-        offset: usize,
-        le: Endian,
-        header: LoadCommandHeader,
-    ) -> Option<Self>
-        requires { record_at le header_fields bytes.now offset ≡ Ok (header_values header) }
-        ensures { IfSome result (λ v. command_by (row_of header.cmd) le bytes.now offset ≡ Ok (command_of (record { offset = offset; command = v }))) }
+    pub(crate) fn quick(rest: &[u8], le: Endian, header: LoadCommandHeader) -> Option<Self>
+        requires here { record_at le header_fields rest.now 0 ≡ Ok (header_values header) }
+        requires no_thread { (4 ≡ header.cmd → ⊥) × (5 ≡ header.cmd → ⊥) }
+        ensures { IfSome result (λ v. command_by (row_of header.cmd) le rest.now 0 ≡ Ok (command_of (record { offset = 0; command = v }))) }
     {
-        match header.cmd {
-            LC_THREAD | LC_UNIXTHREAD => None,
-            _ => command_by_number!(header, Some, Record::quick, bytes, offset, le),
-        }
+        Some(command_by_number!([] header, record, rest, le))
     }
+}
+
+/// The record at the front of the bytes, where they hold one.
+#[inline(always)]
+pub(crate) fn record<R: Record>(rest: &[u8], le: Endian) -> Option<R>
+    ensures { IfSome result (λ found. record_at le R.fields rest.now 0 ≡ Ok (R.values found)) }
+{
+    if rest.len() < R::SIZE {
+        return None;
+    }
+    Some(R::load(rest, le))
 }

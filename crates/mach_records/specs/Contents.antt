@@ -1,7 +1,7 @@
 -- What else an image says of itself (`mach-o/loader.h`).
 -- Of each record: its fields, from the first, and what they hold.
 use Rattle.std.specs.Prelude.{List, [], ◌∷◌}
-use Rattle.mach_base.specs.Record.{Field, num, arr, Value, number_is, bytes_are, number_among, bytes_among}
+use Rattle.mach_base.specs.Record.{Field, num, arr, Value, number_is, bytes_are}
 use Rattle.mach_records.specs.declared.contents.UuidCommand.{UuidCommand}
 use Rattle.mach_records.specs.declared.contents.EntryPointCommand.{EntryPointCommand}
 use Rattle.mach_records.specs.declared.contents.FilesetEntryCommand.{FilesetEntryCommand}

@@ -1,7 +1,7 @@
 -- Libraries that an image is or uses (`mach-o/loader.h`).
 -- Of each record: its fields, from the first, and what they hold.
 use Rattle.std.specs.Prelude.{List, [], ◌∷◌}
-use Rattle.mach_base.specs.Record.{Field, num, Value, number_is, number_among}
+use Rattle.mach_base.specs.Record.{Field, num, Value, number_is}
 use Rattle.mach_records.specs.declared.libraries.Dylib.{Dylib}
 use Rattle.mach_records.specs.declared.libraries.DylibCommand.{DylibCommand}
 use Rattle.mach_records.specs.declared.libraries.PreboundDylibCommand.{PreboundDylibCommand}

@@ -1,7 +1,7 @@
 -- What stands in the link-edit segment, and what is encrypted (`mach-o/loader.h`).
 -- Of each record: its fields, from the first, and what they hold.
 use Rattle.std.specs.Prelude.{List, [], ◌∷◌}
-use Rattle.mach_base.specs.Record.{Field, num, Value, number_is, number_among}
+use Rattle.mach_base.specs.Record.{Field, num, Value, number_is}
 use Rattle.mach_records.specs.declared.linkedit.LinkeditDataCommand.{LinkeditDataCommand}
 use Rattle.mach_records.specs.declared.linkedit.DyldInfoCommand.{DyldInfoCommand}
 use Rattle.mach_records.specs.declared.linkedit.DataInCodeEntry.{DataInCodeEntry}

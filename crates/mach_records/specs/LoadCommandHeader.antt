@@ -2,7 +2,7 @@
 -- it.
 use Rattle.std.specs.Prelude.{ℕ, List, [], ◌∷◌, ◌++◌, codes}
 use Rattle.std.specs.Fmt.{decimal}
-use Rattle.mach_base.specs.Record.{Field, num, Value, number_is, number_among}
+use Rattle.mach_base.specs.Record.{Field, num, Value, number_is}
 use Rattle.mach_records.specs.CommandName.{command_name}
 use Rattle.mach_records.specs.declared.load_command_header.LoadCommandHeader.{LoadCommandHeader}
 

@@ -1,7 +1,7 @@
 -- Tables of a dynamic library that is made of modules (`mach-o/loader.h`).
 -- Of each record: its fields, from the first, and what they hold.
 use Rattle.std.specs.Prelude.{List, [], ◌∷◌}
-use Rattle.mach_base.specs.Record.{Field, num, arr, Value, number_is, bytes_are, number_among, bytes_among}
+use Rattle.mach_base.specs.Record.{Field, num, arr, Value, number_is, bytes_are}
 use Rattle.mach_records.specs.declared.modules.DylibTableOfContents.{DylibTableOfContents}
 use Rattle.mach_records.specs.declared.modules.DylibModule.{DylibModule}
 use Rattle.mach_records.specs.declared.modules.DylibModule64.{DylibModule64}

@@ -1,7 +1,7 @@
 -- The symbol table, and the tables that order it (`mach-o/loader.h`).
 -- Of each record: its fields, from the first, and what they hold.
 use Rattle.std.specs.Prelude.{List, [], ◌∷◌}
-use Rattle.mach_base.specs.Record.{Field, num, arr, Value, number_is, bytes_are, number_among, bytes_among}
+use Rattle.mach_base.specs.Record.{Field, num, arr, Value, number_is, bytes_are, number_among}
 use Rattle.mach_records.specs.declared.command_name.TheConstants.{LC_SYMTAB, LC_DYSYMTAB}
 use Rattle.mach_records.specs.declared.symbol_tables.TheConstants.{SIZEOF_SYMTAB_COMMAND, SIZEOF_DYSYMTAB_COMMAND}
 use Rattle.mach_records.specs.declared.symbol_tables.SymtabCommand.{SymtabCommand}

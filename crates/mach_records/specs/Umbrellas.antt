@@ -1,7 +1,7 @@
 -- Frameworks and libraries that stand for others (`mach-o/loader.h`).
 -- Of each record: its fields, from the first, and what they hold.
 use Rattle.std.specs.Prelude.{List, [], ◌∷◌}
-use Rattle.mach_base.specs.Record.{Field, num, Value, number_is, number_among}
+use Rattle.mach_base.specs.Record.{Field, num, Value, number_is}
 use Rattle.mach_records.specs.declared.umbrellas.SubFrameworkCommand.{SubFrameworkCommand}
 use Rattle.mach_records.specs.declared.umbrellas.SubClientCommand.{SubClientCommand}
 use Rattle.mach_records.specs.declared.umbrellas.SubUmbrellaCommand.{SubUmbrellaCommand}

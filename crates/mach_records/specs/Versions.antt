@@ -1,7 +1,7 @@
 -- What an image was built for, and with (`mach-o/loader.h`).
 -- Of each record: its fields, from the first, and what they hold.
 use Rattle.std.specs.Prelude.{List, [], ◌∷◌}
-use Rattle.mach_base.specs.Record.{Field, num, Value, number_is, number_among}
+use Rattle.mach_base.specs.Record.{Field, num, Value, number_is}
 use Rattle.mach_records.specs.declared.versions.VersionMinCommand.{VersionMinCommand}
 use Rattle.mach_records.specs.declared.versions.BuildVersionCommand.{BuildVersionCommand}
 use Rattle.mach_records.specs.declared.versions.BuildToolVersion.{BuildToolVersion}
