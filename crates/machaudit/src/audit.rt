@@ -11,17 +11,15 @@ ghost use Rattle.mach_parts.specs.SectionItems.{sections_left};
 ghost use Rattle.mach_parts.specs.Segment.{segment_view, sections_of};
 ghost use Rattle.mach_parts.specs.Segments.{segments_in};
 ghost use Rattle.goblin_mach.specs.FatEntry.{entry_at};
-ghost use Rattle.goblin_mach.specs.FatViews.{file_held};
-ghost use Rattle.goblin_mach.specs.ImageBinds.{ListsImageImports};
-ghost use Rattle.goblin_mach.specs.ImageTrie.{ListsImageExports};
+ghost use Rattle.goblin_mach.specs.FatFile.{file_held};
 ghost use Rattle.goblin_mach.specs.OpenImage.{IsImage, bytes_held, ctx_held, segments_held, trie_held, binds_held};
 ghost use Rattle.goblin_mach.specs.Relocations.{relocated_sections_in};
-ghost use Rattle.goblin_mach.specs.Tables.{symbols_held};
+ghost use Rattle.goblin_mach.specs.Subjects.{ListsImageExports, ListsImageImports, symbols_held};
 ghost use Rattle.machaudit.specs.Sound.{IsSound, IsSoundFat, IsSoundEntry, IsSoundImage, all_read, all_relocated};
 
 use crate::report::{Failure, Place, print_fault, print_part};
 use goblin_mach::segment::{RelocationIterator, SectionIterator, Segment};
-use goblin_mach::{Error, Mach, MachO, MultiArch, SingleArch};
+use goblin_mach::{Error, Mach, MachO, MultiArch, SingleArch, laws};
 use std::alloc::Allocator;
 use std::io::Write;
 
@@ -116,7 +114,8 @@ fn audit_relocations<A: Allocator, B: Allocator, O: Write>(
     };
     let mut faults = 0usize;
     for (number, relocations, _) in sections.as_slice() {
-        faults = faults.saturating_add(audit_section(*number, *relocations, out)?);
+        let relocations = relocations.clone()?;
+        faults = faults.saturating_add(audit_section(*number, relocations, out)?);
     }
     print_part("relocations", faults, out)
 }
@@ -188,6 +187,10 @@ fn audit_image<A: Allocator, B: Allocator + Clone, O: Write>(
     let binds = audit_binds(alloc.clone()?, image, out)?;
     let read = data.saturating_add(sections).saturating_add(relocations);
     let listed = symbols.saturating_add(trie).saturating_add(binds);
+    laws::links_of_image(image);
+    laws::segments_of_image(image);
+    laws::relocations_of_image(image);
+    laws::symbols_of_image(image);
     Ok(read.saturating_add(listed))
 }
 

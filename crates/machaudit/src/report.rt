@@ -2,7 +2,7 @@
 
 ghost use Rattle.std.specs.Prelude.{◌≡◌, IfOk};
 
-use goblin_mach::{Error, ScrollError};
+use goblin_mach::{Error, describe};
 use std::alloc::AllocError;
 use std::io::Write;
 use std::{fmt, io};
@@ -25,28 +25,6 @@ impl From<AllocError> for Failure {
 impl From<io::Error> for Failure {
     fn from(_error: io::Error) -> Failure {
         Failure::Unwritten
-    }
-}
-
-// An error in words.
-#[derive(Clone, Copy)]
-struct Words<'a>(&'a Error);
-
-impl<'a> fmt::Display for Words<'a> {
-    fn fmt<W: fmt::Write>(&self, f: &mut fmt::Formatter<W>) -> fmt::Result {
-        match self.0 {
-            Error::Malformed(rule) => write!(f, "malformed: {rule}"),
-            Error::BadMagic(magic) => write!(f, "bad magic {magic:#x}"),
-            Error::Scroll(ScrollError::BadOffset(place)) => {
-                write!(f, "nothing stands at {place:#x}")
-            }
-            Error::Scroll(ScrollError::TooBig { size, len }) => {
-                write!(f, "{size} bytes are asked for and {len} are left")
-            }
-            Error::Scroll(ScrollError::BadInput { msg, .. }) => write!(f, "bad bytes: {msg}"),
-            Error::BufferTooShort(count, what) => write!(f, "no room for {count} {what}"),
-            Error::Memory(_) => write!(f, "out of memory"),
-        }
     }
 }
 
@@ -100,7 +78,7 @@ pub fn print_fault<O: Write>(place: Place, error: &Error, out: &mut O) -> Result
     if let Error::Memory(_) = error {
         return Err(Failure::Memory);
     }
-    writeln!(out, "  {place}: {}", Words(error))?;
+    writeln!(out, "  {place}: {}", describe(error))?;
     Ok(1)
 }
 

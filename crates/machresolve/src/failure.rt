@@ -2,7 +2,7 @@
 
 ghost use Rattle.std.specs.Prelude.{◌≤◌};
 
-use goblin_mach::{Error, ScrollError};
+use goblin_mach::{Error, describe};
 use std::alloc::{AllocError, AllocFailed};
 use std::{fmt, io};
 
@@ -58,32 +58,10 @@ impl From<io::Error> for Failure {
 impl fmt::Display for Failure {
     fn fmt<W: fmt::Write>(&self, f: &mut fmt::Formatter<W>) -> fmt::Result {
         match self {
-            Failure::Refused { file: 0, error } => write!(f, "the program: {}", Words(error)),
-            Failure::Refused { file, error } => write!(f, "library {file}: {}", Words(error)),
+            Failure::Refused { file: 0, error } => write!(f, "the program: {}", describe(error)),
+            Failure::Refused { file, error } => write!(f, "library {file}: {}", describe(error)),
             Failure::Memory => write!(f, "out of memory"),
             Failure::Unwritten => write!(f, "cannot write"),
-        }
-    }
-}
-
-// An error in words.
-#[derive(Clone, Copy)]
-struct Words<'a>(&'a Error);
-
-impl<'a> fmt::Display for Words<'a> {
-    fn fmt<W: fmt::Write>(&self, f: &mut fmt::Formatter<W>) -> fmt::Result {
-        match self.0 {
-            Error::Malformed(rule) => write!(f, "malformed: {rule}"),
-            Error::BadMagic(magic) => write!(f, "bad magic {magic:#x}"),
-            Error::Scroll(ScrollError::BadOffset(place)) => {
-                write!(f, "nothing stands at {place:#x}")
-            }
-            Error::Scroll(ScrollError::TooBig { size, len }) => {
-                write!(f, "{size} bytes are asked for and {len} are left")
-            }
-            Error::Scroll(ScrollError::BadInput { msg, .. }) => write!(f, "bad bytes: {msg}"),
-            Error::BufferTooShort(count, what) => write!(f, "no room for {count} {what}"),
-            Error::Memory(_) => write!(f, "out of memory"),
         }
     }
 }

@@ -1,4 +1,4 @@
-use Rattle.goblin_mach.specs.FatViews.{file_held}
+use Rattle.goblin_mach.specs.FatFile.{file_held}
 use Rattle.machaudit.specs.Sound.{fat_file}
 use Rattle.machaudit.proofs.audit.audit.Goals as goal
 

@@ -1,6 +1,6 @@
 use Rattle.std.proofs.Common.{◌≡◌, ◌<◌, ℕ}
 use Rattle.goblin_mach.specs.FatEntry.{entry_at}
-use Rattle.goblin_mach.specs.FatViews.{file_held}
+use Rattle.goblin_mach.specs.FatFile.{file_held}
 use Rattle.machaudit.specs.Sound.{IsSoundEntry}
 use Rattle.machaudit.proofs.audit.audit_fat.Given as goal
 

@@ -1,6 +1,6 @@
 use Rattle.std.proofs.Common.{◌≡◌, ◌<◌}
 use Rattle.mach_parts.specs.SymbolViews.{symbols_left}
-use Rattle.goblin_mach.specs.Tables.{symbols_held}
+use Rattle.goblin_mach.specs.Subjects.{symbols_held}
 use Rattle.machaudit.specs.Sound.{all_read}
 use Rattle.machaudit.proofs.audit.audit_symbols.Given as goal
 
