@@ -1,7 +1,7 @@
 //! What the program prints of some bytes, and its exit status.
 
 ghost use Rattle.std.specs.Prelude.{◌≡◌, ◌≤◌, ◌↔◌, OnOk, codes};
-ghost use Rattle.goblin_mach.specs.Image.{MachOpens};
+ghost use Rattle.goblin_mach.specs.Image.{Opens, MachOpens};
 
 use goblin_mach::exports::Export;
 use goblin_mach::imports::Import;
@@ -49,7 +49,7 @@ pub fn run<A: Allocator + Clone, O: Write, E: Write>(
     err: &mut E,
 ) -> u8
     ensures status { result ≤ 2 }
-    ensures printed { result ≡ 0 → MachOpens bytes.now }
+    ensures printed { result ≡ 0 → MachOpens Opens bytes.now }
 {
     match print(alloc, word, bytes, out) {
         Ok(true) => 0,
@@ -94,7 +94,7 @@ fn print<A: Allocator + Clone, O: Write>(
     bytes: &[u8],
     out: &mut O,
 ) -> Result<bool, Failure>
-    ensures { OnOk result (MachOpens bytes.now) }
+    ensures { OnOk result (MachOpens Opens bytes.now) }
 {
     match Mach::parse(alloc.clone()?, bytes)? {
         Mach::Binary(image) => {
