@@ -1,7 +1,7 @@
 //! The calls that are timed, and what a run of each is.
 
 ghost use Rattle.std.specs.Prelude.{◌≡◌, ◌+◌, ◌%◌, ◌^◌, length, OnOk};
-ghost use Rattle.goblin_mach.specs.Image.{MachOpens};
+ghost use Rattle.goblin_mach.specs.Image.{Opens, MachOpens};
 
 use goblin_mach::exports::Export;
 use goblin_mach::imports::Import;
@@ -102,7 +102,7 @@ impl<'a> Subject<'a> {
     /// The file of these bytes, with its images. Of a fat file those entries are left out that are
     /// no image or don't open.
     pub fn open(alloc: Global, bytes: &'a [u8]) -> Result<Subject<'a>>
-        ensures { OnOk result (MachOpens bytes.now) }
+        ensures { OnOk result (MachOpens Opens bytes.now) }
     {
         let mut images = Vec::new(alloc);
         match Mach::parse(alloc, bytes)? {

@@ -75,17 +75,19 @@ fn tries(rt: HostRuntime) -> Result<(), Fail> {
     Ok(())
 }
 
+// A bind of segment 0 repeated 2^64 - 1 times.
+const OF_ALL: [u8; 15] = [
+    0x11, 0x70, 0, 0xc0, 255, 255, 255, 255, 255, 255, 255, 255, 255, 1, 0,
+];
+
 // A count of 2^64 - 1 asks for more room than there is; of a segment of 4,096 bytes 512 binds come first.
 #[test]
 fn binds(rt: HostRuntime) -> Result<(), Fail> {
-    let bytes = [
-        0x11, 0x70, 0, 0xc0, 255, 255, 255, 255, 255, 255, 255, 255, 255, 1, 0,
-    ];
     let command = DyldInfoCommand {
         bind_size: 15,
         ..DyldInfoCommand::default()
     };
-    let binds = BindInterpreter::new(&bytes, &command);
+    let binds = BindInterpreter::new(&OF_ALL, &command);
     let answer = binds.imports(rt.alloc(), &["self", "L"], &[page()], Ctx::default());
     assert!(rt; matches!(answer, Err(Error::Memory(_) | Error::Malformed(_))));
     let segments = [page()];
