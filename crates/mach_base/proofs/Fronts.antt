@@ -16,6 +16,11 @@ rest_from-ok bytes rest s e = elim (cases_lt s (length bytes)) [
   | inr out ↦ absurd (let test : nat_le (length bytes) s ≡ true = le-leb (length bytes) s out in let wrong = rw test at e in cc)
 ]
 
+pub rest_from-inside : (bytes rest : List ℕ) (s : ℕ) → s < length bytes → rest ≡ drop s bytes → rest_from bytes s ≡ Ok rest
+rest_from-inside bytes rest s inside is =
+    let test : nat_le (length bytes) s ≡ false = lt-leb (length bytes) s inside in
+    rw (test, is) refl
+
 -- how many they are
 pub length-rest_from : (bytes rest : List ℕ) (s : ℕ) → rest_from bytes s ≡ Ok rest → length bytes - s ≡ length rest
 length-rest_from bytes rest s e = sym (ap length (rest_from-ok bytes rest s e).1 ∙ length-drop s bytes)

@@ -1,5 +1,6 @@
 -- Runs without a zero byte, and texts.
-use Rattle.std.proofs.Common.{◌≡◌, ℕ, Bool, true, false, List, length, Option, Some, None, Ok, Err, nat_le, refl, sym, ap, ◌∙◌, arith, unwrap_or}
+use Rattle.std.proofs.Common.{◌≡◌, ℕ, Bool, true, false, List, length, Option, Some, None, Ok, Err, IsErr, MatchOption, nat_le, refl, sym, ap, ◌∙◌, arith, unwrap_or}
+use denote.Bor.{Bor}
 use Rattle.std.proofs.lemmas.Bool.{lt-leb}
 use Rattle.std.proofs.lemmas.List.Sums.{position_or_len_is}
 use Rattle.std.proofs.lemmas.Str.{IsUtf8-from_is_utf8, is_utf8-from_IsUtf8}
@@ -42,3 +43,9 @@ bad_text bytes rest s run e is u =
     let test : nat_le (length bytes) s ≡ false = lt-leb (length bytes) s inside.0 in
     let same : run ≡ run_at bytes s = is ∙ ap (before_first is_zero) inside.1 in
     let bad = not_utf8_by run (is_utf8 run) refl u in rw (test, ← same, bad, length-rest_from bytes rest s e) refl
+
+-- what a text is read as, or why it isn't
+pub text_found : (bytes rest : List ℕ) (s : ℕ) (run : List ℕ) (r : Option (Bor (List ℕ))) → rest_from bytes s ≡ Ok rest → run ≡ before_first is_zero rest → MatchOption r (¬ IsUtf8 run) (λ text. (text.now ≡ run) × IsUtf8 run)
+    → MatchOption r (IsErr (text_at bytes s)) (λ text. text_at bytes s ≡ Ok text.now)
+text_found bytes rest s run None e is bad = rw (bad_text bytes rest s run e is bad) refl
+text_found bytes rest s run (Some text) e is good = rw good.0 (good_text bytes rest s run e is good.1)

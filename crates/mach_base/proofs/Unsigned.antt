@@ -1,5 +1,5 @@
 -- ULEB128: the definition by groups and the relation say the same.
-use Rattle.std.proofs.Common.{◌≡◌, ℕ, ◌+◌, ◌<◌, ◌≤◌, true, List, length, drop, take, get_or, slice_index, Ok, Err, nat_le, inl, inr, refl, sym, ap, subst, ◌∙◌, arith}
+use Rattle.std.proofs.Common.{◌≡◌, ℕ, ◌+◌, ◌<◌, ◌≤◌, true, List, [], ◌∷◌, length, drop, take, get_or, slice_index, Ok, Err, IsErr, nat_le, inl, inr, refl, sym, ap, subst, ◌∙◌, arith}
 use Rattle.std.proofs.lemmas.Bool.{cases_lt, le-leb, leb-true, and_from, and_parts}
 use Rattle.std.proofs.lemmas.List.{length-take, length-take-le, get_or-take, get_or_past}
 use Rattle.mach_base.specs.Fault.{bad_input}
@@ -74,3 +74,21 @@ Spells-from_read bytes s n after e =
     let read = leb_at-read is_short groups_value bytes s n after e in
     let g = read.0 in
     (g, record { here = read.1; uleb = subst (IsUleb g) read.4 (IsUleb-from_short g read.2 read.3) }, sym read.5)
+
+groups_some : (spelled : List ℕ) → IsGroups spelled → 0 < length spelled
+groups_some [] h = absurd h
+groups_some (b ∷ bs) h = omega arith
+
+-- a number ends behind its place
+pub uleb_at-moves : (bytes : List ℕ) (s n after : ℕ) → uleb_at bytes s ≡ Ok (n, after) → s < after
+uleb_at-moves bytes s n after e =
+    let read = Spells-from_read bytes s n after e in
+    let some = groups_some read.0 read.1.uleb.groups in
+    omega (arith, read.2)
+
+-- none stands past the end
+pub uleb_at-outside : (bytes : List ℕ) (s : ℕ) → length bytes ≤ s → IsErr (uleb_at bytes s)
+unfolding uleb_at
+uleb_at-outside bytes s out =
+    let test : nat_le (length bytes) s ≡ true = le-leb (length bytes) s out in
+    rw test refl

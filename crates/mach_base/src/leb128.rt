@@ -1,12 +1,12 @@
 //! LEB128: numbers in groups of seven bits, the lowest first.
 
-ghost use Rattle.std.specs.Prelude.{◌≡◌, ◌<◌, ◌≤◌, ◌+◌, ◌^◌, ◌-ℤ◌, ℕ, ℤ, pos, length, take, IfOk, IfSome, IfNone, OnErr, if◌then◌else◌};
+ghost use Rattle.std.specs.Prelude.{◌≡◌, ◌<◌, ◌≤◌, ◌+◌, ◌^◌, ◌-ℤ◌, ℕ, ℤ, pos, length, take, Ok, IfOk, IfSome, IfNone, OnErr, IsErr, MatchOption, if◌then◌else◌};
 ghost use Rattle.mach_base.specs.Leb128.{IsUleb, IsSleb, uleb_at, sleb_at, uleb_number, uleb_size, sleb_number, sleb_size};
 ghost use Rattle.mach_base.specs.FrontGroups.{GoOn, AreFront};
 ghost use Rattle.mach_base.specs.Answer.{Reads};
 
 use crate::error::{Error, Result, ScrollError};
-use crate::numbers::try_rest_at;
+use crate::numbers::{rest_at, try_rest_at};
 
 /// A number without a sign, and how many bytes spell it.
 #[derive(Clone, Copy, Debug, PartialEq)]
@@ -174,6 +174,39 @@ fn uleb_front(bytes: &[u8]) -> Option<(u64, usize)>
     Some((groups.value + u64::from(bytes[9]) * groups.weight, 10))
 }
 
+// The number with which the bytes begin, and how many bytes spell it, where they are at most four.
+#[inline(always)]
+fn short_front(bytes: &[u8]) -> Option<(u64, usize)>
+    ensures found { IfSome result (λ found. IsUleb (take found.1 bytes.now) found.0) }
+    ensures within { IfSome result (λ found. found.1 ≤ length bytes.now) }
+{
+    if bytes.is_empty() {
+        return None;
+    }
+    let one = u64::from(bytes[0] % 128);
+    if bytes[0] < 128 {
+        return Some((one, 1));
+    }
+    if bytes.len() < 2 {
+        return None;
+    }
+    let two = one + u64::from(bytes[1] % 128) * 128;
+    if bytes[1] < 128 {
+        return Some((two, 2));
+    }
+    if bytes.len() < 3 {
+        return None;
+    }
+    let three = two + u64::from(bytes[2] % 128) * 16_384;
+    if bytes[2] < 128 {
+        return Some((three, 3));
+    }
+    if bytes.len() < 4 || bytes[3] >= 128 {
+        return None;
+    }
+    Some((three + u64::from(bytes[3]) * 2_097_152, 4))
+}
+
 // The signed number with which the bytes begin, and how many bytes spell it.
 fn sleb_front(bytes: &[u8]) -> Option<(i64, usize)>
     ensures found { IfSome result (λ found. IsSleb (take found.1 bytes.now) found.0) }
@@ -209,6 +242,42 @@ pub fn uleb(bytes: &[u8], place: usize) -> Result<(u64, usize)>
             msg: "a ULEB128 number has at most ten bytes",
         })),
     }
+}
+
+// What `uleb` finds, or 0 as the place after it: two numbers, which are handed over in registers.
+#[cold]
+#[inline(never)]
+fn long_uleb(bytes: &[u8], place: usize) -> (u64, usize)
+    ensures found { 0 < result.1 → uleb_at bytes.now place ≡ Ok result }
+    ensures after { 0 < result.1 → place < result.1 }
+    ensures within { result.1 ≤ length bytes.now }
+    ensures none { result.1 ≡ 0 → IsErr (uleb_at bytes.now place) }
+{
+    match uleb(bytes, place) {
+        Ok(found) => found,
+        Err(_) => (0, 0),
+    }
+}
+
+/// The ULEB128 number at a place, and the place after it, wherever `uleb` finds one: a number of at
+/// most four bytes with no call.
+#[inline(always)]
+pub fn quick_uleb(bytes: &[u8], place: usize) -> Option<(u64, usize)>
+    ensures value { MatchOption result (IsErr (uleb_at bytes.now place)) (λ found. uleb_at bytes.now place ≡ Ok found) }
+    ensures after { IfSome result (λ found. place < found.1) }
+    ensures within { IfSome result (λ found. found.1 ≤ length bytes.now) }
+{
+    if place >= bytes.len() {
+        return None;
+    }
+    if let Some((value, len)) = short_front(rest_at(bytes, place)) {
+        return Some((value, place + len));
+    }
+    let (value, after) = long_uleb(bytes, place);
+    if after == 0 {
+        return None;
+    }
+    Some((value, after))
 }
 
 /// The SLEB128 number at a place, and the place after its one to ten bytes.

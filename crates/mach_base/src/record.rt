@@ -148,6 +148,7 @@ pub trait Record: Copy {
     ghost not_empty: { 0 < SIZE };
 
     /// The record at a place.
+    #[inline(always)]
     final fn read(bytes: &[u8], offset: usize, le: Endian) -> Result<Self>
         ensures { Reads values result (record_at le fields bytes.now offset) }
     {

@@ -105,6 +105,9 @@ fn uleb128_vectors(rt: HostRuntime) -> Result<()> {
     for (bytes, want, after) in [
         (&[0xe5, 0x8e, 0x26][..], 624_485, 3),
         (&[0x7f, 0x80], 127, 1),
+        (&[0x80, 0x01], 128, 2),
+        (&[0xff, 0xff, 0xff, 0x7f], 268_435_455, 4),
+        (&[0x80, 0x80, 0x80, 0x80, 0x01, 0x00], 268_435_456, 5),
         (
             &[0x80, 0x80, 0x80, 0x80, 0x80, 0x80, 0x80, 0x80, 0x80, 0x00],
             0,
@@ -119,6 +122,7 @@ fn uleb128_vectors(rt: HostRuntime) -> Result<()> {
         let mut offset = 0;
         let value = Uleb128::read(bytes, &mut offset)?;
         assert_eq!(rt; (value, offset), (want, after));
+        assert_eq!(rt; quick_uleb(bytes, 0), Some((want, after)));
         let spelled = Uleb128::parse(bytes, 0)?;
         assert_eq!(rt; u64::from(spelled), want);
         assert_eq!(rt; spelled.size(), after);
@@ -176,6 +180,7 @@ fn leb128_refusals(rt: HostRuntime) {
             Uleb128::read(bytes, &mut offset).map_err(kind_of),
             Err(want)
         );
+        assert_eq!(rt; quick_uleb(bytes, 0), None);
         assert_eq!(rt;
             Sleb128::read(bytes, &mut offset).map_err(kind_of),
             Err(want)
@@ -188,6 +193,11 @@ fn leb128_refusals(rt: HostRuntime) {
 fn texts(rt: HostRuntime) -> Result<()> {
     assert_eq!(rt; read_text(b"ab", 0)?, "ab");
     assert_eq!(rt; read_text(b"ab\0c", 1)?, "b");
+    assert_eq!(rt; read_text(&[0xc3, 0xa9, 0], 0)?, "é");
+    assert_eq!(rt; quick_text(b"ab\0c", 0), Some("ab"));
+    assert_eq!(rt; quick_text(&[0xc3, 0xa9, 0], 0), Some("é"));
+    assert_eq!(rt; quick_text(&[0xff, 0], 0), None);
+    assert_eq!(rt; quick_text(b"ab", 2), None);
     assert_eq!(rt;
         read_text(b"ab", 2).map(str::len).map_err(kind_of),
         Err(Kind::BadOffset(2))
