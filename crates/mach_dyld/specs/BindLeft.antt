@@ -3,7 +3,7 @@
 use Rattle.std.specs.Prelude.{◌≡◌, ◌+◌, ◌-◌, ◌%◌, ◌^◌, ◌<◌, ◌≤◌, ℕ, zero, suc, pos, List, [], ◌∷◌, ◌++◌, map, length, Bool, true, false, Option, Some, None, Result, Ok, Err, IsErr, nat_lt, if◌then◌else◌}
 use Rattle.mach_base.specs.declared.error.Error.{Error}
 use Rattle.mach_base.specs.Answer.{◌>>=◌}
-use Rattle.mach_base.specs.Fault.{Fault, fault_of}
+use Rattle.mach_base.specs.Fault.{Fault, malformed, fault_of}
 use Rattle.mach_dyld.specs.Instructions as instructions
 use Rattle.mach_dyld.specs.Instructions.{done, library, symbol, addend, segment, advance, binds, nothing, byte_at, instruction_at}
 use Rattle.mach_dyld.specs.Streams.{Input, Range, Placed}
@@ -190,6 +190,12 @@ pub record IsUnreadable (it : BindIterator) (byte : ℕ) : Type 0 where
   pub within : it.state.place < it.state.upto
   pub fault : IsErr (instruction_at it.source.pointer it.source.bytes.now it.state.place)
   pub opcode : it.state.place < length it.source.bytes.now → byte_at it.source.bytes.now it.state.place ≡ Ok byte
+
+-- the bind that comes now has no import
+pub record HasNoImport (it : BindIterator) : Type 0 where
+  pub count : 0 < it.state.count
+  pub on : it.state.ended ≡ false
+  pub none : import_of (input_of it.source) (bind_of it.state.settings) ≡ Err malformed
 
 -- both streams are at their end
 pub record IsAtEnd (it : BindIterator) : Type 0 where

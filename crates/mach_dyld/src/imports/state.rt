@@ -1,6 +1,6 @@
 //! How far the reading of a stream has come.
 
-ghost use Rattle.std.specs.Prelude.{◌≡◌, ◌+◌, ◌≤◌, ◌%◌, ◌^◌, length, Ok, IsErr, IfNone, MatchOption};
+ghost use Rattle.std.specs.Prelude.{◌≡◌, ◌+◌, ◌≤◌, ◌%◌, ◌^◌, length, Ok, IsErr, false, IfNone, MatchOption};
 ghost use Rattle.mach_dyld.specs.Instructions.{row_at};
 ghost use Rattle.mach_dyld.specs.BindLeft.{start_of, executed_by, state_of};
 
@@ -25,8 +25,9 @@ pub struct State<'a> {
 impl<'a> State<'a> {
     /// The state where a range begins.
     pub fn start(from: usize, upto: usize, is_lazy: bool) -> Self
-        ensures { state_of result
+        ensures state { state_of result
             ≡ start_of (record { from = from; upto = upto; is_lazy = is_lazy }) }
+        ensures on { result.ended ≡ false }
     {
         State {
             from,
