@@ -1,14 +1,14 @@
 -- A range that is cut behind a DONE.
-use Rattle.std.proofs.Common.{◌≡◌, ℕ, ◌+◌, ◌-◌, ◌*◌, ◌%◌, ◌^◌, ◌<◌, ◌≤◌, List, [], ◌∷◌, ◌++◌, map, Bool, true, false, Option, Some, None, Result, Ok, Err, refl, sym, ap, subst, ◌∙◌, arith, append_assoc, zero-add}
+use Rattle.std.proofs.Common.{◌≡◌, ℕ, ◌+◌, ◌-◌, ◌*◌, ◌%◌, ◌^◌, ◌<◌, ◌≤◌, List, [], ◌∷◌, ◌++◌, map, Bool, true, false, Some, None, Result, Ok, Err, refl, sym, ap, subst, ◌∙◌, arith, zero-add}
 use Rattle.std.specs.Prelude.{pos}
 use Rattle.std.specs.List.{filter_map, range_with_len, cons_option}
 use Rattle.std.proofs.Common.{cond}
 use Rattle.std.proofs.lemmas.List.{map-append}
 use Rattle.mach_base.specs.Answer.{◌>>=◌}
 use Rattle.mach_base.specs.Fault.{Fault}
-use Rattle.mach_dyld.specs.Streams.{Input, Range, Placed, StandsIn, AllStand, stream_end, IsBeginning, IsStream, IsLongest}
+use Rattle.mach_dyld.specs.Streams.{Input, Range, Placed, StandsIn, AllStand, stream_end, IsBeginning, IsStream}
 use Rattle.mach_dyld.specs.Binds.{Bind, is_done, sets_segment, nearer_than, nearest_or, done_after, bind_after, binds_at, binds_from, stride_in, count_in, library_in, flags_in, name_in, addend_in, segment_in, offset_in, advances}
-use Rattle.mach_dyld.specs.Imports.{Import, Target, import_of, imports_in, import_with, target_of, input_in, AreImports, ListsImports}
+use Rattle.mach_dyld.specs.Imports.{Import, Target, import_of, imports_in, import_with, target_of, input_in, ListsImports}
 use Rattle.mach_dyld.specs.BindCut.{HasList, ListsByStream, raised, front_range, rest_range, CutsBehindDone}
 use Rattle.mach_dyld.proofs.BindPlaces.{ends_after}
 use Rattle.mach_dyld.proofs.BindReading.{Follow, follows, first_from, neighbours_from, one_longest}

@@ -1,10 +1,11 @@
 -- What is left to an iterator over binds: settings that run forward. Callers don't need it: the contract
 -- of `iter` says that the items at the start are those of the definitions.
-use Rattle.std.specs.Prelude.{◌≡◌, ◌+◌, ◌-◌, ◌%◌, ◌^◌, ℕ, zero, suc, pos, List, [], ◌∷◌, ◌++◌, map, length, Bool, true, false, Option, Some, None, Result, Ok, Err, nat_lt, if◌then◌else◌}
+use Rattle.std.specs.Prelude.{◌≡◌, ◌+◌, ◌-◌, ◌%◌, ◌^◌, ◌<◌, ◌≤◌, ℕ, zero, suc, pos, List, [], ◌∷◌, ◌++◌, map, length, Bool, true, false, Option, Some, None, Result, Ok, Err, IsErr, nat_lt, if◌then◌else◌}
 use Rattle.mach_base.specs.declared.error.Error.{Error}
-use Rattle.mach_base.specs.Fault.{Fault, fault_of}
+use Rattle.mach_base.specs.Answer.{◌>>=◌}
+use Rattle.mach_base.specs.Fault.{Fault, malformed, fault_of}
 use Rattle.mach_dyld.specs.Instructions as instructions
-use Rattle.mach_dyld.specs.Instructions.{done, library, symbol, addend, segment, advance, binds, nothing, instruction_at}
+use Rattle.mach_dyld.specs.Instructions.{done, library, symbol, addend, segment, advance, binds, nothing, byte_at, instruction_at}
 use Rattle.mach_dyld.specs.Streams.{Input, Range, Placed}
 use Rattle.mach_dyld.specs.Binds.{Bind, count_of, stride_of, count_in, stride_in}
 use Rattle.mach_dyld.specs.Imports.{Target, import_of}
@@ -12,13 +13,11 @@ use Rattle.mach_dyld.specs.Imports as imports
 use Rattle.mach_dyld.specs.BindItems.{fault_item, upto_fault}
 use Rattle.mach_dyld.specs.BindViews.{import_in}
 use Rattle.mach_dyld.specs.Exports.{texts}
-use Rattle.mach_dyld.specs.declared.imports.instruction.Instruction.{Instruction}
-use Rattle.mach_dyld.specs.declared.imports.instruction.Instruction.TheVariants.{Done, Library, Symbol, Addend, Segment, Advance, Binds, Nothing}
 use Rattle.mach_dyld.specs.declared.imports.settings.Settings.{Settings}
 use Rattle.mach_dyld.specs.declared.imports.source.Place.{Place}
 use Rattle.mach_dyld.specs.declared.imports.source.Source.{Source}
 use Rattle.mach_dyld.specs.declared.imports.Import.{Import}
-use Rattle.mach_dyld.specs.declared.imports.iterator.State as iterator
+use Rattle.mach_dyld.specs.declared.imports.state.State as state
 use Rattle.mach_dyld.specs.declared.imports.iterator.BindIterator.{BindIterator}
 
 -- ---- the instructions that are read from a place on
@@ -112,6 +111,10 @@ executed pointer i after s = record {
   ended = s.ended;
 }
 
+-- that after what was read, if anything was
+abbrev pub executed_by : ℕ → Result (instructions.Instruction × ℕ) Fault → State → Result State Fault
+executed_by pointer there s = there >>= λ found. Ok (executed pointer found.0 found.1 s)
+
 -- what comes of the rest of its range
 unfoldable pub rest_of : Input → State → List (Result imports.Import Fault)
 rest_of x s =
@@ -132,16 +135,6 @@ reads_of x lazy s =
     else length (reading_from x s.range.upto s.place).read + (if s.range.is_lazy then 0 else length (reading_from x lazy.upto lazy.from).read)
 
 -- ---- what the code's values stand for
-
-abbrev pub instruction_of : Instruction → instructions.Instruction
-instruction_of Done = done
-instruction_of (Library number) = library number
-instruction_of (Symbol flags name) = symbol flags name.now
-instruction_of (Addend value) = addend value
-instruction_of (Segment number offset) = segment number offset
-instruction_of (Advance by) = advance by
-instruction_of (Binds count skip) = binds count skip
-instruction_of Nothing = nothing
 
 abbrev pub bind_of : Settings → Bind
 bind_of s = record {
@@ -168,7 +161,7 @@ input_of s = record { bytes = s.bytes.now; pointer = s.pointer; libs = texts s.l
 abbrev pub lazy_of : BindIterator → Range
 lazy_of it = record { from = it.lazy_from; upto = it.lazy_upto; is_lazy = true }
 
-abbrev pub state_of : iterator.State → State
+abbrev pub state_of : state.State → State
 state_of s = record {
   range = record { from = s.from; upto = s.upto; is_lazy = s.settings.is_lazy };
   settings = bind_of s.settings;
@@ -189,3 +182,24 @@ reads_left it = reads_of (input_of it.source) (lazy_of it) (state_of it.state)
 -- all that was left is the error's fault, and now nothing is left
 abbrev pub FailsWith : BindIterator → BindIterator → Error → Type 0
 FailsWith old new e = (imports_left old ≡ Err (fault_of e) ∷ []) × (imports_left new ≡ [])
+
+-- the instruction that comes next can't be read, and this is its opcode byte, if one stands there
+pub record IsUnreadable (it : BindIterator) (byte : ℕ) : Type 0 where
+  pub count : it.state.count ≡ 0
+  pub on : it.state.ended ≡ false
+  pub within : it.state.place < it.state.upto
+  pub fault : IsErr (instruction_at it.source.pointer it.source.bytes.now it.state.place)
+  pub opcode : it.state.place < length it.source.bytes.now → byte_at it.source.bytes.now it.state.place ≡ Ok byte
+
+-- the bind that comes now has no import
+pub record HasNoImport (it : BindIterator) : Type 0 where
+  pub count : 0 < it.state.count
+  pub on : it.state.ended ≡ false
+  pub none : import_of (input_of it.source) (bind_of it.state.settings) ≡ Err malformed
+
+-- both streams are at their end
+pub record IsAtEnd (it : BindIterator) : Type 0 where
+  pub count : it.state.count ≡ 0
+  pub on : it.state.ended ≡ false
+  pub past : it.state.upto ≤ it.state.place
+  pub is_lazy : it.state.settings.is_lazy ≡ true

@@ -1,14 +1,15 @@
-use Rattle.std.proofs.Common.{◌≡◌, ◌+◌, ◌++◌, length}
+use Rattle.std.proofs.Common.{◌≡◌, ◌+◌, ◌++◌, length, false}
 use Rattle.mach_dyld.specs.BindViews.{imports_seen}
 use Rattle.mach_dyld.specs.BindLeft.{imports_left, reads_left}
 use Rattle.mach_dyld.proofs.BindLists.{oks}
 use Rattle.mach_dyld.proofs.imports.BindInterpreter.imports_counted.Given as goal
 
-abbrev pub invariant-items : goal.invariant-items
-invariant-items g l = record {
+abbrev pub invariant-binds : goal.invariant-binds
+invariant-binds g l = record {
   items : imports_left l.initial.left ≡ oks (imports_seen l.found.items) ++ imports_left l.left;
+  on : l.left.state.ended ≡ false;
   reads : l.steps + reads_left l.left ≡ l.initial.steps + reads_left l.initial.left;
 }
 
-abbrev pub decreases-items : goal.decreases-items
-decreases-items g l = length (imports_left l.left)
+abbrev pub decreases-binds : goal.decreases-binds
+decreases-binds g l = length (imports_left l.left)
