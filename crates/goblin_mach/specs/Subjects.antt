@@ -1,6 +1,6 @@
 -- What the commands of an image say, subject by subject: its libraries and names, segments, symbols, export
 -- trie and binds (`mach-o/loader.h`).
-use Rattle.std.specs.Prelude.{ℕ, List, ◌∷◌, codes, Bool, true, false, Option, Some, None, unwrap_or, if◌then◌else◌, option_map, [], Result, ◌≡◌, Ok}
+use Rattle.std.specs.Prelude.{◌-◌, ℕ, List, ◌∷◌, codes, Bool, true, false, Option, Some, None, unwrap_or, if◌then◌else◌, option_map, [], Result, ◌≡◌, Ok}
 use Rattle.mach_base.specs.Fault.{Fault}
 use Rattle.mach_base.specs.Number.{place_after}
 use Rattle.mach_base.specs.Record.{number_among, Value}
@@ -123,6 +123,11 @@ trie_in bytes cs = last_of (read_of (trie_by bytes) cs)
 abbrev pub ListsImageExports : Option TrieRange → List (List ℕ) → List Entry → Type 0
 ListsImageExports None libs list = list ≡ []
 ListsImageExports (Some t) libs list = ListsExports t libs list
+
+-- how many bytes the range of an image's trie has
+abbrev pub trie_len : Option TrieRange → ℕ
+trie_len None = 0
+trie_len (Some t) = t.upto - t.from
 
 abbrev pub ImageExportsFault : Option TrieRange → List (List ℕ) → Fault → Type 0
 ImageExportsFault None libs f = ⊥

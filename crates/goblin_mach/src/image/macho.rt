@@ -1,6 +1,6 @@
 //! One image.
 
-ghost use Rattle.std.specs.Prelude.{◌≡◌, ◌↔◌, ◌<◌, ◌^◌, length, List, IsTrue, IfOk, IfErr};
+ghost use Rattle.std.specs.Prelude.{◌≡◌, ◌↔◌, ◌<◌, ◌≤◌, ◌^◌, length, List, IsTrue, IfOk, IfErr};
 ghost use Rattle.mach_base.specs.Answer.{Stands, IsOkUnlessMemory};
 ghost use Rattle.mach_base.specs.Context.{pointer_size};
 ghost use Rattle.mach_dyld.specs.BindViews.{imports_seen};
@@ -9,7 +9,7 @@ ghost use Rattle.mach_dyld.specs.Imports as binds;
 ghost use Rattle.mach_dyld.specs.Trie.{Entry};
 ghost use Rattle.mach_parts.specs.Segments.{segments_in};
 ghost use Rattle.goblin_mach.specs.Image.{Opens, LossyOpens, ImageFault, LossyFault};
-ghost use Rattle.goblin_mach.specs.Subjects.{ListsImageImports, ImageImportsFault, ListsImageExports, ImageExportsFault};
+ghost use Rattle.goblin_mach.specs.Subjects.{ListsImageImports, ImageImportsFault, ListsImageExports, ImageExportsFault, trie_len};
 
 mod debug;
 
@@ -152,6 +152,7 @@ impl<'a, A: Allocator> MachO<'a, A> {
         ensures listed { IfOk result (λ v. ListsImageExports (trie_held self.now) (texts self.now.libs.items) (entries v.items)) }
         ensures only { (list : List Entry) → ListsImageExports (trie_held self.now) (texts self.now.libs.items) list → IsOkUnlessMemory result }
         ensures refused { IfErr result (Stands (ImageExportsFault (trie_held self.now) (texts self.now.libs.items))) }
+        ensures few_exports { IfOk result (λ v. length v.items ≤ trie_len (trie_held self.now)) }
     {
         match &self.export_trie {
             Some(trie) => trie.exports(alloc, self.libs.as_slice()),
