@@ -1,6 +1,6 @@
 //! The records and the entries of a fat file.
 
-ghost use Rattle.std.specs.Prelude.{◌≡◌, ◌≤◌, ℕ, List, IfOk, OnOk, Ok, Err, length};
+ghost use Rattle.std.specs.Prelude.{ℕ, List, IfOk, OnOk};
 ghost use Rattle.std.specs.Io.KnownBytes.{Appends};
 ghost use Rattle.mach_parts.specs.declared.fat.FatArch.{FatArch};
 ghost use Rattle.goblin_mach.specs.FatFile.{file_held};

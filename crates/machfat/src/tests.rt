@@ -38,11 +38,14 @@ arch 1: cputype 0x100000c, cpusubtype 0x0, offset 424, size 16, align 2^0, archi
 fn lists(rt: HostRuntime) -> Result<(), Fail> {
     let alloc = rt.alloc();
     let whole = file_c(alloc)?;
+    let Some(cut) = whole.get(..439) else {
+        return Err(Fail::from("440 bytes"));
+    };
     let rows: [(&str, &[u8], u8, &str, &str); 5] = [
         ("file C", &whole, 0, LINES, ""),
         (
             "file C, cut",
-            &whole[..440 - 1],
+            cut,
             0,
             "arch 0: cputype 0x1000007, cpusubtype 0x3, offset 48, size 376, align 2^4, image\narch 1: cputype 0x100000c, cpusubtype 0x0, offset 424, size 16, align 2^0, too short\n",
             "",
@@ -78,13 +81,16 @@ fn lists(rt: HostRuntime) -> Result<(), Fail> {
 fn entries(rt: HostRuntime) -> Result<(), Fail> {
     let alloc = rt.alloc();
     let whole = file_c(alloc)?;
+    let Some(cut) = whole.get(..439) else {
+        return Err(Fail::from("440 bytes"));
+    };
     let rows: [(&str, &[u8], usize, u8, &[u8], &str); 5] = [
         ("the image", &whole, 0, 0, &FILE_B, ""),
         ("the archive", &whole, 1, 0, &ARCHIVE, ""),
         ("no entry", &whole, 2, 1, &[], "machfat: no entry 2\n"),
         (
             "an entry that is cut",
-            &whole[..440 - 1],
+            cut,
             1,
             1,
             &[],

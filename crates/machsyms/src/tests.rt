@@ -35,6 +35,9 @@ const LINE: &str = "0000000100000160 T _main\n";
 fn lines(rt: HostRuntime) -> Result<(), Fail> {
     let alloc = rt.alloc();
     let whole = file_c(alloc)?;
+    let Some(cut) = whole.get(..439) else {
+        return Err(Fail::from("440 bytes"));
+    };
     let mut nameless = FILE_B;
     nameless[352] = 0xff;
     let rows: [(&str, &[u8], u8, &str, &str); 7] = [
@@ -55,7 +58,7 @@ fn lines(rt: HostRuntime) -> Result<(), Fail> {
         ),
         (
             "file C, cut",
-            &whole[..439],
+            cut,
             1,
             "arch 0\n0000000100000160 T _main\narch 1\nrefused: malformed: an entry has 16 bytes or more\n",
             "",

@@ -1,4 +1,4 @@
-use Rattle.std.proofs.Common.{◌++◌, ◌∙◌, ◌+◌, [], List, ℕ, drop, get_or, refl, sym, ap, subst}
+use Rattle.std.proofs.Common.{◌++◌, ◌∙◌, ◌+◌, [], drop, get_or, refl, sym, ap, subst}
 use Rattle.std.proofs.lemmas.List.{append-nil, append_assoc, at_drop_more, drop_all}
 use Rattle.std.specs.Io.KnownBytes.{Appends}
 use Rattle.machfat.specs.Lines.{line_of, lines_from}

@@ -1,4 +1,4 @@
-use Rattle.std.proofs.Common.{Some, Ok, sym, ap, ◌∙◌}
+use Rattle.std.proofs.Common.{Some, sym, ap, ◌∙◌}
 use Rattle.std.proofs.lemmas.Iterator.Consumers.{nth_from_yields_List, YieldsList-from_first}
 use Rattle.goblin_mach.specs.FatFile.{archs_of, arch_at, file_held, arch_read, archs_left}
 use Rattle.machfat.proofs.entry.record_of.Goals as goal
