@@ -46,7 +46,6 @@ const READABLE: &str =
 #[test]
 fn lines(rt: HostRuntime) -> Result<(), Fail> {
     let alloc = rt.alloc();
-    let file_c = file_c(alloc)?;
     let data_out = changed(alloc, 72, &[0xff, 0xff])?;
     let two_sections = changed(alloc, 96, &[99])?;
     let far_relocation = changed(alloc, 160, &[0x74, 1])?;
@@ -62,7 +61,7 @@ fn lines(rt: HostRuntime) -> Result<(), Fail> {
         ),
         (
             "a fat magic alone",
-            &file_c[..4],
+            &[0xca, 0xfe, 0xba, 0xbe],
             1,
             "refused\n  opens: 8 bytes are wanted and 4 are left\n  opens lossily: 8 bytes are wanted and 4 are left\nnot sound: 1 shown\n",
         ),
@@ -94,7 +93,7 @@ fn lines(rt: HostRuntime) -> Result<(), Fail> {
             "back_to_root",
             &back_to_root,
             1,
-            "image\n  opens: ok\n  data: ok\n  sections: ok\n  relocations: ok\n  symbols: ok\n  trie: malformed: a node is met again on its own path\n  binds: ok\nnot sound: 1 shown\n",
+            "image\n  opens: ok\n  data: ok\n  sections: ok\n  relocations: ok\n  symbols: ok\n  trie: malformed: two paths lead to one node\n  binds: ok\nnot sound: 1 shown\n",
         ),
         (
             "a bind in no segment",
@@ -163,7 +162,7 @@ fn every_byte(rt: HostRuntime) -> Result<(), Fail> {
 fn failed_writes(rt: HostRuntime) -> Result<(), Fail> {
     let alloc = rt.alloc();
     let whole = audited(alloc, &FILE_B)?.1.len();
-    for left in [0, 1, whole - 1] {
+    for left in [0, 1, whole.saturating_sub(1)] {
         let mut err = Vec::new(alloc);
         assert_eq!(rt; run(alloc, &FILE_B, &mut Full { left }, &mut err), 2);
         assert_eq!(rt; err.as_slice(), b"machaudit: cannot write\n".as_slice());

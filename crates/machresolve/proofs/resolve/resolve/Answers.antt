@@ -16,6 +16,6 @@ returns g c =
       are_libraries = c.in_ok-libraries.ensures;
       program = program_seen image imports;
       is_program = is_program bytes image imports opened ((c.libraries_of_image.ensures.strict bytes 0 opened (texts image.libs.items)).1 refl)
-          (c.imports_of_image.ensures.strict bytes 0 opened (imports_seen imports) c.in-Ok-imports.ensures.listed);
+          ((c.imports_of_image.ensures.strict bytes 0 opened (imports_seen imports)).1 c.in-Ok-imports.ensures.listed);
       answers = rw (c.deref.ensures.value, c.deref-2.ensures.value) at c.in_ok-answer_all.ensures;
     }
