@@ -1,8 +1,10 @@
 -- The chain of load commands (`mach-o/loader.h`, struct load_command).
-use Rattle.std.specs.Prelude.{◌≡◌, ℕ, ◌+◌, ◌<◌, ◌⊎◌, List, [], ◌∷◌, length, Ok, Err}
+use Rattle.std.specs.Prelude.{◌≡◌, ℕ, ◌+◌, ◌<◌, ◌⊎◌, List, [], ◌∷◌, ◌++◌, length, Ok, Err}
 use Rattle.mach_base.specs.declared.context.Endian.{Endian}
 use Rattle.mach_base.specs.Fault.{Fault}
+use Rattle.mach_load.specs.declared.load_command.LoadCommand.{LoadCommand}
 use Rattle.mach_load.specs.Command.{Command, cmdsize_of, command_at}
+use Rattle.mach_load.specs.Variants.{command_of}
 
 -- the command is the one that stands at its offset
 abbrev pub IsThere : Endian → List ℕ → Command → Type 0
@@ -41,3 +43,10 @@ pub record IsBroken (le : Endian) (bytes : List ℕ) (s n : ℕ) (f : Fault) : T
   pub chain : IsChain le bytes s front
   pub fewer : length front < n
   pub fault : command_at le bytes (chain_end s front) ≡ Err f
+
+-- new is old with the command at s after it, and next the place behind that one
+pub record IsPushed (le : Endian) (bytes : List ℕ) (s next : ℕ) (old new : List LoadCommand) : Type 0 where
+  pub command : LoadCommand
+  pub items : new ≡ old ++ command ∷ []
+  pub there : command_at le bytes s ≡ Ok (command_of command)
+  pub moved : next ≡ s + cmdsize_of (command_of command)
