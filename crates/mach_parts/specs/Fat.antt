@@ -11,9 +11,6 @@ fat_header_fields = num 4 ∷ num 4 ∷ []
 abbrev pub fat_header_values : FatHeader → List Value
 fat_header_values h = number_is h.magic ∷ number_is h.nfat_arch ∷ []
 
-abbrev pub fat_header_of_values : List Value → FatHeader
-fat_header_of_values vs = record { magic = number_among vs 0; nfat_arch = number_among vs 1 }
-
 -- struct fat_arch
 abbrev pub fat_arch_fields : List Field
 fat_arch_fields = num 4 ∷ num 4 ∷ num 4 ∷ num 4 ∷ num 4 ∷ []
