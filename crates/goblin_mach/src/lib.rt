@@ -2,7 +2,6 @@
 //! in, and every refusal a fault that stands in them.
 #![tactic(auto)]
 
-mod byte_count;
 mod fat_file;
 mod image;
 pub mod laws;

@@ -8,12 +8,11 @@ ghost use Rattle.goblin_mach.specs.FatFile.{file_held};
 ghost use Rattle.goblin_mach.specs.OpenImage.{IsImage};
 ghost use Rattle.goblin_mach.specs.View.{HasEntries, ViewFault, LinksHeld, FaultHeld, IsTold, IsViewItem, AreViewItems};
 
-use crate::byte_count::ByteCount;
 use crate::fat_file::entry::SingleArch;
 use crate::fat_file::multi_arch::MultiArch;
 use crate::image::mach::Mach;
 use crate::image::macho::MachO;
-use mach_base::{Error, Result};
+use mach_base::{ByteCount, Error, Result};
 use mach_dyld::exports::Export;
 use mach_dyld::imports::Import;
 use std::alloc::{Allocator, Global};

@@ -1,6 +1,7 @@
 //! What every reader stands on: errors, byte orders, numbers, texts, LEB128, records.
 #![tactic(auto)]
 
+mod byte_count;
 mod context;
 mod error;
 mod hint;
@@ -14,6 +15,7 @@ mod tests;
 mod texts;
 mod traits;
 
+pub use crate::byte_count::ByteCount;
 pub use crate::context::{BE, Container, Ctx, Endian, LE};
 pub use crate::error::{Description, Error, Result, ScrollError, describe};
 pub use crate::hint::{Hint, HintData, take_hint_bytes};

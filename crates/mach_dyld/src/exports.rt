@@ -15,9 +15,10 @@ pub use crate::info::{
 };
 use crate::steps::Steps;
 use crate::walk::{Source, walk};
-use mach_base::Result;
+use mach_base::{ByteCount, Result};
 use mach_records::{DyldInfoCommand, LinkeditDataCommand};
 use std::alloc::{Allocator, Global};
+use std::fmt;
 use std::marker::Model;
 
 /// An export: a name that the image offers to others.
@@ -57,7 +58,7 @@ impl<'a, A: Allocator> Export<'a, A> {
 }
 
 /// An export trie in a range of the bytes, with its root at the range's start.
-#[derive(Debug, Drop)]
+#[derive(Drop)]
 pub struct ExportTrie<'a> {
     bytes: &'a [u8],
     from: usize,
@@ -73,6 +74,17 @@ impl<'a> Model for ExportTrie<'a> {
     ghost view = { λ t. record { bytes = t.bytes.now; from = t.from; upto = t.upto } };
 
     ghost invariant = { λ t. (t.from ≤ t.upto) × (t.upto ≤ length t.bytes.now) };
+}
+
+impl fmt::Debug for ExportTrie<'_> {
+    /// The range; of the bytes only how many they are.
+    fn fmt<W: fmt::Write>(&self, f: &mut fmt::Formatter<W>) -> fmt::Result {
+        f.debug_struct("ExportTrie")
+            .field("bytes", &ByteCount(self.bytes))
+            .field("from", &self.from)
+            .field("upto", &self.upto)
+            .finish()
+    }
 }
 
 impl<'a> ExportTrie<'a> {

@@ -18,7 +18,7 @@ use mach_base::{Error, Result};
 use std::alloc::{AllocError, Allocator};
 
 /// What exports are read from: some bytes, the libraries of the image, and where the trie begins and ends.
-#[derive(Debug, Drop)]
+#[derive(Drop)]
 pub struct Source<'a, 'b> {
     pub bytes: &'a [u8],
     pub libs: &'b [&'a str],

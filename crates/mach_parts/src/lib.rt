@@ -1,7 +1,6 @@
 //! The parts of an image: headers, fat records, segments, sections, relocations and symbols.
 #![tactic(auto)]
 
-mod byte_count;
 mod cpu;
 pub mod fat;
 pub mod header;

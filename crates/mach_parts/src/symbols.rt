@@ -11,7 +11,6 @@ pub mod laws;
 mod names;
 mod nlist;
 
-use crate::byte_count::ByteCount;
 pub use crate::symbols::names::{
     MAX_SECT, N_ABS, N_AST, N_BCOMM, N_BINCL, N_BNSYM, N_DESC_DISCARDED, N_ECOML, N_ECOMM, N_EINCL,
     N_ENSYM, N_ENTRY, N_EXCL, N_EXT, N_FNAME, N_FUN, N_GSYM, N_INDR, N_LBRAC, N_LCSYM, N_LENG,
@@ -24,7 +23,7 @@ pub use crate::symbols::names::{
     REFERENCED_DYNAMICALLY, n_type_to_str,
 };
 pub use crate::symbols::nlist::{Nlist, Nlist32, Nlist64, SIZEOF_NLIST_32, SIZEOF_NLIST_64};
-use mach_base::{Ctx, Error, Result, ScrollError, SizeWith, TryFromCtx, read_text};
+use mach_base::{ByteCount, Ctx, Error, Result, ScrollError, SizeWith, TryFromCtx, read_text};
 use mach_records::SymtabCommand;
 use std::fmt;
 

@@ -2,9 +2,11 @@
 //! where memory runs out.
 
 mod by_hand;
+mod callers;
 mod chain;
 mod constants;
 mod container;
+mod debug;
 mod exports;
 mod files;
 mod growths;

@@ -4,8 +4,7 @@ ghost use Rattle.std.specs.Prelude.{◌≡◌, ◌<◌, ◌^◌, length};
 ghost use Rattle.mach_base.specs.Answer.{Reads};
 ghost use Rattle.goblin_mach.specs.FatFile.{arch_place, arch_at};
 
-use crate::byte_count::ByteCount;
-use mach_base::Result;
+use mach_base::{ByteCount, Result};
 use mach_parts::fat::{FatArch, SIZEOF_FAT_ARCH, SIZEOF_FAT_HEADER};
 use std::fmt;
 use std::fmt::{Debug, Formatter, Write};

@@ -5,10 +5,9 @@ ghost use Rattle.mach_base.specs.Answer.{Reads};
 ghost use Rattle.goblin_mach.specs.FatFile.{fat_file_in, archs_of, IsAbout, file_held, archs_left};
 ghost use Rattle.goblin_mach.specs.FatEntry.{OpensEntry, entry_at};
 
-use crate::byte_count::ByteCount;
 use crate::fat_file::arches::{FatArchIterator, arch_at};
 use crate::fat_file::entry::SingleArch;
-use mach_base::{Error, Result};
+use mach_base::{ByteCount, Error, Result};
 use mach_parts::fat::{FatArch, FatHeader, SIZEOF_FAT_ARCH};
 use std::alloc::{AllocError, Allocator, Global};
 use std::fmt;

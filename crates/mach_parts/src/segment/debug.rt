@@ -1,7 +1,7 @@
 //! A segment as Debug shows it.
 
-use crate::byte_count::ByteCount;
 use crate::segment::Segment;
+use mach_base::ByteCount;
 use std::fmt;
 
 impl fmt::Debug for Segment<'_> {

@@ -1,7 +1,7 @@
 //! An image as Debug shows it.
 
-use crate::byte_count::ByteCount;
 use crate::image::macho::MachO;
+use mach_base::ByteCount;
 use std::alloc::Allocator;
 use std::fmt;
 use std::fmt::{Debug, Formatter, Write};

@@ -2,9 +2,9 @@
 
 use std::fmt;
 
-// Shows how many bytes there are, and not the bytes.
+/// Bytes of which Debug shows how many there are, and not the bytes.
 #[derive(Clone, Copy)]
-pub(crate) struct ByteCount<'a>(pub(crate) &'a [u8]);
+pub struct ByteCount<'a>(pub &'a [u8]);
 
 impl fmt::Debug for ByteCount<'_> {
     fn fmt<W: fmt::Write>(&self, f: &mut fmt::Formatter<W>) -> fmt::Result {
