@@ -1,4 +1,4 @@
-use Rattle.std.proofs.Common.{ℕ, ◌-◌, ◌^◌, length}
+use Rattle.std.proofs.Common.{◌-◌, ◌^◌, length}
 use Rattle.std.specs.Prelude.{All}
 use Rattle.machresolve.specs.Resolved.{Symbol, IsReexport, Leads}
 use Rattle.machresolve.specs.Seen.{libraries_seen, symbol_seen}

@@ -1,4 +1,4 @@
-use Rattle.std.proofs.Common.{◌≡◌, ◌∙◌, Some, refl, sym, ap, subst}
+use Rattle.std.proofs.Common.{◌∙◌, Some, refl, sym, ap, subst}
 use Rattle.mach_dyld.specs.Exports.{info_of, text_in}
 use Rattle.mach_dyld.specs.Trie.{Info}
 use Rattle.machresolve.specs.Resolved.{IsListed, address_of}

@@ -1,6 +1,5 @@
-use Rattle.std.proofs.Common.{◌≡◌, ◌∙◌, ◌+◌, List, [], ◌∷◌, ◌++◌, ℕ, Bor, map, take, get_or, ap, subst, sym}
+use Rattle.std.proofs.Common.{◌≡◌, ◌∙◌, ◌+◌, List, [], ◌∷◌, ◌++◌, ℕ, Bor, map, take, get_or, ap}
 use Rattle.std.proofs.lemmas.List.{take_more, map_push}
-use Rattle.machresolve.specs.Resolved.{Library, AreLibraries}
 use Rattle.machresolve.specs.Seen.{library_seen, libraries_seen}
 use Rattle.machresolve.proofs.Named.{are_more}
 use Rattle.machresolve.proofs.library.open_all.Goals as goal
