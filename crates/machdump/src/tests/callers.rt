@@ -81,8 +81,28 @@ fn of_an_image(rt: HostRuntime) -> std::result::Result<(), Fail> {
     let exports = image.exports(alloc)?;
     assert_eq!(rt; address_of(&exports, "a"), Some(9));
     assert_eq!(rt; address_of(&exports, "b"), None);
+    Ok(())
+}
+
+#[test]
+fn imports_one_at_a_time(rt: HostRuntime) -> std::result::Result<(), Fail> {
+    let alloc = rt.alloc();
+    let image = image(alloc, &FILE_B)?;
+    let listed = image.imports(alloc)?;
+    assert_eq!(rt; listed.len(), 2);
     let mut items = import_items(&image);
-    assert!(rt; matches!(items.next(), Some(Ok(_))));
+    for import in &listed {
+        let Some(Ok(item)) = items.next() else {
+            return Err(Fail::from("an import of the list is missing"));
+        };
+        assert_eq!(rt; (item.name, item.dylib), (import.name, import.dylib));
+        assert_eq!(rt;
+            (item.offset, item.address),
+            (import.offset, import.address)
+        );
+        assert_eq!(rt; (item.size, item.is_lazy), (import.size, import.is_lazy));
+    }
+    assert!(rt; items.next().is_none());
     Ok(())
 }
 
