@@ -8,6 +8,7 @@ mod libraries;
 mod linkedit;
 mod load_command_header;
 mod modules;
+mod numbers;
 mod segments;
 mod symbol_tables;
 #[cfg(test)]

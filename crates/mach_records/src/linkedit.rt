@@ -1,5 +1,6 @@
 //! What stands in the link-edit segment, and what is encrypted (`mach-o/loader.h`).
 
+use crate::numbers::u32s;
 use mach_base::{Endian, Record, RecordBytes};
 
 /// Where a table of the link-edit segment stands (struct linkedit_data_command, by
@@ -105,19 +106,24 @@ impl Record for DyldInfoCommand {
     }
 
     fn store(self, le: Endian) -> RecordBytes {
-        RecordBytes::new()
-            .u32(le, self.cmd)
-            .u32(le, self.cmdsize)
-            .u32(le, self.rebase_off)
-            .u32(le, self.rebase_size)
-            .u32(le, self.bind_off)
-            .u32(le, self.bind_size)
-            .u32(le, self.weak_bind_off)
-            .u32(le, self.weak_bind_size)
-            .u32(le, self.lazy_bind_off)
-            .u32(le, self.lazy_bind_size)
-            .u32(le, self.export_off)
-            .u32(le, self.export_size)
+        u32s(
+            RecordBytes::new(),
+            le,
+            &[
+                self.cmd,
+                self.cmdsize,
+                self.rebase_off,
+                self.rebase_size,
+                self.bind_off,
+                self.bind_size,
+                self.weak_bind_off,
+                self.weak_bind_size,
+                self.lazy_bind_off,
+                self.lazy_bind_size,
+                self.export_off,
+                self.export_size,
+            ],
+        )
     }
 }
 

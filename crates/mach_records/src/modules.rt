@@ -1,5 +1,6 @@
 //! Tables of a dynamic library that is made of modules (`mach-o/loader.h`).
 
+use crate::numbers::u32s;
 use mach_base::{Endian, Record, RecordBytes, array_at};
 
 /// An entry of the table of contents (struct dylib_table_of_contents).
@@ -103,20 +104,25 @@ impl Record for DylibModule {
     }
 
     fn store(self, le: Endian) -> RecordBytes {
-        RecordBytes::new()
-            .u32(le, self.module_name)
-            .u32(le, self.iextdefsym)
-            .u32(le, self.nextdefsym)
-            .u32(le, self.irefsym)
-            .u32(le, self.nrefsym)
-            .u32(le, self.ilocalsym)
-            .u32(le, self.nlocalsym)
-            .u32(le, self.iextrel)
-            .u32(le, self.nextrel)
-            .u32(le, self.iinit_iterm)
-            .u32(le, self.ninit_nterm)
-            .u32(le, self.objc_module_info_addr)
-            .u32(le, self.objc_module_info_size)
+        u32s(
+            RecordBytes::new(),
+            le,
+            &[
+                self.module_name,
+                self.iextdefsym,
+                self.nextdefsym,
+                self.irefsym,
+                self.nrefsym,
+                self.ilocalsym,
+                self.nlocalsym,
+                self.iextrel,
+                self.nextrel,
+                self.iinit_iterm,
+                self.ninit_nterm,
+                self.objc_module_info_addr,
+                self.objc_module_info_size,
+            ],
+        )
     }
 }
 
@@ -285,17 +291,22 @@ impl Record for RoutinesCommand32 {
     }
 
     fn store(self, le: Endian) -> RecordBytes {
-        RecordBytes::new()
-            .u32(le, self.cmd)
-            .u32(le, self.cmdsize)
-            .u32(le, self.init_address)
-            .u32(le, self.init_module)
-            .u32(le, self.reserved1)
-            .u32(le, self.reserved2)
-            .u32(le, self.reserved3)
-            .u32(le, self.reserved4)
-            .u32(le, self.reserved5)
-            .u32(le, self.reserved6)
+        u32s(
+            RecordBytes::new(),
+            le,
+            &[
+                self.cmd,
+                self.cmdsize,
+                self.init_address,
+                self.init_module,
+                self.reserved1,
+                self.reserved2,
+                self.reserved3,
+                self.reserved4,
+                self.reserved5,
+                self.reserved6,
+            ],
+        )
     }
 }
 

@@ -3,6 +3,7 @@
 ghost use Rattle.std.specs.Prelude.{◌≡◌};
 
 use crate::command_name::{LC_DYSYMTAB, LC_SYMTAB};
+use crate::numbers::u32s;
 use mach_base::{Endian, Record, RecordBytes, array_at};
 
 /// Where the symbols and their texts stand (struct symtab_command, by `LC_SYMTAB`).
@@ -172,27 +173,32 @@ impl Record for DysymtabCommand {
     }
 
     fn store(self, le: Endian) -> RecordBytes {
-        RecordBytes::new()
-            .u32(le, self.cmd)
-            .u32(le, self.cmdsize)
-            .u32(le, self.ilocalsym)
-            .u32(le, self.nlocalsym)
-            .u32(le, self.iextdefsym)
-            .u32(le, self.nextdefsym)
-            .u32(le, self.iundefsym)
-            .u32(le, self.nundefsym)
-            .u32(le, self.tocoff)
-            .u32(le, self.ntoc)
-            .u32(le, self.modtaboff)
-            .u32(le, self.nmodtab)
-            .u32(le, self.extrefsymoff)
-            .u32(le, self.nextrefsyms)
-            .u32(le, self.indirectsymoff)
-            .u32(le, self.nindirectsyms)
-            .u32(le, self.extreloff)
-            .u32(le, self.nextrel)
-            .u32(le, self.locreloff)
-            .u32(le, self.nlocrel)
+        u32s(
+            RecordBytes::new(),
+            le,
+            &[
+                self.cmd,
+                self.cmdsize,
+                self.ilocalsym,
+                self.nlocalsym,
+                self.iextdefsym,
+                self.nextdefsym,
+                self.iundefsym,
+                self.nundefsym,
+                self.tocoff,
+                self.ntoc,
+                self.modtaboff,
+                self.nmodtab,
+                self.extrefsymoff,
+                self.nextrefsyms,
+                self.indirectsymoff,
+                self.nindirectsyms,
+                self.extreloff,
+                self.nextrel,
+                self.locreloff,
+                self.nlocrel,
+            ],
+        )
     }
 }
 
