@@ -51,14 +51,18 @@ impl LoadCommand {
             return None;
         }
         let rest = rest_at(bytes, place);
-        let header: LoadCommandHeader = record(rest, le)?;
+        let Ok(header) = record::<LoadCommandHeader>(rest, le) else {
+            return None;
+        };
         if header.cmd == LC_THREAD || header.cmd == LC_UNIXTHREAD {
             return None;
         }
         if header.cmdsize as usize > rest.len() {
             return None;
         }
-        let command = CommandVariant::quick(rest, le, header)?;
+        let Ok(command) = CommandVariant::quick(rest, le, header) else {
+            return None;
+        };
         *offset = place + header.cmdsize as usize;
         Some(LoadCommand {
             offset: place,

@@ -1,7 +1,8 @@
 //! What a load command says, by its number.
 
-ghost use Rattle.std.specs.Prelude.{◌≡◌, ◌<◌, ◌^◌, Ok, IfSome};
+ghost use Rattle.std.specs.Prelude.{◌≡◌, ◌<◌, ◌^◌, length, Ok, Err, IfOk, IfErr};
 ghost use Rattle.mach_base.specs.Answer.{Reads};
+ghost use Rattle.mach_base.specs.Fault.{too_big};
 ghost use Rattle.mach_base.specs.Record.{number_among, record_at};
 ghost use Rattle.mach_records.specs.LoadCommandHeader.{header_fields, header_values};
 ghost use Rattle.mach_load.specs.Commands.{row_of};
@@ -9,7 +10,7 @@ ghost use Rattle.mach_load.specs.Command.{command_by};
 ghost use Rattle.mach_load.specs.Variants.{variant_values, command_of};
 
 use crate::thread::ThreadCommand;
-use mach_base::{Endian, Record, Result};
+use mach_base::{Endian, Error, Record, Result, ScrollError, rest_at};
 use mach_records::{
     BuildVersionCommand, DyldInfoCommand, DylibCommand, DylinkerCommand, DysymtabCommand,
     EncryptionInfoCommand32, EncryptionInfoCommand64, EntryPointCommand, FilesetEntryCommand,
@@ -30,69 +31,6 @@ use mach_records::{
     SubUmbrellaCommand, SymsegCommand, SymtabCommand, TwolevelHintsCommand, UuidCommand,
     VersionMinCommand,
 };
-
-// The table of the commands but threads: `$read` reads the record that the number says. Each arm is
-// the command, in `$found` where that is given: one wrapping of them all makes faster code, and one in
-// each arm a shorter proof.
-macro_rules! command_by_number {
-    ([$($found:ident)?] $header:ident, $read:path, $($at:ident),*) => {
-        match $header.cmd {
-            LC_SEGMENT => $($found)?(CommandVariant::Segment32($read($($at),*)?)),
-            LC_SYMTAB => $($found)?(CommandVariant::Symtab($read($($at),*)?)),
-            LC_SYMSEG => $($found)?(CommandVariant::Symseg($read($($at),*)?)),
-            LC_LOADFVMLIB => $($found)?(CommandVariant::LoadFvmlib($read($($at),*)?)),
-            LC_IDFVMLIB => $($found)?(CommandVariant::IdFvmlib($read($($at),*)?)),
-            LC_IDENT => $($found)?(CommandVariant::Ident($read($($at),*)?)),
-            LC_FVMFILE => $($found)?(CommandVariant::Fvmfile($read($($at),*)?)),
-            LC_PREPAGE => $($found)?(CommandVariant::Prepage($header)),
-            LC_DYSYMTAB => $($found)?(CommandVariant::Dysymtab($read($($at),*)?)),
-            LC_LOAD_DYLIB => $($found)?(CommandVariant::LoadDylib($read($($at),*)?)),
-            LC_ID_DYLIB => $($found)?(CommandVariant::IdDylib($read($($at),*)?)),
-            LC_LOAD_DYLINKER => $($found)?(CommandVariant::LoadDylinker($read($($at),*)?)),
-            LC_ID_DYLINKER => $($found)?(CommandVariant::IdDylinker($read($($at),*)?)),
-            LC_PREBOUND_DYLIB => $($found)?(CommandVariant::PreboundDylib($read($($at),*)?)),
-            LC_ROUTINES => $($found)?(CommandVariant::Routines32($read($($at),*)?)),
-            LC_SUB_FRAMEWORK => $($found)?(CommandVariant::SubFramework($read($($at),*)?)),
-            LC_SUB_UMBRELLA => $($found)?(CommandVariant::SubUmbrella($read($($at),*)?)),
-            LC_SUB_CLIENT => $($found)?(CommandVariant::SubClient($read($($at),*)?)),
-            LC_SUB_LIBRARY => $($found)?(CommandVariant::SubLibrary($read($($at),*)?)),
-            LC_TWOLEVEL_HINTS => $($found)?(CommandVariant::TwolevelHints($read($($at),*)?)),
-            LC_PREBIND_CKSUM => $($found)?(CommandVariant::PrebindCksum($read($($at),*)?)),
-            LC_SEGMENT_64 => $($found)?(CommandVariant::Segment64($read($($at),*)?)),
-            LC_ROUTINES_64 => $($found)?(CommandVariant::Routines64($read($($at),*)?)),
-            LC_UUID => $($found)?(CommandVariant::Uuid($read($($at),*)?)),
-            LC_CODE_SIGNATURE => $($found)?(CommandVariant::CodeSignature($read($($at),*)?)),
-            LC_SEGMENT_SPLIT_INFO => $($found)?(CommandVariant::SegmentSplitInfo($read($($at),*)?)),
-            LC_LAZY_LOAD_DYLIB => $($found)?(CommandVariant::LazyLoadDylib($read($($at),*)?)),
-            LC_ENCRYPTION_INFO => $($found)?(CommandVariant::EncryptionInfo32($read($($at),*)?)),
-            LC_DYLD_INFO => $($found)?(CommandVariant::DyldInfo($read($($at),*)?)),
-            LC_VERSION_MIN_MACOSX => $($found)?(CommandVariant::VersionMinMacosx($read($($at),*)?)),
-            LC_VERSION_MIN_IPHONEOS => $($found)?(CommandVariant::VersionMinIphoneos($read($($at),*)?)),
-            LC_FUNCTION_STARTS => $($found)?(CommandVariant::FunctionStarts($read($($at),*)?)),
-            LC_DYLD_ENVIRONMENT => $($found)?(CommandVariant::DyldEnvironment($read($($at),*)?)),
-            LC_DATA_IN_CODE => $($found)?(CommandVariant::DataInCode($read($($at),*)?)),
-            LC_SOURCE_VERSION => $($found)?(CommandVariant::SourceVersion($read($($at),*)?)),
-            LC_DYLIB_CODE_SIGN_DRS => $($found)?(CommandVariant::DylibCodeSignDrs($read($($at),*)?)),
-            LC_ENCRYPTION_INFO_64 => $($found)?(CommandVariant::EncryptionInfo64($read($($at),*)?)),
-            LC_LINKER_OPTION => $($found)?(CommandVariant::LinkerOption($read($($at),*)?)),
-            LC_LINKER_OPTIMIZATION_HINT => $($found)?(CommandVariant::LinkerOptimizationHint($read($($at),*)?)),
-            LC_VERSION_MIN_TVOS => $($found)?(CommandVariant::VersionMinTvos($read($($at),*)?)),
-            LC_VERSION_MIN_WATCHOS => $($found)?(CommandVariant::VersionMinWatchos($read($($at),*)?)),
-            LC_NOTE => $($found)?(CommandVariant::Note($read($($at),*)?)),
-            LC_BUILD_VERSION => $($found)?(CommandVariant::BuildVersion($read($($at),*)?)),
-            LC_LOAD_WEAK_DYLIB => $($found)?(CommandVariant::LoadWeakDylib($read($($at),*)?)),
-            LC_RPATH => $($found)?(CommandVariant::Rpath($read($($at),*)?)),
-            LC_REEXPORT_DYLIB => $($found)?(CommandVariant::ReexportDylib($read($($at),*)?)),
-            LC_DYLD_INFO_ONLY => $($found)?(CommandVariant::DyldInfoOnly($read($($at),*)?)),
-            LC_LOAD_UPWARD_DYLIB => $($found)?(CommandVariant::LoadUpwardDylib($read($($at),*)?)),
-            LC_MAIN => $($found)?(CommandVariant::Main($read($($at),*)?)),
-            LC_DYLD_EXPORTS_TRIE => $($found)?(CommandVariant::DyldExportsTrie($read($($at),*)?)),
-            LC_DYLD_CHAINED_FIXUPS => $($found)?(CommandVariant::DyldChainedFixups($read($($at),*)?)),
-            LC_FILESET_ENTRY => $($found)?(CommandVariant::FilesetEntry($read($($at),*)?)),
-            _ => $($found)?(CommandVariant::Unimplemented($header)),
-        }
-    };
-}
 
 /// What a load command says, by its number.
 #[derive(Clone, Copy, Debug)]
@@ -300,28 +238,100 @@ impl CommandVariant {
             LC_UNIXTHREAD => Ok(CommandVariant::Unixthread(ThreadCommand::read(
                 bytes, offset, le,
             )?)),
-            _ => command_by_number!([Ok] header, Record::read, bytes, offset, le),
+            _ => {
+                let rest = rest_at(bytes, offset);
+                let len = rest.len();
+                match CommandVariant::quick(rest, le, header) {
+                    Ok(found) => Ok(found),
+                    Err(size) => Err(Error::Scroll(ScrollError::TooBig { size, len })),
+                }
+            }
         }
     }
 
-    /// The same, of the command at the front of some bytes, unless it is refused.
+    /// The same, of a command at the front of some bytes that is no thread; or how many bytes its record has,
+    /// where they are fewer.
     #[inline(always)]
-    pub(crate) fn quick(rest: &[u8], le: Endian, header: LoadCommandHeader) -> Option<Self>
+    pub(crate) fn quick(
+        rest: &[u8],
+        le: Endian,
+        header: LoadCommandHeader,
+    ) -> std::result::Result<Self, usize>
+        requires some { 0 < length rest.now }
         requires here { record_at le header_fields rest.now 0 ≡ Ok (header_values header) }
         requires no_thread { (4 ≡ header.cmd → ⊥) × (5 ≡ header.cmd → ⊥) }
-        ensures { IfSome result (λ v. command_by (row_of header.cmd) le rest.now 0 ≡ Ok (command_of (record { offset = 0; command = v }))) }
+        ensures ok { IfOk result (λ v. command_by (row_of header.cmd) le rest.now 0 ≡ Ok (command_of (record { offset = 0; command = v }))) }
+        ensures err { IfErr result (λ size. command_by (row_of header.cmd) le rest.now 0 ≡ Err (too_big size (length rest.now))) }
     {
-        Some(command_by_number!([] header, record, rest, le))
+        Ok(match header.cmd {
+            LC_SEGMENT => CommandVariant::Segment32(record(rest, le)?),
+            LC_SYMTAB => CommandVariant::Symtab(record(rest, le)?),
+            LC_SYMSEG => CommandVariant::Symseg(record(rest, le)?),
+            LC_LOADFVMLIB => CommandVariant::LoadFvmlib(record(rest, le)?),
+            LC_IDFVMLIB => CommandVariant::IdFvmlib(record(rest, le)?),
+            LC_IDENT => CommandVariant::Ident(record(rest, le)?),
+            LC_FVMFILE => CommandVariant::Fvmfile(record(rest, le)?),
+            LC_PREPAGE => CommandVariant::Prepage(header),
+            LC_DYSYMTAB => CommandVariant::Dysymtab(record(rest, le)?),
+            LC_LOAD_DYLIB => CommandVariant::LoadDylib(record(rest, le)?),
+            LC_ID_DYLIB => CommandVariant::IdDylib(record(rest, le)?),
+            LC_LOAD_DYLINKER => CommandVariant::LoadDylinker(record(rest, le)?),
+            LC_ID_DYLINKER => CommandVariant::IdDylinker(record(rest, le)?),
+            LC_PREBOUND_DYLIB => CommandVariant::PreboundDylib(record(rest, le)?),
+            LC_ROUTINES => CommandVariant::Routines32(record(rest, le)?),
+            LC_SUB_FRAMEWORK => CommandVariant::SubFramework(record(rest, le)?),
+            LC_SUB_UMBRELLA => CommandVariant::SubUmbrella(record(rest, le)?),
+            LC_SUB_CLIENT => CommandVariant::SubClient(record(rest, le)?),
+            LC_SUB_LIBRARY => CommandVariant::SubLibrary(record(rest, le)?),
+            LC_TWOLEVEL_HINTS => CommandVariant::TwolevelHints(record(rest, le)?),
+            LC_PREBIND_CKSUM => CommandVariant::PrebindCksum(record(rest, le)?),
+            LC_SEGMENT_64 => CommandVariant::Segment64(record(rest, le)?),
+            LC_ROUTINES_64 => CommandVariant::Routines64(record(rest, le)?),
+            LC_UUID => CommandVariant::Uuid(record(rest, le)?),
+            LC_CODE_SIGNATURE => CommandVariant::CodeSignature(record(rest, le)?),
+            LC_SEGMENT_SPLIT_INFO => CommandVariant::SegmentSplitInfo(record(rest, le)?),
+            LC_LAZY_LOAD_DYLIB => CommandVariant::LazyLoadDylib(record(rest, le)?),
+            LC_ENCRYPTION_INFO => CommandVariant::EncryptionInfo32(record(rest, le)?),
+            LC_DYLD_INFO => CommandVariant::DyldInfo(record(rest, le)?),
+            LC_VERSION_MIN_MACOSX => CommandVariant::VersionMinMacosx(record(rest, le)?),
+            LC_VERSION_MIN_IPHONEOS => CommandVariant::VersionMinIphoneos(record(rest, le)?),
+            LC_FUNCTION_STARTS => CommandVariant::FunctionStarts(record(rest, le)?),
+            LC_DYLD_ENVIRONMENT => CommandVariant::DyldEnvironment(record(rest, le)?),
+            LC_DATA_IN_CODE => CommandVariant::DataInCode(record(rest, le)?),
+            LC_SOURCE_VERSION => CommandVariant::SourceVersion(record(rest, le)?),
+            LC_DYLIB_CODE_SIGN_DRS => CommandVariant::DylibCodeSignDrs(record(rest, le)?),
+            LC_ENCRYPTION_INFO_64 => CommandVariant::EncryptionInfo64(record(rest, le)?),
+            LC_LINKER_OPTION => CommandVariant::LinkerOption(record(rest, le)?),
+            LC_LINKER_OPTIMIZATION_HINT => CommandVariant::LinkerOptimizationHint(record(
+                rest, le,
+            )?),
+            LC_VERSION_MIN_TVOS => CommandVariant::VersionMinTvos(record(rest, le)?),
+            LC_VERSION_MIN_WATCHOS => CommandVariant::VersionMinWatchos(record(rest, le)?),
+            LC_NOTE => CommandVariant::Note(record(rest, le)?),
+            LC_BUILD_VERSION => CommandVariant::BuildVersion(record(rest, le)?),
+            LC_LOAD_WEAK_DYLIB => CommandVariant::LoadWeakDylib(record(rest, le)?),
+            LC_RPATH => CommandVariant::Rpath(record(rest, le)?),
+            LC_REEXPORT_DYLIB => CommandVariant::ReexportDylib(record(rest, le)?),
+            LC_DYLD_INFO_ONLY => CommandVariant::DyldInfoOnly(record(rest, le)?),
+            LC_LOAD_UPWARD_DYLIB => CommandVariant::LoadUpwardDylib(record(rest, le)?),
+            LC_MAIN => CommandVariant::Main(record(rest, le)?),
+            LC_DYLD_EXPORTS_TRIE => CommandVariant::DyldExportsTrie(record(rest, le)?),
+            LC_DYLD_CHAINED_FIXUPS => CommandVariant::DyldChainedFixups(record(rest, le)?),
+            LC_FILESET_ENTRY => CommandVariant::FilesetEntry(record(rest, le)?),
+            _ => CommandVariant::Unimplemented(header),
+        })
     }
 }
 
-/// The record at the front of the bytes, where they hold one.
+/// The record at the front of the bytes, or how many bytes it has, where they are fewer.
 #[inline(always)]
-pub(crate) fn record<R: Record>(rest: &[u8], le: Endian) -> Option<R>
-    ensures { IfSome result (λ found. record_at le R.fields rest.now 0 ≡ Ok (R.values found)) }
+pub(crate) fn record<R: Record>(rest: &[u8], le: Endian) -> std::result::Result<R, usize>
+    requires { 0 < length rest.now }
+    ensures ok { IfOk result (λ found. record_at le R.fields rest.now 0 ≡ Ok (R.values found)) }
+    ensures err { IfErr result (λ size. record_at le R.fields rest.now 0 ≡ Err (too_big size (length rest.now))) }
 {
     if rest.len() < R::SIZE {
-        return None;
+        return Err(R::SIZE);
     }
-    Some(R::load(rest, le))
+    Ok(R::load(rest, le))
 }
