@@ -5,757 +5,137 @@ use goblin_mach::{
     relocation, symbols,
 };
 
+// What the library says of each constant, and its value.
+macro_rules! rows {
+    ($($module:ident: $($name:ident = $want:literal),*;)*) => {
+        ([$($($module::$name,)*)*], [$($($want,)*)*])
+    };
+}
+
 // The constants of type u8: opcodes, parts of symbols, relocations.
-const U8: &[(&str, u8, u8)] = &[
-    ("BIND_TYPE_POINTER", bind_opcodes::BIND_TYPE_POINTER, 0x1),
-    (
-        "BIND_TYPE_TEXT_ABSOLUTE32",
-        bind_opcodes::BIND_TYPE_TEXT_ABSOLUTE32,
-        0x2,
-    ),
-    (
-        "BIND_TYPE_TEXT_PCREL32",
-        bind_opcodes::BIND_TYPE_TEXT_PCREL32,
-        0x3,
-    ),
-    (
-        "BIND_SPECIAL_DYLIB_SELF",
-        bind_opcodes::BIND_SPECIAL_DYLIB_SELF,
-        0x0,
-    ),
-    (
-        "BIND_SPECIAL_DYLIB_MAIN_EXECUTABLE",
-        bind_opcodes::BIND_SPECIAL_DYLIB_MAIN_EXECUTABLE,
-        0xf,
-    ),
-    (
-        "BIND_SPECIAL_DYLIB_FLAT_LOOKUP",
-        bind_opcodes::BIND_SPECIAL_DYLIB_FLAT_LOOKUP,
-        0xe,
-    ),
-    (
-        "BIND_SYMBOL_FLAGS_WEAK_IMPORT",
-        bind_opcodes::BIND_SYMBOL_FLAGS_WEAK_IMPORT,
-        0x1,
-    ),
-    (
-        "BIND_SYMBOL_FLAGS_NON_WEAK_DEFINITION",
-        bind_opcodes::BIND_SYMBOL_FLAGS_NON_WEAK_DEFINITION,
-        0x8,
-    ),
-    ("BIND_OPCODE_MASK", bind_opcodes::BIND_OPCODE_MASK, 0xf0),
-    (
-        "BIND_IMMEDIATE_MASK",
-        bind_opcodes::BIND_IMMEDIATE_MASK,
-        0xf,
-    ),
-    ("BIND_OPCODE_DONE", bind_opcodes::BIND_OPCODE_DONE, 0x0),
-    (
-        "BIND_OPCODE_SET_DYLIB_ORDINAL_IMM",
-        bind_opcodes::BIND_OPCODE_SET_DYLIB_ORDINAL_IMM,
-        0x10,
-    ),
-    (
-        "BIND_OPCODE_SET_DYLIB_ORDINAL_ULEB",
-        bind_opcodes::BIND_OPCODE_SET_DYLIB_ORDINAL_ULEB,
-        0x20,
-    ),
-    (
-        "BIND_OPCODE_SET_DYLIB_SPECIAL_IMM",
-        bind_opcodes::BIND_OPCODE_SET_DYLIB_SPECIAL_IMM,
-        0x30,
-    ),
-    (
-        "BIND_OPCODE_SET_SYMBOL_TRAILING_FLAGS_IMM",
-        bind_opcodes::BIND_OPCODE_SET_SYMBOL_TRAILING_FLAGS_IMM,
-        0x40,
-    ),
-    (
-        "BIND_OPCODE_SET_TYPE_IMM",
-        bind_opcodes::BIND_OPCODE_SET_TYPE_IMM,
-        0x50,
-    ),
-    (
-        "BIND_OPCODE_SET_ADDEND_SLEB",
-        bind_opcodes::BIND_OPCODE_SET_ADDEND_SLEB,
-        0x60,
-    ),
-    (
-        "BIND_OPCODE_SET_SEGMENT_AND_OFFSET_ULEB",
-        bind_opcodes::BIND_OPCODE_SET_SEGMENT_AND_OFFSET_ULEB,
-        0x70,
-    ),
-    (
-        "BIND_OPCODE_ADD_ADDR_ULEB",
-        bind_opcodes::BIND_OPCODE_ADD_ADDR_ULEB,
-        0x80,
-    ),
-    (
-        "BIND_OPCODE_DO_BIND",
-        bind_opcodes::BIND_OPCODE_DO_BIND,
-        0x90,
-    ),
-    (
-        "BIND_OPCODE_DO_BIND_ADD_ADDR_ULEB",
-        bind_opcodes::BIND_OPCODE_DO_BIND_ADD_ADDR_ULEB,
-        0xa0,
-    ),
-    (
-        "BIND_OPCODE_DO_BIND_ADD_ADDR_IMM_SCALED",
-        bind_opcodes::BIND_OPCODE_DO_BIND_ADD_ADDR_IMM_SCALED,
-        0xb0,
-    ),
-    (
-        "BIND_OPCODE_DO_BIND_ULEB_TIMES_SKIPPING_ULEB",
-        bind_opcodes::BIND_OPCODE_DO_BIND_ULEB_TIMES_SKIPPING_ULEB,
-        0xc0,
-    ),
-    ("N_STAB", symbols::N_STAB, 0xe0),
-    ("N_PEXT", symbols::N_PEXT, 0x10),
-    ("N_TYPE", symbols::N_TYPE, 0xe),
-    ("N_EXT", symbols::N_EXT, 0x1),
-    ("N_UNDF", symbols::N_UNDF, 0x0),
-    ("N_ABS", symbols::N_ABS, 0x2),
-    ("N_SECT", symbols::N_SECT, 0xe),
-    ("N_PBUD", symbols::N_PBUD, 0xc),
-    ("N_INDR", symbols::N_INDR, 0xa),
-    ("N_GSYM", symbols::N_GSYM, 0x20),
-    ("N_FNAME", symbols::N_FNAME, 0x22),
-    ("N_FUN", symbols::N_FUN, 0x24),
-    ("N_STSYM", symbols::N_STSYM, 0x26),
-    ("N_LCSYM", symbols::N_LCSYM, 0x28),
-    ("N_BNSYM", symbols::N_BNSYM, 0x2e),
-    ("N_PC", symbols::N_PC, 0x30),
-    ("N_AST", symbols::N_AST, 0x32),
-    ("N_OPT", symbols::N_OPT, 0x3c),
-    ("N_RSYM", symbols::N_RSYM, 0x40),
-    ("N_SLINE", symbols::N_SLINE, 0x44),
-    ("N_ENSYM", symbols::N_ENSYM, 0x4e),
-    ("N_SSYM", symbols::N_SSYM, 0x60),
-    ("N_SO", symbols::N_SO, 0x64),
-    ("N_OSO", symbols::N_OSO, 0x66),
-    ("N_LSYM", symbols::N_LSYM, 0x80),
-    ("N_BINCL", symbols::N_BINCL, 0x82),
-    ("N_SOL", symbols::N_SOL, 0x84),
-    ("N_PARAMS", symbols::N_PARAMS, 0x86),
-    ("N_VERSION", symbols::N_VERSION, 0x88),
-    ("N_OLEVEL", symbols::N_OLEVEL, 0x8a),
-    ("N_PSYM", symbols::N_PSYM, 0xa0),
-    ("N_EINCL", symbols::N_EINCL, 0xa2),
-    ("N_ENTRY", symbols::N_ENTRY, 0xa4),
-    ("N_LBRAC", symbols::N_LBRAC, 0xc0),
-    ("N_EXCL", symbols::N_EXCL, 0xc2),
-    ("N_RBRAC", symbols::N_RBRAC, 0xe0),
-    ("N_BCOMM", symbols::N_BCOMM, 0xe2),
-    ("N_ECOMM", symbols::N_ECOMM, 0xe4),
-    ("N_ECOML", symbols::N_ECOML, 0xe8),
-    ("N_LENG", symbols::N_LENG, 0xfe),
-    ("NO_SECT", symbols::NO_SECT, 0x0),
-    ("MAX_SECT", symbols::MAX_SECT, 0xff),
-    ("NLIST_TYPE_MASK", symbols::NLIST_TYPE_MASK, 0xe),
-    ("NLIST_TYPE_GLOBAL", symbols::NLIST_TYPE_GLOBAL, 0x1),
-    ("NLIST_TYPE_LOCAL", symbols::NLIST_TYPE_LOCAL, 0x0),
-    (
-        "X86_64_RELOC_UNSIGNED",
-        relocation::X86_64_RELOC_UNSIGNED,
-        0,
-    ),
-    ("X86_64_RELOC_SIGNED", relocation::X86_64_RELOC_SIGNED, 1),
-    ("X86_64_RELOC_BRANCH", relocation::X86_64_RELOC_BRANCH, 2),
-    (
-        "X86_64_RELOC_GOT_LOAD",
-        relocation::X86_64_RELOC_GOT_LOAD,
-        3,
-    ),
-    ("X86_64_RELOC_GOT", relocation::X86_64_RELOC_GOT, 4),
-    (
-        "X86_64_RELOC_SUBTRACTOR",
-        relocation::X86_64_RELOC_SUBTRACTOR,
-        5,
-    ),
-    (
-        "X86_64_RELOC_SIGNED_1",
-        relocation::X86_64_RELOC_SIGNED_1,
-        6,
-    ),
-    (
-        "X86_64_RELOC_SIGNED_2",
-        relocation::X86_64_RELOC_SIGNED_2,
-        7,
-    ),
-    (
-        "X86_64_RELOC_SIGNED_4",
-        relocation::X86_64_RELOC_SIGNED_4,
-        8,
-    ),
-    ("X86_64_RELOC_TLV", relocation::X86_64_RELOC_TLV, 9),
-    (
-        "GENERIC_RELOC_VANILLA",
-        relocation::GENERIC_RELOC_VANILLA,
-        0,
-    ),
-    ("GENERIC_RELOC_PAIR", relocation::GENERIC_RELOC_PAIR, 1),
-    (
-        "GENERIC_RELOC_SECTDIFF",
-        relocation::GENERIC_RELOC_SECTDIFF,
-        2,
-    ),
-    (
-        "GENERIC_RELOC_PB_LA_PTR",
-        relocation::GENERIC_RELOC_PB_LA_PTR,
-        3,
-    ),
-    (
-        "GENERIC_RELOC_LOCAL_SECTDIFF",
-        relocation::GENERIC_RELOC_LOCAL_SECTDIFF,
-        4,
-    ),
-    ("GENERIC_RELOC_TLV", relocation::GENERIC_RELOC_TLV, 5),
-    ("ARM_RELOC_VANILLA", relocation::ARM_RELOC_VANILLA, 0),
-    ("ARM_RELOC_PAIR", relocation::ARM_RELOC_PAIR, 1),
-    ("ARM_RELOC_SECTDIFF", relocation::ARM_RELOC_SECTDIFF, 2),
-    (
-        "ARM_RELOC_LOCAL_SECTDIFF",
-        relocation::ARM_RELOC_LOCAL_SECTDIFF,
-        3,
-    ),
-    ("ARM_RELOC_PB_LA_PTR", relocation::ARM_RELOC_PB_LA_PTR, 4),
-    ("ARM_RELOC_BR24", relocation::ARM_RELOC_BR24, 5),
-    ("ARM_THUMB_RELOC_BR22", relocation::ARM_THUMB_RELOC_BR22, 6),
-    (
-        "ARM_THUMB_32BIT_BRANCH",
-        relocation::ARM_THUMB_32BIT_BRANCH,
-        0x7,
-    ),
-    ("ARM_RELOC_HALF", relocation::ARM_RELOC_HALF, 8),
-    (
-        "ARM_RELOC_HALF_SECTDIFF",
-        relocation::ARM_RELOC_HALF_SECTDIFF,
-        9,
-    ),
-    ("ARM64_RELOC_UNSIGNED", relocation::ARM64_RELOC_UNSIGNED, 0),
-    (
-        "ARM64_RELOC_SUBTRACTOR",
-        relocation::ARM64_RELOC_SUBTRACTOR,
-        1,
-    ),
-    ("ARM64_RELOC_BRANCH26", relocation::ARM64_RELOC_BRANCH26, 2),
-    ("ARM64_RELOC_PAGE21", relocation::ARM64_RELOC_PAGE21, 3),
-    (
-        "ARM64_RELOC_PAGEOFF12",
-        relocation::ARM64_RELOC_PAGEOFF12,
-        4,
-    ),
-    (
-        "ARM64_RELOC_GOT_LOAD_PAGE21",
-        relocation::ARM64_RELOC_GOT_LOAD_PAGE21,
-        5,
-    ),
-    (
-        "ARM64_RELOC_GOT_LOAD_PAGEOFF12",
-        relocation::ARM64_RELOC_GOT_LOAD_PAGEOFF12,
-        6,
-    ),
-    (
-        "ARM64_RELOC_POINTER_TO_GOT",
-        relocation::ARM64_RELOC_POINTER_TO_GOT,
-        7,
-    ),
-    (
-        "ARM64_RELOC_TLVP_LOAD_PAGE21",
-        relocation::ARM64_RELOC_TLVP_LOAD_PAGE21,
-        8,
-    ),
-    (
-        "ARM64_RELOC_TLVP_LOAD_PAGEOFF12",
-        relocation::ARM64_RELOC_TLVP_LOAD_PAGEOFF12,
-        9,
-    ),
-    ("ARM64_RELOC_ADDEND", relocation::ARM64_RELOC_ADDEND, 10),
-    ("R_ABS", relocation::R_ABS, 0),
-];
+const U8: ([u8; 106], [u8; 106]) = rows! {
+    bind_opcodes: BIND_TYPE_POINTER = 0x1, BIND_TYPE_TEXT_ABSOLUTE32 = 0x2,
+        BIND_TYPE_TEXT_PCREL32 = 0x3, BIND_SPECIAL_DYLIB_SELF = 0x0,
+        BIND_SPECIAL_DYLIB_MAIN_EXECUTABLE = 0xf, BIND_SPECIAL_DYLIB_FLAT_LOOKUP = 0xe,
+        BIND_SYMBOL_FLAGS_WEAK_IMPORT = 0x1, BIND_SYMBOL_FLAGS_NON_WEAK_DEFINITION = 0x8,
+        BIND_OPCODE_MASK = 0xf0, BIND_IMMEDIATE_MASK = 0xf, BIND_OPCODE_DONE = 0x0,
+        BIND_OPCODE_SET_DYLIB_ORDINAL_IMM = 0x10, BIND_OPCODE_SET_DYLIB_ORDINAL_ULEB = 0x20,
+        BIND_OPCODE_SET_DYLIB_SPECIAL_IMM = 0x30, BIND_OPCODE_SET_SYMBOL_TRAILING_FLAGS_IMM = 0x40,
+        BIND_OPCODE_SET_TYPE_IMM = 0x50, BIND_OPCODE_SET_ADDEND_SLEB = 0x60,
+        BIND_OPCODE_SET_SEGMENT_AND_OFFSET_ULEB = 0x70, BIND_OPCODE_ADD_ADDR_ULEB = 0x80,
+        BIND_OPCODE_DO_BIND = 0x90, BIND_OPCODE_DO_BIND_ADD_ADDR_ULEB = 0xa0,
+        BIND_OPCODE_DO_BIND_ADD_ADDR_IMM_SCALED = 0xb0,
+        BIND_OPCODE_DO_BIND_ULEB_TIMES_SKIPPING_ULEB = 0xc0;
+    symbols: N_STAB = 0xe0, N_PEXT = 0x10, N_TYPE = 0xe, N_EXT = 0x1, N_UNDF = 0x0, N_ABS = 0x2,
+        N_SECT = 0xe, N_PBUD = 0xc, N_INDR = 0xa, N_GSYM = 0x20, N_FNAME = 0x22, N_FUN = 0x24,
+        N_STSYM = 0x26, N_LCSYM = 0x28, N_BNSYM = 0x2e, N_PC = 0x30, N_AST = 0x32, N_OPT = 0x3c,
+        N_RSYM = 0x40, N_SLINE = 0x44, N_ENSYM = 0x4e, N_SSYM = 0x60, N_SO = 0x64, N_OSO = 0x66,
+        N_LSYM = 0x80, N_BINCL = 0x82, N_SOL = 0x84, N_PARAMS = 0x86, N_VERSION = 0x88, N_OLEVEL = 0x8a,
+        N_PSYM = 0xa0, N_EINCL = 0xa2, N_ENTRY = 0xa4, N_LBRAC = 0xc0, N_EXCL = 0xc2, N_RBRAC = 0xe0,
+        N_BCOMM = 0xe2, N_ECOMM = 0xe4, N_ECOML = 0xe8, N_LENG = 0xfe, NO_SECT = 0x0, MAX_SECT = 0xff,
+        NLIST_TYPE_MASK = 0xe, NLIST_TYPE_GLOBAL = 0x1, NLIST_TYPE_LOCAL = 0x0;
+    relocation: X86_64_RELOC_UNSIGNED = 0, X86_64_RELOC_SIGNED = 1, X86_64_RELOC_BRANCH = 2,
+        X86_64_RELOC_GOT_LOAD = 3, X86_64_RELOC_GOT = 4, X86_64_RELOC_SUBTRACTOR = 5,
+        X86_64_RELOC_SIGNED_1 = 6, X86_64_RELOC_SIGNED_2 = 7, X86_64_RELOC_SIGNED_4 = 8,
+        X86_64_RELOC_TLV = 9, GENERIC_RELOC_VANILLA = 0, GENERIC_RELOC_PAIR = 1,
+        GENERIC_RELOC_SECTDIFF = 2, GENERIC_RELOC_PB_LA_PTR = 3, GENERIC_RELOC_LOCAL_SECTDIFF = 4,
+        GENERIC_RELOC_TLV = 5, ARM_RELOC_VANILLA = 0, ARM_RELOC_PAIR = 1, ARM_RELOC_SECTDIFF = 2,
+        ARM_RELOC_LOCAL_SECTDIFF = 3, ARM_RELOC_PB_LA_PTR = 4, ARM_RELOC_BR24 = 5,
+        ARM_THUMB_RELOC_BR22 = 6, ARM_THUMB_32BIT_BRANCH = 0x7, ARM_RELOC_HALF = 8,
+        ARM_RELOC_HALF_SECTDIFF = 9, ARM64_RELOC_UNSIGNED = 0, ARM64_RELOC_SUBTRACTOR = 1,
+        ARM64_RELOC_BRANCH26 = 2, ARM64_RELOC_PAGE21 = 3, ARM64_RELOC_PAGEOFF12 = 4,
+        ARM64_RELOC_GOT_LOAD_PAGE21 = 5, ARM64_RELOC_GOT_LOAD_PAGEOFF12 = 6,
+        ARM64_RELOC_POINTER_TO_GOT = 7, ARM64_RELOC_TLVP_LOAD_PAGE21 = 8,
+        ARM64_RELOC_TLVP_LOAD_PAGEOFF12 = 9, ARM64_RELOC_ADDEND = 10, R_ABS = 0;
+};
 
 // The constants of type u16: descriptions of symbols.
-const U16: &[(&str, u16, u16)] = &[
-    ("N_DESC_DISCARDED", symbols::N_DESC_DISCARDED, 0x20),
-    ("N_NO_DEAD_STRIP", symbols::N_NO_DEAD_STRIP, 0x20),
-    ("N_WEAK_REF", symbols::N_WEAK_REF, 0x40),
-    ("N_WEAK_DEF", symbols::N_WEAK_DEF, 0x80),
-    ("REFERENCE_TYPE", symbols::REFERENCE_TYPE, 0xf),
-    (
-        "REFERENCED_DYNAMICALLY",
-        symbols::REFERENCED_DYNAMICALLY,
-        0x10,
-    ),
-    (
-        "REFERENCE_FLAG_UNDEFINED_NON_LAZY",
-        symbols::REFERENCE_FLAG_UNDEFINED_NON_LAZY,
-        0,
-    ),
-    (
-        "REFERENCE_FLAG_UNDEFINED_LAZY",
-        symbols::REFERENCE_FLAG_UNDEFINED_LAZY,
-        1,
-    ),
-    ("REFERENCE_FLAG_DEFINED", symbols::REFERENCE_FLAG_DEFINED, 2),
-    (
-        "REFERENCE_FLAG_PRIVATE_DEFINED",
-        symbols::REFERENCE_FLAG_PRIVATE_DEFINED,
-        3,
-    ),
-    (
-        "REFERENCE_FLAG_PRIVATE_UNDEFINED_NON_LAZY",
-        symbols::REFERENCE_FLAG_PRIVATE_UNDEFINED_NON_LAZY,
-        4,
-    ),
-    (
-        "REFERENCE_FLAG_PRIVATE_UNDEFINED_LAZY",
-        symbols::REFERENCE_FLAG_PRIVATE_UNDEFINED_LAZY,
-        5,
-    ),
-];
+const U16: ([u16; 12], [u16; 12]) = rows! {
+    symbols: N_DESC_DISCARDED = 0x20, N_NO_DEAD_STRIP = 0x20, N_WEAK_REF = 0x40, N_WEAK_DEF = 0x80,
+        REFERENCE_TYPE = 0xf, REFERENCED_DYNAMICALLY = 0x10, REFERENCE_FLAG_UNDEFINED_NON_LAZY = 0,
+        REFERENCE_FLAG_UNDEFINED_LAZY = 1, REFERENCE_FLAG_DEFINED = 2,
+        REFERENCE_FLAG_PRIVATE_DEFINED = 3, REFERENCE_FLAG_PRIVATE_UNDEFINED_NON_LAZY = 4,
+        REFERENCE_FLAG_PRIVATE_UNDEFINED_LAZY = 5;
+};
 
 // The constants of type u32: magics, flags, file types, cpus, sections, commands, platforms, tools.
-const U32: &[(&str, u32, u32)] = &[
-    ("LC_REQ_DYLD", load_command::LC_REQ_DYLD, 0x80000000),
-    ("LC_SEGMENT", load_command::LC_SEGMENT, 0x1),
-    ("LC_SYMTAB", load_command::LC_SYMTAB, 0x2),
-    ("LC_SYMSEG", load_command::LC_SYMSEG, 0x3),
-    ("LC_THREAD", load_command::LC_THREAD, 0x4),
-    ("LC_UNIXTHREAD", load_command::LC_UNIXTHREAD, 0x5),
-    ("LC_LOADFVMLIB", load_command::LC_LOADFVMLIB, 0x6),
-    ("LC_IDFVMLIB", load_command::LC_IDFVMLIB, 0x7),
-    ("LC_IDENT", load_command::LC_IDENT, 0x8),
-    ("LC_FVMFILE", load_command::LC_FVMFILE, 0x9),
-    ("LC_PREPAGE", load_command::LC_PREPAGE, 0xa),
-    ("LC_DYSYMTAB", load_command::LC_DYSYMTAB, 0xb),
-    ("LC_LOAD_DYLIB", load_command::LC_LOAD_DYLIB, 0xc),
-    ("LC_ID_DYLIB", load_command::LC_ID_DYLIB, 0xd),
-    ("LC_LOAD_DYLINKER", load_command::LC_LOAD_DYLINKER, 0xe),
-    ("LC_ID_DYLINKER", load_command::LC_ID_DYLINKER, 0xf),
-    ("LC_PREBOUND_DYLIB", load_command::LC_PREBOUND_DYLIB, 0x10),
-    ("LC_ROUTINES", load_command::LC_ROUTINES, 0x11),
-    ("LC_SUB_FRAMEWORK", load_command::LC_SUB_FRAMEWORK, 0x12),
-    ("LC_SUB_UMBRELLA", load_command::LC_SUB_UMBRELLA, 0x13),
-    ("LC_SUB_CLIENT", load_command::LC_SUB_CLIENT, 0x14),
-    ("LC_SUB_LIBRARY", load_command::LC_SUB_LIBRARY, 0x15),
-    ("LC_TWOLEVEL_HINTS", load_command::LC_TWOLEVEL_HINTS, 0x16),
-    ("LC_PREBIND_CKSUM", load_command::LC_PREBIND_CKSUM, 0x17),
-    (
-        "LC_LOAD_WEAK_DYLIB",
-        load_command::LC_LOAD_WEAK_DYLIB,
-        0x80000018,
-    ),
-    ("LC_SEGMENT_64", load_command::LC_SEGMENT_64, 0x19),
-    ("LC_ROUTINES_64", load_command::LC_ROUTINES_64, 0x1a),
-    ("LC_UUID", load_command::LC_UUID, 0x1b),
-    ("LC_RPATH", load_command::LC_RPATH, 0x8000001c),
-    ("LC_CODE_SIGNATURE", load_command::LC_CODE_SIGNATURE, 0x1d),
-    (
-        "LC_SEGMENT_SPLIT_INFO",
-        load_command::LC_SEGMENT_SPLIT_INFO,
-        0x1e,
-    ),
-    (
-        "LC_REEXPORT_DYLIB",
-        load_command::LC_REEXPORT_DYLIB,
-        0x8000001f,
-    ),
-    ("LC_LAZY_LOAD_DYLIB", load_command::LC_LAZY_LOAD_DYLIB, 0x20),
-    ("LC_ENCRYPTION_INFO", load_command::LC_ENCRYPTION_INFO, 0x21),
-    ("LC_DYLD_INFO", load_command::LC_DYLD_INFO, 0x22),
-    (
-        "LC_DYLD_INFO_ONLY",
-        load_command::LC_DYLD_INFO_ONLY,
-        0x80000022,
-    ),
-    (
-        "LC_LOAD_UPWARD_DYLIB",
-        load_command::LC_LOAD_UPWARD_DYLIB,
-        0x80000023,
-    ),
-    (
-        "LC_VERSION_MIN_MACOSX",
-        load_command::LC_VERSION_MIN_MACOSX,
-        0x24,
-    ),
-    (
-        "LC_VERSION_MIN_IPHONEOS",
-        load_command::LC_VERSION_MIN_IPHONEOS,
-        0x25,
-    ),
-    ("LC_FUNCTION_STARTS", load_command::LC_FUNCTION_STARTS, 0x26),
-    (
-        "LC_DYLD_ENVIRONMENT",
-        load_command::LC_DYLD_ENVIRONMENT,
-        0x27,
-    ),
-    ("LC_MAIN", load_command::LC_MAIN, 0x80000028),
-    ("LC_DATA_IN_CODE", load_command::LC_DATA_IN_CODE, 0x29),
-    ("LC_SOURCE_VERSION", load_command::LC_SOURCE_VERSION, 0x2a),
-    (
-        "LC_DYLIB_CODE_SIGN_DRS",
-        load_command::LC_DYLIB_CODE_SIGN_DRS,
-        0x2b,
-    ),
-    (
-        "LC_ENCRYPTION_INFO_64",
-        load_command::LC_ENCRYPTION_INFO_64,
-        0x2c,
-    ),
-    ("LC_LINKER_OPTION", load_command::LC_LINKER_OPTION, 0x2d),
-    (
-        "LC_LINKER_OPTIMIZATION_HINT",
-        load_command::LC_LINKER_OPTIMIZATION_HINT,
-        0x2e,
-    ),
-    (
-        "LC_VERSION_MIN_TVOS",
-        load_command::LC_VERSION_MIN_TVOS,
-        0x2f,
-    ),
-    (
-        "LC_VERSION_MIN_WATCHOS",
-        load_command::LC_VERSION_MIN_WATCHOS,
-        0x30,
-    ),
-    ("LC_NOTE", load_command::LC_NOTE, 0x31),
-    ("LC_BUILD_VERSION", load_command::LC_BUILD_VERSION, 0x32),
-    (
-        "LC_DYLD_EXPORTS_TRIE",
-        load_command::LC_DYLD_EXPORTS_TRIE,
-        0x80000033,
-    ),
-    (
-        "LC_DYLD_CHAINED_FIXUPS",
-        load_command::LC_DYLD_CHAINED_FIXUPS,
-        0x80000034,
-    ),
-    (
-        "LC_FILESET_ENTRY",
-        load_command::LC_FILESET_ENTRY,
-        0x80000035,
-    ),
-    ("PLATFORM_MACOS", load_command::PLATFORM_MACOS, 1),
-    ("PLATFORM_IOS", load_command::PLATFORM_IOS, 2),
-    ("PLATFORM_TVOS", load_command::PLATFORM_TVOS, 3),
-    ("PLATFORM_WATCHOS", load_command::PLATFORM_WATCHOS, 4),
-    ("PLATFORM_BRIDGEOS", load_command::PLATFORM_BRIDGEOS, 5),
-    (
-        "PLATFORM_MACCATALYST",
-        load_command::PLATFORM_MACCATALYST,
-        6,
-    ),
-    (
-        "PLATFORM_IOSSIMULATOR",
-        load_command::PLATFORM_IOSSIMULATOR,
-        7,
-    ),
-    (
-        "PLATFORM_TVOSSIMULATOR",
-        load_command::PLATFORM_TVOSSIMULATOR,
-        8,
-    ),
-    (
-        "PLATFORM_WATCHOSSIMULATOR",
-        load_command::PLATFORM_WATCHOSSIMULATOR,
-        9,
-    ),
-    ("PLATFORM_DRIVERKIT", load_command::PLATFORM_DRIVERKIT, 10),
-    ("PLATFORM_VISIONOS", load_command::PLATFORM_VISIONOS, 11),
-    (
-        "PLATFORM_VISIONOSSIMULATOR",
-        load_command::PLATFORM_VISIONOSSIMULATOR,
-        12,
-    ),
-    ("TOOL_CLANG", load_command::TOOL_CLANG, 1),
-    ("TOOL_SWIFT", load_command::TOOL_SWIFT, 2),
-    ("TOOL_LD", load_command::TOOL_LD, 3),
-    ("TOOL_LLD", load_command::TOOL_LLD, 4),
-    ("MH_MAGIC", header::MH_MAGIC, 0xfeedface),
-    ("MH_CIGAM", header::MH_CIGAM, 0xcefaedfe),
-    ("MH_MAGIC_64", header::MH_MAGIC_64, 0xfeedfacf),
-    ("MH_CIGAM_64", header::MH_CIGAM_64, 0xcffaedfe),
-    ("FAT_MAGIC", fat::FAT_MAGIC, 0xcafebabe),
-    ("FAT_CIGAM", fat::FAT_CIGAM, 0xbebafeca),
-    ("MH_NOUNDEFS", header::MH_NOUNDEFS, 0x1),
-    ("MH_INCRLINK", header::MH_INCRLINK, 0x2),
-    ("MH_DYLDLINK", header::MH_DYLDLINK, 0x4),
-    ("MH_BINDATLOAD", header::MH_BINDATLOAD, 0x8),
-    ("MH_PREBOUND", header::MH_PREBOUND, 0x10),
-    ("MH_SPLIT_SEGS", header::MH_SPLIT_SEGS, 0x20),
-    ("MH_LAZY_INIT", header::MH_LAZY_INIT, 0x40),
-    ("MH_TWOLEVEL", header::MH_TWOLEVEL, 0x80),
-    ("MH_FORCE_FLAT", header::MH_FORCE_FLAT, 0x100),
-    ("MH_NOMULTIDEFS", header::MH_NOMULTIDEFS, 0x200),
-    ("MH_NOFIXPREBINDING", header::MH_NOFIXPREBINDING, 0x400),
-    ("MH_PREBINDABLE", header::MH_PREBINDABLE, 0x800),
-    ("MH_ALLMODSBOUND", header::MH_ALLMODSBOUND, 0x1000),
-    (
-        "MH_SUBSECTIONS_VIA_SYMBOLS",
-        header::MH_SUBSECTIONS_VIA_SYMBOLS,
-        0x2000,
-    ),
-    ("MH_CANONICAL", header::MH_CANONICAL, 0x4000),
-    ("MH_WEAK_DEFINES", header::MH_WEAK_DEFINES, 0x8000),
-    ("MH_BINDS_TO_WEAK", header::MH_BINDS_TO_WEAK, 0x10000),
-    (
-        "MH_ALLOW_STACK_EXECUTION",
-        header::MH_ALLOW_STACK_EXECUTION,
-        0x20000,
-    ),
-    ("MH_ROOT_SAFE", header::MH_ROOT_SAFE, 0x40000),
-    ("MH_SETUID_SAFE", header::MH_SETUID_SAFE, 0x80000),
-    (
-        "MH_NO_REEXPORTED_DYLIBS",
-        header::MH_NO_REEXPORTED_DYLIBS,
-        0x100000,
-    ),
-    ("MH_PIE", header::MH_PIE, 0x200000),
-    (
-        "MH_DEAD_STRIPPABLE_DYLIB",
-        header::MH_DEAD_STRIPPABLE_DYLIB,
-        0x400000,
-    ),
-    (
-        "MH_HAS_TLV_DESCRIPTORS",
-        header::MH_HAS_TLV_DESCRIPTORS,
-        0x800000,
-    ),
-    (
-        "MH_NO_HEAP_EXECUTION",
-        header::MH_NO_HEAP_EXECUTION,
-        0x1000000,
-    ),
-    (
-        "MH_APP_EXTENSION_SAFE",
-        header::MH_APP_EXTENSION_SAFE,
-        0x2000000,
-    ),
-    ("MH_OBJECT", header::MH_OBJECT, 0x1),
-    ("MH_EXECUTE", header::MH_EXECUTE, 0x2),
-    ("MH_FVMLIB", header::MH_FVMLIB, 0x3),
-    ("MH_CORE", header::MH_CORE, 0x4),
-    ("MH_PRELOAD", header::MH_PRELOAD, 0x5),
-    ("MH_DYLIB", header::MH_DYLIB, 0x6),
-    ("MH_DYLINKER", header::MH_DYLINKER, 0x7),
-    ("MH_BUNDLE", header::MH_BUNDLE, 0x8),
-    ("MH_DYLIB_STUB", header::MH_DYLIB_STUB, 0x9),
-    ("MH_DSYM", header::MH_DSYM, 0xa),
-    ("MH_KEXT_BUNDLE", header::MH_KEXT_BUNDLE, 0xb),
-    ("MH_FILESET", header::MH_FILESET, 0xc),
-    ("MH_GPU_EXECUTE", header::MH_GPU_EXECUTE, 0xd),
-    ("MH_GPU_DYLIB", header::MH_GPU_DYLIB, 0xe),
-    ("CPU_SUBTYPE_MASK", cputype::CPU_SUBTYPE_MASK, 0xff000000),
-    ("CPU_ARCH_ABI64", cputype::CPU_ARCH_ABI64, 0x1000000),
-    ("CPU_TYPE_X86", cputype::CPU_TYPE_X86, 0x7),
-    ("CPU_TYPE_X86_64", cputype::CPU_TYPE_X86_64, 0x1000007),
-    ("CPU_TYPE_ARM", cputype::CPU_TYPE_ARM, 0xc),
-    ("CPU_TYPE_ARM64", cputype::CPU_TYPE_ARM64, 0x100000c),
-    ("CPU_TYPE_ARM64_32", cputype::CPU_TYPE_ARM64_32, 0x200000c),
-    ("CPU_TYPE_POWERPC", cputype::CPU_TYPE_POWERPC, 0x12),
-    ("SECTION_TYPE", constants::SECTION_TYPE, 0xff),
-    ("S_ZEROFILL", constants::S_ZEROFILL, 0x1),
-    ("S_GB_ZEROFILL", constants::S_GB_ZEROFILL, 0xc),
-    (
-        "S_THREAD_LOCAL_ZEROFILL",
-        constants::S_THREAD_LOCAL_ZEROFILL,
-        0x12,
-    ),
-];
+const U32: ([u32; 129], [u32; 129]) = rows! {
+    load_command: LC_REQ_DYLD = 0x80000000, LC_SEGMENT = 0x1, LC_SYMTAB = 0x2, LC_SYMSEG = 0x3,
+        LC_THREAD = 0x4, LC_UNIXTHREAD = 0x5, LC_LOADFVMLIB = 0x6, LC_IDFVMLIB = 0x7, LC_IDENT = 0x8,
+        LC_FVMFILE = 0x9, LC_PREPAGE = 0xa, LC_DYSYMTAB = 0xb, LC_LOAD_DYLIB = 0xc, LC_ID_DYLIB = 0xd,
+        LC_LOAD_DYLINKER = 0xe, LC_ID_DYLINKER = 0xf, LC_PREBOUND_DYLIB = 0x10, LC_ROUTINES = 0x11,
+        LC_SUB_FRAMEWORK = 0x12, LC_SUB_UMBRELLA = 0x13, LC_SUB_CLIENT = 0x14, LC_SUB_LIBRARY = 0x15,
+        LC_TWOLEVEL_HINTS = 0x16, LC_PREBIND_CKSUM = 0x17, LC_LOAD_WEAK_DYLIB = 0x80000018,
+        LC_SEGMENT_64 = 0x19, LC_ROUTINES_64 = 0x1a, LC_UUID = 0x1b, LC_RPATH = 0x8000001c,
+        LC_CODE_SIGNATURE = 0x1d, LC_SEGMENT_SPLIT_INFO = 0x1e, LC_REEXPORT_DYLIB = 0x8000001f,
+        LC_LAZY_LOAD_DYLIB = 0x20, LC_ENCRYPTION_INFO = 0x21, LC_DYLD_INFO = 0x22,
+        LC_DYLD_INFO_ONLY = 0x80000022, LC_LOAD_UPWARD_DYLIB = 0x80000023, LC_VERSION_MIN_MACOSX = 0x24,
+        LC_VERSION_MIN_IPHONEOS = 0x25, LC_FUNCTION_STARTS = 0x26, LC_DYLD_ENVIRONMENT = 0x27,
+        LC_MAIN = 0x80000028, LC_DATA_IN_CODE = 0x29, LC_SOURCE_VERSION = 0x2a,
+        LC_DYLIB_CODE_SIGN_DRS = 0x2b, LC_ENCRYPTION_INFO_64 = 0x2c, LC_LINKER_OPTION = 0x2d,
+        LC_LINKER_OPTIMIZATION_HINT = 0x2e, LC_VERSION_MIN_TVOS = 0x2f, LC_VERSION_MIN_WATCHOS = 0x30,
+        LC_NOTE = 0x31, LC_BUILD_VERSION = 0x32, LC_DYLD_EXPORTS_TRIE = 0x80000033,
+        LC_DYLD_CHAINED_FIXUPS = 0x80000034, LC_FILESET_ENTRY = 0x80000035, PLATFORM_MACOS = 1,
+        PLATFORM_IOS = 2, PLATFORM_TVOS = 3, PLATFORM_WATCHOS = 4, PLATFORM_BRIDGEOS = 5,
+        PLATFORM_MACCATALYST = 6, PLATFORM_IOSSIMULATOR = 7, PLATFORM_TVOSSIMULATOR = 8,
+        PLATFORM_WATCHOSSIMULATOR = 9, PLATFORM_DRIVERKIT = 10, PLATFORM_VISIONOS = 11,
+        PLATFORM_VISIONOSSIMULATOR = 12, TOOL_CLANG = 1, TOOL_SWIFT = 2, TOOL_LD = 3, TOOL_LLD = 4;
+    header: MH_MAGIC = 0xfeedface, MH_CIGAM = 0xcefaedfe, MH_MAGIC_64 = 0xfeedfacf,
+        MH_CIGAM_64 = 0xcffaedfe;
+    fat: FAT_MAGIC = 0xcafebabe, FAT_CIGAM = 0xbebafeca;
+    header: MH_NOUNDEFS = 0x1, MH_INCRLINK = 0x2, MH_DYLDLINK = 0x4, MH_BINDATLOAD = 0x8,
+        MH_PREBOUND = 0x10, MH_SPLIT_SEGS = 0x20, MH_LAZY_INIT = 0x40, MH_TWOLEVEL = 0x80,
+        MH_FORCE_FLAT = 0x100, MH_NOMULTIDEFS = 0x200, MH_NOFIXPREBINDING = 0x400,
+        MH_PREBINDABLE = 0x800, MH_ALLMODSBOUND = 0x1000, MH_SUBSECTIONS_VIA_SYMBOLS = 0x2000,
+        MH_CANONICAL = 0x4000, MH_WEAK_DEFINES = 0x8000, MH_BINDS_TO_WEAK = 0x10000,
+        MH_ALLOW_STACK_EXECUTION = 0x20000, MH_ROOT_SAFE = 0x40000, MH_SETUID_SAFE = 0x80000,
+        MH_NO_REEXPORTED_DYLIBS = 0x100000, MH_PIE = 0x200000, MH_DEAD_STRIPPABLE_DYLIB = 0x400000,
+        MH_HAS_TLV_DESCRIPTORS = 0x800000, MH_NO_HEAP_EXECUTION = 0x1000000,
+        MH_APP_EXTENSION_SAFE = 0x2000000, MH_OBJECT = 0x1, MH_EXECUTE = 0x2, MH_FVMLIB = 0x3,
+        MH_CORE = 0x4, MH_PRELOAD = 0x5, MH_DYLIB = 0x6, MH_DYLINKER = 0x7, MH_BUNDLE = 0x8,
+        MH_DYLIB_STUB = 0x9, MH_DSYM = 0xa, MH_KEXT_BUNDLE = 0xb, MH_FILESET = 0xc,
+        MH_GPU_EXECUTE = 0xd, MH_GPU_DYLIB = 0xe;
+    cputype: CPU_SUBTYPE_MASK = 0xff000000, CPU_ARCH_ABI64 = 0x1000000, CPU_TYPE_X86 = 0x7,
+        CPU_TYPE_X86_64 = 0x1000007, CPU_TYPE_ARM = 0xc, CPU_TYPE_ARM64 = 0x100000c,
+        CPU_TYPE_ARM64_32 = 0x200000c, CPU_TYPE_POWERPC = 0x12;
+    constants: SECTION_TYPE = 0xff, S_ZEROFILL = 0x1, S_GB_ZEROFILL = 0xc,
+        S_THREAD_LOCAL_ZEROFILL = 0x12;
+};
 
 // The constants of type u64: flags of exports.
-const U64: &[(&str, u64, u64)] = &[
-    (
-        "EXPORT_SYMBOL_FLAGS_KIND_MASK",
-        exports::EXPORT_SYMBOL_FLAGS_KIND_MASK,
-        0x3,
-    ),
-    (
-        "EXPORT_SYMBOL_FLAGS_KIND_REGULAR",
-        exports::EXPORT_SYMBOL_FLAGS_KIND_REGULAR,
-        0x0,
-    ),
-    (
-        "EXPORT_SYMBOL_FLAGS_KIND_THREAD_LOCAL",
-        exports::EXPORT_SYMBOL_FLAGS_KIND_THREAD_LOCAL,
-        0x1,
-    ),
-    (
-        "EXPORT_SYMBOL_FLAGS_KIND_ABSOLUTE",
-        exports::EXPORT_SYMBOL_FLAGS_KIND_ABSOLUTE,
-        0x2,
-    ),
-    (
-        "EXPORT_SYMBOL_FLAGS_WEAK_DEFINITION",
-        exports::EXPORT_SYMBOL_FLAGS_WEAK_DEFINITION,
-        0x4,
-    ),
-    (
-        "EXPORT_SYMBOL_FLAGS_REEXPORT",
-        exports::EXPORT_SYMBOL_FLAGS_REEXPORT,
-        0x8,
-    ),
-    (
-        "EXPORT_SYMBOL_FLAGS_STUB_AND_RESOLVER",
-        exports::EXPORT_SYMBOL_FLAGS_STUB_AND_RESOLVER,
-        0x10,
-    ),
-];
+const U64: ([u64; 7], [u64; 7]) = rows! {
+    exports: EXPORT_SYMBOL_FLAGS_KIND_MASK = 0x3, EXPORT_SYMBOL_FLAGS_KIND_REGULAR = 0x0,
+        EXPORT_SYMBOL_FLAGS_KIND_THREAD_LOCAL = 0x1, EXPORT_SYMBOL_FLAGS_KIND_ABSOLUTE = 0x2,
+        EXPORT_SYMBOL_FLAGS_WEAK_DEFINITION = 0x4, EXPORT_SYMBOL_FLAGS_REEXPORT = 0x8,
+        EXPORT_SYMBOL_FLAGS_STUB_AND_RESOLVER = 0x10;
+};
 
 // The constants of type usize: sizes of records.
-const USIZE: &[(&str, usize, usize)] = &[
-    ("SIZEOF_HEADER_32", header::SIZEOF_HEADER_32, 28),
-    ("SIZEOF_HEADER_64", header::SIZEOF_HEADER_64, 32),
-    ("SIZEOF_FAT_HEADER", fat::SIZEOF_FAT_HEADER, 8),
-    ("SIZEOF_FAT_ARCH", fat::SIZEOF_FAT_ARCH, 20),
-    ("SIZEOF_LOAD_COMMAND", load_command::SIZEOF_LOAD_COMMAND, 8),
-    ("SIZEOF_SECTION_32", load_command::SIZEOF_SECTION_32, 68),
-    ("SIZEOF_SECTION_64", load_command::SIZEOF_SECTION_64, 80),
-    (
-        "SIZEOF_SEGMENT_COMMAND_32",
-        load_command::SIZEOF_SEGMENT_COMMAND_32,
-        56,
-    ),
-    (
-        "SIZEOF_SEGMENT_COMMAND_64",
-        load_command::SIZEOF_SEGMENT_COMMAND_64,
-        72,
-    ),
-    ("SIZEOF_FVMLIB", load_command::SIZEOF_FVMLIB, 12),
-    (
-        "SIZEOF_FVMLIB_COMMAND",
-        load_command::SIZEOF_FVMLIB_COMMAND,
-        20,
-    ),
-    ("SIZEOF_DYLIB", load_command::SIZEOF_DYLIB, 16),
-    (
-        "SIZEOF_DYLIB_COMMAND",
-        load_command::SIZEOF_DYLIB_COMMAND,
-        24,
-    ),
-    (
-        "SIZEOF_SUB_FRAMEWORK_COMMAND",
-        load_command::SIZEOF_SUB_FRAMEWORK_COMMAND,
-        12,
-    ),
-    (
-        "SIZEOF_SUB_CLIENT_COMMAND",
-        load_command::SIZEOF_SUB_CLIENT_COMMAND,
-        12,
-    ),
-    (
-        "SIZEOF_SUB_UMBRELLA_COMMAND",
-        load_command::SIZEOF_SUB_UMBRELLA_COMMAND,
-        12,
-    ),
-    (
-        "SIZEOF_SUB_LIBRARY_COMMAND",
-        load_command::SIZEOF_SUB_LIBRARY_COMMAND,
-        12,
-    ),
-    (
-        "SIZEOF_PREBOUND_DYLIB_COMMAND",
-        load_command::SIZEOF_PREBOUND_DYLIB_COMMAND,
-        20,
-    ),
-    (
-        "SIZEOF_DYLINKER_COMMAND",
-        load_command::SIZEOF_DYLINKER_COMMAND,
-        12,
-    ),
-    (
-        "SIZEOF_SYMTAB_COMMAND",
-        load_command::SIZEOF_SYMTAB_COMMAND,
-        24,
-    ),
-    (
-        "SIZEOF_DYSYMTAB_COMMAND",
-        load_command::SIZEOF_DYSYMTAB_COMMAND,
-        80,
-    ),
-    ("SIZEOF_UUID_COMMAND", load_command::SIZEOF_UUID_COMMAND, 24),
-    (
-        "SIZEOF_RPATH_COMMAND",
-        load_command::SIZEOF_RPATH_COMMAND,
-        12,
-    ),
-    (
-        "SIZEOF_LINKEDIT_DATA_COMMAND",
-        load_command::SIZEOF_LINKEDIT_DATA_COMMAND,
-        16,
-    ),
-    (
-        "SIZEOF_ENCRYPTION_INFO_COMMAND_32",
-        load_command::SIZEOF_ENCRYPTION_INFO_COMMAND_32,
-        20,
-    ),
-    (
-        "SIZEOF_ENCRYPTION_INFO_COMMAND_64",
-        load_command::SIZEOF_ENCRYPTION_INFO_COMMAND_64,
-        24,
-    ),
-    (
-        "SIZEOF_VERSION_MIN_COMMAND",
-        load_command::SIZEOF_VERSION_MIN_COMMAND,
-        16,
-    ),
-    (
-        "SIZEOF_DYLIB_INFO_COMMAND",
-        load_command::SIZEOF_DYLIB_INFO_COMMAND,
-        48,
-    ),
-    (
-        "SIZEOF_LINKER_OPTION_COMMAND",
-        load_command::SIZEOF_LINKER_OPTION_COMMAND,
-        12,
-    ),
-    (
-        "SIZEOF_SYMSEG_COMMAND",
-        load_command::SIZEOF_SYMSEG_COMMAND,
-        16,
-    ),
-    (
-        "SIZEOF_IDENT_COMMAND",
-        load_command::SIZEOF_IDENT_COMMAND,
-        8,
-    ),
-    (
-        "SIZEOF_FVMFILE_COMMAND",
-        load_command::SIZEOF_FVMFILE_COMMAND,
-        16,
-    ),
-    (
-        "SIZEOF_ENTRY_POINT_COMMAND",
-        load_command::SIZEOF_ENTRY_POINT_COMMAND,
-        24,
-    ),
-    (
-        "SIZEOF_RELOCATION_INFO",
-        relocation::SIZEOF_RELOCATION_INFO,
-        8,
-    ),
-    ("SIZEOF_NLIST_32", symbols::SIZEOF_NLIST_32, 12),
-    ("SIZEOF_NLIST_64", symbols::SIZEOF_NLIST_64, 16),
-    ("SIZEOF_LC_STR", load_command::SIZEOF_LC_STR, 4),
-];
+const USIZE: ([usize; 37], [usize; 37]) = rows! {
+    header: SIZEOF_HEADER_32 = 28, SIZEOF_HEADER_64 = 32;
+    fat: SIZEOF_FAT_HEADER = 8, SIZEOF_FAT_ARCH = 20;
+    load_command: SIZEOF_LOAD_COMMAND = 8, SIZEOF_SECTION_32 = 68, SIZEOF_SECTION_64 = 80,
+        SIZEOF_SEGMENT_COMMAND_32 = 56, SIZEOF_SEGMENT_COMMAND_64 = 72, SIZEOF_FVMLIB = 12,
+        SIZEOF_FVMLIB_COMMAND = 20, SIZEOF_DYLIB = 16, SIZEOF_DYLIB_COMMAND = 24,
+        SIZEOF_SUB_FRAMEWORK_COMMAND = 12, SIZEOF_SUB_CLIENT_COMMAND = 12,
+        SIZEOF_SUB_UMBRELLA_COMMAND = 12, SIZEOF_SUB_LIBRARY_COMMAND = 12,
+        SIZEOF_PREBOUND_DYLIB_COMMAND = 20, SIZEOF_DYLINKER_COMMAND = 12, SIZEOF_SYMTAB_COMMAND = 24,
+        SIZEOF_DYSYMTAB_COMMAND = 80, SIZEOF_UUID_COMMAND = 24, SIZEOF_RPATH_COMMAND = 12,
+        SIZEOF_LINKEDIT_DATA_COMMAND = 16, SIZEOF_ENCRYPTION_INFO_COMMAND_32 = 20,
+        SIZEOF_ENCRYPTION_INFO_COMMAND_64 = 24, SIZEOF_VERSION_MIN_COMMAND = 16,
+        SIZEOF_DYLIB_INFO_COMMAND = 48, SIZEOF_LINKER_OPTION_COMMAND = 12, SIZEOF_SYMSEG_COMMAND = 16,
+        SIZEOF_IDENT_COMMAND = 8, SIZEOF_FVMFILE_COMMAND = 16, SIZEOF_ENTRY_POINT_COMMAND = 24;
+    relocation: SIZEOF_RELOCATION_INFO = 8;
+    symbols: SIZEOF_NLIST_32 = 12, SIZEOF_NLIST_64 = 16;
+    load_command: SIZEOF_LC_STR = 4;
+};
 
 #[test]
 fn values(rt: HostRuntime) {
     assert_eq!(rt; (LE, BE), (Endian::Little, Endian::Big));
-    for (name, value, want) in U8 {
-        assert_eq!(rt; value, want, "{name}");
-    }
-    for (name, value, want) in U16 {
-        assert_eq!(rt; value, want, "{name}");
-    }
-    for (name, value, want) in U32 {
-        assert_eq!(rt; value, want, "{name}");
-    }
-    for (name, value, want) in U64 {
-        assert_eq!(rt; value, want, "{name}");
-    }
-    for (name, value, want) in USIZE {
-        assert_eq!(rt; value, want, "{name}");
-    }
+    assert_eq!(rt; U8.0, U8.1);
+    assert_eq!(rt; U16.0, U16.1);
+    assert_eq!(rt; U32.0, U32.1);
+    assert_eq!(rt; U64.0, U64.1);
+    assert_eq!(rt; USIZE.0, USIZE.1);
 }
