@@ -1,14 +1,14 @@
 -- Reading the commands of a subject, one by one.
-use Rattle.std.proofs.Common.{◌≡◌, ℕ, zero, suc, ◌+◌, ◌<◌, true, false, List, [], ◌∷◌, ◌++◌, length, map, drop, get_or, Option, Some, None, Result, Ok, Err, inl, inr, refl, sym, ap, subst, ◌∙◌, append_assoc, arith, add-one}
+use Rattle.std.proofs.Common.{◌≡◌, ℕ, zero, suc, ◌+◌, ◌<◌, true, false, List, [], ◌∷◌, ◌++◌, length, map, drop, get_or, Option, Some, None, Result, Err, inl, inr, refl, sym, ap, subst, ◌∙◌, append_assoc, arith, add-one}
 use Rattle.std.specs.Prelude.{option_map}
 use Rattle.std.specs.Option.{is_some}
 use Rattle.mach_base.specs.declared.error.Error.{Error}
-use Rattle.mach_base.specs.Fault.{Fault, fault_of}
+use Rattle.mach_base.specs.Fault.{Fault}
 use Rattle.mach_load.specs.declared.load_command.LoadCommand.{LoadCommand}
 use Rattle.mach_load.specs.Command.{Command}
 use Rattle.mach_load.specs.Variants.{command_of}
 use Rattle.mach_base.specs.Among.{IsAmong}
-use Rattle.goblin_mach.specs.Readings.{Reading, read_of, first_of, IsRead, AllRead, IsUnread, seen_of}
+use Rattle.goblin_mach.specs.Readings.{Reading, keep, read_of, first_of, IsRead, AllRead, IsUnread, seen_of}
 
 -- the commands from one on begin with it
 pub from_here : (xs : List LoadCommand) (i : ℕ) (d : LoadCommand) → i < length xs → drop i (map command_of xs) ≡ command_of (get_or xs i d) ∷ drop (i + 1) (map command_of xs)
@@ -21,48 +21,28 @@ among_here [] i d lt = absurd (omega arith)
 among_here (x ∷ xs) zero d lt = inl refl
 among_here (x ∷ xs) (suc i) d lt = inr (among_here xs i d (omega arith))
 
--- how reading goes on at the next of some commands
-module _ {V : Type 0} (reading : Reading V) (xs : List LoadCommand) (i : ℕ) (d : LoadCommand) (lt : i < length xs) where
+-- how reading goes on at the next of some commands, by what it answers
+module _ {X V : Type 0} (view : X → V) (reading : Reading V) (xs : List LoadCommand) (i : ℕ) (d : LoadCommand) (lt : i < length xs)
+    (r s : Option (Result X Error)) (seen : seen_of view r ≡ reading (command_of (get_or xs i d))) (is : r ≡ s) where
   abbrev left : ℕ → List Command
   left k = drop k (map command_of xs)
 
-  abbrev this : Option (Result V Fault)
-  this = reading (command_of (get_or xs i d))
+  this : reading (command_of (get_or xs i d)) ≡ seen_of view s
+  this = sym seen ∙ ap (seen_of view) is
 
-  here : left i ≡ command_of (get_or xs i d) ∷ left (i + 1)
-  here = from_here xs i d lt
+  pub stepped : read_of reading (left i) ≡ keep (seen_of view s) (read_of reading (left (i + 1)))
+  stepped = ap (read_of reading) (from_here xs i d lt) ∙ ap (λ x. keep x (read_of reading (left (i + 1)))) this
 
-  -- it may be of another subject
-  pub passed : this ≡ None → (read_of reading (left i) ≡ read_of reading (left (i + 1))) × (AllRead reading (left (i + 1)) → AllRead reading (left i))
-  passed none =
-      (ap (read_of reading) here ∙ rw none refl, λ rest. subst (AllRead reading) (sym here) (rw none tt, rest))
-
-  -- it may be read
-  pub taken : (v : V) → this ≡ Some (Ok v) → (read_of reading (left i) ≡ v ∷ read_of reading (left (i + 1))) × (AllRead reading (left (i + 1)) → AllRead reading (left i))
-  taken v some =
-      (ap (read_of reading) here ∙ rw some refl, λ rest. subst (AllRead reading) (sym here) (rw some refl, rest))
-
-  -- it may be passed over where it can't be read
-  pub dropped : (f : Fault) → this ≡ Some (Err f) → read_of reading (left i) ≡ read_of reading (left (i + 1))
-  dropped f some = ap (read_of reading) here ∙ rw some refl
+  pub all_stepped : IsRead (seen_of view s) → AllRead reading (left (i + 1)) → AllRead reading (left i)
+  all_stepped one rest = subst (AllRead reading) (sym (from_here xs i d lt)) (subst IsRead (sym this) one, rest)
 
   -- or it can't be read
-  pub missed : (f : Fault) → this ≡ Some (Err f) → IsUnread reading (map command_of xs) f
-  missed f some = record { command = command_of (get_or xs i d); among = among_here xs i d lt; fault = some }
+  pub missed : (f : Fault) → seen_of view s ≡ Some (Err f) → IsUnread reading (map command_of xs) f
+  missed f e = record { command = command_of (get_or xs i d); among = among_here xs i d lt; fault = this ∙ e }
 
 -- one more of a list moves to its front
 pub one_more : {V : Type 0} (front rest all : List V) (v : V) → front ++ (v ∷ rest) ≡ all → (front ++ v ∷ []) ++ rest ≡ all
 one_more front rest all v e = append_assoc front (v ∷ []) rest ∙ e
-
--- an answer and how it is seen
-pub seen_none : {X V : Type 0} (view : X → V) (r : Option (Result X Error)) (there : Option (Result V Fault)) → seen_of view r ≡ there → r ≡ None → there ≡ None
-seen_none view r there e is = sym e ∙ ap (seen_of view) is
-
-pub seen_some : {X V : Type 0} (view : X → V) (r : Option (Result X Error)) (there : Option (Result V Fault)) (x : X) → seen_of view r ≡ there → r ≡ Some (Ok x) → there ≡ Some (Ok (view x))
-seen_some view r there x e is = sym e ∙ ap (seen_of view) is
-
-pub seen_fault : {X V : Type 0} (view : X → V) (r : Option (Result X Error)) (there : Option (Result V Fault)) (x : Error) → seen_of view r ≡ there → r ≡ Some (Err x) → there ≡ Some (Err (fault_of x))
-seen_fault view r there x e is = sym e ∙ ap (seen_of view) is
 
 -- where every command can be read, none can't
 pub unread-excludes_all : {V : Type 0} (reading : Reading V) (cs : List Command) (f : Fault) → IsUnread reading cs f → AllRead reading cs → ⊥

@@ -1,18 +1,17 @@
-use Rattle.std.proofs.Common.{◌∙◌, ◌++◌, Some, sym, ap, map}
+use Rattle.std.proofs.Common.{◌∙◌, ◌++◌, Some, sym, ap, map, refl}
 use Rattle.std.proofs.lemmas.List.{map_push}
 use Rattle.std.proofs.lemmas.Result.{err_from_is_err_and}
 use Rattle.mach_load.specs.Variants.{command_of}
 use Rattle.mach_base.proofs.Faults.{Stands-reported}
 use Rattle.goblin_mach.specs.Readings.{IsUnread}
-use Rattle.goblin_mach.proofs.Readings.{passed, taken, missed, seen_none, seen_some, seen_fault, one_more}
+use Rattle.goblin_mach.proofs.Readings.{stepped, all_stepped, missed, one_more}
 use Rattle.goblin_mach.proofs.image.readings.all_read.Goals as goal
 
 pub loop-command-preserved-in_default : goal.loop-command-preserved-in_default
 loop-command-preserved-in_default g c =
-    let step = passed (g.S.Subject.reading c.args.subject.now) c.args.commands.now c.loop-command.command-index _ c.loop-command-test.true (seen_none g.S.Subject.seen c.read.result _ c.read.ensures c.in_default.is) in
     record {
-      found = sym (ap (λ rest. map g.S.Subject.seen c.loop-command.values.items ++ rest) step.0) ∙ c.loop-command.invariant.found;
-      all = λ rest. c.loop-command.invariant.all (step.1 rest);
+      found = sym (ap (λ rest. map g.S.Subject.seen c.loop-command.values.items ++ rest) (stepped g.S.Subject.seen (g.S.Subject.reading c.args.subject.now) c.args.commands.now c.loop-command.command-index _ c.loop-command-test.true c.read.result _ c.read.ensures c.in_default.is)) ∙ c.loop-command.invariant.found;
+      all = λ rest. c.loop-command.invariant.all (all_stepped g.S.Subject.seen (g.S.Subject.reading c.args.subject.now) c.args.commands.now c.loop-command.command-index _ c.loop-command-test.true c.read.result _ c.read.ensures c.in_default.is tt rest);
     }
 
 pub returns-in_err-found-clause-refused : goal.returns-in_err-found-clause-refused
@@ -20,14 +19,13 @@ returns-in_err-found-clause-refused g c =
     let p = err_from_is_err_and c.from_residual.result c.from_residual.ensures.1 in
     let reading = g.S.Subject.reading c.args.subject.now in
     rw (p.1, p.2) (Stands-reported (IsUnread reading (map command_of c.args.commands.now)) c.in_err-found.field-0.0
-    (missed reading c.args.commands.now c.loop-command.command-index _ c.loop-command-test.true _ (seen_fault g.S.Subject.seen c.read.result _ _ c.read.ensures (c.in-Some.is ∙ ap Some c.in_err-found.was))))
+    (missed g.S.Subject.seen reading c.args.commands.now c.loop-command.command-index _ c.loop-command-test.true c.read.result _ c.read.ensures (c.in-Some.is ∙ ap Some c.in_err-found.was) _ refl))
 
 pub loop-command-preserved : goal.loop-command-preserved
 loop-command-preserved g c =
     let value = c.in_ok-found.field-0 in
-    let step = taken (g.S.Subject.reading c.args.subject.now) c.args.commands.now c.loop-command.command-index _ c.loop-command-test.true _ (seen_some g.S.Subject.seen c.read.result _ _ c.read.ensures (c.in-Some.is ∙ ap Some c.in_ok-found.was)) in
-    let all = sym (ap (λ rest. map g.S.Subject.seen c.loop-command.values.items ++ rest) step.0) ∙ c.loop-command.invariant.found in
+    let all = sym (ap (λ rest. map g.S.Subject.seen c.loop-command.values.items ++ rest) (stepped g.S.Subject.seen (g.S.Subject.reading c.args.subject.now) c.args.commands.now c.loop-command.command-index _ c.loop-command-test.true c.read.result _ c.read.ensures (c.in-Some.is ∙ ap Some c.in_ok-found.was))) ∙ c.loop-command.invariant.found in
     record {
       found = rw (c.in_ok-push.ensures.items, map_push) (one_more _ _ _ (g.S.Subject.seen value) all);
-      all = λ rest. c.loop-command.invariant.all (step.1 rest);
+      all = λ rest. c.loop-command.invariant.all (all_stepped g.S.Subject.seen (g.S.Subject.reading c.args.subject.now) c.args.commands.now c.loop-command.command-index _ c.loop-command-test.true c.read.result _ c.read.ensures (c.in-Some.is ∙ ap Some c.in_ok-found.was) refl rest);
     }
