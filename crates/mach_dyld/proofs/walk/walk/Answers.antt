@@ -1,5 +1,4 @@
-use Rattle.std.proofs.Common.{◌≡◌, ◌<◌, ◌+◌, ◌-◌, ◌∙◌, ◌++◌, [], ◌∷◌, List, length, set, reverse, replicate, Bool, true, false, refl, sym, ap, subst, arith}
-use Rattle.std.proofs.lemmas.List.{get_or_read}
+use Rattle.std.proofs.Common.{◌≡◌, ◌<◌, ◌-◌, ◌∙◌, [], ◌∷◌, List, length, set, reverse, replicate, Bool, true, false, refl, sym, ap, subst, arith}
 use Rattle.std.proofs.lemmas.Result.{err_from_is_err_and}
 use Rattle.std.specs.Str.{IsUtf8}
 use Rattle.mach_base.proofs.Faults.{Stands-failed}
@@ -37,131 +36,90 @@ turns-init g c =
     let filled : c.in_ok-marks.marks.items ≡ replicate (c.args.source.now.upto - c.args.source.now.from) false = c.in_ok-marks.ensures.items_if_clones_equal (λ y e. e) in
     let opens = subst (λ x. Opens c.args.source.now c.args.source.now.from x [] (entries c.open_node.new.found.items) c.in_ok-top.top) shown
     (subst (λ x. Opens c.args.source.now c.args.source.now.from c.as_slice.result.now x (entries c.open_node.new.found.items) c.in_ok-top.top) (ap entries c.new-found.ensures.items) c.in_ok-top.ensures.ok) in
-    turn.moved c.args.source.now [] _ (set (replicate (c.args.source.now.upto - c.args.source.now.from) false) 0 true) _ c.in_ok-top.top [] _ (entries c.open_node.new.found.items) _ c.args.steps.now (c.args.steps.now + 1) _
-    c.new-name.ensures.items (ap (λ (x : List Bool). set x 0 true) filled) (ap reverse c.new-open.ensures.items) refl c.in_ok-top.ensures.visits
+    turn.moved c.new-name.ensures.items (ap (λ (x : List Bool). set x 0 true) filled) (ap reverse c.new-open.ensures.items) refl c.in_ok-top.ensures.visits
     (turn.begins c.args.source.now c.in_ok-top.top (entries c.open_node.new.found.items) c.args.steps.now inside opens ([], (refl, refl)))
 
 pub returns-in-None-clause-tree : goal.returns-in-None-clause-tree
 returns-in-None-clause-tree g c =
     let zero : length c.turns.open.items ≡ 0 = omega (arith, c.turns.open.ok.0, c.in-None.ensures.cases.0) in
-    let last = subst (λ os. Holds c.args.source.now c.turns.name.items c.turns.marks.items c.turns.top os (entries c.turns.found.items) c.args.steps.now c.turns.steps) (emptied c.turns.open.items zero) c.turns.invariant in
-    turn.is_tree c.args.source.now c.turns.name.items c.turns.marks.items c.turns.top (entries c.turns.found.items) c.args.steps.now c.turns.steps last (omega arith)
+    let last = turn.moved refl refl (sym (emptied c.turns.open.items zero)) refl refl c.turns.invariant in
+    turn.is_tree last (omega arith)
 
 pub returns-in-None-clause-listed : goal.returns-in-None-clause-listed
 returns-in-None-clause-listed g c =
     let zero : length c.turns.open.items ≡ 0 = omega (arith, c.turns.open.ok.0, c.in-None.ensures.cases.0) in
-    let last = subst (λ os. Holds c.args.source.now c.turns.name.items c.turns.marks.items c.turns.top os (entries c.turns.found.items) c.args.steps.now c.turns.steps) (emptied c.turns.open.items zero) c.turns.invariant in
-    turn.listed c.args.source.now c.turns.name.items c.turns.marks.items c.turns.top (entries c.turns.found.items) c.args.steps.now c.turns.steps last (omega arith)
+    let last = turn.moved refl refl (sym (emptied c.turns.open.items zero)) refl refl c.turns.invariant in
+    turn.listed last (omega arith)
 
 pub returns-in-None-clause-visits : goal.returns-in-None-clause-visits
 returns-in-None-clause-visits g c =
     let zero : length c.turns.open.items ≡ 0 = omega (arith, c.turns.open.ok.0, c.in-None.ensures.cases.0) in
-    let last = subst (λ os. Holds c.args.source.now c.turns.name.items c.turns.marks.items c.turns.top os (entries c.turns.found.items) c.args.steps.now c.turns.steps) (emptied c.turns.open.items zero) c.turns.invariant in
-    turn.all_visits c.args.source.now c.turns.name.items c.turns.marks.items c.turns.top (entries c.turns.found.items) c.args.steps.now c.turns.steps last (omega arith) _
+    let last = turn.moved refl refl (sym (emptied c.turns.open.items zero)) refl refl c.turns.invariant in
+    turn.all_visits last (omega arith) _
 
 pub turns-preserved-in-Some : goal.turns-preserved-in-Some
 turns-preserved-in-Some g c =
     let pop = popped c.turns.open.items c.pop.new.self.items c.in-Some.below c.in-Some.ensures.items in
-    let all = subst (λ os. Holds c.args.source.now c.turns.name.items c.turns.marks.items c.turns.top os (entries c.turns.found.items) c.args.steps.now c.turns.steps) pop c.turns.invariant in
-    subst (λ x. Holds c.args.source.now x c.turns.marks.items c.in-Some.below (reverse c.pop.new.self.items) (entries c.turns.found.items) c.args.steps.now c.turns.steps) (sym c.truncate.ensures.items)
-    (turn.closed c.args.source.now c.turns.name.items c.turns.marks.items c.turns.top (entries c.turns.found.items) c.args.steps.now c.turns.steps c.in-Some.below (reverse c.pop.new.self.items) all (omega arith))
+    turn.moved c.truncate.ensures.items refl refl refl refl (turn.closed (turn.moved refl refl (sym pop) refl refl c.turns.invariant) (omega arith))
 
 pub read_again-start-requires : goal.read_again-start-requires
-read_again-start-requires g c =
-    let some : 0 < c.turns.top.branches.left = omega arith in
-    turn.is_readable c.args.source.now c.turns.name.items c.turns.marks.items c.turns.top (entries c.turns.found.items) c.args.steps.now c.turns.steps (reverse c.turns.open.items) c.turns.invariant some
+read_again-start-requires g c = turn.is_readable c.turns.invariant (omega arith)
 
 pub overflow_sub-start : goal.overflow_sub-start
-overflow_sub-start g c =
-    let some : 0 < c.turns.top.branches.left = omega arith in
-    turn.low c.args.source.now c.turns.name.items c.turns.marks.items c.turns.top (entries c.turns.found.items) c.args.steps.now c.turns.steps (reverse c.turns.open.items) c.turns.invariant some c.read_again-start.result.0.now c.read_again-start.result.1 c.read_again-start.result.2 c.read_again-start.ensures
+overflow_sub-start g c = turn.low c.turns.invariant (omega arith) c.read_again-start.ensures
 
 pub returns-then-index-clause-visits : goal.returns-then-index-clause-visits
-returns-then-index-clause-visits g c = turn.visits_so_far c.args.source.now c.turns.name.items c.turns.marks.items c.turns.top (entries c.turns.found.items) c.args.steps.now c.turns.steps (reverse c.turns.open.items) _ c.turns.invariant
+returns-then-index-clause-visits g c = turn.visits_so_far _ c.turns.invariant
 
 pub returns-then-index-clause-refused : goal.returns-then-index-clause-refused
-returns-then-index-clause-refused g c =
-    let some : 0 < c.turns.top.branches.left = omega arith in
-    let within = turn.within c.args.source.now c.turns.name.items c.turns.marks.items c.turns.top (entries c.turns.found.items) c.args.steps.now c.turns.steps (reverse c.turns.open.items) c.turns.invariant some c.read_again-start.result.0.now c.read_again-start.result.1 c.read_again-start.result.2 c.read_again-start.ensures (omega arith) in
-    turn.met c.args.source.now c.turns.name.items c.turns.marks.items c.turns.top (entries c.turns.found.items) c.args.steps.now c.turns.steps (reverse c.turns.open.items) c.turns.invariant some c.read_again-start.result.0.now c.read_again-start.result.1 c.read_again-start.result.2 c.read_again-start.ensures (omega arith) (sym (get_or_read c.turns.marks.items _ _ within c.index.ensures false) ∙ c.if-index.true)
+returns-then-index-clause-refused g c = turn.met c.turns.invariant (omega arith) c.read_again-start.ensures (omega arith) c.index.ensures c.if-index.true
 
 pub overflow_sub-start-then-start-upto : goal.overflow_sub-start-then-start-upto
-overflow_sub-start-then-start-upto g c =
-    let some : 0 < c.turns.top.branches.left = omega arith in
-    turn.low c.args.source.now c.turns.name.items c.turns.marks.items c.turns.top (entries c.turns.found.items) c.args.steps.now c.turns.steps (reverse c.turns.open.items) c.turns.invariant some c.read_again-start.result.0.now c.read_again-start.result.1 c.read_again-start.result.2 c.read_again-start.ensures
+overflow_sub-start-then-start-upto g c = turn.low c.turns.invariant (omega arith) c.read_again-start.ensures
 
 pub turns-preserved : goal.turns-preserved
-turns-preserved g c =
-    let some : 0 < c.turns.top.branches.left = omega arith in
-    turn.passed c.args.source.now c.turns.name.items c.turns.marks.items c.turns.top (entries c.turns.found.items) c.args.steps.now c.turns.steps (reverse c.turns.open.items) c.turns.invariant some c.read_again-start.result.0.now c.read_again-start.result.1 c.read_again-start.result.2 c.read_again-start.ensures (omega arith)
+turns-preserved g c = turn.passed c.turns.invariant (omega arith) c.read_again-start.ensures (omega arith)
 
 pub returns-in_err-extend_from_slice-clause-visits : goal.returns-in_err-extend_from_slice-clause-visits
 returns-in_err-extend_from_slice-clause-visits g c =
     let p = err_from_is_err_and c.from_residual-in_err-extend_from_slice.result c.from_residual-in_err-extend_from_slice.ensures.1 in
-    rw (p.1, p.2) (turn.visits_so_far c.args.source.now c.turns.name.items c.turns.marks.items c.turns.top (entries c.turns.found.items) c.args.steps.now c.turns.steps (reverse c.turns.open.items) _ c.turns.invariant)
+    rw (p.1, p.2) (turn.visits_so_far _ c.turns.invariant)
 
 pub open_node-requires-then-start-upto : goal.open_node-requires-then-start-upto
 open_node-requires-then-start-upto g c =
-    let some : 0 < c.turns.top.branches.left = omega arith in
-    let inside : c.read_again-start.result.1 < c.args.source.now.upto = omega arith in
-    subst IsUtf8 (sym (c.as_slice-then-start-upto.ensures.value ∙ c.in_ok-extend_from_slice.ensures.items)) (turn.name_utf8 c.args.source.now c.turns.name.items c.turns.marks.items c.turns.top (entries c.turns.found.items) c.args.steps.now c.turns.steps (reverse c.turns.open.items) c.turns.invariant some c.read_again-start.result.0.now c.read_again-start.result.1 c.read_again-start.result.2 c.read_again-start.ensures inside)
+    subst IsUtf8 (sym (c.as_slice-then-start-upto.ensures.value ∙ c.in_ok-extend_from_slice.ensures.items)) (turn.name_utf8 c.turns.invariant (omega arith) c.read_again-start.ensures (omega arith))
 
 pub returns-in_err-child-clause-visits : goal.returns-in_err-child-clause-visits
 returns-in_err-child-clause-visits g c =
     let p = err_from_is_err_and c.from_residual-in_err-child.result c.from_residual-in_err-child.ensures.1 in
-    let some : 0 < c.turns.top.branches.left = omega arith in
-    let inside : c.read_again-start.result.1 < c.args.source.now.upto = omega arith in
-    let clear = sym (get_or_read c.turns.marks.items _ _ (turn.within c.args.source.now c.turns.name.items c.turns.marks.items c.turns.top (entries c.turns.found.items) c.args.steps.now c.turns.steps (reverse c.turns.open.items) c.turns.invariant some c.read_again-start.result.0.now c.read_again-start.result.1 c.read_again-start.result.2 c.read_again-start.ensures inside) c.index.ensures false) ∙ c.if-index.false in
-    rw (p.1, p.2) (turn.child_visits c.args.source.now c.turns.name.items c.turns.marks.items c.turns.top (entries c.turns.found.items) c.args.steps.now c.turns.steps (reverse c.turns.open.items) c.turns.invariant some c.read_again-start.result.0.now c.read_again-start.result.1 c.read_again-start.result.2 c.read_again-start.ensures inside clear c.open_node-then-start-upto.new.steps _ c.in_err-child.ensures.visits)
+    rw (p.1, p.2) (turn.child_visits c.turns.invariant (omega arith) c.read_again-start.ensures (omega arith) c.index.ensures c.if-index.false _ c.in_err-child.ensures.visits)
 
 pub returns-in_err-child-clause-few_visits : goal.returns-in_err-child-clause-few_visits
-returns-in_err-child-clause-few_visits g c =
-    let some : 0 < c.turns.top.branches.left = omega arith in
-    let inside : c.read_again-start.result.1 < c.args.source.now.upto = omega arith in
-    let clear = sym (get_or_read c.turns.marks.items _ _ (turn.within c.args.source.now c.turns.name.items c.turns.marks.items c.turns.top (entries c.turns.found.items) c.args.steps.now c.turns.steps (reverse c.turns.open.items) c.turns.invariant some c.read_again-start.result.0.now c.read_again-start.result.1 c.read_again-start.result.2 c.read_again-start.ensures inside) c.index.ensures false) ∙ c.if-index.false in
-    turn.few_with_child c.args.source.now c.turns.name.items c.turns.marks.items c.turns.top (entries c.turns.found.items) c.args.steps.now c.turns.steps (reverse c.turns.open.items) c.turns.invariant some c.read_again-start.result.0.now c.read_again-start.result.1 c.read_again-start.result.2 c.read_again-start.ensures inside clear c.open_node-then-start-upto.new.steps c.in_err-child.ensures.visits
+returns-in_err-child-clause-few_visits g c = turn.few_with_child c.turns.invariant (omega arith) c.read_again-start.ensures (omega arith) c.index.ensures c.if-index.false c.in_err-child.ensures.visits
 
 pub returns-in_err-child-clause-refused : goal.returns-in_err-child-clause-refused
 returns-in_err-child-clause-refused g c =
     let p = err_from_is_err_and c.from_residual-in_err-child.result c.from_residual-in_err-child.ensures.1 in
-    let some : 0 < c.turns.top.branches.left = omega arith in
-    let inside : c.read_again-start.result.1 < c.args.source.now.upto = omega arith in
     rw (p.1, p.2) (Stands-failed (fault_in c.args.source.now) c.in_err-child.field-0.0 (node_in c.args.source.now c.read_again-start.result.1)
-    (λ f e. turn.child_fault c.args.source.now c.turns.name.items c.turns.marks.items c.turns.top (entries c.turns.found.items) c.args.steps.now c.turns.steps (reverse c.turns.open.items) c.turns.invariant some c.read_again-start.result.0.now c.read_again-start.result.1 c.read_again-start.result.2 c.read_again-start.ensures inside f e) c.in_err-child.ensures.err)
+    (λ f e. turn.child_fault c.turns.invariant (omega arith) c.read_again-start.ensures (omega arith) f e) c.in_err-child.ensures.err)
 
 pub returns-in_err-push-clause-visits : goal.returns-in_err-push-clause-visits
 returns-in_err-push-clause-visits g c =
     let p = err_from_is_err_and c.from_residual-in_err-push.result c.from_residual-in_err-push.ensures.1 in
-    let some : 0 < c.turns.top.branches.left = omega arith in
-    let inside : c.read_again-start.result.1 < c.args.source.now.upto = omega arith in
-    let clear = sym (get_or_read c.turns.marks.items _ _ (turn.within c.args.source.now c.turns.name.items c.turns.marks.items c.turns.top (entries c.turns.found.items) c.args.steps.now c.turns.steps (reverse c.turns.open.items) c.turns.invariant some c.read_again-start.result.0.now c.read_again-start.result.1 c.read_again-start.result.2 c.read_again-start.ensures inside) c.index.ensures false) ∙ c.if-index.false in
-    rw (p.1, p.2) (turn.child_visits c.args.source.now c.turns.name.items c.turns.marks.items c.turns.top (entries c.turns.found.items) c.args.steps.now c.turns.steps (reverse c.turns.open.items) c.turns.invariant some c.read_again-start.result.0.now c.read_again-start.result.1 c.read_again-start.result.2 c.read_again-start.ensures inside clear c.open_node-then-start-upto.new.steps _ c.in_ok-child.ensures.visits)
+    rw (p.1, p.2) (turn.child_visits c.turns.invariant (omega arith) c.read_again-start.ensures (omega arith) c.index.ensures c.if-index.false _ c.in_ok-child.ensures.visits)
 
 pub returns-in_err-push-clause-few_visits : goal.returns-in_err-push-clause-few_visits
-returns-in_err-push-clause-few_visits g c =
-    let some : 0 < c.turns.top.branches.left = omega arith in
-    let inside : c.read_again-start.result.1 < c.args.source.now.upto = omega arith in
-    let clear = sym (get_or_read c.turns.marks.items _ _ (turn.within c.args.source.now c.turns.name.items c.turns.marks.items c.turns.top (entries c.turns.found.items) c.args.steps.now c.turns.steps (reverse c.turns.open.items) c.turns.invariant some c.read_again-start.result.0.now c.read_again-start.result.1 c.read_again-start.result.2 c.read_again-start.ensures inside) c.index.ensures false) ∙ c.if-index.false in
-    turn.few_with_child c.args.source.now c.turns.name.items c.turns.marks.items c.turns.top (entries c.turns.found.items) c.args.steps.now c.turns.steps (reverse c.turns.open.items) c.turns.invariant some c.read_again-start.result.0.now c.read_again-start.result.1 c.read_again-start.result.2 c.read_again-start.ensures inside clear c.open_node-then-start-upto.new.steps c.in_ok-child.ensures.visits
+returns-in_err-push-clause-few_visits g c = turn.few_with_child c.turns.invariant (omega arith) c.read_again-start.ensures (omega arith) c.index.ensures c.if-index.false c.in_ok-child.ensures.visits
 
 pub turns-smaller-then-start-upto : goal.turns-smaller-then-start-upto
 turns-smaller-then-start-upto g c =
-    let some : 0 < c.turns.top.branches.left = omega arith in
-    let inside : c.read_again-start.result.1 < c.args.source.now.upto = omega arith in
-    let within = turn.within c.args.source.now c.turns.name.items c.turns.marks.items c.turns.top (entries c.turns.found.items) c.args.steps.now c.turns.steps (reverse c.turns.open.items) c.turns.invariant some c.read_again-start.result.0.now c.read_again-start.result.1 c.read_again-start.result.2 c.read_again-start.ensures inside in
-    let clear = sym (get_or_read c.turns.marks.items _ _ (turn.within c.args.source.now c.turns.name.items c.turns.marks.items c.turns.top (entries c.turns.found.items) c.args.steps.now c.turns.steps (reverse c.turns.open.items) c.turns.invariant some c.read_again-start.result.0.now c.read_again-start.result.1 c.read_again-start.result.2 c.read_again-start.ensures inside) c.index.ensures false) ∙ c.if-index.false in
     let stack = popped c.push.new.self.items c.turns.open.items (next_of c.turns.top c.read_again-start.result.2) c.in_ok-push.ensures.items in
     subst (λ os. work (length c.args.source.now.bytes.now) (set c.turns.marks.items (c.read_again-start.result.1 - c.args.source.now.from) true) (c.in_ok-child.child ∷ os) < work (length c.args.source.now.bytes.now) c.turns.marks.items (c.turns.top ∷ reverse c.turns.open.items)) (sym stack)
-    (less_opened (length c.args.source.now.bytes.now) c.turns.marks.items c.turns.top c.in_ok-child.child c.read_again-start.result.2 (c.read_again-start.result.1 - c.args.source.now.from) (reverse c.turns.open.items) some c.in_ok-child.ensures.ok.few within clear)
+    (less_opened (length c.args.source.now.bytes.now) c.turns.marks.items c.turns.top c.in_ok-child.child c.read_again-start.result.2 (c.read_again-start.result.1 - c.args.source.now.from) (reverse c.turns.open.items) (omega arith) c.in_ok-child.ensures.ok.few (turn.within c.turns.invariant (omega arith) c.read_again-start.ensures (omega arith)) (turn.clear c.turns.invariant (omega arith) c.read_again-start.ensures (omega arith) c.index.ensures c.if-index.false))
 
 pub turns-preserved-then-start-upto : goal.turns-preserved-then-start-upto
 turns-preserved-then-start-upto g c =
-    let some : 0 < c.turns.top.branches.left = omega arith in
-    let inside : c.read_again-start.result.1 < c.args.source.now.upto = omega arith in
-    let clear = sym (get_or_read c.turns.marks.items _ _ (turn.within c.args.source.now c.turns.name.items c.turns.marks.items c.turns.top (entries c.turns.found.items) c.args.steps.now c.turns.steps (reverse c.turns.open.items) c.turns.invariant some c.read_again-start.result.0.now c.read_again-start.result.1 c.read_again-start.result.2 c.read_again-start.ensures inside) c.index.ensures false) ∙ c.if-index.false in
     let stack = popped c.push.new.self.items c.turns.open.items (next_of c.turns.top c.read_again-start.result.2) c.in_ok-push.ensures.items in
     let shown = c.as_slice-then-start-upto.ensures.value ∙ c.in_ok-extend_from_slice.ensures.items in
     let opens = subst (λ x. Opens c.args.source.now c.read_again-start.result.1 x (entries c.turns.found.items) (entries c.open_node-then-start-upto.new.found.items) c.in_ok-child.child) shown c.in_ok-child.ensures.ok in
-    turn.moved c.args.source.now (c.turns.name.items ++ c.read_again-start.result.0.now) _ (set c.turns.marks.items (c.read_again-start.result.1 - c.args.source.now.from) true) _ c.in_ok-child.child (next_of c.turns.top c.read_again-start.result.2 ∷ reverse c.turns.open.items) _
-    (entries c.open_node-then-start-upto.new.found.items) _ c.args.steps.now (c.turns.steps + 1) _ c.in_ok-extend_from_slice.ensures.items refl stack refl c.in_ok-child.ensures.visits
-    (turn.opened c.args.source.now c.turns.name.items c.turns.marks.items c.turns.top (entries c.turns.found.items) c.args.steps.now c.turns.steps (reverse c.turns.open.items) c.turns.invariant some c.read_again-start.result.0.now c.read_again-start.result.1 c.read_again-start.result.2 c.read_again-start.ensures inside clear c.in_ok-child.child (entries c.open_node-then-start-upto.new.found.items) opens)
+    turn.moved c.in_ok-extend_from_slice.ensures.items refl stack refl c.in_ok-child.ensures.visits (turn.opened c.turns.invariant (omega arith) c.read_again-start.ensures (omega arith) c.index.ensures c.if-index.false opens)
