@@ -8,3 +8,4 @@ pub mod Spellings
 pub mod Unsigned
 pub mod Signed
 pub mod FrontGroups
+pub mod Written

@@ -4,21 +4,12 @@ use Rattle.std.proofs.lemmas.List.{append-nil, append_assoc, map-append, flat_ma
 use Rattle.std.specs.Borrow.{Bor}
 use Rattle.std.specs.Io.KnownBytes.{Appends}
 use Rattle.std.specs.List.{flat_map}
+use Rattle.mach_base.proofs.Written.{Appends-none, Appends-both}
 use Rattle.mach_base.specs.Fault.{Fault}
 use Rattle.mach_base.specs.declared.error.Error.{Error}
 use Rattle.mach_parts.specs.SymbolViews.{symbol_read}
 use Rattle.mach_parts.specs.declared.symbols.nlist.Nlist.{Nlist}
 use Rattle.machsyms.specs.Lines.{line_of, WritesLines}
-
-pub Appends-none : (known : Option (List ℕ)) → Appends known known []
-Appends-none None = cc
-Appends-none (Some bytes) = sym (append-nil bytes)
-
-pub Appends-both : (first second third : Option (List ℕ)) (xs ys : List ℕ) → Appends first second xs → Appends second third ys → Appends first third (xs ++ ys)
-Appends-both None second third xs ys one two = cc
-Appends-both (Some a) None third xs ys one two = absurd one
-Appends-both (Some a) (Some b) None xs ys one two = absurd two
-Appends-both (Some a) (Some b) (Some c) xs ys one two = two ∙ ap (λ front. front ++ ys) one ∙ append_assoc a xs ys
 
 -- before the first symbol
 pub no_lines : (is_64 : Bool) (sections : List ℕ) (known : Option (List ℕ)) → WritesLines is_64 sections [] known known

@@ -1,7 +1,7 @@
 use Rattle.std.proofs.Common.{subst}
 use Rattle.std.specs.Io.KnownBytes.{Appends}
 use Rattle.machfat.specs.Lines.{lines_from}
-use Rattle.machfat.proofs.Written.{Appends-kept}
+use Rattle.mach_base.proofs.Written.{Appends-kept}
 use Rattle.machfat.proofs.entry.list.Goals as goal
 
 pub returns : goal.returns

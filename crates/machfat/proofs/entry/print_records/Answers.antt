@@ -2,7 +2,7 @@ use Rattle.std.proofs.Common.{◌++◌, ◌∙◌, ◌+◌, [], drop, get_or, re
 use Rattle.std.proofs.lemmas.List.{append-nil, append_assoc, at_drop_more, drop_all}
 use Rattle.std.specs.Io.KnownBytes.{Appends}
 use Rattle.machfat.specs.Lines.{line_of, lines_from}
-use Rattle.machfat.proofs.Written.{Appends-none, Appends-both}
+use Rattle.mach_base.proofs.Written.{Appends-none, Appends-both}
 use Rattle.machfat.proofs.entry.print_records.Goals as goal
 
 pub records-init : goal.records-init

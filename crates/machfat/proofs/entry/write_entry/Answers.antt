@@ -1,4 +1,4 @@
-use Rattle.machfat.proofs.Written.{Appends-kept}
+use Rattle.mach_base.proofs.Written.{Appends-kept}
 use Rattle.machfat.proofs.entry.write_entry.Goals as goal
 
 pub returns : goal.returns
