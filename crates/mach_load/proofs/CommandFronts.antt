@@ -1,19 +1,19 @@
 -- The command at the front of what stands at a place is the command there.
-use Rattle.std.proofs.Common.{◌≡◌, ℕ, zero, suc, ◌+◌, ◌-◌, ◌*◌, ◌<◌, ◌≤◌, ltb, leb, true, false, List, ◌++◌, map, length, drop, Result, Ok, Err, inl, inr, refl, sym, ap, ◌∙◌, arith}
+use Rattle.std.proofs.Common.{◌≡◌, ℕ, zero, suc, ◌+◌, ◌-◌, ◌*◌, ◌<◌, ◌≤◌, ltb, leb, false, List, length, drop, Result, Ok, Err, inl, inr, refl, sym, ap, ◌∙◌, arith}
 use Rattle.std.proofs.lemmas.Bool.{cases_lt, le-leb, lt-leb, le-ltb}
 use Rattle.std.proofs.lemmas.List.{length-drop, drop-drop}
 use Rattle.mach_base.specs.declared.context.Endian.{Endian}
 use Rattle.mach_base.specs.Answer.{◌>>=◌}
-use Rattle.mach_base.specs.Fault.{Fault, malformed, too_big}
+use Rattle.mach_base.specs.Fault.{Fault}
 use Rattle.mach_base.specs.Front.{value_of, with_width}
-use Rattle.mach_base.specs.Record.{Field, Value, number_is, number_among, size, record_at}
-use Rattle.mach_base.proofs.Binds.{same_ok, chosen}
+use Rattle.mach_base.specs.Record.{Field, Value, number_among, size, record_at}
+use Rattle.mach_base.proofs.Binds.{same_ok}
 use Rattle.mach_base.proofs.Fronts.{record_at_offset, rest_from-inside}
 use Rattle.mach_records.specs.declared.load_command_header.LoadCommandHeader.{LoadCommandHeader}
 use Rattle.mach_records.specs.LoadCommandHeader.{header_fields, header_values}
 use Rattle.mach_load.specs.declared.variant.CommandVariant.{CommandVariant}
 use Rattle.mach_load.specs.Commands.{Kind, Body, by_fields, by_thread, CommandRow, row_of}
-use Rattle.mach_load.specs.ThreadState.{thread_fields, words_at, state_at, state_behind, thread_at}
+use Rattle.mach_load.specs.ThreadState.{thread_fields, words_at, state_behind, thread_at}
 use Rattle.mach_load.specs.Command.{Command, body_at, command_by, command_at}
 use Rattle.mach_load.specs.Variants.{command_of}
 
@@ -39,7 +39,7 @@ kept kind s g (Ok vs) e = absurd (cc)
 kept kind s g (Err f) e = cc
 
 module _ (le : Endian) (bytes : List ℕ) (s : ℕ) (inside : s < length bytes) where
-  record_there : (fields : List Field) → record_at le fields (drop s bytes) 0 ≡ record_at le fields bytes s
+  pub record_there : (fields : List Field) → record_at le fields (drop s bytes) 0 ≡ record_at le fields bytes s
   record_there fields = rw (← record_at_offset le fields bytes s, rest_from-inside bytes (drop s bytes) s inside refl) (of_width (size fields) (record_at le fields (drop s bytes) 0))
 
   words_there : (place n : ℕ) → words_at le (drop s bytes) place n ≡ words_at le bytes (s + place) n
