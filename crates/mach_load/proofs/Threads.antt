@@ -1,5 +1,6 @@
 -- Which commands are threads, and where there is no other.
-use Rattle.std.proofs.Common.{◌≡◌, ◌≢◌, ℕ, ◌-◌, ◌<◌, ◌≤◌, Bool, true, false, cond, not, ◌&&◌, ◌||◌, eqb, ltb, List, [], ◌∷◌, length, drop, ◌⊎◌, inl, inr, Result, Ok, Err, refl, sym, ap, subst, ◌∙◌, arith}
+use Rattle.std.proofs.Common.{◌≡◌, ◌≢◌, ℕ, ◌-◌, ◌<◌, ◌≤◌, Bool, true, false, cond, not, ◌&&◌, ◌||◌, eqb, ltb, List, [], ◌∷◌, length, drop, ◌⊎◌, inl}
+use Rattle.std.proofs.Common.{inr, Result, Ok, Err, refl, sym, ap, subst, ◌∙◌, arith}
 use Rattle.std.proofs.lemmas.Bool.{cases_Bool, le-leb, lt-ltb, eqb-true, or_cases}
 use Rattle.std.proofs.lemmas.List.{length-drop}
 use Rattle.mach_base.specs.declared.context.Endian.{Endian}
@@ -54,7 +55,8 @@ pub no_thread_by : (le : Endian) (bytes : List ℕ) (s cmd : ℕ) (c : Command) 
 no_thread_by le bytes s cmd c four five e is =
     let row = row_of cmd in
     let values = bind_ok (body_at row.body le bytes s) (λ (vs : List Value). Ok (record { offset = s; kind = row.kind; values = vs })) c e in
-    let kind : is_thread c.kind ≡ false = sym (ap (λ (found : Command). is_thread found.kind) (same_ok values.2)) ∙ no_thread_among command_rows refl cmd four five in
+    let kind : is_thread c.kind ≡ false = sym (ap (λ (found : Command). is_thread found.kind) (same_ok values.2)) ∙
+    no_thread_among command_rows refl cmd four five in
     elim is [ inl one ↦ absurd (let wrong = sym kind ∙ ap is_thread one in cc) | inr two ↦ absurd (let wrong = sym kind ∙ ap is_thread two in cc) ]
 
 refused : (r : Result Command Fault) (f : Fault) → r ≡ Err f → IsThreadOrRefused r
@@ -64,7 +66,8 @@ unless_refused : (b : Bool) (r : Result Command Fault) → IsThreadOrRefused r �
 unless_refused true r h = tt
 unless_refused false r h = h
 
-of_kind : (kind : Kind) (s : ℕ) (r : Result (List Value) Fault) → (kind ≡ thread) ⊎ (kind ≡ unixthread) → IsThreadOrRefused (r >>= λ (vs : List Value). Ok (record { offset = s; kind = kind; values = vs }))
+of_kind : (kind : Kind) (s : ℕ) (r : Result (List Value) Fault) → (kind ≡ thread) ⊎ (kind ≡ unixthread)
+    → IsThreadOrRefused (r >>= λ (vs : List Value). Ok (record { offset = s; kind = kind; values = vs }))
 of_kind kind s (Ok vs) h = h
 of_kind kind s (Err f) h = tt
 
@@ -91,7 +94,8 @@ module _ (le : Endian) (bytes rest : List ℕ) (s : ℕ) (inside : s < length by
     pub thread_or_refused : (header.cmd ≡ 4) ⊎ (header.cmd ≡ 5) → IsThreadOrRefused (command_at le bytes s)
     thread_or_refused number =
         let row = row_of header.cmd in
-        rw (header_there, first) (unless_refused (ltb (length bytes - s) header.cmdsize) (command_by row le bytes s) (of_kind row.kind s (body_at row.body le bytes s) (thread_row header.cmd number)))
+        rw (header_there, first) (unless_refused (ltb (length bytes - s) header.cmdsize) (command_by row le bytes s)
+        (of_kind row.kind s (body_at row.body le bytes s) (thread_row header.cmd number)))
 
     -- a command that passes the end is refused
     pub refused_size : length rest < header.cmdsize → IsThreadOrRefused (command_at le bytes s)
@@ -103,4 +107,5 @@ module _ (le : Endian) (bytes rest : List ℕ) (s : ℕ) (inside : s < length by
     pub refused_record : (f : Fault) → command_by (row_of header.cmd) le rest 0 ≡ Err f → IsThreadOrRefused (command_at le bytes s)
     refused_record f e =
         let by = refused_there le bytes s inside (row_of header.cmd) f (subst (λ (front : List ℕ). command_by (row_of header.cmd) le front 0 ≡ Err f) is e) in
-        rw (header_there, first) (unless_refused (ltb (length bytes - s) header.cmdsize) (command_by (row_of header.cmd) le bytes s) (refused (command_by (row_of header.cmd) le bytes s) f by))
+        rw (header_there, first) (unless_refused (ltb (length bytes - s) header.cmdsize) (command_by (row_of header.cmd) le bytes s)
+        (refused (command_by (row_of header.cmd) le bytes s) f by))
