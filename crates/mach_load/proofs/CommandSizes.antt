@@ -44,6 +44,10 @@ row_begins (row ∷ rows) all cmd = elim (cases_Bool (eqb cmd row.cmd)) [
 table_begins : AllBegin command_rows
 table_begins = search rules
 
+row_of_begins : (cmd : ℕ) → BodyBegins (row_of cmd).body
+unfolding row_of
+row_of_begins cmd = row_begins command_rows table_begins cmd
+
 -- the second number of a record that begins with two of four bytes
 second_number : (le : Endian) (fields : List Field) (bytes : List ℕ) (s : ℕ) (values : List Value) → Begins fields
     → record_at le fields bytes s ≡ Ok values → number_among values 1 ≡ number le 4 (drop (s + 4) bytes)
@@ -83,6 +87,6 @@ pub cmdsize_is : (le : Endian) (bytes : List ℕ) (s cmd : ℕ) (header : List V
 cmdsize_is le bytes s cmd header c there e =
     let row = row_of cmd in
     let values = bind_ok (body_at row.body le bytes s) (λ (vs : List Value). Ok (record { offset = s; kind = row.kind; values = vs })) c e in
-    let one = second_of_body row.body le bytes s values.0 (row_begins command_rows table_begins cmd) values.1 in
+    let one = second_of_body row.body le bytes s values.0 (row_of_begins cmd) values.1 in
     let two = second_number le header_fields bytes s header refl there in
     two ∙ (sym one ∙ ap cmdsize_of (same_ok values.2))

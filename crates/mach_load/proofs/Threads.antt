@@ -50,13 +50,17 @@ no_thread_among (row ∷ rows) named cmd four five =
       | inr not ↦ ap (λ (b : Bool). is_thread (cond b row (row_among rows cmd)).kind) not ∙ no_thread_among rows split.1 cmd four five
     ]
 
+no_thread_row : (cmd : ℕ) → 4 ≢ cmd → 5 ≢ cmd → is_thread (row_of cmd).kind ≡ false
+unfolding row_of
+no_thread_row cmd four five = no_thread_among command_rows refl cmd four five
+
 -- a command of another number is no thread
 pub no_thread_by : (le : Endian) (bytes : List ℕ) (s cmd : ℕ) (c : Command) → 4 ≢ cmd → 5 ≢ cmd → command_by (row_of cmd) le bytes s ≡ Ok c → ¬ IsThread c
 no_thread_by le bytes s cmd c four five e is =
     let row = row_of cmd in
     let values = bind_ok (body_at row.body le bytes s) (λ (vs : List Value). Ok (record { offset = s; kind = row.kind; values = vs })) c e in
     let kind : is_thread c.kind ≡ false = sym (ap (λ (found : Command). is_thread found.kind) (same_ok values.2)) ∙
-    no_thread_among command_rows refl cmd four five in
+    no_thread_row cmd four five in
     elim is [ inl one ↦ absurd (let wrong = sym kind ∙ ap is_thread one in cc) | inr two ↦ absurd (let wrong = sym kind ∙ ap is_thread two in cc) ]
 
 refused : (r : Result Command Fault) (f : Fault) → r ≡ Err f → IsThreadOrRefused r
@@ -72,6 +76,7 @@ of_kind kind s (Ok vs) h = h
 of_kind kind s (Err f) h = tt
 
 thread_row : (cmd : ℕ) → (cmd ≡ 4) ⊎ (cmd ≡ 5) → ((row_of cmd).kind ≡ thread) ⊎ ((row_of cmd).kind ≡ unixthread)
+unfolding row_of
 thread_row cmd is = elim is [
   | inl four ↦ inl (ap (λ (n : ℕ). (row_of n).kind) four)
   | inr five ↦ inr (ap (λ (n : ℕ). (row_of n).kind) five)

@@ -145,6 +145,6 @@ abbrev pub row_among : List CommandRow → ℕ → CommandRow
 row_among [] cmd = record { cmd = cmd; kind = unimplemented; body = by_fields header_fields }
 row_among (row ∷ rows) cmd = if cmd == row.cmd then row else row_among rows cmd
 
--- the row of a command
-abbrev pub row_of : ℕ → CommandRow
+-- the row of a command, closed so that no fact holds the whole table
+unfoldable pub row_of : ℕ → CommandRow
 row_of cmd = row_among command_rows cmd

@@ -224,6 +224,7 @@ impl CommandVariant {
     }
 
     /// Reads the record that a command's number says, at the command's place, where its header is this one.
+    #[tactic(auto, unfolding(crate::specs::Commands::row_of))]
     pub(crate) fn read(
         bytes: &[u8],
         offset: usize,
@@ -251,6 +252,7 @@ impl CommandVariant {
 
     /// The same, of a command at the front of some bytes that is no thread; or how many bytes its record has,
     /// where they are fewer.
+    #[tactic(auto, unfolding(crate::specs::Commands::row_of))]
     #[inline(always)]
     pub(crate) fn quick(
         rest: &[u8],
