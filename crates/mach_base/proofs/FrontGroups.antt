@@ -1,5 +1,6 @@
 -- What the first groups of some bytes and a tenth byte say of the spellings there.
-use Rattle.std.proofs.Common.{◌≡◌, ◌<◌, ◌≤◌, ◌+◌, ◌*◌, ◌^◌, ◌⊎◌, ℕ, ℤ, pos, ◌-ℤ◌, true, false, cond, List, length, take, slice_index, nat_le, inl, inr, refl, ap, ◌∙◌, arith}
+use Rattle.std.proofs.Common.{◌≡◌, ◌<◌, ◌≤◌, ◌+◌, ◌*◌, ◌^◌, ◌⊎◌, ℕ, ℤ, pos, ◌-ℤ◌, true, false, cond, List, length, take, slice_index, nat_le, inl}
+use Rattle.std.proofs.Common.{inr, refl, ap, ◌∙◌, arith}
 use Rattle.std.proofs.lemmas.Bool.{cases_lt, le-leb, lt-leb}
 use Rattle.mach_base.specs.declared.leb128.Groups.{Groups}
 use Rattle.mach_base.specs.FrontGroups.{GoOn, AreFront}
@@ -16,7 +17,8 @@ module _ (bytes : List ℕ) (groups : Groups) (first : AreFront bytes groups) wh
   -- where the last ends its number
   pub IsUleb-short : groups.last < 128 → IsUleb (take (groups.index + 1) bytes) groups.value
   IsUleb-short low =
-      IsUleb-front bytes groups.index groups.value first.inside (omega (arith, first.at_most_nine)) first.go_on (rw (← first.last) low) (λ e. absurd (omega (arith, first.at_most_nine))) first.value
+      IsUleb-front bytes groups.index groups.value first.inside (omega (arith, first.at_most_nine)) first.go_on (rw (← first.last) low)
+      (λ e. absurd (omega (arith, first.at_most_nine))) first.value
 
   signed_short : groups.last < 128 → signed_by groups ≡ signed_value (take (groups.index + 1) bytes)
   signed_short low = elim (cases_lt groups.last 64) [
@@ -30,7 +32,8 @@ module _ (bytes : List ℕ) (groups : Groups) (first : AreFront bytes groups) wh
 
   pub IsSleb-short : (z : ℤ) → z ≡ signed_by groups → groups.last < 128 → IsSleb (take (groups.index + 1) bytes) z
   IsSleb-short z value low =
-      IsSleb-front bytes groups.index z first.inside (omega (arith, first.at_most_nine)) first.go_on (rw (← first.last) low) (λ e. absurd (omega (arith, first.at_most_nine))) (value ∙ signed_short low)
+      IsSleb-front bytes groups.index z first.inside (omega (arith, first.at_most_nine)) first.go_on (rw (← first.last) low)
+      (λ e. absurd (omega (arith, first.at_most_nine))) (value ∙ signed_short low)
 
   module _ (more : 128 ≤ groups.last) where
     nine_go_on : GoOn bytes 9
@@ -56,11 +59,13 @@ module _ (bytes : List ℕ) (groups : Groups) (first : AreFront bytes groups) wh
 
     pub IsSleb-zero : (z : ℤ) → 9 < length bytes → slice_index bytes 9 ≡ 0 → z ≡ pos groups.value → IsSleb (take 10 bytes) z
     IsSleb-zero z inside zero value =
-        IsSleb-front bytes 9 z inside (omega arith) nine_go_on (omega (arith, zero)) (λ _. inl zero) (value ∙ unsigned_tenth bytes groups.value inside nine_value zero)
+        IsSleb-front bytes 9 z inside (omega arith) nine_go_on (omega (arith, zero)) (λ _. inl zero)
+        (value ∙ unsigned_tenth bytes groups.value inside nine_value zero)
 
     pub IsSleb-ones : (z : ℤ) → 9 < length bytes → slice_index bytes 9 ≡ 127 → z ≡ pos groups.value -ℤ pos groups.weight → IsSleb (take 10 bytes) z
     IsSleb-ones z inside ones value =
-        IsSleb-front bytes 9 z inside (omega arith) nine_go_on (omega (arith, ones)) (λ _. inr ones) (value ∙ (ap (λ (w : ℕ). pos groups.value -ℤ pos w) nine_weight ∙ signed_tenth bytes groups.value inside nine_value ones))
+        IsSleb-front bytes 9 z inside (omega arith) nine_go_on (omega (arith, ones)) (λ _. inr ones)
+        (value ∙ (ap (λ (w : ℕ). pos groups.value -ℤ pos w) nine_weight ∙ signed_tenth bytes groups.value inside nine_value ones))
 
     -- where none does
     pub IsUleb-too_long : (9 < length bytes → 1 < slice_index bytes 9) → (k n : ℕ) → IsUleb (take k bytes) n → ⊥

@@ -26,7 +26,8 @@ pub length-rest_from : (bytes rest : List ℕ) (s : ℕ) → rest_from bytes s �
 length-rest_from bytes rest s e = sym (ap length (rest_from-ok bytes rest s e).1 ∙ length-drop s bytes)
 
 -- what `pread_with` finds of a record is the record there
-pub record_at_offset : (le : Endian) (fields : List Field) (bytes : List ℕ) (s : ℕ) → value_of (front_at (record_front le fields) bytes s) ≡ record_at le fields bytes s
+pub record_at_offset : (le : Endian) (fields : List Field) (bytes : List ℕ) (s : ℕ)
+    → value_of (front_at (record_front le fields) bytes s) ≡ record_at le fields bytes s
 record_at_offset le fields bytes s = elim (cases_lt s (length bytes)) [
   | inr out ↦ let test : nat_le (length bytes) s ≡ true = le-leb (length bytes) s out in rw test refl
   | inl inside ↦

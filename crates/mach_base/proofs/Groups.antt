@@ -1,5 +1,6 @@
 -- Groups of seven bits: what they make, and where they end.
-use Rattle.std.proofs.Common.{◌≡◌, ℕ, zero, suc, ◌+◌, ◌-◌, ◌*◌, ◌%◌, ◌^◌, ◌<◌, ◌≤◌, true, false, Bool, List, [], ◌∷◌, ◌++◌, length, take, drop, get_or, Option, Some, None, option_map, Ok, Err, nat_le, nat_lt, inl, inr, refl, sym, ap, subst, ◌∙◌, arith}
+use Rattle.std.proofs.Common.{◌≡◌, ℕ, zero, suc, ◌+◌, ◌-◌, ◌*◌, ◌%◌, ◌^◌, ◌<◌, ◌≤◌, true, false, Bool, List, [], ◌∷◌, ◌++◌, length, take, drop}
+use Rattle.std.proofs.Common.{get_or, Option, Some, None, option_map, Ok, Err, nat_le, nat_lt, inl, inr, refl, sym, ap, subst, ◌∙◌, arith}
 use Rattle.std.proofs.lemmas.Bool.{cases_lt, cases_Bool, lt-ltb, le-ltb, lt-leb, le-leb}
 use Rattle.std.proofs.lemmas.List.{take_more, length-take, length-take-le, get_or-take}
 use Rattle.std.proofs.Math.Nat.{pow-suc, pow-le-pow_right, mul_assoc, mul_comm, mul-le-mul_right}
@@ -21,7 +22,8 @@ groups_value-push (x ∷ xs) b =
 pub groups_value-take : (xs : List ℕ) (i : ℕ) → i < length xs → groups_value (take (i + 1) xs) ≡ groups_value (take i xs) + (get_or xs i 0 % 128) * 128 ^ i
 groups_value-take xs i lt =
     let len : length (take i xs) ≡ i = length-take-le i xs (omega arith) in
-    ap groups_value (take_more xs i 0 lt) ∙ groups_value-push (take i xs) (get_or xs i 0) ∙ ap (λ (n : ℕ). groups_value (take i xs) + (get_or xs i 0 % 128) * 128 ^ n) len
+    ap groups_value (take_more xs i 0 lt) ∙ groups_value-push (take i xs) (get_or xs i 0) ∙
+    ap (λ (n : ℕ). groups_value (take i xs) + (get_or xs i 0 % 128) * 128 ^ n) len
 
 -- what the groups so far and one more are below
 pub group_below : (v b w : ℕ) → v < w → v + (b % 128) * w < w * 128
@@ -52,7 +54,8 @@ IsGroups-last (b ∷ c ∷ bs) h =
     (suc r.0, omega (arith, r.1), r.2)
 
 -- groups at the front of some bytes end at the first byte below 128
-pub groups_end : (xs : List ℕ) (i k : ℕ) → ((j : ℕ) → j < i → 128 ≤ get_or xs j 0) → IsGroups (take k xs) → (j : ℕ) × (i ≤ j) × (length (take k xs) ≡ j + 1) × (j < length xs) × (get_or xs j 0 < 128)
+pub groups_end : (xs : List ℕ) (i k : ℕ) → ((j : ℕ) → j < i → 128 ≤ get_or xs j 0) → IsGroups (take k xs)
+    → (j : ℕ) × (i ≤ j) × (length (take k xs) ≡ j + 1) × (j < length xs) × (get_or xs j 0 < 128)
 groups_end xs i k on groups =
     let last = IsGroups-last (take k xs) groups in
     let j = last.0 in
@@ -77,7 +80,8 @@ first_groups-front (b ∷ c ∷ bs) (x ∷ xs) h e =
     let high : nat_lt x 128 ≡ false = rw same (le-ltb b 128 h.0) in
     rw (high, first_groups-front (c ∷ bs) xs h.1 rest) (rw same refl)
 
-option_map-is : (x : ℕ) (o : Option (List ℕ)) (g : List ℕ) → option_map (λ others. x ∷ others) o ≡ Some g → (others : List ℕ) × (o ≡ Some others) × (g ≡ x ∷ others)
+option_map-is : (x : ℕ) (o : Option (List ℕ)) (g : List ℕ) → option_map (λ others. x ∷ others) o ≡ Some g
+    → (others : List ℕ) × (o ≡ Some others) × (g ≡ x ∷ others)
 option_map-is x None g e = absurd (cc)
 option_map-is x (Some others) g e = (others, refl, cc)
 
@@ -103,12 +107,15 @@ first_groups-is (x ∷ xs) g e = elim (cases_lt x 128) [
 
 module _ {V : Type 0} (short : List ℕ → Bool) (value : List ℕ → V) (bytes : List ℕ) (s : ℕ) where
   -- the value of the groups that stand at s
-  pub leb_at-here : (spelled : List ℕ) → s < length bytes → take (length spelled) (drop s bytes) ≡ spelled → IsGroups spelled → short spelled ≡ true → leb_at short value bytes s ≡ Ok (value spelled, s + length spelled)
+  pub leb_at-here : (spelled : List ℕ) → s < length bytes → take (length spelled) (drop s bytes) ≡ spelled → IsGroups spelled → short spelled ≡ true
+      → leb_at short value bytes s ≡ Ok (value spelled, s + length spelled)
   leb_at-here spelled inside here groups fits =
       let test : nat_le (length bytes) s ≡ false = lt-leb (length bytes) s inside in
       rw (test, first_groups-front spelled (drop s bytes) groups here, fits) refl
 
-  unspelled : (o : Option (List ℕ)) → first_groups (drop s bytes) ≡ o → ((k : ℕ) → IsGroups (take k (drop s bytes)) → short (take k (drop s bytes)) ≡ true → ⊥) → spelled_at short value bytes s o ≡ Err (bad_input (length bytes - s))
+  unspelled : (o : Option (List ℕ)) → first_groups (drop s bytes) ≡ o
+      → ((k : ℕ) → IsGroups (take k (drop s bytes)) → short (take k (drop s bytes)) ≡ true → ⊥)
+      → spelled_at short value bytes s o ≡ Err (bad_input (length bytes - s))
   unspelled None e none = refl
   unspelled (Some g) e none = elim (cases_Bool (short g)) [
     | inl fits ↦
@@ -118,7 +125,8 @@ module _ {V : Type 0} (short : List ℕ → Bool) (value : List ℕ → V) (byte
   ]
 
   -- the fault where none stand there
-  pub leb_at-none : s < length bytes → ((k : ℕ) → IsGroups (take k (drop s bytes)) → short (take k (drop s bytes)) ≡ true → ⊥) → leb_at short value bytes s ≡ Err (bad_input (length bytes - s))
+  pub leb_at-none : s < length bytes → ((k : ℕ) → IsGroups (take k (drop s bytes)) → short (take k (drop s bytes)) ≡ true → ⊥)
+      → leb_at short value bytes s ≡ Err (bad_input (length bytes - s))
   leb_at-none inside none =
       let test : nat_le (length bytes) s ≡ false = lt-leb (length bytes) s inside in
       rw test (unspelled (first_groups (drop s bytes)) refl none)
@@ -139,6 +147,7 @@ module _ {V : Type 0} (short : List ℕ → Bool) (value : List ℕ → V) (byte
 
   pub leb_at-read : (v : V) (after : ℕ) → leb_at short value bytes s ≡ Ok (v, after) → WereRead v after
   leb_at-read v after e = elim (cases_lt s (length bytes)) [
-    | inl inside ↦ found v after (first_groups (drop s bytes)) refl (let test : nat_le (length bytes) s ≡ false = lt-leb (length bytes) s inside in rw test at e)
+    | inl inside ↦ found v after (first_groups (drop s bytes)) refl
+        (let test : nat_le (length bytes) s ≡ false = lt-leb (length bytes) s inside in rw test at e)
     | inr out ↦ absurd (let test : nat_le (length bytes) s ≡ true = le-leb (length bytes) s out in let wrong = rw test at e in cc)
   ]

@@ -1,5 +1,6 @@
 -- Runs without a zero byte, and texts.
-use Rattle.std.proofs.Common.{◌≡◌, ℕ, Bool, true, false, List, length, Option, Some, None, Ok, Err, IsErr, MatchOption, nat_le, refl, sym, ap, ◌∙◌, arith, unwrap_or}
+use Rattle.std.proofs.Common.{◌≡◌, ℕ, Bool, true, false, List, length, Option, Some, None, Ok, Err, IsErr, MatchOption, nat_le, refl, sym, ap, ◌∙◌}
+use Rattle.std.proofs.Common.{arith, unwrap_or}
 use denote.Bor.{Bor}
 use Rattle.std.proofs.lemmas.Bool.{lt-leb}
 use Rattle.std.proofs.lemmas.List.Sums.{position_or_len_is}
@@ -27,7 +28,8 @@ not_utf8_by bs true e n = absurd (n (IsUtf8-from_is_utf8 bs e))
 not_utf8_by bs false e n = e
 
 -- the text where the run is UTF-8
-pub good_text : (bytes rest : List ℕ) (s : ℕ) (run : List ℕ) → rest_from bytes s ≡ Ok rest → run ≡ before_first is_zero rest → IsUtf8 run → text_at bytes s ≡ Ok run
+pub good_text : (bytes rest : List ℕ) (s : ℕ) (run : List ℕ) → rest_from bytes s ≡ Ok rest → run ≡ before_first is_zero rest → IsUtf8 run
+    → text_at bytes s ≡ Ok run
 unfolding text_at
 good_text bytes rest s run e is u =
     let inside = rest_from-ok bytes rest s e in
@@ -36,7 +38,8 @@ good_text bytes rest s run e is u =
     let good = is_utf8-from_IsUtf8 run u in rw (test, ← same, good) refl
 
 -- the fault where it is not
-pub bad_text : (bytes rest : List ℕ) (s : ℕ) (run : List ℕ) → rest_from bytes s ≡ Ok rest → run ≡ before_first is_zero rest → ¬ IsUtf8 run → text_at bytes s ≡ Err (bad_input (length rest))
+pub bad_text : (bytes rest : List ℕ) (s : ℕ) (run : List ℕ) → rest_from bytes s ≡ Ok rest → run ≡ before_first is_zero rest → ¬ IsUtf8 run
+    → text_at bytes s ≡ Err (bad_input (length rest))
 unfolding text_at
 bad_text bytes rest s run e is u =
     let inside = rest_from-ok bytes rest s e in
@@ -45,7 +48,8 @@ bad_text bytes rest s run e is u =
     let bad = not_utf8_by run (is_utf8 run) refl u in rw (test, ← same, bad, length-rest_from bytes rest s e) refl
 
 -- what a text is read as, or why it isn't
-pub text_found : (bytes rest : List ℕ) (s : ℕ) (run : List ℕ) (r : Option (Bor (List ℕ))) → rest_from bytes s ≡ Ok rest → run ≡ before_first is_zero rest → MatchOption r (¬ IsUtf8 run) (λ text. (text.now ≡ run) × IsUtf8 run)
+pub text_found : (bytes rest : List ℕ) (s : ℕ) (run : List ℕ) (r : Option (Bor (List ℕ))) → rest_from bytes s ≡ Ok rest
+    → run ≡ before_first is_zero rest → MatchOption r (¬ IsUtf8 run) (λ text. (text.now ≡ run) × IsUtf8 run)
     → MatchOption r (IsErr (text_at bytes s)) (λ text. text_at bytes s ≡ Ok text.now)
 text_found bytes rest s run None e is bad = rw (bad_text bytes rest s run e is bad) refl
 text_found bytes rest s run (Some text) e is good = rw good.0 (good_text bytes rest s run e is good.1)

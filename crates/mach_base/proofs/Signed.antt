@@ -1,5 +1,6 @@
 -- SLEB128: the definition by groups and the relation say the same.
-use Rattle.std.proofs.Common.{◌≡◌, ◌==◌, ℕ, ℤ, pos, ◌-ℤ◌, ◌+◌, ◌-◌, ◌<◌, ◌≤◌, ◌*◌, ◌^◌, ◌||◌, ◌⊎◌, true, false, List, length, drop, take, get_or, slice_index, Ok, Err, nat_le, nat_lt, inl, inr, refl, sym, ap, subst, ◌∙◌, arith}
+use Rattle.std.proofs.Common.{◌≡◌, ◌==◌, ℕ, ℤ, pos, ◌-ℤ◌, ◌+◌, ◌-◌, ◌<◌, ◌≤◌, ◌*◌, ◌^◌, ◌||◌, ◌⊎◌, true, false, List, length, drop, take, get_or}
+use Rattle.std.proofs.Common.{slice_index, Ok, Err, nat_le, nat_lt, inl, inr, refl, sym, ap, subst, ◌∙◌, arith}
 use Rattle.std.proofs.lemmas.Bool.{cases_lt, le-leb, lt-ltb, le-ltb, leb-true, eqb-true, and_from, and_parts, or_cases}
 use Rattle.std.proofs.lemmas.Int.{ints}
 use Rattle.std.proofs.lemmas.List.{length-take, length-take-le, get_or-take, get_or_past}
@@ -40,18 +41,21 @@ signed_value-low xs i lt low =
     let test : nat_lt (last_group (take (i + 1) xs)) 64 ≡ true = lt-ltb _ 64 (omega (arith, last_group-take xs i lt)) in
     rw test refl
 
-pub signed_value-high : (xs : List ℕ) (i : ℕ) → i < length xs → 64 ≤ get_or xs i 0 → signed_value (take (i + 1) xs) ≡ pos (groups_value (take (i + 1) xs)) -ℤ pos (128 ^ (i + 1))
+pub signed_value-high : (xs : List ℕ) (i : ℕ) → i < length xs → 64 ≤ get_or xs i 0
+    → signed_value (take (i + 1) xs) ≡ pos (groups_value (take (i + 1) xs)) -ℤ pos (128 ^ (i + 1))
 signed_value-high xs i lt high =
     let test : nat_lt (last_group (take (i + 1) xs)) 64 ≡ false = le-ltb _ 64 (omega (arith, last_group-take xs i lt)) in
     rw (test, length-take-le (i + 1) xs (omega arith)) refl
 
 -- a spelling that ends at a place
-pub IsSleb-front : (xs : List ℕ) (i : ℕ) (z : ℤ) → i < length xs → i ≤ 9 → ((k : ℕ) → k < i → 128 ≤ get_or xs k 0) → get_or xs i 0 < 128 → (i ≡ 9 → IsSign (get_or xs 9 0))
+pub IsSleb-front : (xs : List ℕ) (i : ℕ) (z : ℤ) → i < length xs → i ≤ 9 → ((k : ℕ) → k < i → 128 ≤ get_or xs k 0) → get_or xs i 0 < 128
+    → (i ≡ 9 → IsSign (get_or xs 9 0))
     → z ≡ signed_value (take (i + 1) xs) → IsSleb (take (i + 1) xs) z
 IsSleb-front xs i z lt le on last tenth value =
     let len : length (take (i + 1) xs) ≡ i + 1 = length-take-le (i + 1) xs (omega arith) in
     record {
-      groups = IsGroups-from (take (i + 1) xs) i len (λ k h. rw (get_or-take (i + 1) xs k 0 (omega arith)) (on k h)) (rw (get_or-take (i + 1) xs i 0 (omega arith)) last);
+      groups = IsGroups-from (take (i + 1) xs) i len (λ k h. rw (get_or-take (i + 1) xs k 0 (omega arith)) (on k h))
+          (rw (get_or-take (i + 1) xs i 0 (omega arith)) last);
       at_most_ten = omega arith;
       tenth = elim (cases_lt i 9) [
         | inl below ↦ inl (get_or_past (take (i + 1) xs) 9 0 (omega arith))
@@ -61,7 +65,8 @@ IsSleb-front xs i z lt le on last tenth value =
     }
 
 -- nine groups of a number that go on, and a tenth
-pub signed_tenth : (xs : List ℕ) (v : ℕ) → 9 < length xs → v ≡ groups_value (take 9 xs) → get_or xs 9 0 ≡ 127 → pos v -ℤ pos (128 ^ 9) ≡ signed_value (take 10 xs)
+pub signed_tenth : (xs : List ℕ) (v : ℕ) → 9 < length xs → v ≡ groups_value (take 9 xs) → get_or xs 9 0 ≡ 127
+    → pos v -ℤ pos (128 ^ 9) ≡ signed_value (take 10 xs)
 signed_tenth xs v lt value is =
     signed_sum v (groups_value (take 10 xs)) (omega (arith, value, is, groups_value-take xs 9 lt)) ∙ sym (signed_value-high xs 9 lt (omega (arith, is)))
   where
@@ -74,31 +79,36 @@ unsigned_tenth xs v lt value is =
     ap pos same ∙ sym (signed_value-low xs 9 lt (omega (arith, is)))
 
 -- where the bytes below i go on and none from i on ends a spelling, there is none
-pub IsSleb-none : (xs : List ℕ) (i : ℕ) → ((k : ℕ) → k < i → 128 ≤ get_or xs k 0) → ((j : ℕ) → i ≤ j → j < 10 → j < length xs → get_or xs j 0 < 128 → (j ≡ 9 → IsSign (get_or xs 9 0)) → ⊥) → (k : ℕ) (z : ℤ) → IsSleb (take k xs) z → ⊥
+pub IsSleb-none : (xs : List ℕ) (i : ℕ) → ((k : ℕ) → k < i → 128 ≤ get_or xs k 0)
+    → ((j : ℕ) → i ≤ j → j < 10 → j < length xs → get_or xs j 0 < 128 → (j ≡ 9 → IsSign (get_or xs 9 0)) → ⊥) → (k : ℕ) (z : ℤ) → IsSleb (take k xs) z → ⊥
 IsSleb-none xs i on none k z u =
     let end = groups_end xs i k on u.groups in
     let j = end.0 in
     none j end.1 (omega (arith, end.2, u.at_most_ten)) end.3 end.4 (λ e. rw (← get_or-take k xs 9 0 (omega (arith, length-take k xs, end.2, e))) u.tenth)
 
 -- the number where one is spelled
-sleb_at-spelled : (bytes : List ℕ) (s : ℕ) (spelled : List ℕ) (z : ℤ) → take (length spelled) (drop s bytes) ≡ spelled → IsSleb spelled z → sleb_at bytes s ≡ Ok (z, s + length spelled)
+sleb_at-spelled : (bytes : List ℕ) (s : ℕ) (spelled : List ℕ) (z : ℤ) → take (length spelled) (drop s bytes) ≡ spelled → IsSleb spelled z
+    → sleb_at bytes s ≡ Ok (z, s + length spelled)
 unfolding sleb_at
 sleb_at-spelled bytes s spelled z here u =
     rw u.value (leb_at-here is_short_signed signed_value bytes s spelled (groups_inside bytes s spelled here u.groups) here u.groups (short spelled z u))
 
 -- the same for a front of what stands from s on
-pub sleb_at-front : (bytes rest : List ℕ) (s k : ℕ) (z : ℤ) → rest_from bytes s ≡ Ok rest → k ≤ length rest → IsSleb (take k rest) z → sleb_at bytes s ≡ Ok (z, s + k)
+pub sleb_at-front : (bytes rest : List ℕ) (s k : ℕ) (z : ℤ) → rest_from bytes s ≡ Ok rest → k ≤ length rest → IsSleb (take k rest) z
+    → sleb_at bytes s ≡ Ok (z, s + k)
 sleb_at-front bytes rest s k z e within u =
     let len : length (take k rest) ≡ k = length-take-le k rest within in
     let here : take (length (take k rest)) (drop s bytes) ≡ take k rest = rw (len, (rest_from-ok bytes rest s e).1) refl in
     rw (sym (ap (λ (x : ℕ). s + x) len)) (sleb_at-spelled bytes s (take k rest) z here u)
 
-pub sleb_at-no_front : (bytes rest : List ℕ) (s : ℕ) → rest_from bytes s ≡ Ok rest → ((k : ℕ) (z : ℤ) → IsSleb (take k rest) z → ⊥) → sleb_at bytes s ≡ Err (bad_input (length rest))
+pub sleb_at-no_front : (bytes rest : List ℕ) (s : ℕ) → rest_from bytes s ≡ Ok rest → ((k : ℕ) (z : ℤ) → IsSleb (take k rest) z → ⊥)
+    → sleb_at bytes s ≡ Err (bad_input (length rest))
 unfolding sleb_at
 sleb_at-no_front bytes rest s e none =
     let inside = rest_from-ok bytes rest s e in
     rw (← length-rest_from bytes rest s e)
-    (leb_at-none is_short_signed signed_value bytes s inside.0 (λ k groups fits. none k (signed_value (take k (drop s bytes))) (rw inside.1 (IsSleb-from_short (take k (drop s bytes)) groups fits))))
+    (leb_at-none is_short_signed signed_value bytes s inside.0
+    (λ k groups fits. none k (signed_value (take k (drop s bytes))) (rw inside.1 (IsSleb-from_short (take k (drop s bytes)) groups fits))))
 
 -- the law
 pub SpellsSigned-unique : (bytes : List ℕ) (s : ℕ) (xs ys : List ℕ) (y z : ℤ) → SpellsSigned bytes s xs y → SpellsSigned bytes s ys z → (xs ≡ ys) × (y ≡ z)
@@ -109,7 +119,8 @@ SpellsSigned-unique bytes s xs ys y z a b =
 pub sleb_at-SpellsSigned : (bytes : List ℕ) (s : ℕ) (spelled : List ℕ) (z : ℤ) → SpellsSigned bytes s spelled z → sleb_at bytes s ≡ Ok (z, s + length spelled)
 sleb_at-SpellsSigned bytes s spelled z h = sleb_at-spelled bytes s spelled z h.here h.sleb
 
-pub SpellsSigned-from_read : (bytes : List ℕ) (s : ℕ) (z : ℤ) (after : ℕ) → sleb_at bytes s ≡ Ok (z, after) → (spelled : List ℕ) × SpellsSigned bytes s spelled z × (after ≡ s + length spelled)
+pub SpellsSigned-from_read : (bytes : List ℕ) (s : ℕ) (z : ℤ) (after : ℕ) → sleb_at bytes s ≡ Ok (z, after)
+    → (spelled : List ℕ) × SpellsSigned bytes s spelled z × (after ≡ s + length spelled)
 unfolding sleb_at
 SpellsSigned-from_read bytes s z after e =
     let read = leb_at-read is_short_signed signed_value bytes s z after e in

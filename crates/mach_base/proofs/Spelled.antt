@@ -6,7 +6,8 @@ use Rattle.byteorder.specs.Numbers.{little_number-reads_back, big_number-reads_b
 use Rattle.mach_base.specs.declared.context.Endian.{Endian}
 use Rattle.mach_base.specs.declared.context.Endian.TheVariants.{Little, Big}
 use Rattle.mach_base.specs.Number.{number, number_bytes}
-use Rattle.mach_base.specs.Record.{Field, num, arr, Value, number_is, bytes_are, width, size, value_in, values_in, field_bytes, spelling, spelled_after, Fits, AllFit, record_at}
+use Rattle.mach_base.specs.Record.{Field, num, arr, Value, number_is, bytes_are, width, size, value_in, values_in, field_bytes, spelling}
+use Rattle.mach_base.specs.Record.{spelled_after, Fits, AllFit, record_at}
 
 -- the values at a later place are those at the front of what stands there
 pub values_in-drop : (le : Endian) (fs : List Field) (s p : ℕ) (bytes : List ℕ) → values_in le fs (s + p) bytes ≡ values_in le fs p (drop s bytes)
@@ -73,7 +74,8 @@ values-back le (f ∷ fs) (v ∷ vs) rest h =
     ∙ values_in-front le fs (width f) (b ++ (r ++ rest)) ∙ ap (values_in le fs 0) off ∙ values-back le fs vs rest h.1 in
     rw regroup (rw (front, later) refl)
 
-pub record_at-ok : (le : Endian) (fs : List Field) (bytes : List ℕ) (s : ℕ) (vs : List Value) → s < length bytes → s + size fs ≤ length bytes → values_in le fs 0 (drop s bytes) ≡ vs → record_at le fs bytes s ≡ Ok vs
+pub record_at-ok : (le : Endian) (fs : List Field) (bytes : List ℕ) (s : ℕ) (vs : List Value) → s < length bytes → s + size fs ≤ length bytes
+    → values_in le fs 0 (drop s bytes) ≡ vs → record_at le fs bytes s ≡ Ok vs
 record_at-ok le fs bytes s vs inside room e =
     let t : leb (length bytes) s ≡ false = lt-leb (length bytes) s inside in
     let u : leb (s + size fs) (length bytes) ≡ true = le-leb (s + size fs) (length bytes) room in

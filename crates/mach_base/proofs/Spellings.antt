@@ -22,6 +22,7 @@ pub groups_inside : (bytes : List ℕ) (s : ℕ) (spelled : List ℕ) → take (
 groups_inside bytes s spelled here groups = elim (cases_lt s (length bytes)) [
   | inl inside ↦ inside
   | inr out ↦ absurd (
-      let none : take (length spelled) (drop s bytes) ≡ [] = ap (λ (l : List ℕ). take (length spelled) l) (drop_all s bytes out) ∙ take_nothing (length spelled) in
+      let none : take (length spelled) (drop s bytes) ≡ [] = ap (λ (l : List ℕ). take (length spelled) l) (drop_all s bytes out) ∙
+      take_nothing (length spelled) in
       subst IsGroups (sym here ∙ none) groups)
 ]

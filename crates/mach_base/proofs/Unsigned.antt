@@ -1,5 +1,6 @@
 -- ULEB128: the definition by groups and the relation say the same.
-use Rattle.std.proofs.Common.{◌≡◌, ℕ, ◌+◌, ◌<◌, ◌≤◌, true, List, [], ◌∷◌, length, drop, take, get_or, slice_index, Ok, Err, IsErr, nat_le, inl, inr, refl, sym, ap, subst, ◌∙◌, arith}
+use Rattle.std.proofs.Common.{◌≡◌, ℕ, ◌+◌, ◌<◌, ◌≤◌, true, List, [], ◌∷◌, length, drop, take, get_or, slice_index, Ok, Err, IsErr, nat_le, inl, inr}
+use Rattle.std.proofs.Common.{refl, sym, ap, subst, ◌∙◌, arith}
 use Rattle.std.proofs.lemmas.Bool.{cases_lt, le-leb, leb-true, and_from, and_parts}
 use Rattle.std.proofs.lemmas.List.{length-take, length-take-le, get_or-take, get_or_past}
 use Rattle.mach_base.specs.Fault.{bad_input}
@@ -10,7 +11,9 @@ use Rattle.mach_base.proofs.Groups.{IsGroups-from, groups_end, leb_at-here, leb_
 use Rattle.mach_base.proofs.Spellings.{groups_unique, groups_inside}
 
 short : (spelled : List ℕ) (n : ℕ) → IsUleb spelled n → is_short spelled ≡ true
-short spelled n u = and_from (nat_le (length spelled) 10) (nat_le (slice_index spelled 9) 1) (le-leb (length spelled) 10 u.at_most_ten) (le-leb (slice_index spelled 9) 1 u.tenth)
+short spelled n u =
+    and_from (nat_le (length spelled) 10) (nat_le (slice_index spelled 9) 1) (le-leb (length spelled) 10 u.at_most_ten)
+    (le-leb (slice_index spelled 9) 1 u.tenth)
 
 IsUleb-from_short : (spelled : List ℕ) → IsGroups spelled → is_short spelled ≡ true → IsUleb spelled (groups_value spelled)
 IsUleb-from_short spelled groups e =
@@ -23,7 +26,8 @@ pub IsUleb-front : (xs : List ℕ) (i v : ℕ) → i < length xs → i ≤ 9 →
 IsUleb-front xs i v lt le on last tenth value =
     let len : length (take (i + 1) xs) ≡ i + 1 = length-take-le (i + 1) xs (omega arith) in
     record {
-      groups = IsGroups-from (take (i + 1) xs) i len (λ k h. rw (get_or-take (i + 1) xs k 0 (omega arith)) (on k h)) (rw (get_or-take (i + 1) xs i 0 (omega arith)) last);
+      groups = IsGroups-from (take (i + 1) xs) i len (λ k h. rw (get_or-take (i + 1) xs k 0 (omega arith)) (on k h))
+          (rw (get_or-take (i + 1) xs i 0 (omega arith)) last);
       at_most_ten = omega arith;
       tenth = elim (cases_lt i 9) [
         | inl below ↦ rw (get_or_past (take (i + 1) xs) 9 0 (omega arith)) (omega arith)
@@ -33,14 +37,16 @@ IsUleb-front xs i v lt le on last tenth value =
     }
 
 -- where the bytes below i go on and none from i on ends a spelling, there is none
-pub IsUleb-none : (xs : List ℕ) (i : ℕ) → ((k : ℕ) → k < i → 128 ≤ get_or xs k 0) → ((j : ℕ) → i ≤ j → j < 10 → j < length xs → get_or xs j 0 < 128 → (j ≡ 9 → get_or xs 9 0 ≤ 1) → ⊥) → (k n : ℕ) → IsUleb (take k xs) n → ⊥
+pub IsUleb-none : (xs : List ℕ) (i : ℕ) → ((k : ℕ) → k < i → 128 ≤ get_or xs k 0)
+    → ((j : ℕ) → i ≤ j → j < 10 → j < length xs → get_or xs j 0 < 128 → (j ≡ 9 → get_or xs 9 0 ≤ 1) → ⊥) → (k n : ℕ) → IsUleb (take k xs) n → ⊥
 IsUleb-none xs i on none k n u =
     let end = groups_end xs i k on u.groups in
     let j = end.0 in
     none j end.1 (omega (arith, end.2, u.at_most_ten)) end.3 end.4 (λ e. rw (← get_or-take k xs 9 0 (omega (arith, length-take k xs, end.2, e))) u.tenth)
 
 -- the number where one is spelled
-uleb_at-spelled : (bytes : List ℕ) (s : ℕ) (spelled : List ℕ) (n : ℕ) → take (length spelled) (drop s bytes) ≡ spelled → IsUleb spelled n → uleb_at bytes s ≡ Ok (n, s + length spelled)
+uleb_at-spelled : (bytes : List ℕ) (s : ℕ) (spelled : List ℕ) (n : ℕ) → take (length spelled) (drop s bytes) ≡ spelled → IsUleb spelled n
+    → uleb_at bytes s ≡ Ok (n, s + length spelled)
 unfolding uleb_at
 uleb_at-spelled bytes s spelled n here u =
     rw u.value (leb_at-here is_short groups_value bytes s spelled (groups_inside bytes s spelled here u.groups) here u.groups (short spelled n u))
@@ -52,12 +58,14 @@ uleb_at-front bytes rest s k n e within u =
     let here : take (length (take k rest)) (drop s bytes) ≡ take k rest = rw (len, (rest_from-ok bytes rest s e).1) refl in
     rw (sym (ap (λ (x : ℕ). s + x) len)) (uleb_at-spelled bytes s (take k rest) n here u)
 
-pub uleb_at-no_front : (bytes rest : List ℕ) (s : ℕ) → rest_from bytes s ≡ Ok rest → ((k n : ℕ) → IsUleb (take k rest) n → ⊥) → uleb_at bytes s ≡ Err (bad_input (length rest))
+pub uleb_at-no_front : (bytes rest : List ℕ) (s : ℕ) → rest_from bytes s ≡ Ok rest → ((k n : ℕ) → IsUleb (take k rest) n → ⊥)
+    → uleb_at bytes s ≡ Err (bad_input (length rest))
 unfolding uleb_at
 uleb_at-no_front bytes rest s e none =
     let inside = rest_from-ok bytes rest s e in
     rw (← length-rest_from bytes rest s e)
-    (leb_at-none is_short groups_value bytes s inside.0 (λ k groups fits. none k (groups_value (take k (drop s bytes))) (rw inside.1 (IsUleb-from_short (take k (drop s bytes)) groups fits))))
+    (leb_at-none is_short groups_value bytes s inside.0
+    (λ k groups fits. none k (groups_value (take k (drop s bytes))) (rw inside.1 (IsUleb-from_short (take k (drop s bytes)) groups fits))))
 
 -- the law
 pub Spells-unique : (bytes : List ℕ) (s : ℕ) (xs ys : List ℕ) (m n : ℕ) → Spells bytes s xs m → Spells bytes s ys n → (xs ≡ ys) × (m ≡ n)
@@ -68,7 +76,8 @@ Spells-unique bytes s xs ys m n a b =
 pub uleb_at-Spells : (bytes : List ℕ) (s : ℕ) (spelled : List ℕ) (n : ℕ) → Spells bytes s spelled n → uleb_at bytes s ≡ Ok (n, s + length spelled)
 uleb_at-Spells bytes s spelled n h = uleb_at-spelled bytes s spelled n h.here h.uleb
 
-pub Spells-from_read : (bytes : List ℕ) (s n after : ℕ) → uleb_at bytes s ≡ Ok (n, after) → (spelled : List ℕ) × Spells bytes s spelled n × (after ≡ s + length spelled)
+pub Spells-from_read : (bytes : List ℕ) (s n after : ℕ) → uleb_at bytes s ≡ Ok (n, after)
+    → (spelled : List ℕ) × Spells bytes s spelled n × (after ≡ s + length spelled)
 unfolding uleb_at
 Spells-from_read bytes s n after e =
     let read = leb_at-read is_short groups_value bytes s n after e in

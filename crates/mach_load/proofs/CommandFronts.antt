@@ -1,19 +1,20 @@
 -- The command at the front of what stands at a place is the command there.
-use Rattle.std.proofs.Common.{◌≡◌, ℕ, zero, suc, ◌+◌, ◌-◌, ◌*◌, ◌<◌, ◌≤◌, ltb, leb, true, false, List, ◌++◌, map, length, drop, Result, Ok, Err, inl, inr, refl, sym, ap, ◌∙◌, arith}
+use Rattle.std.proofs.Common.{◌≡◌, ℕ, zero, suc, ◌+◌, ◌-◌, ◌*◌, ◌<◌, ◌≤◌, ltb, leb, false, List, length, drop, Result, Ok, Err, inl, inr, refl, sym}
+use Rattle.std.proofs.Common.{ap, ◌∙◌, arith}
 use Rattle.std.proofs.lemmas.Bool.{cases_lt, le-leb, lt-leb, le-ltb}
 use Rattle.std.proofs.lemmas.List.{length-drop, drop-drop}
 use Rattle.mach_base.specs.declared.context.Endian.{Endian}
 use Rattle.mach_base.specs.Answer.{◌>>=◌}
-use Rattle.mach_base.specs.Fault.{Fault, malformed, too_big}
+use Rattle.mach_base.specs.Fault.{Fault}
 use Rattle.mach_base.specs.Front.{value_of, with_width}
-use Rattle.mach_base.specs.Record.{Field, Value, number_is, number_among, size, record_at}
-use Rattle.mach_base.proofs.Binds.{same_ok, chosen}
+use Rattle.mach_base.specs.Record.{Field, Value, number_among, size, record_at}
+use Rattle.mach_base.proofs.Binds.{same_ok}
 use Rattle.mach_base.proofs.Fronts.{record_at_offset, rest_from-inside}
 use Rattle.mach_records.specs.declared.load_command_header.LoadCommandHeader.{LoadCommandHeader}
 use Rattle.mach_records.specs.LoadCommandHeader.{header_fields, header_values}
 use Rattle.mach_load.specs.declared.variant.CommandVariant.{CommandVariant}
 use Rattle.mach_load.specs.Commands.{Kind, Body, by_fields, by_thread, CommandRow, row_of}
-use Rattle.mach_load.specs.ThreadState.{thread_fields, words_at, state_at, state_behind, thread_at}
+use Rattle.mach_load.specs.ThreadState.{thread_fields, words_at, state_behind, thread_at}
 use Rattle.mach_load.specs.Command.{Command, body_at, command_by, command_at}
 use Rattle.mach_load.specs.Variants.{command_of}
 
@@ -30,7 +31,8 @@ abbrev made : Kind → ℕ → List Value → Result Command Fault
 made kind s vs = Ok (record { offset = s; kind = kind; values = vs })
 
 -- the same command at another place, and the same fault
-moved : (kind : Kind) (s : ℕ) (v : CommandVariant) (r : Result (List Value) Fault) → (r >>= made kind 0) ≡ Ok (command_of (record { offset = 0; command = v })) → (r >>= made kind s) ≡ Ok (command_of (record { offset = s; command = v }))
+moved : (kind : Kind) (s : ℕ) (v : CommandVariant) (r : Result (List Value) Fault)
+    → (r >>= made kind 0) ≡ Ok (command_of (record { offset = 0; command = v })) → (r >>= made kind s) ≡ Ok (command_of (record { offset = s; command = v }))
 moved kind s v (Ok vs) e = ap (λ (c : Command). Ok (record { offset = s; kind = c.kind; values = c.values })) (same_ok e)
 moved kind s v (Err f) e = absurd (cc)
 
@@ -39,8 +41,10 @@ kept kind s g (Ok vs) e = absurd (cc)
 kept kind s g (Err f) e = cc
 
 module _ (le : Endian) (bytes : List ℕ) (s : ℕ) (inside : s < length bytes) where
-  record_there : (fields : List Field) → record_at le fields (drop s bytes) 0 ≡ record_at le fields bytes s
-  record_there fields = rw (← record_at_offset le fields bytes s, rest_from-inside bytes (drop s bytes) s inside refl) (of_width (size fields) (record_at le fields (drop s bytes) 0))
+  pub record_there : (fields : List Field) → record_at le fields (drop s bytes) 0 ≡ record_at le fields bytes s
+  record_there fields =
+      rw (← record_at_offset le fields bytes s, rest_from-inside bytes (drop s bytes) s inside refl)
+      (of_width (size fields) (record_at le fields (drop s bytes) 0))
 
   words_there : (place n : ℕ) → words_at le (drop s bytes) place n ≡ words_at le bytes (s + place) n
   words_there place zero = refl
@@ -65,18 +69,23 @@ module _ (le : Endian) (bytes : List ℕ) (s : ℕ) (inside : s < length bytes) 
       (λ (head : List Value). rw (room_there (4 * number_among head 3), words_there 16 (number_among head 3)) refl))
 
   -- a command whose record stands at the front of the bytes from s on, and one that is refused there
-  pub by_there : (row : CommandRow) (v : CommandVariant) → command_by row le (drop s bytes) 0 ≡ Ok (command_of (record { offset = 0; command = v })) → command_by row le bytes s ≡ Ok (command_of (record { offset = s; command = v }))
+  pub by_there : (row : CommandRow) (v : CommandVariant) → command_by row le (drop s bytes) 0 ≡ Ok (command_of (record { offset = 0; command = v }))
+      → command_by row le bytes s ≡ Ok (command_of (record { offset = s; command = v }))
   by_there row v e = rw (← body_there row.body) (moved row.kind s v (body_at row.body le (drop s bytes) 0) e)
 
   pub refused_there : (row : CommandRow) (f : Fault) → command_by row le (drop s bytes) 0 ≡ Err f → command_by row le bytes s ≡ Err f
   refused_there row f e = rw (← body_there row.body) (kept row.kind s f (body_at row.body le (drop s bytes) 0) e)
 
 -- a record lies within the bytes
-pub record-inside : (le : Endian) (fields : List Field) (bytes : List ℕ) (s : ℕ) (values : List Value) → record_at le fields bytes s ≡ Ok values → s < length bytes
-record-inside le fields bytes s values e = elim (cases_lt s (length bytes)) [ inl inside ↦ inside | inr out ↦ absurd (let wrong = rw (le-leb (length bytes) s out) at e in cc) ]
+pub record-inside : (le : Endian) (fields : List Field) (bytes : List ℕ) (s : ℕ) (values : List Value) → record_at le fields bytes s ≡ Ok values
+    → s < length bytes
+record-inside le fields bytes s values e =
+    elim (cases_lt s (length bytes)) [ inl inside ↦ inside | inr out ↦ absurd (let wrong = rw (le-leb (length bytes) s out) at e in cc) ]
 
-pub command_found : (le : Endian) (bytes rest : List ℕ) (s : ℕ) (header : LoadCommandHeader) (v : CommandVariant) → s < length bytes → rest ≡ drop s bytes → record_at le header_fields rest 0 ≡ Ok (header_values header) → header.cmdsize ≤ length rest
-    → command_by (row_of header.cmd) le rest 0 ≡ Ok (command_of (record { offset = 0; command = v })) → command_at le bytes s ≡ Ok (command_of (record { offset = s; command = v }))
+pub command_found : (le : Endian) (bytes rest : List ℕ) (s : ℕ) (header : LoadCommandHeader) (v : CommandVariant) → s < length bytes
+    → rest ≡ drop s bytes → record_at le header_fields rest 0 ≡ Ok (header_values header) → header.cmdsize ≤ length rest
+    → command_by (row_of header.cmd) le rest 0 ≡ Ok (command_of (record { offset = 0; command = v }))
+    → command_at le bytes s ≡ Ok (command_of (record { offset = s; command = v }))
 command_found le bytes rest s header v inside is first fits e =
     let test : ltb (length bytes - s) header.cmdsize ≡ false = le-ltb (length bytes - s) header.cmdsize (omega (arith, ap length is, length-drop s bytes)) in
     rw (← record_there le bytes s inside header_fields, ← is, first, test) (by_there le bytes s inside (row_of header.cmd) v (rw (← is) e))

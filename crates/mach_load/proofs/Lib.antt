@@ -1,3 +1,4 @@
 pub mod Words
 pub mod CommandSizes
 pub mod CommandFronts
+pub mod Threads

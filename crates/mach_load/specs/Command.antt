@@ -1,11 +1,11 @@
 -- The load command at a place (`mach-o/loader.h`, struct load_command).
-use Rattle.std.specs.Prelude.{ℕ, ◌-◌, List, length, Result, Ok, Err, nat_lt, if◌then◌else◌}
+use Rattle.std.specs.Prelude.{◌≡◌, ◌⊎◌, ℕ, ◌-◌, List, length, Result, Ok, Err, nat_lt, if◌then◌else◌}
 use Rattle.mach_base.specs.declared.context.Endian.{Endian}
 use Rattle.mach_base.specs.Answer.{◌>>=◌}
 use Rattle.mach_base.specs.Fault.{Fault, malformed}
 use Rattle.mach_base.specs.Record.{Value, number_among, record_at}
 use Rattle.mach_records.specs.LoadCommandHeader.{header_fields}
-use Rattle.mach_load.specs.Commands.{Kind, Body, by_fields, by_thread, CommandRow, row_of}
+use Rattle.mach_load.specs.Commands.{Kind, thread, unixthread, Body, by_fields, by_thread, CommandRow, row_of}
 use Rattle.mach_load.specs.ThreadState.{thread_at}
 
 -- a load command: where it stands, what it is, and the values of its record, which begin with cmd and cmdsize
@@ -38,6 +38,15 @@ command_at le bytes s =
     record_at le header_fields bytes s >>= λ header.
     if nat_lt (length bytes - s) (number_among header 1) then Err malformed
     else command_by (row_of (number_among header 0)) le bytes s
+
+-- a command that says what the registers of a thread hold
+abbrev pub IsThread : Command → Type 0
+IsThread c = (c.kind ≡ thread) ⊎ (c.kind ≡ unixthread)
+
+-- a thread stands there, or nothing that can be read
+abbrev pub IsThreadOrRefused : Result Command Fault → Type 0
+IsThreadOrRefused (Ok c) = IsThread c
+IsThreadOrRefused (Err f) = Unit {0}
 
 -- the load command at the front of some bytes and its cmdsize, which is how wide it is
 abbrev pub command_front : Endian → List ℕ → Result (Command × ℕ) Fault

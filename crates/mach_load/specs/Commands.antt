@@ -1,9 +1,12 @@
 -- Which record each load command is read as: the command table (`mach-o/loader.h`).
 use Rattle.std.specs.Prelude.{◌==◌, ℕ, List, [], ◌∷◌, if◌then◌else◌}
 use Rattle.mach_base.specs.Record.{Field}
-use Rattle.mach_records.specs.Contents.{entry_point_command_fields, fileset_entry_command_fields, ident_command_fields, note_command_fields, prebind_cksum_command_fields, uuid_command_fields}
-use Rattle.mach_records.specs.Libraries.{dylib_command_fields, dylinker_command_fields, fvmfile_command_fields, fvmlib_command_fields, prebound_dylib_command_fields, rpath_command_fields}
-use Rattle.mach_records.specs.Linkedit.{dyld_info_command_fields, encryption_info_command32_fields, encryption_info_command64_fields, linkedit_data_command_fields}
+use Rattle.mach_records.specs.Contents.{entry_point_command_fields, fileset_entry_command_fields, ident_command_fields, note_command_fields}
+use Rattle.mach_records.specs.Contents.{prebind_cksum_command_fields, uuid_command_fields}
+use Rattle.mach_records.specs.Libraries.{dylib_command_fields, dylinker_command_fields, fvmfile_command_fields, fvmlib_command_fields}
+use Rattle.mach_records.specs.Libraries.{prebound_dylib_command_fields, rpath_command_fields}
+use Rattle.mach_records.specs.Linkedit.{dyld_info_command_fields, encryption_info_command32_fields, encryption_info_command64_fields}
+use Rattle.mach_records.specs.Linkedit.{linkedit_data_command_fields}
 use Rattle.mach_records.specs.LoadCommandHeader.{header_fields}
 use Rattle.mach_records.specs.Modules.{routines_command32_fields, routines_command64_fields}
 use Rattle.mach_records.specs.Segments.{segment_command32_fields, segment_command64_fields}
@@ -142,6 +145,6 @@ abbrev pub row_among : List CommandRow → ℕ → CommandRow
 row_among [] cmd = record { cmd = cmd; kind = unimplemented; body = by_fields header_fields }
 row_among (row ∷ rows) cmd = if cmd == row.cmd then row else row_among rows cmd
 
--- the row of a command
-abbrev pub row_of : ℕ → CommandRow
+-- the row of a command, closed so that no fact holds the whole table
+unfoldable pub row_of : ℕ → CommandRow
 row_of cmd = row_among command_rows cmd

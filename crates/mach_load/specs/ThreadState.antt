@@ -1,6 +1,7 @@
 -- The state of a thread (`mach-o/loader.h`, struct thread_command; the registers are those of
 -- `mach/i386/thread_status.h` and its like for other cpus).
-use Rattle.std.specs.Prelude.{◌==◌, ℕ, zero, suc, ◌+◌, ◌-◌, ◌*◌, ◌^◌, List, [], ◌∷◌, ◌++◌, map, length, drop, replicate, slice_index, Result, Ok, Err, nat_lt, nat_le, if◌then◌else◌}
+use Rattle.std.specs.Prelude.{◌==◌, ℕ, zero, suc, ◌+◌, ◌-◌, ◌*◌, ◌^◌, List, [], ◌∷◌, ◌++◌, map, length, drop, replicate, slice_index, Result, Ok, Err}
+use Rattle.std.specs.Prelude.{nat_lt, nat_le, if◌then◌else◌}
 use Rattle.mach_base.specs.declared.context.Endian.{Endian}
 use Rattle.mach_base.specs.Answer.{◌>>=◌}
 use Rattle.mach_base.specs.Fault.{Fault, malformed}
@@ -28,7 +29,8 @@ thread_values t = number_is t.cmd ∷ number_is t.cmdsize ∷ number_is t.flavor
 abbrev pub state_behind : Endian → List ℕ → ℕ → List Value → Result (List Value) Fault
 state_behind le bytes s head =
     if nat_lt 70 (number_among head 3) then Err malformed
-    else (if nat_le (s + 16 + 4 * number_among head 3) (length bytes) then Ok (head ++ map number_is (state_at le bytes (s + 16) (number_among head 3))) else Err malformed)
+    else (if nat_le (s + 16 + 4 * number_among head 3) (length bytes)
+    then Ok (head ++ map number_is (state_at le bytes (s + 16) (number_among head 3))) else Err malformed)
 
 -- the thread command at s, or why there is none
 unfoldable pub thread_at : Endian → List ℕ → ℕ → Result (List Value) Fault

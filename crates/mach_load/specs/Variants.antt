@@ -1,16 +1,20 @@
 -- What a caller sees of load commands as they were read.
 use Rattle.std.specs.Prelude.{List}
 use Rattle.mach_base.specs.Record.{Value}
-use Rattle.mach_records.specs.Contents.{entry_point_command_values, fileset_entry_command_values, ident_command_values, note_command_values, prebind_cksum_command_values, uuid_command_values}
-use Rattle.mach_records.specs.Libraries.{dylib_command_values, dylinker_command_values, fvmfile_command_values, fvmlib_command_values, prebound_dylib_command_values, rpath_command_values}
-use Rattle.mach_records.specs.Linkedit.{dyld_info_command_values, encryption_info_command32_values, encryption_info_command64_values, linkedit_data_command_values}
+use Rattle.mach_records.specs.Contents.{entry_point_command_values, fileset_entry_command_values, ident_command_values, note_command_values}
+use Rattle.mach_records.specs.Contents.{prebind_cksum_command_values, uuid_command_values}
+use Rattle.mach_records.specs.Libraries.{dylib_command_values, dylinker_command_values, fvmfile_command_values, fvmlib_command_values}
+use Rattle.mach_records.specs.Libraries.{prebound_dylib_command_values, rpath_command_values}
+use Rattle.mach_records.specs.Linkedit.{dyld_info_command_values, encryption_info_command32_values, encryption_info_command64_values}
+use Rattle.mach_records.specs.Linkedit.{linkedit_data_command_values}
 use Rattle.mach_records.specs.LoadCommandHeader.{header_values}
 use Rattle.mach_records.specs.Modules.{routines_command32_values, routines_command64_values}
 use Rattle.mach_records.specs.Segments.{segment_command32_values, segment_command64_values}
 use Rattle.mach_records.specs.SymbolTables.{dysymtab_command_values, symseg_command_values, symtab_command_values, twolevel_hints_command_values}
 use Rattle.mach_records.specs.Umbrellas.{sub_client_command_values, sub_framework_command_values, sub_library_command_values, sub_umbrella_command_values}
 use Rattle.mach_records.specs.Versions.{build_version_command_values, source_version_command_values, version_min_command_values}
-use Rattle.mach_load.specs.Commands.{Kind, segment32, symtab, symseg, thread, unixthread, load_fvmlib, id_fvmlib, ident, fvmfile, prepage, dysymtab, load_dylib, id_dylib, load_dylinker, id_dylinker, prebound_dylib, routines32, sub_framework, sub_umbrella, sub_client, sub_library, twolevel_hints, prebind_cksum, segment64, routines64, uuid, code_signature, segment_split_info, lazy_load_dylib, encryption_info32, dyld_info, version_min_macosx, version_min_iphoneos, function_starts, dyld_environment, data_in_code, source_version, dylib_code_sign_drs, encryption_info64, linker_option, linker_optimization_hint, version_min_tvos, version_min_watchos, note, build_version, load_weak_dylib, rpath, reexport_dylib, dyld_info_only, load_upward_dylib, main, dyld_exports_trie, dyld_chained_fixups, fileset_entry, unimplemented}
+use Rattle.mach_load.specs.Commands.{Kind}
+use Rattle.mach_load.specs.Commands as kind
 use Rattle.mach_load.specs.Command.{Command}
 use Rattle.mach_load.specs.ThreadState.{thread_values}
 use Rattle.mach_load.specs.declared.variant.CommandVariant.{CommandVariant}
@@ -77,61 +81,61 @@ variant_values (v.Unimplemented c) = header_values c
 
 -- what the command is
 abbrev pub kind_in : CommandVariant → Kind
-kind_in (v.Segment32 c) = segment32
-kind_in (v.Symtab c) = symtab
-kind_in (v.Symseg c) = symseg
-kind_in (v.Thread c) = thread
-kind_in (v.Unixthread c) = unixthread
-kind_in (v.LoadFvmlib c) = load_fvmlib
-kind_in (v.IdFvmlib c) = id_fvmlib
-kind_in (v.Ident c) = ident
-kind_in (v.Fvmfile c) = fvmfile
-kind_in (v.Prepage c) = prepage
-kind_in (v.Dysymtab c) = dysymtab
-kind_in (v.LoadDylib c) = load_dylib
-kind_in (v.IdDylib c) = id_dylib
-kind_in (v.LoadDylinker c) = load_dylinker
-kind_in (v.IdDylinker c) = id_dylinker
-kind_in (v.PreboundDylib c) = prebound_dylib
-kind_in (v.Routines32 c) = routines32
-kind_in (v.SubFramework c) = sub_framework
-kind_in (v.SubUmbrella c) = sub_umbrella
-kind_in (v.SubClient c) = sub_client
-kind_in (v.SubLibrary c) = sub_library
-kind_in (v.TwolevelHints c) = twolevel_hints
-kind_in (v.PrebindCksum c) = prebind_cksum
-kind_in (v.Segment64 c) = segment64
-kind_in (v.Routines64 c) = routines64
-kind_in (v.Uuid c) = uuid
-kind_in (v.CodeSignature c) = code_signature
-kind_in (v.SegmentSplitInfo c) = segment_split_info
-kind_in (v.LazyLoadDylib c) = lazy_load_dylib
-kind_in (v.EncryptionInfo32 c) = encryption_info32
-kind_in (v.DyldInfo c) = dyld_info
-kind_in (v.VersionMinMacosx c) = version_min_macosx
-kind_in (v.VersionMinIphoneos c) = version_min_iphoneos
-kind_in (v.FunctionStarts c) = function_starts
-kind_in (v.DyldEnvironment c) = dyld_environment
-kind_in (v.DataInCode c) = data_in_code
-kind_in (v.SourceVersion c) = source_version
-kind_in (v.DylibCodeSignDrs c) = dylib_code_sign_drs
-kind_in (v.EncryptionInfo64 c) = encryption_info64
-kind_in (v.LinkerOption c) = linker_option
-kind_in (v.LinkerOptimizationHint c) = linker_optimization_hint
-kind_in (v.VersionMinTvos c) = version_min_tvos
-kind_in (v.VersionMinWatchos c) = version_min_watchos
-kind_in (v.Note c) = note
-kind_in (v.BuildVersion c) = build_version
-kind_in (v.LoadWeakDylib c) = load_weak_dylib
-kind_in (v.Rpath c) = rpath
-kind_in (v.ReexportDylib c) = reexport_dylib
-kind_in (v.DyldInfoOnly c) = dyld_info_only
-kind_in (v.LoadUpwardDylib c) = load_upward_dylib
-kind_in (v.Main c) = main
-kind_in (v.DyldExportsTrie c) = dyld_exports_trie
-kind_in (v.DyldChainedFixups c) = dyld_chained_fixups
-kind_in (v.FilesetEntry c) = fileset_entry
-kind_in (v.Unimplemented c) = unimplemented
+kind_in (v.Segment32 c) = kind.segment32
+kind_in (v.Symtab c) = kind.symtab
+kind_in (v.Symseg c) = kind.symseg
+kind_in (v.Thread c) = kind.thread
+kind_in (v.Unixthread c) = kind.unixthread
+kind_in (v.LoadFvmlib c) = kind.load_fvmlib
+kind_in (v.IdFvmlib c) = kind.id_fvmlib
+kind_in (v.Ident c) = kind.ident
+kind_in (v.Fvmfile c) = kind.fvmfile
+kind_in (v.Prepage c) = kind.prepage
+kind_in (v.Dysymtab c) = kind.dysymtab
+kind_in (v.LoadDylib c) = kind.load_dylib
+kind_in (v.IdDylib c) = kind.id_dylib
+kind_in (v.LoadDylinker c) = kind.load_dylinker
+kind_in (v.IdDylinker c) = kind.id_dylinker
+kind_in (v.PreboundDylib c) = kind.prebound_dylib
+kind_in (v.Routines32 c) = kind.routines32
+kind_in (v.SubFramework c) = kind.sub_framework
+kind_in (v.SubUmbrella c) = kind.sub_umbrella
+kind_in (v.SubClient c) = kind.sub_client
+kind_in (v.SubLibrary c) = kind.sub_library
+kind_in (v.TwolevelHints c) = kind.twolevel_hints
+kind_in (v.PrebindCksum c) = kind.prebind_cksum
+kind_in (v.Segment64 c) = kind.segment64
+kind_in (v.Routines64 c) = kind.routines64
+kind_in (v.Uuid c) = kind.uuid
+kind_in (v.CodeSignature c) = kind.code_signature
+kind_in (v.SegmentSplitInfo c) = kind.segment_split_info
+kind_in (v.LazyLoadDylib c) = kind.lazy_load_dylib
+kind_in (v.EncryptionInfo32 c) = kind.encryption_info32
+kind_in (v.DyldInfo c) = kind.dyld_info
+kind_in (v.VersionMinMacosx c) = kind.version_min_macosx
+kind_in (v.VersionMinIphoneos c) = kind.version_min_iphoneos
+kind_in (v.FunctionStarts c) = kind.function_starts
+kind_in (v.DyldEnvironment c) = kind.dyld_environment
+kind_in (v.DataInCode c) = kind.data_in_code
+kind_in (v.SourceVersion c) = kind.source_version
+kind_in (v.DylibCodeSignDrs c) = kind.dylib_code_sign_drs
+kind_in (v.EncryptionInfo64 c) = kind.encryption_info64
+kind_in (v.LinkerOption c) = kind.linker_option
+kind_in (v.LinkerOptimizationHint c) = kind.linker_optimization_hint
+kind_in (v.VersionMinTvos c) = kind.version_min_tvos
+kind_in (v.VersionMinWatchos c) = kind.version_min_watchos
+kind_in (v.Note c) = kind.note
+kind_in (v.BuildVersion c) = kind.build_version
+kind_in (v.LoadWeakDylib c) = kind.load_weak_dylib
+kind_in (v.Rpath c) = kind.rpath
+kind_in (v.ReexportDylib c) = kind.reexport_dylib
+kind_in (v.DyldInfoOnly c) = kind.dyld_info_only
+kind_in (v.LoadUpwardDylib c) = kind.load_upward_dylib
+kind_in (v.Main c) = kind.main
+kind_in (v.DyldExportsTrie c) = kind.dyld_exports_trie
+kind_in (v.DyldChainedFixups c) = kind.dyld_chained_fixups
+kind_in (v.FilesetEntry c) = kind.fileset_entry
+kind_in (v.Unimplemented c) = kind.unimplemented
 
 -- a load command as it was read
 abbrev pub command_of : LoadCommand → Command

@@ -2,7 +2,7 @@
 
 ghost use Rattle.std.specs.Prelude.{◌≡◌, ◌+◌, Ok, IfOk, IfErr, IfSome, IfNone};
 ghost use Rattle.mach_base.specs.Answer.{Reads};
-ghost use Rattle.mach_load.specs.Command.{command_at, cmdsize_of};
+ghost use Rattle.mach_load.specs.Command.{command_at, cmdsize_of, IsThread, IsThreadOrRefused};
 ghost use Rattle.mach_load.specs.Variants.{command_of};
 
 use crate::variant::{CommandVariant, record};
@@ -39,11 +39,13 @@ impl LoadCommand {
         })
     }
 
-    /// The same, unless the command is a thread or refused: `parse` then says which.
+    /// The same, where the command can be read and is no thread. Else None, which leaves the place.
     #[inline(always)]
     pub fn quick(bytes: &[u8], offset: &mut usize, le: Endian) -> Option<LoadCommand>
         ensures found { IfSome result (λ c. command_at le bytes.now offset.old ≡ Ok (command_of c)) }
         ensures moved { IfSome result (λ c. offset.new ≡ offset.old + cmdsize_of (command_of c)) }
+        ensures no_thread { IfSome result (λ c. ¬ IsThread (command_of c)) }
+        ensures none { IfNone result (IsThreadOrRefused (command_at le bytes.now offset.old)) }
         ensures stays { IfNone result (offset.new ≡ offset.old) }
     {
         let place = *offset;

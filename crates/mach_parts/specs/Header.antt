@@ -55,8 +55,8 @@ header64_of_values vs =
     }
 
 -- the header of a 32-bit image lacks the reserved field, which becomes 0
-abbrev pub widened : Header32 → Header
-widened h =
+abbrev pub header_of_32 : Header32 → Header
+header_of_32 h =
     record {
       magic = h.magic;
       cputype = h.cputype;
@@ -115,7 +115,7 @@ header_size Big = 32
 
 -- the header of an image of this width and byte order at o: its record, in the form of either width
 abbrev pub header_in : Container → Endian → List ℕ → ℕ → Header
-header_in Little le bytes o = widened (header32_of_values (values_in le header32_fields o bytes))
+header_in Little le bytes o = header_of_32 (header32_of_values (values_in le header32_fields o bytes))
 header_in Big le bytes o = held (header64_of_values (values_in le header64_fields o bytes))
 
 abbrev pub IsHeader : Ctx → List ℕ → ℕ → Header → Type 0

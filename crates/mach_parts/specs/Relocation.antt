@@ -9,9 +9,9 @@ use Rattle.mach_parts.specs.declared.relocation.RelocationInfo.{RelocationInfo}
 
 -- The value of a signed number of four bytes: the number that its bits make, in two's complement. Only
 -- numbers from -2^31 to 2^31 - 1 have 32 bits; any other has a value that no field holds.
-abbrev pub signed_value : ℤ → Value
-signed_value (pos n) = if nat_lt n (2 ^ 31) then number_is n else bytes_are (n ∷ [])
-signed_value (negsuc n) = if nat_lt n (2 ^ 31) then number_is (2 ^ 32 - (n + 1)) else bytes_are (n ∷ n ∷ [])
+abbrev pub value_of_signed : ℤ → Value
+value_of_signed (pos n) = if nat_lt n (2 ^ 31) then number_is n else bytes_are (n ∷ [])
+value_of_signed (negsuc n) = if nat_lt n (2 ^ 31) then number_is (2 ^ 32 - (n + 1)) else bytes_are (n ∷ n ∷ [])
 
 -- the signed number of a value
 abbrev pub signed_of : Value → ℤ
@@ -30,7 +30,7 @@ abbrev pub relocation_fields : List Field
 relocation_fields = num 4 ∷ num 4 ∷ []
 
 abbrev pub relocation_values : RelocationInfo → List Value
-relocation_values r = signed_value r.r_address ∷ number_is r.r_info ∷ []
+relocation_values r = value_of_signed r.r_address ∷ number_is r.r_info ∷ []
 
 abbrev pub relocation_of_values : List Value → RelocationInfo
 relocation_of_values vs = record { r_address = first_signed vs; r_info = number_among vs 1 }

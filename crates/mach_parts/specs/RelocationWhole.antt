@@ -6,10 +6,10 @@ use Rattle.std.proofs.Math.Nat.{sub-suc, sub-le-sub_left}
 use Rattle.std.proofs.Math.Arith.{sub-sub_self}
 use Rattle.std.proofs.lemmas.Bool.{cases_lt}
 use Rattle.mach_base.specs.Record.{number_is, bytes_are}
-use Rattle.mach_parts.specs.Relocation.{signed_value, signed_of, relocation_values, relocation_of_values}
+use Rattle.mach_parts.specs.Relocation.{value_of_signed, signed_of, relocation_values, relocation_of_values}
 use Rattle.mach_parts.specs.declared.relocation.RelocationInfo.{RelocationInfo}
 
-whole_pos : (n : ℕ) → signed_of (signed_value (pos n)) ≡ pos n
+whole_pos : (n : ℕ) → signed_of (value_of_signed (pos n)) ≡ pos n
 whole_pos n = elim (cases_lt n (2 ^ 31)) [
   | inl low ↦
       let fits : nat_lt n (2 ^ 31) ≡ true = lt-ltb n (2 ^ 31) low in
@@ -18,7 +18,7 @@ whole_pos n = elim (cases_lt n (2 ^ 31)) [
   | inr high ↦ ap (λ small. signed_of (if small then number_is n else bytes_are (n ∷ []))) (le-ltb n (2 ^ 31) high)
 ]
 
-whole_negsuc : (n : ℕ) → signed_of (signed_value (negsuc n)) ≡ negsuc n
+whole_negsuc : (n : ℕ) → signed_of (value_of_signed (negsuc n)) ≡ negsuc n
 whole_negsuc n = elim (cases_lt n (2 ^ 31)) [
   | inl low ↦
       let fits : nat_lt n (2 ^ 31) ≡ true = lt-ltb n (2 ^ 31) low in
@@ -34,7 +34,7 @@ whole_negsuc n = elim (cases_lt n (2 ^ 31)) [
 ]
 
 -- a signed number is that of its value
-signed_whole : (z : ℤ) → signed_of (signed_value z) ≡ z
+signed_whole : (z : ℤ) → signed_of (value_of_signed z) ≡ z
 signed_whole (pos n) = whole_pos n
 signed_whole (negsuc n) = whole_negsuc n
 

@@ -7,9 +7,9 @@ use crate::low_bits::low_bits;
 use mach_base::{Container, Ctx, Error, IntoCtx, Record, Result, SizeWith, TryFromCtx, TryIntoCtx};
 
 impl From<Header32> for Header {
-    ghost use Rattle.mach_parts.specs.Header.{widened};
+    ghost use Rattle.mach_parts.specs.Header.{header_of_32};
 
-    ghost from_gives = { λ header wide. wide ≡ widened header };
+    ghost from_gives = { λ header wide. wide ≡ header_of_32 header };
 
     fn from(header: Header32) -> Header {
         Header {

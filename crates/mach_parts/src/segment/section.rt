@@ -1,15 +1,17 @@
 //! Sections (`mach-o/loader.h`).
 
-ghost use Rattle.std.specs.Prelude.{◌≡◌, ◌<◌, IsTrue, ◌↔◌};
+ghost use Rattle.std.specs.Prelude.{◌≡◌, ◌<◌, IsTrue, ◌↔◌, length, Ok, OnErr, OnOk};
 ghost use Rattle.mach_base.specs.Answer.{Reads};
+ghost use Rattle.mach_base.specs.Number.{room_at};
+ghost use Rattle.mach_base.specs.Record.{spelling, record_at, IsWritten};
 ghost use Rattle.mach_base.specs.Text.{text_at};
 ghost use Rattle.mach_parts.specs.Section.{is_zero_fill, section_at, section_data};
 
 use crate::low_bits::low_bits;
 use crate::segment::relocations::RelocationIterator;
 use mach_base::{
-    Container, Ctx, Error, IntoCtx, Record, Result, SizeWith, TryFromCtx, TryIntoCtx, bytes_at,
-    read_text,
+    Container, Ctx, Endian, Error, IntoCtx, Record, Result, SizeWith, TryFromCtx, TryIntoCtx,
+    bytes_at, read_text,
 };
 use mach_records::constants::{S_GB_ZEROFILL, S_THREAD_LOCAL_ZEROFILL, S_ZEROFILL, SECTION_TYPE};
 use mach_records::{Section32, Section64};
@@ -236,9 +238,6 @@ impl<'a> TryFromCtx<'a, Ctx> for Section {
 }
 
 impl TryIntoCtx<Ctx> for Section {
-    ghost use Rattle.std.specs.Prelude.{length, Ok, OnErr, OnOk};
-    ghost use Rattle.mach_base.specs.Number.{room_at};
-    ghost use Rattle.mach_base.specs.Record.{IsWritten};
     ghost use Rattle.mach_parts.specs.Section.{kept, section_bytes, section_size};
     ghost use Rattle.std.proofs.Common.{zero-lt-suc};
     ghost use Rattle.mach_base.specs.declared.context.Container.TheVariants.{Little, Big};
@@ -258,10 +257,21 @@ impl TryIntoCtx<Ctx> for Section {
         ensures read_back { OnOk result (section_at ctx.container ctx.le bytes.new 0 ≡ Ok (kept ctx.container self)) }
     {
         match ctx.container {
-            Container::Little => Section32::from(self).write(bytes, 0, ctx.le),
-            Container::Big => Section64::from(self).write(bytes, 0, ctx.le),
+            Container::Little => put(Section32::from(self), bytes, ctx.le),
+            Container::Big => put(Section64::from(self), bytes, ctx.le),
         }
     }
+}
+
+// Writes a record at the front of the bytes, where it can be read again.
+fn put<R: Record>(held: R, bytes: &mut [u8], le: Endian) -> Result<usize>
+    ensures answer { Reads (λ n. n) result (room_at R.SIZE bytes.old 0) }
+    ensures written { OnOk result (IsWritten bytes.old bytes.new 0 (spelling le R.fields (R.values held))) }
+    ensures sized { OnOk result (length (spelling le R.fields (R.values held)) ≡ R.SIZE) }
+    ensures refused { OnErr result (bytes.new ≡ bytes.old) }
+    ensures read_back { OnOk result (record_at le R.fields bytes.new 0 ≡ Ok (R.values held)) }
+{
+    held.write(bytes, 0, le)
 }
 
 impl IntoCtx<Ctx> for Section {}

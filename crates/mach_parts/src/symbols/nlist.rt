@@ -286,8 +286,8 @@ impl TryIntoCtx<Ctx> for Nlist {
     /// Writes the record in the width of the context.
     fn try_into_ctx(self, bytes: &mut [u8], ctx: Ctx) -> Result<usize> {
         match ctx.container {
-            Container::Little => Nlist32::from(self).write(bytes, 0, ctx.le),
-            Container::Big => Nlist64::from(self).write(bytes, 0, ctx.le),
+            Container::Little => Nlist32::from(self).try_into_ctx(bytes, ctx.le),
+            Container::Big => Nlist64::from(self).try_into_ctx(bytes, ctx.le),
         }
     }
 }

@@ -7,7 +7,12 @@ pub overflow_add-value : goal.overflow_add-value
 overflow_add-value c =
     let i = c.groups.index in
     let e = ap (λ (x : ℕ). x * c.groups.weight) c.from.ensures in
-    omega (arith, group_below c.groups.value (get_or c.args.bytes.now i 0) c.groups.weight c.groups.invariant.small, e, weight_below i c.groups.weight c.groups.invariant.weight c.groups-test.true)
+    omega (
+      arith,
+      group_below c.groups.value (get_or c.args.bytes.now i 0) c.groups.weight c.groups.invariant.small,
+      e,
+      weight_below i c.groups.weight c.groups.invariant.weight c.groups-test.true,
+    )
 
 pub overflow_mul-weight : goal.overflow_mul-weight
 overflow_mul-weight c = omega (arith, weight_below c.groups.index c.groups.weight c.groups.invariant.weight c.groups-test.true)

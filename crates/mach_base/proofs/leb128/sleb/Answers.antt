@@ -12,4 +12,5 @@ pub returns-in-Some-clause-value : goal.returns-in-Some-clause-value
 returns-in-Some-clause-value c =
     let fits : SFits w64 c.in-Some.value = search rules in
     rw (to_z-of_z w64 c.in-Some.value fits)
-    (sleb_at-front c.args.bytes.now c.in_ok-rest.rest.now c.args.place c.in-Some.len c.in-Some.value c.in_ok-rest.ensures c.in-Some.ensures.within c.in-Some.ensures.found)
+    (sleb_at-front c.args.bytes.now c.in_ok-rest.rest.now c.args.place c.in-Some.len c.in-Some.value c.in_ok-rest.ensures c.in-Some.ensures.within
+    c.in-Some.ensures.found)

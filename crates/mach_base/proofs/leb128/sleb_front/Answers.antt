@@ -21,13 +21,15 @@ pub returns-in-0-clause-found : goal.returns-in-0-clause-found
 returns-in-0-clause-found c =
     let fits : SFits w64 c.signed-in-0.result = search rules in
     rw (to_z-of_z w64 c.signed-in-0.result fits)
-    (IsSleb-zero c.args.bytes.now c.in_ok-groups.groups c.in_ok-groups.ensures.found c.if-groups-lt128.false c.signed-in-0.result c.if-bytes-lt10.false c.in-0.is c.signed-in-0.ensures)
+    (IsSleb-zero c.args.bytes.now c.in_ok-groups.groups c.in_ok-groups.ensures.found c.if-groups-lt128.false c.signed-in-0.result
+    c.if-bytes-lt10.false c.in-0.is c.signed-in-0.ensures)
 
 pub returns-in-127-clause-found : goal.returns-in-127-clause-found
 returns-in-127-clause-found c =
     let fits : SFits w64 c.signed-in-127.result = search rules in
     rw (to_z-of_z w64 c.signed-in-127.result fits)
-    (IsSleb-ones c.args.bytes.now c.in_ok-groups.groups c.in_ok-groups.ensures.found c.if-groups-lt128.false c.signed-in-127.result c.if-bytes-lt10.false c.in-127.is c.signed-in-127.ensures)
+    (IsSleb-ones c.args.bytes.now c.in_ok-groups.groups c.in_ok-groups.ensures.found c.if-groups-lt128.false c.signed-in-127.result
+    c.if-bytes-lt10.false c.in-127.is c.signed-in-127.ensures)
 
 pub returns-in_default-clause-none : goal.returns-in_default-clause-none
 returns-in_default-clause-none c =

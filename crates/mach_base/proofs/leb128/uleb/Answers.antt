@@ -3,7 +3,8 @@ use Rattle.mach_base.proofs.leb128.uleb.Goals as goal
 
 pub returns-in-Some-clause-value : goal.returns-in-Some-clause-value
 returns-in-Some-clause-value c =
-    uleb_at-front c.args.bytes.now c.in_ok-rest.rest.now c.args.place c.in-Some.len c.in-Some.value c.in_ok-rest.ensures c.in-Some.ensures.within c.in-Some.ensures.found
+    uleb_at-front c.args.bytes.now c.in_ok-rest.rest.now c.args.place c.in-Some.len c.in-Some.value c.in_ok-rest.ensures c.in-Some.ensures.within
+    c.in-Some.ensures.found
 
 pub returns-in-None-clause-value : goal.returns-in-None-clause-value
 returns-in-None-clause-value c =

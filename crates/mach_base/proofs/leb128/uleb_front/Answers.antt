@@ -20,4 +20,5 @@ returns-then-bytes-lt10-clause-none c =
 
 pub returns-clause-found : goal.returns-clause-found
 returns-clause-found c =
-    IsUleb-tenth c.args.bytes.now c.in_ok-groups.groups c.in_ok-groups.ensures.found c.if-groups-lt128.false _ c.if-bytes-lt10.false c.if-bytes-gt1.false (rw c.from.ensures refl)
+    IsUleb-tenth c.args.bytes.now c.in_ok-groups.groups c.in_ok-groups.ensures.found c.if-groups-lt128.false _ c.if-bytes-lt10.false
+    c.if-bytes-gt1.false (rw c.from.ensures refl)

@@ -7,4 +7,6 @@ use Rattle.mach_load.proofs.load_command.LoadCommand.parse.Goals as goal
 pub returns-clause-moved : goal.returns-clause-moved
 returns-clause-moved c =
     let header = c.in_ok-header.header in
-    ap (λ n. c.args.offset.now + n) (cmdsize_is c.args.le c.args.bytes.now c.args.offset.now header.cmd (header_values header) (command_of (record { offset = c.args.offset.now; command = c.in_ok-command.command })) c.in_ok-header.ensures c.in_ok-command.ensures)
+    let command = command_of (record { offset = c.args.offset.now; command = c.in_ok-command.command }) in
+    ap (λ n. c.args.offset.now + n)
+    (cmdsize_is c.args.le c.args.bytes.now c.args.offset.now header.cmd (header_values header) command c.in_ok-header.ensures c.in_ok-command.ensures)

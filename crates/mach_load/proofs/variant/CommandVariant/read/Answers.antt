@@ -13,4 +13,5 @@ returns-in-Ok c =
 pub returns-in-Err : goal.returns-in-Err
 returns-in-Err c =
     let inside = record-inside c.args.le header_fields c.args.bytes.now c.args.offset (header_values c.args.header) c.requires in
-    refused_there c.args.le c.args.bytes.now c.args.offset inside (row_of c.args.header.cmd) (too_big c.in-Err.size (length c.rest_at-rest.result.now)) (rw (← c.rest_at-rest.ensures) c.in-Err.ensures.err)
+    refused_there c.args.le c.args.bytes.now c.args.offset inside (row_of c.args.header.cmd)
+    (too_big c.in-Err.size (length c.rest_at-rest.result.now)) (rw (← c.rest_at-rest.ensures) c.in-Err.ensures.err)
