@@ -1,4 +1,4 @@
-use Rattle.std.proofs.Common.{◌≡◌, ◌+◌, ◌++◌, length, false}
+use Rattle.std.proofs.Common.{◌≡◌, ◌≤◌, ◌+◌, ◌++◌, length, false}
 use Rattle.mach_dyld.specs.BindViews.{imports_seen}
 use Rattle.mach_dyld.specs.BindLeft.{imports_left, reads_left}
 use Rattle.mach_dyld.proofs.BindLists.{oks}
@@ -9,6 +9,7 @@ invariant-binds g l = record {
   items : imports_left l.initial.left ≡ oks (imports_seen l.found.items) ++ imports_left l.left;
   on : l.left.state.ended ≡ false;
   reads : l.steps + reads_left l.left ≡ l.initial.steps + reads_left l.initial.left;
+  kept : l.initial.steps ≤ l.steps;
 }
 
 abbrev pub decreases-binds : goal.decreases-binds
