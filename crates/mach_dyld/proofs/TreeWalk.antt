@@ -9,7 +9,7 @@ use Rattle.mach_dyld.specs.Lists.{Lists, BranchesList, nothing, a_node, no_more,
 use Rattle.mach_dyld.specs.Paths.{Leads, Path, IsTree}
 use Rattle.mach_base.specs.Among.{IsAmong}
 use Rattle.mach_dyld.specs.Visits.{AreApart}
-use Rattle.mach_dyld.proofs.TrieFaults.{Leads-append}
+use Rattle.mach_dyld.proofs.TriePaths.{same_node, same_some, leads_to_one, leads_inside, Leads-append, drop_head, nothing_there}
 
 -- visits
 
@@ -127,20 +127,6 @@ pub path_in : (v : Visit) (vs : List Visit) → IsAmong v vs → IsAmong v.path 
 path_in v [] i = absurd i
 path_in v (w ∷ vs) i = elim i [ inl e ↦ inl (ap (λ (x : Visit). x.path) e) | inr more ↦ inr (path_in v vs more) ]
 
-same_node : {X E : Type 0} {x y : X} {r : Rattle.std.specs.Prelude.Result X E} → r ≡ Ok x → r ≡ Ok y → x ≡ y
-same_node a b = cc
-
-same_some : {X : Type 0} {x y : X} {o : Option X} → o ≡ Some x → o ≡ Some y → x ≡ y
-same_some a b = cc
-
--- a path leads to one place
-pub leads_to_one : (t : Trie) (p : List ℕ) (s a b : ℕ) → Leads t p s a → Leads t p s b → a ≡ b
-leads_to_one t [] s a b x y = sym x ∙ y
-leads_to_one t (k ∷ ks) s a b x y =
-    let node : x.0 ≡ y.0 = same_node x.3 y.3 in
-    let branch : x.1 ≡ y.1 = same_some x.4 (subst (λ (n : Node). slice_get n.branches k ≡ Some y.1) (sym node) y.4) in
-    leads_to_one t ks x.1.start a b x.5 (subst (λ (c : Branch). Leads t ks c.start b) (sym branch) y.5)
-
 module _ (t : Trie) (from : ℕ) where
   pub each_leads : (vs : List Visit) → ((v : Visit) → IsAmong v vs → Leads t v.path from v.at × (from ≤ v.at) × (v.at < t.upto)) → (p : List ℕ) → IsAmong p (paths_in vs) → Path t from p
   each_leads vs leads p i = let v = in_paths p vs i in let l = leads v.0 v.1 in (v.0.at, subst (λ x. Leads t x from v.0.at) (sym v.2) l.0, l.2)
@@ -221,18 +207,6 @@ pub record Walk (t : Trie) (from : ℕ) (marks : List Bool) (fs : List Frame) (f
 few_own : (prefix : List ℕ) (own : Option Info) → length (own_entries prefix own) ≤ 1
 few_own prefix None = omega arith
 few_own prefix (Some info) = omega arith
-
-drop_head : {X : Type 0} (xs : List X) (k : ℕ) (x : X) (rest : List X) → drop k xs ≡ x ∷ rest → (slice_get xs k ≡ Some x) × (rest ≡ drop (suc k) xs)
-drop_head [] zero x rest e = absurd (cc)
-drop_head [] (suc k) x rest e = absurd (cc)
-drop_head (y ∷ ys) zero x rest e = (cc, cc)
-drop_head (y ∷ ys) (suc k) x rest e = drop_head ys k x rest e
-
-nothing_there : {X : Type 0} (xs : List X) (n k : ℕ) (x : X) → drop n xs ≡ [] → n ≤ k → slice_get xs k ≡ Some x → ⊥
-nothing_there [] n k x e le at = cc
-nothing_there (y ∷ ys) zero k x e le at = cc
-nothing_there (y ∷ ys) (suc n) zero x e le at = omega arith
-nothing_there (y ∷ ys) (suc n) (suc k) x e le at = nothing_there ys n k x e (omega arith) at
 
 -- the root is opened
 pub root_opened : (t : Trie) (from : ℕ) (node : Node) → from < t.upto → t.node from ≡ Ok node
@@ -409,10 +383,6 @@ module _ (t : Trie) (from : ℕ) (marks : List Bool) (f : Frame) (fs : List Fram
           }
 
 -- the end of the walk
-
-pub leads_inside : (t : Trie) (ks : List ℕ) (s at : ℕ) → Leads t ks s at → at < t.upto → s < t.upto
-leads_inside t [] s at l inside = subst (λ x. x < t.upto) (sym l) inside
-leads_inside t (k ∷ ks) s at l inside = l.2
 
 module _ (t : Trie) (from : ℕ) (marks : List Bool) (found : List Entry) (vs : List Visit) (h : Walk t from marks [] found vs) where
   reaches : (ks p : List ℕ) (a at : ℕ) → IsAmong (visit p a) vs → Leads t ks a at → at < t.upto → IsAmong (visit (p ++ ks) at) vs

@@ -1,15 +1,14 @@
 -- How many visits a walk of the trie makes.
 use Rattle.std.proofs.Common.{◌≡◌, ◌≤◌, ◌<◌, ◌+◌, ◌↔◌, ℕ, zero, suc, Bool, true, false, cond, eqb, nat_le, List, [], ◌∷◌, ◌⊎◌, inl, inr, length, Some, Result, Ok, Err, refl, sym, ap, subst, ◌∙◌, arith}
 use Rattle.std.specs.Prelude.{slice_get}
-use Rattle.std.proofs.lemmas.Bool.{cases_Bool, leb-true}
+use Rattle.std.proofs.lemmas.Bool.{cases_Bool, eqb-true, leb-true}
 use Rattle.mach_base.specs.Fault.{Fault}
 use Rattle.mach_dyld.specs.Trie.{Branch, Node, Trie}
 use Rattle.mach_dyld.specs.Paths.{Leads, Path, Before}
 use Rattle.mach_dyld.specs.TerminalPaths.{AreInOrder}
 use Rattle.mach_base.specs.Among.{IsAmong}
 use Rattle.mach_dyld.specs.Visits.{AreApart, Visits}
-use Rattle.mach_dyld.proofs.TrieFaults.{same_number}
-use Rattle.mach_dyld.proofs.TreeWalk.{leads_inside}
+use Rattle.mach_dyld.proofs.TriePaths.{leads_inside}
 
 -- the others in a list, with one left out
 leave_out : {X : Type 0} (x : X) (xs : List X) → IsAmong x xs → (rest : List X) × (length xs ≡ suc (length rest)) × ((y : X) → IsAmong y xs → (y ≡ x) ⊎ IsAmong y rest)
@@ -23,11 +22,11 @@ leave_out x (z ∷ xs) i = elim i [
 
 -- where each of some things belongs to one in a list, and no two to the same, they are no more than the list
 module _ {X Y : Type 0} (Belongs : X → Y → Type 0) where
-  abbrev Apart : List X → Type 0
+  abbrev pub Apart : List X → Type 0
   Apart [] = Unit {0}
   Apart (x ∷ xs) = ((z : X) (y : Y) → IsAmong z xs → Belongs x y → Belongs z y → ⊥) × Apart xs
 
-  no_more_than : (xs : List X) (ys : List Y) → Apart xs → ((x : X) → IsAmong x xs → (y : Y) × IsAmong y ys × Belongs x y) → length xs ≤ length ys
+  pub no_more_than : (xs : List X) (ys : List Y) → Apart xs → ((x : X) → IsAmong x xs → (y : Y) × IsAmong y ys × Belongs x y) → length xs ≤ length ys
   no_more_than [] ys apart each = omega arith
   no_more_than (x ∷ xs) ys apart each =
       let first = each x (inl refl) in
@@ -104,7 +103,7 @@ every_at test (y ∷ xs) (suc k) x e at = every_at test xs k x (both_true (test 
 
 is_in_true : (n : ℕ) (ms : List ℕ) → is_in n ms ≡ true → IsAmong n ms
 is_in_true n [] e = absurd (cc)
-is_in_true n (m ∷ ms) e = elim (cases_Bool (eqb n m)) [ inl same ↦ inl (same_number n m same) | inr other ↦ inr (is_in_true n ms (rw other at e)) ]
+is_in_true n (m ∷ ms) e = elim (cases_Bool (eqb n m)) [ inl same ↦ inl (eqb-true n m same) | inr other ↦ inr (is_in_true n ms (rw other at e)) ]
 
 module _ (t : Trie) (starts : List ℕ) (closed : is_closed t starts ≡ true) where
   child_among : (at : ℕ) (node : Node) (k : ℕ) (b : Branch) → IsAmong at starts → t.node at ≡ Ok node → slice_get node.branches k ≡ Some b → (t.upto ≤ b.start) ⊎ IsAmong b.start starts

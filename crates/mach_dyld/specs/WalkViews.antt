@@ -19,7 +19,7 @@ abbrev pub own_in : Source → ℕ → ℕ → Result (Info × ℕ) Fault
 own_in s size place = own_at s.bytes.now (texts s.libs.now) size place
 
 abbrev pub fault_in : Source → Fault → Type 0
-fault_in s f = TrieFault s.bytes.now (texts s.libs.now) s.from s.upto s.from f
+fault_in s f = TrieFault (trie_in s) s.from f
 
 -- a node's own export was listed: it is there, and the branches come after it
 pub record ListsOwn (s : Source) (size place : ℕ) (name : List ℕ) (old new : List Entry) (after : ℕ) : Type 0 where
