@@ -1,19 +1,20 @@
 -- A range that is cut behind a DONE.
 use Rattle.std.proofs.Common.{◌≡◌, ℕ, ◌+◌, ◌-◌, ◌*◌, ◌%◌, ◌^◌, ◌<◌, ◌≤◌, List, [], ◌∷◌, ◌++◌, map, Bool, true, false, Some, None, Result, Ok, Err, refl, sym, ap, subst, ◌∙◌, arith, zero-add}
 use Rattle.std.specs.Prelude.{pos}
-use Rattle.std.specs.List.{filter_map, range_with_len, cons_option}
+use Rattle.std.specs.List.{filter_map, range_with_len, cons_option, AllByRecursion}
 use Rattle.std.proofs.Common.{cond}
 use Rattle.std.proofs.lemmas.List.{map-append}
 use Rattle.mach_base.specs.Answer.{◌>>=◌}
 use Rattle.mach_base.specs.Fault.{Fault}
-use Rattle.mach_dyld.specs.Streams.{Input, Range, Placed, StandsIn, AllStand, stream_end, IsBeginning, IsStream}
+use Rattle.mach_dyld.specs.Streams.{Input, Range, Placed, Follow, StandsIn, stream_end, IsBeginning, IsStream}
 use Rattle.mach_dyld.specs.Binds.{Bind, is_done, sets_segment, nearer_than, nearest_or, done_after, bind_after, binds_at, binds_from, stride_in, count_in, library_in, flags_in, name_in, addend_in, segment_in, offset_in, advances}
 use Rattle.mach_dyld.specs.Imports.{Import, Target, import_of, imports_in, import_with, target_of, input_in, ListsImports}
 use Rattle.mach_dyld.specs.BindCut.{HasList, ListsByStream, raised, front_range, rest_range, CutsBehindDone}
 use Rattle.mach_dyld.proofs.BindPlaces.{ends_after}
-use Rattle.mach_dyld.proofs.BindReading.{Follow, follows, first_from, neighbours_from, one_longest}
+use Rattle.mach_dyld.proofs.BindReading.{one_longest}
 use Rattle.mach_dyld.proofs.BindLists.{longest_stream}
 use Rattle.mach_dyld.proofs.BindTotal.{behind, onto, binds-append}
+use Rattle.mach_dyld.proofs.BindLast.{all-append}
 
 abbrev Item : Type 0
 Item = Result Import Fault
@@ -23,14 +24,14 @@ Item = Result Import Fault
 further : (x : Input) (upto : ℕ) (p : Placed) → StandsIn x upto p → p.place < p.after
 further x upto p s = ends_after x.pointer x.bytes p.place (p.instruction, p.after) s.read
 
-end_past : (x : Input) (upto place : ℕ) (ps : List Placed) → AllStand x upto ps → Follow place ps → place ≤ stream_end place ps
+end_past : (x : Input) (upto place : ℕ) (ps : List Placed) → AllByRecursion (StandsIn x upto) ps → Follow place ps → place ≤ stream_end place ps
 end_past x upto place [] a f = omega arith
 end_past x upto place (p ∷ ps) a f =
     let h = end_past x upto p.after ps a.1 f.1 in
     let k = further x upto p a.0 in
     omega (arith, h, k, f.0)
 
-stand_before_end : (x : Input) (upto place : ℕ) (ps : List Placed) → AllStand x upto ps → Follow place ps → AllStand x (stream_end place ps) ps
+stand_before_end : (x : Input) (upto place : ℕ) (ps : List Placed) → AllByRecursion (StandsIn x upto) ps → Follow place ps → AllByRecursion (StandsIn x (stream_end place ps)) ps
 stand_before_end x upto place [] a f = tt
 stand_before_end x upto place (p ∷ ps) a f =
     let h = end_past x upto p.after ps a.1 f.1 in
@@ -49,27 +50,15 @@ follow_behind : (place : ℕ) (ps qs : List Placed) → Follow place (ps ++ qs) 
 follow_behind place [] qs f = f
 follow_behind place (p ∷ ps) qs f = follow_behind p.after ps qs f.1
 
-stand-append : (x : Input) (upto : ℕ) (ps qs : List Placed) → AllStand x upto ps → AllStand x upto qs → AllStand x upto (ps ++ qs)
-stand-append x upto [] qs a b = b
-stand-append x upto (p ∷ ps) qs a b = (a.0, stand-append x upto ps qs a.1 b)
-
-stand_behind : (x : Input) (upto : ℕ) (ps qs : List Placed) → AllStand x upto (ps ++ qs) → AllStand x upto qs
+stand_behind : (x : Input) (upto : ℕ) (ps qs : List Placed) → AllByRecursion (StandsIn x upto) (ps ++ qs) → AllByRecursion (StandsIn x upto) qs
 stand_behind x upto [] qs a = a
 stand_behind x upto (p ∷ ps) qs a = stand_behind x upto ps qs a.1
-
-begins : (x : Input) (r : Range) (ps : List Placed) → AllStand x r.upto ps → Follow r.from ps → IsBeginning x r ps
-begins x r ps a f = record { first = first_from r.from ps f; neighbours = neighbours_from r.from ps f; stand = a }
 
 -- ---- looking back no further than a DONE
 
 -- none of them ends before the place
-EndPast : ℕ → List Placed → Type 0
-EndPast cut [] = Unit {0}
-EndPast cut (p ∷ back) = (cut ≤ p.after) × EndPast cut back
-
-past_nil : (cut : ℕ) → EndPast cut []
-unfolding EndPast
-past_nil cut = tt
+abbrev EndPast : ℕ → List Placed → Type 0
+EndPast cut back = AllByRecursion (λ p. cut ≤ p.after) back
 
 nearer-done : (back : List Placed) (d : Placed) (far : List Placed) → is_done d ≡ true → nearer_than is_done (back ++ d ∷ far) ≡ nearer_than is_done back
 nearer-done [] d far e = ap (λ t. cond t [] (d ∷ nearer_than is_done far)) e
@@ -82,7 +71,6 @@ sequence_by from cut p false xs ys h k e = e
 
 sequence-done : (from : ℕ) (back : List Placed) (d : Placed) (far : List Placed) → is_done d ≡ true → from ≤ d.after → EndPast d.after back
     → nearest_or 0 (filter_map (done_after from) (back ++ d ∷ far)) ≡ nearest_or 0 (filter_map (done_after d.after) back) + (d.after - from)
-unfolding EndPast
 sequence-done from [] d far e h past =
     ap (λ t. nearest_or 0 (cons_option (cond t (Some (d.after - from)) None) (filter_map (done_after from) far))) e ∙ sym (zero-add (d.after - from))
 sequence-done from (p ∷ back) d far e h past =
@@ -118,8 +106,8 @@ strides-done pointer r back d far s (j ∷ js) e h past =
     ∙ ap (λ bs. raise (d.after - r.from) (bind_after pointer (rest_range r d.after) back (j * s)) ∷ bs) (strides-done pointer r back d far s js e h past)
 
 binds-done : (x : Input) (r : Range) (upto : ℕ) (back : List Placed) (d : Placed) (far : List Placed) (place : ℕ) (ps : List Placed) → is_done d ≡ true → r.from ≤ d.after → EndPast d.after back → d.after ≤ place
-    → Follow place ps → AllStand x upto ps → binds_from x.pointer r (back ++ d ∷ far) ps ≡ map (raise (d.after - r.from)) (binds_from x.pointer (rest_range r d.after) back ps)
-unfolding binds_from EndPast
+    → Follow place ps → AllByRecursion (StandsIn x upto) ps → binds_from x.pointer r (back ++ d ∷ far) ps ≡ map (raise (d.after - r.from)) (binds_from x.pointer (rest_range r d.after) back ps)
+unfolding binds_from
 binds-done x r upto back d far place [] e h past k f a = refl
 binds-done x r upto back d far place (p ∷ ps) e h past k f a =
     let here = strides-done x.pointer r back d far (stride_in x.pointer p) (range_with_len 0 (count_in p)) e h past in
@@ -160,14 +148,14 @@ imports-raised x n [] = refl
 imports-raised x n (b ∷ bs) = ap (λ i. i ∷ map (import_of x) (map (raise n) bs)) (import-raised x n b) ∙ ap (λ ys. raise_item n (import_of x b) ∷ ys) (imports-raised x n bs)
 
 -- the imports of a range whose first instructions end with a DONE
-imports_cut : (x : Input) (r : Range) (upto : ℕ) (front : List Placed) (d : Placed) (rest : List Placed) → is_done d ≡ true → r.from ≤ d.after → Follow d.after rest → AllStand x upto rest
+imports_cut : (x : Input) (r : Range) (upto : ℕ) (front : List Placed) (d : Placed) (rest : List Placed) → is_done d ≡ true → r.from ≤ d.after → Follow d.after rest → AllByRecursion (StandsIn x upto) rest
     → imports_in x r ((front ++ d ∷ []) ++ rest) ≡ imports_in x (front_range r d.after) (front ++ d ∷ []) ++ map (raise_item (d.after - r.from)) (imports_in x (rest_range r d.after) rest)
 unfolding imports_in
 imports_cut x r upto front d rest e h f a =
     let n = d.after - r.from in
     let one = binds-append x.pointer r [] (front ++ d ∷ []) rest in
     let two = onto-push front d [] in
-    let three = binds-done x r upto [] d (onto front []) d.after rest e h (past_nil d.after) (omega arith) f a in
+    let three = binds-done x r upto [] d (onto front []) d.after rest e h tt (omega arith) f a in
     let bs : List Bind = binds_from x.pointer r [] (front ++ d ∷ []) in
     let cs : List Bind = binds_from x.pointer (rest_range r d.after) [] rest in
     ap (map (import_of x)) (one ∙ ap (λ back. bs ++ binds_from x.pointer r back rest) two ∙ ap (λ ys. bs ++ ys) three)
@@ -240,7 +228,7 @@ stream_end-push place ps d = stream_end-append place ps (d ∷ [])
 
 module _ (x : Input) (r : Range) (front : List Placed) (d : Placed) (list : List Import) (b : IsBeginning x r (front ++ d ∷ [])) (e : is_done d ≡ true) where
   front_follows : Follow r.from (front ++ d ∷ [])
-  front_follows = follows x r (front ++ d ∷ []) b
+  front_follows = b.follow
 
   front_ends : stream_end r.from (front ++ d ∷ []) ≡ d.after
   front_ends = stream_end-push r.from front d
@@ -250,19 +238,19 @@ module _ (x : Input) (r : Range) (front : List Placed) (d : Placed) (list : List
 
   front_stream : IsStream x (front_range r d.after) (front ++ d ∷ [])
   front_stream =
-      let stand : AllStand x d.after (front ++ d ∷ []) = subst (λ (n : ℕ). AllStand x n (front ++ d ∷ [])) front_ends (stand_before_end x r.upto r.from (front ++ d ∷ []) b.stand front_follows) in
-      record { beginning = begins x (front_range r d.after) (front ++ d ∷ []) stand front_follows; whole = omega (arith, front_ends) }
+      let stand : AllByRecursion (StandsIn x d.after) (front ++ d ∷ []) = subst (λ (n : ℕ). AllByRecursion (StandsIn x n) (front ++ d ∷ [])) front_ends (stand_before_end x r.upto r.from (front ++ d ∷ []) b.stand front_follows) in
+      record { beginning = record { follow = front_follows; stand = stand }; whole = omega (arith, front_ends) }
 
   apart : HasList x r list → (one : List Import) × (two : List Import) × HasList x (front_range r d.after) one × HasList x (rest_range r d.after) two × (list ≡ one ++ map (raised (d.after - r.from)) two)
   apart h =
-      let whole_follows = follows x r h.0 h.1.beginning in
+      let whole_follows = h.1.beginning.follow in
       let k = behind x r.upto r.from (front ++ d ∷ []) h.0 b.stand front_follows h.1.beginning.stand whole_follows h.1.whole in
       let rest = k.0 in
-      let stand : AllStand x r.upto rest = stand_behind x r.upto (front ++ d ∷ []) rest (subst (AllStand x r.upto) k.1 h.1.beginning.stand) in
+      let stand : AllByRecursion (StandsIn x r.upto) rest = stand_behind x r.upto (front ++ d ∷ []) rest (subst (AllByRecursion (StandsIn x r.upto)) k.1 h.1.beginning.stand) in
       let behind_front : Follow (stream_end r.from (front ++ d ∷ [])) rest = follow_behind r.from (front ++ d ∷ []) rest (subst (Follow r.from) k.1 whole_follows) in
       let follow : Follow d.after rest = subst (λ (n : ℕ). Follow n rest) front_ends behind_front in
       let ends : stream_end r.from h.0 ≡ stream_end d.after rest = ap (stream_end r.from) k.1 ∙ stream_end-append r.from (front ++ d ∷ []) rest ∙ ap (λ n. stream_end n rest) front_ends in
-      let rest_stream : IsStream x (rest_range r d.after) rest = record { beginning = begins x (rest_range r d.after) rest stand follow; whole = omega (arith, ends, h.1.whole) } in
+      let rest_stream : IsStream x (rest_range r d.after) rest = record { beginning = record { follow = follow; stand = stand }; whole = omega (arith, ends, h.1.whole) } in
       let all : imports_in x (front_range r d.after) (front ++ d ∷ []) ++ map (raise_item (d.after - r.from)) (imports_in x (rest_range r d.after) rest) ≡ map Ok list =
       sym (imports_cut x r r.upto front d rest e from_le follow stand) ∙ ap (imports_in x r) (sym k.1) ∙ h.2 in
       let p = parts_of (imports_in x (front_range r d.after) (front ++ d ∷ [])) (map (raise_item (d.after - r.from)) (imports_in x (rest_range r d.after) rest)) list all in
@@ -273,13 +261,16 @@ module _ (x : Input) (r : Range) (front : List Placed) (d : Placed) (list : List
   together (one, two, h, k, j) =
       let same : h.0 ≡ front ++ d ∷ [] = (one_longest x (front_range r d.after) h.0 (front ++ d ∷ []) None None (longest_stream x (front_range r d.after) h.0 h.1) (longest_stream x (front_range r d.after) (front ++ d ∷ []) front_stream)).0 in
       let n = d.after - r.from in
-      let rest_follows : Follow d.after k.0 = follows x (rest_range r d.after) k.0 k.1.beginning in
+      let rest_follows : Follow d.after k.0 = k.1.beginning.follow in
       let follow : Follow (stream_end r.from (front ++ d ∷ [])) k.0 = subst (λ (m : ℕ). Follow m k.0) (sym front_ends) rest_follows in
       let ends : stream_end r.from ((front ++ d ∷ []) ++ k.0) ≡ stream_end d.after k.0 = stream_end-append r.from (front ++ d ∷ []) k.0 ∙ ap (λ m. stream_end m k.0) front_ends in
       let first : imports_in x (front_range r d.after) (front ++ d ∷ []) ≡ map Ok one = ap (imports_in x (front_range r d.after)) (sym same) ∙ h.2 in (
         (front ++ d ∷ []) ++ k.0,
         record {
-          beginning = begins x r ((front ++ d ∷ []) ++ k.0) (stand-append x r.upto (front ++ d ∷ []) k.0 b.stand k.1.beginning.stand) (follow-append r.from (front ++ d ∷ []) k.0 front_follows follow);
+          beginning = record {
+            follow = follow-append r.from (front ++ d ∷ []) k.0 front_follows follow;
+            stand = all-append (StandsIn x r.upto) (front ++ d ∷ []) k.0 b.stand k.1.beginning.stand;
+          };
           whole = omega (arith, ends, k.1.whole);
         },
         imports_cut x r r.upto front d k.0 e from_le rest_follows k.1.beginning.stand
