@@ -7,7 +7,7 @@ use Rattle.std.proofs.lemmas.List.{map-append}
 use Rattle.mach_base.specs.Answer.{◌>>=◌}
 use Rattle.mach_base.specs.Fault.{Fault}
 use Rattle.mach_dyld.specs.Streams.{Input, Range, Placed, Follow, StandsIn, stream_end, IsBeginning, IsStream}
-use Rattle.mach_dyld.specs.Binds.{Bind, is_done, sets_segment, nearer_than, nearest_or, done_after, bind_after, binds_at, binds_from, stride_in, count_in, library_in, flags_in, name_in, addend_in, segment_in, offset_in, advances}
+use Rattle.mach_dyld.specs.Binds.{Bind, is_done, sets_segment, nearer_than, nearest_or, done_after, bind_after, binds_at, binds_from, stride_in, count_in, library_in, flags_in, symbol_name_in, addend_in, segment_in, offset_in, advances}
 use Rattle.mach_dyld.specs.Imports.{Import, Target, import_of, imports_in, import_with, target_of, input_in, ListsImports}
 use Rattle.mach_dyld.specs.BindCut.{HasList, ListsByStream, raised, front_range, rest_range, CutsBehindDone}
 use Rattle.mach_dyld.proofs.BindPlaces.{ends_after}
@@ -84,7 +84,7 @@ parts pointer r near own sequence = record {
   is_lazy = r.is_lazy;
   library = nearest_or 0 (filter_map library_in near);
   flags = nearest_or 0 (filter_map flags_in near);
-  name = nearest_or [] (filter_map name_in near);
+  name = nearest_or [] (filter_map symbol_name_in near);
   addend = nearest_or (pos 0) (filter_map addend_in near);
   segment = nearest_or 0 (filter_map segment_in near);
   offset = (nearest_or 0 (filter_map offset_in near) + advances pointer (nearer_than sets_segment near) + own) % 2 ^ 64;

@@ -13,7 +13,7 @@ use Rattle.mach_dyld.specs.Trie.{Info, Branch, Node, Entry}
 use Rattle.mach_dyld.specs.Nodes.{info_at, children_at, terminal_at, inner_at, node_at}
 use Rattle.mach_base.specs.Sums.{sum_of}
 use Rattle.mach_dyld.specs.NodeViews.{branches_of, AreReadable, own_at}
-use Rattle.mach_dyld.specs.WalkViews.{node_in, own_in, ListsOwn, Opens}
+use Rattle.mach_dyld.specs.WalkViews.{node_in, own_in, ListsOwn, OpensNode}
 use Rattle.mach_dyld.specs.Exports.{texts}
 use Rattle.mach_dyld.specs.declared.node.Branches.{Branches}
 use Rattle.mach_dyld.specs.declared.walk.Source.{Source}
@@ -71,7 +71,7 @@ module _ (s : Source) (start : ℕ) where
 
     module _ (name : List ℕ) (b : Branches) (few : b.left ≤ length s.bytes.now) (readable : AreReadable s.bytes.now s.from b) where
       pub opens_inner : (old : List Entry) → size ≡ 0 → children_at s.bytes.now s.from place ≡ Ok (branches_of s.bytes.now s.from b)
-          → Opens s start name old old (record { branches = b; name_len = length name })
+          → OpensNode s start name old old (record { branches = b; name_len = length name })
       opens_inner old zero children = record {
         node = record { own = None; branches = branches_of s.bytes.now s.from b };
         there = is_inner s.bytes.now (texts s.libs.now) s.from start size place read zero ∙ rw children refl;
@@ -82,7 +82,7 @@ module _ (s : Source) (start : ℕ) where
       }
 
       pub opens_terminal : (old new : List Entry) (after : ℕ) → size ≢ 0 → ListsOwn s size place name old new after → children_at s.bytes.now s.from after ≡ Ok (branches_of s.bytes.now s.from b)
-          → Opens s start name old new (record { branches = b; name_len = length name })
+          → OpensNode s start name old new (record { branches = b; name_len = length name })
       unfolding with_own
       opens_terminal old new after some own children = record {
         node = record { own = Some own.info; branches = branches_of s.bytes.now s.from b };

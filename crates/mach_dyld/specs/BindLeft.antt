@@ -184,7 +184,7 @@ abbrev pub FailsWith : BindIterator → BindIterator → Error → Type 0
 FailsWith old new e = (imports_left old ≡ Err (fault_of e) ∷ []) × (imports_left new ≡ [])
 
 -- the instruction that comes next can't be read, and this is its opcode byte, if one stands there
-pub record IsUnreadable (it : BindIterator) (byte : ℕ) : Type 0 where
+pub record NextIsUnreadable (it : BindIterator) (byte : ℕ) : Type 0 where
   pub count : it.state.count ≡ 0
   pub on : it.state.ended ≡ false
   pub within : it.state.place < it.state.upto

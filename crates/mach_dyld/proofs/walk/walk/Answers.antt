@@ -3,7 +3,7 @@ use Rattle.std.proofs.lemmas.Result.{err_from_is_err_and}
 use Rattle.std.specs.Str.{IsUtf8}
 use Rattle.mach_base.proofs.Faults.{Stands-failed}
 use Rattle.mach_dyld.specs.Exports.{entries}
-use Rattle.mach_dyld.specs.WalkViews.{node_in, fault_in, Opens}
+use Rattle.mach_dyld.specs.WalkViews.{node_in, fault_in, OpensNode}
 use Rattle.mach_dyld.proofs.WalkTurns as turn
 use Rattle.mach_dyld.proofs.WalkTurns.{Holds, emptied, popped, next_of, work, less_opened}
 use Rattle.mach_dyld.proofs.walk.walk.Goals as goal
@@ -34,8 +34,8 @@ turns-init g c =
     let inside : c.args.source.now.from < c.args.source.now.upto = omega arith in
     let shown = c.as_slice.ensures.value ∙ c.new-name.ensures.items in
     let filled : c.in_ok-marks.marks.items ≡ replicate (c.args.source.now.upto - c.args.source.now.from) false = c.in_ok-marks.ensures.items_if_clones_equal (λ y e. e) in
-    let opens = subst (λ x. Opens c.args.source.now c.args.source.now.from x [] (entries c.open_node.new.found.items) c.in_ok-top.top) shown
-    (subst (λ x. Opens c.args.source.now c.args.source.now.from c.as_slice.result.now x (entries c.open_node.new.found.items) c.in_ok-top.top) (ap entries c.new-found.ensures.items) c.in_ok-top.ensures.ok) in
+    let opens = subst (λ x. OpensNode c.args.source.now c.args.source.now.from x [] (entries c.open_node.new.found.items) c.in_ok-top.top) shown
+    (subst (λ x. OpensNode c.args.source.now c.args.source.now.from c.as_slice.result.now x (entries c.open_node.new.found.items) c.in_ok-top.top) (ap entries c.new-found.ensures.items) c.in_ok-top.ensures.ok) in
     turn.moved c.new-name.ensures.items (ap (λ (x : List Bool). set x 0 true) filled) (ap reverse c.new-open.ensures.items) refl c.in_ok-top.ensures.visits
     (turn.begins c.args.source.now c.in_ok-top.top (entries c.open_node.new.found.items) c.args.steps.now inside opens ([], (refl, refl)))
 
@@ -121,5 +121,5 @@ pub turns-preserved-then-start-upto : goal.turns-preserved-then-start-upto
 turns-preserved-then-start-upto g c =
     let stack = popped c.push.new.self.items c.turns.open.items (next_of c.turns.top c.read_again-start.result.2) c.in_ok-push.ensures.items in
     let shown = c.as_slice-then-start-upto.ensures.value ∙ c.in_ok-extend_from_slice.ensures.items in
-    let opens = subst (λ x. Opens c.args.source.now c.read_again-start.result.1 x (entries c.turns.found.items) (entries c.open_node-then-start-upto.new.found.items) c.in_ok-child.child) shown c.in_ok-child.ensures.ok in
+    let opens = subst (λ x. OpensNode c.args.source.now c.read_again-start.result.1 x (entries c.turns.found.items) (entries c.open_node-then-start-upto.new.found.items) c.in_ok-child.child) shown c.in_ok-child.ensures.ok in
     turn.moved c.in_ok-extend_from_slice.ensures.items refl stack refl c.in_ok-child.ensures.visits (turn.opened c.turns.invariant (omega arith) c.read_again-start.ensures (omega arith) c.index.ensures c.if-index.false opens)
