@@ -6,9 +6,10 @@ use Rattle.std.proofs.Common.{cond}
 use Rattle.std.proofs.lemmas.List.{map-append}
 use Rattle.mach_base.specs.Answer.{◌>>=◌}
 use Rattle.mach_base.specs.Fault.{Fault}
+use Rattle.mach_parts.specs.declared.segment.Segment.{Segment}
 use Rattle.mach_dyld.specs.Streams.{Input, Range, Placed, Follow, StandsIn, stream_end, IsBeginning, IsStream}
 use Rattle.mach_dyld.specs.Binds.{Bind, is_done, sets_segment, nearer_than, nearest_or, done_after, bind_after, binds_at, binds_from, stride_in, count_in, library_in, flags_in, symbol_name_in, addend_in, segment_in, offset_in, advances}
-use Rattle.mach_dyld.specs.Imports.{Import, Target, import_of, imports_in, import_with, target_of, input_in, ListsImports}
+use Rattle.mach_dyld.specs.Imports.{Import, Target, import_of, imports_in, import_with, target_of, BindRanges, input_in, ListsImports}
 use Rattle.mach_dyld.specs.BindCut.{HasList, ListsByStream, raised, front_range, rest_range, CutsBehindDone}
 use Rattle.mach_dyld.proofs.BindPlaces.{ends_after}
 use Rattle.mach_dyld.proofs.BindReading.{one_longest}
@@ -198,28 +199,25 @@ raised_oks n (i ∷ low) = ap (λ ys. Ok (raised n i) ∷ ys) (raised_oks n low)
 
 -- ---- the lists of both streams
 
-pub lists_by_stream_lem : ListsByStream
-lists_by_stream_lem b pointer libs segments list = (apart, together)
-  where
-    apart : ListsImports b pointer libs segments list
-        → (one : List Import) × (two : List Import) × HasList (input_in b pointer libs segments) b.non_lazy one × HasList (input_in b pointer libs segments) b.lazy two × (list ≡ one ++ two)
-    apart l =
-        let x = input_in b pointer libs segments in
-        let p = parts_of (imports_in x b.non_lazy l.0) (imports_in x b.lazy l.1) list l.2.each in
-        (p.front, p.back, (l.0, l.2.stream, p.is_front), (l.1, l.2.lazy_stream, p.is_back), p.joined)
+module _ (b : BindRanges) (pointer : ℕ) (libs : List (List ℕ)) (segments : List Segment) (list : List Import) where
+  abbrev input : Input
+  input = input_in b pointer libs segments
 
-    together : ((one : List Import) × (two : List Import) × HasList (input_in b pointer libs segments) b.non_lazy one × HasList (input_in b pointer libs segments) b.lazy two × (list ≡ one ++ two))
-        → ListsImports b pointer libs segments list
-    together (one, two, h, k, j) =
-        let x = input_in b pointer libs segments in (
-          h.0,
-          k.0,
-          record {
-            stream = h.1;
-            lazy_stream = k.1;
-            each = ap (λ ys. ys ++ imports_in x b.lazy k.0) h.2 ∙ ap (λ ys. map Ok one ++ ys) k.2 ∙ sym (map-append Ok one two) ∙ ap (map Ok) (sym j);
-          },
-        )
+  abbrev OneByOne : Type 0
+  OneByOne = (one : List Import) × (two : List Import) × HasList input b.non_lazy one × HasList input b.lazy two × (list ≡ one ++ two)
+
+  streams_apart : ListsImports b pointer libs segments list → OneByOne
+  streams_apart l =
+      let p = parts_of (imports_in input b.non_lazy l.0) (imports_in input b.lazy l.1) list l.2.each in
+      (p.front, p.back, (l.0, l.2.stream, p.is_front), (l.1, l.2.lazy_stream, p.is_back), p.joined)
+
+  streams_together : OneByOne → ListsImports b pointer libs segments list
+  streams_together (one, two, h, k, j) =
+      let each = ap (λ ys. ys ++ imports_in input b.lazy k.0) h.2 ∙ ap (λ ys. map Ok one ++ ys) k.2 ∙ sym (map-append Ok one two) ∙ ap (map Ok) (sym j) in
+      (h.0, k.0, record { stream = h.1; lazy_stream = k.1; each = each })
+
+pub lists_by_stream_lem : ListsByStream
+lists_by_stream_lem b pointer libs segments list = (streams_apart b pointer libs segments list, streams_together b pointer libs segments list)
 
 -- ---- both ways
 
@@ -227,57 +225,72 @@ stream_end-push : (place : ℕ) (ps : List Placed) (d : Placed) → stream_end p
 stream_end-push place ps d = stream_end-append place ps (d ∷ [])
 
 module _ (x : Input) (r : Range) (front : List Placed) (d : Placed) (list : List Import) (b : IsBeginning x r (front ++ d ∷ [])) (e : is_done d ≡ true) where
-  front_follows : Follow r.from (front ++ d ∷ [])
+  -- the front with its DONE, the ranges of both parts, and what there is where both have a list
+  abbrev heads : List Placed
+  heads = front ++ d ∷ []
+
+  abbrev first_range : Range
+  first_range = front_range r d.after
+
+  abbrev last_range : Range
+  last_range = rest_range r d.after
+
+  abbrev front_len : ℕ
+  front_len = d.after - r.from
+
+  abbrev Halves : Type 0
+  Halves = (one : List Import) × (two : List Import) × HasList x first_range one × HasList x last_range two × (list ≡ one ++ map (raised front_len) two)
+
+  front_follows : Follow r.from heads
   front_follows = b.follow
 
-  front_ends : stream_end r.from (front ++ d ∷ []) ≡ d.after
+  front_ends : stream_end r.from heads ≡ d.after
   front_ends = stream_end-push r.from front d
 
   from_le : r.from ≤ d.after
-  from_le = let h = end_past x r.upto r.from (front ++ d ∷ []) b.stand front_follows in omega (arith, h, front_ends)
+  from_le = let h = end_past x r.upto r.from heads b.stand front_follows in omega (arith, h, front_ends)
 
-  front_stream : IsStream x (front_range r d.after) (front ++ d ∷ [])
+  front_stream : IsStream x first_range heads
   front_stream =
-      let stand : AllByRecursion (StandsIn x d.after) (front ++ d ∷ []) = subst (λ (n : ℕ). AllByRecursion (StandsIn x n) (front ++ d ∷ [])) front_ends (stand_before_end x r.upto r.from (front ++ d ∷ []) b.stand front_follows) in
+      let stand : AllByRecursion (StandsIn x d.after) heads = subst (λ (n : ℕ). AllByRecursion (StandsIn x n) heads) front_ends (stand_before_end x r.upto r.from heads b.stand front_follows) in
       record { beginning = record { follow = front_follows; stand = stand }; whole = omega (arith, front_ends) }
 
-  apart : HasList x r list → (one : List Import) × (two : List Import) × HasList x (front_range r d.after) one × HasList x (rest_range r d.after) two × (list ≡ one ++ map (raised (d.after - r.from)) two)
+  apart : HasList x r list → Halves
   apart h =
       let whole_follows = h.1.beginning.follow in
-      let k = behind x r.upto r.from (front ++ d ∷ []) h.0 b.stand front_follows h.1.beginning.stand whole_follows h.1.whole in
+      let k = behind x r.upto r.from heads h.0 b.stand front_follows h.1.beginning.stand whole_follows h.1.whole in
       let rest = k.0 in
-      let stand : AllByRecursion (StandsIn x r.upto) rest = stand_behind x r.upto (front ++ d ∷ []) rest (subst (AllByRecursion (StandsIn x r.upto)) k.1 h.1.beginning.stand) in
-      let behind_front : Follow (stream_end r.from (front ++ d ∷ [])) rest = follow_behind r.from (front ++ d ∷ []) rest (subst (Follow r.from) k.1 whole_follows) in
+      let stand : AllByRecursion (StandsIn x r.upto) rest = stand_behind x r.upto heads rest (subst (AllByRecursion (StandsIn x r.upto)) k.1 h.1.beginning.stand) in
+      let behind_front : Follow (stream_end r.from heads) rest = follow_behind r.from heads rest (subst (Follow r.from) k.1 whole_follows) in
       let follow : Follow d.after rest = subst (λ (n : ℕ). Follow n rest) front_ends behind_front in
-      let ends : stream_end r.from h.0 ≡ stream_end d.after rest = ap (stream_end r.from) k.1 ∙ stream_end-append r.from (front ++ d ∷ []) rest ∙ ap (λ n. stream_end n rest) front_ends in
-      let rest_stream : IsStream x (rest_range r d.after) rest = record { beginning = record { follow = follow; stand = stand }; whole = omega (arith, ends, h.1.whole) } in
-      let all : imports_in x (front_range r d.after) (front ++ d ∷ []) ++ map (raise_item (d.after - r.from)) (imports_in x (rest_range r d.after) rest) ≡ map Ok list =
+      let ends : stream_end r.from h.0 ≡ stream_end d.after rest = ap (stream_end r.from) k.1 ∙ stream_end-append r.from heads rest ∙ ap (λ n. stream_end n rest) front_ends in
+      let rest_stream : IsStream x last_range rest = record { beginning = record { follow = follow; stand = stand }; whole = omega (arith, ends, h.1.whole) } in
+      let all : imports_in x first_range heads ++ map (raise_item front_len) (imports_in x last_range rest) ≡ map Ok list =
       sym (imports_cut x r r.upto front d rest e from_le follow stand) ∙ ap (imports_in x r) (sym k.1) ∙ h.2 in
-      let p = parts_of (imports_in x (front_range r d.after) (front ++ d ∷ [])) (map (raise_item (d.after - r.from)) (imports_in x (rest_range r d.after) rest)) list all in
-      let l = lowered (d.after - r.from) (imports_in x (rest_range r d.after) rest) p.back p.is_back in
-      (p.front, l.0, (front ++ d ∷ [], front_stream, p.is_front), (rest, rest_stream, l.1), p.joined ∙ ap (λ y. p.front ++ y) l.2)
+      let p = parts_of (imports_in x first_range heads) (map (raise_item front_len) (imports_in x last_range rest)) list all in
+      let l = lowered front_len (imports_in x last_range rest) p.back p.is_back in
+      (p.front, l.0, (heads, front_stream, p.is_front), (rest, rest_stream, l.1), p.joined ∙ ap (λ y. p.front ++ y) l.2)
 
-  together : ((one : List Import) × (two : List Import) × HasList x (front_range r d.after) one × HasList x (rest_range r d.after) two × (list ≡ one ++ map (raised (d.after - r.from)) two)) → HasList x r list
+  together : Halves → HasList x r list
   together (one, two, h, k, j) =
-      let same : h.0 ≡ front ++ d ∷ [] = (one_longest x (front_range r d.after) h.0 (front ++ d ∷ []) None None (longest_stream x (front_range r d.after) h.0 h.1) (longest_stream x (front_range r d.after) (front ++ d ∷ []) front_stream)).0 in
-      let n = d.after - r.from in
+      let same : h.0 ≡ heads = (one_longest x first_range h.0 heads None None (longest_stream x first_range h.0 h.1) (longest_stream x first_range heads front_stream)).0 in
       let rest_follows : Follow d.after k.0 = k.1.beginning.follow in
-      let follow : Follow (stream_end r.from (front ++ d ∷ [])) k.0 = subst (λ (m : ℕ). Follow m k.0) (sym front_ends) rest_follows in
-      let ends : stream_end r.from ((front ++ d ∷ []) ++ k.0) ≡ stream_end d.after k.0 = stream_end-append r.from (front ++ d ∷ []) k.0 ∙ ap (λ m. stream_end m k.0) front_ends in
-      let first : imports_in x (front_range r d.after) (front ++ d ∷ []) ≡ map Ok one = ap (imports_in x (front_range r d.after)) (sym same) ∙ h.2 in (
-        (front ++ d ∷ []) ++ k.0,
+      let follow : Follow (stream_end r.from heads) k.0 = subst (λ (m : ℕ). Follow m k.0) (sym front_ends) rest_follows in
+      let ends : stream_end r.from (heads ++ k.0) ≡ stream_end d.after k.0 = stream_end-append r.from heads k.0 ∙ ap (λ m. stream_end m k.0) front_ends in
+      let first : imports_in x first_range heads ≡ map Ok one = ap (imports_in x first_range) (sym same) ∙ h.2 in (
+        heads ++ k.0,
         record {
           beginning = record {
-            follow = follow-append r.from (front ++ d ∷ []) k.0 front_follows follow;
-            stand = all-append (StandsIn x r.upto) (front ++ d ∷ []) k.0 b.stand k.1.beginning.stand;
+            follow = follow-append r.from heads k.0 front_follows follow;
+            stand = all-append (StandsIn x r.upto) heads k.0 b.stand k.1.beginning.stand;
           };
           whole = omega (arith, ends, k.1.whole);
         },
         imports_cut x r r.upto front d k.0 e from_le rest_follows k.1.beginning.stand
-            ∙ ap (λ y. y ++ map (raise_item n) (imports_in x (rest_range r d.after) k.0)) first
-            ∙ ap (λ y. map Ok one ++ map (raise_item n) y) k.2
-            ∙ ap (λ y. map Ok one ++ y) (raised_oks n two)
-            ∙ sym (map-append Ok one (map (raised n) two))
+            ∙ ap (λ y. y ++ map (raise_item front_len) (imports_in x last_range k.0)) first
+            ∙ ap (λ y. map Ok one ++ map (raise_item front_len) y) k.2
+            ∙ ap (λ y. map Ok one ++ y) (raised_oks front_len two)
+            ∙ sym (map-append Ok one (map (raised front_len) two))
             ∙ ap (map Ok) (sym j),
       )
 

@@ -111,8 +111,8 @@ module _ (t : Trie) (from : ℕ) (marks : List Bool) (vs : List Visit) (h : Visi
         count = let one = one_more_mark marks (b - from) within clear in let c = h.count in omega arith;
       }
 
-pub few_visited : (t : Trie) (from : ℕ) (marks : List Bool) (vs : List Visit) → Visited t from marks vs → length vs ≤ t.upto - from
-few_visited t from marks vs h = let most = count_by-le-length (λ (b : Bool). b) marks in let c = h.count in let s = h.size in omega arith
+pub few_visited : {t : Trie} {from : ℕ} {marks : List Bool} {vs : List Visit} → Visited t from marks vs → length vs ≤ t.upto - from
+few_visited {marks} h = let most = count_by-le-length (λ (b : Bool). b) marks in let c = h.count in let s = h.size in omega arith
 
 -- the paths of the visits
 
@@ -127,33 +127,37 @@ pub path_in : (v : Visit) (vs : List Visit) → IsAmong v vs → IsAmong v.path 
 path_in v [] i = absurd i
 path_in v (w ∷ vs) i = elim i [ inl e ↦ inl (ap (λ (x : Visit). x.path) e) | inr more ↦ inr (path_in v vs more) ]
 
-module _ (t : Trie) (from : ℕ) where
-  pub each_leads : (vs : List Visit) → ((v : Visit) → IsAmong v vs → Leads t v.path from v.at × (from ≤ v.at) × (v.at < t.upto)) → (p : List ℕ) → IsAmong p (paths_in vs) → Path t from p
-  each_leads vs leads p i = let v = in_paths p vs i in let l = leads v.0 v.1 in (v.0.at, subst (λ x. Leads t x from v.0.at) (sym v.2) l.0, l.2)
+module _ {t : Trie} {from : ℕ} {marks : List Bool} {vs : List Visit} (h : Visited t from marks vs) where
+  pub each_leads : (p : List ℕ) → IsAmong p (paths_in vs) → Path t from p
+  each_leads p i = let v = in_paths p vs i in let l = h.leads v.0 v.1 in (v.0.at, subst (λ x. Leads t x from v.0.at) (sym v.2) l.0, l.2)
 
-  pub paths_apart : (vs : List Visit) → ((v : Visit) → IsAmong v vs → Leads t v.path from v.at × (from ≤ v.at) × (v.at < t.upto)) → Apart vs → AreApart t from (paths_in vs)
-  paths_apart [] leads apart = tt
-  paths_apart (v ∷ vs) leads apart = (
-    λ q at i x y.
-        let w = in_paths q vs i in
-        let here = leads_to_one t v.path from v.at at (leads v (inl refl)).0 x in
-        let there = leads_to_one t q from w.0.at at (subst (λ z. Leads t z from w.0.at) (sym w.2) (leads w.0 (inr w.1)).0) y in
-        apart.0 w.0 w.1 (there ∙ sym here),
-    paths_apart vs (λ w i. leads w (inr i)) apart.1,
-  )
+  pub paths_apart : AreApart t from (paths_in vs)
+  paths_apart = some_apart vs h.leads h.apart
+    where
+      some_apart : (ws : List Visit) → ((v : Visit) → IsAmong v ws → Leads t v.path from v.at × (from ≤ v.at) × (v.at < t.upto)) → Apart ws
+          → AreApart t from (paths_in ws)
+      some_apart [] leads apart = tt
+      some_apart (v ∷ ws) leads apart = (
+        λ q at i x y.
+            let w = in_paths q ws i in
+            let here = leads_to_one t v.path from v.at at (leads v (inl refl)).0 x in
+            let there = leads_to_one t q from w.0.at at (subst (λ z. Leads t z from w.0.at) (sym w.2) (leads w.0 (inr w.1)).0) y in
+            apart.0 w.0 w.1 (there ∙ sym here),
+        some_apart ws (λ w i. leads w (inr i)) apart.1,
+      )
 
-  same_path : (vs : List Visit) → Apart vs → (v w : Visit) → IsAmong v vs → IsAmong w vs → v.at ≡ w.at → v.path ≡ w.path
-  same_path [] apart v w i j e = absurd i
-  same_path (u ∷ vs) apart v w i j e = elim i [
-    | inl v_here ↦ elim j [
-      | inl w_here ↦ ap (λ (x : Visit). x.path) (v_here ∙ sym w_here)
-      | inr w_later ↦ absurd (apart.0 w w_later (sym e ∙ ap (λ (x : Visit). x.at) v_here))
-    ]
-    | inr v_later ↦ elim j [
-      | inl w_here ↦ absurd (apart.0 v v_later (e ∙ ap (λ (x : Visit). x.at) w_here))
-      | inr w_later ↦ same_path vs apart.1 v w v_later w_later e
-    ]
+same_path : (vs : List Visit) → Apart vs → (v w : Visit) → IsAmong v vs → IsAmong w vs → v.at ≡ w.at → v.path ≡ w.path
+same_path [] apart v w i j e = absurd i
+same_path (u ∷ vs) apart v w i j e = elim i [
+  | inl v_here ↦ elim j [
+    | inl w_here ↦ ap (λ (x : Visit). x.path) (v_here ∙ sym w_here)
+    | inr w_later ↦ absurd (apart.0 w w_later (sym e ∙ ap (λ (x : Visit). x.at) v_here))
   ]
+  | inr v_later ↦ elim j [
+    | inl w_here ↦ absurd (apart.0 v v_later (e ∙ ap (λ (x : Visit). x.at) w_here))
+    | inr w_later ↦ same_path vs apart.1 v w v_later w_later e
+  ]
+]
 
 -- open nodes
 
@@ -164,6 +168,10 @@ pub record Frame : Type 0 where
   pub prefix : List ℕ
   pub node : Node
   pub next : ℕ
+
+-- an open node with no branch taken yet
+abbrev pub fresh_frame : List ℕ → ℕ → List ℕ → Node → Frame
+fresh_frame path start prefix node = record { path = path; start = start; prefix = prefix; node = node; next = 0 }
 
 -- with one more branch taken
 abbrev pub more : Frame → Frame
@@ -210,7 +218,7 @@ few_own prefix (Some info) = omega arith
 
 -- the root is opened
 pub root_opened : (t : Trie) (from : ℕ) (node : Node) → from < t.upto → t.node from ≡ Ok node
-    → Walk t from (set (replicate (t.upto - from) false) 0 true) (record { path = []; start = from; prefix = []; node = node; next = 0 } ∷ []) (own_entries [] node.own) (visit [] from ∷ [])
+    → Walk t from (set (replicate (t.upto - from) false) 0 true) (fresh_frame [] from [] node ∷ []) (own_entries [] node.own) (visit [] from ∷ [])
 root_opened t from node inside at = record {
   visited = root_visited t from inside;
   root = inl refl;
@@ -220,7 +228,8 @@ root_opened t from node inside at = record {
   few = few_own [] node.own;
 }
 
-module _ (t : Trie) (from : ℕ) (marks : List Bool) (f : Frame) (fs : List Frame) (found : List Entry) (vs : List Visit) (h : Walk t from marks (f ∷ fs) found vs) where
+module _ {t : Trie} {from : ℕ} {marks : List Bool} {f : Frame} {fs : List Frame} {found : List Entry} {vs : List Visit}
+    (h : Walk t from marks (f ∷ fs) found vs) where
   -- a node with no branch left is closed
   pub closes : drop f.next f.node.branches ≡ [] → Walk t from marks fs found vs
   closes nil = record {
@@ -243,7 +252,7 @@ module _ (t : Trie) (from : ℕ) (marks : List Bool) (f : Frame) (fs : List Fram
     few = h.few;
   }
 
-  module _ (b : Branch) (rest : List Branch) (some : drop f.next f.node.branches ≡ b ∷ rest) where
+  module _ {b : Branch} {rest : List Branch} (some : drop f.next f.node.branches ≡ b ∷ rest) where
     taken : slice_get f.node.branches f.next ≡ Some b
     taken = (drop_head f.node.branches f.next b rest some).0
 
@@ -330,7 +339,7 @@ module _ (t : Trie) (from : ℕ) (marks : List Bool) (f : Frame) (fs : List Fram
 
       -- a child that is a node is opened
       pub opens : (node : Node) → t.node b.start ≡ Ok node
-          → Walk t from (set marks (b.start - from) true) (record { path = f.path ++ f.next ∷ []; start = b.start; prefix = f.prefix ++ b.label; node = node; next = 0 } ∷ more f ∷ fs)
+          → Walk t from (set marks (b.start - from) true) (fresh_frame (f.path ++ f.next ∷ []) b.start (f.prefix ++ b.label) node ∷ more f ∷ fs)
           (found ++ own_entries (f.prefix ++ b.label) node.own) (visit (f.path ++ f.next ∷ []) b.start ∷ vs)
       opens node at =
           let path = f.path ++ f.next ∷ [] in
@@ -384,7 +393,7 @@ module _ (t : Trie) (from : ℕ) (marks : List Bool) (f : Frame) (fs : List Fram
 
 -- the end of the walk
 
-module _ (t : Trie) (from : ℕ) (marks : List Bool) (found : List Entry) (vs : List Visit) (h : Walk t from marks [] found vs) where
+module _ {t : Trie} {from : ℕ} {marks : List Bool} {found : List Entry} {vs : List Visit} (h : Walk t from marks [] found vs) where
   reaches : (ks p : List ℕ) (a at : ℕ) → IsAmong (visit p a) vs → Leads t ks a at → at < t.upto → IsAmong (visit (p ++ ks) at) vs
   reaches [] p a at i l inside = subst (λ (x : Visit). IsAmong x vs) (let path = append-nil p in rw (path, l) refl) i
   reaches (k ∷ ks) p a at i l inside = elim (h.closed (visit p a) l.0 k l.1 i l.3 l.4) [
@@ -402,7 +411,7 @@ module _ (t : Trie) (from : ℕ) (marks : List Bool) (found : List Entry) (vs : 
   all_paths p path = path_in (visit p path.0) vs (all_visited p path.0 path.1 path.2)
 
   pub is_tree : IsTree t from
-  is_tree p q at a b inside = same_path t from vs h.visited.apart (visit p at) (visit q at) (all_visited p at a inside) (all_visited q at b inside) refl
+  is_tree p q at a b inside = same_path vs h.visited.apart (visit p at) (visit q at) (all_visited p at a inside) (all_visited q at b inside) refl
 
   pub listed : Lists t from [] found
   listed = subst (Lists t from []) (append-nil found) (h.list [] refl)
