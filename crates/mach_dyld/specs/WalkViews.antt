@@ -2,8 +2,7 @@
 use Rattle.std.specs.Prelude.{◌≡◌, ◌≤◌, ◌++◌, ◌∷◌, [], ℕ, List, length, Result, Ok}
 use Rattle.mach_base.specs.Fault.{Fault}
 use Rattle.mach_dyld.specs.Trie.{Info, Entry, Node, Trie, entry, own_entries}
-use Rattle.mach_dyld.specs.Nodes.{node_at, branches_at, trie_of}
-use Rattle.mach_dyld.specs.NodeViews.{own_at}
+use Rattle.mach_dyld.specs.Nodes.{own_at, node_at, branches_at, trie_of}
 use Rattle.mach_dyld.specs.TrieFault.{TrieFault}
 use Rattle.mach_dyld.specs.Exports.{texts}
 use Rattle.mach_dyld.specs.declared.walk.Source.{Source}
