@@ -43,7 +43,9 @@ summed_at dylib offset s = sum_of s.fileoff offset >>= λ (o : ℕ). sum_of s.vm
 target_lies : (x : Input) (number k offset : ℕ) (t : Target) → target_of x number k offset ≡ Ok t → LiesIn x.segments k t.address
 unfolding target_of
 target_lies x number k offset t e =
-    let a = bind_ok (found_or_malformed (slice_get x.libs number)) (λ (dylib : List ℕ). found_or_malformed (slice_get x.segments k) >>= λ (s : Segment). holding offset s >>= λ (h : Segment). summed_at dylib offset h) t e in
+    let a = bind_ok (found_or_malformed (slice_get x.libs number))
+    (λ (dylib : List ℕ). found_or_malformed (slice_get x.segments k)
+    >>= λ (s : Segment). holding offset s >>= λ (h : Segment). summed_at dylib offset h) t e in
     let b = bind_ok (found_or_malformed (slice_get x.segments k)) (λ (s : Segment). holding offset s >>= λ (h : Segment). summed_at a.0 offset h) t a.2 in
     let c = bind_ok (holding offset b.0) (λ (h : Segment). summed_at a.0 offset h) t b.2 in
     let o = bind_ok (sum_of c.0.fileoff offset) (λ (o : ℕ). sum_of c.0.vmaddr offset >>= λ (v : ℕ). target_at a.0 o v) t c.2 in
@@ -93,7 +95,8 @@ Lies x i = LiesInSome x.segments i.address
 
 listed_lie : (x : Input) (list : List Import) → All (ItemLies x) (map Ok list) → All (Lies x) list
 listed_lie x [] h = All-nil (Lies x)
-listed_lie x (i ∷ list) h = All-cons (Lies x) i list (All-head (ItemLies x) (Ok i) (map Ok list) h) (listed_lie x list (All-tail (ItemLies x) (Ok i) (map Ok list) h))
+listed_lie x (i ∷ list) h =
+    All-cons (Lies x) i list (All-head (ItemLies x) (Ok i) (map Ok list) h) (listed_lie x list (All-tail (ItemLies x) (Ok i) (map Ok list) h))
 
 pub list_lies : ListLiesIn
 list_lies b pointer libs segments list l =

@@ -7,7 +7,7 @@ use Rattle.std.proofs.lemmas.List.{map-append}
 use Rattle.mach_base.specs.Answer.{◌>>=◌}
 use Rattle.mach_base.specs.Fault.{Fault}
 use Rattle.mach_parts.specs.declared.segment.Segment.{Segment}
-use Rattle.mach_dyld.specs.Streams.{Input, Range, Placed, Follow, StandsIn, stream_end, IsBeginning, IsStream}
+use Rattle.mach_dyld.specs.Streams.{Input, Range, Placed, Follow, StandsIn, AllStand, stream_end, IsBeginning, IsStream}
 use Rattle.mach_dyld.specs.Binds.{Bind, is_done, sets_segment, nearer_than, nearest_or, done_after, bind_after, binds_at, binds_from, stride_in, count_in, library_in, flags_in, symbol_name_in, addend_in, segment_in, offset_in, advances}
 use Rattle.mach_dyld.specs.Imports.{Import, Target, import_of, imports_in, import_with, target_of, BindRanges, input_in, ListsImports}
 use Rattle.mach_dyld.specs.BindCut.{HasList, ListsByStream, raised, front_range, rest_range, CutsBehindDone}
@@ -25,14 +25,14 @@ Item = Result Import Fault
 further : (x : Input) (upto : ℕ) (p : Placed) → StandsIn x upto p → p.place < p.after
 further x upto p s = ends_after x.pointer x.bytes p.place (p.instruction, p.after) s.read
 
-end_past : (x : Input) (upto place : ℕ) (ps : List Placed) → AllByRecursion (StandsIn x upto) ps → Follow place ps → place ≤ stream_end place ps
+end_past : (x : Input) (upto place : ℕ) (ps : List Placed) → AllStand x upto ps → Follow place ps → place ≤ stream_end place ps
 end_past x upto place [] a f = omega arith
 end_past x upto place (p ∷ ps) a f =
     let h = end_past x upto p.after ps a.1 f.1 in
     let k = further x upto p a.0 in
     omega (arith, h, k, f.0)
 
-stand_before_end : (x : Input) (upto place : ℕ) (ps : List Placed) → AllByRecursion (StandsIn x upto) ps → Follow place ps → AllByRecursion (StandsIn x (stream_end place ps)) ps
+stand_before_end : (x : Input) (upto place : ℕ) (ps : List Placed) → AllStand x upto ps → Follow place ps → AllStand x (stream_end place ps) ps
 stand_before_end x upto place [] a f = tt
 stand_before_end x upto place (p ∷ ps) a f =
     let h = end_past x upto p.after ps a.1 f.1 in
@@ -51,7 +51,7 @@ follow_behind : (place : ℕ) (ps qs : List Placed) → Follow place (ps ++ qs) 
 follow_behind place [] qs f = f
 follow_behind place (p ∷ ps) qs f = follow_behind p.after ps qs f.1
 
-stand_behind : (x : Input) (upto : ℕ) (ps qs : List Placed) → AllByRecursion (StandsIn x upto) (ps ++ qs) → AllByRecursion (StandsIn x upto) qs
+stand_behind : (x : Input) (upto : ℕ) (ps qs : List Placed) → AllStand x upto (ps ++ qs) → AllStand x upto qs
 stand_behind x upto [] qs a = a
 stand_behind x upto (p ∷ ps) qs a = stand_behind x upto ps qs a.1
 
@@ -75,7 +75,8 @@ sequence-done : (from : ℕ) (back : List Placed) (d : Placed) (far : List Place
 sequence-done from [] d far e h past =
     ap (λ t. nearest_or 0 (cons_option (cond t (Some (d.after - from)) None) (filter_map (done_after from) far))) e ∙ sym (zero-add (d.after - from))
 sequence-done from (p ∷ back) d far e h past =
-    sequence_by from d.after p (is_done p) (filter_map (done_after from) (back ++ d ∷ far)) (filter_map (done_after d.after) back) h past.0 (sequence-done from back d far e h past.1)
+    sequence_by from d.after p (is_done p) (filter_map (done_after from) (back ++ d ∷ far)) (filter_map (done_after d.after) back) h past.0
+    (sequence-done from back d far e h past.1)
 
 abbrev raise : ℕ → Bind → Bind
 raise n b = record b { sequence = b.sequence + n }
@@ -92,22 +93,27 @@ parts pointer r near own sequence = record {
   sequence = sequence;
 }
 
-bind-done : (pointer : ℕ) (r : Range) (back : List Placed) (d : Placed) (far : List Placed) (own : ℕ) → is_done d ≡ true → r.from ≤ d.after → EndPast d.after back
+bind-done : (pointer : ℕ) (r : Range) (back : List Placed) (d : Placed) (far : List Placed) (own : ℕ) → is_done d ≡ true → r.from ≤ d.after
+    → EndPast d.after back
     → bind_after pointer r (back ++ d ∷ far) own ≡ raise (d.after - r.from) (bind_after pointer (rest_range r d.after) back own)
 unfolding bind_after
 bind-done pointer r back d far own e h past =
     ap (λ near. parts pointer r near own (nearest_or 0 (filter_map (done_after r.from) (back ++ d ∷ far)))) (nearer-done back d far e)
     ∙ ap (parts pointer r (nearer_than is_done back) own) (sequence-done r.from back d far e h past)
 
-strides-done : (pointer : ℕ) (r : Range) (back : List Placed) (d : Placed) (far : List Placed) (s : ℕ) (js : List ℕ) → is_done d ≡ true → r.from ≤ d.after → EndPast d.after back
-    → map (λ j. bind_after pointer r (back ++ d ∷ far) (j * s)) js ≡ map (raise (d.after - r.from)) (map (λ j. bind_after pointer (rest_range r d.after) back (j * s)) js)
+strides-done : (pointer : ℕ) (r : Range) (back : List Placed) (d : Placed) (far : List Placed) (s : ℕ) (js : List ℕ) → is_done d ≡ true → r.from ≤ d.after
+    → EndPast d.after back
+    → map (λ j. bind_after pointer r (back ++ d ∷ far) (j * s)) js ≡ map (raise (d.after - r.from))
+    (map (λ j. bind_after pointer (rest_range r d.after) back (j * s)) js)
 strides-done pointer r back d far s [] e h past = refl
 strides-done pointer r back d far s (j ∷ js) e h past =
     ap (λ b. b ∷ map (λ j. bind_after pointer r (back ++ d ∷ far) (j * s)) js) (bind-done pointer r back d far (j * s) e h past)
     ∙ ap (λ bs. raise (d.after - r.from) (bind_after pointer (rest_range r d.after) back (j * s)) ∷ bs) (strides-done pointer r back d far s js e h past)
 
-binds-done : (x : Input) (r : Range) (upto : ℕ) (back : List Placed) (d : Placed) (far : List Placed) (place : ℕ) (ps : List Placed) → is_done d ≡ true → r.from ≤ d.after → EndPast d.after back → d.after ≤ place
-    → Follow place ps → AllByRecursion (StandsIn x upto) ps → binds_from x.pointer r (back ++ d ∷ far) ps ≡ map (raise (d.after - r.from)) (binds_from x.pointer (rest_range r d.after) back ps)
+binds-done : (x : Input) (r : Range) (upto : ℕ) (back : List Placed) (d : Placed) (far : List Placed) (place : ℕ) (ps : List Placed) → is_done d ≡ true
+    → r.from ≤ d.after → EndPast d.after back → d.after ≤ place
+    → Follow place ps → AllStand x upto ps
+    → binds_from x.pointer r (back ++ d ∷ far) ps ≡ map (raise (d.after - r.from)) (binds_from x.pointer (rest_range r d.after) back ps)
 unfolding binds_from
 binds-done x r upto back d far place [] e h past k f a = refl
 binds-done x r upto back d far place (p ∷ ps) e h past k f a =
@@ -146,11 +152,14 @@ import-raised x n b = target_raised n b (target_of x b.library b.segment b.offse
 
 imports-raised : (x : Input) (n : ℕ) (bs : List Bind) → map (import_of x) (map (raise n) bs) ≡ map (raise_item n) (map (import_of x) bs)
 imports-raised x n [] = refl
-imports-raised x n (b ∷ bs) = ap (λ i. i ∷ map (import_of x) (map (raise n) bs)) (import-raised x n b) ∙ ap (λ ys. raise_item n (import_of x b) ∷ ys) (imports-raised x n bs)
+imports-raised x n (b ∷ bs) = ap (λ i. i ∷ map (import_of x) (map (raise n) bs)) (import-raised x n b)
+    ∙ ap (λ ys. raise_item n (import_of x b) ∷ ys) (imports-raised x n bs)
 
 -- the imports of a range whose first instructions end with a DONE
-imports_cut : (x : Input) (r : Range) (upto : ℕ) (front : List Placed) (d : Placed) (rest : List Placed) → is_done d ≡ true → r.from ≤ d.after → Follow d.after rest → AllByRecursion (StandsIn x upto) rest
-    → imports_in x r ((front ++ d ∷ []) ++ rest) ≡ imports_in x (front_range r d.after) (front ++ d ∷ []) ++ map (raise_item (d.after - r.from)) (imports_in x (rest_range r d.after) rest)
+imports_cut : (x : Input) (r : Range) (upto : ℕ) (front : List Placed) (d : Placed) (rest : List Placed) → is_done d ≡ true → r.from ≤ d.after
+    → Follow d.after rest → AllStand x upto rest
+    → imports_in x r ((front ++ d ∷ []) ++ rest) ≡ imports_in x (front_range r d.after) (front ++ d ∷ []) ++ map (raise_item (d.after - r.from))
+    (imports_in x (rest_range r d.after) rest)
 unfolding imports_in
 imports_cut x r upto front d rest e h f a =
     let n = d.after - r.from in
@@ -180,9 +189,17 @@ parts_of (a ∷ ys) bs (i ∷ list) e =
     let tail : ys ++ bs ≡ map Ok list = cc in
     let head : a ≡ Ok i = cc in
     let more = parts_of ys bs list tail in
-    record { front = i ∷ more.front; back = more.back; is_front = ap (λ y. y ∷ ys) head ∙ ap (λ ys. Ok i ∷ ys) more.is_front; is_back = more.is_back; joined = ap (λ l. i ∷ l) more.joined }
+    record {
+      front = i ∷ more.front;
+      back = more.back;
+      is_front = ap (λ y. y ∷ ys) head
+          ∙ ap (λ ys. Ok i ∷ ys) more.is_front;
+      is_back = more.is_back;
+      joined = ap (λ l. i ∷ l) more.joined;
+    }
 
-lowered : (n : ℕ) (items : List Item) (list : List Import) → map (raise_item n) items ≡ map Ok list → (low : List Import) × (items ≡ map Ok low) × (list ≡ map (raised n) low)
+lowered : (n : ℕ) (items : List Item) (list : List Import) → map (raise_item n) items ≡ map Ok list → (low : List Import) × (items ≡ map Ok low)
+    × (list ≡ map (raised n) low)
 lowered n [] [] e = ([], refl, refl)
 lowered n [] (i ∷ list) e = cc
 lowered n (y ∷ items) [] e = cc
@@ -252,7 +269,7 @@ module _ (x : Input) (r : Range) (front : List Placed) (d : Placed) (list : List
 
   front_stream : IsStream x first_range heads
   front_stream =
-      let stand : AllByRecursion (StandsIn x d.after) heads = subst (λ (n : ℕ). AllByRecursion (StandsIn x n) heads) front_ends (stand_before_end x r.upto r.from heads b.stand front_follows) in
+      let stand : AllStand x d.after heads = subst (λ (n : ℕ). AllStand x n heads) front_ends (stand_before_end x r.upto r.from heads b.stand front_follows) in
       record { beginning = record { follow = front_follows; stand = stand }; whole = omega (arith, front_ends) }
 
   apart : HasList x r list → Halves
@@ -260,10 +277,11 @@ module _ (x : Input) (r : Range) (front : List Placed) (d : Placed) (list : List
       let whole_follows = h.1.beginning.follow in
       let k = behind x r.upto r.from heads h.0 b.stand front_follows h.1.beginning.stand whole_follows h.1.whole in
       let rest = k.0 in
-      let stand : AllByRecursion (StandsIn x r.upto) rest = stand_behind x r.upto heads rest (subst (AllByRecursion (StandsIn x r.upto)) k.1 h.1.beginning.stand) in
+      let stand : AllStand x r.upto rest = stand_behind x r.upto heads rest (subst (AllStand x r.upto) k.1 h.1.beginning.stand) in
       let behind_front : Follow (stream_end r.from heads) rest = follow_behind r.from heads rest (subst (Follow r.from) k.1 whole_follows) in
       let follow : Follow d.after rest = subst (λ (n : ℕ). Follow n rest) front_ends behind_front in
-      let ends : stream_end r.from h.0 ≡ stream_end d.after rest = ap (stream_end r.from) k.1 ∙ stream_end-append r.from heads rest ∙ ap (λ n. stream_end n rest) front_ends in
+      let ends : stream_end r.from h.0 ≡ stream_end d.after rest = ap (stream_end r.from) k.1 ∙ stream_end-append r.from heads rest
+      ∙ ap (λ n. stream_end n rest) front_ends in
       let rest_stream : IsStream x last_range rest = record { beginning = record { follow = follow; stand = stand }; whole = omega (arith, ends, h.1.whole) } in
       let all : imports_in x first_range heads ++ map (raise_item front_len) (imports_in x last_range rest) ≡ map Ok list =
       sym (imports_cut x r r.upto front d rest e from_le follow stand) ∙ ap (imports_in x r) (sym k.1) ∙ h.2 in
@@ -273,7 +291,8 @@ module _ (x : Input) (r : Range) (front : List Placed) (d : Placed) (list : List
 
   together : Halves → HasList x r list
   together (one, two, h, k, j) =
-      let same : h.0 ≡ heads = (one_longest x first_range h.0 heads None None (longest_stream x first_range h.0 h.1) (longest_stream x first_range heads front_stream)).0 in
+      let same : h.0 ≡ heads = (one_longest x first_range h.0 heads None None (longest_stream x first_range h.0 h.1)
+      (longest_stream x first_range heads front_stream)).0 in
       let rest_follows : Follow d.after k.0 = k.1.beginning.follow in
       let follow : Follow (stream_end r.from heads) k.0 = subst (λ (m : ℕ). Follow m k.0) (sym front_ends) rest_follows in
       let ends : stream_end r.from (heads ++ k.0) ≡ stream_end d.after k.0 = stream_end-append r.from heads k.0 ∙ ap (λ m. stream_end m k.0) front_ends in

@@ -15,7 +15,8 @@ use Rattle.mach_dyld.proofs.BindLists.{oks, stands_from_items, items_from_list, 
 use Rattle.mach_dyld.proofs.BindSteps.{NothingLeft, after_range}
 
 module _ (b : BindRanges) (pointer : ℕ) (libs : List (List ℕ)) (segments : List Segment) (ps qs : List Placed) (items : List (Result Import Fault))
-    (are : AreBindItems (input_in b pointer libs segments) b.non_lazy b.lazy ps qs items) (found : List Import) (left : List (Result Import Fault)) (split : items ≡ oks found ++ left)
+    (are : AreBindItems (input_in b pointer libs segments) b.non_lazy b.lazy ps qs items) (found : List Import) (left : List (Result Import Fault))
+    (split : items ≡ oks found ++ left)
     (e : Error) (ends : left ≡ Err (fault_of e) ∷ []) where
   all : items ≡ oks found ++ Err (fault_of e) ∷ []
   all = split ∙ ap (λ m. oks found ++ m) ends

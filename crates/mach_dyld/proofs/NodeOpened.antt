@@ -17,7 +17,8 @@ use Rattle.mach_dyld.specs.declared.node.Branches.{Branches}
 use Rattle.mach_dyld.specs.declared.walk.Source.{Source}
 
 -- an error of one thing is one of what follows from it
-pub FailsAs-first : {X Y : Type 0} (e : Error) (first : Result X Fault) (all : Result Y Fault) → ((f : Fault) → first ≡ Err f → all ≡ Err f) → FailsAs e first → FailsAs e all
+pub FailsAs-first : {X Y : Type 0} (e : Error) (first : Result X Fault) (all : Result Y Fault) → ((f : Fault) → first ≡ Err f → all ≡ Err f) → FailsAs e first
+    → FailsAs e all
 FailsAs-first (errors.Malformed msg) first all same fails = same _ fails
 FailsAs-first (errors.BadMagic magic) first all same fails = same _ fails
 FailsAs-first (errors.Scroll f) first all same fails = same _ fails
@@ -53,7 +54,8 @@ module _ (s : Source) (start : ℕ) where
       no_branches_behind e err = FailsAs-read e (node_in s start) (is_terminal some ∙ rw (own.there, err) refl)
 
       pub opens_terminal : (b : Branches) → b.left ≤ length s.bytes.now → AreReadable s.bytes.now s.from b
-          → children_at s.bytes.now s.from after ≡ Ok (branches_of s.bytes.now s.from b) → OpensNode s start name old new (record { branches = b; name_len = length name })
+          → children_at s.bytes.now s.from after ≡ Ok (branches_of s.bytes.now s.from b)
+          → OpensNode s start name old new (record { branches = b; name_len = length name })
       unfolding with_branches
       opens_terminal b few readable children = record {
         node = record { own = Some own.info; branches = branches_of s.bytes.now s.from b };
@@ -65,7 +67,8 @@ module _ (s : Source) (start : ℕ) where
       }
 
     pub opens_inner : (name : List ℕ) (old : List Entry) → size ≡ 0 → (b : Branches) → b.left ≤ length s.bytes.now → AreReadable s.bytes.now s.from b
-        → children_at s.bytes.now s.from place ≡ Ok (branches_of s.bytes.now s.from b) → OpensNode s start name old old (record { branches = b; name_len = length name })
+        → children_at s.bytes.now s.from place ≡ Ok (branches_of s.bytes.now s.from b)
+        → OpensNode s start name old old (record { branches = b; name_len = length name })
     opens_inner name old zero b few readable children = record {
       node = record { own = None; branches = branches_of s.bytes.now s.from b };
       there = is_inner zero ∙ rw children refl;

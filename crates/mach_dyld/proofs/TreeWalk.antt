@@ -59,7 +59,8 @@ keeps_mark marks o i within e = elim (cases_eq i o) [
   | inr other ↦ get_or-set_other marks o i true false other ∙ e
 ]
 
-one_more_mark : (marks : List Bool) (o : ℕ) → o < length marks → get_or marks o false ≡ false → count_by (λ b. b) (set marks o true) ≡ suc (count_by (λ b. b) marks)
+one_more_mark : (marks : List Bool) (o : ℕ) → o < length marks → get_or marks o false ≡ false
+    → count_by (λ b. b) (set marks o true) ≡ suc (count_by (λ b. b) marks)
 one_more_mark marks o within clear =
     let sums = sum_by-set (λ (b : Bool). cond b 1 0) marks o true false within in
     let none : ◌≡◌ {A = ℕ} (cond (get_or marks o false) 1 0) 0 = rw clear refl in omega arith
@@ -72,9 +73,14 @@ root_visited t from inside =
     let within : 0 < length (replicate n false) = omega arith in
     record {
       size = length-set (replicate n false) 0 true ∙ size;
-      leads = λ v i. elim i [ inl e ↦ subst (λ (x : Visit). Leads t x.path from x.at × (from ≤ x.at) × (x.at < t.upto)) (sym e) (refl, omega arith, inside) | inr none ↦ absurd none ];
+      leads = λ v i. elim i [
+        | inl e ↦
+            subst (λ (x : Visit). Leads t x.path from x.at × (from ≤ x.at) × (x.at < t.upto)) (sym e) (refl, omega arith, inside)
+        | inr none ↦ absurd none
+      ];
       marked = λ v i. elim i [
-        | inl e ↦ (let at : v.at - from ≡ 0 = (let same : v.at ≡ from = ap (λ (x : Visit). x.at) e in omega arith) in subst (λ x. get_or (set (replicate n false) 0 true) x false ≡ true) (sym at) (get_or-set_same (replicate n false) 0 true false within))
+        | inl e ↦ (let at : v.at - from ≡ 0 = (let same : v.at ≡ from = ap (λ (x : Visit). x.at) e in omega arith) in
+            subst (λ x. get_or (set (replicate n false) 0 true) x false ≡ true) (sym at) (get_or-set_same (replicate n false) 0 true false within))
         | inr none ↦ absurd none
       ];
       met = λ o is. elim (cases_eq o 0) [
@@ -87,16 +93,22 @@ root_visited t from inside =
     }
 
 module _ (t : Trie) (from : ℕ) (marks : List Bool) (vs : List Visit) (h : Visited t from marks vs)
-    (p : List ℕ) (a k b : ℕ) (known : IsAmong (visit p a) vs) (lead : Leads t (p ++ k ∷ []) from b) (low : from ≤ b) (inside : b < t.upto) (clear : get_or marks (b - from) false ≡ false) where
+    (p : List ℕ) (a k b : ℕ) (known : IsAmong (visit p a) vs) (lead : Leads t (p ++ k ∷ []) from b) (low : from ≤ b) (inside : b < t.upto)
+    (clear : get_or marks (b - from) false ≡ false) where
   -- a child that isn't marked is visited
   pub child_visited : Visited t from (set marks (b - from) true) (visit (p ++ k ∷ []) b ∷ vs)
   child_visited =
       let within : b - from < length marks = omega (arith, h.size) in
       record {
         size = length-set marks (b - from) true ∙ h.size;
-        leads = λ v i. elim i [ inl e ↦ subst (λ (x : Visit). Leads t x.path from x.at × (from ≤ x.at) × (x.at < t.upto)) (sym e) (lead, low, inside) | inr old ↦ h.leads v old ];
+        leads = λ v i. elim i [
+          | inl e ↦
+              subst (λ (x : Visit). Leads t x.path from x.at × (from ≤ x.at) × (x.at < t.upto)) (sym e) (lead, low, inside)
+          | inr old ↦ h.leads v old
+        ];
         marked = λ v i. elim i [
-          | inl e ↦ (let at : v.at - from ≡ b - from = ap (λ (x : Visit). x.at - from) e in subst (λ x. get_or (set marks (b - from) true) x false ≡ true) (sym at) (get_or-set_same marks (b - from) true false within))
+          | inl e ↦ (let at : v.at - from ≡ b - from = ap (λ (x : Visit). x.at - from) e in
+              subst (λ x. get_or (set marks (b - from) true) x false ≡ true) (sym at) (get_or-set_same marks (b - from) true false within))
           | inr old ↦ keeps_mark marks (b - from) (v.at - from) within (h.marked v old)
         ];
         met = λ o is. elim (cases_eq o (b - from)) [
@@ -104,7 +116,8 @@ module _ (t : Trie) (from : ℕ) (marks : List Bool) (vs : List Visit) (h : Visi
           | inr other ↦ (let old = h.met o (sym (get_or-set_other marks (b - from) o true false other) ∙ is) in (old.0, inr old.1))
         ];
         parents = λ v q j i e. elim i [
-          | inl same ↦ (let front = same_front p q k j (sym (ap (λ (x : Visit). x.path) same) ∙ e) in (a, inr (subst (λ x. IsAmong (visit x a) vs) front known)))
+          | inl same ↦ (let front = same_front p q k j (sym (ap (λ (x : Visit). x.path) same) ∙ e) in
+              (a, inr (subst (λ x. IsAmong (visit x a) vs) front known)))
           | inr old ↦ (let up = h.parents v q j old e in (up.0, inr up.1))
         ];
         apart = (λ w i e. not_both (h.marked w i) (ap (λ x. get_or marks (x - from) false) e ∙ clear), h.apart);
@@ -197,12 +210,14 @@ abbrev pub IsDone : Trie → List Visit → List Frame → Visit → ℕ → ℕ
 IsDone t vs fs v k start = (t.upto ≤ start) ⊎ (IsAmong (visit (v.path ++ k ∷ []) start) vs ⊎ IsLeft v k fs)
 
 abbrev pub Closed : Trie → List Visit → List Frame → Type 0
-Closed t vs fs = (v : Visit) (node : Node) (k : ℕ) (b : Branch) → IsAmong v vs → t.node v.at ≡ Ok node → slice_get node.branches k ≡ Some b → IsDone t vs fs v k b.start
+Closed t vs fs = (v : Visit) (node : Node) (k : ℕ) (b : Branch) → IsAmong v vs → t.node v.at ≡ Ok node → slice_get node.branches k ≡ Some b
+    → IsDone t vs fs v k b.start
 
 -- what the open nodes still have to list
 abbrev pub Pending : Trie → List Frame → List Entry → Type 0
 Pending t [] es = es ≡ []
-Pending t (f ∷ fs) es = (here : List Entry) × (others : List Entry) × BranchesList t f.prefix (drop f.next f.node.branches) here × Pending t fs others × (es ≡ here ++ others)
+Pending t (f ∷ fs) es = (here : List Entry) × (others : List Entry) × BranchesList t f.prefix (drop f.next f.node.branches) here × Pending t fs others
+    × (es ≡ here ++ others)
 
 pub record Walk (t : Trie) (from : ℕ) (marks : List Bool) (fs : List Frame) (found : List Entry) (vs : List Visit) : Type 0 where
   pub visited : Visited t from marks vs
@@ -222,9 +237,23 @@ pub root_opened : (t : Trie) (from : ℕ) (node : Node) → from < t.upto → t.
 root_opened t from node inside at = record {
   visited = root_visited t from inside;
   root = inl refl;
-  opened = (record { known = inl refl; node = at; depth = refl; fresh = λ k w le i e. elim i [ inl same ↦ not_nil [] k (sym (ap (λ (x : Visit). x.path) same) ∙ e) | inr none ↦ absurd none ] }, tt);
-  closed = λ v n k b i a s. inr (inr (elim i [ inl same ↦ inl (sym (ap (λ (x : Visit). x.path) same), sym (ap (λ (x : Visit). x.at) same), omega arith) | inr none ↦ absurd none ]));
-  list = λ es p. a_node node (inside, at) p.2 (ap (λ (x : List Entry). own_entries [] node.own ++ x) (p.4 ∙ (ap (λ (x : List Entry). p.0 ++ x) p.3 ∙ append-nil p.0)));
+  opened = (
+    record {
+      known = inl refl;
+      node = at;
+      depth = refl;
+      fresh = λ k w le i e. elim i [
+        | inl same ↦
+            not_nil [] k (sym (ap (λ (x : Visit). x.path) same) ∙ e)
+        | inr none ↦ absurd none
+      ];
+    },
+    tt,
+  );
+  closed = λ v n k b i a s. inr
+      (inr (elim i [ inl same ↦ inl (sym (ap (λ (x : Visit). x.path) same), sym (ap (λ (x : Visit). x.at) same), omega arith) | inr none ↦ absurd none ]));
+  list = λ es p. a_node node (inside, at) p.2
+      (ap (λ (x : List Entry). own_entries [] node.own ++ x) (p.4 ∙ (ap (λ (x : List Entry). p.0 ++ x) p.3 ∙ append-nil p.0)));
   few = few_own [] node.own;
 }
 
@@ -265,17 +294,24 @@ module _ {t : Trie} {from : ℕ} {marks : List Bool} {f : Frame} {fs : List Fram
     -- the path to the child
     pub child_leads : Leads t (f.path ++ f.next ∷ []) from b.start
     child_leads =
-        Leads-append t f.path (f.next ∷ []) from f.start b.start (h.visited.leads (visit f.path f.start) h.opened.0.known).0 (f.node, b, inside_top, h.opened.0.node, taken, refl)
+        Leads-append t f.path (f.next ∷ []) from f.start b.start (h.visited.leads (visit f.path f.start) h.opened.0.known).0
+        (f.node, b, inside_top, h.opened.0.node, taken, refl)
 
     -- the child is not yet visited by this path
     pub not_yet : (w : Visit) → IsAmong w vs → w.path ≡ f.path ++ f.next ∷ [] → ⊥
     not_yet w i e = h.opened.0.fresh f.next w (omega arith) i e
 
     open_more : IsOpen t vs (more f) (length fs)
-    open_more = record { known = h.opened.0.known; node = h.opened.0.node; depth = h.opened.0.depth; fresh = λ k w le i e. h.opened.0.fresh k w (omega arith) i e }
+    open_more = record {
+      known = h.opened.0.known;
+      node = h.opened.0.node;
+      depth = h.opened.0.depth;
+      fresh = λ k w le i e. h.opened.0.fresh k w (omega arith) i e;
+    }
 
     done_more : (ws : List Visit) → ((w : Visit) → IsAmong w vs → IsAmong w ws) → ((t.upto ≤ b.start) ⊎ IsAmong (visit (f.path ++ f.next ∷ []) b.start) ws)
-        → (v : Visit) (node : Node) (k : ℕ) (c : Branch) → IsAmong v vs → t.node v.at ≡ Ok node → slice_get node.branches k ≡ Some c → IsDone t ws (more f ∷ fs) v k c.start
+        → (v : Visit) (node : Node) (k : ℕ) (c : Branch) → IsAmong v vs → t.node v.at ≡ Ok node → slice_get node.branches k ≡ Some c
+        → IsDone t ws (more f ∷ fs) v k c.start
     done_more ws keeps handled v node k c i a s = elim (h.closed v node k c i a s) [
       | inl out ↦ inl out
       | inr other ↦ elim other [
@@ -284,7 +320,8 @@ module _ {t : Trie} {from : ℕ} {marks : List Bool} {f : Frame} {fs : List Fram
           | inl here ↦ elim (cases_eq k f.next) [
             | inl now ↦ (
                 let same : f.node ≡ node = same_node h.opened.0.node (subst (λ x. t.node x ≡ Ok node) (sym here.1) a) in
-                let branch : c ≡ b = same_some (subst (λ x. slice_get f.node.branches x ≡ Some c) now (subst (λ (n : Node). slice_get n.branches k ≡ Some c) (sym same) s)) taken in
+                let branch : c ≡ b = same_some
+                (subst (λ x. slice_get f.node.branches x ≡ Some c) now (subst (λ (n : Node). slice_get n.branches k ≡ Some c) (sym same) s)) taken in
                 elim handled [
                   | inl out ↦ inl (subst (λ (x : Branch). t.upto ≤ x.start) (sym branch) out)
                   | inr met ↦ inr (inl (
@@ -298,9 +335,11 @@ module _ {t : Trie} {from : ℕ} {marks : List Bool} {f : Frame} {fs : List Fram
       ]
     ]
 
-    pending_more : (first here : List Entry) → Lists t b.start (f.prefix ++ b.label) first → BranchesList t f.prefix (drop (suc f.next) f.node.branches) here → BranchesList t f.prefix (drop f.next f.node.branches) (first ++ here)
+    pending_more : (first here : List Entry) → Lists t b.start (f.prefix ++ b.label) first → BranchesList t f.prefix (drop (suc f.next) f.node.branches) here
+        → BranchesList t f.prefix (drop f.next f.node.branches) (first ++ here)
     pending_more first here one others =
-        subst (λ (bs : List Branch). BranchesList t f.prefix bs (first ++ here)) (sym some) (one_more one (subst (λ (bs : List Branch). BranchesList t f.prefix bs here) (sym rest_is) others) refl)
+        subst (λ (bs : List Branch). BranchesList t f.prefix bs (first ++ here)) (sym some)
+        (one_more one (subst (λ (bs : List Branch). BranchesList t f.prefix bs here) (sym rest_is) others) refl)
 
     -- a child that is nothing is passed
     pub passes : t.upto ≤ b.start → Walk t from marks (more f ∷ fs) found vs
@@ -388,7 +427,8 @@ module _ {t : Trie} {from : ℕ} {marks : List Bool} {f : Frame} {fs : List Fram
                 let whole = h.list (((own ++ p.0) ++ p.3.0) ++ p.3.1) (((own ++ p.0) ++ p.3.0), p.3.1, mine, p.3.3, refl) in
                 let same : found ++ (((own ++ p.0) ++ p.3.0) ++ p.3.1) ≡ (found ++ own) ++ es = rw (p.4, p.3.4) (simp append_assoc) in
                 subst (Lists t from []) same whole;
-            few = let long = length-append found (own_entries (f.prefix ++ b.label) node.own) in let one = few_own (f.prefix ++ b.label) node.own in let few = h.few in omega arith;
+            few = let long = length-append found (own_entries (f.prefix ++ b.label) node.own) in let one = few_own (f.prefix ++ b.label) node.own in
+                let few = h.few in omega arith;
           }
 
 -- the end of the walk

@@ -4,7 +4,8 @@ use Rattle.mach_dyld.proofs.BranchSteps.{goes_on, is_done, begins}
 use Rattle.mach_dyld.proofs.node.quick_test.Goals as goal
 
 pub loop-init : goal.loop-init
-loop-init c = let all : c.args.count - 0 ≡ c.args.count = omega arith in ([], rw all (begins (branches_at c.args.bytes.now c.args.from c.args.count c.args.first)))
+loop-init c = let all : c.args.count - 0 ≡ c.args.count = omega arith in
+    ([], rw all (begins (branches_at c.args.bytes.now c.args.from c.args.count c.args.first)))
 
 pub loop-preserved : goal.loop-preserved
 loop-preserved c =

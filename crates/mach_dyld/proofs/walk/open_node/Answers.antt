@@ -27,9 +27,9 @@ returns-in_err-branches-clause-err g c =
 pub returns-clause-ok : goal.returns-clause-ok
 returns-clause-ok g c = elim c.if-size-eq0.branch [
   | then-size-eq0 w ↦
-      rw w.found-is (opens_inner c.args.source.now _ _ _ c.in_ok-size.ensures.value _ _ w.if-size-eq0.true _ c.in_ok-branches.ensures.few c.in_ok-branches.ensures.readable
-      (rw w.place-is at c.in_ok-branches.ensures.value))
-  | else-size-eq0+in_ok-place w ↦
-      rw w.found-is (opens_terminal c.args.source.now _ _ _ c.in_ok-size.ensures.value _ _ _ _ w.if-size-eq0.false w.in_ok-place.ensures.ok _ c.in_ok-branches.ensures.few
+      rw w.found-is (opens_inner c.args.source.now _ _ _ c.in_ok-size.ensures.value _ _ w.if-size-eq0.true _ c.in_ok-branches.ensures.few
       c.in_ok-branches.ensures.readable (rw w.place-is at c.in_ok-branches.ensures.value))
+  | else-size-eq0+in_ok-place w ↦
+      rw w.found-is (opens_terminal c.args.source.now _ _ _ c.in_ok-size.ensures.value _ _ _ _ w.if-size-eq0.false w.in_ok-place.ensures.ok _
+      c.in_ok-branches.ensures.few c.in_ok-branches.ensures.readable (rw w.place-is at c.in_ok-branches.ensures.value))
 ]

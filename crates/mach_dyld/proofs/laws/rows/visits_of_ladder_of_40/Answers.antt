@@ -33,4 +33,5 @@ returns-clause-fault g c = met_again (0 ∷ []) (1 ∷ []) 10 one other (lit< tt
 
 pub returns-clause-visits : goal.returns-clause-visits
 returns-clause-visits g c = λ old new answer visits.
-    within_nodes (trie_of ladder_of_40 [] 0 404) 0 old new answer (tens 40 0) visits (λ path at l inside. all_among (trie_of ladder_of_40 [] 0 404) (tens 40 0) closed path 0 at (inl refl) l inside)
+    within_nodes (trie_of ladder_of_40 [] 0 404) 0 old new answer (tens 40 0) visits
+    (λ path at l inside. all_among (trie_of ladder_of_40 [] 0 404) (tens 40 0) closed path 0 at (inl refl) l inside)

@@ -9,6 +9,7 @@ unfolding imports_left
 returns c =
     let it = c.args.self.now in
     let k : it.state.count ≡ suc (it.state.count - 1) = omega arith in (
-      after_refusal (input_of it.source) (lazy_of it) (state_of it.state) (it.state.count - 1) malformed k c.requires.on c.requires.none ∙ ap (λ f. Err f ∷ []) (sym c.bind_error.ensures),
+      after_refusal (input_of it.source) (lazy_of it) (state_of it.state) (it.state.count - 1) malformed k c.requires.on c.requires.none
+          ∙ ap (λ f. Err f ∷ []) (sym c.bind_error.ensures),
       (at_end (input_of it.source) (lazy_of it) _ refl).items,
     )

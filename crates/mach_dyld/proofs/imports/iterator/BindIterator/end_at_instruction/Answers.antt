@@ -8,6 +8,7 @@ pub returns : goal.returns
 unfolding imports_left
 returns c =
     let it = c.args.self.now in (
-      after_fault (input_of it.source) (lazy_of it) (state_of it.state) c.requires.count c.requires.on (fault_of c.instruction_error.result) c.requires.within c.instruction_error.ensures,
+      after_fault (input_of it.source) (lazy_of it) (state_of it.state) c.requires.count c.requires.on (fault_of c.instruction_error.result)
+          c.requires.within c.instruction_error.ensures,
       (at_end (input_of it.source) (lazy_of it) _ refl).items,
     )
