@@ -1,17 +1,9 @@
 -- The import of a bind lies in the bind's segment.
-use Rattle.std.proofs.Common.{◌≡◌, ℕ, ◌+◌, ◌<◌, ◌^◌, List, [], ◌∷◌, map, Bool, true, false, Option, Some, None, Result, Ok, Err, refl, sym, ap, subst, ◌∙◌, arith, nat_lt, cond}
-use Rattle.std.specs.Prelude.{All, IfOk, slice_get}
-use Rattle.std.proofs.lemmas.Bool.{ltb-true}
+use Rattle.mach_dyld.proofs.Names.{◌≡◌, ℕ, ◌+◌, ◌<◌, ◌^◌, List, [], ◌∷◌, map, Bool, true, false, Option, Some, None, Result, Ok, Err, refl, sym, ap, subst, ◌∙◌}
+use Rattle.mach_dyld.proofs.Names.{arith, nat_lt, cond, All, IfOk, slice_get, ltb-true, ◌>>=◌, Fault, malformed, bind_ok, same_ok, Segment, Input, Range}
+use Rattle.mach_dyld.proofs.Names.{Placed, Bind, binds_of, Import, Target, holding, target_of, import_of, import_with, imports_in, input_in, found_or_malformed}
+use Rattle.mach_dyld.proofs.Names.{sum_of, fault_item, upto_fault}
 use Rattle.std.proofs.lemmas.List.Elements.{All-nil, All-cons, All-head, All-tail, All-append}
-use Rattle.mach_base.specs.Answer.{◌>>=◌}
-use Rattle.mach_base.specs.Fault.{Fault, malformed}
-use Rattle.mach_base.proofs.Binds.{bind_ok, same_ok}
-use Rattle.mach_parts.specs.declared.segment.Segment.{Segment}
-use Rattle.mach_dyld.specs.Streams.{Input, Range, Placed}
-use Rattle.mach_dyld.specs.Binds.{Bind, binds_of}
-use Rattle.mach_dyld.specs.Imports.{Import, Target, holding, target_of, import_of, import_with, imports_in, input_in}
-use Rattle.mach_base.specs.Sums.{found_or_malformed, sum_of}
-use Rattle.mach_dyld.specs.BindItems.{fault_item, upto_fault}
 use Rattle.mach_dyld.specs.BindAddresses.{LiesIn, LiesInSome, BindLiesIn, ListLiesIn, ItemsLieIn}
 
 -- ---- one bind

@@ -1,15 +1,10 @@
 -- A range that is cut behind a DONE.
-use Rattle.std.proofs.Common.{◌≡◌, ℕ, ◌+◌, ◌-◌, ◌*◌, ◌%◌, ◌^◌, ◌<◌, ◌≤◌, List, [], ◌∷◌, ◌++◌, map, Bool, true, false, Some, None, Result, Ok, Err, refl, sym, ap, subst, ◌∙◌, arith, zero-add}
-use Rattle.std.specs.Prelude.{pos}
-use Rattle.std.specs.List.{filter_map, range_with_len, cons_option, AllByRecursion}
-use Rattle.std.proofs.Common.{cond}
-use Rattle.std.proofs.lemmas.List.{map-append}
-use Rattle.mach_base.specs.Answer.{◌>>=◌}
-use Rattle.mach_base.specs.Fault.{Fault}
-use Rattle.mach_parts.specs.declared.segment.Segment.{Segment}
-use Rattle.mach_dyld.specs.Streams.{Input, Range, Placed, Follow, StandsIn, AllStand, stream_end, IsBeginning, IsStream}
-use Rattle.mach_dyld.specs.Binds.{Bind, is_done, sets_segment, nearer_than, nearest_or, done_after, bind_after, binds_at, binds_from, stride_in, count_in, library_in, flags_in, symbol_name_in, addend_in, segment_in, offset_in, advances}
-use Rattle.mach_dyld.specs.Imports.{Import, Target, import_of, imports_in, import_with, target_of, BindRanges, input_in, ListsImports}
+use Rattle.mach_dyld.proofs.Names.{◌≡◌, ℕ, ◌+◌, ◌-◌, ◌*◌, ◌%◌, ◌^◌, ◌<◌, ◌≤◌, List, [], ◌∷◌, ◌++◌, map, Bool, true, false, Some, None, Result, Ok, Err, refl}
+use Rattle.mach_dyld.proofs.Names.{sym, ap, subst, ◌∙◌, arith, zero-add, pos, filter_map, range_with_len, cons_option, AllByRecursion, cond, map-append, ◌>>=◌}
+use Rattle.mach_dyld.proofs.Names.{Fault, Segment, Input, Range, Placed, Follow, StandsIn, AllStand, stream_end, IsBeginning, IsStream, Bind, is_done}
+use Rattle.mach_dyld.proofs.Names.{sets_segment, nearer_than, nearest_or, done_after, bind_after, binds_at, binds_from, stride_in, count_in, library_in}
+use Rattle.mach_dyld.proofs.Names.{flags_in, symbol_name_in, addend_in, segment_in, offset_in, advances, Import, Target, import_of, imports_in, import_with}
+use Rattle.mach_dyld.proofs.Names.{target_of, BindRanges, input_in, ListsImports}
 use Rattle.mach_dyld.specs.BindCut.{HasList, ListsByStream, raised, front_range, rest_range, CutsBehindDone}
 use Rattle.mach_dyld.proofs.BindPlaces.{ends_after}
 use Rattle.mach_dyld.proofs.BindReading.{one_longest}

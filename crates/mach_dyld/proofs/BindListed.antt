@@ -1,15 +1,7 @@
 -- What a list of imports that ends at an error says, and one that ends with both streams.
-use Rattle.std.proofs.Common.{◌≡◌, ◌∙◌, ℕ, List, [], ◌∷◌, ◌++◌, Result, Err, sym, ap}
-use Rattle.mach_base.specs.Answer.{Stands}
-use Rattle.mach_base.specs.Fault.{Fault, fault_of}
-use Rattle.mach_base.specs.declared.error.Error.{Error}
-use Rattle.mach_base.proofs.Faults.{Stands-reported}
-use Rattle.mach_parts.specs.declared.segment.Segment.{Segment}
-use Rattle.mach_dyld.specs.Streams.{Placed}
-use Rattle.mach_dyld.specs.Imports.{Import, BindRanges, input_in, ListsImports}
-use Rattle.mach_dyld.specs.BindFault.{BindFault}
-use Rattle.mach_dyld.specs.BindItems.{AreBindItems}
-use Rattle.mach_dyld.specs.BindLeft.{input_of, lazy_of, state_of, imports_left, reads_left, IsAtEnd}
+use Rattle.mach_dyld.proofs.Names.{◌≡◌, ◌∙◌, ℕ, List, [], ◌∷◌, ◌++◌, Result, Err, sym, ap, Stands, Fault, fault_of, Error, Stands-reported, Segment, Placed}
+use Rattle.mach_dyld.proofs.Names.{Import, BindRanges, input_in, ListsImports, BindFault, AreBindItems, input_of, lazy_of, state_of, imports_left, reads_left}
+use Rattle.mach_dyld.proofs.Names.{IsAtEnd}
 use Rattle.mach_dyld.specs.declared.imports.iterator.BindIterator.{BindIterator}
 use Rattle.mach_dyld.proofs.BindLists.{oks, stands_from_items, items_from_list, no_error}
 use Rattle.mach_dyld.proofs.BindSteps.{NothingLeft, after_range}

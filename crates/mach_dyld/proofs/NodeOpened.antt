@@ -1,20 +1,9 @@
 -- A node that is opened, from the parts in which it is read.
-use Rattle.std.proofs.Common.{◌≡◌, ◌≢◌, ◌≤◌, ℕ, eqb, false, List, None, Some, length, Result, Ok, Err, refl, sym, ◌∙◌}
-use Rattle.std.proofs.lemmas.Bool.{ne_eqb}
-use Rattle.std.proofs.lemmas.List.{append-nil}
-use Rattle.mach_base.specs.declared.error.Error.{Error}
+use Rattle.mach_dyld.proofs.Names.{◌≡◌, ◌≢◌, ◌≤◌, ℕ, eqb, false, List, None, Some, length, Result, Ok, Err, refl, sym, ◌∙◌, ne_eqb, append-nil, Error, ◌>>=◌}
+use Rattle.mach_dyld.proofs.Names.{FailsAs, Fault, uleb_at, FailsAs-read, fault_of, Info, Branch, Node, Entry, children_at, terminal_at, inner_at, node_at}
+use Rattle.mach_dyld.proofs.Names.{branches_of, AreReadable, node_in, own_in, ListsOwn, OpensNode, Source}
 use Rattle.mach_base.specs.declared.error.Error.TheVariants as errors
-use Rattle.mach_base.specs.Answer.{◌>>=◌, FailsAs}
-use Rattle.mach_base.specs.Fault.{Fault}
-use Rattle.mach_base.specs.Leb128.{uleb_at}
-use Rattle.mach_base.proofs.Faults.{FailsAs-read}
-use Rattle.mach_base.specs.Fault.{fault_of}
-use Rattle.mach_dyld.specs.Trie.{Info, Branch, Node, Entry}
-use Rattle.mach_dyld.specs.Nodes.{children_at, terminal_at, inner_at, node_at}
-use Rattle.mach_dyld.specs.NodeViews.{branches_of, AreReadable}
-use Rattle.mach_dyld.specs.WalkViews.{node_in, own_in, ListsOwn, OpensNode}
 use Rattle.mach_dyld.specs.declared.node.Branches.{Branches}
-use Rattle.mach_dyld.specs.declared.walk.Source.{Source}
 
 -- an error of one thing is one of what follows from it
 pub FailsAs-first : {X Y : Type 0} (e : Error) (first : Result X Fault) (all : Result Y Fault) → ((f : Fault) → first ≡ Err f → all ≡ Err f) → FailsAs e first

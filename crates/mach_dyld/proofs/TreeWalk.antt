@@ -1,14 +1,9 @@
 -- A walk of the trie: what was visited, what the open nodes still have to list, turn by turn.
-use Rattle.std.proofs.Common.{◌≡◌, ◌<◌, ◌≤◌, ◌+◌, ◌-◌, ℕ, zero, suc, Bool, true, false, cond, List, [], ◌∷◌, ◌++◌, ◌⊎◌, inl, inr, length, drop, set, get_or, Option, Some, None, Ok, refl, sym, ap, subst, ◌∙◌, arith, length-set, length-append, append_assoc, count_by, map, replicate}
-use Rattle.std.specs.Prelude.{slice_get}
-use Rattle.std.proofs.lemmas.Bool.{cases_eq}
-use Rattle.std.proofs.lemmas.List.{append-nil, append_cancel_left, length-replicate, get_or-set_same, get_or-set_other}
-use Rattle.std.proofs.lemmas.List.Sums.{sum_by-set, count_by-le-length}
-use Rattle.mach_dyld.specs.Trie.{Info, Branch, Node, Trie, Entry, own_entries}
-use Rattle.mach_dyld.specs.Lists.{Lists, BranchesList, nothing, a_node, no_more, one_more}
-use Rattle.mach_dyld.specs.Paths.{Leads, Path, IsTree}
-use Rattle.mach_base.specs.Among.{IsAmong}
-use Rattle.mach_dyld.specs.Visits.{AreApart}
+use Rattle.mach_dyld.proofs.Names.{◌≡◌, ◌<◌, ◌≤◌, ◌+◌, ◌-◌, ℕ, zero, suc, Bool, true, false, cond, List, [], ◌∷◌, ◌++◌, ◌⊎◌, inl, inr, length, drop, set}
+use Rattle.mach_dyld.proofs.Names.{get_or, Option, Some, None, Ok, refl, sym, ap, subst, ◌∙◌, arith, length-set, length-append, append_assoc, count_by, map}
+use Rattle.mach_dyld.proofs.Names.{replicate, slice_get, cases_eq, append-nil, append_cancel_left, length-replicate, get_or-set_same, get_or-set_other}
+use Rattle.mach_dyld.proofs.Names.{sum_by-set, count_by-le-length, Info, Branch, Node, Trie, Entry, own_entries, Lists, BranchesList, nothing, a_node, no_more}
+use Rattle.mach_dyld.proofs.Names.{one_more, Leads, Path, IsTree, IsAmong, AreApart}
 use Rattle.mach_dyld.proofs.TriePaths.{same_node, same_some, leads_to_one, leads_inside, Leads-append, drop_head, nothing_there}
 
 -- visits

@@ -1,8 +1,6 @@
 -- Where paths of the trie lead.
-use Rattle.std.proofs.Common.{◌≡◌, ◌<◌, ◌≤◌, ℕ, zero, suc, List, [], ◌∷◌, ◌++◌, drop, Option, Some, Ok, sym, subst, ◌∙◌, arith}
-use Rattle.std.specs.Prelude.{slice_get, Result}
-use Rattle.mach_dyld.specs.Trie.{Branch, Node, Trie}
-use Rattle.mach_dyld.specs.Paths.{Leads}
+use Rattle.mach_dyld.proofs.Names.{◌≡◌, ◌<◌, ◌≤◌, ℕ, zero, suc, List, [], ◌∷◌, ◌++◌, drop, Option, Some, Ok, sym, subst, ◌∙◌, arith, slice_get, Result, Branch}
+use Rattle.mach_dyld.proofs.Names.{Node, Trie, Leads}
 
 pub same_node : {X E : Type 0} {x y : X} {r : Result X E} → r ≡ Ok x → r ≡ Ok y → x ≡ y
 same_node a b = cc

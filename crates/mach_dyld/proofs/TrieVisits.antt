@@ -1,13 +1,7 @@
 -- How many visits a walk of the trie makes.
-use Rattle.std.proofs.Common.{◌≡◌, ◌≤◌, ◌<◌, ◌+◌, ◌↔◌, ℕ, zero, suc, Bool, true, false, cond, eqb, nat_le, List, [], ◌∷◌, ◌⊎◌, inl, inr, length, Some, Result, Ok, Err, refl, sym, ap, subst, ◌∙◌, arith}
-use Rattle.std.specs.Prelude.{slice_get}
-use Rattle.std.proofs.lemmas.Bool.{cases_Bool, eqb-true, leb-true}
-use Rattle.mach_base.specs.Fault.{Fault}
-use Rattle.mach_dyld.specs.Trie.{Branch, Node, Trie}
-use Rattle.mach_dyld.specs.Paths.{Leads, Path, Before}
-use Rattle.mach_dyld.specs.TerminalPaths.{AreInOrder}
-use Rattle.mach_base.specs.Among.{IsAmong}
-use Rattle.mach_dyld.specs.Visits.{AreApart, Visits}
+use Rattle.mach_dyld.proofs.Names.{◌≡◌, ◌≤◌, ◌<◌, ◌+◌, ◌↔◌, ℕ, zero, suc, Bool, true, false, cond, eqb, nat_le, List, [], ◌∷◌, ◌⊎◌, inl, inr, length, Some}
+use Rattle.mach_dyld.proofs.Names.{Result, Ok, Err, refl, sym, ap, subst, ◌∙◌, arith, slice_get, cases_Bool, eqb-true, leb-true, Fault, Branch, Node, Trie}
+use Rattle.mach_dyld.proofs.Names.{Leads, Path, Before, AreInOrder, IsAmong, AreApart, Visits}
 use Rattle.mach_dyld.proofs.TriePaths.{leads_inside}
 
 -- the others in a list, with one left out

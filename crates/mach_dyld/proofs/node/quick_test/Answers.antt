@@ -1,5 +1,4 @@
-use Rattle.std.proofs.Common.{◌≡◌, refl, ◌-◌, ◌++◌, ◌∷◌, [], arith}
-use Rattle.mach_dyld.specs.Nodes.{branches_at}
+use Rattle.mach_dyld.proofs.Names.{◌≡◌, refl, ◌-◌, ◌++◌, ◌∷◌, [], arith, branches_at}
 use Rattle.mach_dyld.proofs.BranchSteps.{goes_on, is_done, begins}
 use Rattle.mach_dyld.proofs.node.quick_test.Goals as goal
 

@@ -1,6 +1,4 @@
-use Rattle.std.proofs.Common.{◌≡◌, ◌-◌, List}
-use Rattle.mach_dyld.specs.Trie.{Branch}
-use Rattle.mach_dyld.specs.Nodes.{branches_at}
+use Rattle.mach_dyld.proofs.Names.{◌≡◌, ◌-◌, List, Branch, branches_at}
 use Rattle.mach_dyld.proofs.BranchSteps.{with_front}
 use Rattle.mach_dyld.proofs.node.quick_test.Given as goal
 

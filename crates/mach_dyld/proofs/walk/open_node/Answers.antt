@@ -1,4 +1,4 @@
-use Rattle.std.proofs.lemmas.Result.{err_from_is_err_and}
+use Rattle.mach_dyld.proofs.Names.{err_from_is_err_and}
 use Rattle.mach_dyld.proofs.NodeOpened.{no_size, no_own, no_branches, no_branches_behind, opens_inner, opens_terminal}
 use Rattle.mach_dyld.proofs.walk.open_node.Goals as goal
 use Rattle.mach_dyld.proofs.walk.open_node.Goals.{then-size-eq0, else-size-eq0+in_ok-place}

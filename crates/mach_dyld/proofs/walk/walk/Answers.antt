@@ -1,9 +1,5 @@
-use Rattle.std.proofs.Common.{◌≡◌, ◌<◌, ◌-◌, ◌∙◌, [], ◌∷◌, List, length, set, reverse, replicate, Bool, true, false, refl, sym, ap, subst, arith}
-use Rattle.std.proofs.lemmas.Result.{err_from_is_err_and}
-use Rattle.std.specs.Str.{IsUtf8}
-use Rattle.mach_base.proofs.Faults.{Stands-failed}
-use Rattle.mach_dyld.specs.Exports.{entries}
-use Rattle.mach_dyld.specs.WalkViews.{node_in, fault_in, OpensNode}
+use Rattle.mach_dyld.proofs.Names.{◌≡◌, ◌<◌, ◌-◌, ◌∙◌, [], ◌∷◌, List, length, set, reverse, replicate, Bool, true, false, refl, sym, ap, subst, arith}
+use Rattle.mach_dyld.proofs.Names.{err_from_is_err_and, IsUtf8, Stands-failed, entries, node_in, fault_in, OpensNode}
 use Rattle.mach_dyld.proofs.WalkTurns as turn
 use Rattle.mach_dyld.proofs.WalkTurns.{Holds, emptied, popped, next_of, work, less_opened}
 use Rattle.mach_dyld.proofs.walk.walk.Goals as goal

@@ -1,11 +1,5 @@
-use Rattle.std.proofs.Common.{◌≡◌, ◌∙◌, ◌+◌, ◌++◌, ap, refl, arith, length}
-use Rattle.std.proofs.lemmas.Result.{err_from_is_err_and}
-use Rattle.std.proofs.lemmas.List.{append-nil}
-use Rattle.mach_base.specs.Context.{pointer_size}
-use Rattle.mach_dyld.specs.Imports.{input_in}
-use Rattle.mach_dyld.specs.BindViews.{imports_seen}
-use Rattle.mach_dyld.specs.Exports.{texts}
-use Rattle.mach_dyld.specs.BindLeft.{imports_left}
+use Rattle.mach_dyld.proofs.Names.{◌≡◌, ◌∙◌, ◌+◌, ◌++◌, ap, refl, arith, length, err_from_is_err_and, append-nil, pointer_size, input_in, imports_seen, texts}
+use Rattle.mach_dyld.proofs.Names.{imports_left}
 use Rattle.mach_dyld.proofs.BindLists.{oks, list_from_items, beginnings_have}
 use Rattle.mach_dyld.proofs.BindListed.{refuses, has_none, none_at_end, no_reads_at_end}
 use Rattle.mach_dyld.proofs.imports.BindInterpreter.imports_counted.Goals as goal

@@ -1,6 +1,4 @@
-use Rattle.std.proofs.Common.{◌≡◌, ◌≤◌, ◌+◌, ◌++◌, length, false}
-use Rattle.mach_dyld.specs.BindViews.{imports_seen}
-use Rattle.mach_dyld.specs.BindLeft.{imports_left, reads_left}
+use Rattle.mach_dyld.proofs.Names.{◌≡◌, ◌≤◌, ◌+◌, ◌++◌, length, false, imports_seen, imports_left, reads_left}
 use Rattle.mach_dyld.proofs.BindLists.{oks}
 use Rattle.mach_dyld.proofs.imports.BindInterpreter.imports_counted.Given as goal
 

@@ -1,6 +1,4 @@
-use Rattle.std.proofs.Common.{◌≡◌, suc, ◌-◌, ◌∷◌, [], ◌∙◌, refl, sym, ap, arith, Err}
-use Rattle.mach_base.specs.Fault.{malformed}
-use Rattle.mach_dyld.specs.BindLeft.{input_of, lazy_of, state_of, imports_left}
+use Rattle.mach_dyld.proofs.Names.{◌≡◌, suc, ◌-◌, ◌∷◌, [], ◌∙◌, refl, sym, ap, arith, Err, malformed, input_of, lazy_of, state_of, imports_left}
 use Rattle.mach_dyld.proofs.BindSteps.{at_end, after_refusal}
 use Rattle.mach_dyld.proofs.imports.iterator.BindIterator.end_at_bind.Goals as goal
 

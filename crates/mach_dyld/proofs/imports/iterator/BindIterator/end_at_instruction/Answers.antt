@@ -1,6 +1,4 @@
-use Rattle.std.proofs.Common.{refl}
-use Rattle.mach_base.specs.Fault.{fault_of}
-use Rattle.mach_dyld.specs.BindLeft.{input_of, lazy_of, state_of, imports_left}
+use Rattle.mach_dyld.proofs.Names.{refl, fault_of, input_of, lazy_of, state_of, imports_left}
 use Rattle.mach_dyld.proofs.BindSteps.{at_end, after_fault}
 use Rattle.mach_dyld.proofs.imports.iterator.BindIterator.end_at_instruction.Goals as goal
 
