@@ -82,7 +82,7 @@ module _ (b : BindRanges) (pointer : ℕ) (libs : List (List ℕ)) (xs ys : List
   same_stands upto (p ∷ ps) all = (record { within = all.0.within; read = all.0.read }, same_stands upto ps all.1)
 
   same_beginning : (r : Range) (ps : List Placed) → IsBeginning x r ps → IsBeginning y r ps
-  same_beginning r ps h = record { first = h.first; neighbours = h.neighbours; stand = same_stands r.upto ps h.stand }
+  same_beginning r ps h = record { follow = h.follow; stand = same_stands r.upto ps h.stand }
 
   same_stream : (r : Range) (ps : List Placed) → IsStream x r ps → IsStream y r ps
   same_stream r ps h = record { beginning = same_beginning r ps h.beginning; whole = h.whole }

@@ -1,17 +1,9 @@
 -- The import of a bind lies in the bind's segment.
-use Rattle.std.proofs.Common.{◌≡◌, ℕ, ◌+◌, ◌<◌, ◌^◌, List, [], ◌∷◌, map, Bool, true, false, Option, Some, None, Result, Ok, Err, refl, sym, ap, subst, ◌∙◌, arith, nat_lt, cond}
-use Rattle.std.specs.Prelude.{All, IfOk, slice_get}
-use Rattle.std.proofs.lemmas.Bool.{ltb-true}
+use Rattle.mach_dyld.proofs.Names.{◌≡◌, ℕ, ◌+◌, ◌<◌, ◌^◌, List, [], ◌∷◌, map, Bool, true, false, Option, Some, None, Result, Ok, Err, refl, sym, ap, subst, ◌∙◌}
+use Rattle.mach_dyld.proofs.Names.{arith, nat_lt, cond, All, IfOk, slice_get, ltb-true, ◌>>=◌, Fault, malformed, bind_ok, same_ok, Segment, Input, Range}
+use Rattle.mach_dyld.proofs.Names.{Placed, Bind, binds_of, Import, Target, holding, target_of, import_of, import_with, imports_in, input_in, found_or_malformed}
+use Rattle.mach_dyld.proofs.Names.{sum_of, fault_item, upto_fault}
 use Rattle.std.proofs.lemmas.List.Elements.{All-nil, All-cons, All-head, All-tail, All-append}
-use Rattle.mach_base.specs.Answer.{◌>>=◌}
-use Rattle.mach_base.specs.Fault.{Fault, malformed}
-use Rattle.mach_base.proofs.Binds.{bind_ok, same_ok}
-use Rattle.mach_parts.specs.declared.segment.Segment.{Segment}
-use Rattle.mach_dyld.specs.Streams.{Input, Range, Placed}
-use Rattle.mach_dyld.specs.Binds.{Bind, binds_of}
-use Rattle.mach_dyld.specs.Imports.{Import, Target, holding, target_of, import_of, import_with, imports_in, input_in}
-use Rattle.mach_base.specs.Sums.{found_or_malformed, sum_of}
-use Rattle.mach_dyld.specs.BindItems.{fault_item, upto_fault}
 use Rattle.mach_dyld.specs.BindAddresses.{LiesIn, LiesInSome, BindLiesIn, ListLiesIn, ItemsLieIn}
 
 -- ---- one bind
@@ -43,7 +35,9 @@ summed_at dylib offset s = sum_of s.fileoff offset >>= λ (o : ℕ). sum_of s.vm
 target_lies : (x : Input) (number k offset : ℕ) (t : Target) → target_of x number k offset ≡ Ok t → LiesIn x.segments k t.address
 unfolding target_of
 target_lies x number k offset t e =
-    let a = bind_ok (found_or_malformed (slice_get x.libs number)) (λ (dylib : List ℕ). found_or_malformed (slice_get x.segments k) >>= λ (s : Segment). holding offset s >>= λ (h : Segment). summed_at dylib offset h) t e in
+    let a = bind_ok (found_or_malformed (slice_get x.libs number))
+    (λ (dylib : List ℕ). found_or_malformed (slice_get x.segments k)
+    >>= λ (s : Segment). holding offset s >>= λ (h : Segment). summed_at dylib offset h) t e in
     let b = bind_ok (found_or_malformed (slice_get x.segments k)) (λ (s : Segment). holding offset s >>= λ (h : Segment). summed_at a.0 offset h) t a.2 in
     let c = bind_ok (holding offset b.0) (λ (h : Segment). summed_at a.0 offset h) t b.2 in
     let o = bind_ok (sum_of c.0.fileoff offset) (λ (o : ℕ). sum_of c.0.vmaddr offset >>= λ (v : ℕ). target_at a.0 o v) t c.2 in
@@ -93,7 +87,8 @@ Lies x i = LiesInSome x.segments i.address
 
 listed_lie : (x : Input) (list : List Import) → All (ItemLies x) (map Ok list) → All (Lies x) list
 listed_lie x [] h = All-nil (Lies x)
-listed_lie x (i ∷ list) h = All-cons (Lies x) i list (All-head (ItemLies x) (Ok i) (map Ok list) h) (listed_lie x list (All-tail (ItemLies x) (Ok i) (map Ok list) h))
+listed_lie x (i ∷ list) h =
+    All-cons (Lies x) i list (All-head (ItemLies x) (Ok i) (map Ok list) h) (listed_lie x list (All-tail (ItemLies x) (Ok i) (map Ok list) h))
 
 pub list_lies : ListLiesIn
 list_lies b pointer libs segments list l =

@@ -1,19 +1,16 @@
 -- A range that is cut behind a DONE.
-use Rattle.std.proofs.Common.{◌≡◌, ℕ, ◌+◌, ◌-◌, ◌*◌, ◌%◌, ◌^◌, ◌<◌, ◌≤◌, List, [], ◌∷◌, ◌++◌, map, Bool, true, false, Some, None, Result, Ok, Err, refl, sym, ap, subst, ◌∙◌, arith, zero-add}
-use Rattle.std.specs.Prelude.{pos}
-use Rattle.std.specs.List.{filter_map, range_with_len, cons_option}
-use Rattle.std.proofs.Common.{cond}
-use Rattle.std.proofs.lemmas.List.{map-append}
-use Rattle.mach_base.specs.Answer.{◌>>=◌}
-use Rattle.mach_base.specs.Fault.{Fault}
-use Rattle.mach_dyld.specs.Streams.{Input, Range, Placed, StandsIn, AllStand, stream_end, IsBeginning, IsStream}
-use Rattle.mach_dyld.specs.Binds.{Bind, is_done, sets_segment, nearer_than, nearest_or, done_after, bind_after, binds_at, binds_from, stride_in, count_in, library_in, flags_in, name_in, addend_in, segment_in, offset_in, advances}
-use Rattle.mach_dyld.specs.Imports.{Import, Target, import_of, imports_in, import_with, target_of, input_in, ListsImports}
+use Rattle.mach_dyld.proofs.Names.{◌≡◌, ℕ, ◌+◌, ◌-◌, ◌*◌, ◌%◌, ◌^◌, ◌<◌, ◌≤◌, List, [], ◌∷◌, ◌++◌, map, Bool, true, false, Some, None, Result, Ok, Err, refl}
+use Rattle.mach_dyld.proofs.Names.{sym, ap, subst, ◌∙◌, arith, zero-add, pos, filter_map, range_with_len, cons_option, AllByRecursion, cond, map-append, ◌>>=◌}
+use Rattle.mach_dyld.proofs.Names.{Fault, Segment, Input, Range, Placed, Follow, StandsIn, AllStand, stream_end, IsBeginning, IsStream, Bind, is_done}
+use Rattle.mach_dyld.proofs.Names.{sets_segment, nearer_than, nearest_or, done_after, bind_after, binds_at, binds_from, stride_in, count_in, library_in}
+use Rattle.mach_dyld.proofs.Names.{flags_in, symbol_name_in, addend_in, segment_in, offset_in, advances, Import, Target, import_of, imports_in, import_with}
+use Rattle.mach_dyld.proofs.Names.{target_of, BindRanges, input_in, ListsImports}
 use Rattle.mach_dyld.specs.BindCut.{HasList, ListsByStream, raised, front_range, rest_range, CutsBehindDone}
 use Rattle.mach_dyld.proofs.BindPlaces.{ends_after}
-use Rattle.mach_dyld.proofs.BindReading.{Follow, follows, first_from, neighbours_from, one_longest}
+use Rattle.mach_dyld.proofs.BindReading.{one_longest}
 use Rattle.mach_dyld.proofs.BindLists.{longest_stream}
 use Rattle.mach_dyld.proofs.BindTotal.{behind, onto, binds-append}
+use Rattle.mach_dyld.proofs.BindLast.{all-append}
 
 abbrev Item : Type 0
 Item = Result Import Fault
@@ -49,27 +46,15 @@ follow_behind : (place : ℕ) (ps qs : List Placed) → Follow place (ps ++ qs) 
 follow_behind place [] qs f = f
 follow_behind place (p ∷ ps) qs f = follow_behind p.after ps qs f.1
 
-stand-append : (x : Input) (upto : ℕ) (ps qs : List Placed) → AllStand x upto ps → AllStand x upto qs → AllStand x upto (ps ++ qs)
-stand-append x upto [] qs a b = b
-stand-append x upto (p ∷ ps) qs a b = (a.0, stand-append x upto ps qs a.1 b)
-
 stand_behind : (x : Input) (upto : ℕ) (ps qs : List Placed) → AllStand x upto (ps ++ qs) → AllStand x upto qs
 stand_behind x upto [] qs a = a
 stand_behind x upto (p ∷ ps) qs a = stand_behind x upto ps qs a.1
 
-begins : (x : Input) (r : Range) (ps : List Placed) → AllStand x r.upto ps → Follow r.from ps → IsBeginning x r ps
-begins x r ps a f = record { first = first_from r.from ps f; neighbours = neighbours_from r.from ps f; stand = a }
-
 -- ---- looking back no further than a DONE
 
 -- none of them ends before the place
-EndPast : ℕ → List Placed → Type 0
-EndPast cut [] = Unit {0}
-EndPast cut (p ∷ back) = (cut ≤ p.after) × EndPast cut back
-
-past_nil : (cut : ℕ) → EndPast cut []
-unfolding EndPast
-past_nil cut = tt
+abbrev EndPast : ℕ → List Placed → Type 0
+EndPast cut back = AllByRecursion (λ p. cut ≤ p.after) back
 
 nearer-done : (back : List Placed) (d : Placed) (far : List Placed) → is_done d ≡ true → nearer_than is_done (back ++ d ∷ far) ≡ nearer_than is_done back
 nearer-done [] d far e = ap (λ t. cond t [] (d ∷ nearer_than is_done far)) e
@@ -82,11 +67,11 @@ sequence_by from cut p false xs ys h k e = e
 
 sequence-done : (from : ℕ) (back : List Placed) (d : Placed) (far : List Placed) → is_done d ≡ true → from ≤ d.after → EndPast d.after back
     → nearest_or 0 (filter_map (done_after from) (back ++ d ∷ far)) ≡ nearest_or 0 (filter_map (done_after d.after) back) + (d.after - from)
-unfolding EndPast
 sequence-done from [] d far e h past =
     ap (λ t. nearest_or 0 (cons_option (cond t (Some (d.after - from)) None) (filter_map (done_after from) far))) e ∙ sym (zero-add (d.after - from))
 sequence-done from (p ∷ back) d far e h past =
-    sequence_by from d.after p (is_done p) (filter_map (done_after from) (back ++ d ∷ far)) (filter_map (done_after d.after) back) h past.0 (sequence-done from back d far e h past.1)
+    sequence_by from d.after p (is_done p) (filter_map (done_after from) (back ++ d ∷ far)) (filter_map (done_after d.after) back) h past.0
+    (sequence-done from back d far e h past.1)
 
 abbrev raise : ℕ → Bind → Bind
 raise n b = record b { sequence = b.sequence + n }
@@ -96,30 +81,35 @@ parts pointer r near own sequence = record {
   is_lazy = r.is_lazy;
   library = nearest_or 0 (filter_map library_in near);
   flags = nearest_or 0 (filter_map flags_in near);
-  name = nearest_or [] (filter_map name_in near);
+  name = nearest_or [] (filter_map symbol_name_in near);
   addend = nearest_or (pos 0) (filter_map addend_in near);
   segment = nearest_or 0 (filter_map segment_in near);
   offset = (nearest_or 0 (filter_map offset_in near) + advances pointer (nearer_than sets_segment near) + own) % 2 ^ 64;
   sequence = sequence;
 }
 
-bind-done : (pointer : ℕ) (r : Range) (back : List Placed) (d : Placed) (far : List Placed) (own : ℕ) → is_done d ≡ true → r.from ≤ d.after → EndPast d.after back
+bind-done : (pointer : ℕ) (r : Range) (back : List Placed) (d : Placed) (far : List Placed) (own : ℕ) → is_done d ≡ true → r.from ≤ d.after
+    → EndPast d.after back
     → bind_after pointer r (back ++ d ∷ far) own ≡ raise (d.after - r.from) (bind_after pointer (rest_range r d.after) back own)
 unfolding bind_after
 bind-done pointer r back d far own e h past =
     ap (λ near. parts pointer r near own (nearest_or 0 (filter_map (done_after r.from) (back ++ d ∷ far)))) (nearer-done back d far e)
     ∙ ap (parts pointer r (nearer_than is_done back) own) (sequence-done r.from back d far e h past)
 
-strides-done : (pointer : ℕ) (r : Range) (back : List Placed) (d : Placed) (far : List Placed) (s : ℕ) (js : List ℕ) → is_done d ≡ true → r.from ≤ d.after → EndPast d.after back
-    → map (λ j. bind_after pointer r (back ++ d ∷ far) (j * s)) js ≡ map (raise (d.after - r.from)) (map (λ j. bind_after pointer (rest_range r d.after) back (j * s)) js)
+strides-done : (pointer : ℕ) (r : Range) (back : List Placed) (d : Placed) (far : List Placed) (s : ℕ) (js : List ℕ) → is_done d ≡ true → r.from ≤ d.after
+    → EndPast d.after back
+    → map (λ j. bind_after pointer r (back ++ d ∷ far) (j * s)) js ≡ map (raise (d.after - r.from))
+    (map (λ j. bind_after pointer (rest_range r d.after) back (j * s)) js)
 strides-done pointer r back d far s [] e h past = refl
 strides-done pointer r back d far s (j ∷ js) e h past =
     ap (λ b. b ∷ map (λ j. bind_after pointer r (back ++ d ∷ far) (j * s)) js) (bind-done pointer r back d far (j * s) e h past)
     ∙ ap (λ bs. raise (d.after - r.from) (bind_after pointer (rest_range r d.after) back (j * s)) ∷ bs) (strides-done pointer r back d far s js e h past)
 
-binds-done : (x : Input) (r : Range) (upto : ℕ) (back : List Placed) (d : Placed) (far : List Placed) (place : ℕ) (ps : List Placed) → is_done d ≡ true → r.from ≤ d.after → EndPast d.after back → d.after ≤ place
-    → Follow place ps → AllStand x upto ps → binds_from x.pointer r (back ++ d ∷ far) ps ≡ map (raise (d.after - r.from)) (binds_from x.pointer (rest_range r d.after) back ps)
-unfolding binds_from EndPast
+binds-done : (x : Input) (r : Range) (upto : ℕ) (back : List Placed) (d : Placed) (far : List Placed) (place : ℕ) (ps : List Placed) → is_done d ≡ true
+    → r.from ≤ d.after → EndPast d.after back → d.after ≤ place
+    → Follow place ps → AllStand x upto ps
+    → binds_from x.pointer r (back ++ d ∷ far) ps ≡ map (raise (d.after - r.from)) (binds_from x.pointer (rest_range r d.after) back ps)
+unfolding binds_from
 binds-done x r upto back d far place [] e h past k f a = refl
 binds-done x r upto back d far place (p ∷ ps) e h past k f a =
     let here = strides-done x.pointer r back d far (stride_in x.pointer p) (range_with_len 0 (count_in p)) e h past in
@@ -157,17 +147,20 @@ import-raised x n b = target_raised n b (target_of x b.library b.segment b.offse
 
 imports-raised : (x : Input) (n : ℕ) (bs : List Bind) → map (import_of x) (map (raise n) bs) ≡ map (raise_item n) (map (import_of x) bs)
 imports-raised x n [] = refl
-imports-raised x n (b ∷ bs) = ap (λ i. i ∷ map (import_of x) (map (raise n) bs)) (import-raised x n b) ∙ ap (λ ys. raise_item n (import_of x b) ∷ ys) (imports-raised x n bs)
+imports-raised x n (b ∷ bs) = ap (λ i. i ∷ map (import_of x) (map (raise n) bs)) (import-raised x n b)
+    ∙ ap (λ ys. raise_item n (import_of x b) ∷ ys) (imports-raised x n bs)
 
 -- the imports of a range whose first instructions end with a DONE
-imports_cut : (x : Input) (r : Range) (upto : ℕ) (front : List Placed) (d : Placed) (rest : List Placed) → is_done d ≡ true → r.from ≤ d.after → Follow d.after rest → AllStand x upto rest
-    → imports_in x r ((front ++ d ∷ []) ++ rest) ≡ imports_in x (front_range r d.after) (front ++ d ∷ []) ++ map (raise_item (d.after - r.from)) (imports_in x (rest_range r d.after) rest)
+imports_cut : (x : Input) (r : Range) (upto : ℕ) (front : List Placed) (d : Placed) (rest : List Placed) → is_done d ≡ true → r.from ≤ d.after
+    → Follow d.after rest → AllStand x upto rest
+    → imports_in x r ((front ++ d ∷ []) ++ rest) ≡ imports_in x (front_range r d.after) (front ++ d ∷ []) ++ map (raise_item (d.after - r.from))
+    (imports_in x (rest_range r d.after) rest)
 unfolding imports_in
 imports_cut x r upto front d rest e h f a =
     let n = d.after - r.from in
     let one = binds-append x.pointer r [] (front ++ d ∷ []) rest in
     let two = onto-push front d [] in
-    let three = binds-done x r upto [] d (onto front []) d.after rest e h (past_nil d.after) (omega arith) f a in
+    let three = binds-done x r upto [] d (onto front []) d.after rest e h tt (omega arith) f a in
     let bs : List Bind = binds_from x.pointer r [] (front ++ d ∷ []) in
     let cs : List Bind = binds_from x.pointer (rest_range r d.after) [] rest in
     ap (map (import_of x)) (one ∙ ap (λ back. bs ++ binds_from x.pointer r back rest) two ∙ ap (λ ys. bs ++ ys) three)
@@ -191,9 +184,17 @@ parts_of (a ∷ ys) bs (i ∷ list) e =
     let tail : ys ++ bs ≡ map Ok list = cc in
     let head : a ≡ Ok i = cc in
     let more = parts_of ys bs list tail in
-    record { front = i ∷ more.front; back = more.back; is_front = ap (λ y. y ∷ ys) head ∙ ap (λ ys. Ok i ∷ ys) more.is_front; is_back = more.is_back; joined = ap (λ l. i ∷ l) more.joined }
+    record {
+      front = i ∷ more.front;
+      back = more.back;
+      is_front = ap (λ y. y ∷ ys) head
+          ∙ ap (λ ys. Ok i ∷ ys) more.is_front;
+      is_back = more.is_back;
+      joined = ap (λ l. i ∷ l) more.joined;
+    }
 
-lowered : (n : ℕ) (items : List Item) (list : List Import) → map (raise_item n) items ≡ map Ok list → (low : List Import) × (items ≡ map Ok low) × (list ≡ map (raised n) low)
+lowered : (n : ℕ) (items : List Item) (list : List Import) → map (raise_item n) items ≡ map Ok list → (low : List Import) × (items ≡ map Ok low)
+    × (list ≡ map (raised n) low)
 lowered n [] [] e = ([], refl, refl)
 lowered n [] (i ∷ list) e = cc
 lowered n (y ∷ items) [] e = cc
@@ -210,28 +211,25 @@ raised_oks n (i ∷ low) = ap (λ ys. Ok (raised n i) ∷ ys) (raised_oks n low)
 
 -- ---- the lists of both streams
 
-pub lists_by_stream_lem : ListsByStream
-lists_by_stream_lem b pointer libs segments list = (apart, together)
-  where
-    apart : ListsImports b pointer libs segments list
-        → (one : List Import) × (two : List Import) × HasList (input_in b pointer libs segments) b.non_lazy one × HasList (input_in b pointer libs segments) b.lazy two × (list ≡ one ++ two)
-    apart l =
-        let x = input_in b pointer libs segments in
-        let p = parts_of (imports_in x b.non_lazy l.0) (imports_in x b.lazy l.1) list l.2.each in
-        (p.front, p.back, (l.0, l.2.stream, p.is_front), (l.1, l.2.lazy_stream, p.is_back), p.joined)
+module _ (b : BindRanges) (pointer : ℕ) (libs : List (List ℕ)) (segments : List Segment) (list : List Import) where
+  abbrev input : Input
+  input = input_in b pointer libs segments
 
-    together : ((one : List Import) × (two : List Import) × HasList (input_in b pointer libs segments) b.non_lazy one × HasList (input_in b pointer libs segments) b.lazy two × (list ≡ one ++ two))
-        → ListsImports b pointer libs segments list
-    together (one, two, h, k, j) =
-        let x = input_in b pointer libs segments in (
-          h.0,
-          k.0,
-          record {
-            stream = h.1;
-            lazy_stream = k.1;
-            each = ap (λ ys. ys ++ imports_in x b.lazy k.0) h.2 ∙ ap (λ ys. map Ok one ++ ys) k.2 ∙ sym (map-append Ok one two) ∙ ap (map Ok) (sym j);
-          },
-        )
+  abbrev OneByOne : Type 0
+  OneByOne = (one : List Import) × (two : List Import) × HasList input b.non_lazy one × HasList input b.lazy two × (list ≡ one ++ two)
+
+  streams_apart : ListsImports b pointer libs segments list → OneByOne
+  streams_apart l =
+      let p = parts_of (imports_in input b.non_lazy l.0) (imports_in input b.lazy l.1) list l.2.each in
+      (p.front, p.back, (l.0, l.2.stream, p.is_front), (l.1, l.2.lazy_stream, p.is_back), p.joined)
+
+  streams_together : OneByOne → ListsImports b pointer libs segments list
+  streams_together (one, two, h, k, j) =
+      let each = ap (λ ys. ys ++ imports_in input b.lazy k.0) h.2 ∙ ap (λ ys. map Ok one ++ ys) k.2 ∙ sym (map-append Ok one two) ∙ ap (map Ok) (sym j) in
+      (h.0, k.0, record { stream = h.1; lazy_stream = k.1; each = each })
+
+pub lists_by_stream_lem : ListsByStream
+lists_by_stream_lem b pointer libs segments list = (streams_apart b pointer libs segments list, streams_together b pointer libs segments list)
 
 -- ---- both ways
 
@@ -239,54 +237,74 @@ stream_end-push : (place : ℕ) (ps : List Placed) (d : Placed) → stream_end p
 stream_end-push place ps d = stream_end-append place ps (d ∷ [])
 
 module _ (x : Input) (r : Range) (front : List Placed) (d : Placed) (list : List Import) (b : IsBeginning x r (front ++ d ∷ [])) (e : is_done d ≡ true) where
-  front_follows : Follow r.from (front ++ d ∷ [])
-  front_follows = follows x r (front ++ d ∷ []) b
+  -- the front with its DONE, the ranges of both parts, and what there is where both have a list
+  abbrev heads : List Placed
+  heads = front ++ d ∷ []
 
-  front_ends : stream_end r.from (front ++ d ∷ []) ≡ d.after
+  abbrev first_range : Range
+  first_range = front_range r d.after
+
+  abbrev last_range : Range
+  last_range = rest_range r d.after
+
+  abbrev front_len : ℕ
+  front_len = d.after - r.from
+
+  abbrev Halves : Type 0
+  Halves = (one : List Import) × (two : List Import) × HasList x first_range one × HasList x last_range two × (list ≡ one ++ map (raised front_len) two)
+
+  front_follows : Follow r.from heads
+  front_follows = b.follow
+
+  front_ends : stream_end r.from heads ≡ d.after
   front_ends = stream_end-push r.from front d
 
   from_le : r.from ≤ d.after
-  from_le = let h = end_past x r.upto r.from (front ++ d ∷ []) b.stand front_follows in omega (arith, h, front_ends)
+  from_le = let h = end_past x r.upto r.from heads b.stand front_follows in omega (arith, h, front_ends)
 
-  front_stream : IsStream x (front_range r d.after) (front ++ d ∷ [])
+  front_stream : IsStream x first_range heads
   front_stream =
-      let stand : AllStand x d.after (front ++ d ∷ []) = subst (λ (n : ℕ). AllStand x n (front ++ d ∷ [])) front_ends (stand_before_end x r.upto r.from (front ++ d ∷ []) b.stand front_follows) in
-      record { beginning = begins x (front_range r d.after) (front ++ d ∷ []) stand front_follows; whole = omega (arith, front_ends) }
+      let stand : AllStand x d.after heads = subst (λ (n : ℕ). AllStand x n heads) front_ends (stand_before_end x r.upto r.from heads b.stand front_follows) in
+      record { beginning = record { follow = front_follows; stand = stand }; whole = omega (arith, front_ends) }
 
-  apart : HasList x r list → (one : List Import) × (two : List Import) × HasList x (front_range r d.after) one × HasList x (rest_range r d.after) two × (list ≡ one ++ map (raised (d.after - r.from)) two)
+  apart : HasList x r list → Halves
   apart h =
-      let whole_follows = follows x r h.0 h.1.beginning in
-      let k = behind x r.upto r.from (front ++ d ∷ []) h.0 b.stand front_follows h.1.beginning.stand whole_follows h.1.whole in
+      let whole_follows = h.1.beginning.follow in
+      let k = behind x r.upto r.from heads h.0 b.stand front_follows h.1.beginning.stand whole_follows h.1.whole in
       let rest = k.0 in
-      let stand : AllStand x r.upto rest = stand_behind x r.upto (front ++ d ∷ []) rest (subst (AllStand x r.upto) k.1 h.1.beginning.stand) in
-      let behind_front : Follow (stream_end r.from (front ++ d ∷ [])) rest = follow_behind r.from (front ++ d ∷ []) rest (subst (Follow r.from) k.1 whole_follows) in
+      let stand : AllStand x r.upto rest = stand_behind x r.upto heads rest (subst (AllStand x r.upto) k.1 h.1.beginning.stand) in
+      let behind_front : Follow (stream_end r.from heads) rest = follow_behind r.from heads rest (subst (Follow r.from) k.1 whole_follows) in
       let follow : Follow d.after rest = subst (λ (n : ℕ). Follow n rest) front_ends behind_front in
-      let ends : stream_end r.from h.0 ≡ stream_end d.after rest = ap (stream_end r.from) k.1 ∙ stream_end-append r.from (front ++ d ∷ []) rest ∙ ap (λ n. stream_end n rest) front_ends in
-      let rest_stream : IsStream x (rest_range r d.after) rest = record { beginning = begins x (rest_range r d.after) rest stand follow; whole = omega (arith, ends, h.1.whole) } in
-      let all : imports_in x (front_range r d.after) (front ++ d ∷ []) ++ map (raise_item (d.after - r.from)) (imports_in x (rest_range r d.after) rest) ≡ map Ok list =
+      let ends : stream_end r.from h.0 ≡ stream_end d.after rest = ap (stream_end r.from) k.1 ∙ stream_end-append r.from heads rest
+      ∙ ap (λ n. stream_end n rest) front_ends in
+      let rest_stream : IsStream x last_range rest = record { beginning = record { follow = follow; stand = stand }; whole = omega (arith, ends, h.1.whole) } in
+      let all : imports_in x first_range heads ++ map (raise_item front_len) (imports_in x last_range rest) ≡ map Ok list =
       sym (imports_cut x r r.upto front d rest e from_le follow stand) ∙ ap (imports_in x r) (sym k.1) ∙ h.2 in
-      let p = parts_of (imports_in x (front_range r d.after) (front ++ d ∷ [])) (map (raise_item (d.after - r.from)) (imports_in x (rest_range r d.after) rest)) list all in
-      let l = lowered (d.after - r.from) (imports_in x (rest_range r d.after) rest) p.back p.is_back in
-      (p.front, l.0, (front ++ d ∷ [], front_stream, p.is_front), (rest, rest_stream, l.1), p.joined ∙ ap (λ y. p.front ++ y) l.2)
+      let p = parts_of (imports_in x first_range heads) (map (raise_item front_len) (imports_in x last_range rest)) list all in
+      let l = lowered front_len (imports_in x last_range rest) p.back p.is_back in
+      (p.front, l.0, (heads, front_stream, p.is_front), (rest, rest_stream, l.1), p.joined ∙ ap (λ y. p.front ++ y) l.2)
 
-  together : ((one : List Import) × (two : List Import) × HasList x (front_range r d.after) one × HasList x (rest_range r d.after) two × (list ≡ one ++ map (raised (d.after - r.from)) two)) → HasList x r list
+  together : Halves → HasList x r list
   together (one, two, h, k, j) =
-      let same : h.0 ≡ front ++ d ∷ [] = (one_longest x (front_range r d.after) h.0 (front ++ d ∷ []) None None (longest_stream x (front_range r d.after) h.0 h.1) (longest_stream x (front_range r d.after) (front ++ d ∷ []) front_stream)).0 in
-      let n = d.after - r.from in
-      let rest_follows : Follow d.after k.0 = follows x (rest_range r d.after) k.0 k.1.beginning in
-      let follow : Follow (stream_end r.from (front ++ d ∷ [])) k.0 = subst (λ (m : ℕ). Follow m k.0) (sym front_ends) rest_follows in
-      let ends : stream_end r.from ((front ++ d ∷ []) ++ k.0) ≡ stream_end d.after k.0 = stream_end-append r.from (front ++ d ∷ []) k.0 ∙ ap (λ m. stream_end m k.0) front_ends in
-      let first : imports_in x (front_range r d.after) (front ++ d ∷ []) ≡ map Ok one = ap (imports_in x (front_range r d.after)) (sym same) ∙ h.2 in (
-        (front ++ d ∷ []) ++ k.0,
+      let same : h.0 ≡ heads = (one_longest x first_range h.0 heads None None (longest_stream x first_range h.0 h.1)
+      (longest_stream x first_range heads front_stream)).0 in
+      let rest_follows : Follow d.after k.0 = k.1.beginning.follow in
+      let follow : Follow (stream_end r.from heads) k.0 = subst (λ (m : ℕ). Follow m k.0) (sym front_ends) rest_follows in
+      let ends : stream_end r.from (heads ++ k.0) ≡ stream_end d.after k.0 = stream_end-append r.from heads k.0 ∙ ap (λ m. stream_end m k.0) front_ends in
+      let first : imports_in x first_range heads ≡ map Ok one = ap (imports_in x first_range) (sym same) ∙ h.2 in (
+        heads ++ k.0,
         record {
-          beginning = begins x r ((front ++ d ∷ []) ++ k.0) (stand-append x r.upto (front ++ d ∷ []) k.0 b.stand k.1.beginning.stand) (follow-append r.from (front ++ d ∷ []) k.0 front_follows follow);
+          beginning = record {
+            follow = follow-append r.from heads k.0 front_follows follow;
+            stand = all-append (StandsIn x r.upto) heads k.0 b.stand k.1.beginning.stand;
+          };
           whole = omega (arith, ends, k.1.whole);
         },
         imports_cut x r r.upto front d k.0 e from_le rest_follows k.1.beginning.stand
-            ∙ ap (λ y. y ++ map (raise_item n) (imports_in x (rest_range r d.after) k.0)) first
-            ∙ ap (λ y. map Ok one ++ map (raise_item n) y) k.2
-            ∙ ap (λ y. map Ok one ++ y) (raised_oks n two)
-            ∙ sym (map-append Ok one (map (raised n) two))
+            ∙ ap (λ y. y ++ map (raise_item front_len) (imports_in x last_range k.0)) first
+            ∙ ap (λ y. map Ok one ++ map (raise_item front_len) y) k.2
+            ∙ ap (λ y. map Ok one ++ y) (raised_oks front_len two)
+            ∙ sym (map-append Ok one (map (raised front_len) two))
             ∙ ap (map Ok) (sym j),
       )
 

@@ -1,21 +1,14 @@
 -- What a list of imports that ends at an error says, and one that ends with both streams.
-use Rattle.std.proofs.Common.{◌≡◌, ◌∙◌, ℕ, List, [], ◌∷◌, ◌++◌, Result, Err, sym, ap}
-use Rattle.mach_base.specs.Answer.{Stands}
-use Rattle.mach_base.specs.Fault.{Fault, fault_of}
-use Rattle.mach_base.specs.declared.error.Error.{Error}
-use Rattle.mach_base.proofs.Faults.{Stands-reported}
-use Rattle.mach_parts.specs.declared.segment.Segment.{Segment}
-use Rattle.mach_dyld.specs.Streams.{Placed}
-use Rattle.mach_dyld.specs.Imports.{Import, BindRanges, input_in, ListsImports}
-use Rattle.mach_dyld.specs.BindFault.{BindFault}
-use Rattle.mach_dyld.specs.BindItems.{AreBindItems}
-use Rattle.mach_dyld.specs.BindLeft.{input_of, lazy_of, state_of, imports_left, reads_left, IsAtEnd}
+use Rattle.mach_dyld.proofs.Names.{◌≡◌, ◌∙◌, ℕ, List, [], ◌∷◌, ◌++◌, Result, Err, sym, ap, Stands, Fault, fault_of, Error, Stands-reported, Segment, Placed}
+use Rattle.mach_dyld.proofs.Names.{Import, BindRanges, input_in, ListsImports, BindFault, AreBindItems, input_of, lazy_of, state_of, imports_left, reads_left}
+use Rattle.mach_dyld.proofs.Names.{IsAtEnd}
 use Rattle.mach_dyld.specs.declared.imports.iterator.BindIterator.{BindIterator}
 use Rattle.mach_dyld.proofs.BindLists.{oks, stands_from_items, items_from_list, no_error}
-use Rattle.mach_dyld.proofs.BindSteps.{after_range, after_range_reads}
+use Rattle.mach_dyld.proofs.BindSteps.{NothingLeft, after_range}
 
 module _ (b : BindRanges) (pointer : ℕ) (libs : List (List ℕ)) (segments : List Segment) (ps qs : List Placed) (items : List (Result Import Fault))
-    (are : AreBindItems (input_in b pointer libs segments) b.non_lazy b.lazy ps qs items) (found : List Import) (left : List (Result Import Fault)) (split : items ≡ oks found ++ left)
+    (are : AreBindItems (input_in b pointer libs segments) b.non_lazy b.lazy ps qs items) (found : List Import) (left : List (Result Import Fault))
+    (split : items ≡ oks found ++ left)
     (e : Error) (ends : left ≡ Err (fault_of e) ∷ []) where
   all : items ≡ oks found ++ Err (fault_of e) ∷ []
   all = split ∙ ap (λ m. oks found ++ m) ends
@@ -31,10 +24,13 @@ module _ (b : BindRanges) (pointer : ℕ) (libs : List (List ℕ)) (segments : L
       (sym all ∙ items_from_list (input_in b pointer libs segments) b.non_lazy b.lazy ps qs l.0 l.1 items list are l.2)
 
 -- at the end of both streams nothing is left
+pub nothing_at_end : (it : BindIterator) → IsAtEnd it → NothingLeft (input_of it.source) (lazy_of it) (state_of it.state)
+nothing_at_end it a = after_range (input_of it.source) (lazy_of it) (state_of it.state) a.count a.on a.is_lazy a.past
+
 pub none_at_end : (it : BindIterator) → IsAtEnd it → imports_left it ≡ []
 unfolding imports_left
-none_at_end it a = after_range (input_of it.source) (lazy_of it) (state_of it.state) a.count a.on a.is_lazy a.past
+none_at_end it a = (nothing_at_end it a).items
 
 pub no_reads_at_end : (it : BindIterator) → IsAtEnd it → reads_left it ≡ 0
 unfolding reads_left
-no_reads_at_end it a = after_range_reads (input_of it.source) (lazy_of it) (state_of it.state) a.count a.on a.is_lazy a.past
+no_reads_at_end it a = (nothing_at_end it a).reads

@@ -1,15 +1,10 @@
 -- A walk of the trie: what was visited, what the open nodes still have to list, turn by turn.
-use Rattle.std.proofs.Common.{◌≡◌, ◌<◌, ◌≤◌, ◌+◌, ◌-◌, ℕ, zero, suc, Bool, true, false, cond, List, [], ◌∷◌, ◌++◌, ◌⊎◌, inl, inr, length, drop, set, get_or, Option, Some, None, Ok, refl, sym, ap, subst, ◌∙◌, arith, length-set, length-append, append_assoc, count_by, map, replicate}
-use Rattle.std.specs.Prelude.{slice_get}
-use Rattle.std.proofs.lemmas.Bool.{cases_eq}
-use Rattle.std.proofs.lemmas.List.{append-nil, append_cancel_left, length-replicate, get_or-set_same, get_or-set_other}
-use Rattle.std.proofs.lemmas.List.Sums.{sum_by-set, count_by-le-length}
-use Rattle.mach_dyld.specs.Trie.{Info, Branch, Node, Trie, Entry, own_entries}
-use Rattle.mach_dyld.specs.Lists.{Lists, BranchesList, nothing, a_node, no_more, one_more}
-use Rattle.mach_dyld.specs.Paths.{Leads, Path, IsTree}
-use Rattle.mach_base.specs.Among.{IsAmong}
-use Rattle.mach_dyld.specs.Visits.{AreApart}
-use Rattle.mach_dyld.proofs.TrieFaults.{Leads-append}
+use Rattle.mach_dyld.proofs.Names.{◌≡◌, ◌<◌, ◌≤◌, ◌+◌, ◌-◌, ℕ, zero, suc, Bool, true, false, cond, List, [], ◌∷◌, ◌++◌, ◌⊎◌, inl, inr, length, drop, set}
+use Rattle.mach_dyld.proofs.Names.{get_or, Option, Some, None, Ok, refl, sym, ap, subst, ◌∙◌, arith, length-set, length-append, append_assoc, count_by, map}
+use Rattle.mach_dyld.proofs.Names.{replicate, slice_get, cases_eq, append-nil, append_cancel_left, length-replicate, get_or-set_same, get_or-set_other}
+use Rattle.mach_dyld.proofs.Names.{sum_by-set, count_by-le-length, Info, Branch, Node, Trie, Entry, own_entries, Lists, BranchesList, nothing, a_node, no_more}
+use Rattle.mach_dyld.proofs.Names.{one_more, Leads, Path, IsTree, IsAmong, AreApart}
+use Rattle.mach_dyld.proofs.TriePaths.{same_node, same_some, leads_to_one, leads_inside, Leads-append, drop_head, nothing_there}
 
 -- visits
 
@@ -59,7 +54,8 @@ keeps_mark marks o i within e = elim (cases_eq i o) [
   | inr other ↦ get_or-set_other marks o i true false other ∙ e
 ]
 
-one_more_mark : (marks : List Bool) (o : ℕ) → o < length marks → get_or marks o false ≡ false → count_by (λ b. b) (set marks o true) ≡ suc (count_by (λ b. b) marks)
+one_more_mark : (marks : List Bool) (o : ℕ) → o < length marks → get_or marks o false ≡ false
+    → count_by (λ b. b) (set marks o true) ≡ suc (count_by (λ b. b) marks)
 one_more_mark marks o within clear =
     let sums = sum_by-set (λ (b : Bool). cond b 1 0) marks o true false within in
     let none : ◌≡◌ {A = ℕ} (cond (get_or marks o false) 1 0) 0 = rw clear refl in omega arith
@@ -72,9 +68,14 @@ root_visited t from inside =
     let within : 0 < length (replicate n false) = omega arith in
     record {
       size = length-set (replicate n false) 0 true ∙ size;
-      leads = λ v i. elim i [ inl e ↦ subst (λ (x : Visit). Leads t x.path from x.at × (from ≤ x.at) × (x.at < t.upto)) (sym e) (refl, omega arith, inside) | inr none ↦ absurd none ];
+      leads = λ v i. elim i [
+        | inl e ↦
+            subst (λ (x : Visit). Leads t x.path from x.at × (from ≤ x.at) × (x.at < t.upto)) (sym e) (refl, omega arith, inside)
+        | inr none ↦ absurd none
+      ];
       marked = λ v i. elim i [
-        | inl e ↦ (let at : v.at - from ≡ 0 = (let same : v.at ≡ from = ap (λ (x : Visit). x.at) e in omega arith) in subst (λ x. get_or (set (replicate n false) 0 true) x false ≡ true) (sym at) (get_or-set_same (replicate n false) 0 true false within))
+        | inl e ↦ (let at : v.at - from ≡ 0 = (let same : v.at ≡ from = ap (λ (x : Visit). x.at) e in omega arith) in
+            subst (λ x. get_or (set (replicate n false) 0 true) x false ≡ true) (sym at) (get_or-set_same (replicate n false) 0 true false within))
         | inr none ↦ absurd none
       ];
       met = λ o is. elim (cases_eq o 0) [
@@ -87,16 +88,22 @@ root_visited t from inside =
     }
 
 module _ (t : Trie) (from : ℕ) (marks : List Bool) (vs : List Visit) (h : Visited t from marks vs)
-    (p : List ℕ) (a k b : ℕ) (known : IsAmong (visit p a) vs) (lead : Leads t (p ++ k ∷ []) from b) (low : from ≤ b) (inside : b < t.upto) (clear : get_or marks (b - from) false ≡ false) where
+    (p : List ℕ) (a k b : ℕ) (known : IsAmong (visit p a) vs) (lead : Leads t (p ++ k ∷ []) from b) (low : from ≤ b) (inside : b < t.upto)
+    (clear : get_or marks (b - from) false ≡ false) where
   -- a child that isn't marked is visited
   pub child_visited : Visited t from (set marks (b - from) true) (visit (p ++ k ∷ []) b ∷ vs)
   child_visited =
       let within : b - from < length marks = omega (arith, h.size) in
       record {
         size = length-set marks (b - from) true ∙ h.size;
-        leads = λ v i. elim i [ inl e ↦ subst (λ (x : Visit). Leads t x.path from x.at × (from ≤ x.at) × (x.at < t.upto)) (sym e) (lead, low, inside) | inr old ↦ h.leads v old ];
+        leads = λ v i. elim i [
+          | inl e ↦
+              subst (λ (x : Visit). Leads t x.path from x.at × (from ≤ x.at) × (x.at < t.upto)) (sym e) (lead, low, inside)
+          | inr old ↦ h.leads v old
+        ];
         marked = λ v i. elim i [
-          | inl e ↦ (let at : v.at - from ≡ b - from = ap (λ (x : Visit). x.at - from) e in subst (λ x. get_or (set marks (b - from) true) x false ≡ true) (sym at) (get_or-set_same marks (b - from) true false within))
+          | inl e ↦ (let at : v.at - from ≡ b - from = ap (λ (x : Visit). x.at - from) e in
+              subst (λ x. get_or (set marks (b - from) true) x false ≡ true) (sym at) (get_or-set_same marks (b - from) true false within))
           | inr old ↦ keeps_mark marks (b - from) (v.at - from) within (h.marked v old)
         ];
         met = λ o is. elim (cases_eq o (b - from)) [
@@ -104,15 +111,16 @@ module _ (t : Trie) (from : ℕ) (marks : List Bool) (vs : List Visit) (h : Visi
           | inr other ↦ (let old = h.met o (sym (get_or-set_other marks (b - from) o true false other) ∙ is) in (old.0, inr old.1))
         ];
         parents = λ v q j i e. elim i [
-          | inl same ↦ (let front = same_front p q k j (sym (ap (λ (x : Visit). x.path) same) ∙ e) in (a, inr (subst (λ x. IsAmong (visit x a) vs) front known)))
+          | inl same ↦ (let front = same_front p q k j (sym (ap (λ (x : Visit). x.path) same) ∙ e) in
+              (a, inr (subst (λ x. IsAmong (visit x a) vs) front known)))
           | inr old ↦ (let up = h.parents v q j old e in (up.0, inr up.1))
         ];
         apart = (λ w i e. not_both (h.marked w i) (ap (λ x. get_or marks (x - from) false) e ∙ clear), h.apart);
         count = let one = one_more_mark marks (b - from) within clear in let c = h.count in omega arith;
       }
 
-pub few_visited : (t : Trie) (from : ℕ) (marks : List Bool) (vs : List Visit) → Visited t from marks vs → length vs ≤ t.upto - from
-few_visited t from marks vs h = let most = count_by-le-length (λ (b : Bool). b) marks in let c = h.count in let s = h.size in omega arith
+pub few_visited : {t : Trie} {from : ℕ} {marks : List Bool} {vs : List Visit} → Visited t from marks vs → length vs ≤ t.upto - from
+few_visited {marks} h = let most = count_by-le-length (λ (b : Bool). b) marks in let c = h.count in let s = h.size in omega arith
 
 -- the paths of the visits
 
@@ -127,47 +135,37 @@ pub path_in : (v : Visit) (vs : List Visit) → IsAmong v vs → IsAmong v.path 
 path_in v [] i = absurd i
 path_in v (w ∷ vs) i = elim i [ inl e ↦ inl (ap (λ (x : Visit). x.path) e) | inr more ↦ inr (path_in v vs more) ]
 
-same_node : {X E : Type 0} {x y : X} {r : Rattle.std.specs.Prelude.Result X E} → r ≡ Ok x → r ≡ Ok y → x ≡ y
-same_node a b = cc
+module _ {t : Trie} {from : ℕ} {marks : List Bool} {vs : List Visit} (h : Visited t from marks vs) where
+  pub each_leads : (p : List ℕ) → IsAmong p (paths_in vs) → Path t from p
+  each_leads p i = let v = in_paths p vs i in let l = h.leads v.0 v.1 in (v.0.at, subst (λ x. Leads t x from v.0.at) (sym v.2) l.0, l.2)
 
-same_some : {X : Type 0} {x y : X} {o : Option X} → o ≡ Some x → o ≡ Some y → x ≡ y
-same_some a b = cc
+  pub paths_apart : AreApart t from (paths_in vs)
+  paths_apart = some_apart vs h.leads h.apart
+    where
+      some_apart : (ws : List Visit) → ((v : Visit) → IsAmong v ws → Leads t v.path from v.at × (from ≤ v.at) × (v.at < t.upto)) → Apart ws
+          → AreApart t from (paths_in ws)
+      some_apart [] leads apart = tt
+      some_apart (v ∷ ws) leads apart = (
+        λ q at i x y.
+            let w = in_paths q ws i in
+            let here = leads_to_one t v.path from v.at at (leads v (inl refl)).0 x in
+            let there = leads_to_one t q from w.0.at at (subst (λ z. Leads t z from w.0.at) (sym w.2) (leads w.0 (inr w.1)).0) y in
+            apart.0 w.0 w.1 (there ∙ sym here),
+        some_apart ws (λ w i. leads w (inr i)) apart.1,
+      )
 
--- a path leads to one place
-pub leads_to_one : (t : Trie) (p : List ℕ) (s a b : ℕ) → Leads t p s a → Leads t p s b → a ≡ b
-leads_to_one t [] s a b x y = sym x ∙ y
-leads_to_one t (k ∷ ks) s a b x y =
-    let node : x.0 ≡ y.0 = same_node x.3 y.3 in
-    let branch : x.1 ≡ y.1 = same_some x.4 (subst (λ (n : Node). slice_get n.branches k ≡ Some y.1) (sym node) y.4) in
-    leads_to_one t ks x.1.start a b x.5 (subst (λ (c : Branch). Leads t ks c.start b) (sym branch) y.5)
-
-module _ (t : Trie) (from : ℕ) where
-  pub each_leads : (vs : List Visit) → ((v : Visit) → IsAmong v vs → Leads t v.path from v.at × (from ≤ v.at) × (v.at < t.upto)) → (p : List ℕ) → IsAmong p (paths_in vs) → Path t from p
-  each_leads vs leads p i = let v = in_paths p vs i in let l = leads v.0 v.1 in (v.0.at, subst (λ x. Leads t x from v.0.at) (sym v.2) l.0, l.2)
-
-  pub paths_apart : (vs : List Visit) → ((v : Visit) → IsAmong v vs → Leads t v.path from v.at × (from ≤ v.at) × (v.at < t.upto)) → Apart vs → AreApart t from (paths_in vs)
-  paths_apart [] leads apart = tt
-  paths_apart (v ∷ vs) leads apart = (
-    λ q at i x y.
-        let w = in_paths q vs i in
-        let here = leads_to_one t v.path from v.at at (leads v (inl refl)).0 x in
-        let there = leads_to_one t q from w.0.at at (subst (λ z. Leads t z from w.0.at) (sym w.2) (leads w.0 (inr w.1)).0) y in
-        apart.0 w.0 w.1 (there ∙ sym here),
-    paths_apart vs (λ w i. leads w (inr i)) apart.1,
-  )
-
-  same_path : (vs : List Visit) → Apart vs → (v w : Visit) → IsAmong v vs → IsAmong w vs → v.at ≡ w.at → v.path ≡ w.path
-  same_path [] apart v w i j e = absurd i
-  same_path (u ∷ vs) apart v w i j e = elim i [
-    | inl v_here ↦ elim j [
-      | inl w_here ↦ ap (λ (x : Visit). x.path) (v_here ∙ sym w_here)
-      | inr w_later ↦ absurd (apart.0 w w_later (sym e ∙ ap (λ (x : Visit). x.at) v_here))
-    ]
-    | inr v_later ↦ elim j [
-      | inl w_here ↦ absurd (apart.0 v v_later (e ∙ ap (λ (x : Visit). x.at) w_here))
-      | inr w_later ↦ same_path vs apart.1 v w v_later w_later e
-    ]
+same_path : (vs : List Visit) → Apart vs → (v w : Visit) → IsAmong v vs → IsAmong w vs → v.at ≡ w.at → v.path ≡ w.path
+same_path [] apart v w i j e = absurd i
+same_path (u ∷ vs) apart v w i j e = elim i [
+  | inl v_here ↦ elim j [
+    | inl w_here ↦ ap (λ (x : Visit). x.path) (v_here ∙ sym w_here)
+    | inr w_later ↦ absurd (apart.0 w w_later (sym e ∙ ap (λ (x : Visit). x.at) v_here))
   ]
+  | inr v_later ↦ elim j [
+    | inl w_here ↦ absurd (apart.0 v v_later (e ∙ ap (λ (x : Visit). x.at) w_here))
+    | inr w_later ↦ same_path vs apart.1 v w v_later w_later e
+  ]
+]
 
 -- open nodes
 
@@ -178,6 +176,10 @@ pub record Frame : Type 0 where
   pub prefix : List ℕ
   pub node : Node
   pub next : ℕ
+
+-- an open node with no branch taken yet
+abbrev pub fresh_frame : List ℕ → ℕ → List ℕ → Node → Frame
+fresh_frame path start prefix node = record { path = path; start = start; prefix = prefix; node = node; next = 0 }
 
 -- with one more branch taken
 abbrev pub more : Frame → Frame
@@ -203,12 +205,14 @@ abbrev pub IsDone : Trie → List Visit → List Frame → Visit → ℕ → ℕ
 IsDone t vs fs v k start = (t.upto ≤ start) ⊎ (IsAmong (visit (v.path ++ k ∷ []) start) vs ⊎ IsLeft v k fs)
 
 abbrev pub Closed : Trie → List Visit → List Frame → Type 0
-Closed t vs fs = (v : Visit) (node : Node) (k : ℕ) (b : Branch) → IsAmong v vs → t.node v.at ≡ Ok node → slice_get node.branches k ≡ Some b → IsDone t vs fs v k b.start
+Closed t vs fs = (v : Visit) (node : Node) (k : ℕ) (b : Branch) → IsAmong v vs → t.node v.at ≡ Ok node → slice_get node.branches k ≡ Some b
+    → IsDone t vs fs v k b.start
 
 -- what the open nodes still have to list
 abbrev pub Pending : Trie → List Frame → List Entry → Type 0
 Pending t [] es = es ≡ []
-Pending t (f ∷ fs) es = (here : List Entry) × (others : List Entry) × BranchesList t f.prefix (drop f.next f.node.branches) here × Pending t fs others × (es ≡ here ++ others)
+Pending t (f ∷ fs) es = (here : List Entry) × (others : List Entry) × BranchesList t f.prefix (drop f.next f.node.branches) here × Pending t fs others
+    × (es ≡ here ++ others)
 
 pub record Walk (t : Trie) (from : ℕ) (marks : List Bool) (fs : List Frame) (found : List Entry) (vs : List Visit) : Type 0 where
   pub visited : Visited t from marks vs
@@ -222,31 +226,34 @@ few_own : (prefix : List ℕ) (own : Option Info) → length (own_entries prefix
 few_own prefix None = omega arith
 few_own prefix (Some info) = omega arith
 
-drop_head : {X : Type 0} (xs : List X) (k : ℕ) (x : X) (rest : List X) → drop k xs ≡ x ∷ rest → (slice_get xs k ≡ Some x) × (rest ≡ drop (suc k) xs)
-drop_head [] zero x rest e = absurd (cc)
-drop_head [] (suc k) x rest e = absurd (cc)
-drop_head (y ∷ ys) zero x rest e = (cc, cc)
-drop_head (y ∷ ys) (suc k) x rest e = drop_head ys k x rest e
-
-nothing_there : {X : Type 0} (xs : List X) (n k : ℕ) (x : X) → drop n xs ≡ [] → n ≤ k → slice_get xs k ≡ Some x → ⊥
-nothing_there [] n k x e le at = cc
-nothing_there (y ∷ ys) zero k x e le at = cc
-nothing_there (y ∷ ys) (suc n) zero x e le at = omega arith
-nothing_there (y ∷ ys) (suc n) (suc k) x e le at = nothing_there ys n k x e (omega arith) at
-
 -- the root is opened
 pub root_opened : (t : Trie) (from : ℕ) (node : Node) → from < t.upto → t.node from ≡ Ok node
-    → Walk t from (set (replicate (t.upto - from) false) 0 true) (record { path = []; start = from; prefix = []; node = node; next = 0 } ∷ []) (own_entries [] node.own) (visit [] from ∷ [])
+    → Walk t from (set (replicate (t.upto - from) false) 0 true) (fresh_frame [] from [] node ∷ []) (own_entries [] node.own) (visit [] from ∷ [])
 root_opened t from node inside at = record {
   visited = root_visited t from inside;
   root = inl refl;
-  opened = (record { known = inl refl; node = at; depth = refl; fresh = λ k w le i e. elim i [ inl same ↦ not_nil [] k (sym (ap (λ (x : Visit). x.path) same) ∙ e) | inr none ↦ absurd none ] }, tt);
-  closed = λ v n k b i a s. inr (inr (elim i [ inl same ↦ inl (sym (ap (λ (x : Visit). x.path) same), sym (ap (λ (x : Visit). x.at) same), omega arith) | inr none ↦ absurd none ]));
-  list = λ es p. a_node node (inside, at) p.2 (ap (λ (x : List Entry). own_entries [] node.own ++ x) (p.4 ∙ (ap (λ (x : List Entry). p.0 ++ x) p.3 ∙ append-nil p.0)));
+  opened = (
+    record {
+      known = inl refl;
+      node = at;
+      depth = refl;
+      fresh = λ k w le i e. elim i [
+        | inl same ↦
+            not_nil [] k (sym (ap (λ (x : Visit). x.path) same) ∙ e)
+        | inr none ↦ absurd none
+      ];
+    },
+    tt,
+  );
+  closed = λ v n k b i a s. inr
+      (inr (elim i [ inl same ↦ inl (sym (ap (λ (x : Visit). x.path) same), sym (ap (λ (x : Visit). x.at) same), omega arith) | inr none ↦ absurd none ]));
+  list = λ es p. a_node node (inside, at) p.2
+      (ap (λ (x : List Entry). own_entries [] node.own ++ x) (p.4 ∙ (ap (λ (x : List Entry). p.0 ++ x) p.3 ∙ append-nil p.0)));
   few = few_own [] node.own;
 }
 
-module _ (t : Trie) (from : ℕ) (marks : List Bool) (f : Frame) (fs : List Frame) (found : List Entry) (vs : List Visit) (h : Walk t from marks (f ∷ fs) found vs) where
+module _ {t : Trie} {from : ℕ} {marks : List Bool} {f : Frame} {fs : List Frame} {found : List Entry} {vs : List Visit}
+    (h : Walk t from marks (f ∷ fs) found vs) where
   -- a node with no branch left is closed
   pub closes : drop f.next f.node.branches ≡ [] → Walk t from marks fs found vs
   closes nil = record {
@@ -269,7 +276,7 @@ module _ (t : Trie) (from : ℕ) (marks : List Bool) (f : Frame) (fs : List Fram
     few = h.few;
   }
 
-  module _ (b : Branch) (rest : List Branch) (some : drop f.next f.node.branches ≡ b ∷ rest) where
+  module _ {b : Branch} {rest : List Branch} (some : drop f.next f.node.branches ≡ b ∷ rest) where
     taken : slice_get f.node.branches f.next ≡ Some b
     taken = (drop_head f.node.branches f.next b rest some).0
 
@@ -282,17 +289,24 @@ module _ (t : Trie) (from : ℕ) (marks : List Bool) (f : Frame) (fs : List Fram
     -- the path to the child
     pub child_leads : Leads t (f.path ++ f.next ∷ []) from b.start
     child_leads =
-        Leads-append t f.path (f.next ∷ []) from f.start b.start (h.visited.leads (visit f.path f.start) h.opened.0.known).0 (f.node, b, inside_top, h.opened.0.node, taken, refl)
+        Leads-append t f.path (f.next ∷ []) from f.start b.start (h.visited.leads (visit f.path f.start) h.opened.0.known).0
+        (f.node, b, inside_top, h.opened.0.node, taken, refl)
 
     -- the child is not yet visited by this path
     pub not_yet : (w : Visit) → IsAmong w vs → w.path ≡ f.path ++ f.next ∷ [] → ⊥
     not_yet w i e = h.opened.0.fresh f.next w (omega arith) i e
 
     open_more : IsOpen t vs (more f) (length fs)
-    open_more = record { known = h.opened.0.known; node = h.opened.0.node; depth = h.opened.0.depth; fresh = λ k w le i e. h.opened.0.fresh k w (omega arith) i e }
+    open_more = record {
+      known = h.opened.0.known;
+      node = h.opened.0.node;
+      depth = h.opened.0.depth;
+      fresh = λ k w le i e. h.opened.0.fresh k w (omega arith) i e;
+    }
 
     done_more : (ws : List Visit) → ((w : Visit) → IsAmong w vs → IsAmong w ws) → ((t.upto ≤ b.start) ⊎ IsAmong (visit (f.path ++ f.next ∷ []) b.start) ws)
-        → (v : Visit) (node : Node) (k : ℕ) (c : Branch) → IsAmong v vs → t.node v.at ≡ Ok node → slice_get node.branches k ≡ Some c → IsDone t ws (more f ∷ fs) v k c.start
+        → (v : Visit) (node : Node) (k : ℕ) (c : Branch) → IsAmong v vs → t.node v.at ≡ Ok node → slice_get node.branches k ≡ Some c
+        → IsDone t ws (more f ∷ fs) v k c.start
     done_more ws keeps handled v node k c i a s = elim (h.closed v node k c i a s) [
       | inl out ↦ inl out
       | inr other ↦ elim other [
@@ -301,7 +315,8 @@ module _ (t : Trie) (from : ℕ) (marks : List Bool) (f : Frame) (fs : List Fram
           | inl here ↦ elim (cases_eq k f.next) [
             | inl now ↦ (
                 let same : f.node ≡ node = same_node h.opened.0.node (subst (λ x. t.node x ≡ Ok node) (sym here.1) a) in
-                let branch : c ≡ b = same_some (subst (λ x. slice_get f.node.branches x ≡ Some c) now (subst (λ (n : Node). slice_get n.branches k ≡ Some c) (sym same) s)) taken in
+                let branch : c ≡ b = same_some
+                (subst (λ x. slice_get f.node.branches x ≡ Some c) now (subst (λ (n : Node). slice_get n.branches k ≡ Some c) (sym same) s)) taken in
                 elim handled [
                   | inl out ↦ inl (subst (λ (x : Branch). t.upto ≤ x.start) (sym branch) out)
                   | inr met ↦ inr (inl (
@@ -315,9 +330,11 @@ module _ (t : Trie) (from : ℕ) (marks : List Bool) (f : Frame) (fs : List Fram
       ]
     ]
 
-    pending_more : (first here : List Entry) → Lists t b.start (f.prefix ++ b.label) first → BranchesList t f.prefix (drop (suc f.next) f.node.branches) here → BranchesList t f.prefix (drop f.next f.node.branches) (first ++ here)
+    pending_more : (first here : List Entry) → Lists t b.start (f.prefix ++ b.label) first → BranchesList t f.prefix (drop (suc f.next) f.node.branches) here
+        → BranchesList t f.prefix (drop f.next f.node.branches) (first ++ here)
     pending_more first here one others =
-        subst (λ (bs : List Branch). BranchesList t f.prefix bs (first ++ here)) (sym some) (one_more one (subst (λ (bs : List Branch). BranchesList t f.prefix bs here) (sym rest_is) others) refl)
+        subst (λ (bs : List Branch). BranchesList t f.prefix bs (first ++ here)) (sym some)
+        (one_more one (subst (λ (bs : List Branch). BranchesList t f.prefix bs here) (sym rest_is) others) refl)
 
     -- a child that is nothing is passed
     pub passes : t.upto ≤ b.start → Walk t from marks (more f ∷ fs) found vs
@@ -356,7 +373,7 @@ module _ (t : Trie) (from : ℕ) (marks : List Bool) (f : Frame) (fs : List Fram
 
       -- a child that is a node is opened
       pub opens : (node : Node) → t.node b.start ≡ Ok node
-          → Walk t from (set marks (b.start - from) true) (record { path = f.path ++ f.next ∷ []; start = b.start; prefix = f.prefix ++ b.label; node = node; next = 0 } ∷ more f ∷ fs)
+          → Walk t from (set marks (b.start - from) true) (fresh_frame (f.path ++ f.next ∷ []) b.start (f.prefix ++ b.label) node ∷ more f ∷ fs)
           (found ++ own_entries (f.prefix ++ b.label) node.own) (visit (f.path ++ f.next ∷ []) b.start ∷ vs)
       opens node at =
           let path = f.path ++ f.next ∷ [] in
@@ -405,16 +422,13 @@ module _ (t : Trie) (from : ℕ) (marks : List Bool) (f : Frame) (fs : List Fram
                 let whole = h.list (((own ++ p.0) ++ p.3.0) ++ p.3.1) (((own ++ p.0) ++ p.3.0), p.3.1, mine, p.3.3, refl) in
                 let same : found ++ (((own ++ p.0) ++ p.3.0) ++ p.3.1) ≡ (found ++ own) ++ es = rw (p.4, p.3.4) (simp append_assoc) in
                 subst (Lists t from []) same whole;
-            few = let long = length-append found (own_entries (f.prefix ++ b.label) node.own) in let one = few_own (f.prefix ++ b.label) node.own in let few = h.few in omega arith;
+            few = let long = length-append found (own_entries (f.prefix ++ b.label) node.own) in let one = few_own (f.prefix ++ b.label) node.own in
+                let few = h.few in omega arith;
           }
 
 -- the end of the walk
 
-pub leads_inside : (t : Trie) (ks : List ℕ) (s at : ℕ) → Leads t ks s at → at < t.upto → s < t.upto
-leads_inside t [] s at l inside = subst (λ x. x < t.upto) (sym l) inside
-leads_inside t (k ∷ ks) s at l inside = l.2
-
-module _ (t : Trie) (from : ℕ) (marks : List Bool) (found : List Entry) (vs : List Visit) (h : Walk t from marks [] found vs) where
+module _ {t : Trie} {from : ℕ} {marks : List Bool} {found : List Entry} {vs : List Visit} (h : Walk t from marks [] found vs) where
   reaches : (ks p : List ℕ) (a at : ℕ) → IsAmong (visit p a) vs → Leads t ks a at → at < t.upto → IsAmong (visit (p ++ ks) at) vs
   reaches [] p a at i l inside = subst (λ (x : Visit). IsAmong x vs) (let path = append-nil p in rw (path, l) refl) i
   reaches (k ∷ ks) p a at i l inside = elim (h.closed (visit p a) l.0 k l.1 i l.3 l.4) [
@@ -432,7 +446,7 @@ module _ (t : Trie) (from : ℕ) (marks : List Bool) (found : List Entry) (vs : 
   all_paths p path = path_in (visit p path.0) vs (all_visited p path.0 path.1 path.2)
 
   pub is_tree : IsTree t from
-  is_tree p q at a b inside = same_path t from vs h.visited.apart (visit p at) (visit q at) (all_visited p at a inside) (all_visited q at b inside) refl
+  is_tree p q at a b inside = same_path vs h.visited.apart (visit p at) (visit q at) (all_visited p at a inside) (all_visited q at b inside) refl
 
   pub listed : Lists t from [] found
   listed = subst (Lists t from []) (append-nil found) (h.list [] refl)

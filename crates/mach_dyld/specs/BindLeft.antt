@@ -1,6 +1,7 @@
 -- What is left to an iterator over binds: settings that run forward. Callers don't need it: the contract
 -- of `iter` says that the items at the start are those of the definitions.
-use Rattle.std.specs.Prelude.{◌≡◌, ◌+◌, ◌-◌, ◌%◌, ◌^◌, ◌<◌, ◌≤◌, ℕ, zero, suc, pos, List, [], ◌∷◌, ◌++◌, map, length, Bool, true, false, Option, Some, None, Result, Ok, Err, IsErr, nat_lt, if◌then◌else◌}
+use Rattle.std.specs.Prelude.{◌≡◌, ◌+◌, ◌-◌, ◌%◌, ◌^◌, ◌<◌, ◌≤◌, ℕ, zero, suc, pos, List, [], ◌∷◌, ◌++◌, map, length, Bool, true, false}
+use Rattle.std.specs.Prelude.{Option, Some, None, Result, Ok, Err, IsErr, nat_lt, if◌then◌else◌}
 use Rattle.mach_base.specs.declared.error.Error.{Error}
 use Rattle.mach_base.specs.Answer.{◌>>=◌}
 use Rattle.mach_base.specs.Fault.{Fault, malformed, fault_of}
@@ -184,7 +185,7 @@ abbrev pub FailsWith : BindIterator → BindIterator → Error → Type 0
 FailsWith old new e = (imports_left old ≡ Err (fault_of e) ∷ []) × (imports_left new ≡ [])
 
 -- the instruction that comes next can't be read, and this is its opcode byte, if one stands there
-pub record IsUnreadable (it : BindIterator) (byte : ℕ) : Type 0 where
+pub record NextIsUnreadable (it : BindIterator) (byte : ℕ) : Type 0 where
   pub count : it.state.count ≡ 0
   pub on : it.state.ended ≡ false
   pub within : it.state.place < it.state.upto

@@ -8,10 +8,10 @@ ghost use Rattle.mach_base.specs.Leb128.{uleb_at};
 ghost use Rattle.mach_base.specs.Text.{is_zero, run_at};
 ghost use Rattle.mach_dyld.specs.Trie as trie;
 ghost use Rattle.mach_dyld.specs.Trie.{regular};
-ghost use Rattle.mach_dyld.specs.Nodes.{a_regular, kind_of, branch_at, branches_at, children_at};
+ghost use Rattle.mach_dyld.specs.Nodes.{a_regular, info_kind, branch_at, branches_at, children_at, own_at};
 ghost use Rattle.mach_base.specs.Sums.{sum_of};
 ghost use Rattle.mach_dyld.specs.Exports.{texts, info_of};
-ghost use Rattle.mach_dyld.specs.NodeViews.{branch_of, those_read, branches_of, AreReadable, own_at};
+ghost use Rattle.mach_dyld.specs.NodeViews.{branch_of, those_read, branches_of, AreReadable};
 
 use crate::info::{
     EXPORT_SYMBOL_FLAGS_REEXPORT, EXPORT_SYMBOL_FLAGS_STUB_AND_RESOLVER, ExportInfo,
@@ -155,7 +155,7 @@ pub fn read_own<'a>(
 // Whether the flags say a regular export, whatever its kind: neither a re-export nor a stub.
 #[inline(always)]
 fn is_plain(flags: u64) -> bool
-    ensures { IsTrue result → kind_of flags ≡ a_regular }
+    ensures { IsTrue result → info_kind flags ≡ a_regular }
 {
     flags & EXPORT_SYMBOL_FLAGS_REEXPORT == 0 && flags & EXPORT_SYMBOL_FLAGS_STUB_AND_RESOLVER == 0
 }

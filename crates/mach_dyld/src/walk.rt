@@ -9,7 +9,7 @@ ghost use Rattle.mach_dyld.specs.Lists.{Lists};
 ghost use Rattle.mach_dyld.specs.Paths.{IsTree};
 ghost use Rattle.mach_dyld.specs.Visits.{Visits};
 ghost use Rattle.mach_dyld.specs.Exports.{info_of, entries};
-ghost use Rattle.mach_dyld.specs.WalkViews.{trie_in, node_in, own_in, fault_in, ListsOwn, Opens};
+ghost use Rattle.mach_dyld.specs.WalkViews.{source_trie, node_in, own_in, fault_in, ListsOwn, OpensNode};
 
 use crate::exports::{Export, ExportInfo};
 use crate::node::{Branches, number, quick_own, read_again, read_branches, read_own};
@@ -101,7 +101,7 @@ fn list_own<'a, A: Allocator + Clone>(
     Ok(after)
 }
 
-// Opens the node at a start: reads it, and lists its own export.
+// OpensNode the node at a start: reads it, and lists its own export.
 #[inline(always)]
 fn open_node<'a, A: Allocator + Clone>(
     alloc: &A,
@@ -113,7 +113,7 @@ fn open_node<'a, A: Allocator + Clone>(
 ) -> Result<Open>
     requires { IsUtf8 name.now }
     ensures visits { steps.new ≡ steps.old + 1 }
-    ensures ok { IfOk result (Opens source.now start name.now (entries found.old.items) (entries found.new.items)) }
+    ensures ok { IfOk result (OpensNode source.now start name.now (entries found.old.items) (entries found.new.items)) }
     ensures err { IfErr result (λ e. FailsAs e (node_in source.now start)) }
 {
     let (size, place) = visit(source.bytes, start, steps)?;
@@ -135,10 +135,10 @@ pub fn walk<'a, A: Allocator + Clone>(
     source: &Source<'a, '_>,
     steps: &mut Steps,
 ) -> Result<Vec<Export<'a, A>, A>>
-    ensures tree { OnOk result (IsTree (trie_in source.now) source.now.from) }
-    ensures listed { IfOk result (λ v. Lists (trie_in source.now) source.now.from [] (entries v.items)) }
+    ensures tree { OnOk result (IsTree (source_trie source.now) source.now.from) }
+    ensures listed { IfOk result (λ v. Lists (source_trie source.now) source.now.from [] (entries v.items)) }
     ensures few_exports { IfOk result (λ v. length v.items ≤ source.now.upto - source.now.from) }
-    ensures visits { Visits (trie_in source.now) source.now.from steps.old steps.new result }
+    ensures visits { Visits (source_trie source.now) source.now.from steps.old steps.new result }
     ensures few_visits { steps.new ≤ steps.old + (source.now.upto - source.now.from) }
     ensures refused { IfErr result (Stands (fault_in source.now)) }
 {

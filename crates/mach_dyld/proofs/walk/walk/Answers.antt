@@ -1,9 +1,5 @@
-use Rattle.std.proofs.Common.{◌≡◌, ◌<◌, ◌-◌, ◌∙◌, [], ◌∷◌, List, length, set, reverse, replicate, Bool, true, false, refl, sym, ap, subst, arith}
-use Rattle.std.proofs.lemmas.Result.{err_from_is_err_and}
-use Rattle.std.specs.Str.{IsUtf8}
-use Rattle.mach_base.proofs.Faults.{Stands-failed}
-use Rattle.mach_dyld.specs.Exports.{entries}
-use Rattle.mach_dyld.specs.WalkViews.{node_in, fault_in, Opens}
+use Rattle.mach_dyld.proofs.Names.{◌≡◌, ◌<◌, ◌-◌, ◌∙◌, [], ◌∷◌, List, length, set, reverse, replicate, Bool, true, false, refl, sym, ap, subst, arith}
+use Rattle.mach_dyld.proofs.Names.{err_from_is_err_and, IsUtf8, Stands-failed, entries, node_in, fault_in, OpensNode}
 use Rattle.mach_dyld.proofs.WalkTurns as turn
 use Rattle.mach_dyld.proofs.WalkTurns.{Holds, emptied, popped, next_of, work, less_opened}
 use Rattle.mach_dyld.proofs.walk.walk.Goals as goal
@@ -12,7 +8,8 @@ pub returns-then-from-upto-clause-tree : goal.returns-then-from-upto-clause-tree
 returns-then-from-upto-clause-tree g c = turn.nothing_tree c.args.source.now (omega arith)
 
 pub returns-then-from-upto-clause-listed : goal.returns-then-from-upto-clause-listed
-returns-then-from-upto-clause-listed g c = turn.nothing_listed c.args.source.now (entries c.new-found.result.items) (omega arith) (ap entries c.new-found.ensures.items)
+returns-then-from-upto-clause-listed g c =
+    turn.nothing_listed c.args.source.now (entries c.new-found.result.items) (omega arith) (ap entries c.new-found.ensures.items)
 
 pub returns-then-from-upto-clause-visits : goal.returns-then-from-upto-clause-visits
 returns-then-from-upto-clause-visits g c = turn.nothing_visited c.args.source.now c.args.steps.now _ (omega arith)
@@ -33,9 +30,11 @@ pub turns-init : goal.turns-init
 turns-init g c =
     let inside : c.args.source.now.from < c.args.source.now.upto = omega arith in
     let shown = c.as_slice.ensures.value ∙ c.new-name.ensures.items in
-    let filled : c.in_ok-marks.marks.items ≡ replicate (c.args.source.now.upto - c.args.source.now.from) false = c.in_ok-marks.ensures.items_if_clones_equal (λ y e. e) in
-    let opens = subst (λ x. Opens c.args.source.now c.args.source.now.from x [] (entries c.open_node.new.found.items) c.in_ok-top.top) shown
-    (subst (λ x. Opens c.args.source.now c.args.source.now.from c.as_slice.result.now x (entries c.open_node.new.found.items) c.in_ok-top.top) (ap entries c.new-found.ensures.items) c.in_ok-top.ensures.ok) in
+    let filled : c.in_ok-marks.marks.items ≡ replicate (c.args.source.now.upto - c.args.source.now.from) false =
+    c.in_ok-marks.ensures.items_if_clones_equal (λ y e. e) in
+    let opens = subst (λ x. OpensNode c.args.source.now c.args.source.now.from x [] (entries c.open_node.new.found.items) c.in_ok-top.top) shown
+    (subst (λ x. OpensNode c.args.source.now c.args.source.now.from c.as_slice.result.now x (entries c.open_node.new.found.items) c.in_ok-top.top)
+    (ap entries c.new-found.ensures.items) c.in_ok-top.ensures.ok) in
     turn.moved c.new-name.ensures.items (ap (λ (x : List Bool). set x 0 true) filled) (ap reverse c.new-open.ensures.items) refl c.in_ok-top.ensures.visits
     (turn.begins c.args.source.now c.in_ok-top.top (entries c.open_node.new.found.items) c.args.steps.now inside opens ([], (refl, refl)))
 
@@ -87,15 +86,18 @@ returns-in_err-extend_from_slice-clause-visits g c =
 
 pub open_node-requires-then-start-upto : goal.open_node-requires-then-start-upto
 open_node-requires-then-start-upto g c =
-    subst IsUtf8 (sym (c.as_slice-then-start-upto.ensures.value ∙ c.in_ok-extend_from_slice.ensures.items)) (turn.name_utf8 c.turns.invariant (omega arith) c.read_again-start.ensures (omega arith))
+    subst IsUtf8 (sym (c.as_slice-then-start-upto.ensures.value ∙ c.in_ok-extend_from_slice.ensures.items))
+    (turn.name_utf8 c.turns.invariant (omega arith) c.read_again-start.ensures (omega arith))
 
 pub returns-in_err-child-clause-visits : goal.returns-in_err-child-clause-visits
 returns-in_err-child-clause-visits g c =
     let p = err_from_is_err_and c.from_residual-in_err-child.result c.from_residual-in_err-child.ensures.1 in
-    rw (p.1, p.2) (turn.child_visits c.turns.invariant (omega arith) c.read_again-start.ensures (omega arith) c.index.ensures c.if-index.false _ c.in_err-child.ensures.visits)
+    rw (p.1, p.2) (turn.child_visits c.turns.invariant (omega arith) c.read_again-start.ensures (omega arith)
+    c.index.ensures c.if-index.false _ c.in_err-child.ensures.visits)
 
 pub returns-in_err-child-clause-few_visits : goal.returns-in_err-child-clause-few_visits
-returns-in_err-child-clause-few_visits g c = turn.few_with_child c.turns.invariant (omega arith) c.read_again-start.ensures (omega arith) c.index.ensures c.if-index.false c.in_err-child.ensures.visits
+returns-in_err-child-clause-few_visits g c =
+    turn.few_with_child c.turns.invariant (omega arith) c.read_again-start.ensures (omega arith) c.index.ensures c.if-index.false c.in_err-child.ensures.visits
 
 pub returns-in_err-child-clause-refused : goal.returns-in_err-child-clause-refused
 returns-in_err-child-clause-refused g c =
@@ -106,20 +108,28 @@ returns-in_err-child-clause-refused g c =
 pub returns-in_err-push-clause-visits : goal.returns-in_err-push-clause-visits
 returns-in_err-push-clause-visits g c =
     let p = err_from_is_err_and c.from_residual-in_err-push.result c.from_residual-in_err-push.ensures.1 in
-    rw (p.1, p.2) (turn.child_visits c.turns.invariant (omega arith) c.read_again-start.ensures (omega arith) c.index.ensures c.if-index.false _ c.in_ok-child.ensures.visits)
+    rw (p.1, p.2) (turn.child_visits c.turns.invariant (omega arith) c.read_again-start.ensures (omega arith)
+    c.index.ensures c.if-index.false _ c.in_ok-child.ensures.visits)
 
 pub returns-in_err-push-clause-few_visits : goal.returns-in_err-push-clause-few_visits
-returns-in_err-push-clause-few_visits g c = turn.few_with_child c.turns.invariant (omega arith) c.read_again-start.ensures (omega arith) c.index.ensures c.if-index.false c.in_ok-child.ensures.visits
+returns-in_err-push-clause-few_visits g c =
+    turn.few_with_child c.turns.invariant (omega arith) c.read_again-start.ensures (omega arith) c.index.ensures c.if-index.false c.in_ok-child.ensures.visits
 
 pub turns-smaller-then-start-upto : goal.turns-smaller-then-start-upto
 turns-smaller-then-start-upto g c =
     let stack = popped c.push.new.self.items c.turns.open.items (next_of c.turns.top c.read_again-start.result.2) c.in_ok-push.ensures.items in
-    subst (λ os. work (length c.args.source.now.bytes.now) (set c.turns.marks.items (c.read_again-start.result.1 - c.args.source.now.from) true) (c.in_ok-child.child ∷ os) < work (length c.args.source.now.bytes.now) c.turns.marks.items (c.turns.top ∷ reverse c.turns.open.items)) (sym stack)
-    (less_opened (length c.args.source.now.bytes.now) c.turns.marks.items c.turns.top c.in_ok-child.child c.read_again-start.result.2 (c.read_again-start.result.1 - c.args.source.now.from) (reverse c.turns.open.items) (omega arith) c.in_ok-child.ensures.ok.few (turn.within c.turns.invariant (omega arith) c.read_again-start.ensures (omega arith)) (turn.clear c.turns.invariant (omega arith) c.read_again-start.ensures (omega arith) c.index.ensures c.if-index.false))
+    subst (λ os. work (length c.args.source.now.bytes.now) (set c.turns.marks.items (c.read_again-start.result.1 - c.args.source.now.from) true)
+    (c.in_ok-child.child ∷ os) < work (length c.args.source.now.bytes.now) c.turns.marks.items (c.turns.top ∷ reverse c.turns.open.items)) (sym stack)
+    (less_opened (length c.args.source.now.bytes.now) c.turns.marks.items c.turns.top c.in_ok-child.child c.read_again-start.result.2
+    (c.read_again-start.result.1 - c.args.source.now.from) (reverse c.turns.open.items) (omega arith) c.in_ok-child.ensures.ok.few
+    (turn.within c.turns.invariant (omega arith) c.read_again-start.ensures (omega arith))
+    (turn.clear c.turns.invariant (omega arith) c.read_again-start.ensures (omega arith) c.index.ensures c.if-index.false))
 
 pub turns-preserved-then-start-upto : goal.turns-preserved-then-start-upto
 turns-preserved-then-start-upto g c =
     let stack = popped c.push.new.self.items c.turns.open.items (next_of c.turns.top c.read_again-start.result.2) c.in_ok-push.ensures.items in
     let shown = c.as_slice-then-start-upto.ensures.value ∙ c.in_ok-extend_from_slice.ensures.items in
-    let opens = subst (λ x. Opens c.args.source.now c.read_again-start.result.1 x (entries c.turns.found.items) (entries c.open_node-then-start-upto.new.found.items) c.in_ok-child.child) shown c.in_ok-child.ensures.ok in
-    turn.moved c.in_ok-extend_from_slice.ensures.items refl stack refl c.in_ok-child.ensures.visits (turn.opened c.turns.invariant (omega arith) c.read_again-start.ensures (omega arith) c.index.ensures c.if-index.false opens)
+    let opens = subst (λ x. OpensNode c.args.source.now c.read_again-start.result.1 x (entries c.turns.found.items)
+    (entries c.open_node-then-start-upto.new.found.items) c.in_ok-child.child) shown c.in_ok-child.ensures.ok in
+    turn.moved c.in_ok-extend_from_slice.ensures.items refl stack refl c.in_ok-child.ensures.visits
+    (turn.opened c.turns.invariant (omega arith) c.read_again-start.ensures (omega arith) c.index.ensures c.if-index.false opens)

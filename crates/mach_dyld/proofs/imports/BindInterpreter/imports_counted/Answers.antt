@@ -1,11 +1,5 @@
-use Rattle.std.proofs.Common.{◌≡◌, ◌∙◌, ◌+◌, ◌++◌, ap, refl, arith, length}
-use Rattle.std.proofs.lemmas.Result.{err_from_is_err_and}
-use Rattle.std.proofs.lemmas.List.{append-nil}
-use Rattle.mach_base.specs.Context.{pointer_size}
-use Rattle.mach_dyld.specs.Imports.{input_in}
-use Rattle.mach_dyld.specs.BindViews.{imports_seen}
-use Rattle.mach_dyld.specs.Exports.{texts}
-use Rattle.mach_dyld.specs.BindLeft.{imports_left}
+use Rattle.mach_dyld.proofs.Names.{◌≡◌, ◌∙◌, ◌+◌, ◌++◌, ap, refl, arith, length, err_from_is_err_and, append-nil, pointer_size, input_in, imports_seen, texts}
+use Rattle.mach_dyld.proofs.Names.{imports_left}
 use Rattle.mach_dyld.proofs.BindLists.{oks, list_from_items, beginnings_have}
 use Rattle.mach_dyld.proofs.BindListed.{refuses, has_none, none_at_end, no_reads_at_end}
 use Rattle.mach_dyld.proofs.imports.BindInterpreter.imports_counted.Goals as goal
@@ -13,13 +7,15 @@ use Rattle.mach_dyld.proofs.imports.BindInterpreter.imports_counted.Goals as goa
 pub returns-in-Err-clause-only : goal.returns-in-Err-clause-only
 returns-in-Err-clause-only g c = λ list l.
     let it = c.start-left.ensures.items in
-    absurd (has_none c.args.self.now (pointer_size c.args.ctx.container) (texts c.args.libs.now) c.args.segments.now it.0 it.1 _ it.2 (imports_seen c.binds.found.items) _ c.binds.invariant.items
+    absurd (has_none c.args.self.now (pointer_size c.args.ctx.container) (texts c.args.libs.now) c.args.segments.now it.0 it.1 _ it.2
+    (imports_seen c.binds.found.items) _ c.binds.invariant.items
     c.end_at_instruction.result (c.in-Err.ensures.items ∙ c.end_at_instruction.ensures.0) list l)
 
 pub returns-in-Err-clause-refused : goal.returns-in-Err-clause-refused
 returns-in-Err-clause-refused g c =
     let it = c.start-left.ensures.items in
-    refuses c.args.self.now (pointer_size c.args.ctx.container) (texts c.args.libs.now) c.args.segments.now it.0 it.1 _ it.2 (imports_seen c.binds.found.items) _ c.binds.invariant.items
+    refuses c.args.self.now (pointer_size c.args.ctx.container) (texts c.args.libs.now) c.args.segments.now it.0 it.1 _ it.2 (imports_seen c.binds.found.items)
+    _ c.binds.invariant.items
     c.end_at_instruction.result (c.in-Err.ensures.items ∙ c.end_at_instruction.ensures.0)
 
 pub returns-in-Err-clause-bounded : goal.returns-in-Err-clause-bounded
@@ -30,13 +26,15 @@ returns-in-Err-clause-bounded g c =
 pub returns-in_default-clause-only : goal.returns-in_default-clause-only
 returns-in_default-clause-only g c = λ list l.
     let it = c.start-left.ensures.items in
-    absurd (has_none c.args.self.now (pointer_size c.args.ctx.container) (texts c.args.libs.now) c.args.segments.now it.0 it.1 _ it.2 (imports_seen c.binds.found.items) _ c.binds.invariant.items
+    absurd (has_none c.args.self.now (pointer_size c.args.ctx.container) (texts c.args.libs.now) c.args.segments.now it.0 it.1 _ it.2
+    (imports_seen c.binds.found.items) _ c.binds.invariant.items
     c.end_at_bind.result (c.in-Ok-true.ensures.items ∙ c.in_default.ensures.none.0 ∙ c.end_at_bind.ensures.0) list l)
 
 pub returns-in_default-clause-refused : goal.returns-in_default-clause-refused
 returns-in_default-clause-refused g c =
     let it = c.start-left.ensures.items in
-    refuses c.args.self.now (pointer_size c.args.ctx.container) (texts c.args.libs.now) c.args.segments.now it.0 it.1 _ it.2 (imports_seen c.binds.found.items) _ c.binds.invariant.items
+    refuses c.args.self.now (pointer_size c.args.ctx.container) (texts c.args.libs.now) c.args.segments.now it.0 it.1 _ it.2 (imports_seen c.binds.found.items)
+    _ c.binds.invariant.items
     c.end_at_bind.result (c.in-Ok-true.ensures.items ∙ c.in_default.ensures.none.0 ∙ c.end_at_bind.ensures.0)
 
 pub returns-in_default-clause-bounded : goal.returns-in_default-clause-bounded
@@ -57,7 +55,8 @@ returns-clause-listed g c =
     let it = c.start-left.ensures.items in
     let list = imports_seen c.binds.found.items in
     let whole : imports_left c.start-left.result ≡ oks list =
-    c.binds.invariant.items ∙ ap (λ m. oks list ++ m) (c.in-Ok-false.ensures.items ∙ none_at_end _ (c.in-Ok-false.ensures.end c.in-Ok-false.field-0-test)) ∙ append-nil _ in
+    c.binds.invariant.items ∙ ap (λ m. oks list ++ m) (c.in-Ok-false.ensures.items ∙ none_at_end _ (c.in-Ok-false.ensures.end c.in-Ok-false.field-0-test))
+    ∙ append-nil _ in
     (it.0, it.1, list_from_items x b.non_lazy b.lazy it.0 it.1 (imports_left c.start-left.result) list it.2 whole)
 
 pub returns-clause-reads : goal.returns-clause-reads
@@ -70,5 +69,9 @@ returns-clause-reads g c =
     let whole : imports_left c.start-left.result ≡ oks list =
     c.binds.invariant.items ∙ ap (λ m. oks list ++ m) (c.in-Ok-false.ensures.items ∙ none_at_end _ end) ∙ append-nil _ in
     let all = list_from_items x b.non_lazy b.lazy it.0 it.1 (imports_left c.start-left.result) list it.2 whole in
-    let none = no_reads_at_end _ end in
-    (length it.0 + length it.1, (it.0, it.1, all.stream, all.lazy_stream, refl), omega (arith, none, c.in-Ok-false.ensures.reads, c.binds.invariant.reads, it.3))
+    let none = no_reads_at_end _ end in (
+      length it.0 + length it.1,
+      (it.0, it.1, all.stream, all.lazy_stream, refl),
+      omega
+          (arith, none, c.in-Ok-false.ensures.reads, c.binds.invariant.reads, it.3),
+    )

@@ -1,6 +1,4 @@
-use Rattle.std.proofs.Common.{◌≡◌, ◌+◌, ◌++◌, length, false}
-use Rattle.mach_dyld.specs.BindViews.{imports_seen}
-use Rattle.mach_dyld.specs.BindLeft.{imports_left, reads_left}
+use Rattle.mach_dyld.proofs.Names.{◌≡◌, ◌≤◌, ◌+◌, ◌++◌, length, false, imports_seen, imports_left, reads_left}
 use Rattle.mach_dyld.proofs.BindLists.{oks}
 use Rattle.mach_dyld.proofs.imports.BindInterpreter.imports_counted.Given as goal
 
@@ -9,6 +7,7 @@ invariant-binds g l = record {
   items : imports_left l.initial.left ≡ oks (imports_seen l.found.items) ++ imports_left l.left;
   on : l.left.state.ended ≡ false;
   reads : l.steps + reads_left l.left ≡ l.initial.steps + reads_left l.initial.left;
+  kept : l.initial.steps ≤ l.steps;
 }
 
 abbrev pub decreases-binds : goal.decreases-binds

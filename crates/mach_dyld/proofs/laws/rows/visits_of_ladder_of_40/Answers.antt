@@ -1,9 +1,4 @@
-use Rattle.std.proofs.Common.{◌≡◌, ◌+◌, ℕ, zero, suc, true, List, refl, [], ◌∷◌, None, inl, lit<}
-use Rattle.mach_dyld.specs.Trie.{Node}
-use Rattle.mach_dyld.specs.Nodes.{trie_of}
-use Rattle.mach_dyld.specs.Paths.{Leads}
-use Rattle.mach_dyld.specs.TrieFault.{met_again}
-use Rattle.mach_dyld.specs.TrieRows.{ladder_of_40}
+use Rattle.mach_dyld.proofs.Names.{◌≡◌, ◌+◌, ℕ, zero, suc, true, List, refl, [], ◌∷◌, None, inl, lit<, Node, trie_of, Leads, met_again, ladder_of_40}
 use Rattle.mach_dyld.proofs.Computing.{computing}
 use Rattle.mach_dyld.proofs.TrieVisits.{is_closed, all_among, within_nodes}
 use Rattle.mach_dyld.proofs.laws.rows.visits_of_ladder_of_40.Goals as goal
@@ -33,4 +28,5 @@ returns-clause-fault g c = met_again (0 ∷ []) (1 ∷ []) 10 one other (lit< tt
 
 pub returns-clause-visits : goal.returns-clause-visits
 returns-clause-visits g c = λ old new answer visits.
-    within_nodes (trie_of ladder_of_40 [] 0 404) 0 old new answer (tens 40 0) visits (λ path at l inside. all_among (trie_of ladder_of_40 [] 0 404) (tens 40 0) closed path 0 at (inl refl) l inside)
+    within_nodes (trie_of ladder_of_40 [] 0 404) 0 old new answer (tens 40 0) visits
+    (λ path at l inside. all_among (trie_of ladder_of_40 [] 0 404) (tens 40 0) closed path 0 at (inl refl) l inside)

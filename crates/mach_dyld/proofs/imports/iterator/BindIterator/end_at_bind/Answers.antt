@@ -1,6 +1,4 @@
-use Rattle.std.proofs.Common.{◌≡◌, suc, ◌-◌, ◌∷◌, [], ◌∙◌, refl, sym, ap, arith, Err}
-use Rattle.mach_base.specs.Fault.{malformed}
-use Rattle.mach_dyld.specs.BindLeft.{input_of, lazy_of, state_of, imports_left}
+use Rattle.mach_dyld.proofs.Names.{◌≡◌, suc, ◌-◌, ◌∷◌, [], ◌∙◌, refl, sym, ap, arith, Err, malformed, input_of, lazy_of, state_of, imports_left}
 use Rattle.mach_dyld.proofs.BindSteps.{at_end, after_refusal}
 use Rattle.mach_dyld.proofs.imports.iterator.BindIterator.end_at_bind.Goals as goal
 
@@ -9,6 +7,7 @@ unfolding imports_left
 returns c =
     let it = c.args.self.now in
     let k : it.state.count ≡ suc (it.state.count - 1) = omega arith in (
-      after_refusal (input_of it.source) (lazy_of it) (state_of it.state) (it.state.count - 1) malformed k c.requires.on c.requires.none ∙ ap (λ f. Err f ∷ []) (sym c.bind_error.ensures),
-      at_end (input_of it.source) (lazy_of it) _ refl,
+      after_refusal (input_of it.source) (lazy_of it) (state_of it.state) (it.state.count - 1) malformed k c.requires.on c.requires.none
+          ∙ ap (λ f. Err f ∷ []) (sym c.bind_error.ensures),
+      (at_end (input_of it.source) (lazy_of it) _ refl).items,
     )
