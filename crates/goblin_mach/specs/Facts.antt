@@ -23,6 +23,10 @@ pub record OfImage (bytes : List ℕ) (o : ℕ) (Holds : Ctx → List Command �
   pub opens : LossyOpensAs bytes o ctx cs
   pub holds : Holds ctx cs
 
+-- its load commands, in order
+abbrev pub HasCommands : List ℕ → ℕ → List Command → Type 0
+HasCommands bytes o commands = OfImage bytes o (λ ctx cs. commands ≡ cs)
+
 -- its symbols: those of its last table, each with its name or why one of them is missing
 abbrev pub HasSymbols : List ℕ → ℕ → List (Result (List ℕ × Nlist) Fault) → Type 0
 HasSymbols bytes o rows = OfImage bytes o (λ ctx cs. rows ≡ symbols_in (table_in ctx bytes cs))

@@ -3,7 +3,7 @@ use Rattle.std.proofs.lemmas.Result.{err_from_is_err_and}
 use Rattle.mach_base.proofs.Faults.{Stands-in}
 use Rattle.mach_load.specs.Variants.{command_of}
 use Rattle.goblin_mach.specs.EntryPoint.{EntryPointFault}
-use Rattle.goblin_mach.specs.Image.{LossyFault, HasFront, HasCommands, broken_chain, unknown_thread, no_entry_point}
+use Rattle.goblin_mach.specs.Image.{LossyFault, HasFront, HasWholeChain, broken_chain, unknown_thread, no_entry_point}
 use Rattle.goblin_mach.specs.Magic.{cputype_at}
 use Rattle.goblin_mach.proofs.image.opened.Opened.read.Goals as goal
 
@@ -22,7 +22,7 @@ returns-in_err-address-clause-refused g c =
     let ctx = c.in_ok-ctx.ctx in
     let chain = rw c.size_with.ensures at commands.chain in
     let front : HasFront c.args.bytes.now c.args.offset ctx cs = record { header = known.found; counts = known.counts; chain = chain; count = omega (arith, commands.count, known.ncmds) } in
-    let whole : HasCommands c.args.bytes.now c.args.offset ctx cs = record { header = known.found; counts = known.counts; chain = record { chain = chain; count = omega (arith, commands.count, known.ncmds) } } in
+    let whole : HasWholeChain c.args.bytes.now c.args.offset ctx cs = record { header = known.found; counts = known.counts; chain = record { chain = chain; count = omega (arith, commands.count, known.ncmds) } } in
     let p = err_from_is_err_and c.from_residual-in_err-address.result c.from_residual-in_err-address.ensures.1 in
     let fault = rw (c.deref.ensures.value, known.cputype) at c.in_err-address.ensures.refused in
     rw (p.1, p.2) (Stands-in (EntryPointFault (cputype_at ctx c.args.bytes.now c.args.offset) cs) (LossyFault c.args.bytes.now c.args.offset) c.in_err-address.field-0.0
