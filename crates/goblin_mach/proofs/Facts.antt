@@ -16,9 +16,11 @@ use Rattle.mach_dyld.specs.Imports.{BindRanges, Import}
 use Rattle.mach_dyld.specs.Trie as trie
 use Rattle.mach_dyld.specs.TrieRange.{TrieRange}
 use Rattle.goblin_mach.specs.EntryPoint.{EntryPoint, entry_point_in}
-use Rattle.goblin_mach.specs.Facts.{OfImage, HasCommands, HasSymbols, HasSegments, HasRelocations, HasName, HasLibraries, HasRunPaths, HasEntryPoint, HasExports, HasExportsFault, HasImports, HasImportsFault, HasImportItems, AreSegments}
+use Rattle.goblin_mach.specs.Facts.{OfImage, HasCommands, HasSymbols, HasSegments, HasRelocations, HasName, HasLibraries, HasRunPaths, HasEntryPoint}
+use Rattle.goblin_mach.specs.Facts.{HasExports, HasExportsFault, HasImports, HasImportsFault, HasImportItems, AreSegments}
 use Rattle.goblin_mach.specs.Image.{LossyOpensAs}
-use Rattle.goblin_mach.specs.Subjects.{binds_in, ListsImageImports, ImageImportsFault, AreImageBindItems, lossy_segment_by, trie_in, ListsImageExports, ImageExportsFault, own_name_in, libs_in, run_path_by, table_in, symbols_in, symbols_held}
+use Rattle.goblin_mach.specs.Subjects.{binds_in, ListsImageImports, ImageImportsFault, AreImageBindItems, lossy_segment_by, trie_in, ListsImageExports}
+use Rattle.goblin_mach.specs.Subjects.{ImageExportsFault, own_name_in, libs_in, run_path_by, table_in, symbols_in, symbols_held}
 use Rattle.goblin_mach.specs.Magic.{cputype_at}
 use Rattle.goblin_mach.specs.OpenImage.{IsImage, IsLossyImage, HasFields, commands_held, segments_held, trie_held, binds_held, ctx_held, bytes_held}
 use Rattle.goblin_mach.specs.Readings.{read_of}
@@ -53,11 +55,13 @@ module _ {A : Type 0} (bytes : List ℕ) (o : ℕ) (m : MachO A) (p : IsLossyIma
       let same_ctx : q.ctx ≡ p.ctx = same_header bytes o q.ctx p.ctx q.opens.header p.opens.header in
       let chain = (subst (λ (c : Ctx). LossyOpensAs bytes o c q.cs) same_ctx q.opens).chain in
       let whole = p.opens.chain in
-      let same : q.cs ≡ commands_held m = same_chain p.ctx.le bytes (o + header_size p.ctx.container) q.cs (commands_held m) chain.chain whole.chain (chain.count ∙ sym whole.count) in
+      let same : q.cs ≡ commands_held m = same_chain p.ctx.le bytes (o + header_size p.ctx.container) q.cs (commands_held m) chain.chain whole.chain
+      (chain.count ∙ sym whole.count) in
       moved Holds q.ctx p.ctx q.cs (commands_held m) same_ctx same q.holds
 
   -- a value that is so and no other
-  is_just : {X : Type 0} (there : Ctx → List Command → X) (held x : X) → held ≡ there p.ctx (commands_held m) → OfImage bytes o (λ ctx cs. x ≡ there ctx cs) ↔ (x ≡ held)
+  is_just : {X : Type 0} (there : Ctx → List Command → X) (held x : X) → held ≡ there p.ctx (commands_held m)
+      → OfImage bytes o (λ ctx cs. x ≡ there ctx cs) ↔ (x ≡ held)
   is_just there held x same =
       ((λ h. image_of (λ ctx cs. x ≡ there ctx cs) h ∙ sym same), (λ e. of_image (λ ctx cs. x ≡ there ctx cs) (e ∙ same)))
 
@@ -70,9 +74,11 @@ module _ {A : Type 0} (bytes : List ℕ) (o : ℕ) (m : MachO A) (p : IsLossyIma
   pub segments_are : (segments : List SegmentView) → HasSegments bytes o segments ↔ (segments ≡ segments_held m)
   segments_are segments = is_just (λ ctx cs. read_of (lossy_segment_by ctx bytes) cs) (segments_held m) segments p.fields.segments
 
-  pub relocations_are : (found : Result (List RelocatedSection) Fault) → HasRelocations bytes o found ↔ (found ≡ relocated_sections_in (ctx_held m) (bytes_held m) (segments_held m))
+  pub relocations_are : (found : Result (List RelocatedSection) Fault)
+      → HasRelocations bytes o found ↔ (found ≡ relocated_sections_in (ctx_held m) (bytes_held m) (segments_held m))
   relocations_are found =
-      is_just (λ ctx cs. relocated_sections_in ctx bytes (read_of (lossy_segment_by ctx bytes) cs)) (relocated_sections_in (ctx_held m) (bytes_held m) (segments_held m)) found
+      is_just (λ ctx cs. relocated_sections_in ctx bytes (read_of (lossy_segment_by ctx bytes) cs))
+      (relocated_sections_in (ctx_held m) (bytes_held m) (segments_held m)) found
       (ap (λ c. relocated_sections_in c (bytes_held m) (segments_held m)) p.fields.ctx_is
       ∙ ap (λ bs. relocated_sections_in p.ctx bs (segments_held m)) p.fields.bytes_is
       ∙ ap (relocated_sections_in p.ctx bytes) p.fields.segments)
@@ -120,7 +126,12 @@ module _ {A : Type 0} (bytes : List ℕ) (o : ℕ) (m : MachO A) (p : IsLossyIma
       let segments = segments_in m.segments in
       let here : Says (binds_held m) (pointer_size p.ctx.container) (texts m.libs.items) segments =
       subst (λ (c : Ctx). Says (binds_held m) (pointer_size c.container) (texts m.libs.items) segments) p.fields.ctx_is h in
-      of_image (IsBound Says) (segments, p.fields.segments, moved (λ b l. Says b (pointer_size p.ctx.container) l segments) _ _ _ _ p.fields.binds p.fields.libs here)
+      of_image (IsBound Says) (
+        segments,
+        p.fields.segments,
+        moved (λ b l. Says b (pointer_size p.ctx.container) l segments) _ _ _ _ p.fields.binds p.fields.libs
+            here,
+      )
 
   -- segments that look alike make the same imports
   over_binds : (Says : Option BindRanges → ℕ → List (List ℕ) → List Segment → Type 0)
@@ -130,7 +141,8 @@ module _ {A : Type 0} (bytes : List ℕ) (o : ℕ) (m : MachO A) (p : IsLossyIma
     λ q.
         let segments = segments_in m.segments in
         let h = image_of (IsBound Says) q in
-        let there = kept (binds_in bytes (commands_held m)) (pointer_size p.ctx.container) (libs_in bytes (commands_held m)) h.0 segments (h.1 ∙ sym p.fields.segments) h.2 in
+        let there = kept (binds_in bytes (commands_held m)) (pointer_size p.ctx.container) (libs_in bytes (commands_held m)) h.0 segments
+        (h.1 ∙ sym p.fields.segments) h.2 in
         subst (λ (c : Ctx). Says (binds_held m) (pointer_size c.container) (texts m.libs.items) segments) (sym p.fields.ctx_is)
         (moved (λ b l. Says b (pointer_size p.ctx.container) l segments) _ _ _ _ (sym p.fields.binds) (sym p.fields.libs) there),
     bound Says,

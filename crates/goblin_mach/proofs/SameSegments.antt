@@ -1,5 +1,6 @@
 -- Imports depend on no more of their segments than contracts see.
-use Rattle.std.proofs.Common.{◌≡◌, ◌++◌, ℕ, Bool, true, false, cond, List, [], ◌∷◌, map, Option, Some, None, Result, Ok, Err, inl, inr, slice_get, nat_lt, refl, sym, ap, ◌∙◌}
+use Rattle.std.proofs.Common.{◌≡◌, ◌++◌, ℕ, Bool, true, false, cond, List, [], ◌∷◌, map, Option, Some, None, Result, Ok, Err, inl, inr, slice_get, nat_lt, refl}
+use Rattle.std.proofs.Common.{sym, ap, ◌∙◌}
 use Rattle.std.specs.Prelude.{option_map}
 use Rattle.std.proofs.lemmas.Option.{slice_get-map}
 use Rattle.mach_base.specs.Answer.{◌>>=◌}
@@ -32,20 +33,23 @@ target_at dylib fileoff vmaddr offset = do
   Ok (record { dylib = dylib; offset = in_file; address = address })
 
 held : (dylib : List ℕ) (s : Segment) (offset : ℕ) (inside : Bool)
-    → (cond inside (Ok s) (Err malformed) >>= λ (h : Segment). target_at dylib h.fileoff h.vmaddr offset) ≡ cond inside (target_at dylib s.fileoff s.vmaddr offset) (Err malformed)
+    → (cond inside (Ok s) (Err malformed) >>= λ (h : Segment). target_at dylib h.fileoff h.vmaddr offset)
+    ≡ cond inside (target_at dylib s.fileoff s.vmaddr offset) (Err malformed)
 held dylib s offset true = refl
 held dylib s offset false = refl
 
 some_is : (v w : SegmentView) → Some v ≡ Some w → v ≡ w
 some_is v w e = cc
 
-same_found : (dylib : List ℕ) (s t : Segment) (offset : ℕ) → segment_view s ≡ segment_view t → target_with (Ok dylib) (Some s) offset ≡ target_with (Ok dylib) (Some t) offset
+same_found : (dylib : List ℕ) (s t : Segment) (offset : ℕ) → segment_view s ≡ segment_view t
+    → target_with (Ok dylib) (Some s) offset ≡ target_with (Ok dylib) (Some t) offset
 same_found dylib s t offset e =
     held dylib s offset (nat_lt offset s.vmsize)
     ∙ ap (λ (v : SegmentView). cond (nat_lt offset v.command.vmsize) (target_at dylib v.command.fileoff v.command.vmaddr offset) (Err malformed)) e
     ∙ sym (held dylib t offset (nat_lt offset t.vmsize))
 
-same_with : (library : Result (List ℕ) Fault) (a b : Option Segment) (offset : ℕ) → option_map segment_view a ≡ option_map segment_view b → target_with library a offset ≡ target_with library b offset
+same_with : (library : Result (List ℕ) Fault) (a b : Option Segment) (offset : ℕ) → option_map segment_view a ≡ option_map segment_view b
+    → target_with library a offset ≡ target_with library b offset
 same_with (Err f) a b offset e = refl
 same_with (Ok dylib) None None offset e = refl
 same_with (Ok dylib) None (Some t) offset e = absurd (cc)
@@ -64,7 +68,8 @@ module _ (b : BindRanges) (pointer : ℕ) (libs : List (List ℕ)) (xs ys : List
 
   same_target : (library segment offset : ℕ) → target_of x library segment offset ≡ target_of y library segment offset
   unfolding target_of
-  same_target library segment offset = same_with (found_or_malformed (slice_get libs library)) (slice_get xs segment) (slice_get ys segment) offset (same_place segment)
+  same_target library segment offset =
+      same_with (found_or_malformed (slice_get libs library)) (slice_get xs segment) (slice_get ys segment) offset (same_place segment)
 
   same_import : (d : Bind) → import_of x d ≡ import_of y d
   unfolding import_of
@@ -72,7 +77,8 @@ module _ (b : BindRanges) (pointer : ℕ) (libs : List (List ℕ)) (xs ys : List
 
   same_map : (ds : List Bind) → map (import_of x) ds ≡ map (import_of y) ds
   same_map [] = refl
-  same_map (d ∷ ds) = ap (λ (i : Result Import Fault). i ∷ map (import_of x) ds) (same_import d) ∙ ap (λ (is : List (Result Import Fault)). import_of y d ∷ is) (same_map ds)
+  same_map (d ∷ ds) =
+      ap (λ (i : Result Import Fault). i ∷ map (import_of x) ds) (same_import d) ∙ ap (λ (is : List (Result Import Fault)). import_of y d ∷ is) (same_map ds)
 
   same_imports : (r : Range) (ps : List Placed) → imports_in x r ps ≡ imports_in y r ps
   unfolding imports_in

@@ -14,7 +14,8 @@ use Rattle.goblin_mach.specs.Image.{LossyOpensAs}
 use Rattle.goblin_mach.specs.Magic.{cputype_at}
 use Rattle.goblin_mach.specs.Readings.{read_of}
 use Rattle.goblin_mach.specs.Relocations.{RelocatedSection, relocated_sections_in}
-use Rattle.goblin_mach.specs.Subjects.{binds_in, ListsImageImports, ImageImportsFault, AreImageBindItems, lossy_segment_by, trie_in, ListsImageExports, ImageExportsFault, own_name_in, libs_in, run_path_by, table_in, symbols_in}
+use Rattle.goblin_mach.specs.Subjects.{binds_in, ListsImageImports, ImageImportsFault, AreImageBindItems, lossy_segment_by, trie_in, ListsImageExports}
+use Rattle.goblin_mach.specs.Subjects.{ImageExportsFault, own_name_in, libs_in, run_path_by, table_in, symbols_in}
 
 -- An image opens at o, in lossy mode at least, and this holds of its context and its commands.
 pub record OfImage (bytes : List ℕ) (o : ℕ) (Holds : Ctx → List Command → Type 0) : Type 0 where

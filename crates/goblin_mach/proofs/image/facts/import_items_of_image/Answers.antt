@@ -3,4 +3,7 @@ use Rattle.goblin_mach.proofs.image.facts.import_items_of_image.Goals as goal
 
 pub returns : goal.returns
 returns g c =
-    let m = c.args.image.now in record { strict = λ bytes o p. import_items_are bytes o m (strict-lossy bytes o m p); lossy = λ bytes o p. import_items_are bytes o m p }
+    let m = c.args.image.now in record {
+      strict = λ bytes o p. import_items_are bytes o m (strict-lossy bytes o m p);
+      lossy = λ bytes o p. import_items_are bytes o m p;
+    }
