@@ -2,7 +2,7 @@
 use Rattle.std.proofs.Common.{◌≡◌, Result, Ok, Err}
 use Rattle.std.specs.Prelude.{IfErr, IsErrAnd}
 use Rattle.mach_base.specs.declared.error.Error.{Error}
-use Rattle.mach_base.specs.Answer.{FailsAs, Stands}
+use Rattle.mach_base.specs.Answer.{FailsAs, Gives, Stands}
 use Rattle.mach_base.specs.Fault.{Fault, fault_of}
 use Rattle.mach_base.proofs.Faults.{Stands-in, Stands-reported, Stands-failed}
 
@@ -23,3 +23,9 @@ exit_reported Q r e left h = exit_stands Q r e left (Stands-reported Q e h)
 pub exit_failed : {X Y : Type 0} (Q : Fault → Type 0) (r : Result X Error) (e : Error) → IsErrAnd r (λ x. x ≡ e)
     → (there : Result Y Fault) → ((f : Fault) → there ≡ Err f → Q f) → FailsAs e there → IfErr r (Stands Q)
 exit_failed Q r e left there to h = exit_stands Q r e left (Stands-failed Q e there to h)
+
+-- what fails as an error says fails so where it is answered
+pub exit_gives : {X Y : Type 0} (view : X → Y) (r : Result X Error) (e : Error) → IsErrAnd r (λ x. x ≡ e)
+    → (there : Result Y Fault) → FailsAs e there → Gives view r there
+exit_gives view (Ok x) e left there h = absurd left
+exit_gives view (Err x) e left there h = rw left h
