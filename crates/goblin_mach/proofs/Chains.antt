@@ -39,13 +39,18 @@ carried_linked le bytes s (c ∷ d ∷ cs) h = (
 )
 
 pub chain_carried : (le : Endian) (bytes : List ℕ) (s : ℕ) (cs : List Command) → Carries le bytes s cs → IsChain le bytes s cs
-chain_carried le bytes s cs h = record { there = carried_there le bytes s cs h; begins = carried_begins le bytes s cs h; linked = carried_linked le bytes s cs h }
+chain_carried le bytes s cs h = record {
+  there = carried_there le bytes s cs h;
+  begins = carried_begins le bytes s cs h;
+  linked = carried_linked le bytes s cs h;
+}
 
 pub chain_carries : (le : Endian) (bytes : List ℕ) (s : ℕ) (cs : List Command) → IsChain le bytes s cs → Carries le bytes s cs
 chain_carries le bytes s cs h = carries le bytes s cs h.there h.begins h.linked
 
 -- the place after the last
-pub end_carried : (le : Endian) (bytes : List ℕ) (s : ℕ) (c : Command) (cs : List Command) → Carries le bytes s (c ∷ cs) → chain_end s (c ∷ cs) ≡ chain_end (s + cmdsize_of c) cs
+pub end_carried : (le : Endian) (bytes : List ℕ) (s : ℕ) (c : Command) (cs : List Command) → Carries le bytes s (c ∷ cs)
+    → chain_end s (c ∷ cs) ≡ chain_end (s + cmdsize_of c) cs
 end_carried le bytes s c [] h = ap (λ (x : ℕ). x + cmdsize_of c) (offset_is le bytes s c h.0)
 end_carried le bytes s c (d ∷ []) h = refl
 end_carried le bytes s c (d ∷ e ∷ cs) h = end_anywhere s (s + cmdsize_of c) e cs
@@ -55,12 +60,14 @@ end_carried le bytes s c (d ∷ e ∷ cs) h = end_anywhere s (s + cmdsize_of c) 
     end_anywhere s t c (d ∷ cs) = end_anywhere s t d cs
 
 -- a chain grows by the command that stands at its end
-Carries-push : (le : Endian) (bytes : List ℕ) (s : ℕ) (cs : List Command) (c : Command) → Carries le bytes s cs → command_at le bytes (chain_end s cs) ≡ Ok c → Carries le bytes s (cs ++ c ∷ [])
+Carries-push : (le : Endian) (bytes : List ℕ) (s : ℕ) (cs : List Command) (c : Command) → Carries le bytes s cs → command_at le bytes (chain_end s cs) ≡ Ok c
+    → Carries le bytes s (cs ++ c ∷ [])
 Carries-push le bytes s [] c h e = (e, tt)
 Carries-push le bytes s (d ∷ ds) c h e =
     (h.0, Carries-push le bytes (s + cmdsize_of d) ds c h.1 (subst (λ (x : ℕ). command_at le bytes x ≡ Ok c) (end_carried le bytes s d ds h) e))
 
-pub IsChain-push : (le : Endian) (bytes : List ℕ) (s : ℕ) (cs : List Command) (c : Command) → IsChain le bytes s cs → command_at le bytes (chain_end s cs) ≡ Ok c → IsChain le bytes s (cs ++ c ∷ [])
+pub IsChain-push : (le : Endian) (bytes : List ℕ) (s : ℕ) (cs : List Command) (c : Command) → IsChain le bytes s cs
+    → command_at le bytes (chain_end s cs) ≡ Ok c → IsChain le bytes s (cs ++ c ∷ [])
 IsChain-push le bytes s cs c h e = chain_carried le bytes s (cs ++ c ∷ []) (Carries-push le bytes s cs c (chain_carries le bytes s cs h) e)
 
 pub chain_end-push : (s : ℕ) (cs : List Command) (c : Command) → chain_end s (cs ++ c ∷ []) ≡ c.offset + cmdsize_of c
@@ -85,7 +92,8 @@ same_carried le bytes s (c ∷ cs) (d ∷ ds) p q e =
 pub same_chain : (le : Endian) (bytes : List ℕ) (s : ℕ) (cs ds : List Command) → IsChain le bytes s cs → IsChain le bytes s ds → length cs ≡ length ds → cs ≡ ds
 same_chain le bytes s cs ds p q e = same_carried le bytes s cs ds (chain_carries le bytes s cs p) (chain_carries le bytes s ds q) e
 
-broken_carried : (le : Endian) (bytes : List ℕ) (s : ℕ) (front cs : List Command) (f : Fault) → Carries le bytes s front → Carries le bytes s cs → length front < length cs → command_at le bytes (chain_end s front) ≡ Err f → ⊥
+broken_carried : (le : Endian) (bytes : List ℕ) (s : ℕ) (front cs : List Command) (f : Fault) → Carries le bytes s front → Carries le bytes s cs
+    → length front < length cs → command_at le bytes (chain_end s front) ≡ Err f → ⊥
 broken_carried le bytes s [] [] f p q lt e = omega arith
 broken_carried le bytes s [] (c ∷ cs) f p q lt e = let h = q.0 in cc
 broken_carried le bytes s (d ∷ ds) [] f p q lt e = omega arith
@@ -95,11 +103,14 @@ broken_carried le bytes s (d ∷ ds) (c ∷ cs) f p q lt e =
     broken_carried le bytes (s + cmdsize_of d) ds cs f p.1 q' (omega arith) (subst (λ (x : ℕ). command_at le bytes x ≡ Err f) (end_carried le bytes s d ds p) e)
 
 -- a broken chain is no chain
-pub broken-excludes_chain : (le : Endian) (bytes : List ℕ) (s n : ℕ) (f : Fault) (cs : List Command) → IsBroken le bytes s n f → IsChain le bytes s cs → length cs ≡ n → ⊥
+pub broken-excludes_chain : (le : Endian) (bytes : List ℕ) (s n : ℕ) (f : Fault) (cs : List Command) → IsBroken le bytes s n f → IsChain le bytes s cs
+    → length cs ≡ n → ⊥
 broken-excludes_chain le bytes s n f cs broken chain count =
-    broken_carried le bytes s broken.front cs f (chain_carries le bytes s broken.front broken.chain) (chain_carries le bytes s cs chain) (let few = broken.fewer in omega arith) broken.fault
+    broken_carried le bytes s broken.front cs f (chain_carries le bytes s broken.front broken.chain) (chain_carries le bytes s cs chain)
+    (let few = broken.fewer in omega arith) broken.fault
 
-among_carried : (le : Endian) (bytes : List ℕ) (s : ℕ) (front cs : List Command) (c : Command) → Carries le bytes s front → Carries le bytes s cs → length front ≤ length cs → IsAmong c front → IsAmong c cs
+among_carried : (le : Endian) (bytes : List ℕ) (s : ℕ) (front cs : List Command) (c : Command) → Carries le bytes s front → Carries le bytes s cs
+    → length front ≤ length cs → IsAmong c front → IsAmong c cs
 among_carried le bytes s [] cs c p q few among = absurd among
 among_carried le bytes s (d ∷ ds) [] c p q few among = absurd (omega arith)
 among_carried le bytes s (d ∷ ds) (e ∷ es) c p q few among =
@@ -111,5 +122,7 @@ among_carried le bytes s (d ∷ ds) (e ∷ es) c p q few among =
     ]
 
 -- a command of a front is one of the whole chain
-pub among-front : (le : Endian) (bytes : List ℕ) (s : ℕ) (front cs : List Command) (c : Command) → IsChain le bytes s front → IsChain le bytes s cs → length front ≤ length cs → IsAmong c front → IsAmong c cs
-among-front le bytes s front cs c p q few among = among_carried le bytes s front cs c (chain_carries le bytes s front p) (chain_carries le bytes s cs q) few among
+pub among-front : (le : Endian) (bytes : List ℕ) (s : ℕ) (front cs : List Command) (c : Command) → IsChain le bytes s front → IsChain le bytes s cs
+    → length front ≤ length cs → IsAmong c front → IsAmong c cs
+among-front le bytes s front cs c p q few among =
+    among_carried le bytes s front cs c (chain_carries le bytes s front p) (chain_carries le bytes s cs q) few among

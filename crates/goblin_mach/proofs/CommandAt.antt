@@ -10,8 +10,10 @@ use Rattle.mach_load.specs.Command.{Command, body_at, command_by, command_at}
 
 pub offset_is : (le : Endian) (bytes : List ℕ) (s : ℕ) (c : Command) → command_at le bytes s ≡ Ok c → c.offset ≡ s
 offset_is le bytes s c e =
-    let header = bind_ok (record_at le header_fields bytes s) (λ (h : List Value). cond (ltb (length bytes - s) (number_among h 1)) (Err malformed) (command_by (row_of (number_among h 0)) le bytes s)) c e in
-    elim (chosen (ltb (length bytes - s) (number_among header.0 1)) (Err malformed) (command_by (row_of (number_among header.0 0)) le bytes s) (Ok c) header.2) [
+    let header = bind_ok (record_at le header_fields bytes s)
+    (λ (h : List Value). cond (ltb (length bytes - s) (number_among h 1)) (Err malformed) (command_by (row_of (number_among h 0)) le bytes s)) c e in
+    let found = command_by (row_of (number_among header.0 0)) le bytes s in
+    elim (chosen (ltb (length bytes - s) (number_among header.0 1)) (Err malformed) found (Ok c) header.2) [
       | inl none ↦ absurd (let wrong = none.1 in cc)
       | inr is ↦
           let row = row_of (number_among header.0 0) in

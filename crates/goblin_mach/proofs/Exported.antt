@@ -1,9 +1,11 @@
 -- The export of a name, sought one after the other.
-use Rattle.std.proofs.Common.{◌≡◌, ◌≢◌, ◌∙◌, ℕ, ◌<◌, List, length, take, get_or, refl, sym, ap, subst}
+use Rattle.std.proofs.Common.{◌≡◌, ◌≢◌, ◌∙◌, ◌⊎◌, ℕ, ◌<◌, suc, Bool, true, false, List, [], ◌∷◌, length, take, get_or, inl, inr, refl, sym, ap, subst}
+use Rattle.std.specs.Bool.{Decides}
 use Rattle.std.specs.Prelude.{All, option_map, string_bytes}
 use Rattle.std.proofs.lemmas.List.{take-map}
-use Rattle.std.proofs.lemmas.List.Elements.{All-map}
+use Rattle.std.proofs.lemmas.List.Elements.{All-cons, All-map, All-nil}
 use Rattle.std.proofs.lemmas.Option.{slice_get-map, slice_get_read, slice_get_within, get_or_from_slice_get}
+use Rattle.std.proofs.lemmas.Slice.Eq.{bytes_eq-Decides}
 use Rattle.mach_dyld.specs.Exports.{entries, entry_of}
 use Rattle.mach_dyld.specs.Trie.{Entry}
 use Rattle.mach_dyld.specs.declared.exports.Export.{Export}
@@ -18,6 +20,24 @@ first-exported name list i e first =
 pub exported-excludes_none : (name : List ℕ) (address : ℕ) (list : List Entry) → IsExportedAt name address list → IsNotExported name list → ⊥
 exported-excludes_none name address list some none =
     none some.0 some.1 some.2 (ap (λ (e : Entry). e.name) some.3 ∙ some.4.0)
+
+by_test : (b : Bool) (P : Type 0) → Decides b P → P ⊎ ¬ P
+by_test true P tells = inl (tells.0 refl)
+by_test false P tells = inr (λ p. let wrong = tells.1 p in cc)
+
+-- each name has a first export or none
+pub first-or_none : (name : List ℕ) (list : List Entry) → ((i : ℕ) × (e : Entry) × IsFirstExport name list i e) ⊎ IsNotExported name list
+first-or_none name [] = inr (All-nil (λ e. e.name ≢ name))
+first-or_none name (e ∷ es) =
+    elim (by_test _ (e.name ≡ name) (bytes_eq-Decides e.name name)) [
+      | inl same ↦ inl (0, e, record { listed = refl; named = same; before = All-nil (λ e. e.name ≢ name) })
+      | inr other ↦ elim (first-or_none name es) [
+        | inl first ↦
+            let before = All-cons (λ e. e.name ≢ name) e (take first.0 es) other first.2.before in
+            inl (suc first.0, first.1, record { listed = first.2.listed; named = first.2.named; before = before })
+        | inr none ↦ inr (All-cons (λ e. e.name ≢ name) e es other none)
+      ]
+    ]
 
 -- exports of other names
 pub none-named : {A : Type 0} (name : List ℕ) (xs : List (Export A)) → All (λ x. string_bytes x.name ≢ name) xs → IsNotExported name (entries xs)

@@ -1,5 +1,6 @@
 -- How entries of a fat file open.
-use Rattle.std.proofs.Common.{◌≡◌, ℕ, Bool, true, false, cond, List, length, take, nat_le, nat_lt, Option, Some, None, Result, Ok, Err, refl, sym, ap, subst, ◌∙◌}
+use Rattle.std.proofs.Common.{◌≡◌, ℕ, Bool, true, false, cond, List, length, take, nat_le, nat_lt, Option, Some, None, Result, Ok, Err, refl, sym, ap, subst}
+use Rattle.std.proofs.Common.{◌∙◌}
 use Rattle.std.specs.Prelude.{option_map}
 use Rattle.std.specs.Borrow.{Bor}
 use Rattle.mach_base.specs.declared.error.Error.{Error}
@@ -26,16 +27,19 @@ OpensEntry-refused {A} entry e none =
     (record { opened = tt; only = λ opens. absurd opens; refused = Stands-reported (FatEntryFault (Err (fault_of e))) e (no_entry (fault_of e)) })
 
 -- the bytes of an archive
-pub OpensEntry-archive : {A : Type 0} (entry : Result FatEntry Fault) (bytes : Bor (List ℕ)) → entry ≡ Ok (archive bytes.now) → OpensEntry {A = A} entry (Ok (Archive bytes))
+pub OpensEntry-archive : {A : Type 0} (entry : Result FatEntry Fault) (bytes : Bor (List ℕ)) → entry ≡ Ok (archive bytes.now)
+    → OpensEntry {A = A} entry (Ok (Archive bytes))
 OpensEntry-archive entry bytes is =
     record { opened = (archive bytes.now, is, refl); only = λ opens. tt; refused = tt }
 
 -- an image that opened
-pub OpensEntry-image : {A : Type 0} (entry : Result FatEntry Fault) (slice : List ℕ) (m : held.MachO A) → entry ≡ Ok (image slice) → IsImage slice 0 m → OpensEntry {A = A} entry (Ok (MachO m))
+pub OpensEntry-image : {A : Type 0} (entry : Result FatEntry Fault) (slice : List ℕ) (m : held.MachO A) → entry ≡ Ok (image slice) → IsImage slice 0 m
+    → OpensEntry {A = A} entry (Ok (MachO m))
 OpensEntry-image entry slice m is opened = record { opened = (image slice, is, opened); only = λ opens. tt; refused = tt }
 
 -- an image that did not open
-pub OpensEntry-no_image : {A : Type 0} (entry : Result FatEntry Fault) (slice : List ℕ) (e : Error) → entry ≡ Ok (image slice) → Stands (ImageFault slice 0) e → OpensEntry {A = A} entry (Err e)
+pub OpensEntry-no_image : {A : Type 0} (entry : Result FatEntry Fault) (slice : List ℕ) (e : Error) → entry ≡ Ok (image slice) → Stands (ImageFault slice 0) e
+    → OpensEntry {A = A} entry (Err e)
 OpensEntry-no_image {A} entry slice e is stands =
     subst (λ (x : Result FatEntry Fault). OpensEntry {A = A} x (Err e)) (sym is)
     (record {
@@ -48,26 +52,30 @@ not_hinted : (b : Bool) (front : List ℕ) (found : Result FatEntry Fault) → N
 not_hinted true front found e = absurd (cc)
 not_hinted false front found e = refl
 
-hinted : (b : Bool) (front there : List ℕ) (bytes : List ℕ) → Some there ≡ cond b (Some front) None → cond b (entry_by (hint_in front) bytes) (Err malformed) ≡ entry_by (hint_in there) bytes
+hinted : (b : Bool) (front there : List ℕ) (bytes : List ℕ) → Some there ≡ cond b (Some front) None
+    → cond b (entry_by (hint_in front) bytes) (Err malformed) ≡ entry_by (hint_in there) bytes
 hinted true front there bytes e = let same : there ≡ front = cc in ap (λ (x : List ℕ). entry_by (hint_in x) bytes) (sym same)
 hinted false front there bytes e = absurd (cc)
 
 -- fewer than 16 bytes are no entry
-pub entry-short : (bytes : List ℕ) (r : Option (Bor (List ℕ))) → option_map (λ front. front.now) r ≡ cond (nat_le 16 (length bytes)) (Some (take 16 bytes)) None → r ≡ None → fat_entry_of bytes ≡ Err malformed
+pub entry-short : (bytes : List ℕ) (r : Option (Bor (List ℕ))) → option_map (λ front. front.now) r ≡ cond (nat_le 16 (length bytes)) (Some (take 16 bytes)) None
+    → r ≡ None → fat_entry_of bytes ≡ Err malformed
 entry-short bytes r front none =
     not_hinted (nat_le 16 (length bytes)) (take 16 bytes) (entry_by (hint_in (take 16 bytes)) bytes)
     (sym (ap (option_map (λ (x : Bor (List ℕ)). x.now)) none) ∙ front)
 
 -- else the first 16 say what it is
 pub entry-hinted : (bytes : List ℕ) (r : Option (Bor (List ℕ))) (there : Bor (List ℕ)) (hint : Hint)
-    → option_map (λ front. front.now) r ≡ cond (nat_le 16 (length bytes)) (Some (take 16 bytes)) None → r ≡ Some there → hint_in there.now ≡ hint → fat_entry_of bytes ≡ entry_by hint bytes
+    → option_map (λ front. front.now) r ≡ cond (nat_le 16 (length bytes)) (Some (take 16 bytes)) None → r ≡ Some there → hint_in there.now ≡ hint
+    → fat_entry_of bytes ≡ entry_by hint bytes
 entry-hinted bytes r there hint front some is =
     hinted (nat_le 16 (length bytes)) (take 16 bytes) there.now bytes (sym (ap (option_map (λ (x : Bor (List ℕ)). x.now)) some) ∙ front)
     ∙ ap (λ (h : Hint). entry_by h bytes) is
 
 -- an entry that is below the count has a record
 pub entry_at-none : (file : FatFile) (i : ℕ) → nat_lt i file.narches ≡ false → entry_at file i ≡ Err malformed
-entry_at-none file i out = ap (λ (b : Bool). cond b (arch_at file.bytes i >>= λ arch. fat_entry_of (part_of file.bytes arch.offset arch.size)) (Err malformed)) out
+entry_at-none file i out =
+    ap (λ (b : Bool). cond b (arch_at file.bytes i >>= λ arch. fat_entry_of (part_of file.bytes arch.offset arch.size)) (Err malformed)) out
 
 pub entry_at-record : (file : FatFile) (i : ℕ) (found : Result FatArch Fault) → nat_lt i file.narches ≡ true → arch_at file.bytes i ≡ found
     → entry_at file i ≡ (found >>= λ arch. fat_entry_of (part_of file.bytes arch.offset arch.size))

@@ -20,13 +20,15 @@ item-only item count k x got =
     (inside, some_is (item k) x (sym (slice_get-items item count k inside) ∙ got))
 
 there_is : {X : Type 0} (n s : ℕ) (bytes : List ℕ) (found y : X) → bounded n bytes s found ≡ Ok y → found ≡ y
-there_is n s bytes found y e = elim (chosen (nat_le (length bytes) s) (Err (bad_offset s)) (cond (nat_le (s + n) (length bytes)) (Ok found) (Err (too_big n (length bytes - s)))) (Ok y) e) [
-  | inl none ↦ absurd (let wrong = none.1 in cc)
-  | inr later ↦ elim (chosen (nat_le (s + n) (length bytes)) (Ok found) (Err (too_big n (length bytes - s))) (Ok y) later.1) [
-    | inl is ↦ same_ok is.1
-    | inr few ↦ absurd (let wrong = few.1 in cc)
-  ]
-]
+there_is n s bytes found y e =
+    let later = cond (nat_le (s + n) (length bytes)) (Ok found) (Err (too_big n (length bytes - s))) in
+    elim (chosen (nat_le (length bytes) s) (Err (bad_offset s)) later (Ok y) e) [
+      | inl none ↦ absurd (let wrong = none.1 in cc)
+      | inr later ↦ elim (chosen (nat_le (s + n) (length bytes)) (Ok found) (Err (too_big n (length bytes - s))) (Ok y) later.1) [
+        | inl is ↦ same_ok is.1
+        | inr few ↦ absurd (let wrong = few.1 in cc)
+      ]
+    ]
 
 -- the fat file of some bytes
 pub file_is : (bytes : List ℕ) (file : FatFile) → fat_file_in bytes ≡ Ok file → record { bytes = bytes; narches = number Big 4 (drop 4 bytes) } ≡ file

@@ -41,7 +41,8 @@ magic-inside bytes o found e = elim (cases_lt o (length bytes)) [
 ]
 
 -- where a magic stands, no header is found only for want of 32 bytes
-pub header-short : (ctx : Ctx) (bytes : List ℕ) (o magic : ℕ) (f : Fault) → magic_at bytes o ≡ Ok (magic, Some ctx) → value_of (front_at (header_front ctx) bytes o) ≡ Err f → LossyFault bytes o f
+pub header-short : (ctx : Ctx) (bytes : List ℕ) (o magic : ℕ) (f : Fault) → magic_at bytes o ≡ Ok (magic, Some ctx)
+    → value_of (front_at (header_front ctx) bytes o) ≡ Err f → LossyFault bytes o f
 header-short ctx bytes o magic f there e =
     let missed = header-missed ctx bytes o f (magic-inside bytes o (magic, Some ctx) there) e in
     rw missed.1 (short_header magic ctx there missed.0)
@@ -50,7 +51,9 @@ cputype_is : (ctx : Ctx) (bytes : List ℕ) (o : ℕ) (h : Header) → IsHeader 
 cputype_is ctx bytes o h e = ap (λ (x : Header). x.cputype) e ∙ cputype_in ctx.container ctx.le bytes o
 
 -- a header that is found has 32 bytes, its counts and its cpu
-pub header-known : (ctx : Ctx) (bytes : List ℕ) (o : ℕ) (h : Header) → value_of (front_at (header_front ctx) bytes o) ≡ Ok h → (o + 32 ≤ length bytes) × IsHeader ctx bytes o h × (h.ncmds ≡ ncmds_at ctx bytes o) × (h.sizeofcmds ≡ sizeofcmds_at ctx bytes o) × (h.cputype ≡ cputype_at ctx bytes o)
+pub header-known : (ctx : Ctx) (bytes : List ℕ) (o : ℕ) (h : Header) → value_of (front_at (header_front ctx) bytes o) ≡ Ok h
+    → (o + 32 ≤ length bytes) × IsHeader ctx bytes o h × (h.ncmds ≡ ncmds_at ctx bytes o)
+    × (h.sizeofcmds ≡ sizeofcmds_at ctx bytes o) × (h.cputype ≡ cputype_at ctx bytes o)
 header-known ctx bytes o h e =
     let found = header-found ctx bytes o h e in
     (found.0, found.1, ncmds_is ctx bytes o h found.1, sizeofcmds_is ctx bytes o h found.1, cputype_is ctx bytes o h found.1)

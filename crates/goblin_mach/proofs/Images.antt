@@ -1,5 +1,6 @@
 -- No fault stands where an image opens.
-use Rattle.std.proofs.Common.{◌≡◌, ℕ, ◌+◌, ◌≤◌, inl, inr, List, length, Option, Some, None, Result, Ok, Err, IsOk, true, false, nat_le, sym, ap, subst, ◌∙◌, arith}
+use Rattle.std.proofs.Common.{◌≡◌, ℕ, ◌+◌, ◌≤◌, inl, inr, List, length, Option, Some, None, Result, Ok, Err, IsOk, true, false, nat_le, sym, ap, subst, ◌∙◌}
+use Rattle.std.proofs.Common.{arith}
 use Rattle.std.proofs.lemmas.Bool.{le-leb, lt-leb}
 use Rattle.std.specs.Prelude.{IfErr}
 use Rattle.mach_base.specs.declared.context.Ctx.{Ctx}
@@ -12,7 +13,9 @@ use Rattle.mach_load.specs.Command.{Command}
 use Rattle.mach_parts.specs.Header.{header_size}
 use Rattle.mach_base.specs.Among.{IsAmong}
 use Rattle.goblin_mach.specs.EntryPoint.{EntryPoint, entry_point_in, pointer_by}
-use Rattle.goblin_mach.specs.Image.{HasHeader, CountsFit, HasChain, HasFront, OpensAs, Opens, LossyOpensAs, LossyOpens, LossyFault, no_magic, other_magic, short_header, too_many_commands, broken_chain, unknown_thread, no_entry_point, IsUnreadable, segment, library, id, run_path, table, ImageFault, of_lossy, unreadable, HasFatMagic, MachOpens, MachFault, no_room, of_fat, of_image}
+use Rattle.goblin_mach.specs.Image.{HasHeader, CountsFit, HasChain, HasFront, OpensAs, Opens, LossyOpensAs, LossyOpens, LossyFault, no_magic, other_magic}
+use Rattle.goblin_mach.specs.Image.{short_header, too_many_commands, broken_chain, unknown_thread, no_entry_point, IsUnreadable, segment, library, id, run_path}
+use Rattle.goblin_mach.specs.Image.{table, ImageFault, of_lossy, unreadable, HasFatMagic, MachOpens, MachFault, no_room, of_fat, of_image}
 use Rattle.goblin_mach.specs.Subjects.{segment_by, library_by, id_by, run_path_by, table_by}
 use Rattle.goblin_mach.specs.FatFile.{fat_file_in}
 use Rattle.goblin_mach.specs.Magic.{magic_at, ctx_of, cputype_at}
@@ -43,15 +46,21 @@ as_header : (bytes : List ℕ) (o : ℕ) (c d : Ctx) (cs : List Command) → Has
 as_header bytes o c d cs held opened = subst (λ (x : Ctx). LossyOpensAs bytes o x cs) (same_header bytes o d c opened.header held) opened
 
 -- a command of the front is one of the chain
-in_chain : (bytes : List ℕ) (o : ℕ) (c : Ctx) (front cs : List Command) (d : Command) → HasFront bytes o c front → HasChain bytes o c cs → IsAmong d front → IsAmong d cs
+in_chain : (bytes : List ℕ) (o : ℕ) (c : Ctx) (front cs : List Command) (d : Command) → HasFront bytes o c front → HasChain bytes o c cs → IsAmong d front
+    → IsAmong d cs
 in_chain bytes o c front cs d some chain among =
     let few : length front ≤ length cs = (let fewer = some.count in let all = chain.count in omega arith) in
     among-front c.le bytes (o + header_size c.container) front cs d some.chain chain.chain few among
 
 -- what can't be read in the front can't be read in the chain
-unread_in_chain : {V : Type 0} (reading : Reading V) (bytes : List ℕ) (o : ℕ) (c : Ctx) (front cs : List Command) (f : Fault) → HasFront bytes o c front → HasChain bytes o c cs → IsUnread reading front f → AllRead reading cs → ⊥
+unread_in_chain : {V : Type 0} (reading : Reading V) (bytes : List ℕ) (o : ℕ) (c : Ctx) (front cs : List Command) (f : Fault) → HasFront bytes o c front
+    → HasChain bytes o c cs → IsUnread reading front f → AllRead reading cs → ⊥
 unread_in_chain reading bytes o c front cs f some chain unread all =
-    unread-excludes_all reading cs f (record { command = unread.command; among = in_chain bytes o c front cs unread.command some chain unread.among; fault = unread.fault }) all
+    unread-excludes_all reading cs f (record {
+      command = unread.command;
+      among = in_chain bytes o c front cs unread.command some chain unread.among;
+      fault = unread.fault;
+    }) all
 
 not_ok : (r : Result EntryPoint Fault) (f : Fault) → r ≡ Err f → IsOk r → ⊥
 not_ok r f e ok = let wrong = rw e at ok in cc
@@ -72,15 +81,22 @@ fault-excludes_lossy bytes o _ (unknown_thread c front f some unread) opens =
     unread_in_chain (pointer_by (cputype_at c bytes o)) bytes o c front opens.1 f some opened.chain unread opened.threads
 fault-excludes_lossy bytes o _ (no_entry_point c cs f has e) opens =
     let opened = as_header bytes o c opens.0 opens.1 has.header opens.2 in
-    let same : cs ≡ opens.1 = same_chain c.le bytes (o + header_size c.container) cs opens.1 has.chain.chain opened.chain.chain (has.chain.count ∙ sym opened.chain.count) in
+    let same : cs ≡ opens.1 = same_chain c.le bytes (o + header_size c.container) cs opens.1 has.chain.chain opened.chain.chain
+    (has.chain.count ∙ sym opened.chain.count) in
     not_ok (entry_point_in (cputype_at c bytes o) opens.1) f (ap (entry_point_in (cputype_at c bytes o)) (sym same) ∙ e) opened.entry
 
-unreadable-excludes_image : (bytes : List ℕ) (o : ℕ) (c : Ctx) (front cs : List Command) (f : Fault) → HasFront bytes o c front → OpensAs bytes o c cs → IsUnreadable c bytes front f → ⊥
-unreadable-excludes_image bytes o c front cs f some opened (segment g u) = unread_in_chain (segment_by c bytes) bytes o c front cs g some opened.lossy.chain u opened.readable.segments
-unreadable-excludes_image bytes o c front cs f some opened (library g u) = unread_in_chain (library_by bytes) bytes o c front cs g some opened.lossy.chain u opened.readable.libraries
-unreadable-excludes_image bytes o c front cs f some opened (id g u) = unread_in_chain (id_by bytes) bytes o c front cs g some opened.lossy.chain u opened.readable.ids
-unreadable-excludes_image bytes o c front cs f some opened (run_path g u) = unread_in_chain (run_path_by bytes) bytes o c front cs g some opened.lossy.chain u opened.readable.run_paths
-unreadable-excludes_image bytes o c front cs f some opened (table g u) = unread_in_chain (table_by c bytes) bytes o c front cs g some opened.lossy.chain u opened.readable.tables
+unreadable-excludes_image : (bytes : List ℕ) (o : ℕ) (c : Ctx) (front cs : List Command) (f : Fault) → HasFront bytes o c front → OpensAs bytes o c cs
+    → IsUnreadable c bytes front f → ⊥
+unreadable-excludes_image bytes o c front cs f some opened (segment g u) =
+    unread_in_chain (segment_by c bytes) bytes o c front cs g some opened.lossy.chain u opened.readable.segments
+unreadable-excludes_image bytes o c front cs f some opened (library g u) =
+    unread_in_chain (library_by bytes) bytes o c front cs g some opened.lossy.chain u opened.readable.libraries
+unreadable-excludes_image bytes o c front cs f some opened (id g u) =
+    unread_in_chain (id_by bytes) bytes o c front cs g some opened.lossy.chain u opened.readable.ids
+unreadable-excludes_image bytes o c front cs f some opened (run_path g u) =
+    unread_in_chain (run_path_by bytes) bytes o c front cs g some opened.lossy.chain u opened.readable.run_paths
+unreadable-excludes_image bytes o c front cs f some opened (table g u) =
+    unread_in_chain (table_by c bytes) bytes o c front cs g some opened.lossy.chain u opened.readable.tables
 
 pub fault-excludes_image : (bytes : List ℕ) (o : ℕ) (f : Fault) → ImageFault bytes o f → Opens bytes o → ⊥
 fault-excludes_image bytes o _ (of_lossy f fault) opens = fault-excludes_lossy bytes o f fault (opens.0, opens.1, opens.2.lossy)
@@ -93,14 +109,16 @@ pub ok_where_opens : {X : Type 0} (r : Result X Error) (bytes : List ℕ) (o : �
 ok_where_opens (Ok x) bytes o h opens = tt
 ok_where_opens (Err e) bytes o h opens = Stands-in (ImageFault bytes o) (λ _. ⊥) e (λ f k. fault-excludes_image bytes o f k opens) h
 
-pub ok_where_opens_lossily : {X : Type 0} (r : Result X Error) (bytes : List ℕ) (o : ℕ) → IfErr r (Stands (LossyFault bytes o)) → LossyOpens bytes o → IsOkUnlessMemory r
+pub ok_where_opens_lossily : {X : Type 0} (r : Result X Error) (bytes : List ℕ) (o : ℕ) → IfErr r (Stands (LossyFault bytes o)) → LossyOpens bytes o
+    → IsOkUnlessMemory r
 ok_where_opens_lossily (Ok x) bytes o h opens = tt
 ok_where_opens_lossily (Err e) bytes o h opens = Stands-in (LossyFault bytes o) (λ _. ⊥) e (λ f k. fault-excludes_lossy bytes o f k opens) h
 
 -- a fat file is not an image
 pub fat-excludes_image : (bytes : List ℕ) → HasFatMagic bytes → LossyOpens bytes 0 → ⊥
 fat-excludes_image bytes fat opens =
-    not_other bytes 0 0xcafe_babe opens.2.header.magic opens.0 (ap (λ (r : Result ℕ Fault). r >>= λ magic. Ok (magic, ctx_of magic)) fat) opens.2.header.magic_is
+    not_other bytes 0 0xcafe_babe opens.2.header.magic opens.0 (ap (λ (r : Result ℕ Fault). r >>= λ magic. Ok (magic, ctx_of magic)) fat)
+    opens.2.header.magic_is
 
 -- 8 bytes have a header
 pub header-there : (bytes : List ℕ) (f : Fault) → 8 ≤ length bytes → fat_file_in bytes ≡ Err f → ⊥

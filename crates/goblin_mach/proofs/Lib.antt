@@ -1,3 +1,4 @@
+pub mod Exits
 pub mod Headers
 pub mod CommandAt
 pub mod Chains

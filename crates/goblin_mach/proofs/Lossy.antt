@@ -19,16 +19,20 @@ use Rattle.goblin_mach.proofs.Chains.{same_chain}
 use Rattle.goblin_mach.proofs.Images.{same_header}
 
 -- data that are there are the same in both modes
-same_data : (ctx : Ctx) (bytes : List ℕ) (o : ℕ) (c : SegmentCommand64) (d : Result (List ℕ) Fault) → segment_data bytes c.fileoff c.filesize ≡ d → IsRead (Some (segment_at ctx bytes o c)) → segment_at ctx bytes o c ≡ lossy_segment_at ctx bytes o c
+same_data : (ctx : Ctx) (bytes : List ℕ) (o : ℕ) (c : SegmentCommand64) (d : Result (List ℕ) Fault) → segment_data bytes c.fileoff c.filesize ≡ d
+    → IsRead (Some (segment_at ctx bytes o c)) → segment_at ctx bytes o c ≡ lossy_segment_at ctx bytes o c
 same_data ctx bytes o c (Ok found) e read = rw e refl
 same_data ctx bytes o c (Err f) e read = absurd (let wrong = rw e at read in cc)
 
-same_segment : (ctx : Ctx) (bytes : List ℕ) (o : ℕ) (c : Option SegmentCommand64) → IsRead (option_map (segment_at ctx bytes o) c) → option_map (segment_at ctx bytes o) c ≡ option_map (lossy_segment_at ctx bytes o) c
+same_segment : (ctx : Ctx) (bytes : List ℕ) (o : ℕ) (c : Option SegmentCommand64) → IsRead (option_map (segment_at ctx bytes o) c)
+    → option_map (segment_at ctx bytes o) c ≡ option_map (lossy_segment_at ctx bytes o) c
 same_segment ctx bytes o None read = refl
-same_segment ctx bytes o (Some c) read = ap (λ (r : Result SegmentView Fault). Some r) (same_data ctx bytes o c (segment_data bytes c.fileoff c.filesize) refl read)
+same_segment ctx bytes o (Some c) read =
+    ap (λ (r : Result SegmentView Fault). Some r) (same_data ctx bytes o c (segment_data bytes c.fileoff c.filesize) refl read)
 
 -- so are all segments
-pub same_segments : (ctx : Ctx) (bytes : List ℕ) (cs : List Command) → AllRead (segment_by ctx bytes) cs → read_of (segment_by ctx bytes) cs ≡ read_of (lossy_segment_by ctx bytes) cs
+pub same_segments : (ctx : Ctx) (bytes : List ℕ) (cs : List Command) → AllRead (segment_by ctx bytes) cs
+    → read_of (segment_by ctx bytes) cs ≡ read_of (lossy_segment_by ctx bytes) cs
 same_segments ctx bytes [] all = refl
 same_segments ctx bytes (c ∷ cs) all =
     let here : segment_by ctx bytes c ≡ lossy_segment_by ctx bytes c = same_segment ctx bytes c.offset (segment_command_by c.kind c.values) all.0 in
@@ -36,7 +40,8 @@ same_segments ctx bytes (c ∷ cs) all =
     ∙ ap (keep (lossy_segment_by ctx bytes c)) (same_segments ctx bytes cs all.1)
 
 -- fields that the same context, commands and segments determine
-same_fields : {A B : Type 0} (bytes : List ℕ) (o : ℕ) (ctx : Ctx) (parts : List SegmentView) (m : MachO A) (n : MachO B) → commands_held m ≡ commands_held n → HasFields bytes o ctx parts m → HasFields bytes o ctx parts n → SameFields m n
+same_fields : {A B : Type 0} (bytes : List ℕ) (o : ℕ) (ctx : Ctx) (parts : List SegmentView) (m : MachO A) (n : MachO B) → commands_held m ≡ commands_held n
+    → HasFields bytes o ctx parts m → HasFields bytes o ctx parts n → SameFields m n
 same_fields bytes o ctx parts m n cs p q =
     let entry : record { address = m.entry; old_style = m.old_style_entry } ≡ record { address = n.entry; old_style = n.old_style_entry } =
     same_ok {A = EntryPoint} (sym p.entry ∙ ap (entry_point_in (cputype_at ctx bytes o)) cs ∙ q.entry) in
@@ -63,8 +68,10 @@ lossy_fields bytes o m n p q =
     let ds = commands_held n in
     let same_ctx = same_header bytes o q.ctx ctx q.opens.header p.opens.lossy.header in
     let opened : LossyOpensAs bytes o ctx ds = subst (λ (x : Ctx). LossyOpensAs bytes o x ds) same_ctx q.opens in
-    let held : HasFields bytes o ctx (read_of (lossy_segment_by ctx bytes) ds) n = subst (λ (x : Ctx). HasFields bytes o x (read_of (lossy_segment_by x bytes) ds) n) same_ctx q.fields in
+    let held : HasFields bytes o ctx (read_of (lossy_segment_by ctx bytes) ds) n =
+    subst (λ (x : Ctx). HasFields bytes o x (read_of (lossy_segment_by x bytes) ds) n) same_ctx q.fields in
     let whole = p.opens.lossy.chain in
     let same : cs ≡ ds = same_chain ctx.le bytes (o + header_size ctx.container) cs ds whole.chain opened.chain.chain (whole.count ∙ sym opened.chain.count) in
-    let parts : read_of (segment_by ctx bytes) cs ≡ read_of (lossy_segment_by ctx bytes) ds = same_segments ctx bytes cs p.opens.readable.segments ∙ ap (read_of (lossy_segment_by ctx bytes)) same in
+    let parts : read_of (segment_by ctx bytes) cs ≡ read_of (lossy_segment_by ctx bytes) ds =
+    same_segments ctx bytes cs p.opens.readable.segments ∙ ap (read_of (lossy_segment_by ctx bytes)) same in
     same_fields bytes o ctx (read_of (lossy_segment_by ctx bytes) ds) m n same (subst (λ (x : List SegmentView). HasFields bytes o ctx x m) parts p.fields) held

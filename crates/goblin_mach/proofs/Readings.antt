@@ -1,5 +1,6 @@
 -- Reading the commands of a subject, one by one.
-use Rattle.std.proofs.Common.{◌≡◌, ℕ, zero, suc, ◌+◌, ◌<◌, true, false, List, [], ◌∷◌, ◌++◌, length, map, drop, get_or, Option, Some, None, Result, Err, inl, inr, refl, sym, ap, subst, ◌∙◌, append_assoc, arith, add-one}
+use Rattle.std.proofs.Common.{◌≡◌, ℕ, zero, suc, ◌+◌, ◌<◌, true, false, List, [], ◌∷◌, ◌++◌, length, map, drop, get_or, Option, Some, None, Result, Err, inl}
+use Rattle.std.proofs.Common.{inr, refl, sym, ap, subst, ◌∙◌, append_assoc, arith, add-one}
 use Rattle.std.specs.Prelude.{option_map}
 use Rattle.std.specs.Option.{is_some}
 use Rattle.mach_base.specs.declared.error.Error.{Error}
@@ -11,7 +12,8 @@ use Rattle.mach_base.specs.Among.{IsAmong}
 use Rattle.goblin_mach.specs.Readings.{Reading, keep, read_of, first_of, IsRead, AllRead, IsUnread, seen_of}
 
 -- the commands from one on begin with it
-pub from_here : (xs : List LoadCommand) (i : ℕ) (d : LoadCommand) → i < length xs → drop i (map command_of xs) ≡ command_of (get_or xs i d) ∷ drop (i + 1) (map command_of xs)
+pub from_here : (xs : List LoadCommand) (i : ℕ) (d : LoadCommand) → i < length xs
+    → drop i (map command_of xs) ≡ command_of (get_or xs i d) ∷ drop (i + 1) (map command_of xs)
 from_here [] i d lt = absurd (omega arith)
 from_here (x ∷ xs) zero d lt = refl
 from_here (x ∷ xs) (suc i) d lt = rw add-one (rw add-one at (from_here xs i d (omega arith)))
@@ -60,7 +62,8 @@ first_or None xs = first_of xs
 first_or (Some x) xs = Some x
 
 -- where the first was met nothing changes
-pub first_kept : {X V : Type 0} (view : X → V) (met : Option X) (v : V) (vs : List V) → is_some met ≡ true → first_or (option_map view met) (v ∷ vs) ≡ first_or (option_map view met) vs
+pub first_kept : {X V : Type 0} (view : X → V) (met : Option X) (v : V) (vs : List V) → is_some met ≡ true
+    → first_or (option_map view met) (v ∷ vs) ≡ first_or (option_map view met) vs
 first_kept view None v vs e = absurd (cc)
 first_kept view (Some x) v vs e = refl
 

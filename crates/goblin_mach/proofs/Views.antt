@@ -29,11 +29,17 @@ tells P Q (errors.BufferTooShort n m) t to h = to (too_short n m.now) h
 tells P Q (errors.Memory e) t to h = absurd t
 
 -- the lists that an image holds are those that it links
-pub image-links : {A : Type 0} (bytes : List ℕ) (m : MachO A) (list : List trie.Entry) (imports : List Import) → IsImage bytes 0 m → ListsImageExports (trie_held m) (texts m.libs.items) list
-    → ListsImageImports (binds_held m) (pointer_size (ctx_held m).container) (texts m.libs.items) (segments_in m.segments) imports → LinksImage bytes list imports
+pub image-links : {A : Type 0} (bytes : List ℕ) (m : MachO A) (list : List trie.Entry) (imports : List Import) → IsImage bytes 0 m
+    → ListsImageExports (trie_held m) (texts m.libs.items) list
+    → ListsImageImports (binds_held m) (pointer_size (ctx_held m).container) (texts m.libs.items) (segments_in m.segments) imports
+    → LinksImage bytes list imports
 image-links bytes m list imports p exported imported =
     let q = strict-lossy bytes 0 m p in
-    record { opens = (p.ctx, commands_held m, p.opens); exports_are = (exports_are bytes 0 m q list).1 exported; imports_are = (imports_are bytes 0 m q imports).1 imported }
+    record {
+      opens = (p.ctx, commands_held m, p.opens);
+      exports_are = (exports_are bytes 0 m q list).1 exported;
+      imports_are = (imports_are bytes 0 m q imports).1 imported;
+    }
 
 -- a fault in one of them stands in the bytes
 pub image-fails : {A : Type 0} (bytes : List ℕ) (m : MachO A) (f : Fault) → IsImage bytes 0 m → FaultHeld m f → LinksFault bytes f
@@ -48,7 +54,8 @@ pub item_fault : {A : Type 0} (bytes : List ℕ) (m : MachO A) (f : Fault) → I
 item_fault bytes m f p fault = of_links bytes f refl (image-fails bytes m f p fault)
 
 -- one more item, where those that are left follow it
-pub one_more_item : {A : Type 0} (entry : ℕ → Result FatEntry Fault) (i n : ℕ) (items : List (Result (LinkView A) Error)) (x : Result (LinkView A) Error) (all : List (Result FatEntry Fault)) → i < n → IsViewItem (entry i) x
+pub one_more_item : {A : Type 0} (entry : ℕ → Result FatEntry Fault) (i n : ℕ) (items : List (Result (LinkView A) Error))
+    (x : Result (LinkView A) Error) (all : List (Result FatEntry Fault)) → i < n → IsViewItem (entry i) x
     → ((rest : List (Result (LinkView A) Error)) → AreViewItems (items_from entry i (n - i)) rest → AreViewItems all (items ++ rest))
     → (rest : List (Result (LinkView A) Error)) → AreViewItems (items_from entry (i + 1) (n - (i + 1))) rest → AreViewItems all ((items ++ x ∷ []) ++ rest)
 one_more_item entry i n items x all inside is go rest later =
@@ -56,7 +63,8 @@ one_more_item entry i n items x all inside is go rest later =
     (go (x ∷ rest) (subst (λ (es : List (Result FatEntry Fault)). AreViewItems es (x ∷ rest)) (sym (items_from-first entry i n inside)) (is, later)))
 
 -- where none are left all are there
-pub all_items : {A : Type 0} (entry : ℕ → Result FatEntry Fault) (i n : ℕ) (items : List (Result (LinkView A) Error)) (all : List (Result FatEntry Fault)) → n ≤ i
+pub all_items : {A : Type 0} (entry : ℕ → Result FatEntry Fault) (i n : ℕ) (items : List (Result (LinkView A) Error)) (all : List (Result FatEntry Fault))
+    → n ≤ i
     → ((rest : List (Result (LinkView A) Error)) → AreViewItems (items_from entry i (n - i)) rest → AreViewItems all (items ++ rest)) → AreViewItems all items
 all_items {A} entry i n items all past go =
     let none : n - i ≡ 0 = omega (arith, past) in

@@ -43,7 +43,8 @@ view_fault-excludes bytes _ entries (of_table file f fat is bad) (fat_table othe
     let same : other ≡ file = same_ok (sym is_2 ∙ is) in
     not_both (arches_in file) f (subst (λ (x : FatFile). IsOk (arches_in x)) same table) bad
 
-pub ok_where_viewed : {X : Type 0} (r : Result X Error) (bytes : List ℕ) (entries : List (Result FatEntry Fault)) → IfErr r (Stands (ViewFault bytes)) → HasEntries bytes entries → IsOkUnlessMemory r
+pub ok_where_viewed : {X : Type 0} (r : Result X Error) (bytes : List ℕ) (entries : List (Result FatEntry Fault)) → IfErr r (Stands (ViewFault bytes))
+    → HasEntries bytes entries → IsOkUnlessMemory r
 ok_where_viewed (Ok x) bytes entries h has = tt
 ok_where_viewed (Err e) bytes entries h has = Stands-in (ViewFault bytes) (λ _. ⊥) e (λ f k. view_fault-excludes bytes f entries k has) h
 

@@ -1,5 +1,6 @@
 -- Where an image begins to run (`mach-o/loader.h`, struct entry_point_command and thread_command; dyld).
-use Rattle.std.specs.Prelude.{◌≡◌, ◌⊎◌, ℕ, ◌+◌, ◌-◌, ◌^◌, List, [], ◌∷◌, ◌++◌, map, drop, codes, nat_eq, nat_le, nat_lt, Bool, true, false, ◌&&◌, Option, Some, None, option_map, Result, Ok, Err, if◌then◌else◌}
+use Rattle.std.specs.Prelude.{◌≡◌, ◌⊎◌, ℕ, ◌+◌, ◌-◌, ◌^◌, List, [], ◌∷◌, ◌++◌, map, drop, codes, nat_eq, nat_le, nat_lt, Bool, true, false, ◌&&◌, Option, Some}
+use Rattle.std.specs.Prelude.{None, option_map, Result, Ok, Err, if◌then◌else◌}
 use Rattle.std.specs.List.{starts_with}
 use Rattle.mach_base.specs.Answer.{◌>>=◌}
 use Rattle.mach_base.specs.Fault.{Fault, malformed}
@@ -23,12 +24,12 @@ number_of (number_is n) = n
 number_of (bytes_are bs) = 0
 
 -- the words of a thread's state, which stand after cmd, cmdsize, flavor and count
-abbrev pub words_of : List Value → List ℕ
-words_of values = map number_of (drop 4 values)
+abbrev pub state_words : List Value → List ℕ
+state_words values = map number_of (drop 4 values)
 
 -- the words of the thread with which an image begins
 abbrev pub thread_of : Kind → List Value → Option (List ℕ)
-thread_of unixthread values = Some (words_of values)
+thread_of unixthread values = Some (state_words values)
 thread_of _ values = None
 
 -- its instruction pointer, by the cpu; of a cpu whose registers aren't known it can't be read
@@ -36,13 +37,13 @@ abbrev pub pointer_by : ℕ → Reading ℕ
 pointer_by cputype c = option_map (λ words. pointer_in words cputype) (thread_of c.kind c.values)
 
 -- whether a name begins with "__TEXT" and a zero byte
-abbrev pub is_text : List ℕ → Bool
-is_text segname = starts_with nat_eq segname (codes "__TEXT" ++ 0 ∷ [])
+abbrev pub is_text_name : List ℕ → Bool
+is_text_name segname = starts_with nat_eq segname (codes "__TEXT" ++ 0 ∷ [])
 
 -- the mapping of a segment, in either width, where it is one of the program's text
 abbrev pub text_among : List Value → Option Mapping
 text_among values =
-    if is_text (bytes_among values 2) then Some (record { vmaddr = number_among values 3; fileoff = number_among values 5 })
+    if is_text_name (bytes_among values 2) then Some (record { vmaddr = number_among values 3; fileoff = number_among values 5 })
     else None
 
 abbrev pub text_of : Kind → List Value → Option Mapping

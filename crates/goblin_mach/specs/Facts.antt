@@ -14,7 +14,8 @@ use Rattle.goblin_mach.specs.Image.{LossyOpensAs}
 use Rattle.goblin_mach.specs.Magic.{cputype_at}
 use Rattle.goblin_mach.specs.Readings.{read_of}
 use Rattle.goblin_mach.specs.Relocations.{RelocatedSection, relocated_sections_in}
-use Rattle.goblin_mach.specs.Subjects.{binds_in, ListsImageImports, ImageImportsFault, AreImageBindItems, lossy_segment_by, trie_in, ListsImageExports, ImageExportsFault, own_name_in, libs_in, run_path_by, table_in, symbols_in}
+use Rattle.goblin_mach.specs.Subjects.{binds_in, ListsImageImports, ImageImportsFault, AreImageBindItems, lossy_segment_by, trie_in, ListsImageExports}
+use Rattle.goblin_mach.specs.Subjects.{ImageExportsFault, own_name_in, libs_in, run_path_by, table_in, symbols_in}
 
 -- An image opens at o, in lossy mode at least, and this holds of its context and its commands.
 pub record OfImage (bytes : List ℕ) (o : ℕ) (Holds : Ctx → List Command → Type 0) : Type 0 where
@@ -22,6 +23,10 @@ pub record OfImage (bytes : List ℕ) (o : ℕ) (Holds : Ctx → List Command �
   pub cs : List Command
   pub opens : LossyOpensAs bytes o ctx cs
   pub holds : Holds ctx cs
+
+-- its load commands, in order
+abbrev pub HasCommands : List ℕ → ℕ → List Command → Type 0
+HasCommands bytes o commands = OfImage bytes o (λ ctx cs. commands ≡ cs)
 
 -- its symbols: those of its last table, each with its name or why one of them is missing
 abbrev pub HasSymbols : List ℕ → ℕ → List (Result (List ℕ × Nlist) Fault) → Type 0

@@ -1,5 +1,6 @@
 -- A fat file: a header, and a table of records of 20 bytes behind it (`mach-o/fat.h`).
-use Rattle.std.specs.Prelude.{◌==◌, ◌≡◌, ℕ, ◌*◌, ◌/◌, ◌<◌, List, [], ◌∷◌, length, drop, codes, nat_le, Bool, true, false, Option, Some, None, Result, Ok, Err, if◌then◌else◌, ◌-◌}
+use Rattle.std.specs.Prelude.{◌==◌, ◌≡◌, ℕ, ◌*◌, ◌/◌, ◌<◌, List, [], ◌∷◌, length, drop, codes, nat_le, Bool, true, false, Option, Some, None, Result, Ok, Err}
+use Rattle.std.specs.Prelude.{if◌then◌else◌, ◌-◌}
 use Rattle.mach_base.specs.Answer.{◌>>=◌}
 use Rattle.mach_base.specs.Fault.{Fault, too_short, fault_of}
 use Rattle.mach_base.specs.Number.{number, bounded, place_after}

@@ -67,7 +67,7 @@ pub record HasFront (bytes : List ℕ) (o : ℕ) (ctx : Ctx) (front : List Comma
   pub count : length front ≤ ncmds_at ctx bytes o
 
 -- All of the image's commands.
-pub record HasCommands (bytes : List ℕ) (o : ℕ) (ctx : Ctx) (cs : List Command) : Type 0 where
+pub record HasWholeChain (bytes : List ℕ) (o : ℕ) (ctx : Ctx) (cs : List Command) : Type 0 where
   pub header : HasHeader bytes o ctx
   pub counts : CountsFit bytes o ctx
   pub chain : HasChain bytes o ctx cs
@@ -85,7 +85,7 @@ pub data LossyFault (bytes : List ℕ) (o : ℕ) : Fault → Type 0 where
       → IsBroken ctx.le bytes (o + header_size ctx.container) (ncmds_at ctx bytes o) f → LossyFault bytes o f
   unknown_thread : (ctx : Ctx) (front : List Command) (f : Fault) → HasFront bytes o ctx front
       → IsUnread (pointer_by (cputype_at ctx bytes o)) front f → LossyFault bytes o f
-  no_entry_point : (ctx : Ctx) (cs : List Command) (f : Fault) → HasCommands bytes o ctx cs
+  no_entry_point : (ctx : Ctx) (cs : List Command) (f : Fault) → HasWholeChain bytes o ctx cs
       → entry_point_in (cputype_at ctx bytes o) cs ≡ Err f → LossyFault bytes o f
 
 -- A command among these can't be read as its subject asks, for this fault; lossy mode passes it over.

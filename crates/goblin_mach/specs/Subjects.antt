@@ -10,7 +10,8 @@ use Rattle.mach_records.specs.Segments.{segment_command32_of_values, segment_com
 use Rattle.mach_records.specs.SymbolTables.{symtab_command_of_values}
 use Rattle.mach_records.specs.declared.segments.SegmentCommand64.{SegmentCommand64}
 use Rattle.mach_load.specs.Command.{Command}
-use Rattle.mach_load.specs.Commands.{Kind, load_dylib, load_upward_dylib, reexport_dylib, load_weak_dylib, lazy_load_dylib, id_dylib, rpath, segment32, segment64, symtab, dyld_info, dyld_info_only, dyld_exports_trie}
+use Rattle.mach_load.specs.Commands.{Kind, load_dylib, load_upward_dylib, reexport_dylib, load_weak_dylib, lazy_load_dylib, id_dylib, rpath, segment32}
+use Rattle.mach_load.specs.Commands.{segment64, symtab, dyld_info, dyld_info_only, dyld_exports_trie}
 use Rattle.mach_parts.specs.Segment.{SegmentView, widened, segment_at, lossy_segment_at}
 use Rattle.mach_parts.specs.SymbolViews.{table_of}
 use Rattle.mach_parts.specs.Symbols.{SymbolTable, symbols_of, table_at}
@@ -136,7 +137,8 @@ ImageExportsFault (Some t) libs f = ExportsFault t libs f
 -- the ranges of the four numbers of a command, if it brings binds
 abbrev pub bind_ranges_of : Kind → List ℕ → List Value → Option BindRanges
 bind_ranges_of dyld_info bytes values = Some (bind_ranges bytes (number_among values 4) (number_among values 5) (number_among values 8) (number_among values 9))
-bind_ranges_of dyld_info_only bytes values = Some (bind_ranges bytes (number_among values 4) (number_among values 5) (number_among values 8) (number_among values 9))
+bind_ranges_of dyld_info_only bytes values =
+    Some (bind_ranges bytes (number_among values 4) (number_among values 5) (number_among values 8) (number_among values 9))
 bind_ranges_of _ bytes values = None
 
 -- the binds that a command brings; bringing them is never refused

@@ -50,7 +50,8 @@ pub data ViewFault (bytes : List ℕ) : Fault → Type 0 where
 -- the two lists are those of an image as it is held
 pub record LinksHeld {A B : Type 0} (m : MachO A) (l : Links B) : Type 0 where
   pub exports : ListsImageExports (trie_held m) (texts m.libs.items) (entries l.exports.items)
-  pub imports : ListsImageImports (binds_held m) (pointer_size (ctx_held m).container) (texts m.libs.items) (segments_in m.segments) (imports_seen l.imports.items)
+  pub imports : ListsImageImports (binds_held m) (pointer_size (ctx_held m).container) (texts m.libs.items) (segments_in m.segments)
+      (imports_seen l.imports.items)
 
 -- a fault stands in one of them
 abbrev pub FaultHeld : {A : Type 0} → MachO A → Fault → Type 0

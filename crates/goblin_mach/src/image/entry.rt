@@ -3,7 +3,7 @@
 ghost use Rattle.std.specs.Prelude.{◌≡◌, ℕ, Some, None, Ok, if◌then◌else◌, IfOk, IfErr, map};
 ghost use Rattle.mach_base.specs.Answer.{Reads, Stands};
 ghost use Rattle.mach_load.specs.Variants.{command_of};
-ghost use Rattle.goblin_mach.specs.EntryPoint.{address_in, main_address, main_by, pointer_by, is_text, text_by, entry_point_in, EntryPointFault};
+ghost use Rattle.goblin_mach.specs.EntryPoint.{address_in, main_address, main_by, pointer_by, is_text_name, text_by, entry_point_in, EntryPointFault};
 ghost use Rattle.goblin_mach.specs.Readings.{AllRead};
 
 use crate::image::readings::{Subject, first_read, first_readable};
@@ -32,7 +32,7 @@ impl Mapping {
 
 // The mapping of a segment of the program's text, if it is one.
 fn text_mapping(segname: &[u8; 16], vmaddr: u64, fileoff: u64) -> Option<Mapping>
-    ensures { result ≡ (if is_text segname.now then Some (record { vmaddr = vmaddr; fileoff = fileoff }) else None) }
+    ensures { result ≡ (if is_text_name segname.now then Some (record { vmaddr = vmaddr; fileoff = fileoff }) else None) }
 {
     if segname.starts_with(b"__TEXT\0") {
         Some(Mapping { vmaddr, fileoff })

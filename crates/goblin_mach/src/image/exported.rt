@@ -1,6 +1,6 @@
 //! The export of a name.
 
-ghost use Rattle.std.specs.Prelude.{ℕ, List, IfSome, IfNone};
+ghost use Rattle.std.specs.Prelude.{◌⊎◌, ℕ, List, IfSome, IfNone};
 ghost use Rattle.mach_dyld.specs.Exports.{entry_of, entries};
 ghost use Rattle.mach_dyld.specs.Trie.{Entry};
 ghost use Rattle.goblin_mach.specs.Facts.{IsExportedAt, IsNotExported, IsFirstExport};
@@ -24,8 +24,10 @@ pub fn find_export<'b, 'a, A: Allocator>(
     None
 }
 
-/// The first export of a name is listed at its own offset, and no name is both listed and not.
+/// Of each name a list has a first export, or none at all; and never both. The first is listed at its own
+/// offset.
 pub fn exported_or_not()
+    ensures either { (name : List ℕ) (list : List Entry) → ((i : ℕ) × (e : Entry) × IsFirstExport name list i e) ⊎ IsNotExported name list }
     ensures first { (name : List ℕ) (list : List Entry) (i : ℕ) (e : Entry) → IsFirstExport name list i e → IsExportedAt name e.offset list }
     ensures not_both { (name : List ℕ) (address : ℕ) (list : List Entry) → IsExportedAt name address list → IsNotExported name list → ⊥ }
 {}

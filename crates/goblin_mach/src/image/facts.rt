@@ -5,6 +5,7 @@
 ghost use Rattle.std.specs.Prelude.{◌≡◌, ◌↔◌, ℕ, List, Option, Result};
 ghost use Rattle.mach_base.specs.Context.{pointer_size};
 ghost use Rattle.mach_base.specs.Fault.{Fault};
+ghost use Rattle.mach_load.specs.Command.{Command};
 ghost use Rattle.mach_dyld.specs.Exports.{texts, text_in};
 ghost use Rattle.mach_dyld.specs.Imports.{Import};
 ghost use Rattle.mach_dyld.specs.Trie as trie;
@@ -12,9 +13,9 @@ ghost use Rattle.mach_parts.specs.Segment.{SegmentView};
 ghost use Rattle.mach_parts.specs.Segments.{segments_in};
 ghost use Rattle.mach_parts.specs.declared.symbols.nlist.Nlist.{Nlist};
 ghost use Rattle.goblin_mach.specs.EntryPoint.{EntryPoint};
-ghost use Rattle.goblin_mach.specs.Facts.{HasSymbols, HasSegments, HasRelocations, HasName, HasLibraries, HasRunPaths, HasEntryPoint, HasExports, HasExportsFault, HasImports, HasImportsFault, HasImportItems};
+ghost use Rattle.goblin_mach.specs.Facts.{HasCommands, HasSymbols, HasSegments, HasRelocations, HasName, HasLibraries, HasRunPaths, HasEntryPoint, HasExports, HasExportsFault, HasImports, HasImportsFault, HasImportItems};
 ghost use Rattle.goblin_mach.specs.Subjects.{ListsImageImports, ImageImportsFault, AreImageBindItems, ListsImageExports, ImageExportsFault, symbols_held};
-ghost use Rattle.goblin_mach.specs.OpenImage.{IsImage, IsLossyImage, segments_held, trie_held, binds_held, ctx_held, bytes_held};
+ghost use Rattle.goblin_mach.specs.OpenImage.{IsImage, IsLossyImage, commands_held, segments_held, trie_held, binds_held, ctx_held, bytes_held};
 ghost use Rattle.goblin_mach.specs.Relocations.{RelocatedSection, relocated_sections_in};
 ghost use Rattle.goblin_mach.specs.View.{LinksImage, LinksFault, FaultHeld};
 
@@ -24,6 +25,12 @@ use std::alloc::Allocator;
 /// An image that was opened strictly is the one that opens in lossy mode.
 pub fn strict_image_is_lossy<A: Allocator>(image: &MachO<'_, A>)
     ensures { (bytes : List ℕ) (o : ℕ) → IsImage bytes o image.now → IsLossyImage bytes o image.now }
+{}
+
+/// The load commands that an image holds are those of the bytes.
+pub fn commands_of_image<A: Allocator>(image: &MachO<'_, A>)
+    ensures strict { (bytes : List ℕ) (o : ℕ) → IsImage bytes o image.now → (commands : List Command) → HasCommands bytes o commands ↔ (commands ≡ commands_held image.now) }
+    ensures lossy { (bytes : List ℕ) (o : ℕ) → IsLossyImage bytes o image.now → (commands : List Command) → HasCommands bytes o commands ↔ (commands ≡ commands_held image.now) }
 {}
 
 /// The symbols that an image holds are those of the bytes.
@@ -90,12 +97,12 @@ pub fn imports_of_image<A: Allocator>(image: &MachO<'_, A>)
         → HasImportsFault bytes o f ↔ ImageImportsFault (binds_held image.now) (pointer_size (ctx_held image.now).container) (texts image.now.libs.items) (segments_in image.now.segments) f }
 {}
 
-/// The imports that `MachO::iter_imports` gives one at a time are those of the bytes.
+/// The imports that `MachO::iter_imports` gives one at a time, up to the first fault, are those of the bytes.
 pub fn import_items_of_image<A: Allocator>(image: &MachO<'_, A>)
     ensures strict { (bytes : List ℕ) (o : ℕ) → IsImage bytes o image.now → (items : List (Result Import Fault))
-        → AreImageBindItems (binds_held image.now) (pointer_size (ctx_held image.now).container) (texts image.now.libs.items) (segments_in image.now.segments) items → HasImportItems bytes o items }
+        → HasImportItems bytes o items ↔ AreImageBindItems (binds_held image.now) (pointer_size (ctx_held image.now).container) (texts image.now.libs.items) (segments_in image.now.segments) items }
     ensures lossy { (bytes : List ℕ) (o : ℕ) → IsLossyImage bytes o image.now → (items : List (Result Import Fault))
-        → AreImageBindItems (binds_held image.now) (pointer_size (ctx_held image.now).container) (texts image.now.libs.items) (segments_in image.now.segments) items → HasImportItems bytes o items }
+        → HasImportItems bytes o items ↔ AreImageBindItems (binds_held image.now) (pointer_size (ctx_held image.now).container) (texts image.now.libs.items) (segments_in image.now.segments) items }
 {}
 
 /// An image that was opened strictly at 0 links the lists that it holds, and a fault that stands in one

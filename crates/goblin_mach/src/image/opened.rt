@@ -5,7 +5,7 @@ ghost use Rattle.mach_base.specs.Answer.{Stands};
 ghost use Rattle.mach_load.specs.Variants.{command_of};
 ghost use Rattle.mach_parts.specs.Header.{IsHeader};
 ghost use Rattle.goblin_mach.specs.EntryPoint.{entry_point_in};
-ghost use Rattle.goblin_mach.specs.Image.{HasHeader, CountsFit, HasCommands, LossyOpensAs, LossyFault};
+ghost use Rattle.goblin_mach.specs.Image.{HasHeader, CountsFit, HasWholeChain, LossyOpensAs, LossyFault};
 ghost use Rattle.goblin_mach.specs.Magic.{cputype_at, ncmds_at};
 
 use crate::image::commands::read_commands;

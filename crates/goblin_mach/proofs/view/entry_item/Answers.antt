@@ -8,4 +8,5 @@ pub returns-in_ok-told-in-Err-clause-item : goal.returns-in_ok-told-in-Err-claus
 returns-in_ok-told-in-Err-clause-item g c =
     let entry = entry_at (file_held c.args.container.now) c.args.index in
     let same = c.in_ok-told-in-Err.ensures.same in
-    tells (FatEntryFault entry) (ItemFault entry) c.in_ok-told-in-Err.field-0 same.1 (λ f fault. of_entry f fault) (rw same.0 (rw c.in-Err.is at c.get.ensures.refused))
+    tells (FatEntryFault entry) (ItemFault entry) c.in_ok-told-in-Err.field-0 same.1 (λ f fault. of_entry f fault)
+    (rw same.0 (rw c.in-Err.is at c.get.ensures.refused))

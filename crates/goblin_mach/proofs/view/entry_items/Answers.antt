@@ -7,9 +7,11 @@ use Rattle.goblin_mach.proofs.view.entry_items.Goals as goal
 pub loop-index-preserved : goal.loop-index-preserved
 loop-index-preserved g c =
     let file = file_held c.args.container.now in
-    rw c.in_ok-push.ensures.items (one_more_item (entry_at file) c.loop-index.index file.narches c.loop-index.items.items c.in_ok-entry_item.field-0 (entries_of file) c.loop-index-test.true c.in_ok-entry_item.ensures.item c.loop-index.invariant)
+    rw c.in_ok-push.ensures.items (one_more_item (entry_at file) c.loop-index.index file.narches c.loop-index.items.items c.in_ok-entry_item.field-0
+    (entries_of file) c.loop-index-test.true c.in_ok-entry_item.ensures.item c.loop-index.invariant)
 
 pub returns-clause-items : goal.returns-clause-items
 returns-clause-items g c =
     let file = file_held c.args.container.now in
-    all_items (entry_at file) c.loop-index.index file.narches c.loop-index.items.items (entries_of file) (omega (arith, c.loop-index-test.false)) c.loop-index.invariant
+    all_items (entry_at file) c.loop-index.index file.narches c.loop-index.items.items (entries_of file) (omega (arith, c.loop-index-test.false))
+    c.loop-index.invariant

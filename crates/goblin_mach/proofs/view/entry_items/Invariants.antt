@@ -9,5 +9,6 @@ use Rattle.goblin_mach.proofs.view.entry_items.Given as goal
 
 abbrev pub invariant-loop-index : goal.invariant-loop-index
 invariant-loop-index g l =
-    (rest : List (Result (LinkView g.row.B.Denot) Error)) → AreViewItems (items_from (entry_at (file_held l.container)) l.index (l.container.narches - l.index)) rest
+    (rest : List (Result (LinkView g.row.B.Denot) Error)) → AreViewItems (items_from (entry_at (file_held l.container)) l.index (l.container.narches - l.index))
+    rest
     → AreViewItems (entries_of (file_held l.container)) (l.items.items ++ rest)

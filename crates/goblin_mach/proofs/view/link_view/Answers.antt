@@ -1,17 +1,16 @@
 use Rattle.std.proofs.Common.{[], ◌∷◌, List, Result, Ok, IsOk, refl}
-use Rattle.std.proofs.lemmas.Result.{err_from_is_err_and, IfOk-weaker}
+use Rattle.std.proofs.lemmas.Result.{IfOk-weaker}
 use Rattle.mach_base.specs.Fault.{Fault}
-use Rattle.mach_base.proofs.Faults.{Stands-in, Stands-failed}
 use Rattle.goblin_mach.specs.FatEntry.{FatEntry, entries_of, image}
 use Rattle.goblin_mach.specs.FatFile.{arches_in, file_held}
 use Rattle.goblin_mach.specs.View.{HasEntries, ViewFault, of_file, of_table, fat_table, AreViewItems}
 use Rattle.goblin_mach.proofs.WholeFiles.{ok_where_viewed, entries_of_image}
+use Rattle.goblin_mach.proofs.Exits.{exit_failed, exit_in}
 use Rattle.goblin_mach.proofs.view.link_view.Goals as goal
 
 pub returns-in_err-image-clause-refused : goal.returns-in_err-image-clause-refused
 returns-in_err-image-clause-refused g c =
-    let p = err_from_is_err_and c.from_residual-in_err-image.result c.from_residual-in_err-image.ensures.1 in
-    rw (p.1, p.2) (Stands-in _ (ViewFault c.args.bytes.now) c.in_err-image.field-0.0 of_file c.in_err-image.ensures.refused)
+    exit_in _ (ViewFault c.args.bytes.now) _ _ c.from_residual-in_err-image.ensures.1 of_file c.in_err-image.ensures.refused
 
 pub returns-in_err-image-clause-only : goal.returns-in_err-image-clause-only
 returns-in_err-image-clause-only g c = λ entries has.
@@ -21,8 +20,8 @@ pub returns-in_err-arches-in-Fat-clause-refused : goal.returns-in_err-arches-in-
 returns-in_err-arches-in-Fat-clause-refused g c =
     let file = file_held c.in-Fat.container in
     let fat = rw c.in-Fat.is at c.in_ok-image.ensures.opened in
-    let p = err_from_is_err_and c.from_residual-in_err-arches-in-Fat.result c.from_residual-in_err-arches-in-Fat.ensures.1 in
-    rw (p.1, p.2) (Stands-failed (ViewFault c.args.bytes.now) c.in_err-arches-in-Fat.field-0.0 (arches_in file) (λ f bad. of_table file f fat.magic fat.file bad) c.in_err-arches-in-Fat.ensures)
+    exit_failed (ViewFault c.args.bytes.now) _ _ c.from_residual-in_err-arches-in-Fat.ensures.1 (arches_in file)
+    (λ f bad. of_table file f fat.magic fat.file bad) c.in_err-arches-in-Fat.ensures
 
 pub returns-in_err-arches-in-Fat-clause-only : goal.returns-in_err-arches-in-Fat-clause-only
 returns-in_err-arches-in-Fat-clause-only g c = λ entries has.
@@ -33,7 +32,8 @@ returns-in_ok-push-in-Binary-clause-viewed g c =
     let bytes = c.args.bytes.now in
     let opened = rw c.in-Binary.is at c.in_ok-image.ensures.opened in
     let item = c.in_ok-image_item-in-Binary.ensures.item bytes opened in
-    rw (c.in_ok-push-in-Binary.ensures.items, c.new-items.ensures.items) (Ok (image bytes) ∷ [], entries_of_image bytes (opened.ctx, _, opened.opens), (item, tt))
+    rw (c.in_ok-push-in-Binary.ensures.items, c.new-items.ensures.items)
+    (Ok (image bytes) ∷ [], entries_of_image bytes (opened.ctx, _, opened.opens), (item, tt))
 
 pub returns-in_ok-arches-in-Fat-clause-viewed : goal.returns-in_ok-arches-in-Fat-clause-viewed
 returns-in_ok-arches-in-Fat-clause-viewed g c =

@@ -1,8 +1,5 @@
-use Rattle.goblin_mach.proofs.Exported.{first-exported, exported-excludes_none}
+use Rattle.goblin_mach.proofs.Exported.{first-exported, first-or_none, exported-excludes_none}
 use Rattle.goblin_mach.proofs.image.exported.exported_or_not.Goals as goal
 
-pub returns-clause-first : goal.returns-clause-first
-returns-clause-first c = first-exported
-
-pub returns-clause-not_both : goal.returns-clause-not_both
-returns-clause-not_both c = exported-excludes_none
+pub returns : goal.returns
+returns c = record { either = first-or_none; first = first-exported; not_both = exported-excludes_none }

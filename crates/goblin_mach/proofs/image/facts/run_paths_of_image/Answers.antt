@@ -1,8 +1,9 @@
 use Rattle.goblin_mach.proofs.Facts.{strict-lossy, run_paths_are}
 use Rattle.goblin_mach.proofs.image.facts.run_paths_of_image.Goals as goal
 
-pub returns-clause-strict : goal.returns-clause-strict
-returns-clause-strict g c = λ bytes o p. run_paths_are bytes o c.args.image.now (strict-lossy bytes o c.args.image.now p)
-
-pub returns-clause-lossy : goal.returns-clause-lossy
-returns-clause-lossy g c = λ bytes o p. run_paths_are bytes o c.args.image.now p
+pub returns : goal.returns
+returns g c =
+    let m = c.args.image.now in record {
+      strict = λ bytes o p. run_paths_are bytes o m (strict-lossy bytes o m p);
+      lossy = λ bytes o p. run_paths_are bytes o m p;
+    }

@@ -4,7 +4,11 @@ use Rattle.goblin_mach.specs.Readings.{read_of, AllRead}
 use Rattle.goblin_mach.proofs.image.readings.all_read.Given as goal
 
 abbrev pub invariant-loop-command : goal.invariant-loop-command
-invariant-loop-command g l = record {
-  found : map g.S.Subject.seen l.values.items ++ read_of (g.S.Subject.reading l.subject) (drop l.command-index (map command_of l.commands)) ≡ map g.S.Subject.seen l.fn.first.items ++ read_of (g.S.Subject.reading l.subject) (map command_of l.commands);
-  all : AllRead (g.S.Subject.reading l.subject) (drop l.command-index (map command_of l.commands)) → AllRead (g.S.Subject.reading l.subject) (map command_of l.commands);
-}
+invariant-loop-command g l =
+    let reading = g.S.Subject.reading l.subject in
+    let seen = g.S.Subject.seen in
+    let left = drop l.command-index (map command_of l.commands) in
+    record {
+      found : map seen l.values.items ++ read_of reading left ≡ map seen l.fn.first.items ++ read_of reading (map command_of l.commands);
+      all : AllRead reading left → AllRead reading (map command_of l.commands);
+    }

@@ -5,7 +5,10 @@ use Rattle.goblin_mach.proofs.Readings.{first_or}
 use Rattle.goblin_mach.proofs.image.readings.first_read.Given as goal
 
 abbrev pub invariant-loop-command : goal.invariant-loop-command
-invariant-loop-command g l = record {
-  found : first_or (option_map g.S.Subject.seen l.first) (read_of (g.S.Subject.reading l.subject) (drop l.command-index (map command_of l.commands))) ≡ first_of (read_of (g.S.Subject.reading l.subject) (map command_of l.commands));
-  all : AllRead (g.S.Subject.reading l.subject) (drop l.command-index (map command_of l.commands)) → AllRead (g.S.Subject.reading l.subject) (map command_of l.commands);
-}
+invariant-loop-command g l =
+    let reading = g.S.Subject.reading l.subject in
+    let left = drop l.command-index (map command_of l.commands) in
+    record {
+      found : first_or (option_map g.S.Subject.seen l.first) (read_of reading left) ≡ first_of (read_of reading (map command_of l.commands));
+      all : AllRead reading left → AllRead reading (map command_of l.commands);
+    }

@@ -10,5 +10,6 @@ abbrev pub invariant-sections : goal.invariant-sections
 invariant-sections g l = record {
   fits : enumerate_count l.number-iterator + length (sections_left (enumerate_source l.number-iterator)) < 2 ^ 64;
   listed : with_front (map relocated_view l.initial.found.items) (relocated_sections_of l.ctx l.bytes (segment_view l.segment))
-      ≡ with_front (map relocated_view l.found.items) (left_from l.ctx l.bytes (enumerate_count l.number-iterator) (sections_left (enumerate_source l.number-iterator)));
+      ≡ with_front (map relocated_view l.found.items) (left_from l.ctx l.bytes (enumerate_count l.number-iterator)
+      (sections_left (enumerate_source l.number-iterator)));
 }

@@ -18,4 +18,4 @@ returns-in_err-arch g c =
 pub returns : goal.returns
 returns g c =
     let is = entry_at-record (file_held c.args.self.now) c.args.index (Ok c.in_ok-arch.arch) (search rules) c.in_ok-arch.ensures in
-    subst (λ (x : Result FatEntry Fault). OpensEntry x c.open.result) (ap fat_entry_of c.slice.ensures ∙ sym is) c.open.ensures
+    rw is (rw c.slice.ensures at c.open.ensures)

@@ -5,8 +5,11 @@ use Rattle.goblin_mach.proofs.fat_file.multi_arch.SingleArchIteratorIterator.nex
 
 pub returns-clause-steps : goal.returns-clause-steps
 returns-clause-steps g c =
-    let it = c.args.self.now in
-    (entry_at (file_held it.file.now) it.index, items_from-first (entry_at (file_held it.file.now)) it.index it.file.now.narches c.if-self.false, c.get-item.ensures)
+    let it = c.args.self.now in (
+      entry_at (file_held it.file.now) it.index,
+      items_from-first (entry_at (file_held it.file.now)) it.index it.file.now.narches c.if-self.false,
+      c.get-item.ensures,
+    )
 
 pub returns-clause-goes : goal.returns-clause-goes
 returns-clause-goes g c =

@@ -7,4 +7,5 @@ pub returns-in-Unixthread : goal.returns-in-Unixthread
 returns-in-Unixthread c =
     let cputype = c.args.self.now.cputype in
     let state = c.in-Unixthread.c.thread_state in
-    rw c.in-Unixthread.is (seen_read _ c.instruction_pointer.result _ c.instruction_pointer.ensures ∙ ap (λ (words : List ℕ). Some (pointer_in words cputype)) (sym (words_back state)))
+    rw c.in-Unixthread.is (seen_read _ c.instruction_pointer.result _ c.instruction_pointer.ensures ∙ ap (λ (words : List ℕ). Some (pointer_in words cputype))
+    (sym (words_back state)))

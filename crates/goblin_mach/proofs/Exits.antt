@@ -1,0 +1,31 @@
+-- Where `?` leaves a function with an error, the error reports a fault that stands.
+use Rattle.std.proofs.Common.{◌≡◌, Result, Ok, Err}
+use Rattle.std.specs.Prelude.{IfErr, IsErrAnd}
+use Rattle.mach_base.specs.declared.error.Error.{Error}
+use Rattle.mach_base.specs.Answer.{FailsAs, Gives, Stands}
+use Rattle.mach_base.specs.Fault.{Fault, fault_of}
+use Rattle.mach_base.proofs.Faults.{Stands-in, Stands-reported, Stands-failed}
+
+exit_stands : {X : Type 0} (Q : Fault → Type 0) (r : Result X Error) (e : Error) → IsErrAnd r (λ x. x ≡ e) → Stands Q e → IfErr r (Stands Q)
+exit_stands Q (Ok x) e left h = tt
+exit_stands Q (Err x) e left h = rw left h
+
+-- a fault of a part is one of the whole
+pub exit_in : {X : Type 0} (P Q : Fault → Type 0) (r : Result X Error) (e : Error) → IsErrAnd r (λ x. x ≡ e)
+    → ((f : Fault) → P f → Q f) → Stands P e → IfErr r (Stands Q)
+exit_in P Q r e left to h = exit_stands Q r e left (Stands-in P Q e to h)
+
+-- the fault that it reports stands
+pub exit_reported : {X : Type 0} (Q : Fault → Type 0) (r : Result X Error) (e : Error) → IsErrAnd r (λ x. x ≡ e) → Q (fault_of e) → IfErr r (Stands Q)
+exit_reported Q r e left h = exit_stands Q r e left (Stands-reported Q e h)
+
+-- a fault of what is there stands
+pub exit_failed : {X Y : Type 0} (Q : Fault → Type 0) (r : Result X Error) (e : Error) → IsErrAnd r (λ x. x ≡ e)
+    → (there : Result Y Fault) → ((f : Fault) → there ≡ Err f → Q f) → FailsAs e there → IfErr r (Stands Q)
+exit_failed Q r e left there to h = exit_stands Q r e left (Stands-failed Q e there to h)
+
+-- what fails as an error says fails so where it is answered
+pub exit_gives : {X Y : Type 0} (view : X → Y) (r : Result X Error) (e : Error) → IsErrAnd r (λ x. x ≡ e)
+    → (there : Result Y Fault) → FailsAs e there → Gives view r there
+exit_gives view (Ok x) e left there h = absurd left
+exit_gives view (Err x) e left there h = rw left h
