@@ -1,5 +1,5 @@
 -- The chain of load commands (`mach-o/loader.h`, struct load_command).
-use Rattle.std.specs.Prelude.{◌≡◌, ℕ, ◌+◌, ◌<◌, ◌⊎◌, List, [], ◌∷◌, ◌++◌, length, Ok, Err}
+use Rattle.std.specs.Prelude.{◌≡◌, ℕ, ◌+◌, ◌<◌, List, [], ◌∷◌, ◌++◌, length, Ok, Err}
 use Rattle.mach_base.specs.declared.context.Endian.{Endian}
 use Rattle.mach_base.specs.Fault.{Fault}
 use Rattle.mach_load.specs.declared.load_command.LoadCommand.{LoadCommand}

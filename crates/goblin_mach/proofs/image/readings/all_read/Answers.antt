@@ -2,7 +2,7 @@ use Rattle.std.proofs.Common.{◌∙◌, ◌++◌, Some, sym, ap, map, refl}
 use Rattle.std.proofs.lemmas.List.{map_push}
 use Rattle.mach_load.specs.Variants.{command_of}
 use Rattle.goblin_mach.specs.Readings.{IsUnread}
-use Rattle.goblin_mach.proofs.Readings.{stepped, all_stepped, missed, one_more}
+use Rattle.goblin_mach.proofs.Readings.{stepped, all_stepped, missed, one_more, whole}
 use Rattle.goblin_mach.proofs.Exits.{exit_reported}
 use Rattle.goblin_mach.proofs.image.readings.all_read.Goals as goal
 
@@ -37,3 +37,10 @@ loop-command-preserved g c =
           λ rest. c.loop-command.invariant.all (all_stepped g.S.Subject.seen (g.S.Subject.reading c.args.subject.now) c.args.commands.now
           c.loop-command.command-index _ c.loop-command-test.true c.read.result _ c.read.ensures (c.in-Some.is ∙ ap Some c.in_ok-found.was) refl rest);
     }
+
+pub loop-command-init : goal.loop-command-init
+loop-command-init g c = record { found = refl; all = λ all. all }
+
+pub returns-clause-found : goal.returns-clause-found
+returns-clause-found g c =
+    whole (g.S.Subject.reading c.args.subject.now) c.args.commands.now c.loop-command.command-index _ _ c.loop-command-test.false c.loop-command.invariant.found

@@ -1,8 +1,6 @@
-use Rattle.std.proofs.Common.{rules, Result, Ok, sym, subst, ◌∙◌, ap}
+use Rattle.std.proofs.Common.{rules, Ok}
 use Rattle.std.proofs.lemmas.Result.{err_from_is_err_and}
-use Rattle.mach_base.specs.Fault.{Fault}
 use Rattle.goblin_mach.proofs.FatEntries.{OpensEntry-refused, entry_at-none, entry_at-record}
-use Rattle.goblin_mach.specs.FatEntry.{FatEntry, OpensEntry, fat_entry_of}
 use Rattle.goblin_mach.specs.FatFile.{file_held}
 use Rattle.goblin_mach.proofs.fat_file.multi_arch.MultiArch.get.Goals as goal
 
