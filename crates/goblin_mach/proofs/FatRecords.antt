@@ -1,5 +1,6 @@
 -- The records of a fat file, gathered one by one, and what holds of each number below another.
-use Rattle.std.proofs.Common.{◌≡◌, ℕ, ◌+◌, ◌/◌, ◌<◌, ◌≤◌, List, [], ◌∷◌, ◌++◌, length, Result, Ok, Err, inl, inr, refl, sym, ap, ◌∙◌, subst, append_assoc, arith}
+use Rattle.std.proofs.Common.{◌≡◌, ℕ, ◌+◌, ◌/◌, ◌<◌, ◌≤◌, List, [], ◌∷◌, ◌++◌, length, Result, Ok, Err, inl, inr, refl, sym, ap, ◌∙◌, subst, append_assoc}
+use Rattle.std.proofs.Common.{arith}
 use Rattle.std.proofs.lemmas.Bool.{cases_lt, le-leb}
 use Rattle.std.proofs.lemmas.List.{append-nil}
 use Rattle.mach_base.specs.Answer.{◌>>=◌}
@@ -36,7 +37,8 @@ module _ (file : FatFile) (found : List FatArch) (left : List (Result FatArch Fa
     (gathered : all_read (archs_of file) ≡ onto found (all_read left)) where
   -- where none are left these are all
   pub arches-whole : left ≡ [] → arches_in file ≡ Ok found
-  arches-whole none = rw (le-leb file.narches (length file.bytes / 20) fit) (gathered ∙ ap (λ items. onto found (all_read items)) none ∙ ap Ok (append-nil found))
+  arches-whole none =
+      rw (le-leb file.narches (length file.bytes / 20) fit) (gathered ∙ ap (λ items. onto found (all_read items)) none ∙ ap Ok (append-nil found))
 
   -- one that can't be read refuses them all
   pub arches-refused : (f : Fault) (after : List (Result FatArch Fault)) → left ≡ Err f ∷ after → arches_in file ≡ Err f

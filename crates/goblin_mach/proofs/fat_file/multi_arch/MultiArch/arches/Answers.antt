@@ -27,4 +27,5 @@ arches-preserved g c =
 
 pub returns : goal.returns
 returns g c =
-    arches-whole (file_held c.args.self.now) c.arches.arches.items (archs_left c.arches.arch-iterator) c.if-self.false c.arches.invariant c.in-None.ensures.steps.0
+    arches-whole (file_held c.args.self.now) c.arches.arches.items (archs_left c.arches.arch-iterator) c.if-self.false c.arches.invariant
+    c.in-None.ensures.steps.0
