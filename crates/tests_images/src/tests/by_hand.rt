@@ -254,107 +254,116 @@ fn all_fields_of_a_segment(rt: HostRuntime) -> Result<(), Fail> {
     Ok(())
 }
 
+// The header of file B.
+const HEADER: Header = Header {
+    magic: 0xfeed_facf,
+    cputype: 0x0100_0007,
+    cpusubtype: 3,
+    filetype: 2,
+    ncmds: 5,
+    sizeofcmds: 280,
+    flags: 0,
+    reserved: 0,
+};
+
+// A header, and what it says of its cpu.
+struct HeaderRow {
+    header: Header,
+    cputype: u32,
+    cpusubtype: u32,
+    caps: u32,
+}
+
+// One field at its largest, in the order of the fields.
+const HEADERS: &[HeaderRow] = &[
+    HeaderRow {
+        header: Header {
+            magic: u32::MAX,
+            ..HEADER
+        },
+        cputype: 0x0100_0007,
+        cpusubtype: 3,
+        caps: 0,
+    },
+    HeaderRow {
+        header: Header {
+            cputype: u32::MAX,
+            ..HEADER
+        },
+        cputype: u32::MAX,
+        cpusubtype: 3,
+        caps: 0,
+    },
+    HeaderRow {
+        header: Header {
+            cpusubtype: u32::MAX,
+            ..HEADER
+        },
+        cputype: 0x0100_0007,
+        cpusubtype: 0x00ff_ffff,
+        caps: 0xff,
+    },
+    HeaderRow {
+        header: Header {
+            filetype: u32::MAX,
+            ..HEADER
+        },
+        cputype: 0x0100_0007,
+        cpusubtype: 3,
+        caps: 0,
+    },
+    HeaderRow {
+        header: Header {
+            ncmds: usize::MAX,
+            ..HEADER
+        },
+        cputype: 0x0100_0007,
+        cpusubtype: 3,
+        caps: 0,
+    },
+    HeaderRow {
+        header: Header {
+            sizeofcmds: u32::MAX,
+            ..HEADER
+        },
+        cputype: 0x0100_0007,
+        cpusubtype: 3,
+        caps: 0,
+    },
+    HeaderRow {
+        header: Header {
+            flags: u32::MAX,
+            ..HEADER
+        },
+        cputype: 0x0100_0007,
+        cpusubtype: 3,
+        caps: 0,
+    },
+    HeaderRow {
+        header: Header {
+            reserved: u32::MAX,
+            ..HEADER
+        },
+        cputype: 0x0100_0007,
+        cpusubtype: 3,
+        caps: 0,
+    },
+];
+
 #[test]
 fn fields_of_a_header(rt: HostRuntime) -> Result<(), Fail> {
     let alloc = rt.alloc();
     let mut image = MachO::parse(alloc, &FILE_B, 0)?;
-    let held = image.header;
-    let rows: [(Header, bool, u32, u32, u32); 8] = [
-        (
-            Header {
-                magic: u32::MAX,
-                ..held
-            },
-            false,
-            0x0100_0007,
-            3,
-            0,
-        ),
-        (
-            Header {
-                cputype: u32::MAX,
-                ..held
-            },
-            false,
-            u32::MAX,
-            3,
-            0,
-        ),
-        (
-            Header {
-                cpusubtype: u32::MAX,
-                ..held
-            },
-            false,
-            0x0100_0007,
-            0x00ff_ffff,
-            0xff,
-        ),
-        (
-            Header {
-                filetype: u32::MAX,
-                ..held
-            },
-            false,
-            0x0100_0007,
-            3,
-            0,
-        ),
-        (
-            Header {
-                ncmds: usize::MAX,
-                ..held
-            },
-            false,
-            0x0100_0007,
-            3,
-            0,
-        ),
-        (
-            Header {
-                sizeofcmds: u32::MAX,
-                ..held
-            },
-            false,
-            0x0100_0007,
-            3,
-            0,
-        ),
-        (
-            Header {
-                flags: u32::MAX,
-                ..held
-            },
-            false,
-            0x0100_0007,
-            3,
-            0,
-        ),
-        (
-            Header {
-                reserved: u32::MAX,
-                ..held
-            },
-            false,
-            0x0100_0007,
-            3,
-            0,
-        ),
-    ];
-    for (header, object, cputype, cpusubtype, caps) in rows {
+    for row in HEADERS {
+        let header = row.header;
         image.header = header;
-        assert_eq!(rt; image.is_object_file(), object);
-        assert_eq!(rt; header.cputype(), cputype);
-        assert_eq!(rt; header.cpusubtype(), cpusubtype);
-        assert_eq!(rt; header.cpu_caps(), caps);
-        assert_eq!(rt;
-            Header32::from(header).ncmds,
-            (header.ncmds & 0xffff_ffff) as u32
-        );
-        assert_eq!(rt;
-            Header64::from(header).ncmds,
-            (header.ncmds & 0xffff_ffff) as u32
-        );
+        assert!(rt; !image.is_object_file());
+        assert_eq!(rt; header.cputype(), row.cputype);
+        assert_eq!(rt; header.cpusubtype(), row.cpusubtype);
+        assert_eq!(rt; header.cpu_caps(), row.caps);
+        let low = (header.ncmds & 0xffff_ffff) as u32;
+        assert_eq!(rt; Header32::from(header).ncmds, low);
+        assert_eq!(rt; Header64::from(header).ncmds, low);
         assert_eq!(rt; image.exports(alloc)?.len(), 2);
         assert_eq!(rt; image.imports(alloc)?.len(), 2);
     }
@@ -425,199 +434,224 @@ fn fields_of_a_container(rt: HostRuntime) -> Result<(), Fail> {
     Ok(())
 }
 
+// A record of 16 bytes in file B.
+const RECORD: FatArch = FatArch {
+    cputype: 7,
+    cpusubtype: 3,
+    offset: 48,
+    size: 16,
+    align: 4,
+};
+
+// A record, how many bytes of file B it has, and what it says of its cpu.
+struct RecordRow {
+    arch: FatArch,
+    length: usize,
+    cpusubtype: u32,
+    caps: u32,
+    is_64: bool,
+}
+
+// One field at its largest, in the order of the fields.
+const RECORDS: &[RecordRow] = &[
+    RecordRow {
+        arch: FatArch {
+            cputype: u32::MAX,
+            ..RECORD
+        },
+        length: 16,
+        cpusubtype: 3,
+        caps: 0,
+        is_64: true,
+    },
+    RecordRow {
+        arch: FatArch {
+            cpusubtype: u32::MAX,
+            ..RECORD
+        },
+        length: 16,
+        cpusubtype: 0x00ff_ffff,
+        caps: 0xff,
+        is_64: false,
+    },
+    RecordRow {
+        arch: FatArch {
+            offset: u32::MAX,
+            ..RECORD
+        },
+        length: 0,
+        cpusubtype: 3,
+        caps: 0,
+        is_64: false,
+    },
+    RecordRow {
+        arch: FatArch {
+            size: u32::MAX,
+            ..RECORD
+        },
+        length: 0,
+        cpusubtype: 3,
+        caps: 0,
+        is_64: false,
+    },
+    RecordRow {
+        arch: FatArch {
+            align: u32::MAX,
+            ..RECORD
+        },
+        length: 16,
+        cpusubtype: 3,
+        caps: 0,
+        is_64: false,
+    },
+];
+
 #[test]
 fn fields_of_a_record(rt: HostRuntime) {
-    let of_b = FatArch {
-        cputype: 7,
-        cpusubtype: 3,
-        offset: 48,
-        size: 16,
-        align: 4,
-    };
-    let rows: [(FatArch, usize, u32, u32, bool); 5] = [
-        (
-            FatArch {
-                cputype: u32::MAX,
-                ..of_b
-            },
-            16,
-            3,
-            0,
-            true,
-        ),
-        (
-            FatArch {
-                cpusubtype: u32::MAX,
-                ..of_b
-            },
-            16,
-            0x00ff_ffff,
-            0xff,
-            false,
-        ),
-        (
-            FatArch {
-                offset: u32::MAX,
-                ..of_b
-            },
-            0,
-            3,
-            0,
-            false,
-        ),
-        (
-            FatArch {
-                size: u32::MAX,
-                ..of_b
-            },
-            0,
-            3,
-            0,
-            false,
-        ),
-        (
-            FatArch {
-                align: u32::MAX,
-                ..of_b
-            },
-            16,
-            3,
-            0,
-            false,
-        ),
-    ];
-    for (arch, length, cpusubtype, caps, is_64) in rows {
-        assert_eq!(rt; arch.slice(&FILE_B).len(), length);
+    for row in RECORDS {
+        let arch = row.arch;
+        assert_eq!(rt; arch.slice(&FILE_B).len(), row.length);
         assert_eq!(rt; arch.cputype(), arch.cputype);
-        assert_eq!(rt; arch.cpusubtype(), cpusubtype);
-        assert_eq!(rt; arch.cpu_caps(), caps);
-        assert_eq!(rt; arch.is_64(), is_64);
+        assert_eq!(rt; arch.cpusubtype(), row.cpusubtype);
+        assert_eq!(rt; arch.cpu_caps(), row.caps);
+        assert_eq!(rt; arch.is_64(), row.is_64);
     }
 }
 
 // The section of file B.
-fn section() -> Section {
-    Section {
-        sectname: *b"__text\0\0\0\0\0\0\0\0\0\0",
-        segname: *b"__TEXT\0\0\0\0\0\0\0\0\0\0",
-        addr: 0x1_0000_0138,
-        size: 8,
-        offset: 312,
-        align: 0,
-        reloff: 344,
-        nreloc: 1,
-        flags: 0,
-    }
+const SECTION: Section = Section {
+    sectname: *b"__text\0\0\0\0\0\0\0\0\0\0",
+    segname: *b"__TEXT\0\0\0\0\0\0\0\0\0\0",
+    addr: 0x1_0000_0138,
+    size: 8,
+    offset: 312,
+    align: 0,
+    reloff: 344,
+    nreloc: 1,
+    flags: 0,
+};
+
+// A section, its two names, and its first two relocations in file B.
+#[derive(Drop)]
+struct SectionRow {
+    section: Section,
+    sectname: &'static str,
+    segname: &'static str,
+    first: &'static str,
+    second: &'static str,
 }
+
+// One field at its largest, in the order of the fields.
+const SECTIONS: [SectionRow; 9] = [
+    SectionRow {
+        section: Section {
+            sectname: [0xff; 16],
+            ..SECTION
+        },
+        sectname: "bad input 16",
+        segname: "__TEXT",
+        first: FIRST,
+        second: "none",
+    },
+    SectionRow {
+        section: Section {
+            segname: [0xff; 16],
+            ..SECTION
+        },
+        sectname: "__text",
+        segname: "bad input 16",
+        first: FIRST,
+        second: "none",
+    },
+    SectionRow {
+        section: Section {
+            addr: u64::MAX,
+            ..SECTION
+        },
+        sectname: "__text",
+        segname: "__TEXT",
+        first: FIRST,
+        second: "none",
+    },
+    SectionRow {
+        section: Section {
+            size: u64::MAX,
+            ..SECTION
+        },
+        sectname: "__text",
+        segname: "__TEXT",
+        first: FIRST,
+        second: "none",
+    },
+    SectionRow {
+        section: Section {
+            offset: u32::MAX,
+            ..SECTION
+        },
+        sectname: "__text",
+        segname: "__TEXT",
+        first: FIRST,
+        second: "none",
+    },
+    SectionRow {
+        section: Section {
+            align: u32::MAX,
+            ..SECTION
+        },
+        sectname: "__text",
+        segname: "__TEXT",
+        first: FIRST,
+        second: "none",
+    },
+    SectionRow {
+        section: Section {
+            reloff: u32::MAX,
+            ..SECTION
+        },
+        sectname: "__text",
+        segname: "__TEXT",
+        first: "bad offset 4294967295",
+        second: "none",
+    },
+    SectionRow {
+        section: Section {
+            nreloc: u32::MAX,
+            ..SECTION
+        },
+        sectname: "__text",
+        segname: "__TEXT",
+        first: FIRST,
+        second: "1 0x10f",
+    },
+    SectionRow {
+        section: Section {
+            flags: u32::MAX,
+            ..SECTION
+        },
+        sectname: "__text",
+        segname: "__TEXT",
+        first: FIRST,
+        second: "none",
+    },
+];
 
 #[test]
 fn fields_of_a_section(rt: HostRuntime) -> Result<(), Fail> {
     let alloc = rt.alloc();
-    let rows: [(Section, &str, &str, &str, &str); 9] = [
-        (
-            Section {
-                sectname: [0xff; 16],
-                ..section()
-            },
-            "bad input 16",
-            "__TEXT",
-            FIRST,
-            "none",
-        ),
-        (
-            Section {
-                segname: [0xff; 16],
-                ..section()
-            },
-            "__text",
-            "bad input 16",
-            FIRST,
-            "none",
-        ),
-        (
-            Section {
-                addr: u64::MAX,
-                ..section()
-            },
-            "__text",
-            "__TEXT",
-            FIRST,
-            "none",
-        ),
-        (
-            Section {
-                size: u64::MAX,
-                ..section()
-            },
-            "__text",
-            "__TEXT",
-            FIRST,
-            "none",
-        ),
-        (
-            Section {
-                offset: u32::MAX,
-                ..section()
-            },
-            "__text",
-            "__TEXT",
-            FIRST,
-            "none",
-        ),
-        (
-            Section {
-                align: u32::MAX,
-                ..section()
-            },
-            "__text",
-            "__TEXT",
-            FIRST,
-            "none",
-        ),
-        (
-            Section {
-                reloff: u32::MAX,
-                ..section()
-            },
-            "__text",
-            "__TEXT",
-            "bad offset 4294967295",
-            "none",
-        ),
-        (
-            Section {
-                nreloc: u32::MAX,
-                ..section()
-            },
-            "__text",
-            "__TEXT",
-            FIRST,
-            "1 0x10f",
-        ),
-        (
-            Section {
-                flags: u32::MAX,
-                ..section()
-            },
-            "__text",
-            "__TEXT",
-            FIRST,
-            "none",
-        ),
-    ];
-    for (section, sectname, segname, first, second) in rows {
-        assert_eq!(rt; named(alloc, section.name())?.as_str(), sectname);
-        assert_eq!(rt; named(alloc, section.segname())?.as_str(), segname);
+    for row in SECTIONS {
+        let section = row.section;
+        assert_eq!(rt; named(alloc, section.name())?.as_str(), row.sectname);
+        assert_eq!(rt; named(alloc, section.segname())?.as_str(), row.segname);
         let mut items = section.iter_relocations(&FILE_B, Ctx::default());
-        assert_eq!(rt; relocation(alloc, items.next())?.as_str(), first);
-        assert_eq!(rt; relocation(alloc, items.next())?.as_str(), second);
+        assert_eq!(rt; relocation(alloc, items.next())?.as_str(), row.first);
+        assert_eq!(rt; relocation(alloc, items.next())?.as_str(), row.second);
         let low = (section.addr & 0xffff_ffff, section.size & 0xffff_ffff);
         let narrow = Section32::from(section);
         assert_eq!(rt; (u64::from(narrow.addr), u64::from(narrow.size)), low);
     }
     let wide = Section64::from(Section {
         addr: u64::MAX,
-        ..section()
+        ..SECTION
     });
     assert_eq!(rt; (wide.addr, wide.size), (u64::MAX, 8));
     Ok(())
