@@ -7,11 +7,12 @@ ghost use Rattle.mach_base.specs.Front.{same_fault};
 ghost use Rattle.mach_base.specs.Record.{num, number_is};
 
 use mach_base::{
-    BE, Container, Ctx, Endian, Error, IntoCtx, LE, Record, RecordBytes, Result, ScrollError,
-    SizeWith, Sleb128, TryFromCtx, Uleb128, describe, gread_with, pread_with, pwrite_with,
-    quick_text, quick_uleb, read_text, written_and_read,
+    BE, ByteCount, Container, Ctx, Endian, Error, IntoCtx, LE, Record, RecordBytes, Result,
+    ScrollError, SizeWith, Sleb128, TryFromCtx, Uleb128, describe, gread_with, pread_with,
+    pwrite_with, quick_text, quick_uleb, read_text, written_and_read,
 };
 use std::alloc::AllocError;
+use std::test::Fail;
 
 // The kind of an error, with its numbers.
 #[derive(Clone, Copy, Debug, PartialEq)]
@@ -331,6 +332,23 @@ fn errors_in_words(rt: HostRuntime) -> Result<()> {
             format!(in rt.alloc(); "{}", describe(error))?.as_str(),
             *want
         );
+    }
+    Ok(())
+}
+
+#[test]
+fn bytes_are_counted(rt: HostRuntime) -> std::result::Result<(), Fail> {
+    let bytes = [7; 12_345];
+    for (length, want) in [
+        (0, "0 bytes"),
+        (1, "1 bytes"),
+        (376, "376 bytes"),
+        (1000, "1000 bytes"),
+        (12_345, "12345 bytes"),
+    ] {
+        let held = ByteCount(bytes.get(..length).unwrap_or(&[]));
+        let shown = format!(in rt.alloc(); "{held:?}")?;
+        assert_eq!(rt; shown.as_str(), want);
     }
     Ok(())
 }

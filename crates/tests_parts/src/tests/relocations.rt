@@ -1,7 +1,8 @@
 //! A relocation of known bits, its bytes and its name.
 
-use mach_base::{BE, LE, Record};
+use mach_base::{BE, Ctx, LE, Record};
 use mach_parts::relocation::{RelocationInfo, SIZEOF_RELOCATION_INFO, reloc_to_str};
+use mach_parts::segment::{RelocationIterator, Section};
 use mach_records::cputype::{
     CPU_TYPE_ARM, CPU_TYPE_ARM64, CPU_TYPE_ARM64_32, CPU_TYPE_POWERPC, CPU_TYPE_X86,
     CPU_TYPE_X86_64,
@@ -51,5 +52,37 @@ fn bytes_of_a_relocation(rt: HostRuntime) -> Result<(), Fail> {
         assert_eq!(rt; found.write(&mut written, 0, le)?, SIZEOF_RELOCATION_INFO);
         assert_eq!(rt; written, bytes);
     }
+    Ok(())
+}
+
+// Three relocations, of the addresses 1, 2 and 3.
+const THREE: [u8; 24] = [
+    1, 0, 0, 0, 1, 0, 0, 0x2d, 2, 0, 0, 0, 1, 0, 0, 0x2d, 3, 0, 0, 0, 1, 0, 0, 0x2d,
+];
+
+// The address of the next relocation, if there is one.
+fn address(items: &mut RelocationIterator<'_>) -> Option<i32> {
+    match items.next() {
+        Some(Ok(relocation)) => Some(relocation.r_address),
+        _ => None,
+    }
+}
+
+#[test]
+fn a_copy_of_relocations_goes_on(rt: HostRuntime) -> Result<(), Fail> {
+    let section = Section {
+        nreloc: 3,
+        ..Section::default()
+    };
+    let mut items = section.iter_relocations(&THREE, Ctx::default());
+    assert_eq!(rt; address(&mut items), Some(1));
+    let mut copy = items.clone()?;
+    assert_eq!(rt; address(&mut items), Some(2));
+    assert_eq!(rt; address(&mut items), Some(3));
+    assert_eq!(rt; address(&mut items), None);
+    assert_eq!(rt; copy.len(), 2);
+    assert_eq!(rt; address(&mut copy), Some(2));
+    assert_eq!(rt; address(&mut copy), Some(3));
+    assert_eq!(rt; address(&mut copy), None);
     Ok(())
 }

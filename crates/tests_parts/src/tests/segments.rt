@@ -5,7 +5,7 @@ use mach_base::{
     pwrite_with,
 };
 use mach_parts::laws::section_written_and_read;
-use mach_parts::segment::{Section, Segment, Segments};
+use mach_parts::segment::{Section, SectionData, Segment, Segments};
 use mach_records::{LC_SEGMENT, Section32, SegmentCommand32, SegmentCommand64};
 use std::test::Fail;
 use test_files::FILE_B;
@@ -39,22 +39,37 @@ fn segment_of_a_known_image(rt: HostRuntime) -> Result<(), Fail> {
     Ok(())
 }
 
+// What Debug shows of it.
+const SHOWN: &str = "Segment { cmd: 25, cmdsize: 152, \
+     segname: [95, 95, 84, 69, 88, 84, 0, 0, 0, 0, 0, 0, 0, 0, 0, 0], \
+     vmaddr: 4294967296, vmsize: 4096, fileoff: 0, filesize: 376, maxprot: 0, initprot: 0, \
+     nsects: 1, flags: 0, bytes: 376 bytes, file: 376 bytes, offset: 32, \
+     ctx: Ctx { container: Big, le: Little } }";
+
 #[test]
 fn segment_shown(rt: HostRuntime) -> Result<(), Fail> {
-    let mut segments = Segments::new(rt.alloc(), Ctx::default());
-    segments.push(segment_of_file_b()?)?;
-    let shown = format!(in rt.alloc(); "{segments:?}")?;
-    assert_eq!(rt;
-        shown.as_str(),
-        "Segments { segments: [Segment { cmd: 25, cmdsize: 152, \
-         segname: [95, 95, 84, 69, 88, 84, 0, 0, 0, 0, 0, 0, 0, 0, 0, 0], \
-         vmaddr: 4294967296, vmsize: 4096, fileoff: 0, filesize: 376, maxprot: 0, initprot: 0, \
-         nsects: 1, flags: 0, bytes: 376 bytes, file: 376 bytes, offset: 32, \
-         ctx: Ctx { container: Big, le: Little } }] }"
-    );
+    let alloc = rt.alloc();
+    let segment = segment_of_file_b()?;
+    let shown = format!(in alloc; "{segment:?}")?;
+    assert_eq!(rt; shown.as_str(), SHOWN);
+    let mut segments = Segments::new(alloc, Ctx::default());
+    segments.push(segment)?;
+    let shown = format!(in alloc; "{segments:?}")?;
+    let want = format!(in alloc; "Segments {{ segments: [{SHOWN}] }}")?;
+    assert_eq!(rt; shown.as_str(), want.as_str());
     Ok(())
 }
 
+// The address of a section, if there is one.
+fn address(item: Option<Result<(Section, SectionData<'_>), Error>>) -> Option<u64> {
+    match item {
+        Some(Ok((section, _))) => Some(section.addr),
+        _ => None,
+    }
+}
+
+// The second section is read from the commands behind the first: there is a command of the number 0x80000022 and
+// of 0x30 bytes where its address stands.
 #[test]
 fn sections_left(rt: HostRuntime) -> Result<(), Fail> {
     let mut segment = segment_of_file_b()?;
@@ -63,7 +78,11 @@ fn sections_left(rt: HostRuntime) -> Result<(), Fail> {
     assert_eq!(rt; sections.len(), 2);
     assert!(rt; matches!(sections.next(), Some(Ok(_))));
     assert_eq!(rt; sections.len(), 1);
-    assert_eq!(rt; sections.clone()?.size_hint(), (1, Some(1)));
+    let mut copy = sections.clone()?;
+    assert_eq!(rt; copy.size_hint(), (1, Some(1)));
+    assert_eq!(rt; address(sections.next()), Some(0x30_8000_0022));
+    assert_eq!(rt; address(copy.next()), Some(0x30_8000_0022));
+    assert!(rt; copy.next().is_none());
     Ok(())
 }
 

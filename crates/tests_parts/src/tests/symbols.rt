@@ -85,6 +85,37 @@ fn how_many_symbols_are_left(rt: HostRuntime) -> std::result::Result<(), Fail> {
     Ok(())
 }
 
+// Three symbols, named "_a", "_b" and "_c".
+const THREE: [u8; 57] = [
+    0, 0, 0, 0, 15, 1, 0, 0, 0, 0, 0, 0, 0, 0, 0, 0, 3, 0, 0, 0, 15, 1, 0, 0, 0, 0, 0, 0, 0, 0, 0,
+    0, 6, 0, 0, 0, 15, 1, 0, 0, 0, 0, 0, 0, 0, 0, 0, 0, 0x5f, 0x61, 0, 0x5f, 0x62, 0, 0x5f, 0x63,
+    0,
+];
+
+// The name of the next symbol, if there is one.
+fn name<'a>(items: &mut SymbolIterator<'a>) -> Option<&'a str> {
+    match items.next() {
+        Some(Ok((name, _))) => Some(name),
+        _ => None,
+    }
+}
+
+#[test]
+fn a_copy_of_symbols_goes_on(rt: HostRuntime) -> std::result::Result<(), Fail> {
+    let symbols = Symbols::new(&THREE, 0, 3, 48)?;
+    let mut items = symbols.iter();
+    assert_eq!(rt; name(&mut items), Some("_a"));
+    let mut copy = items.clone()?;
+    assert_eq!(rt; name(&mut items), Some("_b"));
+    assert_eq!(rt; name(&mut items), Some("_c"));
+    assert_eq!(rt; name(&mut items), None);
+    assert_eq!(rt; copy.len(), 2);
+    assert_eq!(rt; name(&mut copy), Some("_b"));
+    assert_eq!(rt; name(&mut copy), Some("_c"));
+    assert_eq!(rt; name(&mut copy), None);
+    Ok(())
+}
+
 #[test]
 fn symbols_shown(rt: HostRuntime) -> std::result::Result<(), Fail> {
     let symbols = Symbols::parse(&FILE_B, &command(1), Ctx::default())?;
