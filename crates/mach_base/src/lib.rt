@@ -10,8 +10,6 @@ mod leb128;
 mod numbers;
 mod offsets;
 mod record;
-#[cfg(test)]
-mod tests;
 mod texts;
 mod traits;
 

@@ -9,8 +9,6 @@ pub mod laws;
 mod node;
 mod steps;
 mod tally;
-#[cfg(test)]
-mod tests;
 mod walk;
 
 pub use crate::steps::Steps;

@@ -2,8 +2,6 @@
 #![tactic(auto)]
 
 mod load_command;
-#[cfg(test)]
-mod tests;
 mod thread;
 mod variant;
 

@@ -9,5 +9,3 @@ mod low_bits;
 pub mod relocation;
 pub mod segment;
 pub mod symbols;
-#[cfg(test)]
-mod tests;

@@ -5,8 +5,6 @@ ghost use Rattle.mach_parts.specs.Relocation.{bits_from};
 ghost use Rattle.mach_parts.specs.RelocationName.{relocation_name};
 
 pub mod laws;
-#[cfg(test)]
-mod tests;
 mod types;
 
 pub use crate::relocation::types::{

@@ -13,8 +13,6 @@ mod list;
 mod relocations;
 mod section;
 mod sections;
-#[cfg(test)]
-mod tests;
 
 use crate::segment::conversions::{command_len, widen};
 pub use crate::segment::list::SegmentSections;

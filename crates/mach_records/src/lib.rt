@@ -11,8 +11,6 @@ mod modules;
 mod numbers;
 mod segments;
 mod symbol_tables;
-#[cfg(test)]
-mod tests;
 mod umbrellas;
 mod versions;
 

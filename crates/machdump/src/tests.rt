@@ -1,20 +1,190 @@
-//! The worked rows of docs/FORMAT.md, and what no clause says: printed lines, and which answers come
-//! where memory runs out.
+//! What the program prints, and its status.
 
-mod by_hand;
-mod callers;
-mod chain;
-mod constants;
-mod container;
-mod debug;
-mod exports;
-mod files;
-mod growths;
-mod image;
-mod lines;
-mod prefixes;
-mod refusing;
-mod shown;
-mod symbols;
-mod view;
-mod without_memory;
+use crate::run::{Word, run};
+use std::test::Fail;
+use test_files::{ARCHIVE, FILE_A, FILE_B, File};
+
+// A writer that takes so many bytes.
+#[derive(Drop)]
+struct Full {
+    left: usize,
+}
+
+impl std::io::Write for Full {
+    fn write(&mut self, buf: &[u8]) -> std::io::Result<usize> {
+        if self.left == 0 {
+            return Err(std::io::Error::from(std::io::ErrorKind::StorageFull));
+        }
+        let taken = buf.len().min(self.left);
+        self.left -= taken;
+        Ok(taken)
+    }
+
+    fn flush(&mut self) -> std::io::Result<()> {
+        Ok(())
+    }
+}
+
+// What is asked of a file, the status, and what is printed to either stream.
+struct Row {
+    name: &'static str,
+    word: Word,
+    file: File,
+    status: u8,
+    out: &'static str,
+    err: &'static str,
+}
+
+const ROWS: &[Row] = &[
+    Row {
+        name: "file A",
+        word: Word::Commands,
+        file: File::Of(&FILE_A),
+        status: 0,
+        out: "0x20 LoadCommandHeader: LC_UUID size: 24\n",
+        err: "",
+    },
+    Row {
+        name: "file B",
+        word: Word::Commands,
+        file: File::Of(&FILE_B),
+        status: 0,
+        out: "0x20 LoadCommandHeader: LC_SEGMENT_64 size: 152\n0xb8 LoadCommandHeader: LC_LOAD_DYLIB size: 32\n0xd8 LoadCommandHeader: LC_DYLD_INFO_ONLY size: 48\n0x108 LoadCommandHeader: LC_SYMTAB size: 24\n0x120 LoadCommandHeader: LC_MAIN size: 24\n",
+        err: "",
+    },
+    Row {
+        name: "file B",
+        word: Word::Exports,
+        file: File::Of(&FILE_B),
+        status: 0,
+        out: "0x7 \n0x9 a\n",
+        err: "",
+    },
+    Row {
+        name: "no trie",
+        word: Word::Exports,
+        file: File::Of(&FILE_A),
+        status: 0,
+        out: "",
+        err: "",
+    },
+    Row {
+        name: "file B",
+        word: Word::Imports,
+        file: File::Of(&FILE_B),
+        status: 0,
+        out: "0x100000010 L _a\n0x100000018 L _b\n",
+        err: "",
+    },
+    Row {
+        name: "no binds",
+        word: Word::Imports,
+        file: File::Of(&FILE_A),
+        status: 0,
+        out: "",
+        err: "",
+    },
+    Row {
+        name: "file C",
+        word: Word::Commands,
+        file: File::C,
+        status: 0,
+        out: "arch 0\n0x20 LoadCommandHeader: LC_SEGMENT_64 size: 152\n0xb8 LoadCommandHeader: LC_LOAD_DYLIB size: 32\n0xd8 LoadCommandHeader: LC_DYLD_INFO_ONLY size: 48\n0x108 LoadCommandHeader: LC_SYMTAB size: 24\n0x120 LoadCommandHeader: LC_MAIN size: 24\narch 1\narchive\n",
+        err: "",
+    },
+    Row {
+        name: "file C",
+        word: Word::Exports,
+        file: File::C,
+        status: 0,
+        out: "arch 0\n0x7 \n0x9 a\narch 1\narchive\n",
+        err: "",
+    },
+    Row {
+        name: "file C",
+        word: Word::Imports,
+        file: File::C,
+        status: 0,
+        out: "arch 0\n0x100000010 L _a\n0x100000018 L _b\narch 1\narchive\n",
+        err: "",
+    },
+    Row {
+        name: "fat_entry_of_15",
+        word: Word::Imports,
+        file: File::OfOne(15, &ARCHIVE),
+        status: 1,
+        out: "arch 0\nrefused: malformed\n",
+        err: "",
+    },
+    Row {
+        name: "fat_of_none",
+        word: Word::Exports,
+        file: File::Of(&[0xca, 0xfe, 0xba, 0xbe, 0, 0, 0, 0]),
+        status: 0,
+        out: "",
+        err: "",
+    },
+    Row {
+        name: "28 bytes",
+        word: Word::Imports,
+        file: File::OfOneRecord(&[]),
+        status: 1,
+        out: "",
+        err: "machdump: short or bad bytes\n",
+    },
+    Row {
+        name: "file_a_cut",
+        word: Word::Commands,
+        file: File::Front(&FILE_A, 55),
+        status: 1,
+        out: "",
+        err: "machdump: malformed\n",
+    },
+    Row {
+        name: "elf_magic",
+        word: Word::Commands,
+        file: File::Of(&[0x7f, 0x45, 0x4c, 0x46]),
+        status: 1,
+        out: "",
+        err: "machdump: bad magic\n",
+    },
+];
+
+#[test]
+fn lines(rt: HostRuntime) -> Result<(), Fail> {
+    let alloc = rt.alloc();
+    for row in ROWS {
+        let bytes = row.file.bytes(alloc)?;
+        let mut lines = Vec::new(alloc);
+        let mut reasons = Vec::new(alloc);
+        let answer = run(alloc, row.word, &bytes, &mut lines, &mut reasons);
+        assert_eq!(rt; answer, row.status, "{}", row.name);
+        assert_eq!(rt; lines.as_slice(), row.out.as_bytes(), "{}", row.name);
+        assert_eq!(rt; reasons.as_slice(), row.err.as_bytes(), "{}", row.name);
+    }
+    Ok(())
+}
+
+#[test]
+fn a_failed_write(rt: HostRuntime) {
+    for left in 0..41 {
+        let mut reasons = Vec::new(rt.alloc());
+        let answer = run(
+            rt.alloc(),
+            Word::Commands,
+            &FILE_A,
+            &mut Full { left },
+            &mut reasons,
+        );
+        assert_eq!(rt; answer, 2, "after {left} bytes");
+        assert!(rt; reasons.is_empty());
+    }
+}
+
+#[test]
+fn words(rt: HostRuntime) {
+    assert_eq!(rt; Word::parse("commands"), Some(Word::Commands));
+    assert_eq!(rt; Word::parse("exports"), Some(Word::Exports));
+    assert_eq!(rt; Word::parse("imports"), Some(Word::Imports));
+    assert_eq!(rt; Word::parse("command"), None);
+}

@@ -1,4 +1,0 @@
-//! The worked rows of docs/FORMAT.md on headers, fat records and symbols.
-
-mod headers;
-mod symbols;

@@ -1,0 +1,12 @@
+//! The worked rows of docs/FORMAT.md on whole files, and what no clause says.
+
+mod by_hand;
+mod callers;
+mod chain;
+mod constants;
+mod container;
+mod debug;
+mod image;
+mod prefixes;
+mod symbols;
+mod view;

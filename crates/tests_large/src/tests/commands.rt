@@ -1,0 +1,56 @@
+//! Images of many commands and of many libraries.
+
+use crate::tests::build::{digits, header, words};
+use goblin_mach::MachO;
+use goblin_mach::load_command::CommandVariant;
+use std::alloc::{AllocError, Global};
+use std::test::Fail;
+
+// An image of 3,000 commands of 24 bytes each. Command k is the UUID that begins with the number k.
+fn uuids(alloc: Global) -> Result<Vec<u8>, AllocError> {
+    let mut bytes = header(alloc, 3000, 72_000)?;
+    for number in 0..3000u32 {
+        words(&mut bytes, &[0x1b, 24, number, 0, 0, 0])?;
+    }
+    Ok(bytes)
+}
+
+// An image of 300 libraries, each named by its number, at 24 of a command of 32 bytes.
+fn libraries(alloc: Global) -> Result<Vec<u8>, AllocError> {
+    let mut bytes = header(alloc, 300, 9600)?;
+    for number in 0..300u32 {
+        words(&mut bytes, &[0xc, 32, 24, 0, 0, 0])?;
+        bytes.extend_from_slice(&digits(number))?;
+        bytes.extend_from_slice(&[0; 4])?;
+    }
+    Ok(bytes)
+}
+
+#[test]
+fn commands_of_an_image(rt: HostRuntime) -> Result<(), Fail> {
+    let bytes = uuids(rt.alloc())?;
+    let image = MachO::parse(rt.alloc(), &bytes, 0)?;
+    assert_eq!(rt; image.load_commands.len(), 3000);
+    for (number, offset) in [(0u32, 32), (1500, 36_032), (2999, 72_008)] {
+        let Some(command) = image.load_commands.get(number as usize) else {
+            return Err(Fail::from("a command"));
+        };
+        assert_eq!(rt; command.offset, offset);
+        let CommandVariant::Uuid(held) = command.command else {
+            return Err(Fail::from("a UUID"));
+        };
+        assert_eq!(rt; &held.uuid[..4], number.to_le_bytes().as_slice());
+    }
+    Ok(())
+}
+
+#[test]
+fn libraries_of_an_image(rt: HostRuntime) -> Result<(), Fail> {
+    let bytes = libraries(rt.alloc())?;
+    let image = MachO::parse(rt.alloc(), &bytes, 0)?;
+    assert_eq!(rt; image.libs.len(), 301);
+    for (number, name) in [(0, "self"), (1, "0000"), (150, "0149"), (300, "0299")] {
+        assert_eq!(rt; image.libs.get(number).map_or("none", |lib| *lib), name);
+    }
+    Ok(())
+}

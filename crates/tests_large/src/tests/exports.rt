@@ -1,0 +1,81 @@
+//! Tries of 5,000 exports.
+
+use crate::tests::build::{digits, groups};
+use goblin_mach::exports::ExportTrie;
+use goblin_mach::load_command::DyldInfoCommand;
+use std::alloc::{AllocError, Global};
+use std::test::Fail;
+
+// A trie whose root has 5,000 branches of 8 bytes, from 3 on. Child k has 6 bytes, at 40,003 + 6k; its label
+// is the digits of k, and its export's address is k.
+fn below_one_node(alloc: Global) -> Result<Vec<u8>, AllocError> {
+    let mut bytes = vec![in alloc; 0, 0x88, 0x27]?;
+    for number in 0..5000u32 {
+        bytes.extend_from_slice(&digits(number))?;
+        bytes.push(0)?;
+        bytes.extend_from_slice(&groups(40_003 + 6 * number))?;
+    }
+    for number in 0..5000u32 {
+        bytes.extend_from_slice(&[4, 0])?;
+        bytes.extend_from_slice(&groups(number))?;
+        bytes.push(0)?;
+    }
+    Ok(bytes)
+}
+
+// A chain of 5,000 nodes. Node k stands at 11k; its export's address is k, and its only branch, of the label
+// "a", leads to the next node. The last node has no branch, and 6 bytes.
+fn along_a_path(alloc: Global) -> Result<Vec<u8>, AllocError> {
+    let mut bytes = Vec::new(alloc);
+    for number in 0..4999u32 {
+        bytes.extend_from_slice(&[4, 0])?;
+        bytes.extend_from_slice(&groups(number))?;
+        bytes.extend_from_slice(&[1, 0x61, 0])?;
+        bytes.extend_from_slice(&groups(11 * number + 11))?;
+    }
+    bytes.extend_from_slice(&[4, 0])?;
+    bytes.extend_from_slice(&groups(4999))?;
+    bytes.push(0)?;
+    Ok(bytes)
+}
+
+#[test]
+fn exports_below_one_node(rt: HostRuntime) -> Result<(), Fail> {
+    let bytes = below_one_node(rt.alloc())?;
+    assert_eq!(rt; bytes.len(), 70_003);
+    let command = DyldInfoCommand {
+        export_size: 70_003,
+        ..DyldInfoCommand::default()
+    };
+    let exports = ExportTrie::new(&bytes, &command).exports(rt.alloc(), &[])?;
+    assert_eq!(rt; exports.len(), 5000);
+    for (number, name) in [(0, "0000"), (2500, "2500"), (4999, "4999")] {
+        let Some(export) = exports.get(number) else {
+            return Err(Fail::from("an export"));
+        };
+        assert_eq!(rt; export.name.as_str(), name);
+        assert_eq!(rt; export.offset, number as u64);
+    }
+    Ok(())
+}
+
+#[test]
+fn exports_along_a_path(rt: HostRuntime) -> Result<(), Fail> {
+    let bytes = along_a_path(rt.alloc())?;
+    assert_eq!(rt; bytes.len(), 54_995);
+    let command = DyldInfoCommand {
+        export_size: 54_995,
+        ..DyldInfoCommand::default()
+    };
+    let exports = ExportTrie::new(&bytes, &command).exports(rt.alloc(), &[])?;
+    assert_eq!(rt; exports.len(), 5000);
+    for number in [0, 2500, 4999] {
+        let Some(export) = exports.get(number) else {
+            return Err(Fail::from("an export"));
+        };
+        assert_eq!(rt; export.name.len(), number);
+        assert!(rt; export.name.as_bytes().iter().all(|b| *b == 0x61));
+        assert_eq!(rt; export.offset, number as u64);
+    }
+    Ok(())
+}

@@ -1,0 +1,9 @@
+//! The worked rows of docs/FORMAT.md on the parts of an image, and what no clause says: printed text.
+
+mod commands;
+mod headers;
+mod readers;
+mod records;
+mod relocations;
+mod segments;
+mod symbols;
