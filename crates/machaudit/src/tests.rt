@@ -3,7 +3,7 @@
 mod files;
 
 use crate::run::run;
-use crate::tests::files::{FILE_B, changed, file_c};
+use crate::tests::files::{CHAINED, FILE_B, changed, file_c};
 use linked_list_allocator::LocalHeap;
 use std::alloc::Global;
 use std::test::Fail;
@@ -52,7 +52,8 @@ fn lines(rt: HostRuntime) -> Result<(), Fail> {
     let many_symbols = changed(alloc, 276, &[0xff, 0xff, 0xff, 0xff])?;
     let back_to_root = changed(alloc, 0x14c, &[0])?;
     let no_segment = changed(alloc, 0x13d, &[0x71])?;
-    let rows: [(&str, &[u8], u8, &str); 8] = [
+    let fixups_for_entry = changed(alloc, 0x120, &[0x34])?;
+    let rows: [(&str, &[u8], u8, &str); 10] = [
         (
             "three bytes",
             &FILE_B[..3],
@@ -100,6 +101,18 @@ fn lines(rt: HostRuntime) -> Result<(), Fail> {
             &no_segment,
             1,
             "image\n  opens: ok\n  data: ok\n  sections: ok\n  relocations: ok\n  symbols: ok\n  trie: ok\n  binds: malformed: a bind's segment is one of the list\nnot sound: 1 shown\n",
+        ),
+        (
+            "chained fixups",
+            &CHAINED,
+            1,
+            "image\n  opens: ok\n  data: ok\n  sections: ok\n  relocations: ok\n  symbols: ok\n  trie: ok\n  binds: chained fixups, not read\nnot sound: 1 shown\n",
+        ),
+        (
+            "chained fixups beside binds",
+            &fixups_for_entry,
+            1,
+            "image\n  opens: ok\n  data: ok\n  sections: ok\n  relocations: ok\n  symbols: ok\n  trie: ok\n  binds: chained fixups, not read\nnot sound: 1 shown\n",
         ),
     ];
     for (name, bytes, status, text) in rows {

@@ -3,7 +3,7 @@
 mod files;
 
 use crate::run::run;
-use crate::tests::files::{FILE_B, FILE_C, LIBRARY_L, LIBRARY_M, PROGRAM};
+use crate::tests::files::{CHAINED, FILE_B, FILE_C, LIBRARY_L, LIBRARY_M, PROGRAM};
 use linked_list_allocator::LocalHeap;
 use std::alloc::Global;
 use std::test::Fail;
@@ -41,7 +41,9 @@ fn resolved(alloc: Global, program: &[u8], libraries: &[&[u8]]) -> Result<(u8, S
 #[test]
 fn lines(rt: HostRuntime) -> Result<(), Fail> {
     let alloc = rt.alloc();
-    let rows: [(&str, &[u8], &[u8], u8, &str); 7] = [
+    let mut fixups_for_entry = FILE_B;
+    fixups_for_entry[0x120] = 0x34;
+    let rows: [(&str, &[u8], &[u8], u8, &str); 9] = [
         (
             "both libraries",
             &PROGRAM,
@@ -64,6 +66,20 @@ fn lines(rt: HostRuntime) -> Result<(), Fail> {
             "_a L flat\n_b L flat\n",
         ),
         ("no imports", &LIBRARY_L, &LIBRARY_M, 0, ""),
+        (
+            "chained fixups",
+            &CHAINED,
+            &LIBRARY_M,
+            1,
+            "chained fixups, not read\n",
+        ),
+        (
+            "chained fixups beside binds",
+            &fixups_for_entry,
+            &LIBRARY_M,
+            1,
+            "_a L flat\n_b L flat\nchained fixups, not read\n",
+        ),
         (
             "a fat program",
             &FILE_C,
