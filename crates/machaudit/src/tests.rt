@@ -2,7 +2,7 @@
 
 mod files;
 
-use crate::run::run;
+use crate::run::{run, run_line};
 use crate::tests::files::{CHAINED, FILE_B, changed, file_c};
 use linked_list_allocator::LocalHeap;
 use std::alloc::Global;
@@ -182,6 +182,27 @@ fn failed_writes(rt: HostRuntime) -> Result<(), Fail> {
     }
     let mut err = Vec::new(alloc);
     assert_eq!(rt; run(alloc, &FILE_B, &mut Full { left: whole }, &mut err), 0);
+    let unwritten = run(alloc, &FILE_B, &mut Full { left: 0 }, &mut Full { left: 3 });
+    assert_eq!(rt; unwritten, 2);
+    Ok(())
+}
+
+// What `--help` and `--version` print.
+#[test]
+fn printed_lines(rt: HostRuntime) -> Result<(), Fail> {
+    let alloc = rt.alloc();
+    let line = "machaudit 0.1.0";
+    let whole = line.len() + 1;
+    for left in 0..whole {
+        let mut err = Vec::new(alloc);
+        assert_eq!(rt; run_line(line, &mut Full { left }, &mut err), 2);
+        assert_eq!(rt; err.as_slice(), b"machaudit: cannot write\n".as_slice());
+    }
+    let mut out = Vec::new(alloc);
+    let mut err = Vec::new(alloc);
+    assert_eq!(rt; run_line(line, &mut out, &mut err), 0);
+    assert_eq!(rt; out.as_slice(), b"machaudit 0.1.0\n".as_slice());
+    assert!(rt; err.is_empty());
     Ok(())
 }
 
@@ -196,7 +217,7 @@ fn refused_memory(rt: HostRuntime) -> Result<(), Fail> {
         if status == 0 {
             sound = sound.saturating_add(1);
         } else {
-            assert_eq!(rt; (status, sound), (2, 0), "{size}");
+            assert_eq!(rt; (status, sound), (1, 0), "{size}");
             assert_eq!(rt; err.as_slice(), b"machaudit: out of memory\n".as_slice());
             refused = refused.saturating_add(1);
         }

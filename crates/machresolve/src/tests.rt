@@ -2,7 +2,7 @@
 
 mod files;
 
-use crate::run::run;
+use crate::run::{run, run_line};
 use crate::tests::files::{CHAINED, FILE_B, FILE_C, LIBRARY_L, LIBRARY_M, PROGRAM};
 use linked_list_allocator::LocalHeap;
 use std::alloc::Global;
@@ -170,6 +170,25 @@ fn failed_writes(rt: HostRuntime) -> Result<(), Fail> {
     Ok(())
 }
 
+// What `--help` and `--version` print.
+#[test]
+fn printed_lines(rt: HostRuntime) -> Result<(), Fail> {
+    let alloc = rt.alloc();
+    let line = "machresolve 0.1.0";
+    let whole = line.len() + 1;
+    for left in 0..whole {
+        let mut err = Vec::new(alloc);
+        assert_eq!(rt; run_line(line, &mut Full { left }, &mut err), 2);
+        assert_eq!(rt; err.as_slice(), b"machresolve: cannot write\n".as_slice());
+    }
+    let mut out = Vec::new(alloc);
+    let mut err = Vec::new(alloc);
+    assert_eq!(rt; run_line(line, &mut out, &mut err), 0);
+    assert_eq!(rt; out.as_slice(), b"machresolve 0.1.0\n".as_slice());
+    assert!(rt; err.is_empty());
+    Ok(())
+}
+
 #[test]
 fn refused_memory(rt: HostRuntime) -> Result<(), Fail> {
     let libraries: [&[u8]; 2] = [&LIBRARY_L, &LIBRARY_M];
@@ -179,7 +198,9 @@ fn refused_memory(rt: HostRuntime) -> Result<(), Fail> {
         let heap = LocalHeap::new(rt.alloc(), 64 * size)?;
         let mut out = Vec::new(rt.alloc());
         let mut err = Vec::new(rt.alloc());
-        if run(&heap, &PROGRAM, &libraries, &mut out, &mut err) == 1 {
+        let status = run(&heap, &PROGRAM, &libraries, &mut out, &mut err);
+        assert_eq!(rt; status, 1, "{size}");
+        if err.is_empty() {
             assert_eq!(rt; out.len(), 193);
             answered = answered.saturating_add(1);
         } else {
