@@ -47,8 +47,9 @@ IsSoundEntry (Ok (archive bytes)) = Unit {0}
 IsSoundEntry (Ok (image bytes)) = IsSoundImage bytes
 IsSoundEntry (Err f) = ⊥
 
--- the table of a fat file can be read, and all its entries are sound
+-- a fat file has an entry, its table can be read, and all its entries are sound
 pub record IsSoundFat (file : FatFile) : Type 0 where
+  pub some : 0 < file.narches
   pub table : IsOk (arches_in file)
   pub entries : (k : ℕ) → k < file.narches → IsSoundEntry (entry_at file k)
 

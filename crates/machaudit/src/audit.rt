@@ -102,14 +102,19 @@ fn audit_section<O: Write>(
     Ok(faults)
 }
 
-// The relocations of all sections.
+// The relocations of all sections. They are not read where a section can't be read: that was told.
 fn audit_relocations<A: Allocator, B: Allocator, O: Write>(
     alloc: B,
     image: &MachO<'_, A>,
+    all_sections: bool,
     out: &mut O,
 ) -> Result<usize, Failure>
-    ensures { result ≡ Ok 0 → IsTrue (all_relocated (relocated_sections_in (ctx_held image.now) (bytes_held image.now) (segments_held image.now))) }
+    ensures { IsTrue all_sections → result ≡ Ok 0 → IsTrue (all_relocated (relocated_sections_in (ctx_held image.now) (bytes_held image.now) (segments_held image.now))) }
 {
+    if !all_sections {
+        writeln!(out, "  relocations: not read, since a section can't be")?;
+        return Ok(0);
+    }
     let sections = match image.relocations(alloc) {
         Ok(sections) => sections,
         Err(error) => return print_fault(Place::Relocations, &error, out),
@@ -204,7 +209,7 @@ fn audit_image<A: Allocator, B: Allocator + Clone, O: Write>(
     let segments = image.segments.as_slice();
     let data = audit_data(segments, out)?;
     let sections = audit_sections(segments, out)?;
-    let relocations = audit_relocations(alloc.clone()?, image, out)?;
+    let relocations = audit_relocations(alloc.clone()?, image, sections == 0, out)?;
     let symbols = audit_symbols(image, out)?;
     let trie = audit_trie(alloc.clone()?, image, out)?;
     let binds = audit_binds(alloc.clone()?, image, out)?;
@@ -217,7 +222,8 @@ fn audit_image<A: Allocator, B: Allocator + Clone, O: Write>(
     Ok(read.saturating_add(listed))
 }
 
-// What can be read in lossy mode of bytes that were refused for an error.
+// What can be read in lossy mode of bytes that were refused for an error. Where lossy mode refuses them,
+// too, nothing more is told.
 fn audit_refused<A: Allocator + Clone, O: Write>(
     alloc: &A,
     bytes: &[u8],
@@ -234,7 +240,8 @@ fn audit_refused<A: Allocator + Clone, O: Write>(
             Ok(refused.saturating_add(opens).saturating_add(parts))
         }
         Ok(Mach::Fat(_)) => Ok(refused),
-        Err(error) => print_fault(Place::LossyOpening, &error, out),
+        Err(Error::Memory(_)) => Err(Failure::Memory),
+        Err(_) => Ok(refused),
     }
 }
 
@@ -260,7 +267,8 @@ fn audit_entry<A: Allocator + Clone, O: Write>(
     }
 }
 
-// A fat file: its table, and then its entries. Where the table can't be read there are no entries.
+// A fat file: its table, and then its entries. Where the table can't be read there are none, and a file
+// without entries has no image.
 fn audit_fat<A: Allocator + Clone, O: Write>(
     alloc: &A,
     container: &MultiArch<'_, A>,
@@ -275,6 +283,10 @@ fn audit_fat<A: Allocator + Clone, O: Write>(
         Err(error) => return print_fault(Place::Table, &error, out),
     };
     let mut faults = print_part("table", 0, out)?;
+    if container.narches == 0 {
+        writeln!(out, "  entries: no image")?;
+        return Ok(1);
+    }
     for index in 0..container.narches {
         let entry = arches.get(index).map_or(&[][..], |arch| arch.slice(bytes));
         faults = faults.saturating_add(audit_entry(alloc, container, index, entry, out)?);

@@ -66,8 +66,6 @@ impl From<io::Error> for Failure {
 pub enum Place {
     /// Where the image is opened.
     Opening,
-    /// The same in lossy mode.
-    LossyOpening,
     /// The table of a fat file.
     Table,
     /// A section of a segment, both by their numbers.
@@ -88,7 +86,6 @@ impl fmt::Display for Place {
     fn fmt<W: fmt::Write>(&self, f: &mut fmt::Formatter<W>) -> fmt::Result {
         match self {
             Place::Opening => write!(f, "opens"),
-            Place::LossyOpening => write!(f, "opens lossily"),
             Place::Table => write!(f, "table"),
             Place::Section { segment, index } => {
                 write!(f, "sections: segment {segment}, section {index}")

@@ -127,46 +127,86 @@ fn every_prefix(rt: HostRuntime) -> Result<(), Fail> {
     Ok(())
 }
 
-#[test]
-fn every_byte(rt: HostRuntime) -> Result<(), Fail> {
-    let alloc = rt.alloc();
-    let mut library = Vec::new(alloc);
-    library.extend_from_slice(&LIBRARY_L)?;
-    for place in 0..library.len() {
-        for byte in [0, 0x7f, 0x80, 0xff] {
-            let before = library[place];
-            library[place] = byte;
-            let (status, _) = resolved(alloc, &PROGRAM, &[library.as_slice(), &LIBRARY_M])?;
-            assert_eq!(rt; status, 1, "{byte} at {place}");
-            library[place] = before;
+// Whether the status is that of the lines: 1 where a file is refused, with one line on standard error, or
+// a line tells of an import that is not settled, and else 0.
+fn agrees(alloc: Global, program: &[u8], libraries: &[&[u8]]) -> Result<(u8, bool), Fail> {
+    let mut out = Vec::new(alloc);
+    let mut err = Vec::new(alloc);
+    let status = run(alloc, program, libraries, &mut out, &mut err);
+    let out = String::from_utf8(out)?;
+    let err = String::from_utf8(err)?;
+    let mut unsettled = err.as_str().lines().count();
+    for line in out.as_str().lines() {
+        if is_unsettled(line) {
+            unsettled = unsettled.saturating_add(1);
         }
     }
-    Ok(())
+    Ok((status, status == u8::from(unsettled > 0)))
+}
+
+// Whether a line tells of an import that is not settled.
+fn is_unsettled(line: &str) -> bool {
+    let is_missing = line.contains(" missing in ") && !line.contains(" weak, missing in ");
+    let is_lost = line.contains(" no library ") || line.contains(" leads back to ");
+    is_missing || is_lost || line == "chained fixups, not read"
 }
 
 #[test]
-fn failed_writes(rt: HostRuntime) -> Result<(), Fail> {
+fn every_byte(rt: HostRuntime) -> Result<(), Fail> {
     let alloc = rt.alloc();
-    for left in [0, 1, 19] {
+    let mut statuses = [0u32; 2];
+    for file in [FILE_B.as_slice(), PROGRAM.as_slice(), LIBRARY_L.as_slice()] {
+        let mut bytes = Vec::new(alloc);
+        bytes.extend_from_slice(file)?;
+        for place in 0..bytes.len() {
+            for byte in [0, 0x7f, 0x80, 0xff] {
+                let before = bytes[place];
+                bytes[place] = byte;
+                let libraries: [&[u8]; 2] = [&LIBRARY_L, &LIBRARY_M];
+                let changed: [&[u8]; 2] = [bytes.as_slice(), &LIBRARY_M];
+                for (program, libraries) in [(bytes.as_slice(), libraries), (&PROGRAM, changed)] {
+                    let (status, holds) = agrees(alloc, program, &libraries)?;
+                    assert!(rt; holds, "{byte} at {place}");
+                    if let Some(count) = statuses.get_mut(usize::from(status)) {
+                        *count = count.saturating_add(1);
+                    }
+                }
+                bytes[place] = before;
+            }
+        }
+    }
+    assert!(rt; statuses[0] > 0 && statuses[1] > 0);
+    Ok(())
+}
+
+// The output is written whole or the status is 2: of a program, and of a refused one, such as a fat file.
+#[test]
+fn a_failed_write(rt: HostRuntime) -> Result<(), Fail> {
+    let alloc = rt.alloc();
+    let libraries: [&[u8]; 2] = [&LIBRARY_L, &LIBRARY_M];
+    let whole = resolved(alloc, &PROGRAM, &libraries)?.1.len();
+    for left in 0..whole {
         let mut err = Vec::new(alloc);
-        assert_eq!(rt; run(alloc, &FILE_B, &[], &mut Full { left }, &mut err), 2);
+        let status = run(alloc, &PROGRAM, &libraries, &mut Full { left }, &mut err);
+        assert_eq!(rt; status, 2, "{left}");
         assert_eq!(rt; err.as_slice(), b"machresolve: cannot write\n".as_slice());
     }
     let mut err = Vec::new(alloc);
-    assert_eq!(rt;
-        run(alloc, &FILE_B, &[], &mut Full { left: 20 }, &mut err),
-        0
+    let status = run(
+        alloc,
+        &PROGRAM,
+        &libraries,
+        &mut Full { left: whole },
+        &mut err,
     );
-    assert_eq!(rt;
-        run(
-            alloc,
-            &FILE_C,
-            &[],
-            &mut Full { left: 20 },
-            &mut Full { left: 3 }
-        ),
-        2
-    );
+    assert_eq!(rt; (status, err.len()), (1, 0));
+    let whole = resolved(alloc, &FILE_C, &libraries)?.1.len();
+    for left in 0..=whole {
+        let mut out = Vec::new(alloc);
+        let status = run(alloc, &FILE_C, &libraries, &mut out, &mut Full { left });
+        let wanted = if left < whole { 2 } else { 1 };
+        assert_eq!(rt; (status, out.len()), (wanted, 0), "{left}");
+    }
     Ok(())
 }
 

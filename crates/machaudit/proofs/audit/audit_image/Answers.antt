@@ -41,7 +41,7 @@ returns g c = λ bytes image sound.
       relocations = (
         relocated,
         (c.relocations_of_image.ensures.strict bytes 0 image relocated).1 refl,
-        c.audit_relocations.ensures (c.in_ok-relocations.was ∙ ap Ok relocations),
+        c.audit_relocations.ensures (rw sections refl) (c.in_ok-relocations.was ∙ ap Ok relocations),
       );
       symbols = (
         symbols_held m.symbols,

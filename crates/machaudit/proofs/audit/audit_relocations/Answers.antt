@@ -8,7 +8,7 @@ use Rattle.machaudit.specs.Sound.{are_all_ok}
 use Rattle.machaudit.proofs.audit.audit_relocations.Goals as goal
 
 pub returns : goal.returns
-returns g c = λ sound.
+returns g c = λ every sound.
     let none : c.loop-number.faults ≡ 0 = sym (rw sound at c.print_part.ensures) in
     let read = rw (take_all c.loop-number.number-index c.as_slice-number-items.result.now c.loop-number-test.false) at (c.loop-number.invariant none) in
     let listed : list_all (λ s. are_all_ok (relocations_left s.1)) c.in-Ok.sections.items ≡ true = rw (sym c.as_slice-number-items.ensures.value) read in
