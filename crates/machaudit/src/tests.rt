@@ -2,6 +2,7 @@
 
 mod files;
 
+use crate::audit_file;
 use crate::run::{run, run_line};
 use crate::tests::files::{CHAINED, FILE_B, changed, file_c};
 use linked_list_allocator::LocalHeap;
@@ -142,23 +143,27 @@ fn sound_files(rt: HostRuntime) -> Result<(), Fail> {
     Ok(())
 }
 
+// Whether a line tells of a fault.
+fn is_fault(line: &str) -> bool {
+    line.starts_with("  ")
+        && !line.ends_with(": ok")
+        && !line.starts_with("  relocations: not read")
+}
+
 // Whether the last line agrees with the status and the lines before it: "sound" stands at status 0 and no
 // fault, and else at status 1 the number of the lines that tell of a fault, of which there is one at least.
 fn agrees(alloc: Global, status: u8, text: &str) -> Result<bool, Fail> {
     let mut faults = 0u32;
-    let mut last = "";
     for line in text.lines() {
-        let is_passed = line.ends_with(": ok") || line.starts_with("  relocations: not read");
-        if line.starts_with("  ") && !is_passed {
+        if is_fault(line) {
             faults = faults.saturating_add(1);
         }
-        last = line;
     }
     if faults == 0 {
-        return Ok(status == 0 && last == "sound");
+        return Ok(status == 0 && text.ends_with("\nsound\n"));
     }
-    let shown = format!(in alloc; "not sound: {faults} shown")?;
-    Ok(status == 1 && last == shown.as_str())
+    let shown = format!(in alloc; "\nnot sound: {faults} shown\n")?;
+    Ok(status == 1 && text.ends_with(shown.as_str()))
 }
 
 #[test]
@@ -234,6 +239,11 @@ fn printed_lines(rt: HostRuntime) -> Result<(), Fail> {
     assert_eq!(rt; out.as_slice(), b"machaudit 0.1.0\n".as_slice());
     assert!(rt; err.is_empty());
     Ok(())
+}
+
+#[test]
+fn unreadable_file(rt: HostRuntime) {
+    assert_eq!(rt; audit_file(&rt, "no such file"), 2);
 }
 
 #[test]

@@ -2,6 +2,7 @@
 
 mod files;
 
+use crate::read;
 use crate::run::{run, run_line};
 use crate::tests::files::{CHAINED, FILE_B, FILE_C, LIBRARY_L, LIBRARY_M, PROGRAM};
 use linked_list_allocator::LocalHeap;
@@ -127,21 +128,20 @@ fn every_prefix(rt: HostRuntime) -> Result<(), Fail> {
     Ok(())
 }
 
-// Whether the status is that of the lines: 1 where a file is refused, with one line on standard error, or
-// a line tells of an import that is not settled, and else 0.
-fn agrees(alloc: Global, program: &[u8], libraries: &[&[u8]]) -> Result<(u8, bool), Fail> {
+// Whether the status is that of the lines: 1 where a file is refused, with words on standard error, or a
+// line tells of an import that is not settled, and else 0.
+fn agrees(alloc: Global, program: &[u8], libraries: &[&[u8]]) -> Result<bool, Fail> {
     let mut out = Vec::new(alloc);
     let mut err = Vec::new(alloc);
     let status = run(alloc, program, libraries, &mut out, &mut err);
     let out = String::from_utf8(out)?;
-    let err = String::from_utf8(err)?;
-    let mut unsettled = err.as_str().lines().count();
+    let mut settled = err.is_empty();
     for line in out.as_str().lines() {
         if is_unsettled(line) {
-            unsettled = unsettled.saturating_add(1);
+            settled = false;
         }
     }
-    Ok((status, status == u8::from(unsettled > 0)))
+    Ok(status == u8::from(!settled))
 }
 
 // Whether a line tells of an import that is not settled.
@@ -154,7 +154,6 @@ fn is_unsettled(line: &str) -> bool {
 #[test]
 fn every_byte(rt: HostRuntime) -> Result<(), Fail> {
     let alloc = rt.alloc();
-    let mut statuses = [0u32; 2];
     for file in [FILE_B.as_slice(), PROGRAM.as_slice(), LIBRARY_L.as_slice()] {
         let mut bytes = Vec::new(alloc);
         bytes.extend_from_slice(file)?;
@@ -162,20 +161,13 @@ fn every_byte(rt: HostRuntime) -> Result<(), Fail> {
             for byte in [0, 0x7f, 0x80, 0xff] {
                 let before = bytes[place];
                 bytes[place] = byte;
-                let libraries: [&[u8]; 2] = [&LIBRARY_L, &LIBRARY_M];
-                let changed: [&[u8]; 2] = [bytes.as_slice(), &LIBRARY_M];
-                for (program, libraries) in [(bytes.as_slice(), libraries), (&PROGRAM, changed)] {
-                    let (status, holds) = agrees(alloc, program, &libraries)?;
-                    assert!(rt; holds, "{byte} at {place}");
-                    if let Some(count) = statuses.get_mut(usize::from(status)) {
-                        *count = count.saturating_add(1);
-                    }
-                }
+                let as_program = agrees(alloc, bytes.as_slice(), &[&LIBRARY_L, &LIBRARY_M])?;
+                let as_library = agrees(alloc, &PROGRAM, &[bytes.as_slice(), &LIBRARY_M])?;
+                assert!(rt; as_program && as_library, "{byte} at {place}");
                 bytes[place] = before;
             }
         }
     }
-    assert!(rt; statuses[0] > 0 && statuses[1] > 0);
     Ok(())
 }
 
@@ -227,6 +219,15 @@ fn printed_lines(rt: HostRuntime) -> Result<(), Fail> {
     assert_eq!(rt; out.as_slice(), b"machresolve 0.1.0\n".as_slice());
     assert!(rt; err.is_empty());
     Ok(())
+}
+
+#[test]
+fn unreadable_file(rt: HostRuntime) {
+    let Err(status) = read(&rt, "no such file") else {
+        assert!(rt; false, "a file");
+        return;
+    };
+    assert_eq!(rt; status, 2);
 }
 
 #[test]
