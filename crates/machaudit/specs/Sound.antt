@@ -1,34 +1,45 @@
 -- When a file is sound: everything in it opens and can be read.
-use Rattle.std.specs.Prelude.{◌≡◌, ◌<◌, ℕ, Bool, false, IsTrue, is_ok, List, Result, Ok, Err, IsOk}
-use Rattle.std.specs.List.{list_all}
+use Rattle.std.specs.Prelude.{◌≡◌, ◌==◌, ◌<◌, ℕ, Bool, false, IsTrue, is_ok, List, Result, Ok, Err, IsOk}
+use Rattle.std.specs.List.{list_all, list_any}
 use Rattle.mach_base.specs.Fault.{Fault}
+use Rattle.mach_load.specs.Command.{Command, cmd_of}
 use Rattle.mach_dyld.specs.Imports.{Import}
 use Rattle.mach_dyld.specs.Trie as trie
 use Rattle.mach_parts.specs.Segment.{SegmentView, sections_of}
 use Rattle.mach_parts.specs.declared.symbols.nlist.Nlist.{Nlist}
-use Rattle.goblin_mach.specs.Facts.{HasSegments, HasRelocations, HasSymbols}
+use Rattle.goblin_mach.specs.Facts.{OfImage, HasSegments, HasRelocations, HasSymbols}
 use Rattle.goblin_mach.specs.FatEntry.{FatEntry, archive, image, entry_at}
 use Rattle.goblin_mach.specs.FatFile.{FatFile, fat_file_in, arches_in}
 use Rattle.goblin_mach.specs.Image.{HasFatMagic}
 use Rattle.goblin_mach.specs.Relocations.{RelocatedSection}
 use Rattle.goblin_mach.specs.View.{LinksImage}
 
--- whether every item of a list can be read
-abbrev pub all_read : {X : Type 0} → List (Result X Fault) → Bool
-all_read items = list_all is_ok items
+-- whether every item of a list is there, and none is a fault
+abbrev pub are_all_ok : {X : Type 0} → List (Result X Fault) → Bool
+are_all_ok items = list_all is_ok items
 
 -- whether the sections that have relocations can be read, and all relocations of each
 abbrev pub all_relocated : Result (List RelocatedSection) Fault → Bool
-all_relocated (Ok sections) = list_all (λ s. all_read s.1) sections
+all_relocated (Ok sections) = list_all (λ s. are_all_ok s.1) sections
 all_relocated (Err f) = false
 
+-- whether a command says where chained fixups lie (`mach-o/loader.h`, LC_DYLD_CHAINED_FIXUPS)
+abbrev pub is_chained_fixups : Command → Bool
+is_chained_fixups c = cmd_of c == 0x8000_0034
+
+-- No command of the image at 0 is of chained fixups: the imports that these list are not read.
+abbrev pub HasNoChainedFixups : List ℕ → Type 0
+HasNoChainedFixups bytes = OfImage bytes 0 (λ ctx cs. list_any is_chained_fixups cs ≡ false)
+
 -- The image at 0 opens strictly, so that its segments have their data, and its exports and its imports
--- have lists; the sections of all its segments, all its relocations and all its symbols can be read.
+-- have lists; it has no chained fixups; the sections of all its segments, all its relocations and all its
+-- symbols can be read.
 pub record IsSoundImage (bytes : List ℕ) : Type 0 where
   pub links : (exports : List trie.Entry) × (imports : List Import) × LinksImage bytes exports imports
-  pub sections : (segments : List SegmentView) × HasSegments bytes 0 segments × IsTrue (list_all (λ s. all_read (sections_of s)) segments)
+  pub fixups : HasNoChainedFixups bytes
+  pub sections : (segments : List SegmentView) × HasSegments bytes 0 segments × IsTrue (list_all (λ s. are_all_ok (sections_of s)) segments)
   pub relocations : (found : Result (List RelocatedSection) Fault) × HasRelocations bytes 0 found × IsTrue (all_relocated found)
-  pub symbols : (rows : List (Result (List ℕ × Nlist) Fault)) × HasSymbols bytes 0 rows × IsTrue (all_read rows)
+  pub symbols : (rows : List (Result (List ℕ × Nlist) Fault)) × HasSymbols bytes 0 rows × IsTrue (are_all_ok rows)
 
 -- an entry of a fat file is an archive, or an image that is sound
 abbrev pub IsSoundEntry : Result FatEntry Fault → Type 0
@@ -36,8 +47,9 @@ IsSoundEntry (Ok (archive bytes)) = Unit {0}
 IsSoundEntry (Ok (image bytes)) = IsSoundImage bytes
 IsSoundEntry (Err f) = ⊥
 
--- the table of a fat file can be read, and all its entries are sound
+-- a fat file has an entry, its table can be read, and all its entries are sound
 pub record IsSoundFat (file : FatFile) : Type 0 where
+  pub some : 0 < file.narches
   pub table : IsOk (arches_in file)
   pub entries : (k : ℕ) → k < file.narches → IsSoundEntry (entry_at file k)
 

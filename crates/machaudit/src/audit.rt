@@ -1,8 +1,9 @@
 //! What is wrong with a file, part by part.
 
-ghost use Rattle.std.specs.Prelude.{◌≡◌, ◌<◌, ℕ, List, Ok, IsTrue, IfOk};
-ghost use Rattle.std.specs.List.{list_all};
+ghost use Rattle.std.specs.Prelude.{◌≡◌, ◌<◌, ℕ, List, false, Ok, IsTrue, IfOk};
+ghost use Rattle.std.specs.List.{list_all, list_any};
 ghost use Rattle.mach_base.specs.Context.{pointer_size};
+ghost use Rattle.mach_load.specs.Variants.{command_of};
 ghost use Rattle.mach_dyld.specs.Exports.{texts};
 ghost use Rattle.mach_dyld.specs.Imports as binds;
 ghost use Rattle.mach_dyld.specs.Trie as trie;
@@ -12,12 +13,13 @@ ghost use Rattle.mach_parts.specs.Segment.{segment_view, sections_of};
 ghost use Rattle.mach_parts.specs.Segments.{segments_in};
 ghost use Rattle.goblin_mach.specs.FatEntry.{entry_at};
 ghost use Rattle.goblin_mach.specs.FatFile.{file_held};
-ghost use Rattle.goblin_mach.specs.OpenImage.{IsImage, bytes_held, ctx_held, segments_held, trie_held, binds_held};
+ghost use Rattle.goblin_mach.specs.OpenImage.{IsImage, bytes_held, commands_held, ctx_held, segments_held, trie_held, binds_held};
 ghost use Rattle.goblin_mach.specs.Relocations.{relocated_sections_in};
 ghost use Rattle.goblin_mach.specs.Subjects.{ListsImageExports, ListsImageImports, symbols_held};
-ghost use Rattle.machaudit.specs.Sound.{IsSound, IsSoundFat, IsSoundEntry, IsSoundImage, all_read, all_relocated};
+ghost use Rattle.machaudit.specs.Sound.{IsSound, IsSoundFat, IsSoundEntry, IsSoundImage, are_all_ok, all_relocated, is_chained_fixups};
 
 use crate::report::{Failure, Place, print_fault, print_part};
+use goblin_mach::load_command::{LC_DYLD_CHAINED_FIXUPS, LoadCommand};
 use goblin_mach::segment::{RelocationIterator, SectionIterator, Segment};
 use goblin_mach::{Error, Mach, MachO, MultiArch, SingleArch, laws};
 use std::alloc::Allocator;
@@ -49,7 +51,7 @@ fn audit_segment<O: Write>(
     sections: SectionIterator<'_>,
     out: &mut O,
 ) -> Result<usize, Failure>
-    ensures { result ≡ Ok 0 → IsTrue (all_read (sections_left sections.entry)) }
+    ensures { result ≡ Ok 0 → IsTrue (are_all_ok (sections_left sections.entry)) }
 {
     let mut faults = 0usize;
     let mut index = 0usize;
@@ -67,7 +69,7 @@ fn audit_segment<O: Write>(
 
 // The sections of all segments.
 fn audit_sections<O: Write>(segments: &[Segment<'_>], out: &mut O) -> Result<usize, Failure>
-    ensures { result ≡ Ok 0 → IsTrue (list_all (λ s. all_read (sections_of (segment_view s))) segments.now) }
+    ensures { result ≡ Ok 0 → IsTrue (list_all (λ s. are_all_ok (sections_of (segment_view s))) segments.now) }
 {
     let mut faults = 0usize;
     let mut number = 0usize;
@@ -84,7 +86,7 @@ fn audit_section<O: Write>(
     relocations: RelocationIterator<'_>,
     out: &mut O,
 ) -> Result<usize, Failure>
-    ensures { result ≡ Ok 0 → IsTrue (all_read (relocations_left relocations.entry)) }
+    ensures { result ≡ Ok 0 → IsTrue (are_all_ok (relocations_left relocations.entry)) }
 {
     let mut faults = 0usize;
     let mut index = 0usize;
@@ -100,14 +102,19 @@ fn audit_section<O: Write>(
     Ok(faults)
 }
 
-// The relocations of all sections.
+// The relocations of all sections. They are not read where a section can't be read: that was told.
 fn audit_relocations<A: Allocator, B: Allocator, O: Write>(
     alloc: B,
     image: &MachO<'_, A>,
+    all_sections: bool,
     out: &mut O,
 ) -> Result<usize, Failure>
-    ensures { result ≡ Ok 0 → IsTrue (all_relocated (relocated_sections_in (ctx_held image.now) (bytes_held image.now) (segments_held image.now))) }
+    ensures { IsTrue all_sections → result ≡ Ok 0 → IsTrue (all_relocated (relocated_sections_in (ctx_held image.now) (bytes_held image.now) (segments_held image.now))) }
 {
+    if !all_sections {
+        writeln!(out, "  relocations: not read, since a section can't be")?;
+        return Ok(0);
+    }
     let sections = match image.relocations(alloc) {
         Ok(sections) => sections,
         Err(error) => return print_fault(Place::Relocations, &error, out),
@@ -125,7 +132,7 @@ fn audit_symbols<A: Allocator, O: Write>(
     image: &MachO<'_, A>,
     out: &mut O,
 ) -> Result<usize, Failure>
-    ensures { result ≡ Ok 0 → IsTrue (all_read (symbols_held image.now.symbols)) }
+    ensures { result ≡ Ok 0 → IsTrue (are_all_ok (symbols_held image.now.symbols)) }
 {
     let mut faults = 0usize;
     let mut index = 0usize;
@@ -155,15 +162,36 @@ fn audit_trie<A: Allocator, B: Allocator + Clone, O: Write>(
     }
 }
 
-// The imports that binds list.
+// Whether a command of some is of chained fixups.
+fn any_chained_fixups(commands: &[LoadCommand]) -> bool
+    ensures { result ≡ list_any (λ c. is_chained_fixups (command_of c)) commands.now }
+{
+    commands
+        .iter()
+        .any(|command| command.command.cmd() == LC_DYLD_CHAINED_FIXUPS)
+}
+
+// Whether an image has chained fixups.
+fn has_chained_fixups<A: Allocator>(image: &MachO<'_, A>) -> bool
+    ensures { result ≡ list_any is_chained_fixups (commands_held image.now) }
+{
+    any_chained_fixups(&image.load_commands)
+}
+
+// The imports that binds list. Chained fixups, which list others, are not read.
 fn audit_binds<A: Allocator, B: Allocator, O: Write>(
     alloc: B,
     image: &MachO<'_, A>,
     out: &mut O,
 ) -> Result<usize, Failure>
-    ensures { result ≡ Ok 0 → (list : List binds.Import) × ListsImageImports (binds_held image.now) (pointer_size (ctx_held image.now).container)
+    ensures listed { result ≡ Ok 0 → (list : List binds.Import) × ListsImageImports (binds_held image.now) (pointer_size (ctx_held image.now).container)
         (texts image.now.libs.items) (segments_in image.now.segments) list }
+    ensures all { result ≡ Ok 0 → list_any is_chained_fixups (commands_held image.now) ≡ false }
 {
+    if has_chained_fixups(image) {
+        writeln!(out, "  binds: chained fixups, not read")?;
+        return Ok(1);
+    }
     match image.imports(alloc) {
         Ok(_) => print_part("binds", 0, out),
         Err(error) => print_fault(Place::Binds, &error, out),
@@ -181,7 +209,7 @@ fn audit_image<A: Allocator, B: Allocator + Clone, O: Write>(
     let segments = image.segments.as_slice();
     let data = audit_data(segments, out)?;
     let sections = audit_sections(segments, out)?;
-    let relocations = audit_relocations(alloc.clone()?, image, out)?;
+    let relocations = audit_relocations(alloc.clone()?, image, sections == 0, out)?;
     let symbols = audit_symbols(image, out)?;
     let trie = audit_trie(alloc.clone()?, image, out)?;
     let binds = audit_binds(alloc.clone()?, image, out)?;
@@ -194,7 +222,8 @@ fn audit_image<A: Allocator, B: Allocator + Clone, O: Write>(
     Ok(read.saturating_add(listed))
 }
 
-// What can be read in lossy mode of bytes that were refused for an error.
+// What can be read in lossy mode of bytes that were refused for an error. Where lossy mode refuses them,
+// too, nothing more is told.
 fn audit_refused<A: Allocator + Clone, O: Write>(
     alloc: &A,
     bytes: &[u8],
@@ -211,7 +240,8 @@ fn audit_refused<A: Allocator + Clone, O: Write>(
             Ok(refused.saturating_add(opens).saturating_add(parts))
         }
         Ok(Mach::Fat(_)) => Ok(refused),
-        Err(error) => print_fault(Place::LossyOpening, &error, out),
+        Err(Error::Memory(_)) => Err(Failure::Memory),
+        Err(_) => Ok(refused),
     }
 }
 
@@ -237,7 +267,8 @@ fn audit_entry<A: Allocator + Clone, O: Write>(
     }
 }
 
-// A fat file: its table, and then its entries. Where the table can't be read there are no entries.
+// A fat file: its table, and then its entries. Where the table can't be read there are none, and a file
+// without entries has no image.
 fn audit_fat<A: Allocator + Clone, O: Write>(
     alloc: &A,
     container: &MultiArch<'_, A>,
@@ -252,6 +283,10 @@ fn audit_fat<A: Allocator + Clone, O: Write>(
         Err(error) => return print_fault(Place::Table, &error, out),
     };
     let mut faults = print_part("table", 0, out)?;
+    if container.narches == 0 {
+        writeln!(out, "  entries: no image")?;
+        return Ok(1);
+    }
     for index in 0..container.narches {
         let entry = arches.get(index).map_or(&[][..], |arch| arch.slice(bytes));
         faults = faults.saturating_add(audit_entry(alloc, container, index, entry, out)?);

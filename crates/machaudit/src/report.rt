@@ -1,6 +1,6 @@
 //! The lines of an audit.
 
-ghost use Rattle.std.specs.Prelude.{◌≡◌, IfOk};
+ghost use Rattle.std.specs.Prelude.{◌≡◌, ◌≤◌, ◌↔◌, IfOk};
 
 use goblin_mach::{Error, describe};
 use std::alloc::AllocError;
@@ -14,6 +14,39 @@ pub enum Failure {
     Memory,
     /// A line was not written.
     Unwritten,
+}
+
+impl Failure {
+    /// The exit status: 1 for want of memory, 2 for a line that was not written.
+    pub fn status(&self) -> u8
+        ensures bounds { (1 ≤ result) × (result ≤ 2) }
+        ensures unwritten { (result ≡ 2) ↔ (self.now ≡ Failure.Unwritten) }
+    {
+        match self {
+            Failure::Memory => 1,
+            Failure::Unwritten => 2,
+        }
+    }
+
+    /// Says on `err` what was the matter, and answers the exit status: 2, too, where that can't be written.
+    pub fn tell<E: Write>(&self, err: &mut E) -> u8
+        ensures bounds { (1 ≤ result) × (result ≤ 2) }
+        ensures unwritten { self.now ≡ Failure.Unwritten → result ≡ 2 }
+    {
+        match writeln!(err, "machaudit: {self}") {
+            Ok(()) => self.status(),
+            Err(_) => 2,
+        }
+    }
+}
+
+impl fmt::Display for Failure {
+    fn fmt<W: fmt::Write>(&self, f: &mut fmt::Formatter<W>) -> fmt::Result {
+        match self {
+            Failure::Memory => write!(f, "out of memory"),
+            Failure::Unwritten => write!(f, "cannot write"),
+        }
+    }
 }
 
 impl From<AllocError> for Failure {
@@ -33,8 +66,6 @@ impl From<io::Error> for Failure {
 pub enum Place {
     /// Where the image is opened.
     Opening,
-    /// The same in lossy mode.
-    LossyOpening,
     /// The table of a fat file.
     Table,
     /// A section of a segment, both by their numbers.
@@ -55,7 +86,6 @@ impl fmt::Display for Place {
     fn fmt<W: fmt::Write>(&self, f: &mut fmt::Formatter<W>) -> fmt::Result {
         match self {
             Place::Opening => write!(f, "opens"),
-            Place::LossyOpening => write!(f, "opens lossily"),
             Place::Table => write!(f, "table"),
             Place::Section { segment, index } => {
                 write!(f, "sections: segment {segment}, section {index}")

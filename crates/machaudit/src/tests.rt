@@ -2,8 +2,9 @@
 
 mod files;
 
-use crate::run::run;
-use crate::tests::files::{FILE_B, changed, file_c};
+use crate::audit_file;
+use crate::run::{run, run_line};
+use crate::tests::files::{CHAINED, FILE_B, changed, file_c};
 use linked_list_allocator::LocalHeap;
 use std::alloc::Global;
 use std::test::Fail;
@@ -52,18 +53,25 @@ fn lines(rt: HostRuntime) -> Result<(), Fail> {
     let many_symbols = changed(alloc, 276, &[0xff, 0xff, 0xff, 0xff])?;
     let back_to_root = changed(alloc, 0x14c, &[0])?;
     let no_segment = changed(alloc, 0x13d, &[0x71])?;
-    let rows: [(&str, &[u8], u8, &str); 8] = [
+    let fixups_for_entry = changed(alloc, 0x120, &[0x34])?;
+    let rows: [(&str, &[u8], u8, &str); 11] = [
         (
             "three bytes",
             &FILE_B[..3],
             1,
-            "refused\n  opens: malformed: a magic is 4 bytes\n  opens lossily: malformed: a magic is 4 bytes\nnot sound: 1 shown\n",
+            "refused\n  opens: malformed: a magic is 4 bytes\nnot sound: 1 shown\n",
         ),
         (
             "a fat magic alone",
             &[0xca, 0xfe, 0xba, 0xbe],
             1,
-            "refused\n  opens: 8 bytes are wanted and 4 are left\n  opens lossily: 8 bytes are wanted and 4 are left\nnot sound: 1 shown\n",
+            "refused\n  opens: 8 bytes are wanted and 4 are left\nnot sound: 1 shown\n",
+        ),
+        (
+            "a fat file of no entry",
+            &[0xca, 0xfe, 0xba, 0xbe, 0, 0, 0, 0],
+            1,
+            "fat file of 0\n  table: ok\n  entries: no image\nnot sound: 1 shown\n",
         ),
         (
             "segment_data_out",
@@ -75,7 +83,7 @@ fn lines(rt: HostRuntime) -> Result<(), Fail> {
             "sections past the end",
             &two_sections,
             1,
-            "image\n  opens: ok\n  data: ok\n  sections: segment 0, section 3: 80 bytes are wanted and 32 are left\n  sections: segment 0, section 4: offset 424 is past the end\n  sections: segment 0, section 5: offset 504 is past the end\n  sections: segment 0, section 6: offset 584 is past the end\n  sections: segment 0, section 7: offset 664 is past the end\n  sections: segment 0, section 8: offset 744 is past the end\n  sections: segment 0, section 9: offset 824 is past the end\n  sections: segment 0, section 10: offset 904 is past the end\n  sections: segment 0, section 11: offset 984 is past the end\n  sections: segment 0, section 12: offset 1064 is past the end\n  relocations: 80 bytes are wanted and 32 are left\n  symbols: ok\n  trie: ok\n  binds: ok\nnot sound: 11 shown\n",
+            "image\n  opens: ok\n  data: ok\n  sections: segment 0, section 3: 80 bytes are wanted and 32 are left\n  sections: segment 0, section 4: offset 424 is past the end\n  sections: segment 0, section 5: offset 504 is past the end\n  sections: segment 0, section 6: offset 584 is past the end\n  sections: segment 0, section 7: offset 664 is past the end\n  sections: segment 0, section 8: offset 744 is past the end\n  sections: segment 0, section 9: offset 824 is past the end\n  sections: segment 0, section 10: offset 904 is past the end\n  sections: segment 0, section 11: offset 984 is past the end\n  sections: segment 0, section 12: offset 1064 is past the end\n  relocations: not read, since a section can't be\n  symbols: ok\n  trie: ok\n  binds: ok\nnot sound: 10 shown\n",
         ),
         (
             "a relocation past the end",
@@ -101,6 +109,18 @@ fn lines(rt: HostRuntime) -> Result<(), Fail> {
             1,
             "image\n  opens: ok\n  data: ok\n  sections: ok\n  relocations: ok\n  symbols: ok\n  trie: ok\n  binds: malformed: a bind's segment is one of the list\nnot sound: 1 shown\n",
         ),
+        (
+            "chained fixups",
+            &CHAINED,
+            1,
+            "image\n  opens: ok\n  data: ok\n  sections: ok\n  relocations: ok\n  symbols: ok\n  trie: ok\n  binds: chained fixups, not read\nnot sound: 1 shown\n",
+        ),
+        (
+            "chained fixups beside binds",
+            &fixups_for_entry,
+            1,
+            "image\n  opens: ok\n  data: ok\n  sections: ok\n  relocations: ok\n  symbols: ok\n  trie: ok\n  binds: chained fixups, not read\nnot sound: 1 shown\n",
+        ),
     ];
     for (name, bytes, status, text) in rows {
         let got = audited(alloc, bytes)?;
@@ -123,6 +143,29 @@ fn sound_files(rt: HostRuntime) -> Result<(), Fail> {
     Ok(())
 }
 
+// Whether a line tells of a fault.
+fn is_fault(line: &str) -> bool {
+    line.starts_with("  ")
+        && !line.ends_with(": ok")
+        && !line.starts_with("  relocations: not read")
+}
+
+// Whether the last line agrees with the status and the lines before it: "sound" stands at status 0 and no
+// fault, and else at status 1 the number of the lines that tell of a fault, of which there is one at least.
+fn agrees(alloc: Global, status: u8, text: &str) -> Result<bool, Fail> {
+    let mut faults = 0u32;
+    for line in text.lines() {
+        if is_fault(line) {
+            faults = faults.saturating_add(1);
+        }
+    }
+    if faults == 0 {
+        return Ok(status == 0 && text.ends_with("\nsound\n"));
+    }
+    let shown = format!(in alloc; "\nnot sound: {faults} shown\n")?;
+    Ok(status == 1 && text.ends_with(shown.as_str()))
+}
+
 #[test]
 fn every_prefix(rt: HostRuntime) -> Result<(), Fail> {
     let alloc = rt.alloc();
@@ -133,7 +176,7 @@ fn every_prefix(rt: HostRuntime) -> Result<(), Fail> {
         };
         let (status, text) = audited(alloc, front)?;
         assert_eq!(rt; status, 1, "B cut at {length}");
-        assert!(rt; text.as_str().contains("not sound: "));
+        assert!(rt; agrees(alloc, status, text.as_str())?, "B cut at {length}");
     }
     for length in 0..file_c.len() {
         let Some(front) = file_c.get(..length) else {
@@ -141,7 +184,7 @@ fn every_prefix(rt: HostRuntime) -> Result<(), Fail> {
         };
         let (status, text) = audited(alloc, front)?;
         assert_eq!(rt; status, 1, "C cut at {length}");
-        assert!(rt; text.as_str().contains("not sound: "));
+        assert!(rt; agrees(alloc, status, text.as_str())?, "C cut at {length}");
     }
     Ok(())
 }
@@ -151,25 +194,56 @@ fn every_byte(rt: HostRuntime) -> Result<(), Fail> {
     let alloc = rt.alloc();
     for place in 0..FILE_B.len() {
         for byte in [0, 0x7f, 0x80, 0xff] {
-            let (status, _) = audited(alloc, &changed(alloc, place, &[byte])?)?;
-            assert!(rt; status < 2, "{byte} at {place}");
+            let (status, text) = audited(alloc, &changed(alloc, place, &[byte])?)?;
+            assert!(rt; agrees(alloc, status, text.as_str())?, "{byte} at {place}");
         }
     }
     Ok(())
 }
 
+// The output is written whole or the status is 2, of an image and of a fat file.
 #[test]
-fn failed_writes(rt: HostRuntime) -> Result<(), Fail> {
+fn a_failed_write(rt: HostRuntime) -> Result<(), Fail> {
     let alloc = rt.alloc();
-    let whole = audited(alloc, &FILE_B)?.1.len();
-    for left in [0, 1, whole.saturating_sub(1)] {
+    let file_c = file_c(alloc)?;
+    for file in [FILE_B.as_slice(), file_c.as_slice()] {
+        let whole = audited(alloc, file)?.1.len();
+        for left in 0..whole {
+            let mut err = Vec::new(alloc);
+            assert_eq!(rt; run(alloc, file, &mut Full { left }, &mut err), 2, "{left}");
+            assert_eq!(rt; err.as_slice(), b"machaudit: cannot write\n".as_slice());
+        }
         let mut err = Vec::new(alloc);
-        assert_eq!(rt; run(alloc, &FILE_B, &mut Full { left }, &mut err), 2);
+        assert_eq!(rt; run(alloc, file, &mut Full { left: whole }, &mut err), 0);
+        assert!(rt; err.is_empty());
+    }
+    let unwritten = run(alloc, &FILE_B, &mut Full { left: 0 }, &mut Full { left: 3 });
+    assert_eq!(rt; unwritten, 2);
+    Ok(())
+}
+
+// What `--help` and `--version` print.
+#[test]
+fn printed_lines(rt: HostRuntime) -> Result<(), Fail> {
+    let alloc = rt.alloc();
+    let line = "machaudit 0.1.0";
+    let whole = line.len() + 1;
+    for left in 0..whole {
+        let mut err = Vec::new(alloc);
+        assert_eq!(rt; run_line(line, &mut Full { left }, &mut err), 2);
         assert_eq!(rt; err.as_slice(), b"machaudit: cannot write\n".as_slice());
     }
+    let mut out = Vec::new(alloc);
     let mut err = Vec::new(alloc);
-    assert_eq!(rt; run(alloc, &FILE_B, &mut Full { left: whole }, &mut err), 0);
+    assert_eq!(rt; run_line(line, &mut out, &mut err), 0);
+    assert_eq!(rt; out.as_slice(), b"machaudit 0.1.0\n".as_slice());
+    assert!(rt; err.is_empty());
     Ok(())
+}
+
+#[test]
+fn unreadable_file(rt: HostRuntime) {
+    assert_eq!(rt; audit_file(&rt, "no such file"), 2);
 }
 
 #[test]
@@ -183,7 +257,7 @@ fn refused_memory(rt: HostRuntime) -> Result<(), Fail> {
         if status == 0 {
             sound = sound.saturating_add(1);
         } else {
-            assert_eq!(rt; (status, sound), (2, 0), "{size}");
+            assert_eq!(rt; (status, sound), (1, 0), "{size}");
             assert_eq!(rt; err.as_slice(), b"machaudit: out of memory\n".as_slice());
             refused = refused.saturating_add(1);
         }

@@ -1,5 +1,5 @@
 -- Answers, one after the other, and what they make.
-use Rattle.std.proofs.Common.{◌≡◌, ◌∙◌, ◌+◌, ◌<◌, ℕ, List, [], ◌∷◌, ◌++◌, length, map, take, get_or, sym, ap, subst}
+use Rattle.std.proofs.Common.{◌≡◌, ◌∙◌, ◌+◌, ◌<◌, ℕ, List, [], ◌∷◌, ◌++◌, length, map, take, get_or, refl, sym, ap, subst}
 use Rattle.std.specs.Prelude.{All}
 use Rattle.std.proofs.lemmas.List.{take_more, map_push}
 use Rattle.std.proofs.lemmas.List.Elements.{All-push}
@@ -14,8 +14,9 @@ use Rattle.machresolve.specs.Seen.{symbol_seen, asked_by, asked_in, program_seen
 use Rattle.machresolve.specs.declared.resolve.Resolution.{Resolution}
 
 -- one more answer, to the next import
-pub one_more_answer : {A : Type 0} (libs : List Library) (m : MachO A) (imports : List Import) (i : ℕ) (d : Import) (rs pushed : List Resolution) (r : Resolution) → i < length imports
-    → pushed ≡ rs ++ r ∷ [] → asked_in r ≡ asked_by (import_in (get_or imports i d)) → IsAnswer libs (program_seen m (take i imports)) (symbol_seen r.wanted) r.answer
+pub one_more_answer : {A : Type 0} (libs : List Library) (m : MachO A) (imports : List Import) (i : ℕ) (d : Import)
+    → (rs pushed : List Resolution) (r : Resolution) → i < length imports → pushed ≡ rs ++ r ∷ []
+    → asked_in r ≡ asked_by (import_in (get_or imports i d)) → IsAnswer libs (program_seen m (take i imports)) (symbol_seen r.wanted) r.answer
     → AreAnswers libs (program_seen m (take i imports)) rs → AreAnswers libs (program_seen m (take (i + 1) imports)) pushed
 one_more_answer libs m imports i d rs pushed r inside more asked answer before =
     let x = get_or imports i d in
@@ -34,7 +35,8 @@ one_more_answer libs m imports i d rs pushed r inside more asked answer before =
     })
 
 -- an image that was opened, with its imports, is a program
-pub is_program : {A : Type 0} (bytes : List ℕ) (m : MachO A) (imports : List Import) → IsImage bytes 0 m → HasLibraries bytes 0 (texts m.libs.items) → HasImports bytes 0 (imports_seen imports)
+pub is_program : {A : Type 0} (bytes : List ℕ) (m : MachO A) (imports : List Import) → IsImage bytes 0 m
+    → HasLibraries bytes 0 (texts m.libs.items) → HasImports bytes 0 (imports_seen imports)
     → IsProgram bytes (program_seen m imports)
 is_program bytes m imports p names has =
     record {
@@ -42,4 +44,5 @@ is_program bytes m imports p names has =
       header = record { ctx = p.ctx; cs = commands_held m; opens = p.opens.lossy; holds = p.fields.header };
       names = names;
       imports = has;
+      fixups = record { ctx = p.ctx; cs = commands_held m; opens = p.opens.lossy; holds = refl };
     }

@@ -6,8 +6,8 @@ use Rattle.std.proofs.lemmas.List.Elements.{All-map}
 use Rattle.std.proofs.lemmas.Option.{slice_get-map, slice_get_read}
 use Rattle.mach_dyld.specs.Exports.{entries, entry_of, info_of, text_in}
 use Rattle.mach_dyld.specs.declared.exports.Export.{Export}
-use Rattle.goblin_mach.specs.Facts.{IsFirstExport, IsNotExported}
-use Rattle.machresolve.specs.Resolved.{Library, IsLibrary, AreLibraries, Symbol, IsFirstNamed, NoneNamed, IsListed, IsUnlisted}
+use Rattle.goblin_mach.specs.Facts.{IsFirstExport}
+use Rattle.machresolve.specs.Resolved.{Library, IsLibrary, AreLibraries, Symbol, IsFirstNamed, NoneNamed, IsListed}
 use Rattle.machresolve.specs.Seen.{library_seen, libraries_seen}
 use Rattle.machresolve.specs.declared.library.OpenLibrary.{OpenLibrary}
 
@@ -29,14 +29,16 @@ first-named name xs i x inside is named before =
     }
 
 -- one more library
-pub are_more : (files : List (List ℕ)) (libs : List Library) (bytes : List ℕ) (l : Library) → AreLibraries files libs → IsLibrary bytes l → AreLibraries (files ++ bytes ∷ []) (libs ++ l ∷ [])
+pub are_more : (files : List (List ℕ)) (libs : List Library) (bytes : List ℕ) (l : Library) → AreLibraries files libs → IsLibrary bytes l
+    → AreLibraries (files ++ bytes ∷ []) (libs ++ l ∷ [])
 are_more [] [] bytes l all is = (is, tt)
 are_more [] (m ∷ libs) bytes l all is = absurd all
 are_more (f ∷ files) [] bytes l all is = absurd all
 are_more (f ∷ files) (m ∷ libs) bytes l all is = (all.0, are_more files libs bytes l all.1 is)
 
 -- what a library that was opened lists for a symbol
-pub is_listed : {A : Type 0} (libs : List Library) (s : Symbol) (l : OpenLibrary A) (es : List (Export A)) (x : Export A) (i j : ℕ) → IsFirstNamed s.library libs i (library_seen l) → es ≡ l.exports.items
+pub is_listed : {A : Type 0} (libs : List Library) (s : Symbol) (l : OpenLibrary A) (es : List (Export A)) (x : Export A) (i j : ℕ)
+    → IsFirstNamed s.library libs i (library_seen l) → es ≡ l.exports.items
     → IsFirstExport s.name (entries es) j (entry_of x) → IsListed libs s (info_of x.info)
 is_listed libs s l es x i j named same first =
     record {
@@ -48,12 +50,6 @@ is_listed libs s l es x i j named same first =
       is_export = subst (λ (xs : List (Export _)). IsFirstExport s.name (entries xs) j (entry_of x)) same first;
       info_is = refl;
     }
-
--- what it doesn't list
-pub is_unlisted : {A : Type 0} (libs : List Library) (s : Symbol) (l : OpenLibrary A) (es : List (Export A)) (i : ℕ) → IsFirstNamed s.library libs i (library_seen l) → es ≡ l.exports.items
-    → IsNotExported s.name (entries es) → IsUnlisted libs s
-is_unlisted libs s l es i named same none =
-    record { place = i; library = library_seen l; is_library = named; none = subst (λ (xs : List (Export _)). IsNotExported s.name (entries xs)) same none }
 
 -- the name under which a re-export goes on
 pub given_name : (o : Option (Bor (List ℕ))) (name r : Bor (List ℕ)) → r ≡ unwrap_or o name → r.now ≡ unwrap_or (text_in o) name.now

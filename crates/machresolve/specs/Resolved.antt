@@ -1,5 +1,7 @@
 -- Where a symbol is found among libraries, by two-level names and re-exports (dyld).
-use Rattle.std.specs.Prelude.{◌≡◌, ◌≢◌, ℕ, List, [], ◌∷◌, All, take, Option, Some, None, unwrap_or, slice_get}
+use Rattle.std.specs.Prelude.{◌≡◌, ◌≢◌, ◌==◌, ℕ, Bool, List, [], ◌∷◌, All, take, Option, Some, None, unwrap_or, slice_get}
+use Rattle.std.specs.List.{list_any}
+use Rattle.mach_load.specs.Command.{Command, cmd_of}
 use Rattle.mach_parts.specs.Header.{IsHeader}
 use Rattle.mach_parts.specs.declared.header.Header.{Header}
 use Rattle.mach_dyld.specs.Imports.{Import}
@@ -25,17 +27,28 @@ AreLibraries [] (l ∷ ls) = ⊥
 AreLibraries (bytes ∷ files) [] = ⊥
 AreLibraries (bytes ∷ files) (l ∷ ls) = IsLibrary bytes l × AreLibraries files ls
 
--- a program: its header, the names of its libraries by ordinal, its own first, and its imports
+-- whether a command says where chained fixups lie (`mach-o/loader.h`, LC_DYLD_CHAINED_FIXUPS)
+abbrev pub is_chained_fixups : Command → Bool
+is_chained_fixups c = cmd_of c == 0x8000_0034
+
+-- whether a command of the image at 0 is of chained fixups: the imports that these list are not read
+abbrev pub HasChainedFixups : List ℕ → Bool → Type 0
+HasChainedFixups bytes has = OfImage bytes 0 (λ ctx cs. has ≡ list_any is_chained_fixups cs)
+
+-- a program: its header, the names of its libraries by ordinal, its own first, the imports of its binds,
+-- and whether it has chained fixups
 pub record Program : Type 0 where
   pub header : Header
   pub names : List (List ℕ)
   pub imports : List Import
+  pub has_chained_fixups : Bool
 
 pub record IsProgram (bytes : List ℕ) (p : Program) : Type 0 where
   pub opens : Opens bytes 0
   pub header : OfImage bytes 0 (λ ctx cs. IsHeader ctx bytes 0 p.header)
   pub names : HasLibraries bytes 0 p.names
   pub imports : HasImports bytes 0 p.imports
+  pub fixups : HasChainedFixups bytes p.has_chained_fixups
 
 -- a symbol: its name, and that of the library in which it is sought
 pub record Symbol : Type 0 where
@@ -86,6 +99,6 @@ pub record IsReexport (libs : List Library) (s t : Symbol) : Type 0 where
   pub name_is : t.name ≡ unwrap_or given s.name
 
 -- re-exports lead from a symbol to another, by any number of steps
-pub data Leads (libs : List Library) : Symbol → Symbol → Type 0 where
-  here : (s : Symbol) → Leads libs s s
-  further : (s t u : Symbol) → Leads libs s t → IsReexport libs t u → Leads libs s u
+pub data ReexportsLead (libs : List Library) : Symbol → Symbol → Type 0 where
+  here : (s : Symbol) → ReexportsLead libs s s
+  further : (s t u : Symbol) → ReexportsLead libs s t → IsReexport libs t u → ReexportsLead libs s u

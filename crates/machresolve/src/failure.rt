@@ -1,9 +1,10 @@
 //! Why a program was not resolved.
 
-ghost use Rattle.std.specs.Prelude.{◌≤◌};
+ghost use Rattle.std.specs.Prelude.{◌≡◌, ◌≤◌, ◌↔◌};
 
 use goblin_mach::{Error, describe};
 use std::alloc::{AllocError, AllocFailed};
+use std::io::Write;
 use std::{fmt, io};
 
 /// Why no lines, or not all of them, were printed.
@@ -26,13 +27,25 @@ impl Failure {
         }
     }
 
-    /// The exit status: 1 where a file is refused, else 2.
+    /// The exit status: 1 for a refused file and for want of memory, 2 for a line that was not written.
     pub fn status(&self) -> u8
-        ensures { (1 ≤ result) × (result ≤ 2) }
+        ensures bounds { (1 ≤ result) × (result ≤ 2) }
+        ensures unwritten { (result ≡ 2) ↔ (self.now ≡ Failure.Unwritten) }
     {
         match self {
-            Failure::Refused { .. } => 1,
-            Failure::Memory | Failure::Unwritten => 2,
+            Failure::Refused { .. } | Failure::Memory => 1,
+            Failure::Unwritten => 2,
+        }
+    }
+
+    /// Says on `err` what was the matter, and answers the exit status: 2, too, where that can't be written.
+    pub fn tell<E: Write>(&self, err: &mut E) -> u8
+        ensures bounds { (1 ≤ result) × (result ≤ 2) }
+        ensures unwritten { self.now ≡ Failure.Unwritten → result ≡ 2 }
+    {
+        match writeln!(err, "machresolve: {self}") {
+            Ok(()) => self.status(),
+            Err(_) => 2,
         }
     }
 }

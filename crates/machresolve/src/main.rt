@@ -13,60 +13,32 @@ mod run;
 #[cfg(test)]
 mod tests;
 
-use run::run;
+use failure::Failure;
+use run::{run, run_line};
 use std::process::ExitCode;
 use std::{env, fs, io};
 
 const USAGE: &str = "usage: machresolve PROGRAM LIBRARY..";
 
+const VERSION: &str = "machresolve 0.1.0";
+
 fn main(rt: HostRuntime) -> ExitCode {
-    let alloc = rt.alloc();
     let Ok(args) = env::args(&rt) else {
         return bad_usage(&rt);
     };
-    let Ok(args) = args.collect::<Vec<String>>(alloc) else {
+    let Ok(args) = args.collect::<Vec<String>>(rt.alloc()) else {
+        return ExitCode::from(Failure::Memory.tell(&mut rt.stderr()));
+    };
+    let [_, first, others @ ..] = args.as_slice() else {
         return bad_usage(&rt);
     };
-    let [_, first, names @ ..] = args.as_slice() else {
-        return bad_usage(&rt);
-    };
-    if first.as_str() == "--help" {
-        return help(&rt);
-    }
-    let mut contents = Vec::new(alloc);
-    for name in names {
-        let Ok(bytes) = fs::read(&rt, name) else {
-            return unreadable(&rt, name);
-        };
-        if contents.push(bytes).is_err() {
-            return unreadable(&rt, name);
-        }
-    }
-    let Ok(program) = fs::read(&rt, first) else {
-        return unreadable(&rt, first);
-    };
-    let Ok(libraries) = contents
-        .iter()
-        .map(|bytes| bytes.as_slice())
-        .collect::<Vec<&[u8]>>(alloc)
-    else {
-        return unreadable(&rt, first);
-    };
-    let status = run(
-        alloc,
-        program.as_slice(),
-        libraries.as_slice(),
-        &mut io::writer(&rt),
-        &mut rt.stderr(),
-    );
-    ExitCode::from(status)
-}
-
-fn help(rt: &impl Print) -> ExitCode {
-    match rt.println(USAGE) {
-        Ok(()) => ExitCode::from(0),
-        Err(_) => ExitCode::from(2),
-    }
+    ExitCode::from(match first.as_str() {
+        "--help" => run_line(USAGE, &mut io::writer(&rt), &mut rt.stderr()),
+        "--version" => run_line(VERSION, &mut io::writer(&rt), &mut rt.stderr()),
+        program => match resolve_files(&rt, program, others) {
+            Ok(status) | Err(status) => status,
+        },
+    })
 }
 
 fn bad_usage(rt: &impl Eprint) -> ExitCode {
@@ -74,7 +46,41 @@ fn bad_usage(rt: &impl Eprint) -> ExitCode {
     ExitCode::from(2)
 }
 
-fn unreadable(rt: &impl Eprint, file: &str) -> ExitCode {
-    let _ = rt.eprintln(format_args!("machresolve: cannot read {file}"));
-    ExitCode::from(2)
+// Resolves a program over libraries, and answers the exit status; Err where not all could be read.
+fn resolve_files(rt: &HostRuntime, program: &str, libraries: &[String]) -> Result<u8, u8> {
+    let program = read(rt, program)?;
+    let mut contents = Vec::new(rt.alloc());
+    for library in libraries {
+        if contents.push(read(rt, library)?).is_err() {
+            return Err(Failure::Memory.tell(&mut rt.stderr()));
+        }
+    }
+    let Ok(slices) = contents
+        .iter()
+        .map(|bytes| bytes.as_slice())
+        .collect::<Vec<&[u8]>>(rt.alloc())
+    else {
+        return Err(Failure::Memory.tell(&mut rt.stderr()));
+    };
+    Ok(run(
+        rt.alloc(),
+        program.as_slice(),
+        slices.as_slice(),
+        &mut io::writer(rt),
+        &mut rt.stderr(),
+    ))
+}
+
+// The bytes of a file. Where it can't be read, it says why, and answers the exit status.
+fn read(rt: &HostRuntime, file: &str) -> Result<Vec<u8>, u8> {
+    match fs::read(rt, file) {
+        Ok(bytes) => Ok(bytes),
+        Err(error) if error.kind() == io::ErrorKind::OutOfMemory => {
+            Err(Failure::Memory.tell(&mut rt.stderr()))
+        }
+        Err(_) => {
+            let _ = rt.eprintln(format_args!("machresolve: cannot read {file}"));
+            Err(2)
+        }
+    }
 }

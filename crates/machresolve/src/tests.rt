@@ -2,8 +2,9 @@
 
 mod files;
 
-use crate::run::run;
-use crate::tests::files::{FILE_B, FILE_C, LIBRARY_L, LIBRARY_M, PROGRAM};
+use crate::read;
+use crate::run::{run, run_line};
+use crate::tests::files::{CHAINED, FILE_B, FILE_C, LIBRARY_L, LIBRARY_M, PROGRAM};
 use linked_list_allocator::LocalHeap;
 use std::alloc::Global;
 use std::test::Fail;
@@ -41,7 +42,9 @@ fn resolved(alloc: Global, program: &[u8], libraries: &[&[u8]]) -> Result<(u8, S
 #[test]
 fn lines(rt: HostRuntime) -> Result<(), Fail> {
     let alloc = rt.alloc();
-    let rows: [(&str, &[u8], &[u8], u8, &str); 7] = [
+    let mut fixups_for_entry = FILE_B;
+    fixups_for_entry[0x120] = 0x34;
+    let rows: [(&str, &[u8], &[u8], u8, &str); 9] = [
         (
             "both libraries",
             &PROGRAM,
@@ -64,6 +67,20 @@ fn lines(rt: HostRuntime) -> Result<(), Fail> {
             "_a L flat\n_b L flat\n",
         ),
         ("no imports", &LIBRARY_L, &LIBRARY_M, 0, ""),
+        (
+            "chained fixups",
+            &CHAINED,
+            &LIBRARY_M,
+            1,
+            "chained fixups, not read\n",
+        ),
+        (
+            "chained fixups beside binds",
+            &fixups_for_entry,
+            &LIBRARY_M,
+            1,
+            "_a L flat\n_b L flat\nchained fixups, not read\n",
+        ),
         (
             "a fat program",
             &FILE_C,
@@ -111,47 +128,106 @@ fn every_prefix(rt: HostRuntime) -> Result<(), Fail> {
     Ok(())
 }
 
+// Whether the status is that of the lines: 1 where a file is refused, with words on standard error, or a
+// line tells of an import that is not settled, and else 0.
+fn agrees(alloc: Global, program: &[u8], libraries: &[&[u8]]) -> Result<bool, Fail> {
+    let mut out = Vec::new(alloc);
+    let mut err = Vec::new(alloc);
+    let status = run(alloc, program, libraries, &mut out, &mut err);
+    let out = String::from_utf8(out)?;
+    let mut settled = err.is_empty();
+    for line in out.as_str().lines() {
+        if is_unsettled(line) {
+            settled = false;
+        }
+    }
+    Ok(status == u8::from(!settled))
+}
+
+// Whether a line tells of an import that is not settled.
+fn is_unsettled(line: &str) -> bool {
+    let is_missing = line.contains(" missing in ") && !line.contains(" weak, missing in ");
+    let is_lost = line.contains(" no library ") || line.contains(" leads back to ");
+    is_missing || is_lost || line == "chained fixups, not read"
+}
+
 #[test]
 fn every_byte(rt: HostRuntime) -> Result<(), Fail> {
     let alloc = rt.alloc();
-    let mut library = Vec::new(alloc);
-    library.extend_from_slice(&LIBRARY_L)?;
-    for place in 0..library.len() {
-        for byte in [0, 0x7f, 0x80, 0xff] {
-            let before = library[place];
-            library[place] = byte;
-            let (status, _) = resolved(alloc, &PROGRAM, &[library.as_slice(), &LIBRARY_M])?;
-            assert_eq!(rt; status, 1, "{byte} at {place}");
-            library[place] = before;
+    for file in [FILE_B.as_slice(), PROGRAM.as_slice(), LIBRARY_L.as_slice()] {
+        let mut bytes = Vec::new(alloc);
+        bytes.extend_from_slice(file)?;
+        for place in 0..bytes.len() {
+            for byte in [0, 0x7f, 0x80, 0xff] {
+                let before = bytes[place];
+                bytes[place] = byte;
+                let as_program = agrees(alloc, bytes.as_slice(), &[&LIBRARY_L, &LIBRARY_M])?;
+                let as_library = agrees(alloc, &PROGRAM, &[bytes.as_slice(), &LIBRARY_M])?;
+                assert!(rt; as_program && as_library, "{byte} at {place}");
+                bytes[place] = before;
+            }
         }
     }
     Ok(())
 }
 
+// The output is written whole or the status is 2: of a program, and of a refused one, such as a fat file.
 #[test]
-fn failed_writes(rt: HostRuntime) -> Result<(), Fail> {
+fn a_failed_write(rt: HostRuntime) -> Result<(), Fail> {
     let alloc = rt.alloc();
-    for left in [0, 1, 19] {
+    let libraries: [&[u8]; 2] = [&LIBRARY_L, &LIBRARY_M];
+    let whole = resolved(alloc, &PROGRAM, &libraries)?.1.len();
+    for left in 0..whole {
         let mut err = Vec::new(alloc);
-        assert_eq!(rt; run(alloc, &FILE_B, &[], &mut Full { left }, &mut err), 2);
+        let status = run(alloc, &PROGRAM, &libraries, &mut Full { left }, &mut err);
+        assert_eq!(rt; status, 2, "{left}");
         assert_eq!(rt; err.as_slice(), b"machresolve: cannot write\n".as_slice());
     }
     let mut err = Vec::new(alloc);
-    assert_eq!(rt;
-        run(alloc, &FILE_B, &[], &mut Full { left: 20 }, &mut err),
-        0
+    let status = run(
+        alloc,
+        &PROGRAM,
+        &libraries,
+        &mut Full { left: whole },
+        &mut err,
     );
-    assert_eq!(rt;
-        run(
-            alloc,
-            &FILE_C,
-            &[],
-            &mut Full { left: 20 },
-            &mut Full { left: 3 }
-        ),
-        2
-    );
+    assert_eq!(rt; (status, err.len()), (1, 0));
+    let whole = resolved(alloc, &FILE_C, &libraries)?.1.len();
+    for left in 0..=whole {
+        let mut out = Vec::new(alloc);
+        let status = run(alloc, &FILE_C, &libraries, &mut out, &mut Full { left });
+        let wanted = if left < whole { 2 } else { 1 };
+        assert_eq!(rt; (status, out.len()), (wanted, 0), "{left}");
+    }
     Ok(())
+}
+
+// What `--help` and `--version` print.
+#[test]
+fn printed_lines(rt: HostRuntime) -> Result<(), Fail> {
+    let alloc = rt.alloc();
+    let line = "machresolve 0.1.0";
+    let whole = line.len() + 1;
+    for left in 0..whole {
+        let mut err = Vec::new(alloc);
+        assert_eq!(rt; run_line(line, &mut Full { left }, &mut err), 2);
+        assert_eq!(rt; err.as_slice(), b"machresolve: cannot write\n".as_slice());
+    }
+    let mut out = Vec::new(alloc);
+    let mut err = Vec::new(alloc);
+    assert_eq!(rt; run_line(line, &mut out, &mut err), 0);
+    assert_eq!(rt; out.as_slice(), b"machresolve 0.1.0\n".as_slice());
+    assert!(rt; err.is_empty());
+    Ok(())
+}
+
+#[test]
+fn unreadable_file(rt: HostRuntime) {
+    let Err(status) = read(&rt, "no such file") else {
+        assert!(rt; false, "a file");
+        return;
+    };
+    assert_eq!(rt; status, 2);
 }
 
 #[test]
@@ -163,7 +239,9 @@ fn refused_memory(rt: HostRuntime) -> Result<(), Fail> {
         let heap = LocalHeap::new(rt.alloc(), 64 * size)?;
         let mut out = Vec::new(rt.alloc());
         let mut err = Vec::new(rt.alloc());
-        if run(&heap, &PROGRAM, &libraries, &mut out, &mut err) == 1 {
+        let status = run(&heap, &PROGRAM, &libraries, &mut out, &mut err);
+        assert_eq!(rt; status, 1, "{size}");
+        if err.is_empty() {
             assert_eq!(rt; out.len(), 193);
             answered = answered.saturating_add(1);
         } else {

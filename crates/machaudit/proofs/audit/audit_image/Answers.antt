@@ -2,10 +2,10 @@ use Rattle.std.proofs.Common.{◌≡◌, ◌∙◌, Ok, ap, refl, arith}
 use Rattle.std.proofs.lemmas.List.Folds.{list_all-map}
 use Rattle.mach_parts.specs.Segment.{segment_view, sections_of}
 use Rattle.mach_parts.specs.Segments.{segments_in}
-use Rattle.goblin_mach.specs.OpenImage.{segments_held, ctx_held, bytes_held}
+use Rattle.goblin_mach.specs.OpenImage.{commands_held, segments_held, ctx_held, bytes_held}
 use Rattle.goblin_mach.specs.Relocations.{relocated_sections_in}
 use Rattle.goblin_mach.specs.Subjects.{symbols_held}
-use Rattle.machaudit.specs.Sound.{all_read}
+use Rattle.machaudit.specs.Sound.{are_all_ok}
 use Rattle.machaudit.proofs.audit.audit_image.Goals as goal
 
 pub returns : goal.returns
@@ -22,17 +22,27 @@ returns g c = λ bytes image sound.
     let binds : c.in_ok-binds.binds ≡ 0 = omega (arith, c.saturating_add-listed.ensures, listed) in
     let m = c.args.image.now in
     let exports = c.audit_trie.ensures (c.in_ok-trie.was ∙ ap Ok trie) in
-    let imports = c.audit_binds.ensures (c.in_ok-binds.was ∙ ap Ok binds) in
+    let imports = c.audit_binds.ensures.listed (c.in_ok-binds.was ∙ ap Ok binds) in
     let each = rw c.as_slice-segments.ensures at (c.audit_sections.ensures (c.in_ok-sections.was ∙ ap Ok sections)) in
     let relocated = relocated_sections_in (ctx_held m) (bytes_held m) (segments_held m) in
     record {
       links = (exports.0, imports.0, c.links_of_image.ensures.listed bytes exports.0 imports.0 image exports.1 imports.1);
+      fixups = record {
+        ctx = image.ctx;
+        cs = commands_held m;
+        opens = image.opens.lossy;
+        holds = c.audit_binds.ensures.all (c.in_ok-binds.was ∙ ap Ok binds);
+      };
       sections = (
         segments_held m,
         (c.segments_of_image.ensures.strict bytes 0 image (segments_held m)).1 refl,
-        list_all-map (λ s. all_read (sections_of s)) segment_view (segments_in m.segments) ∙ each,
+        list_all-map (λ s. are_all_ok (sections_of s)) segment_view (segments_in m.segments) ∙ each,
       );
-      relocations = (relocated, (c.relocations_of_image.ensures.strict bytes 0 image relocated).1 refl, c.audit_relocations.ensures (c.in_ok-relocations.was ∙ ap Ok relocations));
+      relocations = (
+        relocated,
+        (c.relocations_of_image.ensures.strict bytes 0 image relocated).1 refl,
+        c.audit_relocations.ensures (rw sections refl) (c.in_ok-relocations.was ∙ ap Ok relocations),
+      );
       symbols = (
         symbols_held m.symbols,
         (c.symbols_of_image.ensures.strict bytes 0 image (symbols_held m.symbols)).1 refl,

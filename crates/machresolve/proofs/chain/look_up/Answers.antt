@@ -9,20 +9,25 @@ use Rattle.machresolve.proofs.chain.look_up.Goals as goal
 pub returns-in-Regular : goal.returns-in-Regular
 returns-in-Regular g c =
     let export = c.in-Some-find_export.export.now in
-    let listed = is_listed (libraries_seen c.args.libraries.now) (symbol_seen c.args.sought) c.in-Some.found.now c.as_slice.result.now export _ _ c.in-Some.ensures.found.1 c.as_slice.ensures.value c.in-Some-find_export.ensures.found.1 in
+    let libs = libraries_seen c.args.libraries.now in
+    let listed = is_listed libs (symbol_seen c.args.sought) c.in-Some.found.now c.as_slice.result.now export _ _
+    c.in-Some.ensures.found.1 c.as_slice.ensures.value c.in-Some-find_export.ensures.found.1 in
     (refl, info_of export.info, listed, ap (λ i. address_of (info_of i)) c.in-Regular.is)
 
 pub returns-in-Stub : goal.returns-in-Stub
 returns-in-Stub g c =
     let export = c.in-Some-find_export.export.now in
-    let listed = is_listed (libraries_seen c.args.libraries.now) (symbol_seen c.args.sought) c.in-Some.found.now c.as_slice.result.now export _ _ c.in-Some.ensures.found.1 c.as_slice.ensures.value c.in-Some-find_export.ensures.found.1 in
+    let libs = libraries_seen c.args.libraries.now in
+    let listed = is_listed libs (symbol_seen c.args.sought) c.in-Some.found.now c.as_slice.result.now export _ _
+    c.in-Some.ensures.found.1 c.as_slice.ensures.value c.in-Some-find_export.ensures.found.1 in
     (refl, info_of export.info, listed, ap (λ i. address_of (info_of i)) c.in-Stub.is ∙ ap Some (sym c.from.ensures))
 
 pub returns-in-Reexport : goal.returns-in-Reexport
 returns-in-Reexport g c =
     let libs = libraries_seen c.args.libraries.now in
     let export = c.in-Some-find_export.export.now in
-    let listed = is_listed libs (symbol_seen c.args.sought) c.in-Some.found.now c.as_slice.result.now export _ _ c.in-Some.ensures.found.1 c.as_slice.ensures.value c.in-Some-find_export.ensures.found.1 in
+    let listed = is_listed libs (symbol_seen c.args.sought) c.in-Some.found.now c.as_slice.result.now export _ _
+    c.in-Some.ensures.found.1 c.as_slice.ensures.value c.in-Some-find_export.ensures.found.1 in
     record {
       given = text_in c.in-Reexport.lib_symbol_name;
       flags = c.in-Reexport.flags;

@@ -13,4 +13,7 @@ loop-file-preserved g c =
     ap (map (λ f. f.now)) (take_more files i none c.loop-file-test.true) ∙ map_push (λ f. f.now) (take i files) (get_or files i none) in
     let opened : libraries_seen c.push.new.self.items ≡ libraries_seen c.loop-file.libraries.items ++ library_seen c.in-Ok.library ∷ [] =
     ap libraries_seen c.in_ok-push-in-Ok.ensures.items ∙ map_push library_seen c.loop-file.libraries.items c.in-Ok.library in
-    rw (taken, opened) (are_more (map (λ f. f.now) (take i files)) (libraries_seen c.loop-file.libraries.items) (get_or files i none).now (library_seen c.in-Ok.library) c.loop-file.invariant c.in-Ok.ensures)
+    let front = map (λ f. f.now) (take i files) in
+    let libraries = libraries_seen c.loop-file.libraries.items in
+    let library = library_seen c.in-Ok.library in
+    rw (taken, opened) (are_more front libraries (get_or files i none).now library c.loop-file.invariant c.in-Ok.ensures)

@@ -1,4 +1,4 @@
-use Rattle.std.proofs.Common.{refl}
+use Rattle.std.proofs.Common.{refl, sym}
 use Rattle.mach_dyld.specs.BindViews.{imports_seen}
 use Rattle.mach_dyld.specs.Exports.{texts}
 use Rattle.machresolve.specs.Seen.{libraries_seen, program_seen}
@@ -17,5 +17,6 @@ returns g c =
       program = program_seen image imports;
       is_program = is_program bytes image imports opened ((c.libraries_of_image.ensures.strict bytes 0 opened (texts image.libs.items)).1 refl)
           ((c.imports_of_image.ensures.strict bytes 0 opened (imports_seen imports)).1 c.in-Ok-imports.ensures.listed);
+      fixups = sym c.has_chained_fixups.ensures;
       answers = rw (c.deref.ensures.value, c.deref-2.ensures.value) at c.in_ok-answer_all.ensures;
     }
