@@ -1,5 +1,5 @@
 -- What is shown of an image, of an entry and of entries in order.
-use Rattle.std.proofs.Common.{◌≡◌, ◌++◌, ◌∷◌, [], ◌∙◌, ℕ, ◌+◌, zero, suc, List, Option, Result, Ok, Bool, true, false, refl, sym, ap, subst, length, arith}
+use Rattle.std.proofs.Common.{◌≡◌, ◌++◌, ◌∷◌, [], ◌∙◌, ℕ, ◌+◌, zero, suc, List, Option, Result, Ok, Bool, true, false, sym, ap, subst, length, arith}
 use Rattle.std.specs.Prelude.{◌&&◌, codes}
 use Rattle.std.specs.Borrow.{Bor}
 use Rattle.std.specs.Io.KnownBytes.{Appends}
@@ -56,13 +56,15 @@ image_lines bytes sections letters m symbols old new opened lettered same has li
 pub image_entry : (i : ℕ) (there : Result FatEntry Fault) (slice text : List ℕ) → there ≡ Ok (image slice) → AreImageLines slice text
     → ShowsEntry i there (record { text = arch_line i ++ text; said = []; whole = true })
 image_entry i there slice text is lines =
-    subst (λ (x : Result FatEntry Fault). ShowsEntry i x (record { text = arch_line i ++ text; said = []; whole = true })) (sym is) (an_image slice text lines)
+    let shown : Shown = record { text = arch_line i ++ text; said = []; whole = true } in
+    subst (λ (x : Result FatEntry Fault). ShowsEntry i x shown) (sym is) (an_image slice text lines)
 
 -- an archive is shown as such
 pub archive_entry : (i : ℕ) (there : Result FatEntry Fault) (slice : List ℕ) → there ≡ Ok (archive slice)
     → ShowsEntry i there (record { text = arch_line i ++ codes "archive\n"; said = []; whole = true })
 archive_entry i there slice is =
-    subst (λ (x : Result FatEntry Fault). ShowsEntry i x (record { text = arch_line i ++ codes "archive\n"; said = []; whole = true })) (sym is) (an_archive slice)
+    let shown : Shown = record { text = arch_line i ++ codes "archive\n"; said = []; whole = true } in
+    subst (λ (x : Result FatEntry Fault). ShowsEntry i x shown) (sym is) (an_archive slice)
 
 -- whether both are whole
 pub and_true : (first last after : Bool) → first ≡ true → last ≡ after → (first && last) ≡ after

@@ -1,15 +1,14 @@
 -- Lines that are written one after the other.
-use Rattle.std.proofs.Common.{◌≡◌, ◌++◌, ◌∷◌, [], ◌∙◌, ℕ, List, Option, Some, None, Result, Bool, map, refl, sym, ap, subst}
-use Rattle.std.proofs.lemmas.List.{append-nil, append_assoc, map-append, flat_map_more}
+use Rattle.std.proofs.Common.{◌++◌, ◌∷◌, [], ◌∙◌, ℕ, List, Option, Result, Bool, refl, ap}
+use Rattle.std.proofs.lemmas.List.{map-append, flat_map_more}
 use Rattle.std.specs.Borrow.{Bor}
 use Rattle.std.specs.Io.KnownBytes.{Appends}
-use Rattle.std.specs.List.{flat_map}
 use Rattle.mach_base.proofs.Written.{Appends-none, Appends-both}
 use Rattle.mach_base.specs.Fault.{Fault}
 use Rattle.mach_base.specs.declared.error.Error.{Error}
 use Rattle.mach_parts.specs.SymbolViews.{symbol_read}
 use Rattle.mach_parts.specs.declared.symbols.nlist.Nlist.{Nlist}
-use Rattle.machsyms.specs.Lines.{symbol_line, AreLines, WritesLines}
+use Rattle.machsyms.specs.Lines.{symbol_line, WritesLines}
 
 -- before the first symbol
 pub no_lines : (is_64 : Bool) (sections : List ℕ) (known : Option (List ℕ)) → WritesLines is_64 sections [] known known

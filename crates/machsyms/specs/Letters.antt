@@ -1,5 +1,6 @@
 -- The letters by which `nm` tells what a symbol is (`mach-o/nlist.h`).
-use Rattle.std.specs.Prelude.{◌==◌, ℕ, zero, suc, List, codes, take, map, slice_index, slice_get, bit_and, unwrap_or, Bool, false, ◌&&◌, Result, Ok, Err, if◌then◌else◌}
+use Rattle.std.specs.Prelude.{◌==◌, ℕ, zero, suc, List, codes, take, map, slice_index, slice_get, bit_and, unwrap_or, Bool, false, ◌&&◌, Result, Ok, Err}
+use Rattle.std.specs.Prelude.{if◌then◌else◌}
 use Rattle.std.specs.Char.{to_ascii_uppercase}
 use Rattle.std.specs.List.{flat_map}
 use Rattle.std.specs.Str.{bytes_eq}

@@ -1,5 +1,6 @@
 -- The lines that are printed of symbols, as `nm -a -p` prints them.
-use Rattle.std.specs.Prelude.{◌≡◌, ◌==◌, ℕ, ◌-◌, ◌^◌, List, [], ◌∷◌, ◌++◌, codes, map, bit_and, Bool, true, false, ◌&&◌, Option, Some, None, Result, Ok, Err, if◌then◌else◌}
+use Rattle.std.specs.Prelude.{◌≡◌, ◌==◌, ℕ, ◌-◌, ◌^◌, List, [], ◌++◌, codes, map, bit_and, Bool, true, false, ◌&&◌, Option, Some, None, Result, Ok, Err}
+use Rattle.std.specs.Prelude.{if◌then◌else◌}
 use Rattle.std.specs.Char.{encode_utf8}
 use Rattle.std.specs.Fmt.{digits, padded, padded_integral, format_spec}
 use Rattle.std.specs.Io.KnownBytes.{Appends}

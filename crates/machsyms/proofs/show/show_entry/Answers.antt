@@ -1,4 +1,4 @@
-use Rattle.std.proofs.Common.{◌++◌, [], true, false, refl, sym}
+use Rattle.std.proofs.Common.{◌++◌, [], true, refl, sym}
 use Rattle.std.specs.Prelude.{codes}
 use Rattle.std.specs.Io.KnownBytes.{Appends}
 use Rattle.mach_base.proofs.Written.{Appends-none, Appends-both}
@@ -34,7 +34,8 @@ pub returns-in_ok-tell_entry-in-Refused : goal.returns-in_ok-tell_entry-in-Refus
 returns-in_ok-tell_entry-in-Refused g c = λ there holds.
     let e = c.in-Refused.error in
     let held = rw c.in-Refused.is at holds in
-    let text : Appends (g.O.Write.contents c.writeln.new.self) (g.O.Write.contents c.writeln-in-Refused.new.self) (codes "refused: " ++ words_of e ++ codes "\n") =
+    let under = g.O.Write.contents c.writeln.new.self in
+    let text : Appends under (g.O.Write.contents c.writeln-in-Refused.new.self) (codes "refused: " ++ words_of e ++ codes "\n") =
     rw (sym c.describe-words.ensures) c.in_ok-writeln-in-Refused.ensures.bytes in (
       _,
       refused there e held,
