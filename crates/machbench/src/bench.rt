@@ -1,10 +1,16 @@
 //! The lines that are printed, and the runs behind them.
 
+ghost use Rattle.std.specs.Prelude.{OnOk, List, Result};
+ghost use Rattle.mach_base.specs.Fault.{Fault};
+ghost use Rattle.goblin_mach.specs.FatEntry.{FatEntry};
+ghost use Rattle.goblin_mach.specs.View.{HasEntries};
+
 use crate::calls::{Call, Subject};
 use crate::times::{Times, per_item, shown_tenths, speed};
-use goblin_mach::Error;
-use std::alloc::{AllocError, AllocFailed, Global};
+use goblin_mach::{Error, describe};
+use std::alloc::{AllocError, AllocFailed, Allocator};
 use std::fmt::{Display, Formatter};
+use std::io::Write;
 use std::time::{Clock, Duration, Instant};
 use std::{fmt, io};
 
@@ -21,16 +27,19 @@ pub enum Failure {
     Refused(Error),
     /// Two runs of a call differ.
     Differs,
-    /// The clock can't be read, or a line can't be written.
-    Io,
+    /// The clock can't be read.
+    NoClock,
+    /// A line can't be written.
+    Unwritten,
 }
 
 impl Display for Failure {
     fn fmt<W: fmt::Write>(&self, f: &mut Formatter<W>) -> fmt::Result {
         match self {
-            Failure::Refused(error) => write!(f, "refused: {error:?}"),
+            Failure::Refused(error) => write!(f, "{}", describe(error)),
             Failure::Differs => f.write_str("two runs differ"),
-            Failure::Io => f.write_str("no clock, or no output"),
+            Failure::NoClock => f.write_str("cannot read the clock"),
+            Failure::Unwritten => f.write_str("cannot write"),
         }
     }
 }
@@ -55,18 +64,29 @@ impl From<AllocFailed<u64>> for Failure {
 
 impl From<io::Error> for Failure {
     fn from(_error: io::Error) -> Failure {
-        Failure::Io
+        Failure::Unwritten
     }
 }
 
-/// Prints the line of each call on a file.
-pub fn bench<R: Clock + Print>(rt: &R, alloc: Global, bytes: &[u8]) -> Result<(), Failure> {
-    let subject = Subject::open(alloc, bytes)?;
+/// Prints the line of each call on a file, as soon as it is known.
+pub fn bench<C: Clock, A: Allocator + Clone, O: Write>(
+    clock: &C,
+    alloc: A,
+    bytes: &[u8],
+    out: &mut O,
+) -> Result<(), Failure>
+    ensures { OnOk result ((entries : List (Result FatEntry Fault)) × HasEntries bytes.now entries) }
+{
+    let subject = Subject::open(alloc.clone()?, bytes)?;
     for call in Call::ALL {
-        match timed(rt, alloc, &subject, call)? {
-            Some(row) => rt.println(row.line(alloc, bytes.len() as u64)?)?,
-            None => rt.println(format_args!("{:12} nothing in this file", call.name()))?,
+        match timed(clock, &alloc, &subject, call)? {
+            Some(row) => {
+                let line = row.line(&alloc, bytes.len() as u64)?;
+                writeln!(out, "{line}")?;
+            }
+            None => writeln!(out, "{:12} nothing in this file", call.name())?,
         }
+        out.flush()?;
     }
     Ok(())
 }
@@ -80,22 +100,22 @@ struct Row {
 }
 
 // Runs a call for about half a second; None where a run gives no item.
-fn timed<R: Clock>(
-    rt: &R,
-    alloc: Global,
-    subject: &Subject<'_>,
+fn timed<C: Clock, A: Allocator + Clone>(
+    clock: &C,
+    alloc: &A,
+    subject: &Subject<'_, A>,
     call: Call,
 ) -> Result<Option<Row>, Failure> {
-    let first = subject.run(alloc, call)?;
+    let first = subject.run(call)?;
     if first.items == 0 {
         return Ok(None);
     }
     let mut runs = Vec::new(alloc);
-    let start = Instant::now(rt)?;
+    let start = now(clock)?;
     for _ in 0..MOST_RUNS {
-        let before = Instant::now(rt)?;
-        let work = subject.run(alloc, call)?;
-        let after = Instant::now(rt)?;
+        let before = now(clock)?;
+        let work = subject.run(call)?;
+        let after = now(clock)?;
         if work != first {
             return Err(Failure::Differs);
         }
@@ -111,6 +131,11 @@ fn timed<R: Clock>(
     }))
 }
 
+// What the clock shows.
+fn now<C: Clock>(clock: &C) -> Result<Instant, Failure> {
+    Instant::now(clock).map_err(|_| Failure::NoClock)
+}
+
 // A duration in nanoseconds, at most as many as 64 bits hold.
 fn nanos(duration: Duration) -> u64 {
     u64::try_from(duration.as_nanos()).unwrap_or(u64::MAX)
@@ -118,7 +143,11 @@ fn nanos(duration: Duration) -> u64 {
 
 impl Row {
     // The line of the call: items, tenths of a nanosecond an item, megabytes a second.
-    fn line(&self, alloc: Global, bytes: u64) -> Result<String, AllocError> {
+    fn line<'b, A: Allocator>(
+        &self,
+        alloc: &'b A,
+        bytes: u64,
+    ) -> Result<String<&'b A>, AllocError> {
         let (name, items) = (self.call.name(), self.items);
         let least = shown_tenths(alloc, per_item(self.times.least, items))?;
         let median = shown_tenths(alloc, per_item(self.times.median, items))?;

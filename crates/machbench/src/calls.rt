@@ -1,12 +1,14 @@
 //! The calls that are timed, and what a run of each is.
 
-ghost use Rattle.std.specs.Prelude.{◌≡◌, ◌+◌, ◌%◌, ◌^◌, length, OnOk};
-ghost use Rattle.goblin_mach.specs.Image.{Opens, MachOpens};
+ghost use Rattle.std.specs.Prelude.{◌≡◌, ◌+◌, ◌%◌, ◌^◌, length, OnOk, List, Result};
+ghost use Rattle.mach_base.specs.Fault.{Fault};
+ghost use Rattle.goblin_mach.specs.FatEntry.{FatEntry};
+ghost use Rattle.goblin_mach.specs.View.{HasEntries};
 
 use goblin_mach::exports::Export;
 use goblin_mach::imports::Import;
-use goblin_mach::{LinkView, Mach, MachO, Result, SingleArch, link_view};
-use std::alloc::Global;
+use goblin_mach::{Error, LinkView, Mach, MachO, MultiArch, Result, SingleArch, link_view};
+use std::alloc::Allocator;
 
 /// A call that is timed.
 #[derive(Clone, Copy, Debug, PartialEq)]
@@ -70,7 +72,7 @@ impl Work {
         self.sum = self.sum.wrapping_add(sum);
     }
 
-    fn add_exports(&mut self, exports: &[Export<'_>])
+    fn add_exports<A: Allocator>(&mut self, exports: &[Export<'_, A>])
         ensures { self.new.items ≡ (self.old.items + length exports.now) % 2 ^ 64 }
     {
         let mut sum = 0u64;
@@ -91,48 +93,76 @@ impl Work {
     }
 }
 
-/// A file whose calls are timed.
-#[derive(Drop)]
-pub struct Subject<'a> {
-    bytes: &'a [u8],
-    images: Vec<MachO<'a>>,
+// The images of a file.
+fn images_of<'a, A: Allocator + Clone>(alloc: A, bytes: &'a [u8]) -> Result<Vec<MachO<'a, A>, A>>
+    ensures { OnOk result ((entries : List (Result FatEntry Fault)) × HasEntries bytes.now entries) }
+{
+    let mut images = Vec::new(alloc.clone()?);
+    match Mach::parse(alloc, bytes)? {
+        Mach::Binary(image) => {
+            images.push(image)?;
+            Ok(images)
+        }
+        Mach::Fat(container) => {
+            container.arches()?;
+            add_images(&mut images, &container)?;
+            Ok(images)
+        }
+    }
 }
 
-impl<'a> Subject<'a> {
-    /// The file of these bytes, with its images. Of a fat file those entries are left out that are
-    /// no image or don't open.
-    pub fn open(alloc: Global, bytes: &'a [u8]) -> Result<Subject<'a>>
-        ensures { OnOk result (MachOpens Opens bytes.now) }
-    {
-        let mut images = Vec::new(alloc);
-        match Mach::parse(alloc, bytes)? {
-            Mach::Binary(image) => images.push(image)?,
-            Mach::Fat(container) => {
-                for entry in &container {
-                    if let Ok(SingleArch::MachO(image)) = entry {
-                        images.push(image)?;
-                    }
-                }
-            }
+// Adds the images of a fat file that open.
+fn add_images<'a, A: Allocator + Clone>(
+    images: &mut Vec<MachO<'a, A>, A>,
+    container: &MultiArch<'a, A>,
+) -> Result<()> {
+    for entry in container {
+        match entry {
+            Ok(SingleArch::MachO(image)) => images.push(image)?,
+            Err(Error::Memory(refused)) => return Err(Error::Memory(refused)),
+            Ok(SingleArch::Archive(_)) | Err(_) => {}
         }
-        Ok(Subject { bytes, images })
+    }
+    Ok(())
+}
+
+/// A file whose calls are timed.
+#[derive(Drop)]
+pub struct Subject<'a, A: Allocator> {
+    bytes: &'a [u8],
+    images: Vec<MachO<'a, A>, A>,
+    alloc: A,
+}
+
+impl<'a, A: Allocator + Clone> Subject<'a, A> {
+    /// The file of these bytes, with its images. A fat file whose table does not lie in the bytes is refused;
+    /// of its entries those are left out that are no image or don't open.
+    pub fn open(alloc: A, bytes: &'a [u8]) -> Result<Subject<'a, A>>
+        ensures { OnOk result ((entries : List (Result FatEntry Fault)) × HasEntries bytes.now entries) }
+    {
+        let images = images_of(alloc.clone()?, bytes)?;
+        Ok(Subject {
+            bytes,
+            images,
+            alloc,
+        })
     }
 
     /// Runs a call once.
-    pub fn run(&self, alloc: Global, call: Call) -> Result<Work> {
+    pub fn run(&self, call: Call) -> Result<Work> {
         match call {
-            Call::Parse => self.parse(alloc),
-            Call::Exports => self.exports(alloc),
-            Call::Imports => self.imports(alloc),
+            Call::Parse => self.parse(),
+            Call::Exports => self.exports(),
+            Call::Imports => self.imports(),
             Call::ImportsOneByOne => self.imports_one_by_one(),
             Call::Symbols => Ok(self.symbols()),
-            Call::Relocations => self.relocations(alloc),
-            Call::LinkView => self.link_view(alloc),
+            Call::Relocations => self.relocations(),
+            Call::LinkView => self.link_view(),
         }
     }
 
-    fn parse(&self, alloc: Global) -> Result<Work> {
-        let items = match Mach::parse(alloc, self.bytes)? {
+    fn parse(&self) -> Result<Work> {
+        let items = match Mach::parse(self.alloc.clone()?, self.bytes)? {
             Mach::Binary(image) => image.load_commands.len(),
             Mach::Fat(container) => container.narches,
         };
@@ -142,18 +172,18 @@ impl<'a> Subject<'a> {
         })
     }
 
-    fn exports(&self, alloc: Global) -> Result<Work> {
+    fn exports(&self) -> Result<Work> {
         let mut work = Work::default();
         for image in &self.images {
-            work.add_exports(&image.exports(alloc)?);
+            work.add_exports(&image.exports(self.alloc.clone()?)?);
         }
         Ok(work)
     }
 
-    fn imports(&self, alloc: Global) -> Result<Work> {
+    fn imports(&self) -> Result<Work> {
         let mut work = Work::default();
         for image in &self.images {
-            work.add_imports(&image.imports(alloc)?);
+            work.add_imports(&image.imports(self.alloc.clone()?)?);
         }
         Ok(work)
     }
@@ -181,10 +211,10 @@ impl<'a> Subject<'a> {
         work
     }
 
-    fn relocations(&self, alloc: Global) -> Result<Work> {
+    fn relocations(&self) -> Result<Work> {
         let mut work = Work::default();
         for image in &self.images {
-            for (_, relocations, _) in image.relocations(alloc)? {
+            for (_, relocations, _) in image.relocations(self.alloc.clone()?)? {
                 for item in relocations {
                     if let Ok(relocation) = item {
                         work.add(1, u64::from(relocation.r_info));
@@ -195,9 +225,9 @@ impl<'a> Subject<'a> {
         Ok(work)
     }
 
-    fn link_view(&self, alloc: Global) -> Result<Work> {
+    fn link_view(&self) -> Result<Work> {
         let mut work = Work::default();
-        for item in &link_view(alloc, self.bytes)? {
+        for item in &link_view(self.alloc.clone()?, self.bytes)? {
             if let Ok(LinkView::Image { exports, imports }) = item {
                 work.add_exports(exports);
                 work.add_imports(imports);

@@ -3,15 +3,20 @@
 
 mod bench;
 mod calls;
+mod run;
+#[cfg(test)]
+mod tests;
 mod times;
 
-use bench::bench;
+use run::{run, say};
+use std::io::ErrorKind;
 use std::process::ExitCode;
-use std::{env, fs};
+use std::{env, fs, io};
 
-const USAGE: &str = "usage: machbench FILE";
+const USAGE: &str = "usage: machbench FILE\n       machbench --help | --version\n";
 
 const HELP: &str = "usage: machbench FILE
+       machbench --help | --version
 
 Times calls of goblin_mach on a Mach-O file, or on all images of a fat one, each for about half
 a second. A line has the call, how many items a run of it gives, the nanoseconds of an item by
@@ -19,34 +24,58 @@ the least and by the median of all runs, and the megabytes of the file that the 
 over in a second.
 ";
 
+const VERSION: &str = "machbench 0.1.0\n";
+
 fn main(rt: HostRuntime) -> ExitCode {
-    let Ok(args) = env::args(&rt) else {
-        return bad_usage(&rt);
+    let status = match env::args(&rt) {
+        Ok(args) => match args.collect::<Vec<String>>(rt.alloc()) {
+            Ok(args) => start(&rt, args.as_slice()),
+            Err(_) => out_of_memory(&rt),
+        },
+        Err(error) if error.kind() == ErrorKind::OutOfMemory => out_of_memory(&rt),
+        Err(_) => bad_usage(&rt),
     };
-    let Ok(args) = args.collect::<Vec<String>>(rt.alloc()) else {
-        return bad_usage(&rt);
-    };
-    let [_, file] = args.as_slice() else {
-        return bad_usage(&rt);
-    };
-    if file.as_str() == "--help" {
-        let _ = rt.print(HELP);
-        return ExitCode::SUCCESS;
-    }
-    let Ok(bytes) = fs::read(&rt, file) else {
-        let _ = rt.eprintln(format_args!("machbench: cannot read {file}"));
-        return ExitCode::from(2);
-    };
-    match bench(&rt, rt.alloc(), bytes.as_slice()) {
-        Ok(()) => ExitCode::SUCCESS,
-        Err(failure) => {
-            let _ = rt.eprintln(format_args!("machbench: {failure}"));
-            ExitCode::from(1)
+    ExitCode::from(status)
+}
+
+// Does what the arguments ask for; the first is the program's name.
+fn start(rt: &HostRuntime, args: &[String]) -> u8 {
+    match args {
+        [_, word] if word.as_str() == "--help" => {
+            say(HELP, &mut io::writer(rt), &mut rt.stderr())
         }
+        [_, word] if word.as_str() == "--version" => {
+            say(VERSION, &mut io::writer(rt), &mut rt.stderr())
+        }
+        [_, file] => time_file(rt, file),
+        _ => bad_usage(rt),
     }
 }
 
-fn bad_usage(rt: &impl Eprint) -> ExitCode {
-    let _ = rt.eprintln(USAGE);
-    ExitCode::from(2)
+fn time_file(rt: &HostRuntime, file: &str) -> u8 {
+    let bytes = match fs::read(rt, file) {
+        Ok(bytes) => bytes,
+        Err(error) if error.kind() == ErrorKind::OutOfMemory => return out_of_memory(rt),
+        Err(_) => {
+            let _ = rt.eprintln(format_args!("machbench: cannot read {file}"));
+            return 2;
+        }
+    };
+    run(
+        rt,
+        rt.alloc(),
+        bytes.as_slice(),
+        &mut io::writer(rt),
+        &mut rt.stderr(),
+    )
+}
+
+fn bad_usage(rt: &impl Eprint) -> u8 {
+    let _ = rt.eprint(USAGE);
+    2
+}
+
+fn out_of_memory(rt: &impl Eprint) -> u8 {
+    let _ = rt.eprintln("machbench: out of memory");
+    1
 }

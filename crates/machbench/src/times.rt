@@ -1,8 +1,9 @@
 //! How long runs took.
 
 ghost use Rattle.std.specs.Prelude.{◌≡◌, ◌<◌, ◌≤◌, ◌*◌, ◌/◌, ◌^◌, ◌↔◌, [], All, Contains, IsNone, IfSome, max};
+ghost use Rattle.machbench.specs.Median.{IsMedian};
 
-use std::alloc::{AllocError, Global};
+use std::alloc::{AllocError, Allocator};
 
 /// The least and the median of the times of some runs, in nanoseconds.
 #[derive(Clone, Copy, Debug, PartialEq)]
@@ -17,7 +18,7 @@ impl Times {
         ensures none { IsNone result ↔ (runs.old ≡ []) }
         ensures least { IfSome result (λ times. Contains runs.old times.least) }
         ensures lowest { IfSome result (λ times. All (λ run. times.least ≤ run) runs.old) }
-        ensures median { IfSome result (λ times. Contains runs.old times.median) }
+        ensures median { IfSome result (λ times. IsMedian runs.old times.median) }
         ensures ordered { IfSome result (λ times. times.least ≤ times.median) }
     {
         runs.sort_unstable();
@@ -42,6 +43,6 @@ pub fn speed(bytes: u64, run: u64) -> u64
 }
 
 /// A number of tenths as a decimal.
-pub fn shown_tenths(alloc: Global, tenths: u64) -> Result<String, AllocError> {
+pub fn shown_tenths<A: Allocator>(alloc: A, tenths: u64) -> Result<String<A>, AllocError> {
     format!(in alloc; "{}.{}", tenths / 10, tenths % 10)
 }

@@ -15,8 +15,8 @@ kind_by (MachFat count) = codes "fat file"
 kind_by (Unknown number) = codes "unknown"
 
 -- the kind of an entry, by its first 16 bytes
-abbrev pub kind_of : List ℕ → List ℕ
-kind_of entry = if nat_le 16 (length entry) then kind_by (hint_in (take 16 entry)) else codes "too short"
+abbrev pub entry_kind : List ℕ → List ℕ
+entry_kind entry = if nat_le 16 (length entry) then kind_by (hint_in (take 16 entry)) else codes "too short"
 
 -- the cpu that a record names
 abbrev pub cpu_text : FatArch → List ℕ
@@ -28,13 +28,13 @@ place_text arch = codes "offset " ++ decimal arch.offset ++ codes ", size " ++ d
 
 -- a record, and the kind of its entry
 abbrev pub record_text : List ℕ → FatArch → List ℕ
-record_text bytes arch = cpu_text arch ++ codes ", " ++ place_text arch ++ codes ", " ++ kind_of (part_of bytes arch.offset arch.size)
+record_text bytes arch = cpu_text arch ++ codes ", " ++ place_text arch ++ codes ", " ++ entry_kind (part_of bytes arch.offset arch.size)
 
 -- the line of a record with its number
-abbrev pub line_of : List ℕ → ℕ → FatArch → List ℕ
-line_of bytes i arch = codes "arch " ++ decimal i ++ codes ": " ++ record_text bytes arch ++ codes "\n"
+abbrev pub record_line : List ℕ → ℕ → FatArch → List ℕ
+record_line bytes i arch = codes "arch " ++ decimal i ++ codes ": " ++ record_text bytes arch ++ codes "\n"
 
 -- the lines of records, numbered from i on
 abbrev pub lines_from : List ℕ → ℕ → List FatArch → List ℕ
 lines_from bytes i [] = []
-lines_from bytes i (arch ∷ archs) = line_of bytes i arch ++ lines_from bytes (i + 1) archs
+lines_from bytes i (arch ∷ archs) = record_line bytes i arch ++ lines_from bytes (i + 1) archs

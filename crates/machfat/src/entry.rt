@@ -1,11 +1,12 @@
 //! The records and the entries of a fat file.
 
-ghost use Rattle.std.specs.Prelude.{ℕ, List, IfOk, OnOk};
+ghost use Rattle.std.specs.Prelude.{ℕ, List, IfOk, IfErr, OnOk};
 ghost use Rattle.std.specs.Io.KnownBytes.{Appends};
 ghost use Rattle.mach_parts.specs.declared.fat.FatArch.{FatArch};
 ghost use Rattle.goblin_mach.specs.FatFile.{file_held};
 ghost use Rattle.machfat.specs.Entry.{IsFatFile, HasRecords, IsRecordOf, IsEntryOf};
-ghost use Rattle.machfat.specs.Lines.{line_of, lines_from};
+ghost use Rattle.machfat.specs.Lines.{record_line, lines_from};
+ghost use Rattle.machfat.specs.Refusals.{RefusesList, IsRefusal};
 
 use crate::refusal::{Failure, Refusal};
 use crate::text::RecordText;
@@ -17,7 +18,8 @@ use std::io::Write;
 
 // The fat file of the bytes.
 fn fat_file<A: Allocator + Clone>(alloc: A, bytes: &[u8]) -> Result<MultiArch<'_, A>, Refusal>
-    ensures { IfOk result (λ m. IsFatFile bytes.now (file_held m)) }
+    ensures fat { IfOk result (λ m. IsFatFile bytes.now (file_held m)) }
+    ensures refused { IfErr result (RefusesList bytes.now) }
 {
     match Mach::parse(alloc, bytes)? {
         Mach::Fat(container) => Ok(container),
@@ -27,9 +29,11 @@ fn fat_file<A: Allocator + Clone>(alloc: A, bytes: &[u8]) -> Result<MultiArch<'_
 
 // The records of a fat file, in order.
 fn records<A: Allocator + Clone>(alloc: A, bytes: &[u8]) -> Result<Vec<FatArch, A>, Refusal>
-    ensures { IfOk result (λ v. HasRecords bytes.now v.items) }
+    ensures held { IfOk result (λ v. HasRecords bytes.now v.items) }
+    ensures refused { IfErr result (RefusesList bytes.now) }
 {
-    Ok(fat_file(alloc, bytes)?.arches()?)
+    let container = fat_file(alloc, bytes)?;
+    Ok(container.arches()?)
 }
 
 // Prints some records of a fat file, a line each, with the kinds of their entries.
@@ -44,7 +48,7 @@ fn print_records<O: Write>(bytes: &[u8], records: &[FatArch], out: &mut O) -> io
 
 // Prints the line of a record.
 fn print_record<O: Write>(bytes: &[u8], index: usize, arch: FatArch, out: &mut O) -> io::Result<()>
-    ensures { OnOk result (Appends (O.contents out.old) (O.contents out.new) (line_of bytes.now index arch)) }
+    ensures { OnOk result (Appends (O.contents out.old) (O.contents out.new) (record_line bytes.now index arch)) }
 {
     let record = RecordText { bytes, arch };
     writeln!(out, "arch {index}: {record}")
@@ -56,7 +60,9 @@ pub fn list<A: Allocator + Clone, O: Write>(
     bytes: &[u8],
     out: &mut O,
 ) -> Result<(), Failure>
-    ensures { OnOk result ((records : List FatArch) × HasRecords bytes.now records × Appends (O.contents out.old) (O.contents out.new) (lines_from bytes.now 0 records)) }
+    ensures listed { OnOk result ((records : List FatArch) × HasRecords bytes.now records
+        × Appends (O.contents out.old) (O.contents out.new) (lines_from bytes.now 0 records)) }
+    ensures refused { IfErr result (IsRefusal (RefusesList bytes.now)) }
 {
     let records = records(alloc, bytes)?;
     print_records(bytes, &records, out)?;
@@ -99,7 +105,8 @@ pub fn write_entry<A: Allocator + Clone, O: Write>(
     index: usize,
     out: &mut O,
 ) -> Result<(), Failure>
-    ensures { OnOk result ((entry : List ℕ) × IsEntryOf bytes.now index entry × Appends (O.contents out.old) (O.contents out.new) entry) }
+    ensures { OnOk result ((entry : List ℕ) × IsEntryOf bytes.now index entry
+        × Appends (O.contents out.old) (O.contents out.new) entry) }
 {
     let entry = entry_bytes(alloc, bytes, index)?;
     out.write_all(entry)?;

@@ -1,6 +1,11 @@
 //! Why an answer is not given.
 
+ghost use Rattle.std.specs.Prelude.{◌≡◌};
+ghost use Rattle.machfat.specs.declared.refusal.Refusal.TheVariants as refusals;
+ghost use Rattle.machfat.specs.declared.refusal.Failure.TheVariants as failures;
+
 use goblin_mach::{Error, describe};
+use std::alloc::AllocError;
 use std::fmt::{Display, Formatter, Write};
 use std::{fmt, io};
 
@@ -18,12 +23,19 @@ pub enum Refusal {
 }
 
 impl From<Error> for Refusal {
+    ghost from_gives = { λ error refusal. refusal ≡ refusals.Refused error };
+
     fn from(error: Error) -> Refusal {
         Refusal::Refused(error)
     }
 }
 
 impl Display for Refusal {
+    ghost use Rattle.std.specs.Prelude.{Some};
+    ghost use Rattle.machfat.specs.Refusals.{refusal_words};
+
+    ghost output = { λ refusal. Some (refusal_words refusal) };
+
     fn fmt<W: Write>(&self, f: &mut Formatter<W>) -> fmt::Result {
         match self {
             Refusal::Refused(error) => write!(f, "{}", describe(error)),
@@ -44,12 +56,22 @@ pub enum Failure {
 }
 
 impl From<Refusal> for Failure {
+    ghost from_gives = { λ refusal failure. failure ≡ failures.Refused refusal };
+
     fn from(refusal: Refusal) -> Failure {
         Failure::Refused(refusal)
     }
 }
 
+impl From<AllocError> for Failure {
+    fn from(error: AllocError) -> Failure {
+        Failure::Refused(Refusal::from(Error::from(error)))
+    }
+}
+
 impl From<io::Error> for Failure {
+    ghost from_gives = { λ _ failure. failure ≡ failures.Unwritten };
+
     fn from(_error: io::Error) -> Failure {
         Failure::Unwritten
     }

@@ -1,18 +1,24 @@
 //! What the program's words do, and its exit status.
 
-ghost use Rattle.std.specs.Prelude.{◌≡◌, ◌≤◌, ℕ, List, IsOk};
+ghost use Rattle.std.specs.Prelude.{◌≡◌, ◌≢◌, ◌≤◌, ℕ, List, IsOk, OnOk, Err};
 ghost use Rattle.std.specs.Io.KnownBytes.{Appends};
 ghost use Rattle.mach_parts.specs.declared.fat.FatArch.{FatArch};
 ghost use Rattle.machfat.specs.Entry.{HasRecords, IsEntryOf};
 ghost use Rattle.machfat.specs.Lines.{lines_from};
+ghost use Rattle.machfat.specs.Refusals.{RefusesList, complaint};
+ghost use Rattle.machfat.specs.declared.refusal.Failure.TheVariants as failures;
+ghost use Rattle.machfat.specs.declared.refusal.Refusal.{Refusal};
 
-use crate::entry::{list, write_entry};
+use crate::entry::list;
+use crate::place::place_entry;
 use crate::refusal::Failure;
-use std::alloc::Allocator;
+use std::alloc::{Allocator, Global};
+use std::io;
 use std::io::Write;
+use std::rt::Files;
 
-/// Prints the records of a fat file, and answers the exit status: 0; 1 where the file is refused, and then
-/// `err` has the reason and `out` nothing; 2 where a write fails.
+/// Prints the records of a fat file, and answers the exit status: 0; 1 where the file or memory is refused, and
+/// then `err` has a line that says why and `out` nothing; 2 where a write fails.
 pub fn run_list<A: Allocator + Clone, O: Write, E: Write>(
     alloc: A,
     bytes: &[u8],
@@ -20,37 +26,76 @@ pub fn run_list<A: Allocator + Clone, O: Write, E: Write>(
     err: &mut E,
 ) -> u8
     ensures status { result ≤ 2 }
-    ensures listed { result ≡ 0 → (records : List FatArch) × HasRecords bytes.now records × Appends (O.contents out.old) (O.contents out.new) (lines_from bytes.now 0 records) }
+    ensures listed { result ≡ 0 → (records : List FatArch) × HasRecords bytes.now records
+        × Appends (O.contents out.old) (O.contents out.new) (lines_from bytes.now 0 records) }
+    ensures refused { result ≡ 1 → (refusal : Refusal) × RefusesList bytes.now refusal
+        × Appends (E.contents err.old) (E.contents err.new) (complaint refusal) }
 {
-    status(list(alloc, bytes, out), err)
+    status(list(alloc, bytes, out), "", err)
 }
 
-/// Writes an entry of a fat file, and answers the exit status: 0; 1 where there is no such entry, and then
-/// `err` has the reason and `out` nothing; 2 where a write fails.
-pub fn run_extract<A: Allocator + Clone, O: Write, E: Write>(
-    alloc: A,
+/// Writes an entry to a file, and answers the exit status: 0; 1 where there is no such entry, or for want of
+/// memory, and then `err` has a line that says why; 2 where the file can't be written. The file is whole, or as
+/// it was before.
+pub fn run_extract<R: Files, E: Write>(
+    files: &R,
+    alloc: Global,
     bytes: &[u8],
     index: usize,
-    out: &mut O,
+    target: &str,
     err: &mut E,
 ) -> u8
     ensures status { result ≤ 2 }
-    ensures extracted { result ≡ 0 → (entry : List ℕ) × IsEntryOf bytes.now index entry × Appends (O.contents out.old) (O.contents out.new) entry }
+    ensures extracted { result ≡ 0 → (entry : List ℕ) × IsEntryOf bytes.now index entry }
 {
-    status(write_entry(alloc, bytes, index, out), err)
+    status(place_entry(files, alloc, bytes, index, target), target, err)
 }
 
-/// The exit status of an answer, whose reason goes to `err`.
-pub fn status<E: Write>(answer: Result<(), Failure>, err: &mut E) -> u8
+/// The exit status of an answer, whose reason goes to `err`; of a failed write with the name of the file, if it
+/// has one.
+pub fn status<E: Write>(answer: Result<(), Failure>, target: &str, err: &mut E) -> u8
     ensures bound { result ≤ 2 }
     ensures only { result ≡ 0 → IsOk answer }
+    ensures refused { result ≡ 1 → (refusal : Refusal) × (answer ≡ Err (failures.Refused refusal))
+        × Appends (E.contents err.old) (E.contents err.new) (complaint refusal) }
 {
     match answer {
         Ok(()) => 0,
-        Err(Failure::Unwritten) => 2,
         Err(Failure::Refused(refusal)) => match writeln!(err, "machfat: {refusal}") {
             Ok(()) => 1,
             Err(_) => 2,
         },
+        Err(Failure::Unwritten) => unwritten(target, err),
     }
+}
+
+/// Prints a text, and answers the exit status: 0, or 2 where the write fails.
+pub fn say<O: Write, E: Write>(text: &str, out: &mut O, err: &mut E) -> u8
+    ensures status { result ≢ 0 → result ≡ 2 }
+    ensures said { result ≡ 0 → Appends (O.contents out.old) (O.contents out.new) text.now }
+{
+    match put(text, out) {
+        Ok(()) => 0,
+        Err(_) => unwritten("", err),
+    }
+}
+
+// Writes a text, and all that was gathered.
+fn put<O: Write>(text: &str, out: &mut O) -> io::Result<()>
+    ensures { OnOk result (Appends (O.contents out.old) (O.contents out.new) text.now) }
+{
+    out.write_all(text.as_bytes())?;
+    out.flush()
+}
+
+// The status of a failed write, which `err` tells of if it can.
+fn unwritten<E: Write>(target: &str, err: &mut E) -> u8
+    ensures { result ≡ 2 }
+{
+    let _ = if target.is_empty() {
+        writeln!(err, "machfat: cannot write")
+    } else {
+        writeln!(err, "machfat: cannot write {target}")
+    };
+    2
 }

@@ -1,7 +1,7 @@
 //! A record of a fat file as it is printed.
 
 ghost use Rattle.std.specs.Prelude.{◌≡◌, Some};
-ghost use Rattle.machfat.specs.Lines.{cpu_text, place_text, kind_of, record_text};
+ghost use Rattle.machfat.specs.Lines.{cpu_text, place_text, entry_kind, record_text};
 
 use goblin_mach::fat::FatArch;
 use goblin_mach::{Hint, peek_bytes, take_hint_bytes};
@@ -56,14 +56,14 @@ impl<'a> Display for RecordText<'a> {
     fn fmt<W: Write>(&self, f: &mut Formatter<W>) -> fmt::Result {
         let cpu = CpuText(self.arch);
         let place = PlaceText(self.arch);
-        let kind = kind_of(self.arch.slice(self.bytes));
+        let kind = entry_kind(self.arch.slice(self.bytes));
         write!(f, "{cpu}, {place}, {kind}")
     }
 }
 
 // The kind of an entry, by its first 16 bytes.
-fn kind_of(entry: &[u8]) -> &'static str
-    ensures { result.now ≡ kind_of entry.now }
+fn entry_kind(entry: &[u8]) -> &'static str
+    ensures { result.now ≡ entry_kind entry.now }
 {
     let Some(front) = take_hint_bytes(entry) else {
         return "too short";

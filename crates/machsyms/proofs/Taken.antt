@@ -1,6 +1,6 @@
 -- Letters of sections, of which no more are kept than a symbol can name.
 use Rattle.std.proofs.Common.{◌≡◌, ◌++◌, ◌∷◌, [], ◌∙◌, ℕ, ◌+◌, zero, suc, ◌≤◌, ◌<◌, List, length, take, drop, get_or, refl, sym, ap, map, arith}
-use Rattle.std.proofs.lemmas.List.{append-nil, append_assoc, take_all, take-append-le, map-append, at_drop_more}
+use Rattle.std.proofs.lemmas.List.{append_assoc, take_all, take-append-le, map-append, at_drop_more}
 use Rattle.std.specs.List.{flat_map}
 use Rattle.mach_parts.specs.Segment.{segment_view, sections_of}
 use Rattle.mach_parts.specs.declared.segment.Segment.{Segment}
@@ -34,5 +34,6 @@ letters-more segments i d old new inside is =
     let rest = flat_map sections_of (map segment_view (drop (i + 1) segments)) in
     ap (λ front. take 255 (front ++ map item_letter rest)) is
     ∙ take-take_append 255 (old ++ map item_letter one) (map item_letter rest)
-    ∙ ap (λ all. take 255 all) (append_assoc old (map item_letter one) (map item_letter rest) ∙ ap (λ more. old ++ more) (sym (map-append item_letter one rest)))
+    ∙ ap (λ all. take 255 all) (append_assoc old (map item_letter one) (map item_letter rest)
+    ∙ ap (λ more. old ++ more) (sym (map-append item_letter one rest)))
     ∙ sym (at_drop_more (λ left. letters_with old left) segments i d inside)

@@ -1,28 +1,34 @@
 -- Lines that are written one after the other.
-use Rattle.std.proofs.Common.{◌≡◌, ◌++◌, ◌∷◌, [], ◌∙◌, ℕ, List, Option, Some, None, Result, Bool, map, refl, sym, ap, subst}
-use Rattle.std.proofs.lemmas.List.{append-nil, append_assoc, map-append, flat_map_more}
+use Rattle.std.proofs.Common.{◌++◌, ◌∷◌, [], ◌∙◌, ℕ, List, Option, Result, Bool, refl, ap}
+use Rattle.std.proofs.lemmas.List.{map-append, flat_map_more}
 use Rattle.std.specs.Borrow.{Bor}
 use Rattle.std.specs.Io.KnownBytes.{Appends}
-use Rattle.std.specs.List.{flat_map}
 use Rattle.mach_base.proofs.Written.{Appends-none, Appends-both}
 use Rattle.mach_base.specs.Fault.{Fault}
 use Rattle.mach_base.specs.declared.error.Error.{Error}
 use Rattle.mach_parts.specs.SymbolViews.{symbol_read}
 use Rattle.mach_parts.specs.declared.symbols.nlist.Nlist.{Nlist}
-use Rattle.machsyms.specs.Lines.{line_of, WritesLines}
+use Rattle.machsyms.specs.Lines.{symbol_line, WritesLines}
 
 -- before the first symbol
 pub no_lines : (is_64 : Bool) (sections : List ℕ) (known : Option (List ℕ)) → WritesLines is_64 sections [] known known
-no_lines is_64 sections known = record { answers = []; are_symbols = refl; written = Appends-none known }
+no_lines is_64 sections known =
+    record { text = []; lines = record { answers = []; are_symbols = refl; is_text = refl }; written = Appends-none known }
 
 -- after one more
-pub line_more : (is_64 : Bool) (sections : List ℕ) (symbols : List (Result (List ℕ × Nlist) Fault)) (answer : Result (Bor (List ℕ) × Nlist) Error) (old middle new : Option (List ℕ))
-    → WritesLines is_64 sections symbols old middle → Appends middle new (line_of is_64 sections answer)
+pub line_more : (is_64 : Bool) (sections : List ℕ) (symbols : List (Result (List ℕ × Nlist) Fault))
+    (answer : Result (Bor (List ℕ) × Nlist) Error) (old middle new : Option (List ℕ))
+    → WritesLines is_64 sections symbols old middle → Appends middle new (symbol_line is_64 sections answer)
     → WritesLines is_64 sections (symbols ++ symbol_read answer ∷ []) old new
 line_more is_64 sections symbols answer old middle new before line =
+    let lines = before.lines in
     record {
-      answers = before.answers ++ answer ∷ [];
-      are_symbols = map-append symbol_read before.answers (answer ∷ []) ∙ ap (λ front. front ++ symbol_read answer ∷ []) before.are_symbols;
-      written = subst (Appends old new) (flat_map_more (line_of is_64 sections) [] before.answers answer)
-          (Appends-both old middle new _ _ before.written line);
+      text = before.text ++ symbol_line is_64 sections answer;
+      lines = record {
+        answers = lines.answers ++ answer ∷ [];
+        are_symbols = map-append symbol_read lines.answers (answer ∷ []) ∙ ap (λ front. front ++ symbol_read answer ∷ []) lines.are_symbols;
+        is_text = ap (λ front. front ++ symbol_line is_64 sections answer) lines.is_text
+            ∙ flat_map_more (symbol_line is_64 sections) [] lines.answers answer;
+      };
+      written = Appends-both old middle new _ _ before.written line;
     }

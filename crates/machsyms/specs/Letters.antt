@@ -1,5 +1,6 @@
 -- The letters by which `nm` tells what a symbol is (`mach-o/nlist.h`).
-use Rattle.std.specs.Prelude.{◌==◌, ℕ, zero, suc, List, codes, take, map, slice_index, slice_get, bit_and, unwrap_or, Bool, false, ◌&&◌, Result, Ok, Err, if◌then◌else◌}
+use Rattle.std.specs.Prelude.{◌==◌, ℕ, zero, suc, List, codes, take, map, slice_index, slice_get, bit_and, unwrap_or, Bool, false, ◌&&◌, Result, Ok, Err}
+use Rattle.std.specs.Prelude.{if◌then◌else◌}
 use Rattle.std.specs.Char.{to_ascii_uppercase}
 use Rattle.std.specs.List.{flat_map}
 use Rattle.std.specs.Str.{bytes_eq}
@@ -15,13 +16,13 @@ abbrev pub letter : List ℕ → ℕ
 letter text = slice_index text 0
 
 -- whether a name can be read and is this one
-abbrev pub is_text : List ℕ → Result (List ℕ) Fault → Bool
-is_text wanted (Ok name) = bytes_eq name wanted
-is_text wanted (Err f) = false
+abbrev pub is_name : List ℕ → Result (List ℕ) Fault → Bool
+is_name wanted (Ok name) = bytes_eq name wanted
+is_name wanted (Err f) = false
 
 -- whether these are the names of a section's segment and of the section
 abbrev pub is_called : List ℕ → List ℕ → Section → Bool
-is_called segment name s = is_text segment (text_at s.segname 0) && is_text name (text_at s.sectname 0)
+is_called segment name s = is_name segment (text_at s.segname 0) && is_name name (text_at s.sectname 0)
 
 abbrev pub section_letter : Section → ℕ
 section_letter s =

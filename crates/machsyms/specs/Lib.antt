@@ -1,3 +1,5 @@
 pub mod Letters
 pub mod Stabs
 pub mod Lines
+pub mod Shown
+pub mod Held

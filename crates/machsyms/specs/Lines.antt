@@ -1,5 +1,6 @@
 -- The lines that are printed of symbols, as `nm -a -p` prints them.
-use Rattle.std.specs.Prelude.{◌≡◌, ◌==◌, ℕ, ◌-◌, ◌^◌, List, [], ◌∷◌, ◌++◌, codes, map, bit_and, Bool, true, false, ◌&&◌, Option, Some, None, Result, Ok, Err, if◌then◌else◌}
+use Rattle.std.specs.Prelude.{◌≡◌, ◌==◌, ℕ, ◌-◌, ◌^◌, List, [], ◌++◌, codes, map, bit_and, Bool, true, false, ◌&&◌, Option, Some, None, Result, Ok, Err}
+use Rattle.std.specs.Prelude.{if◌then◌else◌}
 use Rattle.std.specs.Char.{encode_utf8}
 use Rattle.std.specs.Fmt.{digits, padded, padded_integral, format_spec}
 use Rattle.std.specs.Io.KnownBytes.{Appends}
@@ -60,13 +61,18 @@ abbrev pub symbol_text : (is_64 : Bool) → List ℕ → List ℕ → Nlist → 
 symbol_text is_64 sections name s = value_text is_64 (value_shown s) ++ codes " " ++ kind_text sections s ++ codes " " ++ name
 
 -- The line of a symbol as it was answered: the symbol, or that it can't be read, and why.
-abbrev pub line_of : (is_64 : Bool) → List ℕ → Result (Bor (List ℕ) × Nlist) Error → List ℕ
-line_of is_64 sections (Ok found) = symbol_text is_64 sections found.0.now found.1 ++ codes "\n"
-line_of is_64 sections (Err e) = codes "unreadable: " ++ words_of e ++ codes "\n"
+abbrev pub symbol_line : (is_64 : Bool) → List ℕ → Result (Bor (List ℕ) × Nlist) Error → List ℕ
+symbol_line is_64 sections (Ok found) = symbol_text is_64 sections found.0.now found.1 ++ codes "\n"
+symbol_line is_64 sections (Err e) = codes "unreadable: " ++ words_of e ++ codes "\n"
 
--- What was written is a line for each of these symbols, in order; an unreadable one is an error that
--- reports its fault.
-pub record WritesLines (is_64 : Bool) (sections : List ℕ) (symbols : List (Result (List ℕ × Nlist) Fault)) (old new : Option (List ℕ)) : Type 0 where
+-- The text is a line for each of these symbols, in order; an unreadable one is an error that reports its fault.
+pub record AreLines (is_64 : Bool) (sections : List ℕ) (symbols : List (Result (List ℕ × Nlist) Fault)) (text : List ℕ) : Type 0 where
   pub answers : List (Result (Bor (List ℕ) × Nlist) Error)
   pub are_symbols : map symbol_read answers ≡ symbols
-  pub written : Appends old new (flat_map (line_of is_64 sections) answers)
+  pub is_text : text ≡ flat_map (symbol_line is_64 sections) answers
+
+-- What was written is such lines.
+pub record WritesLines (is_64 : Bool) (sections : List ℕ) (symbols : List (Result (List ℕ × Nlist) Fault)) (old new : Option (List ℕ)) : Type 0 where
+  pub text : List ℕ
+  pub lines : AreLines is_64 sections symbols text
+  pub written : Appends old new text

@@ -37,10 +37,10 @@ stab_names =
     ∷ record { number = 0xfe; name = codes "LENG" }
     ∷ []
 
-abbrev pub name_in : List Named → ℕ → Option (List ℕ)
-name_in [] n = None
-name_in (x ∷ xs) n = if n == x.number then Some x.name else name_in xs n
+abbrev pub name_among : List Named → ℕ → Option (List ℕ)
+name_among [] n = None
+name_among (x ∷ xs) n = if n == x.number then Some x.name else name_among xs n
 
 -- the name of a type of entry, if it has one
 abbrev pub stab_name : ℕ → Option (List ℕ)
-stab_name n_type = name_in stab_names n_type
+stab_name n_type = name_among stab_names n_type

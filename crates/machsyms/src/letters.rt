@@ -6,7 +6,7 @@ ghost use Rattle.mach_parts.specs.SectionItems.{section_read};
 ghost use Rattle.mach_parts.specs.Segment.{SegmentView, segment_view, sections_of};
 ghost use Rattle.goblin_mach.specs.Facts.{HasSegments};
 ghost use Rattle.goblin_mach.specs.OpenImage.{IsImage};
-ghost use Rattle.machsyms.specs.Letters.{section_letter, item_letter, letters_of, symbol_letter, type_letter, letter_at, is_called, is_text};
+ghost use Rattle.machsyms.specs.Letters.{section_letter, item_letter, letters_of, symbol_letter, type_letter, letter_at, is_called, is_name};
 
 use goblin_mach::segment::{Section, SectionData, Segment};
 use goblin_mach::symbols::{MAX_SECT, N_ABS, N_EXT, N_INDR, N_SECT, N_UNDF, Nlist};
@@ -86,12 +86,12 @@ fn letter_of(section: &Section) -> char
 fn is_called(section: &Section, segment: &str, name: &str) -> bool
     ensures { result ≡ is_called segment.now name.now section.now }
 {
-    is_text(section.segname(), segment) && is_text(section.name(), name)
+    is_name(section.segname(), segment) && is_name(section.name(), name)
 }
 
 // Whether a name is this one.
-fn is_text(name: goblin_mach::Result<&str>, wanted: &str) -> bool
-    ensures { result ≡ is_text wanted.now (read_as (λ text. text.now) name.entry) }
+fn is_name(name: goblin_mach::Result<&str>, wanted: &str) -> bool
+    ensures { result ≡ is_name wanted.now (read_as (λ text. text.now) name.entry) }
 {
     match name {
         Ok(text) => text == wanted,

@@ -16,47 +16,69 @@
 mod letters;
 mod print;
 mod run;
+mod show;
 mod stabs;
+mod subject;
 #[cfg(test)]
 mod tests;
 mod text;
 
-use run::run;
+use run::{run, say};
+use std::io::{BufWriter, ErrorKind};
 use std::process::ExitCode;
 use std::{env, fs, io};
 
-const USAGE: &str = "usage: machsyms FILE";
+const USAGE: &str = "usage: machsyms FILE\n       machsyms --help | --version\n";
+
+const VERSION: &str = "machsyms 0.1.0\n";
 
 fn main(rt: HostRuntime) -> ExitCode {
-    let alloc = rt.alloc();
-    let Ok(args) = env::args(&rt) else {
-        return bad_usage(&rt);
+    let status = match env::args(&rt) {
+        Ok(args) => match args.collect::<Vec<String>>(rt.alloc()) {
+            Ok(args) => start(&rt, args.as_slice()),
+            Err(_) => out_of_memory(&rt),
+        },
+        Err(error) if error.kind() == ErrorKind::OutOfMemory => out_of_memory(&rt),
+        Err(_) => bad_usage(&rt),
     };
-    let Ok(args) = args.collect::<Vec<String>>(alloc) else {
-        return bad_usage(&rt);
-    };
-    let [_, file] = args.as_slice() else {
-        return bad_usage(&rt);
-    };
-    if file.as_str() == "--help" {
-        return match rt.println(USAGE) {
-            Ok(()) => ExitCode::from(0),
-            Err(_) => ExitCode::from(2),
-        };
-    }
-    let Ok(bytes) = fs::read(&rt, file) else {
-        let _ = rt.eprintln(format_args!("machsyms: cannot read {file}"));
-        return ExitCode::from(2);
-    };
-    ExitCode::from(run(
-        alloc,
-        bytes.as_slice(),
-        &mut io::writer(&rt),
-        &mut rt.stderr(),
-    ))
+    ExitCode::from(status)
 }
 
-fn bad_usage(rt: &impl Eprint) -> ExitCode {
-    let _ = rt.eprintln(USAGE);
-    ExitCode::from(2)
+// Does what the arguments ask for; the first is the program's name.
+fn start(rt: &HostRuntime, args: &[String]) -> u8 {
+    match args {
+        [_, word] if word.as_str() == "--help" => {
+            say(USAGE, &mut io::writer(rt), &mut rt.stderr())
+        }
+        [_, word] if word.as_str() == "--version" => {
+            say(VERSION, &mut io::writer(rt), &mut rt.stderr())
+        }
+        [_, file] => show_file(rt, file),
+        _ => bad_usage(rt),
+    }
+}
+
+fn show_file(rt: &HostRuntime, file: &str) -> u8 {
+    let bytes = match fs::read(rt, file) {
+        Ok(bytes) => bytes,
+        Err(error) if error.kind() == ErrorKind::OutOfMemory => return out_of_memory(rt),
+        Err(_) => {
+            let _ = rt.eprintln(format_args!("machsyms: cannot read {file}"));
+            return 2;
+        }
+    };
+    let Ok(mut lines) = BufWriter::new(rt.alloc(), io::writer(rt)) else {
+        return out_of_memory(rt);
+    };
+    run(rt.alloc(), bytes.as_slice(), &mut lines, &mut rt.stderr())
+}
+
+fn bad_usage(rt: &impl Eprint) -> u8 {
+    let _ = rt.eprint(USAGE);
+    2
+}
+
+fn out_of_memory(rt: &impl Eprint) -> u8 {
+    let _ = rt.eprintln("machsyms: out of memory");
+    1
 }

@@ -7,7 +7,7 @@ ghost use Rattle.mach_parts.specs.declared.symbols.nlist.Nlist.{Nlist};
 ghost use Rattle.goblin_mach.specs.Facts.{HasSymbols};
 ghost use Rattle.goblin_mach.specs.OpenImage.{IsImage};
 ghost use Rattle.goblin_mach.specs.Subjects.{symbols_held};
-ghost use Rattle.machsyms.specs.Lines.{line_of, WritesLines};
+ghost use Rattle.machsyms.specs.Lines.{symbol_line, WritesLines};
 
 use crate::text::SymbolText;
 use goblin_mach::symbols::Nlist;
@@ -23,7 +23,8 @@ pub fn print_symbols<'a, A: Allocator, O: Write>(
     sections: &[char],
     out: &mut O,
 ) -> io::Result<()>
-    ensures listed { (bytes : List ℕ) (o : ℕ) → IsImage bytes o image.now → OnOk result ((symbols : List (Result (List ℕ × Nlist) Fault)) × HasSymbols bytes o symbols
+    ensures listed { (bytes : List ℕ) (o : ℕ) → IsImage bytes o image.now
+        → OnOk result ((symbols : List (Result (List ℕ × Nlist) Fault)) × HasSymbols bytes o symbols
         × WritesLines image.now.is_64 sections.now symbols (O.contents out.old) (O.contents out.new)) }
 {
     laws::symbols_of_image(image);
@@ -36,7 +37,8 @@ fn print_held<'a, A: Allocator, O: Write>(
     sections: &[char],
     out: &mut O,
 ) -> io::Result<()>
-    ensures { OnOk result (WritesLines image.now.is_64 sections.now (symbols_held image.now.symbols) (O.contents out.old) (O.contents out.new)) }
+    ensures { OnOk result (WritesLines image.now.is_64 sections.now (symbols_held image.now.symbols)
+        (O.contents out.old) (O.contents out.new)) }
 {
     'symbols: for symbol in image.symbols() {
         print_symbol(image.is_64, sections, &symbol, out)?;
@@ -51,7 +53,7 @@ fn print_symbol<O: Write>(
     answer: &goblin_mach::Result<(&str, Nlist)>,
     out: &mut O,
 ) -> io::Result<()>
-    ensures { OnOk result (Appends (O.contents out.old) (O.contents out.new) (line_of is_64 sections.now answer.now)) }
+    ensures { OnOk result (Appends (O.contents out.old) (O.contents out.new) (symbol_line is_64 sections.now answer.now)) }
 {
     match answer {
         Ok((name, symbol)) => {

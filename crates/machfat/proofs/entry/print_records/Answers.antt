@@ -1,7 +1,7 @@
 use Rattle.std.proofs.Common.{◌++◌, ◌∙◌, ◌+◌, [], drop, get_or, refl, sym, ap, subst}
 use Rattle.std.proofs.lemmas.List.{append-nil, append_assoc, at_drop_more, drop_all}
 use Rattle.std.specs.Io.KnownBytes.{Appends}
-use Rattle.machfat.specs.Lines.{line_of, lines_from}
+use Rattle.machfat.specs.Lines.{record_line, lines_from}
 use Rattle.mach_base.proofs.Written.{Appends-none, Appends-both}
 use Rattle.machfat.proofs.entry.print_records.Goals as goal
 
@@ -14,7 +14,7 @@ records-preserved g c =
     let bytes = c.args.bytes.now in
     let records = c.args.records.now in
     let i = c.records.index in
-    let line = line_of bytes i (get_or records i _) in (
+    let line = record_line bytes i (get_or records i _) in (
       before.0 ++ line,
       Appends-both _ _ _ before.0 line before.1 c.in_ok-print_record.ensures,
       append_assoc before.0 line (lines_from bytes (i + 1) (drop (i + 1) records))

@@ -8,9 +8,11 @@ use Rattle.machsyms.proofs.letters.add_letters.Goals as goal
 pub returns-then-len-from : goal.returns-then-len-from
 returns-then-len-from g c =
     let full : 255 ≤ length c.sections.letters.items = omega (arith, c.if-len-from.true, c.len.ensures, c.from.ensures) in
-    sym (ap (λ all. take 255 all) c.sections.invariant.1 ∙ take-full 255 c.sections.letters.items (map item_letter (sections_left c.sections.item-iterator)) c.sections.invariant.0 full)
+    let left = map item_letter (sections_left c.sections.item-iterator) in
+    sym (ap (λ all. take 255 all) c.sections.invariant.1 ∙ take-full 255 c.sections.letters.items left c.sections.invariant.0 full)
 
 pub returns : goal.returns
 returns g c =
-    let whole = c.sections.invariant.1 ∙ ap (λ left. c.sections.letters.items ++ map item_letter left) c.in-None.ensures.steps.0 ∙ append-nil c.sections.letters.items in
+    let items = c.sections.letters.items in
+    let whole = c.sections.invariant.1 ∙ ap (λ left. items ++ map item_letter left) c.in-None.ensures.steps.0 ∙ append-nil items in
     sym (ap (λ all. take 255 all) whole ∙ take_all 255 c.sections.letters.items c.sections.invariant.0)

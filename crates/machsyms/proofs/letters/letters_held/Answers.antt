@@ -1,4 +1,4 @@
-use Rattle.std.proofs.Common.{◌++◌, ◌≤◌, ◌∙◌, length, take, sym, ap, subst, arith}
+use Rattle.std.proofs.Common.{◌≤◌, ◌∙◌, length, take, sym, ap, subst, arith}
 use Rattle.std.proofs.lemmas.List.{append-nil, take_all, drop_all}
 use Rattle.machsyms.proofs.Taken.{letters_with, letters-more, length-take-bound}
 use Rattle.machsyms.proofs.letters.letters_held.Goals as goal
@@ -12,7 +12,8 @@ segments-init g c = (
 pub segments-preserved : goal.segments-preserved
 segments-preserved g c = (
   subst (λ letters. length letters ≤ 255) (sym c.in_ok-add_letters.ensures) (length-take-bound 255 _),
-  letters-more c.args.segments.now c.segments.segment-index _ c.segments.letters.items c.add_letters.new.letters.items c.segments-test.true c.in_ok-add_letters.ensures
+  letters-more c.args.segments.now c.segments.segment-index _ c.segments.letters.items c.add_letters.new.letters.items
+      c.segments-test.true c.in_ok-add_letters.ensures
       ∙ c.segments.invariant.1,
 )
 

@@ -9,5 +9,9 @@ pub returns : goal.returns
 returns g c = λ bytes o opened.
     let segments = segments_held c.args.image.now in
     IfOk-weaker c.letters_held.result _ _
-    (λ v is. (segments, (c.segments_of_image.ensures.strict bytes o opened segments).1 refl, is ∙ ap (λ held. letters_of (map segment_view held)) c.as_slice.ensures))
+    (λ v is. (
+      segments,
+      (c.segments_of_image.ensures.strict bytes o opened segments).1 refl,
+      is ∙ ap (λ held. letters_of (map segment_view held)) c.as_slice.ensures,
+    ))
     c.letters_held.ensures

@@ -1,0 +1,215 @@
+//! What no clause says: whole tables by a clock of the tests' own, hostile bytes, and writes that fail.
+
+mod files;
+
+use crate::run::{run, say};
+use crate::tests::files::{ARCHIVE, FILE_B, file_c};
+use linked_list_allocator::LocalHeap;
+use std::cell::Cell;
+use std::io::{BufWriter, Error, ErrorKind, Result as Written, Write};
+use std::test::Fail;
+use std::time::{Clock, Duration};
+
+// A writer that takes so many bytes.
+#[derive(Drop)]
+struct Full {
+    left: usize,
+}
+
+impl Write for Full {
+    fn write(&mut self, buf: &[u8]) -> Written<usize> {
+        if self.left == 0 {
+            return Err(Error::from(ErrorKind::StorageFull));
+        }
+        let taken = buf.len().min(self.left);
+        self.left -= taken;
+        Ok(taken)
+    }
+
+    fn flush(&mut self) -> Written<()> {
+        Ok(())
+    }
+}
+
+// The nanoseconds from one reading of the clock to the next: to the start of a call's runs, and then to the
+// start and to the end of three runs, of 3000, 1000 and 2000, the last of which ends after half a second.
+const STEPS: [u64; 7] = [5, 0, 3000, 0, 1000, 499_996_000, 2000];
+
+// A clock that goes on by these steps, over and over.
+#[derive(Drop)]
+struct Steps {
+    readings: Cell<usize>,
+    time: Cell<u64>,
+}
+
+impl Steps {
+    fn new() -> Steps {
+        Steps {
+            readings: Cell::new(0),
+            time: Cell::new(0),
+        }
+    }
+}
+
+impl Clock for Steps {
+    fn monotonic(&self) -> Written<Duration> {
+        let reading = self.readings.get();
+        self.readings.set(reading.wrapping_add(1));
+        let time = self.time.get().wrapping_add(STEPS[reading % 7]);
+        self.time.set(time);
+        Ok(Duration::from_nanos(time))
+    }
+
+    fn since_1970(&self) -> Written<Duration> {
+        Err(Error::from(ErrorKind::Unsupported))
+    }
+}
+
+// A clock that can't be read.
+struct Broken;
+
+impl Clock for Broken {
+    fn monotonic(&self) -> Written<Duration> {
+        Err(Error::from(ErrorKind::Unsupported))
+    }
+
+    fn since_1970(&self) -> Written<Duration> {
+        Err(Error::from(ErrorKind::Unsupported))
+    }
+}
+
+// The table of file C.
+const TABLE: &str =
+    "parse                2 items     500.0 ns least    1000.0 ns median     440 MB/s
+exports              2 items     500.0 ns least    1000.0 ns median     440 MB/s
+imports              2 items     500.0 ns least    1000.0 ns median     440 MB/s
+iter_imports         2 items     500.0 ns least    1000.0 ns median     440 MB/s
+symbols              1 items    1000.0 ns least    2000.0 ns median     440 MB/s
+relocations          1 items    1000.0 ns least    2000.0 ns median     440 MB/s
+link_view            4 items     250.0 ns least     500.0 ns median     440 MB/s
+";
+
+// What is said of a failed write.
+const UNWRITTEN: &[u8] = b"machbench: cannot write\n";
+
+#[test]
+fn tables(rt: HostRuntime) -> Result<(), Fail> {
+    let alloc = rt.alloc();
+    let whole = file_c(alloc)?;
+    let rows: [(&str, &[u8], u8, &str, &str); 4] = [
+        ("file C", &whole, 0, TABLE, ""),
+        (
+            "more entries than the bytes hold",
+            &[0xca, 0xfe, 0xba, 0xbe, 0xff, 0xff, 0xff, 0xff, 0, 0, 0, 0],
+            1,
+            "",
+            "machbench: 4294967295 arches do not fit the file\n",
+        ),
+        (
+            "no bytes",
+            &[],
+            1,
+            "",
+            "machbench: malformed: a magic is 4 bytes\n",
+        ),
+        (
+            "an archive",
+            &ARCHIVE,
+            1,
+            "",
+            "machbench: bad magic 0x213c6172\n",
+        ),
+    ];
+    for (name, bytes, status, out, err) in rows {
+        let mut lines = Vec::new(alloc);
+        let mut reasons = Vec::new(alloc);
+        let answer = run(&Steps::new(), alloc, bytes, &mut lines, &mut reasons);
+        assert_eq!(rt; answer, status, "{name}");
+        assert_eq!(rt; lines.as_slice(), out.as_bytes(), "{name}");
+        assert_eq!(rt; reasons.as_slice(), err.as_bytes(), "{name}");
+    }
+    Ok(())
+}
+
+#[test]
+fn no_clock(rt: HostRuntime) {
+    let alloc = rt.alloc();
+    let mut reasons = Vec::new(alloc);
+    let answer = run(&Broken, alloc, &FILE_B, &mut Vec::new(alloc), &mut reasons);
+    assert_eq!(rt; answer, 2);
+    assert_eq!(rt;
+        reasons.as_slice(),
+        b"machbench: cannot read the clock\n".as_slice()
+    );
+}
+
+#[test]
+fn failed_writes(rt: HostRuntime) -> Result<(), Fail> {
+    let alloc = rt.alloc();
+    let whole = file_c(alloc)?;
+    for left in 0..=TABLE.len() {
+        let mut out = BufWriter::new(alloc, Full { left })?;
+        let mut reasons = Vec::new(alloc);
+        let answer = run(&Steps::new(), alloc, &whole, &mut out, &mut reasons);
+        let said = if left < TABLE.len() { UNWRITTEN } else { b"" };
+        assert_eq!(rt; answer == 2, left < TABLE.len(), "after {left} bytes");
+        assert_eq!(rt; reasons.as_slice(), said, "after {left} bytes");
+    }
+    let answer = run(
+        &Steps::new(),
+        alloc,
+        &[],
+        &mut Vec::new(alloc),
+        &mut Full { left: 3 },
+    );
+    assert_eq!(rt; answer, 2);
+    Ok(())
+}
+
+#[test]
+fn says(rt: HostRuntime) -> Result<(), Fail> {
+    let alloc = rt.alloc();
+    let mut lines = Vec::new(alloc);
+    let mut reasons = Vec::new(alloc);
+    assert_eq!(rt; say(crate::VERSION, &mut lines, &mut reasons), 0);
+    assert_eq!(rt; lines.as_slice(), b"machbench 0.1.0\n".as_slice());
+    assert_eq!(rt; reasons.len(), 0);
+    for left in 0..crate::HELP.len() {
+        let mut out = BufWriter::new(alloc, Full { left })?;
+        let mut reasons = Vec::new(alloc);
+        assert_eq!(rt;
+            say(crate::HELP, &mut out, &mut reasons),
+            2,
+            "after {left} bytes"
+        );
+        assert_eq!(rt; reasons.as_slice(), UNWRITTEN, "after {left} bytes");
+    }
+    Ok(())
+}
+
+#[test]
+fn want_of_memory(rt: HostRuntime) -> Result<(), Fail> {
+    let whole = file_c(rt.alloc())?;
+    let mut refused = 0u32;
+    let mut timed = 0u32;
+    for size in 0..400 {
+        let heap = LocalHeap::new(rt.alloc(), 64 * size)?;
+        let mut lines = Vec::new(rt.alloc());
+        let mut reasons = Vec::new(rt.alloc());
+        let answer = run(&Steps::new(), &heap, &whole, &mut lines, &mut reasons);
+        if answer == 0 {
+            assert_eq!(rt; lines.as_slice(), TABLE.as_bytes());
+            timed = timed.saturating_add(1);
+        } else {
+            assert_eq!(rt; (answer, timed), (1, 0), "{size}");
+            assert_eq!(rt;
+                reasons.as_slice(),
+                b"machbench: out of memory\n".as_slice()
+            );
+            refused = refused.saturating_add(1);
+        }
+    }
+    assert!(rt; refused > 2);
+    assert!(rt; timed > 0);
+    Ok(())
+}
