@@ -7,7 +7,7 @@ use Rattle.mach_base.specs.Answer.{◌>>=◌}
 use Rattle.mach_base.specs.Fault.{Fault}
 use Rattle.mach_parts.specs.Items.{all_read}
 use Rattle.mach_parts.specs.declared.fat.FatArch.{FatArch}
-use Rattle.mach_parts.proofs.AllRead.{onto, onto-nothing}
+use Rattle.mach_parts.proofs.AllRead.{onto}
 use Rattle.goblin_mach.specs.FatFile.{FatFile, archs_of, arches_in}
 
 -- what holds below a number and of it holds below the next
@@ -16,6 +16,11 @@ below-next P n below here k inside = elim (cases_lt k n) [
   | inl less ↦ below k less
   | inr out ↦ (let same : n ≡ k = omega (arith, out, inside) in subst P same here)
 ]
+
+-- after none there are the same
+onto-nothing : (rest : Result (List FatArch) Fault) → onto [] rest ≡ rest
+onto-nothing (Ok xs) = refl
+onto-nothing (Err f) = refl
 
 -- at first all are left
 pub arches-first : (file : FatFile) (found : List FatArch) (left : List (Result FatArch Fault)) → found ≡ [] → left ≡ archs_of file

@@ -2,7 +2,7 @@
 
 use crate::run::{Word, run};
 use std::test::Fail;
-use test_files::{ARCHIVE, FILE_A, FILE_B, File};
+use test_files::{ARCHIVE, FILE_A, FILE_B, File, file_c};
 
 // A writer that takes so many bytes.
 #[derive(Drop)]
@@ -165,20 +165,24 @@ fn lines(rt: HostRuntime) -> Result<(), Fail> {
     Ok(())
 }
 
+// The output is written whole or the status is 2: of an image, and of both kinds of entry of a fat file.
 #[test]
-fn a_failed_write(rt: HostRuntime) {
-    for left in 0..41 {
-        let mut reasons = Vec::new(rt.alloc());
-        let answer = run(
-            rt.alloc(),
-            Word::Commands,
-            &FILE_A,
-            &mut Full { left },
-            &mut reasons,
-        );
-        assert_eq!(rt; answer, 2, "after {left} bytes");
-        assert!(rt; reasons.is_empty());
+fn a_failed_write(rt: HostRuntime) -> Result<(), Fail> {
+    let alloc = rt.alloc();
+    let fat = file_c(alloc)?;
+    let files: [(Word, &[u8]); 2] = [(Word::Commands, &FILE_A), (Word::Imports, &fat)];
+    for (word, bytes) in files {
+        let mut lines = Vec::new(alloc);
+        let whole = run(alloc, word, bytes, &mut lines, &mut Vec::new(alloc));
+        assert_eq!(rt; whole, 0);
+        for left in 0..=lines.len() {
+            let mut reasons = Vec::new(alloc);
+            let answer = run(alloc, word, bytes, &mut Full { left }, &mut reasons);
+            assert_eq!(rt; answer == 2, left < lines.len(), "after {left} bytes");
+            assert!(rt; reasons.is_empty());
+        }
     }
+    Ok(())
 }
 
 #[test]
