@@ -9,3 +9,4 @@ pub mod Unsigned
 pub mod Signed
 pub mod FrontGroups
 pub mod Written
+pub mod Lanes

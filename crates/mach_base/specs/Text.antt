@@ -1,11 +1,15 @@
 -- Texts: bytes up to a zero, as names stand in load commands, string tables and tries.
-use Rattle.std.specs.Prelude.{◌==◌, ℕ, ◌-◌, Bool, List, length, drop, Result, Ok, Err, nat_le, if◌then◌else◌}
+use Rattle.std.specs.Prelude.{◌==◌, ◌||◌, ℕ, ◌-◌, Bool, List, length, drop, Result, Ok, Err, nat_le, if◌then◌else◌}
 use Rattle.std.specs.List.{before_first}
 use Rattle.std.specs.Str.{is_utf8}
 use Rattle.mach_base.specs.Fault.{Fault, bad_offset, bad_input}
 
 abbrev pub is_zero : ℕ → Bool
 is_zero b = b == 0
+
+-- the bytes that end a run of ASCII bytes other than zero
+abbrev pub is_stop : ℕ → Bool
+is_stop b = is_zero b || nat_le 128 b
 
 -- the longest run without a zero byte that begins at s
 abbrev pub run_at : List ℕ → ℕ → List ℕ

@@ -1,14 +1,19 @@
 //! Texts at a place.
 
-ghost use Rattle.std.specs.Prelude.{◌≡◌, ◌≤◌, ◌+◌, length, Ok, IfOk, IfSome, IsErr, MatchOption};
+ghost use Rattle.std.specs.Prelude.{◌≡◌, ◌≤◌, ◌+◌, length, map, Ok, IfOk, IfSome, IsErr, MatchOption};
 ghost use Rattle.std.specs.Str.{IsUtf8, IsAscii};
 ghost use Rattle.std.specs.List.{before_first, position_or_len};
-ghost use Rattle.mach_base.specs.Text.{text_at, run_at, is_zero};
+ghost use Rattle.std.specs.Simd.Lanes.{chunk, mask_l};
+ghost use Rattle.mach_base.specs.Text.{text_at, run_at, is_zero, is_stop};
 ghost use Rattle.mach_base.specs.Answer.{Reads};
 
 use crate::error::{Error, Result, ScrollError};
 use crate::numbers::{rest_at, try_rest_at};
 use memchr::memchr;
+use std::simd::prelude::*;
+
+// How many bytes are looked at together.
+const LANES: usize = 32;
 
 // How many bytes stand before the first zero byte.
 fn len_before_zero(bytes: &[u8]) -> usize
@@ -34,28 +39,68 @@ fn ascii_text(bytes: &[u8]) -> &str
     unsafe { str::from_utf8_unchecked(bytes) }
 }
 
-// Bytes that are UTF-8, as a text.
+// The text at the front, if it is UTF-8, ASCII or not.
 #[cold]
 #[inline(never)]
-fn utf8_text(bytes: &[u8]) -> Option<&str>
-    ensures { MatchOption result (¬ (IsUtf8 bytes.now)) (λ text. (text.now ≡ bytes.now) × IsUtf8 bytes.now) }
+fn utf8_at_front(bytes: &[u8]) -> Option<&str>
+    ensures text { MatchOption result (¬ (IsUtf8 (before_first is_zero bytes.now))) (λ text. (text.now ≡ before_first is_zero bytes.now) × IsUtf8 (before_first is_zero bytes.now)) }
+    ensures within { IfSome result (λ text. length text.now ≤ length bytes.now) }
 {
-    match str::from_utf8(bytes) {
+    match str::from_utf8(run_at_front(bytes)) {
         Ok(text) => Some(text),
         Err(_) => None,
     }
 }
 
-// The text of some bytes, if they are UTF-8. Most are ASCII, and that test is the shorter one.
+// Whether a byte is zero or not ASCII.
 #[inline(always)]
-fn text_of(run: &[u8]) -> Option<&str>
-    ensures { MatchOption result (¬ (IsUtf8 run.now)) (λ text. (text.now ≡ run.now) × IsUtf8 run.now) }
+fn is_stop(byte: u8) -> bool
+    ensures { result ≡ is_stop byte }
 {
-    if run.is_ascii() {
-        Some(ascii_text(run))
-    } else {
-        utf8_text(run)
+    byte == 0 || byte >= 0x80
+}
+
+// Bit k stands for the byte k places on, and is set where that one is zero or not ASCII.
+#[inline(always)]
+fn stops_at(bytes: &[u8], place: usize) -> u64
+    requires { place + LANES ≤ length bytes.now }
+    ensures { result ≡ mask_l (map is_stop (chunk place LANES bytes.now)) }
+{
+    let lanes = u8x32::from_slice(&bytes[place..]);
+    (lanes.simd_eq(u8x32::splat(0)) | lanes.simd_ge(u8x32::splat(0x80))).to_bitmask()
+}
+
+// How many bytes stand before the first that is zero or not ASCII.
+#[inline(always)]
+fn plain_len(bytes: &[u8]) -> usize
+    ensures value { result ≡ position_or_len is_stop bytes.now }
+    ensures within { result ≤ length bytes.now }
+{
+    let mut len = 0;
+    while bytes.len() - len >= LANES {
+        let stops = stops_at(bytes, len);
+        if stops != 0 {
+            return len + stops.trailing_zeros() as usize;
+        }
+        len += LANES;
     }
+    while len < bytes.len() && !is_stop(bytes[len]) {
+        len += 1;
+    }
+    len
+}
+
+// The text at the front, if it is UTF-8. Most are ASCII, and for those one search does.
+#[inline(always)]
+fn text_at_front(bytes: &[u8]) -> Option<&str>
+    ensures text { MatchOption result (¬ (IsUtf8 (before_first is_zero bytes.now))) (λ text. (text.now ≡ before_first is_zero bytes.now) × IsUtf8 (before_first is_zero bytes.now)) }
+    ensures within { IfSome result (λ text. length text.now ≤ length bytes.now) }
+{
+    let len = plain_len(bytes);
+    if len < bytes.len() && bytes[len] != 0 {
+        return utf8_at_front(bytes);
+    }
+    Some(ascii_text(&bytes[..len]))
 }
 
 /// The text at a place, wherever `read_text` finds one.
@@ -68,7 +113,7 @@ pub fn quick_text(bytes: &[u8], place: usize) -> Option<&str>
     if place >= bytes.len() {
         return None;
     }
-    text_of(run_at_front(rest_at(bytes, place)))
+    text_at_front(rest_at(bytes, place))
 }
 
 /// The text at a place: it runs to the first zero byte or to the end, and is UTF-8.
@@ -79,7 +124,7 @@ pub fn read_text(bytes: &[u8], offset: usize) -> Result<&str>
     ensures within { IfOk result (λ text. offset + length text.now ≤ length bytes.now) }
 {
     let rest = try_rest_at(bytes, offset)?;
-    match text_of(run_at_front(rest)) {
+    match text_at_front(rest) {
         Some(text) => Ok(text),
         None => Err(Error::Scroll(ScrollError::BadInput {
             size: rest.len(),
