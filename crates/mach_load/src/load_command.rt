@@ -53,7 +53,8 @@ impl LoadCommand {
             return None;
         }
         let rest = rest_at(bytes, place);
-        let Ok(header) = record::<LoadCommandHeader>(rest, le) else {
+        let mut lacking = 0;
+        let Some(header) = record::<LoadCommandHeader>(rest, le, &mut lacking) else {
             return None;
         };
         if header.cmd == LC_THREAD || header.cmd == LC_UNIXTHREAD {
@@ -62,7 +63,7 @@ impl LoadCommand {
         if header.cmdsize as usize > rest.len() {
             return None;
         }
-        let Ok(command) = CommandVariant::quick(rest, le, header) else {
+        let Some(command) = CommandVariant::quick(rest, le, header, &mut lacking) else {
             return None;
         };
         *offset = place + header.cmdsize as usize;

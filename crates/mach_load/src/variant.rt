@@ -1,6 +1,6 @@
 //! What a load command says, by its number.
 
-ghost use Rattle.std.specs.Prelude.{◌≡◌, ◌<◌, ◌^◌, length, Ok, Err, IfOk, IfErr};
+ghost use Rattle.std.specs.Prelude.{◌≡◌, ◌<◌, ◌^◌, length, Ok, Err, IfOk, IfErr, IfSome, IfNone};
 ghost use Rattle.mach_base.specs.Answer.{Reads};
 ghost use Rattle.mach_base.specs.Fault.{too_big};
 ghost use Rattle.mach_base.specs.Record.{number_among, record_at};
@@ -242,105 +242,103 @@ impl CommandVariant {
             _ => {
                 let rest = rest_at(bytes, offset);
                 let len = rest.len();
-                match CommandVariant::quick(rest, le, header) {
-                    Ok(found) => Ok(found),
-                    Err(size) => Err(Error::Scroll(ScrollError::TooBig { size, len })),
+                let mut size = 0;
+                match CommandVariant::quick(rest, le, header, &mut size) {
+                    Some(found) => Ok(found),
+                    None => Err(Error::Scroll(ScrollError::TooBig { size, len })),
                 }
             }
         }
     }
 
-    /// The same, of a command at the front of some bytes that is no thread; or how many bytes its record has,
-    /// where they are fewer.
+    /// The same, of a command at the front of some bytes that is no thread; or None, and how many bytes its record
+    /// has, where they are fewer.
     #[tactic(auto, unfolding(crate::specs::Commands::row_of))]
     #[inline(always)]
     pub(crate) fn quick(
         rest: &[u8],
         le: Endian,
         header: LoadCommandHeader,
-    ) -> std::result::Result<Self, usize>
+        lacking: &mut usize,
+    ) -> Option<Self>
         requires some { 0 < length rest.now }
         requires here { record_at le header_fields rest.now 0 ≡ Ok (header_values header) }
         requires no_thread { (4 ≡ header.cmd → ⊥) × (5 ≡ header.cmd → ⊥) }
-        ensures ok { IfOk result (λ v. command_by (row_of header.cmd) le rest.now 0 ≡ Ok (command_of (record { offset = 0; command = v }))) }
-        ensures err { IfErr result (λ size. command_by (row_of header.cmd) le rest.now 0 ≡ Err (too_big size (length rest.now))) }
+        ensures ok { IfSome result (λ v. command_by (row_of header.cmd) le rest.now 0 ≡ Ok (command_of (record { offset = 0; command = v }))) }
+        ensures err { IfNone result (command_by (row_of header.cmd) le rest.now 0 ≡ Err (too_big lacking.new (length rest.now))) }
     {
-        // A variant with its record. The match stands for `?`, which takes longer to check.
-        macro_rules! held {
-            ($variant:ident) => {
-                match record(rest, le) {
-                    Ok(held) => CommandVariant::$variant(held),
-                    Err(size) => return Err(size),
-                }
-            };
-        }
-        Ok(match header.cmd {
-            LC_SEGMENT => held!(Segment32),
-            LC_SYMTAB => held!(Symtab),
-            LC_SYMSEG => held!(Symseg),
-            LC_LOADFVMLIB => held!(LoadFvmlib),
-            LC_IDFVMLIB => held!(IdFvmlib),
-            LC_IDENT => held!(Ident),
-            LC_FVMFILE => held!(Fvmfile),
+        Some(match header.cmd {
+            LC_SEGMENT => CommandVariant::Segment32(record(rest, le, lacking)?),
+            LC_SYMTAB => CommandVariant::Symtab(record(rest, le, lacking)?),
+            LC_SYMSEG => CommandVariant::Symseg(record(rest, le, lacking)?),
+            LC_LOADFVMLIB => CommandVariant::LoadFvmlib(record(rest, le, lacking)?),
+            LC_IDFVMLIB => CommandVariant::IdFvmlib(record(rest, le, lacking)?),
+            LC_IDENT => CommandVariant::Ident(record(rest, le, lacking)?),
+            LC_FVMFILE => CommandVariant::Fvmfile(record(rest, le, lacking)?),
             LC_PREPAGE => CommandVariant::Prepage(header),
-            LC_DYSYMTAB => held!(Dysymtab),
-            LC_LOAD_DYLIB => held!(LoadDylib),
-            LC_ID_DYLIB => held!(IdDylib),
-            LC_LOAD_DYLINKER => held!(LoadDylinker),
-            LC_ID_DYLINKER => held!(IdDylinker),
-            LC_PREBOUND_DYLIB => held!(PreboundDylib),
-            LC_ROUTINES => held!(Routines32),
-            LC_SUB_FRAMEWORK => held!(SubFramework),
-            LC_SUB_UMBRELLA => held!(SubUmbrella),
-            LC_SUB_CLIENT => held!(SubClient),
-            LC_SUB_LIBRARY => held!(SubLibrary),
-            LC_TWOLEVEL_HINTS => held!(TwolevelHints),
-            LC_PREBIND_CKSUM => held!(PrebindCksum),
-            LC_SEGMENT_64 => held!(Segment64),
-            LC_ROUTINES_64 => held!(Routines64),
-            LC_UUID => held!(Uuid),
-            LC_CODE_SIGNATURE => held!(CodeSignature),
-            LC_SEGMENT_SPLIT_INFO => held!(SegmentSplitInfo),
-            LC_LAZY_LOAD_DYLIB => held!(LazyLoadDylib),
-            LC_ENCRYPTION_INFO => held!(EncryptionInfo32),
-            LC_DYLD_INFO => held!(DyldInfo),
-            LC_VERSION_MIN_MACOSX => held!(VersionMinMacosx),
-            LC_VERSION_MIN_IPHONEOS => held!(VersionMinIphoneos),
-            LC_FUNCTION_STARTS => held!(FunctionStarts),
-            LC_DYLD_ENVIRONMENT => held!(DyldEnvironment),
-            LC_DATA_IN_CODE => held!(DataInCode),
-            LC_SOURCE_VERSION => held!(SourceVersion),
-            LC_DYLIB_CODE_SIGN_DRS => held!(DylibCodeSignDrs),
-            LC_ENCRYPTION_INFO_64 => held!(EncryptionInfo64),
-            LC_LINKER_OPTION => held!(LinkerOption),
-            LC_LINKER_OPTIMIZATION_HINT => held!(LinkerOptimizationHint),
-            LC_VERSION_MIN_TVOS => held!(VersionMinTvos),
-            LC_VERSION_MIN_WATCHOS => held!(VersionMinWatchos),
-            LC_NOTE => held!(Note),
-            LC_BUILD_VERSION => held!(BuildVersion),
-            LC_LOAD_WEAK_DYLIB => held!(LoadWeakDylib),
-            LC_RPATH => held!(Rpath),
-            LC_REEXPORT_DYLIB => held!(ReexportDylib),
-            LC_DYLD_INFO_ONLY => held!(DyldInfoOnly),
-            LC_LOAD_UPWARD_DYLIB => held!(LoadUpwardDylib),
-            LC_MAIN => held!(Main),
-            LC_DYLD_EXPORTS_TRIE => held!(DyldExportsTrie),
-            LC_DYLD_CHAINED_FIXUPS => held!(DyldChainedFixups),
-            LC_FILESET_ENTRY => held!(FilesetEntry),
+            LC_DYSYMTAB => CommandVariant::Dysymtab(record(rest, le, lacking)?),
+            LC_LOAD_DYLIB => CommandVariant::LoadDylib(record(rest, le, lacking)?),
+            LC_ID_DYLIB => CommandVariant::IdDylib(record(rest, le, lacking)?),
+            LC_LOAD_DYLINKER => CommandVariant::LoadDylinker(record(rest, le, lacking)?),
+            LC_ID_DYLINKER => CommandVariant::IdDylinker(record(rest, le, lacking)?),
+            LC_PREBOUND_DYLIB => CommandVariant::PreboundDylib(record(rest, le, lacking)?),
+            LC_ROUTINES => CommandVariant::Routines32(record(rest, le, lacking)?),
+            LC_SUB_FRAMEWORK => CommandVariant::SubFramework(record(rest, le, lacking)?),
+            LC_SUB_UMBRELLA => CommandVariant::SubUmbrella(record(rest, le, lacking)?),
+            LC_SUB_CLIENT => CommandVariant::SubClient(record(rest, le, lacking)?),
+            LC_SUB_LIBRARY => CommandVariant::SubLibrary(record(rest, le, lacking)?),
+            LC_TWOLEVEL_HINTS => CommandVariant::TwolevelHints(record(rest, le, lacking)?),
+            LC_PREBIND_CKSUM => CommandVariant::PrebindCksum(record(rest, le, lacking)?),
+            LC_SEGMENT_64 => CommandVariant::Segment64(record(rest, le, lacking)?),
+            LC_ROUTINES_64 => CommandVariant::Routines64(record(rest, le, lacking)?),
+            LC_UUID => CommandVariant::Uuid(record(rest, le, lacking)?),
+            LC_CODE_SIGNATURE => CommandVariant::CodeSignature(record(rest, le, lacking)?),
+            LC_SEGMENT_SPLIT_INFO => CommandVariant::SegmentSplitInfo(record(rest, le, lacking)?),
+            LC_LAZY_LOAD_DYLIB => CommandVariant::LazyLoadDylib(record(rest, le, lacking)?),
+            LC_ENCRYPTION_INFO => CommandVariant::EncryptionInfo32(record(rest, le, lacking)?),
+            LC_DYLD_INFO => CommandVariant::DyldInfo(record(rest, le, lacking)?),
+            LC_VERSION_MIN_MACOSX => CommandVariant::VersionMinMacosx(record(rest, le, lacking)?),
+            LC_VERSION_MIN_IPHONEOS => CommandVariant::VersionMinIphoneos(record(
+                rest, le, lacking,
+            )?),
+            LC_FUNCTION_STARTS => CommandVariant::FunctionStarts(record(rest, le, lacking)?),
+            LC_DYLD_ENVIRONMENT => CommandVariant::DyldEnvironment(record(rest, le, lacking)?),
+            LC_DATA_IN_CODE => CommandVariant::DataInCode(record(rest, le, lacking)?),
+            LC_SOURCE_VERSION => CommandVariant::SourceVersion(record(rest, le, lacking)?),
+            LC_DYLIB_CODE_SIGN_DRS => CommandVariant::DylibCodeSignDrs(record(rest, le, lacking)?),
+            LC_ENCRYPTION_INFO_64 => CommandVariant::EncryptionInfo64(record(rest, le, lacking)?),
+            LC_LINKER_OPTION => CommandVariant::LinkerOption(record(rest, le, lacking)?),
+            LC_LINKER_OPTIMIZATION_HINT => CommandVariant::LinkerOptimizationHint(record(
+                rest, le, lacking,
+            )?),
+            LC_VERSION_MIN_TVOS => CommandVariant::VersionMinTvos(record(rest, le, lacking)?),
+            LC_VERSION_MIN_WATCHOS => CommandVariant::VersionMinWatchos(record(rest, le, lacking)?),
+            LC_NOTE => CommandVariant::Note(record(rest, le, lacking)?),
+            LC_BUILD_VERSION => CommandVariant::BuildVersion(record(rest, le, lacking)?),
+            LC_LOAD_WEAK_DYLIB => CommandVariant::LoadWeakDylib(record(rest, le, lacking)?),
+            LC_RPATH => CommandVariant::Rpath(record(rest, le, lacking)?),
+            LC_REEXPORT_DYLIB => CommandVariant::ReexportDylib(record(rest, le, lacking)?),
+            LC_DYLD_INFO_ONLY => CommandVariant::DyldInfoOnly(record(rest, le, lacking)?),
+            LC_LOAD_UPWARD_DYLIB => CommandVariant::LoadUpwardDylib(record(rest, le, lacking)?),
+            LC_MAIN => CommandVariant::Main(record(rest, le, lacking)?),
+            LC_DYLD_EXPORTS_TRIE => CommandVariant::DyldExportsTrie(record(rest, le, lacking)?),
+            LC_DYLD_CHAINED_FIXUPS => CommandVariant::DyldChainedFixups(record(rest, le, lacking)?),
+            LC_FILESET_ENTRY => CommandVariant::FilesetEntry(record(rest, le, lacking)?),
             _ => CommandVariant::Unimplemented(header),
         })
     }
 }
 
-/// The record at the front of the bytes, or how many bytes it has, where they are fewer.
+/// The record at the front of the bytes; or None, and how many bytes it has, where they are fewer.
 #[inline(always)]
-pub(crate) fn record<R: Record>(rest: &[u8], le: Endian) -> std::result::Result<R, usize>
+pub(crate) fn record<R: Record>(rest: &[u8], le: Endian, lacking: &mut usize) -> Option<R>
     requires { 0 < length rest.now }
-    ensures ok { IfOk result (λ found. record_at le R.fields rest.now 0 ≡ Ok (R.values found)) }
-    ensures err { IfErr result (λ size. record_at le R.fields rest.now 0 ≡ Err (too_big size (length rest.now))) }
+    ensures ok { IfSome result (λ found. record_at le R.fields rest.now 0 ≡ Ok (R.values found)) }
+    ensures err { IfNone result (record_at le R.fields rest.now 0 ≡ Err (too_big lacking.new (length rest.now))) }
 {
     if rest.len() < R::SIZE {
-        return Err(R::SIZE);
+        *lacking = R::SIZE;
+        return None;
     }
-    Ok(R::load(rest, le))
+    Some(R::load(rest, le))
 }

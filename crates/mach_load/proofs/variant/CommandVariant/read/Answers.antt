@@ -5,13 +5,13 @@ use Rattle.mach_load.specs.Commands.{row_of}
 use Rattle.mach_load.proofs.CommandFronts.{record-inside, by_there, refused_there}
 use Rattle.mach_load.proofs.variant.CommandVariant.read.Goals as goal
 
-pub returns-in-Ok : goal.returns-in-Ok
-returns-in-Ok c =
+pub returns-in-Some : goal.returns-in-Some
+returns-in-Some c =
     let inside = record-inside c.args.le header_fields c.args.bytes.now c.args.offset (header_values c.args.header) c.requires in
-    by_there c.args.le c.args.bytes.now c.args.offset inside (row_of c.args.header.cmd) c.in-Ok.found (rw (← c.rest_at-rest.ensures) c.in-Ok.ensures.ok)
+    by_there c.args.le c.args.bytes.now c.args.offset inside (row_of c.args.header.cmd) c.in-Some.found (rw (← c.rest_at-rest.ensures) c.in-Some.ensures.ok)
 
-pub returns-in-Err : goal.returns-in-Err
-returns-in-Err c =
+pub returns-in-None : goal.returns-in-None
+returns-in-None c =
     let inside = record-inside c.args.le header_fields c.args.bytes.now c.args.offset (header_values c.args.header) c.requires in
     refused_there c.args.le c.args.bytes.now c.args.offset inside (row_of c.args.header.cmd)
-    (too_big c.in-Err.size (length c.rest_at-rest.result.now)) (rw (← c.rest_at-rest.ensures) c.in-Err.ensures.err)
+    (too_big c.quick.new.lacking (length c.rest_at-rest.result.now)) (rw (← c.rest_at-rest.ensures) c.in-None.ensures.err)
