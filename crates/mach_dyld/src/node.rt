@@ -2,10 +2,8 @@
 //! of them finds nothing, the exact reader says what is there, or why nothing is.
 
 ghost use Rattle.std.specs.Prelude.{◌≡◌, ◌≤◌, ◌+◌, ℕ, List, length, IfOk, IfSome, IsTrue, Ok};
-ghost use Rattle.std.specs.List.{position_or_len};
 ghost use Rattle.mach_base.specs.Answer.{Reads};
 ghost use Rattle.mach_base.specs.Leb128.{uleb_at};
-ghost use Rattle.mach_base.specs.Text.{is_zero, run_at};
 ghost use Rattle.mach_dyld.specs.Trie as trie;
 ghost use Rattle.mach_dyld.specs.Trie.{regular};
 ghost use Rattle.mach_dyld.specs.Nodes.{a_regular, info_kind, branch_at, branches_at, children_at, own_at};
@@ -16,8 +14,7 @@ ghost use Rattle.mach_dyld.specs.NodeViews.{branch_of, those_read, branches_of, 
 use crate::info::{
     EXPORT_SYMBOL_FLAGS_REEXPORT, EXPORT_SYMBOL_FLAGS_STUB_AND_RESOLVER, ExportInfo,
 };
-use mach_base::{Error, Result, quick_text, quick_uleb, read_text, rest_at, uleb};
-use memchr::memchr;
+use mach_base::{Error, Result, quick_text, quick_uleb, read_text, uleb};
 
 /// A label, and where the child begins.
 #[derive(Debug, Drop)]
@@ -177,35 +174,17 @@ pub fn quick_own(bytes: &[u8], size: u64, place: usize) -> Option<(u64, u64, usi
     }
 }
 
-// How many bytes stand before the first zero byte.
-#[inline(always)]
-fn len_before_zero(bytes: &[u8]) -> usize
-    ensures value { result ≡ position_or_len is_zero bytes.now }
-    ensures within { result ≤ length bytes.now }
-{
-    memchr(0, bytes).unwrap_or(bytes.len())
-}
-
-// The bytes from a place up to the first zero byte.
-#[inline(always)]
-fn run_from(bytes: &[u8], place: usize) -> &[u8]
-    requires { place ≤ length bytes.now }
-    ensures run { result.now ≡ run_at bytes.now place }
-    ensures within { place + length result.now ≤ length bytes.now }
-{
-    let rest = rest_at(bytes, place);
-    &rest[..len_before_zero(rest)]
-}
-
 /// A branch that was tested, read again: its label, where the child begins, and the place after it.
 #[inline(always)]
 pub fn read_again(bytes: &[u8], from: usize, place: usize) -> (&[u8], usize, usize)
     requires { (found : trie.Branch × ℕ) × (branch_at bytes.now from place ≡ Ok found) }
     ensures { branch_at bytes.now from place ≡ Ok (record { label = result.0.now; start = result.1 }, result.2) }
 {
-    let label = run_from(bytes, place);
-    let Ok((offset, after)) = uleb(bytes, place + label.len() + 1) else {
+    let Some(label) = quick_text(bytes, place) else {
         unreachable!()
     };
-    (label, from + offset as usize, after)
+    let Some((offset, after)) = quick_uleb(bytes, place + label.len() + 1) else {
+        unreachable!()
+    };
+    (label.as_bytes(), from + offset as usize, after)
 }

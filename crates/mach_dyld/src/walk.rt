@@ -157,10 +157,7 @@ pub fn walk<'a, A: Allocator + Clone>(
         if top.branches.left == 0 {
             match open.pop() {
                 None => return Ok(found),
-                Some(below) => {
-                    top = below;
-                    name.truncate(top.name_len);
-                }
+                Some(below) => top = below,
             }
         } else {
             let (label, start, after) = read_again(source.bytes, from, top.branches.place);
@@ -173,10 +170,15 @@ pub fn walk<'a, A: Allocator + Clone>(
                     return Err(Error::Malformed("two paths lead to one node"));
                 }
                 marks[start - from] = true;
+                name.truncate(top.name_len);
                 name.extend_from_slice(label)?;
                 let child = open_node(alloc, source, start, name.as_slice(), &mut found, steps)?;
-                open.push(top)?;
-                top = child;
+                if child.branches.left != 0 {
+                    if top.branches.left != 0 {
+                        open.push(top)?;
+                    }
+                    top = child;
+                }
             }
         }
     }

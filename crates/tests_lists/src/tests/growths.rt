@@ -80,7 +80,7 @@ const ROWS: [Row; 15] = [
     },
     Row {
         call: Call::Exports,
-        growths: 5,
+        growths: 4,
         refused: MEMORY,
         answer: EXPORTS_OF_B,
     },
@@ -104,7 +104,7 @@ const ROWS: [Row; 15] = [
     },
     Row {
         call: Call::Trie,
-        growths: 8,
+        growths: 7,
         refused: MEMORY,
         answer: EXPORTS_OF_VECTOR,
     },
@@ -140,7 +140,7 @@ const ROWS: [Row; 15] = [
     },
     Row {
         call: Call::View,
-        growths: 13,
+        growths: 12,
         refused: MEMORY,
         answer: "image 0x7 \"\" 0x9 \"a\" 0x100000010 L _a 0x100000018 L _b;archive of 16;",
     },

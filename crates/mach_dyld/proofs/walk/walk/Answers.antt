@@ -1,7 +1,7 @@
-use Rattle.mach_dyld.proofs.Names.{◌≡◌, ◌<◌, ◌-◌, ◌∙◌, [], ◌∷◌, List, length, set, reverse, replicate, Bool, true, false, refl, sym, ap, subst, arith}
+use Rattle.mach_dyld.proofs.Names.{◌≡◌, ◌<◌, ◌-◌, ◌∙◌, ◌++◌, [], ◌∷◌, ℕ, List, length, set, reverse, replicate, Bool, true, false, refl, sym, ap, subst, arith}
 use Rattle.mach_dyld.proofs.Names.{err_from_is_err_and, IsUtf8, Stands-failed, entries, node_in, fault_in, OpensNode}
 use Rattle.mach_dyld.proofs.WalkTurns as turn
-use Rattle.mach_dyld.proofs.WalkTurns.{Holds, emptied, popped, next_of, work, less_opened}
+use Rattle.mach_dyld.proofs.WalkTurns.{Holds, emptied, popped, next_of, work, less_opened, less_without, less_below}
 use Rattle.mach_dyld.proofs.walk.walk.Goals as goal
 
 pub returns-then-from-upto-clause-tree : goal.returns-then-from-upto-clause-tree
@@ -59,7 +59,7 @@ returns-in-None-clause-visits g c =
 pub turns-preserved-in-Some : goal.turns-preserved-in-Some
 turns-preserved-in-Some g c =
     let pop = popped c.turns.open.items c.pop.new.self.items c.in-Some.below c.in-Some.ensures.items in
-    turn.moved c.truncate.ensures.items refl refl refl refl (turn.closed (turn.moved refl refl (sym pop) refl refl c.turns.invariant) (omega arith))
+    turn.closed (turn.moved refl refl (sym pop) refl refl c.turns.invariant) (omega arith)
 
 pub read_again-start-requires : goal.read_again-start-requires
 read_again-start-requires g c = turn.is_readable c.turns.invariant (omega arith)
@@ -86,7 +86,8 @@ returns-in_err-extend_from_slice-clause-visits g c =
 
 pub open_node-requires-then-start-upto : goal.open_node-requires-then-start-upto
 open_node-requires-then-start-upto g c =
-    subst IsUtf8 (sym (c.as_slice-then-start-upto.ensures.value ∙ c.in_ok-extend_from_slice.ensures.items))
+    subst IsUtf8 (sym (c.as_slice-then-start-upto.ensures.value ∙ c.in_ok-extend_from_slice.ensures.items
+    ∙ ap (λ (x : List ℕ). x ++ c.read_again-start.result.0.now) c.truncate.ensures.items))
     (turn.name_utf8 c.turns.invariant (omega arith) c.read_again-start.ensures (omega arith))
 
 pub returns-in_err-child-clause-visits : goal.returns-in_err-child-clause-visits
@@ -115,21 +116,58 @@ pub returns-in_err-push-clause-few_visits : goal.returns-in_err-push-clause-few_
 returns-in_err-push-clause-few_visits g c =
     turn.few_with_child c.turns.invariant (omega arith) c.read_again-start.ensures (omega arith) c.index.ensures c.if-index.false c.in_ok-child.ensures.visits
 
-pub turns-smaller-then-start-upto : goal.turns-smaller-then-start-upto
-turns-smaller-then-start-upto g c =
+-- a child with branches is opened over one that has some left
+pub turns-smaller-in_ok-push : goal.turns-smaller-in_ok-push
+turns-smaller-in_ok-push g c =
     let stack = popped c.push.new.self.items c.turns.open.items (next_of c.turns.top c.read_again-start.result.2) c.in_ok-push.ensures.items in
-    subst (λ os. work (length c.args.source.now.bytes.now) (set c.turns.marks.items (c.read_again-start.result.1 - c.args.source.now.from) true)
-    (c.in_ok-child.child ∷ os) < work (length c.args.source.now.bytes.now) c.turns.marks.items (c.turns.top ∷ reverse c.turns.open.items)) (sym stack)
-    (less_opened (length c.args.source.now.bytes.now) c.turns.marks.items c.turns.top c.in_ok-child.child c.read_again-start.result.2
+    let less = less_opened (length c.args.source.now.bytes.now) c.turns.marks.items c.turns.top c.in_ok-child.child c.read_again-start.result.2
     (c.read_again-start.result.1 - c.args.source.now.from) (reverse c.turns.open.items) (omega arith) c.in_ok-child.ensures.ok.few
     (turn.within c.turns.invariant (omega arith) c.read_again-start.ensures (omega arith))
-    (turn.clear c.turns.invariant (omega arith) c.read_again-start.ensures (omega arith) c.index.ensures c.if-index.false))
+    (turn.clear c.turns.invariant (omega arith) c.read_again-start.ensures (omega arith) c.index.ensures c.if-index.false) in
+    subst (λ os. work (length c.args.source.now.bytes.now) (set c.turns.marks.items (c.read_again-start.result.1 - c.args.source.now.from) true)
+    (c.in_ok-child.child ∷ os) < work (length c.args.source.now.bytes.now) c.turns.marks.items (c.turns.top ∷ reverse c.turns.open.items)) (sym stack) less
 
-pub turns-preserved-then-start-upto : goal.turns-preserved-then-start-upto
-turns-preserved-then-start-upto g c =
+pub turns-preserved-in_ok-push : goal.turns-preserved-in_ok-push
+turns-preserved-in_ok-push g c =
     let stack = popped c.push.new.self.items c.turns.open.items (next_of c.turns.top c.read_again-start.result.2) c.in_ok-push.ensures.items in
-    let shown = c.as_slice-then-start-upto.ensures.value ∙ c.in_ok-extend_from_slice.ensures.items in
+    let cut = c.in_ok-extend_from_slice.ensures.items ∙ ap (λ (x : List ℕ). x ++ c.read_again-start.result.0.now) c.truncate.ensures.items in
     let opens = subst (λ x. OpensNode c.args.source.now c.read_again-start.result.1 x (entries c.turns.found.items)
-    (entries c.open_node-then-start-upto.new.found.items) c.in_ok-child.child) shown c.in_ok-child.ensures.ok in
-    turn.moved c.in_ok-extend_from_slice.ensures.items refl stack refl c.in_ok-child.ensures.visits
-    (turn.opened c.turns.invariant (omega arith) c.read_again-start.ensures (omega arith) c.index.ensures c.if-index.false opens)
+    (entries c.open_node-then-start-upto.new.found.items) c.in_ok-child.child) (c.as_slice-then-start-upto.ensures.value ∙ cut) c.in_ok-child.ensures.ok in
+    let held = turn.opened c.turns.invariant (omega arith) c.read_again-start.ensures (omega arith) c.index.ensures c.if-index.false opens in
+    turn.moved cut refl stack refl c.in_ok-child.ensures.visits held
+
+-- a child with branches is opened in place of one that has none left
+pub turns-smaller-else-top-ne0 : goal.turns-smaller-else-top-ne0
+turns-smaller-else-top-ne0 g c =
+    let less = less_opened (length c.args.source.now.bytes.now) c.turns.marks.items c.turns.top c.in_ok-child.child c.read_again-start.result.2
+    (c.read_again-start.result.1 - c.args.source.now.from) (reverse c.turns.open.items) (omega arith) c.in_ok-child.ensures.ok.few
+    (turn.within c.turns.invariant (omega arith) c.read_again-start.ensures (omega arith))
+    (turn.clear c.turns.invariant (omega arith) c.read_again-start.ensures (omega arith) c.index.ensures c.if-index.false) in
+    less_without (length c.args.source.now.bytes.now) (set c.turns.marks.items (c.read_again-start.result.1 - c.args.source.now.from) true)
+    (next_of c.turns.top c.read_again-start.result.2) c.in_ok-child.child (reverse c.turns.open.items) less
+
+pub turns-preserved-else-top-ne0 : goal.turns-preserved-else-top-ne0
+turns-preserved-else-top-ne0 g c =
+    let cut = c.in_ok-extend_from_slice.ensures.items ∙ ap (λ (x : List ℕ). x ++ c.read_again-start.result.0.now) c.truncate.ensures.items in
+    let opens = subst (λ x. OpensNode c.args.source.now c.read_again-start.result.1 x (entries c.turns.found.items)
+    (entries c.open_node-then-start-upto.new.found.items) c.in_ok-child.child) (c.as_slice-then-start-upto.ensures.value ∙ cut) c.in_ok-child.ensures.ok in
+    let held = turn.opened c.turns.invariant (omega arith) c.read_again-start.ensures (omega arith) c.index.ensures c.if-index.false opens in
+    turn.moved cut refl refl refl c.in_ok-child.ensures.visits (turn.forgotten held (omega arith))
+
+-- a child with no branches is closed at once
+pub turns-smaller-else-child-ne0 : goal.turns-smaller-else-child-ne0
+turns-smaller-else-child-ne0 g c =
+    let less = less_opened (length c.args.source.now.bytes.now) c.turns.marks.items c.turns.top c.in_ok-child.child c.read_again-start.result.2
+    (c.read_again-start.result.1 - c.args.source.now.from) (reverse c.turns.open.items) (omega arith) c.in_ok-child.ensures.ok.few
+    (turn.within c.turns.invariant (omega arith) c.read_again-start.ensures (omega arith))
+    (turn.clear c.turns.invariant (omega arith) c.read_again-start.ensures (omega arith) c.index.ensures c.if-index.false) in
+    less_below (length c.args.source.now.bytes.now) (set c.turns.marks.items (c.read_again-start.result.1 - c.args.source.now.from) true)
+    c.in_ok-child.child (next_of c.turns.top c.read_again-start.result.2 ∷ reverse c.turns.open.items) less
+
+pub turns-preserved-else-child-ne0 : goal.turns-preserved-else-child-ne0
+turns-preserved-else-child-ne0 g c =
+    let cut = c.in_ok-extend_from_slice.ensures.items ∙ ap (λ (x : List ℕ). x ++ c.read_again-start.result.0.now) c.truncate.ensures.items in
+    let opens = subst (λ x. OpensNode c.args.source.now c.read_again-start.result.1 x (entries c.turns.found.items)
+    (entries c.open_node-then-start-upto.new.found.items) c.in_ok-child.child) (c.as_slice-then-start-upto.ensures.value ∙ cut) c.in_ok-child.ensures.ok in
+    let held = turn.opened c.turns.invariant (omega arith) c.read_again-start.ensures (omega arith) c.index.ensures c.if-index.false opens in
+    turn.moved cut refl refl refl c.in_ok-child.ensures.visits (turn.closed held (omega arith))
