@@ -1,4 +1,5 @@
 pub mod Exits
+pub mod Fields
 pub mod Headers
 pub mod CommandAt
 pub mod Chains

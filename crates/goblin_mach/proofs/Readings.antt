@@ -1,7 +1,6 @@
 -- Reading the commands of a subject, one by one.
 use Rattle.std.proofs.Common.{◌≡◌, ℕ, zero, suc, ◌+◌, ◌<◌, ◌≤◌, true, false, List, [], ◌∷◌, ◌++◌, length, map, drop, get_or, Option, Some, None, Result, Err}
-use Rattle.std.proofs.Common.{inl}
-use Rattle.std.proofs.Common.{inr, refl, sym, ap, subst, ◌∙◌, append_assoc, arith, add-one}
+use Rattle.std.proofs.Common.{Ok, take, inl, inr, refl, sym, ap, subst, ◌∙◌, append_assoc, arith, add-one}
 use Rattle.std.proofs.lemmas.List.{append-nil}
 use Rattle.std.specs.Prelude.{option_map}
 use Rattle.std.specs.Option.{is_some}
@@ -11,7 +10,7 @@ use Rattle.mach_load.specs.declared.load_command.LoadCommand.{LoadCommand}
 use Rattle.mach_load.specs.Command.{Command}
 use Rattle.mach_load.specs.Variants.{command_of}
 use Rattle.mach_base.specs.Among.{IsAmong}
-use Rattle.goblin_mach.specs.Readings.{Reading, keep, read_of, first_of, IsRead, AllRead, IsUnread, seen_of}
+use Rattle.goblin_mach.specs.Readings.{Reading, keep, said, read_of, last_or, last_of, first_of, IsRead, IsRefused, AllRead, IsUnread, seen_of}
 
 -- the commands from one on begin with it
 pub from_here : (xs : List LoadCommand) (i : ℕ) (d : LoadCommand) → i < length xs
@@ -59,6 +58,67 @@ whole reading xs i values all past e =
 -- one more of a list moves to its front
 pub one_more : {V : Type 0} (front rest all : List V) (v : V) → front ++ (v ∷ rest) ≡ all → (front ++ v ∷ []) ++ rest ≡ all
 one_more front rest all v e = append_assoc front (v ∷ []) rest ∙ e
+
+-- the first commands and the next one
+pub taken-next : (xs : List LoadCommand) (i : ℕ) (d : LoadCommand) → i < length xs
+    → take (i + 1) (map command_of xs) ≡ take i (map command_of xs) ++ command_of (get_or xs i d) ∷ []
+taken-next [] i d lt = absurd (omega arith)
+taken-next (x ∷ xs) zero d lt = refl
+taken-next (x ∷ xs) (suc i) d lt =
+    rw add-one (ap (λ (cs : List Command). command_of x ∷ cs) (rw add-one at (taken-next xs i d (omega arith))))
+
+pub taken-all : (xs : List LoadCommand) (i : ℕ) → length xs ≤ i → take i (map command_of xs) ≡ map command_of xs
+taken-all [] zero past = refl
+taken-all [] (suc i) past = refl
+taken-all (x ∷ xs) zero past = absurd (omega arith)
+taken-all (x ∷ xs) (suc i) past = ap (λ (cs : List Command). command_of x ∷ cs) (taken-all xs i (omega arith))
+
+keep-append : {V : Type 0} (found : Option (Result V Fault)) (xs ys : List V) → keep found (xs ++ ys) ≡ keep found xs ++ ys
+keep-append None xs ys = refl
+keep-append (Some (Ok v)) xs ys = refl
+keep-append (Some (Err f)) xs ys = refl
+
+module _ {V : Type 0} (reading : Reading V) where
+  read-more : (cs : List Command) (c : Command) → read_of reading (cs ++ c ∷ []) ≡ read_of reading cs ++ said (reading c)
+  read-more [] c = refl
+  read-more (d ∷ cs) c = ap (keep (reading d)) (read-more cs c) ∙ keep-append (reading d) (read_of reading cs) (said (reading c))
+
+  last-more : (d : Option V) (xs ys : List V) → last_or d (xs ++ ys) ≡ last_or (last_or d xs) ys
+  last-more d [] ys = refl
+  last-more d (x ∷ xs) ys = last-more (Some x) xs ys
+
+  -- what was read of some commands and one more
+  pub kept_more : (cs : List Command) (c : Command) (old new : List V) → old ≡ read_of reading cs → new ≡ old ++ said (reading c)
+      → new ≡ read_of reading (cs ++ c ∷ [])
+  kept_more cs c old new was is = is ∙ ap (λ (vs : List V). vs ++ said (reading c)) was ∙ sym (read-more cs c)
+
+  pub last_kept : (cs : List Command) (c : Command) (old new : Option V) → old ≡ last_of (read_of reading cs) → new ≡ last_or old (said (reading c))
+      → new ≡ last_of (read_of reading (cs ++ c ∷ []))
+  last_kept cs c old new was is =
+      is ∙ ap (λ (d : Option V). last_or d (said (reading c))) was ∙ sym (ap last_of (read-more cs c) ∙ last-more None (read_of reading cs) (said (reading c)))
+
+  -- where the value is seen as it is
+  pub last_itself : (cs : List Command) (c : Command) (old new : Option V) → old ≡ last_of (read_of reading cs)
+      → option_map (λ (v : V). v) new ≡ last_or (option_map (λ (v : V). v) old) (said (reading c)) → new ≡ last_of (read_of reading (cs ++ c ∷ []))
+  last_itself cs c old new was is =
+      sym (itself new) ∙ last_kept cs c (option_map (λ (v : V). v) old) (option_map (λ (v : V). v) new) (itself old ∙ was) is
+    where
+      itself : (o : Option V) → option_map (λ (v : V). v) o ≡ o
+      itself None = refl
+      itself (Some v) = refl
+
+  pub all_more : (cs : List Command) (c : Command) → AllRead reading cs → AllRead reading (c ∷ []) → AllRead reading (cs ++ c ∷ [])
+  all_more [] c all one = one
+  all_more (d ∷ cs) c all one = (all.0, all_more cs c all.1 one)
+
+  -- one that can't be read is one of them
+  pub refused_one : (c : Command) (f : Fault) → IsRefused (reading c) f → IsUnread reading (c ∷ []) f
+  refused_one c f e = record { command = c; among = inl refl; fault = e }
+
+  pub unread_among : (c : Command) (cs : List Command) (f : Fault) → IsAmong c cs → IsUnread reading (c ∷ []) f → IsUnread reading cs f
+  unread_among c cs f among u =
+      let here : u.command ≡ c = elim u.among [ inl is ↦ is | inr none ↦ absurd none ] in
+      record { command = c; among = among; fault = subst (λ (x : Command). reading x ≡ Some (Err f)) here u.fault }
 
 -- where every command can be read, none can't
 pub unread-excludes_all : {V : Type 0} (reading : Reading V) (cs : List Command) (f : Fault) → IsUnread reading cs f → AllRead reading cs → ⊥

@@ -16,8 +16,8 @@ use Rattle.goblin_mach.specs.EntryPoint.{entry_point_in}
 use Rattle.goblin_mach.specs.FatFile.{fat_file_in, file_held}
 use Rattle.goblin_mach.specs.Image.{OpensAs, LossyOpensAs, HasFatMagic}
 use Rattle.goblin_mach.specs.Magic.{cputype_at}
-use Rattle.goblin_mach.specs.Readings.{read_of}
-use Rattle.goblin_mach.specs.Subjects.{binds_in, segment_by, lossy_segment_by, trie_in, own_name_in, libs_in, run_path_by, table_in}
+use Rattle.goblin_mach.specs.Readings.{Reading, read_of}
+use Rattle.goblin_mach.specs.Subjects.{binds_in, library_by, segment_by, lossy_segment_by, trie_in, own_name_in, libs_in, run_path_by, table_in}
 use Rattle.goblin_mach.specs.declared.fat_file.multi_arch.MultiArch.{MultiArch}
 use Rattle.goblin_mach.specs.declared.image.fields.Fields.{Fields}
 use Rattle.goblin_mach.specs.declared.image.mach.Mach.TheVariants.{Fat, Binary}
@@ -91,29 +91,35 @@ IsMach InMode bytes (Binary m) = InMode bytes 0 m
 abbrev pub commands_of : {A : Type 0} → Opened A → List Command
 commands_of x = map command_of x.load_commands.items
 
--- each is a filter or a last over the commands, the segments being these
-pub record AreFields {A : Type 0} (ctx : Ctx) (bytes : List ℕ) (parts : List SegmentView) (cs : List Command) (f : Fields A) : Type 0 where
-  pub segments : map segment_view (segments_in f.segments) ≡ parts
+-- each is a filter or a last over the commands, the segments and the libraries being these
+pub record AreFields {A : Type 0} (ctx : Ctx) (bytes : List ℕ) (parts : List SegmentView) (libs : List (List ℕ)) (cs : List Command) (f : Fields A) : Type 0 where
+  pub segments : map segment_view f.segments.items ≡ parts
   pub symbols : option_map table_of f.symbols ≡ table_in ctx bytes cs
-  pub libs : texts f.libs.items ≡ libs_in bytes cs
+  pub libs_are : texts f.libs.items ≡ libs
   pub rpaths : texts f.rpaths.items ≡ read_of (run_path_by bytes) cs
   pub name : text_in f.name ≡ own_name_in bytes cs
+  pub trie : f.export_trie ≡ trie_in bytes cs
+  pub binds : f.bind_interpreter ≡ binds_in bytes cs
 
--- the image of what was read: these fields, with the trie and the binds of the commands
+-- what some commands say, before the image's own name is put in front of its libraries
+abbrev pub AreTaken : {A : Type 0} → Ctx → List ℕ → Reading SegmentView → List Command → Fields A → Type 0
+AreTaken ctx bytes segment cs f = AreFields ctx bytes (read_of segment cs) (read_of (library_by bytes) cs) cs f
+
+-- the image of what was read
 pub record IsMadeOf {A : Type 0} (bytes : List ℕ) (x : Opened A) (f : Fields A) (m : MachO A) : Type 0 where
   pub commands : m.load_commands ≡ x.load_commands
   pub header : m.header ≡ x.header
   pub little_endian : IsTrue m.little_endian ↔ (x.ctx.le ≡ Little)
   pub is_64 : IsTrue m.is_64 ↔ (x.ctx.container ≡ Big)
-  pub segments : m.segments ≡ f.segments
+  pub segments : segments_in m.segments ≡ f.segments.items
   pub symbols : m.symbols ≡ f.symbols
   pub libs : m.libs ≡ f.libs
   pub rpaths : m.rpaths ≡ f.rpaths
   pub entry : m.entry ≡ x.address
   pub old_style_entry : m.old_style_entry ≡ x.old_style_entry
   pub name : m.name ≡ f.name
-  pub trie : trie_held m ≡ trie_in bytes (commands_of x)
-  pub binds : binds_held m ≡ binds_in bytes (commands_of x)
+  pub trie : trie_held m ≡ f.export_trie
+  pub binds : binds_held m ≡ f.bind_interpreter
   pub bytes_is : bytes_held m ≡ bytes
   pub ctx_is : ctx_held m ≡ x.ctx
 

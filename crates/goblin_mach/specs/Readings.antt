@@ -19,9 +19,17 @@ abbrev pub read_of : {V : Type 0} → Reading V → List Command → List V
 read_of reading [] = []
 read_of reading (c ∷ cs) = keep (reading c) (read_of reading cs)
 
+-- what one command adds to that
+abbrev pub said : {V : Type 0} → Option (Result V Fault) → List V
+said found = keep found []
+
 abbrev pub IsRead : {V : Type 0} → Option (Result V Fault) → Type 0
 IsRead None = Unit {0}
 IsRead (Some found) = IsOk found
+
+-- it can't be read, for this fault
+abbrev pub IsRefused : {V : Type 0} → Option (Result V Fault) → Fault → Type 0
+IsRefused found f = found ≡ Some (Err f)
 
 -- every command of the subject can be read
 abbrev pub AllRead : {V : Type 0} → Reading V → List Command → Type 0

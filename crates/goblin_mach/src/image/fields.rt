@@ -1,34 +1,40 @@
 //! What strict and lossy mode read off the commands in their own ways.
 
-ghost use Rattle.std.specs.Prelude.{map, IfOk, IfErr};
+ghost use Rattle.std.specs.Prelude.{◌++◌, ◌∷◌, [], ℕ, List, map, IfOk, IfErr, OnOk};
 ghost use Rattle.mach_base.specs.Answer.{Stands, IsOkUnlessMemory};
+ghost use Rattle.mach_load.specs.Command.{Command};
+ghost use Rattle.mach_parts.specs.Segment.{SegmentView};
 ghost use Rattle.mach_load.specs.Variants.{command_of};
 ghost use Rattle.goblin_mach.specs.Image.{AllReadable, IsUnreadable};
-ghost use Rattle.goblin_mach.specs.Subjects.{segment_by, lossy_segment_by};
-ghost use Rattle.goblin_mach.specs.Readings.{read_of};
+ghost use Rattle.goblin_mach.specs.Subjects.{segment_by, lossy_segment_by, libs_in};
+ghost use Rattle.goblin_mach.specs.Readings.{Reading, read_of};
 
-use crate::image::readings::{all_read, all_readable, last_read, last_readable};
+use crate::image::readings::{add, add_readable, put, put_readable};
 use crate::image::subjects::{
-    Ids, Libraries, LossySegmentData, RunPaths, SegmentData, SymbolTables,
+    Binds, Ids, Libraries, LossySegmentData, RunPaths, SegmentData, SymbolTables, Tries,
 };
 use mach_base::{Ctx, Result};
+use mach_dyld::exports::ExportTrie;
+use mach_dyld::imports::BindInterpreter;
 use mach_load::LoadCommand;
-use mach_parts::segment::Segments;
+use mach_parts::segment::Segment;
 use mach_parts::symbols::Symbols;
 use std::alloc::Allocator;
 
 /// What strict and lossy mode read off the commands in their own ways.
 #[derive(Drop)]
 pub struct Fields<'a, A: Allocator> {
-    pub segments: Segments<'a, A>,
+    pub segments: Vec<Segment<'a>, A>,
     pub symbols: Option<Symbols<'a>>,
     pub libs: Vec<&'a str, A>,
     pub rpaths: Vec<&'a str, A>,
     pub name: Option<&'a str>,
+    pub export_trie: Option<ExportTrie<'a>>,
+    pub bind_interpreter: Option<BindInterpreter<'a>>,
 }
 
 impl<'a, A: Allocator + Clone> Fields<'a, A> {
-    ghost use Rattle.goblin_mach.specs.OpenImage.{AreFields};
+    ghost use Rattle.goblin_mach.specs.OpenImage.{AreFields, AreTaken};
 
     /// Everything, where all of it can be read.
     pub fn read(
@@ -37,27 +43,16 @@ impl<'a, A: Allocator + Clone> Fields<'a, A> {
         ctx: Ctx,
         commands: &[LoadCommand],
     ) -> Result<Fields<'a, A>>
-        ensures found { IfOk result (λ f. let cs = map command_of commands.now in AreFields ctx bytes.now (read_of (segment_by ctx bytes.now) cs) cs f) }
+        ensures found { IfOk result (λ f. let cs = map command_of commands.now in AreFields ctx bytes.now (read_of (segment_by ctx bytes.now) cs) (libs_in bytes.now cs) cs f) }
         ensures all { IfOk result (λ _. AllReadable ctx bytes.now (map command_of commands.now)) }
         ensures refused { IfErr result (Stands (IsUnreadable ctx bytes.now (map command_of commands.now))) }
     {
-        let segments = all_read(
-            Vec::new(alloc.clone()?),
-            &SegmentData { bytes, ctx },
-            commands,
-        )?;
-        let symbols = last_read(&SymbolTables { bytes, ctx }, commands)?;
-        let name = last_read(&Ids { bytes }, commands)?;
-        let itself = vec![in alloc.clone()?; name.unwrap_or("self")]?;
-        let libs = all_read(itself, &Libraries { bytes }, commands)?;
-        let rpaths = all_read(Vec::new(alloc), &RunPaths { bytes }, commands)?;
-        Ok(Fields {
-            segments: Segments::from(segments),
-            symbols,
-            libs,
-            rpaths,
-            name,
-        })
+        let mut fields = Fields::empty(alloc)?;
+        for command in commands {
+            fields.take(bytes, ctx, command)?;
+        }
+        fields.put_name()?;
+        Ok(fields)
     }
 
     /// What can be read of it; data that are not in the bytes are empty.
@@ -67,22 +62,83 @@ impl<'a, A: Allocator + Clone> Fields<'a, A> {
         ctx: Ctx,
         commands: &[LoadCommand],
     ) -> Result<Fields<'a, A>>
-        ensures found { IfOk result (λ f. let cs = map command_of commands.now in AreFields ctx bytes.now (read_of (lossy_segment_by ctx bytes.now) cs) cs f) }
+        ensures found { IfOk result (λ f. let cs = map command_of commands.now in AreFields ctx bytes.now (read_of (lossy_segment_by ctx bytes.now) cs) (libs_in bytes.now cs) cs f) }
         ensures only { IsOkUnlessMemory result }
     {
-        let data = LossySegmentData { bytes, ctx };
-        let segments = all_readable(Vec::new(alloc.clone()?), &data, commands)?;
-        let symbols = last_readable(&SymbolTables { bytes, ctx }, commands);
-        let name = last_readable(&Ids { bytes }, commands);
-        let itself = vec![in alloc.clone()?; name.unwrap_or("self")]?;
-        let libs = all_readable(itself, &Libraries { bytes }, commands)?;
-        let rpaths = all_readable(Vec::new(alloc), &RunPaths { bytes }, commands)?;
+        let mut fields = Fields::empty(alloc)?;
+        for command in commands {
+            fields.take_readable(bytes, ctx, command)?;
+        }
+        fields.put_name()?;
+        Ok(fields)
+    }
+
+    // What no commands say.
+    fn empty(alloc: A) -> Result<Fields<'a, A>>
+        ensures found { (ctx : Ctx) (bytes : List ℕ) (segment : Reading SegmentView) → IfOk result (AreTaken ctx bytes segment []) }
+        ensures only { IsOkUnlessMemory result }
+    {
         Ok(Fields {
-            segments: Segments::from(segments),
-            symbols,
-            libs,
-            rpaths,
-            name,
+            segments: Vec::new(alloc.clone()?),
+            symbols: None,
+            libs: Vec::new(alloc.clone()?),
+            rpaths: Vec::new(alloc),
+            name: None,
+            export_trie: None,
+            bind_interpreter: None,
         })
+    }
+}
+
+impl<'a, A: Allocator> Fields<'a, A> {
+    ghost use Rattle.goblin_mach.specs.OpenImage.{AreFields, AreTaken};
+
+    // Takes what one more command says.
+    #[inline(always)]
+    fn take(&mut self, bytes: &'a [u8], ctx: Ctx, command: &LoadCommand) -> Result<()>
+        ensures found { (cs : List Command) → AreTaken ctx bytes.now (segment_by ctx bytes.now) cs self.old
+            → OnOk result (AreTaken ctx bytes.now (segment_by ctx bytes.now) (cs ++ command_of command.now ∷ []) self.new) }
+        ensures all { OnOk result (AllReadable ctx bytes.now (command_of command.now ∷ [])) }
+        ensures refused { IfErr result (Stands (IsUnreadable ctx bytes.now (command_of command.now ∷ []))) }
+    {
+        add(&mut self.segments, &SegmentData { bytes, ctx }, command)?;
+        put(&mut self.symbols, &SymbolTables { bytes, ctx }, command)?;
+        put(&mut self.name, &Ids { bytes }, command)?;
+        add(&mut self.libs, &Libraries { bytes }, command)?;
+        add(&mut self.rpaths, &RunPaths { bytes }, command)?;
+        put_readable(&mut self.export_trie, &Tries { bytes }, command);
+        put_readable(&mut self.bind_interpreter, &Binds { bytes }, command);
+        Ok(())
+    }
+
+    // Takes what can be read of it.
+    fn take_readable(&mut self, bytes: &'a [u8], ctx: Ctx, command: &LoadCommand) -> Result<()>
+        ensures found { (cs : List Command) → AreTaken ctx bytes.now (lossy_segment_by ctx bytes.now) cs self.old
+            → OnOk result (AreTaken ctx bytes.now (lossy_segment_by ctx bytes.now) (cs ++ command_of command.now ∷ []) self.new) }
+        ensures only { IsOkUnlessMemory result }
+    {
+        add_readable(
+            &mut self.segments,
+            &LossySegmentData { bytes, ctx },
+            command,
+        )?;
+        put_readable(&mut self.symbols, &SymbolTables { bytes, ctx }, command);
+        put_readable(&mut self.name, &Ids { bytes }, command);
+        add_readable(&mut self.libs, &Libraries { bytes }, command)?;
+        add_readable(&mut self.rpaths, &RunPaths { bytes }, command)?;
+        put_readable(&mut self.export_trie, &Tries { bytes }, command);
+        put_readable(&mut self.bind_interpreter, &Binds { bytes }, command);
+        Ok(())
+    }
+
+    // Puts the image's own name in front of its libraries.
+    fn put_name(&mut self) -> Result<()>
+        ensures found { (ctx : Ctx) (bytes : List ℕ) (segment : Reading SegmentView) (cs : List Command) → AreTaken ctx bytes segment cs self.old
+            → OnOk result (AreFields ctx bytes (read_of segment cs) (libs_in bytes cs) cs self.new) }
+        ensures only { IsOkUnlessMemory result }
+    {
+        let name = self.name.unwrap_or("self");
+        self.libs.insert(0, name)?;
+        Ok(())
     }
 }

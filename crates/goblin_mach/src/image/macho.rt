@@ -15,9 +15,7 @@ mod debug;
 
 use crate::image::fields::Fields;
 use crate::image::opened::Opened;
-use crate::image::readings::last_readable;
 use crate::image::relocations::{RelocatedSection, relocations};
-use crate::image::subjects::{Binds, Tries};
 use mach_base::{Ctx, Result};
 use mach_dyld::exports::{Export, ExportTrie};
 use mach_dyld::imports::{BindInterpreter, BindIterator, Import};
@@ -108,12 +106,10 @@ impl<'a, A: Allocator> MachO<'a, A> {
     fn of(bytes: &'a [u8], opened: Opened<A>, fields: Fields<'a, A>) -> MachO<'a, A>
         ensures { IsMadeOf bytes.now opened fields.entry result }
     {
-        let export_trie = last_readable(&Tries { bytes }, &opened.load_commands);
-        let bind_interpreter = last_readable(&Binds { bytes }, &opened.load_commands);
         MachO {
             header: opened.header,
             load_commands: opened.load_commands,
-            segments: fields.segments,
+            segments: Segments::from(fields.segments),
             symbols: fields.symbols,
             libs: fields.libs,
             rpaths: fields.rpaths,
@@ -122,8 +118,8 @@ impl<'a, A: Allocator> MachO<'a, A> {
             name: fields.name,
             little_endian: opened.ctx.le.is_little(),
             is_64: opened.ctx.is_big(),
-            export_trie,
-            bind_interpreter,
+            export_trie: fields.export_trie,
+            bind_interpreter: fields.bind_interpreter,
             bytes,
             ctx: opened.ctx,
         }

@@ -1,9 +1,9 @@
 //! What is read off the commands of an image, subject by subject.
 
-ghost use Rattle.std.specs.Prelude.{◌≡◌, ◌++◌, List, map, option_map, IfOk, IfErr};
+ghost use Rattle.std.specs.Prelude.{◌≡◌, ◌++◌, List, None, false, map, option_map, IfOk, IfErr, OnOk};
 ghost use Rattle.mach_base.specs.Answer.{Stands, IsOkUnlessMemory};
 ghost use Rattle.mach_load.specs.Variants.{command_of};
-ghost use Rattle.goblin_mach.specs.Readings.{Reading, read_of, last_of, first_of, AllRead, IsUnread, seen_of};
+ghost use Rattle.goblin_mach.specs.Readings.{Reading, read_of, said, last_or, first_of, IsRead, IsRefused, AllRead, IsUnread, seen_of};
 
 use mach_base::Result;
 use mach_load::LoadCommand;
@@ -21,84 +21,121 @@ pub trait Subject {
     // What is read off each command.
     ghost reading: { Self → Reading Seen };
 
+    /// Whether a command may speak of the subject.
+    fn speaks(&self, command: &LoadCommand) -> bool
+        ensures { result ≡ false → reading self.now (command_of command.now) ≡ None }
+    {
+        let _ = command;
+        true
+    }
+
     /// What is read off a command, if it speaks of the subject.
     fn read(&self, command: &LoadCommand) -> Option<Result<Self::Value>>
         ensures { seen_of seen result ≡ reading self.now (command_of command.now) };
 }
 
-/// What the last command of a subject says, where all that speak of it can be read.
-pub fn last_read<S: Subject>(subject: &S, commands: &[LoadCommand]) -> Result<Option<S::Value>>
-    ensures found { IfOk result (λ last. option_map S.seen last ≡ last_of (read_of (S.reading subject.now) (map command_of commands.now))) }
-    ensures all { IfOk result (λ _. AllRead (S.reading subject.now) (map command_of commands.now)) }
-    ensures refused { IfErr result (Stands (IsUnread (S.reading subject.now) (map command_of commands.now))) }
-{
-    let mut last = None;
-    for command in commands {
-        let Some(found) = subject.read(command) else {
-            continue;
-        };
-        last = Some(found?);
-    }
-    Ok(last)
-}
-
-/// What all commands of a subject say, after the values given, where all that speak of it can be read.
-pub fn all_read<S: Subject, A: Allocator>(
-    first: Vec<S::Value, A>,
+/// Adds to a list what a command says of a subject.
+#[inline(always)]
+pub fn add<S: Subject, A: Allocator>(
+    values: &mut Vec<S::Value, A>,
     subject: &S,
-    commands: &[LoadCommand],
-) -> Result<Vec<S::Value, A>>
-    ensures found { IfOk result (λ values. map S.seen values.items ≡ map S.seen first.items ++ read_of (S.reading subject.now) (map command_of commands.now)) }
-    ensures all { IfOk result (λ _. AllRead (S.reading subject.now) (map command_of commands.now)) }
-    ensures refused { IfErr result (Stands (IsUnread (S.reading subject.now) (map command_of commands.now))) }
+    command: &LoadCommand,
+) -> Result<()>
+    ensures kept { OnOk result (map S.seen values.new.items ≡ map S.seen values.old.items ++ said (S.reading subject.now (command_of command.now))) }
+    ensures read { OnOk result (IsRead (S.reading subject.now (command_of command.now))) }
+    ensures refused { IfErr result (Stands (IsRefused (S.reading subject.now (command_of command.now)))) }
 {
-    let mut values = first;
-    for command in commands {
-        let Some(found) = subject.read(command) else {
-            continue;
-        };
-        values.push(found?)?;
+    if !subject.speaks(command) {
+        return Ok(());
     }
-    Ok(values)
+    add_said(values, subject, command)
 }
 
-/// What the last readable command of a subject says.
-pub fn last_readable<S: Subject>(subject: &S, commands: &[LoadCommand]) -> Option<S::Value>
-    ensures { option_map S.seen result ≡ last_of (read_of (S.reading subject.now) (map command_of commands.now)) }
-{
-    let mut last = None;
-    for command in commands {
-        let Some(found) = subject.read(command) else {
-            continue;
-        };
-        let Ok(value) = found else {
-            continue;
-        };
-        last = Some(value);
-    }
-    last
-}
-
-/// What the readable commands of a subject say, after the values given.
-pub fn all_readable<S: Subject, A: Allocator>(
-    first: Vec<S::Value, A>,
+// The same out of line: most commands speak of one subject at most.
+#[inline(never)]
+fn add_said<S: Subject, A: Allocator>(
+    values: &mut Vec<S::Value, A>,
     subject: &S,
-    commands: &[LoadCommand],
-) -> Result<Vec<S::Value, A>>
-    ensures found { IfOk result (λ values. map S.seen values.items ≡ map S.seen first.items ++ read_of (S.reading subject.now) (map command_of commands.now)) }
+    command: &LoadCommand,
+) -> Result<()>
+    ensures kept { OnOk result (map S.seen values.new.items ≡ map S.seen values.old.items ++ said (S.reading subject.now (command_of command.now))) }
+    ensures read { OnOk result (IsRead (S.reading subject.now (command_of command.now))) }
+    ensures refused { IfErr result (Stands (IsRefused (S.reading subject.now (command_of command.now)))) }
+{
+    let Some(found) = subject.read(command) else {
+        return Ok(());
+    };
+    values.push(found?)?;
+    Ok(())
+}
+
+/// Adds what can be read of it.
+pub fn add_readable<S: Subject, A: Allocator>(
+    values: &mut Vec<S::Value, A>,
+    subject: &S,
+    command: &LoadCommand,
+) -> Result<()>
+    ensures kept { OnOk result (map S.seen values.new.items ≡ map S.seen values.old.items ++ said (S.reading subject.now (command_of command.now))) }
     ensures only { IsOkUnlessMemory result }
 {
-    let mut values = first;
-    for command in commands {
-        let Some(found) = subject.read(command) else {
-            continue;
-        };
-        let Ok(value) = found else {
-            continue;
-        };
+    if let Some(Ok(value)) = subject.read(command) {
         values.push(value)?;
     }
-    Ok(values)
+    Ok(())
+}
+
+/// Puts what a command says of a subject in the place of what an earlier one said.
+#[inline(always)]
+pub fn put<S: Subject>(
+    last: &mut Option<S::Value>,
+    subject: &S,
+    command: &LoadCommand,
+) -> Result<()>
+    ensures kept { OnOk result (option_map S.seen last.new ≡ last_or (option_map S.seen last.old) (said (S.reading subject.now (command_of command.now)))) }
+    ensures read { OnOk result (IsRead (S.reading subject.now (command_of command.now))) }
+    ensures refused { IfErr result (Stands (IsRefused (S.reading subject.now (command_of command.now)))) }
+{
+    if !subject.speaks(command) {
+        return Ok(());
+    }
+    put_said(last, subject, command)
+}
+
+// The same out of line.
+#[inline(never)]
+fn put_said<S: Subject>(
+    last: &mut Option<S::Value>,
+    subject: &S,
+    command: &LoadCommand,
+) -> Result<()>
+    ensures kept { OnOk result (option_map S.seen last.new ≡ last_or (option_map S.seen last.old) (said (S.reading subject.now (command_of command.now)))) }
+    ensures read { OnOk result (IsRead (S.reading subject.now (command_of command.now))) }
+    ensures refused { IfErr result (Stands (IsRefused (S.reading subject.now (command_of command.now)))) }
+{
+    if let Some(found) = subject.read(command) {
+        *last = Some(found?);
+    }
+    Ok(())
+}
+
+/// Puts what can be read of it.
+#[inline(always)]
+pub fn put_readable<S: Subject>(last: &mut Option<S::Value>, subject: &S, command: &LoadCommand)
+    ensures { option_map S.seen last.new ≡ last_or (option_map S.seen last.old) (said (S.reading subject.now (command_of command.now))) }
+{
+    if subject.speaks(command) {
+        put_readable_said(last, subject, command);
+    }
+}
+
+// The same out of line.
+#[inline(never)]
+fn put_readable_said<S: Subject>(last: &mut Option<S::Value>, subject: &S, command: &LoadCommand)
+    ensures { option_map S.seen last.new ≡ last_or (option_map S.seen last.old) (said (S.reading subject.now (command_of command.now))) }
+{
+    if let Some(Ok(value)) = subject.read(command) {
+        *last = Some(value);
+    }
 }
 
 /// What the first command of a subject says, where all that speak of it can be read.
