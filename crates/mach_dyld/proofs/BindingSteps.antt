@@ -1,9 +1,8 @@
 -- What one step of an iterator over bindings leaves.
-use Rattle.mach_dyld.proofs.Names.{◌≡◌, ◌≢◌, ℕ, ℤ, suc, ◌+◌, ◌-◌, ◌<◌, ◌≤◌, List, [], ◌∷◌, ◌++◌, map, Bool, true, false, Option, Some, None, Result, Ok, Err, refl}
-use Rattle.mach_dyld.proofs.Names.{sym, ap, subst, ◌∙◌, arith, cond, append-nil, append_assoc, pos, bit_and, Fault, malformed, bind_ok, same_ok, Instruction}
-use Rattle.mach_dyld.proofs.Names.{byte_at, row_at, instruction_at, Input, Range, Placed, moved, strides, after_strides, State, executed, executed_by, start_of}
-use Rattle.mach_dyld.proofs.Names.{reads_of, set_by, reading_from}
-use Rattle.mach_dyld.specs.Bindings.{Binding, is_threaded, fault_item, upto_fault}
+use Rattle.mach_dyld.proofs.Names.{◌≡◌, ◌≢◌, ℕ, ℤ, suc, ◌+◌, ◌-◌, ◌<◌, ◌≤◌, List, [], ◌∷◌, ◌++◌, Bool, true, false, Option, Result, Ok, Err, refl}
+use Rattle.mach_dyld.proofs.Names.{sym, ap, ◌∙◌, cond, append-nil, append_assoc, pos, bit_and, Fault, malformed, bind_ok, same_ok, Instruction}
+use Rattle.mach_dyld.proofs.Names.{byte_at, row_at, instruction_at, Input, Range, moved, strides, after_strides, State, executed, executed_by, start_of}
+use Rattle.mach_dyld.specs.Bindings.{Binding, is_threaded, upto_fault}
 unfoldable use Rattle.mach_dyld.specs.Bindings.{binding_of}
 use Rattle.mach_dyld.specs.BindingsLeft.{ordinal_after, ordinal_now, special_after}
 unfoldable use Rattle.mach_dyld.specs.BindingsLeft.{run_bindings, rest_bindings, bindings_after}

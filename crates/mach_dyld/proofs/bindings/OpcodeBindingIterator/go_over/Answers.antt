@@ -1,4 +1,4 @@
-use Rattle.mach_dyld.proofs.Names.{refl, arith, input_of, state_of, reads_of}
+use Rattle.mach_dyld.proofs.Names.{refl, arith, input_of, state_of}
 use Rattle.mach_dyld.specs.BindingsLeft.{lazy_of, ordinal_of}
 unfoldable use Rattle.mach_dyld.specs.BindingsLeft.{bindings_left, opcodes_left}
 use Rattle.mach_dyld.proofs.BindSteps as steps

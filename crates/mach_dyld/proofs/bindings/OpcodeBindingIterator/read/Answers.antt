@@ -1,4 +1,4 @@
-use Rattle.mach_dyld.proofs.Names.{arith, ◌∙◌, ◌∷◌, [], ap, sym, Err, malformed, fault_of, input_of, state_of}
+use Rattle.mach_dyld.proofs.Names.{◌∙◌, ap, sym, fault_of, input_of, state_of}
 use Rattle.mach_dyld.specs.BindingsLeft.{lazy_of, ordinal_of, ordinal_now}
 unfoldable use Rattle.mach_dyld.specs.BindingsLeft.{bindings_left, bindings_after, opcodes_left}
 use Rattle.mach_dyld.proofs.BindSteps as steps
