@@ -1,7 +1,8 @@
 -- Where no special library is set and no bind is threaded, bindings tell what imports tell.
 use Rattle.mach_dyld.proofs.Names.{◌≡◌, ◌≢◌, ℕ, ℤ, zero, suc, ◌*◌, List, [], ◌∷◌, ◌++◌, map, Bool, true, false, Option, Some, None, Result, Ok, Err, refl}
 use Rattle.mach_dyld.proofs.Names.{sym, ap, ◌∙◌, map-append, pos, cond, slice_get, range_with_len, filter_map, cons_option, AllByRecursion}
-use Rattle.mach_dyld.proofs.Names.{arith, ◌==◌, ne_eqb, bit_and, ◌>>=◌, Fault, malformed, found_or_malformed, sum_of, holding, Segment, Input, Range, Placed, Instruction}
+use Rattle.mach_dyld.proofs.Names.{arith, ◌==◌, ne_eqb, bit_and, ◌>>=◌, Fault, malformed, found_or_malformed, sum_of, holding, Segment, Input, Range}
+use Rattle.mach_dyld.proofs.Names.{Placed, Instruction}
 use Rattle.mach_dyld.proofs.Names.{done, library, symbol, addend, segment, advance, binds, byte_at, Bind, bind_after, binds_at, binds_from, stride_in, count_in}
 use Rattle.mach_dyld.proofs.Names.{is_done, nearer_than, nearest_or, last_setting, library_in, Import, Target, import_of, import_with, imports_in, target_of}
 use Rattle.mach_dyld.specs.BindItems as imports
@@ -215,8 +216,8 @@ module _ (x : Input) (first : List ℕ) (others : List (List ℕ)) (libs : x.lib
       ≡ bindings_told (upto_fault (bindings_in x non_lazy ps ++ fault_item s ++ bindings_in x lazy qs ++ fault_item t))
   both_same non_lazy lazy ps qs s t h k =
       let a = joined (imports_in x non_lazy ps) (imports.fault_item s) (bindings_in x non_lazy ps) (fault_item s) (in_same non_lazy ps h) (fault_same s) in
-      let b = joined (imports_in x non_lazy ps ++ imports.fault_item s) (imports_in x lazy qs) (bindings_in x non_lazy ps ++ fault_item s) (bindings_in x lazy qs)
-      a (in_same lazy qs k) in
+      let b = joined (imports_in x non_lazy ps ++ imports.fault_item s) (imports_in x lazy qs) (bindings_in x non_lazy ps ++ fault_item s)
+      (bindings_in x lazy qs) a (in_same lazy qs k) in
       let c = joined (imports_in x non_lazy ps ++ imports.fault_item s ++ imports_in x lazy qs) (imports.fault_item t)
       (bindings_in x non_lazy ps ++ fault_item s ++ bindings_in x lazy qs) (fault_item t) b (fault_same t) in
       cut_imports (imports_in x non_lazy ps ++ imports.fault_item s ++ imports_in x lazy qs ++ imports.fault_item t)

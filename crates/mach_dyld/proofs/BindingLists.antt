@@ -1,5 +1,6 @@
 -- From ranges to the bindings that an iterator begins with.
-use Rattle.mach_dyld.proofs.Names.{◌≡◌, ℕ, List, [], ◌++◌, Bool, false, Result, sym, ap, subst, ◌∙◌, append_assoc, cond, pos, Fault, Segment, Input, Range, Placed}
+use Rattle.mach_dyld.proofs.Names.{◌≡◌, ℕ, List, [], ◌++◌, Bool, false, Result, sym, ap, subst, ◌∙◌, append_assoc, cond, pos, Fault, Segment, Input, Range}
+use Rattle.mach_dyld.proofs.Names.{Placed}
 use Rattle.mach_dyld.proofs.Names.{State, start_of, reading_from, strides, after_strides, BindRanges, input_in}
 use Rattle.mach_dyld.specs.Bindings.{Binding, bindings_in, fault_item, upto_fault, AreBindings}
 unfoldable use Rattle.mach_dyld.specs.BindingsLeft.{rest_bindings, bindings_after}

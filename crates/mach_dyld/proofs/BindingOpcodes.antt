@@ -1,7 +1,8 @@
 -- What an opcode, executed as it is read, does to the ordinal.
 use Rattle.mach_dyld.proofs.Names.{◌≡◌, ◌≢◌, ℕ, ℤ, ◌+◌, List, length, Bool, true, false, Option, Result, Ok, refl, sym, ap, subst, ◌∙◌}
 use Rattle.mach_dyld.proofs.Names.{◌*◌, cond, ◌==◌, bit_and, inl, inr, cases_eq, ne_eqb, ◌>>=◌, Fault, bind_ok, same_ok, uleb_at, sleb_at, text_at}
-use Rattle.mach_dyld.proofs.Names.{Instruction, done, library, symbol, addend, segment, advance, binds, byte_at, with_uleb, addend_at, symbol_operand_at, times_at}
+use Rattle.mach_dyld.proofs.Names.{Instruction, done, library, symbol, addend, segment, advance, binds, byte_at, with_uleb, addend_at, symbol_operand_at}
+use Rattle.mach_dyld.proofs.Names.{times_at}
 use Rattle.mach_dyld.proofs.Names.{row_at, Placed, Bind, set_by, moved}
 use Rattle.mach_dyld.specs.Instructions.{nothing}
 use Rattle.mach_dyld.specs.Bindings.{is_threaded}

@@ -1,4 +1,5 @@
-use Rattle.mach_dyld.proofs.Names.{◌≡◌, Bool, List, Result, Ok, Fault, suc, ◌-◌, ◌∷◌, [], ◌∙◌, sym, ap, arith, Err, malformed, Bind, State, input_of, state_of, bind_of, moved}
+use Rattle.mach_dyld.proofs.Names.{◌≡◌, Bool, List, Result, Ok, Fault, suc, ◌-◌, ◌∷◌, [], ◌∙◌, sym, ap, arith, Err, malformed, Bind, State, input_of}
+use Rattle.mach_dyld.proofs.Names.{state_of, bind_of, moved}
 use Rattle.mach_dyld.specs.BindingsLeft.{lazy_of, ordinal_of, ordinal_now, binding_view}
 use Rattle.mach_dyld.specs.Bindings.{Binding}
 unfoldable use Rattle.mach_dyld.specs.BindingsLeft.{bindings_left, bindings_after}
