@@ -8,18 +8,18 @@ use Rattle.mach_dyld.specs.BindAddresses.{LiesIn, LiesInSome, BindLiesIn, ListLi
 
 -- ---- one bind
 
-summed : (a b n : ℕ) → sum_of a b ≡ Ok n → n ≡ a + b
+pub summed : (a b n : ℕ) → sum_of a b ≡ Ok n → n ≡ a + b
 summed a b n e = by_test (nat_lt (a + b) (2 ^ 64)) e
   where
     by_test : (t : Bool) → cond t (Ok (a + b)) (Err malformed) ≡ Ok n → n ≡ a + b
     by_test true e = sym (same_ok e)
     by_test false e = absurd (cc)
 
-found_there : (o : Option Segment) (s : Segment) → found_or_malformed o ≡ Ok s → o ≡ Some s
+pub found_there : (o : Option Segment) (s : Segment) → found_or_malformed o ≡ Ok s → o ≡ Some s
 found_there None s e = absurd (cc)
 found_there (Some r) s e = ap (λ (q : Segment). Some q) (same_ok e)
 
-held : (offset : ℕ) (s h : Segment) → holding offset s ≡ Ok h → (offset < s.vmsize) × (s ≡ h)
+pub held : (offset : ℕ) (s h : Segment) → holding offset s ≡ Ok h → (offset < s.vmsize) × (s ≡ h)
 held offset s h e = by_test (nat_lt offset s.vmsize) refl e
   where
     by_test : (t : Bool) → nat_lt offset s.vmsize ≡ t → cond t (Ok s) (Err malformed) ≡ Ok h → (offset < s.vmsize) × (s ≡ h)

@@ -2,11 +2,13 @@
 #![tactic(auto)]
 
 pub mod bind_opcodes;
+pub mod bindings;
 pub mod exports;
 pub mod imports;
 mod info;
 pub mod laws;
 mod node;
+pub mod provider;
 mod steps;
 mod tally;
 mod walk;

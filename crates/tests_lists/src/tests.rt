@@ -1,5 +1,6 @@
 //! The worked rows of docs/FORMAT.md on tries and binds, and which answers come where memory runs out.
 
+mod bindings;
 mod export_kinds;
 mod exports;
 mod growths;
