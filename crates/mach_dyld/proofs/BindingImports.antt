@@ -7,9 +7,10 @@ use Rattle.mach_dyld.proofs.Names.{done, library, symbol, addend, segment, advan
 use Rattle.mach_dyld.proofs.Names.{is_done, nearer_than, nearest_or, last_setting, library_in, Import, Target, import_of, import_with, imports_in, target_of}
 use Rattle.mach_dyld.specs.BindItems as imports
 use Rattle.mach_dyld.specs.Instructions.{nothing}
-use Rattle.mach_dyld.specs.Providers.{Provider, of_library, itself}
-unfoldable use Rattle.mach_dyld.specs.Providers.{provider_of}
-use Rattle.mach_dyld.specs.Bindings.{Binding, binding_with, ordinal_in, ordinal_by, special_by, nothing_is_threaded, threaded_by, last_ordinal}
+use Rattle.mach_parts.specs.Bindings.{Provider, of_library, itself}
+unfoldable use Rattle.mach_parts.specs.Bindings.{provider_of}
+use Rattle.mach_parts.specs.Bindings.{Binding}
+use Rattle.mach_dyld.specs.Bindings.{binding_with, ordinal_in, ordinal_by, special_by, nothing_is_threaded, threaded_by, last_ordinal}
 use Rattle.mach_dyld.specs.Bindings.{bindings_at, bindings_in, fault_item, upto_fault}
 unfoldable use Rattle.mach_dyld.specs.Bindings.{spot_of, binding_of, bindings_from}
 use Rattle.mach_dyld.specs.BindingLaws.{IsPlain, Told, told, told_by_import, told_by_binding, library_name, TellTheSame}

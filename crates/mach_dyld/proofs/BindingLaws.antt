@@ -4,9 +4,10 @@ use Rattle.mach_dyld.proofs.Names.{sym, ap, subst, ◌∙◌, arith, append_asso
 use Rattle.mach_dyld.proofs.Names.{same_ok, found_or_malformed, sum_of, holding, Segment, Input, Range, Placed, Bind, binds_at}
 use Rattle.std.proofs.lemmas.List.Elements.{All-nil, All-cons, All-head, All-tail, All-append}
 use Rattle.mach_dyld.specs.BindAddresses.{LiesIn, LiesInSome}
-use Rattle.mach_dyld.specs.Providers.{Provider}
-unfoldable use Rattle.mach_dyld.specs.Providers.{provider_of}
-use Rattle.mach_dyld.specs.Bindings.{Binding, binding_with, ordinal_in, is_threaded, last_ordinal, bindings_at, bindings_in, fault_item, upto_fault}
+use Rattle.mach_parts.specs.Bindings.{Provider}
+unfoldable use Rattle.mach_parts.specs.Bindings.{provider_of}
+use Rattle.mach_parts.specs.Bindings.{Binding}
+use Rattle.mach_dyld.specs.Bindings.{binding_with, ordinal_in, is_threaded, last_ordinal, bindings_at, bindings_in, fault_item, upto_fault}
 unfoldable use Rattle.mach_dyld.specs.Bindings.{spot_of, binding_of, bindings_from}
 use Rattle.mach_dyld.specs.BindingLaws.{FindsLastOrdinal, AddsBindings, HasOneListOfBindings, BindingLiesIn, BindingsLieIn}
 use Rattle.mach_dyld.proofs.BindTotal.{onto}

@@ -2,7 +2,8 @@
 use Rattle.mach_dyld.proofs.Names.{◌≡◌, ℕ, List, [], ◌++◌, Bool, false, Result, sym, ap, subst, ◌∙◌, append_assoc, cond, pos, Fault, Segment, Input, Range}
 use Rattle.mach_dyld.proofs.Names.{Placed}
 use Rattle.mach_dyld.proofs.Names.{State, start_of, reading_from, strides, after_strides, BindRanges, input_in}
-use Rattle.mach_dyld.specs.Bindings.{Binding, bindings_in, fault_item, upto_fault, AreBindings}
+use Rattle.mach_parts.specs.Bindings.{Binding}
+use Rattle.mach_dyld.specs.Bindings.{bindings_in, fault_item, upto_fault, AreBindings}
 unfoldable use Rattle.mach_dyld.specs.BindingsLeft.{rest_bindings, bindings_after}
 use Rattle.mach_dyld.proofs.BindingRun.{tied_at_start}
 use Rattle.mach_dyld.proofs.BindReading.{reading_longest}

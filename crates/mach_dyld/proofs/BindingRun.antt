@@ -4,7 +4,8 @@ use Rattle.mach_dyld.proofs.Names.{filter_map, cons_option, Fault, malformed, In
 use Rattle.mach_dyld.proofs.Names.{Placed, Range, Input, Bind, bind_after, binds_at, stride_in, count_in, is_done, nearer_than, nearest_or, fresh, set_by}
 use Rattle.mach_dyld.proofs.Names.{strides, after_strides}
 use Rattle.mach_dyld.specs.Instructions.{nothing}
-use Rattle.mach_dyld.specs.Bindings.{Binding, ordinal_in, is_threaded, last_ordinal, bindings_at}
+use Rattle.mach_parts.specs.Bindings.{Binding}
+use Rattle.mach_dyld.specs.Bindings.{ordinal_in, is_threaded, last_ordinal, bindings_at}
 unfoldable use Rattle.mach_dyld.specs.Bindings.{binding_of, bindings_from}
 use Rattle.mach_dyld.specs.BindingsLeft.{set_or, ordinal_after}
 unfoldable use Rattle.mach_dyld.specs.BindingsLeft.{run_bindings}

@@ -2,7 +2,8 @@
 use Rattle.mach_dyld.proofs.Names.{◌≡◌, ◌≢◌, ℕ, ℤ, suc, ◌+◌, ◌-◌, ◌<◌, ◌≤◌, List, [], ◌∷◌, ◌++◌, Bool, true, false, Option, Result, Ok, Err, refl}
 use Rattle.mach_dyld.proofs.Names.{sym, ap, ◌∙◌, cond, append-nil, append_assoc, pos, bit_and, Fault, malformed, bind_ok, same_ok, Instruction}
 use Rattle.mach_dyld.proofs.Names.{byte_at, row_at, instruction_at, Input, Range, moved, strides, after_strides, State, executed, executed_by, start_of}
-use Rattle.mach_dyld.specs.Bindings.{Binding, is_threaded, upto_fault}
+use Rattle.mach_parts.specs.Bindings.{Binding}
+use Rattle.mach_dyld.specs.Bindings.{is_threaded, upto_fault}
 unfoldable use Rattle.mach_dyld.specs.Bindings.{binding_of}
 use Rattle.mach_dyld.specs.BindingsLeft.{ordinal_after, ordinal_now, special_after}
 unfoldable use Rattle.mach_dyld.specs.BindingsLeft.{run_bindings, rest_bindings, bindings_after}

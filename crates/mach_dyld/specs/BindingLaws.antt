@@ -10,8 +10,9 @@ use Rattle.mach_dyld.specs.Imports.{Import}
 use Rattle.mach_dyld.specs.BindItems.{AreBindItems}
 use Rattle.mach_dyld.specs.BindLast.{IsLast}
 use Rattle.mach_dyld.specs.BindAddresses.{LiesIn, LiesInSome}
-use Rattle.mach_dyld.specs.Providers.{Provider, of_library, itself, main_executable, flat, weak_lookup}
-use Rattle.mach_dyld.specs.Bindings.{Binding, binding_of, ordinal_in, last_ordinal, bindings_at, bindings_in, AreBindings}
+use Rattle.mach_parts.specs.Bindings.{Provider, of_library, itself, main_executable, flat, weak_lookup}
+use Rattle.mach_parts.specs.Bindings.{Binding}
+use Rattle.mach_dyld.specs.Bindings.{binding_of, ordinal_in, last_ordinal, bindings_at, bindings_in, AreBindings}
 
 -- the ordinal of a bind is the one that was set last after the last DONE before it, or 0
 abbrev pub FindsLastOrdinal : Type 0

@@ -9,18 +9,7 @@ use Rattle.mach_dyld.specs.Instructions.{Instruction, library, nothing, byte_at}
 use Rattle.mach_dyld.specs.Streams.{Input, Range, Placed, IsLongest}
 use Rattle.mach_dyld.specs.Binds.{Bind, binds_at, last_setting}
 use Rattle.mach_dyld.specs.Imports.{holding}
-use Rattle.mach_dyld.specs.Providers.{Provider, provider_of}
-
--- a place in memory that takes a symbol's address from a provider
-pub record Binding : Type 0 where
-  pub name : List ℕ
-  pub provider : Provider
-  -- the place in the file
-  pub offset : ℕ
-  pub address : ℕ
-  pub addend : ℤ
-  pub is_weak : Bool
-  pub is_lazy : Bool
+use Rattle.mach_parts.specs.Bindings.{Provider, provider_of, Binding}
 
 -- ---- one instruction: what `Instructions` reads as nothing may set a special ordinal, or be a threaded bind
 

@@ -1,15 +1,12 @@
 -- What is left to an iterator over bindings: settings that run forward, as those of `BindLeft`, and the ordinal beside
 -- them. Callers don't need it: the contract of `bindings` says that the items at the start are those of the definitions.
 use Rattle.std.specs.Prelude.{◌≡◌, ◌==◌, ◌-◌, ◌≤◌, ℕ, ℤ, pos, List, [], ◌∷◌, ◌++◌, map, true, false, Option, Some, None, Result, Ok, Err, if◌then◌else◌}
-use Rattle.mach_base.specs.declared.error.Error.{Error}
-use Rattle.mach_base.specs.Fault.{Fault, malformed, fault_of}
+use Rattle.mach_base.specs.Fault.{Fault, malformed}
 use Rattle.mach_dyld.specs.Streams.{Input, Range, Placed}
 use Rattle.mach_dyld.specs.Binds.{Bind, is_done, count_in, stride_in}
-use Rattle.mach_dyld.specs.Bindings as bindings
+use Rattle.mach_parts.specs.Bindings.{Binding}
 use Rattle.mach_dyld.specs.Bindings.{special_ordinal, ordinal_in, is_threaded, binding_of, fault_item, upto_fault}
 use Rattle.mach_dyld.specs.BindLeft.{State, reading_from, set_by, strides, after_strides, start_of, input_of, state_of, reads_of}
-use Rattle.mach_dyld.specs.Providers.{provider_view}
-use Rattle.mach_dyld.specs.declared.bindings.Binding.{Binding}
 use Rattle.mach_dyld.specs.declared.bindings.OpcodeBindingIterator.{OpcodeBindingIterator}
 
 abbrev pub set_or : ℤ → Option ℤ → ℤ
@@ -21,7 +18,7 @@ abbrev pub ordinal_after : List ℕ → Placed → ℤ → ℤ
 ordinal_after bytes p o = if is_done p then pos 0 else set_or o (ordinal_in bytes p)
 
 -- what comes of instructions, by the settings and the ordinal before them
-unfoldable pub run_bindings : Input → ℕ → ℤ → Bind → List Placed → List (Result bindings.Binding Fault)
+unfoldable pub run_bindings : Input → ℕ → ℤ → Bind → List Placed → List (Result Binding Fault)
 run_bindings x from o b [] = []
 run_bindings x from o b (p ∷ ps) =
     let c = set_by p.instruction (p.after - from) b in
@@ -31,7 +28,7 @@ run_bindings x from o b (p ∷ ps) =
     ++ run_bindings x from n (after_strides c (stride_in x.pointer p) (count_in p)) ps
 
 -- what comes of the rest of a range
-unfoldable pub rest_bindings : Input → ℤ → State → List (Result bindings.Binding Fault)
+unfoldable pub rest_bindings : Input → ℤ → State → List (Result Binding Fault)
 rest_bindings x o s =
     let ahead = reading_from x s.range.upto s.place in
     map (binding_of x o) (strides s.settings s.stride s.count)
@@ -39,7 +36,7 @@ rest_bindings x o s =
     ++ fault_item ahead.stop
 
 -- what comes of the rest of a range and, after the non-lazy one, of the lazy one
-unfoldable pub bindings_after : Input → Range → ℤ → State → List (Result bindings.Binding Fault)
+unfoldable pub bindings_after : Input → Range → ℤ → State → List (Result Binding Fault)
 bindings_after x lazy o s =
     if s.ended then []
     else upto_fault (rest_bindings x o s ++ (if s.range.is_lazy then [] else rest_bindings x (pos 0) (start_of lazy)))
@@ -67,7 +64,7 @@ abbrev pub lazy_of : OpcodeBindingIterator → Range
 lazy_of it = record { from = it.lazy_from; upto = it.lazy_upto; is_lazy = true }
 
 -- the bindings that are left, up to the first fault
-unfoldable pub bindings_left : OpcodeBindingIterator → List (Result bindings.Binding Fault)
+unfoldable pub bindings_left : OpcodeBindingIterator → List (Result Binding Fault)
 bindings_left it = bindings_after (input_of it.source) (lazy_of it) (ordinal_of it) (state_of it.state)
 
 -- how many instructions are left to be read
@@ -80,18 +77,3 @@ pub record IsAtEnd (it : OpcodeBindingIterator) : Type 0 where
   pub on : it.state.ended ≡ false
   pub past : it.state.upto ≤ it.state.place
   pub is_lazy : it.state.settings.is_lazy ≡ true
-
-abbrev pub binding_view : Binding → bindings.Binding
-binding_view b = record {
-  name = b.name.now;
-  provider = provider_view b.provider;
-  offset = b.offset;
-  address = b.address;
-  addend = b.addend;
-  is_weak = b.is_weak;
-  is_lazy = b.is_lazy;
-}
-
-abbrev pub binding_read : Result Binding Error → Result bindings.Binding Fault
-binding_read (Ok b) = Ok (binding_view b)
-binding_read (Err e) = Err (fault_of e)

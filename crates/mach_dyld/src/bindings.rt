@@ -9,10 +9,10 @@ ghost use Rattle.mach_dyld.specs.Streams.{Placed};
 ghost use Rattle.mach_dyld.specs.Imports.{input_in};
 ghost use Rattle.mach_dyld.specs.Exports.{texts};
 ghost use Rattle.mach_dyld.specs.BindLeft.{input_of, bind_of};
-ghost use Rattle.mach_dyld.specs.Providers.{provider_of, provider_view};
+ghost use Rattle.mach_parts.specs.Bindings.{provider_of, provider_view, binding_view, binding_read};
 ghost use Rattle.mach_dyld.specs.Bindings as defined;
 ghost use Rattle.mach_dyld.specs.Bindings.{spot_of, binding_of, AreBindings};
-ghost use Rattle.mach_dyld.specs.BindingsLeft.{ordinal_of, special_after, bindings_left, opcodes_left, binding_view, binding_read, IsAtEnd};
+ghost use Rattle.mach_dyld.specs.BindingsLeft.{ordinal_of, special_after, bindings_left, opcodes_left, IsAtEnd};
 
 use crate::bind_opcodes::*;
 use crate::imports::instruction::instruction_error;
@@ -20,28 +20,9 @@ use crate::imports::settings::Settings;
 use crate::imports::source::Source;
 use crate::imports::state::State;
 use crate::imports::{BindInterpreter, pointer_len};
-use crate::provider::Provider;
 use mach_base::{Ctx, Error, Result};
+use mach_parts::binding::{Binding, Provider};
 use mach_parts::segment::Segment;
-
-/// A place in memory that takes a symbol's address from a provider.
-#[derive(Debug, Drop)]
-pub struct Binding<'a> {
-    /// The symbol's name.
-    pub name: &'a str,
-    /// Where the symbol is looked for.
-    pub provider: Provider<'a>,
-    /// The place in the file of the pointer to bind.
-    pub offset: u64,
-    /// The address in memory of the pointer to bind.
-    pub address: u64,
-    /// What is added to the symbol's address.
-    pub addend: i64,
-    /// Whether the symbol may be missing.
-    pub is_weak: bool,
-    /// Whether it is bound at its first use.
-    pub is_lazy: bool,
-}
 
 /// The bindings one at a time: those of the non-lazy stream, then those of the lazy one, up to the first
 /// fault; then its error; then nothing more. It takes no memory.

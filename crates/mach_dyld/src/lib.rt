@@ -8,7 +8,6 @@ pub mod imports;
 mod info;
 pub mod laws;
 mod node;
-pub mod provider;
 mod steps;
 mod tally;
 mod walk;

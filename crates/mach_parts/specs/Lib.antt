@@ -14,3 +14,4 @@ pub mod Segments
 pub mod SegmentLending
 pub mod Symbols
 pub mod SymbolViews
+pub mod Bindings

@@ -1,6 +1,7 @@
 //! The parts of an image: headers, fat records, segments, sections, relocations and symbols.
 #![tactic(auto)]
 
+pub mod binding;
 mod cpu;
 pub mod fat;
 pub mod header;

@@ -1,9 +1,9 @@
 //! The bindings of bind streams: which provider each has, and where they end.
 
 use mach_base::{Container, Ctx, Error, LE, ScrollError};
-use mach_dyld::bindings::{Binding, OpcodeBindingIterator};
+use mach_dyld::bindings::OpcodeBindingIterator;
 use mach_dyld::imports::BindInterpreter;
-use mach_dyld::provider::Provider;
+use mach_parts::binding::{Binding, Provider};
 use mach_parts::segment::Segment;
 use mach_records::DyldInfoCommand;
 use std::alloc::{AllocError, Global};

@@ -1,7 +1,8 @@
 use Rattle.mach_dyld.proofs.Names.{◌≡◌, Bool, List, Result, Ok, Fault, suc, ◌-◌, ◌∷◌, [], ◌∙◌, sym, ap, arith, Err, malformed, Bind, State, input_of}
 use Rattle.mach_dyld.proofs.Names.{state_of, bind_of, moved}
-use Rattle.mach_dyld.specs.BindingsLeft.{lazy_of, ordinal_of, ordinal_now, binding_view}
-use Rattle.mach_dyld.specs.Bindings.{Binding}
+use Rattle.mach_parts.specs.Bindings.{binding_view}
+use Rattle.mach_dyld.specs.BindingsLeft.{lazy_of, ordinal_of, ordinal_now}
+use Rattle.mach_parts.specs.Bindings.{Binding}
 unfoldable use Rattle.mach_dyld.specs.BindingsLeft.{bindings_left, bindings_after}
 use Rattle.mach_dyld.proofs.BindingSteps.{after_bind, after_refusal}
 use Rattle.mach_dyld.proofs.bindings.OpcodeBindingIterator.bind.Goals as goal

@@ -1,10 +1,9 @@
-//! Where dyld looks for a symbol that an image takes.
+//! What a bind comes to: a place that takes a symbol's address from a provider.
 
 ghost use Rattle.std.specs.Prelude.{◌≡◌, pos, Ok, Err, MatchOption};
 ghost use Rattle.mach_base.specs.Answer.{Reads};
 ghost use Rattle.mach_base.specs.Fault.{malformed};
-ghost use Rattle.mach_dyld.specs.Exports.{texts};
-ghost use Rattle.mach_dyld.specs.Providers.{provider_of, provider_view};
+ghost use Rattle.mach_parts.specs.Bindings.{provider_of, provider_view, texts};
 
 use mach_base::{Error, Result};
 
@@ -28,6 +27,25 @@ pub enum Provider<'a> {
     WeakLookup,
 }
 
+/// A place in memory that takes a symbol's address from a provider.
+#[derive(Clone, Copy, Debug)]
+pub struct Binding<'a> {
+    /// The symbol's name.
+    pub name: &'a str,
+    /// Where the symbol is looked for.
+    pub provider: Provider<'a>,
+    /// The place in the file of the pointer to bind.
+    pub offset: u64,
+    /// The address in memory of the pointer to bind.
+    pub address: u64,
+    /// What is added to the symbol's address.
+    pub addend: i64,
+    /// Whether the symbol may be missing.
+    pub is_weak: bool,
+    /// Whether it is bound at its first use.
+    pub is_lazy: bool,
+}
+
 impl<'a> Provider<'a> {
     /// The provider of an ordinal: 0 is the image itself, a number above it a library, -1 the main
     /// executable, -2 any image, -3 the weak look-up. `libs` are the image's libraries, by ordinal.
@@ -40,10 +58,10 @@ impl<'a> Provider<'a> {
         }
     }
 
-    // The same, with no reason where there is none.
-    #[tactic(auto, unfolding(crate::specs::Providers::provider_of))]
+    /// The same, with no reason where there is none.
+    #[tactic(auto, unfolding(crate::specs::Bindings::provider_of))]
     #[inline(always)]
-    pub(crate) fn by_ordinal(libs: &[&'a str], ordinal: i64) -> Option<Self>
+    pub fn by_ordinal(libs: &[&'a str], ordinal: i64) -> Option<Self>
         ensures { MatchOption result (provider_of (texts libs.now) ordinal ≡ Err malformed)
             (λ p. provider_of (texts libs.now) ordinal ≡ Ok (provider_view p)) }
     {
@@ -56,10 +74,10 @@ impl<'a> Provider<'a> {
         }
     }
 
-    // The provider of a number that counts the libraries: 0 is the image itself.
-    #[tactic(auto, unfolding(crate::specs::Providers::provider_of))]
+    /// The provider of a number that counts the libraries: 0 is the image itself.
+    #[tactic(auto, unfolding(crate::specs::Bindings::provider_of))]
     #[inline(always)]
-    pub(crate) fn by_number(libs: &[&'a str], ordinal: u64) -> Option<Self>
+    pub fn by_number(libs: &[&'a str], ordinal: u64) -> Option<Self>
         ensures { MatchOption result (provider_of (texts libs.now) (pos ordinal) ≡ Err malformed)
             (λ p. provider_of (texts libs.now) (pos ordinal) ≡ Ok (provider_view p)) }
     {
