@@ -3,7 +3,8 @@ use Rattle.std.proofs.Common.{◌≡◌, ℕ, List, [], ◌∷◌, Bool, true, f
 use Rattle.mach_base.specs.Fault.{Fault}
 use Rattle.mach_chained.specs.declared.source.Source.{Source}
 use Rattle.mach_chained.specs.Fixups.{Input, Fixup}
-use Rattle.mach_chained.specs.Bindings.{Binding, binding_in, bindings_before, bindings_of}
+use Rattle.mach_parts.specs.Bindings.{Binding}
+use Rattle.mach_chained.specs.Bindings.{binding_in, bindings_before, bindings_of}
 use Rattle.mach_chained.specs.WalkViews.{input_of}
 
 abbrev Items : Type 0

@@ -4,41 +4,12 @@ use Rattle.mach_base.specs.Among.{IsAmong}
 use Rattle.mach_base.specs.Answer.{◌>>=◌}
 use Rattle.mach_base.specs.Fault.{Fault, malformed}
 use Rattle.mach_base.specs.Sums.{found_or_malformed, sum_of}
+use Rattle.mach_parts.specs.Bindings.{Binding, provider_of}
 use Rattle.mach_parts.specs.declared.segment.Segment.{Segment}
 use Rattle.mach_chained.specs.Imports.{import_at}
 use Rattle.mach_chained.specs.Pointers.{Kind, rebase, bind, value}
 use Rattle.mach_chained.specs.Fixups.{Input, Fixup}
 use Rattle.mach_chained.specs.Chained.{Placed, AreFixups, fixup_items, AreFixupItems}
-
--- where a symbol is sought
-pub data Provider : Type 0 where
-  library : (ordinal : ℕ) (name : List ℕ) → Provider
-  itself : Provider
-  main_executable : Provider
-  flat : Provider
-  weak_lookup : Provider
-
--- The table of ordinals (`mach-o/loader.h`, the constants BIND_SPECIAL_DYLIB): libraries are counted from 1.
-abbrev pub provider_of : List (List ℕ) → ℤ → Result Provider Fault
-provider_of libs (pos n) =
-    if n == 0 then Ok itself
-    else (found_or_malformed (slice_get libs n) >>= (λ name. Ok (library n name)))
-provider_of libs (negsuc n) =
-    if n == 0 then Ok main_executable
-    else (if n == 1 then Ok flat
-    else (if n == 2 then Ok weak_lookup
-    else Err malformed))
-
--- a pointer that takes a symbol's address: the symbol and where it is sought, the pointer's place in the file and its
--- address in memory, and what is added
-pub record Binding : Type 0 where
-  pub name : List ℕ
-  pub provider : Provider
-  pub offset : ℕ
-  pub address : ℕ
-  pub addend : ℤ
-  pub is_weak : Bool
-  pub is_lazy : Bool
 
 -- where an offset in a segment lies in the file
 abbrev pub place_in_file : List Segment → ℕ → ℕ → Result ℕ Fault

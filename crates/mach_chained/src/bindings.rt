@@ -5,34 +5,16 @@ ghost use Rattle.std.specs.Iterator.{YieldsFirstBy};
 ghost use Rattle.mach_base.specs.Answer.{Reads};
 ghost use Rattle.mach_chained.specs.Bindings.{place_in_file, signed_or_malformed, binding_of, binding_in, AreBindingItems};
 ghost use Rattle.mach_chained.specs.WalkViews.{input_of, input_in, fixup_view};
-ghost use Rattle.mach_chained.specs.BindingViews.{texts, binding_view, binding_read, bindings_left};
+ghost use Rattle.mach_parts.specs.Bindings.{texts, binding_view, binding_read};
+ghost use Rattle.mach_chained.specs.BindingViews.{bindings_left};
 
 use crate::fixups::FixupIterator;
 use crate::header::ChainedFixups;
 use crate::pointer::FixupKind;
-use crate::provider::Provider;
 use crate::source::{Fixup, nth_segment};
 use mach_base::{Error, Result};
+use mach_parts::binding::{Binding, Provider};
 use mach_parts::segment::Segment;
-
-/// A pointer that takes the address of a symbol.
-#[derive(Clone, Copy, Debug)]
-pub struct Binding<'a> {
-    /// The symbol's name.
-    pub name: &'a str,
-    /// Where the symbol is sought.
-    pub provider: Provider<'a>,
-    /// The place in the file of the pointer to bind.
-    pub offset: u64,
-    /// The address in memory of the pointer to bind.
-    pub address: u64,
-    /// What is added to the symbol's address.
-    pub addend: i64,
-    /// Whether the symbol may be missing.
-    pub is_weak: bool,
-    /// Whether it is bound at its first use.
-    pub is_lazy: bool,
-}
 
 // Where an offset in a segment lies in the file.
 fn place_in_file(segments: &[Segment<'_>], number: u32, offset: u64) -> Result<u64>
@@ -92,7 +74,7 @@ impl<'a> ChainedBindIterator<'a, '_> {
     {
         let source = &self.fixups.source;
         let found = source.fixups.import(import)?;
-        let provider = Provider::of(self.libs, found.library)?;
+        let provider = Provider::of_ordinal(self.libs, i64::from(found.library))?;
         let offset = place_in_file(source.segments, fixup.segment, fixup.offset)?;
         let addend = whole_addend(found.addend, addend)?;
         Ok(Binding {

@@ -9,20 +9,15 @@ mod header;
 mod imports;
 pub mod laws;
 mod pointer;
-mod provider;
 mod records;
 mod source;
 mod starts;
 
-pub use crate::bindings::{Binding, ChainedBindIterator};
+pub use crate::bindings::ChainedBindIterator;
 pub use crate::fixups::FixupIterator;
 pub use crate::format::{ImportFormat, PointerFormat};
 pub use crate::header::{ChainedFixups, ChainedFixupsHeader, SIZEOF_CHAINED_FIXUPS_HEADER};
 pub use crate::imports::{ChainedImport, ChainedImportIterator};
 pub use crate::pointer::{FixupKind, PointerAuth};
-pub use crate::provider::{
-    BIND_SPECIAL_DYLIB_FLAT_LOOKUP, BIND_SPECIAL_DYLIB_MAIN_EXECUTABLE, BIND_SPECIAL_DYLIB_SELF,
-    BIND_SPECIAL_DYLIB_WEAK_LOOKUP, Provider,
-};
 pub use crate::source::Fixup;
 pub use crate::starts::{ChainedStartsInSegment, SIZEOF_CHAINED_STARTS_IN_SEGMENT};

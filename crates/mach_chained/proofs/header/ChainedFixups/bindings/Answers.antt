@@ -2,7 +2,8 @@ use Rattle.std.proofs.Common.{ap}
 use Rattle.mach_chained.specs.Fixups.{Input}
 use Rattle.mach_chained.specs.Bindings.{bindings_of}
 use Rattle.mach_chained.specs.FixupsLeft.{fixups_left}
-use Rattle.mach_chained.specs.BindingViews.{texts, bindings_left}
+use Rattle.mach_parts.specs.Bindings.{texts}
+use Rattle.mach_chained.specs.BindingViews.{bindings_left}
 use Rattle.mach_chained.proofs.header.ChainedFixups.bindings.Goals as goal
 
 pub returns : goal.returns
