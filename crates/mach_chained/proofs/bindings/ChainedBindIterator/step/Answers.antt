@@ -1,0 +1,92 @@
+use Rattle.std.proofs.Common.{◌≡◌, ◌∷◌, [], Some, None, Ok, Err, refl, sym, ap, ◌∙◌, arith, length}
+use Rattle.mach_base.specs.Fault.{fault_of}
+use Rattle.mach_chained.specs.WalkViews.{input_of, fixup_view, fixup_read}
+use Rattle.mach_chained.specs.FixupsLeft.{fixups_left}
+use Rattle.mach_chained.specs.Bindings.{binding_in}
+use Rattle.mach_parts.specs.Bindings.{texts, binding_view, binding_read}
+use Rattle.mach_chained.specs.BindingViews.{bindings_left}
+use Rattle.mach_chained.proofs.BindingsLeft.{on_bindings, off_bindings, before_others}
+use Rattle.mach_chained.proofs.bindings.ChainedBindIterator.step.Goals as goal
+
+pub returns-then-self : goal.returns-then-self
+unfolding bindings_left
+returns-then-self c =
+    let it = c.args.self.now in
+    let none = off_bindings it.ended it.fixups.source (texts it.libs.now) (fixups_left it.fixups) c.if-self.true in
+    (none, none)
+
+pub returns-in-None : goal.returns-in-None
+unfolding bindings_left
+returns-in-None c =
+    let it = c.fixups.self in
+    let new = c.step.new.self in
+    let libs = texts it.libs.now in
+    let inv = c.fixups.invariant in (
+      inv.items ∙ on_bindings it.ended it.fixups.source it.fixups.source libs (fixups_left it.fixups) [] inv.on refl c.in-None.ensures.items.0,
+      on_bindings it.ended new.source new.source libs (fixups_left new) [] inv.on refl c.in-None.ensures.items.1,
+    )
+
+pub returns-in-Some-Err : goal.returns-in-Some-Err
+unfolding bindings_left
+returns-in-Some-Err c =
+    let it = c.fixups.self in
+    let new = c.step.new.self in
+    let libs = texts it.libs.now in
+    let inv = c.fixups.invariant in
+    let f = fault_of c.in-Some-Err.e in
+    let there : fixups_left it.fixups ≡ Err f ∷ fixups_left new =
+    c.in-Some-Err.ensures.items ∙ ap (λ r. fixup_read r ∷ fixups_left new) c.in-Some-Err.field-0-is in
+    inv.items ∙ on_bindings it.ended it.fixups.source it.fixups.source libs (fixups_left it.fixups) (Err f ∷ fixups_left new) inv.on refl there
+    ∙ ap (λ r. Err f ∷ r) (sym c.end.ensures)
+
+pub returns-in-Some-Ok-binding : goal.returns-in-Some-Ok-binding
+unfolding bindings_left
+returns-in-Some-Ok-binding c =
+    let it = c.fixups.self in
+    let new = c.step.new.self in
+    let libs = texts it.libs.now in
+    let inv = c.fixups.invariant in
+    let x = input_of new.source in
+    let f = fixup_view c.in-Some-Ok.fixup in
+    let there : fixups_left it.fixups ≡ Ok f ∷ fixups_left new =
+    c.in-Some-Ok.ensures.items ∙ ap (λ r. fixup_read r ∷ fixups_left new) c.in-Some-Ok.field-0-is in
+    let b = binding_view c.in-Some-Ok-binding.binding in
+    let own : binding_in x libs f ≡ Some (Ok b) = c.in-Some-Ok-binding.ensures ∙ ap (λ r. Some (binding_read r)) c.in-Some-Ok-binding.field-0-is in
+    inv.items ∙ on_bindings it.ended it.fixups.source new.source libs (fixups_left it.fixups) (Ok f ∷ fixups_left new) inv.on c.step.ensures.source there
+    ∙ before_others x libs f (fixups_left new) (Some (Ok b)) own
+    ∙ ap (λ m. Ok b ∷ m) (sym (on_bindings it.ended new.source new.source libs (fixups_left new) (fixups_left new) inv.on refl refl))
+
+pub returns-in-Some-Err-binding : goal.returns-in-Some-Err-binding
+unfolding bindings_left
+returns-in-Some-Err-binding c =
+    let it = c.fixups.self in
+    let new = c.step.new.self in
+    let libs = texts it.libs.now in
+    let inv = c.fixups.invariant in
+    let x = input_of new.source in
+    let f = fixup_view c.in-Some-Ok.fixup in
+    let there : fixups_left it.fixups ≡ Ok f ∷ fixups_left new =
+    c.in-Some-Ok.ensures.items ∙ ap (λ r. fixup_read r ∷ fixups_left new) c.in-Some-Ok.field-0-is in
+    let g = fault_of c.in-Some-Err-binding.e in
+    let own : binding_in x libs f ≡ Some (Err g) = c.in-Some-Err-binding.ensures ∙ ap (λ r. Some (binding_read r)) c.in-Some-Err-binding.field-0-is in
+    inv.items ∙ on_bindings it.ended it.fixups.source new.source libs (fixups_left it.fixups) (Ok f ∷ fixups_left new) inv.on c.step.ensures.source there
+    ∙ before_others x libs f (fixups_left new) (Some (Err g)) own
+    ∙ ap (λ m. Err g ∷ m) (sym c.end-in-Some-Err-binding.ensures)
+
+pub fixups-preserved : goal.fixups-preserved
+unfolding bindings_left
+fixups-preserved c =
+    let it = c.fixups.self in
+    let new = c.step.new.self in
+    let libs = texts it.libs.now in
+    let inv = c.fixups.invariant in
+    let x = input_of new.source in
+    let f = fixup_view c.in-Some-Ok.fixup in
+    let there : fixups_left it.fixups ≡ Ok f ∷ fixups_left new =
+    c.in-Some-Ok.ensures.items ∙ ap (λ r. fixup_read r ∷ fixups_left new) c.in-Some-Ok.field-0-is in
+    record {
+      items = inv.items ∙ on_bindings it.ended it.fixups.source new.source libs (fixups_left it.fixups) (Ok f ∷ fixups_left new) inv.on c.step.ensures.source there
+          ∙ before_others x libs f (fixups_left new) None c.in-None-binding.ensures
+          ∙ sym (on_bindings it.ended new.source new.source libs (fixups_left new) (fixups_left new) inv.on refl refl);
+      on = inv.on;
+    }

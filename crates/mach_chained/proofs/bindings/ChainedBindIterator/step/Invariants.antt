@@ -1,0 +1,13 @@
+use Rattle.std.proofs.Common.{◌≡◌, false, length}
+use Rattle.mach_chained.specs.FixupsLeft.{fixups_left}
+use Rattle.mach_chained.specs.BindingViews.{bindings_left}
+use Rattle.mach_chained.proofs.bindings.ChainedBindIterator.step.Given as goal
+
+abbrev pub invariant-fixups : goal.invariant-fixups
+invariant-fixups l = record {
+  items : bindings_left l.initial.self ≡ bindings_left l.self;
+  on : l.self.ended ≡ false;
+}
+
+abbrev pub decreases-fixups : goal.decreases-fixups
+decreases-fixups l = length (fixups_left l.self.fixups)

@@ -1,0 +1,168 @@
+//! The bindings of an image whose binds stand in chains.
+
+ghost use Rattle.std.specs.Prelude.{◌≡◌, ◌+ℤ◌, [], Some, None, MatchOption};
+ghost use Rattle.std.specs.Iterator.{YieldsFirstBy};
+ghost use Rattle.mach_base.specs.Answer.{Reads};
+ghost use Rattle.mach_chained.specs.Bindings.{place_in_file, signed_or_malformed, binding_of, binding_in, AreBindingItems};
+ghost use Rattle.mach_chained.specs.WalkViews.{input_of, input_in, fixup_view};
+ghost use Rattle.mach_parts.specs.Bindings.{texts, binding_view, binding_read};
+ghost use Rattle.mach_chained.specs.BindingViews.{bindings_left};
+
+use crate::fixups::FixupIterator;
+use crate::header::ChainedFixups;
+use crate::pointer::FixupKind;
+use crate::source::{Fixup, nth_segment};
+use mach_base::{Error, Result};
+use mach_parts::binding::{Binding, Provider};
+use mach_parts::segment::Segment;
+
+// Where an offset in a segment lies in the file.
+fn place_in_file(segments: &[Segment<'_>], number: u32, offset: u64) -> Result<u64>
+    ensures { Reads (λ n. n) result (place_in_file segments.now number offset) }
+{
+    let segment = nth_segment(segments, number)?;
+    match segment.fileoff.checked_add(offset) {
+        Some(place) => Ok(place),
+        None => Err(Error::Malformed("a bind's place has at most 64 bits")),
+    }
+}
+
+// The sum of an import's addend and a pointer's.
+fn whole_addend(addend: i64, inline: i32) -> Result<i64>
+    ensures { Reads (λ n. n) result (signed_or_malformed (addend +ℤ inline)) }
+{
+    match addend.checked_add(i64::from(inline)) {
+        Some(sum) => Ok(sum),
+        None => Err(Error::Malformed("a bind's addend has at most 64 bits")),
+    }
+}
+
+/// The bindings one at a time, one for each bind of the chains, in order, up to the first fault; then
+/// its error; then nothing more. It takes no memory.
+#[derive(Drop)]
+pub struct ChainedBindIterator<'a, 'b> {
+    pub(crate) fixups: FixupIterator<'a, 'b>,
+    pub(crate) libs: &'b [&'a str],
+    pub(crate) ended: bool,
+}
+
+impl<'a> ChainedFixups<'a> {
+    /// The bindings one at a time, one for each bind of the chains, in order, up to the first fault, and
+    /// its error last. `libs` are the image's libraries, by ordinal, `segments` its segments, and `base`
+    /// is the address of its first byte in memory. It takes no memory.
+    pub fn bindings<'b>(
+        &self,
+        libs: &'b [&'a str],
+        segments: &'b [Segment<'a>],
+        base: u64,
+    ) -> ChainedBindIterator<'a, 'b>
+        ensures { AreBindingItems (input_in self.now segments.now base) (texts libs.now) (bindings_left result) }
+    {
+        ChainedBindIterator {
+            fixups: self.start(segments, base),
+            libs,
+            ended: false,
+        }
+    }
+}
+
+impl<'a> ChainedBindIterator<'a, '_> {
+    // The binding of a bind.
+    #[tactic(auto, unfolding(crate::specs::Bindings::binding_of))]
+    fn bound(&self, fixup: &Fixup, import: u32, addend: i32) -> Result<Binding<'a>>
+        ensures { Reads binding_view result (binding_of (input_of self.now.fixups.source) (texts self.now.libs.now) (fixup_view fixup.now) import addend) }
+    {
+        let source = &self.fixups.source;
+        let found = source.fixups.import(import)?;
+        let provider = Provider::of_ordinal(self.libs, i64::from(found.library))?;
+        let offset = place_in_file(source.segments, fixup.segment, fixup.offset)?;
+        let addend = whole_addend(found.addend, addend)?;
+        Ok(Binding {
+            name: found.name,
+            provider,
+            offset,
+            address: fixup.address,
+            addend,
+            is_weak: found.is_weak,
+            is_lazy: false,
+        })
+    }
+
+    // Ends.
+    fn end(&mut self)
+        ensures { bindings_left self.new ≡ [] }
+    {
+        self.ended = true;
+    }
+
+    // What comes of a fixup, if it is a bind.
+    fn binding(&self, fixup: &Fixup) -> Option<Result<Binding<'a>>>
+        ensures { MatchOption result
+            (binding_in (input_of self.now.fixups.source) (texts self.now.libs.now) (fixup_view fixup.now) ≡ None)
+            (λ answer. binding_in (input_of self.now.fixups.source) (texts self.now.libs.now) (fixup_view fixup.now) ≡ Some (binding_read answer)) }
+    {
+        match fixup.kind {
+            FixupKind::Bind { import, addend } => match self.bound(fixup, import, addend) {
+                Ok(binding) => Some(Ok(binding)),
+                Err(e) => Some(Err(e)),
+            },
+            FixupKind::Rebase { target: _ } => None,
+            FixupKind::Value { value: _ } => None,
+        }
+    }
+
+    // The next binding, or the fault that ends them.
+    fn step(&mut self) -> Option<Result<Binding<'a>>>
+        ensures { YieldsFirstBy binding_read bindings_left self.old result self.new }
+    {
+        if self.ended {
+            return None;
+        }
+        'fixups: loop {
+            let fixup = match self.fixups.step() {
+                None => return None,
+                Some(Ok(fixup)) => fixup,
+                Some(Err(e)) => {
+                    self.end();
+                    return Some(Err(e));
+                }
+            };
+            match self.binding(&fixup) {
+                None => {}
+                Some(Ok(binding)) => return Some(Ok(binding)),
+                Some(Err(e)) => {
+                    self.end();
+                    return Some(Err(e));
+                }
+            }
+        }
+    }
+}
+
+impl<'a, 'b> Iterator for ChainedBindIterator<'a, 'b> {
+    type Item = Result<Binding<'a>>;
+
+    ghost use Rattle.std.specs.Iterator.{item_count};
+
+    ghost next_gives = { YieldsFirstBy binding_read bindings_left };
+
+    ghost remaining = { item_count bindings_left };
+
+    fn next(&mut self) -> Option<Result<Binding<'a>>> {
+        self.step()
+    }
+}
+
+impl<'a, 'b> Default for ChainedBindIterator<'a, 'b> {
+    ghost is_default = { λ it. bindings_left it ≡ [] };
+
+    /// No bindings.
+    #[tactic(auto, unfolding(crate::specs::BindingViews::bindings_left))]
+    fn default() -> Self {
+        ChainedBindIterator {
+            fixups: FixupIterator::default(),
+            libs: &[],
+            ended: true,
+        }
+    }
+}

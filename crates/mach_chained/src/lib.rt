@@ -1,0 +1,23 @@
+//! What dyld reads of chained fixups (`mach-o/fixup-chains.h`).
+#![tactic(auto)]
+
+mod bindings;
+mod bits;
+mod fixups;
+mod format;
+mod header;
+mod imports;
+pub mod laws;
+mod pointer;
+mod records;
+mod source;
+mod starts;
+
+pub use crate::bindings::ChainedBindIterator;
+pub use crate::fixups::FixupIterator;
+pub use crate::format::{ImportFormat, PointerFormat};
+pub use crate::header::{ChainedFixups, ChainedFixupsHeader, SIZEOF_CHAINED_FIXUPS_HEADER};
+pub use crate::imports::{ChainedImport, ChainedImportIterator};
+pub use crate::pointer::{FixupKind, PointerAuth};
+pub use crate::source::Fixup;
+pub use crate::starts::{ChainedStartsInSegment, SIZEOF_CHAINED_STARTS_IN_SEGMENT};

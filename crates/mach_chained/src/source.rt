@@ -1,0 +1,298 @@
+//! What fixups are read from: the segments with their chains, the starts of pages, the pointers.
+
+ghost use Rattle.std.specs.Prelude.{◌≡◌, ◌+◌, ◌<◌, ◌≤◌, ◌^◌, length, drop, Some, OnOk, MatchOption};
+ghost use Rattle.mach_base.specs.Answer.{Reads};
+ghost use Rattle.mach_base.specs.Number.{number, number_at};
+ghost use Rattle.mach_base.specs.Sums.{found_or_malformed};
+ghost use Rattle.mach_chained.specs.Pointers.{pointer_width};
+ghost use Rattle.mach_chained.specs.Fixups.{Input, span_at, no_ends, ends_of, in_memory, behind, start_at, spot_of, spot_by, start_among, first_in_page, next_in_page, fixup_at};
+ghost use Rattle.mach_chained.specs.WalkViews.{input_of, chains_view, span_view, span_seen, spot_view, spot_seen, fixup_seen};
+ghost use Rattle.mach_chained.specs.FixupsLeft.{next_spot};
+ghost use Rattle.std.specs.Prelude.{slice_get};
+
+use crate::format::PointerFormat;
+use crate::header::ChainedFixups;
+use crate::pointer::{FixupKind, PointerAuth, pointer_len, read_pointer};
+use crate::starts::{Chains, SIZEOF_CHAINED_STARTS_IN_SEGMENT};
+use mach_base::{Endian, Error, Result, bytes_at};
+use mach_parts::segment::Segment;
+
+/// The start of a page that has no chain.
+pub const DYLD_CHAINED_PTR_START_NONE: u16 = 0xffff;
+
+/// The bit of a page's start that says that the page has several, which stand behind those of the pages.
+pub const DYLD_CHAINED_PTR_START_MULTI: u16 = 0x8000;
+
+/// The bit of the last of several starts.
+pub const DYLD_CHAINED_PTR_START_LAST: u16 = 0x8000;
+
+/// A pointer that dyld corrects.
+#[derive(Clone, Copy, Debug)]
+pub struct Fixup {
+    /// The number of the segment.
+    pub segment: u32,
+    /// The place in the segment.
+    pub offset: u64,
+    /// The address in memory.
+    pub address: u64,
+    /// What is asked for.
+    pub kind: FixupKind,
+    /// How the pointer is signed, if it is.
+    pub auth: Option<PointerAuth>,
+}
+
+// What fixups are read from.
+#[derive(Clone, Copy)]
+pub struct Source<'a, 'b> {
+    pub fixups: ChainedFixups<'a>,
+    pub segments: &'b [Segment<'a>],
+    pub base: u64,
+}
+
+// A segment that has chains.
+#[derive(Clone, Copy)]
+pub struct Span<'a> {
+    pub number: u32,
+    pub vmaddr: u64,
+    pub fileoff: u64,
+    pub bytes: &'a [u8],
+    pub chains: Chains,
+}
+
+// A place in a page, and where its chain is not the last of the page the number of the next one's start.
+#[derive(Clone, Copy)]
+pub struct PagePlace {
+    pub at: usize,
+    pub more: Option<u32>,
+}
+
+// Where the next fixup of a page stands: nowhere, at a place, or at one of several starts that does not
+// lie before a place.
+#[derive(Clone, Copy)]
+pub enum NextPlace {
+    Nothing,
+    Fixup(PagePlace),
+    Start { index: u32, least: usize },
+}
+
+/// The segment of a number.
+pub fn nth_segment<'b, 'a>(segments: &'b [Segment<'a>], number: u32) -> Result<&'b Segment<'a>>
+    ensures { Reads (λ s. s.now) result (found_or_malformed (slice_get segments.now number)) }
+{
+    match segments.get(number as usize) {
+        Some(segment) => Ok(segment),
+        None => Err(Error::Malformed("a chain's segment is one of the list")),
+    }
+}
+
+// The number that stands at a place of a segment's data, if it lies there.
+#[inline(always)]
+fn raw_at(le: Endian, format: PointerFormat, bytes: &[u8], place: usize) -> Option<u64>
+    requires { place < 2 ^ 60 }
+    ensures { MatchOption result (length bytes.now < place + pointer_width format)
+        (λ raw. (place + pointer_width format ≤ length bytes.now) × (raw ≡ number le (pointer_width format) (drop place bytes.now))) }
+{
+    if place + pointer_len(format) > bytes.len() {
+        return None;
+    }
+    match format {
+        PointerFormat::Generic32 => Some(u64::from(le.u32_at(bytes, place))),
+        _ => Some(le.u64_at(bytes, place)),
+    }
+}
+
+// The number of two bytes at a place.
+fn read_u16(bytes: &[u8], place: usize, le: Endian) -> Result<u16>
+    ensures { Reads (λ n. n) result (number_at le 2 bytes.now place) }
+{
+    Ok(le.u16_at(bytes_at(bytes, place, 2)?, 0))
+}
+
+// The place of one of several starts, which does not lie before another one.
+fn start_place(index: u32, least: usize, start: u16) -> Result<PagePlace>
+    requires { index + 1 < 2 ^ 32 }
+    ensures { Reads (λ p. Some (spot_view p)) result (spot_of index least start) }
+{
+    let at = usize::from(start % DYLD_CHAINED_PTR_START_LAST);
+    if at < least {
+        return Err(Error::Malformed("a start lies behind the chain before it"));
+    }
+    let more = if start < DYLD_CHAINED_PTR_START_LAST {
+        Some(index + 1)
+    } else {
+        None
+    };
+    Ok(PagePlace { at, more })
+}
+
+impl<'a> Span<'a> {
+    // What stands for the segment before the first: it has no pages, and ends where all begins.
+    pub fn before_all() -> Self
+        ensures ends { ends_of (span_view result) ≡ no_ends }
+        ensures pages { result.chains.page_count ≡ 0 }
+    {
+        Span {
+            number: 0,
+            vmaddr: 0,
+            fileoff: 0,
+            bytes: &[],
+            chains: Chains {
+                page_size: 0,
+                format: PointerFormat::Generic64,
+                segment_offset: 0,
+                greatest: 0,
+                page_count: 0,
+                place: 0,
+                upto: 0,
+                room: 0,
+            },
+        }
+    }
+
+    // Where the next fixup stands, so many bytes further or where the chain ends at the next start.
+    #[inline(always)]
+    pub fn next_place(&self, place: PagePlace, skip: u32) -> NextPlace
+        requires { place.at < 2 ^ 16 }
+        ensures { (x : Input) → next_spot x (span_view self.now) result ≡ next_in_page x (span_view self.now) (spot_view place) skip }
+    {
+        if skip != 0 {
+            return NextPlace::Fixup(PagePlace {
+                at: place.at + skip as usize,
+                more: place.more,
+            });
+        }
+        match place.more {
+            None => NextPlace::Nothing,
+            Some(index) => NextPlace::Start {
+                index,
+                least: place.at + pointer_len(self.chains.format),
+            },
+        }
+    }
+}
+
+impl<'a, 'b> Source<'a, 'b> {
+    // The segment, where its chains know its place in memory.
+    fn in_memory(&self, chains: &Chains, segment: &'b Segment<'a>) -> Result<&'b Segment<'a>>
+        ensures { Reads (λ s. s.now) result (in_memory (input_of self.now) (chains_view chains.now) segment.now) }
+    {
+        let address = u128::from(self.base) + u128::from(chains.segment_offset);
+        if address != u128::from(segment.vmaddr) {
+            return Err(Error::Malformed("chains know where their segment is"));
+        }
+        Ok(segment)
+    }
+
+    // The segment, where its starts and its data lie behind those of the one before.
+    fn behind(
+        &self,
+        before: &Span<'a>,
+        chains: &Chains,
+        segment: &'b Segment<'a>,
+    ) -> Result<&'b Segment<'a>>
+        ensures { Reads (λ s. s.now) result (behind (ends_of (span_view before.now)) (chains_view chains.now) segment.now) }
+    {
+        if chains.place < before.chains.upto {
+            return Err(Error::Malformed("starts lie behind those before them"));
+        }
+        let end = u128::from(before.fileoff) + before.bytes.len() as u128;
+        if u128::from(segment.fileoff) < end {
+            return Err(Error::Malformed("a segment with chains lies behind the one before it"));
+        }
+        Ok(segment)
+    }
+
+    // A segment with its chains, if it has any, behind the one before.
+    #[tactic(auto, unfolding(crate::specs::Fixups::span_at))]
+    pub fn span(&self, before: &Span<'a>, number: u32) -> Result<Option<Span<'a>>>
+        ensures { Reads span_seen result (span_at (input_of self.now) (ends_of (span_view before.now)) number) }
+    {
+        let Some((starts, place)) = self.fixups.starts(number)? else {
+            return Ok(None);
+        };
+        let chains = Chains::of(&starts, place)?;
+        let segment = nth_segment(self.segments, number)?;
+        let there = self.in_memory(&chains, segment)?;
+        let next = self.behind(before, &chains, there)?;
+        Ok(Some(Span {
+            number,
+            vmaddr: next.vmaddr,
+            fileoff: next.fileoff,
+            bytes: next.bytes,
+            chains,
+        }))
+    }
+
+    // A start of a segment: those of its pages come first.
+    fn start(&self, span: &Span<'a>, index: u32) -> Result<u16>
+        ensures { Reads (λ n. n) result (start_at (input_of self.now) (span_view span.now) index) }
+    {
+        let offset = SIZEOF_CHAINED_STARTS_IN_SEGMENT + index as usize * 2;
+        let place = span.chains.place.saturating_add(offset);
+        read_u16(self.fixups.payload, place, self.fixups.le)
+    }
+
+    // The place of one of several starts, which does not lie before another one.
+    pub fn start_among(&self, span: &Span<'a>, index: u32, least: usize) -> Result<PagePlace>
+        ensures { Reads (λ p. Some (spot_view p)) result (start_among (input_of self.now) (span_view span.now) index least) }
+    {
+        if index >= span.chains.room {
+            return Err(Error::Malformed("starts have room for those of a page"));
+        }
+        let start = self.start(span, index)?;
+        start_place(index, least, start)
+    }
+
+    // The first place of a page, if it has one.
+    #[tactic(auto, unfolding(crate::specs::Fixups::first_in_page))]
+    pub fn first_in_page(&self, span: &Span<'a>, page: u16) -> Result<Option<PagePlace>>
+        ensures { Reads spot_seen result (first_in_page (input_of self.now) (span_view span.now) page) }
+    {
+        let start = self.start(span, u32::from(page))?;
+        if start == DYLD_CHAINED_PTR_START_NONE {
+            return Ok(None);
+        }
+        if start < DYLD_CHAINED_PTR_START_MULTI {
+            return Ok(Some(PagePlace {
+                at: usize::from(start),
+                more: None,
+            }));
+        }
+        let index = u32::from(start - DYLD_CHAINED_PTR_START_MULTI);
+        let place = self.start_among(span, index, 0)?;
+        Ok(Some(place))
+    }
+
+    // The fixup at a place of a page, and how far the next one is, 0 at the last.
+    #[tactic(auto, unfolding(crate::specs::Fixups::fixup_at))]
+    #[inline(always)]
+    pub fn fixup(&self, span: &Span<'a>, page: u16, at: usize) -> Result<(Fixup, u32)>
+        ensures value { Reads fixup_seen result (fixup_at (input_of self.now) (span_view span.now) page at) }
+        ensures within { OnOk result (at < 2 ^ 16) }
+    {
+        if at >= usize::from(span.chains.page_size) {
+            return Err(Error::Malformed("a chain stays in its page"));
+        }
+        let offset = usize::from(page) * usize::from(span.chains.page_size) + at;
+        let Some(raw) = raw_at(self.fixups.le, span.chains.format, span.bytes, offset) else {
+            return Err(Error::Malformed("a fixup lies in its segment's data"));
+        };
+        let Some(address) = span.vmaddr.checked_add(offset as u64) else {
+            return Err(Error::Malformed("a fixup's address has at most 64 bits"));
+        };
+        let pointer = read_pointer(span.chains.format, self.base, span.chains.greatest, raw);
+        if let FixupKind::Bind { import, .. } = pointer.kind
+            && import >= self.fixups.header.imports_count
+        {
+            return Err(Error::Malformed("a bind's import is one of the table"));
+        }
+        let fixup = Fixup {
+            segment: span.number,
+            offset: offset as u64,
+            address,
+            kind: pointer.kind,
+            auth: pointer.auth,
+        };
+        Ok((fixup, pointer.skip))
+    }
+}
