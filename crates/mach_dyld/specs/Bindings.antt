@@ -75,7 +75,8 @@ binding_of x ordinal b = do
 abbrev pub last_ordinal : List ℕ → List Placed → ℤ
 last_ordinal bytes back = last_setting (pos 0) (ordinal_in bytes) back
 
--- what comes of an instruction, before which others stand, the nearest first: a threaded bind is a fault
+-- what comes of an instruction, before which others stand, the nearest first: a threaded bind is a fault, so that
+-- nothing of what is read behind it comes up to the first fault
 abbrev pub bindings_at : Input → Range → List Placed → Placed → List (Result Binding Fault)
 bindings_at x r back p =
     if is_threaded x.bytes p then Err malformed ∷ []

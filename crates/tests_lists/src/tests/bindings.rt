@@ -90,6 +90,15 @@ fn text_of(alloc: Global, given: OpcodeBindingIterator<'_, '_>) -> Result<String
     Ok(text)
 }
 
+// The bindings of 64 bits, as one text.
+fn listed(
+    alloc: Global,
+    binds: &BindInterpreter<'_>,
+    segments: &[Segment<'_>],
+) -> Result<String, AllocError> {
+    text_of(alloc, binds.bindings(&LIBS, segments, WIDE))
+}
+
 // Streams of 64 bits with one segment of 0x1000 bytes at 0, and their bindings.
 const ROWS: [(&str, &[u8], &str); 25] = [
     ("none", &[], ""),
@@ -173,7 +182,7 @@ fn rows(rt: HostRuntime) -> Result<(), Fail> {
     let segments = [segment(0, 0x1000)];
     for (name, bytes, want) in ROWS {
         let binds = BindInterpreter::new(bytes, &whole(bytes));
-        let got = text_of(alloc, binds.bindings(&LIBS, &segments, WIDE))?;
+        let got = listed(alloc, &binds, &segments)?;
         assert_eq!(rt; got.as_str(), want, "{name}");
     }
     Ok(())
@@ -191,21 +200,21 @@ fn both_streams(rt: HostRuntime) -> Result<(), Fail> {
         ..DyldInfoCommand::default()
     };
     let binds = BindInterpreter::new(&bytes, &command);
-    let text = text_of(alloc, binds.bindings(&LIBS, &segments, WIDE))?;
+    let text = listed(alloc, &binds, &segments)?;
     assert_eq!(rt;
         text.as_str(),
         "[_a] flat 0x0 weak; [] itself 0x0 lazy; [] weak look-up 0x8 lazy; "
     );
     command.lazy_bind_size = 4;
     let binds = BindInterpreter::new(&bytes, &command);
-    let text = text_of(alloc, binds.bindings(&LIBS, &segments, WIDE))?;
+    let text = listed(alloc, &binds, &segments)?;
     assert_eq!(rt;
         text.as_str(),
         "[_a] flat 0x0 weak; [] itself 0x0 lazy; [] weak look-up 0x8 lazy; malformed"
     );
     command.bind_size = 10;
     let binds = BindInterpreter::new(&bytes, &command);
-    let text = text_of(alloc, binds.bindings(&LIBS, &segments, WIDE))?;
+    let text = listed(alloc, &binds, &segments)?;
     assert_eq!(rt;
         text.as_str(),
         "[_a] flat 0x0 weak; [_a] flat 0x8 weak; [_a] weak look-up 0x10 weak; malformed"
@@ -213,26 +222,37 @@ fn both_streams(rt: HostRuntime) -> Result<(), Fail> {
     Ok(())
 }
 
+// The address of an iterator's first binding.
+fn first_address(given: OpcodeBindingIterator<'_, '_>) -> Option<u64> {
+    let mut left = given;
+    match left.next() {
+        Some(Ok(binding)) => Some(binding.address),
+        _ => None,
+    }
+}
+
 #[test]
 fn places(rt: HostRuntime) -> Result<(), Fail> {
     let alloc = rt.alloc();
     let bytes = [0x3e, 0x70, 0, 0x90, 0x90];
     let binds = BindInterpreter::new(&bytes, &whole(&bytes));
-    let text = text_of(alloc, binds.bindings(&LIBS, &[segment(0, 9)], WIDE))?;
+    let text = listed(alloc, &binds, &[segment(0, 9)])?;
     assert_eq!(rt; text.as_str(), "[] flat 0x0; [] flat 0x8; ", "inside");
-    let text = text_of(alloc, binds.bindings(&LIBS, &[segment(0, 8)], WIDE))?;
+    let text = listed(alloc, &binds, &[segment(0, 8)])?;
     assert_eq!(rt; text.as_str(), "[] flat 0x0; malformed", "past its segment");
-    let text = text_of(alloc, binds.bindings(&LIBS, &[], WIDE))?;
+    let text = listed(alloc, &binds, &[])?;
     assert_eq!(rt; text.as_str(), "malformed", "no segment");
     let last = [segment(u64::MAX - 7, u64::MAX)];
-    let text = text_of(alloc, binds.bindings(&LIBS, &last, WIDE))?;
+    let text = listed(alloc, &binds, &last)?;
     assert_eq!(rt;
         text.as_str(),
         "[] flat 0x0; malformed",
         "an address past 64 bits"
     );
-    let first = binds.bindings(&LIBS, &last, WIDE).next();
-    assert!(rt; matches!(first, Some(Ok(b)) if b.address == u64::MAX - 7));
+    assert_eq!(rt;
+        first_address(binds.bindings(&LIBS, &last, WIDE)),
+        Some(u64::MAX - 7)
+    );
     Ok(())
 }
 
