@@ -1,10 +1,10 @@
 -- Branches that are passed, one after the other.
-use Rattle.std.proofs.Common.{◌≡◌, ◌<◌, ◌≤◌, ◌+◌, ◌-◌, ℕ, zero, suc, List, [], ◌∷◌, ◌++◌, ◌⊎◌, inl, inr, drop, Option, None, Result, Ok, refl, sym, ap, subst, ◌∙◌, arith}
+use Rattle.std.proofs.Common.{◌≡◌, ◌<◌, ◌≤◌, ◌-◌, ℕ, suc, List, ◌∷◌, ◌++◌, ◌⊎◌, inl, inr, Option, Result, Ok, refl, sym, ap, subst, ◌∙◌}
 use Rattle.mach_base.specs.Fault.{Fault}
 use Rattle.mach_dyld.specs.Trie.{Info, Branch}
 use Rattle.mach_dyld.specs.Nodes.{branch_at, branches_at}
 use Rattle.mach_dyld.specs.NodeViews.{branches_of, those_read, AreReadable}
-use Rattle.mach_dyld.specs.LookUp.{BranchesFind, at_nothing, passed, gone_back}
+use Rattle.mach_dyld.specs.Finds.{BranchesFind, at_nothing, passed, gone_back}
 use Rattle.mach_dyld.specs.LookUpViews.{Settles, Stops}
 use Rattle.mach_dyld.specs.WalkViews.{source_trie}
 use Rattle.mach_dyld.specs.declared.node.Branches.{Branches}

@@ -1,38 +1,84 @@
--- The state of a look-up, turn by turn: the choices that are kept, the nodes that were visited, and what is still found.
-use Rattle.std.proofs.Common.{◌≡◌, ◌≢◌, ◌<◌, ◌≤◌, ◌+◌, ◌-◌, ℕ, zero, suc, Bool, true, false, eqb, List, [], ◌∷◌, ◌++◌, ◌⊎◌, inl, inr, length, drop, map, Option, Some, None, Result, Ok, Err, refl, sym, ap, subst, ◌∙◌, arith, length-append, reverse}
+-- The state of a search, turn by turn: the choices that are kept, the nodes that were visited and are marked, and what is still found.
+use Rattle.std.proofs.Common.{◌≡◌, ◌<◌, ◌≤◌, ◌+◌, ◌-◌, ℕ, zero, suc, Bool, true, false, cond, List, [], ◌∷◌, ◌++◌, ◌⊎◌, inl, inr, length}
+use Rattle.std.proofs.Common.{drop, map, set, get_or, replicate, sum_by, Option, Some, None, Ok, Err, refl, sym, ap, subst, ◌∙◌, arith}
+use Rattle.std.proofs.Common.{length-append, length-set, reverse}
 use Rattle.std.specs.Prelude.{slice_get}
-use Rattle.std.specs.List.{IsDistinct, list_any}
 use Rattle.std.proofs.lemmas.Bool.{cases_eq}
+use Rattle.std.proofs.lemmas.List.{length-drop, length-map, length-replicate, reverse-append, get_or-set_same, get_or-set_other, get_or_read}
+use Rattle.std.proofs.lemmas.List.Sums.{sum_by-set}
 use Rattle.mach_base.specs.Fault.{Fault, malformed}
 use Rattle.mach_base.specs.Among.{IsAmong}
-use Rattle.mach_dyld.specs.Trie.{Info, Branch, Node, Trie, IsNode}
+use Rattle.mach_dyld.specs.Trie.{Info, Branch, Node, Trie}
+use Rattle.mach_dyld.specs.TrieFault.{TrieFault, at_node, met_again}
 use Rattle.mach_dyld.specs.Paths.{Leads}
+use Rattle.mach_dyld.specs.Visits.{AreApart}
 use Rattle.mach_dyld.specs.Nodes.{branch_at, branches_at}
-use Rattle.mach_dyld.specs.LookUp.{IsElsewhere, Finds, BranchesFind, at_nothing, here, below, none_left, passed, behind, gone_back}
-use Rattle.mach_dyld.specs.LookUpViews.{Settles}
-use Rattle.mach_dyld.specs.WalkViews.{source_trie, node_in, fault_in}
-use Rattle.mach_dyld.specs.Exports.{texts}
-use Rattle.mach_dyld.specs.TrieFault.{at_node, met_again}
+use Rattle.mach_dyld.specs.NodeViews.{branches_of, AreReadable}
+use Rattle.mach_dyld.specs.Finds.{IsElsewhere, Finds, BranchesFind, here, below, none_left, behind, gone_back}
+use Rattle.mach_dyld.specs.LookUp.{Spells, IsOnWay}
+use Rattle.mach_dyld.specs.LookUpViews.{Settles, Stops, SearchVisits}
+use Rattle.mach_dyld.specs.WalkViews.{source_trie, node_in}
 use Rattle.mach_dyld.specs.declared.look_up.Choice.{Choice}
+use Rattle.mach_dyld.specs.declared.node.Branches.{Branches}
 use Rattle.mach_dyld.specs.declared.walk.Source.{Source}
 use Rattle.mach_dyld.proofs.BranchAgain.{next_branch, no_branch}
-use Rattle.mach_dyld.proofs.TriePaths.{Leads-append, drop_head}
-use Rattle.mach_dyld.proofs.TreeWalk.{Visit, visit, Apart}
-use Rattle.mach_dyld.proofs.TrieVisits as visits
-use Rattle.std.proofs.lemmas.List.{nil_from_length, length-drop, reverse-append}
-use Rattle.mach_dyld.specs.NodeViews.{branches_of, AreReadable}
-use Rattle.mach_dyld.specs.declared.node.Branches.{Branches}
-use Rattle.mach_dyld.proofs.LookUpSettles.{readable_as}
+use Rattle.mach_dyld.proofs.TriePaths.{Leads-append, drop_head, leads_to_one}
+use Rattle.mach_dyld.proofs.LookUpPaths.{spells_on}
+use Rattle.mach_dyld.proofs.Starts.{branch_from}
+use Rattle.mach_dyld.proofs.LookUpSettles.{readable_as, stopped_there}
 
-among_or_not : (at : ℕ) (vs : List Visit) → ((v : Visit) × IsAmong v vs × (v.at ≡ at)) ⊎ ((v : Visit) → IsAmong v vs → v.at ≡ at → ⊥)
-among_or_not at [] = inr (λ v i e. absurd i)
-among_or_not at (v ∷ vs) = elim (cases_eq v.at at) [
-  | inl same ↦ inl (v, inl refl, same)
-  | inr other ↦ elim (among_or_not at vs) [
-    | inl there ↦ inl (there.0, inr there.1, there.2)
-    | inr none ↦ inr (λ w i e. elim i [ inl first ↦ other (ap (λ (x : Visit). x.at) (sym first) ∙ e) | inr later ↦ none w later e ])
-  ]
+-- a node that was visited, and the path on which it was met
+pub record Visit : Type 0 where
+  pub path : List ℕ
+  pub at : ℕ
+
+abbrev pub visit : List ℕ → ℕ → Visit
+visit path at = record { path = path; at = at }
+
+abbrev pub Apart : List Visit → Type 0
+Apart [] = Unit {0}
+Apart (v ∷ vs) = ((w : Visit) → IsAmong w vs → w.at ≡ v.at → ⊥) × Apart vs
+
+abbrev pub paths_in : List Visit → List (List ℕ)
+paths_in vs = map (λ v. v.path) vs
+
+pub in_paths : (p : List ℕ) (vs : List Visit) → IsAmong p (paths_in vs) → (v : Visit) × IsAmong v vs × (p ≡ v.path)
+in_paths p [] i = absurd i
+in_paths p (v ∷ vs) i = elim i [ inl e ↦ (v, inl refl, e) | inr more ↦ (let rest = in_paths p vs more in (rest.0, inr rest.1, rest.2)) ]
+
+pub paths_apart : (t : Trie) (root : ℕ) (vs : List Visit) → ((v : Visit) → IsAmong v vs → Leads t v.path root v.at) → Apart vs → AreApart t root (paths_in vs)
+paths_apart t root [] leads apart = tt
+paths_apart t root (v ∷ vs) leads apart = (
+  λ q at i x y.
+      let w = in_paths q vs i in
+      let here = leads_to_one t v.path root v.at at (leads v (inl refl)) x in
+      let there = leads_to_one t q root w.0.at at (subst (λ z. Leads t z root w.0.at) (sym w.2) (leads w.0 (inr w.1))) y in
+      apart.0 w.0 w.1 (there ∙ sym here),
+  paths_apart t root vs (λ w i. leads w (inr i)) apart.1,
+)
+
+not_both : {b : Bool} → b ≡ true → b ≡ false → ⊥
+not_both a b = cc
+
+all_clear : (n o : ℕ) → get_or (replicate n false) o false ≡ false
+all_clear zero o = refl
+all_clear (suc n) zero = refl
+all_clear (suc n) (suc o) = all_clear n o
+
+keeps_mark : (marks : List Bool) (o i : ℕ) → o < length marks → get_or marks i false ≡ true → get_or (set marks o true) i false ≡ true
+keeps_mark marks o i within e = elim (cases_eq i o) [
+  | inl same_place ↦ subst (λ x. get_or (set marks o true) x false ≡ true) (sym same_place) (get_or-set_same marks o true false within)
+  | inr other ↦ get_or-set_other marks o i true false other ∙ e
 ]
+
+-- how many marks are still to be set
+abbrev pub unmarked : List Bool → ℕ
+unmarked marks = sum_by (λ b. cond b 0 1) marks
+
+pub one_less : (marks : List Bool) (i : ℕ) → i < length marks → get_or marks i false ≡ false → unmarked marks ≡ suc (unmarked (set marks i true))
+one_less marks i within clear =
+    let sums = sum_by-set (λ (b : Bool). cond b 0 1) marks i true false within in
+    let was : ◌≡◌ {A = ℕ} (cond (get_or marks i false) 0 1) 1 = rw clear refl in omega arith
 
 -- a node whose branches are being tried: the path to it, what is left of the name there, and the number of its next branch
 pub record Frame : Type 0 where
@@ -85,16 +131,21 @@ last_same : (p : List ℕ) (j k : ℕ) → p ++ j ∷ [] ≡ p ++ k ∷ [] → j
 last_same [] j k e = cc
 last_same (x ∷ p) j k e = let tail : p ++ j ∷ [] ≡ p ++ k ∷ [] = cc in last_same p j k tail
 
-module _ (s : Source) (name : List ℕ) where
-  -- the nodes that were visited, each on its own path; where two paths led to one of them, a fault stands
-  pub record Visited (vs : List Visit) : Type 0 where
-    pub leads : (v : Visit) → IsAmong v vs → Leads (source_trie s) v.path s.from v.at × (s.from ≤ v.at) × (v.at < s.upto)
+module _ (s : Source) (root : ℕ) (name : List ℕ) where
+  -- the nodes that were visited, each on its own path, are those that are marked
+  pub record Visited (marks : List Bool) (vs : List Visit) : Type 0 where
+    pub size : length marks ≡ s.upto - s.from
+    pub leads : (v : Visit) → IsAmong v vs → Leads (source_trie s) v.path root v.at × (s.from ≤ v.at) × (v.at < s.upto)
+        × (rest : List ℕ) × Spells (source_trie s) root name v.path rest
+    pub marked : (v : Visit) → IsAmong v vs → get_or marks (v.at - s.from) false ≡ true
+    pub met : (o : ℕ) → get_or marks o false ≡ true → (p : List ℕ) × IsAmong (visit p (s.from + o)) vs
     pub parents : (v : Visit) (p : List ℕ) (k : ℕ) → IsAmong v vs → v.path ≡ p ++ k ∷ [] → (a : ℕ) × IsAmong (visit p a) vs
-    pub apart : fault_in s malformed ⊎ Apart vs
+    pub apart : Apart vs
 
   pub record IsOpen (vs : List Visit) (f : Frame) : Type 0 where
     pub known : IsAmong (visit f.path f.start) vs
     pub node : node_in s f.start ≡ Ok f.node
+    pub spelled : Spells (source_trie s) root name f.path f.rest
     pub fresh : (k : ℕ) (w : Visit) → f.next ≤ k → IsAmong w vs → w.path ≡ f.path ++ k ∷ [] → ⊥
 
   abbrev pub AreOpen : List Visit → List Frame → Type 0
@@ -119,47 +170,98 @@ module _ (s : Source) (name : List ℕ) where
   AreShown (c ∷ cs) (f ∷ fs) = IsShown c f × AreShown cs fs
   AreShown _ _ = ⊥
 
-  pub record Holds (c : Choice) (cs : List Choice) (left : ℕ) : Type 0 where
+  pub record Holds (c : Choice) (cs : List Choice) (marks : List Bool) (first steps : ℕ) : Type 0 where
     pub top : Frame
     pub below : List Frame
     pub vs : List Visit
-    pub visited : Visited vs
+    pub visited : Visited marks vs
     pub opened : AreOpen vs (top ∷ below)
     pub nested : Nested (top ∷ below)
     pub shown : IsShown c top
     pub shown_below : AreShown cs below
-    pub count : length vs + left ≡ s.upto - s.from
-    pub finds : (found : Option Info) → Resolves (source_trie s) (top ∷ below) found → Finds (source_trie s) s.from name found
+    pub count : suc steps ≡ first + length vs
+    pub finds : (found : Option Info) → Resolves (source_trie s) (top ∷ below) found → Finds (source_trie s) root name found
 
-  -- the root is opened
-  pub begins : (c : Choice) (node : Node) (left : ℕ) → s.from < s.upto → node_in s s.from ≡ Ok node → IsElsewhere name node.own
-      → branches_at s.bytes.now s.from c.branches.left c.branches.place ≡ Ok node.branches → c.at ≡ 0 → 1 + left ≡ s.upto - s.from → Holds c [] left
-  begins c node left inside at other branches zero_at count = record {
-    top = record { path = []; start = s.from; rest = name; node = node; next = 0 };
+  -- the root was visited
+  pub root_visited : s.from ≤ root → root < s.upto → Visited (set (replicate (s.upto - s.from) false) (root - s.from) true) (visit [] root ∷ [])
+  root_visited low inside =
+      let n = s.upto - s.from in
+      let size : length (replicate n false) ≡ n = length-replicate n false in
+      let within : root - s.from < length (replicate n false) = omega arith in
+      record {
+        size = length-set (replicate n false) (root - s.from) true ∙ size;
+        leads = λ v i. elim i [
+          | inl e ↦ subst (λ (x : Visit). Leads (source_trie s) x.path root x.at × (s.from ≤ x.at) × (x.at < s.upto)
+              × (rest : List ℕ) × Spells (source_trie s) root name x.path rest) (sym e) (refl, low, inside, name, ([], refl, refl))
+          | inr none ↦ absurd none
+        ];
+        marked = λ v i. elim i [
+          | inl e ↦ (let at : v.at - s.from ≡ root - s.from = ap (λ (x : Visit). x.at - s.from) e in
+              subst (λ x. get_or (set (replicate n false) (root - s.from) true) x false ≡ true) (sym at)
+              (get_or-set_same (replicate n false) (root - s.from) true false within))
+          | inr none ↦ absurd none
+        ];
+        met = λ o is. elim (cases_eq o (root - s.from)) [
+          | inl same_place ↦ ([], inl (let same : s.from + o ≡ root = omega arith in ap (visit []) same))
+          | inr other ↦ absurd (not_both is (get_or-set_other (replicate n false) (root - s.from) o true false other ∙ all_clear n o))
+        ];
+        parents = λ v p k i e. elim i [ inl same ↦ absurd (not_nil p k (sym (ap (λ (x : Visit). x.path) same) ∙ e)) | inr none ↦ absurd none ];
+        apart = (λ w i e. absurd i, tt);
+      }
+
+  pub begins : (c : Choice) (node : Node) (first : ℕ) → s.from ≤ root → root < s.upto → node_in s root ≡ Ok node → IsElsewhere name node.own
+      → branches_at s.bytes.now s.from c.branches.left c.branches.place ≡ Ok node.branches → c.at ≡ 0
+      → Holds c [] (set (replicate (s.upto - s.from) false) (root - s.from) true) first first
+  begins c node first low inside at other branches zero_at = record {
+    top = record { path = []; start = root; rest = name; node = node; next = 0 };
     below = [];
-    vs = visit [] s.from ∷ [];
-    visited = record {
-      leads = λ v i. elim i [ inl e ↦ subst (λ (x : Visit). Leads (source_trie s) x.path s.from x.at × (s.from ≤ x.at) × (x.at < s.upto)) (sym e) (refl, omega arith, inside) | inr none ↦ absurd none ];
-      parents = λ v p k i e. elim i [ inl same ↦ absurd (not_nil p k (sym (ap (λ (x : Visit). x.path) same) ∙ e)) | inr none ↦ absurd none ];
-      apart = inr (λ w i e. absurd i, tt);
-    };
-    opened = (record { known = inl refl; node = at; fresh = λ k w le i e. elim i [ inl same ↦ not_nil [] k (sym (ap (λ (x : Visit). x.path) same) ∙ e) | inr none ↦ absurd none ] }, tt);
+    vs = visit [] root ∷ [];
+    visited = root_visited low inside;
+    opened = (
+      record {
+        known = inl refl;
+        node = at;
+        spelled = ([], refl, refl);
+        fresh = λ k w le i e. elim i [ inl same ↦ not_nil [] k (sym (ap (λ (x : Visit). x.path) same) ∙ e) | inr none ↦ absurd none ];
+      },
+      tt,
+    );
     nested = (tt, tt);
     shown = record { branches = branches; rest = ap (λ n. drop n name) (sym zero_at); within = omega arith };
     shown_below = tt;
-    count = count;
+    count = omega arith;
     finds = λ found r. elim r [
-      | inl hit ↦ subst (Finds (source_trie s) s.from name) (sym hit.1) (below node (inside, at) other hit.2)
-      | inr miss ↦ subst (Finds (source_trie s) s.from name) (sym miss.1) (below node (inside, at) other miss.0)
+      | inl hit ↦ subst (Finds (source_trie s) root name) (sym hit.1) (below node (inside, at) other hit.2)
+      | inr miss ↦ subst (Finds (source_trie s) root name) (sym miss.1) (below node (inside, at) other miss.0)
     ];
   }
 
+  -- the visits so far
+  visits_of : (marks : List Bool) (vs : List Visit) (first steps : ℕ) → Visited marks vs → suc steps ≡ first + length vs
+      → SearchVisits (source_trie s) root name first steps
+  visits_of marks vs first steps v count = record {
+    paths = paths_in vs;
+    on_way = λ p i.
+        let w = in_paths p vs i in
+        let l = v.leads w.0 w.1 in
+        subst (IsOnWay (source_trie s) root name) (sym w.2) ((w.0.at, l.0, l.2), l.3, l.4);
+    apart = paths_apart (source_trie s) root vs (λ w i. (v.leads w i).0) v.apart;
+    count = count ∙ ap (λ n. first + n) (sym (length-map vs (λ v. v.path)));
+  }
+
+  pub root_visits : (first : ℕ) → s.from ≤ root → root < s.upto → SearchVisits (source_trie s) root name first first
+  root_visits first low inside = visits_of _ _ first first (root_visited low inside) (omega arith)
+
+  pub visits_so_far : (c : Choice) (cs : List Choice) (marks : List Bool) (first steps : ℕ) → Holds c cs marks first steps
+      → SearchVisits (source_trie s) root name first steps
+  visits_so_far c cs marks first steps h = visits_of marks h.vs first steps h.visited h.count
+
   -- the branches of the top that find nothing are passed
-  pub settled : (c d : Choice) (cs : List Choice) (left : ℕ) (bs : List Branch) → Holds c cs left → d.at ≡ c.at
+  pub settled : (c d : Choice) (cs : List Choice) {marks : List Bool} {first steps : ℕ} (bs : List Branch) → Holds c cs marks first steps → d.at ≡ c.at
       → branches_at s.bytes.now s.from d.branches.left d.branches.place ≡ Ok bs
       → ((old : List Branch) → branches_at s.bytes.now s.from c.branches.left c.branches.place ≡ Ok old → Settles (source_trie s) (drop c.at name) old bs)
-      → Holds d cs left
-  settled c d cs left bs h same_at branches settles =
+      → Holds d cs marks first steps
+  settled c d cs bs h same_at branches settles =
       let st = settles (left_of h.top) h.shown.branches in
       let is : bs ≡ left_of (later h.top st.number) = st.dropped ∙ drop_more h.top.next st.number h.top.node.branches in
       let o = h.opened.0 in
@@ -168,7 +270,7 @@ module _ (s : Source) (name : List ℕ) where
         below = h.below;
         vs = h.vs;
         visited = h.visited;
-        opened = (record { known = o.known; node = o.node; fresh = λ k w le i e. o.fresh k w (omega arith) i e }, h.opened.1);
+        opened = (record { known = o.known; node = o.node; spelled = o.spelled; fresh = λ k w le i e. o.fresh k w (omega arith) i e }, h.opened.1);
         nested = (h.nested.0, h.nested.1);
         shown = record { branches = branches ∙ ap Ok is; rest = h.shown.rest ∙ ap (λ n. drop n name) (sym same_at); within = let w = h.shown.within in omega arith };
         shown_below = h.shown_below;
@@ -195,18 +297,18 @@ module _ (s : Source) (name : List ℕ) where
       (none_left refl)
 
   -- nothing is left to be tried
-  pub ended : (c : Choice) (left : ℕ) → Holds c [] left → c.branches.left ≡ 0 → Finds (source_trie s) s.from name None
-  ended c left h over = last h.below h.shown_below h.finds
+  pub ended : (c : Choice) {marks : List Bool} {first steps : ℕ} → Holds c [] marks first steps → c.branches.left ≡ 0 → Finds (source_trie s) root name None
+  ended c h over = last h.below h.shown_below h.finds
     where
-      last : (fs : List Frame) → AreShown [] fs → ((found : Option Info) → Resolves (source_trie s) (h.top ∷ fs) found → Finds (source_trie s) s.from name found) → Finds (source_trie s) s.from name None
+      last : (fs : List Frame) → AreShown [] fs → ((found : Option Info) → Resolves (source_trie s) (h.top ∷ fs) found → Finds (source_trie s) root name found) → Finds (source_trie s) root name None
       last [] shown finds = finds None (inr (none_of c h.top h.shown over, refl))
       last (f ∷ fs) shown finds = absurd shown
 
   -- back to an earlier choice
-  pub gone : (c p : Choice) (ps : List Choice) (left : ℕ) → Holds c (p ∷ ps) left → c.branches.left ≡ 0 → Holds p ps left
-  gone c p ps left h over = back h.below h.shown_below h.opened.1 h.nested.1 h.finds
+  pub gone : (c p : Choice) (ps : List Choice) {marks : List Bool} {first steps : ℕ} → Holds c (p ∷ ps) marks first steps → c.branches.left ≡ 0 → Holds p ps marks first steps
+  gone c p ps {marks} {first} {steps} h over = back h.below h.shown_below h.opened.1 h.nested.1 h.finds
     where
-      back : (fs : List Frame) → AreShown (p ∷ ps) fs → AreOpen h.vs fs → Nested fs → ((found : Option Info) → Resolves (source_trie s) (h.top ∷ fs) found → Finds (source_trie s) s.from name found) → Holds p ps left
+      back : (fs : List Frame) → AreShown (p ∷ ps) fs → AreOpen h.vs fs → Nested fs → ((found : Option Info) → Resolves (source_trie s) (h.top ∷ fs) found → Finds (source_trie s) root name found) → Holds p ps marks first steps
       back [] shown opened nested finds = absurd shown
       back (f ∷ fs) shown opened nested finds = record {
         top = f;
@@ -221,50 +323,35 @@ module _ (s : Source) (name : List ℕ) where
         finds = λ found r. finds found (inr (none_of c h.top h.shown over, r));
       }
 
-  -- where nothing begins
-  pub root_none : s.upto ≤ s.from → Finds (source_trie s) s.from name None
-  root_none out = at_nothing out refl
-
-  pub root_found : (node : Node) (info : Info) → s.from < s.upto → node_in s s.from ≡ Ok node → node.own ≡ Some info → length name ≡ 0 → Finds (source_trie s) s.from name (Some info)
-  root_found node info inside at own none = here node info (inside, at) own (nil_from_length name none) refl
-
   pub elsewhere : (rest : List ℕ) (own : Option Info) → (length rest ≡ 0 → own ≡ None) → IsElsewhere rest own
   elsewhere [] own h = inl (h refl)
   elsewhere (x ∷ xs) own h = inr (λ e. cc)
 
-  -- places that all differ are no more than the range has
+  -- a branch of the top, which was settled, spells a beginning of what is left, and leads to a node
+  pub record Taken (c : Choice) (cs : List Choice) (marks : List Bool) (first steps : ℕ) (label : List ℕ) (start after : ℕ) : Type 0 where
+    pub held : Holds c cs marks first steps
+    pub some : 0 < c.branches.left
+    pub read : branch_at s.bytes.now s.from c.branches.place ≡ Ok (record { label = label; start = start }, after)
+    pub inside : start < s.upto
+    pub others : List ℕ
+    pub spells : drop c.at name ≡ label ++ others
 
-  abbrev numbers_below : ℕ → List ℕ
-  numbers_below zero = []
-  numbers_below (suc n) = n ∷ numbers_below n
+  module _ {c : Choice} {cs : List Choice} {marks : List Bool} {first steps : ℕ} {label : List ℕ} {start after : ℕ}
+      (taken : Taken c cs marks first steps label start after) where
+    abbrev h : Holds c cs marks first steps
+    h = taken.held
 
-  is_below : (n k : ℕ) → k < n → IsAmong k (numbers_below n)
-  is_below zero k less = absurd (omega arith)
-  is_below (suc n) k less = elim (cases_eq k n) [ inl same ↦ inl same | inr other ↦ inr (is_below n k (omega (arith, other))) ]
+    abbrev others : List ℕ
+    others = taken.others
 
-  many_below : (n : ℕ) → length (numbers_below n) ≡ n
-  many_below zero = refl
-  many_below (suc n) = ap suc (many_below n)
+    abbrev inside : start < s.upto
+    inside = taken.inside
 
-  apart_by_offset : (vs : List Visit) → Apart vs → visits.Apart (λ (v : Visit) (o : ℕ). v.at ≡ s.from + o) vs
-  apart_by_offset [] apart = tt
-  apart_by_offset (v ∷ vs) apart = (λ w o i a b. apart.0 w i (b ∙ sym a), apart_by_offset vs apart.1)
-
-  few : (vs : List Visit) → Apart vs → ((v : Visit) → IsAmong v vs → (s.from ≤ v.at) × (v.at < s.upto)) → length vs ≤ s.upto - s.from
-  few vs apart inside =
-      let most = visits.no_more_than (λ (v : Visit) (o : ℕ). v.at ≡ s.from + o) vs (numbers_below (s.upto - s.from)) (apart_by_offset vs apart)
-      (λ v i. let at = inside v i in (v.at - s.from, is_below (s.upto - s.from) (v.at - s.from) (omega (arith, at.0, at.1)), omega (arith, at.0))) in
-      let n = many_below (s.upto - s.from) in omega arith
-
-  -- a branch of the top spells a beginning of what is left, and leads to a node
-  module _ (c : Choice) (cs : List Choice) (left : ℕ) (h : Holds c cs left) (some : 0 < c.branches.left)
-      (label : List ℕ) (start after : ℕ) (read : branch_at s.bytes.now s.from c.branches.place ≡ Ok (record { label = label; start = start }, after))
-      (low : s.from ≤ start) (inside : start < s.upto) (others : List ℕ) (spells : drop c.at name ≡ label ++ others) where
-    b : Branch
-    b = record { label = label; start = start }
+    pub low : s.from ≤ start
+    low = branch_from s.bytes.now s.from c.branches.place (record { label = label; start = start }) after taken.read
 
     rest_of : (bs : List Branch) × (left_of h.top ≡ record { label = label; start = start } ∷ bs) × (branches_at s.bytes.now s.from (c.branches.left - 1) after ≡ Ok bs)
-    rest_of = next_branch s.bytes.now s.from c.branches.left c.branches.place (left_of h.top) (record { label = label; start = start }) after some h.shown.branches read
+    rest_of = next_branch s.bytes.now s.from c.branches.left c.branches.place (left_of h.top) (record { label = label; start = start }) after taken.some h.shown.branches taken.read
 
     head : (slice_get h.top.node.branches h.top.next ≡ Some (record { label = label; start = start })) × (rest_of.0 ≡ drop (suc h.top.next) h.top.node.branches)
     head = drop_head h.top.node.branches h.top.next (record { label = label; start = start }) rest_of.0 rest_of.1
@@ -272,142 +359,171 @@ module _ (s : Source) (name : List ℕ) where
     path : List ℕ
     path = h.top.path ++ h.top.next ∷ []
 
-    top_leads : Leads (source_trie s) h.top.path s.from h.top.start × (s.from ≤ h.top.start) × (h.top.start < s.upto)
+    top_leads : Leads (source_trie s) h.top.path root h.top.start × (s.from ≤ h.top.start) × (h.top.start < s.upto)
+        × (rest : List ℕ) × Spells (source_trie s) root name h.top.path rest
     top_leads = h.visited.leads (visit h.top.path h.top.start) h.opened.0.known
 
-    pub child_leads : Leads (source_trie s) (h.top.path ++ h.top.next ∷ []) s.from start
-    child_leads = Leads-append (source_trie s) h.top.path (h.top.next ∷ []) s.from h.top.start start top_leads.0
+    pub child_leads : Leads (source_trie s) (h.top.path ++ h.top.next ∷ []) root start
+    child_leads = Leads-append (source_trie s) h.top.path (h.top.next ∷ []) root h.top.start start top_leads.0
         (h.top.node, record { label = label; start = start }, top_leads.2, h.opened.0.node, head.0, refl)
 
-    pub child_fault : (f : Fault) → node_in s start ≡ Err f → fault_in s f
+    pub child_fault : (f : Fault) → node_in s start ≡ Err f → TrieFault (source_trie s) root f
     child_fault f e = at_node f (h.top.path ++ h.top.next ∷ []) start child_leads inside e
 
     not_yet : (v : Visit) → IsAmong v h.vs → v.path ≡ h.top.path ++ h.top.next ∷ [] → ⊥
     not_yet v i e = h.opened.0.fresh h.top.next v (omega arith) i e
 
-    apart_now : fault_in s malformed ⊎ Apart (visit (h.top.path ++ h.top.next ∷ []) start ∷ h.vs)
-    apart_now = elim h.visited.apart [
-      | inl fault ↦ inl fault
-      | inr apart ↦ elim (among_or_not start h.vs) [
-        | inl met ↦ inl (met_again met.0.path (h.top.path ++ h.top.next ∷ []) start (subst (Leads (source_trie s) met.0.path s.from) met.2 (h.visited.leads met.0 met.1).0) child_leads inside (λ e. not_yet met.0 met.1 e))
-        | inr none ↦ inr (λ w i e. none w i e, apart)
-      ]
-    ]
+    pub within : start - s.from < length marks
+    within = let size = h.visited.size in let above = low in omega arith
 
-    visited_now : Visited (visit (h.top.path ++ h.top.next ∷ []) start ∷ h.vs)
-    visited_now = record {
-      leads = λ v i. elim i [ inl e ↦ subst (λ (x : Visit). Leads (source_trie s) x.path s.from x.at × (s.from ≤ x.at) × (x.at < s.upto)) (sym e) (child_leads, low, inside) | inr old ↦ h.visited.leads v old ];
-      parents = λ v q j i e. elim i [
-        | inl same ↦ (let front = same_front h.top.path q h.top.next j (sym (ap (λ (x : Visit). x.path) same) ∙ e) in (h.top.start, inr (subst (λ x. IsAmong (visit x h.top.start) h.vs) front h.opened.0.known)))
-        | inr old ↦ (let up = h.visited.parents v q j old e in (up.0, inr up.1))
-      ];
-      apart = apart_now;
-    }
-
-    -- no more nodes can be visited unless two paths lead to one
-    pub exhausted : left ≡ 0 → fault_in s malformed
-    exhausted none = elim apart_now [
-      | inl fault ↦ fault
-      | inr apart ↦ absurd (
-          let most = few (visit (h.top.path ++ h.top.next ∷ []) start ∷ h.vs) apart (λ v i. let l = visited_now.leads v i in (l.1, l.2)) in
-          let count = h.count in omega arith)
-    ]
-
-    still_open : (gs : List Frame) → AreShorter (length h.top.path) gs → AreOpen h.vs gs → AreOpen (visit (h.top.path ++ h.top.next ∷ []) start ∷ h.vs) gs
-    still_open [] shorter opened = tt
-    still_open (g ∷ gs) shorter opened = (
-      record {
-        known = inr opened.0.known;
-        node = opened.0.node;
-        fresh = λ k w le i e. elim i [
-          | inl same ↦ suffix_longer h.top.path g.path h.top.next k shorter.0 (sym (ap (λ (x : Visit). x.path) same) ∙ e)
-          | inr old ↦ opened.0.fresh k w le old e
-        ];
-      },
-      still_open gs shorter.1 opened.1,
-    )
-
-    top_open : IsOpen (visit (h.top.path ++ h.top.next ∷ []) start ∷ h.vs) (later h.top 1)
-    top_open = record {
-      known = inr h.opened.0.known;
-      node = h.opened.0.node;
-      fresh = λ k w le i e. elim i [
-        | inl same ↦ (let number = last_same h.top.path h.top.next k (sym (ap (λ (x : Visit). x.path) same) ∙ e) in omega arith)
-        | inr old ↦ h.opened.0.fresh k w (omega arith) old e
-      ];
-    }
-
-    shorter_still : (n m : ℕ) → n ≤ m → (gs : List Frame) → AreShorter n gs → AreShorter m gs
-    shorter_still n m le [] shorter = tt
-    shorter_still n m le (g ∷ gs) shorter = (omega (arith, shorter.0), shorter_still n m le gs shorter.1)
-
-    left_now : left_of (later h.top 1) ≡ rest_of.0
-    left_now = let one : h.top.next + 1 ≡ suc h.top.next = omega arith in ap (λ n. drop n h.top.node.branches) one ∙ sym head.1
-
-    shown_now : (d : Choice) → d.at ≡ c.at → d.branches.left ≡ c.branches.left - 1 → d.branches.place ≡ after → IsShown d (later h.top 1)
-    shown_now d at_is left_is place_is = record {
-      branches = subst (λ n. branches_at s.bytes.now s.from n d.branches.place ≡ Ok (left_of (later h.top 1))) (sym left_is)
-          (subst (λ n. branches_at s.bytes.now s.from (c.branches.left - 1) n ≡ Ok (left_of (later h.top 1))) (sym place_is) (rest_of.2 ∙ ap Ok (sym left_now)));
-      rest = h.shown.rest ∙ ap (λ n. drop n name) (sym at_is);
-      within = let w = h.shown.within in omega arith;
-    }
+    -- a child that is marked is met by a second path
+    pub met : {mark : Bool} → mark ≡ get_or marks (start - s.from) mark → mark ≡ true → TrieFault (source_trie s) root malformed
+    met {mark} is_mark is_on =
+        let above = low in
+        let marked = sym (get_or_read marks (start - s.from) mark within is_mark false) ∙ is_on in
+        let same : s.from + (start - s.from) ≡ start = omega arith in
+        let old = h.visited.met (start - s.from) marked in
+        let there = (h.visited.leads (visit old.0 (s.from + (start - s.from))) old.1).0 in
+        met_again old.0 (h.top.path ++ h.top.next ∷ []) start (subst (λ x. Leads (source_trie s) old.0 root x) same there) child_leads inside
+        (λ e. not_yet (visit old.0 (s.from + (start - s.from))) old.1 e)
 
     rest_is : h.top.rest ≡ label ++ others
-    rest_is = h.shown.rest ∙ spells
+    rest_is = h.shown.rest ∙ taken.spells
 
-    -- what is found behind the branch, or behind the others where nothing is
-    through_branch : (info : Info) → Finds (source_trie s) start others (Some info) → BranchesFind (source_trie s) h.top.rest (left_of h.top) (Some info)
-    through_branch info finds = subst (λ (x : List Branch). BranchesFind (source_trie s) h.top.rest x (Some info)) (sym rest_of.1) (behind others info rest_is finds refl)
+    child_spelled : Spells (source_trie s) root name (h.top.path ++ h.top.next ∷ []) others
+    child_spelled = spells_on (source_trie s) h.top.path root h.top.start name h.top.rest others h.top.node h.top.next
+        (record { label = label; start = start }) top_leads.0 h.opened.0.spelled h.opened.0.node head.0 rest_is
 
-    past_branch : (found : Option Info) → Finds (source_trie s) start others None → BranchesFind (source_trie s) h.top.rest (left_of (later h.top 1)) found → BranchesFind (source_trie s) h.top.rest (left_of h.top) found
-    past_branch found none finds = subst (λ (x : List Branch). BranchesFind (source_trie s) h.top.rest x found) (sym rest_of.1)
-        (gone_back others rest_is none (subst (λ (x : List Branch). BranchesFind (source_trie s) h.top.rest x found) left_now finds))
+    pub is_clear : {mark : Bool} → mark ≡ get_or marks (start - s.from) mark → mark ≡ false → get_or marks (start - s.from) false ≡ false
+    is_clear {mark} is_mark is_off = sym (get_or_read marks (start - s.from) mark within is_mark false) ∙ is_off
 
-    -- the export is that of the child
-    pub child_found : (node : Node) (info : Info) → node_in s start ≡ Ok node → node.own ≡ Some info → others ≡ [] → Finds (source_trie s) s.from name (Some info)
-    child_found node info at own none = h.finds (Some info) (inl (info, refl, through_branch info (here node info (inside, at) own none refl)))
+    pub label_within : length label ≤ length (drop c.at name)
+    label_within = let a = ap (λ (x : List ℕ). length x) taken.spells in let b = length-append label others in omega arith
 
-    -- the child is opened; the choice below it has one branch fewer
-    pub child_opened : (d e : Choice) (m : ℕ) (node : Node) → left ≡ suc m → node_in s start ≡ Ok node → IsElsewhere others node.own
-        → branches_at s.bytes.now s.from d.branches.left d.branches.place ≡ Ok node.branches → d.at ≡ c.at + length label
-        → e.at ≡ c.at → e.branches.left ≡ c.branches.left - 1 → e.branches.place ≡ after → others ≡ drop d.at name → d.at ≤ length name → Holds d (e ∷ cs) m
-    child_opened d e m node more at other branches d_at e_at e_left e_place others_are within = record {
-      top = record { path = h.top.path ++ h.top.next ∷ []; start = start; rest = others; node = node; next = 0 };
-      below = later h.top 1 ∷ h.below;
-      vs = visit (h.top.path ++ h.top.next ∷ []) start ∷ h.vs;
-      visited = visited_now;
-      opened = (
+    module _ (clear : get_or marks (start - s.from) false ≡ false) where
+      visited_now : Visited (set marks (start - s.from) true) (visit (h.top.path ++ h.top.next ∷ []) start ∷ h.vs)
+      visited_now = record {
+        size = length-set marks (start - s.from) true ∙ h.visited.size;
+        leads = λ v i. elim i [
+          | inl e ↦ subst (λ (x : Visit). Leads (source_trie s) x.path root x.at × (s.from ≤ x.at) × (x.at < s.upto)
+              × (rest : List ℕ) × Spells (source_trie s) root name x.path rest) (sym e) (child_leads, low, inside, others, child_spelled)
+          | inr old ↦ h.visited.leads v old
+        ];
+        marked = λ v i. elim i [
+          | inl e ↦ (let at : v.at - s.from ≡ start - s.from = ap (λ (x : Visit). x.at - s.from) e in
+              subst (λ x. get_or (set marks (start - s.from) true) x false ≡ true) (sym at) (get_or-set_same marks (start - s.from) true false within))
+          | inr old ↦ keeps_mark marks (start - s.from) (v.at - s.from) within (h.visited.marked v old)
+        ];
+        met = λ o is. elim (cases_eq o (start - s.from)) [
+          | inl same_place ↦ (h.top.path ++ h.top.next ∷ [], inl (let above = low in let same : s.from + o ≡ start = omega arith in ap (visit (h.top.path ++ h.top.next ∷ [])) same))
+          | inr other ↦ (let old = h.visited.met o (sym (get_or-set_other marks (start - s.from) o true false other) ∙ is) in (old.0, inr old.1))
+        ];
+        parents = λ v q j i e. elim i [
+          | inl same ↦ (let front = same_front h.top.path q h.top.next j (sym (ap (λ (x : Visit). x.path) same) ∙ e) in
+              (h.top.start, inr (subst (λ x. IsAmong (visit x h.top.start) h.vs) front h.opened.0.known)))
+          | inr old ↦ (let up = h.visited.parents v q j old e in (up.0, inr up.1))
+        ];
+        apart = (λ w i e. not_both (h.visited.marked w i) (ap (λ x. get_or marks (x - s.from) false) e ∙ clear), h.visited.apart);
+      }
+
+      pub child_visits : {now : ℕ} → now ≡ steps + 1 → SearchVisits (source_trie s) root name first now
+      child_visits {now} more_one = visits_of _ _ first now visited_now (let count = h.count in omega arith)
+
+      still_open : (gs : List Frame) → AreShorter (length h.top.path) gs → AreOpen h.vs gs → AreOpen (visit (h.top.path ++ h.top.next ∷ []) start ∷ h.vs) gs
+      still_open [] shorter opened = tt
+      still_open (g ∷ gs) shorter opened = (
         record {
-          known = inl refl;
-          node = at;
+          known = inr opened.0.known;
+          spelled = opened.0.spelled;
+          node = opened.0.node;
           fresh = λ k w le i e. elim i [
-            | inl same ↦ not_longer (h.top.path ++ h.top.next ∷ []) k (sym (ap (λ (x : Visit). x.path) same) ∙ e)
-            | inr old ↦ (let up = h.visited.parents w (h.top.path ++ h.top.next ∷ []) k old e in not_yet (visit (h.top.path ++ h.top.next ∷ []) up.0) up.1 refl)
+            | inl same ↦ suffix_longer h.top.path g.path h.top.next k shorter.0 (sym (ap (λ (x : Visit). x.path) same) ∙ e)
+            | inr old ↦ opened.0.fresh k w le old e
           ];
         },
-        (top_open, still_open h.below h.nested.0 h.opened.1),
-      );
-      nested = (let more_one = longer_by_one h.top.path h.top.next in (omega arith, shorter_still (length h.top.path) (length (h.top.path ++ h.top.next ∷ [])) (omega arith) h.below h.nested.0), (h.nested.0, h.nested.1));
-      shown = record { branches = branches; rest = others_are; within = within };
-      shown_below = (shown_now e e_at e_left e_place, h.shown_below);
-      count = let n = h.count in omega arith;
-      finds = λ found r. h.finds found (elim r [
-        | inl hit ↦ inl (hit.0, hit.1, through_branch hit.0 (below node (inside, at) other hit.2))
-        | inr miss ↦ (let none : Finds (source_trie s) start others None = below node (inside, at) other miss.0 in elim miss.1 [
-          | inl hit ↦ inl (hit.0, hit.1, past_branch (Some hit.0) none hit.2)
-          | inr more_miss ↦ inr (past_branch None none more_miss.0, more_miss.1)
-        ])
-      ]);
-    }
+        still_open gs shorter.1 opened.1,
+      )
+
+      top_open : IsOpen (visit (h.top.path ++ h.top.next ∷ []) start ∷ h.vs) (later h.top 1)
+      top_open = record {
+        known = inr h.opened.0.known;
+        spelled = h.opened.0.spelled;
+        node = h.opened.0.node;
+        fresh = λ k w le i e. elim i [
+          | inl same ↦ (let number = last_same h.top.path h.top.next k (sym (ap (λ (x : Visit). x.path) same) ∙ e) in omega arith)
+          | inr old ↦ h.opened.0.fresh k w (omega arith) old e
+        ];
+      }
+
+      shorter_still : (n m : ℕ) → n ≤ m → (gs : List Frame) → AreShorter n gs → AreShorter m gs
+      shorter_still n m le [] shorter = tt
+      shorter_still n m le (g ∷ gs) shorter = (omega (arith, shorter.0), shorter_still n m le gs shorter.1)
+
+      left_now : left_of (later h.top 1) ≡ rest_of.0
+      left_now = let one : h.top.next + 1 ≡ suc h.top.next = omega arith in ap (λ n. drop n h.top.node.branches) one ∙ sym head.1
+
+      shown_now : (d : Choice) → d.at ≡ c.at → d.branches.left ≡ c.branches.left - 1 → d.branches.place ≡ after → IsShown d (later h.top 1)
+      shown_now d at_is left_is place_is = record {
+        branches = subst (λ n. branches_at s.bytes.now s.from n d.branches.place ≡ Ok (left_of (later h.top 1))) (sym left_is)
+            (subst (λ n. branches_at s.bytes.now s.from (c.branches.left - 1) n ≡ Ok (left_of (later h.top 1))) (sym place_is) (rest_of.2 ∙ ap Ok (sym left_now)));
+        rest = h.shown.rest ∙ ap (λ n. drop n name) (sym at_is);
+        within = let w = h.shown.within in omega arith;
+      }
+
+      -- what is found behind the branch, or behind the others where nothing is
+      through_branch : (info : Info) → Finds (source_trie s) start others (Some info) → BranchesFind (source_trie s) h.top.rest (left_of h.top) (Some info)
+      through_branch info finds = subst (λ (x : List Branch). BranchesFind (source_trie s) h.top.rest x (Some info)) (sym rest_of.1) (behind others info rest_is finds refl)
+
+      past_branch : (found : Option Info) → Finds (source_trie s) start others None → BranchesFind (source_trie s) h.top.rest (left_of (later h.top 1)) found → BranchesFind (source_trie s) h.top.rest (left_of h.top) found
+      past_branch found none finds = subst (λ (x : List Branch). BranchesFind (source_trie s) h.top.rest x found) (sym rest_of.1)
+          (gone_back others rest_is none (subst (λ (x : List Branch). BranchesFind (source_trie s) h.top.rest x found) left_now finds))
+
+      -- the export is that of the child
+      pub child_found : (node : Node) (info : Info) → node_in s start ≡ Ok node → node.own ≡ Some info → others ≡ [] → Finds (source_trie s) root name (Some info)
+      child_found node info at own none = h.finds (Some info) (inl (info, refl, through_branch info (here node info (inside, at) own none refl)))
+
+      -- the child is opened; the choice below it has one branch fewer
+      pub child_opened : (d e : Choice) (node : Node) {now : ℕ} → now ≡ steps + 1 → node_in s start ≡ Ok node → IsElsewhere others node.own
+          → branches_at s.bytes.now s.from d.branches.left d.branches.place ≡ Ok node.branches → d.at ≡ c.at + length label
+          → e.at ≡ c.at → e.branches.left ≡ c.branches.left - 1 → e.branches.place ≡ after → others ≡ drop d.at name → d.at ≤ length name → Holds d (e ∷ cs) (set marks (start - s.from) true) first now
+      child_opened d e node more at other branches d_at e_at e_left e_place others_are within = record {
+        top = record { path = h.top.path ++ h.top.next ∷ []; start = start; rest = others; node = node; next = 0 };
+        below = later h.top 1 ∷ h.below;
+        vs = visit (h.top.path ++ h.top.next ∷ []) start ∷ h.vs;
+        visited = visited_now;
+        opened = (
+          record {
+            known = inl refl;
+            spelled = child_spelled;
+            node = at;
+            fresh = λ k w le i e. elim i [
+              | inl same ↦ not_longer (h.top.path ++ h.top.next ∷ []) k (sym (ap (λ (x : Visit). x.path) same) ∙ e)
+              | inr old ↦ (let up = h.visited.parents w (h.top.path ++ h.top.next ∷ []) k old e in not_yet (visit (h.top.path ++ h.top.next ∷ []) up.0) up.1 refl)
+            ];
+          },
+          (top_open, still_open h.below h.nested.0 h.opened.1),
+        );
+        nested = (let more_one = longer_by_one h.top.path h.top.next in (omega arith, shorter_still (length h.top.path) (length (h.top.path ++ h.top.next ∷ [])) (omega arith) h.below h.nested.0), (h.nested.0, h.nested.1));
+        shown = record { branches = branches; rest = others_are; within = within };
+        shown_below = (shown_now e e_at e_left e_place, h.shown_below);
+        count = let n = h.count in omega (arith, more);
+        finds = λ found r. h.finds found (elim r [
+          | inl hit ↦ inl (hit.0, hit.1, through_branch hit.0 (below node (inside, at) other hit.2))
+          | inr miss ↦ (let none : Finds (source_trie s) start others None = below node (inside, at) other miss.0 in elim miss.1 [
+            | inl hit ↦ inl (hit.0, hit.1, past_branch (Some hit.0) none hit.2)
+            | inr more_miss ↦ inr (past_branch None none more_miss.0, more_miss.1)
+          ])
+        ]);
+      }
 
   -- the second choice is settled, and left out where nothing is left of it
-  pub settled_below : (c e d : Choice) (cs : List Choice) (left : ℕ) (bs : List Branch) → Holds c (e ∷ cs) left → d.at ≡ e.at
+  pub settled_below : (c e d : Choice) (cs : List Choice) {marks : List Bool} {first steps : ℕ} (bs : List Branch) → Holds c (e ∷ cs) marks first steps → d.at ≡ e.at
       → branches_at s.bytes.now s.from d.branches.left d.branches.place ≡ Ok bs
       → ((old : List Branch) → branches_at s.bytes.now s.from e.branches.left e.branches.place ≡ Ok old → Settles (source_trie s) (drop e.at name) old bs)
-      → Holds c (d ∷ cs) left
-  settled_below c e d cs left bs h same_at branches settles = go h.below h.shown_below h.opened.1 h.nested h.finds
+      → Holds c (d ∷ cs) marks first steps
+  settled_below c e d cs {marks} {first} {steps} bs h same_at branches settles = go h.below h.shown_below h.opened.1 h.nested h.finds
     where
-      go : (fs : List Frame) → AreShown (e ∷ cs) fs → AreOpen h.vs fs → Nested (h.top ∷ fs) → ((found : Option Info) → Resolves (source_trie s) (h.top ∷ fs) found → Finds (source_trie s) s.from name found) → Holds c (d ∷ cs) left
+      go : (fs : List Frame) → AreShown (e ∷ cs) fs → AreOpen h.vs fs → Nested (h.top ∷ fs) → ((found : Option Info) → Resolves (source_trie s) (h.top ∷ fs) found → Finds (source_trie s) root name found) → Holds c (d ∷ cs) marks first steps
       go [] shown opened nested finds = absurd shown
       go (f ∷ fs) shown opened nested finds =
           let st = settles (left_of f) shown.0.branches in
@@ -421,7 +537,7 @@ module _ (s : Source) (name : List ℕ) where
             below = later f st.number ∷ fs;
             vs = h.vs;
             visited = h.visited;
-            opened = (h.opened.0, (record { known = o.known; node = o.node; fresh = λ k w le i q. o.fresh k w (omega arith) i q }, opened.1));
+            opened = (h.opened.0, (record { known = o.known; node = o.node; spelled = o.spelled; fresh = λ k w le i q. o.fresh k w (omega arith) i q }, opened.1));
             nested = ((nested.0.0, nested.0.1), (nested.1.0, nested.1.1));
             shown = h.shown;
             shown_below = (record { branches = branches ∙ ap Ok is; rest = shown.0.rest ∙ ap (λ n. drop n name) (sym same_at); within = let w = shown.0.within in omega arith }, shown.1);
@@ -438,10 +554,10 @@ module _ (s : Source) (name : List ℕ) where
             ]);
           }
 
-  pub left_out : (c d : Choice) (cs : List Choice) (left : ℕ) → Holds c (d ∷ cs) left → d.branches.left ≡ 0 → Holds c cs left
-  left_out c d cs left h over = go h.below h.shown_below h.opened.1 h.nested h.finds
+  pub left_out : (c d : Choice) (cs : List Choice) {marks : List Bool} {first steps : ℕ} → Holds c (d ∷ cs) marks first steps → d.branches.left ≡ 0 → Holds c cs marks first steps
+  left_out c d cs {marks} {first} {steps} h over = go h.below h.shown_below h.opened.1 h.nested h.finds
     where
-      go : (fs : List Frame) → AreShown (d ∷ cs) fs → AreOpen h.vs fs → Nested (h.top ∷ fs) → ((found : Option Info) → Resolves (source_trie s) (h.top ∷ fs) found → Finds (source_trie s) s.from name found) → Holds c cs left
+      go : (fs : List Frame) → AreShown (d ∷ cs) fs → AreOpen h.vs fs → Nested (h.top ∷ fs) → ((found : Option Info) → Resolves (source_trie s) (h.top ∷ fs) found → Finds (source_trie s) root name found) → Holds c cs marks first steps
       go [] shown opened nested finds = absurd shown
       go (f ∷ fs) shown opened nested finds = record {
         top = h.top;
@@ -465,15 +581,15 @@ module _ (s : Source) (name : List ℕ) where
       subst (λ (x : List ℕ). Settles (source_trie s) x old bs) same
       (subst (λ (x : List Branch). Settles (source_trie s) rest x bs) (readable_as (branches_at s.bytes.now s.from c.branches.left c.branches.place) old e).1 st)
 
-  pub settled_now : (c : Choice) (b : Branches) (cs : List Choice) (left : ℕ) (rest : List ℕ) → rest ≡ drop c.at name → Holds c cs left → AreReadable s.bytes.now s.from b
-      → Settles (source_trie s) rest (branches_of s.bytes.now s.from c.branches) (branches_of s.bytes.now s.from b) → Holds (record { branches = b; at = c.at }) cs left
-  settled_now c b cs left rest same h readable st =
-      settled c (record { branches = b; at = c.at }) cs left (branches_of s.bytes.now s.from b) h refl readable (settles_at c rest (branches_of s.bytes.now s.from b) same st)
+  pub settled_now : (c : Choice) (b : Branches) (cs : List Choice) {marks : List Bool} {first steps : ℕ} (rest : List ℕ) → rest ≡ drop c.at name → Holds c cs marks first steps → AreReadable s.bytes.now s.from b
+      → Settles (source_trie s) rest (branches_of s.bytes.now s.from c.branches) (branches_of s.bytes.now s.from b) → Holds (record { branches = b; at = c.at }) cs marks first steps
+  settled_now c b cs rest same h readable st =
+      settled c (record { branches = b; at = c.at }) cs (branches_of s.bytes.now s.from b) h refl readable (settles_at c rest (branches_of s.bytes.now s.from b) same st)
 
-  pub settled_below_now : (c e : Choice) (b : Branches) (cs : List Choice) (left : ℕ) (rest : List ℕ) → rest ≡ drop e.at name → Holds c (e ∷ cs) left → AreReadable s.bytes.now s.from b
-      → Settles (source_trie s) rest (branches_of s.bytes.now s.from e.branches) (branches_of s.bytes.now s.from b) → Holds c (record { branches = b; at = e.at } ∷ cs) left
-  settled_below_now c e b cs left rest same h readable st =
-      settled_below c e (record { branches = b; at = e.at }) cs left (branches_of s.bytes.now s.from b) h refl readable (settles_at e rest (branches_of s.bytes.now s.from b) same st)
+  pub settled_below_now : (c e : Choice) (b : Branches) (cs : List Choice) {marks : List Bool} {first steps : ℕ} (rest : List ℕ) → rest ≡ drop e.at name → Holds c (e ∷ cs) marks first steps → AreReadable s.bytes.now s.from b
+      → Settles (source_trie s) rest (branches_of s.bytes.now s.from e.branches) (branches_of s.bytes.now s.from b) → Holds c (record { branches = b; at = e.at } ∷ cs) marks first steps
+  settled_below_now c e b cs rest same h readable st =
+      settled_below c e (record { branches = b; at = e.at }) cs (branches_of s.bytes.now s.from b) h refl readable (settles_at e rest (branches_of s.bytes.now s.from b) same st)
 
   drop_own : (xs ys : List ℕ) → drop (length xs) (xs ++ ys) ≡ ys
   drop_own [] ys = refl
@@ -484,6 +600,23 @@ module _ (s : Source) (name : List ℕ) where
     sym (drop_own label others) ∙ (ap (λ (x : List ℕ). drop (length label) x) (sym spells) ∙ drop_more at (length label) name),
     let a = length-drop at name in let b = ap (λ (x : List ℕ). length x) spells in let d = length-append label others in omega arith,
   )
+
+  pub takes : {c : Choice} {b : Branches} {cs : List Choice} {marks : List Bool} {first steps : ℕ} {rest label : List ℕ} {start after : ℕ} → rest ≡ drop c.at name
+      → Holds c cs marks first steps → AreReadable s.bytes.now s.from b
+      → Settles (source_trie s) rest (branches_of s.bytes.now s.from c.branches) (branches_of s.bytes.now s.from b)
+      → Stops (source_trie s) rest (branches_of s.bytes.now s.from b) → 0 < b.left
+      → branch_at s.bytes.now s.from b.place ≡ Ok (record { label = label; start = start }, after)
+      → Taken (record { branches = b; at = c.at }) cs marks first steps label start after
+  takes {c} {b} {cs} {rest} {label} {start} {after} same h readable settles stops some read =
+      let stop = stopped_there s rest b readable some label start after read stops in
+      record {
+        held = settled_now c b cs rest same h readable settles;
+        some = some;
+        read = read;
+        inside = stop.0;
+        others = stop.1;
+        spells = sym same ∙ stop.2;
+      }
 
 pub popped : (xs ys : List Choice) (x : Choice) → xs ≡ ys ++ x ∷ [] → reverse xs ≡ x ∷ reverse ys
 popped xs ys x e = ap reverse e ∙ reverse-append ys (x ∷ [])

@@ -1,13 +1,13 @@
 -- What is found of a name is what a list says of it, and stands by the paths.
-use Rattle.std.proofs.Common.{◌≡◌, ◌≢◌, ◌<◌, ◌≤◌, ◌+◌, ℕ, zero, suc, List, [], ◌∷◌, ◌++◌, ◌⊎◌, inl, inr, Option, Some, None, Result, Ok, Err, refl, sym, ap, subst, ◌∙◌, arith, append_assoc}
+use Rattle.std.proofs.Common.{◌≡◌, ℕ, zero, suc, List, [], ◌∷◌, ◌++◌, inl, inr, Option, Some, None, Result, Ok, Err, refl, sym, ap, subst, ◌∙◌, arith, append_assoc}
 use Rattle.std.specs.Prelude.{slice_get, IfOk}
 use Rattle.std.proofs.lemmas.List.{append-nil, append_cancel_left}
 use Rattle.mach_base.specs.Fault.{Fault}
-use Rattle.mach_dyld.specs.Trie.{Info, Branch, Node, Trie, IsNode, Entry, entry, own_entries}
+use Rattle.mach_dyld.specs.Trie.{Info, Branch, Node, Trie, Entry, own_entries}
 use Rattle.mach_dyld.specs.Lists.{Lists, BranchesList, nothing, a_node, no_more, one_more}
-use Rattle.mach_dyld.specs.Paths.{Leads}
 use Rattle.mach_dyld.specs.TerminalPaths.{EndsWith, IsNameOf}
-use Rattle.mach_dyld.specs.LookUp.{IsFirstOf, IsExportOf, StandsFor, IsElsewhere, Finds, BranchesFind, at_nothing, here, below, none_left, passed, behind, gone_back}
+use Rattle.mach_dyld.specs.LookUp.{IsFirstOf, IsExportOf, StandsFor}
+use Rattle.mach_dyld.specs.Finds.{IsElsewhere, Finds, BranchesFind, at_nothing, here, below, none_left, passed, behind, gone_back}
 
 same_node : {x y : Node} {r : Result Node Fault} → r ≡ Ok x → r ≡ Ok y → x ≡ y
 same_node a b = cc

@@ -1,11 +1,10 @@
 //! The exports of an image, which a trie lists.
 
-ghost use Rattle.std.specs.Prelude.{◌≡◌, ◌≤◌, ◌<◌, ◌+◌, ◌-◌, List, length, IfOk, IfErr, option_map};
+ghost use Rattle.std.specs.Prelude.{◌≡◌, ◌≤◌, ◌<◌, ◌+◌, ◌-◌, List, length, IfOk, IfErr};
 ghost use Rattle.mach_base.specs.Answer.{Stands, IsOkUnlessMemory};
 ghost use Rattle.mach_dyld.specs.Trie.{Entry, offset_of};
 ghost use Rattle.mach_dyld.specs.Exports.{texts, info_of, entries};
 ghost use Rattle.mach_dyld.specs.TrieRange.{range_in, trie_there, ListsExports, ExportsFault};
-ghost use Rattle.mach_dyld.specs.LookUp.{StandsFor, IsFirstOf};
 ghost use Rattle.mach_dyld.specs.Visits.{Visits};
 
 pub use crate::info::{
@@ -14,7 +13,6 @@ pub use crate::info::{
     EXPORT_SYMBOL_FLAGS_REEXPORT, EXPORT_SYMBOL_FLAGS_STUB_AND_RESOLVER,
     EXPORT_SYMBOL_FLAGS_WEAK_DEFINITION, ExportInfo, SymbolKind,
 };
-use crate::look_up::find;
 use crate::steps::Steps;
 use crate::walk::{Source, walk};
 use mach_base::{ByteCount, Result};
@@ -62,9 +60,9 @@ impl<'a, A: Allocator> Export<'a, A> {
 /// An export trie in a range of the bytes, with its root at the range's start.
 #[derive(Drop)]
 pub struct ExportTrie<'a> {
-    bytes: &'a [u8],
-    from: usize,
-    upto: usize,
+    pub(crate) bytes: &'a [u8],
+    pub(crate) from: usize,
+    pub(crate) upto: usize,
 }
 
 impl<'a> Model for ExportTrie<'a> {
@@ -158,27 +156,5 @@ impl<'a> ExportTrie<'a> {
             upto: self.upto,
         };
         walk(&alloc, &source, steps)
-    }
-    /// What a name is exported as: the first of its exports in the list, or None. It reads the nodes on the way of
-    /// the name alone, so it may answer where the trie has no list; what it then answers stands by the paths.
-    /// It takes memory only where two branches of one node both spell a beginning of what is left of the name.
-    pub fn find<A: Allocator>(
-        &self,
-        alloc: A,
-        libs: &[&'a str],
-        name: &str,
-    ) -> Result<Option<ExportInfo<'a>>>
-        ensures stands { IfOk result (λ o. StandsFor (trie_there self.now (texts libs.now)) self.now.from name.now (option_map info_of o)) }
-        ensures listed { (list : List Entry) → ListsExports self.now (texts libs.now) list → IfOk result (λ o. IsFirstOf name.now list (option_map info_of o)) }
-        ensures only { (list : List Entry) → ListsExports self.now (texts libs.now) list → IsOkUnlessMemory result }
-        ensures refused { IfErr result (Stands (ExportsFault self.now (texts libs.now))) }
-    {
-        let source = Source {
-            bytes: self.bytes,
-            libs,
-            from: self.from,
-            upto: self.upto,
-        };
-        find(alloc, &source, name.as_bytes())
     }
 }

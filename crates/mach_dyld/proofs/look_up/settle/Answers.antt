@@ -1,4 +1,4 @@
-use Rattle.std.proofs.Common.{◌≡◌, ◌<◌, ◌+◌, refl, arith}
+use Rattle.std.proofs.Common.{◌<◌, refl, arith}
 use Rattle.mach_dyld.specs.NodeViews.{branches_of}
 use Rattle.mach_dyld.proofs.LookUpSettles.{is_first, stops_there, stops_empty, readable_next, settles_on}
 use Rattle.mach_dyld.proofs.look_up.settle.Goals as goal
