@@ -59,7 +59,8 @@ module _ (t : Trie) where
   fault_behind p a b _ l (met_again q r at one two inside other) =
       met_again (p ++ q) (p ++ r) at (Leads-append t p q a b at l one) (Leads-append t p r a b at l two) inside (λ e. other (append_cancel_left p q r e))
 
-  pub stands_behind : {X : Type 0} (p : List ℕ) (a b : ℕ) (r : Result X Error) → Leads t p a b → IfErr r (Stands (TrieFault t b)) → IfErr r (Stands (TrieFault t a))
+  pub stands_behind : {X : Type 0} (p : List ℕ) (a b : ℕ) (r : Result X Error) → Leads t p a b → IfErr r (Stands (TrieFault t b)) → IfErr r
+      (Stands (TrieFault t a))
   stands_behind p a b (Ok x) l h = tt
   stands_behind p a b (Err e) l h = Stands-in (TrieFault t b) (TrieFault t a) e (λ f fault. fault_behind p a b f l fault) h
 

@@ -25,8 +25,10 @@ module _ (s : Source) (rest : List ℕ) (o : Branches) (readable : AreReadable s
   pub is_first : 0 < o.left → (found : Branch × ℕ) × (branch_at s.bytes.now s.from o.place ≡ Ok found)
   is_first some = first_branch s.bytes.now s.from o.left o.place (branches_of s.bytes.now s.from o) some readable
 
-  module _ (some : 0 < o.left) (label : List ℕ) (start after : ℕ) (read : branch_at s.bytes.now s.from o.place ≡ Ok (record { label = label; start = start }, after)) where
-    next : (bs : List Branch) × (branches_of s.bytes.now s.from o ≡ record { label = label; start = start } ∷ bs) × (branches_at s.bytes.now s.from (o.left - 1) after ≡ Ok bs)
+  module _ (some : 0 < o.left) (label : List ℕ) (start after : ℕ) (read : branch_at s.bytes.now s.from o.place ≡ Ok
+      (record { label = label; start = start }, after)) where
+    next : (bs : List Branch) × (branches_of s.bytes.now s.from o ≡ record { label = label; start = start } ∷ bs) × (branches_at s.bytes.now s.from
+        (o.left - 1) after ≡ Ok bs)
     next = next_branch s.bytes.now s.from o.left o.place (branches_of s.bytes.now s.from o) (record { label = label; start = start }) after some readable read
 
     pub stops_there : (start < s.upto) × (others : List ℕ) × (rest ≡ label ++ others) → Stops (source_trie s) rest (branches_of s.bytes.now s.from o)
@@ -51,12 +53,14 @@ module _ (s : Source) (rest : List ℕ) (o : Branches) (readable : AreReadable s
       ]
     ]
 
-    pub settles_on : (all : List Branch) → Settles (source_trie s) rest all (branches_of s.bytes.now s.from o) → (s.upto ≤ start) ⊎ ((others : List ℕ) → rest ≡ label ++ others → ⊥)
+    pub settles_on : (all : List Branch) → Settles (source_trie s) rest all (branches_of s.bytes.now s.from o) → (s.upto ≤ start) ⊎
+        ((others : List ℕ) → rest ≡ label ++ others → ⊥)
         → Settles (source_trie s) rest all (branches_of s.bytes.now s.from (record { left = o.left - 1; place = after }))
     settles_on all st h =
         let one = drop_head all st.number (record { label = label; start = start }) next.0 (sym st.dropped ∙ next.1) in
         record {
           number = suc st.number;
           dropped = next_is ∙ one.1;
-          finds = λ found x. st.finds found (subst (λ (bs : List Branch). BranchesFind (source_trie s) rest bs found) (sym next.1) (passes h found (subst (λ (bs : List Branch). BranchesFind (source_trie s) rest bs found) next_is x)));
+          finds = λ found x. st.finds found (subst (λ (bs : List Branch). BranchesFind (source_trie s) rest bs found) (sym next.1)
+              (passes h found (subst (λ (bs : List Branch). BranchesFind (source_trie s) rest bs found) next_is x)));
         }

@@ -97,7 +97,8 @@ left_of f = drop f.next f.node.branches
 -- what the frames find
 abbrev pub Resolves : Trie → List Frame → Option Info → Type 0
 Resolves t [] found = found ≡ None
-Resolves t (f ∷ fs) found = ((info : Info) × (found ≡ Some info) × BranchesFind t f.rest (left_of f) (Some info)) ⊎ (BranchesFind t f.rest (left_of f) None × Resolves t fs found)
+Resolves t (f ∷ fs) found = ((info : Info) × (found ≡ Some info) × BranchesFind t f.rest (left_of f) (Some info)) ⊎
+    (BranchesFind t f.rest (left_of f) None × Resolves t fs found)
 
 drop_nil : {X : Type 0} (n : ℕ) → drop {A = X} n [] ≡ []
 drop_nil zero = refl
@@ -272,7 +273,12 @@ module _ (s : Source) (root : ℕ) (name : List ℕ) where
         visited = h.visited;
         opened = (record { known = o.known; node = o.node; spelled = o.spelled; fresh = λ k w le i e. o.fresh k w (omega arith) i e }, h.opened.1);
         nested = (h.nested.0, h.nested.1);
-        shown = record { branches = branches ∙ ap Ok is; rest = h.shown.rest ∙ ap (λ n. drop n name) (sym same_at); within = let w = h.shown.within in omega arith };
+        shown = record {
+          branches = branches ∙ ap Ok is;
+          rest = h.shown.rest ∙ ap (λ n. drop n name)
+              (sym same_at);
+          within = let w = h.shown.within in omega arith;
+        };
         shown_below = h.shown_below;
         count = h.count;
         finds = λ found r. h.finds found (elim r [
@@ -280,11 +286,13 @@ module _ (s : Source) (root : ℕ) (name : List ℕ) where
             hit.0,
             hit.1,
             subst (λ (x : List ℕ). BranchesFind (source_trie s) x (left_of h.top) (Some hit.0)) (sym h.shown.rest)
-                (st.finds (Some hit.0) (subst (λ (x : List ℕ). BranchesFind (source_trie s) x bs (Some hit.0)) h.shown.rest (subst (λ (x : List Branch). BranchesFind (source_trie s) h.top.rest x (Some hit.0)) (sym is) hit.2))),
+                (st.finds (Some hit.0) (subst (λ (x : List ℕ). BranchesFind (source_trie s) x bs (Some hit.0)) h.shown.rest
+                (subst (λ (x : List Branch). BranchesFind (source_trie s) h.top.rest x (Some hit.0)) (sym is) hit.2))),
           )
           | inr miss ↦ inr (
             subst (λ (x : List ℕ). BranchesFind (source_trie s) x (left_of h.top) None) (sym h.shown.rest)
-                (st.finds None (subst (λ (x : List ℕ). BranchesFind (source_trie s) x bs None) h.shown.rest (subst (λ (x : List Branch). BranchesFind (source_trie s) h.top.rest x None) (sym is) miss.0))),
+                (st.finds None (subst (λ (x : List ℕ). BranchesFind (source_trie s) x bs None) h.shown.rest
+                (subst (λ (x : List Branch). BranchesFind (source_trie s) h.top.rest x None) (sym is) miss.0))),
             miss.1,
           )
         ]);
@@ -300,15 +308,18 @@ module _ (s : Source) (root : ℕ) (name : List ℕ) where
   pub ended : (c : Choice) {marks : List Bool} {first steps : ℕ} → Holds c [] marks first steps → c.branches.left ≡ 0 → Finds (source_trie s) root name None
   ended c h over = last h.below h.shown_below h.finds
     where
-      last : (fs : List Frame) → AreShown [] fs → ((found : Option Info) → Resolves (source_trie s) (h.top ∷ fs) found → Finds (source_trie s) root name found) → Finds (source_trie s) root name None
+      last : (fs : List Frame) → AreShown [] fs
+          → ((found : Option Info) → Resolves (source_trie s) (h.top ∷ fs) found → Finds (source_trie s) root name found) → Finds (source_trie s) root name None
       last [] shown finds = finds None (inr (none_of c h.top h.shown over, refl))
       last (f ∷ fs) shown finds = absurd shown
 
   -- back to an earlier choice
-  pub gone : (c p : Choice) (ps : List Choice) {marks : List Bool} {first steps : ℕ} → Holds c (p ∷ ps) marks first steps → c.branches.left ≡ 0 → Holds p ps marks first steps
+  pub gone : (c p : Choice) (ps : List Choice) {marks : List Bool} {first steps : ℕ} → Holds c (p ∷ ps) marks first steps → c.branches.left ≡ 0
+      → Holds p ps marks first steps
   gone c p ps {marks} {first} {steps} h over = back h.below h.shown_below h.opened.1 h.nested.1 h.finds
     where
-      back : (fs : List Frame) → AreShown (p ∷ ps) fs → AreOpen h.vs fs → Nested fs → ((found : Option Info) → Resolves (source_trie s) (h.top ∷ fs) found → Finds (source_trie s) root name found) → Holds p ps marks first steps
+      back : (fs : List Frame) → AreShown (p ∷ ps) fs → AreOpen h.vs fs → Nested fs
+          → ((found : Option Info) → Resolves (source_trie s) (h.top ∷ fs) found → Finds (source_trie s) root name found) → Holds p ps marks first steps
       back [] shown opened nested finds = absurd shown
       back (f ∷ fs) shown opened nested finds = record {
         top = f;
@@ -350,8 +361,10 @@ module _ (s : Source) (root : ℕ) (name : List ℕ) where
     pub low : s.from ≤ start
     low = branch_from s.bytes.now s.from c.branches.place (record { label = label; start = start }) after taken.read
 
-    rest_of : (bs : List Branch) × (left_of h.top ≡ record { label = label; start = start } ∷ bs) × (branches_at s.bytes.now s.from (c.branches.left - 1) after ≡ Ok bs)
-    rest_of = next_branch s.bytes.now s.from c.branches.left c.branches.place (left_of h.top) (record { label = label; start = start }) after taken.some h.shown.branches taken.read
+    rest_of : (bs : List Branch) × (left_of h.top ≡ record { label = label; start = start } ∷ bs) × (branches_at s.bytes.now s.from
+        (c.branches.left - 1) after ≡ Ok bs)
+    rest_of = next_branch s.bytes.now s.from c.branches.left c.branches.place (left_of h.top)
+        (record { label = label; start = start }) after taken.some h.shown.branches taken.read
 
     head : (slice_get h.top.node.branches h.top.next ≡ Some (record { label = label; start = start })) × (rest_of.0 ≡ drop (suc h.top.next) h.top.node.branches)
     head = drop_head h.top.node.branches h.top.next (record { label = label; start = start }) rest_of.0 rest_of.1
@@ -415,7 +428,11 @@ module _ (s : Source) (root : ℕ) (name : List ℕ) where
           | inr old ↦ keeps_mark marks (start - s.from) (v.at - s.from) within (h.visited.marked v old)
         ];
         met = λ o is. elim (cases_eq o (start - s.from)) [
-          | inl same_place ↦ (h.top.path ++ h.top.next ∷ [], inl (let above = low in let same : s.from + o ≡ start = omega arith in ap (visit (h.top.path ++ h.top.next ∷ [])) same))
+          | inl same_place ↦ (
+            h.top.path ++ h.top.next ∷ [],
+            inl (let above = low in let same : s.from + o ≡ start = omega arith in ap
+                (visit (h.top.path ++ h.top.next ∷ [])) same),
+          )
           | inr other ↦ (let old = h.visited.met o (sym (get_or-set_other marks (start - s.from) o true false other) ∙ is) in (old.0, inr old.1))
         ];
         parents = λ v q j i e. elim i [
@@ -465,27 +482,32 @@ module _ (s : Source) (root : ℕ) (name : List ℕ) where
       shown_now : (d : Choice) → d.at ≡ c.at → d.branches.left ≡ c.branches.left - 1 → d.branches.place ≡ after → IsShown d (later h.top 1)
       shown_now d at_is left_is place_is = record {
         branches = subst (λ n. branches_at s.bytes.now s.from n d.branches.place ≡ Ok (left_of (later h.top 1))) (sym left_is)
-            (subst (λ n. branches_at s.bytes.now s.from (c.branches.left - 1) n ≡ Ok (left_of (later h.top 1))) (sym place_is) (rest_of.2 ∙ ap Ok (sym left_now)));
+            (subst (λ n. branches_at s.bytes.now s.from (c.branches.left - 1) n ≡ Ok (left_of (later h.top 1))) (sym place_is)
+            (rest_of.2 ∙ ap Ok (sym left_now)));
         rest = h.shown.rest ∙ ap (λ n. drop n name) (sym at_is);
         within = let w = h.shown.within in omega arith;
       }
 
       -- what is found behind the branch, or behind the others where nothing is
       through_branch : (info : Info) → Finds (source_trie s) start others (Some info) → BranchesFind (source_trie s) h.top.rest (left_of h.top) (Some info)
-      through_branch info finds = subst (λ (x : List Branch). BranchesFind (source_trie s) h.top.rest x (Some info)) (sym rest_of.1) (behind others info rest_is finds refl)
+      through_branch info finds = subst (λ (x : List Branch). BranchesFind (source_trie s) h.top.rest x (Some info)) (sym rest_of.1)
+          (behind others info rest_is finds refl)
 
-      past_branch : (found : Option Info) → Finds (source_trie s) start others None → BranchesFind (source_trie s) h.top.rest (left_of (later h.top 1)) found → BranchesFind (source_trie s) h.top.rest (left_of h.top) found
+      past_branch : (found : Option Info) → Finds (source_trie s) start others None → BranchesFind (source_trie s) h.top.rest (left_of (later h.top 1)) found
+          → BranchesFind (source_trie s) h.top.rest (left_of h.top) found
       past_branch found none finds = subst (λ (x : List Branch). BranchesFind (source_trie s) h.top.rest x found) (sym rest_of.1)
           (gone_back others rest_is none (subst (λ (x : List Branch). BranchesFind (source_trie s) h.top.rest x found) left_now finds))
 
       -- the export is that of the child
-      pub child_found : (node : Node) (info : Info) → node_in s start ≡ Ok node → node.own ≡ Some info → others ≡ [] → Finds (source_trie s) root name (Some info)
+      pub child_found : (node : Node) (info : Info) → node_in s start ≡ Ok node → node.own ≡ Some info → others ≡ [] → Finds (source_trie s) root name
+          (Some info)
       child_found node info at own none = h.finds (Some info) (inl (info, refl, through_branch info (here node info (inside, at) own none refl)))
 
       -- the child is opened; the choice below it has one branch fewer
       pub child_opened : (d e : Choice) (node : Node) {now : ℕ} → now ≡ steps + 1 → node_in s start ≡ Ok node → IsElsewhere others node.own
           → branches_at s.bytes.now s.from d.branches.left d.branches.place ≡ Ok node.branches → d.at ≡ c.at + length label
-          → e.at ≡ c.at → e.branches.left ≡ c.branches.left - 1 → e.branches.place ≡ after → others ≡ drop d.at name → d.at ≤ length name → Holds d (e ∷ cs) (set marks (start - s.from) true) first now
+          → e.at ≡ c.at → e.branches.left ≡ c.branches.left - 1 → e.branches.place ≡ after → others ≡ drop d.at name → d.at ≤ length name → Holds d (e ∷ cs)
+          (set marks (start - s.from) true) first now
       child_opened d e node more at other branches d_at e_at e_left e_place others_are within = record {
         top = record { path = h.top.path ++ h.top.next ∷ []; start = start; rest = others; node = node; next = 0 };
         below = later h.top 1 ∷ h.below;
@@ -498,12 +520,20 @@ module _ (s : Source) (root : ℕ) (name : List ℕ) where
             node = at;
             fresh = λ k w le i e. elim i [
               | inl same ↦ not_longer (h.top.path ++ h.top.next ∷ []) k (sym (ap (λ (x : Visit). x.path) same) ∙ e)
-              | inr old ↦ (let up = h.visited.parents w (h.top.path ++ h.top.next ∷ []) k old e in not_yet (visit (h.top.path ++ h.top.next ∷ []) up.0) up.1 refl)
+              | inr old ↦ (let up = h.visited.parents w (h.top.path ++ h.top.next ∷ []) k old e in not_yet
+                  (visit (h.top.path ++ h.top.next ∷ []) up.0) up.1 refl)
             ];
           },
           (top_open, still_open h.below h.nested.0 h.opened.1),
         );
-        nested = (let more_one = longer_by_one h.top.path h.top.next in (omega arith, shorter_still (length h.top.path) (length (h.top.path ++ h.top.next ∷ [])) (omega arith) h.below h.nested.0), (h.nested.0, h.nested.1));
+        nested = (
+          let more_one = longer_by_one h.top.path h.top.next in (
+            omega arith,
+            shorter_still (length h.top.path) (length (h.top.path ++ h.top.next ∷ []))
+                (omega arith) h.below h.nested.0,
+          ),
+          (h.nested.0, h.nested.1),
+        );
         shown = record { branches = branches; rest = others_are; within = within };
         shown_below = (shown_now e e_at e_left e_place, h.shown_below);
         count = let n = h.count in omega (arith, more);
@@ -517,30 +547,54 @@ module _ (s : Source) (root : ℕ) (name : List ℕ) where
       }
 
   -- the second choice is settled, and left out where nothing is left of it
-  pub settled_below : (c e d : Choice) (cs : List Choice) {marks : List Bool} {first steps : ℕ} (bs : List Branch) → Holds c (e ∷ cs) marks first steps → d.at ≡ e.at
+  pub settled_below : (c e d : Choice) (cs : List Choice) {marks : List Bool} {first steps : ℕ} (bs : List Branch) → Holds c (e ∷ cs) marks first steps
+      → d.at ≡ e.at
       → branches_at s.bytes.now s.from d.branches.left d.branches.place ≡ Ok bs
       → ((old : List Branch) → branches_at s.bytes.now s.from e.branches.left e.branches.place ≡ Ok old → Settles (source_trie s) (drop e.at name) old bs)
       → Holds c (d ∷ cs) marks first steps
   settled_below c e d cs {marks} {first} {steps} bs h same_at branches settles = go h.below h.shown_below h.opened.1 h.nested h.finds
     where
-      go : (fs : List Frame) → AreShown (e ∷ cs) fs → AreOpen h.vs fs → Nested (h.top ∷ fs) → ((found : Option Info) → Resolves (source_trie s) (h.top ∷ fs) found → Finds (source_trie s) root name found) → Holds c (d ∷ cs) marks first steps
+      go : (fs : List Frame) → AreShown (e ∷ cs) fs → AreOpen h.vs fs → Nested (h.top ∷ fs)
+          → ((found : Option Info) → Resolves (source_trie s) (h.top ∷ fs) found → Finds (source_trie s) root name found) → Holds c (d ∷ cs) marks first steps
       go [] shown opened nested finds = absurd shown
       go (f ∷ fs) shown opened nested finds =
           let st = settles (left_of f) shown.0.branches in
           let is : bs ≡ left_of (later f st.number) = st.dropped ∙ drop_more f.next st.number f.node.branches in
           let o = opened.0 in
-          let back : (found : Option Info) → BranchesFind (source_trie s) f.rest (left_of (later f st.number)) found → BranchesFind (source_trie s) f.rest (left_of f) found = λ found x.
+          let back : (found : Option Info) → BranchesFind (source_trie s) f.rest (left_of (later f st.number)) found → BranchesFind (source_trie s) f.rest
+          (left_of f) found = λ found x.
           subst (λ (y : List ℕ). BranchesFind (source_trie s) y (left_of f) found) (sym shown.0.rest)
-          (st.finds found (subst (λ (y : List ℕ). BranchesFind (source_trie s) y bs found) shown.0.rest (subst (λ (y : List Branch). BranchesFind (source_trie s) f.rest y found) (sym is) x))) in
+          (st.finds found (subst (λ (y : List ℕ). BranchesFind (source_trie s) y bs found) shown.0.rest
+          (subst (λ (y : List Branch). BranchesFind (source_trie s) f.rest y found) (sym is) x))) in
           record {
             top = h.top;
             below = later f st.number ∷ fs;
             vs = h.vs;
             visited = h.visited;
-            opened = (h.opened.0, (record { known = o.known; node = o.node; spelled = o.spelled; fresh = λ k w le i q. o.fresh k w (omega arith) i q }, opened.1));
+            opened = (
+              h.opened.0,
+              (
+                record {
+                  known = o.known;
+                  node = o.node;
+                  spelled = o.spelled;
+                  fresh = λ k w le i q. o.fresh k w
+                      (omega arith) i q;
+                },
+                opened.1,
+              ),
+            );
             nested = ((nested.0.0, nested.0.1), (nested.1.0, nested.1.1));
             shown = h.shown;
-            shown_below = (record { branches = branches ∙ ap Ok is; rest = shown.0.rest ∙ ap (λ n. drop n name) (sym same_at); within = let w = shown.0.within in omega arith }, shown.1);
+            shown_below = (
+              record {
+                branches = branches ∙ ap Ok is;
+                rest = shown.0.rest ∙ ap (λ n. drop n name)
+                    (sym same_at);
+                within = let w = shown.0.within in omega arith;
+              },
+              shown.1,
+            );
             count = h.count;
             finds = λ found r. finds found (elim r [
               | inl hit ↦ inl hit
@@ -554,10 +608,12 @@ module _ (s : Source) (root : ℕ) (name : List ℕ) where
             ]);
           }
 
-  pub left_out : (c d : Choice) (cs : List Choice) {marks : List Bool} {first steps : ℕ} → Holds c (d ∷ cs) marks first steps → d.branches.left ≡ 0 → Holds c cs marks first steps
+  pub left_out : (c d : Choice) (cs : List Choice) {marks : List Bool} {first steps : ℕ} → Holds c (d ∷ cs) marks first steps → d.branches.left ≡ 0
+      → Holds c cs marks first steps
   left_out c d cs {marks} {first} {steps} h over = go h.below h.shown_below h.opened.1 h.nested h.finds
     where
-      go : (fs : List Frame) → AreShown (d ∷ cs) fs → AreOpen h.vs fs → Nested (h.top ∷ fs) → ((found : Option Info) → Resolves (source_trie s) (h.top ∷ fs) found → Finds (source_trie s) root name found) → Holds c cs marks first steps
+      go : (fs : List Frame) → AreShown (d ∷ cs) fs → AreOpen h.vs fs → Nested (h.top ∷ fs)
+          → ((found : Option Info) → Resolves (source_trie s) (h.top ∷ fs) found → Finds (source_trie s) root name found) → Holds c cs marks first steps
       go [] shown opened nested finds = absurd shown
       go (f ∷ fs) shown opened nested finds = record {
         top = h.top;
@@ -575,33 +631,43 @@ module _ (s : Source) (root : ℕ) (name : List ℕ) where
         ]);
       }
 
-  settles_at : (c : Choice) (rest : List ℕ) (bs : List Branch) → rest ≡ drop c.at name → Settles (source_trie s) rest (branches_of s.bytes.now s.from c.branches) bs
+  settles_at : (c : Choice) (rest : List ℕ) (bs : List Branch) → rest ≡ drop c.at name → Settles (source_trie s) rest
+      (branches_of s.bytes.now s.from c.branches) bs
       → (old : List Branch) → branches_at s.bytes.now s.from c.branches.left c.branches.place ≡ Ok old → Settles (source_trie s) (drop c.at name) old bs
   settles_at c rest bs same st old e =
       subst (λ (x : List ℕ). Settles (source_trie s) x old bs) same
-      (subst (λ (x : List Branch). Settles (source_trie s) rest x bs) (readable_as (branches_at s.bytes.now s.from c.branches.left c.branches.place) old e).1 st)
+      (subst (λ (x : List Branch). Settles (source_trie s) rest x bs) (readable_as
+      (branches_at s.bytes.now s.from c.branches.left c.branches.place) old e).1 st)
 
-  pub settled_now : (c : Choice) (b : Branches) (cs : List Choice) {marks : List Bool} {first steps : ℕ} (rest : List ℕ) → rest ≡ drop c.at name → Holds c cs marks first steps → AreReadable s.bytes.now s.from b
-      → Settles (source_trie s) rest (branches_of s.bytes.now s.from c.branches) (branches_of s.bytes.now s.from b) → Holds (record { branches = b; at = c.at }) cs marks first steps
+  pub settled_now : (c : Choice) (b : Branches) (cs : List Choice) {marks : List Bool} {first steps : ℕ} (rest : List ℕ) → rest ≡ drop c.at name
+      → Holds c cs marks first steps → AreReadable s.bytes.now s.from b
+      → Settles (source_trie s) rest (branches_of s.bytes.now s.from c.branches) (branches_of s.bytes.now s.from b) → Holds
+      (record { branches = b; at = c.at }) cs marks first steps
   settled_now c b cs rest same h readable st =
-      settled c (record { branches = b; at = c.at }) cs (branches_of s.bytes.now s.from b) h refl readable (settles_at c rest (branches_of s.bytes.now s.from b) same st)
+      settled c (record { branches = b; at = c.at }) cs (branches_of s.bytes.now s.from b) h refl readable
+      (settles_at c rest (branches_of s.bytes.now s.from b) same st)
 
-  pub settled_below_now : (c e : Choice) (b : Branches) (cs : List Choice) {marks : List Bool} {first steps : ℕ} (rest : List ℕ) → rest ≡ drop e.at name → Holds c (e ∷ cs) marks first steps → AreReadable s.bytes.now s.from b
-      → Settles (source_trie s) rest (branches_of s.bytes.now s.from e.branches) (branches_of s.bytes.now s.from b) → Holds c (record { branches = b; at = e.at } ∷ cs) marks first steps
+  pub settled_below_now : (c e : Choice) (b : Branches) (cs : List Choice) {marks : List Bool} {first steps : ℕ} (rest : List ℕ) → rest ≡ drop e.at name
+      → Holds c (e ∷ cs) marks first steps → AreReadable s.bytes.now s.from b
+      → Settles (source_trie s) rest (branches_of s.bytes.now s.from e.branches) (branches_of s.bytes.now s.from b) → Holds c
+      (record { branches = b; at = e.at } ∷ cs) marks first steps
   settled_below_now c e b cs rest same h readable st =
-      settled_below c e (record { branches = b; at = e.at }) cs (branches_of s.bytes.now s.from b) h refl readable (settles_at e rest (branches_of s.bytes.now s.from b) same st)
+      settled_below c e (record { branches = b; at = e.at }) cs (branches_of s.bytes.now s.from b) h refl readable
+      (settles_at e rest (branches_of s.bytes.now s.from b) same st)
 
   drop_own : (xs ys : List ℕ) → drop (length xs) (xs ++ ys) ≡ ys
   drop_own [] ys = refl
   drop_own (x ∷ xs) ys = drop_own xs ys
 
-  pub deeper : (at : ℕ) (label others : List ℕ) → at ≤ length name → drop at name ≡ label ++ others → (others ≡ drop (at + length label) name) × (at + length label ≤ length name)
+  pub deeper : (at : ℕ) (label others : List ℕ) → at ≤ length name → drop at name ≡ label ++ others
+      → (others ≡ drop (at + length label) name) × (at + length label ≤ length name)
   deeper at label others within spells = (
     sym (drop_own label others) ∙ (ap (λ (x : List ℕ). drop (length label) x) (sym spells) ∙ drop_more at (length label) name),
     let a = length-drop at name in let b = ap (λ (x : List ℕ). length x) spells in let d = length-append label others in omega arith,
   )
 
-  pub takes : {c : Choice} {b : Branches} {cs : List Choice} {marks : List Bool} {first steps : ℕ} {rest label : List ℕ} {start after : ℕ} → rest ≡ drop c.at name
+  pub takes : {c : Choice} {b : Branches} {cs : List Choice} {marks : List Bool} {first steps : ℕ} {rest label : List ℕ} {start after : ℕ}
+      → rest ≡ drop c.at name
       → Holds c cs marks first steps → AreReadable s.bytes.now s.from b
       → Settles (source_trie s) rest (branches_of s.bytes.now s.from c.branches) (branches_of s.bytes.now s.from b)
       → Stops (source_trie s) rest (branches_of s.bytes.now s.from b) → 0 < b.left

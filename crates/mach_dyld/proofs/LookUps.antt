@@ -1,5 +1,6 @@
 -- What is found of a name is what a list says of it, and stands by the paths.
-use Rattle.std.proofs.Common.{◌≡◌, ℕ, zero, suc, List, [], ◌∷◌, ◌++◌, inl, inr, Option, Some, None, Result, Ok, Err, refl, sym, ap, subst, ◌∙◌, arith, append_assoc}
+use Rattle.std.proofs.Common.{◌≡◌, ℕ, zero, suc, List, [], ◌∷◌, ◌++◌, inl, inr, Option, Some, None, Result, Ok, Err, refl, sym, ap, subst, ◌∙◌, arith}
+use Rattle.std.proofs.Common.{append_assoc}
 use Rattle.std.specs.Prelude.{slice_get, IfOk}
 use Rattle.std.proofs.lemmas.List.{append-nil, append_cancel_left}
 use Rattle.mach_base.specs.Fault.{Fault}
@@ -43,7 +44,8 @@ mutual
       subst (λ (zs : List Entry). IsFirstOf name zs None) (sym e)
       (none_then name (own_entries p node.own) ys None (own_not p node.own name other) (branches_not t p node.branches ys name all other))
 
-  branches_not : (t : Trie) (p : List ℕ) (bs : List Branch) (xs : List Entry) (name : List ℕ) → BranchesList t p bs xs → ((q : List ℕ) → name ≡ p ++ q → ⊥) → IsFirstOf name xs None
+  branches_not : (t : Trie) (p : List ℕ) (bs : List Branch) (xs : List Entry) (name : List ℕ) → BranchesList t p bs xs → ((q : List ℕ) → name ≡ p ++ q → ⊥)
+      → IsFirstOf name xs None
   branches_not t p [] [] name no_more other = refl
   branches_not t p (b ∷ bs) zs name (one_more {first = xs} {others = ys} first rest e) other =
       subst (λ (z : List Entry). IsFirstOf name z None) (sym e)
@@ -60,7 +62,8 @@ own_elsewhere p rest (Some info) other = elim other [
 ]
 
 mutual
-  pub first_of : (t : Trie) (s : ℕ) (p rest : List ℕ) (xs : List Entry) (found : Option Info) → Finds t s rest found → Lists t s p xs → IsFirstOf (p ++ rest) xs found
+  pub first_of : (t : Trie) (s : ℕ) (p rest : List ℕ) (xs : List Entry) (found : Option Info) → Finds t s rest found → Lists t s p xs → IsFirstOf
+      (p ++ rest) xs found
   first_of t s p rest [] found (at_nothing out e) (nothing out2) = e
   first_of t s p rest xs found (at_nothing out e) (a_node node is all eq) = absurd (let inside = is.0 in omega arith)
   first_of t s p rest [] found (here node info is own r e) (nothing out) = absurd (let inside = is.0 in omega arith)
@@ -74,9 +77,11 @@ mutual
       let same : node2 ≡ node = same_node is2.1 is.1 in
       let all2 = subst (λ (n : Node). BranchesList t p n.branches ys) same all in
       subst (λ (zs : List Entry). IsFirstOf (p ++ rest) zs found) (sym (eq ∙ ap (λ (n : Node). own_entries p n.own ++ ys) same))
-      (none_then (p ++ rest) (own_entries p node.own) ys found (own_elsewhere p rest node.own other) (first_of_branches t p rest node.branches ys found finds all2))
+      (none_then (p ++ rest) (own_entries p node.own) ys found (own_elsewhere p rest node.own other)
+      (first_of_branches t p rest node.branches ys found finds all2))
 
-  pub first_of_branches : (t : Trie) (p rest : List ℕ) (bs : List Branch) (xs : List Entry) (found : Option Info) → BranchesFind t rest bs found → BranchesList t p bs xs → IsFirstOf (p ++ rest) xs found
+  pub first_of_branches : (t : Trie) (p rest : List ℕ) (bs : List Branch) (xs : List Entry) (found : Option Info) → BranchesFind t rest bs found
+      → BranchesList t p bs xs → IsFirstOf (p ++ rest) xs found
   first_of_branches t p rest [] [] found (none_left e) no_more = e
   first_of_branches t p rest [] (x ∷ xs) found (none_left e) all = elim all [ ]
   first_of_branches t p rest (b ∷ bs) zs found (passed other finds) (one_more {first = xs} {others = ys} first more eq) =
@@ -87,7 +92,8 @@ mutual
   first_of_branches t p rest (b ∷ bs) zs found (behind others info r finds e) (one_more {first = xs} {others = ys} first more eq) =
       let name : (p ++ b.label) ++ others ≡ p ++ rest = joined p b.label others ∙ ap (λ (x : List ℕ). p ++ x) (sym r) in
       subst (λ (z : List Entry). IsFirstOf (p ++ rest) z found) (sym eq) (subst (IsFirstOf (p ++ rest) (xs ++ ys)) (sym e)
-      (some_then (p ++ rest) xs ys info (subst (λ (x : List ℕ). IsFirstOf x xs (Some info)) name (first_of t b.start (p ++ b.label) others xs (Some info) finds first))))
+      (some_then (p ++ rest) xs ys info (subst (λ (x : List ℕ). IsFirstOf x xs (Some info)) name
+      (first_of t b.start (p ++ b.label) others xs (Some info) finds first))))
   first_of_branches t p rest (b ∷ bs) zs found (gone_back others r none finds) (one_more {first = xs} {others = ys} first more eq) =
       let name : (p ++ b.label) ++ others ≡ p ++ rest = joined p b.label others ∙ ap (λ (x : List ℕ). p ++ x) (sym r) in
       subst (λ (z : List Entry). IsFirstOf (p ++ rest) z found) (sym eq)
@@ -97,7 +103,8 @@ mutual
 -- by the paths
 
 mutual
-  pub found_stands : (t : Trie) (s : ℕ) (rest : List ℕ) (found : Option Info) (info : Info) → Finds t s rest found → found ≡ Some info → IsExportOf t s rest info
+  pub found_stands : (t : Trie) (s : ℕ) (rest : List ℕ) (found : Option Info) (info : Info) → Finds t s rest found → found ≡ Some info
+      → IsExportOf t s rest info
   found_stands t s rest found info (at_nothing out e) some = absurd (cc)
   found_stands t s rest found info (here node info2 is own r e) some =
       let same : info2 ≡ info = cc in
@@ -119,11 +126,14 @@ mutual
       → (k : ℕ) × (b : Branch) × (others : List ℕ) × IsExportOf t b.start others info × (slice_get bs k ≡ Some b) × (rest ≡ b.label ++ others)
   found_behind t rest [] found info (none_left e) some = absurd (cc)
   found_behind t rest (b ∷ bs) found info (passed other finds) some = let r = found_behind t rest bs found info finds some in (suc r.0, r.1, r.2, r.3, r.4, r.5)
-  found_behind t rest (b ∷ bs) found info (behind others info2 r finds e) some = let same : Some info2 ≡ Some info = cc in (0, b, others, found_stands t b.start others (Some info2) info finds same, refl, r)
-  found_behind t rest (b ∷ bs) found info (gone_back others r none finds) some = let r = found_behind t rest bs found info finds some in (suc r.0, r.1, r.2, r.3, r.4, r.5)
+  found_behind t rest (b ∷ bs) found info (behind others info2 r finds e) some = let same : Some info2 ≡ Some info = cc in
+      (0, b, others, found_stands t b.start others (Some info2) info finds same, refl, r)
+  found_behind t rest (b ∷ bs) found info (gone_back others r none finds) some = let r = found_behind t rest bs found info finds some in
+      (suc r.0, r.1, r.2, r.3, r.4, r.5)
 
 mutual
-  pub none_stands : (t : Trie) (s : ℕ) (rest : List ℕ) (found : Option Info) → Finds t s rest found → found ≡ None → (path : List ℕ) (info : Info) → EndsWith t s path info → IsNameOf t s path rest → ⊥
+  pub none_stands : (t : Trie) (s : ℕ) (rest : List ℕ) (found : Option Info) → Finds t s rest found → found ≡ None → (path : List ℕ) (info : Info)
+      → EndsWith t s path info → IsNameOf t s path rest → ⊥
   none_stands t s rest found (here node info2 is own r e) none path info ends named = cc
   none_stands t s rest found (at_nothing out e) none [] info ends named =
       let inside = ends.is_node.0 in let at : s ≡ ends.at = ends.leads in omega arith
@@ -146,10 +156,12 @@ mutual
       (record { at = ends.at; leads = ends.leads.5; node = ends.node; is_node = ends.is_node; own = ends.own })
       named.2 (subst (λ (b : Branch). IsNameOf t b.start ks named.2) one named.5) (subst (λ (b : Branch). rest ≡ b.label ++ named.2) one named.6)
 
-  none_behind : (t : Trie) (rest : List ℕ) (bs : List Branch) (found : Option Info) → BranchesFind t rest bs found → found ≡ None → (k : ℕ) (b : Branch) (ks : List ℕ) (info : Info) → slice_get bs k ≡ Some b
+  none_behind : (t : Trie) (rest : List ℕ) (bs : List Branch) (found : Option Info) → BranchesFind t rest bs found → found ≡ None → (k : ℕ) (b : Branch)
+      (ks : List ℕ) (info : Info) → slice_get bs k ≡ Some b
       → EndsWith t b.start ks info → (others : List ℕ) → IsNameOf t b.start ks others → rest ≡ b.label ++ others → ⊥
   none_behind t rest [] found (none_left e) none k b ks info at ends others named r = cc
-  none_behind t rest (c ∷ bs) found (passed other finds) none zero b ks info at ends others named r = let same : b ≡ c = cc in other others (subst (λ (x : Branch). rest ≡ x.label ++ others) same r)
+  none_behind t rest (c ∷ bs) found (passed other finds) none zero b ks info at ends others named r = let same : b ≡ c = cc in other others
+      (subst (λ (x : Branch). rest ≡ x.label ++ others) same r)
   none_behind t rest (c ∷ bs) found (passed other finds) none (suc k) b ks info at ends others named r = none_behind t rest bs found finds none k b ks info at ends others named r
   none_behind t rest (c ∷ bs) found (behind others2 info2 r2 finds e) none k b ks info at ends others named r = cc
   none_behind t rest (c ∷ bs) found (gone_back others2 r2 absent finds) none zero b ks info at ends others named r =
@@ -158,7 +170,8 @@ mutual
       let tail : others ≡ others2 = append_cancel_left c.label others others2 (sym r3 ∙ r2) in
       none_stands t c.start others2 None absent refl ks info (subst (λ (x : Branch). EndsWith t x.start ks info) same ends)
       (subst (IsNameOf t c.start ks) tail (subst (λ (x : Branch). IsNameOf t x.start ks others) same named))
-  none_behind t rest (c ∷ bs) found (gone_back others2 r2 absent finds) none (suc k) b ks info at ends others named r = none_behind t rest bs found finds none k b ks info at ends others named r
+  none_behind t rest (c ∷ bs) found (gone_back others2 r2 absent finds) none
+      (suc k) b ks info at ends others named r = none_behind t rest bs found finds none k b ks info at ends others named r
 
 pub stands_for : (t : Trie) (s : ℕ) (rest : List ℕ) (found : Option Info) → Finds t s rest found → StandsFor t s rest found
 stands_for t s rest None finds = λ info e. none_stands t s rest None finds refl e.0 info e.1 e.2

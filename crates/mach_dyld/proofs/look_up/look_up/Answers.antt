@@ -33,7 +33,8 @@ returns-in_err-info-clause-visits g c =
 
 pub returns-in_err-info-clause-few_visits : goal.returns-in_err-info-clause-few_visits
 returns-in_err-info-clause-few_visits g c =
-    follow.few_visits c.args.source.now c.args.name.now c.args.steps.now _ (follow.ended c.args.source.now c.args.name.now c.turns.invariant c.in_err-info.ensures.visits)
+    follow.few_visits c.args.source.now c.args.name.now c.args.steps.now _
+    (follow.ended c.args.source.now c.args.name.now c.turns.invariant c.in_err-info.ensures.visits)
 
 pub returns-in-Found-clause-found : goal.returns-in-Found-clause-found
 returns-in-Found-clause-found g c =
@@ -47,7 +48,8 @@ returns-in-Found-clause-visits g c =
 
 pub returns-in-Found-clause-few_visits : goal.returns-in-Found-clause-few_visits
 returns-in-Found-clause-few_visits g c =
-    follow.few_visits c.args.source.now c.args.name.now c.args.steps.now _ (follow.ended c.args.source.now c.args.name.now c.turns.invariant c.in_ok-info.ensures.visits)
+    follow.few_visits c.args.source.now c.args.name.now c.args.steps.now _
+    (follow.ended c.args.source.now c.args.name.now c.turns.invariant c.in_ok-info.ensures.visits)
 
 pub returns-in-Ends-clause-found : goal.returns-in-Ends-clause-found
 returns-in-Ends-clause-found g c =
@@ -61,7 +63,8 @@ returns-in-Ends-clause-visits g c =
 
 pub returns-in-Ends-clause-few_visits : goal.returns-in-Ends-clause-few_visits
 returns-in-Ends-clause-few_visits g c =
-    follow.few_visits c.args.source.now c.args.name.now c.args.steps.now _ (follow.ended c.args.source.now c.args.name.now c.turns.invariant c.in_ok-info.ensures.visits)
+    follow.few_visits c.args.source.now c.args.name.now c.args.steps.now _
+    (follow.ended c.args.source.now c.args.name.now c.turns.invariant c.in_ok-info.ensures.visits)
 
 pub rest_at-rest-requires : goal.rest_at-rest-requires
 rest_at-rest-requires g c =
@@ -106,4 +109,5 @@ returns-in-Open-clause-visits g c =
 
 pub returns-in-Open-clause-few_visits : goal.returns-in-Open-clause-few_visits
 returns-in-Open-clause-few_visits g c =
-    follow.few_visits c.args.source.now c.args.name.now c.args.steps.now _ (follow.searched c.args.source.now c.args.name.now c.turns.invariant c.in_ok-info.ensures.visits c.search.ensures.visits)
+    follow.few_visits c.args.source.now c.args.name.now c.args.steps.now _
+    (follow.searched c.args.source.now c.args.name.now c.turns.invariant c.in_ok-info.ensures.visits c.search.ensures.visits)

@@ -25,7 +25,8 @@ loop-preserved c =
       step.goes_on _ _ _ _ _ _ _ c.loop.invariant.1 b c.in_ok-label.after c.loop-test.true c.in_ok-label.ensures,
       elim c.if-leads.branch [
         | then-leads+in-Nowhere w ↦ subst (Goes (source_trie c.args.source.now) c.args.rest.now (front ++ b ∷ [])) (sym w.way'-is)
-            (takes (source_trie c.args.source.now) c.args.rest.now front b (subst (Goes (source_trie c.args.source.now) c.args.rest.now front) w.in-Nowhere.is goes)
+            (takes (source_trie c.args.source.now) c.args.rest.now front b
+            (subst (Goes (source_trie c.args.source.now) c.args.rest.now front) w.in-Nowhere.is goes)
             (c.leads.ensures.yes w.if-leads.true))
         | then-leads+in_default w ↦ subst (Goes (source_trie c.args.source.now) c.args.rest.now (front ++ b ∷ [])) (sym w.way'-is) tt
         | else-leads w ↦ subst (Goes (source_trie c.args.source.now) c.args.rest.now (front ++ b ∷ [])) (sym w.way'-is)

@@ -24,9 +24,11 @@ returns-in_err-marks-clause-visits g c =
 
 pub turns-init : goal.turns-init
 turns-init g c =
-    let filled : c.in_ok-marks.marks.items ≡ replicate (c.args.source.now.upto - c.args.source.now.from) false = c.in_ok-marks.ensures.items_if_clones_equal (λ y e. e) in
+    let filled : c.in_ok-marks.marks.items ≡ replicate (c.args.source.now.upto - c.args.source.now.from) false = c.in_ok-marks.ensures.items_if_clones_equal
+    (λ y e. e) in
     let node = c.requires.passed in
-    subst (λ (ms : List Bool). Holds c.args.source.now c.args.root c.args.name.now (record { branches = c.args.branches; at = 0 }) (reverse c.new-choices.result.items)
+    subst (λ (ms : List Bool). Holds c.args.source.now c.args.root c.args.name.now (record { branches = c.args.branches; at = 0 })
+    (reverse c.new-choices.result.items)
     (set ms (c.args.root - c.args.source.now.from) true) c.args.steps.now c.args.steps.now) (sym filled)
     (subst (λ (os : List Choice). Holds c.args.source.now c.args.root c.args.name.now (record { branches = c.args.branches; at = 0 }) os
     (set (replicate (c.args.source.now.upto - c.args.source.now.from) false) (c.args.root - c.args.source.now.from) true) c.args.steps.now c.args.steps.now)
@@ -38,7 +40,9 @@ returns-in-None-clause-found g c =
     let zero : length c.turns.choices.items ≡ 0 = omega (arith, c.turns.choices.ok.0, c.in-None.ensures.cases.0) in
     let held = turn.settled_now c.args.source.now c.args.root c.args.name.now c.turns.top c.settle-branches.result (reverse c.turns.choices.items)
     c.rest_at-rest.result.now c.rest_at-rest.ensures c.turns.invariant c.settle-branches.ensures.readable c.settle-branches.ensures.settles in
-    turn.ended c.args.source.now c.args.root c.args.name.now (record { branches = c.settle-branches.result; at = c.turns.top.at }) (subst (λ os. Holds c.args.source.now c.args.root c.args.name.now (record { branches = c.settle-branches.result; at = c.turns.top.at }) os c.turns.marks.items c.args.steps.now c.turns.steps)
+    turn.ended c.args.source.now c.args.root c.args.name.now (record { branches = c.settle-branches.result; at = c.turns.top.at })
+    (subst (λ os. Holds c.args.source.now c.args.root c.args.name.now
+    (record { branches = c.settle-branches.result; at = c.turns.top.at }) os c.turns.marks.items c.args.steps.now c.turns.steps)
     (turn.emptied c.turns.choices.items zero) held) c.if-branches-eq0.true
 
 pub returns-in-None-clause-visits : goal.returns-in-None-clause-visits
@@ -50,7 +54,8 @@ turns-preserved-in-Some g c =
     let pop = turn.popped c.turns.choices.items c.pop.new.self.items c.in-Some.below c.in-Some.ensures.items in
     let held = turn.settled_now c.args.source.now c.args.root c.args.name.now c.turns.top c.settle-branches.result (reverse c.turns.choices.items)
     c.rest_at-rest.result.now c.rest_at-rest.ensures c.turns.invariant c.settle-branches.ensures.readable c.settle-branches.ensures.settles in
-    turn.gone c.args.source.now c.args.root c.args.name.now (record { branches = c.settle-branches.result; at = c.turns.top.at }) c.in-Some.below (reverse c.pop.new.self.items)
+    turn.gone c.args.source.now c.args.root c.args.name.now (record { branches = c.settle-branches.result; at = c.turns.top.at }) c.in-Some.below
+    (reverse c.pop.new.self.items)
     (subst (λ os. Holds c.args.source.now c.args.root c.args.name.now (record { branches = c.settle-branches.result; at = c.turns.top.at }) os c.turns.marks.items c.args.steps.now c.turns.steps) pop held) c.if-branches-eq0.true
 
 pub read_again-start-requires : goal.read_again-start-requires
@@ -65,7 +70,8 @@ overflow_sub-start g c =
 
 pub index-requires : goal.index-requires
 index-requires g c =
-    let inside = turn.within c.args.source.now c.args.root c.args.name.now (turn.takes c.args.source.now c.args.root c.args.name.now c.rest_at-rest.ensures c.turns.invariant c.settle-branches.ensures.readable c.settle-branches.ensures.settles
+    let inside = turn.within c.args.source.now c.args.root c.args.name.now
+    (turn.takes c.args.source.now c.args.root c.args.name.now c.rest_at-rest.ensures c.turns.invariant c.settle-branches.ensures.readable c.settle-branches.ensures.settles
     c.settle-branches.ensures.stops (omega (arith, c.if-branches-eq0.false)) c.read_again-start.ensures) in
     omega (arith, c.turns.marks.ok.0, inside)
 
@@ -86,7 +92,8 @@ overflow_sub-start-else-branches-eq0 g c =
 
 pub index_mut-requires-else-branches-eq0 : goal.index_mut-requires-else-branches-eq0
 index_mut-requires-else-branches-eq0 g c =
-    let inside = turn.within c.args.source.now c.args.root c.args.name.now (turn.takes c.args.source.now c.args.root c.args.name.now c.rest_at-rest.ensures c.turns.invariant c.settle-branches.ensures.readable c.settle-branches.ensures.settles
+    let inside = turn.within c.args.source.now c.args.root c.args.name.now
+    (turn.takes c.args.source.now c.args.root c.args.name.now c.rest_at-rest.ensures c.turns.invariant c.settle-branches.ensures.readable c.settle-branches.ensures.settles
     c.settle-branches.ensures.stops (omega (arith, c.if-branches-eq0.false)) c.read_again-start.ensures) in
     omega (arith, c.turns.marks.ok.0, inside)
 
@@ -99,8 +106,10 @@ settle-others-requires g c =
 pub returns-in_err-own-clause-refused : goal.returns-in_err-own-clause-refused
 returns-in_err-own-clause-refused g c =
     let p = err_from_is_err_and c.from_residual-in_err-own.result c.from_residual-in_err-own.ensures.1 in
-    rw (p.1, p.2) (Stands-failed (TrieFault (source_trie c.args.source.now) c.args.root) c.in_err-own.field-0.0 (node_in c.args.source.now c.read_again-start.result.1)
-    (λ f e. turn.child_fault c.args.source.now c.args.root c.args.name.now (turn.takes c.args.source.now c.args.root c.args.name.now c.rest_at-rest.ensures c.turns.invariant c.settle-branches.ensures.readable c.settle-branches.ensures.settles
+    rw (p.1, p.2) (Stands-failed (TrieFault (source_trie c.args.source.now) c.args.root) c.in_err-own.field-0.0
+    (node_in c.args.source.now c.read_again-start.result.1)
+    (λ f e. turn.child_fault c.args.source.now c.args.root c.args.name.now
+    (turn.takes c.args.source.now c.args.root c.args.name.now c.rest_at-rest.ensures c.turns.invariant c.settle-branches.ensures.readable c.settle-branches.ensures.settles
     c.settle-branches.ensures.stops (omega (arith, c.if-branches-eq0.false)) c.read_again-start.ensures) f e)
     (FailsAs-read c.in_err-own.field-0.0 (node_in c.args.source.now c.read_again-start.result.1) c.in_err-own.ensures.value))
 
@@ -113,7 +122,8 @@ returns-in_err-own-clause-visits g c =
 
 pub overflow_sub-rest : goal.overflow_sub-rest
 overflow_sub-rest g c =
-    rw c.rest_at-rest.ensures (turn.label_within c.args.source.now c.args.root c.args.name.now (turn.takes c.args.source.now c.args.root c.args.name.now c.rest_at-rest.ensures c.turns.invariant c.settle-branches.ensures.readable c.settle-branches.ensures.settles
+    rw c.rest_at-rest.ensures (turn.label_within c.args.source.now c.args.root c.args.name.now
+    (turn.takes c.args.source.now c.args.root c.args.name.now c.rest_at-rest.ensures c.turns.invariant c.settle-branches.ensures.readable c.settle-branches.ensures.settles
     c.settle-branches.ensures.stops (omega (arith, c.if-branches-eq0.false)) c.read_again-start.ensures))
 
 pub returns-in-Some-here-clause-found : goal.returns-in-Some-here-clause-found
@@ -123,7 +133,8 @@ returns-in-Some-here-clause-found g c =
     let a = ap (λ (x : List ℕ). length x) taken.spells in let r = ap (λ (x : List ℕ). length x) c.rest_at-rest.ensures in
     let b = length-append c.read_again-start.result.0.now taken.others in
     let none : length taken.others ≡ 0 = omega (arith, c.in-Some-here.ensures.some.0) in
-    turn.child_found c.args.source.now c.args.root c.args.name.now taken (turn.is_clear c.args.source.now c.args.root c.args.name.now (turn.takes c.args.source.now c.args.root c.args.name.now c.rest_at-rest.ensures c.turns.invariant c.settle-branches.ensures.readable c.settle-branches.ensures.settles
+    turn.child_found c.args.source.now c.args.root c.args.name.now taken
+    (turn.is_clear c.args.source.now c.args.root c.args.name.now (turn.takes c.args.source.now c.args.root c.args.name.now c.rest_at-rest.ensures c.turns.invariant c.settle-branches.ensures.readable c.settle-branches.ensures.settles
     c.settle-branches.ensures.stops (omega (arith, c.if-branches-eq0.false)) c.read_again-start.ensures) c.index.ensures c.if-index.false)
     (node_of c.args.source.now.bytes.now c.args.source.now.from (c.in_ok-own.own, c.in_ok-own.child)) (info_of c.in-Some-here.info)
     c.in_ok-own.ensures.value c.in-Some-here.ensures.some.1 (nil_from_length taken.others none)
@@ -149,7 +160,8 @@ turns-smaller g c =
       | inr some ↦ (let same = ap (λ (x : List Choice). length x) (c.in_ok-keep.ensures.some some)
           ∙ length-append c.turns.choices.items (record { branches = c.settle-others.result; at = c.turns.top.at } ∷ []) in omega arith)
     ] in
-    let less = turn.one_less c.turns.marks.items (c.read_again-start.result.1 - c.args.source.now.from) (turn.within c.args.source.now c.args.root c.args.name.now (turn.takes c.args.source.now c.args.root c.args.name.now c.rest_at-rest.ensures c.turns.invariant c.settle-branches.ensures.readable c.settle-branches.ensures.settles
+    let less = turn.one_less c.turns.marks.items (c.read_again-start.result.1 - c.args.source.now.from)
+    (turn.within c.args.source.now c.args.root c.args.name.now (turn.takes c.args.source.now c.args.root c.args.name.now c.rest_at-rest.ensures c.turns.invariant c.settle-branches.ensures.readable c.settle-branches.ensures.settles
     c.settle-branches.ensures.stops (omega (arith, c.if-branches-eq0.false)) c.read_again-start.ensures))
     (turn.is_clear c.args.source.now c.args.root c.args.name.now (turn.takes c.args.source.now c.args.root c.args.name.now c.rest_at-rest.ensures c.turns.invariant c.settle-branches.ensures.readable c.settle-branches.ensures.settles
     c.settle-branches.ensures.stops (omega (arith, c.if-branches-eq0.false)) c.read_again-start.ensures) c.index.ensures c.if-index.false) in
@@ -162,23 +174,29 @@ turns-preserved g c =
     let a = ap (λ (x : List ℕ). length x) taken.spells in let r = ap (λ (x : List ℕ). length x) c.rest_at-rest.ensures in
     let b = length-append c.read_again-start.result.0.now taken.others in
     let deep = turn.deeper c.args.source.now c.args.root c.args.name.now c.turns.top.at c.read_again-start.result.0.now taken.others taken.held.shown.within taken.spells in
-    let opened = turn.child_opened c.args.source.now c.args.root c.args.name.now taken (turn.is_clear c.args.source.now c.args.root c.args.name.now (turn.takes c.args.source.now c.args.root c.args.name.now c.rest_at-rest.ensures c.turns.invariant c.settle-branches.ensures.readable c.settle-branches.ensures.settles
+    let opened = turn.child_opened c.args.source.now c.args.root c.args.name.now taken
+    (turn.is_clear c.args.source.now c.args.root c.args.name.now (turn.takes c.args.source.now c.args.root c.args.name.now c.rest_at-rest.ensures c.turns.invariant c.settle-branches.ensures.readable c.settle-branches.ensures.settles
     c.settle-branches.ensures.stops (omega (arith, c.if-branches-eq0.false)) c.read_again-start.ensures) c.index.ensures c.if-index.false)
     (record { branches = c.in_ok-own.child; at = c.turns.top.at + length c.read_again-start.result.0.now })
     (record { branches = record { left = c.settle-branches.result.left - 1; place = c.read_again-start.result.2 }; at = c.turns.top.at })
     (node_of c.args.source.now.bytes.now c.args.source.now.from (c.in_ok-own.own, c.in_ok-own.child)) c.in_ok-own.ensures.visits c.in_ok-own.ensures.value
     (turn.elsewhere c.args.source.now c.args.root c.args.name.now taken.others _ (λ z. c.in_default.ensures.none (omega arith)))
     c.in_ok-own.ensures.readable refl refl refl refl deep.0 deep.1 in
-    let both = turn.settled_below_now c.args.source.now c.args.root c.args.name.now (record { branches = c.in_ok-own.child; at = c.turns.top.at + length c.read_again-start.result.0.now })
+    let both = turn.settled_below_now c.args.source.now c.args.root c.args.name.now
+    (record { branches = c.in_ok-own.child; at = c.turns.top.at + length c.read_again-start.result.0.now })
     (record { branches = record { left = c.settle-branches.result.left - 1; place = c.read_again-start.result.2 }; at = c.turns.top.at })
     c.settle-others.result (reverse c.turns.choices.items) c.rest_at-rest.result.now c.rest_at-rest.ensures opened
     c.settle-others.ensures.readable c.settle-others.ensures.settles in
     elim (cases_eq c.settle-others.result.left 0) [
-      | inl none ↦ subst (λ os. Holds c.args.source.now c.args.root c.args.name.now (record { branches = c.in_ok-own.child; at = c.turns.top.at + length c.read_again-start.result.0.now }) os (set c.turns.marks.items (c.read_again-start.result.1 - c.args.source.now.from) true) c.args.steps.now c.read_node.new.steps)
+      | inl none ↦ subst (λ os. Holds c.args.source.now c.args.root c.args.name.now
+          (record { branches = c.in_ok-own.child; at = c.turns.top.at + length c.read_again-start.result.0.now }) os
+          (set c.turns.marks.items (c.read_again-start.result.1 - c.args.source.now.from) true) c.args.steps.now c.read_node.new.steps)
           (sym (ap reverse (c.in_ok-keep.ensures.none none)))
           (turn.left_out c.args.source.now c.args.root c.args.name.now (record { branches = c.in_ok-own.child; at = c.turns.top.at + length c.read_again-start.result.0.now })
           (record { branches = c.settle-others.result; at = c.turns.top.at }) (reverse c.turns.choices.items) both none)
-      | inr more ↦ subst (λ os. Holds c.args.source.now c.args.root c.args.name.now (record { branches = c.in_ok-own.child; at = c.turns.top.at + length c.read_again-start.result.0.now }) os (set c.turns.marks.items (c.read_again-start.result.1 - c.args.source.now.from) true) c.args.steps.now c.read_node.new.steps)
+      | inr more ↦ subst (λ os. Holds c.args.source.now c.args.root c.args.name.now
+          (record { branches = c.in_ok-own.child; at = c.turns.top.at + length c.read_again-start.result.0.now }) os
+          (set c.turns.marks.items (c.read_again-start.result.1 - c.args.source.now.from) true) c.args.steps.now c.read_node.new.steps)
           (sym (turn.popped c.keep.new.choices.items c.turns.choices.items (record { branches = c.settle-others.result; at = c.turns.top.at })
           (c.in_ok-keep.ensures.some more))) both
     ]

@@ -20,7 +20,9 @@ returns-then-leads-clause-settles c = c.loop.invariant.2
 pub returns-then-leads-clause-stops : goal.returns-then-leads-clause-stops
 returns-then-leads-clause-stops c =
     let count = c.loop.invariant.0 in let test = c.loop-test.true in
-    stops_there c.args.source.now c.args.rest.now c.loop.left c.loop.invariant.1 (omega arith) c.read_again-start.result.0.now c.read_again-start.result.1 c.read_again-start.result.2 c.read_again-start.ensures (c.leads.ensures.yes c.if-leads.true)
+    stops_there c.args.source.now c.args.rest.now c.loop.left c.loop.invariant.1
+    (omega arith) c.read_again-start.result.0.now c.read_again-start.result.1 c.read_again-start.result.2 c.read_again-start.ensures
+    (c.leads.ensures.yes c.if-leads.true)
 
 pub overflow_sub-left : goal.overflow_sub-left
 overflow_sub-left c = let count = c.loop.invariant.0 in let test = c.loop-test.true in omega arith
