@@ -60,9 +60,9 @@ impl<'a, A: Allocator> Export<'a, A> {
 /// An export trie in a range of the bytes, with its root at the range's start.
 #[derive(Drop)]
 pub struct ExportTrie<'a> {
-    bytes: &'a [u8],
-    from: usize,
-    upto: usize,
+    pub(crate) bytes: &'a [u8],
+    pub(crate) from: usize,
+    pub(crate) upto: usize,
 }
 
 impl<'a> Model for ExportTrie<'a> {

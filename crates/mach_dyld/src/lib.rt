@@ -7,6 +7,7 @@ pub mod exports;
 pub mod imports;
 mod info;
 pub mod laws;
+mod look_up;
 mod node;
 mod steps;
 mod tally;

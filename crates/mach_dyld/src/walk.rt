@@ -36,7 +36,7 @@ pub struct Open {
 // Reads how long the own export of the node at a start is: the one read that counts as a visit.
 // Answers that and the place behind.
 #[inline(always)]
-fn visit(bytes: &[u8], start: usize, steps: &mut Steps) -> Result<(u64, usize)>
+pub(crate) fn visit(bytes: &[u8], start: usize, steps: &mut Steps) -> Result<(u64, usize)>
     ensures value { Reads (λ found. found) result (uleb_at bytes.now start) }
     ensures visits { steps.new ≡ steps.old + 1 }
 {

@@ -5,6 +5,7 @@ mod export_kinds;
 mod exports;
 mod growths;
 mod imports;
+mod look_ups;
 mod refusing;
 mod tries;
 mod without_memory;
