@@ -4,7 +4,7 @@ use Rattle.std.specs.Prelude.{IfErr, IsErrAnd}
 use Rattle.mach_base.specs.declared.error.Error.{Error}
 use Rattle.mach_base.specs.Answer.{FailsAs, Gives, Stands}
 use Rattle.mach_base.specs.Fault.{Fault, fault_of}
-use Rattle.mach_base.proofs.Faults.{Stands-in, Stands-reported, Stands-failed}
+use Rattle.mach_base.proofs.Faults.{FailsAs-read, Stands-in, Stands-reported, Stands-failed}
 
 exit_stands : {X : Type 0} (Q : Fault → Type 0) (r : Result X Error) (e : Error) → IsErrAnd r (λ x. x ≡ e) → Stands Q e → IfErr r (Stands Q)
 exit_stands Q (Ok x) e left h = tt
@@ -23,6 +23,12 @@ exit_reported Q r e left h = exit_stands Q r e left (Stands-reported Q e h)
 pub exit_failed : {X Y : Type 0} (Q : Fault → Type 0) (r : Result X Error) (e : Error) → IsErrAnd r (λ x. x ≡ e)
     → (there : Result Y Fault) → ((f : Fault) → there ≡ Err f → Q f) → FailsAs e there → IfErr r (Stands Q)
 exit_failed Q r e left there to h = exit_stands Q r e left (Stands-failed Q e there to h)
+
+-- a read that fails as it says
+pub exit_fails : {X Y : Type 0} (r : Result X Error) (e : Error) → IsErrAnd r (λ x. x ≡ e) → (there : Result Y Fault) → there ≡ Err (fault_of e)
+    → IfErr r (λ x. FailsAs x there)
+exit_fails (Ok x) e left there h = tt
+exit_fails (Err x) e left there h = rw left (FailsAs-read e there h)
 
 -- what fails as an error says fails so where it is answered
 pub exit_gives : {X Y : Type 0} (view : X → Y) (r : Result X Error) (e : Error) → IsErrAnd r (λ x. x ≡ e)

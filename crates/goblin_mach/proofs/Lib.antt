@@ -6,6 +6,7 @@ pub mod Chains
 pub mod Readings
 pub mod Entries
 pub mod Images
+pub mod Opened
 pub mod Relocations
 pub mod Lossy
 pub mod SameSegments

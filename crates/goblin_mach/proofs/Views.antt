@@ -1,4 +1,6 @@
 -- The items of a view.
+use Rattle.std.specs.Borrow.{Bor}
+use Rattle.std.specs.Prelude.{IfOk}
 use Rattle.std.proofs.Common.{◌≡◌, ℕ, ◌+◌, ◌-◌, ◌<◌, ◌≤◌, List, [], ◌∷◌, ◌++◌, Result, Ok, inl, inr, refl, sym, subst, append_assoc, arith}
 use Rattle.std.proofs.lemmas.List.{append-nil}
 use Rattle.mach_base.specs.declared.error.Error.{Error}
@@ -12,7 +14,9 @@ use Rattle.mach_dyld.specs.Imports.{Import}
 use Rattle.mach_dyld.specs.Trie as trie
 use Rattle.mach_parts.specs.Items.{items_from}
 use Rattle.mach_parts.proofs.ItemLists.{items_from-first}
-use Rattle.goblin_mach.specs.FatEntry.{FatEntry, image}
+use Rattle.goblin_mach.specs.FatEntry.{FatEntry, archive, image, IsEntry}
+use Rattle.goblin_mach.specs.declared.fat_file.entry.SingleArch.TheVariants as entries
+use Rattle.goblin_mach.specs.declared.view.LinkView.TheVariants as views
 use Rattle.goblin_mach.specs.Subjects.{ListsImageImports, ListsImageExports}
 use Rattle.goblin_mach.specs.OpenImage.{IsImage, commands_held, trie_held, binds_held, ctx_held}
 use Rattle.goblin_mach.specs.View.{LinksImage, LinksFault, ItemFault, of_links, FaultHeld, IsTold, Tells, IsViewItem, AreViewItems}
@@ -52,6 +56,18 @@ image-fails bytes m f p fault =
 
 pub item_fault : {A : Type 0} (bytes : List ℕ) (m : MachO A) (f : Fault) → IsImage bytes 0 m → FaultHeld m f → ItemFault (Ok (image bytes)) f
 item_fault bytes m f p fault = of_links bytes f refl (image-fails bytes m f p fault)
+
+-- an archive's bytes are its item
+pub archive_item : (A B : Type 0) (bytes : Bor (List ℕ)) (e : FatEntry) → IsEntry {A = A} e (entries.Archive bytes)
+    → IsViewItem {A = B} (Ok e) (Ok (views.Archive bytes))
+archive_item A B bytes (archive slice) is = (archive slice, refl, is)
+archive_item A B bytes (image slice) is = absurd is
+
+-- an image's item is that of the entry
+pub entry_of_image : {A B : Type 0} (r : Result (Result (LinkView B) Error) Error) (m : MachO A) (e : FatEntry) → IsEntry e (entries.MachO m)
+    → ((bytes : List ℕ) → IsImage bytes 0 m → IfOk r (IsViewItem (Ok (image bytes)))) → IfOk r (IsViewItem (Ok e))
+entry_of_image r m (archive slice) is item = absurd is
+entry_of_image r m (image slice) is item = item slice is
 
 -- one more item, where those that are left follow it
 pub one_more_item : {A : Type 0} (entry : ℕ → Result FatEntry Fault) (i n : ℕ) (items : List (Result (LinkView A) Error))

@@ -3,9 +3,9 @@
 ghost use Rattle.std.specs.Prelude.{◌≡◌, ℕ, List, Result, IfOk, IfErr, Ok};
 ghost use Rattle.mach_base.specs.Fault.{Fault};
 ghost use Rattle.mach_base.specs.Answer.{Stands, IsOkUnlessMemory};
-ghost use Rattle.goblin_mach.specs.FatEntry.{FatEntry, entry_at, entries_of, image};
+ghost use Rattle.goblin_mach.specs.FatEntry.{FatEntry, IsEntry, entry_at, entries_of, image};
 ghost use Rattle.goblin_mach.specs.FatFile.{file_held};
-ghost use Rattle.goblin_mach.specs.OpenImage.{IsImage};
+ghost use Rattle.goblin_mach.specs.OpenImage.{IsImage, IsMach};
 ghost use Rattle.goblin_mach.specs.View.{HasEntries, ViewFault, LinksHeld, FaultHeld, IsTold, IsViewItem, AreViewItems};
 
 use crate::fat_file::entry::SingleArch;
@@ -94,6 +94,20 @@ fn image_item<'a, A: Allocator, B: Allocator + Clone>(
     }
 }
 
+// The item of an entry that opened.
+fn opened_item<'a, A: Allocator, B: Allocator + Clone>(
+    alloc: B,
+    entry: &SingleArch<'a, A>,
+) -> Result<Result<LinkView<'a, B>>>
+    ensures item { (e : FatEntry) → IsEntry e entry.now → IfOk result (IsViewItem (Ok e)) }
+    ensures only { IsOkUnlessMemory result }
+{
+    match entry {
+        SingleArch::Archive(bytes) => Ok(Ok(LinkView::Archive(bytes))),
+        SingleArch::MachO(image) => image_item(alloc, image),
+    }
+}
+
 // The item of an entry of a fat file.
 fn entry_item<'a, A: Allocator + Clone, B: Allocator + Clone>(
     alloc: B,
@@ -104,8 +118,7 @@ fn entry_item<'a, A: Allocator + Clone, B: Allocator + Clone>(
     ensures only { IsOkUnlessMemory result }
 {
     match container.get(index) {
-        Ok(SingleArch::Archive(bytes)) => Ok(Ok(LinkView::Archive(bytes))),
-        Ok(SingleArch::MachO(image)) => image_item(alloc, &image),
+        Ok(entry) => opened_item(alloc, &entry),
         Err(error) => Ok(Err(told(error)?)),
     }
 }
@@ -125,6 +138,27 @@ fn entry_items<'a, A: Allocator + Clone, B: Allocator + Clone>(
     Ok(items)
 }
 
+// The items of a file that opened strictly.
+fn file_items<'a, A: Allocator + Clone, B: Allocator + Clone>(
+    alloc: B,
+    file: &Mach<'a, A>,
+) -> Result<Vec<Result<LinkView<'a, B>>, B>>
+    ensures viewed { (bytes : List ℕ) → IsMach IsImage bytes file.now → IfOk result (λ v. (entries : List (Result FatEntry Fault)) × HasEntries bytes entries × AreViewItems entries v.items) }
+    ensures refused { (bytes : List ℕ) → IsMach IsImage bytes file.now → IfErr result (Stands (ViewFault bytes)) }
+{
+    match file {
+        Mach::Binary(image) => {
+            let mut items = Vec::new(alloc.clone()?);
+            items.push(image_item(alloc, image)?)?;
+            Ok(items)
+        }
+        Mach::Fat(container) => {
+            container.arches()?;
+            entry_items(alloc, container)
+        }
+    }
+}
+
 /// What a file links: an item for its one image, or one for each entry of a fat file, in order, and
 /// never fewer. An item is an archive's bytes, or the exports and the imports of an image that opens
 /// strictly; else an error that tells of a fault in that entry alone. The whole is refused where the
@@ -137,15 +171,6 @@ pub fn link_view<'a, A: Allocator + Clone>(
     ensures only { (entries : List (Result FatEntry Fault)) → HasEntries bytes.now entries → IsOkUnlessMemory result }
     ensures refused { IfErr result (Stands (ViewFault bytes.now)) }
 {
-    match Mach::parse(alloc.clone()?, bytes)? {
-        Mach::Binary(image) => {
-            let mut items = Vec::new(alloc.clone()?);
-            items.push(image_item(alloc, &image)?)?;
-            Ok(items)
-        }
-        Mach::Fat(container) => {
-            container.arches()?;
-            entry_items(alloc, &container)
-        }
-    }
+    let file = Mach::parse(alloc.clone()?, bytes)?;
+    file_items(alloc, &file)
 }

@@ -48,20 +48,6 @@ pub fn add<S: Subject, A: Allocator>(
     if !subject.speaks(command) {
         return Ok(());
     }
-    add_said(values, subject, command)
-}
-
-// The same out of line: most commands speak of one subject at most.
-#[inline(never)]
-fn add_said<S: Subject, A: Allocator>(
-    values: &mut Vec<S::Value, A>,
-    subject: &S,
-    command: &LoadCommand,
-) -> Result<()>
-    ensures kept { OnOk result (map S.seen values.new.items ≡ map S.seen values.old.items ++ said (S.reading subject.now (command_of command.now))) }
-    ensures read { OnOk result (IsRead (S.reading subject.now (command_of command.now))) }
-    ensures refused { IfErr result (Stands (IsRefused (S.reading subject.now (command_of command.now)))) }
-{
     let Some(found) = subject.read(command) else {
         return Ok(());
     };

@@ -10,3 +10,8 @@ returns-in_ok-told-in-Err-clause-item g c =
     let same = c.in_ok-told-in-Err.ensures.same in
     tells (FatEntryFault entry) (ItemFault entry) c.in_ok-told-in-Err.field-0 same.1 (λ f fault. of_entry f fault)
     (rw same.0 (rw c.in-Err.is at c.get.ensures.refused))
+
+pub returns-in-Ok-clause-item : goal.returns-in-Ok-clause-item
+returns-in-Ok-clause-item g c =
+    let opened = rw c.in-Ok.is at c.get.ensures.opened in
+    rw opened.1 (c.opened_item.ensures.item opened.0 opened.2)

@@ -1,46 +1,22 @@
-use Rattle.std.proofs.Common.{[], ◌∷◌, List, Result, Ok, IsOk, refl}
-use Rattle.std.proofs.lemmas.Result.{IfOk-weaker}
-use Rattle.mach_base.specs.Fault.{Fault}
-use Rattle.goblin_mach.specs.FatEntry.{FatEntry, entries_of, image}
-use Rattle.goblin_mach.specs.FatFile.{arches_in, file_held}
-use Rattle.goblin_mach.specs.View.{HasEntries, ViewFault, of_file, of_table, fat_table, AreViewItems}
-use Rattle.goblin_mach.proofs.WholeFiles.{ok_where_viewed, entries_of_image}
-use Rattle.goblin_mach.proofs.Exits.{exit_failed, exit_in}
+use Rattle.goblin_mach.specs.View.{ViewFault, of_file}
+use Rattle.goblin_mach.proofs.WholeFiles.{ok_where_viewed}
+use Rattle.goblin_mach.proofs.Exits.{exit_in}
 use Rattle.goblin_mach.proofs.view.link_view.Goals as goal
 
-pub returns-in_err-image-clause-refused : goal.returns-in_err-image-clause-refused
-returns-in_err-image-clause-refused g c =
-    exit_in _ (ViewFault c.args.bytes.now) _ _ c.from_residual-in_err-image.ensures.1 of_file c.in_err-image.ensures.refused
+pub returns-in_err-file-clause-refused : goal.returns-in_err-file-clause-refused
+returns-in_err-file-clause-refused g c =
+    exit_in _ (ViewFault c.args.bytes.now) _ _ c.from_residual-in_err-file.ensures.1 of_file c.in_err-file.ensures.refused
 
-pub returns-in_err-image-clause-only : goal.returns-in_err-image-clause-only
-returns-in_err-image-clause-only g c = λ entries has.
-    ok_where_viewed c.from_residual-in_err-image.result c.args.bytes.now entries (returns-in_err-image-clause-refused g c) has
+pub returns-in_err-file-clause-only : goal.returns-in_err-file-clause-only
+returns-in_err-file-clause-only g c = λ entries has.
+    ok_where_viewed c.from_residual-in_err-file.result c.args.bytes.now entries (returns-in_err-file-clause-refused g c) has
 
-pub returns-in_err-arches-in-Fat-clause-refused : goal.returns-in_err-arches-in-Fat-clause-refused
-returns-in_err-arches-in-Fat-clause-refused g c =
-    let file = file_held c.in-Fat.container in
-    let fat = rw c.in-Fat.is at c.in_ok-image.ensures.opened in
-    exit_failed (ViewFault c.args.bytes.now) _ _ c.from_residual-in_err-arches-in-Fat.ensures.1 (arches_in file)
-    (λ f bad. of_table file f fat.magic fat.file bad) c.in_err-arches-in-Fat.ensures
+pub returns-clause-viewed : goal.returns-clause-viewed
+returns-clause-viewed g c = c.file_items.ensures.viewed c.args.bytes.now c.in_ok-file.ensures.opened
 
-pub returns-in_err-arches-in-Fat-clause-only : goal.returns-in_err-arches-in-Fat-clause-only
-returns-in_err-arches-in-Fat-clause-only g c = λ entries has.
-    ok_where_viewed c.from_residual-in_err-arches-in-Fat.result c.args.bytes.now entries (returns-in_err-arches-in-Fat-clause-refused g c) has
+pub returns-clause-refused : goal.returns-clause-refused
+returns-clause-refused g c = c.file_items.ensures.refused c.args.bytes.now c.in_ok-file.ensures.opened
 
-pub returns-in_ok-push-in-Binary-clause-viewed : goal.returns-in_ok-push-in-Binary-clause-viewed
-returns-in_ok-push-in-Binary-clause-viewed g c =
-    let bytes = c.args.bytes.now in
-    let opened = rw c.in-Binary.is at c.in_ok-image.ensures.opened in
-    let item = c.in_ok-image_item-in-Binary.ensures.item bytes opened in
-    rw (c.in_ok-push-in-Binary.ensures.items, c.new-items.ensures.items)
-    (Ok (image bytes) ∷ [], entries_of_image bytes (opened.ctx, _, opened.opens), (item, tt))
-
-pub returns-in_ok-arches-in-Fat-clause-viewed : goal.returns-in_ok-arches-in-Fat-clause-viewed
-returns-in_ok-arches-in-Fat-clause-viewed g c =
-    let bytes = c.args.bytes.now in
-    let file = file_held c.in-Fat.container in
-    let fat = rw c.in-Fat.is at c.in_ok-image.ensures.opened in
-    let table : IsOk (arches_in file) = rw c.in_ok-arches-in-Fat.ensures refl in
-    IfOk-weaker c.entry_items.result (λ v. AreViewItems (entries_of file) v.items)
-    (λ v. (entries : List (Result FatEntry Fault)) × HasEntries bytes entries × AreViewItems entries v.items)
-    (λ v items. (entries_of file, fat_table file fat.magic fat.file table, items)) c.entry_items.ensures.items
+pub returns-clause-only : goal.returns-clause-only
+returns-clause-only g c = λ entries has.
+    ok_where_viewed c.file_items.result c.args.bytes.now entries (returns-clause-refused g c) has

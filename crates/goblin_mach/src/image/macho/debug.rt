@@ -7,11 +7,16 @@ use std::fmt;
 use std::fmt::{Debug, DebugStruct, Formatter, Write};
 
 impl<'a, A: Allocator> MachO<'a, A> {
-    // The header, the commands, and what is read of the bytes.
-    fn show_lists<W: Write>(&self, shown: &mut DebugStruct<W>) {
+    // The header and the commands.
+    fn show_commands<W: Write>(&self, shown: &mut DebugStruct<W>) {
         shown
             .field("header", &self.header)
-            .field("load_commands", &self.load_commands)
+            .field("load_commands", &self.load_commands);
+    }
+
+    // What is read of the bytes.
+    fn show_lists<W: Write>(&self, shown: &mut DebugStruct<W>) {
+        shown
             .field("segments", &self.segments)
             .field("symbols", &self.symbols)
             .field("libs", &self.libs)
@@ -42,6 +47,7 @@ impl<'a, A: Allocator> Debug for MachO<'a, A> {
     /// What is read of the image, and whether it has a trie and binds; of its bytes only how many they are.
     fn fmt<W: Write>(&self, f: &mut Formatter<W>) -> fmt::Result {
         let mut shown = f.debug_struct("MachO");
+        self.show_commands(&mut shown);
         self.show_lists(&mut shown);
         self.show_words(&mut shown);
         self.show_source(&mut shown);

@@ -1,4 +1,4 @@
-use Rattle.std.proofs.Common.{arith, map, inl, inr}
+use Rattle.std.proofs.Common.{arith, map, inl, inr, refl}
 use Rattle.mach_load.specs.Variants.{command_of}
 use Rattle.goblin_mach.specs.EntryPoint.{EntryPointFault}
 use Rattle.goblin_mach.specs.Image.{LossyFault, HasFront, HasWholeChain, broken_chain, unknown_thread, no_entry_point}
@@ -28,3 +28,24 @@ returns-in_err-address-clause-refused g c =
     exit_in (EntryPointFault (cputype_at ctx c.args.bytes.now c.args.offset) cs) (LossyFault c.args.bytes.now c.args.offset) _ _
     c.from_residual-in_err-address.ensures.1 (λ f e. elim e
     [ inl thread ↦ unknown_thread ctx cs f front thread | inr none ↦ no_entry_point ctx cs f whole none ]) fault
+
+pub returns-clause-opened : goal.returns-clause-opened
+returns-clause-opened g c =
+    let known = c.in_ok-ctx.ensures in
+    let commands = c.in_ok-load_commands.ensures in
+    let begins = rw (c.deref.ensures.value, known.cputype) at c.in_ok-address.ensures.found in
+    record {
+      header = known.found;
+      counts = known.counts;
+      chain = record { chain = rw c.size_with.ensures at commands.chain; count = omega (arith, commands.count, known.ncmds) };
+      threads = rw (c.deref.ensures.value, known.cputype) at c.in_ok-address.ensures.threads;
+      entry = rw begins refl;
+    }
+
+pub returns-clause-header : goal.returns-clause-header
+returns-clause-header g c = c.in_ok-ctx.ensures.header
+
+pub returns-clause-entry : goal.returns-clause-entry
+returns-clause-entry g c =
+    let known = c.in_ok-ctx.ensures in
+    rw (c.deref.ensures.value, known.cputype) at c.in_ok-address.ensures.found
