@@ -4,7 +4,7 @@ use crate::tests::refusing::Refusing;
 use mach_base::{Error, ScrollError};
 use mach_dyld::exports::{ExportInfo, ExportTrie};
 use mach_records::DyldInfoCommand;
-use std::alloc::Global;
+use std::alloc::{Allocator, Global};
 use std::fmt::Write;
 use std::test::Fail;
 use test_files::EXPORTS;
@@ -275,6 +275,14 @@ fn wide(alloc: Global) -> Result<Vec<u8>, Fail> {
     Ok(bytes)
 }
 
+// The address of a regular export of that name.
+fn address_of<A: Allocator + Clone>(alloc: A, bytes: &[u8], name: &str) -> Option<u64> {
+    match trie(bytes).find(alloc, &[], name) {
+        Ok(Some(ExportInfo::Regular { address, .. })) => Some(address),
+        _ => None,
+    }
+}
+
 #[test]
 fn thousands(rt: HostRuntime) -> Result<(), Fail> {
     let alloc = rt.alloc();
@@ -283,12 +291,8 @@ fn thousands(rt: HostRuntime) -> Result<(), Fail> {
     assert_eq!(rt; exports.len(), 2000);
     let heap = Refusing::from(alloc, 1);
     for export in &exports {
-        let found = trie(bytes.as_slice()).find(&heap, &[], export.name.as_str());
-        let Ok(Some(ExportInfo::Regular { address, .. })) = found else {
-            assert!(rt; false, "{}", export.name);
-            return Ok(());
-        };
-        assert_eq!(rt; address, export.offset, "{}", export.name);
+        let found = address_of(&heap, bytes.as_slice(), export.name.as_str());
+        assert_eq!(rt; found, Some(export.offset), "{}", export.name);
     }
     assert_eq!(rt; heap.asked(), 0);
     Ok(())
