@@ -162,7 +162,8 @@ mutual
   none_behind t rest [] found (none_left e) none k b ks info at ends others named r = cc
   none_behind t rest (c ∷ bs) found (passed other finds) none zero b ks info at ends others named r = let same : b ≡ c = cc in other others
       (subst (λ (x : Branch). rest ≡ x.label ++ others) same r)
-  none_behind t rest (c ∷ bs) found (passed other finds) none (suc k) b ks info at ends others named r = none_behind t rest bs found finds none k b ks info at ends others named r
+  none_behind t rest (c ∷ bs) found (passed other finds) none (suc k) b ks info at ends others named r =
+      none_behind t rest bs found finds none k b ks info at ends others named r
   none_behind t rest (c ∷ bs) found (behind others2 info2 r2 finds e) none k b ks info at ends others named r = cc
   none_behind t rest (c ∷ bs) found (gone_back others2 r2 absent finds) none zero b ks info at ends others named r =
       let same : b ≡ c = cc in

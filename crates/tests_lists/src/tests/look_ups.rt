@@ -4,7 +4,7 @@ use crate::tests::refusing::Refusing;
 use mach_base::{Error, ScrollError};
 use mach_dyld::exports::{ExportInfo, ExportTrie};
 use mach_records::DyldInfoCommand;
-use std::alloc::Global;
+use std::alloc::{Allocator, Global};
 use std::fmt::Write;
 use std::test::Fail;
 use test_files::EXPORTS;
@@ -255,15 +255,20 @@ fn push_number(bytes: &mut Vec<u8>, number: u32) -> Result<(), Fail> {
     Ok(())
 }
 
+// The label of a leaf.
+fn letters(leaf: u32) -> [u8; 3] {
+    let first = (leaf / 400 % 20) as u8;
+    let second = (leaf / 20 % 20) as u8;
+    let third = (leaf % 20) as u8;
+    [first + 0x61, second + 0x61, third + 0x61]
+}
+
 // A root with 2,000 leaves, whose labels are of three letters.
 fn wide(alloc: Global) -> Result<Vec<u8>, Fail> {
     let mut bytes = Vec::new(alloc);
     bytes.extend_from_slice(&[0, 0xd0, 0x0f])?;
     for leaf in 0..2000u32 {
-        let letters = [leaf / 400 % 20, leaf / 20 % 20, leaf % 20];
-        for letter in letters {
-            bytes.push((letter % 20) as u8 + 0x61)?;
-        }
+        bytes.extend_from_slice(&letters(leaf))?;
         bytes.push(0)?;
         push_number(&mut bytes, leaf.wrapping_mul(6).wrapping_add(14_003))?;
     }
@@ -275,20 +280,27 @@ fn wide(alloc: Global) -> Result<Vec<u8>, Fail> {
     Ok(bytes)
 }
 
+// The address of a regular export of that name.
+fn address_of<A: Allocator + Clone>(alloc: A, bytes: &[u8], name: &str) -> Option<u64> {
+    match trie(bytes).find(alloc, &[], name) {
+        Ok(Some(ExportInfo::Regular { address, .. })) => Some(address),
+        _ => None,
+    }
+}
+
 #[test]
 fn thousands(rt: HostRuntime) -> Result<(), Fail> {
     let alloc = rt.alloc();
     let bytes = wide(alloc)?;
-    let exports = trie(bytes.as_slice()).exports(alloc, &[])?;
-    assert_eq!(rt; exports.len(), 2000);
+    assert_eq!(rt; trie(bytes.as_slice()).exports(alloc, &[])?.len(), 2000);
     let heap = Refusing::from(alloc, 1);
-    for export in &exports {
-        let found = trie(bytes.as_slice()).find(&heap, &[], export.name.as_str());
-        let Ok(Some(ExportInfo::Regular { address, .. })) = found else {
-            assert!(rt; false, "{}", export.name);
-            return Ok(());
-        };
-        assert_eq!(rt; address, export.offset, "{}", export.name);
+    for leaf in 0..2000u32 {
+        let mut name = String::new(alloc);
+        for letter in letters(leaf) {
+            name.push(char::from(letter))?;
+        }
+        let found = address_of(&heap, bytes.as_slice(), name.as_str());
+        assert_eq!(rt; found, Some(u64::from(leaf)), "{leaf}");
     }
     assert_eq!(rt; heap.asked(), 0);
     Ok(())

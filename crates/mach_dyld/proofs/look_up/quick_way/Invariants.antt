@@ -8,5 +8,6 @@ use Rattle.mach_dyld.proofs.look_up.quick_way.Given as goal
 
 abbrev pub invariant-loop : goal.invariant-loop
 invariant-loop l = (front : List Branch)
-    × (with_front front (branches_at l.source.bytes.now l.source.from (l.count - l.counter) l.place) ≡ branches_at l.source.bytes.now l.source.from l.count l.first)
+    × (with_front front (branches_at l.source.bytes.now l.source.from (l.count - l.counter) l.place)
+    ≡ branches_at l.source.bytes.now l.source.from l.count l.first)
     × Goes (source_trie l.source) l.rest front l.way

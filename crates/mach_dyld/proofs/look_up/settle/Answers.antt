@@ -32,8 +32,8 @@ loop-preserved c =
     let count = c.loop.invariant.0 in let test = c.loop-test.true in
     let some : 0 < c.loop.left.left = omega arith in (
       omega arith,
-      readable_next c.args.source.now c.args.rest.now c.loop.left c.loop.invariant.1 some c.read_again-start.result.0.now c.read_again-start.result.1 c.read_again-start.result.2 c.read_again-start.ensures,
-      settles_on c.args.source.now c.args.rest.now c.loop.left c.loop.invariant.1 some c.read_again-start.result.0.now c.read_again-start.result.1 c.read_again-start.result.2 c.read_again-start.ensures
+      readable_next c.args.source.now c.args.rest.now c.loop.left c.loop.invariant.1 some _ _ _ c.read_again-start.ensures,
+      settles_on c.args.source.now c.args.rest.now c.loop.left c.loop.invariant.1 some _ _ _ c.read_again-start.ensures
           (branches_of c.args.source.now.bytes.now c.args.source.now.from c.args.branches) c.loop.invariant.2 (c.leads.ensures.no c.if-leads.false),
     )
 

@@ -93,7 +93,8 @@ returns-else-child-start-clause-ok c =
     let own = c.in_ok-after.ensures.behind in
     passed_by c.args.source.now c.args.start c.in_ok-size.size c.in_ok-size.place c.in_ok-after.after c.args.rest.now own.0
     (branches_of c.args.source.now.bytes.now c.args.source.now.from c.in_ok-way.branches)
-    (λ bs. branches_at c.args.source.now.bytes.now c.args.source.now.from c.in_ok-way.branches.left c.in_ok-way.branches.place ≡ Ok bs) c.in_ok-size.ensures.value own.1
+    (λ bs. branches_at c.args.source.now.bytes.now c.args.source.now.from c.in_ok-way.branches.left c.in_ok-way.branches.place ≡ Ok bs)
+    c.in_ok-size.ensures.value own.1
     (elim c.else-size-gt0.branch [
       | else-size-gt0-via-then-size-gt0+else-is_empty w ↦ inr (some_left_of c.args.rest.now w.if-is_empty.ensures)
       | else-size-gt0-via-else-size-gt0 w ↦ inl (omega (arith, w.if-size-gt0.false))
@@ -105,7 +106,8 @@ returns-in-Several-clause-ok c =
     let own = c.in_ok-after.ensures.behind in
     passed_by c.args.source.now c.args.start c.in_ok-size.size c.in_ok-size.place c.in_ok-after.after c.args.rest.now own.0
     (branches_of c.args.source.now.bytes.now c.args.source.now.from c.in_ok-way.branches)
-    (λ bs. branches_at c.args.source.now.bytes.now c.args.source.now.from c.in_ok-way.branches.left c.in_ok-way.branches.place ≡ Ok bs) c.in_ok-size.ensures.value own.1
+    (λ bs. branches_at c.args.source.now.bytes.now c.args.source.now.from c.in_ok-way.branches.left c.in_ok-way.branches.place ≡ Ok bs)
+    c.in_ok-size.ensures.value own.1
     (elim c.else-size-gt0.branch [
       | else-size-gt0-via-then-size-gt0+else-is_empty w ↦ inr (some_left_of c.args.rest.now w.if-is_empty.ensures)
       | else-size-gt0-via-else-size-gt0 w ↦ inl (omega (arith, w.if-size-gt0.false))
