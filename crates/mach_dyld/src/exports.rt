@@ -14,7 +14,7 @@ pub use crate::info::{
     EXPORT_SYMBOL_FLAGS_WEAK_DEFINITION, ExportInfo, SymbolKind,
 };
 use crate::steps::Steps;
-use crate::walk::{Source, walk};
+use crate::walk::{Source, list_all};
 use mach_base::{ByteCount, Result};
 use mach_records::{DyldInfoCommand, LinkeditDataCommand};
 use std::alloc::{Allocator, Global};
@@ -155,6 +155,6 @@ impl<'a> ExportTrie<'a> {
             from: self.from,
             upto: self.upto,
         };
-        walk(&alloc, &source, steps)
+        list_all(&alloc, &source, steps)
     }
 }
