@@ -162,7 +162,7 @@ few_own prefix None = omega arith
 few_own prefix (Some info) = omega arith
 
 -- a list is a beginning of itself
-whole_begun : (t : Trie) (prefix : List ℕ) (bs : List Branch) (es : List Entry) → BranchesList t prefix bs es → BranchesBegin t prefix bs es
+pub whole_begun : (t : Trie) (prefix : List ℕ) (bs : List Branch) (es : List Entry) → BranchesList t prefix bs es → BranchesBegin t prefix bs es
 whole_begun t prefix [] es no_more = no_further
 whole_begun t prefix (b ∷ bs) es (one_more {others = others} one rest e) = one_whole one (whole_begun t prefix bs others rest) e
 

@@ -11,6 +11,9 @@ ghost use Rattle.mach_dyld.specs.Visits.{Visits};
 ghost use Rattle.mach_dyld.specs.Exports.{info_of, entries};
 ghost use Rattle.mach_dyld.specs.WalkViews.{source_trie, node_in, own_in, fault_in, info_in, node_of};
 ghost use Rattle.mach_dyld.specs.NodeViews.{AreReadable};
+ghost use Rattle.mach_dyld.specs.Lists.{ListBegins};
+ghost use Rattle.mach_dyld.specs.TrieRange.{TrieRange, trie_there};
+ghost use Rattle.mach_dyld.specs.Walks.{HasGiven, IsOver, IsWalk, SaysOfTrie, GoesOn};
 ghost use Rattle.mach_dyld.specs.WalkState.{IsAtBranch, IsBetween, HasFound, IsRefused, StepGives, work_left};
 
 use crate::exports::Export;
@@ -133,7 +136,7 @@ impl<'a, 'b, A: Allocator> ExportWalk<'a, 'b, A> {
     where
         A: Clone,
         ensures source { IfOk result (λ w. w.source ≡ source.now) }
-        ensures start { IfOk result (HasFound [] 0) }
+        ensures start { IfOk result (λ w. HasFound [] 0 w) }
         ensures err { IfErr result (λ e. Stands (λ _. ⊥) e) }
     {
         let len = source.upto.saturating_sub(source.from);
@@ -267,6 +270,37 @@ fn push_export<'a, A: Allocator + Clone>(
 {
     found.push(Export::new(String::from_str(alloc.clone()?, name)?, info))?;
     Ok(())
+}
+
+impl<'a, 'b, A: Allocator> ExportWalk<'a, 'b, A> {
+    ghost use Rattle.std.specs.Prelude.{⊤};
+    ghost use Rattle.std.specs.Borrow.{sem};
+    ghost use Rattle.mach_dyld.specs.contracts.walk.ExportWalk.{the_row};
+    ghost use mathlib.Core.Option.{none};
+    ghost use denote.Follow.{follows_so};
+    ghost use mir.Syntax.{named};
+
+    /// The next export: its name, which is lent until the next call, and what it stands for. Where the trie has no
+    /// list, an error ends the walk. Then there is nothing more.
+    #[inline(always)]
+    pub fn next(&mut self) -> Option<Result<(&str, ExportInfo<'a>)>>
+        requires { IsWalk self.old }
+        ensures says { (t : TrieRange) (libs : List (List ℕ)) (found : List Entry) → HasGiven t libs found self.old
+            → SaysOfTrie t libs found result }
+        ensures begun { (t : TrieRange) (libs : List (List ℕ)) (found : List Entry) → HasGiven t libs found self.old
+            → ListBegins (trie_there t libs) t.from [] found }
+        ensures over { IsOver self.old → IsNone result }
+        ensures* goes_on { sem 𝓛 (follows_so
+            (the_row (record { mir = named 1; lft = [] }) (record { mir = named 2; lft = [] }) A.row A.Allocator)
+            (the_row (record { mir = named 1; lft = [] }) (record { mir = named 2; lft = [] }) A.row A.Allocator)
+            self.entry.ghost_name none (λ _ _. ⊤) (GoesOn self.old result)) }
+    {
+        match self.step(&mut Steps::new()) {
+            None => None,
+            Some(Err(e)) => Some(Err(e)),
+            Some(Ok(info)) => Some(Ok((self.name(), info))),
+        }
+    }
 }
 
 /// The exports of a trie, depth first, or a fault that stands there.

@@ -6,4 +6,5 @@ mod growths;
 mod imports;
 mod refusing;
 mod tries;
+mod walks;
 mod without_memory;

@@ -43,7 +43,7 @@ exports-preserved g c =
       visited = given.0;
       found = subst (λ (es : List Entry). HasFound es given.0 c.step.new.self)
           (sym (c.in_ok-push_export.ensures
-              ∙ ap (λ (x : List ℕ). entries c.exports.found.items ++ entry x (info_of c.in_ok-info.info) ∷ []) c.name.ensures))
+          ∙ ap (λ (x : List ℕ). entries c.exports.found.items ++ entry x (info_of c.in_ok-info.info) ∷ []) c.name.ensures))
           given.1;
       count = omega (arith, given.2, c.exports.invariant.count);
       source = source ∙ c.exports.invariant.source;

@@ -9,20 +9,20 @@ returns-clause-start g c =
     let filled = c.in_ok-vec.ensures.items_if_clones_equal (λ y e. e) in
     elim (cases_lt s.from s.upto) [
       | inl inside ↦ inl (
-          lt-leb s.upto s.from inside,
-          inl
-              (record {
-                inside = inside;
-                root = refl;
-                label = refl;
-                no_name = c.new.ensures.items;
-                no_marks = filled ∙ ap (λ n. replicate n false) c.saturating_sub-len.ensures;
-                left = refl;
-                name_len = refl;
-                none_open = ap reverse c.new-2.ensures.items;
-                none_found = refl;
-                none_visited = refl;
-              }),
-        )
+        lt-leb s.upto s.from inside,
+        inl
+            (record {
+              inside = inside;
+              root = refl;
+              label = refl;
+              no_name = c.new.ensures.items;
+              no_marks = filled ∙ ap (λ n. replicate n false) c.saturating_sub-len.ensures;
+              left = refl;
+              name_len = refl;
+              none_open = ap reverse c.new-2.ensures.items;
+              none_found = refl;
+              none_visited = refl;
+            }),
+      )
       | inr out ↦ inr (le-leb s.upto s.from out, nothing_listed s out)
     ]

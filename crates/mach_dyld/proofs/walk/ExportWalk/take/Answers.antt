@@ -114,14 +114,13 @@ returns-clause-found g c = λ found n at.
     let node = subst (λ (bs : Option Branches). node_in s c.args.self.now.next.start ≡ Ok (node_of s (c.in_ok-own.own, bs))) c.in-Some.is c.in_ok-own.ensures.node in
     let readable = subst (λ (bs : Option Branches). IfSome bs (AreReadable s.bytes.now s.from)) c.in-Some.is c.in_ok-own.ensures.readable in (
       suc n,
-      inl
-          (
-            at.0,
-            inr
-                (turn.entered (child_of c.args.self.now at) (omega arith) off cut (info_in c.in_ok-own.own) c.in-Some.branches node readable c.len-name_len.result
-                (omega (arith, c.extend_from_slice.new.self.ok.0, c.len-name_len.ensures)) (reverse c.keep_below.new.stack.items)
-                c.in_ok-keep_below.ensures.kept c.in_ok-keep_below.ensures.used_up),
-          ),
+      inl (
+        at.0,
+        inr
+            (turn.entered (child_of c.args.self.now at) (omega arith) off cut (info_in c.in_ok-own.own) c.in-Some.branches node readable c.len-name_len.result
+            (omega (arith, c.extend_from_slice.new.self.ok.0, c.len-name_len.ensures)) (reverse c.keep_below.new.stack.items)
+            c.in_ok-keep_below.ensures.kept c.in_ok-keep_below.ensures.used_up),
+      ),
       omega (arith, c.in_ok-own.ensures.visits),
     )
 
