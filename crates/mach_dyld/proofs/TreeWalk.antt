@@ -4,8 +4,8 @@ use Rattle.mach_dyld.proofs.Names.{get_or, Option, Some, None, Ok, refl, sym, ap
 use Rattle.mach_dyld.proofs.Names.{replicate, slice_get, cases_eq, append-nil, append_cancel_left, length-replicate, get_or-set_same, get_or-set_other}
 use Rattle.mach_dyld.proofs.Names.{sum_by-set, count_by-le-length, Info, Branch, Node, Trie, Entry, own_entries, Lists, BranchesList, nothing, a_node, no_more}
 use Rattle.mach_dyld.proofs.Names.{one_more, Leads, Path, IsTree, IsAmong, AreApart}
-use Rattle.mach_dyld.proofs.Names.{ListBegins, BranchesBegin, none_yet, node_begun, no_further, one_begun, one_whole, Visit, visit, Apart, Visited, Frame}
-use Rattle.mach_dyld.proofs.Names.{IsOpen, AreOpen, IsLeft, IsDone, Closed, Pending, Begun, Walk}
+use Rattle.mach_dyld.proofs.Names.{ListBegins, BranchesBegin, node_begun, no_further, one_begun, one_whole, Visit, visit, Apart, Visited, Frame}
+use Rattle.mach_dyld.proofs.Names.{IsOpen, AreOpen, IsDone, Walk}
 use Rattle.mach_dyld.proofs.TriePaths.{same_node, same_some, leads_to_one, leads_inside, Leads-append, drop_head, nothing_there}
 
 -- visits

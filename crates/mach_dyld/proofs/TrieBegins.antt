@@ -1,6 +1,6 @@
 -- A beginning of a list of exports is one of the list, where there is one.
 use Rattle.mach_dyld.proofs.Names.{◌≡◌, ℕ, List, [], ◌∷◌, ◌++◌, refl, sym, ap, subst, ◌∙◌, arith, append_assoc, append-nil, inl, inr, Branch, Node, Trie, Entry}
-use Rattle.mach_dyld.proofs.Names.{own_entries, Lists, BranchesList, nothing, a_node, no_more, one_more, ListBegins, BranchesBegin, none_yet, node_begun}
+use Rattle.mach_dyld.proofs.Names.{own_entries, Lists, BranchesList, nothing, a_node, one_more, ListBegins, BranchesBegin, none_yet, node_begun}
 use Rattle.mach_dyld.proofs.Names.{no_further, one_begun, one_whole, source_trie, HasFound}
 use Rattle.mach_dyld.proofs.Names.{Source, TrieRange, trie_there, ListsExports, ExportsFault, HasListed, IsTree, TrieFault, Error, Stands, Stands-in, fault_in}
 use Rattle.mach_dyld.proofs.Names.{Bool, true, false, ◌⊎◌}

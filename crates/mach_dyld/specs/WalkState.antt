@@ -1,7 +1,7 @@
 -- How far a walk of the export trie has come: what it has visited, which nodes are open, and what is listed so far.
 -- Callers don't need it: they see what a walk has given.
 use Rattle.std.specs.Prelude.{◌≡◌, ◌<◌, ◌≤◌, ◌+◌, ◌-◌, ◌*◌, ℕ, suc, Bool, true, false, List, [], ◌∷◌, ◌++◌, ◌⊎◌, Option, Some, None, Result, Ok, Err}
-use Rattle.std.specs.Prelude.{length, drop, slice_get, reverse, count_by, sum_by, get_or, replicate, option_map, if◌then◌else◌}
+use Rattle.std.specs.Prelude.{length, drop, slice_get, reverse, count_by, sum_by, get_or, replicate, if◌then◌else◌}
 use Rattle.std.specs.Str.{IsUtf8}
 use Rattle.mach_base.specs.Among.{IsAmong}
 use Rattle.mach_base.specs.Answer.{Stands}
@@ -14,7 +14,7 @@ use Rattle.mach_dyld.specs.Nodes.{branch_at, branches_at}
 use Rattle.mach_dyld.specs.NodeViews.{branch_of}
 use Rattle.mach_dyld.specs.Visits.{Visits}
 use Rattle.mach_dyld.specs.Exports.{info_of}
-use Rattle.mach_dyld.specs.WalkViews.{source_trie, fault_in, info_in}
+use Rattle.mach_dyld.specs.WalkViews.{source_trie, fault_in}
 use Rattle.mach_dyld.specs.declared.info.ExportInfo.{ExportInfo}
 use Rattle.mach_dyld.specs.declared.walk.Source.{Source}
 use Rattle.mach_dyld.specs.declared.walk.Open.{Open}

@@ -1,4 +1,4 @@
-use Rattle.mach_dyld.proofs.Names.{◌+◌, ◌^◌, ◌<◌, sym}
+use Rattle.mach_dyld.proofs.Names.{◌+◌, ◌^◌, ◌<◌}
 use Rattle.mach_dyld.proofs.BranchAgain.{branch_of_parts, sum_fits}
 use Rattle.mach_dyld.proofs.node.quick_branch.Goals as goal
 

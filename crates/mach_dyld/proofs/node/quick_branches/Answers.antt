@@ -1,4 +1,4 @@
-use Rattle.mach_dyld.proofs.Names.{◌≡◌, ◌-◌, refl, sym, subst, arith, ℕ, suc, branch_of, branches_at, Ok}
+use Rattle.mach_dyld.proofs.Names.{◌≡◌, ◌-◌, arith, suc, branch_of}
 use Rattle.mach_dyld.proofs.BranchSteps.{first_bad, rest_bad, all_good}
 use Rattle.mach_dyld.proofs.node.quick_branches.Goals as goal
 

@@ -1,4 +1,4 @@
-use Rattle.mach_dyld.proofs.Names.{◌≡◌, refl, ◌-◌, ◌++◌, ◌∷◌, [], arith, subst, sym, IsErr, branches_at, branch_of}
+use Rattle.mach_dyld.proofs.Names.{◌≡◌, refl, ◌-◌, ◌++◌, ◌∷◌, [], arith, branches_at, branch_of}
 use Rattle.mach_dyld.proofs.BranchSteps.{goes_on, ends, is_done, begins, the_fault}
 use Rattle.mach_dyld.proofs.node.quick_test.Goals as goal
 

@@ -1,5 +1,5 @@
-use Rattle.mach_dyld.proofs.Names.{◌≡◌, ◌<◌, ◌≤◌, ◌+◌, ◌∙◌, ◌++◌, ◌∷◌, [], refl, sym, ap, subst, arith, ℕ, List, Entry, HasFound, HasListed, Source, length-map}
-use Rattle.mach_dyld.proofs.Names.{err_from_is_err_and, entries, entry, length}
+use Rattle.mach_dyld.proofs.Names.{◌∙◌, ◌++◌, ◌∷◌, [], sym, ap, subst, arith, ℕ, List, Entry, HasFound, HasListed, Source, length-map}
+use Rattle.mach_dyld.proofs.Names.{err_from_is_err_and, entries, entry}
 use Rattle.mach_dyld.specs.Exports.{info_of, entry_of}
 use Rattle.mach_dyld.proofs.WalkTurns.{refused_from, so_far, few_so_far, refused_visits, all_visits}
 use Rattle.mach_dyld.proofs.walk.list_all.Goals as goal

@@ -1,4 +1,4 @@
-use Rattle.mach_dyld.proofs.Names.{◌≡◌, ◌-◌, ◌<◌, ◌≤◌, refl, sym, subst, arith, ℕ, inl, inr, length, IsBetween}
+use Rattle.mach_dyld.proofs.Names.{◌≡◌, ◌<◌, refl, sym, arith, inl, inr, length, IsBetween}
 use Rattle.mach_dyld.proofs.WalkTurns as turn
 use Rattle.mach_dyld.proofs.WalkTurns.{popped, emptied, is_ok}
 use Rattle.mach_dyld.proofs.walk.ExportWalk.go_on.Goals as goal

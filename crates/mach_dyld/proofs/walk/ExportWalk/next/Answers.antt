@@ -1,4 +1,4 @@
-use Rattle.mach_dyld.proofs.Names.{◌≡◌, ◌∙◌, ◌++◌, ◌∷◌, [], refl, sym, ap, subst, ℕ, List, inl, inr, Entry, entry, Source, source_trie, HasFound}
+use Rattle.mach_dyld.proofs.Names.{◌∙◌, ◌++◌, ◌∷◌, [], refl, sym, ap, subst, ℕ, List, inl, inr, entry, Source, source_trie, HasFound}
 use Rattle.mach_dyld.specs.Exports.{info_of}
 use Rattle.mach_dyld.proofs.TrieBegins.{found_begins, listed_there, fault_there, begun_there, on_or_off}
 use Rattle.mach_dyld.proofs.walk.ExportWalk.next.Goals as goal

@@ -1,4 +1,4 @@
-use Rattle.mach_dyld.proofs.Names.{◌≡◌, ◌-◌, ◌∙◌, refl, ap, replicate, reverse, false, inl, inr, cases_lt}
+use Rattle.mach_dyld.proofs.Names.{◌∙◌, refl, ap, replicate, reverse, false, inl, inr, cases_lt}
 use Rattle.std.proofs.lemmas.Bool.{lt-leb, le-leb}
 use Rattle.mach_dyld.proofs.WalkTurns.{nothing_listed}
 use Rattle.mach_dyld.proofs.walk.ExportWalk.start.Goals as goal

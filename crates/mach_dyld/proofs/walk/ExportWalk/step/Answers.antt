@@ -1,4 +1,4 @@
-use Rattle.mach_dyld.proofs.Names.{◌≡◌, ◌<◌, ◌≤◌, ◌+◌, ◌∙◌, refl, sym, ap, subst, arith, ℕ, List, Entry, HasFound, HasListed, Source, append-nil}
+use Rattle.mach_dyld.proofs.Names.{◌∙◌, refl, subst, arith, List, Entry, HasFound, HasListed, Source, append-nil}
 use Rattle.mach_dyld.proofs.WalkTurns.{at_branch, at_end, refused_from}
 use Rattle.mach_dyld.proofs.walk.ExportWalk.step.Goals as goal
 

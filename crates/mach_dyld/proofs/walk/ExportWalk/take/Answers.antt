@@ -1,5 +1,5 @@
-use Rattle.mach_dyld.proofs.Names.{◌≡◌, ◌<◌, ◌+◌, ◌-◌, ◌++◌, ◌∙◌, refl, sym, ap, subst, arith, ℕ, suc, List, length, reverse, take, inl, inr, append-nil}
-use Rattle.mach_dyld.proofs.Names.{err_from_is_err_and, IsUtf8, Stands-reported, Entry, own_entries, fault_in, info_in, branches_in, fault_of, HasFound, node_in, node_of}
+use Rattle.mach_dyld.proofs.Names.{◌≡◌, ◌+◌, ◌-◌, ◌++◌, ◌∙◌, refl, sym, ap, subst, arith, ℕ, suc, List, length, reverse, take, inl, inr, append-nil}
+use Rattle.mach_dyld.proofs.Names.{err_from_is_err_and, IsUtf8, Stands-reported, Entry, own_entries, fault_in, info_in, fault_of, HasFound, node_in, node_of}
 use Rattle.mach_dyld.proofs.Names.{Option, Ok, IfSome, AreReadable, ◌≤◌}
 use Rattle.mach_dyld.specs.declared.node.Branches.{Branches}
 use Rattle.mach_dyld.proofs.WalkTurns as turn
