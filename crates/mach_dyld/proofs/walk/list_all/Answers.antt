@@ -19,20 +19,23 @@ pub returns-in_err-info-clause-visits : goal.returns-in_err-info-clause-visits
 returns-in_err-info-clause-visits g c =
     let p = err_from_is_err_and c.from_residual-in_err-info.result c.from_residual-in_err-info.ensures.1 in
     let given = c.in-Some.ensures.found (entries c.exports.found.items) c.exports.invariant.visited c.exports.invariant.found in
-    let r = refused_from {n = 0} {old = c.args.steps.now} c.exports.invariant.source (rw c.in_err-info.was at given) (omega (arith, c.exports.invariant.count)) in
+    let r = refused_from {n = 0} {old = c.args.steps.now} c.exports.invariant.source (rw c.in_err-info.was at given) (omega
+    (arith, c.exports.invariant.count)) in
     rw (p.1, p.2) (refused_visits (omega (arith, r.count)) _ r.visits)
 
 pub returns-in_err-info-clause-few_visits : goal.returns-in_err-info-clause-few_visits
 returns-in_err-info-clause-few_visits g c =
     let given = c.in-Some.ensures.found (entries c.exports.found.items) c.exports.invariant.visited c.exports.invariant.found in
-    let r = refused_from {n = 0} {old = c.args.steps.now} c.exports.invariant.source (rw c.in_err-info.was at given) (omega (arith, c.exports.invariant.count)) in
+    let r = refused_from {n = 0} {old = c.args.steps.now} c.exports.invariant.source (rw c.in_err-info.was at given) (omega
+    (arith, c.exports.invariant.count)) in
     omega (arith, r.count, r.few_visits)
 
 pub returns-in_err-info-clause-refused : goal.returns-in_err-info-clause-refused
 returns-in_err-info-clause-refused g c =
     let p = err_from_is_err_and c.from_residual-in_err-info.result c.from_residual-in_err-info.ensures.1 in
     let given = c.in-Some.ensures.found (entries c.exports.found.items) c.exports.invariant.visited c.exports.invariant.found in
-    let r = refused_from {n = 0} {old = c.args.steps.now} c.exports.invariant.source (rw c.in_err-info.was at given) (omega (arith, c.exports.invariant.count)) in
+    let r = refused_from {n = 0} {old = c.args.steps.now} c.exports.invariant.source (rw c.in_err-info.was at given) (omega
+    (arith, c.exports.invariant.count)) in
     rw (p.1, p.2) r.fault
 
 pub exports-preserved : goal.exports-preserved

@@ -64,7 +64,11 @@ go_on-requires-in_default g c =
     let off = turn.clear (child_of c.args.self.now c.requires.2) (omega arith) c.index.ensures c.if-index.false in (
       c.requires.0 ++ own_entries c.extend_from_slice.new.self.items (info_in c.in_ok-own.own),
       suc c.requires.1,
-      (c.requires.2.0, turn.passed_by (child_of c.args.self.now c.requires.2) (omega arith) off cut (info_in c.in_ok-own.own) _ c.in_ok-own.ensures.node (rw c.in_default.is refl)),
+      (
+        c.requires.2.0,
+        turn.passed_by (child_of c.args.self.now c.requires.2) (omega arith) off cut
+            (info_in c.in_ok-own.own) _ c.in_ok-own.ensures.node (rw c.in_default.is refl),
+      ),
     )
 
 pub returns-in_default-clause-found : goal.returns-in_default-clause-found
@@ -75,8 +79,11 @@ returns-in_default-clause-found g c = λ found n at.
       suc n,
       subst (λ (x : List ℕ). HasFound (found ++ own_entries x (info_in c.in_ok-own.own)) (suc n) c.go_on-in_default.new.self)
           (sym c.go_on-in_default.ensures.name)
-          (c.go_on-in_default.ensures.found (found ++ own_entries c.extend_from_slice.new.self.items (info_in c.in_ok-own.own)) (suc n)
-          (at.0, turn.passed_by (child_of c.args.self.now at) (omega arith) off cut (info_in c.in_ok-own.own) _ c.in_ok-own.ensures.node (rw c.in_default.is refl))),
+          (c.go_on-in_default.ensures.found (found ++ own_entries c.extend_from_slice.new.self.items (info_in c.in_ok-own.own)) (suc n) (
+            at.0,
+            turn.passed_by (child_of c.args.self.now at) (omega arith) off cut (info_in c.in_ok-own.own) _ c.in_ok-own.ensures.node
+                (rw c.in_default.is refl),
+          )),
       omega (arith, c.in_ok-own.ensures.visits),
     )
 
@@ -90,7 +97,8 @@ pub returns-in_default-clause-less : goal.returns-in_default-clause-less
 returns-in_default-clause-less g c =
     let off = turn.clear (child_of c.args.self.now c.requires.2) (omega arith) c.index.ensures c.if-index.false in
     let w = c.args.self.now in
-    less_passed w.over (length w.source.bytes.now) w.marks.items w.top (w.next.start - w.source.from) (reverse w.stack.items) (turn.within (child_of c.args.self.now c.requires.2) (omega arith)) off c.go_on-in_default.ensures.less
+    less_passed w.over (length w.source.bytes.now) w.marks.items w.top (w.next.start - w.source.from) (reverse w.stack.items) (turn.within
+    (child_of c.args.self.now c.requires.2) (omega arith)) off c.go_on-in_default.ensures.less
 
 pub returns-in_err-keep_below-clause-refused : goal.returns-in_err-keep_below-clause-refused
 returns-in_err-keep_below-clause-refused g c =
@@ -111,7 +119,8 @@ returns-clause-found g c = λ found n at.
     ∙ ap (λ (x : List ℕ). take c.args.self.now.top.name_len c.args.self.now.name.items ++ x) c.as_bytes.ensures.value in
     let off = turn.clear (child_of c.args.self.now at) (omega arith) c.index.ensures c.if-index.false in
     let s = c.args.self.now.source in
-    let node = subst (λ (bs : Option Branches). node_in s c.args.self.now.next.start ≡ Ok (node_of s (c.in_ok-own.own, bs))) c.in-Some.is c.in_ok-own.ensures.node in
+    let node = subst (λ (bs : Option Branches). node_in s c.args.self.now.next.start ≡ Ok (node_of s
+    (c.in_ok-own.own, bs))) c.in-Some.is c.in_ok-own.ensures.node in
     let readable = subst (λ (bs : Option Branches). IfSome bs (AreReadable s.bytes.now s.from)) c.in-Some.is c.in_ok-own.ensures.readable in (
       suc n,
       inl (
@@ -137,5 +146,6 @@ returns-clause-less g c =
     let w = c.args.self.now in
     less_entered w.over (length w.source.bytes.now) w.marks.items w.top
     (record { left = c.in-Some.branches.left; place = c.in-Some.branches.place; name_len = c.len-name_len.result })
-    (w.next.start - w.source.from) (reverse w.stack.items) (reverse c.keep_below.new.stack.items) c.requires.2.0 (omega (arith, few)) (turn.within (child_of c.args.self.now c.requires.2) (omega arith)) off
+    (w.next.start - w.source.from) (reverse w.stack.items) (reverse c.keep_below.new.stack.items) c.requires.2.0 (omega (arith, few)) (turn.within
+    (child_of c.args.self.now c.requires.2) (omega arith)) off
     c.in_ok-keep_below.ensures.kept c.in_ok-keep_below.ensures.used_up
