@@ -11,7 +11,7 @@ pub use Rattle.std.proofs.lemmas.List.Sums.{sum_by-set, count_by-le-length, sum_
 pub use Rattle.std.proofs.lemmas.Result.{err_from_is_err_and}
 pub use Rattle.std.proofs.lemmas.Str.{IsUtf8-from_is_utf8, IsUtf8-append}
 pub use Rattle.std.specs.List.{filter_map, range_with_len, cons_option, AllByRecursion}
-pub use Rattle.std.specs.Prelude.{All, IfOk, slice_get, pos, ◌==◌, ℤ, IsErr, codes, IfErr}
+pub use Rattle.std.specs.Prelude.{All, IfOk, slice_get, pos, ◌==◌, ℤ, IsErr, IsOk, codes, IfErr, IfSome}
 pub use Rattle.std.specs.Str.{is_utf8, IsUtf8}
 pub use Rattle.mach_base.proofs.Binds.{bind_ok, same_ok, chosen}
 pub use Rattle.mach_base.proofs.Faults.{Stands-reported, FailsAs-read, Stands-in, Stands-failed}
@@ -42,7 +42,8 @@ pub use Rattle.mach_dyld.specs.Instructions.{Instruction, done, library, symbol,
 unfoldable pub use Rattle.mach_dyld.specs.Instructions.{byte_at, with_uleb, addend_at, symbol_operand_at, times_at, row_at, instruction_at}
 pub use Rattle.mach_dyld.specs.Lists.{nothing, Lists, BranchesList, a_node, no_more, one_more, lists_of, node_list, ListsWithin}
 unfoldable pub use Rattle.mach_dyld.specs.Lists.{list_within}
-pub use Rattle.mach_dyld.specs.NodeViews.{branches_of, AreReadable, branch_of}
+pub use Rattle.mach_dyld.specs.Lists.{ListBegins, BranchesBegin, none_yet, node_begun, no_further, one_begun, one_whole}
+pub use Rattle.mach_dyld.specs.NodeViews.{branches_in, AreReadable, branch_of}
 pub use Rattle.mach_dyld.specs.Nodes.{own_at, trie_of}
 unfoldable pub use Rattle.mach_dyld.specs.Nodes.{branch_at, branches_at, children_at, terminal_at, inner_at, node_at}
 pub use Rattle.mach_dyld.specs.Paths.{StartsFrom, Leads, Before, Path, IsTree}
@@ -54,5 +55,8 @@ pub use Rattle.mach_dyld.specs.TrieRange.{TrieRange, trie_there, ListsExports, E
 pub use Rattle.mach_dyld.specs.TrieRows.{back_to_root, shared_node, children_at_the_end, exports_vector, terminal_with_child, a_stub, kind_3_with_reexport_bit}
 pub use Rattle.mach_dyld.specs.TrieRows.{kind_1_with_stub_bit, ladder_of_40}
 pub use Rattle.mach_dyld.specs.Visits.{AreApart, Visits}
-pub use Rattle.mach_dyld.specs.WalkViews.{node_in, own_in, ListsOwn, OpensNode, source_trie, fault_in}
+pub use Rattle.mach_dyld.specs.WalkState.{Visit, visit, Apart, Visited, Frame, IsOpen, AreOpen, IsLeft, IsDone, Closed, Pending, Begun, Walk, IsShown, AreShown}
+pub use Rattle.mach_dyld.specs.WalkState.{none_shown, one_shown, used_up, Extends, Nested, Holds, before, Keeps, IsFresh, HasListed, IsAtBranch, IsBetween}
+pub use Rattle.mach_dyld.specs.WalkState.{HasFound, IsRefused, StepGives, unmarked, branches_left, work, work_left}
+pub use Rattle.mach_dyld.specs.WalkViews.{node_in, own_in, source_trie, fault_in, info_in, node_of}
 pub use Rattle.mach_dyld.specs.declared.walk.Source.{Source}

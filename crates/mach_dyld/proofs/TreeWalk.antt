@@ -4,31 +4,11 @@ use Rattle.mach_dyld.proofs.Names.{get_or, Option, Some, None, Ok, refl, sym, ap
 use Rattle.mach_dyld.proofs.Names.{replicate, slice_get, cases_eq, append-nil, append_cancel_left, length-replicate, get_or-set_same, get_or-set_other}
 use Rattle.mach_dyld.proofs.Names.{sum_by-set, count_by-le-length, Info, Branch, Node, Trie, Entry, own_entries, Lists, BranchesList, nothing, a_node, no_more}
 use Rattle.mach_dyld.proofs.Names.{one_more, Leads, Path, IsTree, IsAmong, AreApart}
+use Rattle.mach_dyld.proofs.Names.{ListBegins, BranchesBegin, node_begun, no_further, one_begun, one_whole, Visit, visit, Apart, Visited, Frame}
+use Rattle.mach_dyld.proofs.Names.{IsOpen, AreOpen, IsDone, Walk}
 use Rattle.mach_dyld.proofs.TriePaths.{same_node, same_some, leads_to_one, leads_inside, Leads-append, drop_head, nothing_there}
 
 -- visits
-
--- a node that was visited, and the path on which it was met
-pub record Visit : Type 0 where
-  pub path : List ℕ
-  pub at : ℕ
-
-abbrev pub visit : List ℕ → ℕ → Visit
-visit path at = record { path = path; at = at }
-
-abbrev pub Apart : List Visit → Type 0
-Apart [] = Unit {0}
-Apart (v ∷ vs) = ((w : Visit) → IsAmong w vs → w.at ≡ v.at → ⊥) × Apart vs
-
--- what was visited, the last first, is what is marked
-pub record Visited (t : Trie) (from : ℕ) (marks : List Bool) (vs : List Visit) : Type 0 where
-  pub size : length marks ≡ t.upto - from
-  pub leads : (v : Visit) → IsAmong v vs → Leads t v.path from v.at × (from ≤ v.at) × (v.at < t.upto)
-  pub marked : (v : Visit) → IsAmong v vs → get_or marks (v.at - from) false ≡ true
-  pub met : (o : ℕ) → get_or marks o false ≡ true → (p : List ℕ) × IsAmong (visit p (from + o)) vs
-  pub parents : (v : Visit) (p : List ℕ) (k : ℕ) → IsAmong v vs → v.path ≡ p ++ k ∷ [] → (a : ℕ) × IsAmong (visit p a) vs
-  pub apart : Apart vs
-  pub count : length vs ≤ count_by (λ b. b) marks
 
 not_nil : (p : List ℕ) (k : ℕ) → [] ≡ p ++ k ∷ [] → ⊥
 not_nil [] k e = cc
@@ -40,10 +20,10 @@ same_front [] (y ∷ q) j k e = absurd (let tail : [] ≡ q ++ k ∷ [] = cc in 
 same_front (x ∷ p) [] j k e = absurd (let tail : [] ≡ p ++ j ∷ [] = cc in not_nil p j tail)
 same_front (x ∷ p) (y ∷ q) j k e = let tail : p ++ j ∷ [] ≡ q ++ k ∷ [] = cc in let rest = same_front p q j k tail in let head : x ≡ y = cc in cc
 
-not_both : {b : Bool} → b ≡ true → b ≡ false → ⊥
+pub not_both : {b : Bool} → b ≡ true → b ≡ false → ⊥
 not_both a b = cc
 
-all_clear : (n o : ℕ) → get_or (replicate n false) o false ≡ false
+pub all_clear : (n o : ℕ) → get_or (replicate n false) o false ≡ false
 all_clear zero o = refl
 all_clear (suc n) zero = refl
 all_clear (suc n) (suc o) = all_clear n o
@@ -169,14 +149,6 @@ same_path (u ∷ vs) apart v w i j e = elim i [
 
 -- open nodes
 
--- an open node: the path to it, its name, and the number of its next branch
-pub record Frame : Type 0 where
-  pub path : List ℕ
-  pub start : ℕ
-  pub prefix : List ℕ
-  pub node : Node
-  pub next : ℕ
-
 -- an open node with no branch taken yet
 abbrev pub fresh_frame : List ℕ → ℕ → List ℕ → Node → Frame
 fresh_frame path start prefix node = record { path = path; start = start; prefix = prefix; node = node; next = 0 }
@@ -185,46 +157,14 @@ fresh_frame path start prefix node = record { path = path; start = start; prefix
 abbrev pub more : Frame → Frame
 more f = record { path = f.path; start = f.start; prefix = f.prefix; node = f.node; next = suc f.next }
 
-pub record IsOpen (t : Trie) (vs : List Visit) (f : Frame) (nested : ℕ) : Type 0 where
-  pub known : IsAmong (visit f.path f.start) vs
-  pub node : t.node f.start ≡ Ok f.node
-  pub depth : length f.path ≡ nested
-  pub fresh : (k : ℕ) (w : Visit) → f.next ≤ k → IsAmong w vs → w.path ≡ f.path ++ k ∷ [] → ⊥
-
-abbrev pub AreOpen : Trie → List Visit → List Frame → Type 0
-AreOpen t vs [] = Unit {0}
-AreOpen t vs (f ∷ fs) = IsOpen t vs f (length fs) × AreOpen t vs fs
-
--- the branch of that number is one that an open node has not yet taken
-abbrev pub IsLeft : Visit → ℕ → List Frame → Type 0
-IsLeft v k [] = ⊥
-IsLeft v k (f ∷ fs) = ((f.path ≡ v.path) × (f.start ≡ v.at) × (f.next ≤ k)) ⊎ IsLeft v k fs
-
--- each child of a visited node is nothing, or was visited, or is left
-abbrev pub IsDone : Trie → List Visit → List Frame → Visit → ℕ → ℕ → Type 0
-IsDone t vs fs v k start = (t.upto ≤ start) ⊎ (IsAmong (visit (v.path ++ k ∷ []) start) vs ⊎ IsLeft v k fs)
-
-abbrev pub Closed : Trie → List Visit → List Frame → Type 0
-Closed t vs fs = (v : Visit) (node : Node) (k : ℕ) (b : Branch) → IsAmong v vs → t.node v.at ≡ Ok node → slice_get node.branches k ≡ Some b
-    → IsDone t vs fs v k b.start
-
--- what the open nodes still have to list
-abbrev pub Pending : Trie → List Frame → List Entry → Type 0
-Pending t [] es = es ≡ []
-Pending t (f ∷ fs) es = (here : List Entry) × (others : List Entry) × BranchesList t f.prefix (drop f.next f.node.branches) here × Pending t fs others
-    × (es ≡ here ++ others)
-
-pub record Walk (t : Trie) (from : ℕ) (marks : List Bool) (fs : List Frame) (found : List Entry) (vs : List Visit) : Type 0 where
-  pub visited : Visited t from marks vs
-  pub root : IsAmong (visit [] from) vs
-  pub opened : AreOpen t vs fs
-  pub closed : Closed t vs fs
-  pub list : (es : List Entry) → Pending t fs es → Lists t from [] (found ++ es)
-  pub few : length found ≤ length vs
-
 few_own : (prefix : List ℕ) (own : Option Info) → length (own_entries prefix own) ≤ 1
 few_own prefix None = omega arith
 few_own prefix (Some info) = omega arith
+
+-- a list is a beginning of itself
+pub whole_begun : (t : Trie) (prefix : List ℕ) (bs : List Branch) (es : List Entry) → BranchesList t prefix bs es → BranchesBegin t prefix bs es
+whole_begun t prefix [] es no_more = no_further
+whole_begun t prefix (b ∷ bs) es (one_more {others = others} one rest e) = one_whole one (whole_begun t prefix bs others rest) e
 
 -- the root is opened
 pub root_opened : (t : Trie) (from : ℕ) (node : Node) → from < t.upto → t.node from ≡ Ok node
@@ -249,6 +189,11 @@ root_opened t from node inside at = record {
       (inr (elim i [ inl same ↦ inl (sym (ap (λ (x : Visit). x.path) same), sym (ap (λ (x : Visit). x.at) same), omega arith) | inr none ↦ absurd none ]));
   list = λ es p. a_node node (inside, at) p.2
       (ap (λ (x : List Entry). own_entries [] node.own ++ x) (p.4 ∙ (ap (λ (x : List Entry). p.0 ++ x) p.3 ∙ append-nil p.0)));
+  begun = λ es p. elim p [
+    | inl part ↦ node_begun node (inside, at) part refl
+    | inr whole ↦ node_begun node (inside, at) (whole_begun t [] node.branches whole.0 whole.2)
+        (ap (λ (x : List Entry). own_entries [] node.own ++ x) (whole.4 ∙ (ap (λ (x : List Entry). whole.0 ++ x) whole.3 ∙ append-nil whole.0)))
+  ];
   few = few_own [] node.own;
 }
 
@@ -273,6 +218,7 @@ module _ {t : Trie} {from : ℕ} {marks : List Bool} {f : Frame} {fs : List Fram
       ]
     ];
     list = λ es p. h.list es ([], es, subst (λ (bs : List Branch). BranchesList t f.prefix bs []) (sym nil) no_more, p, refl);
+    begun = λ es p. h.begun es (inr ([], es, subst (λ (bs : List Branch). BranchesList t f.prefix bs []) (sym nil) no_more, p, refl));
     few = h.few;
   }
 
@@ -336,6 +282,15 @@ module _ {t : Trie} {from : ℕ} {marks : List Bool} {f : Frame} {fs : List Fram
         subst (λ (bs : List Branch). BranchesList t f.prefix bs (first ++ here)) (sym some)
         (one_more one (subst (λ (bs : List Branch). BranchesList t f.prefix bs here) (sym rest_is) others) refl)
 
+    begun_more : (first here : List Entry) → Lists t b.start (f.prefix ++ b.label) first → BranchesBegin t f.prefix (drop (suc f.next) f.node.branches) here
+        → BranchesBegin t f.prefix (drop f.next f.node.branches) (first ++ here)
+    begun_more first here one others =
+        subst (λ (bs : List Branch). BranchesBegin t f.prefix bs (first ++ here)) (sym some)
+        (one_whole one (subst (λ (bs : List Branch). BranchesBegin t f.prefix bs here) (sym rest_is) others) refl)
+
+    begun_here : (es : List Entry) → ListBegins t b.start (f.prefix ++ b.label) es → BranchesBegin t f.prefix (drop f.next f.node.branches) es
+    begun_here es part = subst (λ (bs : List Branch). BranchesBegin t f.prefix bs es) (sym some) (one_begun part)
+
     -- a child that is nothing is passed
     pub passes : t.upto ≤ b.start → Walk t from marks (more f ∷ fs) found vs
     passes out = record {
@@ -344,6 +299,10 @@ module _ {t : Trie} {from : ℕ} {marks : List Bool} {f : Frame} {fs : List Fram
       opened = (open_more, h.opened.1);
       closed = done_more vs (λ w i. i) (inl out);
       list = λ es p. h.list es (p.0, p.1, pending_more [] p.0 (nothing out) p.2, p.3, p.4);
+      begun = λ es p. elim p [
+        | inl part ↦ h.begun es (inl (begun_more [] es (nothing out) part))
+        | inr whole ↦ h.begun es (inr (whole.0, whole.1, pending_more [] whole.0 (nothing out) whole.2, whole.3, whole.4))
+      ];
       few = h.few;
     }
 
@@ -422,6 +381,26 @@ module _ {t : Trie} {from : ℕ} {marks : List Bool} {f : Frame} {fs : List Fram
                 let whole = h.list (((own ++ p.0) ++ p.3.0) ++ p.3.1) (((own ++ p.0) ++ p.3.0), p.3.1, mine, p.3.3, refl) in
                 let same : found ++ (((own ++ p.0) ++ p.3.0) ++ p.3.1) ≡ (found ++ own) ++ es = rw (p.4, p.3.4) (simp append_assoc) in
                 subst (Lists t from []) same whole;
+            begun = λ es p.
+                let own = own_entries (f.prefix ++ b.label) node.own in
+                let regroup : found ++ (own ++ es) ≡ (found ++ own) ++ es = simp append_assoc in
+                subst (ListBegins t from []) regroup (h.begun (own ++ es) (elim p [
+                  | inl part ↦ inl (begun_here (own ++ es) (node_begun node (inside, at) part refl))
+                  | inr whole ↦ (
+                      let child = a_node {list = own ++ whole.0} node (inside, at) whole.2 refl in
+                      let same : own ++ es ≡ (own ++ whole.0) ++ whole.1 = rw whole.4 (simp append_assoc) in
+                      elim whole.3 [
+                        | inl part ↦ inl (subst (BranchesBegin t f.prefix (drop f.next f.node.branches)) (sym same)
+                            (begun_more (own ++ whole.0) whole.1 child part))
+                        | inr below ↦ inr (
+                          (own ++ whole.0) ++ below.0,
+                          below.1,
+                          pending_more (own ++ whole.0) below.0 child below.2,
+                          below.3,
+                          same ∙ ap (λ (x : List Entry). (own ++ whole.0) ++ x) below.4 ∙ sym (append_assoc (own ++ whole.0) below.0 below.1),
+                        )
+                      ])
+                ]));
             few = let long = length-append found (own_entries (f.prefix ++ b.label) node.own) in let one = few_own (f.prefix ++ b.label) node.own in
                 let few = h.few in omega arith;
           }

@@ -1,11 +1,12 @@
 //! The exports of an image, which a trie lists.
 
-ghost use Rattle.std.specs.Prelude.{◌≡◌, ◌≤◌, ◌<◌, ◌+◌, ◌-◌, List, length, IfOk, IfErr};
+ghost use Rattle.std.specs.Prelude.{◌≡◌, ◌≤◌, ◌<◌, ◌+◌, ◌-◌, List, [], length, IfOk, IfErr};
 ghost use Rattle.mach_base.specs.Answer.{Stands, IsOkUnlessMemory};
 ghost use Rattle.mach_dyld.specs.Trie.{Entry, offset_of};
 ghost use Rattle.mach_dyld.specs.Exports.{texts, info_of, entries};
 ghost use Rattle.mach_dyld.specs.TrieRange.{range_in, trie_there, ListsExports, ExportsFault};
 ghost use Rattle.mach_dyld.specs.Visits.{Visits};
+ghost use Rattle.mach_dyld.specs.Walks.{HasGiven};
 
 pub use crate::info::{
     EXPORT_SYMBOL_FLAGS_KIND_ABSOLUTE, EXPORT_SYMBOL_FLAGS_KIND_MASK,
@@ -14,7 +15,8 @@ pub use crate::info::{
     EXPORT_SYMBOL_FLAGS_WEAK_DEFINITION, ExportInfo, SymbolKind,
 };
 use crate::steps::Steps;
-use crate::walk::{Source, walk};
+pub use crate::walk::ExportWalk;
+use crate::walk::{Source, list_all};
 use mach_base::{ByteCount, Result};
 use mach_records::{DyldInfoCommand, LinkeditDataCommand};
 use std::alloc::{Allocator, Global};
@@ -119,6 +121,25 @@ impl<'a> ExportTrie<'a> {
         }
     }
 
+    /// The exports one at a time, in the order of `exports`: a walk whose `next` lends each name. It takes a mark for
+    /// each byte of the trie, and no allocation for an export.
+    pub fn walk<'b, A: Allocator + Clone>(
+        &self,
+        alloc: A,
+        libs: &'b [&'a str],
+    ) -> Result<ExportWalk<'a, 'b, A>>
+        ensures given { IfOk result (λ w. HasGiven self.now (texts libs.now) [] w) }
+        ensures memory { IsOkUnlessMemory result }
+    {
+        let source = Source {
+            bytes: self.bytes,
+            libs,
+            from: self.from,
+            upto: self.upto,
+        };
+        ExportWalk::start(&alloc, &source)
+    }
+
     /// The exports, depth first: each node's own before those of its children. `libs` are the image's
     /// libraries, by ordinal. Each refusal but `Error::Memory` is a fault that stands in the trie.
     pub fn exports<A: Allocator + Clone>(
@@ -155,6 +176,6 @@ impl<'a> ExportTrie<'a> {
             from: self.from,
             upto: self.upto,
         };
-        walk(&alloc, &source, steps)
+        list_all(&alloc, &source, steps)
     }
 }

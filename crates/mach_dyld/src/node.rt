@@ -1,15 +1,15 @@
 //! One node of an export trie, as dyld reads it. Quick readers read what most nodes hold with no call; where one
 //! of them finds nothing, the exact reader says what is there, or why nothing is.
 
-ghost use Rattle.std.specs.Prelude.{◌≡◌, ◌≤◌, ◌+◌, ℕ, List, length, IfOk, IfSome, IsTrue, Ok};
+ghost use Rattle.std.specs.Prelude.{◌≡◌, ◌≤◌, ◌<◌, ◌+◌, ℕ, List, length, IfOk, IfSome, IsTrue, IsOk, IsErr, MatchOption, Ok, Err, Some, true, false};
 ghost use Rattle.mach_base.specs.Answer.{Reads};
+ghost use Rattle.mach_base.specs.Fault.{fault_of};
 ghost use Rattle.mach_base.specs.Leb128.{uleb_at};
-ghost use Rattle.mach_dyld.specs.Trie as trie;
 ghost use Rattle.mach_dyld.specs.Trie.{regular};
 ghost use Rattle.mach_dyld.specs.Nodes.{a_regular, info_kind, branch_at, branches_at, children_at, own_at};
 ghost use Rattle.mach_base.specs.Sums.{sum_of};
 ghost use Rattle.mach_dyld.specs.Exports.{texts, info_of};
-ghost use Rattle.mach_dyld.specs.NodeViews.{branch_of, those_read, branches_of, AreReadable};
+ghost use Rattle.mach_dyld.specs.NodeViews.{branch_of, those_read, branches_in, AreReadable};
 
 use crate::info::{
     EXPORT_SYMBOL_FLAGS_REEXPORT, EXPORT_SYMBOL_FLAGS_STUB_AND_RESOLVER, ExportInfo,
@@ -17,15 +17,16 @@ use crate::info::{
 use mach_base::{Error, Result, quick_text, quick_uleb, read_text, uleb};
 
 /// A label, and where the child begins.
-#[derive(Debug, Drop)]
+#[derive(Clone, Copy, Debug)]
 pub struct Branch<'a> {
     pub label: &'a str,
     pub start: usize,
 }
 
-/// Branches that can be read: how many, and the place of the first.
+/// Branches that can be read: the first, how many are left behind it, and the place where these begin.
 #[derive(Clone, Copy, Debug)]
-pub struct Branches {
+pub struct Branches<'a> {
+    pub first: Branch<'a>,
     pub left: usize,
     pub place: usize,
 }
@@ -86,52 +87,90 @@ fn test_branches(bytes: &[u8], from: usize, count: usize, first: usize) -> Resul
     Ok(())
 }
 
-// The place after a branch, wherever the branch can be read.
+// Why so many branches can't all be read.
+#[cold]
+#[inline(never)]
+fn branches_error(bytes: &[u8], from: usize, count: usize, first: usize) -> Error
+    requires { IsErr (branches_at bytes.now from count first) }
+    ensures { branches_at bytes.now from count first ≡ Err (fault_of result) }
+{
+    match test_branches(bytes, from, count, first) {
+        Err(e) => e,
+        Ok(()) => unreachable!(),
+    }
+}
+
+// A branch and the place after it, wherever `read_branch` finds one.
 #[tactic(auto, unfolding(crate::specs::Nodes::branch_at))]
 #[inline(always)]
-fn quick_branch(bytes: &[u8], from: usize, place: usize) -> Option<usize>
-    ensures { IfSome result (λ after. (branch : trie.Branch) × (branch_at bytes.now from place ≡ Ok (branch, after))) }
+fn quick_branch(bytes: &[u8], from: usize, place: usize) -> Option<(Branch<'_>, usize)>
+    ensures { MatchOption result (IsErr (branch_at bytes.now from place))
+        (λ found. branch_at bytes.now from place ≡ Ok (branch_of found.0, found.1)) }
 {
     let label = quick_text(bytes, place)?;
     let (offset, after) = quick_uleb(bytes, place + label.len() + 1)?;
     match from.checked_add(offset as usize) {
-        Some(_) => Some(after),
+        Some(start) => Some((Branch { label, start }, after)),
         None => None,
     }
 }
 
-// Whether so many branches can be read, as far as quick readers tell.
+// Whether so many branches can be read, one after the other.
 #[inline(always)]
 fn quick_test(bytes: &[u8], from: usize, count: usize, first: usize) -> bool
-    ensures { IsTrue result → branches_at bytes.now from count first ≡ Ok (those_read (branches_at bytes.now from count first)) }
+    ensures yes { result ≡ true → branches_at bytes.now from count first ≡ Ok (those_read (branches_at bytes.now from count first)) }
+    ensures no { result ≡ false → IsErr (branches_at bytes.now from count first) }
 {
     let mut place = first;
     for _ in 0..count {
         match quick_branch(bytes, from, place) {
-            Some(after) => place = after,
+            Some((_, after)) => place = after,
             None => return false,
         }
     }
     true
 }
 
-/// The branches behind their count, all of which can be read.
+// So many branches, if all can be read.
+#[inline(always)]
+fn quick_branches(bytes: &[u8], from: usize, count: usize, place: usize) -> Option<Branches<'_>>
+    requires { 0 < count }
+    ensures value { MatchOption result (IsErr (branches_at bytes.now from count place))
+        (λ b. branches_at bytes.now from count place ≡ Ok (branches_in bytes.now from (Some b))) }
+    ensures readable { IfSome result (AreReadable bytes.now from) }
+    ensures count { IfSome result (λ b. b.left + 1 ≡ count) }
+{
+    let Some((first, place)) = quick_branch(bytes, from, place) else {
+        return None;
+    };
+    let left = count - 1;
+    if quick_test(bytes, from, left, place) {
+        Some(Branches { first, left, place })
+    } else {
+        None
+    }
+}
+
+/// The branches behind their count, if there are any: all of them can be read.
 #[tactic(auto, unfolding(crate::specs::Nodes::children_at))]
 #[inline(always)]
-pub fn read_branches(bytes: &[u8], from: usize, place: usize) -> Result<Branches>
-    ensures value { Reads (branches_of bytes.now from) result (children_at bytes.now from place) }
-    ensures readable { IfOk result (AreReadable bytes.now from) }
-    ensures few { IfOk result (λ branches. branches.left ≤ length bytes.now) }
+pub fn read_branches(bytes: &[u8], from: usize, place: usize) -> Result<Option<Branches<'_>>>
+    ensures value { Reads (branches_in bytes.now from) result (children_at bytes.now from place) }
+    ensures readable { IfOk result (λ found. IfSome found (AreReadable bytes.now from)) }
+    ensures few { IfOk result (λ found. IfSome found (λ b. b.left + 1 ≤ length bytes.now)) }
 {
     let (count, place) = number(bytes, place)?;
-    let left = count as usize;
-    if left > bytes.len() {
-        return Err(Error::BufferTooShort(left, "branches"));
+    let count = count as usize;
+    if count > bytes.len() {
+        return Err(Error::BufferTooShort(count, "branches"));
     }
-    if !quick_test(bytes, from, left, place) {
-        test_branches(bytes, from, left, place)?;
+    if count == 0 {
+        return Ok(None);
     }
-    Ok(Branches { left, place })
+    match quick_branches(bytes, from, count, place) {
+        Some(branches) => Ok(Some(branches)),
+        None => Err(branches_error(bytes, from, count, place)),
+    }
 }
 
 /// A node's own export of so many bytes, and the place of the branches behind it.
@@ -174,17 +213,14 @@ pub fn quick_own(bytes: &[u8], size: u64, place: usize) -> Option<(u64, u64, usi
     }
 }
 
-/// A branch that was tested, read again: its label, where the child begins, and the place after it.
+/// A branch that was tested, read again, and the place after it.
 #[inline(always)]
-pub fn read_again(bytes: &[u8], from: usize, place: usize) -> (&[u8], usize, usize)
-    requires { (found : trie.Branch × ℕ) × (branch_at bytes.now from place ≡ Ok found) }
-    ensures { branch_at bytes.now from place ≡ Ok (record { label = result.0.now; start = result.1 }, result.2) }
+pub fn read_again(bytes: &[u8], from: usize, place: usize) -> (Branch<'_>, usize)
+    requires { IsOk (branch_at bytes.now from place) }
+    ensures { branch_at bytes.now from place ≡ Ok (branch_of result.0, result.1) }
 {
-    let Some(label) = quick_text(bytes, place) else {
-        unreachable!()
-    };
-    let Some((offset, after)) = quick_uleb(bytes, place + label.len() + 1) else {
-        unreachable!()
-    };
-    (label.as_bytes(), from + offset as usize, after)
+    match quick_branch(bytes, from, place) {
+        Some(found) => found,
+        None => unreachable!(),
+    }
 }

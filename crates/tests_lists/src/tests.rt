@@ -8,4 +8,5 @@ mod imports;
 mod look_ups;
 mod refusing;
 mod tries;
+mod walks;
 mod without_memory;

@@ -1,5 +1,5 @@
-use Rattle.mach_dyld.proofs.Names.{◌≡◌, refl, ◌-◌, ◌++◌, ◌∷◌, [], arith, branches_at}
-use Rattle.mach_dyld.proofs.BranchSteps.{goes_on, is_done, begins}
+use Rattle.mach_dyld.proofs.Names.{◌≡◌, refl, ◌-◌, ◌++◌, ◌∷◌, [], arith, branches_at, branch_of}
+use Rattle.mach_dyld.proofs.BranchSteps.{goes_on, ends, is_done, begins, the_fault}
 use Rattle.mach_dyld.proofs.node.quick_test.Goals as goal
 
 pub loop-init : goal.loop-init
@@ -8,10 +8,15 @@ loop-init c = let all : c.args.count - 0 ≡ c.args.count = omega arith in
 
 pub loop-preserved : goal.loop-preserved
 loop-preserved c =
-    let b = c.in-Some.ensures.0 in
-    (c.loop.invariant.0 ++ b ∷ [], goes_on _ _ _ _ _ _ _ c.loop.invariant.1 b c.in-Some.after c.loop-test.true c.in-Some.ensures.1)
+    let b = branch_of c.in-Some.field-0-0 in
+    (c.loop.invariant.0 ++ b ∷ [], goes_on _ _ _ _ _ _ _ c.loop.invariant.1 b c.in-Some.after c.loop-test.true c.in-Some.ensures)
 
-pub returns : goal.returns
-returns c =
+pub returns-in-None-clause-no : goal.returns-in-None-clause-no
+returns-in-None-clause-no c =
+    let f = the_fault _ c.in-None.ensures in
+    λ _. rw (ends _ _ _ _ _ _ _ c.loop.invariant.1 f.0 c.loop-test.true f.1) refl
+
+pub returns-clause-yes : goal.returns-clause-yes
+returns-clause-yes c =
     let done = is_done _ _ _ _ _ _ _ c.loop.invariant.1 c.loop-test.false in
     λ _. rw done refl

@@ -1,0 +1,9 @@
+use Rattle.mach_dyld.specs.WalkState.{work_left}
+use Rattle.mach_dyld.specs.Walks.{IsWalk}
+use Rattle.tests_lists.proofs.tests.walks.walked.Given as goal
+
+abbrev pub invariant-exports : goal.invariant-exports
+invariant-exports l = IsWalk l.walk
+
+abbrev pub decreases-exports : goal.decreases-exports
+decreases-exports l = work_left l.walk
