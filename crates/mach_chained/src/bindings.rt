@@ -1,11 +1,12 @@
 //! The bindings of an image whose binds stand in chains.
 
-ghost use Rattle.std.specs.Prelude.{◌≡◌, ◌+ℤ◌, [], Some, None, MatchOption};
+ghost use Rattle.std.specs.Prelude.{◌≡◌, ◌+ℤ◌, [], List, Some, None, IfOk, IfErr, MatchOption};
 ghost use Rattle.std.specs.Iterator.{YieldsFirstBy};
-ghost use Rattle.mach_base.specs.Answer.{Reads};
-ghost use Rattle.mach_chained.specs.Bindings.{place_in_file, signed_or_malformed, binding_of, binding_in, AreBindingItems};
+ghost use Rattle.mach_base.specs.Answer.{Reads, Stands, IsOkUnlessMemory};
+ghost use Rattle.mach_chained.specs.Bindings.{place_in_file, signed_or_malformed, binding_of, binding_in, AreBindingItems, ListsBindings, BindingFault};
+ghost use Rattle.mach_chained.specs.Bindings as defined;
 ghost use Rattle.mach_chained.specs.WalkViews.{input_of, input_in, fixup_view};
-ghost use Rattle.mach_chained.specs.BindingViews.{texts, binding_view, binding_read, bindings_left};
+ghost use Rattle.mach_chained.specs.BindingViews.{texts, binding_view, bindings_seen, binding_read, bindings_left};
 
 use crate::fixups::FixupIterator;
 use crate::header::ChainedFixups;
@@ -14,6 +15,7 @@ use crate::provider::Provider;
 use crate::source::{Fixup, nth_segment};
 use mach_base::{Error, Result};
 use mach_parts::segment::Segment;
+use std::alloc::Allocator;
 
 /// A pointer that takes the address of a symbol.
 #[derive(Clone, Copy, Debug)]
@@ -81,6 +83,37 @@ impl<'a> ChainedFixups<'a> {
             libs,
             ended: false,
         }
+    }
+}
+
+impl<'a> ChainedFixups<'a> {
+    /// The bindings of all binds of the chains, in order. `libs` are the image's libraries, by ordinal,
+    /// `segments` its segments, and `base` is the address of its first byte in memory. Each refusal but
+    /// `Error::Memory` is a fault that stands among the fixups or the binds.
+    pub fn binds<A: Allocator>(
+        &self,
+        alloc: A,
+        libs: &[&'a str],
+        segments: &[Segment<'a>],
+        base: u64,
+    ) -> Result<Vec<Binding<'a>, A>>
+        ensures listed { IfOk result (λ v. ListsBindings (input_in self.now segments.now base)
+            (texts libs.now) (bindings_seen v.items)) }
+        ensures only { (list : List (defined.Binding)) → ListsBindings (input_in self.now segments.now base)
+            (texts libs.now) list → IsOkUnlessMemory result }
+        ensures refused { IfErr result (Stands (BindingFault (input_in self.now segments.now base)
+            (texts libs.now))) }
+    {
+        let mut left = self.bindings(libs, segments, base);
+        let mut found = Vec::new(alloc);
+        'binds: loop {
+            match left.step() {
+                None => break,
+                Some(Ok(binding)) => found.push(binding)?,
+                Some(Err(e)) => return Err(e),
+            }
+        }
+        Ok(found)
     }
 }
 

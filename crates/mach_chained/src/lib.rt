@@ -19,7 +19,7 @@ pub use crate::fixups::FixupIterator;
 pub use crate::format::{ImportFormat, PointerFormat};
 pub use crate::header::{ChainedFixups, ChainedFixupsHeader, SIZEOF_CHAINED_FIXUPS_HEADER};
 pub use crate::imports::{ChainedImport, ChainedImportIterator};
-pub use crate::pointer::{FixupKind, PointerAuth};
+pub use crate::pointer::{ChainPointer, FixupKind, PointerAuth, read_pointer};
 pub use crate::provider::{
     BIND_SPECIAL_DYLIB_FLAT_LOOKUP, BIND_SPECIAL_DYLIB_MAIN_EXECUTABLE, BIND_SPECIAL_DYLIB_SELF,
     BIND_SPECIAL_DYLIB_WEAK_LOOKUP, Provider,
