@@ -7,7 +7,7 @@ use Rattle.mach_base.specs.Fault.{Fault, fault_of}
 use Rattle.mach_base.proofs.Faults.{Stands-reported}
 use Rattle.mach_chained.specs.Pointers.{Kind, rebase, bind, value}
 use Rattle.mach_chained.specs.Fixups.{Input, Fixup}
-use Rattle.mach_chained.specs.Chained.{Placed, AreFixups, fault_item, fixup_items}
+use Rattle.mach_chained.specs.Chained.{Placed, AreFixups, fixup_items}
 use Rattle.mach_chained.specs.Bindings.{Binding, binding_of, binding_by, binding_in, bindings_before, bindings_of, AreBindingItems, ListsBindings, BindingFault}
 use Rattle.mach_chained.specs.BindingCounts.{binds_more, bind_count, AsManyAsBinds}
 use Rattle.mach_chained.proofs.Chained.{one_list}
@@ -42,7 +42,8 @@ none_before (Some (Ok b)) x libs ps stop (c ∷ list) next e =
     let tail : bindings_of x libs (fixup_items ps stop) ≡ oks list = cc in
     next list tail
 
-no_stop : (x : Input) (libs : List (List ℕ)) (ps : List Placed) (stop : Option Fault) (list : List Binding) → bindings_of x libs (fixup_items ps stop) ≡ oks list → stop ≡ None
+no_stop : (x : Input) (libs : List (List ℕ)) (ps : List Placed) (stop : Option Fault) (list : List Binding)
+    → bindings_of x libs (fixup_items ps stop) ≡ oks list → stop ≡ None
 no_stop x libs [] None list e = refl
 no_stop x libs [] (Some f) list e = absurd (no_error [] f [] list e)
 no_stop x libs (p ∷ ps) stop list e = none_before (binding_in x libs p.fixup) x libs ps stop list (no_stop x libs ps stop) e
@@ -50,7 +51,8 @@ no_stop x libs (p ∷ ps) stop list e = none_before (binding_in x libs p.fixup) 
 -- ---- the list
 
 -- items without a fault are the list
-pub listed : (x : Input) (libs : List (List ℕ)) (items : List Item) (list : List Binding) → AreBindingItems x libs items → items ≡ oks list → ListsBindings x libs list
+pub listed : (x : Input) (libs : List (List ℕ)) (items : List Item) (list : List Binding) → AreBindingItems x libs items → items ≡ oks list
+    → ListsBindings x libs list
 listed x libs items list a e =
     let fixups = a.1 in
     let are : bindings_of x libs (fixup_items fixups.0 fixups.1) ≡ oks list =
@@ -62,7 +64,8 @@ listed x libs items list a e =
     )
 
 -- an image with a list has no other items
-items_are : (x : Input) (libs : List (List ℕ)) (items : List Item) (list : List Binding) → AreBindingItems x libs items → ListsBindings x libs list → items ≡ oks list
+items_are : (x : Input) (libs : List (List ℕ)) (items : List Item) (list : List Binding) → AreBindingItems x libs items → ListsBindings x libs list
+    → items ≡ oks list
 items_are x libs items list a l =
     let fixups = a.1 in
     let same = one_list x fixups.0 l.0 fixups.1 None fixups.2 l.1 in
@@ -122,7 +125,8 @@ count_by x libs f (rebase target) rest list n next e = next list e
 count_by x libs f (value number) rest list n next e = next list e
 count_by x libs f (bind import inline) rest list n next e = count_own (binding_of x libs f import inline) rest list n next e
 
-count_all : (x : Input) (libs : List (List ℕ)) (ps : List Placed) (list : List Binding) → bindings_of x libs (fixup_items ps None) ≡ oks list → length list ≡ bind_count ps
+count_all : (x : Input) (libs : List (List ℕ)) (ps : List Placed) (list : List Binding) → bindings_of x libs (fixup_items ps None) ≡ oks list
+    → length list ≡ bind_count ps
 count_all x libs [] [] e = refl
 count_all x libs [] (c ∷ list) e = absurd (cc)
 count_all x libs (p ∷ ps) list e =

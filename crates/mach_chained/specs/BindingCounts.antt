@@ -1,5 +1,5 @@
 -- How many bindings an image has.
-use Rattle.std.specs.Prelude.{◌≡◌, ◌+◌, ℕ, suc, List, [], ◌∷◌, map, length, Option, None, Ok}
+use Rattle.std.specs.Prelude.{◌≡◌, ℕ, suc, List, [], ◌∷◌, map, length, None, Ok}
 use Rattle.mach_chained.specs.Pointers.{Kind, rebase, bind, value}
 use Rattle.mach_chained.specs.Fixups.{Input}
 use Rattle.mach_chained.specs.Chained.{Placed, fixup_items}

@@ -1,5 +1,5 @@
 -- What contracts see of bindings.
-use Rattle.std.specs.Prelude.{ℕ, List, [], map, Bool, Result, if◌then◌else◌}
+use Rattle.std.specs.Prelude.{ℕ, List, [], map, Result, if◌then◌else◌}
 use Rattle.std.specs.Borrow.{Bor}
 use Rattle.mach_base.specs.declared.error.Error.{Error}
 use Rattle.mach_base.specs.Fault.{Fault}
