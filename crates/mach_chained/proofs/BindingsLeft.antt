@@ -1,5 +1,5 @@
 -- How the bindings that are left go on.
-use Rattle.std.proofs.Common.{◌≡◌, ℕ, List, [], ◌∷◌, Bool, true, false, Option, Result, Ok, Err, sym, ap, ◌∙◌, cond}
+use Rattle.std.proofs.Common.{◌≡◌, ℕ, List, [], ◌∷◌, Bool, true, false, Option, Result, Ok, sym, ap, ◌∙◌, cond}
 use Rattle.mach_base.specs.Fault.{Fault}
 use Rattle.mach_chained.specs.declared.source.Source.{Source}
 use Rattle.mach_chained.specs.Fixups.{Input, Fixup}

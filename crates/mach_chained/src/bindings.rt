@@ -1,12 +1,13 @@
 //! The bindings of an image whose binds stand in chains.
 
-ghost use Rattle.std.specs.Prelude.{◌≡◌, ◌+ℤ◌, [], Some, None, MatchOption};
+ghost use Rattle.std.specs.Prelude.{◌≡◌, ◌+ℤ◌, [], List, Some, None, IfOk, IfErr, MatchOption};
 ghost use Rattle.std.specs.Iterator.{YieldsFirstBy};
-ghost use Rattle.mach_base.specs.Answer.{Reads};
-ghost use Rattle.mach_chained.specs.Bindings.{place_in_file, signed_or_malformed, binding_of, binding_in, AreBindingItems};
+ghost use Rattle.mach_base.specs.Answer.{Reads, Stands, IsOkUnlessMemory};
+ghost use Rattle.mach_chained.specs.Bindings.{place_in_file, signed_or_malformed, binding_of, binding_in, AreBindingItems, ListsBindings, BindingFault};
 ghost use Rattle.mach_chained.specs.WalkViews.{input_of, input_in, fixup_view};
+ghost use Rattle.mach_parts.specs.Bindings as declared;
 ghost use Rattle.mach_parts.specs.Bindings.{texts, binding_view, binding_read};
-ghost use Rattle.mach_chained.specs.BindingViews.{bindings_left};
+ghost use Rattle.mach_chained.specs.BindingViews.{bindings_seen, bindings_left};
 
 use crate::fixups::FixupIterator;
 use crate::header::ChainedFixups;
@@ -15,6 +16,7 @@ use crate::source::{Fixup, nth_segment};
 use mach_base::{Error, Result};
 use mach_parts::binding::{Binding, Provider};
 use mach_parts::segment::Segment;
+use std::alloc::Allocator;
 
 // Where an offset in a segment lies in the file.
 fn place_in_file(segments: &[Segment<'_>], number: u32, offset: u64) -> Result<u64>
@@ -63,6 +65,37 @@ impl<'a> ChainedFixups<'a> {
             libs,
             ended: false,
         }
+    }
+}
+
+impl<'a> ChainedFixups<'a> {
+    /// The bindings of all binds of the chains, in order. `libs` are the image's libraries, by ordinal,
+    /// `segments` its segments, and `base` is the address of its first byte in memory. Each refusal but
+    /// `Error::Memory` is a fault that stands among the fixups or the binds.
+    pub fn binds<A: Allocator>(
+        &self,
+        alloc: A,
+        libs: &[&'a str],
+        segments: &[Segment<'a>],
+        base: u64,
+    ) -> Result<Vec<Binding<'a>, A>>
+        ensures listed { IfOk result (λ v. ListsBindings (input_in self.now segments.now base)
+            (texts libs.now) (bindings_seen v.items)) }
+        ensures only { (list : List (declared.Binding)) → ListsBindings (input_in self.now segments.now base)
+            (texts libs.now) list → IsOkUnlessMemory result }
+        ensures refused { IfErr result (Stands (BindingFault (input_in self.now segments.now base)
+            (texts libs.now))) }
+    {
+        let mut left = self.bindings(libs, segments, base);
+        let mut found = Vec::new(alloc);
+        'binds: loop {
+            match left.step() {
+                None => break,
+                Some(Ok(binding)) => found.push(binding)?,
+                Some(Err(e)) => return Err(e),
+            }
+        }
+        Ok(found)
     }
 }
 

@@ -1,4 +1,4 @@
-use Rattle.std.proofs.Common.{◌≡◌, ◌∷◌, [], Some, None, Ok, Err, refl, sym, ap, ◌∙◌, arith, length}
+use Rattle.std.proofs.Common.{◌≡◌, ◌∷◌, [], Some, None, Ok, Err, refl, sym, ap, ◌∙◌}
 use Rattle.mach_base.specs.Fault.{fault_of}
 use Rattle.mach_chained.specs.WalkViews.{input_of, fixup_view, fixup_read}
 use Rattle.mach_chained.specs.FixupsLeft.{fixups_left}
@@ -85,7 +85,8 @@ fixups-preserved c =
     let there : fixups_left it.fixups ≡ Ok f ∷ fixups_left new =
     c.in-Some-Ok.ensures.items ∙ ap (λ r. fixup_read r ∷ fixups_left new) c.in-Some-Ok.field-0-is in
     record {
-      items = inv.items ∙ on_bindings it.ended it.fixups.source new.source libs (fixups_left it.fixups) (Ok f ∷ fixups_left new) inv.on c.step.ensures.source there
+      items = inv.items ∙ on_bindings it.ended it.fixups.source new.source libs (fixups_left it.fixups) (Ok f ∷ fixups_left new) inv.on
+          c.step.ensures.source there
           ∙ before_others x libs f (fixups_left new) None c.in-None-binding.ensures
           ∙ sym (on_bindings it.ended new.source new.source libs (fixups_left new) (fixups_left new) inv.on refl refl);
       on = inv.on;

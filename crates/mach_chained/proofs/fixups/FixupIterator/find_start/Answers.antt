@@ -1,10 +1,9 @@
-use Rattle.std.proofs.Common.{◌≡◌, Some, None, Ok, Err, Result, Option, sym, ap, refl, ◌∙◌}
+use Rattle.std.proofs.Common.{◌≡◌, Some, Ok, Err, Result, Option, sym, ap, refl, ◌∙◌}
 use Rattle.mach_base.specs.Fault.{Fault, fault_of}
-use Rattle.mach_chained.specs.declared.source.NextPlace.{NextPlace}
 use Rattle.mach_chained.specs.declared.source.NextPlace.TheVariants as variant
 use Rattle.mach_chained.specs.Fixups.{Spot}
 use Rattle.mach_chained.specs.WalkViews.{input_of, span_view, spot_view}
-use Rattle.mach_chained.specs.FixupsLeft.{fixups_left, next_spot, all_left}
+use Rattle.mach_chained.specs.FixupsLeft.{fixups_left, next_spot}
 use Rattle.mach_chained.proofs.Walk.{on_items, ends_at}
 use Rattle.mach_chained.proofs.fixups.FixupIterator.find_start.Goals as goal
 

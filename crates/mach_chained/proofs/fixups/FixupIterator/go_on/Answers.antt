@@ -1,4 +1,4 @@
-use Rattle.std.proofs.Common.{◌≡◌, None, Ok, ap, ◌∙◌}
+use Rattle.std.proofs.Common.{None, Ok, ap, ◌∙◌}
 use Rattle.mach_chained.specs.WalkViews.{input_of, span_view}
 use Rattle.mach_chained.specs.FixupsLeft.{fixups_left, next_spot}
 use Rattle.mach_chained.proofs.Walk.{on_items, left_nothing}
