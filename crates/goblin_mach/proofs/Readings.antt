@@ -97,16 +97,6 @@ module _ {V : Type 0} (reading : Reading V) where
   last_kept cs c old new was is =
       is ∙ ap (λ (d : Option V). last_or d (said (reading c))) was ∙ sym (ap last_of (read-more cs c) ∙ last-more None (read_of reading cs) (said (reading c)))
 
-  -- where the value is seen as it is
-  pub last_itself : (cs : List Command) (c : Command) (old new : Option V) → old ≡ last_of (read_of reading cs)
-      → option_map (λ (v : V). v) new ≡ last_or (option_map (λ (v : V). v) old) (said (reading c)) → new ≡ last_of (read_of reading (cs ++ c ∷ []))
-  last_itself cs c old new was is =
-      sym (itself new) ∙ last_kept cs c (option_map (λ (v : V). v) old) (option_map (λ (v : V). v) new) (itself old ∙ was) is
-    where
-      itself : (o : Option V) → option_map (λ (v : V). v) o ≡ o
-      itself None = refl
-      itself (Some v) = refl
-
   pub all_more : (cs : List Command) (c : Command) → AllRead reading cs → AllRead reading (c ∷ []) → AllRead reading (cs ++ c ∷ [])
   all_more [] c all one = one
   all_more (d ∷ cs) c all one = (all.0, all_more cs c all.1 one)
@@ -119,6 +109,16 @@ module _ {V : Type 0} (reading : Reading V) where
   unread_among c cs f among u =
       let here : u.command ≡ c = elim u.among [ inl is ↦ is | inr none ↦ absurd none ] in
       record { command = c; among = among; fault = subst (λ (x : Command). reading x ≡ Some (Err f)) here u.fault }
+
+-- a value that is seen as it is
+seen_itself : {V : Type 0} (o : Option V) → option_map (λ (v : V). v) o ≡ o
+seen_itself None = refl
+seen_itself (Some v) = refl
+
+pub put_itself : {V : Type 0} (new old : Option V) (found : Option (Result V Fault))
+    → option_map (λ (v : V). v) new ≡ last_or (option_map (λ (v : V). v) old) (said found) → new ≡ last_or old (said found)
+put_itself new old found is =
+    sym (seen_itself new) ∙ is ∙ ap (λ (o : Option _). last_or o (said found)) (seen_itself old)
 
 -- where every command can be read, none can't
 pub unread-excludes_all : {V : Type 0} (reading : Reading V) (cs : List Command) (f : Fault) → IsUnread reading cs f → AllRead reading cs → ⊥
