@@ -43,22 +43,6 @@ module _ {X V : Type 0} (view : X → V) (reading : Reading V) (xs : List LoadCo
   pub missed : (f : Fault) → seen_of view s ≡ Some (Err f) → IsUnread reading (map command_of xs) f
   missed f e = record { command = command_of (get_or xs i d); among = among_here xs i d lt; fault = this ∙ e }
 
-past_all : (xs : List LoadCommand) (i : ℕ) → length xs ≤ i → drop i (map command_of xs) ≡ []
-past_all [] zero past = refl
-past_all [] (suc i) past = refl
-past_all (x ∷ xs) zero past = absurd (omega arith)
-past_all (x ∷ xs) (suc i) past = past_all xs i (omega arith)
-
--- where none are left, what was read is all
-pub whole : {V : Type 0} (reading : Reading V) (xs : List LoadCommand) (i : ℕ) (values all : List V) → length xs ≤ i
-    → values ++ read_of reading (drop i (map command_of xs)) ≡ all → values ≡ all
-whole reading xs i values all past e =
-    sym (append-nil values) ∙ ap (λ left. values ++ read_of reading left) (sym (past_all xs i past)) ∙ e
-
--- one more of a list moves to its front
-pub one_more : {V : Type 0} (front rest all : List V) (v : V) → front ++ (v ∷ rest) ≡ all → (front ++ v ∷ []) ++ rest ≡ all
-one_more front rest all v e = append_assoc front (v ∷ []) rest ∙ e
-
 -- the first commands and the next one
 pub taken-next : (xs : List LoadCommand) (i : ℕ) (d : LoadCommand) → i < length xs
     → take (i + 1) (map command_of xs) ≡ take i (map command_of xs) ++ command_of (get_or xs i d) ∷ []

@@ -106,7 +106,8 @@ abbrev pub IsOnceRefused : Ctx → List ℕ → Command → Fault → Type 0
 IsOnceRefused ctx bytes c f = IsRefused (table_by ctx bytes c) f ⊎ IsRefused (id_by bytes c) f
 
 -- each is a filter or a last over the commands, the segments and the libraries being these
-pub record AreFields {A : Type 0} (ctx : Ctx) (bytes : List ℕ) (parts : List SegmentView) (libs : List (List ℕ)) (cs : List Command) (f : Fields A) : Type 0 where
+pub record AreFields {A : Type 0} (ctx : Ctx) (bytes : List ℕ) (parts : List SegmentView) (libs : List (List ℕ)) (cs : List Command) (f : Fields A)
+    : Type 0 where
   pub segments : map segment_view f.segments.items ≡ parts
   pub libs_are : texts f.libs.items ≡ libs
   pub rpaths : texts f.rpaths.items ≡ read_of (run_path_by bytes) cs

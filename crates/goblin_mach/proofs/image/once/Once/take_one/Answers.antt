@@ -23,4 +23,5 @@ returns-in_err-put-clause-refused c =
 pub returns-in_err-put-2-clause-refused : goal.returns-in_err-put-2-clause-refused
 returns-in_err-put-2-clause-refused c =
     exit_in (IsRefused (id_by c.args.bytes.now (command_of c.args.command.now)))
-    (IsOnceRefused c.args.ctx c.args.bytes.now (command_of c.args.command.now)) _ _ c.from_residual-in_err-put-2.ensures.1 (λ f e. inr e) c.in_err-put-2.ensures.refused
+    (IsOnceRefused c.args.ctx c.args.bytes.now (command_of c.args.command.now)) _ _ c.from_residual-in_err-put-2.ensures.1 (λ f e. inr e)
+    c.in_err-put-2.ensures.refused
