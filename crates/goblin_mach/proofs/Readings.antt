@@ -1,7 +1,6 @@
 -- Reading the commands of a subject, one by one.
 use Rattle.std.proofs.Common.{◌≡◌, ℕ, zero, suc, ◌+◌, ◌<◌, ◌≤◌, true, false, List, [], ◌∷◌, ◌++◌, length, map, drop, get_or, Option, Some, None, Result, Err}
-use Rattle.std.proofs.Common.{Ok, take, inl, inr, refl, sym, ap, subst, ◌∙◌, append_assoc, arith, add-one}
-use Rattle.std.proofs.lemmas.List.{append-nil}
+use Rattle.std.proofs.Common.{Ok, take, inl, inr, refl, sym, ap, subst, ◌∙◌, arith, add-one}
 use Rattle.std.specs.Prelude.{option_map}
 use Rattle.std.specs.Option.{is_some}
 use Rattle.mach_base.specs.declared.error.Error.{Error}
