@@ -1,6 +1,6 @@
 -- Where `?` leaves a function with an error, the error reports a fault that stands.
 use Rattle.std.proofs.Common.{◌≡◌, Result, Ok, Err}
-use Rattle.std.specs.Prelude.{IfErr, IsErrAnd}
+use Rattle.std.specs.Prelude.{IfErr, IsErrAnd, OnOk}
 use Rattle.mach_base.specs.declared.error.Error.{Error}
 use Rattle.mach_base.specs.Answer.{FailsAs, Gives, Stands}
 use Rattle.mach_base.specs.Fault.{Fault, fault_of}
@@ -35,3 +35,17 @@ pub exit_gives : {X Y : Type 0} (view : X → Y) (r : Result X Error) (e : Error
     → (there : Result Y Fault) → FailsAs e there → Gives view r there
 exit_gives view (Ok x) e left there h = absurd left
 exit_gives view (Err x) e left there h = rw left h
+
+-- what follows from an answer that is Ok
+pub ok_then : {X : Type 0} {P Q : Type 0} (r : Result X Error) → (P → Q) → OnOk r P → OnOk r Q
+ok_then (Ok x) to h = to h
+ok_then (Err e) to h = tt
+
+pub ok_with : {X : Type 0} {P Q R : Type 0} (r : Result X Error) → (P → Q → R) → OnOk r P → OnOk r Q → OnOk r R
+ok_with (Ok x) to h k = to h k
+ok_with (Err e) to h k = tt
+
+-- a fault of a part is one of the whole
+pub refused_in : {X : Type 0} (P Q : Fault → Type 0) (r : Result X Error) → ((f : Fault) → P f → Q f) → IfErr r (Stands P) → IfErr r (Stands Q)
+refused_in P Q (Ok x) to h = tt
+refused_in P Q (Err e) to h = Stands-in P Q e to h

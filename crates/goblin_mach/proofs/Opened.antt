@@ -8,7 +8,7 @@ use Rattle.mach_parts.specs.Segment.{SegmentView, segment_view}
 use Rattle.mach_parts.specs.SymbolViews.{table_of}
 use Rattle.mach_parts.specs.declared.header.Header.{Header}
 use Rattle.mach_dyld.specs.Exports.{texts, text_in}
-use Rattle.goblin_mach.specs.EntryPoint.{EntryPoint, entry_point_in}
+use Rattle.goblin_mach.specs.EntryPoint.{entry_point_in}
 use Rattle.goblin_mach.specs.Magic.{cputype_at}
 use Rattle.goblin_mach.specs.OpenImage.{AreFields, HasFields, IsMadeOf, commands_held, commands_of}
 use Rattle.goblin_mach.specs.Subjects.{libs_in}
@@ -26,8 +26,9 @@ module _ {A : Type 0} (bytes : List ℕ) (o : ℕ) (x : Opened A) (f : Fields A)
       → HasFields bytes o x.ctx (parts (commands_held m)) m
   made_fields parts header entry are =
       let fields = subst (λ (cs : List Command). AreFields x.ctx bytes (parts cs) (libs_in bytes cs) cs f) same_commands are in
-      let begins : entry_point_in (cputype_at x.ctx bytes o) (commands_held m) ≡ Ok (record { address = m.entry; old_style = m.old_style_entry }) =
-      rw (made.entry, made.old_style_entry) (subst (λ (cs : List Command). entry_point_in (cputype_at x.ctx bytes o) cs ≡ Ok (record { address = x.address; old_style = x.old_style_entry })) same_commands entry) in
+      let cputype = cputype_at x.ctx bytes o in
+      let begins : entry_point_in cputype (commands_held m) ≡ Ok (record { address = m.entry; old_style = m.old_style_entry }) =
+      rw (made.entry, made.old_style_entry) (sym (ap (entry_point_in cputype) same_commands) ∙ entry) in
       record {
         header = subst (λ (h : Header). IsHeader x.ctx bytes o h) (sym made.header) header;
         little_endian = made.little_endian;

@@ -1,7 +1,6 @@
 -- Reading the commands of a subject, one by one.
 use Rattle.std.proofs.Common.{◌≡◌, ℕ, zero, suc, ◌+◌, ◌<◌, ◌≤◌, true, false, List, [], ◌∷◌, ◌++◌, length, map, drop, get_or, Option, Some, None, Result, Err}
-use Rattle.std.proofs.Common.{Ok, take, inl, inr, refl, sym, ap, subst, ◌∙◌, append_assoc, arith, add-one}
-use Rattle.std.proofs.lemmas.List.{append-nil}
+use Rattle.std.proofs.Common.{Ok, take, inl, inr, refl, sym, ap, subst, ◌∙◌, arith, add-one}
 use Rattle.std.specs.Prelude.{option_map}
 use Rattle.std.specs.Option.{is_some}
 use Rattle.mach_base.specs.declared.error.Error.{Error}
@@ -43,22 +42,6 @@ module _ {X V : Type 0} (view : X → V) (reading : Reading V) (xs : List LoadCo
   pub missed : (f : Fault) → seen_of view s ≡ Some (Err f) → IsUnread reading (map command_of xs) f
   missed f e = record { command = command_of (get_or xs i d); among = among_here xs i d lt; fault = this ∙ e }
 
-past_all : (xs : List LoadCommand) (i : ℕ) → length xs ≤ i → drop i (map command_of xs) ≡ []
-past_all [] zero past = refl
-past_all [] (suc i) past = refl
-past_all (x ∷ xs) zero past = absurd (omega arith)
-past_all (x ∷ xs) (suc i) past = past_all xs i (omega arith)
-
--- where none are left, what was read is all
-pub whole : {V : Type 0} (reading : Reading V) (xs : List LoadCommand) (i : ℕ) (values all : List V) → length xs ≤ i
-    → values ++ read_of reading (drop i (map command_of xs)) ≡ all → values ≡ all
-whole reading xs i values all past e =
-    sym (append-nil values) ∙ ap (λ left. values ++ read_of reading left) (sym (past_all xs i past)) ∙ e
-
--- one more of a list moves to its front
-pub one_more : {V : Type 0} (front rest all : List V) (v : V) → front ++ (v ∷ rest) ≡ all → (front ++ v ∷ []) ++ rest ≡ all
-one_more front rest all v e = append_assoc front (v ∷ []) rest ∙ e
-
 -- the first commands and the next one
 pub taken-next : (xs : List LoadCommand) (i : ℕ) (d : LoadCommand) → i < length xs
     → take (i + 1) (map command_of xs) ≡ take i (map command_of xs) ++ command_of (get_or xs i d) ∷ []
@@ -97,16 +80,6 @@ module _ {V : Type 0} (reading : Reading V) where
   last_kept cs c old new was is =
       is ∙ ap (λ (d : Option V). last_or d (said (reading c))) was ∙ sym (ap last_of (read-more cs c) ∙ last-more None (read_of reading cs) (said (reading c)))
 
-  -- where the value is seen as it is
-  pub last_itself : (cs : List Command) (c : Command) (old new : Option V) → old ≡ last_of (read_of reading cs)
-      → option_map (λ (v : V). v) new ≡ last_or (option_map (λ (v : V). v) old) (said (reading c)) → new ≡ last_of (read_of reading (cs ++ c ∷ []))
-  last_itself cs c old new was is =
-      sym (itself new) ∙ last_kept cs c (option_map (λ (v : V). v) old) (option_map (λ (v : V). v) new) (itself old ∙ was) is
-    where
-      itself : (o : Option V) → option_map (λ (v : V). v) o ≡ o
-      itself None = refl
-      itself (Some v) = refl
-
   pub all_more : (cs : List Command) (c : Command) → AllRead reading cs → AllRead reading (c ∷ []) → AllRead reading (cs ++ c ∷ [])
   all_more [] c all one = one
   all_more (d ∷ cs) c all one = (all.0, all_more cs c all.1 one)
@@ -119,6 +92,16 @@ module _ {V : Type 0} (reading : Reading V) where
   unread_among c cs f among u =
       let here : u.command ≡ c = elim u.among [ inl is ↦ is | inr none ↦ absurd none ] in
       record { command = c; among = among; fault = subst (λ (x : Command). reading x ≡ Some (Err f)) here u.fault }
+
+-- a value that is seen as it is
+seen_itself : {V : Type 0} (o : Option V) → option_map (λ (v : V). v) o ≡ o
+seen_itself None = refl
+seen_itself (Some v) = refl
+
+pub put_itself : {V : Type 0} (new old : Option V) (found : Option (Result V Fault))
+    → option_map (λ (v : V). v) new ≡ last_or (option_map (λ (v : V). v) old) (said found) → new ≡ last_or old (said found)
+put_itself new old found is =
+    sym (seen_itself new) ∙ is ∙ ap (λ (o : Option _). last_or o (said found)) (seen_itself old)
 
 -- where every command can be read, none can't
 pub unread-excludes_all : {V : Type 0} (reading : Reading V) (cs : List Command) (f : Fault) → IsUnread reading cs f → AllRead reading cs → ⊥

@@ -1,8 +1,9 @@
 -- An image as it was opened, and as its fields were read.
-use Rattle.std.specs.Prelude.{◌↔◌, ◌≡◌, ℕ, List, map, IsTrue, Ok, Option, option_map}
+use Rattle.std.specs.Prelude.{◌↔◌, ◌≡◌, ◌⊎◌, ℕ, List, map, IsTrue, Ok, Option, option_map}
 use Rattle.mach_base.specs.declared.context.Container.TheVariants.{Big}
 use Rattle.mach_base.specs.declared.context.Ctx.{Ctx}
 use Rattle.mach_base.specs.declared.context.Endian.TheVariants.{Little}
+use Rattle.mach_base.specs.Fault.{Fault}
 use Rattle.mach_load.specs.Command.{Command}
 use Rattle.mach_load.specs.Variants.{command_of}
 use Rattle.mach_parts.specs.Header.{IsHeader}
@@ -16,13 +17,15 @@ use Rattle.goblin_mach.specs.EntryPoint.{entry_point_in}
 use Rattle.goblin_mach.specs.FatFile.{fat_file_in, file_held}
 use Rattle.goblin_mach.specs.Image.{OpensAs, LossyOpensAs, HasFatMagic}
 use Rattle.goblin_mach.specs.Magic.{cputype_at}
-use Rattle.goblin_mach.specs.Readings.{Reading, read_of}
+use Rattle.goblin_mach.specs.Readings.{Reading, read_of, said, last_or, IsRefused}
+use Rattle.goblin_mach.specs.Subjects.{table_by, id_by, trie_by, binds_by}
 use Rattle.goblin_mach.specs.Subjects.{binds_in, library_by, segment_by, lossy_segment_by, trie_in, own_name_in, libs_in, run_path_by, table_in}
 use Rattle.goblin_mach.specs.declared.fat_file.multi_arch.MultiArch.{MultiArch}
 use Rattle.goblin_mach.specs.declared.image.fields.Fields.{Fields}
 use Rattle.goblin_mach.specs.declared.image.mach.Mach.TheVariants.{Fat, Binary}
 use Rattle.goblin_mach.specs.declared.image.mach.Mach.{Mach}
 use Rattle.goblin_mach.specs.declared.image.macho.MachO.{MachO}
+use Rattle.goblin_mach.specs.declared.image.once.Once.{Once}
 use Rattle.goblin_mach.specs.declared.image.opened.Opened.{Opened}
 
 -- the range of the export trie that an image holds, if it holds one
@@ -91,15 +94,27 @@ IsMach InMode bytes (Binary m) = InMode bytes 0 m
 abbrev pub commands_of : {A : Type 0} → Opened A → List Command
 commands_of x = map command_of x.load_commands.items
 
+-- what one more command says of what an image has once
+pub record TakesOnce (ctx : Ctx) (bytes : List ℕ) (c : Command) (old new : Once) : Type 0 where
+  pub symbols : option_map table_of new.symbols ≡ last_or (option_map table_of old.symbols) (said (table_by ctx bytes c))
+  pub name : text_in new.name ≡ last_or (text_in old.name) (said (id_by bytes c))
+  pub trie : new.export_trie ≡ last_or old.export_trie (said (trie_by bytes c))
+  pub binds : new.bind_interpreter ≡ last_or old.bind_interpreter (said (binds_by bytes c))
+
+-- of that a command can't be read, for this fault
+abbrev pub IsOnceRefused : Ctx → List ℕ → Command → Fault → Type 0
+IsOnceRefused ctx bytes c f = IsRefused (table_by ctx bytes c) f ⊎ IsRefused (id_by bytes c) f
+
 -- each is a filter or a last over the commands, the segments and the libraries being these
-pub record AreFields {A : Type 0} (ctx : Ctx) (bytes : List ℕ) (parts : List SegmentView) (libs : List (List ℕ)) (cs : List Command) (f : Fields A) : Type 0 where
+pub record AreFields {A : Type 0} (ctx : Ctx) (bytes : List ℕ) (parts : List SegmentView) (libs : List (List ℕ)) (cs : List Command) (f : Fields A)
+    : Type 0 where
   pub segments : map segment_view f.segments.items ≡ parts
-  pub symbols : option_map table_of f.symbols ≡ table_in ctx bytes cs
   pub libs_are : texts f.libs.items ≡ libs
   pub rpaths : texts f.rpaths.items ≡ read_of (run_path_by bytes) cs
-  pub name : text_in f.name ≡ own_name_in bytes cs
-  pub trie : f.export_trie ≡ trie_in bytes cs
-  pub binds : f.bind_interpreter ≡ binds_in bytes cs
+  pub symbols : option_map table_of f.once.symbols ≡ table_in ctx bytes cs
+  pub name : text_in f.once.name ≡ own_name_in bytes cs
+  pub trie : f.once.export_trie ≡ trie_in bytes cs
+  pub binds : f.once.bind_interpreter ≡ binds_in bytes cs
 
 -- what some commands say, before the image's own name is put in front of its libraries
 abbrev pub AreTaken : {A : Type 0} → Ctx → List ℕ → Reading SegmentView → List Command → Fields A → Type 0
@@ -112,14 +127,14 @@ pub record IsMadeOf {A : Type 0} (bytes : List ℕ) (x : Opened A) (f : Fields A
   pub little_endian : IsTrue m.little_endian ↔ (x.ctx.le ≡ Little)
   pub is_64 : IsTrue m.is_64 ↔ (x.ctx.container ≡ Big)
   pub segments : segments_in m.segments ≡ f.segments.items
-  pub symbols : m.symbols ≡ f.symbols
+  pub symbols : m.symbols ≡ f.once.symbols
   pub libs : m.libs ≡ f.libs
   pub rpaths : m.rpaths ≡ f.rpaths
   pub entry : m.entry ≡ x.address
   pub old_style_entry : m.old_style_entry ≡ x.old_style_entry
-  pub name : m.name ≡ f.name
-  pub trie : trie_held m ≡ f.export_trie
-  pub binds : binds_held m ≡ f.bind_interpreter
+  pub name : m.name ≡ f.once.name
+  pub trie : trie_held m ≡ f.once.export_trie
+  pub binds : binds_held m ≡ f.once.bind_interpreter
   pub bytes_is : bytes_held m ≡ bytes
   pub ctx_is : ctx_held m ≡ x.ctx
 

@@ -9,6 +9,7 @@ pub mod laws;
 pub mod mach;
 pub mod macho;
 pub mod magic;
+pub mod once;
 pub mod opened;
 pub mod readings;
 pub mod relocations;

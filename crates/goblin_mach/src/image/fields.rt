@@ -9,28 +9,21 @@ ghost use Rattle.goblin_mach.specs.Image.{AllReadable, IsUnreadable};
 ghost use Rattle.goblin_mach.specs.Subjects.{segment_by, lossy_segment_by, libs_in};
 ghost use Rattle.goblin_mach.specs.Readings.{Reading, read_of};
 
-use crate::image::readings::{add, add_readable, put, put_readable};
-use crate::image::subjects::{
-    Binds, Ids, Libraries, LossySegmentData, RunPaths, SegmentData, SymbolTables, Tries,
-};
+use crate::image::once::Once;
+use crate::image::readings::{add, add_readable};
+use crate::image::subjects::{Libraries, LossySegmentData, RunPaths, SegmentData};
 use mach_base::{Ctx, Result};
-use mach_dyld::exports::ExportTrie;
-use mach_dyld::imports::BindInterpreter;
 use mach_load::LoadCommand;
 use mach_parts::segment::Segment;
-use mach_parts::symbols::Symbols;
 use std::alloc::Allocator;
 
 /// What strict and lossy mode read off the commands in their own ways.
 #[derive(Drop)]
 pub struct Fields<'a, A: Allocator> {
     pub segments: Vec<Segment<'a>, A>,
-    pub symbols: Option<Symbols<'a>>,
     pub libs: Vec<&'a str, A>,
     pub rpaths: Vec<&'a str, A>,
-    pub name: Option<&'a str>,
-    pub export_trie: Option<ExportTrie<'a>>,
-    pub bind_interpreter: Option<BindInterpreter<'a>>,
+    pub once: Once<'a>,
 }
 
 impl<'a, A: Allocator + Clone> Fields<'a, A> {
@@ -80,12 +73,14 @@ impl<'a, A: Allocator + Clone> Fields<'a, A> {
     {
         Ok(Fields {
             segments: Vec::new(alloc.clone()?),
-            symbols: None,
             libs: Vec::new(alloc.clone()?),
             rpaths: Vec::new(alloc),
-            name: None,
-            export_trie: None,
-            bind_interpreter: None,
+            once: Once {
+                symbols: None,
+                name: None,
+                export_trie: None,
+                bind_interpreter: None,
+            },
         })
     }
 }
@@ -102,13 +97,9 @@ impl<'a, A: Allocator> Fields<'a, A> {
         ensures refused { IfErr result (Stands (IsUnreadable ctx bytes.now (command_of command.now ∷ []))) }
     {
         add(&mut self.segments, &SegmentData { bytes, ctx }, command)?;
-        put(&mut self.symbols, &SymbolTables { bytes, ctx }, command)?;
-        put(&mut self.name, &Ids { bytes }, command)?;
         add(&mut self.libs, &Libraries { bytes }, command)?;
         add(&mut self.rpaths, &RunPaths { bytes }, command)?;
-        put_readable(&mut self.export_trie, &Tries { bytes }, command);
-        put_readable(&mut self.bind_interpreter, &Binds { bytes }, command);
-        Ok(())
+        self.once.take(bytes, ctx, command)
     }
 
     // Takes what can be read of it.
@@ -122,12 +113,9 @@ impl<'a, A: Allocator> Fields<'a, A> {
             &LossySegmentData { bytes, ctx },
             command,
         )?;
-        put_readable(&mut self.symbols, &SymbolTables { bytes, ctx }, command);
-        put_readable(&mut self.name, &Ids { bytes }, command);
         add_readable(&mut self.libs, &Libraries { bytes }, command)?;
         add_readable(&mut self.rpaths, &RunPaths { bytes }, command)?;
-        put_readable(&mut self.export_trie, &Tries { bytes }, command);
-        put_readable(&mut self.bind_interpreter, &Binds { bytes }, command);
+        self.once.take_readable(bytes, ctx, command);
         Ok(())
     }
 
@@ -137,7 +125,7 @@ impl<'a, A: Allocator> Fields<'a, A> {
             → OnOk result (AreFields ctx bytes (read_of segment cs) (libs_in bytes cs) cs self.new) }
         ensures only { IsOkUnlessMemory result }
     {
-        let name = self.name.unwrap_or("self");
+        let name = self.once.name.unwrap_or("self");
         self.libs.insert(0, name)?;
         Ok(())
     }

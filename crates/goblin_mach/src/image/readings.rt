@@ -1,6 +1,6 @@
 //! What is read off the commands of an image, subject by subject.
 
-ghost use Rattle.std.specs.Prelude.{◌≡◌, ◌++◌, List, None, false, map, option_map, IfOk, IfErr, OnOk};
+ghost use Rattle.std.specs.Prelude.{◌≡◌, ◌++◌, List, map, option_map, IfOk, IfErr, OnOk};
 ghost use Rattle.mach_base.specs.Answer.{Stands, IsOkUnlessMemory};
 ghost use Rattle.mach_load.specs.Variants.{command_of};
 ghost use Rattle.goblin_mach.specs.Readings.{Reading, read_of, said, last_or, first_of, IsRead, IsRefused, AllRead, IsUnread, seen_of};
@@ -21,14 +21,6 @@ pub trait Subject {
     // What is read off each command.
     ghost reading: { Self → Reading Seen };
 
-    /// Whether a command may speak of the subject.
-    fn speaks(&self, command: &LoadCommand) -> bool
-        ensures { result ≡ false → reading self.now (command_of command.now) ≡ None }
-    {
-        let _ = command;
-        true
-    }
-
     /// What is read off a command, if it speaks of the subject.
     fn read(&self, command: &LoadCommand) -> Option<Result<Self::Value>>
         ensures { seen_of seen result ≡ reading self.now (command_of command.now) };
@@ -45,13 +37,9 @@ pub fn add<S: Subject, A: Allocator>(
     ensures read { OnOk result (IsRead (S.reading subject.now (command_of command.now))) }
     ensures refused { IfErr result (Stands (IsRefused (S.reading subject.now (command_of command.now)))) }
 {
-    if !subject.speaks(command) {
-        return Ok(());
+    if let Some(found) = subject.read(command) {
+        values.push(found?)?;
     }
-    let Some(found) = subject.read(command) else {
-        return Ok(());
-    };
-    values.push(found?)?;
     Ok(())
 }
 
@@ -71,25 +59,7 @@ pub fn add_readable<S: Subject, A: Allocator>(
 }
 
 /// Puts what a command says of a subject in the place of what an earlier one said.
-#[inline(always)]
 pub fn put<S: Subject>(
-    last: &mut Option<S::Value>,
-    subject: &S,
-    command: &LoadCommand,
-) -> Result<()>
-    ensures kept { OnOk result (option_map S.seen last.new ≡ last_or (option_map S.seen last.old) (said (S.reading subject.now (command_of command.now)))) }
-    ensures read { OnOk result (IsRead (S.reading subject.now (command_of command.now))) }
-    ensures refused { IfErr result (Stands (IsRefused (S.reading subject.now (command_of command.now)))) }
-{
-    if !subject.speaks(command) {
-        return Ok(());
-    }
-    put_said(last, subject, command)
-}
-
-// The same out of line.
-#[inline(never)]
-fn put_said<S: Subject>(
     last: &mut Option<S::Value>,
     subject: &S,
     command: &LoadCommand,
@@ -105,18 +75,7 @@ fn put_said<S: Subject>(
 }
 
 /// Puts what can be read of it.
-#[inline(always)]
 pub fn put_readable<S: Subject>(last: &mut Option<S::Value>, subject: &S, command: &LoadCommand)
-    ensures { option_map S.seen last.new ≡ last_or (option_map S.seen last.old) (said (S.reading subject.now (command_of command.now))) }
-{
-    if subject.speaks(command) {
-        put_readable_said(last, subject, command);
-    }
-}
-
-// The same out of line.
-#[inline(never)]
-fn put_readable_said<S: Subject>(last: &mut Option<S::Value>, subject: &S, command: &LoadCommand)
     ensures { option_map S.seen last.new ≡ last_or (option_map S.seen last.old) (said (S.reading subject.now (command_of command.now))) }
 {
     if let Some(Ok(value)) = subject.read(command) {

@@ -1,7 +1,7 @@
 //! The subjects of an image's commands: segments, libraries, its own name, run paths, symbols, the
 //! export trie and the binds.
 
-ghost use Rattle.std.specs.Prelude.{◌≡◌, List, ℕ, Some, None, false, if◌then◌else◌};
+ghost use Rattle.std.specs.Prelude.{◌≡◌, List, ℕ, Some, None, if◌then◌else◌};
 ghost use Rattle.mach_base.specs.Number.{place_after};
 ghost use Rattle.mach_load.specs.Variants.{command_of};
 ghost use Rattle.goblin_mach.specs.Subjects.{is_library, is_id, is_run_path, name_place, library_by, id_by, run_path_by, table_by};
@@ -71,17 +71,6 @@ impl<'a> Subject for Libraries<'a> {
     ghost reading = { λ s. library_by s.bytes.now };
 
     #[inline(always)]
-    fn speaks(&self, command: &LoadCommand) -> bool {
-        matches!(
-            command.command,
-            CommandVariant::LoadDylib(_)
-                | CommandVariant::LoadUpwardDylib(_)
-                | CommandVariant::ReexportDylib(_)
-                | CommandVariant::LoadWeakDylib(_)
-                | CommandVariant::LazyLoadDylib(_)
-        )
-    }
-
     fn read(&self, command: &LoadCommand) -> Option<Result<&'a str>> {
         library_place(command).map(|place| read_text(self.bytes, place))
     }
@@ -101,11 +90,6 @@ impl<'a> Subject for Ids<'a> {
     ghost seen = { λ name. name.now };
 
     ghost reading = { λ s. id_by s.bytes.now };
-
-    #[inline(always)]
-    fn speaks(&self, command: &LoadCommand) -> bool {
-        matches!(command.command, CommandVariant::IdDylib(_))
-    }
 
     fn read(&self, command: &LoadCommand) -> Option<Result<&'a str>> {
         id_place(command).map(|place| read_text(self.bytes, place))
@@ -128,10 +112,6 @@ impl<'a> Subject for RunPaths<'a> {
     ghost reading = { λ s. run_path_by s.bytes.now };
 
     #[inline(always)]
-    fn speaks(&self, command: &LoadCommand) -> bool {
-        matches!(command.command, CommandVariant::Rpath(_))
-    }
-
     fn read(&self, command: &LoadCommand) -> Option<Result<&'a str>> {
         run_path_place(command).map(|place| read_text(self.bytes, place))
     }
@@ -157,13 +137,6 @@ impl<'a> Subject for SegmentData<'a> {
     ghost reading = { λ s. segment_by s.ctx s.bytes.now };
 
     #[inline(always)]
-    fn speaks(&self, command: &LoadCommand) -> bool {
-        matches!(
-            command.command,
-            CommandVariant::Segment32(_) | CommandVariant::Segment64(_)
-        )
-    }
-
     fn read(&self, command: &LoadCommand) -> Option<Result<Segment<'a>>> {
         let offset = command.offset;
         match &command.command {
@@ -231,11 +204,6 @@ impl<'a> Subject for SymbolTables<'a> {
 
     ghost reading = { λ s. table_by s.ctx s.bytes.now };
 
-    #[inline(always)]
-    fn speaks(&self, command: &LoadCommand) -> bool {
-        matches!(command.command, CommandVariant::Symtab(_))
-    }
-
     fn read(&self, command: &LoadCommand) -> Option<Result<Symbols<'a>>> {
         match &command.command {
             CommandVariant::Symtab(c) => Some(Symbols::parse(self.bytes, c, self.ctx)),
@@ -261,16 +229,6 @@ impl<'a> Subject for Tries<'a> {
     ghost seen = { λ trie. trie };
 
     ghost reading = { λ s. trie_by s.bytes.now };
-
-    #[inline(always)]
-    fn speaks(&self, command: &LoadCommand) -> bool {
-        matches!(
-            command.command,
-            CommandVariant::DyldInfo(_)
-                | CommandVariant::DyldInfoOnly(_)
-                | CommandVariant::DyldExportsTrie(_)
-        )
-    }
 
     /// It is never refused.
     fn read(&self, command: &LoadCommand) -> Option<Result<ExportTrie<'a>>> {
@@ -303,14 +261,6 @@ impl<'a> Subject for Binds<'a> {
     ghost seen = { λ binds. binds };
 
     ghost reading = { λ s. binds_by s.bytes.now };
-
-    #[inline(always)]
-    fn speaks(&self, command: &LoadCommand) -> bool {
-        matches!(
-            command.command,
-            CommandVariant::DyldInfo(_) | CommandVariant::DyldInfoOnly(_)
-        )
-    }
 
     /// It is never refused.
     fn read(&self, command: &LoadCommand) -> Option<Result<BindInterpreter<'a>>> {

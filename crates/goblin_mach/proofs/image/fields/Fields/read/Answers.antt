@@ -23,7 +23,9 @@ loop-command-preserved g c =
     let cs = take c.loop-command.command-index (map command_of c.args.commands.now) in
     let next = sym (taken-next c.args.commands.now c.loop-command.command-index _ c.loop-command-test.true) in
     record {
-      found = subst (λ (ds : List Command). AreTaken c.args.ctx bytes reading ds c.take.new.self) next (c.in_ok-take.ensures.found cs c.loop-command.invariant.found);
+      found =
+          subst (λ (ds : List Command). AreTaken c.args.ctx bytes reading ds c.take.new.self) next
+          (c.in_ok-take.ensures.found cs c.loop-command.invariant.found);
       all = subst (AllReadable c.args.ctx bytes) next (readable_more c.args.ctx bytes cs _ c.loop-command.invariant.all c.in_ok-take.ensures.all);
     }
 

@@ -35,6 +35,5 @@ returns-clause-opened g c =
         lossy = subst (λ (cs : List Command). LossyOpensAs bytes o x.ctx cs) same was.opened;
         readable = subst (λ (cs : List Command). AllReadable x.ctx bytes cs) same read.all;
       };
-      fields = made_fields bytes o x c.in_ok-fields.fields c.of.result c.of.ensures (λ (cs : List Command). read_of (segment_by x.ctx bytes) cs) was.header
-          was.entry read.found;
+      fields = made_fields bytes o x c.in_ok-fields.fields c.of.result c.of.ensures (read_of (segment_by x.ctx bytes)) was.header was.entry read.found;
     }

@@ -22,6 +22,5 @@ returns-clause-opened g c =
     record {
       ctx = x.ctx;
       opens = subst (λ (cs : List Command). LossyOpensAs bytes o x.ctx cs) same was.opened;
-      fields = made_fields bytes o x c.in_ok-fields.fields c.of.result c.of.ensures (λ (cs : List Command). read_of (lossy_segment_by x.ctx bytes) cs) was.header
-          was.entry read.found;
+      fields = made_fields bytes o x c.in_ok-fields.fields c.of.result c.of.ensures (read_of (lossy_segment_by x.ctx bytes)) was.header was.entry read.found;
     }
