@@ -13,7 +13,7 @@ use std::alloc::{AllocError, Allocator, Global};
 use std::fmt::Write;
 use std::process::Abort;
 use std::test::Fail;
-use test_files::{EXPORTS, FILE_A, FILE_B, file_c};
+use test_files::{EXPORTS, FILE_A, FILE_B, file_c, same};
 
 // A call that takes memory.
 #[derive(Clone, Copy, Debug)]
@@ -383,14 +383,14 @@ fn each_growth_of_a_push_refused(rt: HostRuntime) -> Result<(), Fail> {
         for vmaddr in 0..12 {
             if let Err(error) = list.push(segment(vmaddr)) {
                 assert!(rt; matches!(error, Error::Memory(_)));
-                assert_eq!(rt; addresses(alloc, &list)?.as_str(), want.as_str());
+                same(&rt, addresses(alloc, &list)?.as_str(), want.as_str());
                 runs = runs.saturating_add(1);
                 list.push(segment(vmaddr))?;
             }
             write!(want, "{vmaddr} of 0x1000;")?;
-            assert_eq!(rt; addresses(alloc, &list)?.as_str(), want.as_str());
+            same(&rt, addresses(alloc, &list)?.as_str(), want.as_str());
         }
     }
-    assert_eq!(rt; runs, GROWTHS_OF_TWELVE);
+    same(&rt, runs, GROWTHS_OF_TWELVE);
     Ok(())
 }
