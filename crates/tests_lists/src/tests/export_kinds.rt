@@ -4,7 +4,7 @@ use mach_base::Error;
 use mach_dyld::exports::{Export, ExportInfo, ExportTrie, SymbolKind};
 use mach_records::DyldInfoCommand;
 use std::test::Fail;
-use test_files::same;
+use test_files::{same, same_of};
 
 #[test]
 fn kinds(rt: HostRuntime) -> Result<(), Fail> {
@@ -14,7 +14,7 @@ fn kinds(rt: HostRuntime) -> Result<(), Fail> {
         (2, "Absolute"),
         (7, "Unknown"),
     ] {
-        assert_eq!(rt; SymbolKind::new(flags).to_str(), name, "{flags:#x}");
+        same_of(&rt, name, SymbolKind::new(flags).to_str(), name);
     }
     assert!(rt; matches!(SymbolKind::new(7), SymbolKind::UnknownSymbolKind(7)));
     Ok(())
