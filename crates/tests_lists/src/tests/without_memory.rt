@@ -52,26 +52,32 @@ fn readers_and_writers(rt: HostRuntime) {
     same(&rt, Ctx::new(Container::Little, LE).size(), 4);
 }
 
+// The number and the size of the command of file A.
+fn command_of_a() -> Read<(u32, usize)> {
+    let found = LoadCommand::parse(&FILE_A, &mut 32, LE)?;
+    Ok((found.command.cmd(), found.command.cmdsize()))
+}
+
+// The instruction pointer of the thread.
+fn pointer() -> Read<u64> {
+    let (thread, _) = ThreadCommand::try_from_ctx(&THREAD, LE)?;
+    thread.instruction_pointer(7)
+}
+
+// Whether the segment of file B has a name, as a command of 64 bits and of 32.
+fn has_names() -> Read<bool> {
+    let wide = SegmentCommand64::read(&FILE_B, 32, LE)?;
+    let narrow = SegmentCommand32::read(&FILE_B, 32, LE)?;
+    Ok(wide.name().is_ok() && narrow.name().is_ok())
+}
+
 #[test]
 fn load_commands(rt: HostRuntime) {
     let versions = VersionMinCommand::new(Platform::Macos);
-    assert!(rt; LoadCommand::parse(&FILE_A, &mut 32, LE).is_ok());
     assert!(rt; CommandVariant::try_from_ctx(&FILE_A[32..], LE).is_ok());
-    assert!(rt;
-        matches!(LoadCommand::parse(&FILE_A, &mut 32, LE), Ok(found) if found.command.cmd() == 0x1b)
-    );
-    assert!(rt;
-        matches!(LoadCommand::parse(&FILE_A, &mut 32, LE), Ok(found) if found.command.cmdsize() == 24)
-    );
-    assert!(rt;
-        matches!(ThreadCommand::try_from_ctx(&THREAD, LE), Ok((thread, _)) if thread.instruction_pointer(7).is_ok())
-    );
-    assert!(rt;
-        matches!(SegmentCommand64::read(&FILE_B, 32, LE), Ok(command) if command.name().is_ok())
-    );
-    assert!(rt;
-        matches!(SegmentCommand32::read(&FILE_B, 32, LE), Ok(command) if command.name().is_ok())
-    );
+    assert!(rt; matches!(command_of_a(), Ok((0x1b, 24))));
+    assert!(rt; pointer().is_ok());
+    assert!(rt; matches!(has_names(), Ok(true)));
     same(&rt, cmd_to_str(0x1b), "LC_UUID");
     assert!(rt; Platform::try_from(0x24).is_ok());
     assert!(rt; matches!(versions.platform(), Platform::Macos));
@@ -185,6 +191,13 @@ fn symbols(rt: HostRuntime) -> Result<(), Fail> {
     assert!(rt; matches!(table.iter().next(), Some(Ok(_))));
     assert!(rt; matches!((&table).into_iter().next(), Some(Ok(_))));
     assert!(rt; SymbolIterator::default().next().is_none());
+    Ok(())
+}
+
+#[test]
+fn a_symbol(rt: HostRuntime) -> Result<(), Fail> {
+    let command = SymtabCommand::read(&FILE_B, 264, LE)?;
+    let table = Symbols::parse(&FILE_B, &command, Ctx::default())?;
     let (_, symbol) = table.get(0)?;
     same(&rt, (symbol.get_type(), symbol.type_str()), (14, "N_SECT"));
     assert!(rt; symbol.is_global());
@@ -245,6 +258,14 @@ fn fat_files(rt: HostRuntime) -> Result<(), Fail> {
     assert!(rt; peek_bytes(front).is_ok());
     assert!(rt; matches!(Mach::parse(&heap, &fat), Ok(Mach::Fat(_))));
     assert!(rt; matches!(Mach::parse_lossy(&heap, &fat), Ok(Mach::Fat(_))));
+    same(&rt, heap.asked(), 0);
+    Ok(())
+}
+
+#[test]
+fn records_of_fat_files(rt: HostRuntime) -> Result<(), Fail> {
+    let fat = file_c(rt.alloc())?;
+    let heap = Refusing::from(rt.alloc(), 1);
     let container = MultiArch::new(&heap, &fat)?;
     let mut records = container.iter_arches();
     assert!(rt; matches!(records.next(), Some(Ok(_))));
