@@ -1,5 +1,6 @@
 //! The worked rows of docs/FORMAT.md on whole files, and what no clause says.
 
+mod answers;
 mod by_hand;
 mod callers;
 mod chain;

@@ -1,5 +1,6 @@
 //! Numbers set by hand: counts, offsets and public fields at their largest.
 
+use crate::tests::answers::answers;
 use goblin_mach::exports::ExportTrie;
 use goblin_mach::fat::FatArch;
 use goblin_mach::header::{Header, Header32, Header64};
@@ -14,8 +15,9 @@ use goblin_mach::{
     Ctx, Error, MachO, MultiArch, Result as Read, ScrollError, TryFromCtx, TryIntoCtx,
 };
 use std::alloc::{AllocError, Global};
+use std::process::Abort;
 use std::test::Fail;
-use test_files::{FILE_B, file_c};
+use test_files::{FILE_B, file_c, same};
 
 // A place past all that 64 bits hold.
 const FAR: &str = "bad offset 18446744073709551615";
@@ -38,9 +40,9 @@ fn a_thousand_commands(rt: HostRuntime) -> Result<(), Fail> {
     bytes[16..18].copy_from_slice(&[0xe8, 0x03]);
     bytes[20..22].copy_from_slice(&[0x40, 0x1f]);
     let image = MachO::parse(rt.alloc(), &bytes, 0)?;
-    assert_eq!(rt; image.load_commands.len(), 1000);
+    same(&rt, image.load_commands.len(), 1000);
     for command in &image.load_commands {
-        assert_eq!(rt; (command.offset, command.command.cmd()), (32, 0));
+        same(&rt, (command.offset, command.command.cmd()), (32, 0));
     }
     Ok(())
 }
@@ -69,7 +71,7 @@ fn tries(rt: HostRuntime) -> Result<(), Fail> {
             Ok(list) => test_texts::exports(alloc, &list)?,
             Err(error) => test_texts::error(alloc, &error)?,
         };
-        assert_eq!(rt; got.as_str(), want);
+        same(&rt, got.as_str(), want);
     }
     Ok(())
 }
@@ -95,7 +97,7 @@ fn binds(rt: HostRuntime) -> Result<(), Fail> {
         let Some(Ok(import)) = items.next() else {
             return Err(Fail::from("an import"));
         };
-        assert_eq!(rt; import.offset, 8 * k);
+        same(&rt, import.offset, 8 * k);
     }
     assert!(rt; matches!(items.next(), Some(Err(Error::Malformed(_)))));
     assert!(rt; items.next().is_none());
@@ -232,25 +234,25 @@ fn filled() -> Segment<'static> {
 fn all_fields_of_a_segment(rt: HostRuntime) -> Result<(), Fail> {
     let segment = filled();
     let mut sections = (&segment).into_iter();
-    assert_eq!(rt; sections.len(), 4_294_967_295);
+    same(&rt, sections.len(), 4_294_967_295);
     assert!(rt;
         matches!(
             sections.next(),
             Some(Err(Error::Scroll(ScrollError::BadOffset(72))))
         )
     );
-    assert_eq!(rt; sections.len(), 4_294_967_294);
+    same(&rt, sections.len(), 4_294_967_294);
     assert!(rt; segment.holds(u64::MAX - 1));
     assert!(rt; !segment.holds(u64::MAX));
     let mut written = [0; 72];
-    assert_eq!(rt; segment.try_into_ctx(&mut written, Ctx::default())?, 72);
-    assert_eq!(rt; written, [0xff; 72]);
+    same(&rt, segment.try_into_ctx(&mut written, Ctx::default())?, 72);
+    same(&rt, written, [0xff; 72]);
     let narrow = SegmentCommand32::from(filled());
-    assert_eq!(rt; (narrow.vmaddr, narrow.vmsize), (u32::MAX, u32::MAX));
-    assert_eq!(rt; (narrow.fileoff, narrow.filesize), (u32::MAX, u32::MAX));
+    same(&rt, (narrow.vmaddr, narrow.vmsize), (u32::MAX, u32::MAX));
+    same(&rt, (narrow.fileoff, narrow.filesize), (u32::MAX, u32::MAX));
     let wide = SegmentCommand64::from(filled());
-    assert_eq!(rt; (wide.vmaddr, wide.vmsize), (u64::MAX, u64::MAX));
-    assert_eq!(rt; (wide.fileoff, wide.filesize), (u64::MAX, u64::MAX));
+    same(&rt, (wide.vmaddr, wide.vmsize), (u64::MAX, u64::MAX));
+    same(&rt, (wide.fileoff, wide.filesize), (u64::MAX, u64::MAX));
     Ok(())
 }
 
@@ -358,14 +360,14 @@ fn fields_of_a_header(rt: HostRuntime) -> Result<(), Fail> {
         let header = row.header;
         image.header = header;
         assert!(rt; !image.is_object_file());
-        assert_eq!(rt; header.cputype(), row.cputype);
-        assert_eq!(rt; header.cpusubtype(), row.cpusubtype);
-        assert_eq!(rt; header.cpu_caps(), row.caps);
+        same(&rt, header.cputype(), row.cputype);
+        same(&rt, header.cpusubtype(), row.cpusubtype);
+        same(&rt, header.cpu_caps(), row.caps);
         let low = (header.ncmds & 0xffff_ffff) as u32;
-        assert_eq!(rt; Header32::from(header).ncmds, low);
-        assert_eq!(rt; Header64::from(header).ncmds, low);
-        assert_eq!(rt; image.exports(alloc)?.len(), 2);
-        assert_eq!(rt; image.imports(alloc)?.len(), 2);
+        same(&rt, Header32::from(header).ncmds, low);
+        same(&rt, Header64::from(header).ncmds, low);
+        same(&rt, image.exports(alloc)?.len(), 2);
+        same(&rt, image.imports(alloc)?.len(), 2);
     }
     Ok(())
 }
@@ -388,16 +390,38 @@ fn fields_of_an_image(rt: HostRuntime) -> Result<(), Fail> {
         name.as_str(),
     ];
     assert_eq!(rt; got, Field::Flags.answers());
-    assert_eq!(rt; image.exports(alloc)?.len(), 2);
+    same(&rt, image.exports(alloc)?.len(), 2);
     let mut items = image.symbols();
     for _ in 0..3 {
         let Some(item) = items.next() else {
             return Err(Fail::from("an item"));
         };
-        assert_eq!(rt; fault(alloc, item)?.as_str(), FAR);
+        same(&rt, fault(alloc, item)?.as_str(), FAR);
     }
     image.libs.clear();
-    assert_eq!(rt; fault(alloc, image.imports(alloc))?.as_str(), "malformed");
+    same(
+        &rt,
+        fault(alloc, image.imports(alloc))?.as_str(),
+        "malformed",
+    );
+    Ok(())
+}
+
+#[test]
+fn records_of_a_container(rt: HostRuntime) -> Result<(), Fail> {
+    let alloc = rt.alloc();
+    let bytes = file_c(alloc)?;
+    let mut file = MultiArch::new(alloc, &bytes)?;
+    file.narches = usize::MAX;
+    let many = "too short 18446744073709551615 arches";
+    answers(&rt, fault(alloc, file.arches()), many)?;
+    let unknown = fault(alloc, file.find_cputype(u32::MAX));
+    answers(&rt, unknown, "too big 20 of 12")?;
+    let mut records = file.iter_arches();
+    for _ in 0..21 {
+        assert!(rt; matches!(records.next(), Some(Ok(_))));
+    }
+    assert!(rt; matches!(records.next(), Some(Err(_))));
     Ok(())
 }
 
@@ -407,26 +431,22 @@ fn fields_of_a_container(rt: HostRuntime) -> Result<(), Fail> {
     let bytes = file_c(alloc)?;
     let mut file = MultiArch::new(alloc, &bytes)?;
     file.narches = usize::MAX;
-    assert_eq!(rt;
-        fault(alloc, file.arches())?.as_str(),
-        "too short 18446744073709551615 arches"
-    );
-    assert_eq!(rt; fault(alloc, file.get(2))?.as_str(), "malformed");
-    assert_eq!(rt; fault(alloc, file.get(usize::MAX - 1))?.as_str(), FAR);
-    assert_eq!(rt; fault(alloc, file.get(usize::MAX))?.as_str(), "malformed");
-    assert_eq!(rt;
-        fault(alloc, file.find_cputype(u32::MAX))?.as_str(),
-        "too big 20 of 12"
-    );
+    answers(&rt, fault(alloc, file.get(2)), "malformed")?;
+    answers(&rt, fault(alloc, file.get(usize::MAX - 1)), FAR)?;
+    answers(&rt, fault(alloc, file.get(usize::MAX)), "malformed")?;
     let Some(found) = file.find(|arch: Read<FatArch>| arch.is_err()) else {
         return Err(Fail::from("an unreadable record"));
     };
-    assert_eq!(rt; fault(alloc, found)?.as_str(), "too big 20 of 12");
-    let mut records = file.iter_arches();
-    for _ in 0..21 {
-        assert!(rt; matches!(records.next(), Some(Ok(_))));
-    }
-    assert!(rt; matches!(records.next(), Some(Err(_))));
+    answers(&rt, fault(alloc, found), "too big 20 of 12")?;
+    Ok(())
+}
+
+#[test]
+fn entries_of_a_container(rt: HostRuntime) -> Result<(), Fail> {
+    let alloc = rt.alloc();
+    let bytes = file_c(alloc)?;
+    let mut file = MultiArch::new(alloc, &bytes)?;
+    file.narches = usize::MAX;
     let mut entries = (&file).into_iter();
     assert!(rt; matches!(entries.next(), Some(Ok(_))));
     assert!(rt; matches!(entries.next(), Some(Ok(_))));
@@ -510,11 +530,11 @@ const RECORDS: &[RecordRow] = &[
 fn fields_of_a_record(rt: HostRuntime) {
     for row in RECORDS {
         let arch = row.arch;
-        assert_eq!(rt; arch.slice(&FILE_B).len(), row.length);
-        assert_eq!(rt; arch.cputype(), arch.cputype);
-        assert_eq!(rt; arch.cpusubtype(), row.cpusubtype);
-        assert_eq!(rt; arch.cpu_caps(), row.caps);
-        assert_eq!(rt; arch.is_64(), row.is_64);
+        same(&rt, arch.slice(&FILE_B).len(), row.length);
+        same(&rt, arch.cputype(), arch.cputype);
+        same(&rt, arch.cpusubtype(), row.cpusubtype);
+        same(&rt, arch.cpu_caps(), row.caps);
+        same(&rt, arch.is_64(), row.is_64);
     }
 }
 
@@ -635,26 +655,50 @@ const SECTIONS: [SectionRow; 9] = [
     },
 ];
 
+impl SectionRow {
+    // Asserts the two names.
+    fn has_names(&self, rt: &impl Abort, alloc: Global) -> Result<(), AllocError> {
+        answers(rt, named(alloc, self.section.name()), self.sectname)?;
+        answers(rt, named(alloc, self.section.segname()), self.segname)
+    }
+
+    // Asserts the first two relocations.
+    fn has_relocations(&self, rt: &impl Abort, alloc: Global) -> Result<(), AllocError> {
+        let mut items = self.section.iter_relocations(&FILE_B, Ctx::default());
+        answers(rt, relocation(alloc, items.next()), self.first)?;
+        answers(rt, relocation(alloc, items.next()), self.second)
+    }
+}
+
+// Asserts that a section with narrow fields has the low halves of the address and the size.
+fn is_cut(rt: &impl Abort, section: Section) {
+    let (addr, size) = (section.addr & 0xffff_ffff, section.size & 0xffff_ffff);
+    let narrow = Section32::from(section);
+    same(
+        rt,
+        (u64::from(narrow.addr), u64::from(narrow.size)),
+        (addr, size),
+    );
+}
+
 #[test]
 fn fields_of_a_section(rt: HostRuntime) -> Result<(), Fail> {
     let alloc = rt.alloc();
     for row in SECTIONS {
-        let section = row.section;
-        assert_eq!(rt; named(alloc, section.name())?.as_str(), row.sectname);
-        assert_eq!(rt; named(alloc, section.segname())?.as_str(), row.segname);
-        let mut items = section.iter_relocations(&FILE_B, Ctx::default());
-        assert_eq!(rt; relocation(alloc, items.next())?.as_str(), row.first);
-        assert_eq!(rt; relocation(alloc, items.next())?.as_str(), row.second);
-        let low = (section.addr & 0xffff_ffff, section.size & 0xffff_ffff);
-        let narrow = Section32::from(section);
-        assert_eq!(rt; (u64::from(narrow.addr), u64::from(narrow.size)), low);
+        row.has_names(&rt, alloc)?;
+        row.has_relocations(&rt, alloc)?;
+        is_cut(&rt, row.section);
     }
+    Ok(())
+}
+
+#[test]
+fn a_wide_section(rt: HostRuntime) {
     let wide = Section64::from(Section {
         addr: u64::MAX,
         ..SECTION
     });
-    assert_eq!(rt; (wide.addr, wide.size), (u64::MAX, 8));
-    Ok(())
+    same(&rt, (wide.addr, wide.size), (u64::MAX, 8));
 }
 
 // A name, or why it can't be read.
@@ -702,11 +746,11 @@ fn fields_of_a_symbols_ctx(rt: HostRuntime) -> Result<(), Fail> {
     ];
     for (ctx, first, second) in rows {
         let (symbols, width) = Symbols::try_from_ctx(&FILE_B[352..], ctx)?;
-        assert_eq!(rt; width, 24);
+        same(&rt, width, 24);
         let mut items = symbols.iter();
-        assert_eq!(rt; symbol(alloc, items.next())?.as_str(), first);
-        assert_eq!(rt; symbol(alloc, items.next())?.as_str(), second);
-        assert_eq!(rt; fault(alloc, symbols.get(usize::MAX))?.as_str(), FAR);
+        answers(&rt, symbol(alloc, items.next()), first)?;
+        answers(&rt, symbol(alloc, items.next()), second)?;
+        answers(&rt, fault(alloc, symbols.get(usize::MAX)), FAR)?;
     }
     Ok(())
 }

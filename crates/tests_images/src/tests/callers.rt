@@ -15,7 +15,7 @@ use goblin_mach::imports::BindIterator;
 use goblin_mach::{MachO, MultiArch, Result, SingleArch, find_export, laws};
 use std::alloc::{Allocator, Global};
 use std::test::Fail;
-use test_files::{FILE_B, file_c};
+use test_files::{FILE_B, file_c, same};
 
 // The image at the front of the bytes, which opens in lossy mode all the more.
 fn image(alloc: Global, bytes: &[u8]) -> Result<MachO<'_>>
@@ -75,12 +75,12 @@ fn address_of<A: Allocator>(exports: &[Export<'_, A>], name: &str) -> Option<u64
 #[test]
 fn of_an_image(rt: HostRuntime) -> std::result::Result<(), Fail> {
     let alloc = rt.alloc();
-    assert_eq!(rt; run_paths(alloc, &FILE_B)?.len(), 0);
-    assert_eq!(rt; entry_point(alloc, &FILE_B)?, 0x100000138);
+    same(&rt, run_paths(alloc, &FILE_B)?.len(), 0);
+    same(&rt, entry_point(alloc, &FILE_B)?, 0x100000138);
     let image = image(alloc, &FILE_B)?;
     let exports = image.exports(alloc)?;
-    assert_eq!(rt; address_of(&exports, "a"), Some(9));
-    assert_eq!(rt; address_of(&exports, "b"), None);
+    same(&rt, address_of(&exports, "a"), Some(9));
+    same(&rt, address_of(&exports, "b"), None);
     Ok(())
 }
 
@@ -89,18 +89,23 @@ fn imports_one_at_a_time(rt: HostRuntime) -> std::result::Result<(), Fail> {
     let alloc = rt.alloc();
     let image = image(alloc, &FILE_B)?;
     let listed = image.imports(alloc)?;
-    assert_eq!(rt; listed.len(), 2);
+    same(&rt, listed.len(), 2);
     let mut items = import_items(&image);
     for import in &listed {
         let Some(Ok(item)) = items.next() else {
             return Err(Fail::from("an import of the list is missing"));
         };
-        assert_eq!(rt; (item.name, item.dylib), (import.name, import.dylib));
-        assert_eq!(rt;
+        same(&rt, (item.name, item.dylib), (import.name, import.dylib));
+        same(
+            &rt,
             (item.offset, item.address),
-            (import.offset, import.address)
+            (import.offset, import.address),
         );
-        assert_eq!(rt; (item.size, item.is_lazy), (import.size, import.is_lazy));
+        same(
+            &rt,
+            (item.size, item.is_lazy),
+            (import.size, import.is_lazy),
+        );
     }
     assert!(rt; items.next().is_none());
     Ok(())
@@ -110,7 +115,7 @@ fn imports_one_at_a_time(rt: HostRuntime) -> std::result::Result<(), Fail> {
 fn of_a_fat_file(rt: HostRuntime) -> std::result::Result<(), Fail> {
     let bytes = file_c(rt.alloc())?;
     let container = MultiArch::new(rt.alloc(), bytes.as_slice())?;
-    assert_eq!(rt; container.narches, 2);
+    same(&rt, container.narches, 2);
     if container.narches == 2 {
         assert!(rt; matches!(entry(&container, 0)?, SingleArch::MachO(_)));
         assert!(rt; matches!(entry(&container, 1)?, SingleArch::Archive(_)));

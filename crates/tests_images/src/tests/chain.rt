@@ -4,7 +4,7 @@ use goblin_mach::load_command::LoadCommandHeader;
 use goblin_mach::{Mach, MachO, parse_magic_and_ctx, peek};
 use std::alloc::{AllocError, Global};
 use std::test::Fail;
-use test_files::{BARE, FILE_A, FILE_B, File};
+use test_files::{BARE, FILE_A, FILE_B, File, same, same_of};
 
 // What the bytes open as, or why they don't.
 fn opened(alloc: Global, bytes: &[u8]) -> Result<String, AllocError> {
@@ -89,7 +89,7 @@ fn rows(rt: HostRuntime) -> Result<(), Fail> {
     for row in ROWS {
         let bytes = row.file.bytes(alloc)?;
         let got = opened(alloc, &bytes)?;
-        assert_eq!(rt; got.as_str(), row.want, "{}", row.name);
+        same_of(&rt, row.name, got.as_str(), row.want);
     }
     Ok(())
 }
@@ -100,21 +100,21 @@ fn an_image_behind_other_bytes(rt: HostRuntime) -> Result<(), Fail> {
     bytes[16..].copy_from_slice(&FILE_A);
     let image = MachO::parse(rt.alloc(), &bytes, 16)?;
     let text = test_texts::image(rt.alloc(), &image)?;
-    assert_eq!(rt; text.as_str(), "64 little, 0x1b at 48 of 24");
+    same(&rt, text.as_str(), "64 little, 0x1b at 48 of 24");
     let header = image.header;
-    assert_eq!(rt; header.magic, 0xfeed_facf);
-    assert_eq!(rt; header.cputype, 0x0100_0007);
-    assert_eq!(rt; header.filetype, 2);
-    assert_eq!(rt; header.ncmds, 1);
-    assert_eq!(rt; header.sizeofcmds, 24);
+    same(&rt, header.magic, 0xfeed_facf);
+    same(&rt, header.cputype, 0x0100_0007);
+    same(&rt, header.filetype, 2);
+    same(&rt, header.ncmds, 1);
+    same(&rt, header.sizeofcmds, 24);
     Ok(())
 }
 
 #[test]
 fn the_magic_alone(rt: HostRuntime) -> Result<(), Fail> {
-    assert_eq!(rt; peek(&FILE_A, 0)?, 0xcffa_edfe);
+    same(&rt, peek(&FILE_A, 0)?, 0xcffa_edfe);
     let (magic, ctx) = parse_magic_and_ctx(&FILE_A, 0)?;
-    assert_eq!(rt; magic, 0xcffa_edfe);
+    same(&rt, magic, 0xcffa_edfe);
     assert!(rt; ctx.is_some());
     Ok(())
 }
@@ -126,6 +126,6 @@ fn command_text(rt: HostRuntime) -> Result<(), Fail> {
         cmdsize: 24,
     };
     let text = header.to_string(rt.alloc())?;
-    assert_eq!(rt; text.as_str(), "LoadCommandHeader: LC_UUID size: 24");
+    same(&rt, text.as_str(), "LoadCommandHeader: LC_UUID size: 24");
     Ok(())
 }

@@ -4,6 +4,7 @@ use goblin_mach::{
     BE, Endian, LE, bind_opcodes, constants, cputype, exports, fat, header, load_command,
     relocation, symbols,
 };
+use test_files::same;
 
 // What the library says of each constant, and its value.
 macro_rules! rows {
@@ -132,10 +133,10 @@ const USIZE: ([usize; 37], [usize; 37]) = rows! {
 
 #[test]
 fn values(rt: HostRuntime) {
-    assert_eq!(rt; (LE, BE), (Endian::Little, Endian::Big));
-    assert_eq!(rt; U8.0, U8.1);
-    assert_eq!(rt; U16.0, U16.1);
-    assert_eq!(rt; U32.0, U32.1);
-    assert_eq!(rt; U64.0, U64.1);
-    assert_eq!(rt; USIZE.0, USIZE.1);
+    same(&rt, (LE, BE), (Endian::Little, Endian::Big));
+    same(&rt, U8.0, U8.1);
+    same(&rt, U16.0, U16.1);
+    same(&rt, U32.0, U32.1);
+    same(&rt, U64.0, U64.1);
+    same(&rt, USIZE.0, USIZE.1);
 }

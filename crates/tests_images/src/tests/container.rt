@@ -1,11 +1,12 @@
 //! Fat files: what first bytes hint at, records, entries.
 
+use crate::tests::answers::answers;
 use goblin_mach::fat::FatArch;
 use goblin_mach::{Hint, Mach, MultiArch, Result as Read, SingleArch, peek_bytes, take_hint_bytes};
 use std::alloc::{AllocError, Global};
 use std::fmt::Write;
 use std::test::Fail;
-use test_files::{ARCHIVE, BARE, FILE_A, File, file_c, of_one_record};
+use test_files::{ARCHIVE, BARE, FILE_A, File, file_c, of_one_record, same, same_of};
 
 // What the first bytes hint at.
 fn hint(alloc: Global, bytes: &[u8]) -> Result<String, AllocError> {
@@ -151,7 +152,7 @@ fn hints(rt: HostRuntime) -> Result<(), Fail> {
     for row in HINTS {
         let bytes = row.file.bytes(alloc)?;
         let got = hint(alloc, &bytes)?;
-        assert_eq!(rt; got.as_str(), row.want, "{}", row.name);
+        same_of(&rt, row.name, got.as_str(), row.want);
     }
     Ok(())
 }
@@ -162,45 +163,65 @@ fn rows(rt: HostRuntime) -> Result<(), Fail> {
     for row in FILES {
         let bytes = row.file.bytes(alloc)?;
         let got = opened(alloc, &bytes)?;
-        assert_eq!(rt; got.as_str(), row.want, "{}", row.name);
+        same_of(&rt, row.name, got.as_str(), row.want);
     }
+    Ok(())
+}
+
+#[test]
+fn records_of_one_in_two(rt: HostRuntime) -> Result<(), Fail> {
+    let alloc = rt.alloc();
+    let short = of_one_record(alloc, &[])?;
+    let file = MultiArch::new(alloc, &short)?;
+    answers(&rt, of_cpu(alloc, &file, 7), "0x7 at 0")?;
+    answers(&rt, of_cpu(alloc, &file, 12), "bad offset 28")?;
+    answers(&rt, arches(alloc, &file.arches()), "too short 2 arches")?;
+    Ok(())
+}
+
+#[test]
+fn records_cut(rt: HostRuntime) -> Result<(), Fail> {
+    let alloc = rt.alloc();
+    let longer = of_one_record(alloc, &[0; 12])?;
+    let file = MultiArch::new(alloc, &longer)?;
+    answers(&rt, arches(alloc, &file.arches()), "too big 20 of 12")?;
+    let mut records = file.iter_arches();
+    assert!(rt; matches!(records.next(), Some(Ok(_))));
+    assert!(rt; matches!(records.next(), Some(Err(_))));
+    assert!(rt; records.next().is_none());
     Ok(())
 }
 
 #[test]
 fn records(rt: HostRuntime) -> Result<(), Fail> {
     let alloc = rt.alloc();
-    let short = of_one_record(alloc, &[])?;
-    let file = MultiArch::new(alloc, &short)?;
-    assert_eq!(rt; of_cpu(alloc, &file, 7)?.as_str(), "0x7 at 0");
-    assert_eq!(rt; of_cpu(alloc, &file, 12)?.as_str(), "bad offset 28");
-    assert_eq!(rt;
-        arches(alloc, &file.arches())?.as_str(),
-        "too short 2 arches"
-    );
-    let longer = of_one_record(alloc, &[0; 12])?;
-    let file = MultiArch::new(alloc, &longer)?;
-    assert_eq!(rt; arches(alloc, &file.arches())?.as_str(), "too big 20 of 12");
-    let mut records = file.iter_arches();
-    assert!(rt; matches!(records.next(), Some(Ok(_))));
-    assert!(rt; matches!(records.next(), Some(Err(_))));
-    assert!(rt; records.next().is_none());
+    let c = file_c(alloc)?;
+    let file = MultiArch::new(alloc, &c)?;
+    answers(&rt, of_cpu(alloc, &file, 12), "none")?;
+    answers(
+        &rt,
+        arches(alloc, &file.arches()),
+        "0x1000007 at 48;0x100000c at 424;",
+    )?;
+    Ok(())
+}
+
+#[test]
+fn records_of_too_many(rt: HostRuntime) -> Result<(), Fail> {
+    let alloc = rt.alloc();
     let c = file_c(alloc)?;
     let mut file = MultiArch::new(alloc, &c)?;
-    assert_eq!(rt; of_cpu(alloc, &file, 12)?.as_str(), "none");
-    assert_eq!(rt;
-        arches(alloc, &file.arches())?.as_str(),
-        "0x1000007 at 48;0x100000c at 424;"
-    );
     file.narches = usize::MAX;
-    assert_eq!(rt;
-        arches(alloc, &file.arches())?.as_str(),
-        "too short 18446744073709551615 arches"
-    );
-    assert_eq!(rt;
-        test_texts::entry(alloc, &file.get(usize::MAX - 1))?.as_str(),
-        "bad offset 18446744073709551615"
-    );
+    answers(
+        &rt,
+        arches(alloc, &file.arches()),
+        "too short 18446744073709551615 arches",
+    )?;
+    answers(
+        &rt,
+        test_texts::entry(alloc, &file.get(usize::MAX - 1)),
+        "bad offset 18446744073709551615",
+    )?;
     Ok(())
 }
 
@@ -209,14 +230,17 @@ fn found_entries(rt: HostRuntime) -> Result<(), Fail> {
     let alloc = rt.alloc();
     let c = file_c(alloc)?;
     let file = MultiArch::new(alloc, &c)?;
-    assert_eq!(rt;
-        test_texts::entry(alloc, &file.get(0))?.as_str(),
-        "image 0x100000138"
-    );
-    assert_eq!(rt;
-        test_texts::entry(alloc, &file.get(2))?.as_str(),
-        "malformed"
-    );
+    let first = test_texts::entry(alloc, &file.get(0));
+    answers(&rt, first, "image 0x100000138")?;
+    answers(&rt, test_texts::entry(alloc, &file.get(2)), "malformed")?;
+    Ok(())
+}
+
+#[test]
+fn entries_by_a_condition(rt: HostRuntime) -> Result<(), Fail> {
+    let alloc = rt.alloc();
+    let c = file_c(alloc)?;
+    let file = MultiArch::new(alloc, &c)?;
     let found = file.find(|arch: Read<FatArch>| match arch {
         Ok(arch) => arch.cputype == 0x0100_000c,
         Err(_) => false,
@@ -224,7 +248,7 @@ fn found_entries(rt: HostRuntime) -> Result<(), Fail> {
     let Some(Ok(SingleArch::Archive(bytes))) = found else {
         return Err(Fail::from("an archive"));
     };
-    assert_eq!(rt; bytes, ARCHIVE.as_slice());
+    same(&rt, bytes, ARCHIVE.as_slice());
     let none = file.find(|arch: Read<FatArch>| arch.is_err());
     assert!(rt; none.is_none());
     Ok(())

@@ -5,7 +5,7 @@ use goblin_mach::imports::BindInterpreter;
 use goblin_mach::load_command::DyldInfoCommand;
 use goblin_mach::{LinkView, MachO, MultiArch, SingleArch, link_view};
 use std::test::Fail;
-use test_files::{FILE_B, file_c};
+use test_files::{FILE_B, file_c, same};
 
 // The ranges that file B's command brings.
 fn command() -> DyldInfoCommand {
@@ -24,14 +24,16 @@ fn command() -> DyldInfoCommand {
 fn of_ranges(rt: HostRuntime) -> Result<(), Fail> {
     let alloc = rt.alloc();
     let trie = format!(in alloc; "{:?}", ExportTrie::new(&FILE_B, &command()))?;
-    assert_eq!(rt;
+    same(
+        &rt,
         trie.as_str(),
-        "ExportTrie { bytes: 376 bytes, from: 328, upto: 339 }"
+        "ExportTrie { bytes: 376 bytes, from: 328, upto: 339 }",
     );
     let binds = format!(in alloc; "{:?}", BindInterpreter::new(&FILE_B, &command()))?;
-    assert_eq!(rt;
+    same(
+        &rt,
         binds.as_str(),
-        "BindInterpreter { bytes: 376 bytes, from: 312, upto: 320, lazy_from: 320, lazy_upto: 328 }"
+        "BindInterpreter { bytes: 376 bytes, from: 312, upto: 320, lazy_from: 320, lazy_upto: 328 }",
     );
     Ok(())
 }
@@ -57,7 +59,7 @@ fn of_a_fat_file(rt: HostRuntime) -> Result<(), Fail> {
     assert!(rt; text.as_str().contains("bytes: 440 bytes"));
     let entry: SingleArch<'_> = container.get(1)?;
     let text = format!(in rt.alloc(); "{entry:?}")?;
-    assert_eq!(rt; text.as_str(), "Archive(16 bytes)");
+    same(&rt, text.as_str(), "Archive(16 bytes)");
     let items = link_view(rt.alloc(), bytes.as_slice())?;
     let Some(Ok(LinkView::Archive(archive))) = items.as_slice().last() else {
         assert!(rt; false, "the last item is no archive");
@@ -65,6 +67,6 @@ fn of_a_fat_file(rt: HostRuntime) -> Result<(), Fail> {
     };
     let view: LinkView<'_> = LinkView::Archive(*archive);
     let text = format!(in rt.alloc(); "{view:?}")?;
-    assert_eq!(rt; text.as_str(), "Archive(16 bytes)");
+    same(&rt, text.as_str(), "Archive(16 bytes)");
     Ok(())
 }

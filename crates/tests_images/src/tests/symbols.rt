@@ -2,7 +2,7 @@
 
 use goblin_mach::{Mach, MachO};
 use std::test::Fail;
-use test_files::{FILE_A, FILE_B, image};
+use test_files::{FILE_A, FILE_B, image, same};
 
 #[test]
 fn of_files(rt: HostRuntime) -> Result<(), Fail> {
@@ -12,10 +12,10 @@ fn of_files(rt: HostRuntime) -> Result<(), Fail> {
     let Some(Ok((name, symbol))) = items.next() else {
         return Err(Fail::new("file B has a symbol"));
     };
-    assert_eq!(rt; name, "_main");
-    assert_eq!(rt; symbol.n_value, 0x1_0000_0160);
+    same(&rt, name, "_main");
+    same(&rt, symbol.n_value, 0x1_0000_0160);
     assert!(rt; symbol.is_global());
-    assert_eq!(rt; symbol.type_str(), "N_SECT");
+    same(&rt, symbol.type_str(), "N_SECT");
     assert!(rt; items.next().is_none());
     let file_a = MachO::parse(alloc, &FILE_A, 0)?;
     assert!(rt; file_a.symbols.is_none());
@@ -33,7 +33,11 @@ fn symtab_at_end(rt: HostRuntime) -> Result<(), Fail> {
     let Err(error) = Mach::parse(alloc, &bytes) else {
         return Err(Fail::new("the symbols begin at the end"));
     };
-    assert_eq!(rt; test_texts::error(alloc, &error)?.as_str(), "bad offset 56");
+    same(
+        &rt,
+        test_texts::error(alloc, &error)?.as_str(),
+        "bad offset 56",
+    );
     Ok(())
 }
 
@@ -50,6 +54,6 @@ fn symbols_of_the_last_command(rt: HostRuntime) -> Result<(), Fail> {
     for _ in opened.symbols() {
         count = count.saturating_add(1);
     }
-    assert_eq!(rt; count, 2);
+    same(&rt, count, 2);
     Ok(())
 }

@@ -3,7 +3,7 @@
 use goblin_mach::link_view;
 use std::alloc::{AllocError, Global};
 use std::test::Fail;
-use test_files::{ARCHIVE, BARE, FILE_A, FILE_B, File, file_c};
+use test_files::{ARCHIVE, BARE, FILE_A, FILE_B, File, file_c, same_of};
 
 // The items of a file, or why it has none.
 fn viewed(alloc: Global, bytes: &[u8]) -> Result<String, AllocError> {
@@ -71,7 +71,7 @@ fn rows(rt: HostRuntime) -> Result<(), Fail> {
     for row in ROWS {
         let bytes = row.file.bytes(alloc)?;
         let got = viewed(alloc, &bytes)?;
-        assert_eq!(rt; got.as_str(), row.want, "{}", row.name);
+        same_of(&rt, row.name, got.as_str(), row.want);
     }
     Ok(())
 }

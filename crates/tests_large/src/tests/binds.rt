@@ -7,6 +7,7 @@ use goblin_mach::segment::Segment;
 use std::alloc::{AllocError, Global};
 use std::process::Abort;
 use std::test::Fail;
+use test_files::same;
 
 // A stream that sets the library 1, the name "_a" and the start of segment 0, and then has so many times the
 // same instruction.
@@ -30,15 +31,15 @@ fn binds_at(rt: &impl Abort, alloc: Global, bytes: &[u8], places: [u64; 3]) -> R
     segment.vmsize = 0x2_0000;
     let binds = BindInterpreter::new(bytes, &command);
     let imports = binds.imports(alloc, &["self", "L"], &[segment], Ctx::default())?;
-    assert_eq!(rt; imports.len(), 5000);
+    same(rt, imports.len(), 5000);
     let numbers = [0, 2500, 4999];
     for (number, place) in numbers.iter().zip(&places) {
         let Some(import) = imports.get(*number) else {
             return Err(Fail::from("an import"));
         };
-        assert_eq!(rt; (import.name, import.dylib), ("_a", "L"));
-        assert_eq!(rt; import.offset, *place);
-        assert_eq!(rt; import.address.checked_sub(*place), Some(0x1000));
+        same(rt, (import.name, import.dylib), ("_a", "L"));
+        same(rt, import.offset, *place);
+        same(rt, import.address.checked_sub(*place), Some(0x1000));
     }
     Ok(())
 }

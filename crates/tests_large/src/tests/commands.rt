@@ -5,6 +5,7 @@ use goblin_mach::MachO;
 use goblin_mach::load_command::CommandVariant;
 use std::alloc::{AllocError, Global};
 use std::test::Fail;
+use test_files::same;
 
 // An image of 3,000 commands of 24 bytes each. Command k is the UUID that begins with the number k.
 fn uuids(alloc: Global) -> Result<Vec<u8>, AllocError> {
@@ -30,16 +31,16 @@ fn libraries(alloc: Global) -> Result<Vec<u8>, AllocError> {
 fn commands_of_an_image(rt: HostRuntime) -> Result<(), Fail> {
     let bytes = uuids(rt.alloc())?;
     let image = MachO::parse(rt.alloc(), &bytes, 0)?;
-    assert_eq!(rt; image.load_commands.len(), 3000);
+    same(&rt, image.load_commands.len(), 3000);
     for (number, offset) in [(0u32, 32), (1500, 36_032), (2999, 72_008)] {
         let Some(command) = image.load_commands.get(number as usize) else {
             return Err(Fail::from("a command"));
         };
-        assert_eq!(rt; command.offset, offset);
+        same(&rt, command.offset, offset);
         let CommandVariant::Uuid(held) = command.command else {
             return Err(Fail::from("a UUID"));
         };
-        assert_eq!(rt; &held.uuid[..4], number.to_le_bytes().as_slice());
+        same(&rt, &held.uuid[..4], number.to_le_bytes().as_slice());
     }
     Ok(())
 }
@@ -48,9 +49,9 @@ fn commands_of_an_image(rt: HostRuntime) -> Result<(), Fail> {
 fn libraries_of_an_image(rt: HostRuntime) -> Result<(), Fail> {
     let bytes = libraries(rt.alloc())?;
     let image = MachO::parse(rt.alloc(), &bytes, 0)?;
-    assert_eq!(rt; image.libs.len(), 301);
+    same(&rt, image.libs.len(), 301);
     for (number, name) in [(0, "self"), (1, "0000"), (150, "0149"), (300, "0299")] {
-        assert_eq!(rt; image.libs.get(number).map_or("none", |lib| *lib), name);
+        same(&rt, image.libs.get(number).map_or("none", |lib| *lib), name);
     }
     Ok(())
 }

@@ -5,6 +5,7 @@ use goblin_mach::exports::ExportTrie;
 use goblin_mach::load_command::DyldInfoCommand;
 use std::alloc::{AllocError, Global};
 use std::test::Fail;
+use test_files::same;
 
 // A trie whose root has 5,000 branches of 8 bytes, from 3 on. Child k has 6 bytes, at 40,003 + 6k; its label
 // is the digits of k, and its export's address is k.
@@ -42,19 +43,19 @@ fn along_a_path(alloc: Global) -> Result<Vec<u8>, AllocError> {
 #[test]
 fn exports_below_one_node(rt: HostRuntime) -> Result<(), Fail> {
     let bytes = below_one_node(rt.alloc())?;
-    assert_eq!(rt; bytes.len(), 70_003);
+    same(&rt, bytes.len(), 70_003);
     let command = DyldInfoCommand {
         export_size: 70_003,
         ..DyldInfoCommand::default()
     };
     let exports = ExportTrie::new(&bytes, &command).exports(rt.alloc(), &[])?;
-    assert_eq!(rt; exports.len(), 5000);
+    same(&rt, exports.len(), 5000);
     for (number, name) in [(0, "0000"), (2500, "2500"), (4999, "4999")] {
         let Some(export) = exports.get(number) else {
             return Err(Fail::from("an export"));
         };
-        assert_eq!(rt; export.name.as_str(), name);
-        assert_eq!(rt; export.offset, number as u64);
+        same(&rt, export.name.as_str(), name);
+        same(&rt, export.offset, number as u64);
     }
     Ok(())
 }
@@ -62,20 +63,20 @@ fn exports_below_one_node(rt: HostRuntime) -> Result<(), Fail> {
 #[test]
 fn exports_along_a_path(rt: HostRuntime) -> Result<(), Fail> {
     let bytes = along_a_path(rt.alloc())?;
-    assert_eq!(rt; bytes.len(), 54_995);
+    same(&rt, bytes.len(), 54_995);
     let command = DyldInfoCommand {
         export_size: 54_995,
         ..DyldInfoCommand::default()
     };
     let exports = ExportTrie::new(&bytes, &command).exports(rt.alloc(), &[])?;
-    assert_eq!(rt; exports.len(), 5000);
+    same(&rt, exports.len(), 5000);
     for number in [0, 2500, 4999] {
         let Some(export) = exports.get(number) else {
             return Err(Fail::from("an export"));
         };
-        assert_eq!(rt; export.name.len(), number);
+        same(&rt, export.name.len(), number);
         assert!(rt; export.name.as_bytes().iter().all(|b| *b == 0x61));
-        assert_eq!(rt; export.offset, number as u64);
+        same(&rt, export.offset, number as u64);
     }
     Ok(())
 }

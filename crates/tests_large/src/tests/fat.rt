@@ -4,6 +4,7 @@ use crate::tests::build::{big_words, words};
 use goblin_mach::{LinkView, MultiArch, SingleArch, link_view};
 use std::alloc::{AllocError, Global};
 use std::test::Fail;
+use test_files::same;
 
 // The record of entry k is at 8 + 20k, of the cpu k; its archive has 16 bytes, at 40,008 + 16k, with the
 // number k behind the magic.
@@ -32,13 +33,13 @@ fn records_of_a_fat_file(rt: HostRuntime) -> Result<(), Fail> {
     let bytes = archives(rt.alloc())?;
     let file = MultiArch::new(rt.alloc(), &bytes)?;
     let records = file.arches()?;
-    assert_eq!(rt; records.len(), 2000);
+    same(&rt, records.len(), 2000);
     for (number, offset) in [(0, 40_008), (1000, 56_008), (1999, 71_992)] {
         let Some(record) = records.get(number) else {
             return Err(Fail::from("a record"));
         };
-        assert_eq!(rt; record.cputype as usize, number);
-        assert_eq!(rt; record.offset, offset);
+        same(&rt, record.cputype as usize, number);
+        same(&rt, record.offset, offset);
     }
     Ok(())
 }
@@ -54,12 +55,12 @@ fn entries_of_a_fat_file(rt: HostRuntime) -> Result<(), Fail> {
         };
         found.push(held)?;
     }
-    assert_eq!(rt; found.len(), 2000);
+    same(&rt, found.len(), 2000);
     for number in [0, 1000, 1999] {
         let Some(held) = found.get(number as usize) else {
             return Err(Fail::from("an entry"));
         };
-        assert_eq!(rt; *held, archive(number).as_slice());
+        same(&rt, *held, archive(number).as_slice());
     }
     Ok(())
 }
@@ -68,12 +69,12 @@ fn entries_of_a_fat_file(rt: HostRuntime) -> Result<(), Fail> {
 fn view_of_a_fat_file(rt: HostRuntime) -> Result<(), Fail> {
     let bytes = archives(rt.alloc())?;
     let items = link_view(rt.alloc(), &bytes)?;
-    assert_eq!(rt; items.len(), 2000);
+    same(&rt, items.len(), 2000);
     for number in [0, 1000, 1999] {
         let Some(Ok(LinkView::Archive(held))) = items.get(number as usize) else {
             return Err(Fail::from("an archive"));
         };
-        assert_eq!(rt; *held, archive(number).as_slice());
+        same(&rt, *held, archive(number).as_slice());
     }
     Ok(())
 }

@@ -4,6 +4,7 @@ use crate::tests::build::{header, words};
 use goblin_mach::MachO;
 use std::alloc::{AllocError, Global};
 use std::test::Fail;
+use test_files::same;
 
 // The command of a segment of a page, with so many sections.
 fn push_segment(bytes: &mut Vec<u8>, vmaddr: u32, nsects: u32) -> Result<(), AllocError> {
@@ -56,21 +57,21 @@ fn segments_and_sections(rt: HostRuntime) -> Result<(), Fail> {
     let bytes = segments(rt.alloc())?;
     let image = MachO::parse(rt.alloc(), &bytes, 0)?;
     let segments = image.segments.as_slice();
-    assert_eq!(rt; segments.len(), 300);
+    same(&rt, segments.len(), 300);
     for (number, vmaddr) in [(0, 0), (150, 0x9_6000), (299, 0x12_b000)] {
         let found = segments.get(number).map(|segment| segment.vmaddr);
-        assert_eq!(rt; found, Some(vmaddr));
+        same(&rt, found, Some(vmaddr));
     }
     let Some(segment) = segments.get(150) else {
         return Err(Fail::from("a segment"));
     };
     let sections = segment.sections(rt.alloc())?;
-    assert_eq!(rt; sections.len(), 300);
+    same(&rt, sections.len(), 300);
     for number in [0, 150, 299] {
         let Some((section, _)) = sections.get(number) else {
             return Err(Fail::from("a section"));
         };
-        assert_eq!(rt; section.addr, number as u64);
+        same(&rt, section.addr, number as u64);
     }
     Ok(())
 }
@@ -80,7 +81,7 @@ fn relocations_of_a_section(rt: HostRuntime) -> Result<(), Fail> {
     let bytes = relocations(rt.alloc())?;
     let image = MachO::parse(rt.alloc(), &bytes, 0)?;
     let mut listed = image.relocations(rt.alloc())?;
-    assert_eq!(rt; listed.len(), 1);
+    same(&rt, listed.len(), 1);
     let Some((_, items, _)) = listed.pop() else {
         return Err(Fail::from("a section"));
     };
@@ -88,13 +89,13 @@ fn relocations_of_a_section(rt: HostRuntime) -> Result<(), Fail> {
     for item in items {
         found.push(item?)?;
     }
-    assert_eq!(rt; found.len(), 3000);
+    same(&rt, found.len(), 3000);
     for number in [0, 1500, 2999] {
         let Some(relocation) = found.get(number as usize) else {
             return Err(Fail::from("a relocation"));
         };
-        assert_eq!(rt; relocation.r_address, number);
-        assert_eq!(rt; relocation.r_info, 0x2d00_0001);
+        same(&rt, relocation.r_address, number);
+        same(&rt, relocation.r_info, 0x2d00_0001);
     }
     Ok(())
 }

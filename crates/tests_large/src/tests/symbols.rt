@@ -4,6 +4,7 @@ use crate::tests::build::{digits, header, words};
 use goblin_mach::MachO;
 use std::alloc::{AllocError, Global};
 use std::test::Fail;
+use test_files::same;
 
 // The symbols stand at 56, of 16 bytes each, and their names at 48,056, of 5 bytes each. Symbol k has the value
 // k, and is named by its digits.
@@ -28,13 +29,13 @@ fn symbols_of_an_image(rt: HostRuntime) -> Result<(), Fail> {
     for item in image.symbols() {
         found.push(item?)?;
     }
-    assert_eq!(rt; found.len(), 3000);
+    same(&rt, found.len(), 3000);
     for (number, want) in [(0, "0000"), (1500, "1500"), (2999, "2999")] {
         let Some((name, symbol)) = found.get(number) else {
             return Err(Fail::from("a symbol"));
         };
-        assert_eq!(rt; *name, want);
-        assert_eq!(rt; symbol.n_value, number as u64);
+        same(&rt, *name, want);
+        same(&rt, symbol.n_value, number as u64);
     }
     Ok(())
 }

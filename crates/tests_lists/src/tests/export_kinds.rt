@@ -4,6 +4,7 @@ use mach_base::Error;
 use mach_dyld::exports::{Export, ExportInfo, ExportTrie, SymbolKind};
 use mach_records::DyldInfoCommand;
 use std::test::Fail;
+use test_files::{same, same_of};
 
 #[test]
 fn kinds(rt: HostRuntime) -> Result<(), Fail> {
@@ -13,7 +14,7 @@ fn kinds(rt: HostRuntime) -> Result<(), Fail> {
         (2, "Absolute"),
         (7, "Unknown"),
     ] {
-        assert_eq!(rt; SymbolKind::new(flags).to_str(), name, "{flags:#x}");
+        same_of(&rt, name, SymbolKind::new(flags).to_str(), name);
     }
     assert!(rt; matches!(SymbolKind::new(7), SymbolKind::UnknownSymbolKind(7)));
     Ok(())
@@ -41,7 +42,7 @@ fn infos(rt: HostRuntime) -> Result<(), Fail> {
         assert!(rt; false, "no re-export");
         return Ok(());
     };
-    assert_eq!(rt; (lib, lib_symbol_name, flags), ("L", Some("_a"), 0x0a));
+    same(&rt, (lib, lib_symbol_name, flags), ("L", Some("_a"), 0x0a));
     let ExportInfo::Stub {
         stub_offset,
         resolver_offset,
@@ -51,12 +52,13 @@ fn infos(rt: HostRuntime) -> Result<(), Fail> {
         assert!(rt; false, "no stub");
         return Ok(());
     };
-    assert_eq!(rt; (u64::from(stub_offset), stub_offset.size()), (0xa0, 2));
-    assert_eq!(rt;
+    same(&rt, (u64::from(stub_offset), stub_offset.size()), (0xa0, 2));
+    same(
+        &rt,
         (u64::from(resolver_offset), resolver_offset.size()),
-        (0x30, 1)
+        (0x30, 1),
     );
-    assert_eq!(rt; flags, 0x10);
+    same(&rt, flags, 0x10);
     let past = ExportInfo::parse(&[2, 0], &libs, 8, 0);
     assert!(rt; matches!(&past, Err(Error::Malformed(_))));
     Ok(())
@@ -82,7 +84,7 @@ fn stub(rt: HostRuntime) -> Result<(), Fail> {
         assert!(rt; false, "not one export");
         return Ok(());
     };
-    assert_eq!(rt; (name.as_str(), *size, *offset), ("", 0, 0));
+    same(&rt, (name.as_str(), *size, *offset), ("", 0, 0));
     assert!(rt; matches!(info, ExportInfo::Stub { flags: 0x10, .. }));
     Ok(())
 }

@@ -5,7 +5,7 @@ use goblin_mach::exports::ExportTrie;
 use goblin_mach::load_command::{DyldInfoCommand, LinkeditDataCommand};
 use std::alloc::{AllocError, Global};
 use std::test::Fail;
-use test_files::{EXPORTS, FILE_B};
+use test_files::{EXPORTS, FILE_B, same, same_of};
 
 // The command whose range is all the bytes.
 fn whole(bytes: &[u8]) -> DyldInfoCommand {
@@ -70,7 +70,7 @@ fn rows(rt: HostRuntime) -> Result<(), Fail> {
     let libs = ["self", "/usr/lib/libfoo.dylib"];
     for (name, bytes, want) in ROWS {
         let got = listed(alloc, &ExportTrie::new(bytes, &whole(bytes)), &libs)?;
-        assert_eq!(rt; got.as_str(), want, "{name}");
+        same_of(&rt, name, got.as_str(), want);
     }
     Ok(())
 }
@@ -84,20 +84,22 @@ fn ranges(rt: HostRuntime) -> Result<(), Fail> {
         ..LinkeditDataCommand::default()
     };
     let trie = ExportTrie::new_from_linkedit_data_command(&EXPORTS, &command);
-    assert_eq!(rt;
+    same_of(
+        &rt,
+        "exports_vector",
         listed(alloc, &trie, &[])?.as_str(),
         THREE,
-        "exports_vector"
     );
     let out = DyldInfoCommand {
         export_off: 0xffff_ff00,
         export_size: 0x00ff_ff00,
         ..DyldInfoCommand::default()
     };
-    assert_eq!(rt;
+    same_of(
+        &rt,
+        "trie_range_out",
         listed(alloc, &ExportTrie::new(&[], &out), &[])?.as_str(),
         "",
-        "trie_range_out"
     );
     Ok(())
 }
@@ -106,12 +108,13 @@ fn ranges(rt: HostRuntime) -> Result<(), Fail> {
 fn file_b(rt: HostRuntime) -> Result<(), Fail> {
     let alloc = rt.alloc();
     let image = MachO::parse(alloc, &FILE_B, 0)?;
-    assert_eq!(rt; image.libs.as_slice(), ["self", "L"].as_slice());
+    same(&rt, image.libs.as_slice(), ["self", "L"].as_slice());
     assert!(rt; image.name.is_none());
     let text = test_texts::exports(alloc, &image.exports(alloc)?)?;
-    assert_eq!(rt;
+    same(
+        &rt,
         text.as_str(),
-        "[] regular 0x7 flags 0x0 at 0x7 of 0; [a] regular 0x9 flags 0x0 at 0x9 of 0; "
+        "[] regular 0x7 flags 0x0 at 0x7 of 0; [a] regular 0x9 flags 0x0 at 0x9 of 0; ",
     );
     Ok(())
 }

@@ -13,7 +13,7 @@ use std::alloc::{AllocError, Allocator, Global};
 use std::fmt::Write;
 use std::process::Abort;
 use std::test::Fail;
-use test_files::{EXPORTS, FILE_A, FILE_B, file_c};
+use test_files::{EXPORTS, FILE_A, FILE_B, file_c, same};
 
 // A call that takes memory.
 #[derive(Clone, Copy, Debug)]
@@ -306,6 +306,12 @@ fn segment(vmaddr: u64) -> Segment<'static> {
     segment
 }
 
+// Asserts what a call answers around a growth.
+fn gives(rt: &impl Abort, row: &Row, when: (&str, u64), got: &str, want: &str) {
+    let (place, number) = when;
+    assert_eq!(rt; got, want, "{:?} {place} growth {number}", row.call);
+}
+
 // How many runs of a call are refused, one growth in each.
 fn refused_runs(
     rt: &impl Abort,
@@ -317,32 +323,29 @@ fn refused_runs(
         let heap = Refusing::one(alloc, number);
         let answer = subjects.answer(row.call, &heap, alloc)?;
         if !heap.refused() {
-            assert_eq!(rt; answer.as_str(), row.answer, "{:?}", row.call);
+            gives(rt, row, ("without", number), answer.as_str(), row.answer);
             return Ok(number - 1);
         }
-        assert_eq!(rt;
-            answer.as_str(),
-            row.refused,
-            "{:?}, growth {number}",
-            row.call
-        );
+        gives(rt, row, ("at", number), answer.as_str(), row.refused);
         let again = subjects.answer(row.call, &heap, alloc)?;
-        assert_eq!(rt;
-            again.as_str(),
-            row.answer,
-            "{:?} after growth {number}",
-            row.call
-        );
-        let dry = Refusing::from(alloc, number);
-        let answer = subjects.answer(row.call, &dry, alloc)?;
-        assert_eq!(rt;
-            answer.as_str(),
-            row.refused,
-            "{:?} from growth {number} on",
-            row.call
-        );
+        gives(rt, row, ("after", number), again.as_str(), row.answer);
+        refused_from(rt, alloc, subjects, row, number)?;
     }
     Err(Fail::from("no run without a refusal"))
+}
+
+// Asserts that a call is refused where all growths from a number on are.
+fn refused_from(
+    rt: &impl Abort,
+    alloc: Global,
+    subjects: &Subjects<'_>,
+    row: &Row,
+    number: u64,
+) -> Result<(), AllocError> {
+    let dry = Refusing::from(alloc, number);
+    let answer = subjects.answer(row.call, &dry, alloc)?;
+    gives(rt, row, ("from", number), answer.as_str(), row.refused);
+    Ok(())
 }
 
 #[test]
@@ -372,6 +375,23 @@ fn addresses<A: Allocator>(alloc: Global, list: &Segments<'_, A>) -> Result<Stri
 // The growths of a list to which twelve segments are pushed.
 const GROWTHS_OF_TWELVE: u64 = 3;
 
+// Pushes a segment to a list whose segments are these; 1 where the push is refused and made again, else 0.
+fn pushed<A: Allocator>(
+    rt: &impl Abort,
+    alloc: Global,
+    list: &mut Segments<'static, A>,
+    vmaddr: u64,
+    held: &str,
+) -> Result<u64, Fail> {
+    let Err(error) = list.push(segment(vmaddr)) else {
+        return Ok(0);
+    };
+    assert!(rt; matches!(error, Error::Memory(_)));
+    same(rt, addresses(alloc, list)?.as_str(), held);
+    list.push(segment(vmaddr))?;
+    Ok(1)
+}
+
 #[test]
 fn each_growth_of_a_push_refused(rt: HostRuntime) -> Result<(), Fail> {
     let alloc = rt.alloc();
@@ -381,16 +401,12 @@ fn each_growth_of_a_push_refused(rt: HostRuntime) -> Result<(), Fail> {
         let mut list = Segments::new(&heap, Ctx::default());
         let mut want = String::new(alloc);
         for vmaddr in 0..12 {
-            if let Err(error) = list.push(segment(vmaddr)) {
-                assert!(rt; matches!(error, Error::Memory(_)));
-                assert_eq!(rt; addresses(alloc, &list)?.as_str(), want.as_str());
-                runs = runs.saturating_add(1);
-                list.push(segment(vmaddr))?;
-            }
+            let refused = pushed(&rt, alloc, &mut list, vmaddr, want.as_str())?;
+            runs = runs.saturating_add(refused);
             write!(want, "{vmaddr} of 0x1000;")?;
-            assert_eq!(rt; addresses(alloc, &list)?.as_str(), want.as_str());
+            same(&rt, addresses(alloc, &list)?.as_str(), want.as_str());
         }
     }
-    assert_eq!(rt; runs, GROWTHS_OF_TWELVE);
+    same(&rt, runs, GROWTHS_OF_TWELVE);
     Ok(())
 }

@@ -10,6 +10,7 @@ use mach_records::DyldInfoCommand;
 use std::alloc::{AllocError, Global};
 use std::fmt::Write;
 use std::test::Fail;
+use test_files::{same, same_of};
 
 const LIBS: [&str; 2] = ["self", "L"];
 
@@ -173,7 +174,7 @@ fn rows(rt: HostRuntime) -> Result<(), Fail> {
     for (name, bytes, want) in ROWS {
         let binds = BindInterpreter::new(bytes, &whole(bytes));
         let got = listed(alloc, &binds, &segments, WIDE)?;
-        assert_eq!(rt; got.as_str(), want, "{name}");
+        same_of(&rt, name, got.as_str(), want);
     }
     Ok(())
 }
@@ -184,29 +185,33 @@ fn other_segments_and_widths(rt: HostRuntime) -> Result<(), Fail> {
     let bytes = [0x11, 0x40, 0x5f, 0x61, 0, 0x51, 0x71, 0x10, 0x90, 0];
     let segments = [plain(0x1000), segment(0x1000, 0x1_0000_1000, 0x1000)];
     let binds = BindInterpreter::new(&bytes, &whole(&bytes));
-    assert_eq!(rt;
+    same_of(
+        &rt,
+        "one_bind",
         listed(alloc, &binds, &segments, WIDE)?.as_str(),
         "[_a] L 0x1010 0x100001010 0 0 0; ",
-        "one_bind"
     );
     let bytes = [0x11, 0x70, 0, 0xb2, 0x90];
     let binds = BindInterpreter::new(&bytes, &whole(&bytes));
-    assert_eq!(rt;
+    same_of(
+        &rt,
+        "scaled in 32-bit",
         listed(alloc, &binds, &segments, NARROW)?.as_str(),
         "[] L 0x0 0x0 0 0 0; [] L 0xc 0xc 0 0 0; ",
-        "scaled in 32-bit"
     );
     let bytes = [0x70, 254, 255, 255, 255, 255, 255, 255, 255, 255, 1, 0x90];
     let binds = BindInterpreter::new(&bytes, &whole(&bytes));
-    assert_eq!(rt;
+    same_of(
+        &rt,
+        "the last address of 64 bits",
         listed(alloc, &binds, &[segment(0, 1, u64::MAX)], WIDE)?.as_str(),
         "[] self 0xfffffffffffffffe 0xffffffffffffffff 0 0 0; ",
-        "the last address of 64 bits"
     );
-    assert_eq!(rt;
+    same_of(
+        &rt,
+        "an address past 64 bits",
         listed(alloc, &binds, &[segment(0, 2, u64::MAX)], WIDE)?.as_str(),
         "malformed",
-        "an address past 64 bits"
     );
     Ok(())
 }
@@ -273,7 +278,7 @@ fn one_at_a_time(rt: HostRuntime) -> Result<(), Fail> {
     let bytes = [0x11, 0x70, 0, 0x90, 0x7f, 0, 0x90];
     let binds = BindInterpreter::new(&bytes, &whole(&bytes));
     let text = answers(alloc, binds.iter(&LIBS, &segments, WIDE), 4)?;
-    assert_eq!(rt; text.as_str(), "0x0; malformed; none; none; ");
+    same(&rt, text.as_str(), "0x0; malformed; none; none; ");
     Ok(())
 }
 
@@ -286,7 +291,7 @@ fn one_at_a_time_of_many(rt: HostRuntime) -> Result<(), Fail> {
     ];
     let binds = BindInterpreter::new(&bytes, &whole(&bytes));
     let text = counted(alloc, binds.iter(&LIBS, &segments, WIDE))?;
-    assert_eq!(rt; text.as_str(), "512 malformed");
+    same(&rt, text.as_str(), "512 malformed");
     Ok(())
 }
 
@@ -305,7 +310,7 @@ fn one_at_a_time_by_streams(rt: HostRuntime) -> Result<(), Fail> {
     };
     let binds = BindInterpreter::new(&two, &command);
     let text = answers(alloc, binds.iter(&LIBS, &segments, WIDE), 4)?;
-    assert_eq!(rt; text.as_str(), "0x10; lazy 0x18; none; none; ");
+    same(&rt, text.as_str(), "0x10; lazy 0x18; none; none; ");
     let cut = DyldInfoCommand {
         bind_size: 9,
         lazy_bind_off: 15,
@@ -314,7 +319,7 @@ fn one_at_a_time_by_streams(rt: HostRuntime) -> Result<(), Fail> {
     };
     let binds = BindInterpreter::new(&two, &cut);
     let text = answers(alloc, binds.iter(&LIBS, &segments, WIDE), 4)?;
-    assert_eq!(rt; text.as_str(), "0x10; lazy 0x0; bad offset 16; none; ");
+    same(&rt, text.as_str(), "0x10; lazy 0x0; bad offset 16; none; ");
     Ok(())
 }
 
@@ -324,7 +329,7 @@ fn counted_alike(rt: HostRuntime) -> Result<(), Fail> {
     let binds = BindInterpreter::new(&bytes, &whole(&bytes));
     let mut steps = Steps::new();
     let imports = binds.imports_counted(rt.alloc(), &LIBS, &[plain(0x1000)], WIDE, &mut steps)?;
-    assert_eq!(rt; imports.len(), 4);
+    same(&rt, imports.len(), 4);
     Ok(())
 }
 
@@ -337,10 +342,11 @@ fn ranges(rt: HostRuntime) -> Result<(), Fail> {
         ..DyldInfoCommand::default()
     };
     let binds = BindInterpreter::new(&[0x40, 0x5f, 0x61, 0], &cut);
-    assert_eq!(rt;
+    same_of(
+        &rt,
+        "bind_cut",
         listed(alloc, &binds, &segments, WIDE)?.as_str(),
         "",
-        "bind_cut"
     );
     let two = [
         0x11, 0x40, 0x5f, 0x61, 0, 0x70, 0x10, 0x90, 0x11, 0x41, 0x5f, 0x62, 0, 0x70, 0x18, 0x90,
@@ -352,10 +358,11 @@ fn ranges(rt: HostRuntime) -> Result<(), Fail> {
         ..DyldInfoCommand::default()
     };
     let binds = BindInterpreter::new(&two, &command);
-    assert_eq!(rt;
+    same_of(
+        &rt,
+        "two streams",
         listed(alloc, &binds, &segments, NARROW)?.as_str(),
         "[_a] L 0x10 0x10 0 0 0; [_b] L 0x18 0x18 lazy weak 8 0 0; ",
-        "two streams"
     );
     Ok(())
 }
@@ -365,9 +372,9 @@ fn thousands_of_binds(rt: HostRuntime) -> Result<(), Fail> {
     let bytes = [0x11, 0x70, 0, 0xc0, 0x80, 0x20, 0];
     let binds = BindInterpreter::new(&bytes, &whole(&bytes));
     let imports = binds.imports(rt.alloc(), &LIBS, &[plain(0x8000)], WIDE)?;
-    assert_eq!(rt; imports.len(), 4096);
+    same(&rt, imports.len(), 4096);
     let last = imports.last().map(|import| import.offset);
-    assert_eq!(rt; last, Some(0x7ff8));
+    same(&rt, last, Some(0x7ff8));
     Ok(())
 }
 
@@ -382,11 +389,11 @@ fn refused_memory_is_answered(rt: HostRuntime) -> Result<(), Fail> {
         let heap = LocalHeap::new(rt.alloc(), 16 * size)?;
         match binds.imports(&heap, &LIBS, &segments, WIDE) {
             Ok(imports) => {
-                assert_eq!(rt; imports.len(), 6);
+                same(&rt, imports.len(), 6);
                 answered = answered.saturating_add(1);
             }
             Err(Error::Memory(_)) => {
-                assert_eq!(rt; answered, 0, "more memory is refused");
+                same_of(&rt, "more memory is refused", answered, 0);
                 refused = refused.saturating_add(1);
             }
             Err(_) => assert!(rt; false, "another error with {size} blocks"),
@@ -399,7 +406,11 @@ fn refused_memory_is_answered(rt: HostRuntime) -> Result<(), Fail> {
 
 #[test]
 fn names_of_opcodes(rt: HostRuntime) {
-    assert_eq!(rt; opcode_to_str(0x11), "UNKNOWN OPCODE");
-    assert_eq!(rt; opcode_to_str(0x10), "BIND_OPCODE_SET_DYLIB_ORDINAL_IMM");
-    assert_eq!(rt; opcode_to_str(0xd0), "UNKNOWN OPCODE");
+    same(&rt, opcode_to_str(0x11), "UNKNOWN OPCODE");
+    same(
+        &rt,
+        opcode_to_str(0x10),
+        "BIND_OPCODE_SET_DYLIB_ORDINAL_IMM",
+    );
+    same(&rt, opcode_to_str(0xd0), "UNKNOWN OPCODE");
 }

@@ -7,7 +7,7 @@ use mach_records::DyldInfoCommand;
 use std::alloc::Global;
 use std::fmt::Write;
 use std::test::Fail;
-use test_files::EXPORTS;
+use test_files::{EXPORTS, same, same_of};
 
 // The trie of all the bytes.
 fn trie(bytes: &[u8]) -> ExportTrie<'_> {
@@ -84,7 +84,7 @@ fn lists(rt: HostRuntime) -> Result<(), Fail> {
     let alloc = rt.alloc();
     for (name, bytes, want) in LISTS {
         let got = shown(alloc, bytes)?;
-        assert_eq!(rt; got.as_str(), want, "{name}");
+        same_of(&rt, name, got.as_str(), want);
     }
     Ok(())
 }
@@ -133,7 +133,7 @@ fn refusals(rt: HostRuntime) -> Result<(), Fail> {
     let alloc = rt.alloc();
     for (name, bytes, want) in REFUSALS {
         let got = shown(alloc, bytes)?;
-        assert_eq!(rt; got.as_str(), want, "{name}");
+        same_of(&rt, name, got.as_str(), want);
     }
     Ok(())
 }
@@ -171,9 +171,9 @@ fn chains(rt: HostRuntime) -> Result<(), Fail> {
             assert!(rt; false, "not one export");
             return Ok(());
         };
-        assert_eq!(rt; export.name.len(), count as usize);
+        same(&rt, export.name.len(), count as usize);
         assert!(rt; export.name.as_bytes().iter().all(|b| *b == 0x61));
-        assert_eq!(rt; export.offset, 5);
+        same(&rt, export.offset, 5);
     }
     Ok(())
 }
@@ -199,8 +199,12 @@ fn ladder(alloc: Global, count: u32, width: u32) -> Result<Vec<u8>, Fail> {
 fn ladders(rt: HostRuntime) -> Result<(), Fail> {
     for (count, width, len) in [(10u32, 1u32, 84usize), (40, 2, 404)] {
         let bytes = ladder(rt.alloc(), count, width)?;
-        assert_eq!(rt; bytes.len(), len);
-        assert_eq!(rt; shown(rt.alloc(), bytes.as_slice())?.as_str(), "malformed");
+        same(&rt, bytes.len(), len);
+        same(
+            &rt,
+            shown(rt.alloc(), bytes.as_slice())?.as_str(),
+            "malformed",
+        );
     }
     Ok(())
 }
@@ -214,11 +218,11 @@ fn refused_memory_is_answered(rt: HostRuntime) -> Result<(), Fail> {
         let heap = LocalHeap::new(rt.alloc(), 16 * size)?;
         match trie(bytes.as_slice()).exports(&heap, &[]) {
             Ok(exports) => {
-                assert_eq!(rt; exports.len(), 1);
+                same(&rt, exports.len(), 1);
                 listed = listed.saturating_add(1);
             }
             Err(Error::Memory(_)) => {
-                assert_eq!(rt; listed, 0, "more memory is refused");
+                same_of(&rt, "more memory is refused", listed, 0);
                 refused = refused.saturating_add(1);
             }
             Err(_) => assert!(rt; false, "another error with {size} blocks"),

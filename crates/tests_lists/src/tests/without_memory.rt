@@ -23,7 +23,7 @@ use goblin_mach::{
 };
 use std::alloc::AllocError;
 use std::test::Fail;
-use test_files::{EXPORTS, FILE_A, FILE_B, file_c};
+use test_files::{EXPORTS, FILE_A, FILE_B, file_c, same};
 
 // The state of a thread without words.
 const THREAD: [u8; 16] = [5, 0, 0, 0, 16, 0, 0, 0, 0, 0, 0, 0, 0, 0, 0, 0];
@@ -45,38 +45,44 @@ fn readers_and_writers(rt: HostRuntime) {
     assert!(rt; Header::try_from_ctx(&FILE_A, Ctx::default()).is_ok());
     assert!(rt; header.try_into_ctx(&mut buffer, Ctx::default()).is_ok());
     header.into_ctx(&mut buffer, Ctx::default());
-    assert_eq!(rt; Header::size_with(&Ctx::default()), 32);
+    same(&rt, Header::size_with(&Ctx::default()), 32);
     assert!(rt; take_hint_bytes(&FILE_A).is_some());
     assert!(rt; Endian::from(true).is_little());
     assert!(rt; Container::Big.is_big());
-    assert_eq!(rt; Ctx::new(Container::Little, LE).size(), 4);
+    same(&rt, Ctx::new(Container::Little, LE).size(), 4);
+}
+
+// The number and the size of the command of file A.
+fn command_of_a() -> Read<(u32, usize)> {
+    let found = LoadCommand::parse(&FILE_A, &mut 32, LE)?;
+    Ok((found.command.cmd(), found.command.cmdsize()))
+}
+
+// The instruction pointer of the thread.
+fn pointer() -> Read<u64> {
+    let (thread, _) = ThreadCommand::try_from_ctx(&THREAD, LE)?;
+    thread.instruction_pointer(7)
+}
+
+// Whether the segment of file B has a name, as a command of 64 bits and of 32.
+fn has_names() -> Read<bool> {
+    let wide = SegmentCommand64::read(&FILE_B, 32, LE)?;
+    let narrow = SegmentCommand32::read(&FILE_B, 32, LE)?;
+    Ok(wide.name().is_ok() && narrow.name().is_ok())
 }
 
 #[test]
 fn load_commands(rt: HostRuntime) {
     let versions = VersionMinCommand::new(Platform::Macos);
-    assert!(rt; LoadCommand::parse(&FILE_A, &mut 32, LE).is_ok());
     assert!(rt; CommandVariant::try_from_ctx(&FILE_A[32..], LE).is_ok());
-    assert!(rt;
-        matches!(LoadCommand::parse(&FILE_A, &mut 32, LE), Ok(found) if found.command.cmd() == 0x1b)
-    );
-    assert!(rt;
-        matches!(LoadCommand::parse(&FILE_A, &mut 32, LE), Ok(found) if found.command.cmdsize() == 24)
-    );
-    assert!(rt;
-        matches!(ThreadCommand::try_from_ctx(&THREAD, LE), Ok((thread, _)) if thread.instruction_pointer(7).is_ok())
-    );
-    assert!(rt;
-        matches!(SegmentCommand64::read(&FILE_B, 32, LE), Ok(command) if command.name().is_ok())
-    );
-    assert!(rt;
-        matches!(SegmentCommand32::read(&FILE_B, 32, LE), Ok(command) if command.name().is_ok())
-    );
-    assert_eq!(rt; cmd_to_str(0x1b), "LC_UUID");
+    assert!(rt; matches!(command_of_a(), Ok((0x1b, 24))));
+    assert!(rt; pointer().is_ok());
+    assert!(rt; matches!(has_names(), Ok(true)));
+    same(&rt, cmd_to_str(0x1b), "LC_UUID");
     assert!(rt; Platform::try_from(0x24).is_ok());
     assert!(rt; matches!(versions.platform(), Platform::Macos));
-    assert_eq!(rt; SymtabCommand::new().cmdsize, 24);
-    assert_eq!(rt; DysymtabCommand::new().cmdsize, 80);
+    same(&rt, SymtabCommand::new().cmdsize, 24);
+    same(&rt, DysymtabCommand::new().cmdsize, 80);
 }
 
 #[test]
@@ -86,39 +92,44 @@ fn headers_and_records(rt: HostRuntime) {
         r_address: 4,
         r_info: 0x2d00_0001,
     };
-    assert_eq!(rt; Header32::from_bytes(&[0; 28]).size(), 28);
-    assert_eq!(rt; Header64::from_bytes(&[0; 32]).size(), 32);
-    assert_eq!(rt; Header::from(Header32::from(header)).ncmds, 0);
-    assert_eq!(rt;
+    same(&rt, Header32::from_bytes(&[0; 28]).size(), 28);
+    same(&rt, Header64::from_bytes(&[0; 32]).size(), 32);
+    same(&rt, Header::from(Header32::from(header)).ncmds, 0);
+    same(
+        &rt,
         (header.cputype(), header.cpusubtype(), header.cpu_caps()),
-        (0, 0, 0)
+        (0, 0, 0),
     );
-    assert_eq!(rt;
+    same(
+        &rt,
         (flag_to_str(1), filetype_to_str(1)),
-        ("MH_NOUNDEFS", "OBJECT")
+        ("MH_NOUNDEFS", "OBJECT"),
     );
-    assert_eq!(rt; FatHeader::from_bytes([0; 8]).nfat_arch, 0);
+    same(&rt, FatHeader::from_bytes([0; 8]).nfat_arch, 0);
     assert!(rt; FatHeader::parse(&[0; 8]).is_ok());
     assert!(rt; matches!(FatArch::parse(&[0; 20], 0), Ok(arch) if arch.slice(&FILE_A).is_empty()));
-    assert_eq!(rt;
+    same(
+        &rt,
         (
             FatArch::default().cputype(),
-            FatArch::default().cpusubtype()
+            FatArch::default().cpusubtype(),
         ),
-        (0, 0)
+        (0, 0),
     );
-    assert_eq!(rt;
+    same(
+        &rt,
         (FatArch::default().cpu_caps(), FatArch::default().is_64()),
-        (0, false)
+        (0, false),
     );
-    assert_eq!(rt;
+    same(
+        &rt,
         (bits.r_symbolnum(), bits.r_pcrel(), bits.r_length()),
-        (1, 1, 2)
+        (1, 1, 2),
     );
-    assert_eq!(rt; (bits.r_extern(), bits.r_type()), (1, 2));
+    same(&rt, (bits.r_extern(), bits.r_type()), (1, 2));
     assert!(rt; bits.is_extern() && bits.is_pic());
-    assert_eq!(rt; bits.to_str(0x0100_0007), "X86_64_RELOC_BRANCH");
-    assert_eq!(rt; reloc_to_str(2, 0x0100_0007), "X86_64_RELOC_BRANCH");
+    same(&rt, bits.to_str(0x0100_0007), "X86_64_RELOC_BRANCH");
+    same(&rt, reloc_to_str(2, 0x0100_0007), "X86_64_RELOC_BRANCH");
 }
 
 // The segment of file B.
@@ -136,11 +147,11 @@ fn segments(rt: HostRuntime) -> Result<(), Fail> {
     assert!(rt; Segment::from_64_lossy(&FILE_B, &command, 32, Ctx::default()).is_ok());
     assert!(rt; Segment::from_32(&FILE_B, &narrow, 32, Ctx::default()).is_ok());
     assert!(rt; Segment::from_32_lossy(&FILE_B, &narrow, 32, Ctx::default()).is_ok());
-    assert_eq!(rt; Segment::new(Ctx::default(), &[]).cmdsize, 72);
+    same(&rt, Segment::new(Ctx::default(), &[]).cmdsize, 72);
     assert!(rt; segment.name().is_ok());
     assert!(rt; segment.holds(0xfff));
     let mut sections = (&segment).into_iter();
-    assert_eq!(rt; sections.len(), 1);
+    same(&rt, sections.len(), 1);
     let Some(Ok((section, _))) = sections.next() else {
         return Err(Fail::from("a section"));
     };
@@ -149,7 +160,7 @@ fn segments(rt: HostRuntime) -> Result<(), Fail> {
     let mut relocations = section.iter_relocations(&FILE_B, Ctx::default());
     assert!(rt; matches!(relocations.next(), Some(Ok(_))));
     assert!(rt; relocations.next().is_none());
-    assert_eq!(rt; SegmentCommand64::from(segment).nsects, 1);
+    same(&rt, SegmentCommand64::from(segment).nsects, 1);
     Ok(())
 }
 
@@ -162,12 +173,12 @@ fn lists_of_segments(rt: HostRuntime) -> Result<(), Fail> {
     let asked = heap.asked();
     let mut none = Segments::new(&heap, Ctx::default());
     assert!(rt; none.get_mut(0).is_none());
-    assert_eq!(rt; list.as_slice().len(), 1);
+    same(&rt, list.as_slice().len(), 1);
     assert!(rt; list.iter().next().is_some());
     assert!(rt; (&list).into_iter().next().is_some());
     assert!(rt; list.sections().next().is_some());
     assert!(rt; list.get_mut(0).is_some());
-    assert_eq!(rt; heap.asked(), asked);
+    same(&rt, heap.asked(), asked);
     Ok(())
 }
 
@@ -180,11 +191,18 @@ fn symbols(rt: HostRuntime) -> Result<(), Fail> {
     assert!(rt; matches!(table.iter().next(), Some(Ok(_))));
     assert!(rt; matches!((&table).into_iter().next(), Some(Ok(_))));
     assert!(rt; SymbolIterator::default().next().is_none());
+    Ok(())
+}
+
+#[test]
+fn a_symbol(rt: HostRuntime) -> Result<(), Fail> {
+    let command = SymtabCommand::read(&FILE_B, 264, LE)?;
+    let table = Symbols::parse(&FILE_B, &command, Ctx::default())?;
     let (_, symbol) = table.get(0)?;
-    assert_eq!(rt; (symbol.get_type(), symbol.type_str()), (14, "N_SECT"));
+    same(&rt, (symbol.get_type(), symbol.type_str()), (14, "N_SECT"));
     assert!(rt; symbol.is_global());
     assert!(rt; !symbol.is_weak() && !symbol.is_undefined() && !symbol.is_stab());
-    assert_eq!(rt; n_type_to_str(14), "N_SECT");
+    same(&rt, n_type_to_str(14), "N_SECT");
     Ok(())
 }
 
@@ -196,9 +214,9 @@ fn tries_and_binds(rt: HostRuntime) -> Result<(), Fail> {
     let _ = ExportTrie::new(&FILE_B, &command);
     let _ = ExportTrie::new_from_linkedit_data_command(&FILE_B, &data);
     let info = ExportInfo::parse(&EXPORTS, &[], 0, 0)?;
-    assert_eq!(rt; Export::new(String::new(&heap), info).offset, 0);
-    assert_eq!(rt; opcode_to_str(0), "BIND_OPCODE_DONE");
-    assert_eq!(rt; SymbolKind::new(0).to_str(), "Regular");
+    same(&rt, Export::new(String::new(&heap), info).offset, 0);
+    same(&rt, opcode_to_str(0), "BIND_OPCODE_DONE");
+    same(&rt, SymbolKind::new(0).to_str(), "Regular");
     let binds = BindInterpreter::new(&FILE_B, &command);
     let segments = [segment_of_b()?];
     let mut items = binds.iter(&["self", "L"], &segments, Ctx::default());
@@ -206,7 +224,7 @@ fn tries_and_binds(rt: HostRuntime) -> Result<(), Fail> {
     assert!(rt; matches!(items.next(), Some(Ok(_))));
     assert!(rt; items.next().is_none());
     let _ = Steps::new();
-    assert_eq!(rt; heap.asked(), 0);
+    same(&rt, heap.asked(), 0);
     Ok(())
 }
 
@@ -226,7 +244,7 @@ fn images(rt: HostRuntime) -> Result<(), Fail> {
     assert!(rt; matches!(items.next(), Some(Ok(_))));
     assert!(rt; matches!(items.next(), Some(Ok(_))));
     assert!(rt; items.next().is_none());
-    assert_eq!(rt; heap.asked(), asked);
+    same(&rt, heap.asked(), asked);
     Ok(())
 }
 
@@ -240,13 +258,21 @@ fn fat_files(rt: HostRuntime) -> Result<(), Fail> {
     assert!(rt; peek_bytes(front).is_ok());
     assert!(rt; matches!(Mach::parse(&heap, &fat), Ok(Mach::Fat(_))));
     assert!(rt; matches!(Mach::parse_lossy(&heap, &fat), Ok(Mach::Fat(_))));
+    same(&rt, heap.asked(), 0);
+    Ok(())
+}
+
+#[test]
+fn records_of_fat_files(rt: HostRuntime) -> Result<(), Fail> {
+    let fat = file_c(rt.alloc())?;
+    let heap = Refusing::from(rt.alloc(), 1);
     let container = MultiArch::new(&heap, &fat)?;
     let mut records = container.iter_arches();
     assert!(rt; matches!(records.next(), Some(Ok(_))));
     assert!(rt; matches!(records.next(), Some(Ok(_))));
     assert!(rt; records.next().is_none());
     assert!(rt; matches!(container.find_cputype(0x0100_000c), Ok(Some(_))));
-    assert_eq!(rt; heap.asked(), 0);
+    same(&rt, heap.asked(), 0);
     let entry = container.get(0);
     assert!(rt;
         matches!(entry, Err(Error::Memory(AllocError))),

@@ -5,6 +5,7 @@ use mach_load::{CommandVariant, LoadCommand};
 use mach_records::cputype::CPU_TYPE_X86_64;
 use std::alloc::{AllocError, Global};
 use std::test::Fail;
+use test_files::same;
 
 // A command, its flavor and its count, and so many words that are zero.
 fn thread(alloc: Global, cmdsize: u16, count: u8, words: usize) -> Result<Vec<u8>, AllocError> {
@@ -44,7 +45,7 @@ fn a_command_cut_short(rt: HostRuntime) {
     );
     let past = LoadCommand::parse(&[0x1b, 0, 0, 0, 9, 0, 0, 0], &mut offset, Endian::Little);
     assert!(rt; matches!(past, Err(Error::Malformed(_))));
-    assert_eq!(rt; offset, 0);
+    same(&rt, offset, 0);
 }
 
 #[test]
@@ -70,7 +71,7 @@ fn threads(rt: HostRuntime) -> Result<(), Fail> {
         (&state, CPU_TYPE_X86_64, ("Thread", Some(0x1_0000_0f50))),
     ];
     for (bytes, cputype, answer) in rows {
-        assert_eq!(rt; shown(bytes, cputype), answer);
+        same(&rt, shown(bytes, cputype), answer);
     }
     Ok(())
 }
@@ -79,8 +80,8 @@ fn threads(rt: HostRuntime) -> Result<(), Fail> {
 fn a_command_at_the_front(rt: HostRuntime) -> Result<(), Fail> {
     let bytes = [0x99, 0, 0, 0, 12, 0, 0, 0, 0, 0, 0, 0];
     let (command, width) = CommandVariant::try_from_ctx(&bytes, Endian::Little)?;
-    assert_eq!(rt; command.cmd(), 0x99);
-    assert_eq!(rt; command.cmdsize(), 12);
-    assert_eq!(rt; width, 12);
+    same(&rt, command.cmd(), 0x99);
+    same(&rt, command.cmdsize(), 12);
+    same(&rt, width, 12);
     Ok(())
 }

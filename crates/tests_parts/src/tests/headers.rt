@@ -6,6 +6,7 @@ use mach_parts::header::{
     Header, Header32, Header64, MH_DSYM, MH_MAGIC_64, filetype_to_str, flag_to_str,
 };
 use std::test::Fail;
+use test_files::same;
 
 #[test]
 fn a_header_of_armv7(rt: HostRuntime) -> Result<(), Fail> {
@@ -16,12 +17,12 @@ fn a_header_of_armv7(rt: HostRuntime) -> Result<(), Fail> {
     ];
     let ctx = Ctx::new(Container::Little, Endian::Little);
     let header: Header = pread_with(&bytes, 0, ctx)?;
-    assert_eq!(rt; header.cputype(), 12);
-    assert_eq!(rt; header.cpusubtype(), 9);
-    assert_eq!(rt; header.filetype, MH_DSYM);
-    assert_eq!(rt; filetype_to_str(header.filetype), "DSYM");
-    assert_eq!(rt; header.ncmds, 6);
-    assert_eq!(rt; header.sizeofcmds, 3468);
+    same(&rt, header.cputype(), 12);
+    same(&rt, header.cpusubtype(), 9);
+    same(&rt, header.filetype, MH_DSYM);
+    same(&rt, filetype_to_str(header.filetype), "DSYM");
+    same(&rt, header.ncmds, 6);
+    same(&rt, header.sizeofcmds, 3468);
     Ok(())
 }
 
@@ -29,10 +30,10 @@ fn a_header_of_armv7(rt: HostRuntime) -> Result<(), Fail> {
 fn a_new_header_is_written(rt: HostRuntime) -> Result<(), Fail> {
     let header = Header::new(Ctx::default());
     let mut bytes = [1; 32];
-    assert_eq!(rt; header.try_into_ctx(&mut bytes, Ctx::default())?, 32);
+    same(&rt, header.try_into_ctx(&mut bytes, Ctx::default())?, 32);
     let mut bare = [0; 32];
     bare[..4].copy_from_slice(&[0xcf, 0xfa, 0xed, 0xfe]);
-    assert_eq!(rt; bytes, bare);
+    same(&rt, bytes, bare);
     let mut short = [1; 31];
     let answer = header.try_into_ctx(&mut short, Ctx::default());
     assert!(rt;
@@ -41,7 +42,7 @@ fn a_new_header_is_written(rt: HostRuntime) -> Result<(), Fail> {
             Err(Error::Scroll(ScrollError::TooBig { size: 32, len: 31 }))
         )
     );
-    assert_eq!(rt; short, [1; 31]);
+    same(&rt, short, [1; 31]);
     Ok(())
 }
 
@@ -51,18 +52,18 @@ fn forms_of_a_header(rt: HostRuntime) {
     header.ncmds = 0x1_0000_0002;
     header.cpusubtype = 0x8000_0003;
     header.reserved = 7;
-    assert_eq!(rt; Header32::from(header).ncmds, 2);
-    assert_eq!(rt; Header64::from(header).reserved, 7);
-    assert_eq!(rt; Header::from(Header32::from(header)).reserved, 0);
-    assert_eq!(rt; header.cpusubtype(), 3);
-    assert_eq!(rt; header.cpu_caps(), 0x80);
+    same(&rt, Header32::from(header).ncmds, 2);
+    same(&rt, Header64::from(header).reserved, 7);
+    same(&rt, Header::from(Header32::from(header)).reserved, 0);
+    same(&rt, header.cpusubtype(), 3);
+    same(&rt, header.cpu_caps(), 0x80);
     let magic = [0xcf, 0xfa, 0xed, 0xfe];
     let mut bytes = [0; 32];
     bytes[..4].copy_from_slice(&magic);
-    assert_eq!(rt; Header64::from_bytes(&bytes).magic, MH_MAGIC_64);
-    assert_eq!(rt; flag_to_str(0x0020_0000), "MH_PIE");
-    assert_eq!(rt; flag_to_str(3), "UNKNOWN FLAG");
-    assert_eq!(rt; flag_to_str(0x800), "MH_PREBINDABLE");
+    same(&rt, Header64::from_bytes(&bytes).magic, MH_MAGIC_64);
+    same(&rt, flag_to_str(0x0020_0000), "MH_PIE");
+    same(&rt, flag_to_str(3), "UNKNOWN FLAG");
+    same(&rt, flag_to_str(0x800), "MH_PREBINDABLE");
 }
 
 #[test]
@@ -73,19 +74,20 @@ fn fat_records(rt: HostRuntime) -> Result<(), Fail> {
         1, 0, 0, 7, 0x80, 0, 0, 3, 0, 0, 0, 28, 0, 0, 0, 4, 0, 0, 0, 2,
     ]);
     bytes[28..].copy_from_slice(&[1, 2, 3, 4]);
-    assert_eq!(rt; FatHeader::parse(&bytes)?.nfat_arch, 2);
-    assert_eq!(rt;
+    same(&rt, FatHeader::parse(&bytes)?.nfat_arch, 2);
+    same(
+        &rt,
         FatHeader::from_bytes([0xca, 0xfe, 0xba, 0xbe, 0, 0, 0, 2]).magic,
-        0xcafe_babe
+        0xcafe_babe,
     );
     let mut arch = FatArch::parse(&bytes, 8)?;
     assert!(rt; arch.is_64());
-    assert_eq!(rt; arch.cputype(), 0x0100_0007);
-    assert_eq!(rt; arch.cpusubtype(), 3);
-    assert_eq!(rt; arch.cpu_caps(), 0x80);
-    assert_eq!(rt; arch.slice(&bytes), [1, 2, 3, 4].as_slice());
+    same(&rt, arch.cputype(), 0x0100_0007);
+    same(&rt, arch.cpusubtype(), 3);
+    same(&rt, arch.cpu_caps(), 0x80);
+    same(&rt, arch.slice(&bytes), [1, 2, 3, 4].as_slice());
     arch.size = 5;
-    assert_eq!(rt; arch.slice(&bytes).len(), 0);
+    same(&rt, arch.slice(&bytes).len(), 0);
     assert!(rt;
         matches!(
             FatArch::parse(&bytes, 28),

@@ -13,6 +13,7 @@ use mach_base::{
 };
 use std::alloc::AllocError;
 use std::test::Fail;
+use test_files::same;
 
 // The kind of an error, with its numbers.
 #[derive(Clone, Copy, Debug, PartialEq)]
@@ -121,11 +122,11 @@ fn uleb128_vectors(rt: HostRuntime) -> Result<()> {
     ] {
         let mut offset = 0;
         let value = Uleb128::read(bytes, &mut offset)?;
-        assert_eq!(rt; (value, offset), (want, after));
-        assert_eq!(rt; quick_uleb(bytes, 0), Some((want, after)));
+        same(&rt, (value, offset), (want, after));
+        same(&rt, quick_uleb(bytes, 0), Some((want, after)));
         let spelled = Uleb128::parse(bytes, 0)?;
-        assert_eq!(rt; u64::from(spelled), want);
-        assert_eq!(rt; spelled.size(), after);
+        same(&rt, u64::from(spelled), want);
+        same(&rt, spelled.size(), after);
     }
     Ok(())
 }
@@ -151,10 +152,10 @@ fn sleb128_vectors(rt: HostRuntime) -> Result<()> {
     ] {
         let mut offset = 0;
         let value = Sleb128::read(bytes, &mut offset)?;
-        assert_eq!(rt; (value, offset), (want, after));
+        same(&rt, (value, offset), (want, after));
         let spelled = Sleb128::parse(bytes, 0)?;
-        assert_eq!(rt; i64::from(spelled), want);
-        assert_eq!(rt; spelled.size(), after);
+        same(&rt, i64::from(spelled), want);
+        same(&rt, spelled.size(), after);
     }
     Ok(())
 }
@@ -176,35 +177,39 @@ fn leb128_refusals(rt: HostRuntime) {
         ),
     ] {
         let mut offset = 0;
-        assert_eq!(rt;
+        same(
+            &rt,
             Uleb128::read(bytes, &mut offset).map_err(kind_of),
-            Err(want)
+            Err(want),
         );
-        assert_eq!(rt; quick_uleb(bytes, 0), None);
-        assert_eq!(rt;
+        same(&rt, quick_uleb(bytes, 0), None);
+        same(
+            &rt,
             Sleb128::read(bytes, &mut offset).map_err(kind_of),
-            Err(want)
+            Err(want),
         );
-        assert_eq!(rt; offset, 0);
+        same(&rt, offset, 0);
     }
 }
 
 #[test]
 fn texts(rt: HostRuntime) -> Result<()> {
-    assert_eq!(rt; read_text(b"ab", 0)?, "ab");
-    assert_eq!(rt; read_text(b"ab\0c", 1)?, "b");
-    assert_eq!(rt; read_text(&[0xc3, 0xa9, 0], 0)?, "é");
-    assert_eq!(rt; quick_text(b"ab\0c", 0), Some("ab"));
-    assert_eq!(rt; quick_text(&[0xc3, 0xa9, 0], 0), Some("é"));
-    assert_eq!(rt; quick_text(&[0xff, 0], 0), None);
-    assert_eq!(rt; quick_text(b"ab", 2), None);
-    assert_eq!(rt;
+    same(&rt, read_text(b"ab", 0)?, "ab");
+    same(&rt, read_text(b"ab\0c", 1)?, "b");
+    same(&rt, read_text(&[0xc3, 0xa9, 0], 0)?, "é");
+    same(&rt, quick_text(b"ab\0c", 0), Some("ab"));
+    same(&rt, quick_text(&[0xc3, 0xa9, 0], 0), Some("é"));
+    same(&rt, quick_text(&[0xff, 0], 0), None);
+    same(&rt, quick_text(b"ab", 2), None);
+    same(
+        &rt,
         read_text(b"ab", 2).map(str::len).map_err(kind_of),
-        Err(Kind::BadOffset(2))
+        Err(Kind::BadOffset(2)),
     );
-    assert_eq!(rt;
+    same(
+        &rt,
         read_text(&[0xff, 0], 0).map(str::len).map_err(kind_of),
-        Err(Kind::BadInput(2))
+        Err(Kind::BadInput(2)),
     );
     Ok(())
 }
@@ -212,31 +217,34 @@ fn texts(rt: HostRuntime) -> Result<()> {
 #[test]
 fn contexts(rt: HostRuntime) {
     let ctx = Ctx::default();
-    assert_eq!(rt; ctx, Ctx::new(Container::Big, Endian::from(true)));
+    same(&rt, ctx, Ctx::new(Container::Big, Endian::from(true)));
     assert!(rt; ctx.is_big() && ctx.container.is_big() && ctx.le.is_little());
-    assert_eq!(rt; ctx.size(), 8);
-    assert_eq!(rt; Ctx::new(Container::Little, BE).size(), 4);
-    assert_eq!(rt;
+    same(&rt, ctx.size(), 8);
+    same(&rt, Ctx::new(Container::Little, BE).size(), 4);
+    same(
+        &rt,
         kind_of(Error::from(ScrollError::BadOffset(7))),
-        Kind::BadOffset(7)
+        Kind::BadOffset(7),
     );
 }
 
 #[test]
 fn reads_at_an_offset(rt: HostRuntime) -> Result<()> {
-    assert_eq!(rt; pread_with::<Pair, Endian>(&BYTES, 1, LE)?, LITTLE);
-    assert_eq!(rt; pread_with::<Pair, Endian>(&BYTES, 1, BE)?, BIG);
+    same(&rt, pread_with::<Pair, Endian>(&BYTES, 1, LE)?, LITTLE);
+    same(&rt, pread_with::<Pair, Endian>(&BYTES, 1, BE)?, BIG);
     for (offset, want) in [(8, Kind::BadOffset(8)), (3, Kind::TooBig(6, 5))] {
         let mut place = offset;
-        assert_eq!(rt;
+        same(
+            &rt,
             pread_with::<Pair, Endian>(&BYTES, offset, LE).map_err(kind_of),
-            Err(want)
+            Err(want),
         );
-        assert_eq!(rt;
+        same(
+            &rt,
             gread_with::<Pair, Endian>(&BYTES, &mut place, LE).map_err(kind_of),
-            Err(want)
+            Err(want),
         );
-        assert_eq!(rt; place, offset);
+        same(&rt, place, offset);
     }
     Ok(())
 }
@@ -244,39 +252,42 @@ fn reads_at_an_offset(rt: HostRuntime) -> Result<()> {
 #[test]
 fn reads_on(rt: HostRuntime) -> Result<()> {
     let mut offset = 1;
-    assert_eq!(rt;
+    same(
+        &rt,
         gread_with::<Pair, Endian>(&BYTES, &mut offset, LE)?,
-        LITTLE
+        LITTLE,
     );
-    assert_eq!(rt; offset, 7);
+    same(&rt, offset, 7);
     let held: Held<'_> = gread_with(&BYTES, &mut offset, usize::MAX - 7)?;
-    assert_eq!(rt; held.bytes, [7].as_slice());
-    assert_eq!(rt; offset, usize::MAX);
+    same(&rt, held.bytes, [7].as_slice());
+    same(&rt, offset, usize::MAX);
     offset = 7;
     let past: Result<Held<'_>> = gread_with(&BYTES, &mut offset, usize::MAX - 6);
-    assert_eq!(rt;
+    same(
+        &rt,
         past.map(|held| held.bytes.len()).map_err(kind_of),
-        Err(Kind::Malformed)
+        Err(Kind::Malformed),
     );
-    assert_eq!(rt; offset, 7);
+    same(&rt, offset, 7);
     Ok(())
 }
 
 #[test]
 fn writes_at_an_offset(rt: HostRuntime) -> Result<()> {
     let mut bytes = [0xff; 8];
-    assert_eq!(rt; pwrite_with(&mut bytes, BIG, 1, BE)?, 6);
-    assert_eq!(rt; bytes, [0xff, 1, 2, 3, 4, 5, 6, 0xff]);
-    assert_eq!(rt; pwrite_with(&mut bytes, LITTLE, 1, LE)?, 6);
-    assert_eq!(rt; bytes, [0xff, 1, 2, 3, 4, 5, 6, 0xff]);
+    same(&rt, pwrite_with(&mut bytes, BIG, 1, BE)?, 6);
+    same(&rt, bytes, [0xff, 1, 2, 3, 4, 5, 6, 0xff]);
+    same(&rt, pwrite_with(&mut bytes, LITTLE, 1, LE)?, 6);
+    same(&rt, bytes, [0xff, 1, 2, 3, 4, 5, 6, 0xff]);
     for (offset, want) in [(8, Kind::BadOffset(8)), (3, Kind::TooBig(6, 5))] {
-        assert_eq!(rt;
+        same(
+            &rt,
             pwrite_with(&mut bytes, BIG, offset, LE).map_err(kind_of),
-            Err(want)
+            Err(want),
         );
-        assert_eq!(rt; bytes, [0xff, 1, 2, 3, 4, 5, 6, 0xff]);
+        same(&rt, bytes, [0xff, 1, 2, 3, 4, 5, 6, 0xff]);
     }
-    assert_eq!(rt; written_and_read(BIG, &mut bytes, 2, LE)?, BIG);
+    same(&rt, written_and_read(BIG, &mut bytes, 2, LE)?, BIG);
     Ok(())
 }
 
@@ -294,7 +305,7 @@ fn written_again<T: IntoCtx<C> + SizeWith<C> + Copy, C: Copy>(
 
 #[test]
 fn writes_by_bounds(rt: HostRuntime) -> Result<()> {
-    assert_eq!(rt; written_again(BIG, BE)?, ([1, 2, 3, 4, 5, 6, 0, 0], 6));
+    same(&rt, written_again(BIG, BE)?, ([1, 2, 3, 4, 5, 6, 0, 0], 6));
     Ok(())
 }
 
@@ -328,9 +339,10 @@ fn errors_in_words(rt: HostRuntime) -> Result<()> {
         (Error::from(AllocError), "out of memory"),
     ];
     for (error, want) in &rows {
-        assert_eq!(rt;
+        same(
+            &rt,
             format!(in rt.alloc(); "{}", describe(error))?.as_str(),
-            *want
+            *want,
         );
     }
     Ok(())
@@ -348,7 +360,7 @@ fn bytes_are_counted(rt: HostRuntime) -> std::result::Result<(), Fail> {
     ] {
         let held = ByteCount(bytes.get(..length).unwrap_or(&[]));
         let shown = format!(in rt.alloc(); "{held:?}")?;
-        assert_eq!(rt; shown.as_str(), want);
+        same(&rt, shown.as_str(), want);
     }
     Ok(())
 }

@@ -8,14 +8,15 @@ use mach_records::{
 };
 use std::process::Abort;
 use std::test::Fail;
+use test_files::same;
 
 // The record at the front of some bytes, which is written back as it stood.
 fn read_and_write<R: Record>(rt: &impl Abort, bytes: &[u8], le: Endian) -> Result<R, Fail> {
     let record = R::read(bytes, 0, le)?;
     let mut written = [0xff; 80];
-    assert_eq!(rt; record.write(&mut written, 0, le)?, R::SIZE);
-    assert_eq!(rt; bytes.len(), R::SIZE);
-    assert_eq!(rt; &written[..R::SIZE], bytes);
+    same(rt, record.write(&mut written, 0, le)?, R::SIZE);
+    same(rt, bytes.len(), R::SIZE);
+    same(rt, &written[..R::SIZE], bytes);
     Ok(record)
 }
 
@@ -26,7 +27,11 @@ fn records_in_both_orders(rt: HostRuntime) -> Result<(), Fail> {
         ([0, 0, 0, 0x10, 0x12, 0x34, 0, 1], BE),
     ] {
         let entry: DataInCodeEntry = read_and_write(&rt, &bytes, le)?;
-        assert_eq!(rt; (entry.offset, entry.length, entry.kind), (0x10, 0x1234, 1));
+        same(
+            &rt,
+            (entry.offset, entry.length, entry.kind),
+            (0x10, 0x1234, 1),
+        );
     }
     for (header, le) in [
         ([0x1b, 0, 0, 0, 0x18, 0, 0, 0], LE),
@@ -36,8 +41,8 @@ fn records_in_both_orders(rt: HostRuntime) -> Result<(), Fail> {
         bytes[..8].copy_from_slice(&header);
         bytes[8..].copy_from_slice(b"0123456789abcdef");
         let command: UuidCommand = read_and_write(&rt, &bytes, le)?;
-        assert_eq!(rt; (command.cmd, command.cmdsize), (0x1b, 24));
-        assert_eq!(rt; command.uuid, *b"0123456789abcdef");
+        same(&rt, (command.cmd, command.cmdsize), (0x1b, 24));
+        same(&rt, command.uuid, *b"0123456789abcdef");
     }
     Ok(())
 }
@@ -47,7 +52,7 @@ fn name_of_segment(rt: HostRuntime) -> Result<(), Fail> {
     let mut bytes = [0; 56];
     bytes[8..14].copy_from_slice(b"__TEXT");
     let segment: SegmentCommand32 = read_and_write(&rt, &bytes, LE)?;
-    assert_eq!(rt; segment.name()?, "__TEXT");
+    same(&rt, segment.name()?, "__TEXT");
     Ok(())
 }
 
@@ -55,11 +60,12 @@ fn name_of_segment(rt: HostRuntime) -> Result<(), Fail> {
 fn platforms(rt: HostRuntime) -> Result<(), Fail> {
     for cmd in [0x24, 0x25, 0x2f, 0x30] {
         let command = VersionMinCommand::new(Platform::try_from(cmd)?);
-        assert_eq!(rt;
+        same(
+            &rt,
             (command.cmd, command.cmdsize, command.version),
-            (cmd, 16, 0)
+            (cmd, 16, 0),
         );
-        assert_eq!(rt; command.platform() as u32, cmd);
+        same(&rt, command.platform() as u32, cmd);
     }
     assert!(rt; matches!(Platform::try_from(0x32), Err(Error::Malformed(_))));
     Ok(())
@@ -68,11 +74,15 @@ fn platforms(rt: HostRuntime) -> Result<(), Fail> {
 #[test]
 fn new_commands(rt: HostRuntime) {
     let symtab = SymtabCommand::default();
-    assert_eq!(rt; (symtab.cmd, symtab.cmdsize, symtab.strsize), (2, 24, 0));
+    same(
+        &rt,
+        (symtab.cmd, symtab.cmdsize, symtab.strsize),
+        (2, 24, 0),
+    );
     let dysymtab = DysymtabCommand::default();
-    assert_eq!(rt; dysymtab.cmd, 0xb);
-    assert_eq!(rt; dysymtab.cmdsize as usize, SIZEOF_DYSYMTAB_COMMAND);
-    assert_eq!(rt; DyldInfoCommand::default().export_size, 0);
+    same(&rt, dysymtab.cmd, 0xb);
+    same(&rt, dysymtab.cmdsize as usize, SIZEOF_DYSYMTAB_COMMAND);
+    same(&rt, DyldInfoCommand::default().export_size, 0);
 }
 
 #[test]
@@ -82,8 +92,8 @@ fn command_text(rt: HostRuntime) -> Result<(), Fail> {
         cmdsize: 24,
     };
     let text = format!(in rt.alloc(); "{header}")?;
-    assert_eq!(rt; text.as_str(), "LoadCommandHeader: LC_UUID size: 24");
-    assert_eq!(rt; cmd_to_str(LC_RPATH), "LC_RPATH");
-    assert_eq!(rt; cmd_to_str(0x1c), "LC_UNKNOWN");
+    same(&rt, text.as_str(), "LoadCommandHeader: LC_UUID size: 24");
+    same(&rt, cmd_to_str(LC_RPATH), "LC_RPATH");
+    same(&rt, cmd_to_str(0x1c), "LC_UNKNOWN");
     Ok(())
 }

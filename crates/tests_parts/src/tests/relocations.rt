@@ -8,6 +8,7 @@ use mach_records::cputype::{
     CPU_TYPE_X86_64,
 };
 use std::test::Fail;
+use test_files::same;
 
 #[test]
 fn relocation_bits(rt: HostRuntime) {
@@ -15,14 +16,14 @@ fn relocation_bits(rt: HostRuntime) {
         r_address: 0,
         r_info: 0x2d00_0001,
     };
-    assert_eq!(rt; branch.r_symbolnum(), 1);
-    assert_eq!(rt; branch.r_pcrel(), 1);
-    assert_eq!(rt; branch.r_length(), 2);
-    assert_eq!(rt; branch.r_extern(), 1);
-    assert_eq!(rt; branch.r_type(), 2);
+    same(&rt, branch.r_symbolnum(), 1);
+    same(&rt, branch.r_pcrel(), 1);
+    same(&rt, branch.r_length(), 2);
+    same(&rt, branch.r_extern(), 1);
+    same(&rt, branch.r_type(), 2);
     assert!(rt; branch.is_extern());
     assert!(rt; branch.is_pic());
-    assert_eq!(rt; branch.to_str(CPU_TYPE_X86_64), "X86_64_RELOC_BRANCH");
+    same(&rt, branch.to_str(CPU_TYPE_X86_64), "X86_64_RELOC_BRANCH");
 }
 
 #[test]
@@ -35,7 +36,7 @@ fn names_of_types(rt: HostRuntime) {
         (5, CPU_TYPE_X86, "GENERIC_RELOC_TLV"),
         (0, CPU_TYPE_POWERPC, "BAD_CPUTYPE"),
     ] {
-        assert_eq!(rt; reloc_to_str(reloc, cputype), name);
+        same(&rt, reloc_to_str(reloc, cputype), name);
     }
 }
 
@@ -47,10 +48,14 @@ fn bytes_of_a_relocation(rt: HostRuntime) -> Result<(), Fail> {
         ([0x80, 0, 0, 0, 0x2d, 0, 0, 1], BE, i32::MIN),
     ] {
         let found = RelocationInfo::read(&bytes, 0, le)?;
-        assert_eq!(rt; (found.r_address, found.r_info), (address, 0x2d00_0001));
+        same(&rt, (found.r_address, found.r_info), (address, 0x2d00_0001));
         let mut written = [0; SIZEOF_RELOCATION_INFO];
-        assert_eq!(rt; found.write(&mut written, 0, le)?, SIZEOF_RELOCATION_INFO);
-        assert_eq!(rt; written, bytes);
+        same(
+            &rt,
+            found.write(&mut written, 0, le)?,
+            SIZEOF_RELOCATION_INFO,
+        );
+        same(&rt, written, bytes);
     }
     Ok(())
 }
@@ -75,14 +80,14 @@ fn a_copy_of_relocations_goes_on(rt: HostRuntime) -> Result<(), Fail> {
         ..Section::default()
     };
     let mut items = section.iter_relocations(&THREE, Ctx::default());
-    assert_eq!(rt; address(&mut items), Some(1));
+    same(&rt, address(&mut items), Some(1));
     let mut copy = items.clone()?;
-    assert_eq!(rt; address(&mut items), Some(2));
-    assert_eq!(rt; address(&mut items), Some(3));
-    assert_eq!(rt; address(&mut items), None);
-    assert_eq!(rt; copy.len(), 2);
-    assert_eq!(rt; address(&mut copy), Some(2));
-    assert_eq!(rt; address(&mut copy), Some(3));
-    assert_eq!(rt; address(&mut copy), None);
+    same(&rt, address(&mut items), Some(2));
+    same(&rt, address(&mut items), Some(3));
+    same(&rt, address(&mut items), None);
+    same(&rt, copy.len(), 2);
+    same(&rt, address(&mut copy), Some(2));
+    same(&rt, address(&mut copy), Some(3));
+    same(&rt, address(&mut copy), None);
     Ok(())
 }

@@ -7,8 +7,9 @@ use mach_base::{
 use mach_parts::laws::section_written_and_read;
 use mach_parts::segment::{Section, SectionData, Segment, Segments};
 use mach_records::{LC_SEGMENT, Section32, SegmentCommand32, SegmentCommand64};
+use std::process::Abort;
 use std::test::Fail;
-use test_files::FILE_B;
+use test_files::{FILE_B, same};
 
 // The one segment of file B.
 fn segment_of_file_b() -> Result<Segment<'static>, Error> {
@@ -19,22 +20,33 @@ fn segment_of_file_b() -> Result<Segment<'static>, Error> {
 #[test]
 fn segment_of_a_known_image(rt: HostRuntime) -> Result<(), Fail> {
     let segment = segment_of_file_b()?;
-    assert_eq!(rt; segment.name()?, "__TEXT");
-    assert_eq!(rt; segment.bytes, FILE_B.as_slice());
+    same(&rt, segment.name()?, "__TEXT");
+    same(&rt, segment.bytes, FILE_B.as_slice());
     let sections = segment.sections(rt.alloc())?;
-    assert_eq!(rt; sections.len(), 1);
-    let (section, code) = &sections[0];
-    assert_eq!(rt; (section.name()?, section.segname()?), ("__text", "__TEXT"));
-    assert_eq!(rt;
+    let [(section, code)] = sections.as_slice() else {
+        return Err(Fail::from("one section"));
+    };
+    same(
+        &rt,
         *code,
-        [0x11, 0x40, 0x5f, 0x61, 0x00, 0x70, 0x10, 0x90].as_slice()
+        [0x11, 0x40, 0x5f, 0x61, 0x00, 0x70, 0x10, 0x90].as_slice(),
+    );
+    is_section_of_file_b(&rt, section)
+}
+
+// Asserts the names and the relocation of a section.
+fn is_section_of_file_b(rt: &impl Abort, section: &Section) -> Result<(), Fail> {
+    same(
+        rt,
+        (section.name()?, section.segname()?),
+        ("__text", "__TEXT"),
     );
     let mut relocations = section.iter_relocations(&FILE_B, Ctx::default());
     let Some(found) = relocations.next() else {
         return Err(Fail::from("a relocation"));
     };
     let found = found?;
-    assert_eq!(rt; (found.r_address, found.r_info), (4, 0x2d00_0001));
+    same(rt, (found.r_address, found.r_info), (4, 0x2d00_0001));
     assert!(rt; relocations.next().is_none());
     Ok(())
 }
@@ -51,12 +63,12 @@ fn segment_shown(rt: HostRuntime) -> Result<(), Fail> {
     let alloc = rt.alloc();
     let segment = segment_of_file_b()?;
     let shown = format!(in alloc; "{segment:?}")?;
-    assert_eq!(rt; shown.as_str(), SHOWN);
+    same(&rt, shown.as_str(), SHOWN);
     let mut segments = Segments::new(alloc, Ctx::default());
     segments.push(segment)?;
     let shown = format!(in alloc; "{segments:?}")?;
     let want = format!(in alloc; "Segments {{ segments: [{SHOWN}] }}")?;
-    assert_eq!(rt; shown.as_str(), want.as_str());
+    same(&rt, shown.as_str(), want.as_str());
     Ok(())
 }
 
@@ -75,13 +87,13 @@ fn sections_left(rt: HostRuntime) -> Result<(), Fail> {
     let mut segment = segment_of_file_b()?;
     segment.nsects = 2;
     let mut sections = (&segment).into_iter();
-    assert_eq!(rt; sections.len(), 2);
+    same(&rt, sections.len(), 2);
     assert!(rt; matches!(sections.next(), Some(Ok(_))));
-    assert_eq!(rt; sections.len(), 1);
+    same(&rt, sections.len(), 1);
     let mut copy = sections.clone()?;
-    assert_eq!(rt; copy.size_hint(), (1, Some(1)));
-    assert_eq!(rt; address(sections.next()), Some(0x30_8000_0022));
-    assert_eq!(rt; address(copy.next()), Some(0x30_8000_0022));
+    same(&rt, copy.size_hint(), (1, Some(1)));
+    same(&rt, address(sections.next()), Some(0x30_8000_0022));
+    same(&rt, address(copy.next()), Some(0x30_8000_0022));
     assert!(rt; copy.next().is_none());
     Ok(())
 }
@@ -91,7 +103,7 @@ fn unreadable_sections(rt: HostRuntime) -> Result<(), Fail> {
     let mut segment = segment_of_file_b()?;
     segment.nsects = u32::MAX;
     let sections = (&segment).into_iter();
-    assert_eq!(rt; sections.len(), 4_294_967_295);
+    same(&rt, sections.len(), 4_294_967_295);
     assert!(rt;
         matches!(
             segment.sections(rt.alloc()),
@@ -108,7 +120,7 @@ fn relocations_past_the_end(rt: HostRuntime) -> Result<(), Fail> {
     section.reloff = 368;
     let mut relocations = section.iter_relocations(&FILE_B, Ctx::default());
     assert!(rt; matches!(relocations.next(), Some(Ok(_))));
-    assert_eq!(rt; relocations.size_hint(), (1, Some(1)));
+    same(&rt, relocations.size_hint(), (1, Some(1)));
     let again = relocations.clone()?;
     assert!(rt;
         matches!(
@@ -118,7 +130,7 @@ fn relocations_past_the_end(rt: HostRuntime) -> Result<(), Fail> {
     );
     assert!(rt; relocations.next().is_none());
     assert!(rt; relocations.next().is_none());
-    assert_eq!(rt; (relocations.len(), again.len()), (0, 1));
+    same(&rt, (relocations.len(), again.len()), (0, 1));
     Ok(())
 }
 
@@ -131,12 +143,12 @@ fn high_section() -> Section {
 
 #[test]
 fn low_bits_of_an_address(rt: HostRuntime) -> Result<(), Fail> {
-    assert_eq!(rt; Section32::from(high_section()).addr, 1);
+    same(&rt, Section32::from(high_section()).addr, 1);
     let mut bytes = [0; 84];
     let narrow = Ctx::new(Container::Little, LE);
-    assert_eq!(rt; pwrite_with(&mut bytes, high_section(), 4, narrow)?, 68);
+    same(&rt, pwrite_with(&mut bytes, high_section(), 4, narrow)?, 68);
     let again: Section = pread_with(&bytes, 4, narrow)?;
-    assert_eq!(rt; again.addr, 1);
+    same(&rt, again.addr, 1);
     Ok(())
 }
 
@@ -145,9 +157,9 @@ fn section_written(rt: HostRuntime) -> Result<(), Fail> {
     let mut bytes = [7; 81];
     let wide = Ctx::new(Container::Big, BE);
     let again = section_written_and_read(high_section(), &mut bytes, wide)?;
-    assert_eq!(rt; again.addr, 0x1_0000_0001);
-    assert_eq!(rt; &bytes[32..40], [0, 0, 0, 1, 0, 0, 0, 1].as_slice());
-    assert_eq!(rt; bytes[80], 7);
+    same(&rt, again.addr, 0x1_0000_0001);
+    same(&rt, &bytes[32..40], [0, 0, 0, 1, 0, 0, 0, 1].as_slice());
+    same(&rt, bytes[80], 7);
     let mut short = [7; 79];
     assert!(rt;
         matches!(
@@ -155,7 +167,7 @@ fn section_written(rt: HostRuntime) -> Result<(), Fail> {
             Err(Error::Scroll(ScrollError::TooBig { size: 80, len: 79 }))
         )
     );
-    assert_eq!(rt; short, [7; 79]);
+    same(&rt, short, [7; 79]);
     Ok(())
 }
 
@@ -171,7 +183,7 @@ fn data_out_of_bounds(rt: HostRuntime) -> Result<(), Fail> {
         )
     );
     let lossy = Segment::from_64_lossy(&FILE_B, &command, 32, Ctx::default())?;
-    assert_eq!(rt; (lossy.bytes.len(), lossy.fileoff), (0, 0xffff));
+    same(&rt, (lossy.bytes.len(), lossy.fileoff), (0, 0xffff));
     command.filesize = 0;
     assert!(rt;
         Segment::from_64(&FILE_B, &command, 32, Ctx::default())?
@@ -185,24 +197,27 @@ fn data_out_of_bounds(rt: HostRuntime) -> Result<(), Fail> {
 fn new_segment_of_32_bits(rt: HostRuntime) -> Result<(), Fail> {
     let narrow = Ctx::new(Container::Little, LE);
     let segment = Segment::new(narrow, &FILE_B[..68]);
-    assert_eq!(rt;
+    same(
+        &rt,
         (segment.cmd, segment.cmdsize, segment.bytes.len()),
-        (LC_SEGMENT, 124, 68)
+        (LC_SEGMENT, 124, 68),
     );
-    assert_eq!(rt; (&segment).into_iter().len(), 0);
+    same(&rt, (&segment).into_iter().len(), 0);
     let mut bytes = [0xff; 60];
-    assert_eq!(rt; segment.try_into_ctx(&mut bytes, narrow)?, 56);
+    same(&rt, segment.try_into_ctx(&mut bytes, narrow)?, 56);
     let (command, width) = SegmentCommand32::try_from_ctx(&bytes, LE)?;
-    assert_eq!(rt;
+    same(
+        &rt,
         (command.cmd, command.cmdsize, width),
-        (LC_SEGMENT, 124, 56)
+        (LC_SEGMENT, 124, 56),
     );
-    assert_eq!(rt; &bytes[56..], [0xff; 4].as_slice());
+    same(&rt, &bytes[56..], [0xff; 4].as_slice());
     let lossy = Segment::from_32_lossy(&FILE_B, &command, 0, narrow)?;
-    assert_eq!(rt; (lossy.cmdsize, lossy.bytes.len()), (124, 0));
-    assert_eq!(rt;
+    same(&rt, (lossy.cmdsize, lossy.bytes.len()), (124, 0));
+    same(
+        &rt,
         Segment::from_32(&FILE_B, &command, 0, narrow)?.cmdsize,
-        124
+        124,
     );
     Ok(())
 }
@@ -217,16 +232,16 @@ fn segments_in_order(rt: HostRuntime) -> Result<(), Fail> {
         first.vmsize = 7;
     }
     assert!(rt; segments.get_mut(2).is_none());
-    assert_eq!(rt; segments.iter().count(), 2);
+    same(&rt, segments.iter().count(), 2);
     for segment in &segments {
-        assert_eq!(rt; segment.filesize, segment.bytes.len() as u64);
+        same(&rt, segment.filesize, segment.bytes.len() as u64);
     }
     let mut sections = segments.sections();
-    assert_eq!(rt; sections.next().map(|found| found.len()), Some(0));
-    assert_eq!(rt; sections.next().map(|found| found.len()), Some(1));
+    same(&rt, sections.next().map(|found| found.len()), Some(0));
+    same(&rt, sections.next().map(|found| found.len()), Some(1));
     assert!(rt; sections.next().is_none());
     let mut sizes = segments.iter();
-    assert_eq!(rt; sizes.next().map_or(0, |s| s.vmsize), 7);
-    assert_eq!(rt; sizes.next().map_or(0, |s| s.vmsize), 0x1000);
+    same(&rt, sizes.next().map_or(0, |s| s.vmsize), 7);
+    same(&rt, sizes.next().map_or(0, |s| s.vmsize), 0x1000);
     Ok(())
 }

@@ -5,7 +5,7 @@ use mach_parts::laws::symbols_counted;
 use mach_parts::symbols::{N_SECT, Nlist, SymbolIterator, Symbols, SymbolsCtx};
 use mach_records::SymtabCommand;
 use std::test::Fail;
-use test_files::FILE_B;
+use test_files::{FILE_B, same};
 
 // The command of its symbols, said to be so many.
 fn command(nsyms: u32) -> SymtabCommand {
@@ -32,21 +32,25 @@ fn the_symbol_of_file_b(rt: HostRuntime) -> std::result::Result<(), Fail> {
     {
         let symbols = Symbols::parse(&bytes, &command(1), Ctx::default())?;
         let (name, symbol) = symbols.get(0)?;
-        assert_eq!(rt; name, "_main");
-        assert_eq!(rt; symbol.n_value, 0x1_0000_0160);
-        assert_eq!(rt; symbol.get_type(), N_SECT);
-        assert_eq!(rt; symbol.type_str(), "N_SECT");
+        same(&rt, name, "_main");
+        same(&rt, symbol.n_value, 0x1_0000_0160);
+        same(&rt, symbol.get_type(), N_SECT);
+        same(&rt, symbol.type_str(), "N_SECT");
         assert!(rt; symbol.is_global());
         assert!(rt; !symbol.is_weak());
         assert!(rt; !symbol.is_undefined());
         assert!(rt; !symbol.is_stab());
-        assert_eq!(rt; missed(symbols.get(1)), Some((0, 16, 8)));
-        assert_eq!(rt; missed(symbols.get(2)), Some((384, 0, 0)));
-        assert_eq!(rt; missed(symbols.get(usize::MAX)), Some((usize::MAX, 0, 0)));
+        same(&rt, missed(symbols.get(1)), Some((0, 16, 8)));
+        same(&rt, missed(symbols.get(2)), Some((384, 0, 0)));
+        same(
+            &rt,
+            missed(symbols.get(usize::MAX)),
+            Some((usize::MAX, 0, 0)),
+        );
     }
     bytes[352] = 8;
     let symbols = Symbols::parse(&bytes, &command(1), Ctx::default())?;
-    assert_eq!(rt; missed(symbols.get(0)), Some((376, 0, 0)));
+    same(&rt, missed(symbols.get(0)), Some((376, 0, 0)));
     Ok(())
 }
 
@@ -65,7 +69,7 @@ fn exactly_as_many_as_said(rt: HostRuntime) -> std::result::Result<(), Fail> {
             good = 1;
         }
     }
-    assert_eq!(rt; good, 1);
+    same(&rt, good, 1);
     assert!(rt; SymbolIterator::default().next().is_none());
     Ok(())
 }
@@ -73,15 +77,15 @@ fn exactly_as_many_as_said(rt: HostRuntime) -> std::result::Result<(), Fail> {
 #[test]
 fn how_many_symbols_are_left(rt: HostRuntime) -> std::result::Result<(), Fail> {
     let symbols = Symbols::parse(&FILE_B, &command(3), Ctx::default())?;
-    assert_eq!(rt; symbols.iter().count(), 3);
-    assert_eq!(rt; symbols_counted(&symbols), 3);
+    same(&rt, symbols.iter().count(), 3);
+    same(&rt, symbols_counted(&symbols), 3);
     let mut items = symbols.iter();
     let _ = items.next();
-    assert_eq!(rt; items.size_hint(), (2, Some(2)));
+    same(&rt, items.size_hint(), (2, Some(2)));
     let again = items.clone()?;
-    assert_eq!(rt; items.count(), 2);
-    assert_eq!(rt; again.len(), 2);
-    assert_eq!(rt; SymbolIterator::default().len(), 0);
+    same(&rt, items.count(), 2);
+    same(&rt, again.len(), 2);
+    same(&rt, SymbolIterator::default().len(), 0);
     Ok(())
 }
 
@@ -104,15 +108,15 @@ fn name<'a>(items: &mut SymbolIterator<'a>) -> Option<&'a str> {
 fn a_copy_of_symbols_goes_on(rt: HostRuntime) -> std::result::Result<(), Fail> {
     let symbols = Symbols::new(&THREE, 0, 3, 48)?;
     let mut items = symbols.iter();
-    assert_eq!(rt; name(&mut items), Some("_a"));
+    same(&rt, name(&mut items), Some("_a"));
     let mut copy = items.clone()?;
-    assert_eq!(rt; name(&mut items), Some("_b"));
-    assert_eq!(rt; name(&mut items), Some("_c"));
-    assert_eq!(rt; name(&mut items), None);
-    assert_eq!(rt; copy.len(), 2);
-    assert_eq!(rt; name(&mut copy), Some("_b"));
-    assert_eq!(rt; name(&mut copy), Some("_c"));
-    assert_eq!(rt; name(&mut copy), None);
+    same(&rt, name(&mut items), Some("_b"));
+    same(&rt, name(&mut items), Some("_c"));
+    same(&rt, name(&mut items), None);
+    same(&rt, copy.len(), 2);
+    same(&rt, name(&mut copy), Some("_b"));
+    same(&rt, name(&mut copy), Some("_c"));
+    same(&rt, name(&mut copy), None);
     Ok(())
 }
 
@@ -120,10 +124,11 @@ fn a_copy_of_symbols_goes_on(rt: HostRuntime) -> std::result::Result<(), Fail> {
 fn symbols_shown(rt: HostRuntime) -> std::result::Result<(), Fail> {
     let symbols = Symbols::parse(&FILE_B, &command(1), Ctx::default())?;
     let shown = format!(in rt.alloc(); "{symbols:?}")?;
-    assert_eq!(rt;
+    same(
+        &rt,
         shown.as_str(),
         "Symbols { bytes: 376 bytes, start: 352, nsyms: 1, strtab: 368, \
-         ctx: Ctx { container: Big, le: Little } }"
+         ctx: Ctx { container: Big, le: Little } }",
     );
     Ok(())
 }
@@ -149,13 +154,13 @@ fn tables(rt: HostRuntime) -> std::result::Result<(), Fail> {
         )
     );
     let (name, _) = Symbols::new(&FILE_B, 352, 1, 368)?.get(0)?;
-    assert_eq!(rt; name, "_main");
+    same(&rt, name, "_main");
     let ctx = SymbolsCtx {
         nsyms: 1,
         strtab: 16,
         ctx: Ctx::default(),
     };
     let behind: Symbols = pread_with(&FILE_B, 352, ctx)?;
-    assert_eq!(rt; behind.get(0)?.0, "_main");
+    same(&rt, behind.get(0)?.0, "_main");
     Ok(())
 }

@@ -1,5 +1,5 @@
-use Rattle.std.proofs.Common.{◌≡◌, ◌<◌, ◌^◌, ℕ, zero, suc, List, [], ◌∷◌, map, length, get_or, arith}
-use Rattle.mach_base.specs.Record.{Field, num, number_is, AllFit}
+use Rattle.std.proofs.Common.{◌<◌, ◌^◌, ℕ, suc, List, [], ◌∷◌, map, length, get_or, arith}
+use Rattle.mach_base.specs.Record.{num, number_is, AllFit}
 use Rattle.mach_records.proofs.numbers.u32s.Goals as goal
 
 all_fit : (xs : List ℕ) → ((k : ℕ) → k < length xs → get_or xs k 0 < 256 ^ 4) → AllFit (map (λ _. num 4) xs) (map number_is xs)
