@@ -18,3 +18,4 @@ pub mod FatRecords
 pub mod FatEntries
 pub mod Views
 pub mod WholeFiles
+pub mod Walked

@@ -23,7 +23,7 @@ use Rattle.mach_dyld.specs.BindItems.{AreBindItems}
 use Rattle.mach_dyld.specs.Imports.{BindRanges, Import, ListsImports, bind_ranges, input_in}
 use Rattle.mach_dyld.specs.Streams.{Placed}
 use Rattle.mach_dyld.specs.Trie.{Entry}
-use Rattle.mach_dyld.specs.TrieRange.{TrieRange, range_in, ListsExports, ExportsFault}
+use Rattle.mach_dyld.specs.TrieRange.{TrieRange, empty_range, range_in, ListsExports, ExportsFault}
 use Rattle.goblin_mach.specs.Readings.{Reading, read_of, last_of}
 
 -- the five commands that bring a library in
@@ -124,6 +124,11 @@ trie_in bytes cs = last_of (read_of (trie_by bytes) cs)
 abbrev pub ListsImageExports : Option TrieRange → List (List ℕ) → List Entry → Type 0
 ListsImageExports None libs list = list ≡ []
 ListsImageExports (Some t) libs list = ListsExports t libs list
+
+-- where an image's trie lies; in no bytes where it has none
+abbrev pub trie_or_empty : Option TrieRange → TrieRange
+trie_or_empty None = empty_range
+trie_or_empty (Some t) = t
 
 -- how many bytes the range of an image's trie has
 abbrev pub trie_len : Option TrieRange → ℕ

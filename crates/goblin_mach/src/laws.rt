@@ -8,17 +8,18 @@ pub use crate::image::facts::{
     commands_of_image, entry_point_of_image, exports_of_image, import_items_of_image,
     imports_of_image, libraries_of_image, links_of_image, name_of_image, relocations_of_image,
     run_paths_of_image, segments_of_image, strict_image_is_lossy, symbols_of_image,
+    walked_exports_of_image,
 };
 pub use crate::image::laws::{
     lossy_agrees, new_header_recognised, one_chain, strict_opens_lossily,
 };
 pub use mach_base::laws::{one_signed_spelling, one_spelling, record_at_an_offset};
 pub use mach_dyld::laws::{
-    adds_binds, blocked_root_has_no_list, cuts_behind_done, exports_of_terminal_paths,
-    faulty_binds_have_no_list, faulty_tries_have_no_list, import_lies_in_its_segment,
-    imports_lie_in_segments, items_lie_in_segments, lists_by_stream, lists_within_levels,
-    looks_back, one_list, one_list_of_imports, other_binds_have_a_list, other_roots_have_lists,
-    other_tries_have_a_list, visits_of_paths, visits_within_nodes,
+    adds_binds, beginning_of_the_list, blocked_root_has_no_list, cuts_behind_done,
+    exports_of_terminal_paths, faulty_binds_have_no_list, faulty_tries_have_no_list,
+    import_lies_in_its_segment, imports_lie_in_segments, items_lie_in_segments, lists_by_stream,
+    lists_within_levels, looks_back, one_list, one_list_of_imports, other_binds_have_a_list,
+    other_roots_have_lists, other_tries_have_a_list, visits_of_paths, visits_within_nodes,
 };
 pub use mach_parts::laws::{
     bits_together, relocations_by_number, section_written_and_read, sections_by_number,

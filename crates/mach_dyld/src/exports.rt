@@ -4,7 +4,7 @@ ghost use Rattle.std.specs.Prelude.{◌≡◌, ◌≤◌, ◌<◌, ◌+◌, ◌-
 ghost use Rattle.mach_base.specs.Answer.{Stands, IsOkUnlessMemory};
 ghost use Rattle.mach_dyld.specs.Trie.{Entry, offset_of};
 ghost use Rattle.mach_dyld.specs.Exports.{texts, info_of, entries};
-ghost use Rattle.mach_dyld.specs.TrieRange.{range_in, trie_there, ListsExports, ExportsFault};
+ghost use Rattle.mach_dyld.specs.TrieRange.{empty_range, range_in, trie_there, ListsExports, ExportsFault};
 ghost use Rattle.mach_dyld.specs.Visits.{Visits};
 ghost use Rattle.mach_dyld.specs.Walks.{HasGiven};
 
@@ -102,6 +102,17 @@ impl<'a> ExportTrie<'a> {
         ensures { result ≡ range_in bytes.now command.now.dataoff command.now.datasize }
     {
         ExportTrie::in_range(bytes, command.dataoff, command.datasize)
+    }
+
+    /// The trie of no bytes, which has no exports.
+    pub fn empty() -> Self
+        ensures { result ≡ empty_range }
+    {
+        ExportTrie {
+            bytes: &[],
+            from: 0,
+            upto: 0,
+        }
     }
 
     // The trie in so many bytes from an offset on; an empty one where they don't lie in the bytes.

@@ -14,7 +14,8 @@ ghost use Rattle.mach_parts.specs.Segments.{segments_in};
 ghost use Rattle.mach_parts.specs.declared.symbols.nlist.Nlist.{Nlist};
 ghost use Rattle.goblin_mach.specs.EntryPoint.{EntryPoint};
 ghost use Rattle.goblin_mach.specs.Facts.{HasCommands, HasSymbols, HasSegments, HasRelocations, HasName, HasLibraries, HasRunPaths, HasEntryPoint, HasExports, HasExportsFault, HasImports, HasImportsFault, HasImportItems};
-ghost use Rattle.goblin_mach.specs.Subjects.{ListsImageImports, ImageImportsFault, AreImageBindItems, ListsImageExports, ImageExportsFault, symbols_held};
+ghost use Rattle.mach_dyld.specs.TrieRange.{ListsExports, ExportsFault};
+ghost use Rattle.goblin_mach.specs.Subjects.{ListsImageImports, ImageImportsFault, AreImageBindItems, ListsImageExports, ImageExportsFault, trie_or_empty, symbols_held};
 ghost use Rattle.goblin_mach.specs.OpenImage.{IsImage, IsLossyImage, commands_held, segments_held, trie_held, binds_held, ctx_held, bytes_held};
 ghost use Rattle.goblin_mach.specs.Relocations.{RelocatedSection, relocated_sections_in};
 ghost use Rattle.goblin_mach.specs.View.{LinksImage, LinksFault, FaultHeld};
@@ -83,6 +84,15 @@ pub fn exports_of_image<A: Allocator>(image: &MachO<'_, A>)
     ensures lossy { (bytes : List ℕ) (o : ℕ) → IsLossyImage bytes o image.now → (list : List trie.Entry) → HasExports bytes o list ↔ ListsImageExports (trie_held image.now) (texts image.now.libs.items) list }
     ensures strict_faults { (bytes : List ℕ) (o : ℕ) → IsImage bytes o image.now → (f : Fault) → HasExportsFault bytes o f ↔ ImageExportsFault (trie_held image.now) (texts image.now.libs.items) f }
     ensures lossy_faults { (bytes : List ℕ) (o : ℕ) → IsLossyImage bytes o image.now → (f : Fault) → HasExportsFault bytes o f ↔ ImageExportsFault (trie_held image.now) (texts image.now.libs.items) f }
+{}
+
+/// What a walk of `MachO::walk_exports` says at its end, or by an error, is so of the bytes: what it gave is
+/// the list of the image's exports, or the fault stands in its trie.
+pub fn walked_exports_of_image<A: Allocator>(image: &MachO<'_, A>)
+    ensures strict { (bytes : List ℕ) (o : ℕ) → IsImage bytes o image.now → (list : List trie.Entry) → ListsExports (trie_or_empty (trie_held image.now)) (texts image.now.libs.items) list → HasExports bytes o list }
+    ensures lossy { (bytes : List ℕ) (o : ℕ) → IsLossyImage bytes o image.now → (list : List trie.Entry) → ListsExports (trie_or_empty (trie_held image.now)) (texts image.now.libs.items) list → HasExports bytes o list }
+    ensures strict_faults { (bytes : List ℕ) (o : ℕ) → IsImage bytes o image.now → (f : Fault) → ExportsFault (trie_or_empty (trie_held image.now)) (texts image.now.libs.items) f → HasExportsFault bytes o f }
+    ensures lossy_faults { (bytes : List ℕ) (o : ℕ) → IsLossyImage bytes o image.now → (f : Fault) → ExportsFault (trie_or_empty (trie_held image.now)) (texts image.now.libs.items) f → HasExportsFault bytes o f }
 {}
 
 /// The imports that `MachO::imports` lists, and the faults that it reports, are those of the bytes.

@@ -1,15 +1,16 @@
 //! One image.
 
-ghost use Rattle.std.specs.Prelude.{◌≡◌, ◌↔◌, ◌<◌, ◌≤◌, ◌^◌, length, List, IsTrue, IfOk, IfErr};
+ghost use Rattle.std.specs.Prelude.{◌≡◌, ◌↔◌, ◌<◌, ◌≤◌, ◌^◌, [], length, List, IsTrue, IfOk, IfErr};
 ghost use Rattle.mach_base.specs.Answer.{Stands, IsOkUnlessMemory};
 ghost use Rattle.mach_base.specs.Context.{pointer_size};
 ghost use Rattle.mach_dyld.specs.BindViews.{imports_seen};
 ghost use Rattle.mach_dyld.specs.Exports.{texts, entries};
 ghost use Rattle.mach_dyld.specs.Imports as binds;
 ghost use Rattle.mach_dyld.specs.Trie.{Entry};
+ghost use Rattle.mach_dyld.specs.Walks.{HasGiven};
 ghost use Rattle.mach_parts.specs.Segments.{segments_in};
 ghost use Rattle.goblin_mach.specs.Image.{Opens, LossyOpens, ImageFault, LossyFault};
-ghost use Rattle.goblin_mach.specs.Subjects.{ListsImageImports, ImageImportsFault, ListsImageExports, ImageExportsFault, trie_len};
+ghost use Rattle.goblin_mach.specs.Subjects.{ListsImageImports, ImageImportsFault, ListsImageExports, ImageExportsFault, trie_len, trie_or_empty};
 
 mod debug;
 
@@ -17,7 +18,7 @@ use crate::image::fields::Fields;
 use crate::image::opened::Opened;
 use crate::image::relocations::{RelocatedSection, relocations};
 use mach_base::{Ctx, Result};
-use mach_dyld::exports::{Export, ExportTrie};
+use mach_dyld::exports::{Export, ExportTrie, ExportWalk};
 use mach_dyld::imports::{BindInterpreter, BindIterator, Import};
 use mach_load::LoadCommand;
 use mach_parts::header::{Header, MH_OBJECT};
@@ -153,6 +154,22 @@ impl<'a, A: Allocator> MachO<'a, A> {
         match &self.export_trie {
             Some(trie) => trie.exports(alloc, self.libs.as_slice()),
             None => Ok(Vec::new(alloc)),
+        }
+    }
+
+    /// The exports of the image one at a time, over the libraries that it holds, in the order of `exports`; none where
+    /// no command brings a trie. `next` lends each name until it is called again. It takes a mark for each byte of the
+    /// trie, the open nodes and one name, and no allocation for an export.
+    pub fn walk_exports<'b, B: Allocator + Clone>(
+        &'b self,
+        alloc: B,
+    ) -> Result<ExportWalk<'a, 'b, B>>
+        ensures given { IfOk result (λ w. HasGiven (trie_or_empty (trie_held self.now)) (texts self.now.libs.items) [] w) }
+        ensures memory { IsOkUnlessMemory result }
+    {
+        match &self.export_trie {
+            Some(trie) => trie.walk(alloc, self.libs.as_slice()),
+            None => ExportTrie::empty().walk(alloc, self.libs.as_slice()),
         }
     }
 
