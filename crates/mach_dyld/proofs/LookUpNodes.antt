@@ -13,7 +13,16 @@ use Rattle.mach_dyld.specs.LookUpViews.{OwnEnds, node_behind, IsPassed}
 use Rattle.mach_dyld.specs.WalkViews.{node_in, own_in}
 unfoldable use Rattle.mach_dyld.specs.Nodes.{children_at, terminal_at, inner_at, node_at}
 use Rattle.mach_dyld.specs.declared.walk.Source.{Source}
-use Rattle.mach_dyld.proofs.NodeOpened.{FailsAs-first}
+use Rattle.mach_base.specs.declared.error.Error.TheVariants as errors
+
+-- an error of one thing is one of what follows from it
+pub FailsAs-first : {X Y : Type 0} (e : Error) (first : Result X Fault) (all : Result Y Fault) → ((f : Fault) → first ≡ Err f → all ≡ Err f) → FailsAs e first
+    → FailsAs e all
+FailsAs-first (errors.Malformed msg) first all same fails = same _ fails
+FailsAs-first (errors.BadMagic magic) first all same fails = same _ fails
+FailsAs-first (errors.Scroll f) first all same fails = same _ fails
+FailsAs-first (errors.BufferTooShort count what) first all same fails = same _ fails
+FailsAs-first (errors.Memory f) first all same fails = tt
 
 pub none_left_of : (xs : List ℕ) → true ≡ eqb (length xs) 0 → xs ≡ []
 none_left_of xs e = nil_from_length xs (eqb-true (length xs) 0 (sym e))

@@ -3,20 +3,22 @@ use Rattle.std.proofs.Common.{◌≡◌, ◌<◌, ◌≤◌, ◌-◌, ℕ, suc, 
 use Rattle.mach_base.specs.Fault.{Fault}
 use Rattle.mach_dyld.specs.Trie.{Info, Branch}
 use Rattle.mach_dyld.specs.Nodes.{branch_at, branches_at}
-use Rattle.mach_dyld.specs.NodeViews.{branches_of, those_read, AreReadable}
+use Rattle.mach_dyld.specs.NodeViews.{those_read}
+use Rattle.mach_dyld.specs.BranchViews.{branches_of, IsReadable}
 use Rattle.mach_dyld.specs.Finds.{BranchesFind, at_nothing, passed, gone_back}
 use Rattle.mach_dyld.specs.LookUpViews.{Settles, Stops}
 use Rattle.mach_dyld.specs.WalkViews.{source_trie}
-use Rattle.mach_dyld.specs.declared.node.Branches.{Branches}
+use Rattle.mach_dyld.specs.declared.branches.BranchRun.{BranchRun}
 use Rattle.mach_dyld.specs.declared.walk.Source.{Source}
 use Rattle.mach_dyld.proofs.Beginnings.{begins_or_not}
-use Rattle.mach_dyld.proofs.BranchAgain.{first_branch, next_branch, no_branch}
+use Rattle.mach_dyld.proofs.BranchAgain.{first_branch, no_branch}
+use Rattle.mach_dyld.proofs.LookUpBranches.{next_left}
 use Rattle.mach_dyld.proofs.TriePaths.{drop_head}
 
 pub readable_as : (r : Result (List Branch) Fault) (bs : List Branch) → r ≡ Ok bs → (r ≡ Ok (those_read r)) × (those_read r ≡ bs)
 readable_as r bs e = let same : those_read r ≡ bs = ap those_read e in (e ∙ ap Ok (sym same), same)
 
-module _ (s : Source) (rest : List ℕ) (o : Branches) (readable : AreReadable s.bytes.now s.from o) where
+module _ (s : Source) (rest : List ℕ) (o : BranchRun) (readable : IsReadable s.bytes.now s.from o) where
   pub stops_empty : o.left ≡ 0 → Stops (source_trie s) rest (branches_of s.bytes.now s.from o)
   stops_empty none =
       let empty = no_branch s.bytes.now s.from o.left o.place (branches_of s.bytes.now s.from o) none readable in
@@ -29,7 +31,7 @@ module _ (s : Source) (rest : List ℕ) (o : Branches) (readable : AreReadable s
       (record { label = label; start = start }, after)) where
     next : (bs : List Branch) × (branches_of s.bytes.now s.from o ≡ record { label = label; start = start } ∷ bs) × (branches_at s.bytes.now s.from
         (o.left - 1) after ≡ Ok bs)
-    next = next_branch s.bytes.now s.from o.left o.place (branches_of s.bytes.now s.from o) (record { label = label; start = start }) after some readable read
+    next = next_left s.bytes.now s.from o.left o.place (branches_of s.bytes.now s.from o) (record { label = label; start = start }) after some readable read
 
     pub stops_there : (start < s.upto) × (others : List ℕ) × (rest ≡ label ++ others) → Stops (source_trie s) rest (branches_of s.bytes.now s.from o)
     stops_there h = subst (Stops (source_trie s) rest) (sym next.1) h
@@ -37,7 +39,7 @@ module _ (s : Source) (rest : List ℕ) (o : Branches) (readable : AreReadable s
     pub stopped_there : Stops (source_trie s) rest (branches_of s.bytes.now s.from o) → (start < s.upto) × (others : List ℕ) × (rest ≡ label ++ others)
     stopped_there h = subst (Stops (source_trie s) rest) next.1 h
 
-    pub readable_next : AreReadable s.bytes.now s.from (record { left = o.left - 1; place = after })
+    pub readable_next : IsReadable s.bytes.now s.from (record { left = o.left - 1; place = after })
     readable_next = (readable_as (branches_at s.bytes.now s.from (o.left - 1) after) next.0 next.2).0
 
     next_is : branches_of s.bytes.now s.from (record { left = o.left - 1; place = after }) ≡ next.0

@@ -13,15 +13,16 @@ use Rattle.mach_dyld.specs.TrieFault.{TrieFault, at_node, met_again}
 use Rattle.mach_dyld.specs.Paths.{Leads}
 use Rattle.mach_dyld.specs.Visits.{AreApart}
 use Rattle.mach_dyld.specs.Nodes.{branch_at, branches_at}
-use Rattle.mach_dyld.specs.NodeViews.{branches_of, AreReadable}
+use Rattle.mach_dyld.specs.BranchViews.{branches_of, IsReadable}
 use Rattle.mach_dyld.specs.Finds.{IsElsewhere, Finds, BranchesFind, here, below, none_left, behind, gone_back}
 use Rattle.mach_dyld.specs.LookUp.{Spells, IsOnWay}
 use Rattle.mach_dyld.specs.LookUpViews.{Settles, Stops, SearchVisits}
 use Rattle.mach_dyld.specs.WalkViews.{source_trie, node_in}
 use Rattle.mach_dyld.specs.declared.look_up.Choice.{Choice}
-use Rattle.mach_dyld.specs.declared.node.Branches.{Branches}
+use Rattle.mach_dyld.specs.declared.branches.BranchRun.{BranchRun}
 use Rattle.mach_dyld.specs.declared.walk.Source.{Source}
-use Rattle.mach_dyld.proofs.BranchAgain.{next_branch, no_branch}
+use Rattle.mach_dyld.proofs.BranchAgain.{no_branch}
+use Rattle.mach_dyld.proofs.LookUpBranches.{next_left}
 use Rattle.mach_dyld.proofs.TriePaths.{Leads-append, drop_head, leads_to_one}
 use Rattle.mach_dyld.proofs.LookUpPaths.{spells_on}
 use Rattle.mach_dyld.proofs.Starts.{branch_from}
@@ -363,7 +364,7 @@ module _ (s : Source) (root : ℕ) (name : List ℕ) where
 
     rest_of : (bs : List Branch) × (left_of h.top ≡ record { label = label; start = start } ∷ bs) × (branches_at s.bytes.now s.from
         (c.branches.left - 1) after ≡ Ok bs)
-    rest_of = next_branch s.bytes.now s.from c.branches.left c.branches.place (left_of h.top)
+    rest_of = next_left s.bytes.now s.from c.branches.left c.branches.place (left_of h.top)
         (record { label = label; start = start }) after taken.some h.shown.branches taken.read
 
     head : (slice_get h.top.node.branches h.top.next ≡ Some (record { label = label; start = start })) × (rest_of.0 ≡ drop (suc h.top.next) h.top.node.branches)
@@ -639,16 +640,16 @@ module _ (s : Source) (root : ℕ) (name : List ℕ) where
       (subst (λ (x : List Branch). Settles (source_trie s) rest x bs) (readable_as
       (branches_at s.bytes.now s.from c.branches.left c.branches.place) old e).1 st)
 
-  pub settled_now : (c : Choice) (b : Branches) (cs : List Choice) {marks : List Bool} {first steps : ℕ} (rest : List ℕ) → rest ≡ drop c.at name
-      → Holds c cs marks first steps → AreReadable s.bytes.now s.from b
+  pub settled_now : (c : Choice) (b : BranchRun) (cs : List Choice) {marks : List Bool} {first steps : ℕ} (rest : List ℕ) → rest ≡ drop c.at name
+      → Holds c cs marks first steps → IsReadable s.bytes.now s.from b
       → Settles (source_trie s) rest (branches_of s.bytes.now s.from c.branches) (branches_of s.bytes.now s.from b) → Holds
       (record { branches = b; at = c.at }) cs marks first steps
   settled_now c b cs rest same h readable st =
       settled c (record { branches = b; at = c.at }) cs (branches_of s.bytes.now s.from b) h refl readable
       (settles_at c rest (branches_of s.bytes.now s.from b) same st)
 
-  pub settled_below_now : (c e : Choice) (b : Branches) (cs : List Choice) {marks : List Bool} {first steps : ℕ} (rest : List ℕ) → rest ≡ drop e.at name
-      → Holds c (e ∷ cs) marks first steps → AreReadable s.bytes.now s.from b
+  pub settled_below_now : (c e : Choice) (b : BranchRun) (cs : List Choice) {marks : List Bool} {first steps : ℕ} (rest : List ℕ) → rest ≡ drop e.at name
+      → Holds c (e ∷ cs) marks first steps → IsReadable s.bytes.now s.from b
       → Settles (source_trie s) rest (branches_of s.bytes.now s.from e.branches) (branches_of s.bytes.now s.from b) → Holds c
       (record { branches = b; at = e.at } ∷ cs) marks first steps
   settled_below_now c e b cs rest same h readable st =
@@ -666,9 +667,9 @@ module _ (s : Source) (root : ℕ) (name : List ℕ) where
     let a = length-drop at name in let b = ap (λ (x : List ℕ). length x) spells in let d = length-append label others in omega arith,
   )
 
-  pub takes : {c : Choice} {b : Branches} {cs : List Choice} {marks : List Bool} {first steps : ℕ} {rest label : List ℕ} {start after : ℕ}
+  pub takes : {c : Choice} {b : BranchRun} {cs : List Choice} {marks : List Bool} {first steps : ℕ} {rest label : List ℕ} {start after : ℕ}
       → rest ≡ drop c.at name
-      → Holds c cs marks first steps → AreReadable s.bytes.now s.from b
+      → Holds c cs marks first steps → IsReadable s.bytes.now s.from b
       → Settles (source_trie s) rest (branches_of s.bytes.now s.from c.branches) (branches_of s.bytes.now s.from b)
       → Stops (source_trie s) rest (branches_of s.bytes.now s.from b) → 0 < b.left
       → branch_at s.bytes.now s.from b.place ≡ Ok (record { label = label; start = start }, after)

@@ -3,6 +3,7 @@
 
 pub mod bind_opcodes;
 pub mod bindings;
+mod branches;
 pub mod exports;
 pub mod imports;
 mod info;

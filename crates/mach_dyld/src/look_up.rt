@@ -13,14 +13,15 @@ ghost use Rattle.mach_dyld.specs.TrieFault.{TrieFault};
 ghost use Rattle.mach_dyld.specs.TrieRange.{trie_there, ListsExports, ExportsFault};
 ghost use Rattle.mach_dyld.specs.Exports.{texts, info_of};
 ghost use Rattle.mach_dyld.specs.Nodes.{branch_at, branches_at, children_at, own_at};
-ghost use Rattle.mach_dyld.specs.NodeViews.{branches_of, AreReadable};
+ghost use Rattle.mach_dyld.specs.BranchViews.{branches_of, IsReadable};
 ghost use Rattle.mach_dyld.specs.WalkViews.{source_trie, node_in, own_in, fault_in};
 ghost use Rattle.mach_dyld.specs.Finds.{Finds};
 ghost use Rattle.mach_dyld.specs.LookUp.{StandsFor, IsFirstOf, LookUpVisits};
 ghost use Rattle.mach_dyld.specs.LookUpViews.{node_of, node_behind, OwnEnds, Settles, Stops, Goes, IsPassed, ComesTo, SearchVisits};
 
+use crate::branches::{BranchRun, read_parts, read_run};
 use crate::exports::{ExportInfo, ExportTrie};
-use crate::node::{Branches, quick_own, read_again, read_branches, read_own};
+use crate::node::{quick_own, read_own};
 use crate::steps::Steps;
 use crate::walk::{Source, visit};
 use mach_base::{Error, Result, quick_text, quick_uleb, rest_at};
@@ -45,13 +46,13 @@ pub enum Outcome<'a> {
     /// One branch goes on, by a label of so many bytes, to a child behind the node.
     Child { start: usize, len: usize },
     /// Its branches are to be searched.
-    Open(Branches),
+    Open(BranchRun),
 }
 
 /// Branches that are still to be tried, and where their labels begin in the name.
 #[derive(Clone, Copy, Debug)]
 pub struct Choice {
-    pub branches: Branches,
+    pub branches: BranchRun,
     pub at: usize,
 }
 
@@ -109,9 +110,9 @@ fn quick_way(source: &Source<'_, '_>, rest: &[u8], count: usize, first: usize) -
 // The same with the branches, behind their count.
 #[tactic(auto, unfolding(crate::specs::Nodes::children_at))]
 #[inline(always)]
-fn quick_branches(source: &Source<'_, '_>, rest: &[u8], place: usize) -> Option<(Way, Branches)>
+fn quick_branches(source: &Source<'_, '_>, rest: &[u8], place: usize) -> Option<(Way, BranchRun)>
     ensures value { IfSome result (λ x. children_at source.now.bytes.now source.now.from place ≡ Ok (branches_of source.now.bytes.now source.now.from x.1)) }
-    ensures readable { IfSome result (λ x. AreReadable source.now.bytes.now source.now.from x.1) }
+    ensures readable { IfSome result (λ x. IsReadable source.now.bytes.now source.now.from x.1) }
     ensures goes { IfSome result (λ x. Goes (source_trie source.now) rest.now (branches_of source.now.bytes.now source.now.from x.1) x.0) }
 {
     let (count, first) = quick_uleb(source.bytes, place)?;
@@ -120,24 +121,24 @@ fn quick_branches(source: &Source<'_, '_>, rest: &[u8], place: usize) -> Option<
         return None;
     }
     let way = quick_way(source, rest, left, first)?;
-    Some((way, Branches { left, place: first }))
+    Some((way, BranchRun { left, place: first }))
 }
 
 // The exact reader of branches, for those that the quick one leaves.
 #[cold]
 #[inline(never)]
-fn rare_branches(source: &Source<'_, '_>, place: usize) -> Result<Branches>
+fn rare_branches(source: &Source<'_, '_>, place: usize) -> Result<BranchRun>
     ensures value { Reads (branches_of source.now.bytes.now source.now.from) result (children_at source.now.bytes.now source.now.from place) }
-    ensures readable { IfOk result (AreReadable source.now.bytes.now source.now.from) }
+    ensures readable { IfOk result (IsReadable source.now.bytes.now source.now.from) }
 {
-    read_branches(source.bytes, source.from, place)
+    read_run(source.bytes, source.from, place)
 }
 
 // The branches behind their count, and where they go on.
 #[inline(always)]
-fn read_way(source: &Source<'_, '_>, rest: &[u8], place: usize) -> Result<(Way, Branches)>
+fn read_way(source: &Source<'_, '_>, rest: &[u8], place: usize) -> Result<(Way, BranchRun)>
     ensures value { Reads (λ x. branches_of source.now.bytes.now source.now.from x.1) result (children_at source.now.bytes.now source.now.from place) }
-    ensures readable { IfOk result (λ x. AreReadable source.now.bytes.now source.now.from x.1) }
+    ensures readable { IfOk result (λ x. IsReadable source.now.bytes.now source.now.from x.1) }
     ensures goes { IfOk result (λ x. Goes (source_trie source.now) rest.now (branches_of source.now.bytes.now source.now.from x.1) x.0) }
 {
     if let Some(found) = quick_branches(source, rest, place) {
@@ -189,16 +190,16 @@ fn read_behind<'a>(
     source: &Source<'a, '_>,
     size: u64,
     place: usize,
-) -> Result<(Option<ExportInfo<'a>>, Branches)>
+) -> Result<(Option<ExportInfo<'a>>, BranchRun)>
     ensures value { Reads (node_of source.now.bytes.now source.now.from) result (node_behind source.now size place) }
-    ensures readable { IfOk result (λ node. AreReadable source.now.bytes.now source.now.from node.1) }
+    ensures readable { IfOk result (λ node. IsReadable source.now.bytes.now source.now.from node.1) }
 {
     if size == 0 {
-        let branches = read_branches(source.bytes, source.from, place)?;
+        let branches = read_run(source.bytes, source.from, place)?;
         return Ok((None, branches));
     }
     let (info, after) = own(source, size, place)?;
-    let branches = read_branches(source.bytes, source.from, after)?;
+    let branches = read_run(source.bytes, source.from, after)?;
     Ok((Some(info), branches))
 }
 
@@ -237,19 +238,19 @@ fn turn<'a>(
 }
 
 // The branches from the first one on that spells a beginning of the rest and leads to a node.
-fn settle(source: &Source<'_, '_>, rest: &[u8], branches: Branches) -> Branches
-    requires { AreReadable source.now.bytes.now source.now.from branches }
-    ensures readable { AreReadable source.now.bytes.now source.now.from result }
+fn settle(source: &Source<'_, '_>, rest: &[u8], branches: BranchRun) -> BranchRun
+    requires { IsReadable source.now.bytes.now source.now.from branches }
+    ensures readable { IsReadable source.now.bytes.now source.now.from result }
     ensures settles { Settles (source_trie source.now) rest.now (branches_of source.now.bytes.now source.now.from branches) (branches_of source.now.bytes.now source.now.from result) }
     ensures stops { Stops (source_trie source.now) rest.now (branches_of source.now.bytes.now source.now.from result) }
 {
     let mut left = branches;
     for _ in 0..branches.left {
-        let (label, start, after) = read_again(source.bytes, source.from, left.place);
+        let (label, start, after) = read_parts(source.bytes, source.from, left.place);
         if leads(source, rest, label, start) {
             return left;
         }
-        left = Branches {
+        left = BranchRun {
             left: left.left - 1,
             place: after,
         };
@@ -262,10 +263,10 @@ fn read_node<'a>(
     source: &Source<'a, '_>,
     start: usize,
     steps: &mut Steps,
-) -> Result<(Option<ExportInfo<'a>>, Branches)>
+) -> Result<(Option<ExportInfo<'a>>, BranchRun)>
     ensures visits { steps.new ≡ steps.old + 1 }
     ensures value { Reads (node_of source.now.bytes.now source.now.from) result (node_in source.now start) }
-    ensures readable { IfOk result (λ node. AreReadable source.now.bytes.now source.now.from node.1) }
+    ensures readable { IfOk result (λ node. IsReadable source.now.bytes.now source.now.from node.1) }
 {
     let (size, place) = visit(source.bytes, start, steps)?;
     read_behind(source, size, place)
@@ -303,7 +304,7 @@ fn search<'a, A: Allocator + Clone>(
     source: &Source<'a, '_>,
     root: usize,
     name: &[u8],
-    branches: Branches,
+    branches: BranchRun,
     steps: &mut Steps,
 ) -> Result<Option<ExportInfo<'a>>>
     requires low { source.now.from ≤ root }
@@ -327,12 +328,12 @@ fn search<'a, A: Allocator + Clone>(
                 Some(below) => top = below,
             }
         } else {
-            let (label, start, after) = read_again(source.bytes, from, branches.place);
+            let (label, start, after) = read_parts(source.bytes, from, branches.place);
             if marks[start - from] {
                 return Err(Error::Malformed("two paths lead to one node"));
             }
             marks[start - from] = true;
-            let others = Branches {
+            let others = BranchRun {
                 left: branches.left - 1,
                 place: after,
             };

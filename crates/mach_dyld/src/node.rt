@@ -90,7 +90,7 @@ fn test_branches(bytes: &[u8], from: usize, count: usize, first: usize) -> Resul
 // Why so many branches can't all be read.
 #[cold]
 #[inline(never)]
-fn branches_error(bytes: &[u8], from: usize, count: usize, first: usize) -> Error
+pub(crate) fn branches_error(bytes: &[u8], from: usize, count: usize, first: usize) -> Error
     requires { IsErr (branches_at bytes.now from count first) }
     ensures { branches_at bytes.now from count first ≡ Err (fault_of result) }
 {
@@ -117,7 +117,7 @@ fn quick_branch(bytes: &[u8], from: usize, place: usize) -> Option<(Branch<'_>, 
 
 // Whether so many branches can be read, one after the other.
 #[inline(always)]
-fn quick_test(bytes: &[u8], from: usize, count: usize, first: usize) -> bool
+pub(crate) fn quick_test(bytes: &[u8], from: usize, count: usize, first: usize) -> bool
     ensures yes { result ≡ true → branches_at bytes.now from count first ≡ Ok (those_read (branches_at bytes.now from count first)) }
     ensures no { result ≡ false → IsErr (branches_at bytes.now from count first) }
 {

@@ -60,27 +60,27 @@ turns-preserved-in-Some g c =
     (subst (λ os. Holds c.args.source.now c.args.root c.args.name.now (record { branches = c.settle-branches.result; at = c.turns.top.at })
     os c.turns.marks.items c.args.steps.now c.turns.steps) pop held) c.if-branches-eq0.true
 
-pub read_again-start-requires : goal.read_again-start-requires
-read_again-start-requires g c =
+pub read_parts-start-requires : goal.read_parts-start-requires
+read_parts-start-requires g c =
     let some : 0 < c.settle-branches.result.left = omega (arith, c.if-branches-eq0.false) in
     is_first c.args.source.now c.rest_at-rest.result.now c.settle-branches.result c.settle-branches.ensures.readable some
 
 pub overflow_sub-start : goal.overflow_sub-start
 overflow_sub-start g c =
     turn.low _ _ _ (turn.takes _ _ _ c.rest_at-rest.ensures c.turns.invariant c.settle-branches.ensures.readable c.settle-branches.ensures.settles
-    c.settle-branches.ensures.stops (omega (arith, c.if-branches-eq0.false)) c.read_again-start.ensures)
+    c.settle-branches.ensures.stops (omega (arith, c.if-branches-eq0.false)) c.read_parts-start.ensures)
 
 pub index-requires : goal.index-requires
 index-requires g c =
     let inside = turn.within _ _ _
     (turn.takes _ _ _ c.rest_at-rest.ensures c.turns.invariant c.settle-branches.ensures.readable c.settle-branches.ensures.settles
-    c.settle-branches.ensures.stops (omega (arith, c.if-branches-eq0.false)) c.read_again-start.ensures) in
+    c.settle-branches.ensures.stops (omega (arith, c.if-branches-eq0.false)) c.read_parts-start.ensures) in
     omega (arith, c.turns.marks.ok.0, inside)
 
 pub returns-then-index-clause-refused : goal.returns-then-index-clause-refused
 returns-then-index-clause-refused g c =
     turn.met _ _ _ (turn.takes _ _ _ c.rest_at-rest.ensures c.turns.invariant c.settle-branches.ensures.readable c.settle-branches.ensures.settles
-    c.settle-branches.ensures.stops (omega (arith, c.if-branches-eq0.false)) c.read_again-start.ensures)
+    c.settle-branches.ensures.stops (omega (arith, c.if-branches-eq0.false)) c.read_parts-start.ensures)
     c.index.ensures c.if-index.true
 
 pub returns-then-index-clause-visits : goal.returns-then-index-clause-visits
@@ -90,73 +90,73 @@ returns-then-index-clause-visits g c =
 pub overflow_sub-start-else-branches-eq0 : goal.overflow_sub-start-else-branches-eq0
 overflow_sub-start-else-branches-eq0 g c =
     turn.low _ _ _ (turn.takes _ _ _ c.rest_at-rest.ensures c.turns.invariant c.settle-branches.ensures.readable c.settle-branches.ensures.settles
-    c.settle-branches.ensures.stops (omega (arith, c.if-branches-eq0.false)) c.read_again-start.ensures)
+    c.settle-branches.ensures.stops (omega (arith, c.if-branches-eq0.false)) c.read_parts-start.ensures)
 
 pub index_mut-requires-else-branches-eq0 : goal.index_mut-requires-else-branches-eq0
 index_mut-requires-else-branches-eq0 g c =
     let inside = turn.within _ _ _
     (turn.takes _ _ _ c.rest_at-rest.ensures c.turns.invariant c.settle-branches.ensures.readable c.settle-branches.ensures.settles
-    c.settle-branches.ensures.stops (omega (arith, c.if-branches-eq0.false)) c.read_again-start.ensures) in
+    c.settle-branches.ensures.stops (omega (arith, c.if-branches-eq0.false)) c.read_parts-start.ensures) in
     omega (arith, c.turns.marks.ok.0, inside)
 
 pub settle-others-requires : goal.settle-others-requires
 settle-others-requires g c =
     let some : 0 < c.settle-branches.result.left = omega (arith, c.if-branches-eq0.false) in
     readable_next c.args.source.now c.rest_at-rest.result.now c.settle-branches.result c.settle-branches.ensures.readable some
-    c.read_again-start.result.0.now c.read_again-start.result.1 c.read_again-start.result.2 c.read_again-start.ensures
+    c.read_parts-start.result.0.now c.read_parts-start.result.1 c.read_parts-start.result.2 c.read_parts-start.ensures
 
 pub returns-in_err-own-clause-refused : goal.returns-in_err-own-clause-refused
 returns-in_err-own-clause-refused g c =
     let p = err_from_is_err_and c.from_residual-in_err-own.result c.from_residual-in_err-own.ensures.1 in
     rw (p.1, p.2) (Stands-failed (TrieFault (source_trie c.args.source.now) c.args.root) c.in_err-own.field-0.0
-    (node_in c.args.source.now c.read_again-start.result.1)
+    (node_in c.args.source.now c.read_parts-start.result.1)
     (λ f e. turn.child_fault _ _ _
     (turn.takes _ _ _ c.rest_at-rest.ensures c.turns.invariant c.settle-branches.ensures.readable c.settle-branches.ensures.settles
-    c.settle-branches.ensures.stops (omega (arith, c.if-branches-eq0.false)) c.read_again-start.ensures) f e)
-    (FailsAs-read c.in_err-own.field-0.0 (node_in c.args.source.now c.read_again-start.result.1) c.in_err-own.ensures.value))
+    c.settle-branches.ensures.stops (omega (arith, c.if-branches-eq0.false)) c.read_parts-start.ensures) f e)
+    (FailsAs-read c.in_err-own.field-0.0 (node_in c.args.source.now c.read_parts-start.result.1) c.in_err-own.ensures.value))
 
 pub returns-in_err-own-clause-visits : goal.returns-in_err-own-clause-visits
 returns-in_err-own-clause-visits g c =
     turn.child_visits _ _ _ (turn.takes _ _ _ c.rest_at-rest.ensures c.turns.invariant c.settle-branches.ensures.readable c.settle-branches.ensures.settles
-    c.settle-branches.ensures.stops (omega (arith, c.if-branches-eq0.false)) c.read_again-start.ensures)
+    c.settle-branches.ensures.stops (omega (arith, c.if-branches-eq0.false)) c.read_parts-start.ensures)
     (turn.is_clear _ _ _ (turn.takes _ _ _ c.rest_at-rest.ensures c.turns.invariant c.settle-branches.ensures.readable c.settle-branches.ensures.settles
     c.settle-branches.ensures.stops (omega (arith, c.if-branches-eq0.false))
-    c.read_again-start.ensures) c.index.ensures c.if-index.false) c.in_err-own.ensures.visits
+    c.read_parts-start.ensures) c.index.ensures c.if-index.false) c.in_err-own.ensures.visits
 
 pub overflow_sub-rest : goal.overflow_sub-rest
 overflow_sub-rest g c =
     rw c.rest_at-rest.ensures (turn.label_within _ _ _
     (turn.takes _ _ _ c.rest_at-rest.ensures c.turns.invariant c.settle-branches.ensures.readable c.settle-branches.ensures.settles
-    c.settle-branches.ensures.stops (omega (arith, c.if-branches-eq0.false)) c.read_again-start.ensures))
+    c.settle-branches.ensures.stops (omega (arith, c.if-branches-eq0.false)) c.read_parts-start.ensures))
 
 pub returns-in-Some-here-clause-found : goal.returns-in-Some-here-clause-found
 returns-in-Some-here-clause-found g c =
     let taken = (turn.takes _ _ _ c.rest_at-rest.ensures c.turns.invariant c.settle-branches.ensures.readable c.settle-branches.ensures.settles
-    c.settle-branches.ensures.stops (omega (arith, c.if-branches-eq0.false)) c.read_again-start.ensures) in
+    c.settle-branches.ensures.stops (omega (arith, c.if-branches-eq0.false)) c.read_parts-start.ensures) in
     let a = ap (λ (x : List ℕ). length x) taken.spells in let r = ap (λ (x : List ℕ). length x) c.rest_at-rest.ensures in
-    let b = length-append c.read_again-start.result.0.now taken.others in
+    let b = length-append c.read_parts-start.result.0.now taken.others in
     let none : length taken.others ≡ 0 = omega (arith, c.in-Some-here.ensures.some.0) in
     turn.child_found _ _ _ taken
     (turn.is_clear _ _ _ (turn.takes _ _ _ c.rest_at-rest.ensures c.turns.invariant c.settle-branches.ensures.readable c.settle-branches.ensures.settles
-    c.settle-branches.ensures.stops (omega (arith, c.if-branches-eq0.false)) c.read_again-start.ensures) c.index.ensures c.if-index.false)
+    c.settle-branches.ensures.stops (omega (arith, c.if-branches-eq0.false)) c.read_parts-start.ensures) c.index.ensures c.if-index.false)
     (node_of c.args.source.now.bytes.now c.args.source.now.from (c.in_ok-own.own, c.in_ok-own.child)) (info_of c.in-Some-here.info)
     c.in_ok-own.ensures.value c.in-Some-here.ensures.some.1 (nil_from_length taken.others none)
 
 pub returns-in-Some-here-clause-visits : goal.returns-in-Some-here-clause-visits
 returns-in-Some-here-clause-visits g c =
     turn.child_visits _ _ _ (turn.takes _ _ _ c.rest_at-rest.ensures c.turns.invariant c.settle-branches.ensures.readable c.settle-branches.ensures.settles
-    c.settle-branches.ensures.stops (omega (arith, c.if-branches-eq0.false)) c.read_again-start.ensures)
+    c.settle-branches.ensures.stops (omega (arith, c.if-branches-eq0.false)) c.read_parts-start.ensures)
     (turn.is_clear _ _ _ (turn.takes _ _ _ c.rest_at-rest.ensures c.turns.invariant c.settle-branches.ensures.readable c.settle-branches.ensures.settles
     c.settle-branches.ensures.stops (omega (arith, c.if-branches-eq0.false))
-    c.read_again-start.ensures) c.index.ensures c.if-index.false) c.in_ok-own.ensures.visits
+    c.read_parts-start.ensures) c.index.ensures c.if-index.false) c.in_ok-own.ensures.visits
 
 pub returns-in_err-keep-clause-visits : goal.returns-in_err-keep-clause-visits
 returns-in_err-keep-clause-visits g c =
     turn.child_visits _ _ _ (turn.takes _ _ _ c.rest_at-rest.ensures c.turns.invariant c.settle-branches.ensures.readable c.settle-branches.ensures.settles
-    c.settle-branches.ensures.stops (omega (arith, c.if-branches-eq0.false)) c.read_again-start.ensures)
+    c.settle-branches.ensures.stops (omega (arith, c.if-branches-eq0.false)) c.read_parts-start.ensures)
     (turn.is_clear _ _ _ (turn.takes _ _ _ c.rest_at-rest.ensures c.turns.invariant c.settle-branches.ensures.readable c.settle-branches.ensures.settles
     c.settle-branches.ensures.stops (omega (arith, c.if-branches-eq0.false))
-    c.read_again-start.ensures) c.index.ensures c.if-index.false) c.in_ok-own.ensures.visits
+    c.read_parts-start.ensures) c.index.ensures c.if-index.false) c.in_ok-own.ensures.visits
 
 pub turns-smaller : goal.turns-smaller
 turns-smaller g c =
@@ -165,45 +165,45 @@ turns-smaller g c =
       | inr some ↦ (let same = ap (λ (x : List Choice). length x) (c.in_ok-keep.ensures.some some)
           ∙ length-append c.turns.choices.items (record { branches = c.settle-others.result; at = c.turns.top.at } ∷ []) in omega arith)
     ] in
-    let less = turn.one_less c.turns.marks.items (c.read_again-start.result.1 - c.args.source.now.from)
+    let less = turn.one_less c.turns.marks.items (c.read_parts-start.result.1 - c.args.source.now.from)
     (turn.within _ _ _ (turn.takes _ _ _ c.rest_at-rest.ensures c.turns.invariant c.settle-branches.ensures.readable c.settle-branches.ensures.settles
-    c.settle-branches.ensures.stops (omega (arith, c.if-branches-eq0.false)) c.read_again-start.ensures))
+    c.settle-branches.ensures.stops (omega (arith, c.if-branches-eq0.false)) c.read_parts-start.ensures))
     (turn.is_clear _ _ _ (turn.takes _ _ _ c.rest_at-rest.ensures c.turns.invariant c.settle-branches.ensures.readable c.settle-branches.ensures.settles
-    c.settle-branches.ensures.stops (omega (arith, c.if-branches-eq0.false)) c.read_again-start.ensures) c.index.ensures c.if-index.false) in
+    c.settle-branches.ensures.stops (omega (arith, c.if-branches-eq0.false)) c.read_parts-start.ensures) c.index.ensures c.if-index.false) in
     omega (arith, less)
 
 pub turns-preserved : goal.turns-preserved
 turns-preserved g c =
     let taken = (turn.takes _ _ _ c.rest_at-rest.ensures c.turns.invariant c.settle-branches.ensures.readable c.settle-branches.ensures.settles
-    c.settle-branches.ensures.stops (omega (arith, c.if-branches-eq0.false)) c.read_again-start.ensures) in
+    c.settle-branches.ensures.stops (omega (arith, c.if-branches-eq0.false)) c.read_parts-start.ensures) in
     let a = ap (λ (x : List ℕ). length x) taken.spells in let r = ap (λ (x : List ℕ). length x) c.rest_at-rest.ensures in
-    let b = length-append c.read_again-start.result.0.now taken.others in
-    let deep = turn.deeper c.args.source.now c.args.root c.args.name.now c.turns.top.at c.read_again-start.result.0.now taken.others
+    let b = length-append c.read_parts-start.result.0.now taken.others in
+    let deep = turn.deeper c.args.source.now c.args.root c.args.name.now c.turns.top.at c.read_parts-start.result.0.now taken.others
     taken.held.shown.within taken.spells in
     let opened = turn.child_opened _ _ _ taken
     (turn.is_clear _ _ _ (turn.takes _ _ _ c.rest_at-rest.ensures c.turns.invariant c.settle-branches.ensures.readable c.settle-branches.ensures.settles
-    c.settle-branches.ensures.stops (omega (arith, c.if-branches-eq0.false)) c.read_again-start.ensures) c.index.ensures c.if-index.false)
-    (record { branches = c.in_ok-own.child; at = c.turns.top.at + length c.read_again-start.result.0.now })
-    (record { branches = record { left = c.settle-branches.result.left - 1; place = c.read_again-start.result.2 }; at = c.turns.top.at })
+    c.settle-branches.ensures.stops (omega (arith, c.if-branches-eq0.false)) c.read_parts-start.ensures) c.index.ensures c.if-index.false)
+    (record { branches = c.in_ok-own.child; at = c.turns.top.at + length c.read_parts-start.result.0.now })
+    (record { branches = record { left = c.settle-branches.result.left - 1; place = c.read_parts-start.result.2 }; at = c.turns.top.at })
     (node_of c.args.source.now.bytes.now c.args.source.now.from (c.in_ok-own.own, c.in_ok-own.child)) c.in_ok-own.ensures.visits c.in_ok-own.ensures.value
     (turn.elsewhere c.args.source.now c.args.root c.args.name.now taken.others _ (λ z. c.in_default.ensures.none (omega arith)))
     c.in_ok-own.ensures.readable refl refl refl refl deep.0 deep.1 in
     let both = turn.settled_below_now c.args.source.now c.args.root c.args.name.now
-    (record { branches = c.in_ok-own.child; at = c.turns.top.at + length c.read_again-start.result.0.now })
-    (record { branches = record { left = c.settle-branches.result.left - 1; place = c.read_again-start.result.2 }; at = c.turns.top.at })
+    (record { branches = c.in_ok-own.child; at = c.turns.top.at + length c.read_parts-start.result.0.now })
+    (record { branches = record { left = c.settle-branches.result.left - 1; place = c.read_parts-start.result.2 }; at = c.turns.top.at })
     c.settle-others.result (reverse c.turns.choices.items) c.rest_at-rest.result.now c.rest_at-rest.ensures opened
     c.settle-others.ensures.readable c.settle-others.ensures.settles in
     elim (cases_eq c.settle-others.result.left 0) [
       | inl none ↦ subst (λ os. Holds c.args.source.now c.args.root c.args.name.now
-          (record { branches = c.in_ok-own.child; at = c.turns.top.at + length c.read_again-start.result.0.now }) os
-          (set c.turns.marks.items (c.read_again-start.result.1 - c.args.source.now.from) true) c.args.steps.now c.read_node.new.steps)
+          (record { branches = c.in_ok-own.child; at = c.turns.top.at + length c.read_parts-start.result.0.now }) os
+          (set c.turns.marks.items (c.read_parts-start.result.1 - c.args.source.now.from) true) c.args.steps.now c.read_node.new.steps)
           (sym (ap reverse (c.in_ok-keep.ensures.none none)))
           (turn.left_out c.args.source.now c.args.root c.args.name.now
-          (record { branches = c.in_ok-own.child; at = c.turns.top.at + length c.read_again-start.result.0.now })
+          (record { branches = c.in_ok-own.child; at = c.turns.top.at + length c.read_parts-start.result.0.now })
           (record { branches = c.settle-others.result; at = c.turns.top.at }) (reverse c.turns.choices.items) both none)
       | inr more ↦ subst (λ os. Holds c.args.source.now c.args.root c.args.name.now
-          (record { branches = c.in_ok-own.child; at = c.turns.top.at + length c.read_again-start.result.0.now }) os
-          (set c.turns.marks.items (c.read_again-start.result.1 - c.args.source.now.from) true) c.args.steps.now c.read_node.new.steps)
+          (record { branches = c.in_ok-own.child; at = c.turns.top.at + length c.read_parts-start.result.0.now }) os
+          (set c.turns.marks.items (c.read_parts-start.result.1 - c.args.source.now.from) true) c.args.steps.now c.read_node.new.steps)
           (sym (turn.popped c.keep.new.choices.items c.turns.choices.items (record { branches = c.settle-others.result; at = c.turns.top.at })
           (c.in_ok-keep.ensures.some more))) both
     ]

@@ -1,13 +1,13 @@
 use Rattle.std.proofs.Common.{◌<◌, refl, arith}
-use Rattle.mach_dyld.specs.NodeViews.{branches_of}
+use Rattle.mach_dyld.specs.BranchViews.{branches_of}
 use Rattle.mach_dyld.proofs.LookUpSettles.{is_first, stops_there, stops_empty, readable_next, settles_on}
 use Rattle.mach_dyld.proofs.look_up.settle.Goals as goal
 
 pub loop-init : goal.loop-init
 loop-init c = (omega arith, c.requires, record { number = 0; dropped = refl; finds = λ found x. x })
 
-pub read_again-start-requires : goal.read_again-start-requires
-read_again-start-requires c =
+pub read_parts-start-requires : goal.read_parts-start-requires
+read_parts-start-requires c =
     let count = c.loop.invariant.0 in let test = c.loop-test.true in
     is_first c.args.source.now c.args.rest.now c.loop.left c.loop.invariant.1 (omega arith)
 
@@ -21,7 +21,7 @@ pub returns-then-leads-clause-stops : goal.returns-then-leads-clause-stops
 returns-then-leads-clause-stops c =
     let count = c.loop.invariant.0 in let test = c.loop-test.true in
     stops_there c.args.source.now c.args.rest.now c.loop.left c.loop.invariant.1
-    (omega arith) c.read_again-start.result.0.now c.read_again-start.result.1 c.read_again-start.result.2 c.read_again-start.ensures
+    (omega arith) c.read_parts-start.result.0.now c.read_parts-start.result.1 c.read_parts-start.result.2 c.read_parts-start.ensures
     (c.leads.ensures.yes c.if-leads.true)
 
 pub overflow_sub-left : goal.overflow_sub-left
@@ -32,8 +32,8 @@ loop-preserved c =
     let count = c.loop.invariant.0 in let test = c.loop-test.true in
     let some : 0 < c.loop.left.left = omega arith in (
       omega arith,
-      readable_next c.args.source.now c.args.rest.now c.loop.left c.loop.invariant.1 some _ _ _ c.read_again-start.ensures,
-      settles_on c.args.source.now c.args.rest.now c.loop.left c.loop.invariant.1 some _ _ _ c.read_again-start.ensures
+      readable_next c.args.source.now c.args.rest.now c.loop.left c.loop.invariant.1 some _ _ _ c.read_parts-start.ensures,
+      settles_on c.args.source.now c.args.rest.now c.loop.left c.loop.invariant.1 some _ _ _ c.read_parts-start.ensures
           (branches_of c.args.source.now.bytes.now c.args.source.now.from c.args.branches) c.loop.invariant.2 (c.leads.ensures.no c.if-leads.false),
     )
 

@@ -6,7 +6,7 @@ use Rattle.mach_dyld.specs.Exports.{info_of}
 use Rattle.mach_dyld.specs.declared.info.ExportInfo.{ExportInfo}
 use Rattle.mach_dyld.specs.Finds.{BranchesFind}
 use Rattle.mach_dyld.specs.Nodes.{branches_at}
-use Rattle.mach_dyld.specs.NodeViews.{branches_of}
+use Rattle.mach_dyld.specs.BranchViews.{branches_of}
 use Rattle.mach_dyld.specs.WalkViews.{source_trie, node_in}
 use Rattle.mach_dyld.specs.LookUpViews.{node_of, LeadsOn, Goes, ComesTo}
 use Rattle.mach_dyld.proofs.LookUpNodes.{size_fails, behind_size, own_fails, branches_fail, passed_by, none_left_of, some_left_of}
