@@ -62,7 +62,7 @@ const ROWS: [Row; 15] = [
     },
     Row {
         call: Call::ParseOfB,
-        growths: 5,
+        growths: 4,
         refused: MEMORY,
         answer: FIELDS_OF_B,
     },
@@ -74,7 +74,7 @@ const ROWS: [Row; 15] = [
     },
     Row {
         call: Call::LossyOfB,
-        growths: 5,
+        growths: 4,
         refused: MEMORY,
         answer: FIELDS_OF_B,
     },
@@ -122,25 +122,25 @@ const ROWS: [Row; 15] = [
     },
     Row {
         call: Call::Get,
-        growths: 5,
+        growths: 4,
         refused: MEMORY,
         answer: "image 0x100000138",
     },
     Row {
         call: Call::Find,
-        growths: 5,
+        growths: 4,
         refused: MEMORY,
         answer: "image 0x100000138",
     },
     Row {
         call: Call::Entries,
-        growths: 5,
+        growths: 4,
         refused: "memory;archive of 16;",
         answer: "image 0x100000138;archive of 16;",
     },
     Row {
         call: Call::View,
-        growths: 12,
+        growths: 11,
         refused: MEMORY,
         answer: "image 0x7 \"\" 0x9 \"a\" 0x100000010 L _a 0x100000018 L _b;archive of 16;",
     },

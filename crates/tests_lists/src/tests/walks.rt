@@ -19,7 +19,10 @@ fn walked(alloc: Global, bytes: &[u8]) -> Result<String, Fail> {
     let mut walk = trie.walk(alloc, &["self", "L"])?;
     'exports: while let Some(item) = walk.next() {
         match item {
-            Ok((name, ExportInfo::Regular { address, .. })) => write!(text, "[{name}] {address:x};")?,
+            Ok((name, ExportInfo::Regular { address, .. })) => write!(
+                text,
+                "[{name}] {address:x};"
+            )?,
             Ok((name, _)) => write!(text, "[{name}];")?,
             Err(Error::Malformed(_)) => text.push_str("malformed")?,
             Err(_) => text.push_str("another error")?,
@@ -44,13 +47,21 @@ const WALKS: [(&str, &[u8], &str); 6] = [
         &[2, 0, 7, 1, 0x61, 0, 7, 2, 0, 9, 0],
         "[] 7;[a] 9;",
     ),
-    ("back to the root", &[2, 0, 7, 1, 0x61, 0, 0], "[] 7;malformed"),
+    (
+        "back to the root",
+        &[2, 0, 7, 1, 0x61, 0, 0],
+        "[] 7;malformed",
+    ),
     (
         "a fault behind two exports",
         &[2, 0, 7, 2, 0x61, 0, 10, 0x62, 0, 10, 2, 0, 9, 0],
         "[] 7;[a] 9;malformed",
     ),
-    ("a root that can't be read", &[2, 0, 7, 1, 0x61, 0], "another error"),
+    (
+        "a root that can't be read",
+        &[2, 0, 7, 1, 0x61, 0],
+        "another error",
+    ),
 ];
 
 #[test]
