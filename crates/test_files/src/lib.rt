@@ -1,10 +1,7 @@
-//! The built files of docs/FORMAT.md, and small images, which several crates of tests read; and what asserts that
-//! two values are the same.
+//! The built files of docs/FORMAT.md, and small images, which several crates of tests read.
 #![tactic(auto)]
 
 use std::alloc::{AllocError, Global};
-use std::fmt::Debug;
-use std::process::Abort;
 
 /// A 64-bit image of one command.
 pub const FILE_A: [u8; 56] = [
@@ -131,14 +128,4 @@ impl File {
             File::C => file_c(alloc),
         }
     }
-}
-
-/// Asserts that what was got is what is wanted. A call is checked in a fifth of the time of an `assert_eq!`.
-pub fn same<T: Copy + Debug + PartialEq>(rt: &impl Abort, got: T, want: T) {
-    assert_eq!(rt; got, want);
-}
-
-/// The same, of a row with a name.
-pub fn same_of<T: Copy + Debug + PartialEq>(rt: &impl Abort, name: &str, got: T, want: T) {
-    assert_eq!(rt; got, want, "{name}");
 }

@@ -9,5 +9,6 @@ mod container;
 mod debug;
 mod image;
 mod prefixes;
+mod same;
 mod symbols;
 mod view;

@@ -6,5 +6,6 @@ mod build;
 mod commands;
 mod exports;
 mod fat;
+mod same;
 mod segments;
 mod symbols;

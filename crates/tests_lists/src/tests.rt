@@ -7,6 +7,7 @@ mod growths;
 mod imports;
 mod look_ups;
 mod refusing;
+mod same;
 mod tries;
 mod walks;
 mod without_memory;

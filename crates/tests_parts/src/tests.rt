@@ -5,5 +5,6 @@ mod headers;
 mod readers;
 mod records;
 mod relocations;
+mod same;
 mod segments;
 mod symbols;

@@ -1,8 +1,8 @@
 //! What asserts a text that is made.
 
+use crate::tests::same::same;
 use std::alloc::AllocError;
 use std::process::Abort;
-use test_files::same;
 
 /// Asserts that a text is the one that is wanted.
 pub fn answers(

@@ -1,6 +1,7 @@
 //! Numbers set by hand: counts, offsets and public fields at their largest.
 
 use crate::tests::answers::answers;
+use crate::tests::same::same;
 use goblin_mach::exports::ExportTrie;
 use goblin_mach::fat::FatArch;
 use goblin_mach::header::{Header, Header32, Header64};
@@ -17,7 +18,7 @@ use goblin_mach::{
 use std::alloc::{AllocError, Global};
 use std::process::Abort;
 use std::test::Fail;
-use test_files::{FILE_B, file_c, same};
+use test_files::{FILE_B, file_c};
 
 // A place past all that 64 bits hold.
 const FAR: &str = "bad offset 18446744073709551615";

@@ -10,12 +10,13 @@ ghost use Rattle.goblin_mach.specs.FatEntry.{FatEntry, entries_of, OpensEntry};
 ghost use Rattle.goblin_mach.specs.FatFile.{file_held};
 ghost use Rattle.goblin_mach.specs.OpenImage.{IsImage, IsLossyImage};
 
+use crate::tests::same::same;
 use goblin_mach::exports::Export;
 use goblin_mach::imports::BindIterator;
 use goblin_mach::{MachO, MultiArch, Result, SingleArch, find_export, laws};
 use std::alloc::{Allocator, Global};
 use std::test::Fail;
-use test_files::{FILE_B, file_c, same};
+use test_files::{FILE_B, file_c};
 
 // The image at the front of the bytes, which opens in lossy mode all the more.
 fn image(alloc: Global, bytes: &[u8]) -> Result<MachO<'_>>

@@ -1,10 +1,11 @@
 //! Which bytes open as an image, and the chain of its commands.
 
+use crate::tests::same::{same, same_of};
 use goblin_mach::load_command::LoadCommandHeader;
 use goblin_mach::{Mach, MachO, parse_magic_and_ctx, peek};
 use std::alloc::{AllocError, Global};
 use std::test::Fail;
-use test_files::{BARE, FILE_A, FILE_B, File, same, same_of};
+use test_files::{BARE, FILE_A, FILE_B, File};
 
 // What the bytes open as, or why they don't.
 fn opened(alloc: Global, bytes: &[u8]) -> Result<String, AllocError> {

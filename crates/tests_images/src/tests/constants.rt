@@ -1,10 +1,10 @@
 //! Every public constant of docs/FORMAT.md, with its value and its type.
 
+use crate::tests::same::same;
 use goblin_mach::{
     BE, Endian, LE, bind_opcodes, constants, cputype, exports, fat, header, load_command,
     relocation, symbols,
 };
-use test_files::same;
 
 // What the library says of each constant, and its value.
 macro_rules! rows {

@@ -1,12 +1,13 @@
 //! Fat files: what first bytes hint at, records, entries.
 
 use crate::tests::answers::answers;
+use crate::tests::same::{same, same_of};
 use goblin_mach::fat::FatArch;
 use goblin_mach::{Hint, Mach, MultiArch, Result as Read, SingleArch, peek_bytes, take_hint_bytes};
 use std::alloc::{AllocError, Global};
 use std::fmt::Write;
 use std::test::Fail;
-use test_files::{ARCHIVE, BARE, FILE_A, File, file_c, of_one_record, same, same_of};
+use test_files::{ARCHIVE, BARE, FILE_A, File, file_c, of_one_record};
 
 // What the first bytes hint at.
 fn hint(alloc: Global, bytes: &[u8]) -> Result<String, AllocError> {

@@ -1,11 +1,12 @@
 //! What Debug shows of types that borrow the file: how many bytes there are, and not the bytes.
 
+use crate::tests::same::same;
 use goblin_mach::exports::ExportTrie;
 use goblin_mach::imports::BindInterpreter;
 use goblin_mach::load_command::DyldInfoCommand;
 use goblin_mach::{LinkView, MachO, MultiArch, SingleArch, link_view};
 use std::test::Fail;
-use test_files::{FILE_B, file_c, same};
+use test_files::{FILE_B, file_c};
 
 // The ranges that file B's command brings.
 fn command() -> DyldInfoCommand {

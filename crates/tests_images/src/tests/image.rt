@@ -1,6 +1,7 @@
 //! Images opened strictly and in lossy mode: entries, segments, names, imports and relocations.
 
 use crate::tests::answers::answers;
+use crate::tests::same::same;
 use goblin_mach::imports::Import;
 use goblin_mach::segment::RelocationIterator;
 use goblin_mach::{Mach, MachO};
@@ -8,7 +9,7 @@ use std::alloc::{AllocError, Global};
 use std::fmt::Write;
 use std::process::Abort;
 use std::test::Fail;
-use test_files::{FILE_B, image, same};
+use test_files::{FILE_B, image};
 
 // A 64-bit little-endian image of a thread's state that has no words, for some cpu.
 fn with_thread(alloc: Global, cputype: [u8; 4]) -> Result<Vec<u8>, AllocError> {

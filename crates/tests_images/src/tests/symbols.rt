@@ -1,8 +1,9 @@
 //! The symbols of an image.
 
+use crate::tests::same::same;
 use goblin_mach::{Mach, MachO};
 use std::test::Fail;
-use test_files::{FILE_A, FILE_B, image, same};
+use test_files::{FILE_A, FILE_B, image};
 
 #[test]
 fn of_files(rt: HostRuntime) -> Result<(), Fail> {

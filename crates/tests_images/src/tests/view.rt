@@ -1,9 +1,10 @@
 //! What whole files link.
 
+use crate::tests::same::same_of;
 use goblin_mach::link_view;
 use std::alloc::{AllocError, Global};
 use std::test::Fail;
-use test_files::{ARCHIVE, BARE, FILE_A, FILE_B, File, file_c, same_of};
+use test_files::{ARCHIVE, BARE, FILE_A, FILE_B, File, file_c};
 
 // The items of a file, or why it has none.
 fn viewed(alloc: Global, bytes: &[u8]) -> Result<String, AllocError> {

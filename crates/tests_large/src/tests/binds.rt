@@ -1,5 +1,6 @@
 //! Streams of 5,000 binds, one for each opcode that binds.
 
+use crate::tests::same::same;
 use goblin_mach::Ctx;
 use goblin_mach::imports::BindInterpreter;
 use goblin_mach::load_command::DyldInfoCommand;
@@ -7,7 +8,6 @@ use goblin_mach::segment::Segment;
 use std::alloc::{AllocError, Global};
 use std::process::Abort;
 use std::test::Fail;
-use test_files::same;
 
 // A stream that sets the library 1, the name "_a" and the start of segment 0, and then has so many times the
 // same instruction.

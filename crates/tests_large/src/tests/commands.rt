@@ -1,11 +1,11 @@
 //! Images of many commands and of many libraries.
 
 use crate::tests::build::{digits, header, words};
+use crate::tests::same::same;
 use goblin_mach::MachO;
 use goblin_mach::load_command::CommandVariant;
 use std::alloc::{AllocError, Global};
 use std::test::Fail;
-use test_files::same;
 
 // An image of 3,000 commands of 24 bytes each. Command k is the UUID that begins with the number k.
 fn uuids(alloc: Global) -> Result<Vec<u8>, AllocError> {

@@ -1,11 +1,11 @@
 //! Tries of 5,000 exports.
 
 use crate::tests::build::{digits, groups};
+use crate::tests::same::same;
 use goblin_mach::exports::ExportTrie;
 use goblin_mach::load_command::DyldInfoCommand;
 use std::alloc::{AllocError, Global};
 use std::test::Fail;
-use test_files::same;
 
 // A trie whose root has 5,000 branches of 8 bytes, from 3 on. Child k has 6 bytes, at 40,003 + 6k; its label
 // is the digits of k, and its export's address is k.

@@ -1,10 +1,10 @@
 //! A fat file of 2,000 archives.
 
 use crate::tests::build::{big_words, words};
+use crate::tests::same::same;
 use goblin_mach::{LinkView, MultiArch, SingleArch, link_view};
 use std::alloc::{AllocError, Global};
 use std::test::Fail;
-use test_files::same;
 
 // The record of entry k is at 8 + 20k, of the cpu k; its archive has 16 bytes, at 40,008 + 16k, with the
 // number k behind the magic.

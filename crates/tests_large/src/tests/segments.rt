@@ -1,10 +1,10 @@
 //! An image of many segments, one of many sections, and a section of many relocations.
 
 use crate::tests::build::{header, words};
+use crate::tests::same::same;
 use goblin_mach::MachO;
 use std::alloc::{AllocError, Global};
 use std::test::Fail;
-use test_files::same;
 
 // The command of a segment of a page, with so many sections.
 fn push_segment(bytes: &mut Vec<u8>, vmaddr: u32, nsects: u32) -> Result<(), AllocError> {

@@ -1,10 +1,10 @@
 //! An image of 3,000 symbols.
 
 use crate::tests::build::{digits, header, words};
+use crate::tests::same::same;
 use goblin_mach::MachO;
 use std::alloc::{AllocError, Global};
 use std::test::Fail;
-use test_files::same;
 
 // The symbols stand at 56, of 16 bytes each, and their names at 48,056, of 5 bytes each. Symbol k has the value
 // k, and is named by its digits.

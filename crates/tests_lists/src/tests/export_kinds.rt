@@ -1,10 +1,10 @@
 //! What exports stand for, and their kinds.
 
+use crate::tests::same::{same, same_of};
 use mach_base::Error;
 use mach_dyld::exports::{Export, ExportInfo, ExportTrie, SymbolKind};
 use mach_records::DyldInfoCommand;
 use std::test::Fail;
-use test_files::{same, same_of};
 
 #[test]
 fn kinds(rt: HostRuntime) -> Result<(), Fail> {

@@ -1,11 +1,12 @@
 //! The exports of tries.
 
+use crate::tests::same::{same, same_of};
 use goblin_mach::MachO;
 use goblin_mach::exports::ExportTrie;
 use goblin_mach::load_command::{DyldInfoCommand, LinkeditDataCommand};
 use std::alloc::{AllocError, Global};
 use std::test::Fail;
-use test_files::{EXPORTS, FILE_B, same, same_of};
+use test_files::{EXPORTS, FILE_B};
 
 // The command whose range is all the bytes.
 fn whole(bytes: &[u8]) -> DyldInfoCommand {

@@ -3,6 +3,7 @@
 //! a refusal has too few.
 
 use crate::tests::refusing::Refusing;
+use crate::tests::same::same;
 use goblin_mach::exports::{Export, ExportTrie};
 use goblin_mach::fat::FatArch;
 use goblin_mach::imports::{BindInterpreter, Import};
@@ -13,7 +14,7 @@ use std::alloc::{AllocError, Allocator, Global};
 use std::fmt::Write;
 use std::process::Abort;
 use std::test::Fail;
-use test_files::{EXPORTS, FILE_A, FILE_B, file_c, same};
+use test_files::{EXPORTS, FILE_A, FILE_B, file_c};
 
 // A call that takes memory.
 #[derive(Clone, Copy, Debug)]

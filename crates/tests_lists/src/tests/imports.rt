@@ -1,5 +1,6 @@
 //! The imports of bind streams.
 
+use crate::tests::same::{same, same_of};
 use linked_list_allocator::LocalHeap;
 use mach_base::{Container, Ctx, Error, LE, ScrollError};
 use mach_dyld::Steps;
@@ -10,7 +11,6 @@ use mach_records::DyldInfoCommand;
 use std::alloc::{AllocError, Global};
 use std::fmt::Write;
 use std::test::Fail;
-use test_files::{same, same_of};
 
 const LIBS: [&str; 2] = ["self", "L"];
 

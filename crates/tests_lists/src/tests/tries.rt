@@ -1,5 +1,6 @@
 //! Tries as they are listed: long chains, tries that are no trees, and memory refused.
 
+use crate::tests::same::{same, same_of};
 use linked_list_allocator::LocalHeap;
 use mach_base::{Error, ScrollError};
 use mach_dyld::exports::ExportTrie;
@@ -7,7 +8,7 @@ use mach_records::DyldInfoCommand;
 use std::alloc::Global;
 use std::fmt::Write;
 use std::test::Fail;
-use test_files::{EXPORTS, same, same_of};
+use test_files::EXPORTS;
 
 // The trie of all the bytes.
 fn trie(bytes: &[u8]) -> ExportTrie<'_> {

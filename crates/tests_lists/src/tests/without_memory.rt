@@ -3,6 +3,7 @@
 //! have one that refuses everything, and it isn't even asked.
 
 use crate::tests::refusing::Refusing;
+use crate::tests::same::same;
 use goblin_mach::bind_opcodes::opcode_to_str;
 use goblin_mach::exports::{Export, ExportInfo, ExportTrie, SymbolKind};
 use goblin_mach::fat::{FatArch, FatHeader};
@@ -23,7 +24,7 @@ use goblin_mach::{
 };
 use std::alloc::AllocError;
 use std::test::Fail;
-use test_files::{EXPORTS, FILE_A, FILE_B, file_c, same};
+use test_files::{EXPORTS, FILE_A, FILE_B, file_c};
 
 // The state of a thread without words.
 const THREAD: [u8; 16] = [5, 0, 0, 0, 16, 0, 0, 0, 0, 0, 0, 0, 0, 0, 0, 0];

@@ -1,11 +1,11 @@
 //! The worked rows of load commands.
 
+use crate::tests::same::same;
 use mach_base::{Endian, Error, ScrollError, TryFromCtx};
 use mach_load::{CommandVariant, LoadCommand};
 use mach_records::cputype::CPU_TYPE_X86_64;
 use std::alloc::{AllocError, Global};
 use std::test::Fail;
-use test_files::same;
 
 // A command, its flavor and its count, and so many words that are zero.
 fn thread(alloc: Global, cmdsize: u16, count: u8, words: usize) -> Result<Vec<u8>, AllocError> {

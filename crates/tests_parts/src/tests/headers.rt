@@ -1,12 +1,12 @@
 //! Headers and fat records.
 
+use crate::tests::same::same;
 use mach_base::{Container, Ctx, Endian, Error, ScrollError, TryIntoCtx, pread_with};
 use mach_parts::fat::{FatArch, FatHeader};
 use mach_parts::header::{
     Header, Header32, Header64, MH_DSYM, MH_MAGIC_64, filetype_to_str, flag_to_str,
 };
 use std::test::Fail;
-use test_files::same;
 
 #[test]
 fn a_header_of_armv7(rt: HostRuntime) -> Result<(), Fail> {

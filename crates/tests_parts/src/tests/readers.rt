@@ -6,6 +6,7 @@ ghost use Rattle.mach_base.specs.Fault.{fault_of};
 ghost use Rattle.mach_base.specs.Front.{same_fault};
 ghost use Rattle.mach_base.specs.Record.{num, number_is};
 
+use crate::tests::same::same;
 use mach_base::{
     BE, ByteCount, Container, Ctx, Endian, Error, IntoCtx, LE, Record, RecordBytes, Result,
     ScrollError, SizeWith, Sleb128, TryFromCtx, Uleb128, describe, gread_with, pread_with,
@@ -13,7 +14,6 @@ use mach_base::{
 };
 use std::alloc::AllocError;
 use std::test::Fail;
-use test_files::same;
 
 // The kind of an error, with its numbers.
 #[derive(Clone, Copy, Debug, PartialEq)]

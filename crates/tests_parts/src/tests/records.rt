@@ -1,5 +1,6 @@
 //! Records of known bytes, and the texts of commands.
 
+use crate::tests::same::same;
 use mach_base::{BE, Endian, Error, LE, Record};
 use mach_records::{
     DataInCodeEntry, DyldInfoCommand, DysymtabCommand, LC_RPATH, LoadCommandHeader, Platform,
@@ -8,7 +9,6 @@ use mach_records::{
 };
 use std::process::Abort;
 use std::test::Fail;
-use test_files::same;
 
 // The record at the front of some bytes, which is written back as it stood.
 fn read_and_write<R: Record>(rt: &impl Abort, bytes: &[u8], le: Endian) -> Result<R, Fail> {

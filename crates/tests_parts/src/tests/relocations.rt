@@ -1,5 +1,6 @@
 //! A relocation of known bits, its bytes and its name.
 
+use crate::tests::same::same;
 use mach_base::{BE, Ctx, LE, Record};
 use mach_parts::relocation::{RelocationInfo, SIZEOF_RELOCATION_INFO, reloc_to_str};
 use mach_parts::segment::{RelocationIterator, Section};
@@ -8,7 +9,6 @@ use mach_records::cputype::{
     CPU_TYPE_X86_64,
 };
 use std::test::Fail;
-use test_files::same;
 
 #[test]
 fn relocation_bits(rt: HostRuntime) {

@@ -1,5 +1,6 @@
 //! The segment of a known image, its section and its relocation; widths, and data out of bounds.
 
+use crate::tests::same::same;
 use mach_base::{
     BE, Container, Ctx, Error, LE, Record, ScrollError, TryFromCtx, TryIntoCtx, pread_with,
     pwrite_with,
@@ -9,7 +10,7 @@ use mach_parts::segment::{Section, SectionData, Segment, Segments};
 use mach_records::{LC_SEGMENT, Section32, SegmentCommand32, SegmentCommand64};
 use std::process::Abort;
 use std::test::Fail;
-use test_files::{FILE_B, same};
+use test_files::FILE_B;
 
 // The one segment of file B.
 fn segment_of_file_b() -> Result<Segment<'static>, Error> {
