@@ -6,6 +6,7 @@ pub mod exported;
 pub mod facts;
 pub mod fields;
 pub mod laws;
+pub mod libraries;
 pub mod mach;
 pub mod macho;
 pub mod magic;

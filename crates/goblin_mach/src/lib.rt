@@ -11,6 +11,7 @@ pub use crate::fat_file::arches::FatArchIterator;
 pub use crate::fat_file::entry::SingleArch;
 pub use crate::fat_file::multi_arch::{MultiArch, SingleArchIterator};
 pub use crate::image::exported::find_export;
+pub use crate::image::libraries::{Library, LibraryIterator, LibraryKind};
 pub use crate::image::mach::Mach;
 pub use crate::image::macho::MachO;
 pub use crate::image::magic::{parse_magic_and_ctx, peek, peek_bytes};
