@@ -9,6 +9,7 @@ pub mod Images
 pub mod Opened
 pub mod Relocations
 pub mod Lossy
+pub mod Libraries
 pub mod SameSegments
 pub mod Facts
 pub mod Exported
