@@ -13,6 +13,7 @@ pub mod Libraries
 pub mod SameSegments
 pub mod Facts
 pub mod Exported
+pub mod NamedExports
 pub mod FatNumbers
 pub mod FatMagics
 pub mod FatRecords

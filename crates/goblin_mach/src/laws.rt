@@ -13,6 +13,8 @@ pub use crate::image::facts::{
 pub use crate::image::laws::{
     lossy_agrees, new_header_recognised, one_chain, strict_opens_lossily,
 };
+pub use crate::image::libraries::{libraries_by_ordinal, libraries_in_libs};
+pub use crate::image::macho::look_up::export_by_list_and_paths;
 pub use mach_base::laws::{one_signed_spelling, one_spelling, record_at_an_offset};
 pub use mach_dyld::laws::{
     adds_binds, beginning_of_the_list, blocked_root_has_no_list, cuts_behind_done,

@@ -1,13 +1,19 @@
 //! The libraries of an image, each with how the image brings it in.
 
-ghost use Rattle.std.specs.Prelude.{◌≡◌, [], map, option_map, length, ◌<◌, ◌^◌};
+ghost use Rattle.std.specs.Prelude.{◌≡◌, ◌+◌, ◌∷◌, [], ℕ, List, map, option_map, unwrap_or, codes, slice_get, Some};
+ghost use Rattle.mach_dyld.specs.Exports.{texts};
+ghost use Rattle.mach_load.specs.Command.{Command};
 ghost use Rattle.mach_load.specs.Variants.{command_of};
-ghost use Rattle.goblin_mach.specs.Libraries.{library_kind, dylib_of_values, named_by, of_ordinal, by_ordinal, library_view, libraries_in, libraries_left};
+ghost use Rattle.goblin_mach.specs.Libraries.{LibraryView, library_kind, dylib_of_values, named_by, of_ordinal, library_view, libraries_in, libraries_left};
+ghost use Rattle.goblin_mach.specs.OpenImage.{IsImage, IsLossyImage, bytes_held, commands_held};
 ghost use Rattle.goblin_mach.specs.Readings.{said, first_of};
+ghost use Rattle.goblin_mach.specs.Subjects.{libs_in, own_name_in};
 
+use crate::image::macho::MachO;
 use mach_base::{ByteCount, read_text};
 use mach_load::{CommandVariant, LoadCommand};
 use mach_records::Dylib;
+use std::alloc::Allocator;
 use std::fmt;
 use std::fmt::{Debug, Formatter, Write};
 use std::slice::Iter;
@@ -149,3 +155,18 @@ impl Debug for LibraryIterator<'_, '_> {
             .finish()
     }
 }
+
+/// The libraries with their kinds are those of `libs`: the names are the same, in the same order, and each library's
+/// ordinal is its place there.
+pub fn libraries_by_ordinal()
+    ensures names { (bytes : List ℕ) (cs : List Command) → libs_in bytes cs ≡ unwrap_or (own_name_in bytes cs) (codes "self") ∷ map (λ l. l.name) (libraries_in bytes cs) }
+    ensures ordinals { (bytes : List ℕ) (cs : List Command) (k : ℕ) (l : LibraryView) → slice_get (libraries_in bytes cs) k ≡ Some l → l.ordinal ≡ k + 1 }
+{}
+
+/// What an image that was opened holds in `libs` at the ordinal of a library is that library's name.
+pub fn libraries_in_libs<A: Allocator>(image: &MachO<'_, A>)
+    ensures strict { (bytes : List ℕ) (o : ℕ) → IsImage bytes o image.now → (k : ℕ) (l : LibraryView)
+        → slice_get (libraries_in (bytes_held image.now) (commands_held image.now)) k ≡ Some l → slice_get (texts image.now.libs.items) l.ordinal ≡ Some l.name }
+    ensures lossy { (bytes : List ℕ) (o : ℕ) → IsLossyImage bytes o image.now → (k : ℕ) (l : LibraryView)
+        → slice_get (libraries_in (bytes_held image.now) (commands_held image.now)) k ≡ Some l → slice_get (texts image.now.libs.items) l.ordinal ≡ Some l.name }
+{}

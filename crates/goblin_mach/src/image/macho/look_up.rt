@@ -1,12 +1,13 @@
 //! The libraries of an image by kind, and the look-up of one name in its export trie.
 
-ghost use Rattle.std.specs.Prelude.{◌≡◌, List, option_map, IfOk, IfErr};
+ghost use Rattle.std.specs.Prelude.{◌≡◌, ℕ, List, Option, Some, None, option_map, IfOk, IfErr};
 ghost use Rattle.mach_base.specs.Answer.{Stands, IsOkUnlessMemory};
 ghost use Rattle.mach_dyld.specs.Exports.{texts, info_of};
 ghost use Rattle.mach_dyld.specs.LookUp.{IsFirstOf};
-ghost use Rattle.mach_dyld.specs.Trie.{Entry};
+ghost use Rattle.mach_dyld.specs.Trie.{Info, Entry};
+ghost use Rattle.goblin_mach.specs.Facts.{HasExports, HasExportOf};
 ghost use Rattle.goblin_mach.specs.Libraries.{libraries_in, libraries_left};
-ghost use Rattle.goblin_mach.specs.LookUp.{StandsInImage};
+ghost use Rattle.goblin_mach.specs.LookUp.{StandsInImage, IsListedAs};
 ghost use Rattle.goblin_mach.specs.OpenImage.{trie_held, bytes_held, commands_held};
 ghost use Rattle.goblin_mach.specs.Subjects.{ListsImageExports, ImageExportsFault};
 
@@ -47,3 +48,14 @@ impl<'a, A: Allocator> MachO<'a, A> {
         }
     }
 }
+
+/// What the list of an image's exports says of a name, and what the paths of its trie say. The first export of the name
+/// stands by its path; where no path has the name, no export has it; and what stands by a path is listed.
+pub fn export_by_list_and_paths()
+    ensures first { (bytes : List ℕ) (o : ℕ) (list : List Entry) (name : List ℕ) (found : Option Info) → HasExports bytes o list → IsFirstOf name list found
+        → HasExportOf bytes o name found }
+    ensures missing { (bytes : List ℕ) (o : ℕ) (list : List Entry) (name : List ℕ) → HasExports bytes o list → HasExportOf bytes o name None
+        → IsFirstOf name list None }
+    ensures listed { (bytes : List ℕ) (o : ℕ) (list : List Entry) (name : List ℕ) (info : Info) → HasExports bytes o list → HasExportOf bytes o name (Some info)
+        → IsListedAs name info list }
+{}
