@@ -10,6 +10,9 @@ pub mod Opened
 pub mod Relocations
 pub mod Lossy
 pub mod SameSegments
+pub mod Bases
+pub mod SameFixups
+pub mod SameBindings
 pub mod Facts
 pub mod Exported
 pub mod FatNumbers
