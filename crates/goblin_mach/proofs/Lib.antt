@@ -15,6 +15,7 @@ pub mod SameFixups
 pub mod SameBindings
 pub mod Facts
 pub mod DyldFacts
+pub mod OneList
 pub mod Exported
 pub mod FatNumbers
 pub mod FatMagics

@@ -11,6 +11,7 @@ pub mod FixupsLeft
 pub mod Bindings
 pub mod BindingsLeft
 pub mod Facts
+pub mod BindingLaws
 pub mod FatFile
 pub mod FatEntry
 pub mod View

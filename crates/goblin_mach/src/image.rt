@@ -1,5 +1,6 @@
 //! The image, and what a file is.
 
+pub mod binding_laws;
 pub mod bindings;
 pub mod commands;
 pub mod entry;
