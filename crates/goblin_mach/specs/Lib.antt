@@ -8,7 +8,12 @@ pub mod LookUp
 pub mod Relocations
 pub mod Image
 pub mod OpenImage
+pub mod Fixups
+pub mod FixupsLeft
+pub mod Bindings
+pub mod BindingsLeft
 pub mod Facts
+pub mod BindingLaws
 pub mod FatFile
 pub mod FatEntry
 pub mod View
