@@ -1,3 +1,9 @@
-pub mod Answered
-pub mod Chains
-pub mod Named
+pub mod Places
+pub mod Walks
+pub mod Steps
+pub mod Weak
+pub mod Opening
+pub mod Notes
+pub mod Pushed
+pub mod Found
+pub mod Printed

@@ -1,2 +1,12 @@
-pub mod Resolved
+pub mod Files
+pub mod Behind
+pub mod Follow
+pub mod Special
+pub mod Answers
+pub mod Lines
+pub mod Given
+pub mod Failures
 pub mod Seen
+pub mod Opened
+pub mod Resolved
+pub mod Outcome

@@ -1,104 +1,57 @@
--- Where a symbol is found among libraries, by two-level names and re-exports (dyld).
-use Rattle.std.specs.Prelude.{◌≡◌, ◌≢◌, ◌==◌, ℕ, Bool, List, [], ◌∷◌, All, take, Option, Some, None, unwrap_or, slice_get}
-use Rattle.std.specs.List.{list_any}
-use Rattle.mach_load.specs.Command.{Command, cmd_of}
-use Rattle.mach_parts.specs.Header.{IsHeader}
-use Rattle.mach_parts.specs.declared.header.Header.{Header}
-use Rattle.mach_dyld.specs.Imports.{Import}
-use Rattle.mach_dyld.specs.Trie.{Entry, Info, regular, reexport, stub}
-use Rattle.goblin_mach.specs.Facts.{OfImage, HasName, HasLibraries, HasExports, HasImports, IsFirstExport, IsNotExported}
+-- A program and its libraries, resolved.
+use Rattle.std.specs.Prelude.{◌≡◌, ℕ, List, [], ◌∷◌, ◌++◌, map, unwrap_or, Result, Ok, Err}
+use Rattle.mach_base.specs.Context.{pointer_size}
+use Rattle.mach_base.specs.Fault.{Fault}
+use Rattle.mach_parts.specs.Bindings.{Binding}
+use Rattle.mach_parts.specs.Segments.{segments_in}
+use Rattle.mach_dyld.specs.Exports.{texts}
+use Rattle.goblin_mach.specs.Bindings.{AreImageBindings}
+use Rattle.goblin_mach.specs.Facts.{OfImage, HasBindings}
+use Rattle.goblin_mach.specs.Fixups.{chained_held}
 use Rattle.goblin_mach.specs.Image.{Opens}
+use Rattle.goblin_mach.specs.Libraries.{libraries_in}
+use Rattle.goblin_mach.specs.OpenImage.{binds_held, ctx_held}
+use Rattle.goblin_mach.specs.Subjects.{own_name_in}
+use Rattle.goblin_mach.specs.declared.image.macho.MachO.{MachO}
+use Rattle.machresolve.specs.Files.{File, TrieFaultAt}
+use Rattle.machresolve.specs.Answers.{Program, Answer, AreAnswers}
+use Rattle.machresolve.specs.Given.{Given, Gathers, GivenFault, may_be_absent}
 
--- a library: the name by which it is known, and its exports
-pub record Library : Type 0 where
-  pub name : List ℕ
-  pub exports : List Entry
+-- The bytes are this program: they open; its name is its own, or its path; and these are its bindings, all of them.
+pub record IsProgram (g : Given) (p : Program) (bindings : List Binding) : Type 0 where
+  pub opens : Opens g.bytes 0
+  pub name : OfImage g.bytes 0 (λ ctx cs. p.name ≡ unwrap_or (own_name_in g.bytes cs) g.path)
+  pub absences : OfImage g.bytes 0 (λ ctx cs. p.may_be_absent ≡ may_be_absent (libraries_in g.bytes cs))
+  pub bindings_are : HasBindings g.bytes 0 (map (λ b. Ok b) bindings)
 
--- The bytes are this library: they open, with this name, and their trie lists these exports.
-pub record IsLibrary (bytes : List ℕ) (l : Library) : Type 0 where
-  pub opens : Opens bytes 0
-  pub named : HasName bytes 0 (Some l.name)
-  pub exported : HasExports bytes 0 l.exports
+-- these are the answers for the bindings of a program, in order, among the program and some libraries
+pub record IsResolved (program : Given) (libraries : List Given) (answers : List Answer) : Type 0 where
+  pub files : List File
+  pub gathered : Gathers 0 (program ∷ libraries) [] files
+  pub known : Program
+  pub bindings : List Binding
+  pub is_program : IsProgram program known bindings
+  pub are_answers : AreAnswers files known bindings answers
 
--- each file is the library that stands at its place
-abbrev pub AreLibraries : List (List ℕ) → List Library → Type 0
-AreLibraries [] [] = Unit {0}
-AreLibraries [] (l ∷ ls) = ⊥
-AreLibraries (bytes ∷ files) [] = ⊥
-AreLibraries (bytes ∷ files) (l ∷ ls) = IsLibrary bytes l × AreLibraries files ls
+-- why a program is refused
+pub data ResolveFault (program : Given) (libraries : List Given) : ℕ → Fault → Type 0 where
+  of_file : {n : ℕ} {f : Fault} → GivenFault (program ∷ libraries) n f → ResolveFault program libraries n f
+  of_bindings : {f : Fault} (bindings : List Binding) (rest : List (Result Binding Fault)) → HasBindings program.bytes 0 (map (λ b. Ok b) bindings ++ Err f ∷ rest)
+      → ResolveFault program libraries 0 f
+  of_trie : {n : ℕ} {f : Fault} (files : List File) → Gathers 0 (program ∷ libraries) [] files → TrieFaultAt files n f
+      → ResolveFault program libraries n f
 
--- whether a command says where chained fixups lie (`mach-o/loader.h`, LC_DYLD_CHAINED_FIXUPS)
-abbrev pub is_chained_fixups : Command → Bool
-is_chained_fixups c = cmd_of c == 0x8000_0034
+-- ---- of an image as it is held
 
--- whether a command of the image at 0 is of chained fixups: the imports that these list are not read
-abbrev pub HasChainedFixups : List ℕ → Bool → Type 0
-HasChainedFixups bytes has = OfImage bytes 0 (λ ctx cs. has ≡ list_any is_chained_fixups cs)
+abbrev pub HoldsItems : {A : Type 0} → MachO A → List (Result Binding Fault) → Type 0
+HoldsItems m items =
+    AreImageBindings (binds_held m) (chained_held m) (pointer_size (ctx_held m).container) (texts m.libs.items) (segments_in m.segments) items
 
--- a program: its header, the names of its libraries by ordinal, its own first, the imports of its binds,
--- and whether it has chained fixups
-pub record Program : Type 0 where
-  pub header : Header
-  pub names : List (List ℕ)
-  pub imports : List Import
-  pub has_chained_fixups : Bool
+-- these are all of its bindings
+abbrev pub HoldsBindings : {A : Type 0} → MachO A → List Binding → Type 0
+HoldsBindings m bindings = HoldsItems m (map (λ b. Ok b) bindings)
 
-pub record IsProgram (bytes : List ℕ) (p : Program) : Type 0 where
-  pub opens : Opens bytes 0
-  pub header : OfImage bytes 0 (λ ctx cs. IsHeader ctx bytes 0 p.header)
-  pub names : HasLibraries bytes 0 p.names
-  pub imports : HasImports bytes 0 p.imports
-  pub fixups : HasChainedFixups bytes p.has_chained_fixups
-
--- a symbol: its name, and that of the library in which it is sought
-pub record Symbol : Type 0 where
-  pub library : List ℕ
-  pub name : List ℕ
-
-abbrev pub symbol_of : Import → Symbol
-symbol_of i = record { library = i.dylib; name = i.name }
-
--- library i is the first that has this name
-pub record IsFirstNamed (name : List ℕ) (libs : List Library) (i : ℕ) (l : Library) : Type 0 where
-  pub listed : slice_get libs i ≡ Some l
-  pub named : l.name ≡ name
-  pub before : All (λ x. x.name ≢ name) (take i libs)
-
--- no library has this name
-abbrev pub NoneNamed : List ℕ → List Library → Type 0
-NoneNamed name libs = All (λ x. x.name ≢ name) libs
-
--- The library in which a symbol is sought, the first of its name, first lists the symbol's name as this.
-pub record IsListed (libs : List Library) (s : Symbol) (info : Info) : Type 0 where
-  pub place : ℕ
-  pub library : Library
-  pub is_library : IsFirstNamed s.library libs place library
-  pub index : ℕ
-  pub export : Entry
-  pub is_export : IsFirstExport s.name library.exports index export
-  pub info_is : export.info ≡ info
-
--- That library doesn't list the symbol's name.
-pub record IsUnlisted (libs : List Library) (s : Symbol) : Type 0 where
-  pub place : ℕ
-  pub library : Library
-  pub is_library : IsFirstNamed s.library libs place library
-  pub none : IsNotExported s.name library.exports
-
--- the address that is told of an export, a stub's where a resolver would be asked; a re-export has none
-abbrev pub address_of : Info → Option ℕ
-address_of (regular address flags) = Some address
-address_of (reexport lib name flags) = None
-address_of (stub stub_offset resolver_offset flags) = Some stub_offset.number
-
--- A symbol is listed as a re-export of another: in that library, under its own name or a given one.
-pub record IsReexport (libs : List Library) (s t : Symbol) : Type 0 where
-  pub given : Option (List ℕ)
-  pub flags : ℕ
-  pub listed : IsListed libs s (reexport t.library given flags)
-  pub name_is : t.name ≡ unwrap_or given s.name
-
--- re-exports lead from a symbol to another, by any number of steps
-pub data ReexportsLead (libs : List Library) : Symbol → Symbol → Type 0 where
-  here : (s : Symbol) → ReexportsLead libs s s
-  further : (s t u : Symbol) → ReexportsLead libs s t → IsReexport libs t u → ReexportsLead libs s u
+-- a fault stands in its bindings, or in the trie of a file
+pub data AnswerFault {A : Type 0} (files : List File) (m : MachO A) : ℕ → Fault → Type 0 where
+  of_bindings : {f : Fault} (bindings : List Binding) (rest : List (Result Binding Fault)) → HoldsItems m (map (λ b. Ok b) bindings ++ Err f ∷ rest) → AnswerFault files m 0 f
+  of_trie : {n : ℕ} {f : Fault} → TrieFaultAt files n f → AnswerFault files m n f

@@ -1,99 +1,81 @@
--- What the program's answers mean.
-use Rattle.std.specs.Prelude.{◌≡◌, ℕ, List, All, map, Some, Bool, true, false, slice_get, bit_and}
-use Rattle.std.specs.List.{list_any}
-use Rattle.mach_dyld.specs.BindViews.{imports_seen}
-use Rattle.mach_dyld.specs.Exports.{entries, texts}
-use Rattle.mach_dyld.specs.Imports.{Import}
-use Rattle.mach_dyld.specs.declared.imports.Import as listed
-use Rattle.goblin_mach.specs.declared.image.macho.MachO.{MachO}
-use Rattle.goblin_mach.specs.OpenImage.{commands_held}
-use Rattle.machresolve.specs.Resolved.{Library, AreLibraries, Program, IsProgram, Symbol, symbol_of, is_chained_fixups}
-use Rattle.machresolve.specs.Resolved.{NoneNamed, IsListed, IsUnlisted, address_of, IsReexport, ReexportsLead}
-use Rattle.machresolve.specs.declared.library.OpenLibrary.{OpenLibrary}
-use Rattle.machresolve.specs.declared.chain.Wanted.{Wanted}
-use Rattle.machresolve.specs.declared.chain.Place.{Place}
-use Rattle.machresolve.specs.declared.chain.Place.TheVariants.{Found, Missing, NoLibrary, LeadsBack}
-use Rattle.machresolve.specs.declared.chain.Step.{Step}
-use Rattle.machresolve.specs.declared.chain.Step.TheVariants as steps
-use Rattle.machresolve.specs.declared.resolve.Answer.{Answer}
-use Rattle.machresolve.specs.declared.resolve.Answer.TheVariants.{Flat, Itself, Sought}
-use Rattle.machresolve.specs.declared.resolve.Resolution.{Resolution}
+-- What the program's own types mean.
+use Rattle.std.specs.Prelude.{◌≡◌, ◌↔◌, ℕ, Bool, List, map, Option, option_map, Some, None, slice_get, IsTrue}
+use Rattle.mach_dyld.specs.Exports.{texts}
+use Rattle.mach_dyld.specs.Trie.{Info}
+use Rattle.mach_parts.specs.Bindings.{provider_view}
+use Rattle.goblin_mach.specs.OpenImage.{trie_held}
+use Rattle.machresolve.specs.Files as files
+use Rattle.machresolve.specs.Behind as behind
+use Rattle.machresolve.specs.Follow as follow
+use Rattle.machresolve.specs.Special as special
+use Rattle.machresolve.specs.Answers as answers
+use Rattle.machresolve.specs.declared.file.File.{File}
+use Rattle.machresolve.specs.declared.file.Files.{Files}
+use Rattle.machresolve.specs.declared.behind.Edge.{Edge}
+use Rattle.machresolve.specs.declared.behind.Met.{Met}
+use Rattle.machresolve.specs.declared.follow.Symbol.{Symbol}
+use Rattle.machresolve.specs.declared.follow.Place.{Place}
+use Rattle.machresolve.specs.declared.follow.Place.TheVariants.{Found, LeadsBack, NoLibrary, Missing, NotGiven, NotFound, NoMain}
+use Rattle.machresolve.specs.declared.follow.Step.{Step}
+use Rattle.machresolve.specs.declared.follow.Step.TheVariants.{Leads, Ends}
+use Rattle.machresolve.specs.declared.special.Definition.{Definition}
+use Rattle.machresolve.specs.declared.answers.Answer.{Answer}
+use Rattle.machresolve.specs.declared.answers.Program.{Program}
 
-abbrev pub library_seen : {A : Type 0} → OpenLibrary A → Library
-library_seen l = record { name = l.name.now; exports = entries l.exports.items }
+abbrev pub file_seen : {A : Type 0} → File A → files.File
+file_seen f = record {
+  number = f.number;
+  name = f.name.now;
+  is_main = f.is_main;
+  reexports = texts f.reexports.items;
+  trie = trie_held f.image;
+  libs = texts f.image.libs.items;
+}
 
-abbrev pub libraries_seen : {A : Type 0} → List (OpenLibrary A) → List Library
-libraries_seen ls = map library_seen ls
+abbrev pub files_seen : {A : Type 0} → Files A → List files.File
+files_seen fs = map file_seen fs.items.items
 
-abbrev pub symbol_seen : Wanted → Symbol
-symbol_seen w = record { library = w.library.now; name = w.name.now }
+abbrev pub edge_seen : Edge → behind.Edge
+edge_seen e = record { from = e.from.now; to = e.to.now }
 
--- A symbol is at its end: its library lists it with an address, or doesn't list it, or is not there; or
--- it is listed as a re-export that leads back to it. The library is told.
-abbrev pub IsEnd : List Library → Symbol → Place → Type 0
-IsEnd libs s (Found library address) = (library.now ≡ s.library) × (info : _) × IsListed libs s info × (address_of info ≡ Some address)
-IsEnd libs s (Missing library) = (library.now ≡ s.library) × IsUnlisted libs s
-IsEnd libs s (NoLibrary library) = (library.now ≡ s.library) × NoneNamed s.library libs
-IsEnd libs s (LeadsBack library) = (library.now ≡ s.library) × (next : Symbol) × IsReexport libs s next × ReexportsLead libs next s
+abbrev pub met_seen : {A : Type 0} → Met A → behind.Met
+met_seen m = record { places = m.places.items; gap = option_map edge_seen m.gap }
 
--- re-exports lead from a symbol to this end
-pub record IsPlace (libs : List Library) (s : Symbol) (place : Place) : Type 0 where
-  pub last : Symbol
-  pub leads : ReexportsLead libs s last
-  pub is_end : IsEnd libs last place
+abbrev pub symbol_seen : Symbol → follow.Symbol
+symbol_seen s = record { library = s.library.now; name = s.name.now }
+
+abbrev pub place_seen : Place → follow.Place
+place_seen (Found file address is_absolute) = follow.found file.now address is_absolute
+place_seen (LeadsBack library) = follow.leads_back library.now
+place_seen (NoLibrary library) = follow.no_library library.now
+place_seen (Missing library) = follow.missing library.now
+place_seen (NotGiven library reexported) = follow.not_given library.now reexported.now
+place_seen NotFound = follow.not_found
+place_seen NoMain = follow.no_main
+
+-- what an export of a file, sought under this name, leads to: another symbol, or its address
+abbrev pub LeadsOn : files.File → Info → List ℕ → Step → Type 0
+LeadsOn g info name (Leads next) = follow.LeadsTo info name (symbol_seen next)
+LeadsOn g info name (Ends place) =
+    (address : ℕ) × (follow.address_of info ≡ Some address) × (place_seen place ≡ follow.found g.name address (follow.is_absolute info))
 
 -- one step further, or the end
-abbrev pub IsStep : List Library → Symbol → Step → Type 0
-IsStep libs s (steps.Leads next) = IsReexport libs s (symbol_seen next)
-IsStep libs s (steps.Ends place) = IsEnd libs s place
+abbrev pub IsStep : List files.File → follow.Symbol → Step → Type 0
+IsStep fs s (Leads next) = follow.IsReexport fs s (symbol_seen next)
+IsStep fs s (Ends place) = follow.IsEnd fs s (place_seen place)
 
--- The answer for a symbol of a program: the program has no two-level names, since its header lacks the
--- flag MH_TWOLEVEL; or the symbol is sought in the program itself; or it has its place among the libraries.
-abbrev pub IsAnswer : List Library → Program → Symbol → Answer → Type 0
-IsAnswer libs p s Flat = bit_and p.header.flags 0x80 ≡ 0
-IsAnswer libs p s Itself = slice_get p.names 0 ≡ Some s.library
-IsAnswer libs p s (Sought place) = IsPlace libs s place
+abbrev pub program_seen : {A : Type 0} → Program A → answers.Program
+program_seen p = record { name = p.name.now; may_be_absent = p.may_be_absent.items }
 
--- what is asked: a symbol, and whether it may be missing
-abbrev pub asked_by : Import → Symbol × Bool
-asked_by i = (symbol_of i, i.is_weak)
+abbrev pub answer_seen : Answer → answers.Answer
+answer_seen a = record { name = a.name.now; provider = provider_view a.provider; place = place_seen a.place; is_weak = a.is_weak }
 
-abbrev pub asked_in : Resolution → Symbol × Bool
-asked_in r = (symbol_seen r.wanted, r.is_weak)
-
--- One answer for each import of the program, in order.
-pub record AreAnswers (libs : List Library) (p : Program) (rs : List Resolution) : Type 0 where
-  pub asked : map asked_in rs ≡ map asked_by p.imports
-  pub answered : All (λ r. IsAnswer libs p (symbol_seen r.wanted) r.answer) rs
-
--- Whether an answer settles an import, which may be missing or not: the symbol is found, or may be missing,
--- or is not sought among the libraries.
-abbrev pub settles : Answer → Bool → Bool
-settles Flat is_weak = true
-settles Itself is_weak = true
-settles (Sought (Found library address)) is_weak = true
-settles (Sought (Missing library)) is_weak = is_weak
-settles (Sought (NoLibrary library)) is_weak = false
-settles (Sought (LeadsBack library)) is_weak = false
-
-abbrev pub is_settled : Resolution → Bool
-is_settled r = settles r.answer r.is_weak
-
--- The bytes are a program, which has chained fixups or not; the files are libraries; and these are the
--- answers for the imports of the program's binds.
-pub record IsResolved (files : List (List ℕ)) (bytes : List ℕ) (rs : List Resolution) (has_chained_fixups : Bool) : Type 0 where
-  pub libraries : List Library
-  pub are_libraries : AreLibraries files libraries
-  pub program : Program
-  pub is_program : IsProgram bytes program
-  pub answers : AreAnswers libraries program rs
-  pub fixups : program.has_chained_fixups ≡ has_chained_fixups
-
--- a program as it was opened, with its imports as they were listed
-abbrev pub program_seen : {A : Type 0} → MachO A → List listed.Import → Program
-program_seen m is = record {
-  header = m.header;
-  names = texts m.libs.items;
-  imports = imports_seen is;
-  has_chained_fixups = list_any is_chained_fixups (commands_held m);
-}
+-- the file at this place defines a name so, and this is whether the definition is weak
+pub record IsDefinition (fs : List files.File) (i : ℕ) (name : List ℕ) (d : Definition) : Type 0 where
+  pub file : files.File
+  pub info : Info
+  pub address : ℕ
+  pub listed : slice_get fs i ≡ Some file
+  pub defines : special.Defines file name info address
+  pub place_is : place_seen d.place ≡ follow.found file.name address (follow.is_absolute info)
+  pub weak : IsTrue d.is_weak ↔ special.IsWeak info

@@ -1,6 +1,8 @@
 //! Why a program was not resolved.
 
-ghost use Rattle.std.specs.Prelude.{◌≡◌, ◌≤◌, ◌↔◌};
+ghost use Rattle.std.specs.Prelude.{◌≡◌};
+ghost use Rattle.machresolve.specs.Failures.{told_as};
+ghost use Rattle.machresolve.specs.declared.failure.Failure.TheVariants as failures;
 
 use goblin_mach::{Error, describe};
 use std::alloc::{AllocError, AllocFailed};
@@ -20,49 +22,35 @@ pub enum Failure {
 
 impl Failure {
     /// A file was refused for an error, which may be want of memory.
-    pub fn refused(file: usize, error: Error) -> Failure {
+    pub fn refused(file: usize, error: Error) -> Failure
+        ensures { result ≡ told_as file error }
+    {
         match error {
             Error::Memory(_) => Failure::Memory,
             other => Failure::Refused { file, error: other },
         }
     }
-
-    /// The exit status: 1 for a refused file and for want of memory, 2 for a line that was not written.
-    pub fn status(&self) -> u8
-        ensures bounds { (1 ≤ result) × (result ≤ 2) }
-        ensures unwritten { (result ≡ 2) ↔ (self.now ≡ Failure.Unwritten) }
-    {
-        match self {
-            Failure::Refused { .. } | Failure::Memory => 1,
-            Failure::Unwritten => 2,
-        }
-    }
-
-    /// Says on `err` what was the matter, and answers the exit status: 2, too, where that can't be written.
-    pub fn tell<E: Write>(&self, err: &mut E) -> u8
-        ensures bounds { (1 ≤ result) × (result ≤ 2) }
-        ensures unwritten { self.now ≡ Failure.Unwritten → result ≡ 2 }
-    {
-        match writeln!(err, "machresolve: {self}") {
-            Ok(()) => self.status(),
-            Err(_) => 2,
-        }
-    }
 }
 
 impl From<AllocError> for Failure {
+    ghost from_gives = { λ _ failure. failure ≡ failures.Memory };
+
     fn from(_error: AllocError) -> Failure {
         Failure::Memory
     }
 }
 
 impl<T: Drop> From<AllocFailed<T>> for Failure {
+    ghost from_gives = { λ _ failure. failure ≡ failures.Memory };
+
     fn from(_error: AllocFailed<T>) -> Failure {
         Failure::Memory
     }
 }
 
 impl From<io::Error> for Failure {
+    ghost from_gives = { λ _ failure. failure ≡ failures.Unwritten };
+
     fn from(_error: io::Error) -> Failure {
         Failure::Unwritten
     }

@@ -1,20 +1,26 @@
-//! Says for each import of a program in which of some libraries it is found, and at which address. Each
-//! file is one image; an entry of a fat file has to be taken out of it first. A library is known by its
-//! own name (LC_ID_DYLIB), as imports and re-exports call it; the first of several of one name counts.
-//! Re-exports are those of tries: a library that another re-exports as a whole (LC_REEXPORT_DYLIB) is not
-//! searched in its place. An import that names a special library, as for a flat lookup, doesn't show it.
+//! Says for each binding of a program where it is found among some libraries, and at which address: for the binds of
+//! its opcodes, and for those of its chains. Each file is one image; an entry of a fat file has to be taken out of it
+//! first. A library is known by its own name (LC_ID_DYLIB), or by its path where it has none; the first of several of
+//! one name counts. Names are compared as texts.
 #![tactic(auto)]
 
-mod chain;
+mod answers;
+mod behind;
 mod failure;
-mod library;
+mod file;
+mod files;
+mod follow;
+mod given;
+mod lines;
 mod resolve;
 mod run;
+mod special;
 #[cfg(test)]
 mod tests;
 
-use failure::Failure;
+use given::Given;
 use run::{run, run_line};
+use std::io::BufWriter;
 use std::process::ExitCode;
 use std::{env, fs, io};
 
@@ -27,7 +33,7 @@ fn main(rt: HostRuntime) -> ExitCode {
         return bad_usage(&rt);
     };
     let Ok(args) = args.collect::<Vec<String>>(rt.alloc()) else {
-        return ExitCode::from(Failure::Memory.tell(&mut rt.stderr()));
+        return ExitCode::from(out_of_memory(&rt));
     };
     let [_, first, others @ ..] = args.as_slice() else {
         return bad_usage(&rt);
@@ -46,27 +52,42 @@ fn bad_usage(rt: &impl Eprint) -> ExitCode {
     ExitCode::from(2)
 }
 
+fn out_of_memory(rt: &impl Eprint) -> u8 {
+    let _ = rt.eprintln("machresolve: out of memory");
+    2
+}
+
 // Resolves a program over libraries, and answers the exit status; Err where not all could be read.
 fn resolve_files(rt: &HostRuntime, program: &str, libraries: &[String]) -> Result<u8, u8> {
-    let program = read(rt, program)?;
+    let bytes = read(rt, program)?;
     let mut contents = Vec::new(rt.alloc());
     for library in libraries {
         if contents.push(read(rt, library)?).is_err() {
-            return Err(Failure::Memory.tell(&mut rt.stderr()));
+            return Err(out_of_memory(rt));
         }
     }
-    let Ok(slices) = contents
-        .iter()
-        .map(|bytes| bytes.as_slice())
-        .collect::<Vec<&[u8]>>(rt.alloc())
-    else {
-        return Err(Failure::Memory.tell(&mut rt.stderr()));
+    let mut given = Vec::new(rt.alloc());
+    for (path, bytes) in libraries.iter().zip(contents.iter()) {
+        let library = Given {
+            path: path.as_str(),
+            bytes: bytes.as_slice(),
+        };
+        if given.push(library).is_err() {
+            return Err(out_of_memory(rt));
+        }
+    }
+    let Ok(mut out) = BufWriter::new(rt.alloc(), io::writer(rt)) else {
+        return Err(out_of_memory(rt));
+    };
+    let program = Given {
+        path: program,
+        bytes: bytes.as_slice(),
     };
     Ok(run(
         rt.alloc(),
-        program.as_slice(),
-        slices.as_slice(),
-        &mut io::writer(rt),
+        program,
+        given.as_slice(),
+        &mut out,
         &mut rt.stderr(),
     ))
 }
@@ -75,9 +96,7 @@ fn resolve_files(rt: &HostRuntime, program: &str, libraries: &[String]) -> Resul
 fn read(rt: &HostRuntime, file: &str) -> Result<Vec<u8>, u8> {
     match fs::read(rt, file) {
         Ok(bytes) => Ok(bytes),
-        Err(error) if error.kind() == io::ErrorKind::OutOfMemory => {
-            Err(Failure::Memory.tell(&mut rt.stderr()))
-        }
+        Err(error) if error.kind() == io::ErrorKind::OutOfMemory => Err(out_of_memory(rt)),
         Err(_) => {
             let _ = rt.eprintln(format_args!("machresolve: cannot read {file}"));
             Err(2)

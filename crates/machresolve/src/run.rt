@@ -1,61 +1,99 @@
-//! The program: a line for each import, and the exit status.
+//! What the program prints, and its exit status.
 
-ghost use Rattle.std.specs.Prelude.{◌≡◌, ◌≤◌, ◌⊎◌, ◌++◌, List, Ok, OnOk, codes, true, false, IsTrue, map};
+ghost use Rattle.std.specs.Prelude.{◌≡◌, ◌≤◌, ◌⊎◌, ◌++◌, List, map, codes, true, false, Ok, IfErr, OnOk};
 ghost use Rattle.std.specs.Io.KnownBytes.{Appends};
 ghost use Rattle.std.specs.List.{list_all};
-ghost use Rattle.machresolve.specs.Seen.{IsResolved, is_settled};
-ghost use Rattle.machresolve.specs.declared.resolve.Resolution.{Resolution};
+ghost use Rattle.machresolve.specs.Answers.{is_settled};
+ghost use Rattle.machresolve.specs.Lines.{lines_of};
+ghost use Rattle.machresolve.specs.Opened.{given_seen};
+ghost use Rattle.machresolve.specs.Outcome.{Settled, Unsettled, IsRefused, FailsBy, WasRefused};
+ghost use Rattle.machresolve.specs.Seen.{answer_seen};
 
+use crate::answers::Answer;
 use crate::failure::Failure;
+use crate::given::Given;
 use crate::resolve::resolve;
 use std::alloc::Allocator;
 use std::io;
-use std::io::{BufWriter, Write};
+use std::io::Write;
 
-/// Prints where each import of a program is found among libraries, and answers the exit status: 0 where
-/// each is found, or may be missing, or is not sought among the libraries; 1 where one is not found, or the
-/// program has chained fixups, which are not read, or a file or memory is refused; 2 where a write fails.
-/// What ended the work goes to `err`.
-pub fn run<A: Allocator + Clone, O: Write, E: Write>(
+/// Prints a line for each binding of a program, and answers the exit status: 0 where each is settled; 1 where one
+/// is not, or a file is refused, and then nothing is printed; 2 for want of memory, and where a write fails. What
+/// ended the work goes to `err`.
+pub fn run<'a, A: Allocator + Copy, O: Write, E: Write>(
     alloc: A,
-    program: &[u8],
-    libraries: &[&[u8]],
+    program: Given<'a>,
+    libraries: &[Given<'a>],
     out: &mut O,
     err: &mut E,
 ) -> u8
     ensures status { result ≤ 2 }
-    ensures resolved { result ≡ 0 → (answers : List Resolution) × IsResolved (map (λ f. f.now) libraries.now) program.now answers false
-        × IsTrue (list_all is_settled answers) }
+    ensures settled { result ≡ 0 → Settled (given_seen program.entry) (map given_seen libraries.now) (O.contents out.old) (O.contents out.new) }
+    ensures unsettled { result ≡ 1 → Unsettled (given_seen program.entry) (map given_seen libraries.now) (O.contents out.old) (O.contents out.new)
+        ⊎ IsRefused (given_seen program.entry) (map given_seen libraries.now) (O.contents out.old) (O.contents out.new) }
 {
-    match print(&alloc, program, libraries, out) {
+    match print(alloc, program, libraries, out) {
         Ok(true) => 0,
         Ok(false) => 1,
-        Err(failure) => failure.tell(err),
+        Err(failure) => tell(&failure, err),
     }
 }
 
-// Prints the lines through one buffer, and answers whether all imports are read and settled.
-fn print<A: Allocator + Clone, O: Write>(
-    alloc: &A,
-    program: &[u8],
-    libraries: &[&[u8]],
+// Prints the lines, and answers whether all bindings are settled.
+fn print<'a, A: Allocator + Copy, O: Write>(
+    alloc: A,
+    program: Given<'a>,
+    libraries: &[Given<'a>],
     out: &mut O,
 ) -> Result<bool, Failure>
-    ensures { result ≡ Ok true → (answers : List Resolution) × IsResolved (map (λ f. f.now) libraries.now) program.now answers false
-        × IsTrue (list_all is_settled answers) }
+    ensures settled { result ≡ Ok true → Settled (given_seen program.entry) (map given_seen libraries.now) (O.contents out.old) (O.contents out.new) }
+    ensures unsettled { result ≡ Ok false → Unsettled (given_seen program.entry) (map given_seen libraries.now) (O.contents out.old) (O.contents out.new) }
+    ensures refused { IfErr result (λ f. FailsBy f (given_seen program.entry) (map given_seen libraries.now) (O.contents out.old) (O.contents out.new)) }
 {
-    let resolved = resolve(alloc, program, libraries)?;
-    let mut lines = BufWriter::new(alloc.clone()?, out).map_err(|_| Failure::Memory)?;
+    let answers = match resolve(alloc, program, libraries) {
+        Ok(answers) => answers,
+        Err(failure) => return Err(failure),
+    };
+    match print_answers(&answers, out) {
+        Ok(()) => Ok(all_settled(&answers)),
+        Err(_) => Err(Failure::Unwritten),
+    }
+}
+
+// Prints a line for each answer, in order.
+fn print_answers<O: Write>(answers: &[Answer<'_>], out: &mut O) -> io::Result<()>
+    ensures { OnOk result (Appends (O.contents out.old) (O.contents out.new) (lines_of (map answer_seen answers.now))) }
+{
+    'answers: for answer in answers {
+        writeln!(out, "{answer}")?;
+    }
+    out.flush()
+}
+
+// Whether all bindings are settled.
+fn all_settled(answers: &[Answer<'_>]) -> bool
+    ensures { result ≡ list_all is_settled (map answer_seen answers.now) }
+{
     let mut settled = true;
-    for resolution in &resolved.resolutions {
-        writeln!(lines, "{resolution}")?;
-        settled &= resolution.is_settled();
+    for answer in answers {
+        settled &= answer.is_settled();
     }
-    if resolved.has_chained_fixups {
-        writeln!(lines, "chained fixups, not read")?;
+    settled
+}
+
+// Says on `err` what was the matter, and answers the exit status: 1 for a refused file, else 2; 2, too, where that
+// can't be written.
+fn tell<E: Write>(failure: &Failure, err: &mut E) -> u8
+    ensures bounds { (1 ≤ result) × (result ≤ 2) }
+    ensures refused { result ≡ 1 → WasRefused failure.now }
+{
+    match writeln!(err, "machresolve: {failure}") {
+        Ok(()) => match failure {
+            Failure::Refused { .. } => 1,
+            Failure::Memory | Failure::Unwritten => 2,
+        },
+        Err(_) => 2,
     }
-    lines.flush()?;
-    Ok(settled && !resolved.has_chained_fixups)
 }
 
 /// Prints a line, and answers the exit status: 0; 2 where the write fails, and then `err` says so.
@@ -65,7 +103,10 @@ pub fn run_line<O: Write, E: Write>(line: &str, out: &mut O, err: &mut E) -> u8
 {
     match print_line(line, out) {
         Ok(()) => 0,
-        Err(_) => Failure::Unwritten.tell(err),
+        Err(_) => {
+            tell(&Failure::Unwritten, err);
+            2
+        }
     }
 }
 

@@ -2,9 +2,13 @@
 
 mod files;
 
+use crate::given::Given;
 use crate::read;
 use crate::run::{run, run_line};
-use crate::tests::files::{CHAINED, FILE_B, FILE_C, LIBRARY_L, LIBRARY_M, PROGRAM};
+use crate::tests::files::{
+    BUNDLE, LIBRARY_A, LIBRARY_B, LIBRARY_C, LIBRARY_D, LIBRARY_L, LIBRARY_M, LIBRARY_SELF,
+    ONE_STRONG, ONE_WEAK, OVER_UMBRELLA, PROGRAM, SPECIAL, STRONG_F, UMBRELLA, WEAK_E,
+};
 use linked_list_allocator::LocalHeap;
 use std::alloc::Global;
 use std::test::Fail;
@@ -30,139 +34,191 @@ impl std::io::Write for Full {
     }
 }
 
-// The status, and what is printed on standard output and then on standard error.
-fn resolved(alloc: Global, program: &[u8], libraries: &[&[u8]]) -> Result<(u8, String), Fail> {
+// A program as it is given.
+fn program(bytes: &[u8]) -> Given<'_> {
+    Given {
+        path: "p.macho",
+        bytes,
+    }
+}
+
+// The status, and what is printed on standard output and then on standard error. The paths of the libraries are
+// all the same.
+fn resolved(alloc: Global, bytes: &[u8], libraries: &[&[u8]]) -> Result<(u8, String), Fail> {
+    let mut given = Vec::new(alloc);
+    for bytes in libraries {
+        given.push(Given {
+            path: "l.macho",
+            bytes,
+        })?;
+    }
     let mut out = Vec::new(alloc);
     let mut err = Vec::new(alloc);
-    let status = run(alloc, program, libraries, &mut out, &mut err);
+    let status = run(alloc, program(bytes), &given, &mut out, &mut err);
     out.extend_from_slice(err.as_slice())?;
     Ok((status, String::from_utf8(out)?))
 }
 
+// A row: what is tested, the program, the libraries, the status, and what is printed.
+type Row<'a> = (&'a str, &'a [u8], &'a [&'a [u8]], u8, &'a str);
+
+// Names that are sought in a library, and in the program.
 #[test]
-fn lines(rt: HostRuntime) -> Result<(), Fail> {
-    let alloc = rt.alloc();
-    let mut fixups_for_entry = FILE_B;
-    fixups_for_entry[0x120] = 0x34;
-    let rows: [(&str, &[u8], &[u8], u8, &str); 9] = [
-        (
-            "both libraries",
-            &PROGRAM,
-            &LIBRARY_M,
-            1,
-            "_direct L 0x1234 in L\n_renamed L 0x20 in M\n_absent L missing in L\n_maybe L weak, missing in L\n_round L leads back to L\n_stub M 0x40 in M\n_far N no library N\n_own self self\n_lost L no library N\n",
-        ),
-        (
-            "one library, twice",
-            &PROGRAM,
-            &LIBRARY_L,
-            1,
-            "_direct L 0x1234 in L\n_renamed L no library M\n_absent L missing in L\n_maybe L weak, missing in L\n_round L no library M\n_stub M no library M\n_far N no library N\n_own self self\n_lost L no library N\n",
-        ),
-        (
-            "no two-level names",
-            &FILE_B,
-            &LIBRARY_M,
-            0,
-            "_a L flat\n_b L flat\n",
-        ),
-        ("no imports", &LIBRARY_L, &LIBRARY_M, 0, ""),
-        (
-            "chained fixups",
-            &CHAINED,
-            &LIBRARY_M,
-            1,
-            "chained fixups, not read\n",
-        ),
-        (
-            "chained fixups beside binds",
-            &fixups_for_entry,
-            &LIBRARY_M,
-            1,
-            "_a L flat\n_b L flat\nchained fixups, not read\n",
-        ),
-        (
-            "a fat program",
-            &FILE_C,
-            &LIBRARY_M,
-            1,
-            "machresolve: the program: bad magic 0xcafebabe\n",
-        ),
-        (
-            "a library of no name",
-            &PROGRAM,
-            &FILE_B,
-            1,
-            "machresolve: library 2: malformed: a library has a name\n",
-        ),
-        (
-            "a cut program",
-            &PROGRAM[..31],
-            &LIBRARY_M,
-            1,
-            "machresolve: the program: malformed: a header is 32 bytes\n",
-        ),
-    ];
-    for (name, program, second, status, text) in rows {
-        let got = resolved(alloc, program, &[&LIBRARY_L, second])?;
-        assert_eq!(rt; (got.0, got.1.as_str()), (status, text), "{name}");
+fn by_library(rt: HostRuntime) -> Result<(), Fail> {
+    let rows: &[Row<'_>] = &[
+            (
+                "all libraries",
+                &PROGRAM,
+                &[&LIBRARY_L, &LIBRARY_M, &LIBRARY_SELF],
+                1,
+                "_direct L 0x1234 in L\n_absolute L absolute 0x99 in L\n_thread L 0x50 in L\n_renamed L 0x20 in M\n_missing L missing in L\n_missing L weak, missing in L\n_round L leads back to L\n_round L leads back to L\n_stub M 0x40 in M\n_far N no library N\n_far N weak, no library N\n_lost L no library N\n_lost_weak L no library W\n_gone W weak, no library W\n_here self 0x7 in self\n_direct L.debug no library L.debug\n_own this-image 0x70 in p.macho\n_again this-image 0x1234 in L\n_none this-image missing in p.macho\n",
+            ),
+            (
+                "no libraries",
+                &ONE_STRONG,
+                &[],
+                1,
+                "_direct L no library L\n_missing L no library L\n",
+            ),
+            ("no binds", &LIBRARY_L, &[&LIBRARY_M], 0, ""),
+            (
+                "an open bind that is strong",
+                &ONE_STRONG,
+                &[&LIBRARY_L],
+                1,
+                "_direct L 0x1234 in L\n_missing L missing in L\n",
+            ),
+            (
+                "an open bind that is weak",
+                &ONE_WEAK,
+                &[&LIBRARY_L],
+                0,
+                "_direct L 0x1234 in L\n_missing L weak, missing in L\n",
+            ),
+        ];
+    for (name, program, libraries, status, text) in rows {
+        let got = resolved(rt.alloc(), program, libraries)?;
+        assert_eq!(rt; (got.0, got.1.as_str()), (*status, *text), "{name}");
     }
     Ok(())
 }
 
+// Libraries that are re-exported as a whole.
+#[test]
+fn behind_an_umbrella(rt: HostRuntime) -> Result<(), Fail> {
+    let rows: &[Row<'_>] = &[
+            (
+                "all given",
+                &OVER_UMBRELLA,
+                &[&UMBRELLA, &LIBRARY_A, &LIBRARY_B, &LIBRARY_C, &LIBRARY_D, &LIBRARY_L],
+                1,
+                "_own U 0x1 in U\n_a U 0x3 in A\n_d U 0x4 in D\n_both U 0x8 in A\n_b U 0x5 in B\n_c U missing in U\n_c U weak, missing in U\n_through U 0x1234 in L\n",
+            ),
+            (
+                "B and D are not given",
+                &OVER_UMBRELLA,
+                &[&UMBRELLA, &LIBRARY_A],
+                1,
+                "_own U 0x1 in U\n_a U 0x3 in A\n_d U not found; A re-exports D, which is not given\n_both U 0x8 in A\n_b U not found; A re-exports D, which is not given\n_c U not found; A re-exports D, which is not given\n_c U weak, not found; A re-exports D, which is not given\n_through U not found; A re-exports D, which is not given\n",
+            ),
+            (
+                "A is not given",
+                &OVER_UMBRELLA,
+                &[&LIBRARY_D, &LIBRARY_B, &UMBRELLA],
+                1,
+                "_own U 0x1 in U\n_a U not found; U re-exports A, which is not given\n_d U not found; U re-exports A, which is not given\n_both U 0x9 in B\n_b U 0x5 in B\n_c U not found; U re-exports A, which is not given\n_c U weak, not found; U re-exports A, which is not given\n_through U not found; U re-exports A, which is not given\n",
+            ),
+        ];
+    for (name, program, libraries, status, text) in rows {
+        let got = resolved(rt.alloc(), program, libraries)?;
+        assert_eq!(rt; (got.0, got.1.as_str()), (*status, *text), "{name}");
+    }
+    Ok(())
+}
+
+// Names that any file may give, and the main executable.
+#[test]
+fn special_libraries(rt: HostRuntime) -> Result<(), Fail> {
+    let rows: &[Row<'_>] = &[
+            (
+                "a strong definition",
+                &SPECIAL,
+                &[&UMBRELLA, &LIBRARY_A, &WEAK_E, &STRONG_F],
+                1,
+                "_own main-executable missing in p.macho\n_v main-executable 0x11 in p.macho\n_a flat-namespace 0x3 in A\n_b flat-namespace not found\n_c flat-namespace not found\n_c flat-namespace weak, not found\n_v weak-lookup 0x14 in F\n_w weak-lookup 0x13 in E\n_u weak-lookup not found\n_u weak-lookup weak, not found\n",
+            ),
+            (
+                "weak definitions alone",
+                &SPECIAL,
+                &[&WEAK_E, &LIBRARY_B],
+                1,
+                "_own main-executable missing in p.macho\n_v main-executable 0x11 in p.macho\n_a flat-namespace no library A\n_b flat-namespace 0x5 in B\n_c flat-namespace not found\n_c flat-namespace weak, not found\n_v weak-lookup 0x11 in p.macho\n_w weak-lookup 0x13 in E\n_u weak-lookup not found\n_u weak-lookup weak, not found\n",
+            ),
+            (
+                "no main executable",
+                &BUNDLE,
+                &[&UMBRELLA],
+                1,
+                "_own main-executable no main executable\n_own main-executable weak, no main executable\n",
+            ),
+            (
+                "a main executable among the libraries",
+                &BUNDLE,
+                &[&UMBRELLA, &PROGRAM],
+                0,
+                "_own main-executable 0x70 in l.macho\n_own main-executable 0x70 in l.macho\n",
+            ),
+        ];
+    for (name, program, libraries, status, text) in rows {
+        let got = resolved(rt.alloc(), program, libraries)?;
+        assert_eq!(rt; (got.0, got.1.as_str()), (*status, *text), "{name}");
+    }
+    Ok(())
+}
+
+// Every beginning of a program is refused, and nothing is printed of it, up to where only bytes behind the last
+// one that is read are left out.
 #[test]
 fn every_prefix(rt: HostRuntime) -> Result<(), Fail> {
     let alloc = rt.alloc();
-    let whole: [&[u8]; 1] = [&LIBRARY_L];
-    for file in [FILE_B.as_slice(), FILE_C.as_slice(), PROGRAM.as_slice()] {
-        for length in 0..file.len() {
-            let Some(front) = file.get(..length) else {
-                return Err(Fail::from("a prefix"));
-            };
-            let (status, _) = resolved(alloc, front, &whole)?;
-            assert_eq!(rt; status, 1, "a program cut at {length}");
-            let (status, _) = resolved(alloc, &PROGRAM, &[front])?;
-            assert_eq!(rt; status, 1, "a library cut at {length}");
-        }
+    let whole = resolved(alloc, &OVER_UMBRELLA, &[&UMBRELLA])?;
+    for length in 0..OVER_UMBRELLA.len() {
+        let Some(front) = OVER_UMBRELLA.get(..length) else {
+            return Err(Fail::from("a prefix"));
+        };
+        let (status, text) = resolved(alloc, front, &[&UMBRELLA])?;
+        let refused = text.as_str().starts_with("machresolve: the program: ");
+        assert_eq!(rt; status, 1, "a program cut at {length}");
+        assert!(rt; refused || text == whole.1, "a program cut at {length}");
     }
     Ok(())
 }
 
-// Whether the status is that of the lines: 1 where a file is refused, with words on standard error, or a
-// line tells of an import that is not settled, and else 0.
-fn agrees(alloc: Global, program: &[u8], libraries: &[&[u8]]) -> Result<bool, Fail> {
+// Whether the status is at most 1, and 1 with nothing printed where a file is refused.
+fn agrees(alloc: Global, bytes: &[u8], library: &[u8]) -> Result<bool, Fail> {
+    let libraries = [Given {
+        path: "l.macho",
+        bytes: library,
+    }];
     let mut out = Vec::new(alloc);
     let mut err = Vec::new(alloc);
-    let status = run(alloc, program, libraries, &mut out, &mut err);
-    let out = String::from_utf8(out)?;
-    let mut settled = err.is_empty();
-    for line in out.as_str().lines() {
-        if is_unsettled(line) {
-            settled = false;
-        }
-    }
-    Ok(status == u8::from(!settled))
-}
-
-// Whether a line tells of an import that is not settled.
-fn is_unsettled(line: &str) -> bool {
-    let is_missing = line.contains(" missing in ") && !line.contains(" weak, missing in ");
-    let is_lost = line.contains(" no library ") || line.contains(" leads back to ");
-    is_missing || is_lost || line == "chained fixups, not read"
+    let status = run(alloc, program(bytes), &libraries, &mut out, &mut err);
+    let refused = !err.is_empty();
+    Ok(status <= 1 && (!refused || (status == 1 && out.is_empty())))
 }
 
 #[test]
 fn every_byte(rt: HostRuntime) -> Result<(), Fail> {
     let alloc = rt.alloc();
-    for file in [FILE_B.as_slice(), PROGRAM.as_slice(), LIBRARY_L.as_slice()] {
+    for file in [OVER_UMBRELLA.as_slice(), UMBRELLA.as_slice()] {
         let mut bytes = Vec::new(alloc);
         bytes.extend_from_slice(file)?;
         for place in 0..bytes.len() {
             for byte in [0, 0x7f, 0x80, 0xff] {
                 let before = bytes[place];
                 bytes[place] = byte;
-                let as_program = agrees(alloc, bytes.as_slice(), &[&LIBRARY_L, &LIBRARY_M])?;
-                let as_library = agrees(alloc, &PROGRAM, &[bytes.as_slice(), &LIBRARY_M])?;
+                let as_program = agrees(alloc, bytes.as_slice(), &UMBRELLA)?;
+                let as_library = agrees(alloc, &OVER_UMBRELLA, bytes.as_slice())?;
                 assert!(rt; as_program && as_library, "{byte} at {place}");
                 bytes[place] = before;
             }
@@ -171,31 +227,37 @@ fn every_byte(rt: HostRuntime) -> Result<(), Fail> {
     Ok(())
 }
 
-// The output is written whole or the status is 2: of a program, and of a refused one, such as a fat file.
+// The output is written whole, or the status is 2.
 #[test]
 fn a_failed_write(rt: HostRuntime) -> Result<(), Fail> {
     let alloc = rt.alloc();
-    let libraries: [&[u8]; 2] = [&LIBRARY_L, &LIBRARY_M];
-    let whole = resolved(alloc, &PROGRAM, &libraries)?.1.len();
-    for left in 0..whole {
+    let libraries = [Given {
+        path: "l.macho",
+        bytes: &LIBRARY_L,
+    }];
+    let whole = resolved(alloc, &ONE_STRONG, &[&LIBRARY_L])?.1.len();
+    for left in 0..=whole {
         let mut err = Vec::new(alloc);
-        let status = run(alloc, &PROGRAM, &libraries, &mut Full { left }, &mut err);
-        assert_eq!(rt; status, 2, "{left}");
-        assert_eq!(rt; err.as_slice(), b"machresolve: cannot write\n".as_slice());
+        let status = run(
+            alloc,
+            program(&ONE_STRONG),
+            &libraries,
+            &mut Full { left },
+            &mut err,
+        );
+        let wanted = if left < whole { 2 } else { 1 };
+        assert_eq!(rt; (status, err.is_empty()), (wanted, left == whole), "{left}");
     }
-    let mut err = Vec::new(alloc);
-    let status = run(
-        alloc,
-        &PROGRAM,
-        &libraries,
-        &mut Full { left: whole },
-        &mut err,
-    );
-    assert_eq!(rt; (status, err.len()), (1, 0));
-    let whole = resolved(alloc, &FILE_C, &libraries)?.1.len();
+    let whole = "machresolve: the program: malformed: a header is 32 bytes\n".len();
     for left in 0..=whole {
         let mut out = Vec::new(alloc);
-        let status = run(alloc, &FILE_C, &libraries, &mut out, &mut Full { left });
+        let status = run(
+            alloc,
+            program(&ONE_STRONG[..31]),
+            &libraries,
+            &mut out,
+            &mut Full { left },
+        );
         let wanted = if left < whole { 2 } else { 1 };
         assert_eq!(rt; (status, out.len()), (wanted, 0), "{left}");
     }
@@ -230,22 +292,25 @@ fn unreadable_file(rt: HostRuntime) {
     assert_eq!(rt; status, 2);
 }
 
+// For want of memory the status is 2, and nothing is printed.
 #[test]
 fn refused_memory(rt: HostRuntime) -> Result<(), Fail> {
-    let libraries: [&[u8]; 2] = [&LIBRARY_L, &LIBRARY_M];
+    let libraries = [Given {
+        path: "l.macho",
+        bytes: &LIBRARY_L,
+    }];
     let mut refused = 0u32;
     let mut answered = 0u32;
-    for size in 0..400 {
+    for size in 0..200 {
         let heap = LocalHeap::new(rt.alloc(), 64 * size)?;
         let mut out = Vec::new(rt.alloc());
         let mut err = Vec::new(rt.alloc());
-        let status = run(&heap, &PROGRAM, &libraries, &mut out, &mut err);
-        assert_eq!(rt; status, 1, "{size}");
+        let status = run(&heap, program(&ONE_WEAK), &libraries, &mut out, &mut err);
         if err.is_empty() {
-            assert_eq!(rt; out.len(), 193);
+            assert_eq!(rt; status, 0);
             answered = answered.saturating_add(1);
         } else {
-            assert_eq!(rt; (answered, out.len()), (0, 0), "{size}");
+            assert_eq!(rt; (status, out.len()), (2, 0), "{size}");
             assert_eq!(rt; err.as_slice(), b"machresolve: out of memory\n".as_slice());
             refused = refused.saturating_add(1);
         }
