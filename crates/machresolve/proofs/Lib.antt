@@ -3,6 +3,7 @@ pub mod Walks
 pub mod Steps
 pub mod Weak
 pub mod Opening
+pub mod Opened
 pub mod Notes
 pub mod Pushed
 pub mod Found

@@ -1,15 +1,15 @@
 -- Weak look-ups, file by file.
-use Rattle.std.proofs.Common.{◌≡◌, ◌∙◌, ◌+◌, ◌<◌, ◌≤◌, ℕ, Bool, true, false, List, [], ◌∷◌, Option, Some, None, length, take, get_or, refl, sym, ap, subst, inl, inr, ◌⊎◌, arith}
-use Rattle.std.specs.Prelude.{All, slice_get, IsTrue, IsFalse}
+use Rattle.std.proofs.Common.{◌≡◌, ◌∙◌, ◌+◌, ◌<◌, ◌≤◌, ℕ, Bool, true, false, List, [], ◌∷◌, Option, Some, None, unwrap_or, length, take, get_or, refl, sym, ap, subst, inl, inr, ◌⊎◌, arith}
+use Rattle.std.specs.Prelude.{All, slice_get, IfSome, IfNone, if◌then◌else◌}
 use Rattle.std.proofs.lemmas.List.{take_all}
 use Rattle.std.proofs.lemmas.List.Elements.{All-nil, All-more, All-weaker}
-use Rattle.std.proofs.lemmas.Option.{slice_get-get_or, get_or_from_slice_get}
+use Rattle.std.proofs.lemmas.Option.{none-some, slice_get-get_or, get_or_from_slice_get}
 use Rattle.std.proofs.lemmas.Bool.{false≢true}
 use Rattle.mach_dyld.specs.Trie.{Info}
 use Rattle.machresolve.specs.Files.{File}
 use Rattle.machresolve.specs.Follow as follow
 use Rattle.machresolve.specs.Special.{DefinesNot, NotStrong, Defines, DefinesFirst, IsWeak, IsWeakLookup, strong, weak, nowhere}
-use Rattle.machresolve.specs.Seen.{IsDefinition, place_seen}
+use Rattle.machresolve.specs.Seen.{IsDefinition, place_seen, strong_place, first_place}
 use Rattle.machresolve.specs.declared.follow.Place.{Place}
 use Rattle.machresolve.specs.declared.special.Definition.{Definition}
 
@@ -77,6 +77,35 @@ one_strong files name k o d is off before =
     (strong k is.file is.info is.address
     (record { listed = is.listed; defines = is.defines; before = all_not_strong files name k o before })
     (λ w. false≢true (sym off ∙ is.weak.1 w)))
+
+weak_by : (b : Bool) (place : Place) → ◌≡◌ {A = Option Place} (if b then None else Some place) None → b ≡ true
+weak_by true place e = refl
+weak_by false place e = absurd (none-some place (sym e))
+
+-- one more file was asked, and none of the definitions is strong
+pub one_more : (files : List File) (name : List ℕ) (k : ℕ) (o : Option Place) (found : Option Definition) (new : Option Place) → k < length files
+    → IfSome found (IsDefinition files k name) → IfNone found ((g : File) → slice_get files k ≡ Some g → DefinesNot g name)
+    → strong_place found ≡ None → new ≡ first_place o found → WeakSoFar files name k o → WeakSoFar files name (k + 1) new
+one_more files name k None None new inside is lacks off e before =
+    subst (WeakSoFar files name (k + 1)) (sym e) (one_lacks files name k None inside lacks before)
+one_more files name k (Some place) None new inside is lacks off e before =
+    subst (WeakSoFar files name (k + 1)) (sym e) (one_lacks files name k (Some place) inside lacks before)
+one_more files name k None (Some d) new inside is lacks off e before =
+    subst (WeakSoFar files name (k + 1)) (sym e) (one_weak files name k d inside is (weak_by d.is_weak d.place off) before)
+one_more files name k (Some place) (Some d) new inside is lacks off e before =
+    subst (WeakSoFar files name (k + 1)) (sym e) (other_weak files name k d place inside is (weak_by d.is_weak d.place off) before)
+
+strong_by : (b : Bool) (place p : Place) → ◌≡◌ {A = Option Place} (if b then None else Some place) (Some p) → (b ≡ false) × (place ≡ p)
+strong_by true place p e = absurd (none-some p e)
+strong_by false place p e = (refl, ap (λ (o : Option Place). unwrap_or o place) e)
+
+-- the first strong one, if this is one
+pub one_answers : (files : List File) (name : List ℕ) (k : ℕ) (o : Option Place) (found : Option Definition) (place : Place)
+    → IfSome found (IsDefinition files k name) → strong_place found ≡ Some place → WeakSoFar files name k o → IsWeakLookup files name (place_seen place)
+one_answers files name k o None place is e before = absurd (none-some place e)
+one_answers files name k o (Some d) place is e before =
+    let parts = strong_by d.is_weak d.place place e in
+    subst (λ (p : Place). IsWeakLookup files name (place_seen p)) parts.1 (one_strong files name k o d is parts.0 before)
 
 -- all were asked
 pub asked : (files : List File) (name : List ℕ) (k : ℕ) (place : Place) → length files ≤ k → WeakSoFar files name k (Some place)

@@ -1,5 +1,5 @@
 -- What the program's own types mean.
-use Rattle.std.specs.Prelude.{◌≡◌, ◌↔◌, ℕ, Bool, List, map, Option, option_map, Some, None, slice_get, IsTrue}
+use Rattle.std.specs.Prelude.{◌≡◌, ◌↔◌, ℕ, Bool, List, map, Option, option_map, Some, None, slice_get, IsTrue, if◌then◌else◌}
 use Rattle.mach_dyld.specs.Exports.{texts}
 use Rattle.mach_dyld.specs.Trie.{Info}
 use Rattle.mach_parts.specs.Bindings.{provider_view}
@@ -79,3 +79,13 @@ pub record IsDefinition (fs : List files.File) (i : ℕ) (name : List ℕ) (d : 
   pub defines : special.Defines file name info address
   pub place_is : place_seen d.place ≡ follow.found file.name address (follow.is_absolute info)
   pub weak : IsTrue d.is_weak ↔ special.IsWeak info
+
+-- the place of a definition that isn't weak
+abbrev pub strong_place : Option Definition → Option Place
+strong_place None = None
+strong_place (Some d) = if d.is_weak then None else Some d.place
+
+-- the first place, where there is one, else that of a definition
+abbrev pub first_place : Option Place → Option Definition → Option Place
+first_place (Some place) found = Some place
+first_place None found = option_map (λ (d : Definition). d.place) found

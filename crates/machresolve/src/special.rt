@@ -1,13 +1,13 @@
 //! Names that are sought in any file, and in the main executable.
 
-ghost use Rattle.std.specs.Prelude.{◌≡◌, slice_get, is_some, if◌then◌else◌, Some, IfOk, IfErr, IfSome, IfNone};
+ghost use Rattle.std.specs.Prelude.{◌≡◌, slice_get, Some, IfOk, IfErr, IfSome, IfNone};
 ghost use Rattle.mach_dyld.specs.Exports.{info_of};
 ghost use Rattle.machresolve.specs.Files.{File, TrieFaultAt};
 ghost use Rattle.machresolve.specs.Follow.{flags_of};
 ghost use Rattle.machresolve.specs.Behind.{Met, IsBehindAll};
 ghost use Rattle.machresolve.specs.Special.{IsFlat, DefinesNot, IsWeakLookup, IsInMain};
 ghost use Rattle.machresolve.specs.Failures.{IsFailure};
-ghost use Rattle.machresolve.specs.Seen.{files_seen, place_seen, IsDefinition};
+ghost use Rattle.machresolve.specs.Seen.{files_seen, place_seen, IsDefinition, strong_place, first_place};
 
 use crate::failure::Failure;
 use crate::file::Files;
@@ -89,15 +89,13 @@ pub fn weak_lookup<'a, A: Allocator + Copy>(
 {
     let mut weak: Option<Place<'a>> = None;
     for place in 0..files.items.len() {
-        match define(alloc, files, place, name) {
-            Ok(Some(definition)) => {
-                if !definition.is_weak {
-                    return Ok(definition.place);
-                }
-                weak = first_place(weak, definition.place);
-            }
-            Ok(None) => {}
+        let found = match define(alloc, files, place, name) {
+            Ok(found) => found,
             Err(failure) => return Err(failure),
+        };
+        match strong(found) {
+            Some(place) => return Ok(place),
+            None => weak = first_place(weak, found),
         }
     }
     match weak {
@@ -106,13 +104,26 @@ pub fn weak_lookup<'a, A: Allocator + Copy>(
     }
 }
 
-// The first place, where there is one, else this one.
-fn first_place<'a>(first: Option<Place<'a>>, place: Place<'a>) -> Option<Place<'a>>
-    ensures { result ≡ (if is_some first.entry then first.entry else Some place.entry) }
+// The place of a definition that isn't weak.
+fn strong<'a>(found: Option<Definition<'a>>) -> Option<Place<'a>>
+    ensures { result ≡ strong_place found.entry }
+{
+    match found {
+        Some(definition) if !definition.is_weak => Some(definition.place),
+        _ => None,
+    }
+}
+
+// The first place, where there is one, else that of this definition.
+fn first_place<'a>(first: Option<Place<'a>>, found: Option<Definition<'a>>) -> Option<Place<'a>>
+    ensures { result ≡ first_place first.entry found.entry }
 {
     match first {
         Some(place) => Some(place),
-        None => Some(place),
+        None => match found {
+            Some(definition) => Some(definition.place),
+            None => None,
+        },
     }
 }
 

@@ -1,17 +1,17 @@
-use Rattle.std.proofs.Common.{◌≡◌, ◌∙◌, ◌∷◌, List, Bor, map, refl, sym, ap, subst, unwrap_or}
+use Rattle.std.proofs.Common.{◌∷◌, Ok, map, refl, sym, subst}
 use Rattle.mach_parts.specs.Bindings.{Binding}
 use Rattle.goblin_mach.specs.Image.{ImageFault}
 use Rattle.goblin_mach.specs.Libraries.{libraries_in}
-use Rattle.goblin_mach.specs.OpenImage.{commands_held}
+use Rattle.goblin_mach.specs.OpenImage.{bytes_held, commands_held}
 use Rattle.mach_dyld.specs.Exports.{text_in}
 use Rattle.machresolve.specs.Failures.{IsFailure}
-use Rattle.machresolve.specs.Given.{GivenFault, may_be_absent}
-use Rattle.machresolve.specs.Answers as answered
-use Rattle.machresolve.specs.Resolved.{ResolveFault, of_file}
-use Rattle.machresolve.specs.Seen.{files_seen, met_seen, answer_seen}
+use Rattle.machresolve.specs.Given.{GivenFault}
+use Rattle.machresolve.specs.Resolved.{AnswerFault, ResolveFault, of_file}
+use Rattle.machresolve.specs.Seen.{files_seen, met_seen}
 use Rattle.machresolve.specs.Opened.{given_seen}
 use Rattle.machresolve.proofs.Opening.{first_given}
 use Rattle.machresolve.proofs.Notes.{fails_more, stands_more}
+use Rattle.machresolve.proofs.Opened.{is_program, more_faults}
 use Rattle.machresolve.proofs.Steps.{told, given_name}
 use Rattle.machresolve.proofs.resolve.resolve.Goals as goal
 
@@ -30,7 +30,33 @@ returns-in-Err-gather-clause-refused g c =
     fails_more (GivenFault (p ∷ ls)) (ResolveFault p ls) c.in-Err-gather.failure (λ n f stands. of_file stands) c.in-Err-gather.ensures.refused
 
 pub returns-in-Ok-answer_all-clause-resolved : goal.returns-in-Ok-answer_all-clause-resolved
-returns-in-Ok-answer_all-clause-resolved g c = ?
+returns-in-Ok-answer_all-clause-resolved g c =
+    let p = given_seen c.args.program in
+    let m = c.in-Ok.image in
+    let is = c.in-Ok.ensures.opened in
+    let known = record { name = c.unwrap_or.result.now; may_be_absent = c.in_ok-absences_of.field-0.items } in
+    let libraries = libraries_in (bytes_held m) (commands_held m) in
+    let answered = c.in-Ok-answer_all.ensures.answered (met_seen c.in_ok-all.all) c.in_ok-all.ensures (sym c.as_slice.ensures.value) in
+    record {
+      files = files_seen c.in-Ok-gather.files;
+      gathered = c.in-Ok-gather.ensures.gathered;
+      known = known;
+      bindings = answered.0;
+      is_program = is_program p m known answered.0 (text_in m.name) libraries is
+          (given_name m.name c.args.program.path c.unwrap_or.result c.unwrap_or.ensures)
+          ((c.name_of_image.ensures.strict p.bytes 0 is (text_in m.name)).1 refl)
+          c.in_ok-absences_of.ensures
+          ((c.libraries_by_kind_of_image.ensures.strict p.bytes 0 is libraries).1 refl)
+          ((c.bindings_of_image.ensures.strict p.bytes 0 is (map (λ (b : Binding). Ok b) answered.0)).1 answered.1);
+      are_answers = answered.2;
+    }
 
 pub returns-clause-refused : goal.returns-clause-refused
-returns-clause-refused g c = ?
+returns-clause-refused g c =
+    let p = given_seen c.args.program in
+    let ls = map given_seen c.args.libraries.now in
+    let m = c.in-Ok.image in
+    let files = files_seen c.in-Ok-gather.files in
+    fails_more (AnswerFault files m) (ResolveFault p ls) c.in-Err-answer_all.failure
+    (more_faults p ls m files c.in-Ok-gather.ensures.gathered (λ items. (c.bindings_of_image.ensures.strict p.bytes 0 c.in-Ok.ensures.opened items).1))
+    c.in-Err-answer_all.ensures.refused

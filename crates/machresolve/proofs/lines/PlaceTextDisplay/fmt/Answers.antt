@@ -1,4 +1,11 @@
+use Rattle.std.proofs.Common.{sym, subst}
+use Rattle.std.specs.Fmt.{HasWritten}
+use Rattle.machresolve.specs.Lines.{place_text}
+use Rattle.machresolve.specs.Seen.{place_seen}
+use Rattle.machresolve.specs.declared.follow.Place.{Place}
 use Rattle.machresolve.proofs.lines.PlaceTextDisplay.fmt.Goals as goal
 
 pub returns-in-NotGiven-clause-writes : goal.returns-in-NotGiven-clause-writes
-returns-in-NotGiven-clause-writes g c = rw c.in-NotGiven.is c.write-in-NotGiven.ensures.writes
+returns-in-NotGiven-clause-writes g c = λ plain ok.
+    subst (λ (place : Place). HasWritten g.W.Write.write_str_gives c.args.f.now (place_text (place_seen place)) c.write-in-NotGiven.new.self) (sym c.in-NotGiven.is)
+    (let h = c.write-in-NotGiven.ensures.writes plain ok in search rules)
