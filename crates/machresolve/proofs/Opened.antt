@@ -11,7 +11,7 @@ use Rattle.goblin_mach.specs.declared.image.macho.MachO.{MachO}
 use Rattle.machresolve.specs.Answers.{Program}
 use Rattle.machresolve.specs.Files.{File}
 use Rattle.machresolve.specs.Given.{Given, Gathers, may_be_absent}
-use Rattle.machresolve.specs.Resolved.{IsProgram, HoldsItems, AnswerFault, ResolveFault}
+use Rattle.machresolve.specs.Resolved.{IsProgram, HoldsItems, AnswerFault, ResolveFault, of_bindings, of_trie}
 
 name_said : (bytes path name : List ℕ) (own : Option (List ℕ)) → name ≡ unwrap_or own path → HasName bytes 0 own
     → OfImage bytes 0 (λ ctx cs. name ≡ unwrap_or (own_name_in bytes cs) path)
@@ -41,5 +41,5 @@ is_program g m p bindings own libraries is name has absences are all = record {
 pub more_faults : {A : Type 0} (p : Given) (ls : List Given) (m : MachO A) (files : List File) → Gathers 0 (p ∷ ls) [] files
     → ((items : List (Result Binding Fault)) → HoldsItems m items → HasBindings p.bytes 0 items) → (n : ℕ) (f : Fault) → AnswerFault files m n f
     → ResolveFault p ls n f
-more_faults p ls m files gathered stand n f (answer_faults.of_bindings bindings rest holds) = faults.of_bindings bindings rest (stand _ holds)
-more_faults p ls m files gathered stand n f (answer_faults.of_trie stands) = faults.of_trie files gathered stands
+more_faults p ls m files gathered stand n f (of_bindings bindings rest holds) = of_bindings bindings rest (stand _ holds)
+more_faults p ls m files gathered stand n f (of_trie stands) = of_trie files gathered stands

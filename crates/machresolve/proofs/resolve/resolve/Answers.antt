@@ -5,6 +5,7 @@ use Rattle.goblin_mach.specs.Libraries.{libraries_in}
 use Rattle.goblin_mach.specs.OpenImage.{bytes_held, commands_held}
 use Rattle.mach_dyld.specs.Exports.{text_in}
 use Rattle.machresolve.specs.Failures.{IsFailure}
+use Rattle.machresolve.specs.Answers.{Program}
 use Rattle.machresolve.specs.Given.{GivenFault}
 use Rattle.machresolve.specs.Resolved.{AnswerFault, ResolveFault, of_file}
 use Rattle.machresolve.specs.Seen.{files_seen, met_seen}
@@ -34,7 +35,7 @@ returns-in-Ok-answer_all-clause-resolved g c =
     let p = given_seen c.args.program in
     let m = c.in-Ok.image in
     let is = c.in-Ok.ensures.opened in
-    let known = record { name = c.unwrap_or.result.now; may_be_absent = c.in_ok-absences_of.field-0.items } in
+    let known : Program = record { name = c.unwrap_or.result.now; may_be_absent = c.in_ok-absences_of.field-0.items } in
     let libraries = libraries_in (bytes_held m) (commands_held m) in
     let answered = c.in-Ok-answer_all.ensures.answered (met_seen c.in_ok-all.all) c.in_ok-all.ensures (sym c.as_slice.ensures.value) in
     record {
