@@ -1,9 +1,8 @@
 -- What is found at a place, and answers that are carried on.
-use Rattle.std.proofs.Common.{◌≡◌, ◌∙◌, ◌<◌, ◌++◌, ℕ, Bool, List, [], ◌∷◌, Some, Bor, length, map, get_or, refl, sym, ap, subst}
+use Rattle.std.proofs.Common.{◌≡◌, ◌∙◌, ◌<◌, ◌++◌, ℕ, List, [], ◌∷◌, Some, length, map, get_or, refl, ap, subst}
 use Rattle.std.specs.Prelude.{slice_get, option_map, Result, Ok, Err, IfOk}
 use Rattle.std.specs.List.{AllZip}
 use Rattle.std.proofs.lemmas.Option.{slice_get-map, slice_get_read}
-use Rattle.machresolve.specs.Files as files
 use Rattle.machresolve.specs.Seen.{file_seen}
 use Rattle.machresolve.specs.declared.file.File.{File}
 

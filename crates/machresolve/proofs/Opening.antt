@@ -1,15 +1,14 @@
 -- Files that are opened and gathered.
-use Rattle.std.proofs.Common.{◌≡◌, ◌∙◌, ◌+◌, ◌<◌, ℕ, suc, Bool, true, false, ◌||◌, List, [], ◌∷◌, ◌++◌, Option, Some, None, Bor, length, map, take, drop, get_or, refl, sym, ap, subst, arith}
+use Rattle.std.proofs.Common.{◌≡◌, ◌∙◌, ◌+◌, ◌<◌, ℕ, suc, Bool, true, false, ◌||◌, List, [], ◌∷◌, ◌++◌, Some, Bor, length, map, drop, get_or, refl, sym, ap, subst, arith}
 use Rattle.std.specs.Prelude.{bytes_eq, if◌then◌else◌, slice_get}
 use Rattle.std.specs.List.{list_any}
 use Rattle.std.proofs.lemmas.List.{append_assoc, map_push, length-map, at_drop_more, get_or-map}
 use Rattle.std.proofs.lemmas.Option.{slice_get-get_or}
 use Rattle.mach_base.specs.Fault.{Fault}
 use Rattle.goblin_mach.specs.Libraries.{LibraryView}
-use Rattle.machresolve.specs.Files as files
 use Rattle.machresolve.specs.Opened.{given_seen}
 use Rattle.machresolve.specs.declared.given.Given as declared
-use Rattle.machresolve.specs.Given.{Given, OpenFault, GivenFault, Adds, again, counts, is_named, reexported, is_reexport, is_weak_kind}
+use Rattle.machresolve.specs.Given.{Given, OpenFault, GivenFault, Adds, counts, is_named, reexported, is_reexport, is_weak_kind}
 use Rattle.machresolve.specs.Seen.{file_seen}
 use Rattle.machresolve.specs.declared.file.File.{File}
 

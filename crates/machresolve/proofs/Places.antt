@@ -1,7 +1,7 @@
 -- Places of files by their names, and what is among some.
-use Rattle.std.proofs.Common.{◌≡◌, ◌∙◌, ◌+◌, ◌<◌, ℕ, Bool, true, false, not, cond, ◌&&◌, ◌||◌, List, [], ◌∷◌, ◌++◌, Option, Some, None, length, map, ◌⊎◌, refl, sym, ap, inl, inr, arith}
-use Rattle.std.specs.Prelude.{nat_lt, slice_get, option_map, position, bytes_eq}
-use Rattle.std.specs.List.{prefix_len, list_any}
+use Rattle.std.proofs.Common.{◌≡◌, ◌∙◌, ◌+◌, ℕ, Bool, not, cond, List, [], ◌∷◌, ◌++◌, Some, None, length, map, ◌⊎◌, refl, ap, inl, inr}
+use Rattle.std.specs.Prelude.{nat_lt, position}
+use Rattle.std.specs.List.{prefix_len}
 use Rattle.std.proofs.lemmas.List.{length-map}
 use Rattle.mach_base.specs.Among.{IsAmong}
 

@@ -1,10 +1,8 @@
 -- Edges as they are pushed.
 use Rattle.std.proofs.Common.{◌≡◌, ◌∙◌, ◌<◌, ℕ, List, Bor, length, map, get_or, sym, ap, arith}
 use Rattle.std.proofs.lemmas.List.{length-map, get_or-map}
-use Rattle.machresolve.specs.Behind as behind
 use Rattle.machresolve.specs.Behind.{edges_of}
 use Rattle.machresolve.specs.Seen.{file_seen, edge_seen}
-use Rattle.machresolve.specs.declared.behind.Edge.{Edge}
 use Rattle.machresolve.specs.declared.file.File.{File}
 
 -- the edge to the library that a file re-exports at this place

@@ -1,5 +1,5 @@
 -- Steps along re-exports, and what failures tell.
-use Rattle.std.proofs.Common.{◌≡◌, ◌∙◌, ℕ, Bool, true, false, ◌&&◌, ◌||◌, ◌⊎◌, List, [], ◌∷◌, ◌++◌, Option, Some, None, Bor, unwrap_or, map, refl, sym, ap, subst, inl, inr}
+use Rattle.std.proofs.Common.{◌≡◌, ◌∙◌, ℕ, Bool, true, false, ◌&&◌, ◌||◌, ◌⊎◌, List, [], ◌∷◌, Option, Some, None, Bor, unwrap_or, map, refl, sym, ap, subst, inl, inr}
 use Rattle.std.specs.Prelude.{bytes_eq}
 use Rattle.std.specs.List.{list_any}
 use Rattle.std.proofs.lemmas.Bool.{false≢true}
@@ -18,8 +18,7 @@ use Rattle.machresolve.specs.Follow.{IsGiven, HasFirst, IsEnd, at, Follow}
 use Rattle.machresolve.specs.Special as special
 use Rattle.machresolve.specs.Special.{IsFlat}
 use Rattle.machresolve.specs.Failures.{told_as, IsFailure}
-use Rattle.machresolve.specs.Seen.{symbol_seen, place_seen, LeadsOn, IsStep}
-use Rattle.machresolve.specs.declared.follow.Place.{Place}
+use Rattle.machresolve.specs.Seen.{symbol_seen, LeadsOn, IsStep}
 use Rattle.machresolve.specs.declared.follow.Symbol.{Symbol}
 use Rattle.machresolve.specs.declared.follow.Step.{Step}
 use Rattle.machresolve.specs.declared.follow.Step.TheVariants.{Leads, Ends}

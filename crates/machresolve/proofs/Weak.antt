@@ -1,5 +1,5 @@
 -- Weak look-ups, file by file.
-use Rattle.std.proofs.Common.{◌≡◌, ◌∙◌, ◌+◌, ◌<◌, ◌≤◌, ℕ, Bool, true, false, List, [], ◌∷◌, Option, Some, None, unwrap_or, length, take, get_or, refl, sym, ap, subst, inl, inr, ◌⊎◌, arith}
+use Rattle.std.proofs.Common.{◌≡◌, ◌∙◌, ◌+◌, ◌<◌, ◌≤◌, ℕ, Bool, true, false, List, [], Option, Some, None, unwrap_or, length, take, get_or, refl, sym, ap, subst, inl, inr}
 use Rattle.std.specs.Prelude.{All, slice_get, IfSome, IfNone, if◌then◌else◌}
 use Rattle.std.proofs.lemmas.List.{take_all}
 use Rattle.std.proofs.lemmas.List.Elements.{All-nil, All-more, All-weaker}
@@ -8,7 +8,7 @@ use Rattle.std.proofs.lemmas.Bool.{false≢true}
 use Rattle.mach_dyld.specs.Trie.{Info}
 use Rattle.machresolve.specs.Files.{File}
 use Rattle.machresolve.specs.Follow as follow
-use Rattle.machresolve.specs.Special.{DefinesNot, NotStrong, Defines, DefinesFirst, IsWeak, IsWeakLookup, strong, weak, nowhere}
+use Rattle.machresolve.specs.Special.{DefinesNot, NotStrong, DefinesFirst, IsWeakLookup, strong, weak, nowhere}
 use Rattle.machresolve.specs.Seen.{IsDefinition, place_seen, strong_place, first_place}
 use Rattle.machresolve.specs.declared.follow.Place.{Place}
 use Rattle.machresolve.specs.declared.special.Definition.{Definition}

@@ -3,7 +3,7 @@ use Rattle.std.specs.Prelude.{◌≡◌, ℕ, Bool, true, false, ◌||◌, ◌&&
 use Rattle.std.specs.List.{AllZip}
 use Rattle.mach_parts.specs.Bindings.{Binding, Provider, of_library, itself, main_executable, flat, weak_lookup}
 use Rattle.machresolve.specs.Files.{File}
-use Rattle.machresolve.specs.Follow.{Symbol, Place, found, leads_back, no_library, missing, not_given, not_found, no_main, Follow}
+use Rattle.machresolve.specs.Follow.{Place, found, leads_back, no_library, missing, not_given, not_found, no_main, Follow}
 use Rattle.machresolve.specs.Special.{IsFlat, IsWeakLookup, IsInMain}
 
 -- a program: the name by which it is known; and by ordinal, itself first, whether a library may be absent

@@ -1,6 +1,5 @@
 -- The files among which names are sought, and what the own trie of each says of a name (dyld).
 use Rattle.std.specs.Prelude.{◌≡◌, ℕ, Bool, List, Option, Some, None, slice_get, bytes_eq, position}
-use Rattle.mach_base.specs.Answer.{Stands}
 use Rattle.mach_base.specs.Fault.{Fault}
 use Rattle.mach_dyld.specs.Trie.{Info}
 use Rattle.mach_dyld.specs.TrieRange.{TrieRange}

@@ -1,5 +1,5 @@
 -- What was printed, and why the program ended as it did.
-use Rattle.std.specs.Prelude.{◌≡◌, ◌⊎◌, ℕ, List, Option, Bool, true, false}
+use Rattle.std.specs.Prelude.{◌≡◌, ℕ, List, Option, Bool, true, false}
 use Rattle.std.specs.Io.KnownBytes.{Appends}
 use Rattle.std.specs.List.{list_all}
 use Rattle.mach_base.specs.declared.error.Error.{Error}

@@ -1,5 +1,5 @@
 -- What the program's own types mean.
-use Rattle.std.specs.Prelude.{◌≡◌, ◌↔◌, ℕ, Bool, List, map, Option, option_map, Some, None, slice_get, IsTrue, if◌then◌else◌}
+use Rattle.std.specs.Prelude.{◌≡◌, ◌↔◌, ℕ, List, map, Option, option_map, Some, None, slice_get, IsTrue, if◌then◌else◌}
 use Rattle.mach_dyld.specs.Exports.{texts}
 use Rattle.mach_dyld.specs.Trie.{Info}
 use Rattle.mach_parts.specs.Bindings.{provider_view}

@@ -1,6 +1,6 @@
 -- Where a name is found that is sought in any file: flat look-ups, and weak ones (dyld).
-use Rattle.std.specs.Prelude.{◌≡◌, ◌≢◌, ◌⊎◌, ℕ, List, [], ◌∷◌, All, take, IsTrue, IsFalse, Option, Some, None, slice_get, bit_and}
-use Rattle.mach_dyld.specs.Trie.{Info, reexport}
+use Rattle.std.specs.Prelude.{◌≡◌, ◌≢◌, ◌⊎◌, ℕ, List, [], All, take, IsTrue, IsFalse, Some, None, slice_get, bit_and}
+use Rattle.mach_dyld.specs.Trie.{Info}
 use Rattle.machresolve.specs.Files.{File, Says}
 use Rattle.machresolve.specs.Behind.{Met, IsBehindAll}
 use Rattle.machresolve.specs.Follow.{Symbol, Place, found, not_found, no_main, address_of, flags_of, is_absolute, HasFirst, NoneHas, LeadsTo, Follow}

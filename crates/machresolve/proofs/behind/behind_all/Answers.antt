@@ -1,8 +1,8 @@
-use Rattle.std.proofs.Common.{◌≡◌, ◌∙◌, ◌+◌, ◌-◌, ◌<◌, ◌++◌, ◌∷◌, [], ℕ, suc, length, map, reverse, drop, get_or, sym, ap, arith}
+use Rattle.std.proofs.Common.{◌≡◌, ◌∙◌, ◌+◌, ◌-◌, ◌<◌, ◌++◌, ◌∷◌, [], ℕ, suc, length, map, drop, get_or, sym, ap, arith}
 use Rattle.std.proofs.lemmas.List.{map_push, append-nil, length-map, get_or-map}
 use Rattle.machresolve.specs.Files as files
 use Rattle.machresolve.specs.Behind.{start_at}
-use Rattle.machresolve.specs.Seen.{file_seen, files_seen, edge_seen}
+use Rattle.machresolve.specs.Seen.{file_seen, edge_seen}
 use Rattle.machresolve.proofs.Walks.{one_more}
 use Rattle.machresolve.proofs.behind.behind_all.Goals as goal
 

@@ -1,4 +1,4 @@
-use Rattle.std.proofs.Common.{◌≡◌, Bool, ap, subst}
+use Rattle.std.proofs.Common.{Bool, ap, subst}
 use Rattle.std.specs.Prelude.{Ok}
 use Rattle.machresolve.specs.Follow.{Follow, back, ends, further}
 use Rattle.machresolve.specs.Seen.{files_seen, symbol_seen, place_seen}

@@ -1,8 +1,8 @@
-use Rattle.std.proofs.Common.{◌≡◌, ◌∙◌, ◌++◌, ◌∷◌, [], Bool, true, false, List, map, sym, ap, subst}
+use Rattle.std.proofs.Common.{◌∙◌, ◌++◌, ◌∷◌, [], Bool, map, sym, ap, subst}
 use Rattle.std.specs.Prelude.{bytes_eq, if◌then◌else◌}
 use Rattle.std.specs.List.{list_any}
 use Rattle.machresolve.specs.Given.{Adds, again}
-use Rattle.machresolve.specs.Seen.{file_seen, files_seen}
+use Rattle.machresolve.specs.Seen.{file_seen}
 use Rattle.machresolve.proofs.Opening.{named_among, names_more, adds_more}
 use Rattle.machresolve.proofs.Notes.{not_true, not_false}
 use Rattle.machresolve.proofs.given.add.Goals as goal

@@ -1,8 +1,6 @@
-use Rattle.std.proofs.Common.{◌≡◌, ◌∙◌, ◌+◌, ◌<◌, ℕ, List, [], ◌∷◌, Some, length, map, drop, get_or, refl, sym, ap, subst, arith}
-use Rattle.std.specs.Prelude.{slice_get}
-use Rattle.std.proofs.lemmas.List.{at_drop_more, drop_all, length-map}
-use Rattle.machresolve.specs.Files as files
-use Rattle.machresolve.specs.Given.{Given, Gathers, done, next, Adds, OpenFault, GivenFault}
+use Rattle.std.proofs.Common.{◌+◌, ◌∷◌, map, get_or, sym, subst, arith}
+use Rattle.std.proofs.lemmas.List.{drop_all, length-map}
+use Rattle.machresolve.specs.Given.{Gathers, done, next, Adds, OpenFault, GivenFault}
 use Rattle.machresolve.specs.Seen.{file_seen, files_seen}
 use Rattle.machresolve.specs.Opened.{given_seen}
 use Rattle.machresolve.proofs.Notes.{fails_more}

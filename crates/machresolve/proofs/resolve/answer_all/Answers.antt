@@ -1,6 +1,5 @@
-use Rattle.std.proofs.Common.{◌≡◌, ◌∙◌, ◌++◌, ◌∷◌, [], List, Ok, Err, map, sym, ap, subst}
+use Rattle.std.proofs.Common.{◌∙◌, ◌++◌, ◌∷◌, [], Ok, map, sym, ap, subst}
 use Rattle.std.proofs.lemmas.List.{append_assoc, map_push}
-use Rattle.mach_base.specs.Fault.{fault_of}
 use Rattle.mach_parts.specs.Bindings.{Binding, binding_view, binding_read}
 use Rattle.goblin_mach.specs.BindingsLeft.{bindings_left}
 use Rattle.machresolve.specs.Files.{TrieFaultAt}

@@ -1,4 +1,4 @@
-use Rattle.std.proofs.Common.{◌≡◌, map, take}
+use Rattle.std.proofs.Common.{map, take}
 use Rattle.std.specs.Io.KnownBytes.{Appends}
 use Rattle.machresolve.specs.Lines.{lines_of}
 use Rattle.machresolve.specs.Seen.{answer_seen}

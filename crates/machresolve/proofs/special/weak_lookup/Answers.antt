@@ -1,4 +1,4 @@
-use Rattle.std.proofs.Common.{◌≡◌, ◌∙◌, ◌<◌, length, sym, ap, subst, arith}
+use Rattle.std.proofs.Common.{◌∙◌, sym, subst, arith}
 use Rattle.std.proofs.lemmas.List.{length-map}
 use Rattle.machresolve.specs.Seen.{file_seen, files_seen}
 use Rattle.machresolve.proofs.Weak.{WeakSoFar, none_so_far, one_more, one_answers, asked, asked_none}
