@@ -19,4 +19,4 @@ gap_text library reexported =
     let front = codes "not found; " ++ library in
     let tail = reexported ++ codes ", which is not given" in
     sym (append_assoc (front ++ codes " re-exports ") reexported (codes ", which is not given")
-        ∙ (append_assoc front (codes " re-exports ") tail ∙ append_assoc (codes "not found; ") library (codes " re-exports " ++ tail)))
+    ∙ (append_assoc front (codes " re-exports ") tail ∙ append_assoc (codes "not found; ") library (codes " re-exports " ++ tail)))

@@ -38,7 +38,12 @@ one_lacks files name k None inside lacks before =
     All-more (λ f. DefinesNot f name) files k some_file inside before (here files k (λ f. DefinesNot f name) inside lacks)
 one_lacks files name k (Some place) inside lacks before = (
   All-more (NotStrong name) files k some_file inside before.0 (here files k (NotStrong name) inside (λ g is. inl (lacks g is))),
-  before.1, before.2, before.3, before.4, before.5, before.6,
+  before.1,
+  before.2,
+  before.3,
+  before.4,
+  before.5,
+  before.6,
 )
 
 same_file : (files : List File) (k : ℕ) (g : File) → slice_get files k ≡ Some g → k < length files → get_or files k some_file ≡ g
@@ -55,14 +60,24 @@ pub one_weak : (files : List File) (name : List ℕ) (k : ℕ) (d : Definition) 
 one_weak files name k d inside is on before = (
   All-more (NotStrong name) files k some_file inside (All-weaker (λ f. DefinesNot f name) (NotStrong name) (λ f lacks. inl lacks) (take k files) before)
       (not_strong files name k d is on inside),
-  k, is.file, is.info, is.address, record { listed = is.listed; defines = is.defines; before = before }, is.place_is,
+  k,
+  is.file,
+  is.info,
+  is.address,
+  record { listed = is.listed; defines = is.defines; before = before },
+  is.place_is,
 )
 
 pub other_weak : (files : List File) (name : List ℕ) (k : ℕ) (d : Definition) (place : Place) → k < length files → IsDefinition files k name d
     → d.is_weak ≡ true → WeakSoFar files name k (Some place) → WeakSoFar files name (k + 1) (Some place)
 other_weak files name k d place inside is on before = (
   All-more (NotStrong name) files k some_file inside before.0 (not_strong files name k d is on inside),
-  before.1, before.2, before.3, before.4, before.5, before.6,
+  before.1,
+  before.2,
+  before.3,
+  before.4,
+  before.5,
+  before.6,
 )
 
 all_not_strong : (files : List File) (name : List ℕ) (k : ℕ) (o : Option Place) → WeakSoFar files name k o → All (NotStrong name) (take k files)

@@ -35,11 +35,17 @@ pub enum Place<'a> {
         is_absolute: bool,
     },
     /// The re-exports lead back to this library, to a name that was sought there before.
-    LeadsBack { library: &'a str },
+    LeadsBack {
+        library: &'a str,
+    },
     /// None of the files has this name.
-    NoLibrary { library: &'a str },
+    NoLibrary {
+        library: &'a str,
+    },
     /// Neither the library nor what it re-exports as a whole has the name.
-    Missing { library: &'a str },
+    Missing {
+        library: &'a str,
+    },
     /// The same, but this library re-exports another, which is not given.
     NotGiven {
         library: &'a str,
@@ -66,7 +72,9 @@ pub fn lead<'a, A: Allocator>(file: &File<'a, A>, info: ExportInfo<'a>, name: &'
     match info {
         ExportInfo::Regular { address, flags } => Step::Ends(found(file, address, flags)),
         ExportInfo::Stub {
-            stub_offset, flags, ..
+            stub_offset,
+            flags,
+            ..
         } => Step::Ends(found(file, u64::from(stub_offset), flags)),
         ExportInfo::Reexport {
             lib,

@@ -28,10 +28,8 @@ fn is_reexport(kind: LibraryKind) -> bool
 {
     match kind {
         LibraryKind::Reexport => true,
-        LibraryKind::Required
-        | LibraryKind::Weak
-        | LibraryKind::Upward
-        | LibraryKind::Lazy => false,
+        LibraryKind::Required | LibraryKind::Weak | LibraryKind::Upward | LibraryKind::Lazy =>
+            false,
     }
 }
 
@@ -40,10 +38,8 @@ fn is_weak(kind: LibraryKind) -> bool
 {
     match kind {
         LibraryKind::Weak => true,
-        LibraryKind::Required
-        | LibraryKind::Reexport
-        | LibraryKind::Upward
-        | LibraryKind::Lazy => false,
+        LibraryKind::Required | LibraryKind::Reexport | LibraryKind::Upward | LibraryKind::Lazy =>
+            false,
     }
 }
 

@@ -66,36 +66,36 @@ type Row<'a> = (&'a str, &'a [u8], &'a [&'a [u8]], u8, &'a str);
 #[test]
 fn by_library(rt: HostRuntime) -> Result<(), Fail> {
     let rows: &[Row<'_>] = &[
-            (
-                "all libraries",
-                &PROGRAM,
-                &[&LIBRARY_L, &LIBRARY_M, &LIBRARY_SELF],
-                1,
-                "_direct L 0x1234 in L\n_absolute L absolute 0x99 in L\n_thread L 0x50 in L\n_renamed L 0x20 in M\n_missing L missing in L\n_missing L weak, missing in L\n_round L leads back to L\n_round L leads back to L\n_stub M 0x40 in M\n_far N no library N\n_far N weak, no library N\n_lost L no library N\n_lost_weak L no library W\n_gone W weak, no library W\n_here self 0x7 in self\n_direct L.debug no library L.debug\n_own this-image 0x70 in p.macho\n_again this-image 0x1234 in L\n_none this-image missing in p.macho\n",
-            ),
-            (
-                "no libraries",
-                &ONE_STRONG,
-                &[],
-                1,
-                "_direct L no library L\n_missing L no library L\n",
-            ),
-            ("no binds", &LIBRARY_L, &[&LIBRARY_M], 0, ""),
-            (
-                "an open bind that is strong",
-                &ONE_STRONG,
-                &[&LIBRARY_L],
-                1,
-                "_direct L 0x1234 in L\n_missing L missing in L\n",
-            ),
-            (
-                "an open bind that is weak",
-                &ONE_WEAK,
-                &[&LIBRARY_L],
-                0,
-                "_direct L 0x1234 in L\n_missing L weak, missing in L\n",
-            ),
-        ];
+        (
+            "all libraries",
+            &PROGRAM,
+            &[&LIBRARY_L, &LIBRARY_M, &LIBRARY_SELF],
+            1,
+            "_direct L 0x1234 in L\n_absolute L absolute 0x99 in L\n_thread L 0x50 in L\n_renamed L 0x20 in M\n_missing L missing in L\n_missing L weak, missing in L\n_round L leads back to L\n_round L leads back to L\n_stub M 0x40 in M\n_far N no library N\n_far N weak, no library N\n_lost L no library N\n_lost_weak L no library W\n_gone W weak, no library W\n_here self 0x7 in self\n_direct L.debug no library L.debug\n_own this-image 0x70 in p.macho\n_again this-image 0x1234 in L\n_none this-image missing in p.macho\n",
+        ),
+        (
+            "no libraries",
+            &ONE_STRONG,
+            &[],
+            1,
+            "_direct L no library L\n_missing L no library L\n",
+        ),
+        ("no binds", &LIBRARY_L, &[&LIBRARY_M], 0, ""),
+        (
+            "an open bind that is strong",
+            &ONE_STRONG,
+            &[&LIBRARY_L],
+            1,
+            "_direct L 0x1234 in L\n_missing L missing in L\n",
+        ),
+        (
+            "an open bind that is weak",
+            &ONE_WEAK,
+            &[&LIBRARY_L],
+            0,
+            "_direct L 0x1234 in L\n_missing L weak, missing in L\n",
+        ),
+    ];
     for (name, program, libraries, status, text) in rows {
         let got = resolved(rt.alloc(), program, libraries)?;
         assert_eq!(rt; (got.0, got.1.as_str()), (*status, *text), "{name}");
@@ -107,28 +107,30 @@ fn by_library(rt: HostRuntime) -> Result<(), Fail> {
 #[test]
 fn behind_an_umbrella(rt: HostRuntime) -> Result<(), Fail> {
     let rows: &[Row<'_>] = &[
-            (
-                "all given",
-                &OVER_UMBRELLA,
-                &[&UMBRELLA, &LIBRARY_A, &LIBRARY_B, &LIBRARY_C, &LIBRARY_D, &LIBRARY_L],
-                1,
-                "_own U 0x1 in U\n_a U 0x3 in A\n_d U 0x4 in D\n_both U 0x8 in A\n_b U 0x5 in B\n_c U missing in U\n_c U weak, missing in U\n_through U 0x1234 in L\n",
-            ),
-            (
-                "B and D are not given",
-                &OVER_UMBRELLA,
-                &[&UMBRELLA, &LIBRARY_A],
-                1,
-                "_own U 0x1 in U\n_a U 0x3 in A\n_d U not found; A re-exports D, which is not given\n_both U 0x8 in A\n_b U not found; A re-exports D, which is not given\n_c U not found; A re-exports D, which is not given\n_c U weak, not found; A re-exports D, which is not given\n_through U not found; A re-exports D, which is not given\n",
-            ),
-            (
-                "A is not given",
-                &OVER_UMBRELLA,
-                &[&LIBRARY_D, &LIBRARY_B, &UMBRELLA],
-                1,
-                "_own U 0x1 in U\n_a U not found; U re-exports A, which is not given\n_d U not found; U re-exports A, which is not given\n_both U 0x9 in B\n_b U 0x5 in B\n_c U not found; U re-exports A, which is not given\n_c U weak, not found; U re-exports A, which is not given\n_through U not found; U re-exports A, which is not given\n",
-            ),
-        ];
+        (
+            "all given",
+            &OVER_UMBRELLA,
+            &[
+                &UMBRELLA, &LIBRARY_A, &LIBRARY_B, &LIBRARY_C, &LIBRARY_D, &LIBRARY_L,
+            ],
+            1,
+            "_own U 0x1 in U\n_a U 0x3 in A\n_d U 0x4 in D\n_both U 0x8 in A\n_b U 0x5 in B\n_c U missing in U\n_c U weak, missing in U\n_through U 0x1234 in L\n",
+        ),
+        (
+            "B and D are not given",
+            &OVER_UMBRELLA,
+            &[&UMBRELLA, &LIBRARY_A],
+            1,
+            "_own U 0x1 in U\n_a U 0x3 in A\n_d U not found; A re-exports D, which is not given\n_both U 0x8 in A\n_b U not found; A re-exports D, which is not given\n_c U not found; A re-exports D, which is not given\n_c U weak, not found; A re-exports D, which is not given\n_through U not found; A re-exports D, which is not given\n",
+        ),
+        (
+            "A is not given",
+            &OVER_UMBRELLA,
+            &[&LIBRARY_D, &LIBRARY_B, &UMBRELLA],
+            1,
+            "_own U 0x1 in U\n_a U not found; U re-exports A, which is not given\n_d U not found; U re-exports A, which is not given\n_both U 0x9 in B\n_b U 0x5 in B\n_c U not found; U re-exports A, which is not given\n_c U weak, not found; U re-exports A, which is not given\n_through U not found; U re-exports A, which is not given\n",
+        ),
+    ];
     for (name, program, libraries, status, text) in rows {
         let got = resolved(rt.alloc(), program, libraries)?;
         assert_eq!(rt; (got.0, got.1.as_str()), (*status, *text), "{name}");
@@ -140,35 +142,35 @@ fn behind_an_umbrella(rt: HostRuntime) -> Result<(), Fail> {
 #[test]
 fn special_libraries(rt: HostRuntime) -> Result<(), Fail> {
     let rows: &[Row<'_>] = &[
-            (
-                "a strong definition",
-                &SPECIAL,
-                &[&UMBRELLA, &LIBRARY_A, &WEAK_E, &STRONG_F],
-                1,
-                "_own main-executable missing in p.macho\n_v main-executable 0x11 in p.macho\n_a flat-namespace 0x3 in A\n_b flat-namespace not found\n_c flat-namespace not found\n_c flat-namespace weak, not found\n_v weak-lookup 0x14 in F\n_w weak-lookup 0x13 in E\n_u weak-lookup not found\n_u weak-lookup weak, not found\n",
-            ),
-            (
-                "weak definitions alone",
-                &SPECIAL,
-                &[&WEAK_E, &LIBRARY_B],
-                1,
-                "_own main-executable missing in p.macho\n_v main-executable 0x11 in p.macho\n_a flat-namespace no library A\n_b flat-namespace 0x5 in B\n_c flat-namespace not found\n_c flat-namespace weak, not found\n_v weak-lookup 0x11 in p.macho\n_w weak-lookup 0x13 in E\n_u weak-lookup not found\n_u weak-lookup weak, not found\n",
-            ),
-            (
-                "no main executable",
-                &BUNDLE,
-                &[&UMBRELLA],
-                1,
-                "_own main-executable no main executable\n_own main-executable weak, no main executable\n",
-            ),
-            (
-                "a main executable among the libraries",
-                &BUNDLE,
-                &[&UMBRELLA, &PROGRAM],
-                0,
-                "_own main-executable 0x70 in l.macho\n_own main-executable 0x70 in l.macho\n",
-            ),
-        ];
+        (
+            "a strong definition",
+            &SPECIAL,
+            &[&UMBRELLA, &LIBRARY_A, &WEAK_E, &STRONG_F],
+            1,
+            "_own main-executable missing in p.macho\n_v main-executable 0x11 in p.macho\n_a flat-namespace 0x3 in A\n_b flat-namespace not found\n_c flat-namespace not found\n_c flat-namespace weak, not found\n_v weak-lookup 0x14 in F\n_w weak-lookup 0x13 in E\n_u weak-lookup not found\n_u weak-lookup weak, not found\n",
+        ),
+        (
+            "weak definitions alone",
+            &SPECIAL,
+            &[&WEAK_E, &LIBRARY_B],
+            1,
+            "_own main-executable missing in p.macho\n_v main-executable 0x11 in p.macho\n_a flat-namespace no library A\n_b flat-namespace 0x5 in B\n_c flat-namespace not found\n_c flat-namespace weak, not found\n_v weak-lookup 0x11 in p.macho\n_w weak-lookup 0x13 in E\n_u weak-lookup not found\n_u weak-lookup weak, not found\n",
+        ),
+        (
+            "no main executable",
+            &BUNDLE,
+            &[&UMBRELLA],
+            1,
+            "_own main-executable no main executable\n_own main-executable weak, no main executable\n",
+        ),
+        (
+            "a main executable among the libraries",
+            &BUNDLE,
+            &[&UMBRELLA, &PROGRAM],
+            0,
+            "_own main-executable 0x70 in l.macho\n_own main-executable 0x70 in l.macho\n",
+        ),
+    ];
     for (name, program, libraries, status, text) in rows {
         let got = resolved(rt.alloc(), program, libraries)?;
         assert_eq!(rt; (got.0, got.1.as_str()), (*status, *text), "{name}");

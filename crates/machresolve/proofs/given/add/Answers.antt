@@ -15,17 +15,17 @@ invariant_of-result g c =
     let name = c.args.file.name in
     elim c.if-branch.branch [
       | then-branch+in_ok-push w ↦
-        (let new = not_true (list_any (λ k. bytes_eq name.now k.now) keys) (sym c.in_ok-insert.ensures.added ∙ w.if-branch.true) in
-        record {
-          named = names_more items c.if-branch.items.items keys c.insert.new.self.keys c.args.file (ap (λ v. v.items) w.items-is ∙ w.in_ok-push.ensures.items)
-              (c.in_ok-insert.ensures.keys ∙ ap (λ (b : Bool). if b then keys else keys ++ name ∷ []) new) c.args.files.named;
-        })
+          (let new = not_true (list_any (λ k. bytes_eq name.now k.now) keys) (sym c.in_ok-insert.ensures.added ∙ w.if-branch.true) in
+          record {
+            named = names_more items c.if-branch.items.items keys c.insert.new.self.keys c.args.file (ap (λ v. v.items) w.items-is ∙ w.in_ok-push.ensures.items)
+                (c.in_ok-insert.ensures.keys ∙ ap (λ (b : Bool). if b then keys else keys ++ name ∷ []) new) c.args.files.named;
+          })
       | else-branch w ↦
-        (let there = not_false (list_any (λ k. bytes_eq name.now k.now) keys) (sym c.in_ok-insert.ensures.added ∙ w.if-branch.false) in
-        record {
-          named = ap (λ v. map (λ f. f.name.now) v.items) w.items-is ∙ (c.args.files.named
-              ∙ sym (ap (map (λ k. k.now)) (c.in_ok-insert.ensures.keys ∙ ap (λ (b : Bool). if b then keys else keys ++ name ∷ []) there)));
-        })
+          (let there = not_false (list_any (λ k. bytes_eq name.now k.now) keys) (sym c.in_ok-insert.ensures.added ∙ w.if-branch.false) in
+          record {
+            named = ap (λ v. map (λ f. f.name.now) v.items) w.items-is ∙ (c.args.files.named
+                ∙ sym (ap (map (λ k. k.now)) (c.in_ok-insert.ensures.keys ∙ ap (λ (b : Bool). if b then keys else keys ++ name ∷ []) there)));
+          })
     ]
 
 pub returns : goal.returns
@@ -35,11 +35,11 @@ returns g c =
     let name = c.args.file.name in
     elim c.if-branch.branch [
       | then-branch+in_ok-push w ↦
-        (let new = not_true (list_any (λ k. bytes_eq name.now k.now) keys) (sym c.in_ok-insert.ensures.added ∙ w.if-branch.true) in
-        adds_more items c.if-branch.items.items c.args.file (ap (λ v. v.items) w.items-is ∙ w.in_ok-push.ensures.items)
-        (sym (named_among name.now items keys c.args.files.named) ∙ new))
+          (let new = not_true (list_any (λ k. bytes_eq name.now k.now) keys) (sym c.in_ok-insert.ensures.added ∙ w.if-branch.true) in
+          adds_more items c.if-branch.items.items c.args.file (ap (λ v. v.items) w.items-is ∙ w.in_ok-push.ensures.items)
+          (sym (named_among name.now items keys c.args.files.named) ∙ new))
       | else-branch w ↦
-        (let there = not_false (list_any (λ k. bytes_eq name.now k.now) keys) (sym c.in_ok-insert.ensures.added ∙ w.if-branch.false) in
-        subst (Adds (map file_seen items) (file_seen c.args.file)) (sym (ap (λ v. map file_seen v.items) w.items-is))
-        (again (sym (named_among name.now items keys c.args.files.named) ∙ there)))
+          (let there = not_false (list_any (λ k. bytes_eq name.now k.now) keys) (sym c.in_ok-insert.ensures.added ∙ w.if-branch.false) in
+          subst (Adds (map file_seen items) (file_seen c.args.file)) (sym (ap (λ v. map file_seen v.items) w.items-is))
+          (again (sym (named_among name.now items keys c.args.files.named) ∙ there)))
     ]

@@ -23,12 +23,14 @@ bindings-preserved g c =
     let answers = c.bindings.answers.items in
     let a = c.in-Ok-answer_for.answer in
     let front = map (λ (x : Binding). Ok x) bs in (
-      before.0, before.1, bs ++ b ∷ [],
+      before.0,
+      before.1,
+      bs ++ b ∷ [],
       before.3 ∙ (ap (λ rest. front ++ rest) (c.in-Some.ensures.steps ∙ ap (λ item. binding_read item ∷ left) c.in-Ok.is)
           ∙ (sym (append_assoc front (Ok b ∷ []) left) ∙ ap (λ xs. xs ++ left) (sym (map_push (λ (x : Binding). Ok x) bs b)))),
       λ met behind same.
-      subst (λ qs. AreAnswers fs p (bs ++ b ∷ []) qs) (sym (ap (map answer_seen) c.in_ok-push-in-Ok-answer_for.ensures.items ∙ map_push answer_seen answers a))
-      (all_zip_push (IsAnswer fs p) bs (map answer_seen answers) b (answer_seen a) (before.4 met behind same) (c.in-Ok-answer_for.ensures.answered met behind same)),
+          subst (λ qs. AreAnswers fs p (bs ++ b ∷ []) qs) (sym (ap (map answer_seen) c.in_ok-push-in-Ok-answer_for.ensures.items ∙ map_push answer_seen answers a))
+          (all_zip_push (IsAnswer fs p) bs (map answer_seen answers) b (answer_seen a) (before.4 met behind same) (c.in-Ok-answer_for.ensures.answered met behind same)),
     )
 
 pub returns-in-Err-answer_for-clause-refused : goal.returns-in-Err-answer_for-clause-refused

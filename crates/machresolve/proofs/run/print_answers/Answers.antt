@@ -17,5 +17,5 @@ answers-preserved g c =
     let line = answer_text (answer_seen a) ++ codes "\n" in
     subst (Appends (g.O.Write.contents c.args.out.now) (g.O.Write.contents c.writeln.new.self))
     (sym (ap (λ xs. lines_of (map answer_seen xs)) (take_more answers i _ c.answers-test.true)
-        ∙ (ap lines_of (map_push answer_seen (take i answers) a) ∙ lines_push before (answer_seen a))))
+    ∙ (ap lines_of (map_push answer_seen (take i answers) a) ∙ lines_push before (answer_seen a))))
     (Appends-both _ _ _ (lines_of before) line c.answers.invariant c.in_ok-writeln.ensures.bytes)

@@ -29,7 +29,7 @@ returns-in-Some-clause-sought g c =
     c.in-Ok.ensures.some (sym c.strong.ensures ∙ c.in-Some.is) c.loop-place.invariant
 
 pub loop-place-preserved : goal.loop-place-preserved
-loop-place-preserved g c = 
+loop-place-preserved g c =
     one_more (files_seen c.args.files.now) c.args.name.now c.loop-place.place c.loop-place.weak c.in-Ok.found c.first_place-weak.result
     (omega (arith, c.loop-place-test.true, c.len-place-end.ensures, c.args.files.now.items.ok.0, length-map c.args.files.now.items.items file_seen))
     c.in-Ok.ensures.some c.in-Ok.ensures.none (sym c.strong.ensures ∙ c.in-None.is) c.first_place-weak.ensures c.loop-place.invariant
