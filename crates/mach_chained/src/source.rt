@@ -292,7 +292,13 @@ impl<'a, 'b> Source<'a, 'b> {
             return Err(Error::Malformed("a chain stays in its page"));
         }
         let offset = usize::from(page) * usize::from(span.chains.page_size) + at;
-        let Some(raw) = raw_at(self.fixups.le, span.chains.format, span.bytes, offset, steps) else {
+        let Some(raw) = raw_at(
+            self.fixups.le,
+            span.chains.format,
+            span.bytes,
+            offset,
+            steps,
+        ) else {
             return Err(Error::Malformed("a fixup lies in its segment's data"));
         };
         let Some(address) = span.vmaddr.checked_add(offset as u64) else {

@@ -5,7 +5,7 @@ ghost use Rattle.std.specs.Prelude.{◌≡◌, ◌+◌, length, IfOk};
 use crate::tests::payloads::{DATA, NUMBERS, PAYLOAD, TWO_STARTS};
 use crate::tests::same::same;
 use crate::tests::text::{BASE, LIBS, chained_of, segment_at};
-use mach_base::{Result, Steps};
+use mach_base::Steps;
 use mach_chained::{ChainedFixups, Fixup};
 use mach_parts::segment::Segment;
 use std::alloc::Global;
@@ -17,7 +17,7 @@ fn all_fixups<'a>(
     fixups: &ChainedFixups<'a>,
     segments: &[Segment<'a>],
     steps: &mut Steps,
-) -> Result<Vec<Fixup>>
+) -> mach_base::Result<Vec<Fixup>>
     ensures { IfOk result (λ found. steps.new ≡ steps.old + length found.items) }
 {
     let mut left = fixups.fixups(segments, BASE);
@@ -57,6 +57,10 @@ fn binds_counted(rt: HostRuntime) -> Result<(), Fail> {
     same(&rt, binds.len(), 1);
     same(&rt, binds[0].name, "_a");
     let segments = [segment_at(0x4000, BASE, &DATA[..8])];
-    assert!(rt; chained.binds_counted(rt.alloc(), &LIBS, &segments, BASE, &mut steps).is_err());
+    assert!(rt;
+        chained
+            .binds_counted(rt.alloc(), &LIBS, &segments, BASE, &mut steps)
+            .is_err()
+    );
     Ok(())
 }
