@@ -14,7 +14,7 @@ use crate::format::PointerFormat;
 use crate::header::ChainedFixups;
 use crate::pointer::{FixupKind, PointerAuth, pointer_len, read_pointer};
 use crate::starts::{Chains, SIZEOF_CHAINED_STARTS_IN_SEGMENT};
-use mach_base::{Endian, Error, Result, bytes_at};
+use mach_base::{Endian, Error, Result, Steps, bytes_at};
 use mach_parts::segment::Segment;
 
 /// The start of a page that has no chain.
@@ -85,13 +85,22 @@ pub fn nth_segment<'b, 'a>(segments: &'b [Segment<'a>], number: u32) -> Result<&
     }
 }
 
-// The number that stands at a place of a segment's data, if it lies there.
+// The number that stands at a place of a segment's data, if it lies there: the one read of a pointer, which
+// counts.
 #[inline(always)]
-fn raw_at(le: Endian, format: PointerFormat, bytes: &[u8], place: usize) -> Option<u64>
+fn raw_at(
+    le: Endian,
+    format: PointerFormat,
+    bytes: &[u8],
+    place: usize,
+    steps: &mut Steps,
+) -> Option<u64>
     requires { place < 2 ^ 60 }
-    ensures { MatchOption result (length bytes.now < place + pointer_width format)
+    ensures value { MatchOption result (length bytes.now < place + pointer_width format)
         (λ raw. (place + pointer_width format ≤ length bytes.now) × (raw ≡ number le (pointer_width format) (drop place bytes.now))) }
+    ensures reads { steps.new ≡ steps.old + 1 }
 {
+    steps.tick();
     if place + pointer_len(format) > bytes.len() {
         return None;
     }
@@ -263,18 +272,27 @@ impl<'a, 'b> Source<'a, 'b> {
         Ok(Some(place))
     }
 
-    // The fixup at a place of a page, and how far the next one is, 0 at the last.
+    // The fixup at a place of a page, and how far the next one is, 0 at the last. Its pointer is read once.
     #[tactic(auto, unfolding(crate::specs::Fixups::fixup_at))]
     #[inline(always)]
-    pub fn fixup(&self, span: &Span<'a>, page: u16, at: usize) -> Result<(Fixup, u32)>
+    pub fn fixup(
+        &self,
+        span: &Span<'a>,
+        page: u16,
+        at: usize,
+        steps: &mut Steps,
+    ) -> Result<(Fixup, u32)>
         ensures value { Reads fixup_seen result (fixup_at (input_of self.now) (span_view span.now) page at) }
         ensures within { OnOk result (at < 2 ^ 16) }
+        ensures reads { OnOk result (steps.new ≡ steps.old + 1) }
+        ensures bounded { steps.new ≤ steps.old + 1 }
+        ensures kept { steps.old ≤ steps.new }
     {
         if at >= usize::from(span.chains.page_size) {
             return Err(Error::Malformed("a chain stays in its page"));
         }
         let offset = usize::from(page) * usize::from(span.chains.page_size) + at;
-        let Some(raw) = raw_at(self.fixups.le, span.chains.format, span.bytes, offset) else {
+        let Some(raw) = raw_at(self.fixups.le, span.chains.format, span.bytes, offset, steps) else {
             return Err(Error::Malformed("a fixup lies in its segment's data"));
         };
         let Some(address) = span.vmaddr.checked_add(offset as u64) else {

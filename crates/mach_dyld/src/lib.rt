@@ -10,8 +10,6 @@ mod info;
 pub mod laws;
 mod look_up;
 mod node;
-mod steps;
-mod tally;
 mod walk;
 
-pub use crate::steps::Steps;
+pub use mach_base::Steps;

@@ -22,9 +22,8 @@ ghost use Rattle.mach_dyld.specs.LookUpViews.{node_of, node_behind, OwnEnds, Set
 use crate::branches::{BranchRun, read_parts, read_run};
 use crate::exports::{ExportInfo, ExportTrie};
 use crate::node::{quick_own, read_own};
-use crate::steps::Steps;
 use crate::walk::{Source, visit};
-use mach_base::{Error, Result, quick_text, quick_uleb, rest_at};
+use mach_base::{Error, Result, Steps, quick_text, quick_uleb, rest_at};
 use std::alloc::{AllocError, Allocator};
 
 /// Where the branches of a node go on with what is left of a name.

@@ -19,8 +19,7 @@ ghost use Rattle.mach_dyld.specs.WalkState.{IsAtBranch, IsBetween, HasFound, IsR
 use crate::exports::Export;
 use crate::info::ExportInfo;
 use crate::node::{Branch, Branches, number, quick_own, read_again, read_branches, read_own};
-use crate::steps::Steps;
-use mach_base::{Error, Result};
+use mach_base::{Error, Result, Steps};
 use std::alloc::{AllocError, Allocator, Global};
 
 /// What exports are read from: some bytes, the libraries of the image, and where the trie begins and ends.

@@ -26,11 +26,11 @@ use denote.Triple.Spec.{Meets, triple_of}
 use denote.Triple.Table.{entered}
 use denote.Triple.Walked.{says, Stays, stay_ref, walk_of, ends_at, Goes-ref, walk_Meets}
 use contract.CodeStep
-use Rattle.mach_dyld.specs.contracts.tally.Tally as steps
-use Rattle.mach_dyld.specs.contracts.tally.Tally.tick.{ended, clauses}
-use Rattle.mach_dyld.specs.contracts.tally.Tally.tick.Key.{name as #self}
-use Rattle.mach_dyld.proofs.tally.Tally.tick.Statement as stated
-use Rattle.mach_dyld.proofs.tally.Tally.tick.Code as code
+use Rattle.mach_base.specs.contracts.tally.Tally as steps
+use Rattle.mach_base.specs.contracts.tally.Tally.tick.{ended, clauses}
+use Rattle.mach_base.specs.contracts.tally.Tally.tick.Key.{name as #self}
+use Rattle.mach_base.proofs.tally.Tally.tick.Statement as stated
+use Rattle.mach_base.proofs.tally.Tally.tick.Code as code
 
 module _ {M : Type 1} {𝓤 : Ura M} (𝓛 : Logic 𝓤) (𝓜 : Model 𝓤 𝓛.H) (𝓡 : Running 𝓤 𝓛.H 𝓜) where
   open 𝓛 use {H}
