@@ -295,7 +295,13 @@ impl<'a, 'b> Source<'a, 'b> {
             return None;
         }
         let offset = usize::from(page) * usize::from(span.chains.page_size) + at;
-        let Some(raw) = raw_at(self.fixups.le, span.chains.format, span.bytes, offset, steps) else {
+        let Some(raw) = raw_at(
+            self.fixups.le,
+            span.chains.format,
+            span.bytes,
+            offset,
+            steps,
+        ) else {
             return None;
         };
         let Some(address) = span.vmaddr.checked_add(offset as u64) else {

@@ -1,3 +1,4 @@
+mod counts;
 mod imports;
 mod payloads;
 mod pointers;

@@ -1,4 +1,4 @@
-use Rattle.std.proofs.Common.{◌≡◌, ◌∷◌, [], Some, None, Ok, Err, refl, sym, ap, ◌∙◌, arith}
+use Rattle.std.proofs.Common.{◌≡◌, ◌∷◌, ◌+◌, [], Some, None, Ok, Err, OnOk, refl, sym, ap, subst, ◌∙◌, arith}
 use Rattle.mach_base.specs.Fault.{fault_of}
 use Rattle.mach_chained.specs.WalkViews.{input_of, fixup_view, fixup_read}
 use Rattle.mach_chained.specs.FixupsLeft.{fixups_left}
@@ -84,6 +84,8 @@ fixups-preserved c =
     let f = fixup_view c.in-Some-Ok.fixup in
     let there : fixups_left it.fixups ≡ Ok f ∷ fixups_left new =
     c.in-Some-Ok.ensures.items ∙ ap (λ r. fixup_read r ∷ fixups_left new) c.in-Some-Ok.field-0-is in
+    let read : c.step.new.steps ≡ c.fixups.steps + 1 =
+    subst (λ item. OnOk item (c.step.new.steps ≡ c.fixups.steps + 1)) c.in-Some-Ok.field-0-is c.in-Some-Ok.ensures.reads in
     let left = on_pointers it.ended (fixups_left it.fixups) (Ok f ∷ fixups_left new) inv.on there in
     let now_left = on_pointers it.ended (fixups_left new) (fixups_left new) inv.on refl in
     record {
@@ -92,7 +94,7 @@ fixups-preserved c =
           ∙ before_others x libs f (fixups_left new) None c.in-None-binding.ensures
           ∙ sym (on_bindings it.ended new.source new.source libs (fixups_left new) (fixups_left new) inv.on refl refl);
       on = inv.on;
-      reads = omega (arith, inv.reads, c.in-Some-Ok.ensures.reads, left, now_left);
+      reads = omega (arith, inv.reads, read, left, now_left);
       kept = omega (arith, inv.kept, c.in-Some-Ok.ensures.kept);
     }
 
@@ -118,6 +120,8 @@ returns-in-Some-Ok-binding-clause-reads c =
     let f = fixup_view c.in-Some-Ok.fixup in
     let there : fixups_left it.fixups ≡ Ok f ∷ fixups_left new =
     c.in-Some-Ok.ensures.items ∙ ap (λ r. fixup_read r ∷ fixups_left new) c.in-Some-Ok.field-0-is in
+    let read : c.step.new.steps ≡ c.fixups.steps + 1 =
+    subst (λ item. OnOk item (c.step.new.steps ≡ c.fixups.steps + 1)) c.in-Some-Ok.field-0-is c.in-Some-Ok.ensures.reads in
     let left = on_pointers it.ended (fixups_left it.fixups) (Ok f ∷ fixups_left new) inv.on there in
     let now_left = on_pointers it.ended (fixups_left new) (fixups_left new) inv.on refl in
-    omega (arith, inv.reads, c.in-Some-Ok.ensures.reads, left, now_left)
+    omega (arith, inv.reads, read, left, now_left)

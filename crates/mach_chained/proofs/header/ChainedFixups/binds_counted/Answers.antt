@@ -1,4 +1,4 @@
-use Rattle.std.proofs.Common.{◌≡◌, ◌∙◌, ◌+◌, ◌++◌, ◌∷◌, None, Err, List, length, refl, sym, ap, arith, append-nil, err_from_is_err_and}
+use Rattle.std.proofs.Common.{◌≡◌, ◌∙◌, ◌+◌, ◌++◌, ◌∷◌, None, Err, List, length, refl, sym, ap, arith, append-nil}
 use Rattle.mach_base.specs.Fault.{fault_of}
 use Rattle.mach_chained.specs.Chained.{Placed, fixup_items}
 use Rattle.mach_chained.specs.Bindings.{AreBindingItems}
@@ -37,12 +37,6 @@ pub returns-in-Some-Err-clause-bounded : goal.returns-in-Some-Err-clause-bounded
 returns-in-Some-Err-clause-bounded g c =
     let it = c.start_bindings-left.ensures in
     (it.0, it.1, it.2, omega (arith, c.in-Some-Err.ensures.bounded, c.binds.invariant.reads, it.4))
-
-pub returns-in_err-push-clause-bounded : goal.returns-in_err-push-clause-bounded
-returns-in_err-push-clause-bounded g c =
-    let p = err_from_is_err_and c.from_residual.result c.from_residual.ensures.1 in
-    let it = c.start_bindings-left.ensures in
-    rw p.1 (it.0, it.1, it.2, omega (arith, c.in-Some-Ok.ensures.reads, c.binds.invariant.reads, it.4))
 
 pub returns-clause-listed : goal.returns-clause-listed
 returns-clause-listed g c =
