@@ -1,7 +1,8 @@
 //! What fixups are read from: the segments with their chains, the starts of pages, the pointers.
 
-ghost use Rattle.std.specs.Prelude.{◌≡◌, ◌+◌, ◌<◌, ◌≤◌, ◌^◌, length, drop, Some, OnOk, MatchOption};
+ghost use Rattle.std.specs.Prelude.{◌≡◌, ◌+◌, ◌<◌, ◌≤◌, ◌^◌, length, drop, Some, Ok, Err, IfSome, MatchOption};
 ghost use Rattle.mach_base.specs.Answer.{Reads};
+ghost use Rattle.mach_base.specs.Fault.{fault_of, malformed};
 ghost use Rattle.mach_base.specs.Number.{number, number_at};
 ghost use Rattle.mach_base.specs.Sums.{found_or_malformed};
 ghost use Rattle.mach_chained.specs.Pointers.{pointer_width};
@@ -272,7 +273,8 @@ impl<'a, 'b> Source<'a, 'b> {
         Ok(Some(place))
     }
 
-    // The fixup at a place of a page, and how far the next one is, 0 at the last. Its pointer is read once.
+    // The fixup at a place of a page, and how far the next one is, 0 at the last; none where there is a fault.
+    // Its pointer is read once.
     #[tactic(auto, unfolding(crate::specs::Fixups::fixup_at))]
     #[inline(always)]
     pub fn fixup(
@@ -281,15 +283,16 @@ impl<'a, 'b> Source<'a, 'b> {
         page: u16,
         at: usize,
         steps: &mut Steps,
-    ) -> Result<(Fixup, u32)>
-        ensures value { Reads fixup_seen result (fixup_at (input_of self.now) (span_view span.now) page at) }
-        ensures within { OnOk result (at < 2 ^ 16) }
-        ensures reads { OnOk result (steps.new ≡ steps.old + 1) }
+    ) -> Option<(Fixup, u32)>
+        ensures value { MatchOption result (fixup_at (input_of self.now) (span_view span.now) page at ≡ Err malformed)
+            (λ found. fixup_at (input_of self.now) (span_view span.now) page at ≡ Ok (fixup_seen found)) }
+        ensures within { IfSome result (λ _. at < 2 ^ 16) }
+        ensures reads { IfSome result (λ _. steps.new ≡ steps.old + 1) }
         ensures bounded { steps.new ≤ steps.old + 1 }
         ensures kept { steps.old ≤ steps.new }
     {
         if at >= usize::from(span.chains.page_size) {
-            return Err(Error::Malformed("a chain stays in its page"));
+            return None;
         }
         let offset = usize::from(page) * usize::from(span.chains.page_size) + at;
         let Some(raw) = raw_at(
@@ -299,16 +302,16 @@ impl<'a, 'b> Source<'a, 'b> {
             offset,
             steps,
         ) else {
-            return Err(Error::Malformed("a fixup lies in its segment's data"));
+            return None;
         };
         let Some(address) = span.vmaddr.checked_add(offset as u64) else {
-            return Err(Error::Malformed("a fixup's address has at most 64 bits"));
+            return None;
         };
         let pointer = read_pointer(span.chains.format, self.base, span.chains.greatest, raw);
         if let FixupKind::Bind { import, .. } = pointer.kind
             && import >= self.fixups.header.imports_count
         {
-            return Err(Error::Malformed("a bind's import is one of the table"));
+            return None;
         }
         let fixup = Fixup {
             segment: span.number,
@@ -317,6 +320,29 @@ impl<'a, 'b> Source<'a, 'b> {
             kind: pointer.kind,
             auth: pointer.auth,
         };
-        Ok((fixup, pointer.skip))
+        Some((fixup, pointer.skip))
+    }
+
+    // Why there is no fixup at a place of a page.
+    pub fn fault(&self, span: &Span<'a>, page: u16, at: usize) -> Error
+        ensures { fault_of result ≡ malformed }
+    {
+        Error::Malformed(self.reason(span, page, at))
+    }
+
+    // The same in words. The pointer is not read again.
+    fn reason(&self, span: &Span<'a>, page: u16, at: usize) -> &'static str {
+        let size = usize::from(span.chains.page_size);
+        if size <= at {
+            return "a chain stays in its page";
+        }
+        let offset = usize::from(page) * size + at;
+        if span.bytes.len() < offset + pointer_len(span.chains.format) {
+            return "a fixup lies in its segment's data";
+        }
+        match span.vmaddr.checked_add(offset as u64) {
+            None => "a fixup's address has at most 64 bits",
+            Some(_) => "a bind's import is one of the table",
+        }
     }
 }
