@@ -6,7 +6,6 @@ use Rattle.mach_dyld.proofs.walk.ExportWalk.start.Goals as goal
 pub returns-clause-start : goal.returns-clause-start
 returns-clause-start g c =
     let s = c.args.source.now in
-    let filled = c.in_ok-vec.ensures.items_if_clones_equal (λ y e. e) in
     elim (cases_lt s.from s.upto) [
       | inl inside ↦ inl (
         lt-leb s.upto s.from inside,
@@ -16,7 +15,7 @@ returns-clause-start g c =
               root = refl;
               label = refl;
               no_name = c.new.ensures.items;
-              no_marks = filled ∙ ap (λ n. replicate n false) c.saturating_sub-len.ensures;
+              no_marks = c.in_ok-new.ensures ∙ ap (λ n. replicate n false) c.saturating_sub-len.ensures;
               left = refl;
               name_len = refl;
               none_open = ap reverse c.new-2.ensures.items;
