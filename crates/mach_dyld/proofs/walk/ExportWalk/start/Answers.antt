@@ -14,11 +14,11 @@ returns-clause-start g c =
               inside = inside;
               root = refl;
               label = refl;
-              no_name = c.new.ensures.items;
+              no_name = c.new-2.ensures.items;
               no_marks = c.in_ok-new.ensures ∙ ap (λ n. replicate n false) c.saturating_sub-len.ensures;
               left = refl;
               name_len = refl;
-              none_open = ap reverse c.new-2.ensures.items;
+              none_open = ap reverse c.new-3.ensures.items;
               none_found = refl;
               none_visited = refl;
             }),
