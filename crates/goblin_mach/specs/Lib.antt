@@ -6,7 +6,12 @@ pub mod Subjects
 pub mod Relocations
 pub mod Image
 pub mod OpenImage
+pub mod Fixups
+pub mod FixupsLeft
+pub mod Bindings
+pub mod BindingsLeft
 pub mod Facts
+pub mod BindingLaws
 pub mod FatFile
 pub mod FatEntry
 pub mod View

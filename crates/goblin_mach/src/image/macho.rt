@@ -13,6 +13,7 @@ ghost use Rattle.goblin_mach.specs.Image.{Opens, LossyOpens, ImageFault, LossyFa
 ghost use Rattle.goblin_mach.specs.Subjects.{ListsImageImports, ImageImportsFault, ListsImageExports, ImageExportsFault, trie_len, trie_or_empty};
 
 mod debug;
+mod dyld;
 
 use crate::image::fields::Fields;
 use crate::image::opened::Opened;

@@ -5,7 +5,9 @@ ghost use Rattle.std.specs.Prelude.{◌≡◌, ◌<◌, ℕ, List, Bool, Result,
 ghost use Rattle.mach_base.specs.Fault.{Fault};
 ghost use Rattle.mach_dyld.specs.BindLeft.{imports_left};
 ghost use Rattle.mach_dyld.specs.Exports.{texts, entries};
-ghost use Rattle.goblin_mach.specs.Facts.{HasRunPaths, HasEntryPoint, HasImportItems, IsExportedAt, IsNotExported};
+ghost use Rattle.goblin_mach.specs.Facts.{HasRunPaths, HasEntryPoint, HasImportItems, HasBindings, HasFixups, IsExportedAt, IsNotExported};
+ghost use Rattle.goblin_mach.specs.BindingsLeft.{bindings_left};
+ghost use Rattle.goblin_mach.specs.FixupsLeft.{fixups_left};
 ghost use Rattle.goblin_mach.specs.FatEntry.{FatEntry, entries_of, OpensEntry};
 ghost use Rattle.goblin_mach.specs.FatFile.{file_held};
 ghost use Rattle.goblin_mach.specs.OpenImage.{IsImage, IsLossyImage};
@@ -13,10 +15,12 @@ ghost use Rattle.goblin_mach.specs.OpenImage.{IsImage, IsLossyImage};
 use crate::tests::same::same;
 use goblin_mach::exports::Export;
 use goblin_mach::imports::BindIterator;
-use goblin_mach::{MachO, MultiArch, Result, SingleArch, find_export, laws};
+use goblin_mach::{
+    BindingIterator, FixupIterator, MachO, MultiArch, Result, SingleArch, find_export, laws,
+};
 use std::alloc::{Allocator, Global};
 use std::test::Fail;
-use test_files::{FILE_B, file_c};
+use test_files::{FILE_B, FILE_D, file_c};
 
 // The image at the front of the bytes, which opens in lossy mode all the more.
 fn image(alloc: Global, bytes: &[u8]) -> Result<MachO<'_>>
@@ -51,6 +55,22 @@ fn import_items<'a, 'b>(image: &'b MachO<'a>) -> BindIterator<'a, 'b>
 {
     laws::import_items_of_image(image);
     image.iter_imports()
+}
+
+// What dyld binds of an image one at a time, which is what it binds of the bytes in which it was opened.
+fn bindings<'a, 'b>(image: &'b MachO<'a>) -> BindingIterator<'a, 'b>
+    ensures { (bytes : List ℕ) (o : ℕ) → IsLossyImage bytes o image.now → HasBindings bytes o (bindings_left result) }
+{
+    laws::bindings_of_image(image);
+    image.bindings()
+}
+
+// Its fixups.
+fn fixups<'a, 'b>(image: &'b MachO<'a>) -> FixupIterator<'a, 'b>
+    ensures { (bytes : List ℕ) (o : ℕ) → IsLossyImage bytes o image.now → HasFixups bytes o (fixups_left result) }
+{
+    laws::fixups_of_image(image);
+    image.fixups()
 }
 
 // The entry of an index, which is the one at that place among all entries.
@@ -109,6 +129,14 @@ fn imports_one_at_a_time(rt: HostRuntime) -> std::result::Result<(), Fail> {
         );
     }
     assert!(rt; items.next().is_none());
+    Ok(())
+}
+
+#[test]
+fn bindings_one_at_a_time(rt: HostRuntime) -> std::result::Result<(), Fail> {
+    let image = image(rt.alloc(), &FILE_D)?;
+    same(&rt, bindings(&image).count(), 4);
+    same(&rt, fixups(&image).count(), 4);
     Ok(())
 }
 
