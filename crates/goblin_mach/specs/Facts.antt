@@ -14,6 +14,8 @@ use Rattle.mach_chained.specs.Header.{Fixups}
 use Rattle.mach_parts.specs.Bindings.{Binding}
 use Rattle.goblin_mach.specs.Bindings.{AreImageBindings}
 use Rattle.goblin_mach.specs.Fixups.{AreImageFixups, base_of, chained_in}
+use Rattle.goblin_mach.specs.Libraries.{LibraryView, libraries_in}
+use Rattle.goblin_mach.specs.LookUp.{StandsInImage}
 use Rattle.goblin_mach.specs.EntryPoint.{EntryPoint, entry_point_in}
 use Rattle.goblin_mach.specs.Image.{LossyOpensAs}
 use Rattle.goblin_mach.specs.Magic.{cputype_at}
@@ -54,6 +56,10 @@ HasName bytes o name = OfImage bytes o (λ ctx cs. name ≡ own_name_in bytes cs
 abbrev pub HasLibraries : List ℕ → ℕ → List (List ℕ) → Type 0
 HasLibraries bytes o libs = OfImage bytes o (λ ctx cs. libs ≡ libs_in bytes cs)
 
+-- its libraries, each with its ordinal and how it is brought in
+abbrev pub HasLibrariesByKind : List ℕ → ℕ → List LibraryView → Type 0
+HasLibrariesByKind bytes o libraries = OfImage bytes o (λ ctx cs. libraries ≡ libraries_in bytes cs)
+
 -- the paths on which its libraries are sought
 abbrev pub HasRunPaths : List ℕ → ℕ → List (List ℕ) → Type 0
 HasRunPaths bytes o paths = OfImage bytes o (λ ctx cs. paths ≡ read_of (run_path_by bytes) cs)
@@ -69,6 +75,10 @@ HasExports bytes o list = OfImage bytes o (λ ctx cs. ListsImageExports (trie_in
 -- a fault stands in its trie
 abbrev pub HasExportsFault : List ℕ → ℕ → Fault → Type 0
 HasExportsFault bytes o f = OfImage bytes o (λ ctx cs. ImageExportsFault (trie_in bytes cs) (libs_in bytes cs) f)
+
+-- what it exports a name as, by the paths of its last trie, over its libraries: none where no path has the name
+abbrev pub HasExportOf : List ℕ → ℕ → List ℕ → Option trie.Info → Type 0
+HasExportOf bytes o name found = OfImage bytes o (λ ctx cs. StandsInImage (trie_in bytes cs) (libs_in bytes cs) name found)
 
 -- some segments as they are held, which are those of the commands
 abbrev pub AreSegments : Ctx → List ℕ → List Command → List Segment → Type 0

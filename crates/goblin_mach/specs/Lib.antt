@@ -3,6 +3,8 @@ pub mod Chain
 pub mod Readings
 pub mod EntryPoint
 pub mod Subjects
+pub mod Libraries
+pub mod LookUp
 pub mod Relocations
 pub mod Image
 pub mod OpenImage

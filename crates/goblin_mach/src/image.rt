@@ -9,6 +9,7 @@ pub mod facts;
 pub mod fields;
 pub mod fixups;
 pub mod laws;
+pub mod libraries;
 pub mod mach;
 pub mod macho;
 pub mod magic;

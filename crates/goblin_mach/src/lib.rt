@@ -13,6 +13,7 @@ pub use crate::fat_file::multi_arch::{MultiArch, SingleArchIterator};
 pub use crate::image::bindings::BindingIterator;
 pub use crate::image::exported::find_export;
 pub use crate::image::fixups::FixupIterator;
+pub use crate::image::libraries::{Library, LibraryIterator, LibraryKind};
 pub use crate::image::mach::Mach;
 pub use crate::image::macho::MachO;
 pub use crate::image::magic::{parse_magic_and_ctx, peek, peek_bytes};

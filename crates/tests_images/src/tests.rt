@@ -9,6 +9,8 @@ mod constants;
 mod container;
 mod debug;
 mod image;
+mod libraries;
+mod look_up;
 mod prefixes;
 mod same;
 mod symbols;

@@ -24,6 +24,9 @@ ghost use Rattle.goblin_mach.specs.Subjects.{ListsImageImports, ImageImportsFaul
 ghost use Rattle.goblin_mach.specs.OpenImage.{IsImage, IsLossyImage, commands_held, segments_held, trie_held, binds_held, ctx_held, bytes_held};
 ghost use Rattle.goblin_mach.specs.Relocations.{RelocatedSection, relocated_sections_in};
 ghost use Rattle.goblin_mach.specs.View.{LinksImage, LinksFault, FaultHeld};
+ghost use Rattle.goblin_mach.specs.Facts.{HasLibrariesByKind, HasExportOf};
+ghost use Rattle.goblin_mach.specs.Libraries.{LibraryView, libraries_in};
+ghost use Rattle.goblin_mach.specs.LookUp.{StandsInImage};
 
 use crate::image::macho::MachO;
 use std::alloc::Allocator;
@@ -69,6 +72,22 @@ pub fn name_of_image<A: Allocator>(image: &MachO<'_, A>)
 pub fn libraries_of_image<A: Allocator>(image: &MachO<'_, A>)
     ensures strict { (bytes : List ℕ) (o : ℕ) → IsImage bytes o image.now → (libs : List (List ℕ)) → HasLibraries bytes o libs ↔ (libs ≡ texts image.now.libs.items) }
     ensures lossy { (bytes : List ℕ) (o : ℕ) → IsLossyImage bytes o image.now → (libs : List (List ℕ)) → HasLibraries bytes o libs ↔ (libs ≡ texts image.now.libs.items) }
+{}
+
+/// The libraries that `MachO::libraries` gives are those of the bytes.
+pub fn libraries_by_kind_of_image<A: Allocator>(image: &MachO<'_, A>)
+    ensures strict { (bytes : List ℕ) (o : ℕ) → IsImage bytes o image.now → (libraries : List LibraryView)
+        → HasLibrariesByKind bytes o libraries ↔ (libraries ≡ libraries_in (bytes_held image.now) (commands_held image.now)) }
+    ensures lossy { (bytes : List ℕ) (o : ℕ) → IsLossyImage bytes o image.now → (libraries : List LibraryView)
+        → HasLibrariesByKind bytes o libraries ↔ (libraries ≡ libraries_in (bytes_held image.now) (commands_held image.now)) }
+{}
+
+/// What `MachO::find_export` answers stands by the paths of the trie in the bytes.
+pub fn found_export_of_image<A: Allocator>(image: &MachO<'_, A>)
+    ensures strict { (bytes : List ℕ) (o : ℕ) → IsImage bytes o image.now → (name : List ℕ) (found : Option trie.Info)
+        → HasExportOf bytes o name found ↔ StandsInImage (trie_held image.now) (texts image.now.libs.items) name found }
+    ensures lossy { (bytes : List ℕ) (o : ℕ) → IsLossyImage bytes o image.now → (name : List ℕ) (found : Option trie.Info)
+        → HasExportOf bytes o name found ↔ StandsInImage (trie_held image.now) (texts image.now.libs.items) name found }
 {}
 
 /// The run paths that an image holds are those of the bytes.

@@ -245,6 +245,11 @@ fn images(rt: HostRuntime) -> Result<(), Fail> {
     assert!(rt; matches!(items.next(), Some(Ok(_))));
     assert!(rt; matches!(items.next(), Some(Ok(_))));
     assert!(rt; items.next().is_none());
+    let mut items = image.libraries();
+    assert!(rt; items.next().is_some());
+    assert!(rt; items.next().is_none());
+    assert!(rt; matches!(image.find_export(&heap, "a"), Ok(Some(_))));
+    assert!(rt; matches!(image.find_export(&heap, "b"), Ok(None)));
     same(&rt, heap.asked(), asked);
     Ok(())
 }
