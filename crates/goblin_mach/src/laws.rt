@@ -21,8 +21,8 @@ pub use crate::image::libraries::{libraries_by_ordinal, libraries_in_libs};
 pub use crate::image::macho::look_up::export_by_list_and_paths;
 pub use mach_base::laws::{one_signed_spelling, one_spelling, record_at_an_offset};
 pub use mach_chained::laws::{
-    as_many_bindings_as_binds, faulty_bindings_have_no_list, fixups_are_few, fixups_lie_in_segments,
-    images_have_fixups, one_list_of_fixups,
+    as_many_bindings_as_binds, faulty_bindings_have_no_list, fixups_are_few, fixups_ascend,
+    fixups_lie_in_segments, images_have_fixups, one_list_of_fixups,
 };
 pub use mach_dyld::laws::{
     adds_bindings, binding_lies_in_its_segment, bindings_are_imports, bindings_lie_in_segments,
