@@ -1,4 +1,4 @@
-use Rattle.std.proofs.Common.{◌≡◌, ◌∙◌, ◌+◌, ◌++◌, ◌∷◌, None, Err, List, length, refl, sym, ap, arith, append-nil}
+use Rattle.std.proofs.Common.{◌≡◌, ◌∙◌, ◌++◌, ◌∷◌, None, Err, List, length, refl, ap, arith, append-nil}
 use Rattle.mach_base.specs.Fault.{fault_of}
 use Rattle.mach_chained.specs.Chained.{Placed, fixup_items}
 use Rattle.mach_chained.specs.Bindings.{AreBindingItems}
