@@ -19,6 +19,9 @@ use Rattle.goblin_mach.specs.EntryPoint.{EntryPoint, entry_point_in}
 use Rattle.goblin_mach.specs.Facts.{OfImage, HasCommands, HasSymbols, HasSegments, HasRelocations, HasName, HasLibraries, HasRunPaths, HasEntryPoint}
 use Rattle.goblin_mach.specs.Facts.{HasExports, HasExportsFault, HasImports, HasImportsFault, HasImportItems, AreSegments}
 use Rattle.goblin_mach.specs.Image.{LossyOpensAs}
+use Rattle.goblin_mach.specs.Facts.{HasLibrariesByKind, HasExportOf}
+use Rattle.goblin_mach.specs.Libraries.{LibraryView, libraries_in}
+use Rattle.goblin_mach.specs.LookUp.{StandsInImage}
 use Rattle.goblin_mach.specs.Subjects.{binds_in, ListsImageImports, ImageImportsFault, AreImageBindItems, lossy_segment_by, trie_in, ListsImageExports}
 use Rattle.goblin_mach.specs.Subjects.{ImageExportsFault, own_name_in, libs_in, run_path_by, table_in, symbols_in, symbols_held}
 use Rattle.goblin_mach.specs.Magic.{cputype_at}
@@ -41,16 +44,16 @@ strict-lossy bytes o m p =
     }
 
 -- equal arguments
-moved : {X Y : Type 0} (P : X → Y → Type 0) (x z : X) (y w : Y) → x ≡ z → y ≡ w → P x y → P z w
+pub moved : {X Y : Type 0} (P : X → Y → Type 0) (x z : X) (y w : Y) → x ≡ z → y ≡ w → P x y → P z w
 moved P x z y w p q h = subst (λ (v : _). P z v) q (subst (λ (v : _). P v y) p h)
 
 module _ {A : Type 0} (bytes : List ℕ) (o : ℕ) (m : MachO A) (p : IsLossyImage bytes o m) where
   -- what holds of the context and the commands of the image is a fact on the bytes
-  of_image : (Holds : Ctx → List Command → Type 0) → Holds p.ctx (commands_held m) → OfImage bytes o Holds
+  pub of_image : (Holds : Ctx → List Command → Type 0) → Holds p.ctx (commands_held m) → OfImage bytes o Holds
   of_image Holds h = record { ctx = p.ctx; cs = commands_held m; opens = p.opens; holds = h }
 
   -- and back: no other image opens there
-  image_of : (Holds : Ctx → List Command → Type 0) → OfImage bytes o Holds → Holds p.ctx (commands_held m)
+  pub image_of : (Holds : Ctx → List Command → Type 0) → OfImage bytes o Holds → Holds p.ctx (commands_held m)
   image_of Holds q =
       let same_ctx : q.ctx ≡ p.ctx = same_header bytes o q.ctx p.ctx q.opens.header p.opens.header in
       let chain = (subst (λ (c : Ctx). LossyOpensAs bytes o c q.cs) same_ctx q.opens).chain in
@@ -60,7 +63,7 @@ module _ {A : Type 0} (bytes : List ℕ) (o : ℕ) (m : MachO A) (p : IsLossyIma
       moved Holds q.ctx p.ctx q.cs (commands_held m) same_ctx same q.holds
 
   -- a value that is so and no other
-  is_just : {X : Type 0} (there : Ctx → List Command → X) (held x : X) → held ≡ there p.ctx (commands_held m)
+  pub is_just : {X : Type 0} (there : Ctx → List Command → X) (held x : X) → held ≡ there p.ctx (commands_held m)
       → OfImage bytes o (λ ctx cs. x ≡ there ctx cs) ↔ (x ≡ held)
   is_just there held x same =
       ((λ h. image_of (λ ctx cs. x ≡ there ctx cs) h ∙ sym same), (λ e. of_image (λ ctx cs. x ≡ there ctx cs) (e ∙ same)))
@@ -89,6 +92,12 @@ module _ {A : Type 0} (bytes : List ℕ) (o : ℕ) (m : MachO A) (p : IsLossyIma
   pub libraries_are : (libs : List (List ℕ)) → HasLibraries bytes o libs ↔ (libs ≡ texts m.libs.items)
   libraries_are libs = is_just (λ ctx cs. libs_in bytes cs) (texts m.libs.items) libs p.fields.libs
 
+  pub libraries_by_kind_are : (libraries : List LibraryView)
+      → HasLibrariesByKind bytes o libraries ↔ (libraries ≡ libraries_in (bytes_held m) (commands_held m))
+  libraries_by_kind_are libraries =
+      is_just (λ ctx cs. libraries_in bytes cs) (libraries_in (bytes_held m) (commands_held m)) libraries
+      (ap (λ bs. libraries_in bs (commands_held m)) p.fields.bytes_is)
+
   pub run_paths_are : (paths : List (List ℕ)) → HasRunPaths bytes o paths ↔ (paths ≡ texts m.rpaths.items)
   run_paths_are paths = is_just (λ ctx cs. read_of (run_path_by bytes) cs) (texts m.rpaths.items) paths p.fields.rpaths
 
@@ -111,6 +120,10 @@ module _ {A : Type 0} (bytes : List ℕ) (o : ℕ) (m : MachO A) (p : IsLossyIma
 
   pub exports_fail : (f : Fault) → HasExportsFault bytes o f ↔ ImageExportsFault (trie_held m) (texts m.libs.items) f
   exports_fail f = over_trie (λ t l. ImageExportsFault t l f)
+
+  pub export_is : (name : List ℕ) (found : Option trie.Info)
+      → HasExportOf bytes o name found ↔ StandsInImage (trie_held m) (texts m.libs.items) name found
+  export_is name found = over_trie (λ t l. StandsInImage t l name found)
 
   -- what is said of its binds, its pointers, its libraries and its segments, as they are held
   abbrev IsHeld : (Option BindRanges → ℕ → List (List ℕ) → List Segment → Type 0) → Type 0

@@ -9,6 +9,13 @@ use Rattle.mach_parts.specs.declared.segment.Segment.{Segment}
 use Rattle.mach_parts.specs.declared.symbols.nlist.Nlist.{Nlist}
 use Rattle.mach_dyld.specs.Imports.{Import}
 use Rattle.mach_dyld.specs.Trie as trie
+use Rattle.mach_chained.specs.Fixups.{Fixup}
+use Rattle.mach_chained.specs.Header.{Fixups}
+use Rattle.mach_parts.specs.Bindings.{Binding}
+use Rattle.goblin_mach.specs.Bindings.{AreImageBindings}
+use Rattle.goblin_mach.specs.Fixups.{AreImageFixups, base_of, chained_in}
+use Rattle.goblin_mach.specs.Libraries.{LibraryView, libraries_in}
+use Rattle.goblin_mach.specs.LookUp.{StandsInImage}
 use Rattle.goblin_mach.specs.EntryPoint.{EntryPoint, entry_point_in}
 use Rattle.goblin_mach.specs.Image.{LossyOpensAs}
 use Rattle.goblin_mach.specs.Magic.{cputype_at}
@@ -49,6 +56,10 @@ HasName bytes o name = OfImage bytes o (λ ctx cs. name ≡ own_name_in bytes cs
 abbrev pub HasLibraries : List ℕ → ℕ → List (List ℕ) → Type 0
 HasLibraries bytes o libs = OfImage bytes o (λ ctx cs. libs ≡ libs_in bytes cs)
 
+-- its libraries, each with its ordinal and how it is brought in
+abbrev pub HasLibrariesByKind : List ℕ → ℕ → List LibraryView → Type 0
+HasLibrariesByKind bytes o libraries = OfImage bytes o (λ ctx cs. libraries ≡ libraries_in bytes cs)
+
 -- the paths on which its libraries are sought
 abbrev pub HasRunPaths : List ℕ → ℕ → List (List ℕ) → Type 0
 HasRunPaths bytes o paths = OfImage bytes o (λ ctx cs. paths ≡ read_of (run_path_by bytes) cs)
@@ -64,6 +75,10 @@ HasExports bytes o list = OfImage bytes o (λ ctx cs. ListsImageExports (trie_in
 -- a fault stands in its trie
 abbrev pub HasExportsFault : List ℕ → ℕ → Fault → Type 0
 HasExportsFault bytes o f = OfImage bytes o (λ ctx cs. ImageExportsFault (trie_in bytes cs) (libs_in bytes cs) f)
+
+-- what it exports a name as, by the paths of its last trie, over its libraries: none where no path has the name
+abbrev pub HasExportOf : List ℕ → ℕ → List ℕ → Option trie.Info → Type 0
+HasExportOf bytes o name found = OfImage bytes o (λ ctx cs. StandsInImage (trie_in bytes cs) (libs_in bytes cs) name found)
 
 -- some segments as they are held, which are those of the commands
 abbrev pub AreSegments : Ctx → List ℕ → List Command → List Segment → Type 0
@@ -83,6 +98,24 @@ HasImportsFault bytes o f = OfImage bytes o (λ ctx cs. (segments : List Segment
 abbrev pub HasImportItems : List ℕ → ℕ → List (Result Import Fault) → Type 0
 HasImportItems bytes o items = OfImage bytes o (λ ctx cs. (segments : List Segment) × AreSegments ctx bytes cs segments
     × AreImageBindItems (binds_in bytes cs) (pointer_size ctx.container) (libs_in bytes cs) segments items)
+
+-- its chained fixups, if it has any, or why their front can't be read
+abbrev pub HasChainedFixups : List ℕ → ℕ → Result (Option Fixups) Fault → Type 0
+HasChainedFixups bytes o found = OfImage bytes o (λ ctx cs. found ≡ chained_in ctx bytes cs)
+
+-- the address of its first byte in memory
+abbrev pub HasBase : List ℕ → ℕ → ℕ → Type 0
+HasBase bytes o address = OfImage bytes o (λ ctx cs. address ≡ base_of (read_of (lossy_segment_by ctx bytes) cs))
+
+-- the fixups of its chains one at a time, up to the first fault
+abbrev pub HasFixups : List ℕ → ℕ → List (Result Fixup Fault) → Type 0
+HasFixups bytes o items = OfImage bytes o (λ ctx cs. (segments : List Segment) × AreSegments ctx bytes cs segments
+    × AreImageFixups (chained_in ctx bytes cs) segments items)
+
+-- what dyld binds of it, over its libraries and its segments: by its opcodes and then by its chains, up to the first fault
+abbrev pub HasBindings : List ℕ → ℕ → List (Result Binding Fault) → Type 0
+HasBindings bytes o items = OfImage bytes o (λ ctx cs. (segments : List Segment) × AreSegments ctx bytes cs segments
+    × AreImageBindings (binds_in bytes cs) (chained_in ctx bytes cs) (pointer_size ctx.container) (libs_in bytes cs) segments items)
 
 -- an export of this name with this address is among them
 abbrev pub IsExportedAt : List ℕ → ℕ → List trie.Entry → Type 0

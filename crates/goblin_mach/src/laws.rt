@@ -3,17 +3,31 @@
 pub mod rows;
 
 pub use crate::fat_file::laws::{entries_by_number, fat_file_of_bytes, records_by_number};
+pub use crate::image::binding_laws::{
+    image_bindings_are_imports, one_list_of_image_bindings, one_list_of_image_fixups,
+};
 pub use crate::image::exported::exported_or_not;
 pub use crate::image::facts::{
-    commands_of_image, entry_point_of_image, exports_of_image, import_items_of_image,
-    imports_of_image, libraries_of_image, links_of_image, name_of_image, relocations_of_image,
-    run_paths_of_image, segments_of_image, strict_image_is_lossy, symbols_of_image,
-    walked_exports_of_image,
+    base_of_image, bindings_of_image, chained_fixups_of_image, commands_of_image,
+    entry_point_of_image, exports_of_image, fixups_of_image, found_export_of_image,
+    import_items_of_image, imports_of_image, libraries_by_kind_of_image, libraries_of_image,
+    links_of_image, name_of_image, relocations_of_image, run_paths_of_image, segments_of_image,
+    strict_image_is_lossy, symbols_of_image, walked_exports_of_image,
 };
 pub use crate::image::laws::{
     lossy_agrees, new_header_recognised, one_chain, strict_opens_lossily,
 };
+pub use crate::image::libraries::{libraries_by_ordinal, libraries_in_libs};
+pub use crate::image::macho::look_up::export_by_list_and_paths;
 pub use mach_base::laws::{one_signed_spelling, one_spelling, record_at_an_offset};
+pub use mach_chained::laws::{
+    as_many_bindings_as_binds, faulty_bindings_have_no_list, fixups_are_few, fixups_ascend,
+    fixups_lie_in_segments, images_have_fixups, one_list_of_fixups,
+};
+pub use mach_dyld::laws::{
+    adds_bindings, binding_lies_in_its_segment, bindings_are_imports, bindings_lie_in_segments,
+    finds_last_ordinal,
+};
 pub use mach_dyld::laws::{
     adds_binds, beginning_of_the_list, blocked_root_has_no_list, cuts_behind_done,
     exports_of_terminal_paths, faulty_binds_have_no_list, faulty_tries_have_no_list,

@@ -10,7 +10,10 @@ mod view;
 pub use crate::fat_file::arches::FatArchIterator;
 pub use crate::fat_file::entry::SingleArch;
 pub use crate::fat_file::multi_arch::{MultiArch, SingleArchIterator};
+pub use crate::image::bindings::BindingIterator;
 pub use crate::image::exported::find_export;
+pub use crate::image::fixups::FixupIterator;
+pub use crate::image::libraries::{Library, LibraryIterator, LibraryKind};
 pub use crate::image::mach::Mach;
 pub use crate::image::macho::MachO;
 pub use crate::image::magic::{parse_magic_and_ctx, peek, peek_bytes};
@@ -20,9 +23,31 @@ pub use mach_base::{
     ScrollError, SizeWith, Sleb128, TryFromCtx, TryIntoCtx, Uleb128, describe, gread_with,
     pread_with, pwrite_with, read_text, take_hint_bytes,
 };
+pub use mach_dyld::bindings::OpcodeBindingIterator;
 pub use mach_dyld::{Steps, bind_opcodes, exports, imports};
+pub use mach_parts::binding::{Binding, Provider};
 pub use mach_parts::{fat, header, relocation, segment, symbols};
 pub use mach_records::{constants, cputype};
+
+/// Chained fixups: what the data of `LC_DYLD_CHAINED_FIXUPS` and the pointers of the segments hold.
+pub mod chained_fixups {
+    pub use mach_chained::ChainPointer;
+    pub use mach_chained::ChainedBindIterator;
+    pub use mach_chained::ChainedFixups;
+    pub use mach_chained::ChainedFixupsHeader;
+    pub use mach_chained::ChainedImport;
+    pub use mach_chained::ChainedImportIterator;
+    pub use mach_chained::ChainedStartsInSegment;
+    pub use mach_chained::Fixup;
+    pub use mach_chained::FixupIterator;
+    pub use mach_chained::FixupKind;
+    pub use mach_chained::ImportFormat;
+    pub use mach_chained::PointerAuth;
+    pub use mach_chained::PointerFormat;
+    pub use mach_chained::SIZEOF_CHAINED_FIXUPS_HEADER;
+    pub use mach_chained::SIZEOF_CHAINED_STARTS_IN_SEGMENT;
+    pub use mach_chained::read_pointer;
+}
 
 /// Load commands: their records, constants and names.
 pub mod load_command {

@@ -9,6 +9,7 @@ pub mod imports;
 mod info;
 pub mod laws;
 mod look_up;
+mod marks;
 mod node;
 mod walk;
 

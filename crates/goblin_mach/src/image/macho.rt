@@ -13,6 +13,8 @@ ghost use Rattle.goblin_mach.specs.Image.{Opens, LossyOpens, ImageFault, LossyFa
 ghost use Rattle.goblin_mach.specs.Subjects.{ListsImageImports, ImageImportsFault, ListsImageExports, ImageExportsFault, trie_len, trie_or_empty};
 
 mod debug;
+mod dyld;
+pub mod look_up;
 
 use crate::image::fields::Fields;
 use crate::image::opened::Opened;
@@ -101,7 +103,7 @@ impl<'a, A: Allocator + Clone> MachO<'a, A> {
 }
 
 impl<'a, A: Allocator> MachO<'a, A> {
-    ghost use Rattle.goblin_mach.specs.OpenImage.{commands_of, IsMadeOf};
+    ghost use Rattle.goblin_mach.specs.OpenImage.{IsMadeOf};
 
     // The image of what was read.
     fn of(bytes: &'a [u8], opened: Opened<A>, fields: Fields<'a, A>) -> MachO<'a, A>

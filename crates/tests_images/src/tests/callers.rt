@@ -1,22 +1,31 @@
 //! Small callers of goblin_mach: each states what it answers by a fact on the bytes, or on a list of
 //! exports, and cites the law that gives it.
 
-ghost use Rattle.std.specs.Prelude.{◌≡◌, ◌<◌, ℕ, List, Bool, Result, Some, IfOk, MatchOption, slice_get};
+ghost use Rattle.std.specs.Prelude.{◌≡◌, ◌<◌, ℕ, List, Bool, Result, Some, IfOk, MatchOption, option_map, slice_get};
 ghost use Rattle.mach_base.specs.Fault.{Fault};
 ghost use Rattle.mach_dyld.specs.BindLeft.{imports_left};
-ghost use Rattle.mach_dyld.specs.Exports.{texts, entries};
-ghost use Rattle.goblin_mach.specs.Facts.{HasRunPaths, HasEntryPoint, HasImportItems, IsExportedAt, IsNotExported};
+ghost use Rattle.mach_dyld.specs.Exports.{texts, entries, info_of};
+ghost use Rattle.mach_dyld.specs.LookUp.{IsFirstOf};
+ghost use Rattle.mach_dyld.specs.Trie.{Entry};
+ghost use Rattle.goblin_mach.specs.Facts.{HasRunPaths, HasEntryPoint, HasImportItems, HasBindings, HasFixups, HasExports, HasExportOf, HasLibrariesByKind};
+ghost use Rattle.goblin_mach.specs.Facts.{IsExportedAt, IsNotExported};
+ghost use Rattle.goblin_mach.specs.BindingsLeft.{bindings_left};
+ghost use Rattle.goblin_mach.specs.FixupsLeft.{fixups_left};
 ghost use Rattle.goblin_mach.specs.FatEntry.{FatEntry, entries_of, OpensEntry};
 ghost use Rattle.goblin_mach.specs.FatFile.{file_held};
+ghost use Rattle.goblin_mach.specs.Libraries.{libraries_left};
 ghost use Rattle.goblin_mach.specs.OpenImage.{IsImage, IsLossyImage};
 
 use crate::tests::same::same;
-use goblin_mach::exports::Export;
+use goblin_mach::exports::{Export, ExportInfo};
 use goblin_mach::imports::BindIterator;
-use goblin_mach::{MachO, MultiArch, Result, SingleArch, find_export, laws};
+use goblin_mach::{
+    BindingIterator, FixupIterator, LibraryIterator, LibraryKind, MachO, MultiArch, Result,
+    SingleArch, find_export, laws,
+};
 use std::alloc::{Allocator, Global};
 use std::test::Fail;
-use test_files::{FILE_B, file_c};
+use test_files::{FILE_B, FILE_D, file_c};
 
 // The image at the front of the bytes, which opens in lossy mode all the more.
 fn image(alloc: Global, bytes: &[u8]) -> Result<MachO<'_>>
@@ -53,6 +62,41 @@ fn import_items<'a, 'b>(image: &'b MachO<'a>) -> BindIterator<'a, 'b>
     image.iter_imports()
 }
 
+// What dyld binds of an image one at a time, which is what it binds of the bytes in which it was opened.
+fn bindings<'a, 'b>(image: &'b MachO<'a>) -> BindingIterator<'a, 'b>
+    ensures { (bytes : List ℕ) (o : ℕ) → IsLossyImage bytes o image.now → HasBindings bytes o (bindings_left result) }
+{
+    laws::bindings_of_image(image);
+    image.bindings()
+}
+
+// Its fixups.
+fn fixups<'a, 'b>(image: &'b MachO<'a>) -> FixupIterator<'a, 'b>
+    ensures { (bytes : List ℕ) (o : ℕ) → IsLossyImage bytes o image.now → HasFixups bytes o (fixups_left result) }
+{
+    laws::fixups_of_image(image);
+    image.fixups()
+}
+
+// The libraries of an image by their kinds, which are those of the bytes in which it was opened.
+fn libraries<'a, 'b>(image: &'b MachO<'a>) -> LibraryIterator<'a, 'b>
+    ensures { (bytes : List ℕ) (o : ℕ) → IsImage bytes o image.now → HasLibrariesByKind bytes o (libraries_left result) }
+{
+    laws::libraries_by_kind_of_image(image);
+    image.libraries()
+}
+
+// What the image there exports a name as: by the paths of its trie, and by the list of its exports, where there is one.
+fn exported_as<'a>(alloc: Global, bytes: &'a [u8], name: &str) -> Result<Option<ExportInfo<'a>>>
+    ensures by_paths { IfOk result (λ o. HasExportOf bytes.now 0 name.now (option_map info_of o)) }
+    ensures by_list { (list : List Entry) → HasExports bytes.now 0 list → IfOk result (λ o. IsFirstOf name.now list (option_map info_of o)) }
+{
+    let image = MachO::parse(alloc, bytes, 0)?;
+    laws::found_export_of_image(&image);
+    laws::exports_of_image(&image);
+    image.find_export(alloc, name)
+}
+
 // The entry of an index, which is the one at that place among all entries.
 fn entry<'a>(container: &MultiArch<'a>, index: usize) -> Result<SingleArch<'a>>
     requires { index < container.now.narches }
@@ -86,6 +130,23 @@ fn of_an_image(rt: HostRuntime) -> std::result::Result<(), Fail> {
 }
 
 #[test]
+fn one_name(rt: HostRuntime) -> std::result::Result<(), Fail> {
+    let alloc = rt.alloc();
+    let found = exported_as(alloc, &FILE_B, "a")?;
+    assert!(rt; matches!(found, Some(ExportInfo::Regular { address: 9, .. })));
+    assert!(rt; exported_as(alloc, &FILE_B, "b")?.is_none());
+    let image = MachO::parse(alloc, &FILE_B, 0)?;
+    let mut items = libraries(&image);
+    let Some(library) = items.next() else {
+        return Err(Fail::from("a library"));
+    };
+    same(&rt, (library.name, library.ordinal), ("L", 1));
+    same(&rt, library.kind, LibraryKind::Required);
+    assert!(rt; items.next().is_none());
+    Ok(())
+}
+
+#[test]
 fn imports_one_at_a_time(rt: HostRuntime) -> std::result::Result<(), Fail> {
     let alloc = rt.alloc();
     let image = image(alloc, &FILE_B)?;
@@ -109,6 +170,14 @@ fn imports_one_at_a_time(rt: HostRuntime) -> std::result::Result<(), Fail> {
         );
     }
     assert!(rt; items.next().is_none());
+    Ok(())
+}
+
+#[test]
+fn bindings_one_at_a_time(rt: HostRuntime) -> std::result::Result<(), Fail> {
+    let image = image(rt.alloc(), &FILE_D)?;
+    same(&rt, bindings(&image).count(), 4);
+    same(&rt, fixups(&image).count(), 4);
     Ok(())
 }
 

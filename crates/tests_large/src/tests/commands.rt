@@ -2,7 +2,7 @@
 
 use crate::tests::build::{digits, header, words};
 use crate::tests::same::same;
-use goblin_mach::MachO;
+use goblin_mach::{LibraryKind, MachO};
 use goblin_mach::load_command::CommandVariant;
 use std::alloc::{AllocError, Global};
 use std::test::Fail;
@@ -53,5 +53,21 @@ fn libraries_of_an_image(rt: HostRuntime) -> Result<(), Fail> {
     for (number, name) in [(0, "self"), (1, "0000"), (150, "0149"), (300, "0299")] {
         same(&rt, image.libs.get(number).map_or("none", |lib| *lib), name);
     }
+    Ok(())
+}
+
+#[test]
+fn libraries_by_kind(rt: HostRuntime) -> Result<(), Fail> {
+    let bytes = libraries(rt.alloc())?;
+    let image = MachO::parse(rt.alloc(), &bytes, 0)?;
+    let mut count = 0usize;
+    for library in image.libraries() {
+        let name = digits((count & 0xfff) as u32);
+        count = count.saturating_add(1);
+        same(&rt, library.ordinal, count);
+        same(&rt, library.name.as_bytes(), name.as_slice());
+        same(&rt, library.kind, LibraryKind::Required);
+    }
+    same(&rt, count, 300);
     Ok(())
 }

@@ -1,8 +1,9 @@
 //! Tries of 5,000 exports.
 
-use crate::tests::build::{digits, groups};
+use crate::tests::build::{digits, groups, header, words};
 use crate::tests::same::same;
-use goblin_mach::exports::ExportTrie;
+use goblin_mach::MachO;
+use goblin_mach::exports::{ExportInfo, ExportTrie};
 use goblin_mach::load_command::DyldInfoCommand;
 use std::alloc::{AllocError, Global};
 use std::test::Fail;
@@ -77,6 +78,50 @@ fn exports_along_a_path(rt: HostRuntime) -> Result<(), Fail> {
         same(&rt, export.name.len(), number);
         assert!(rt; export.name.as_bytes().iter().all(|b| *b == 0x61));
         same(&rt, export.offset, number as u64);
+    }
+    Ok(())
+}
+
+// An image whose trie stands behind its one command and has 3,000 names: below the root a branch for each of the
+// first two digits, and below each of these 30 nodes one for each of the last two. The export of k has address k.
+fn of_3000_names(alloc: Global) -> Result<Vec<u8>, AllocError> {
+    let mut bytes = header(alloc, 1, 16)?;
+    words(&mut bytes, &[0x8000_0033, 16, 48, 36_242])?;
+    bytes.extend_from_slice(&[0, 30])?;
+    for front in 0..30u32 {
+        bytes.extend_from_slice(&digits(100 * front)[..2])?;
+        bytes.push(0)?;
+        bytes.extend_from_slice(&groups(182 + 602 * front))?;
+    }
+    for front in 0..30u32 {
+        bytes.extend_from_slice(&[0, 100])?;
+        for back in 0..100u32 {
+            bytes.extend_from_slice(&digits(back)[2..])?;
+            bytes.push(0)?;
+            bytes.extend_from_slice(&groups(18_242 + 6 * (100 * front + back)))?;
+        }
+    }
+    for number in 0..3000u32 {
+        bytes.extend_from_slice(&[4, 0])?;
+        bytes.extend_from_slice(&groups(number))?;
+        bytes.push(0)?;
+    }
+    Ok(bytes)
+}
+
+#[test]
+fn one_of_3000_names(rt: HostRuntime) -> Result<(), Fail> {
+    let bytes = of_3000_names(rt.alloc())?;
+    let image = MachO::parse(rt.alloc(), &bytes, 0)?;
+    same(&rt, image.exports(rt.alloc())?.len(), 3000);
+    for (name, want) in [("0000", 0), ("1234", 1234), ("2999", 2999)] {
+        match image.find_export(rt.alloc(), name)? {
+            Some(ExportInfo::Regular { address, .. }) => same(&rt, address, want),
+            _ => assert!(rt; false, "{name} is not found"),
+        };
+    }
+    for name in ["3000", "12", "12345", ""] {
+        assert!(rt; image.find_export(rt.alloc(), name)?.is_none(), "{name}");
     }
     Ok(())
 }

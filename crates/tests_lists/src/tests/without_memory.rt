@@ -24,7 +24,7 @@ use goblin_mach::{
 };
 use std::alloc::AllocError;
 use std::test::Fail;
-use test_files::{EXPORTS, FILE_A, FILE_B, file_c};
+use test_files::{EXPORTS, FILE_A, FILE_B, FILE_D, file_c};
 
 // The state of a thread without words.
 const THREAD: [u8; 16] = [5, 0, 0, 0, 16, 0, 0, 0, 0, 0, 0, 0, 0, 0, 0, 0];
@@ -245,6 +245,11 @@ fn images(rt: HostRuntime) -> Result<(), Fail> {
     assert!(rt; matches!(items.next(), Some(Ok(_))));
     assert!(rt; matches!(items.next(), Some(Ok(_))));
     assert!(rt; items.next().is_none());
+    let mut items = image.libraries();
+    assert!(rt; items.next().is_some());
+    assert!(rt; items.next().is_none());
+    assert!(rt; matches!(image.find_export(&heap, "a"), Ok(Some(_))));
+    assert!(rt; matches!(image.find_export(&heap, "b"), Ok(None)));
     same(&rt, heap.asked(), asked);
     Ok(())
 }
@@ -279,5 +284,27 @@ fn records_of_fat_files(rt: HostRuntime) -> Result<(), Fail> {
         matches!(entry, Err(Error::Memory(AllocError))),
         "what is refused does refuse"
     );
+    Ok(())
+}
+
+#[test]
+fn what_dyld_binds(rt: HostRuntime) -> Result<(), Fail> {
+    let heap = Refusing::none(rt.alloc());
+    let image = MachO::parse(&heap, &FILE_D, 0)?;
+    heap.refuse_all();
+    let asked = heap.asked();
+    same(&rt, image.base(), 0x1_0000_0000);
+    let Some(chained) = image.chained_fixups()? else {
+        return Err(Fail::from("chained fixups"));
+    };
+    same(&rt, chained.imports().len(), 1);
+    same(&rt, image.fixups().count(), 4);
+    same(&rt, image.opcode_bindings().count(), 2);
+    let mut items = image.bindings();
+    for _ in 0..4 {
+        assert!(rt; matches!(items.next(), Some(Ok(_))));
+    }
+    assert!(rt; items.next().is_none());
+    same(&rt, heap.asked(), asked);
     Ok(())
 }
