@@ -21,6 +21,7 @@ use mach_parts::segment::Segment;
 use std::alloc::Allocator;
 
 // Where an offset in a segment lies in the file.
+#[inline(always)]
 fn place_in_file(segments: &[Segment<'_>], number: u32, offset: u64) -> Result<u64>
     ensures { Reads (λ n. n) result (place_in_file segments.now number offset) }
 {
@@ -32,6 +33,7 @@ fn place_in_file(segments: &[Segment<'_>], number: u32, offset: u64) -> Result<u
 }
 
 // The sum of an import's addend and a pointer's.
+#[inline(always)]
 fn whole_addend(addend: i64, inline: i32) -> Result<i64>
     ensures { Reads (λ n. n) result (signed_or_malformed (addend +ℤ inline)) }
 {
@@ -145,6 +147,7 @@ impl<'a> ChainedFixups<'a> {
 impl<'a> ChainedBindIterator<'a, '_> {
     // The binding of a bind.
     #[tactic(auto, unfolding(crate::specs::Bindings::binding_of))]
+    #[inline(always)]
     fn bound(&self, fixup: &Fixup, import: u32, addend: i32) -> Result<Binding<'a>>
         ensures { Reads binding_view result (binding_of (input_of self.now.fixups.source) (texts self.now.libs.now) (fixup_view fixup.now) import addend) }
     {
@@ -172,6 +175,7 @@ impl<'a> ChainedBindIterator<'a, '_> {
     }
 
     // What comes of a fixup, if it is a bind.
+    #[inline(always)]
     fn binding(&self, fixup: &Fixup) -> Option<Result<Binding<'a>>>
         ensures { MatchOption result
             (binding_in (input_of self.now.fixups.source) (texts self.now.libs.now) (fixup_view fixup.now) ≡ None)
@@ -188,6 +192,7 @@ impl<'a> ChainedBindIterator<'a, '_> {
     }
 
     // The next binding, or the fault that ends them, with a count of the pointers read.
+    #[inline(always)]
     fn step(&mut self, steps: &mut Steps) -> Option<Result<Binding<'a>>>
         ensures items { YieldsFirstBy binding_read bindings_left self.old result self.new }
         ensures none { IfNone result (steps.new ≡ steps.old + pointers_left self.old) }
@@ -229,6 +234,7 @@ impl<'a, 'b> Iterator for ChainedBindIterator<'a, 'b> {
 
     ghost remaining = { item_count bindings_left };
 
+    #[inline(always)]
     fn next(&mut self) -> Option<Result<Binding<'a>>> {
         self.step(&mut Steps::new())
     }

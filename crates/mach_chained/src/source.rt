@@ -2,7 +2,7 @@
 
 ghost use Rattle.std.specs.Prelude.{◌≡◌, ◌+◌, ◌<◌, ◌≤◌, ◌^◌, length, drop, Some, Ok, Err, IfSome, MatchOption};
 ghost use Rattle.mach_base.specs.Answer.{Reads};
-ghost use Rattle.mach_base.specs.Fault.{fault_of, malformed};
+ghost use Rattle.mach_base.specs.Fault.{malformed};
 ghost use Rattle.mach_base.specs.Number.{number, number_at};
 ghost use Rattle.mach_base.specs.Sums.{found_or_malformed};
 ghost use Rattle.mach_chained.specs.Pointers.{pointer_width};
@@ -77,6 +77,7 @@ pub enum NextPlace {
 }
 
 /// The segment of a number.
+#[inline(always)]
 pub fn nth_segment<'b, 'a>(segments: &'b [Segment<'a>], number: u32) -> Result<&'b Segment<'a>>
     ensures { Reads (λ s. s.now) result (found_or_malformed (slice_get segments.now number)) }
 {
@@ -323,15 +324,8 @@ impl<'a, 'b> Source<'a, 'b> {
         Some((fixup, pointer.skip))
     }
 
-    // Why there is no fixup at a place of a page.
-    pub fn fault(&self, span: &Span<'a>, page: u16, at: usize) -> Error
-        ensures { fault_of result ≡ malformed }
-    {
-        Error::Malformed(self.reason(span, page, at))
-    }
-
-    // The same in words. The pointer is not read again.
-    fn reason(&self, span: &Span<'a>, page: u16, at: usize) -> &'static str {
+    // Why there is no fixup at a place of a page. The pointer is not read again.
+    pub fn reason(&self, span: &Span<'a>, page: u16, at: usize) -> &'static str {
         let size = usize::from(span.chains.page_size);
         if size <= at {
             return "a chain stays in its page";

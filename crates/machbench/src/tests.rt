@@ -82,8 +82,11 @@ impl Clock for Broken {
 const TABLE: &str =
     "parse                2 items     500.0 ns least    1000.0 ns median     440 MB/s
 exports              2 items     500.0 ns least    1000.0 ns median     440 MB/s
+find_export          2 items     500.0 ns least    1000.0 ns median     440 MB/s
 imports              2 items     500.0 ns least    1000.0 ns median     440 MB/s
 iter_imports         2 items     500.0 ns least    1000.0 ns median     440 MB/s
+bindings             2 items     500.0 ns least    1000.0 ns median     440 MB/s
+fixups       nothing in this file
 symbols              1 items    1000.0 ns least    2000.0 ns median     440 MB/s
 relocations          1 items    1000.0 ns least    2000.0 ns median     440 MB/s
 link_view            4 items     250.0 ns least     500.0 ns median     440 MB/s
