@@ -1,4 +1,4 @@
-use Rattle.std.proofs.Common.{Bool, false, List, ◌≡◌, ◌/◌, ◌%◌, ◌<◌, ◌≤◌, ◌*◌, ◌∙◌, length, get_or, sym, ap, eqb, arith}
+use Rattle.std.proofs.Common.{Bool, false, List, ◌/◌, ◌%◌, ◌<◌, ◌≤◌, ◌*◌, ◌∙◌, length, get_or, sym, ap, eqb, arith}
 use Rattle.std.proofs.lemmas.List.{get_or_read}
 use Rattle.std.specs.Int.{bit_at}
 use Rattle.mach_dyld.proofs.MarkBits.{length-marks_of, get_or-marks_of, bit_tested}

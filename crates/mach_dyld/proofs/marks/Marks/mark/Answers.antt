@@ -1,4 +1,4 @@
-use Rattle.std.proofs.Common.{◌≡◌, ◌/◌, ◌<◌, ◌≤◌, ◌*◌, ◌∙◌, List, Bool, true, length, get_or, set, ap, arith}
+use Rattle.std.proofs.Common.{◌/◌, ◌<◌, ◌≤◌, ◌*◌, ◌∙◌, List, Bool, true, length, set, ap, arith}
 use Rattle.std.proofs.lemmas.List.{get_or_read}
 use Rattle.mach_dyld.proofs.MarkBits.{length-marks_of, marked_at}
 use Rattle.mach_dyld.proofs.marks.Marks.mark.Goals as goal

@@ -1,4 +1,4 @@
-use Rattle.std.proofs.Common.{◌≡◌, ◌≤◌, ◌+◌, ◌/◌, ◌%◌, ◌*◌, ◌∙◌, ℕ, List, min, replicate, ap, arith}
+use Rattle.std.proofs.Common.{◌≤◌, ◌+◌, ◌/◌, ◌%◌, ◌*◌, ◌∙◌, ℕ, List, min, replicate, ap, arith}
 use Rattle.mach_dyld.specs.Marks.{marks_of}
 use Rattle.mach_dyld.proofs.MarkBits.{none_marked}
 use Rattle.mach_dyld.proofs.marks.Marks.new.Goals as goal

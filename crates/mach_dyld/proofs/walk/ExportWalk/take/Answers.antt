@@ -126,7 +126,8 @@ returns-clause-found g c = λ found n at.
       inl (
         at.0,
         inr
-            (turn.entered (child_of c.args.self.now at) (omega arith) off cut c.mark.ensures (info_in c.in_ok-own.own) c.in-Some.branches node readable c.len-name_len.result
+            (turn.entered (child_of c.args.self.now at) (omega arith) off cut c.mark.ensures (info_in c.in_ok-own.own) c.in-Some.branches node readable
+            c.len-name_len.result
             (omega (arith, c.extend_from_slice.new.self.ok.0, c.len-name_len.ensures)) (reverse c.keep_below.new.stack.items)
             c.in_ok-keep_below.ensures.kept c.in_ok-keep_below.ensures.used_up),
       ),
