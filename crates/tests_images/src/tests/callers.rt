@@ -16,7 +16,9 @@ ghost use Rattle.goblin_mach.specs.OpenImage.{IsImage, IsLossyImage};
 use crate::tests::same::same;
 use goblin_mach::exports::{Export, ExportInfo};
 use goblin_mach::imports::BindIterator;
-use goblin_mach::{LibraryIterator, LibraryKind, MachO, MultiArch, Result, SingleArch, find_export, laws};
+use goblin_mach::{
+    LibraryIterator, LibraryKind, MachO, MultiArch, Result, SingleArch, find_export, laws,
+};
 use std::alloc::{Allocator, Global};
 use std::test::Fail;
 use test_files::{FILE_B, file_c};
