@@ -34,8 +34,34 @@ fn commands(alloc: Global, rows: &[Row]) -> Result<Vec<u8>, AllocError> {
 fn big_commands(alloc: Global, rows: &[Row]) -> Result<Vec<u8>, AllocError> {
     let count = (rows.len() & 7) as u8;
     let mut bytes = vec![in alloc;
-        0xfe, 0xed, 0xfa, 0xce, 0, 0, 0, 18, 0, 0, 0, 0, 0, 0, 0, 6, 0, 0, 0, count, 0, 0, 0,
-        32 * count, 0, 0, 0, 0,
+        0xfe,
+        0xed,
+        0xfa,
+        0xce,
+        0,
+        0,
+        0,
+        18,
+        0,
+        0,
+        0,
+        0,
+        0,
+        0,
+        0,
+        6,
+        0,
+        0,
+        0,
+        count,
+        0,
+        0,
+        0,
+        32 * count,
+        0,
+        0,
+        0,
+        0,
     ]?;
     for row in rows {
         for number in numbers(*row) {
