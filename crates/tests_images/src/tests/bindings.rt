@@ -33,10 +33,11 @@ fn write_fixup(text: &mut String, fixup: &Fixup) -> Result<(), AllocError> {
 fn fixups(
     rt: &impl Abort,
     alloc: Global,
-    mut left: FixupIterator<'_, '_>,
+    given: FixupIterator<'_, '_>,
 ) -> Result<String, AllocError> {
+    let mut left = given;
     let mut text = String::new(alloc);
-    'fixups: while let Some(item) = left.next() {
+    for item in &mut left {
         match item {
             Ok(fixup) => write_fixup(&mut text, &fixup)?,
             Err(error) => text.push_str(test_texts::error(alloc, &error)?.as_str())?,
@@ -70,10 +71,11 @@ fn write_binding(text: &mut String, binding: &Binding<'_>) -> Result<(), AllocEr
 fn bindings(
     rt: &impl Abort,
     alloc: Global,
-    mut left: BindingIterator<'_, '_>,
+    given: BindingIterator<'_, '_>,
 ) -> Result<String, AllocError> {
+    let mut left = given;
     let mut text = String::new(alloc);
-    'bindings: while let Some(item) = left.next() {
+    for item in &mut left {
         match item {
             Ok(binding) => write_binding(&mut text, &binding)?,
             Err(error) => text.push_str(test_texts::error(alloc, &error)?.as_str())?,
@@ -109,7 +111,8 @@ fn three_times(
     let text = of_image(rt, alloc, &lossy)?;
     same_of(rt, name, text.as_str(), want);
     let file = fat_of_d(alloc, bytes)?;
-    let SingleArch::MachO(entry) = MultiArch::new(alloc, &file)?.get(0)? else {
+    let container = MultiArch::new(alloc, &file)?;
+    let SingleArch::MachO(entry) = container.get(0)? else {
         return Err(Fail::from("an image"));
     };
     let text = of_image(rt, alloc, &entry)?;

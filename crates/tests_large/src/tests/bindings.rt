@@ -58,7 +58,7 @@ fn three_thousand_bindings(rt: HostRuntime) -> Result<(), Fail> {
     same(&rt, image.base(), 0x1_0000_0000);
     let mut count = 0_u64;
     let mut last = 0;
-    'bindings: for item in image.bindings() {
+    for item in image.bindings() {
         let binding = item?;
         same(&rt, (binding.name, binding.addend), ("_a", 5));
         assert!(rt; matches!(binding.provider, Provider::Library { ordinal: 1, .. }));
