@@ -41,16 +41,16 @@ strict-lossy bytes o m p =
     }
 
 -- equal arguments
-moved : {X Y : Type 0} (P : X → Y → Type 0) (x z : X) (y w : Y) → x ≡ z → y ≡ w → P x y → P z w
+pub moved : {X Y : Type 0} (P : X → Y → Type 0) (x z : X) (y w : Y) → x ≡ z → y ≡ w → P x y → P z w
 moved P x z y w p q h = subst (λ (v : _). P z v) q (subst (λ (v : _). P v y) p h)
 
 module _ {A : Type 0} (bytes : List ℕ) (o : ℕ) (m : MachO A) (p : IsLossyImage bytes o m) where
   -- what holds of the context and the commands of the image is a fact on the bytes
-  of_image : (Holds : Ctx → List Command → Type 0) → Holds p.ctx (commands_held m) → OfImage bytes o Holds
+  pub of_image : (Holds : Ctx → List Command → Type 0) → Holds p.ctx (commands_held m) → OfImage bytes o Holds
   of_image Holds h = record { ctx = p.ctx; cs = commands_held m; opens = p.opens; holds = h }
 
   -- and back: no other image opens there
-  image_of : (Holds : Ctx → List Command → Type 0) → OfImage bytes o Holds → Holds p.ctx (commands_held m)
+  pub image_of : (Holds : Ctx → List Command → Type 0) → OfImage bytes o Holds → Holds p.ctx (commands_held m)
   image_of Holds q =
       let same_ctx : q.ctx ≡ p.ctx = same_header bytes o q.ctx p.ctx q.opens.header p.opens.header in
       let chain = (subst (λ (c : Ctx). LossyOpensAs bytes o c q.cs) same_ctx q.opens).chain in
@@ -60,7 +60,7 @@ module _ {A : Type 0} (bytes : List ℕ) (o : ℕ) (m : MachO A) (p : IsLossyIma
       moved Holds q.ctx p.ctx q.cs (commands_held m) same_ctx same q.holds
 
   -- a value that is so and no other
-  is_just : {X : Type 0} (there : Ctx → List Command → X) (held x : X) → held ≡ there p.ctx (commands_held m)
+  pub is_just : {X : Type 0} (there : Ctx → List Command → X) (held x : X) → held ≡ there p.ctx (commands_held m)
       → OfImage bytes o (λ ctx cs. x ≡ there ctx cs) ↔ (x ≡ held)
   is_just there held x same =
       ((λ h. image_of (λ ctx cs. x ≡ there ctx cs) h ∙ sym same), (λ e. of_image (λ ctx cs. x ≡ there ctx cs) (e ∙ same)))

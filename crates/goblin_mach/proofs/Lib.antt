@@ -14,6 +14,7 @@ pub mod Bases
 pub mod SameFixups
 pub mod SameBindings
 pub mod Facts
+pub mod DyldFacts
 pub mod Exported
 pub mod FatNumbers
 pub mod FatMagics

@@ -1,7 +1,7 @@
 -- Fixups and bindings of chains depend on no more of their segments than contracts see.
 use Rattle.std.proofs.Common.{◌≡◌, ◌+◌, ◌-◌, ◌==◌, ℕ, zero, suc, Bool, true, false, cond, List, [], ◌∷◌, map, Option, Some, None, Result, Ok, Err}
-use Rattle.std.proofs.Common.{length, slice_get, nat_le, nat_lt, refl, sym, ap, subst, ◌∙◌}
-use Rattle.std.specs.Prelude.{ℤ, option_map}
+use Rattle.std.proofs.Common.{slice_get, nat_le, refl, sym, ap, subst, ◌∙◌}
+use Rattle.std.specs.Prelude.{ℤ, ◌+ℤ◌, option_map}
 use Rattle.std.proofs.lemmas.Option.{slice_get-map}
 use Rattle.mach_base.specs.Answer.{◌>>=◌}
 use Rattle.mach_base.specs.Fault.{Fault, malformed}
@@ -17,9 +17,9 @@ use Rattle.mach_chained.specs.Starts.{Chains, starts_at, chains_of}
 use Rattle.mach_chained.specs.Fixups.{Input, Fixup, Span, Ends, Spot, no_ends, ends_of, in_memory, behind, span_of, span_by, span_at, first_in_page}
 use Rattle.mach_chained.specs.Fixups.{fixup_at, next_in_page}
 use Rattle.mach_chained.specs.Chained.{Place, Placed, Next, in_page_or, in_pages_or, in_segment_or, in_segments, first_of_all, behind_segment, behind_page}
-use Rattle.mach_chained.specs.Chained.{next_of, placed_at, StandsIn, AllStand, Follow, place_behind, Stops, AreFixups, AreFixupItems}
+use Rattle.mach_chained.specs.Chained.{next_of, placed_at, AllStand, Follow, place_behind, Stops, AreFixups, AreFixupItems}
 use Rattle.mach_chained.specs.Bindings.{place_in_file, signed_or_malformed, binding_of, binding_by, binding_in, bindings_before, bindings_of, AreBindingItems}
-use Rattle.goblin_mach.specs.Fixups.{base_of, input_over, AreImageFixups}
+use Rattle.goblin_mach.specs.Fixups.{base_of, AreImageFixups}
 use Rattle.goblin_mach.specs.Bindings.{AreChainBindings}
 
 -- what follows where a condition holds
@@ -137,15 +137,18 @@ module _ (fixups : Fixups) (base : ℕ) (xs ys : List Segment) (same : map segme
   same_next : (p : Place) (skip : ℕ) → next_of x p skip ≡ next_of y p skip
   same_next p skip = ap (in_page_or p.span p.page (next_in_page x p.span p.spot skip)) (same_behind p.span p.page)
 
-  same_answer : (p : Place) (found : Result (Fixup × ℕ) Fault)
-      → (found >>= λ (f : Fixup × ℕ). Ok (f.0, next_of x p f.1)) ≡ (found >>= λ (f : Fixup × ℕ). Ok (f.0, next_of y p f.1))
+  -- a fixup that was found, with the next place
+  abbrev with_next : Input → Place → Fixup × ℕ → Result (Fixup × Next) Fault
+  with_next z p f = Ok (f.0, next_of z p f.1)
+
+  same_answer : (p : Place) (found : Result (Fixup × ℕ) Fault) → (found >>= with_next x p) ≡ (found >>= with_next y p)
   same_answer p (Err f) = refl
   same_answer p (Ok f) = ap (λ (n : Next). Ok (f.0, n)) (same_next p f.1)
 
   same_placed : (p : Place) → placed_at x p ≡ placed_at y p
   unfolding placed_at
   same_placed p =
-      ap (λ (r : Result (Fixup × ℕ) Fault). r >>= λ (f : Fixup × ℕ). Ok (f.0, next_of x p f.1)) (same_fixup p.span p.page p.spot.at)
+      ap (λ (r : Result (Fixup × ℕ) Fault). r >>= with_next x p) (same_fixup p.span p.page p.spot.at)
       ∙ same_answer p (fixup_at y p.span p.page p.spot.at)
 
   -- ---- fixups
@@ -187,17 +190,38 @@ module _ (fixups : Fixups) (base : ℕ) (xs ys : List Segment) (same : map segme
   same_in_file : (number offset : ℕ) → place_in_file xs number offset ≡ place_in_file ys number offset
   same_in_file number offset = same_offset (slice_get xs number) (slice_get ys number) offset (same_place number)
 
-  -- what comes of an answer by another one that is equal
-  through : {X Y : Type 0} (r : Result X Fault) (f g : X → Result Y Fault) → ((a : X) → f a ≡ g a) → (r >>= f) ≡ (r >>= g)
-  through (Ok a) f g h = h a
-  through (Err e) f g h = refl
+  -- the rest of a bind's binding, by its place in the file
+  abbrev binding_at : Fixup → ℤ → Import → Provider → ℕ → Result Binding Fault
+  binding_at f inline found provider offset = do
+    addend ← signed_or_malformed (found.addend +ℤ inline)
+    Ok (record {
+      name = found.name;
+      provider = provider;
+      offset = offset;
+      address = f.address;
+      addend = addend;
+      is_weak = found.is_weak;
+      is_lazy = false;
+    })
+
+  abbrev binding_by_import : List Segment → List (List ℕ) → Fixup → ℤ → Import → Result Binding Fault
+  binding_by_import segments libs f inline found =
+      provider_of libs found.library >>= λ (p : Provider). place_in_file segments f.segment f.offset >>= binding_at f inline found p
+
+  same_provided : (f : Fixup) (inline : ℤ) (found : Import) (provider : Result Provider Fault)
+      → (provider >>= λ (p : Provider). place_in_file xs f.segment f.offset >>= binding_at f inline found p)
+      ≡ (provider >>= λ (p : Provider). place_in_file ys f.segment f.offset >>= binding_at f inline found p)
+  same_provided f inline found (Err e) = refl
+  same_provided f inline found (Ok p) = ap (λ (r : Result ℕ Fault). r >>= binding_at f inline found p) (same_in_file f.segment f.offset)
+
+  same_imported : (libs : List (List ℕ)) (f : Fixup) (inline : ℤ) (found : Result Import Fault)
+      → (found >>= binding_by_import xs libs f inline) ≡ (found >>= binding_by_import ys libs f inline)
+  same_imported libs f inline (Err e) = refl
+  same_imported libs f inline (Ok i) = same_provided f inline i (provider_of libs i.library)
 
   same_binding : (libs : List (List ℕ)) (f : Fixup) (import : ℕ) (inline : ℤ) → binding_of x libs f import inline ≡ binding_of y libs f import inline
   unfolding binding_of
-  same_binding libs f import inline =
-      through (import_at fixups import) _ _ (λ (found : Import).
-      through (provider_of libs found.library) _ _ (λ (provider : Provider).
-      ap (λ (r : Result ℕ Fault). r >>= _) (same_in_file f.segment f.offset)))
+  same_binding libs f import inline = same_imported libs f inline (import_at fixups import)
 
   same_one : (libs : List (List ℕ)) (f : Fixup) (kind : Kind) → binding_by x libs f kind ≡ binding_by y libs f kind
   same_one libs f (rebase target) = refl

@@ -1,5 +1,5 @@
 -- What a walk of the trie of an image says: the trie of no bytes has no exports and no fault.
-use Rattle.std.proofs.Common.{◌≡◌, ◌<◌, ℕ, List, [], Option, Some, None, refl, arith}
+use Rattle.std.proofs.Common.{◌≡◌, ℕ, List, [], Option, Some, None, refl, arith}
 use Rattle.mach_base.specs.Fault.{Fault}
 use Rattle.mach_dyld.specs.Trie.{Entry}
 use Rattle.mach_dyld.specs.Lists.{Lists, nothing, a_node}

@@ -5,7 +5,8 @@ pub mod rows;
 pub use crate::fat_file::laws::{entries_by_number, fat_file_of_bytes, records_by_number};
 pub use crate::image::exported::exported_or_not;
 pub use crate::image::facts::{
-    commands_of_image, entry_point_of_image, exports_of_image, import_items_of_image,
+    base_of_image, bindings_of_image, chained_fixups_of_image, commands_of_image,
+    entry_point_of_image, exports_of_image, fixups_of_image, import_items_of_image,
     imports_of_image, libraries_of_image, links_of_image, name_of_image, relocations_of_image,
     run_paths_of_image, segments_of_image, strict_image_is_lossy, symbols_of_image,
     walked_exports_of_image,

@@ -12,8 +12,13 @@ ghost use Rattle.mach_dyld.specs.Trie as trie;
 ghost use Rattle.mach_parts.specs.Segment.{SegmentView};
 ghost use Rattle.mach_parts.specs.Segments.{segments_in};
 ghost use Rattle.mach_parts.specs.declared.symbols.nlist.Nlist.{Nlist};
+ghost use Rattle.mach_chained.specs.Fixups.{Fixup};
+ghost use Rattle.mach_chained.specs.Header.{Fixups};
+ghost use Rattle.mach_parts.specs.Bindings.{Binding};
+ghost use Rattle.goblin_mach.specs.Bindings.{AreImageBindings};
+ghost use Rattle.goblin_mach.specs.Fixups.{AreImageFixups, base_held, chained_held};
 ghost use Rattle.goblin_mach.specs.EntryPoint.{EntryPoint};
-ghost use Rattle.goblin_mach.specs.Facts.{HasCommands, HasSymbols, HasSegments, HasRelocations, HasName, HasLibraries, HasRunPaths, HasEntryPoint, HasExports, HasExportsFault, HasImports, HasImportsFault, HasImportItems};
+ghost use Rattle.goblin_mach.specs.Facts.{HasCommands, HasSymbols, HasSegments, HasRelocations, HasName, HasLibraries, HasRunPaths, HasEntryPoint, HasExports, HasExportsFault, HasImports, HasImportsFault, HasImportItems, HasChainedFixups, HasBase, HasFixups, HasBindings};
 ghost use Rattle.mach_dyld.specs.TrieRange.{ListsExports, ExportsFault};
 ghost use Rattle.goblin_mach.specs.Subjects.{ListsImageImports, ImageImportsFault, AreImageBindItems, ListsImageExports, ImageExportsFault, trie_or_empty, symbols_held};
 ghost use Rattle.goblin_mach.specs.OpenImage.{IsImage, IsLossyImage, commands_held, segments_held, trie_held, binds_held, ctx_held, bytes_held};
@@ -113,6 +118,36 @@ pub fn import_items_of_image<A: Allocator>(image: &MachO<'_, A>)
         → HasImportItems bytes o items ↔ AreImageBindItems (binds_held image.now) (pointer_size (ctx_held image.now).container) (texts image.now.libs.items) (segments_in image.now.segments) items }
     ensures lossy { (bytes : List ℕ) (o : ℕ) → IsLossyImage bytes o image.now → (items : List (Result Import Fault))
         → HasImportItems bytes o items ↔ AreImageBindItems (binds_held image.now) (pointer_size (ctx_held image.now).container) (texts image.now.libs.items) (segments_in image.now.segments) items }
+{}
+
+/// What `MachO::chained_fixups` answers is what the bytes say.
+pub fn chained_fixups_of_image<A: Allocator>(image: &MachO<'_, A>)
+    ensures strict { (bytes : List ℕ) (o : ℕ) → IsImage bytes o image.now → (found : Result (Option Fixups) Fault) → HasChainedFixups bytes o found ↔ (found ≡ chained_held image.now) }
+    ensures lossy { (bytes : List ℕ) (o : ℕ) → IsLossyImage bytes o image.now → (found : Result (Option Fixups) Fault) → HasChainedFixups bytes o found ↔ (found ≡ chained_held image.now) }
+{}
+
+/// The address that `MachO::base` answers is that of the bytes.
+pub fn base_of_image<A: Allocator>(image: &MachO<'_, A>)
+    ensures strict { (bytes : List ℕ) (o : ℕ) → IsImage bytes o image.now → (address : ℕ) → HasBase bytes o address ↔ (address ≡ base_held image.now) }
+    ensures lossy { (bytes : List ℕ) (o : ℕ) → IsLossyImage bytes o image.now → (address : ℕ) → HasBase bytes o address ↔ (address ≡ base_held image.now) }
+{}
+
+/// The fixups that `MachO::fixups` gives one at a time, up to the first fault, are those of the bytes.
+pub fn fixups_of_image<A: Allocator>(image: &MachO<'_, A>)
+    ensures strict { (bytes : List ℕ) (o : ℕ) → IsImage bytes o image.now → (items : List (Result Fixup Fault))
+        → HasFixups bytes o items ↔ AreImageFixups (chained_held image.now) (segments_in image.now.segments) items }
+    ensures lossy { (bytes : List ℕ) (o : ℕ) → IsLossyImage bytes o image.now → (items : List (Result Fixup Fault))
+        → HasFixups bytes o items ↔ AreImageFixups (chained_held image.now) (segments_in image.now.segments) items }
+{}
+
+/// The bindings that `MachO::bindings` gives one at a time, up to the first fault, are those of the bytes.
+pub fn bindings_of_image<A: Allocator>(image: &MachO<'_, A>)
+    ensures strict { (bytes : List ℕ) (o : ℕ) → IsImage bytes o image.now → (items : List (Result Binding Fault))
+        → HasBindings bytes o items ↔ AreImageBindings (binds_held image.now) (chained_held image.now) (pointer_size (ctx_held image.now).container)
+        (texts image.now.libs.items) (segments_in image.now.segments) items }
+    ensures lossy { (bytes : List ℕ) (o : ℕ) → IsLossyImage bytes o image.now → (items : List (Result Binding Fault))
+        → HasBindings bytes o items ↔ AreImageBindings (binds_held image.now) (chained_held image.now) (pointer_size (ctx_held image.now).container)
+        (texts image.now.libs.items) (segments_in image.now.segments) items }
 {}
 
 /// An image that was opened strictly at 0 links the lists that it holds, and a fault that stands in one
