@@ -52,8 +52,8 @@ pub enum Action<'a> {
 
 /// A bind of the opcodes, or a fixup of the chains.
 #[derive(Clone, Copy)]
-pub struct Row<'a> {
-    pub place: Place<'a>,
+pub struct Row<'b, 'a> {
+    pub place: Place<'b>,
     pub action: Action<'a>,
 }
 
@@ -89,7 +89,10 @@ fn ordinal_of(provider: &Provider<'_>) -> i128
 }
 
 // What is shown of a bind of the opcodes, in the first segment that holds its address.
-fn row_of_binding<'a, A: Allocator>(parts: &'a [Part<'a, A>], binding: &Binding<'a>) -> Row<'a>
+fn row_of_binding<'b, 'a, A: Allocator>(
+    parts: &'b [Part<'_, A>],
+    binding: &Binding<'a>,
+) -> Row<'b, 'a>
     ensures { row_view result ≡ row_of_binding (parts_seen parts.now) (binding_view binding.now) }
 {
     let bind = Bind {
@@ -150,11 +153,11 @@ fn action_of<'a>(table: &Option<ChainedFixups<'a>>, fixup: &Fixup) -> Result<Act
 }
 
 // What is shown of a fixup of the chains, in its segment; refused where the import of a bind can't be read.
-fn row_of_fixup<'a, A: Allocator>(
-    parts: &'a [Part<'a, A>],
+fn row_of_fixup<'b, 'a, A: Allocator>(
+    parts: &'b [Part<'_, A>],
     table: &Option<ChainedFixups<'a>>,
     fixup: &Fixup,
-) -> Result<Row<'a>>
+) -> Result<Row<'b, 'a>>
     ensures { Reads row_view result (row_of_fixup (parts_seen parts.now) (table_seen table.now) (fixup_view fixup.now)) }
 {
     let action = action_of(table, fixup)?;
@@ -166,10 +169,10 @@ fn row_of_fixup<'a, A: Allocator>(
 }
 
 /// What is shown of an item of the opcodes.
-pub fn binding_row<'a, A: Allocator>(
-    parts: &'a [Part<'a, A>],
+pub fn binding_row<'b, 'a, A: Allocator>(
+    parts: &'b [Part<'_, A>],
     item: Result<Binding<'a>>,
-) -> Result<Row<'a>>
+) -> Result<Row<'b, 'a>>
     ensures { row_read result ≡ binding_row (parts_seen parts.now) (binding_read item.entry) }
 {
     match item {
@@ -179,11 +182,11 @@ pub fn binding_row<'a, A: Allocator>(
 }
 
 /// What is shown of an item of the chains.
-pub fn fixup_row<'a, A: Allocator>(
-    parts: &'a [Part<'a, A>],
+pub fn fixup_row<'b, 'a, A: Allocator>(
+    parts: &'b [Part<'_, A>],
     table: &Option<ChainedFixups<'a>>,
     item: Result<Fixup>,
-) -> Result<Row<'a>>
+) -> Result<Row<'b, 'a>>
     ensures { row_read result ≡ fixup_row (parts_seen parts.now) (table_seen table.now) (fixup_read item) }
 {
     match item {

@@ -127,7 +127,7 @@ impl Display for Action<'_> {
     }
 }
 
-impl Display for Row<'_> {
+impl Display for Row<'_, '_> {
     ghost output = { λ t. Some (row_text (row_view t)) };
 
     fn fmt<W: Write>(&self, f: &mut Formatter<W>) -> fmt::Result {

@@ -1,7 +1,8 @@
-use Rattle.std.proofs.Common.{[], true, false, refl}
+use Rattle.std.proofs.Common.{[], true, false, refl, ap}
 use Rattle.mach_base.proofs.Written.{Appends-none, Appends-kept}
 use Rattle.mach_base.specs.Words.{words_of}
 use Rattle.goblin_mach.specs.FatFile.{file_held}
+use Rattle.machfixups.specs.Parts.{parts_seen}
 use Rattle.machfixups.specs.Shown.{complaint, one_image, fat_file, refused_file}
 use Rattle.machfixups.proofs.Showing.{image_lines}
 use Rattle.machfixups.proofs.show.show.Goals as goal
@@ -11,10 +12,13 @@ returns-in-Ok-Image g c =
     let bytes = c.args.bytes.now in
     let arm = c.in-Ok-Image in
     let held = rw (arm.is, arm.field-0-is) at c.open_file.ensures.held in
-    let listed = c.in_ok-print_symbols-in-Ok-Image.ensures.listed bytes 0 held.0 in
-    let lines = image_lines bytes c.deref.result.now arm.letters.items arm.image listed.0 _ _ held.0 held.1 c.deref.ensures.value listed.1 listed.2 in (
-      record { text = lines.0; said = []; whole = true },
-      one_image lines.0 lines.1,
+    let whole = c.in_ok-whole-in-Ok-Image.whole in
+    let listed = c.in_ok-whole-in-Ok-Image.ensures bytes 0 held.0 in
+    let lines =
+    image_lines bytes (parts_seen c.deref.result.now) (parts_seen arm.parts.items) arm.image whole listed.0 listed.2 listed.4 _ _ held.0 held.1
+    (ap parts_seen c.deref.ensures.value) listed.1 listed.3 listed.5 listed.6 in (
+      record { text = lines.0; said = []; whole = whole },
+      one_image lines.0 whole lines.1,
       refl,
       record { text = Appends-kept _ _ _ lines.0 lines.2 c.flush.ensures.bytes; said = Appends-none _ },
     )
