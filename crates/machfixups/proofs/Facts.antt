@@ -36,7 +36,7 @@ module _ {A : Type 0} (bytes : List ℕ) (o : ℕ) (m : MachO A) (p : IsLossyIma
           segments,
           p.fields.segments,
           subst (λ (l : List (List ℕ)). AreOpcodeBindings (binds_in bytes (commands_held m)) (pointer_size p.ctx.container) l segments items)
-          p.fields.libs by_ctx,
+              p.fields.libs by_ctx,
         );
       }
 

@@ -43,9 +43,11 @@ const OPCODES: &str = "0x100004000 __DATA __got bind 1 -8 - _o
 ";
 
 // Those of its chains in the first segment that has any.
-const DATA: &str = "0x100004000 __DATA __got bind 1 0 - _a
-0x100004008 __DATA __got rebase 0x100004018
-0x100004010 __DATA __data bind -2 12 weak _b
+const FIRST: &str = "0x100004000 __DATA __got bind 1 0 - _a\n";
+
+const SECOND: &str = "0x100004008 __DATA __got rebase 0x100004018\n";
+
+const REST: &str = "0x100004010 __DATA __data bind -2 12 weak _b
 0x100004018 __DATA __data rebase 0x8000000100000010
 0x100004020 __DATA - bind 0 -9 - _c
 ";
@@ -62,22 +64,21 @@ const OTHERS: &str = "0x100008000 __AUTH __all rebase 0x100001234 auth:DA:0x2b:a
 ";
 
 // The lines of file B.
-const LINES_B: &str =
-    "0x100000010 __TEXT - bind 1 0 - _a\n0x100000018 __TEXT - bind 1 0 lazy _b\n";
+const LINES_B: &str = "0x100000010 __TEXT - bind 1 0 - _a\n0x100000018 __TEXT - bind 1 0 lazy _b\n";
 
 // What is said of a failed write.
 const UNWRITTEN: &[u8] = b"machfixups: cannot write\n";
 
 // The image with both, with other bytes at a place.
-fn changed(alloc: Global, place: usize, bytes: &[u8]) -> Result<Vec<u8>, AllocError> {
-    let mut image = Vec::new(alloc);
-    image.extend_from_slice(&BOTH)?;
-    if let Some(there) = image.as_mut_slice().get_mut(place..)
-        && let Some(front) = there.get_mut(..bytes.len())
-    {
-        front.copy_from_slice(bytes);
+fn changed(alloc: Global, place: usize, others: &[u8]) -> Result<Vec<u8>, AllocError> {
+    let mut bytes = Vec::new(alloc);
+    for (index, byte) in BOTH.iter().enumerate() {
+        let other = index
+            .checked_sub(place)
+            .and_then(|behind| others.get(behind));
+        bytes.push(*other.unwrap_or(byte))?;
     }
-    Ok(image)
+    Ok(bytes)
 }
 
 // Some texts one after the other.
@@ -96,7 +97,7 @@ fn whole_files(rt: HostRuntime) -> Result<(), Fail> {
     let Some(cut) = fat.get(..1303) else {
         return Err(Fail::from("1304 bytes"));
     };
-    let lines = joined(alloc, &[OPCODES, DATA, OTHERS])?;
+    let lines = joined(alloc, &[OPCODES, FIRST, SECOND, REST, OTHERS])?;
     let fat_lines = joined(alloc, &["arch 0\n", &lines, "arch 1\narchive\n"])?;
     let cut_lines = joined(
         alloc,
@@ -159,7 +160,8 @@ fn faults(rt: HostRuntime) -> Result<(), Fail> {
         &[
             OPCODES,
             "unreadable: offset 8388767 is past the end\n",
-            DATA.split_at(39).1,
+            SECOND,
+            REST,
             OTHERS,
         ],
     )?;
@@ -168,7 +170,8 @@ fn faults(rt: HostRuntime) -> Result<(), Fail> {
         alloc,
         &[
             OPCODES,
-            DATA.split_at(83).0,
+            FIRST,
+            SECOND,
             "unreadable: malformed: a bind's import is one of the table\n",
         ],
     )?;
@@ -177,7 +180,9 @@ fn faults(rt: HostRuntime) -> Result<(), Fail> {
         alloc,
         &[
             "unreadable: malformed: a bind is not threaded\n",
-            DATA,
+            FIRST,
+            SECOND,
+            REST,
             OTHERS,
         ],
     )?;
@@ -261,7 +266,12 @@ fn flags(rt: HostRuntime) -> Result<(), Fail> {
         (false, false, Some(auth), "bind 3 -2 auth:DB:0x10 _x"),
         (true, false, Some(auth), "bind 3 -2 weak,auth:DB:0x10 _x"),
         (false, true, Some(auth), "bind 3 -2 lazy,auth:DB:0x10 _x"),
-        (true, true, Some(auth), "bind 3 -2 weak,lazy,auth:DB:0x10 _x"),
+        (
+            true,
+            true,
+            Some(auth),
+            "bind 3 -2 weak,lazy,auth:DB:0x10 _x",
+        ),
     ];
     for (is_weak, is_lazy, auth, line) in rows {
         let action = Action::Bind(Bind {
@@ -296,7 +306,15 @@ fn failed_writes(rt: HostRuntime) -> Result<(), Fail> {
     let fat = fat_file(alloc)?;
     let lines = joined(
         alloc,
-        &["arch 0\n", OPCODES, DATA, OTHERS, "arch 1\narchive\n"],
+        &[
+            "arch 0\n",
+            OPCODES,
+            FIRST,
+            SECOND,
+            REST,
+            OTHERS,
+            "arch 1\narchive\n",
+        ],
     )?;
     let files: [(&[u8], &str); 2] = [(&FILE_B, LINES_B), (&fat, &lines)];
     for (bytes, lines) in files {
@@ -345,7 +363,15 @@ fn want_of_memory(rt: HostRuntime) -> Result<(), Fail> {
     let fat = fat_file(rt.alloc())?;
     let lines = joined(
         rt.alloc(),
-        &["arch 0\n", OPCODES, DATA, OTHERS, "arch 1\narchive\n"],
+        &[
+            "arch 0\n",
+            OPCODES,
+            FIRST,
+            SECOND,
+            REST,
+            OTHERS,
+            "arch 1\narchive\n",
+        ],
     )?;
     let mut refused = 0u32;
     let mut shown = 0u32;
@@ -359,7 +385,10 @@ fn want_of_memory(rt: HostRuntime) -> Result<(), Fail> {
             shown = shown.saturating_add(1);
         } else {
             assert_eq!(rt; (answer, shown), (1, 0), "{size}");
-            assert_eq!(rt; reasons.as_slice(), b"machfixups: out of memory\n".as_slice());
+            assert_eq!(rt;
+                reasons.as_slice(),
+                b"machfixups: out of memory\n".as_slice()
+            );
             assert!(rt; lines.as_bytes().starts_with(&out), "{size}");
             refused = refused.saturating_add(1);
         }
@@ -377,8 +406,8 @@ fn many_binds_take_no_memory(rt: HostRuntime) -> Result<(), Fail> {
         alloc,
         1000,
         &[
-            0x11, 0x40, b'_', 0, 0x71, 0, 0xc0, 0x80, 0x80, 0x80, 0x80, 0x80, 0x80, 0x80, 0x80, 0x80,
-            1, 0xf8, 0xff, 0xff, 0xff, 0xff, 0xff, 0xff, 0xff, 0xff, 1,
+            0x11, 0x40, b'_', 0, 0x71, 0, 0xc0, 0x80, 0x80, 0x80, 0x80, 0x80, 0x80, 0x80, 0x80,
+            0x80, 1, 0xf8, 0xff, 0xff, 0xff, 0xff, 0xff, 0xff, 0xff, 0xff, 1,
         ],
     )?;
     let mut reasons = Vec::new(alloc);

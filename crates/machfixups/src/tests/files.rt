@@ -121,8 +121,8 @@ pub const ARCHIVE: [u8; 16] = [
 /// A fat file of the image with both at 48 and an archive behind it.
 pub fn fat_file(alloc: Global) -> Result<Vec<u8>, AllocError> {
     let mut bytes = vec![in alloc;
-        0xca, 0xfe, 0xba, 0xbe, 0, 0, 0, 2, 1, 0, 0, 7, 0, 0, 0, 3, 0, 0, 0, 48, 0, 0, 0x04, 0xd8, 0,
-        0, 0, 4, 1, 0, 0, 0x0c, 0, 0, 0, 0, 0, 0, 0x05, 0x08, 0, 0, 0, 16, 0, 0, 0, 0,
+        0xca, 0xfe, 0xba, 0xbe, 0, 0, 0, 2, 1, 0, 0, 7, 0, 0, 0, 3, 0, 0, 0, 48, 0, 0, 0x04, 0xd8,
+        0, 0, 0, 4, 1, 0, 0, 0x0c, 0, 0, 0, 0, 0, 0, 0x05, 0x08, 0, 0, 0, 16, 0, 0, 0, 0,
     ]?;
     bytes.extend_from_slice(&BOTH)?;
     bytes.extend_from_slice(&ARCHIVE)?;
