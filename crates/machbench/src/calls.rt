@@ -235,8 +235,8 @@ fn add_image<A: Allocator + Clone>(
     call: Call,
 ) -> Result<()> {
     match call {
-        Call::Exports => work.add_exports(&image.exports(alloc.clone()?)?),
-        Call::Imports => work.add_imports(&image.imports(alloc.clone()?)?),
+        Call::Exports => work.list_exports(alloc, image)?,
+        Call::Imports => work.list_imports(alloc, image)?,
         Call::ImportsOneByOne => work.import(image)?,
         Call::Bindings => work.bind(image)?,
         Call::Fixups => work.fix(image)?,
@@ -248,6 +248,26 @@ fn add_image<A: Allocator + Clone>(
 }
 
 impl Work {
+    // Lists the exports of an image.
+    fn list_exports<A: Allocator + Clone>(
+        &mut self,
+        alloc: &A,
+        image: &MachO<'_, A>,
+    ) -> Result<()> {
+        self.add_exports(&image.exports(alloc.clone()?)?);
+        Ok(())
+    }
+
+    // Lists the imports of an image.
+    fn list_imports<A: Allocator + Clone>(
+        &mut self,
+        alloc: &A,
+        image: &MachO<'_, A>,
+    ) -> Result<()> {
+        self.add_imports(&image.imports(alloc.clone()?)?);
+        Ok(())
+    }
+
     // Goes over the imports of an image.
     fn import<A: Allocator>(&mut self, image: &MachO<'_, A>) -> Result<()> {
         for item in image.iter_imports() {
