@@ -9,3 +9,4 @@ mod fat;
 mod same;
 mod segments;
 mod symbols;
+mod walks;
