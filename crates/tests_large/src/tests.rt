@@ -10,3 +10,4 @@ mod fat;
 mod same;
 mod segments;
 mod symbols;
+mod walks;
