@@ -1,5 +1,5 @@
 -- Facts on bytes, by the image that was opened there.
-use Rattle.std.proofs.Common.{◌≡◌, ℕ, List, Option, Result, sym, ap, subst, ◌∙◌}
+use Rattle.std.proofs.Common.{◌≡◌, ℕ, List, Option, Result, ap, subst, ◌∙◌}
 use Rattle.mach_base.specs.Context.{pointer_size}
 use Rattle.mach_base.specs.Fault.{Fault}
 use Rattle.mach_base.specs.declared.context.Ctx.{Ctx}
@@ -13,7 +13,7 @@ use Rattle.goblin_mach.specs.Bindings.{AreOpcodeBindings}
 use Rattle.goblin_mach.specs.Facts.{HasChainedFixups, HasFixups}
 use Rattle.goblin_mach.specs.Fixups.{AreImageFixups, chained_held, chained_in}
 use Rattle.goblin_mach.specs.OpenImage.{IsLossyImage, commands_held, binds_held, ctx_held, bytes_held}
-use Rattle.goblin_mach.specs.Subjects.{binds_in, libs_in}
+use Rattle.goblin_mach.specs.Subjects.{binds_in}
 use Rattle.goblin_mach.specs.declared.image.macho.MachO.{MachO}
 use Rattle.machfixups.specs.OpcodeBindings.{HasOpcodeBindings}
 

@@ -1,5 +1,5 @@
 -- The segments and the sections in which addresses lie, and their names (`mach-o/loader.h`).
-use Rattle.std.specs.Prelude.{◌≡◌, ℕ, ◌+◌, List, [], ◌∷◌, codes, map, Bool, ◌&&◌, Option, Some, None, Result, Ok, Err, nat_le, nat_lt}
+use Rattle.std.specs.Prelude.{ℕ, ◌+◌, List, [], ◌∷◌, codes, map, Bool, ◌&&◌, Option, Some, None, Result, Ok, Err, nat_le, nat_lt}
 use Rattle.std.specs.Prelude.{if◌then◌else◌}
 use Rattle.std.specs.Result.{result_unwrap_or}
 use Rattle.mach_base.specs.Fault.{Fault}

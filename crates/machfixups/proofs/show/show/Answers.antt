@@ -1,4 +1,4 @@
-use Rattle.std.proofs.Common.{[], true, false, refl, ap}
+use Rattle.std.proofs.Common.{[], false, refl, ap}
 use Rattle.mach_base.proofs.Written.{Appends-none, Appends-kept}
 use Rattle.mach_base.specs.Words.{words_of}
 use Rattle.goblin_mach.specs.FatFile.{file_held}
