@@ -176,8 +176,12 @@ fn imports_one_at_a_time(rt: HostRuntime) -> std::result::Result<(), Fail> {
 #[test]
 fn bindings_one_at_a_time(rt: HostRuntime) -> std::result::Result<(), Fail> {
     let image = image(rt.alloc(), &FILE_D)?;
-    same(&rt, bindings(&image).count(), 4);
-    same(&rt, fixups(&image).count(), 4);
+    for item in bindings(&image) {
+        assert!(rt; item.is_ok());
+    }
+    for item in fixups(&image) {
+        assert!(rt; item.is_ok());
+    }
     Ok(())
 }
 
