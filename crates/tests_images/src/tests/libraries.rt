@@ -24,7 +24,8 @@ fn commands(alloc: Global, rows: &[Row]) -> Result<Vec<u8>, AllocError> {
         for number in numbers(*row) {
             bytes.extend_from_slice(&number.to_le_bytes())?;
         }
-        bytes.extend_from_slice(row.3)?;
+        let name = row.3;
+        bytes.extend_from_slice(name)?;
     }
     let count = (rows.len() & 7) as u8;
     image(alloc, count, 32 * count, &bytes)
@@ -67,7 +68,8 @@ fn big_commands(alloc: Global, rows: &[Row]) -> Result<Vec<u8>, AllocError> {
         for number in numbers(*row) {
             bytes.extend_from_slice(&number.to_be_bytes())?;
         }
-        bytes.extend_from_slice(row.3)?;
+        let name = row.3;
+        bytes.extend_from_slice(name)?;
     }
     Ok(bytes)
 }
