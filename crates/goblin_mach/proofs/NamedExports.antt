@@ -62,9 +62,12 @@ module _ (t : Trie) where
     standing_listed (q ∷ ps) [] p name info each among ends named = absurd each
     standing_listed (q ∷ ps) (e ∷ es) p name info each among ends named = elim among [
       | inl here ↦
-          let b = subst (λ (x : List ℕ). BelongsTo t root [] x e) (sym here) each.0 in
-          (e, inl refl, ap (λ (x : Entry). x.name) b.is ∙ one_name p root b.name name b.named named,
-          ap (λ (x : Entry). x.info) b.is ∙ one_end root p b.info info b.ends ends)
+          let b = subst (λ (x : List ℕ). BelongsTo t root [] x e) (sym here) each.0 in (
+            e,
+            inl refl,
+            ap (λ (x : Entry). x.name) b.is ∙ one_name p root b.name name b.named named,
+            ap (λ (x : Entry). x.info) b.is ∙ one_end root p b.info info b.ends ends,
+          )
       | inr later ↦ (let rest = standing_listed ps es p name info each.1 later ends named in (rest.0, inr rest.1, rest.2, rest.3))
     ]
 

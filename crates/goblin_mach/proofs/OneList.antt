@@ -11,14 +11,14 @@ use Rattle.mach_dyld.specs.BindingLaws as dyld
 use Rattle.mach_dyld.specs.BindingLaws.{told, told_by_import, told_by_binding}
 use Rattle.mach_dyld.specs.Bindings.{upto_fault}
 use Rattle.mach_dyld.specs.Imports.{BindRanges, Import, input_in}
-use Rattle.mach_chained.specs.Bindings.{bindings_of, AreBindingItems}
+use Rattle.mach_chained.specs.Bindings.{bindings_of}
 use Rattle.mach_chained.specs.Chained.{Placed, AreFixups, AreFixupItems, fixup_items}
 use Rattle.mach_chained.specs.Fixups.{Input, Fixup}
 use Rattle.mach_chained.specs.Header.{Fixups}
-use Rattle.goblin_mach.specs.BindingLaws.{HasOneListOfFixups, HasOneListOfBindings, ArePlainImports, HasPlainImports, TellTheSame}
+use Rattle.goblin_mach.specs.BindingLaws.{HasOneListOfFixups, HasOneListOfBindings, ArePlainImports, TellTheSame}
 use Rattle.goblin_mach.specs.Bindings.{AreOpcodeBindings, AreChainBindings, AreImageBindings}
-use Rattle.goblin_mach.specs.Facts.{OfImage, AreSegments, HasFixups, HasBindings, HasLibraries}
-use Rattle.goblin_mach.specs.Fixups.{AreImageFixups, chained_at, chained_in, chained_place_in, input_over}
+use Rattle.goblin_mach.specs.Facts.{OfImage, AreSegments}
+use Rattle.goblin_mach.specs.Fixups.{AreImageFixups, chained_at, chained_in, input_over}
 use Rattle.goblin_mach.specs.Image.{LossyOpensAs}
 use Rattle.goblin_mach.specs.Subjects.{binds_in, libs_in}
 use Rattle.goblin_mach.proofs.Chains.{same_chain}

@@ -9,13 +9,13 @@ use Rattle.mach_parts.specs.declared.segment.Segment.{Segment}
 use Rattle.mach_parts.specs.declared.symbols.nlist.Nlist.{Nlist}
 use Rattle.mach_dyld.specs.Imports.{Import}
 use Rattle.mach_dyld.specs.Trie as trie
-use Rattle.goblin_mach.specs.Libraries.{LibraryView, libraries_in}
-use Rattle.goblin_mach.specs.LookUp.{StandsInImage}
 use Rattle.mach_chained.specs.Fixups.{Fixup}
 use Rattle.mach_chained.specs.Header.{Fixups}
 use Rattle.mach_parts.specs.Bindings.{Binding}
 use Rattle.goblin_mach.specs.Bindings.{AreImageBindings}
 use Rattle.goblin_mach.specs.Fixups.{AreImageFixups, base_of, chained_in}
+use Rattle.goblin_mach.specs.Libraries.{LibraryView, libraries_in}
+use Rattle.goblin_mach.specs.LookUp.{StandsInImage}
 use Rattle.goblin_mach.specs.EntryPoint.{EntryPoint, entry_point_in}
 use Rattle.goblin_mach.specs.Image.{LossyOpensAs}
 use Rattle.goblin_mach.specs.Magic.{cputype_at}

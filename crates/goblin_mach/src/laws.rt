@@ -21,19 +21,17 @@ pub use crate::image::libraries::{libraries_by_ordinal, libraries_in_libs};
 pub use crate::image::macho::look_up::export_by_list_and_paths;
 pub use mach_base::laws::{one_signed_spelling, one_spelling, record_at_an_offset};
 pub use mach_chained::laws::{
-    as_many_bindings_as_binds, faulty_bindings_have_no_list, fixups_are_few, fixups_lie_in_segments,
-    images_have_fixups, one_list_of_fixups,
+    as_many_bindings_as_binds, faulty_bindings_have_no_list, fixups_are_few, fixups_ascend,
+    fixups_lie_in_segments, images_have_fixups, one_list_of_fixups,
 };
 pub use mach_dyld::laws::{
-    adds_bindings, binding_lies_in_its_segment, bindings_are_imports, bindings_lie_in_segments,
-    finds_last_ordinal,
-};
-pub use mach_dyld::laws::{
-    adds_binds, beginning_of_the_list, blocked_root_has_no_list, cuts_behind_done,
+    adds_bindings, adds_binds, beginning_of_the_list, binding_lies_in_its_segment,
+    bindings_are_imports, bindings_lie_in_segments, blocked_root_has_no_list, cuts_behind_done,
     exports_of_terminal_paths, faulty_binds_have_no_list, faulty_tries_have_no_list,
-    import_lies_in_its_segment, imports_lie_in_segments, items_lie_in_segments, lists_by_stream,
-    lists_within_levels, looks_back, one_list, one_list_of_imports, other_binds_have_a_list,
-    other_roots_have_lists, other_tries_have_a_list, visits_of_paths, visits_within_nodes,
+    finds_last_ordinal, import_lies_in_its_segment, imports_lie_in_segments, items_lie_in_segments,
+    lists_by_stream, lists_within_levels, looks_back, one_list, one_list_of_imports,
+    other_binds_have_a_list, other_roots_have_lists, other_tries_have_a_list, visits_of_paths,
+    visits_within_nodes,
 };
 pub use mach_parts::laws::{
     bits_together, relocations_by_number, section_written_and_read, sections_by_number,

@@ -12,8 +12,8 @@ pub use crate::fat_file::entry::SingleArch;
 pub use crate::fat_file::multi_arch::{MultiArch, SingleArchIterator};
 pub use crate::image::bindings::BindingIterator;
 pub use crate::image::exported::find_export;
-pub use crate::image::libraries::{Library, LibraryIterator, LibraryKind};
 pub use crate::image::fixups::FixupIterator;
+pub use crate::image::libraries::{Library, LibraryIterator, LibraryKind};
 pub use crate::image::mach::Mach;
 pub use crate::image::macho::MachO;
 pub use crate::image::magic::{parse_magic_and_ctx, peek, peek_bytes};
@@ -31,22 +31,12 @@ pub use mach_records::{constants, cputype};
 
 /// Chained fixups: what the data of `LC_DYLD_CHAINED_FIXUPS` and the pointers of the segments hold.
 pub mod chained_fixups {
-    pub use mach_chained::ChainPointer;
-    pub use mach_chained::ChainedBindIterator;
-    pub use mach_chained::ChainedFixups;
-    pub use mach_chained::ChainedFixupsHeader;
-    pub use mach_chained::ChainedImport;
-    pub use mach_chained::ChainedImportIterator;
-    pub use mach_chained::ChainedStartsInSegment;
-    pub use mach_chained::Fixup;
-    pub use mach_chained::FixupIterator;
-    pub use mach_chained::FixupKind;
-    pub use mach_chained::ImportFormat;
-    pub use mach_chained::PointerAuth;
-    pub use mach_chained::PointerFormat;
-    pub use mach_chained::SIZEOF_CHAINED_FIXUPS_HEADER;
-    pub use mach_chained::SIZEOF_CHAINED_STARTS_IN_SEGMENT;
-    pub use mach_chained::read_pointer;
+    pub use mach_chained::{
+        ChainPointer, ChainedBindIterator, ChainedFixups, ChainedFixupsHeader, ChainedImport,
+        ChainedImportIterator, ChainedStartsInSegment, Fixup, FixupIterator, FixupKind,
+        ImportFormat, PointerAuth, PointerFormat, SIZEOF_CHAINED_FIXUPS_HEADER,
+        SIZEOF_CHAINED_STARTS_IN_SEGMENT, read_pointer,
+    };
 }
 
 /// Load commands: their records, constants and names.

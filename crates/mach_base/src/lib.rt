@@ -1,4 +1,4 @@
-//! What every reader stands on: errors, byte orders, numbers, texts, LEB128, records.
+//! What every reader stands on: errors, byte orders, numbers, texts, LEB128, records, a count of reads.
 #![tactic(auto)]
 
 mod byte_count;
@@ -10,6 +10,8 @@ mod leb128;
 mod numbers;
 mod offsets;
 mod record;
+mod steps;
+mod tally;
 mod texts;
 mod traits;
 
@@ -21,5 +23,6 @@ pub use crate::leb128::{Sleb128, Uleb128, quick_uleb, sleb, uleb};
 pub use crate::numbers::{array_at, bytes_at, read_u32, rest_at, try_rest_at};
 pub use crate::offsets::{gread_with, pread_with, pwrite_with};
 pub use crate::record::{Record, RecordBytes, written_and_read};
+pub use crate::steps::Steps;
 pub use crate::texts::{quick_text, read_text};
 pub use crate::traits::{IntoCtx, SizeWith, TryFromCtx, TryIntoCtx};

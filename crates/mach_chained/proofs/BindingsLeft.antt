@@ -1,10 +1,12 @@
 -- How the bindings that are left go on.
-use Rattle.std.proofs.Common.{◌≡◌, ℕ, List, [], ◌∷◌, Bool, true, false, Option, Result, Ok, sym, ap, ◌∙◌, cond}
+use Rattle.std.proofs.Common.{◌≡◌, ℕ, suc, List, [], ◌∷◌, length, Bool, true, false, Option, Some, None, Result, Ok, refl, sym, ap, ◌∙◌, cond}
 use Rattle.mach_base.specs.Fault.{Fault}
 use Rattle.mach_chained.specs.declared.source.Source.{Source}
 use Rattle.mach_chained.specs.Fixups.{Input, Fixup}
+use Rattle.mach_chained.specs.Chained.{Placed, fixup_items}
 use Rattle.mach_parts.specs.Bindings.{Binding}
 use Rattle.mach_chained.specs.Bindings.{binding_in, bindings_before, bindings_of}
+use Rattle.mach_chained.specs.BindingViews.{fixup_count}
 use Rattle.mach_chained.specs.WalkViews.{input_of}
 
 abbrev Items : Type 0
@@ -27,3 +29,20 @@ off_bindings ended s libs items off = ap (λ (b : Bool). left_by b s libs items)
 pub before_others : (x : Input) (libs : List (List ℕ)) (f : Fixup) (rest : Items) (own : Option (Result Binding Fault)) → binding_in x libs f ≡ own
     → bindings_of x libs (Ok f ∷ rest) ≡ bindings_before own (bindings_of x libs rest)
 before_others x libs f rest own is = ap (λ (o : Option (Result Binding Fault)). bindings_before o (bindings_of x libs rest)) is
+
+-- ---- how many pointers are left
+
+abbrev pub pointers_by : Bool → List (Result Fixup Fault) → ℕ
+pointers_by ended items = cond ended 0 (fixup_count items)
+
+pub on_pointers : (ended : Bool) (items others : Items) → ended ≡ false → items ≡ others → pointers_by ended items ≡ fixup_count others
+on_pointers ended items others on is = ap (λ (b : Bool). pointers_by b items) on ∙ ap (λ (m : Items). fixup_count m) is
+
+pub off_pointers : (ended : Bool) (items : Items) → ended ≡ true → pointers_by ended items ≡ 0
+off_pointers ended items off = ap (λ (b : Bool). pointers_by b items) off
+
+-- of the fixups with the fault behind them, as many as there are fixups
+pub fixups_counted : (ps : List Placed) (stop : Option Fault) → fixup_count (fixup_items ps stop) ≡ length ps
+fixups_counted [] None = refl
+fixups_counted [] (Some f) = refl
+fixups_counted (p ∷ ps) stop = ap suc (fixups_counted ps stop)

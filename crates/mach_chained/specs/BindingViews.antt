@@ -1,9 +1,10 @@
 -- What an iterator over bindings has yet to give, and a list of them.
-use Rattle.std.specs.Prelude.{List, [], map, Result, if◌then◌else◌}
+use Rattle.std.specs.Prelude.{ℕ, suc, List, [], ◌∷◌, map, Result, Ok, Err, if◌then◌else◌}
 use Rattle.mach_base.specs.Fault.{Fault}
 use Rattle.mach_parts.specs.declared.binding.Binding as binding
 use Rattle.mach_parts.specs.Bindings.{Binding, binding_view, texts}
 use Rattle.mach_chained.specs.declared.bindings.ChainedBindIterator.{ChainedBindIterator}
+use Rattle.mach_chained.specs.Fixups.{Fixup}
 use Rattle.mach_chained.specs.Bindings.{bindings_of}
 use Rattle.mach_chained.specs.WalkViews.{input_of}
 use Rattle.mach_chained.specs.FixupsLeft.{fixups_left}
@@ -14,3 +15,13 @@ bindings_seen items = map binding_view items
 unfoldable pub bindings_left : ChainedBindIterator → List (Result Binding Fault)
 bindings_left it =
     if it.ended then [] else bindings_of (input_of it.fixups.source) (texts it.libs.now) (fixups_left it.fixups)
+
+-- how many of some items are fixups
+abbrev pub fixup_count : List (Result Fixup Fault) → ℕ
+fixup_count [] = 0
+fixup_count (Err f ∷ items) = fixup_count items
+fixup_count (Ok f ∷ items) = suc (fixup_count items)
+
+-- how many pointers are left to be read, that of a fault aside
+unfoldable pub pointers_left : ChainedBindIterator → ℕ
+pointers_left it = if it.ended then 0 else fixup_count (fixups_left it.fixups)

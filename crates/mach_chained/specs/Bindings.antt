@@ -1,5 +1,5 @@
 -- The bindings of an image whose binds stand in chains, as dyld makes them.
-use Rattle.std.specs.Prelude.{◌≡◌, ◌==◌, ◌^◌, ℕ, ℤ, pos, negsuc, ◌+ℤ◌, List, [], ◌∷◌, map, Bool, false, Option, Some, None, Result, Ok, Err, nat_lt}
+use Rattle.std.specs.Prelude.{◌≡◌, ◌^◌, ℕ, ℤ, pos, negsuc, ◌+ℤ◌, List, [], ◌∷◌, map, false, Option, Some, None, Result, Ok, Err, nat_lt}
 use Rattle.std.specs.Prelude.{slice_get, if◌then◌else◌}
 use Rattle.mach_base.specs.Among.{IsAmong}
 use Rattle.mach_base.specs.Answer.{◌>>=◌}

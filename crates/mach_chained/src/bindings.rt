@@ -1,24 +1,27 @@
 //! The bindings of an image whose binds stand in chains.
 
-ghost use Rattle.std.specs.Prelude.{◌≡◌, ◌+ℤ◌, [], List, Some, None, IfOk, IfErr, MatchOption};
+ghost use Rattle.std.specs.Prelude.{◌≡◌, ◌+◌, ◌≤◌, ◌+ℤ◌, [], List, length, Option, Some, None, IfOk, IfErr, IfNone, IfSome, OnOk, MatchOption};
 ghost use Rattle.std.specs.Iterator.{YieldsFirstBy};
 ghost use Rattle.mach_base.specs.Answer.{Reads, Stands, IsOkUnlessMemory};
-ghost use Rattle.mach_chained.specs.Bindings.{place_in_file, signed_or_malformed, binding_of, binding_in, AreBindingItems, ListsBindings, BindingFault};
+ghost use Rattle.mach_base.specs.Fault.{Fault};
+ghost use Rattle.mach_chained.specs.Bindings.{place_in_file, signed_or_malformed, binding_of, binding_in, bindings_of, AreBindingItems, ListsBindings, BindingFault};
+ghost use Rattle.mach_chained.specs.Chained.{Placed, AreFixups, fixup_items};
 ghost use Rattle.mach_chained.specs.WalkViews.{input_of, input_in, fixup_view};
 ghost use Rattle.mach_parts.specs.Bindings as declared;
 ghost use Rattle.mach_parts.specs.Bindings.{texts, binding_view, binding_read};
-ghost use Rattle.mach_chained.specs.BindingViews.{bindings_seen, bindings_left};
+ghost use Rattle.mach_chained.specs.BindingViews.{bindings_seen, bindings_left, pointers_left};
 
 use crate::fixups::FixupIterator;
 use crate::header::ChainedFixups;
 use crate::pointer::FixupKind;
 use crate::source::{Fixup, nth_segment};
-use mach_base::{Error, Result};
+use mach_base::{Error, Result, Steps};
 use mach_parts::binding::{Binding, Provider};
 use mach_parts::segment::Segment;
 use std::alloc::Allocator;
 
 // Where an offset in a segment lies in the file.
+#[inline(always)]
 fn place_in_file(segments: &[Segment<'_>], number: u32, offset: u64) -> Result<u64>
     ensures { Reads (λ n. n) result (place_in_file segments.now number offset) }
 {
@@ -30,6 +33,7 @@ fn place_in_file(segments: &[Segment<'_>], number: u32, offset: u64) -> Result<u
 }
 
 // The sum of an import's addend and a pointer's.
+#[inline(always)]
 fn whole_addend(addend: i64, inline: i32) -> Result<i64>
     ensures { Reads (λ n. n) result (signed_or_malformed (addend +ℤ inline)) }
 {
@@ -60,6 +64,21 @@ impl<'a> ChainedFixups<'a> {
     ) -> ChainedBindIterator<'a, 'b>
         ensures { AreBindingItems (input_in self.now segments.now base) (texts libs.now) (bindings_left result) }
     {
+        self.start_bindings(libs, segments, base)
+    }
+
+    // The same, with how many pointers are left to be read.
+    fn start_bindings<'b>(
+        &self,
+        libs: &'b [&'a str],
+        segments: &'b [Segment<'a>],
+        base: u64,
+    ) -> ChainedBindIterator<'a, 'b>
+        ensures { (ps : List Placed) × (stop : Option Fault)
+            × AreFixups (input_in self.now segments.now base) ps stop
+            × (bindings_left result ≡ bindings_of (input_in self.now segments.now base)
+            (texts libs.now) (fixup_items ps stop)) × (pointers_left result ≡ length ps) }
+    {
         ChainedBindIterator {
             fixups: self.start(segments, base),
             libs,
@@ -86,10 +105,36 @@ impl<'a> ChainedFixups<'a> {
         ensures refused { IfErr result (Stands (BindingFault (input_in self.now segments.now base)
             (texts libs.now))) }
     {
-        let mut left = self.bindings(libs, segments, base);
+        self.binds_counted(alloc, libs, segments, base, &mut Steps::new())
+    }
+
+    /// The same, with the pointers that are read added to a count: as many as there are fixups, and where
+    /// the answer is refused at most one more. The count never falls.
+    pub fn binds_counted<A: Allocator>(
+        &self,
+        alloc: A,
+        libs: &[&'a str],
+        segments: &[Segment<'a>],
+        base: u64,
+        steps: &mut Steps,
+    ) -> Result<Vec<Binding<'a>, A>>
+        ensures listed { IfOk result (λ v. ListsBindings (input_in self.now segments.now base)
+            (texts libs.now) (bindings_seen v.items)) }
+        ensures only { (list : List (declared.Binding)) → ListsBindings (input_in self.now segments.now base)
+            (texts libs.now) list → IsOkUnlessMemory result }
+        ensures refused { IfErr result (Stands (BindingFault (input_in self.now segments.now base)
+            (texts libs.now))) }
+        ensures reads { IfOk result (λ _. (ps : List Placed)
+            × AreFixups (input_in self.now segments.now base) ps None × (steps.new ≡ steps.old + length ps)) }
+        ensures bounded { IfErr result (λ _. (ps : List Placed) × (stop : Option Fault)
+            × AreFixups (input_in self.now segments.now base) ps stop
+            × (steps.new ≤ steps.old + length ps + 1)) }
+        ensures kept { steps.old ≤ steps.new }
+    {
+        let mut left = self.start_bindings(libs, segments, base);
         let mut found = Vec::new(alloc);
         'binds: loop {
-            match left.step() {
+            match left.step(steps) {
                 None => break,
                 Some(Ok(binding)) => found.push(binding)?,
                 Some(Err(e)) => return Err(e),
@@ -102,6 +147,7 @@ impl<'a> ChainedFixups<'a> {
 impl<'a> ChainedBindIterator<'a, '_> {
     // The binding of a bind.
     #[tactic(auto, unfolding(crate::specs::Bindings::binding_of))]
+    #[inline(always)]
     fn bound(&self, fixup: &Fixup, import: u32, addend: i32) -> Result<Binding<'a>>
         ensures { Reads binding_view result (binding_of (input_of self.now.fixups.source) (texts self.now.libs.now) (fixup_view fixup.now) import addend) }
     {
@@ -129,6 +175,7 @@ impl<'a> ChainedBindIterator<'a, '_> {
     }
 
     // What comes of a fixup, if it is a bind.
+    #[inline(always)]
     fn binding(&self, fixup: &Fixup) -> Option<Result<Binding<'a>>>
         ensures { MatchOption result
             (binding_in (input_of self.now.fixups.source) (texts self.now.libs.now) (fixup_view fixup.now) ≡ None)
@@ -144,15 +191,21 @@ impl<'a> ChainedBindIterator<'a, '_> {
         }
     }
 
-    // The next binding, or the fault that ends them.
-    fn step(&mut self) -> Option<Result<Binding<'a>>>
-        ensures { YieldsFirstBy binding_read bindings_left self.old result self.new }
+    // The next binding, or the fault that ends them, with a count of the pointers read.
+    #[inline(always)]
+    fn step(&mut self, steps: &mut Steps) -> Option<Result<Binding<'a>>>
+        ensures items { YieldsFirstBy binding_read bindings_left self.old result self.new }
+        ensures none { IfNone result (steps.new ≡ steps.old + pointers_left self.old) }
+        ensures reads { IfSome result (λ item. OnOk item
+            (steps.new + pointers_left self.new ≡ steps.old + pointers_left self.old)) }
+        ensures bounded { steps.new ≤ steps.old + pointers_left self.old + 1 }
+        ensures kept { steps.old ≤ steps.new }
     {
         if self.ended {
             return None;
         }
         'fixups: loop {
-            let fixup = match self.fixups.step() {
+            let fixup = match self.fixups.step(steps) {
                 None => return None,
                 Some(Ok(fixup)) => fixup,
                 Some(Err(e)) => {
@@ -181,8 +234,9 @@ impl<'a, 'b> Iterator for ChainedBindIterator<'a, 'b> {
 
     ghost remaining = { item_count bindings_left };
 
+    #[inline(always)]
     fn next(&mut self) -> Option<Result<Binding<'a>>> {
-        self.step()
+        self.step(&mut Steps::new())
     }
 }
 

@@ -1,7 +1,8 @@
 //! What fixups are read from: the segments with their chains, the starts of pages, the pointers.
 
-ghost use Rattle.std.specs.Prelude.{◌≡◌, ◌+◌, ◌<◌, ◌≤◌, ◌^◌, length, drop, Some, OnOk, MatchOption};
+ghost use Rattle.std.specs.Prelude.{◌≡◌, ◌+◌, ◌<◌, ◌≤◌, ◌^◌, length, drop, Some, Ok, Err, IfSome, MatchOption};
 ghost use Rattle.mach_base.specs.Answer.{Reads};
+ghost use Rattle.mach_base.specs.Fault.{malformed};
 ghost use Rattle.mach_base.specs.Number.{number, number_at};
 ghost use Rattle.mach_base.specs.Sums.{found_or_malformed};
 ghost use Rattle.mach_chained.specs.Pointers.{pointer_width};
@@ -14,7 +15,7 @@ use crate::format::PointerFormat;
 use crate::header::ChainedFixups;
 use crate::pointer::{FixupKind, PointerAuth, pointer_len, read_pointer};
 use crate::starts::{Chains, SIZEOF_CHAINED_STARTS_IN_SEGMENT};
-use mach_base::{Endian, Error, Result, bytes_at};
+use mach_base::{Endian, Error, Result, Steps, bytes_at};
 use mach_parts::segment::Segment;
 
 /// The start of a page that has no chain.
@@ -76,6 +77,7 @@ pub enum NextPlace {
 }
 
 /// The segment of a number.
+#[inline(always)]
 pub fn nth_segment<'b, 'a>(segments: &'b [Segment<'a>], number: u32) -> Result<&'b Segment<'a>>
     ensures { Reads (λ s. s.now) result (found_or_malformed (slice_get segments.now number)) }
 {
@@ -85,13 +87,22 @@ pub fn nth_segment<'b, 'a>(segments: &'b [Segment<'a>], number: u32) -> Result<&
     }
 }
 
-// The number that stands at a place of a segment's data, if it lies there.
+// The number that stands at a place of a segment's data, if it lies there: the one read of a pointer, which
+// counts.
 #[inline(always)]
-fn raw_at(le: Endian, format: PointerFormat, bytes: &[u8], place: usize) -> Option<u64>
+fn raw_at(
+    le: Endian,
+    format: PointerFormat,
+    bytes: &[u8],
+    place: usize,
+    steps: &mut Steps,
+) -> Option<u64>
     requires { place < 2 ^ 60 }
-    ensures { MatchOption result (length bytes.now < place + pointer_width format)
+    ensures value { MatchOption result (length bytes.now < place + pointer_width format)
         (λ raw. (place + pointer_width format ≤ length bytes.now) × (raw ≡ number le (pointer_width format) (drop place bytes.now))) }
+    ensures reads { steps.new ≡ steps.old + 1 }
 {
+    steps.tick();
     if place + pointer_len(format) > bytes.len() {
         return None;
     }
@@ -263,28 +274,45 @@ impl<'a, 'b> Source<'a, 'b> {
         Ok(Some(place))
     }
 
-    // The fixup at a place of a page, and how far the next one is, 0 at the last.
+    // The fixup at a place of a page, and how far the next one is, 0 at the last; none where there is a fault.
+    // Its pointer is read once.
     #[tactic(auto, unfolding(crate::specs::Fixups::fixup_at))]
     #[inline(always)]
-    pub fn fixup(&self, span: &Span<'a>, page: u16, at: usize) -> Result<(Fixup, u32)>
-        ensures value { Reads fixup_seen result (fixup_at (input_of self.now) (span_view span.now) page at) }
-        ensures within { OnOk result (at < 2 ^ 16) }
+    pub fn fixup(
+        &self,
+        span: &Span<'a>,
+        page: u16,
+        at: usize,
+        steps: &mut Steps,
+    ) -> Option<(Fixup, u32)>
+        ensures value { MatchOption result (fixup_at (input_of self.now) (span_view span.now) page at ≡ Err malformed)
+            (λ found. fixup_at (input_of self.now) (span_view span.now) page at ≡ Ok (fixup_seen found)) }
+        ensures within { IfSome result (λ _. at < 2 ^ 16) }
+        ensures reads { IfSome result (λ _. steps.new ≡ steps.old + 1) }
+        ensures bounded { steps.new ≤ steps.old + 1 }
+        ensures kept { steps.old ≤ steps.new }
     {
         if at >= usize::from(span.chains.page_size) {
-            return Err(Error::Malformed("a chain stays in its page"));
+            return None;
         }
         let offset = usize::from(page) * usize::from(span.chains.page_size) + at;
-        let Some(raw) = raw_at(self.fixups.le, span.chains.format, span.bytes, offset) else {
-            return Err(Error::Malformed("a fixup lies in its segment's data"));
+        let Some(raw) = raw_at(
+            self.fixups.le,
+            span.chains.format,
+            span.bytes,
+            offset,
+            steps,
+        ) else {
+            return None;
         };
         let Some(address) = span.vmaddr.checked_add(offset as u64) else {
-            return Err(Error::Malformed("a fixup's address has at most 64 bits"));
+            return None;
         };
         let pointer = read_pointer(span.chains.format, self.base, span.chains.greatest, raw);
         if let FixupKind::Bind { import, .. } = pointer.kind
             && import >= self.fixups.header.imports_count
         {
-            return Err(Error::Malformed("a bind's import is one of the table"));
+            return None;
         }
         let fixup = Fixup {
             segment: span.number,
@@ -293,6 +321,22 @@ impl<'a, 'b> Source<'a, 'b> {
             kind: pointer.kind,
             auth: pointer.auth,
         };
-        Ok((fixup, pointer.skip))
+        Some((fixup, pointer.skip))
+    }
+
+    // Why there is no fixup at a place of a page. The pointer is not read again.
+    pub fn reason(&self, span: &Span<'a>, page: u16, at: usize) -> &'static str {
+        let size = usize::from(span.chains.page_size);
+        if size <= at {
+            return "a chain stays in its page";
+        }
+        let offset = usize::from(page) * size + at;
+        if span.bytes.len() < offset + pointer_len(span.chains.format) {
+            return "a fixup lies in its segment's data";
+        }
+        match span.vmaddr.checked_add(offset as u64) {
+            None => "a fixup's address has at most 64 bits",
+            Some(_) => "a bind's import is one of the table",
+        }
     }
 }

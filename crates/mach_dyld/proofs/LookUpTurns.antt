@@ -4,7 +4,7 @@ use Rattle.std.proofs.Common.{drop, map, set, get_or, replicate, sum_by, Option,
 use Rattle.std.proofs.Common.{length-append, length-set, reverse}
 use Rattle.std.specs.Prelude.{slice_get}
 use Rattle.std.proofs.lemmas.Bool.{cases_eq}
-use Rattle.std.proofs.lemmas.List.{length-drop, length-map, length-replicate, reverse-append, get_or-set_same, get_or-set_other, get_or_read}
+use Rattle.std.proofs.lemmas.List.{length-drop, length-map, length-replicate, reverse-append, get_or-set_same, get_or-set_other}
 use Rattle.std.proofs.lemmas.List.Sums.{sum_by-set}
 use Rattle.mach_base.specs.Fault.{Fault, malformed}
 use Rattle.mach_base.specs.Among.{IsAmong}
@@ -391,10 +391,10 @@ module _ (s : Source) (root : ℕ) (name : List ℕ) where
     within = let size = h.visited.size in let above = low in omega arith
 
     -- a child that is marked is met by a second path
-    pub met : {mark : Bool} → mark ≡ get_or marks (start - s.from) mark → mark ≡ true → TrieFault (source_trie s) root malformed
+    pub met : {mark : Bool} → mark ≡ get_or marks (start - s.from) false → mark ≡ true → TrieFault (source_trie s) root malformed
     met {mark} is_mark is_on =
         let above = low in
-        let marked = sym (get_or_read marks (start - s.from) mark within is_mark false) ∙ is_on in
+        let marked = sym is_mark ∙ is_on in
         let same : s.from + (start - s.from) ≡ start = omega arith in
         let old = h.visited.met (start - s.from) marked in
         let there = (h.visited.leads (visit old.0 (s.from + (start - s.from))) old.1).0 in
@@ -408,8 +408,8 @@ module _ (s : Source) (root : ℕ) (name : List ℕ) where
     child_spelled = spells_on (source_trie s) h.top.path root h.top.start name h.top.rest others h.top.node h.top.next
         (record { label = label; start = start }) top_leads.0 h.opened.0.spelled h.opened.0.node head.0 rest_is
 
-    pub is_clear : {mark : Bool} → mark ≡ get_or marks (start - s.from) mark → mark ≡ false → get_or marks (start - s.from) false ≡ false
-    is_clear {mark} is_mark is_off = sym (get_or_read marks (start - s.from) mark within is_mark false) ∙ is_off
+    pub is_clear : {mark : Bool} → mark ≡ get_or marks (start - s.from) false → mark ≡ false → get_or marks (start - s.from) false ≡ false
+    is_clear is_mark is_off = sym is_mark ∙ is_off
 
     pub label_within : length label ≤ length (drop c.at name)
     label_within = let a = ap (λ (x : List ℕ). length x) taken.spells in let b = length-append label others in omega arith

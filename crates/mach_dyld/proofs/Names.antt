@@ -6,7 +6,7 @@ pub use Rattle.std.proofs.Common.{rules, lit<}
 pub use Rattle.std.proofs.lemmas.Bool.{ltb-true, cases_lt, leb-false, lt-ltb, ne_eqb, cases_eq, cases_Bool, eqb-true, leb-true}
 pub use Rattle.std.proofs.lemmas.Bool.Decides.{nat_tests}
 pub use Rattle.std.proofs.lemmas.List.{map-append, append-nil, reverse-append, reverse-reverse, length-take, length-drop, append_cancel_left, length-replicate}
-pub use Rattle.std.proofs.lemmas.List.{get_or-set_same, get_or-set_other, length-map, take_at, get_or_read}
+pub use Rattle.std.proofs.lemmas.List.{get_or-set_same, get_or-set_other, length-map, take_at}
 pub use Rattle.std.proofs.lemmas.List.Sums.{sum_by-set, count_by-le-length, sum_by-cons}
 pub use Rattle.std.proofs.lemmas.Result.{err_from_is_err_and}
 pub use Rattle.std.proofs.lemmas.Str.{IsUtf8-from_is_utf8, IsUtf8-append}

@@ -1,6 +1,6 @@
 -- What is left to an iterator over bindings: settings that run forward, as those of `BindLeft`, and the ordinal beside
 -- them. Callers don't need it: the contract of `bindings` says that the items at the start are those of the definitions.
-use Rattle.std.specs.Prelude.{◌≡◌, ◌==◌, ◌-◌, ◌≤◌, ℕ, ℤ, pos, List, [], ◌∷◌, ◌++◌, map, true, false, Option, Some, None, Result, Ok, Err, if◌then◌else◌}
+use Rattle.std.specs.Prelude.{◌≡◌, ◌==◌, ◌-◌, ◌≤◌, ℕ, ℤ, pos, List, [], ◌∷◌, ◌++◌, map, true, false, Option, Some, None, Result, Err, if◌then◌else◌}
 use Rattle.mach_base.specs.Fault.{Fault, malformed}
 use Rattle.mach_dyld.specs.Streams.{Input, Range, Placed}
 use Rattle.mach_dyld.specs.Binds.{Bind, is_done, count_in, stride_in}

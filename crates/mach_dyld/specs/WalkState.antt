@@ -171,12 +171,12 @@ pub record HasListed (s : Source) (found : List Entry) (n : ℕ) : Type 0 where
 -- ---- how far a walk has come, which has found these exports by so many visits
 
 abbrev pub IsAtBranch : {A : Type 0} → List Entry → ℕ → ExportWalk A → Type 0
-IsAtBranch found n w = (w.over ≡ false) × (IsFresh w.source w.name.items w.marks.items w.top (branch_of w.next) (reverse w.stack.items) found n
-    ⊎ Keeps w.source w.name.items w.marks.items w.top (branch_of w.next) (reverse w.stack.items) found n)
+IsAtBranch found n w = (w.over ≡ false) × (IsFresh w.source w.name.items w.marks w.top (branch_of w.next) (reverse w.stack.items) found n
+    ⊎ Keeps w.source w.name.items w.marks w.top (branch_of w.next) (reverse w.stack.items) found n)
 
 -- between two branches
 abbrev pub IsBetween : {A : Type 0} → List Entry → ℕ → ExportWalk A → Type 0
-IsBetween found n w = (w.over ≡ false) × Holds w.source w.name.items w.marks.items w.top (reverse w.stack.items) found n
+IsBetween found n w = (w.over ≡ false) × Holds w.source w.name.items w.marks w.top (reverse w.stack.items) found n
 
 abbrev pub HasFound : {A : Type 0} → List Entry → ℕ → ExportWalk A → Type 0
 HasFound found n w = IsAtBranch found n w ⊎ ((w.over ≡ true) × HasListed w.source found n)
@@ -207,4 +207,4 @@ abbrev pub work : ℕ → List Bool → List Open → ℕ
 work most marks os = (most + 2) * unmarked marks + branches_left os
 
 abbrev pub work_left : {A : Type 0} → ExportWalk A → ℕ
-work_left w = if w.over then 0 else work (length w.source.bytes.now) w.marks.items (w.top ∷ reverse w.stack.items)
+work_left w = if w.over then 0 else work (length w.source.bytes.now) w.marks (w.top ∷ reverse w.stack.items)

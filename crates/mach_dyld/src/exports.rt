@@ -14,10 +14,9 @@ pub use crate::info::{
     EXPORT_SYMBOL_FLAGS_REEXPORT, EXPORT_SYMBOL_FLAGS_STUB_AND_RESOLVER,
     EXPORT_SYMBOL_FLAGS_WEAK_DEFINITION, ExportInfo, SymbolKind,
 };
-use crate::steps::Steps;
 pub use crate::walk::ExportWalk;
 use crate::walk::{Source, list_all};
-use mach_base::{ByteCount, Result};
+use mach_base::{ByteCount, Result, Steps};
 use mach_records::{DyldInfoCommand, LinkeditDataCommand};
 use std::alloc::{Allocator, Global};
 use std::fmt;

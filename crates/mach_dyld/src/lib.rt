@@ -9,9 +9,8 @@ pub mod imports;
 mod info;
 pub mod laws;
 mod look_up;
+mod marks;
 mod node;
-mod steps;
-mod tally;
 mod walk;
 
-pub use crate::steps::Steps;
+pub use mach_base::Steps;

@@ -21,10 +21,10 @@ ghost use Rattle.mach_dyld.specs.LookUpViews.{node_of, node_behind, OwnEnds, Set
 
 use crate::branches::{BranchRun, read_parts, read_run};
 use crate::exports::{ExportInfo, ExportTrie};
+use crate::marks::Marks;
 use crate::node::{quick_own, read_own};
-use crate::steps::Steps;
 use crate::walk::{Source, visit};
-use mach_base::{Error, Result, quick_text, quick_uleb, rest_at};
+use mach_base::{Error, Result, Steps, quick_text, quick_uleb, rest_at};
 use std::alloc::{AllocError, Allocator};
 
 /// Where the branches of a node go on with what is left of a name.
@@ -315,9 +315,9 @@ fn search<'a, A: Allocator + Clone>(
     ensures visits { SearchVisits (source_trie source.now) root name.now steps.old steps.new }
 {
     let from = source.from;
-    let mut marks = vec![in alloc.clone()?; false; source.upto - from]?;
+    let mut marks = Marks::new(alloc.clone()?, source.upto - from)?;
     let mut choices: Vec<Choice, A> = Vec::new(alloc);
-    marks[root - from] = true;
+    marks.mark(root - from);
     let mut top = Choice { branches, at: 0 };
     'turns: loop {
         let rest = rest_at(name, top.at);
@@ -329,10 +329,10 @@ fn search<'a, A: Allocator + Clone>(
             }
         } else {
             let (label, start, after) = read_parts(source.bytes, from, branches.place);
-            if marks[start - from] {
+            if marks.is_marked(start - from) {
                 return Err(Error::Malformed("two paths lead to one node"));
             }
-            marks[start - from] = true;
+            marks.mark(start - from);
             let others = BranchRun {
                 left: branches.left - 1,
                 place: after,

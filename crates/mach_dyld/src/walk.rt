@@ -18,9 +18,9 @@ ghost use Rattle.mach_dyld.specs.WalkState.{IsAtBranch, IsBetween, HasFound, IsR
 
 use crate::exports::Export;
 use crate::info::ExportInfo;
+use crate::marks::Marks;
 use crate::node::{Branch, Branches, number, quick_own, read_again, read_branches, read_own};
-use crate::steps::Steps;
-use mach_base::{Error, Result};
+use mach_base::{Error, Result, Steps};
 use std::alloc::{AllocError, Allocator, Global};
 
 /// What exports are read from: some bytes, the libraries of the image, and where the trie begins and ends.
@@ -113,12 +113,12 @@ fn keep_below<A: Allocator>(
 }
 
 /// The exports of a trie one at a time, depth first: each node's own before those of its children. It
-/// takes a mark for each byte of the trie, a stack of the nodes that are open, and one name.
+/// takes a bit for each byte of the trie, a stack of the nodes that are open, and one name.
 #[derive(Drop)]
 pub struct ExportWalk<'a, 'b, A: Allocator = Global> {
     pub(crate) source: Source<'a, 'b>,
     /// Which starts were met.
-    pub(crate) marks: Vec<bool, A>,
+    pub(crate) marks: Marks<A>,
     /// The name of the node that was met last.
     pub(crate) name: Vec<u8, A>,
     /// The nodes below the top that have branches left.
@@ -142,7 +142,7 @@ impl<'a, 'b, A: Allocator> ExportWalk<'a, 'b, A> {
         let len = source.upto.saturating_sub(source.from);
         Ok(ExportWalk {
             source: *source,
-            marks: vec![in alloc.clone()?; false; len]?,
+            marks: Marks::new(alloc.clone()?, len)?,
             name: Vec::new(alloc.clone()?),
             stack: Vec::new(alloc.clone()?),
             top: Open {
@@ -209,10 +209,10 @@ impl<'a, 'b, A: Allocator> ExportWalk<'a, 'b, A> {
             self.go_on();
             return Ok(None);
         }
-        if self.marks[start - from] {
+        if self.marks.is_marked(start - from) {
             return Err(Error::Malformed("two paths lead to one node"));
         }
-        self.marks[start - from] = true;
+        self.marks.mark(start - from);
         self.name.truncate(self.top.name_len);
         self.name.extend_from_slice(label.as_bytes())?;
         let (own, branches) = read_node(&self.source, start, steps)?;

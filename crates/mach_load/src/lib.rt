@@ -1,6 +1,7 @@
 //! Load commands: which record each is read as, and what it says (`mach-o/loader.h`).
 #![tactic(auto)]
 
+mod debug;
 mod load_command;
 mod thread;
 mod variant;

@@ -33,7 +33,7 @@ use mach_records::{
 };
 
 /// What a load command says, by its number.
-#[derive(Clone, Copy, Debug)]
+#[derive(Clone, Copy)]
 pub enum CommandVariant {
     /// A segment of a 32-bit image.
     Segment32(SegmentCommand32),

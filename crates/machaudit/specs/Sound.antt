@@ -1,13 +1,14 @@
 -- When a file is sound: everything in it opens and can be read.
-use Rattle.std.specs.Prelude.{◌≡◌, ◌==◌, ◌<◌, ℕ, Bool, false, IsTrue, is_ok, List, Result, Ok, Err, IsOk}
-use Rattle.std.specs.List.{list_all, list_any}
+use Rattle.std.specs.Prelude.{◌≡◌, ◌<◌, ℕ, Bool, false, IsTrue, is_ok, List, Result, Ok, Err, IsOk}
+use Rattle.std.specs.List.{list_all}
 use Rattle.mach_base.specs.Fault.{Fault}
-use Rattle.mach_load.specs.Command.{Command, cmd_of}
 use Rattle.mach_dyld.specs.Imports.{Import}
 use Rattle.mach_dyld.specs.Trie as trie
+use Rattle.mach_chained.specs.Fixups.{Fixup}
+use Rattle.mach_parts.specs.Bindings.{Binding}
 use Rattle.mach_parts.specs.Segment.{SegmentView, sections_of}
 use Rattle.mach_parts.specs.declared.symbols.nlist.Nlist.{Nlist}
-use Rattle.goblin_mach.specs.Facts.{OfImage, HasSegments, HasRelocations, HasSymbols}
+use Rattle.goblin_mach.specs.Facts.{HasSegments, HasRelocations, HasSymbols, HasFixups, HasBindings}
 use Rattle.goblin_mach.specs.FatEntry.{FatEntry, archive, image, entry_at}
 use Rattle.goblin_mach.specs.FatFile.{FatFile, fat_file_in, arches_in}
 use Rattle.goblin_mach.specs.Image.{HasFatMagic}
@@ -23,20 +24,13 @@ abbrev pub all_relocated : Result (List RelocatedSection) Fault → Bool
 all_relocated (Ok sections) = list_all (λ s. are_all_ok s.1) sections
 all_relocated (Err f) = false
 
--- whether a command says where chained fixups lie (`mach-o/loader.h`, LC_DYLD_CHAINED_FIXUPS)
-abbrev pub is_chained_fixups : Command → Bool
-is_chained_fixups c = cmd_of c == 0x8000_0034
-
--- No command of the image at 0 is of chained fixups: the imports that these list are not read.
-abbrev pub HasNoChainedFixups : List ℕ → Type 0
-HasNoChainedFixups bytes = OfImage bytes 0 (λ ctx cs. list_any is_chained_fixups cs ≡ false)
-
 -- The image at 0 opens strictly, so that its segments have their data, and its exports and its imports
--- have lists; it has no chained fixups; the sections of all its segments, all its relocations and all its
--- symbols can be read.
+-- have lists; all fixups of its chains are there, and all that dyld binds of it; the sections of all its segments, all its
+-- relocations and all its symbols can be read.
 pub record IsSoundImage (bytes : List ℕ) : Type 0 where
   pub links : (exports : List trie.Entry) × (imports : List Import) × LinksImage bytes exports imports
-  pub fixups : HasNoChainedFixups bytes
+  pub fixups : (items : List (Result Fixup Fault)) × HasFixups bytes 0 items × IsTrue (are_all_ok items)
+  pub bindings : (items : List (Result Binding Fault)) × HasBindings bytes 0 items × IsTrue (are_all_ok items)
   pub sections : (segments : List SegmentView) × HasSegments bytes 0 segments × IsTrue (list_all (λ s. are_all_ok (sections_of s)) segments)
   pub relocations : (found : Result (List RelocatedSection) Fault) × HasRelocations bytes 0 found × IsTrue (all_relocated found)
   pub symbols : (rows : List (Result (List ℕ × Nlist) Fault)) × HasSymbols bytes 0 rows × IsTrue (are_all_ok rows)

@@ -1,27 +1,30 @@
 //! What is wrong with a file, part by part.
 
-ghost use Rattle.std.specs.Prelude.{◌≡◌, ◌<◌, ℕ, List, false, Ok, IsTrue, IfOk};
-ghost use Rattle.std.specs.List.{list_all, list_any};
+ghost use Rattle.std.specs.Prelude.{◌≡◌, ◌<◌, ℕ, List, Ok, IsTrue, IfOk};
+ghost use Rattle.std.specs.List.{list_all};
 ghost use Rattle.mach_base.specs.Context.{pointer_size};
-ghost use Rattle.mach_load.specs.Variants.{command_of};
 ghost use Rattle.mach_dyld.specs.Exports.{texts};
 ghost use Rattle.mach_dyld.specs.Imports as binds;
 ghost use Rattle.mach_dyld.specs.Trie as trie;
+ghost use Rattle.mach_dyld.specs.TrieRange.{ListsExports};
 ghost use Rattle.mach_parts.specs.RelocationItems.{relocations_left};
 ghost use Rattle.mach_parts.specs.SectionItems.{sections_left};
 ghost use Rattle.mach_parts.specs.Segment.{segment_view, sections_of};
 ghost use Rattle.mach_parts.specs.Segments.{segments_in};
+ghost use Rattle.goblin_mach.specs.BindingsLeft.{bindings_left};
 ghost use Rattle.goblin_mach.specs.FatEntry.{entry_at};
 ghost use Rattle.goblin_mach.specs.FatFile.{file_held};
-ghost use Rattle.goblin_mach.specs.OpenImage.{IsImage, bytes_held, commands_held, ctx_held, segments_held, trie_held, binds_held};
+ghost use Rattle.goblin_mach.specs.FixupsLeft.{fixups_left};
+ghost use Rattle.goblin_mach.specs.OpenImage.{IsImage, bytes_held, ctx_held, segments_held, trie_held, binds_held};
 ghost use Rattle.goblin_mach.specs.Relocations.{relocated_sections_in};
-ghost use Rattle.goblin_mach.specs.Subjects.{ListsImageExports, ListsImageImports, symbols_held};
-ghost use Rattle.machaudit.specs.Sound.{IsSound, IsSoundFat, IsSoundEntry, IsSoundImage, are_all_ok, all_relocated, is_chained_fixups};
+ghost use Rattle.goblin_mach.specs.Subjects.{ListsImageImports, symbols_held, trie_or_empty};
+ghost use Rattle.machaudit.specs.Sound.{IsSound, IsSoundFat, IsSoundEntry, IsSoundImage, are_all_ok, all_relocated};
 
 use crate::report::{Failure, Place, print_fault, print_part};
-use goblin_mach::load_command::{LC_DYLD_CHAINED_FIXUPS, LoadCommand};
 use goblin_mach::segment::{RelocationIterator, SectionIterator, Segment};
-use goblin_mach::{Error, Mach, MachO, MultiArch, SingleArch, laws};
+use goblin_mach::{
+    BindingIterator, Error, FixupIterator, Mach, MachO, MultiArch, SingleArch, laws,
+};
 use std::alloc::Allocator;
 use std::io::Write;
 
@@ -148,54 +151,66 @@ fn audit_symbols<A: Allocator, O: Write>(
     print_part("symbols", faults, out)
 }
 
-// The exports that a trie lists.
+// The exports that a trie lists. They are gone over one at a time, and none is kept.
 fn audit_trie<A: Allocator, B: Allocator + Clone, O: Write>(
     alloc: B,
     image: &MachO<'_, A>,
     out: &mut O,
 ) -> Result<usize, Failure>
-    ensures { result ≡ Ok 0 → (list : List trie.Entry) × ListsImageExports (trie_held image.now) (texts image.now.libs.items) list }
+    ensures { result ≡ Ok 0 → (list : List trie.Entry) × ListsExports (trie_or_empty (trie_held image.now)) (texts image.now.libs.items) list }
 {
-    match image.exports(alloc) {
-        Ok(_) => print_part("trie", 0, out),
-        Err(error) => print_fault(Place::Trie, &error, out),
+    let mut walk = match image.walk_exports(alloc) {
+        Ok(walk) => walk,
+        Err(error) => return print_fault(Place::Trie, &error, out),
+    };
+    'exports: while let Some(export) = walk.next() {
+        if let Err(error) = export {
+            return print_fault(Place::Trie, &error, out);
+        }
     }
+    print_part("trie", 0, out)
 }
 
-// Whether a command of some is of chained fixups.
-fn any_chained_fixups(commands: &[LoadCommand]) -> bool
-    ensures { result ≡ list_any (λ c. is_chained_fixups (command_of c)) commands.now }
-{
-    commands
-        .iter()
-        .any(|command| command.command.cmd() == LC_DYLD_CHAINED_FIXUPS)
-}
-
-// Whether an image has chained fixups.
-fn has_chained_fixups<A: Allocator>(image: &MachO<'_, A>) -> bool
-    ensures { result ≡ list_any is_chained_fixups (commands_held image.now) }
-{
-    any_chained_fixups(&image.load_commands)
-}
-
-// The imports that binds list. Chained fixups, which list others, are not read.
+// The imports that binds list.
 fn audit_binds<A: Allocator, B: Allocator, O: Write>(
     alloc: B,
     image: &MachO<'_, A>,
     out: &mut O,
 ) -> Result<usize, Failure>
-    ensures listed { result ≡ Ok 0 → (list : List binds.Import) × ListsImageImports (binds_held image.now) (pointer_size (ctx_held image.now).container)
+    ensures { result ≡ Ok 0 → (list : List binds.Import) × ListsImageImports (binds_held image.now) (pointer_size (ctx_held image.now).container)
         (texts image.now.libs.items) (segments_in image.now.segments) list }
-    ensures all { result ≡ Ok 0 → list_any is_chained_fixups (commands_held image.now) ≡ false }
 {
-    if has_chained_fixups(image) {
-        writeln!(out, "  binds: chained fixups, not read")?;
-        return Ok(1);
-    }
     match image.imports(alloc) {
         Ok(_) => print_part("binds", 0, out),
         Err(error) => print_fault(Place::Binds, &error, out),
     }
+}
+
+// The fixups of an image's chains, up to the first fault.
+fn audit_fixups<O: Write>(fixups: FixupIterator<'_, '_>, out: &mut O) -> Result<usize, Failure>
+    ensures { result ≡ Ok 0 → IsTrue (are_all_ok (fixups_left fixups.entry)) }
+{
+    'fixups: for fixup in fixups {
+        if let Err(error) = fixup {
+            return print_fault(Place::Fixups, &error, out);
+        }
+    }
+    print_part("fixups", 0, out)
+}
+
+// What dyld binds of an image, by opcodes and by chains, up to the first fault.
+fn audit_bindings<O: Write>(
+    bindings: BindingIterator<'_, '_>,
+    out: &mut O,
+) -> Result<usize, Failure>
+    ensures { result ≡ Ok 0 → IsTrue (are_all_ok (bindings_left bindings.entry)) }
+{
+    'bindings: for binding in bindings {
+        if let Err(error) = binding {
+            return print_fault(Place::Bindings, &error, out);
+        }
+    }
+    print_part("bindings", 0, out)
 }
 
 // All parts of an image that opened.
@@ -213,13 +228,19 @@ fn audit_image<A: Allocator, B: Allocator + Clone, O: Write>(
     let symbols = audit_symbols(image, out)?;
     let trie = audit_trie(alloc.clone()?, image, out)?;
     let binds = audit_binds(alloc.clone()?, image, out)?;
+    let fixups = audit_fixups(image.fixups(), out)?;
+    let bindings = audit_bindings(image.bindings(), out)?;
     let read = data.saturating_add(sections).saturating_add(relocations);
     let listed = symbols.saturating_add(trie).saturating_add(binds);
-    laws::links_of_image(image);
+    let bound = fixups.saturating_add(bindings);
+    laws::walked_exports_of_image(image);
+    laws::imports_of_image(image);
+    laws::fixups_of_image(image);
+    laws::bindings_of_image(image);
     laws::segments_of_image(image);
     laws::relocations_of_image(image);
     laws::symbols_of_image(image);
-    Ok(read.saturating_add(listed))
+    Ok(read.saturating_add(listed).saturating_add(bound))
 }
 
 // What can be read in lossy mode of bytes that were refused for an error. Where lossy mode refuses them,

@@ -80,6 +80,10 @@ pub enum Place {
     Trie,
     /// The binds.
     Binds,
+    /// The fixups of chains.
+    Fixups,
+    /// What dyld binds, by opcodes and by chains.
+    Bindings,
 }
 
 impl fmt::Display for Place {
@@ -97,6 +101,8 @@ impl fmt::Display for Place {
             Place::Symbol(index) => write!(f, "symbols: symbol {index}"),
             Place::Trie => write!(f, "trie"),
             Place::Binds => write!(f, "binds"),
+            Place::Fixups => write!(f, "fixups"),
+            Place::Bindings => write!(f, "bindings"),
         }
     }
 }

@@ -5,6 +5,7 @@ ghost use Rattle.mach_base.specs.Fault.{Fault};
 ghost use Rattle.goblin_mach.specs.FatEntry.{FatEntry};
 ghost use Rattle.goblin_mach.specs.View.{HasEntries};
 
+use goblin_mach::chained_fixups::FixupKind;
 use goblin_mach::exports::Export;
 use goblin_mach::imports::Import;
 use goblin_mach::{Error, LinkView, Mach, MachO, MultiArch, Result, SingleArch, link_view};
@@ -17,10 +18,16 @@ pub enum Call {
     Parse,
     /// `MachO::exports` of each image.
     Exports,
+    /// `MachO::find_export` of the name of each export of each image.
+    FindExport,
     /// `MachO::imports` of each image.
     Imports,
     /// `MachO::iter_imports` of each image, gone over to the end.
     ImportsOneByOne,
+    /// `MachO::bindings` of each image, gone over to the end.
+    Bindings,
+    /// `MachO::fixups` of each image, gone over to the end.
+    Fixups,
     /// `MachO::symbols` of each image, gone over to the end.
     Symbols,
     /// `MachO::relocations` of each image, gone over to the end.
@@ -31,11 +38,14 @@ pub enum Call {
 
 impl Call {
     /// All calls, in the order of their lines.
-    pub const ALL: [Call; 7] = [
+    pub const ALL: [Call; 10] = [
         Call::Parse,
         Call::Exports,
+        Call::FindExport,
         Call::Imports,
         Call::ImportsOneByOne,
+        Call::Bindings,
+        Call::Fixups,
         Call::Symbols,
         Call::Relocations,
         Call::LinkView,
@@ -46,8 +56,11 @@ impl Call {
         match self {
             Call::Parse => "parse",
             Call::Exports => "exports",
+            Call::FindExport => "find_export",
             Call::Imports => "imports",
             Call::ImportsOneByOne => "iter_imports",
+            Call::Bindings => "bindings",
+            Call::Fixups => "fixups",
             Call::Symbols => "symbols",
             Call::Relocations => "relocations",
             Call::LinkView => "link_view",
@@ -131,19 +144,35 @@ fn add_images<'a, A: Allocator + Clone>(
 pub struct Subject<'a, A: Allocator> {
     bytes: &'a [u8],
     images: Vec<MachO<'a, A>, A>,
+    // The exports of each image, whose names are looked up.
+    exports: Vec<Vec<Export<'a, A>, A>, A>,
     alloc: A,
 }
 
+// The exports of each image.
+fn exports_of<'a, A: Allocator + Clone>(
+    alloc: A,
+    images: &[MachO<'a, A>],
+) -> Result<Vec<Vec<Export<'a, A>, A>, A>> {
+    let mut exports = Vec::new(alloc.clone()?);
+    for image in images {
+        exports.push(image.exports(alloc.clone()?)?)?;
+    }
+    Ok(exports)
+}
+
 impl<'a, A: Allocator + Clone> Subject<'a, A> {
-    /// The file of these bytes, with its images. A fat file whose table does not lie in the bytes is refused;
-    /// of its entries those are left out that are no image or don't open.
+    /// The file of these bytes, with its images and their exports. A fat file whose table does not lie in the
+    /// bytes is refused; of its entries those are left out that are no image or don't open.
     pub fn open(alloc: A, bytes: &'a [u8]) -> Result<Subject<'a, A>>
         ensures { OnOk result ((entries : List (Result FatEntry Fault)) × HasEntries bytes.now entries) }
     {
         let images = images_of(alloc.clone()?, bytes)?;
+        let exports = exports_of(alloc.clone()?, &images)?;
         Ok(Subject {
             bytes,
             images,
+            exports,
             alloc,
         })
     }
@@ -152,13 +181,19 @@ impl<'a, A: Allocator + Clone> Subject<'a, A> {
     pub fn run(&self, call: Call) -> Result<Work> {
         match call {
             Call::Parse => self.parse(),
-            Call::Exports => self.exports(),
-            Call::Imports => self.imports(),
-            Call::ImportsOneByOne => self.imports_one_by_one(),
-            Call::Symbols => Ok(self.symbols()),
-            Call::Relocations => self.relocations(),
+            Call::FindExport => self.find_exports(),
             Call::LinkView => self.link_view(),
+            _ => self.each_image(call),
         }
+    }
+
+    // Runs a call on each image.
+    fn each_image(&self, call: Call) -> Result<Work> {
+        let mut work = Work::default();
+        for image in &self.images {
+            add_image(&mut work, &self.alloc, image, call)?;
+        }
+        Ok(work)
     }
 
     fn parse(&self) -> Result<Work> {
@@ -172,55 +207,10 @@ impl<'a, A: Allocator + Clone> Subject<'a, A> {
         })
     }
 
-    fn exports(&self) -> Result<Work> {
+    fn find_exports(&self) -> Result<Work> {
         let mut work = Work::default();
-        for image in &self.images {
-            work.add_exports(&image.exports(self.alloc.clone()?)?);
-        }
-        Ok(work)
-    }
-
-    fn imports(&self) -> Result<Work> {
-        let mut work = Work::default();
-        for image in &self.images {
-            work.add_imports(&image.imports(self.alloc.clone()?)?);
-        }
-        Ok(work)
-    }
-
-    fn imports_one_by_one(&self) -> Result<Work> {
-        let mut work = Work::default();
-        for image in &self.images {
-            for item in image.iter_imports() {
-                let import = item?;
-                work.add(1, import.address.wrapping_add(import.name.len() as u64));
-            }
-        }
-        Ok(work)
-    }
-
-    fn symbols(&self) -> Work {
-        let mut work = Work::default();
-        for image in &self.images {
-            for item in image.symbols() {
-                if let Ok((name, symbol)) = item {
-                    work.add(1, symbol.n_value.wrapping_add(name.len() as u64));
-                }
-            }
-        }
-        work
-    }
-
-    fn relocations(&self) -> Result<Work> {
-        let mut work = Work::default();
-        for image in &self.images {
-            for (_, relocations, _) in image.relocations(self.alloc.clone()?)? {
-                for item in relocations {
-                    if let Ok(relocation) = item {
-                        work.add(1, u64::from(relocation.r_info));
-                    }
-                }
-            }
+        for (image, exports) in self.images.iter().zip(self.exports.iter()) {
+            work.find_exports(&self.alloc, image, exports)?;
         }
         Ok(work)
     }
@@ -234,5 +224,120 @@ impl<'a, A: Allocator + Clone> Subject<'a, A> {
             }
         }
         Ok(work)
+    }
+}
+
+// Runs a call on an image. Those of a whole file and the look-up have functions of their own.
+fn add_image<A: Allocator + Clone>(
+    work: &mut Work,
+    alloc: &A,
+    image: &MachO<'_, A>,
+    call: Call,
+) -> Result<()> {
+    match call {
+        Call::Exports => work.list_exports(alloc, image)?,
+        Call::Imports => work.list_imports(alloc, image)?,
+        Call::ImportsOneByOne => work.import(image)?,
+        Call::Bindings => work.bind(image)?,
+        Call::Fixups => work.fix(image)?,
+        Call::Symbols => work.add_symbols(image),
+        Call::Relocations => work.relocate(alloc, image)?,
+        Call::Parse | Call::FindExport | Call::LinkView => {}
+    }
+    Ok(())
+}
+
+impl Work {
+    // Lists the exports of an image.
+    fn list_exports<A: Allocator + Clone>(
+        &mut self,
+        alloc: &A,
+        image: &MachO<'_, A>,
+    ) -> Result<()> {
+        self.add_exports(&image.exports(alloc.clone()?)?);
+        Ok(())
+    }
+
+    // Lists the imports of an image.
+    fn list_imports<A: Allocator + Clone>(
+        &mut self,
+        alloc: &A,
+        image: &MachO<'_, A>,
+    ) -> Result<()> {
+        self.add_imports(&image.imports(alloc.clone()?)?);
+        Ok(())
+    }
+
+    // Goes over the imports of an image.
+    fn import<A: Allocator>(&mut self, image: &MachO<'_, A>) -> Result<()> {
+        for item in image.iter_imports() {
+            let import = item?;
+            self.add(1, import.address.wrapping_add(import.name.len() as u64));
+        }
+        Ok(())
+    }
+
+    // Goes over the bindings of an image.
+    fn bind<A: Allocator>(&mut self, image: &MachO<'_, A>) -> Result<()> {
+        for item in image.bindings() {
+            let binding = item?;
+            self.add(1, binding.address.wrapping_add(binding.name.len() as u64));
+        }
+        Ok(())
+    }
+
+    // Goes over the fixups of an image.
+    fn fix<A: Allocator>(&mut self, image: &MachO<'_, A>) -> Result<()> {
+        for item in image.fixups() {
+            let fixup = item?;
+            self.add(1, fixup.address.wrapping_add(number_of(fixup.kind)));
+        }
+        Ok(())
+    }
+
+    // Goes over the symbols of an image.
+    fn add_symbols<A: Allocator>(&mut self, image: &MachO<'_, A>) {
+        for item in image.symbols() {
+            if let Ok((name, symbol)) = item {
+                self.add(1, symbol.n_value.wrapping_add(name.len() as u64));
+            }
+        }
+    }
+
+    // Goes over the relocations of an image.
+    fn relocate<A: Allocator + Clone>(&mut self, alloc: &A, image: &MachO<'_, A>) -> Result<()> {
+        for (_, relocations, _) in image.relocations(alloc.clone()?)? {
+            for item in relocations {
+                if let Ok(relocation) = item {
+                    self.add(1, u64::from(relocation.r_info));
+                }
+            }
+        }
+        Ok(())
+    }
+
+    // Looks up the names of an image's exports.
+    fn find_exports<A: Allocator + Clone>(
+        &mut self,
+        alloc: &A,
+        image: &MachO<'_, A>,
+        exports: &[Export<'_, A>],
+    ) -> Result<()> {
+        for export in exports {
+            let found = image.find_export(alloc.clone()?, export.name.as_str())?;
+            if found.is_some() {
+                self.add(1, export.name.len() as u64);
+            }
+        }
+        Ok(())
+    }
+}
+
+// The number of what a fixup asks for.
+fn number_of(kind: FixupKind) -> u64 {
+    match kind {
+        FixupKind::Rebase { target } => target,
+        FixupKind::Bind { import, addend: _ } => u64::from(import),
+        FixupKind::Value { value } => u64::from(value),
     }
 }

@@ -1,12 +1,16 @@
 //! What no clause says: whole tables by a clock of the tests' own, hostile bytes, and writes that fail.
 
 mod files;
+mod same;
 
 use crate::run::{run, say};
 use crate::tests::files::{ARCHIVE, FILE_B, file_c};
+use crate::tests::same::{same, same_at, same_of};
 use linked_list_allocator::LocalHeap;
+use std::alloc::Global;
 use std::cell::Cell;
 use std::io::{BufWriter, Error, ErrorKind, Result as Written, Write};
+use std::process::Abort;
 use std::test::Fail;
 use std::time::{Clock, Duration};
 
@@ -82,8 +86,11 @@ impl Clock for Broken {
 const TABLE: &str =
     "parse                2 items     500.0 ns least    1000.0 ns median     440 MB/s
 exports              2 items     500.0 ns least    1000.0 ns median     440 MB/s
+find_export          2 items     500.0 ns least    1000.0 ns median     440 MB/s
 imports              2 items     500.0 ns least    1000.0 ns median     440 MB/s
 iter_imports         2 items     500.0 ns least    1000.0 ns median     440 MB/s
+bindings             2 items     500.0 ns least    1000.0 ns median     440 MB/s
+fixups       nothing in this file
 symbols              1 items    1000.0 ns least    2000.0 ns median     440 MB/s
 relocations          1 items    1000.0 ns least    2000.0 ns median     440 MB/s
 link_view            4 items     250.0 ns least     500.0 ns median     440 MB/s
@@ -92,43 +99,53 @@ link_view            4 items     250.0 ns least     500.0 ns median     440 MB/s
 // What is said of a failed write.
 const UNWRITTEN: &[u8] = b"machbench: cannot write\n";
 
+// What is asked of a run: the bytes, the status, and what is written on both outputs.
+fn shows(
+    rt: &impl Abort,
+    alloc: Global,
+    name: &str,
+    bytes: &[u8],
+    status: u8,
+    out: &str,
+    err: &str,
+) {
+    let mut lines = Vec::new(alloc);
+    let mut reasons = Vec::new(alloc);
+    let answer = run(&Steps::new(), alloc, bytes, &mut lines, &mut reasons);
+    same_of(rt, name, answer, status);
+    same_of(rt, name, lines.as_slice(), out.as_bytes());
+    same_of(rt, name, reasons.as_slice(), err.as_bytes());
+}
+
 #[test]
-fn tables(rt: HostRuntime) -> Result<(), Fail> {
-    let alloc = rt.alloc();
-    let whole = file_c(alloc)?;
-    let rows: [(&str, &[u8], u8, &str, &str); 4] = [
-        ("file C", &whole, 0, TABLE, ""),
-        (
-            "more entries than the bytes hold",
-            &[0xca, 0xfe, 0xba, 0xbe, 0xff, 0xff, 0xff, 0xff, 0, 0, 0, 0],
-            1,
-            "",
-            "machbench: 4294967295 arches do not fit the file\n",
-        ),
-        (
-            "no bytes",
-            &[],
-            1,
-            "",
-            "machbench: malformed: a magic is 4 bytes\n",
-        ),
-        (
-            "an archive",
-            &ARCHIVE,
-            1,
-            "",
-            "machbench: bad magic 0x213c6172\n",
-        ),
-    ];
-    for (name, bytes, status, out, err) in rows {
-        let mut lines = Vec::new(alloc);
-        let mut reasons = Vec::new(alloc);
-        let answer = run(&Steps::new(), alloc, bytes, &mut lines, &mut reasons);
-        assert_eq!(rt; answer, status, "{name}");
-        assert_eq!(rt; lines.as_slice(), out.as_bytes(), "{name}");
-        assert_eq!(rt; reasons.as_slice(), err.as_bytes(), "{name}");
-    }
+fn table(rt: HostRuntime) -> Result<(), Fail> {
+    shows(
+        &rt,
+        rt.alloc(),
+        "file C",
+        &file_c(rt.alloc())?,
+        0,
+        TABLE,
+        "",
+    );
     Ok(())
+}
+
+#[test]
+fn no_tables(rt: HostRuntime) {
+    shows(
+        &rt,
+        rt.alloc(),
+        "more entries than the bytes hold",
+        &[0xca, 0xfe, 0xba, 0xbe, 0xff, 0xff, 0xff, 0xff, 0, 0, 0, 0],
+        1,
+        "",
+        "machbench: 4294967295 arches do not fit the file\n",
+    );
+    let refused = "machbench: malformed: a magic is 4 bytes\n";
+    shows(&rt, rt.alloc(), "no bytes", &[], 1, "", refused);
+    let refused = "machbench: bad magic 0x213c6172\n";
+    shows(&rt, rt.alloc(), "an archive", &ARCHIVE, 1, "", refused);
 }
 
 #[test]
@@ -136,10 +153,11 @@ fn no_clock(rt: HostRuntime) {
     let alloc = rt.alloc();
     let mut reasons = Vec::new(alloc);
     let answer = run(&Broken, alloc, &FILE_B, &mut Vec::new(alloc), &mut reasons);
-    assert_eq!(rt; answer, 2);
-    assert_eq!(rt;
+    same(&rt, answer, 2);
+    same(
+        &rt,
         reasons.as_slice(),
-        b"machbench: cannot read the clock\n".as_slice()
+        b"machbench: cannot read the clock\n".as_slice(),
     );
 }
 
@@ -152,37 +170,37 @@ fn failed_writes(rt: HostRuntime) -> Result<(), Fail> {
         let mut reasons = Vec::new(alloc);
         let answer = run(&Steps::new(), alloc, &whole, &mut out, &mut reasons);
         let said = if left < TABLE.len() { UNWRITTEN } else { b"" };
-        assert_eq!(rt; answer == 2, left < TABLE.len(), "after {left} bytes");
-        assert_eq!(rt; reasons.as_slice(), said, "after {left} bytes");
+        same_at(&rt, left, answer == 2, left < TABLE.len());
+        same_at(&rt, left, reasons.as_slice(), said);
     }
-    let answer = run(
-        &Steps::new(),
-        alloc,
-        &[],
-        &mut Vec::new(alloc),
-        &mut Full { left: 3 },
-    );
-    assert_eq!(rt; answer, 2);
     Ok(())
 }
 
 #[test]
-fn says(rt: HostRuntime) -> Result<(), Fail> {
+fn failed_words(rt: HostRuntime) {
+    let mut out = Vec::new(rt.alloc());
+    let mut err = Full { left: 3 };
+    let answer = run(&Steps::new(), rt.alloc(), &[], &mut out, &mut err);
+    same(&rt, answer, 2);
+}
+
+#[test]
+fn says(rt: HostRuntime) {
     let alloc = rt.alloc();
     let mut lines = Vec::new(alloc);
     let mut reasons = Vec::new(alloc);
-    assert_eq!(rt; say(crate::VERSION, &mut lines, &mut reasons), 0);
-    assert_eq!(rt; lines.as_slice(), b"machbench 0.1.0\n".as_slice());
-    assert_eq!(rt; reasons.len(), 0);
+    same(&rt, say(crate::VERSION, &mut lines, &mut reasons), 0);
+    same(&rt, lines.as_slice(), b"machbench 0.1.0\n".as_slice());
+    same(&rt, reasons.len(), 0);
+}
+
+#[test]
+fn unsaid(rt: HostRuntime) -> Result<(), Fail> {
     for left in 0..crate::HELP.len() {
-        let mut out = BufWriter::new(alloc, Full { left })?;
-        let mut reasons = Vec::new(alloc);
-        assert_eq!(rt;
-            say(crate::HELP, &mut out, &mut reasons),
-            2,
-            "after {left} bytes"
-        );
-        assert_eq!(rt; reasons.as_slice(), UNWRITTEN, "after {left} bytes");
+        let mut out = BufWriter::new(rt.alloc(), Full { left })?;
+        let mut reasons = Vec::new(rt.alloc());
+        same_at(&rt, left, say(crate::HELP, &mut out, &mut reasons), 2);
+        same_at(&rt, left, reasons.as_slice(), UNWRITTEN);
     }
     Ok(())
 }
@@ -198,18 +216,19 @@ fn want_of_memory(rt: HostRuntime) -> Result<(), Fail> {
         let mut reasons = Vec::new(rt.alloc());
         let answer = run(&Steps::new(), &heap, &whole, &mut lines, &mut reasons);
         if answer == 0 {
-            assert_eq!(rt; lines.as_slice(), TABLE.as_bytes());
+            same(&rt, lines.as_slice(), TABLE.as_bytes());
             timed = timed.saturating_add(1);
         } else {
-            assert_eq!(rt; (answer, timed), (1, 0), "{size}");
-            assert_eq!(rt;
+            same_at(&rt, size, (answer, timed), (1, 0));
+            same(
+                &rt,
                 reasons.as_slice(),
-                b"machbench: out of memory\n".as_slice()
+                b"machbench: out of memory\n".as_slice(),
             );
             refused = refused.saturating_add(1);
         }
     }
-    assert!(rt; refused > 2);
-    assert!(rt; timed > 0);
+    same(&rt, refused > 2, true);
+    same(&rt, timed > 0, true);
     Ok(())
 }

@@ -1,15 +1,20 @@
 //! What the program prints of some bytes, and its exit status.
 
-ghost use Rattle.std.specs.Prelude.{◌≡◌, ◌≤◌, ◌↔◌, OnOk, codes};
+ghost use Rattle.std.specs.Prelude.{◌≡◌, ◌≤◌, ◌↔◌, List, OnOk, codes};
+ghost use Rattle.mach_dyld.specs.Exports.{info_of, texts};
+ghost use Rattle.mach_dyld.specs.Trie.{Entry, offset_of};
+ghost use Rattle.mach_dyld.specs.TrieRange.{ListsExports};
 ghost use Rattle.goblin_mach.specs.Image.{Opens, MachOpens};
+ghost use Rattle.goblin_mach.specs.OpenImage.{trie_held};
+ghost use Rattle.goblin_mach.specs.Subjects.{trie_or_empty};
 
-use goblin_mach::exports::Export;
+use goblin_mach::exports::ExportInfo;
 use goblin_mach::imports::Import;
 use goblin_mach::load_command::{LoadCommand, LoadCommandHeader};
 use goblin_mach::{Error, Mach, MachO, MultiArch, SingleArch};
 use std::alloc::{AllocError, Allocator};
-use std::io;
 use std::io::{BufWriter, Write};
+use std::{fmt, io};
 
 /// What is asked of a file: the program's first argument.
 #[derive(Clone, Copy, Debug, PartialEq)]
@@ -40,7 +45,7 @@ impl Word {
 
 /// Prints what the word asks of the bytes, and answers the exit status: 0; 1 where the file is refused,
 /// and then `err` has the reason and `out` nothing, or where an entry of a fat file is; 2 where a write
-/// fails.
+/// fails. That memory is refused may be told behind some lines of exports, since no list of them is kept.
 pub fn run<A: Allocator + Clone, O: Write, E: Write>(
     alloc: A,
     word: Word,
@@ -55,29 +60,61 @@ pub fn run<A: Allocator + Clone, O: Write, E: Write>(
         Ok(true) => 0,
         Ok(false) => 1,
         Err(Failure::Unwritten) => 2,
-        Err(Failure::Refused(error)) => match writeln!(err, "machdump: {}", reason(&error)) {
+        Err(Failure::Refused(reason)) => match writeln!(err, "machdump: {reason}") {
             Ok(()) => 1,
             Err(_) => 2,
         },
     }
 }
 
+// Why a file or an entry is refused.
+#[derive(Clone, Copy)]
+enum Reason {
+    Malformed,
+    BadMagic,
+    Bytes,
+    Memory,
+}
+
+impl Reason {
+    // Why, by an error.
+    fn of(error: &Error) -> Reason {
+        match error {
+            Error::Malformed(_) => Reason::Malformed,
+            Error::BadMagic(_) => Reason::BadMagic,
+            Error::Scroll(_) | Error::BufferTooShort(..) => Reason::Bytes,
+            Error::Memory(_) => Reason::Memory,
+        }
+    }
+}
+
+impl fmt::Display for Reason {
+    fn fmt<W: fmt::Write>(&self, f: &mut fmt::Formatter<W>) -> fmt::Result {
+        match self {
+            Reason::Malformed => write!(f, "malformed"),
+            Reason::BadMagic => write!(f, "bad magic"),
+            Reason::Bytes => write!(f, "short or bad bytes"),
+            Reason::Memory => write!(f, "out of memory"),
+        }
+    }
+}
+
 // Why the lines were not all printed.
-#[derive(Drop)]
+#[derive(Clone, Copy)]
 enum Failure {
-    Refused(Error),
+    Refused(Reason),
     Unwritten,
 }
 
 impl From<Error> for Failure {
     fn from(error: Error) -> Failure {
-        Failure::Refused(error)
+        Failure::Refused(Reason::of(&error))
     }
 }
 
 impl From<AllocError> for Failure {
-    fn from(error: AllocError) -> Failure {
-        Failure::Refused(Error::from(error))
+    fn from(_error: AllocError) -> Failure {
+        Failure::Refused(Reason::Memory)
     }
 }
 
@@ -98,9 +135,8 @@ fn print<A: Allocator + Clone, O: Write>(
 {
     match Mach::parse(alloc.clone()?, bytes)? {
         Mach::Binary(image) => {
-            let listed = Listed::of(alloc.clone()?, word, image)?;
-            let mut lines = buffered(alloc, out)?;
-            listed.print(&mut lines)?;
+            let mut lines = buffered(alloc.clone()?, out)?;
+            print_image(&alloc, word, &image, &mut lines)?;
             lines.flush()?;
             Ok(true)
         }
@@ -120,63 +156,51 @@ fn print_entries<A: Allocator + Clone, O: Write>(
     word: Word,
     container: &MultiArch<'_, A>,
     out: &mut O,
-) -> io::Result<bool> {
+) -> Result<bool, Failure> {
     let mut whole = true;
     for index in 0..container.narches {
         writeln!(out, "arch {index}")?;
-        match listed_entry(alloc, word, container, index) {
-            Ok(listed) => listed.print(out)?,
-            Err(error) => {
-                writeln!(out, "refused: {}", reason(&error))?;
-                whole = false;
-            }
+        if let Err(failure) = print_entry(alloc, word, container, index, out) {
+            let Failure::Refused(reason) = failure else {
+                return Err(failure);
+            };
+            writeln!(out, "refused: {reason}")?;
+            whole = false;
         }
     }
     Ok(whole)
 }
 
-// What the word asks of an entry.
-fn listed_entry<'a, A: Allocator + Clone>(
+// Prints what the word asks of an entry.
+fn print_entry<A: Allocator + Clone, O: Write>(
     alloc: &A,
     word: Word,
-    container: &MultiArch<'a, A>,
+    container: &MultiArch<'_, A>,
     index: usize,
-) -> goblin_mach::Result<Listed<'a, A>> {
+    out: &mut O,
+) -> Result<(), Failure> {
     match container.get(index)? {
-        SingleArch::MachO(image) => Listed::of(alloc.clone()?, word, image),
-        SingleArch::Archive(_) => Ok(Listed::Archive),
+        SingleArch::MachO(image) => print_image(alloc, word, &image, out),
+        SingleArch::Archive(_) => Ok(writeln!(out, "archive")?),
     }
 }
 
-// What is printed of an image or an archive.
-#[derive(Drop)]
-enum Listed<'a, A: Allocator> {
-    Commands(Vec<LoadCommand, A>),
-    Exports(Vec<Export<'a, A>, A>),
-    Imports(Vec<Import<'a>, A>),
-    Archive,
-}
-
-impl<'a, A: Allocator + Clone> Listed<'a, A> {
-    // The one list of an image that the word asks for.
-    fn of(alloc: A, word: Word, image: MachO<'a, A>) -> goblin_mach::Result<Listed<'a, A>> {
-        match word {
-            Word::Commands => Ok(Listed::Commands(image.load_commands)),
-            Word::Exports => Ok(Listed::Exports(image.exports(alloc)?)),
-            Word::Imports => Ok(Listed::Imports(image.imports(alloc)?)),
+// Prints the one list of an image that the word asks for; nothing where it is refused for a fault.
+fn print_image<A: Allocator + Clone, O: Write>(
+    alloc: &A,
+    word: Word,
+    image: &MachO<'_, A>,
+    out: &mut O,
+) -> Result<(), Failure> {
+    match word {
+        Word::Commands => print_commands(out, &image.load_commands)?,
+        Word::Exports => {
+            walk_over(alloc, image)?;
+            print_exports(alloc, image, out)?;
         }
+        Word::Imports => print_imports(out, &image.imports(alloc.clone()?)?)?,
     }
-}
-
-impl<'a, A: Allocator> Listed<'a, A> {
-    fn print<O: Write>(&self, out: &mut O) -> io::Result<()> {
-        match self {
-            Listed::Commands(commands) => print_commands(out, commands),
-            Listed::Exports(exports) => print_exports(out, exports),
-            Listed::Imports(imports) => print_imports(out, imports),
-            Listed::Archive => writeln!(out, "archive"),
-        }
-    }
+    Ok(())
 }
 
 // A writer that gathers lines.
@@ -198,9 +222,39 @@ fn print_commands<O: Write>(out: &mut O, commands: &[LoadCommand]) -> io::Result
     Ok(())
 }
 
-fn print_exports<A: Allocator, O: Write>(out: &mut O, exports: &[Export<'_, A>]) -> io::Result<()> {
-    for export in exports {
-        writeln!(out, "{:#x} {}", export.offset, export.name)?;
+// Goes over the exports of an image, of which none is kept: Ok where they have a list.
+fn walk_over<A: Allocator + Clone>(alloc: &A, image: &MachO<'_, A>) -> goblin_mach::Result<()>
+    ensures { OnOk result ((list : List Entry) × ListsExports (trie_or_empty (trie_held image.now)) (texts image.now.libs.items) list) }
+{
+    let mut walk = image.walk_exports(alloc.clone()?)?;
+    'exports: while let Some(export) = walk.next() {
+        if let Err(error) = export {
+            return Err(error);
+        }
+    }
+    Ok(())
+}
+
+// The address of an export, counted from the image's start: that of a regular one, else 0.
+fn offset(info: &ExportInfo<'_>) -> u64
+    ensures { result ≡ offset_of (info_of info.now) }
+{
+    match info {
+        ExportInfo::Regular { address, .. } => *address,
+        ExportInfo::Reexport { .. } | ExportInfo::Stub { .. } => 0,
+    }
+}
+
+// Prints the exports of an image, one after the other.
+fn print_exports<A: Allocator + Clone, O: Write>(
+    alloc: &A,
+    image: &MachO<'_, A>,
+    out: &mut O,
+) -> Result<(), Failure> {
+    let mut walk = image.walk_exports(alloc.clone()?)?;
+    'exports: while let Some(export) = walk.next() {
+        let (name, info) = export?;
+        writeln!(out, "{:#x} {}", offset(&info), name)?;
     }
     Ok(())
 }
@@ -214,14 +268,4 @@ fn print_imports<O: Write>(out: &mut O, imports: &[Import<'_>]) -> io::Result<()
         )?;
     }
     Ok(())
-}
-
-// The word for an error.
-fn reason(error: &Error) -> &'static str {
-    match error {
-        Error::Malformed(_) => "malformed",
-        Error::BadMagic(_) => "bad magic",
-        Error::Scroll(_) | Error::BufferTooShort(..) => "short or bad bytes",
-        Error::Memory(_) => "out of memory",
-    }
 }

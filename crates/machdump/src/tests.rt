@@ -1,6 +1,9 @@
 //! What the program prints, and its status.
 
+mod same;
+
 use crate::run::{Word, run};
+use crate::tests::same::{same, same_at, same_of};
 use std::test::Fail;
 use test_files::{ARCHIVE, FILE_A, FILE_B, File, file_c};
 
@@ -158,11 +161,24 @@ fn lines(rt: HostRuntime) -> Result<(), Fail> {
         let mut lines = Vec::new(alloc);
         let mut reasons = Vec::new(alloc);
         let answer = run(alloc, row.word, &bytes, &mut lines, &mut reasons);
-        assert_eq!(rt; answer, row.status, "{}", row.name);
-        assert_eq!(rt; lines.as_slice(), row.out.as_bytes(), "{}", row.name);
-        assert_eq!(rt; reasons.as_slice(), row.err.as_bytes(), "{}", row.name);
+        same_of(&rt, row.name, answer, row.status);
+        same_of(&rt, row.name, lines.as_slice(), row.out.as_bytes());
+        same_of(&rt, row.name, reasons.as_slice(), row.err.as_bytes());
     }
     Ok(())
+}
+
+// The trie lists an export before a branch that leads back to its root: nothing of it is printed.
+#[test]
+fn refused_exports(rt: HostRuntime) {
+    let mut file = FILE_B;
+    file[0x14c] = 0;
+    let mut lines = Vec::new(rt.alloc());
+    let mut reasons = Vec::new(rt.alloc());
+    let answer = run(rt.alloc(), Word::Exports, &file, &mut lines, &mut reasons);
+    same(&rt, answer, 1);
+    same(&rt, lines.len(), 0);
+    same(&rt, reasons.as_slice(), b"machdump: malformed\n".as_slice());
 }
 
 // The output is written whole or the status is 2: of an image, and of both kinds of entry of a fat file.
@@ -170,16 +186,20 @@ fn lines(rt: HostRuntime) -> Result<(), Fail> {
 fn a_failed_write(rt: HostRuntime) -> Result<(), Fail> {
     let alloc = rt.alloc();
     let fat = file_c(alloc)?;
-    let files: [(Word, &[u8]); 2] = [(Word::Commands, &FILE_A), (Word::Imports, &fat)];
+    let files: [(Word, &[u8]); 3] = [
+        (Word::Commands, &FILE_A),
+        (Word::Imports, &fat),
+        (Word::Exports, &fat),
+    ];
     for (word, bytes) in files {
         let mut lines = Vec::new(alloc);
         let whole = run(alloc, word, bytes, &mut lines, &mut Vec::new(alloc));
-        assert_eq!(rt; whole, 0);
+        same(&rt, whole, 0);
         for left in 0..=lines.len() {
             let mut reasons = Vec::new(alloc);
             let answer = run(alloc, word, bytes, &mut Full { left }, &mut reasons);
-            assert_eq!(rt; answer == 2, left < lines.len(), "after {left} bytes");
-            assert!(rt; reasons.is_empty());
+            same_at(&rt, left, answer == 2, left < lines.len());
+            same_at(&rt, left, reasons.len(), 0);
         }
     }
     Ok(())
@@ -187,8 +207,8 @@ fn a_failed_write(rt: HostRuntime) -> Result<(), Fail> {
 
 #[test]
 fn words(rt: HostRuntime) {
-    assert_eq!(rt; Word::parse("commands"), Some(Word::Commands));
-    assert_eq!(rt; Word::parse("exports"), Some(Word::Exports));
-    assert_eq!(rt; Word::parse("imports"), Some(Word::Imports));
-    assert_eq!(rt; Word::parse("command"), None);
+    same(&rt, Word::parse("commands"), Some(Word::Commands));
+    same(&rt, Word::parse("exports"), Some(Word::Exports));
+    same(&rt, Word::parse("imports"), Some(Word::Imports));
+    same(&rt, Word::parse("command"), None);
 }

@@ -1,16 +1,20 @@
 //! What no clause says: whole outputs, hostile bytes, and writes that fail.
 
 mod files;
+mod same;
 mod scarce;
 
 use crate::entry::write_entry;
 use crate::place::is_same_file;
 use crate::run::{run_extract, run_list, say, status};
 use crate::tests::files::{ARCHIVE, FILE_B, file_c};
+use crate::tests::same::{same, same_at, same_of};
 use crate::tests::scarce::Scarce;
 use linked_list_allocator::LocalHeap;
+use std::alloc::{AllocError, Global};
 use std::io::{BufWriter, Error, ErrorKind, Result as Written, Write};
 use std::path::PathBuf;
+use std::process::Abort;
 use std::test::Fail;
 use std::{env, fs, process};
 
@@ -44,149 +48,204 @@ arch 1: cputype 0x100000c, cpusubtype 0x0, offset 424, size 16, align 2^0, archi
 // What is said of a failed write.
 const UNWRITTEN: &[u8] = b"machfat: cannot write\n";
 
+// File C without its last byte.
+fn cut_file(alloc: Global) -> Result<Vec<u8>, AllocError> {
+    let mut bytes = file_c(alloc)?;
+    bytes.truncate(439);
+    Ok(bytes)
+}
+
+// What is asked of a list: the bytes, the status, and what is written on both outputs.
+fn lists(
+    rt: &impl Abort,
+    alloc: Global,
+    name: &str,
+    bytes: &[u8],
+    status: u8,
+    out: &str,
+    err: &str,
+) {
+    let mut lines = Vec::new(alloc);
+    let mut reasons = Vec::new(alloc);
+    let answer = run_list(alloc, bytes, &mut lines, &mut reasons);
+    same_of(rt, name, answer, status);
+    same_of(rt, name, lines.as_slice(), out.as_bytes());
+    same_of(rt, name, reasons.as_slice(), err.as_bytes());
+}
+
 #[test]
-fn lists(rt: HostRuntime) -> Result<(), Fail> {
-    let alloc = rt.alloc();
-    let whole = file_c(alloc)?;
-    let Some(cut) = whole.get(..439) else {
-        return Err(Fail::from("440 bytes"));
-    };
-    let rows: [(&str, &[u8], u8, &str, &str); 5] = [
-        ("file C", &whole, 0, LINES, ""),
-        (
-            "file C, cut",
-            cut,
-            0,
-            "arch 0: cputype 0x1000007, cpusubtype 0x3, offset 48, size 376, align 2^4, image
-arch 1: cputype 0x100000c, cpusubtype 0x0, offset 424, size 16, align 2^0, too short
-",
-            "",
-        ),
-        (
-            "no entries",
-            &[0xca, 0xfe, 0xba, 0xbe, 0, 0, 0, 0],
-            0,
-            "",
-            "",
-        ),
-        ("file B", &FILE_B, 1, "", "machfat: not a fat file\n"),
-        (
-            "no bytes",
-            &[],
-            1,
-            "",
-            "machfat: malformed: a magic is 4 bytes\n",
-        ),
-    ];
-    for (name, bytes, status, out, err) in rows {
-        let mut lines = Vec::new(alloc);
-        let mut reasons = Vec::new(alloc);
-        let answer = run_list(alloc, bytes, &mut lines, &mut reasons);
-        assert_eq!(rt; answer, status, "{name}");
-        assert_eq!(rt; lines.as_slice(), out.as_bytes(), "{name}");
-        assert_eq!(rt; reasons.as_slice(), err.as_bytes(), "{name}");
-    }
+fn lists_of_records(rt: HostRuntime) -> Result<(), Fail> {
+    lists(
+        &rt,
+        rt.alloc(),
+        "file C",
+        &file_c(rt.alloc())?,
+        0,
+        LINES,
+        "",
+    );
     Ok(())
+}
+
+#[test]
+fn list_of_a_cut_file(rt: HostRuntime) -> Result<(), Fail> {
+    let lines = "arch 0: cputype 0x1000007, cpusubtype 0x3, offset 48, size 376, align 2^4, image
+arch 1: cputype 0x100000c, cpusubtype 0x0, offset 424, size 16, align 2^0, too short
+";
+    lists(
+        &rt,
+        rt.alloc(),
+        "file C, cut",
+        &cut_file(rt.alloc())?,
+        0,
+        lines,
+        "",
+    );
+    Ok(())
+}
+
+#[test]
+fn other_lists(rt: HostRuntime) {
+    let none = [0xca, 0xfe, 0xba, 0xbe, 0, 0, 0, 0];
+    lists(&rt, rt.alloc(), "no entries", &none, 0, "", "");
+    let refused = "machfat: not a fat file\n";
+    lists(&rt, rt.alloc(), "file B", &FILE_B, 1, "", refused);
+    let refused = "machfat: malformed: a magic is 4 bytes\n";
+    lists(&rt, rt.alloc(), "no bytes", &[], 1, "", refused);
+}
+
+// What is asked of an entry: the bytes, its index, the status, and what is written of it and of its refusal.
+fn writes(
+    rt: &impl Abort,
+    alloc: Global,
+    bytes: &[u8],
+    index: usize,
+    wanted: u8,
+    entry: &[u8],
+    err: &str,
+) {
+    let mut written = Vec::new(alloc);
+    let mut reasons = Vec::new(alloc);
+    let answer = write_entry(alloc, bytes, index, &mut written);
+    same_of(rt, err, status(answer, "", &mut reasons), wanted);
+    same_of(rt, err, written.as_slice(), entry);
+    same_of(rt, err, reasons.as_slice(), err.as_bytes());
 }
 
 #[test]
 fn entries(rt: HostRuntime) -> Result<(), Fail> {
-    let alloc = rt.alloc();
-    let whole = file_c(alloc)?;
-    let Some(cut) = whole.get(..439) else {
-        return Err(Fail::from("440 bytes"));
-    };
-    let rows: [(&str, &[u8], usize, u8, &[u8], &str); 5] = [
-        ("the image", &whole, 0, 0, &FILE_B, ""),
-        ("the archive", &whole, 1, 0, &ARCHIVE, ""),
-        ("no entry", &whole, 2, 1, &[], "machfat: no entry 2\n"),
-        (
-            "an entry that is cut",
-            cut,
-            1,
-            1,
-            &[],
-            "machfat: entry 1 is out of the file\n",
-        ),
-        ("one image", &FILE_B, 0, 1, &[], "machfat: not a fat file\n"),
-    ];
-    for (name, bytes, index, wanted, out, err) in rows {
-        let mut written = Vec::new(alloc);
-        let mut reasons = Vec::new(alloc);
-        let answer = write_entry(alloc, bytes, index, &mut written);
-        assert_eq!(rt; status(answer, "", &mut reasons), wanted, "{name}");
-        assert_eq!(rt; written.as_slice(), out, "{name}");
-        assert_eq!(rt; reasons.as_slice(), err.as_bytes(), "{name}");
-    }
+    let whole = file_c(rt.alloc())?;
+    writes(&rt, rt.alloc(), &whole, 0, 0, &FILE_B, "");
+    writes(&rt, rt.alloc(), &whole, 1, 0, &ARCHIVE, "");
+    writes(&rt, rt.alloc(), &whole, 2, 1, &[], "machfat: no entry 2\n");
     Ok(())
+}
+
+#[test]
+fn no_entries(rt: HostRuntime) -> Result<(), Fail> {
+    let refused = "machfat: entry 1 is out of the file\n";
+    writes(&rt, rt.alloc(), &cut_file(rt.alloc())?, 1, 1, &[], refused);
+    writes(
+        &rt,
+        rt.alloc(),
+        &FILE_B,
+        0,
+        1,
+        &[],
+        "machfat: not a fat file\n",
+    );
+    Ok(())
+}
+
+// A front of a file gives an answer, and reasons where that isn't 0.
+fn lists_prefixes(rt: &impl Abort, alloc: Global, file: &[u8]) {
+    for length in 0..file.len() {
+        let mut lines = Vec::new(alloc);
+        let mut reasons = Vec::new(alloc);
+        let answer = run_list(alloc, &file[..length], &mut lines, &mut reasons);
+        same_at(rt, length, answer <= 1, true);
+        same_at(rt, length, reasons.is_empty(), answer == 0);
+    }
+}
+
+// The same of an entry.
+fn writes_prefixes(rt: &impl Abort, alloc: Global, file: &[u8], index: usize) {
+    for length in 0..file.len() {
+        let mut entry = Vec::new(alloc);
+        let mut reasons = Vec::new(alloc);
+        let answer = write_entry(alloc, &file[..length], index, &mut entry);
+        let answer = status(answer, "", &mut reasons);
+        same_at(rt, length, answer <= 1, true);
+        same_at(rt, length, entry.is_empty(), answer == 1);
+    }
 }
 
 #[test]
 fn prefixes(rt: HostRuntime) -> Result<(), Fail> {
-    let alloc = rt.alloc();
-    let whole = file_c(alloc)?;
-    let files: [&[u8]; 2] = [&FILE_B, &whole];
-    for file in files {
-        for length in 0..file.len() {
-            let mut lines = Vec::new(alloc);
-            let mut reasons = Vec::new(alloc);
-            let answer = run_list(alloc, &file[..length], &mut lines, &mut reasons);
-            assert!(rt; answer <= 1, "{length} bytes");
-            assert_eq!(rt; reasons.is_empty(), answer == 0, "{length} bytes");
-            for index in 0..3 {
-                let mut entry = Vec::new(alloc);
-                let mut reasons = Vec::new(alloc);
-                let answer = write_entry(alloc, &file[..length], index, &mut entry);
-                let answer = status(answer, "", &mut reasons);
-                assert!(rt; answer <= 1, "{length} bytes");
-                assert_eq!(rt; entry.is_empty(), answer == 1, "{length} bytes");
-            }
-        }
+    let whole = file_c(rt.alloc())?;
+    lists_prefixes(&rt, rt.alloc(), &FILE_B);
+    lists_prefixes(&rt, rt.alloc(), &whole);
+    for index in 0..3 {
+        writes_prefixes(&rt, rt.alloc(), &FILE_B, index);
+        writes_prefixes(&rt, rt.alloc(), &whole, index);
     }
     Ok(())
 }
 
 #[test]
-fn failed_writes(rt: HostRuntime) -> Result<(), Fail> {
-    let alloc = rt.alloc();
-    let whole = file_c(alloc)?;
+fn failed_writes_of_lists(rt: HostRuntime) -> Result<(), Fail> {
+    let whole = file_c(rt.alloc())?;
     for left in 0..=LINES.len() {
-        let mut out = BufWriter::new(alloc, Full { left })?;
-        let mut reasons = Vec::new(alloc);
-        let answer = run_list(alloc, &whole, &mut out, &mut reasons);
+        let mut out = BufWriter::new(rt.alloc(), Full { left })?;
+        let mut reasons = Vec::new(rt.alloc());
+        let answer = run_list(rt.alloc(), &whole, &mut out, &mut reasons);
         let said = if left < LINES.len() { UNWRITTEN } else { b"" };
-        assert_eq!(rt; answer == 2, left < LINES.len(), "after {left} bytes");
-        assert_eq!(rt; reasons.as_slice(), said, "after {left} bytes");
+        same_at(&rt, left, answer == 2, left < LINES.len());
+        same_at(&rt, left, reasons.as_slice(), said);
     }
-    for left in 0..ARCHIVE.len() {
-        let mut out = BufWriter::new(alloc, Full { left })?;
-        let mut reasons = Vec::new(alloc);
-        let answer = write_entry(alloc, &whole, 1, &mut out);
-        assert_eq!(rt; status(answer, "", &mut reasons), 2, "after {left} bytes");
-        assert_eq!(rt; reasons.as_slice(), UNWRITTEN, "after {left} bytes");
-    }
-    let answer = run_list(alloc, &[], &mut Vec::new(alloc), &mut Full { left: 3 });
-    assert_eq!(rt; answer, 2);
     Ok(())
 }
 
 #[test]
-fn says(rt: HostRuntime) -> Result<(), Fail> {
+fn failed_writes_of_entries(rt: HostRuntime) -> Result<(), Fail> {
+    let whole = file_c(rt.alloc())?;
+    for left in 0..ARCHIVE.len() {
+        let mut out = BufWriter::new(rt.alloc(), Full { left })?;
+        let mut reasons = Vec::new(rt.alloc());
+        let answer = write_entry(rt.alloc(), &whole, 1, &mut out);
+        same_at(&rt, left, status(answer, "", &mut reasons), 2);
+        same_at(&rt, left, reasons.as_slice(), UNWRITTEN);
+    }
+    Ok(())
+}
+
+#[test]
+fn failed_words(rt: HostRuntime) {
+    let mut out = Vec::new(rt.alloc());
+    same(
+        &rt,
+        run_list(rt.alloc(), &[], &mut out, &mut Full { left: 3 }),
+        2,
+    );
+}
+
+#[test]
+fn says(rt: HostRuntime) {
     let alloc = rt.alloc();
     let mut lines = Vec::new(alloc);
     let mut reasons = Vec::new(alloc);
-    assert_eq!(rt; say(crate::VERSION, &mut lines, &mut reasons), 0);
-    assert_eq!(rt; lines.as_slice(), b"machfat 0.1.0\n".as_slice());
-    assert_eq!(rt; reasons.len(), 0);
+    same(&rt, say(crate::VERSION, &mut lines, &mut reasons), 0);
+    same(&rt, lines.as_slice(), b"machfat 0.1.0\n".as_slice());
+    same(&rt, reasons.len(), 0);
+}
+
+#[test]
+fn unsaid(rt: HostRuntime) -> Result<(), Fail> {
     for left in 0..crate::USAGE.len() {
-        let mut out = BufWriter::new(alloc, Full { left })?;
-        let mut reasons = Vec::new(alloc);
-        assert_eq!(rt;
-            say(crate::USAGE, &mut out, &mut reasons),
-            2,
-            "after {left} bytes"
-        );
-        assert_eq!(rt; reasons.as_slice(), UNWRITTEN, "after {left} bytes");
+        let mut out = BufWriter::new(rt.alloc(), Full { left })?;
+        let mut reasons = Vec::new(rt.alloc());
+        same_at(&rt, left, say(crate::USAGE, &mut out, &mut reasons), 2);
+        same_at(&rt, left, reasons.as_slice(), UNWRITTEN);
     }
     Ok(())
 }
@@ -202,17 +261,21 @@ fn want_of_memory(rt: HostRuntime) -> Result<(), Fail> {
         let mut reasons = Vec::new(rt.alloc());
         let answer = run_list(&heap, &whole, &mut lines, &mut reasons);
         if answer == 0 {
-            assert_eq!(rt; lines.as_slice(), LINES.as_bytes());
+            same(&rt, lines.as_slice(), LINES.as_bytes());
             listed = listed.saturating_add(1);
         } else {
-            assert_eq!(rt; (answer, listed), (1, 0), "{size}");
-            assert_eq!(rt; reasons.as_slice(), b"machfat: out of memory\n".as_slice());
-            assert!(rt; lines.is_empty(), "{size}");
+            same_at(&rt, size, (answer, listed), (1, 0));
+            same(
+                &rt,
+                reasons.as_slice(),
+                b"machfat: out of memory\n".as_slice(),
+            );
+            same_at(&rt, size, lines.is_empty(), true);
             refused = refused.saturating_add(1);
         }
     }
-    assert!(rt; refused > 0);
-    assert!(rt; listed > 0);
+    same(&rt, refused > 0, true);
+    same(&rt, listed > 0, true);
     Ok(())
 }
 
@@ -252,10 +315,10 @@ fn extracts(rt: HostRuntime) -> Result<(), Fail> {
     for (index, status, entry, err) in rows {
         let mut reasons = Vec::new(alloc);
         let answer = run_extract(&rt, alloc, &whole, index, out, &mut reasons);
-        assert_eq!(rt; answer, status, "entry {index}");
-        assert_eq!(rt; reasons.as_slice(), err.as_bytes(), "entry {index}");
-        assert_eq!(rt; fs::read(&rt, out)?.as_slice(), entry, "entry {index}");
-        assert_eq!(rt; count(&rt, &folder)?, 1, "entry {index}");
+        same_at(&rt, index, answer, status);
+        same_at(&rt, index, reasons.as_slice(), err.as_bytes());
+        same_at(&rt, index, fs::read(&rt, out)?.as_slice(), entry);
+        same_at(&rt, index, count(&rt, &folder)?, 1);
     }
     fs::remove_dir_all(&rt, &folder)?;
     Ok(())
@@ -280,16 +343,20 @@ fn failed_extracts(rt: HostRuntime) -> Result<(), Fail> {
         };
         let mut reasons = Vec::new(alloc);
         let answer = run_extract(&files, alloc, &whole, 1, out, &mut reasons);
-        assert_eq!(rt; answer, 2, "after {left} bytes");
-        assert_eq!(rt; reasons.as_slice(), said.as_bytes(), "after {left} bytes");
-        assert_eq!(rt; fs::read(&rt, out)?.as_slice(), b"before".as_slice());
-        assert_eq!(rt; count(&rt, &folder)?, 1, "after {left} bytes");
+        same_at(&rt, left, answer, 2);
+        same_at(&rt, left, reasons.as_slice(), said.as_bytes());
+        same(&rt, fs::read(&rt, out)?.as_slice(), b"before".as_slice());
+        same_at(&rt, left, count(&rt, &folder)?, 1);
     }
     let Some(place) = folder.to_str() else {
         return Err(Fail::from("a path is text"));
     };
     let mut reasons = Vec::new(alloc);
-    assert_eq!(rt; run_extract(&rt, alloc, &whole, 1, place, &mut reasons), 2);
+    same(
+        &rt,
+        run_extract(&rt, alloc, &whole, 1, place, &mut reasons),
+        2,
+    );
     fs::remove_dir_all(&rt, &folder)?;
     Ok(())
 }
@@ -303,12 +370,12 @@ fn same_files(rt: HostRuntime) -> Result<(), Fail> {
     let (Some(one), Some(two)) = (one.to_str(), two.to_str()) else {
         return Err(Fail::from("a path is text"));
     };
-    assert!(rt; is_same_file(&rt, one, one));
-    assert!(rt; !is_same_file(&rt, one, two));
+    same(&rt, is_same_file(&rt, one, one), true);
+    same(&rt, is_same_file(&rt, one, two), false);
     fs::write(&rt, one, "one")?;
-    assert!(rt; !is_same_file(&rt, one, two));
+    same(&rt, is_same_file(&rt, one, two), false);
     fs::hard_link(&rt, one, two)?;
-    assert!(rt; is_same_file(&rt, one, two));
+    same(&rt, is_same_file(&rt, one, two), true);
     fs::remove_dir_all(&rt, &folder)?;
     Ok(())
 }

@@ -1,7 +1,9 @@
+mod counts;
 mod imports;
 mod payloads;
 mod pointers;
 mod rows;
+mod same;
 mod segments;
 mod starts;
 mod text;

@@ -1,6 +1,7 @@
 //! The worked rows of docs/FORMAT.md on whole files, and what no clause says.
 
 mod answers;
+mod bindings;
 mod by_hand;
 mod callers;
 mod chain;

@@ -1,6 +1,7 @@
 //! Lists of thousands. A contract can't rule out that one is refused for want of memory; here there is
 //! memory to spare, so each is answered whole.
 
+mod bindings;
 mod binds;
 mod build;
 mod commands;
@@ -9,3 +10,4 @@ mod fat;
 mod same;
 mod segments;
 mod symbols;
+mod walks;

@@ -103,7 +103,7 @@ impl<'a, A: Allocator + Clone> MachO<'a, A> {
 }
 
 impl<'a, A: Allocator> MachO<'a, A> {
-    ghost use Rattle.goblin_mach.specs.OpenImage.{commands_of, IsMadeOf};
+    ghost use Rattle.goblin_mach.specs.OpenImage.{IsMadeOf};
 
     // The image of what was read.
     fn of(bytes: &'a [u8], opened: Opened<A>, fields: Fields<'a, A>) -> MachO<'a, A>

@@ -1,11 +1,10 @@
 //! What strict and lossy mode read alike: the header, the commands and the entry.
 
-ghost use Rattle.std.specs.Prelude.{◌≡◌, map, Ok, IfOk, IfErr};
+ghost use Rattle.std.specs.Prelude.{◌≡◌, Ok, IfOk, IfErr};
 ghost use Rattle.mach_base.specs.Answer.{Stands};
-ghost use Rattle.mach_load.specs.Variants.{command_of};
 ghost use Rattle.mach_parts.specs.Header.{IsHeader};
 ghost use Rattle.goblin_mach.specs.EntryPoint.{entry_point_in};
-ghost use Rattle.goblin_mach.specs.Image.{HasHeader, CountsFit, HasWholeChain, LossyOpensAs, LossyFault};
+ghost use Rattle.goblin_mach.specs.Image.{HasHeader, CountsFit, LossyOpensAs, LossyFault};
 ghost use Rattle.goblin_mach.specs.Magic.{cputype_at, ncmds_at};
 
 use crate::image::commands::read_commands;

@@ -1,6 +1,6 @@
 //! The worked rows of docs/FORMAT.md that the definitions are checked on, as theorems.
 
-ghost use Rattle.std.specs.Prelude.{◌≡◌, ◌∷◌, ◌++◌, [], ℕ, List, codes, map, replicate, Ok, Err};
+ghost use Rattle.std.specs.Prelude.{◌≡◌, ◌∷◌, ◌++◌, [], codes, map, replicate, Ok, Err};
 ghost use Rattle.mach_base.specs.declared.context.Endian.TheVariants.{Little};
 ghost use Rattle.mach_base.specs.Fault.{bad_input};
 ghost use Rattle.mach_base.specs.Leb128.{Spells, uleb_at};

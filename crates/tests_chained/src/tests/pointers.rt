@@ -1,172 +1,125 @@
 //! The pointers of chains by format.
 
 use crate::tests::payloads::{DATA, PAYLOAD};
+use crate::tests::same::same;
 use crate::tests::text::{BASE, text_of_one};
-use mach_chained::{FixupKind, PointerFormat, read_pointer};
+use mach_chained::{FixupKind, PointerAuth, PointerFormat, read_pointer};
+use std::process::Abort;
 use std::test::Fail;
 
+fn rebase(target: u64) -> FixupKind {
+    FixupKind::Rebase { target }
+}
+
+fn bind(import: u32, addend: i32) -> FixupKind {
+    FixupKind::Bind { import, addend }
+}
+
+fn auth(key: u8, diversity: u16, is_address_diverse: bool) -> Option<PointerAuth> {
+    Some(PointerAuth {
+        key,
+        diversity,
+        is_address_diverse,
+    })
+}
+
+// Tests a pointer of some format: what it asks for, how far the next one is, and how it is signed.
+fn test_pointer(
+    rt: &impl Abort,
+    format: PointerFormat,
+    raw: u64,
+    want: (FixupKind, u32, Option<PointerAuth>),
+) {
+    let pointer = read_pointer(format, BASE, 0xffff_ffff, raw);
+    same(rt, pointer.kind, want.0);
+    same(rt, pointer.skip, want.1);
+    same(rt, pointer.auth, want.2);
+}
+
 #[test]
-fn pointers_by_format(rt: HostRuntime) -> Result<(), Fail> {
-    for (format, raw, kind, skip, auth) in [
-        (
-            PointerFormat::Generic64,
-            0x0010_0001_0000_0350,
-            FixupKind::Rebase {
-                target: 0x1_0000_0350,
-            },
-            8,
-            None,
-        ),
-        (
-            PointerFormat::Generic64Offset,
-            0x0010_0000_0000_0350,
-            FixupKind::Rebase {
-                target: 0x1_0000_0350,
-            },
-            8,
-            None,
-        ),
-        (
-            PointerFormat::Generic64,
-            0x0010_0421_0000_03a8,
-            FixupKind::Rebase {
-                target: 0x4200_0001_0000_03a8,
-            },
-            8,
-            None,
-        ),
-        (
-            PointerFormat::Generic64,
-            0x7ff8_0fff_ffff_ffff,
-            FixupKind::Rebase {
-                target: 0xff00_000f_ffff_ffff,
-            },
-            16380,
-            None,
-        ),
-        (
-            PointerFormat::Generic64,
-            0x8008_0000_ffff_ffff,
-            FixupKind::Bind {
-                import: 0xff_ffff,
-                addend: 255,
-            },
-            4,
-            None,
-        ),
-        (
-            PointerFormat::Generic32,
-            0x7e00_1234,
-            FixupKind::Rebase { target: 0x200_1234 },
-            124,
-            None,
-        ),
-        (
-            PointerFormat::Generic32,
-            0x87ff_ffff,
-            FixupKind::Bind {
-                import: 0xf_ffff,
-                addend: 63,
-            },
-            4,
-            None,
-        ),
-        (
-            PointerFormat::Arm64e,
-            0x001c_0001_0000_4008,
-            FixupKind::Rebase {
-                target: 0x8000_0001_0000_4008,
-            },
-            24,
-            None,
-        ),
+fn pointers_of_64_bits(rt: HostRuntime) {
+    let format = PointerFormat::Generic64;
+    for (raw, kind, skip) in [
+        (0x0010_0001_0000_0350, rebase(0x1_0000_0350), 8),
+        (0x0010_0421_0000_03a8, rebase(0x4200_0001_0000_03a8), 8),
+        (0x7ff8_0fff_ffff_ffff, rebase(0xff00_000f_ffff_ffff), 16380),
+        (0x8008_0000_ffff_ffff, bind(0xff_ffff, 255), 4),
+    ] {
+        test_pointer(&rt, format, raw, (kind, skip, None));
+    }
+    let format = PointerFormat::Generic64Offset;
+    let want = (rebase(0x1_0000_0350), 8, None);
+    test_pointer(&rt, format, 0x0010_0000_0000_0350, want);
+}
+
+#[test]
+fn pointers_of_32_bits(rt: HostRuntime) {
+    let format = PointerFormat::Generic32;
+    for (raw, kind, skip) in [
+        (0x7e00_1234, rebase(0x200_1234), 124),
+        (0x87ff_ffff, bind(0xf_ffff, 63), 4),
+    ] {
+        test_pointer(&rt, format, raw, (kind, skip, None));
+    }
+}
+
+#[test]
+fn plain_pointers_of_arm64e(rt: HostRuntime) {
+    let far = rebase(0x8000_0001_0000_4008);
+    let near = rebase(0x1_0000_4008);
+    for (format, raw, kind, skip) in [
+        (PointerFormat::Arm64e, 0x001c_0001_0000_4008, far, 24),
         (
             PointerFormat::Arm64eFirmware,
             0x001c_0001_0000_4008,
-            FixupKind::Rebase {
-                target: 0x8000_0001_0000_4008,
-            },
+            far,
             12,
-            None,
         ),
         (
             PointerFormat::Arm64eUserland,
             0x0018_0000_0000_4008,
-            FixupKind::Rebase {
-                target: 0x1_0000_4008,
-            },
+            near,
             24,
-            None,
         ),
-        (
-            PointerFormat::Arm64eKernel,
-            0x0018_0000_0000_4008,
-            FixupKind::Rebase {
-                target: 0x1_0000_4008,
-            },
-            12,
-            None,
-        ),
+        (PointerFormat::Arm64eKernel, 0x0018_0000_0000_4008, near, 12),
         (
             PointerFormat::Arm64e,
             0x400f_fff8_0000_1234,
-            FixupKind::Bind {
-                import: 0x1234,
-                addend: -8,
-            },
+            bind(0x1234, -8),
             8,
-            None,
-        ),
-        (
-            PointerFormat::Arm64e,
-            0x8015_abcd_0000_4008,
-            FixupKind::Rebase {
-                target: 0x1_0000_4008,
-            },
-            16,
-            Some((2, 0xabcd, true)),
-        ),
-        (
-            PointerFormat::Arm64eUserland,
-            0xc002_1111_0000_0005,
-            FixupKind::Bind {
-                import: 5,
-                addend: 0,
-            },
-            0,
-            Some((1, 0x1111, false)),
         ),
         (
             PointerFormat::Arm64eUserland24,
             0x7ff8_0010_0012_3456,
-            FixupKind::Bind {
-                import: 0x12_3456,
-                addend: 16,
-            },
+            bind(0x12_3456, 16),
             16376,
-            None,
+        ),
+    ] {
+        test_pointer(&rt, format, raw, (kind, skip, None));
+    }
+}
+
+#[test]
+fn signed_pointers(rt: HostRuntime) {
+    for (format, raw, want) in [
+        (
+            PointerFormat::Arm64e,
+            0x8015_abcd_0000_4008,
+            (rebase(0x1_0000_4008), 16, auth(2, 0xabcd, true)),
+        ),
+        (
+            PointerFormat::Arm64eUserland,
+            0xc002_1111_0000_0005,
+            (bind(5, 0), 0, auth(1, 0x1111, false)),
         ),
         (
             PointerFormat::Arm64eUserland24,
             0xc00f_ffff_0012_3456,
-            FixupKind::Bind {
-                import: 0x12_3456,
-                addend: 0,
-            },
-            8,
-            Some((3, 0xffff, true)),
+            (bind(0x12_3456, 0), 8, auth(3, 0xffff, true)),
         ),
     ] {
-        let pointer = read_pointer(format, BASE, 0xffff_ffff, raw);
-        assert_eq!(rt; pointer.kind, kind, "of {raw:#x}");
-        assert_eq!(rt; pointer.skip, skip, "of {raw:#x}");
-        let found = match pointer.auth {
-            Some(a) => Some((a.key, a.diversity, a.is_address_diverse)),
-            None => None,
-        };
-        assert_eq!(rt; found, auth, "of {raw:#x}");
+        test_pointer(&rt, format, raw, want);
     }
-    Ok(())
 }
 
 #[test]

@@ -36,86 +36,30 @@ fn refused_at_once(rt: HostRuntime) -> Result<(), Fail> {
     Ok(())
 }
 
-// The same, of what both the fixups and the bindings refuse first.
+// The same, of what both the fixups and the bindings refuse first as malformed.
 #[test]
 fn refused_first(rt: HostRuntime) -> Result<(), Fail> {
     let alloc = rt.alloc();
-    for (place, byte, want) in [
-        (
-            16,
-            0,
-            "malformed: a bind's import is one of the table; | malformed: a bind's import is one of the table; ",
-        ),
-        (
-            36,
-            40,
-            "offset 72 is past the end; | offset 72 is past the end; ",
-        ),
-        (
-            40,
-            23,
-            "malformed: starts have room for each page's; | malformed: starts have room for each page's; ",
-        ),
-        (
-            45,
-            0x20,
-            "malformed: a page has 0x1000 or 0x4000 bytes; | malformed: a page has 0x1000 or 0x4000 bytes; ",
-        ),
-        (
-            46,
-            4,
-            "malformed: pointers are of a format that is read; | malformed: pointers are of a format that is read; ",
-        ),
-        (
-            46,
-            5,
-            "malformed: pointers are of a format that is read; | malformed: pointers are of a format that is read; ",
-        ),
-        (
-            46,
-            8,
-            "malformed: pointers are of a format that is read; | malformed: pointers are of a format that is read; ",
-        ),
-        (
-            46,
-            11,
-            "malformed: pointers are of a format that is read; | malformed: pointers are of a format that is read; ",
-        ),
-        (
-            46,
-            13,
-            "malformed: pointers are of a format that is read; | malformed: pointers are of a format that is read; ",
-        ),
-        (
-            46,
-            14,
-            "malformed: pointers are of a format that is read; | malformed: pointers are of a format that is read; ",
-        ),
-        (
-            48,
-            1,
-            "malformed: chains know where their segment is; | malformed: chains know where their segment is; ",
-        ),
-        (
-            60,
-            2,
-            "malformed: starts have room for each page's; | malformed: starts have room for each page's; ",
-        ),
-        (
-            62,
-            9,
-            "malformed: a fixup lies in its segment's data; | malformed: a fixup lies in its segment's data; ",
-        ),
-        (
-            63,
-            0x10,
-            "malformed: a chain stays in its page; | malformed: a chain stays in its page; ",
-        ),
+    for (place, byte, why) in [
+        (16, 0, "a bind's import is one of the table"),
+        (40, 23, "starts have room for each page's"),
+        (45, 0x20, "a page has 0x1000 or 0x4000 bytes"),
+        (46, 4, "pointers are of a format that is read"),
+        (46, 5, "pointers are of a format that is read"),
+        (46, 8, "pointers are of a format that is read"),
+        (46, 11, "pointers are of a format that is read"),
+        (46, 13, "pointers are of a format that is read"),
+        (46, 14, "pointers are of a format that is read"),
+        (48, 1, "chains know where their segment is"),
+        (60, 2, "starts have room for each page's"),
+        (62, 9, "a fixup lies in its segment's data"),
+        (63, 0x10, "a chain stays in its page"),
     ] {
         let mut payload = PAYLOAD;
         payload[place] = byte;
         let text = text_of_one(alloc, &payload, &DATA)?;
-        assert_eq!(rt; text.as_str(), want, "byte {place} {byte}");
+        let want = format!(in alloc; "malformed: {why}; | malformed: {why}; ")?;
+        assert_eq!(rt; text.as_str(), want.as_str(), "byte {place} {byte}");
     }
     Ok(())
 }
@@ -153,6 +97,11 @@ fn read_otherwise(rt: HostRuntime) -> Result<(), Fail> {
     for (place, byte, want) in [
         (32, 0, "| "),
         (36, 0, "| "),
+        (
+            36,
+            40,
+            "offset 72 is past the end; | offset 72 is past the end; ",
+        ),
         (60, 0, "| "),
         (62, 8, "0 0x8 0x100000008 rebase 0x1000; | "),
         (

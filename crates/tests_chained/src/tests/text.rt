@@ -15,7 +15,7 @@ const WIDE: Ctx = Ctx {
     le: LE,
 };
 
-const LIBS: [&str; 2] = ["self", "L"];
+pub const LIBS: [&str; 2] = ["self", "L"];
 
 // A segment with data at a place of the file and at an address.
 pub fn segment_at(fileoff: u64, vmaddr: u64, data: &[u8]) -> Segment<'_> {
@@ -76,6 +76,15 @@ fn write_error(text: &mut String, error: &Error) -> Result<(), AllocError> {
     Ok(())
 }
 
+// What stands at the front of chained fixups.
+pub fn chained_of(payload: &[u8]) -> mach_base::Result<ChainedFixups<'_>> {
+    let command = LinkeditDataCommand {
+        datasize: (payload.len() & 0xffff) as u32,
+        ..LinkeditDataCommand::default()
+    };
+    ChainedFixups::parse(payload, &command, LE)
+}
+
 // The fixups of some segments, `|`, and their bindings; of a header that is refused its error.
 pub fn text_of(
     alloc: Global,
@@ -84,11 +93,7 @@ pub fn text_of(
     base: u64,
 ) -> Result<String, AllocError> {
     let mut text = String::new(alloc);
-    let command = LinkeditDataCommand {
-        datasize: (payload.len() & 0xffff) as u32,
-        ..LinkeditDataCommand::default()
-    };
-    let chained = match ChainedFixups::parse(payload, &command, LE) {
+    let chained = match chained_of(payload) {
         Ok(chained) => chained,
         Err(e) => {
             write_error(&mut text, &e)?;

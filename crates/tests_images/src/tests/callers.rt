@@ -7,7 +7,10 @@ ghost use Rattle.mach_dyld.specs.BindLeft.{imports_left};
 ghost use Rattle.mach_dyld.specs.Exports.{texts, entries, info_of};
 ghost use Rattle.mach_dyld.specs.LookUp.{IsFirstOf};
 ghost use Rattle.mach_dyld.specs.Trie.{Entry};
-ghost use Rattle.goblin_mach.specs.Facts.{HasRunPaths, HasEntryPoint, HasImportItems, HasExports, HasExportOf, HasLibrariesByKind, IsExportedAt, IsNotExported};
+ghost use Rattle.goblin_mach.specs.Facts.{HasRunPaths, HasEntryPoint, HasImportItems, HasBindings, HasFixups, HasExports, HasExportOf, HasLibrariesByKind};
+ghost use Rattle.goblin_mach.specs.Facts.{IsExportedAt, IsNotExported};
+ghost use Rattle.goblin_mach.specs.BindingsLeft.{bindings_left};
+ghost use Rattle.goblin_mach.specs.FixupsLeft.{fixups_left};
 ghost use Rattle.goblin_mach.specs.FatEntry.{FatEntry, entries_of, OpensEntry};
 ghost use Rattle.goblin_mach.specs.FatFile.{file_held};
 ghost use Rattle.goblin_mach.specs.Libraries.{libraries_left};
@@ -16,10 +19,13 @@ ghost use Rattle.goblin_mach.specs.OpenImage.{IsImage, IsLossyImage};
 use crate::tests::same::same;
 use goblin_mach::exports::{Export, ExportInfo};
 use goblin_mach::imports::BindIterator;
-use goblin_mach::{LibraryIterator, LibraryKind, MachO, MultiArch, Result, SingleArch, find_export, laws};
+use goblin_mach::{
+    BindingIterator, FixupIterator, LibraryIterator, LibraryKind, MachO, MultiArch, Result,
+    SingleArch, find_export, laws,
+};
 use std::alloc::{Allocator, Global};
 use std::test::Fail;
-use test_files::{FILE_B, file_c};
+use test_files::{FILE_B, FILE_D, file_c};
 
 // The image at the front of the bytes, which opens in lossy mode all the more.
 fn image(alloc: Global, bytes: &[u8]) -> Result<MachO<'_>>
@@ -54,6 +60,22 @@ fn import_items<'a, 'b>(image: &'b MachO<'a>) -> BindIterator<'a, 'b>
 {
     laws::import_items_of_image(image);
     image.iter_imports()
+}
+
+// What dyld binds of an image one at a time, which is what it binds of the bytes in which it was opened.
+fn bindings<'a, 'b>(image: &'b MachO<'a>) -> BindingIterator<'a, 'b>
+    ensures { (bytes : List ℕ) (o : ℕ) → IsLossyImage bytes o image.now → HasBindings bytes o (bindings_left result) }
+{
+    laws::bindings_of_image(image);
+    image.bindings()
+}
+
+// Its fixups.
+fn fixups<'a, 'b>(image: &'b MachO<'a>) -> FixupIterator<'a, 'b>
+    ensures { (bytes : List ℕ) (o : ℕ) → IsLossyImage bytes o image.now → HasFixups bytes o (fixups_left result) }
+{
+    laws::fixups_of_image(image);
+    image.fixups()
 }
 
 // The libraries of an image by their kinds, which are those of the bytes in which it was opened.
@@ -148,6 +170,18 @@ fn imports_one_at_a_time(rt: HostRuntime) -> std::result::Result<(), Fail> {
         );
     }
     assert!(rt; items.next().is_none());
+    Ok(())
+}
+
+#[test]
+fn bindings_one_at_a_time(rt: HostRuntime) -> std::result::Result<(), Fail> {
+    let image = image(rt.alloc(), &FILE_D)?;
+    for item in bindings(&image) {
+        assert!(rt; item.is_ok());
+    }
+    for item in fixups(&image) {
+        assert!(rt; item.is_ok());
+    }
     Ok(())
 }
 

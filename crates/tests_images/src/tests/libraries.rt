@@ -24,7 +24,8 @@ fn commands(alloc: Global, rows: &[Row]) -> Result<Vec<u8>, AllocError> {
         for number in numbers(*row) {
             bytes.extend_from_slice(&number.to_le_bytes())?;
         }
-        bytes.extend_from_slice(row.3)?;
+        let name = row.3;
+        bytes.extend_from_slice(name)?;
     }
     let count = (rows.len() & 7) as u8;
     image(alloc, count, 32 * count, &bytes)
@@ -34,14 +35,41 @@ fn commands(alloc: Global, rows: &[Row]) -> Result<Vec<u8>, AllocError> {
 fn big_commands(alloc: Global, rows: &[Row]) -> Result<Vec<u8>, AllocError> {
     let count = (rows.len() & 7) as u8;
     let mut bytes = vec![in alloc;
-        0xfe, 0xed, 0xfa, 0xce, 0, 0, 0, 18, 0, 0, 0, 0, 0, 0, 0, 6, 0, 0, 0, count, 0, 0, 0,
-        32 * count, 0, 0, 0, 0,
+        0xfe,
+        0xed,
+        0xfa,
+        0xce,
+        0,
+        0,
+        0,
+        18,
+        0,
+        0,
+        0,
+        0,
+        0,
+        0,
+        0,
+        6,
+        0,
+        0,
+        0,
+        count,
+        0,
+        0,
+        0,
+        32 * count,
+        0,
+        0,
+        0,
+        0,
     ]?;
     for row in rows {
         for number in numbers(*row) {
             bytes.extend_from_slice(&number.to_be_bytes())?;
         }
-        bytes.extend_from_slice(row.3)?;
+        let name = row.3;
+        bytes.extend_from_slice(name)?;
     }
     Ok(bytes)
 }

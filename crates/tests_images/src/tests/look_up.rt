@@ -11,8 +11,54 @@ use test_files::{BARE, EXPORTS, FILE_B, image};
 // An image of a library L and of a trie, which stands behind its commands.
 fn with_trie(alloc: Global, trie: &[u8]) -> Result<Vec<u8>, AllocError> {
     let mut bytes = vec![in alloc;
-        0xc, 0, 0, 0, 32, 0, 0, 0, 24, 0, 0, 0, 0, 0, 0, 0, 0, 0, 0, 0, 0, 0, 0, 0, b'L', 0, 0, 0,
-        0, 0, 0, 0, 0x33, 0, 0, 0x80, 16, 0, 0, 0, 80, 0, 0, 0, (trie.len() & 0xff) as u8, 0, 0, 0,
+        0xc,
+        0,
+        0,
+        0,
+        32,
+        0,
+        0,
+        0,
+        24,
+        0,
+        0,
+        0,
+        0,
+        0,
+        0,
+        0,
+        0,
+        0,
+        0,
+        0,
+        0,
+        0,
+        0,
+        0,
+        b'L',
+        0,
+        0,
+        0,
+        0,
+        0,
+        0,
+        0,
+        0x33,
+        0,
+        0,
+        0x80,
+        16,
+        0,
+        0,
+        0,
+        80,
+        0,
+        0,
+        0,
+        (trie.len() & 0xff) as u8,
+        0,
+        0,
+        0,
     ]?;
     bytes.extend_from_slice(trie)?;
     image(alloc, 2, 48, &bytes)
@@ -24,11 +70,15 @@ fn shown(alloc: Global, bytes: &[u8], name: &str) -> Result<String, Fail> {
     let mut text = String::new(alloc);
     match image.find_export(alloc, name) {
         Ok(Some(ExportInfo::Regular { address, .. })) => write!(text, "{address:x}")?,
-        Ok(Some(ExportInfo::Reexport {
-            lib,
-            lib_symbol_name,
-            ..
-        })) => {
+        Ok(
+            Some(
+                ExportInfo::Reexport {
+                    lib,
+                    lib_symbol_name,
+                    ..
+                },
+            ),
+        ) => {
             let other = lib_symbol_name.unwrap_or("itself");
             write!(text, "of {lib} as {other}")?;
         }

@@ -2,8 +2,8 @@
 
 use crate::tests::build::{digits, header, words};
 use crate::tests::same::same;
-use goblin_mach::{LibraryKind, MachO};
 use goblin_mach::load_command::CommandVariant;
+use goblin_mach::{LibraryKind, MachO};
 use std::alloc::{AllocError, Global};
 use std::test::Fail;
 

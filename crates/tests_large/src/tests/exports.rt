@@ -8,9 +8,9 @@ use goblin_mach::load_command::DyldInfoCommand;
 use std::alloc::{AllocError, Global};
 use std::test::Fail;
 
-// A trie whose root has 5,000 branches of 8 bytes, from 3 on. Child k has 6 bytes, at 40,003 + 6k; its label
-// is the digits of k, and its export's address is k.
-fn below_one_node(alloc: Global) -> Result<Vec<u8>, AllocError> {
+/// A trie whose root has 5,000 branches of 8 bytes, from 3 on. Child k has 6 bytes, at 40,003 + 6k; its label
+/// is the digits of k, and its export's address is k.
+pub fn below_one_node(alloc: Global) -> Result<Vec<u8>, AllocError> {
     let mut bytes = vec![in alloc; 0, 0x88, 0x27]?;
     for number in 0..5000u32 {
         bytes.extend_from_slice(&digits(number))?;
@@ -25,9 +25,9 @@ fn below_one_node(alloc: Global) -> Result<Vec<u8>, AllocError> {
     Ok(bytes)
 }
 
-// A chain of 5,000 nodes. Node k stands at 11k; its export's address is k, and its only branch, of the label
-// "a", leads to the next node. The last node has no branch, and 6 bytes.
-fn along_a_path(alloc: Global) -> Result<Vec<u8>, AllocError> {
+/// A chain of 5,000 nodes. Node k stands at 11k; its export's address is k, and its only branch, of the label
+/// "a", leads to the next node. The last node has no branch, and 6 bytes.
+pub fn along_a_path(alloc: Global) -> Result<Vec<u8>, AllocError> {
     let mut bytes = Vec::new(alloc);
     for number in 0..4999u32 {
         bytes.extend_from_slice(&[4, 0])?;

@@ -8,3 +8,8 @@ use std::process::Abort;
 pub fn same<T: Copy + Debug + PartialEq>(rt: &impl Abort, got: T, want: T) {
     assert_eq!(rt; got, want);
 }
+
+/// The same, of the item of this number.
+pub fn same_at<T: Copy + Debug + PartialEq>(rt: &impl Abort, number: usize, got: T, want: T) {
+    assert_eq!(rt; got, want, "at {number}");
+}

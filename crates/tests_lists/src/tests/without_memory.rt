@@ -24,7 +24,7 @@ use goblin_mach::{
 };
 use std::alloc::AllocError;
 use std::test::Fail;
-use test_files::{EXPORTS, FILE_A, FILE_B, file_c};
+use test_files::{EXPORTS, FILE_A, FILE_B, FILE_D, file_c};
 
 // The state of a thread without words.
 const THREAD: [u8; 16] = [5, 0, 0, 0, 16, 0, 0, 0, 0, 0, 0, 0, 0, 0, 0, 0];
@@ -284,5 +284,34 @@ fn records_of_fat_files(rt: HostRuntime) -> Result<(), Fail> {
         matches!(entry, Err(Error::Memory(AllocError))),
         "what is refused does refuse"
     );
+    Ok(())
+}
+
+#[test]
+fn what_dyld_binds(rt: HostRuntime) -> Result<(), Fail> {
+    let heap = Refusing::none(rt.alloc());
+    let image = MachO::parse(&heap, &FILE_D, 0)?;
+    heap.refuse_all();
+    let asked = heap.asked();
+    same(&rt, image.base(), 0x1_0000_0000);
+    let Some(chained) = image.chained_fixups()? else {
+        return Err(Fail::from("chained fixups"));
+    };
+    same(&rt, chained.imports().len(), 1);
+    let mut items = image.fixups();
+    for _ in 0..4 {
+        assert!(rt; matches!(items.next(), Some(Ok(_))));
+    }
+    assert!(rt; items.next().is_none());
+    let mut items = image.opcode_bindings();
+    assert!(rt; matches!(items.next(), Some(Ok(_))));
+    assert!(rt; matches!(items.next(), Some(Ok(_))));
+    assert!(rt; items.next().is_none());
+    let mut items = image.bindings();
+    for _ in 0..4 {
+        assert!(rt; matches!(items.next(), Some(Ok(_))));
+    }
+    assert!(rt; items.next().is_none());
+    same(&rt, heap.asked(), asked);
     Ok(())
 }

@@ -24,12 +24,11 @@ returns-in_err-marks-clause-visits g c =
 
 pub turns-init : goal.turns-init
 turns-init g c =
-    let filled : c.in_ok-marks.marks.items ≡ replicate (c.args.source.now.upto - c.args.source.now.from) false = c.in_ok-marks.ensures.items_if_clones_equal
-    (λ y e. e) in
+    let marked = c.mark.ensures ∙ ap (λ (ms : List Bool). set ms (c.args.root - c.args.source.now.from) true) c.in_ok-marks.ensures in
     let node = c.requires.passed in
     subst (λ (ms : List Bool). Holds c.args.source.now c.args.root c.args.name.now (record { branches = c.args.branches; at = 0 })
     (reverse c.new-choices.result.items)
-    (set ms (c.args.root - c.args.source.now.from) true) c.args.steps.now c.args.steps.now) (sym filled)
+    ms c.args.steps.now c.args.steps.now) (sym marked)
     (subst (λ (os : List Choice). Holds c.args.source.now c.args.root c.args.name.now (record { branches = c.args.branches; at = 0 }) os
     (set (replicate (c.args.source.now.upto - c.args.source.now.from) false) (c.args.root - c.args.source.now.from) true) c.args.steps.now c.args.steps.now)
     (sym (ap reverse c.new-choices.ensures.items))
@@ -43,7 +42,7 @@ returns-in-None-clause-found g c =
     c.rest_at-rest.result.now c.rest_at-rest.ensures c.turns.invariant c.settle-branches.ensures.readable c.settle-branches.ensures.settles in
     turn.ended c.args.source.now c.args.root c.args.name.now (record { branches = c.settle-branches.result; at = c.turns.top.at })
     (subst (λ os. Holds c.args.source.now c.args.root c.args.name.now
-    (record { branches = c.settle-branches.result; at = c.turns.top.at }) os c.turns.marks.items c.args.steps.now c.turns.steps)
+    (record { branches = c.settle-branches.result; at = c.turns.top.at }) os c.turns.marks c.args.steps.now c.turns.steps)
     (turn.emptied c.turns.choices.items zero) held) c.if-branches-eq0.true
 
 pub returns-in-None-clause-visits : goal.returns-in-None-clause-visits
@@ -58,7 +57,7 @@ turns-preserved-in-Some g c =
     turn.gone c.args.source.now c.args.root c.args.name.now (record { branches = c.settle-branches.result; at = c.turns.top.at }) c.in-Some.below
     (reverse c.pop.new.self.items)
     (subst (λ os. Holds c.args.source.now c.args.root c.args.name.now (record { branches = c.settle-branches.result; at = c.turns.top.at })
-    os c.turns.marks.items c.args.steps.now c.turns.steps) pop held) c.if-branches-eq0.true
+    os c.turns.marks c.args.steps.now c.turns.steps) pop held) c.if-branches-eq0.true
 
 pub read_parts-start-requires : goal.read_parts-start-requires
 read_parts-start-requires g c =
@@ -70,21 +69,19 @@ overflow_sub-start g c =
     turn.low _ _ _ (turn.takes _ _ _ c.rest_at-rest.ensures c.turns.invariant c.settle-branches.ensures.readable c.settle-branches.ensures.settles
     c.settle-branches.ensures.stops (omega (arith, c.if-branches-eq0.false)) c.read_parts-start.ensures)
 
-pub index-requires : goal.index-requires
-index-requires g c =
-    let inside = turn.within _ _ _
-    (turn.takes _ _ _ c.rest_at-rest.ensures c.turns.invariant c.settle-branches.ensures.readable c.settle-branches.ensures.settles
-    c.settle-branches.ensures.stops (omega (arith, c.if-branches-eq0.false)) c.read_parts-start.ensures) in
-    omega (arith, c.turns.marks.ok.0, inside)
+pub is_marked-requires : goal.is_marked-requires
+is_marked-requires g c =
+    turn.within _ _ _ (turn.takes _ _ _ c.rest_at-rest.ensures c.turns.invariant c.settle-branches.ensures.readable c.settle-branches.ensures.settles
+    c.settle-branches.ensures.stops (omega (arith, c.if-branches-eq0.false)) c.read_parts-start.ensures)
 
-pub returns-then-index-clause-refused : goal.returns-then-index-clause-refused
-returns-then-index-clause-refused g c =
+pub returns-then-is_marked-clause-refused : goal.returns-then-is_marked-clause-refused
+returns-then-is_marked-clause-refused g c =
     turn.met _ _ _ (turn.takes _ _ _ c.rest_at-rest.ensures c.turns.invariant c.settle-branches.ensures.readable c.settle-branches.ensures.settles
     c.settle-branches.ensures.stops (omega (arith, c.if-branches-eq0.false)) c.read_parts-start.ensures)
-    c.index.ensures c.if-index.true
+    c.is_marked.ensures c.if-is_marked.true
 
-pub returns-then-index-clause-visits : goal.returns-then-index-clause-visits
-returns-then-index-clause-visits g c =
+pub returns-then-is_marked-clause-visits : goal.returns-then-is_marked-clause-visits
+returns-then-is_marked-clause-visits g c =
     turn.visits_so_far _ _ _ c.turns.top (reverse c.turns.choices.items) _ _ _ c.turns.invariant
 
 pub overflow_sub-start-else-branches-eq0 : goal.overflow_sub-start-else-branches-eq0
@@ -92,12 +89,10 @@ overflow_sub-start-else-branches-eq0 g c =
     turn.low _ _ _ (turn.takes _ _ _ c.rest_at-rest.ensures c.turns.invariant c.settle-branches.ensures.readable c.settle-branches.ensures.settles
     c.settle-branches.ensures.stops (omega (arith, c.if-branches-eq0.false)) c.read_parts-start.ensures)
 
-pub index_mut-requires-else-branches-eq0 : goal.index_mut-requires-else-branches-eq0
-index_mut-requires-else-branches-eq0 g c =
-    let inside = turn.within _ _ _
-    (turn.takes _ _ _ c.rest_at-rest.ensures c.turns.invariant c.settle-branches.ensures.readable c.settle-branches.ensures.settles
-    c.settle-branches.ensures.stops (omega (arith, c.if-branches-eq0.false)) c.read_parts-start.ensures) in
-    omega (arith, c.turns.marks.ok.0, inside)
+pub mark-requires-else-branches-eq0 : goal.mark-requires-else-branches-eq0
+mark-requires-else-branches-eq0 g c =
+    turn.within _ _ _ (turn.takes _ _ _ c.rest_at-rest.ensures c.turns.invariant c.settle-branches.ensures.readable c.settle-branches.ensures.settles
+    c.settle-branches.ensures.stops (omega (arith, c.if-branches-eq0.false)) c.read_parts-start.ensures)
 
 pub settle-others-requires : goal.settle-others-requires
 settle-others-requires g c =
@@ -121,7 +116,7 @@ returns-in_err-own-clause-visits g c =
     c.settle-branches.ensures.stops (omega (arith, c.if-branches-eq0.false)) c.read_parts-start.ensures)
     (turn.is_clear _ _ _ (turn.takes _ _ _ c.rest_at-rest.ensures c.turns.invariant c.settle-branches.ensures.readable c.settle-branches.ensures.settles
     c.settle-branches.ensures.stops (omega (arith, c.if-branches-eq0.false))
-    c.read_parts-start.ensures) c.index.ensures c.if-index.false) c.in_err-own.ensures.visits
+    c.read_parts-start.ensures) c.is_marked.ensures c.if-is_marked.false) c.in_err-own.ensures.visits
 
 pub overflow_sub-rest : goal.overflow_sub-rest
 overflow_sub-rest g c =
@@ -138,7 +133,7 @@ returns-in-Some-here-clause-found g c =
     let none : length taken.others ≡ 0 = omega (arith, c.in-Some-here.ensures.some.0) in
     turn.child_found _ _ _ taken
     (turn.is_clear _ _ _ (turn.takes _ _ _ c.rest_at-rest.ensures c.turns.invariant c.settle-branches.ensures.readable c.settle-branches.ensures.settles
-    c.settle-branches.ensures.stops (omega (arith, c.if-branches-eq0.false)) c.read_parts-start.ensures) c.index.ensures c.if-index.false)
+    c.settle-branches.ensures.stops (omega (arith, c.if-branches-eq0.false)) c.read_parts-start.ensures) c.is_marked.ensures c.if-is_marked.false)
     (node_of c.args.source.now.bytes.now c.args.source.now.from (c.in_ok-own.own, c.in_ok-own.child)) (info_of c.in-Some-here.info)
     c.in_ok-own.ensures.value c.in-Some-here.ensures.some.1 (nil_from_length taken.others none)
 
@@ -148,7 +143,7 @@ returns-in-Some-here-clause-visits g c =
     c.settle-branches.ensures.stops (omega (arith, c.if-branches-eq0.false)) c.read_parts-start.ensures)
     (turn.is_clear _ _ _ (turn.takes _ _ _ c.rest_at-rest.ensures c.turns.invariant c.settle-branches.ensures.readable c.settle-branches.ensures.settles
     c.settle-branches.ensures.stops (omega (arith, c.if-branches-eq0.false))
-    c.read_parts-start.ensures) c.index.ensures c.if-index.false) c.in_ok-own.ensures.visits
+    c.read_parts-start.ensures) c.is_marked.ensures c.if-is_marked.false) c.in_ok-own.ensures.visits
 
 pub returns-in_err-keep-clause-visits : goal.returns-in_err-keep-clause-visits
 returns-in_err-keep-clause-visits g c =
@@ -156,7 +151,7 @@ returns-in_err-keep-clause-visits g c =
     c.settle-branches.ensures.stops (omega (arith, c.if-branches-eq0.false)) c.read_parts-start.ensures)
     (turn.is_clear _ _ _ (turn.takes _ _ _ c.rest_at-rest.ensures c.turns.invariant c.settle-branches.ensures.readable c.settle-branches.ensures.settles
     c.settle-branches.ensures.stops (omega (arith, c.if-branches-eq0.false))
-    c.read_parts-start.ensures) c.index.ensures c.if-index.false) c.in_ok-own.ensures.visits
+    c.read_parts-start.ensures) c.is_marked.ensures c.if-is_marked.false) c.in_ok-own.ensures.visits
 
 pub turns-smaller : goal.turns-smaller
 turns-smaller g c =
@@ -165,12 +160,13 @@ turns-smaller g c =
       | inr some ↦ (let same = ap (λ (x : List Choice). length x) (c.in_ok-keep.ensures.some some)
           ∙ length-append c.turns.choices.items (record { branches = c.settle-others.result; at = c.turns.top.at } ∷ []) in omega arith)
     ] in
-    let less = turn.one_less c.turns.marks.items (c.read_parts-start.result.1 - c.args.source.now.from)
+    let less = turn.one_less c.turns.marks (c.read_parts-start.result.1 - c.args.source.now.from)
     (turn.within _ _ _ (turn.takes _ _ _ c.rest_at-rest.ensures c.turns.invariant c.settle-branches.ensures.readable c.settle-branches.ensures.settles
     c.settle-branches.ensures.stops (omega (arith, c.if-branches-eq0.false)) c.read_parts-start.ensures))
     (turn.is_clear _ _ _ (turn.takes _ _ _ c.rest_at-rest.ensures c.turns.invariant c.settle-branches.ensures.readable c.settle-branches.ensures.settles
-    c.settle-branches.ensures.stops (omega (arith, c.if-branches-eq0.false)) c.read_parts-start.ensures) c.index.ensures c.if-index.false) in
-    omega (arith, less)
+    c.settle-branches.ensures.stops (omega (arith, c.if-branches-eq0.false)) c.read_parts-start.ensures) c.is_marked.ensures c.if-is_marked.false) in
+    let now = ap unmarked c.mark-else-branches-eq0.ensures in
+    omega (arith, less, now)
 
 pub turns-preserved : goal.turns-preserved
 turns-preserved g c =
@@ -182,28 +178,32 @@ turns-preserved g c =
     taken.held.shown.within taken.spells in
     let opened = turn.child_opened _ _ _ taken
     (turn.is_clear _ _ _ (turn.takes _ _ _ c.rest_at-rest.ensures c.turns.invariant c.settle-branches.ensures.readable c.settle-branches.ensures.settles
-    c.settle-branches.ensures.stops (omega (arith, c.if-branches-eq0.false)) c.read_parts-start.ensures) c.index.ensures c.if-index.false)
+    c.settle-branches.ensures.stops (omega (arith, c.if-branches-eq0.false)) c.read_parts-start.ensures) c.is_marked.ensures c.if-is_marked.false)
     (record { branches = c.in_ok-own.child; at = c.turns.top.at + length c.read_parts-start.result.0.now })
     (record { branches = record { left = c.settle-branches.result.left - 1; place = c.read_parts-start.result.2 }; at = c.turns.top.at })
     (node_of c.args.source.now.bytes.now c.args.source.now.from (c.in_ok-own.own, c.in_ok-own.child)) c.in_ok-own.ensures.visits c.in_ok-own.ensures.value
     (turn.elsewhere c.args.source.now c.args.root c.args.name.now taken.others _ (λ z. c.in_default.ensures.none (omega arith)))
     c.in_ok-own.ensures.readable refl refl refl refl deep.0 deep.1 in
-    let both = turn.settled_below_now c.args.source.now c.args.root c.args.name.now
+    let both = subst (λ (ms : List Bool). Holds c.args.source.now c.args.root c.args.name.now
+    (record { branches = c.in_ok-own.child; at = c.turns.top.at + length c.read_parts-start.result.0.now })
+    (record { branches = c.settle-others.result; at = c.turns.top.at } ∷ reverse c.turns.choices.items) ms c.args.steps.now c.read_node.new.steps)
+    (sym c.mark-else-branches-eq0.ensures)
+    (turn.settled_below_now c.args.source.now c.args.root c.args.name.now
     (record { branches = c.in_ok-own.child; at = c.turns.top.at + length c.read_parts-start.result.0.now })
     (record { branches = record { left = c.settle-branches.result.left - 1; place = c.read_parts-start.result.2 }; at = c.turns.top.at })
     c.settle-others.result (reverse c.turns.choices.items) c.rest_at-rest.result.now c.rest_at-rest.ensures opened
-    c.settle-others.ensures.readable c.settle-others.ensures.settles in
+    c.settle-others.ensures.readable c.settle-others.ensures.settles) in
     elim (cases_eq c.settle-others.result.left 0) [
       | inl none ↦ subst (λ os. Holds c.args.source.now c.args.root c.args.name.now
           (record { branches = c.in_ok-own.child; at = c.turns.top.at + length c.read_parts-start.result.0.now }) os
-          (set c.turns.marks.items (c.read_parts-start.result.1 - c.args.source.now.from) true) c.args.steps.now c.read_node.new.steps)
+          c.mark-else-branches-eq0.new.self c.args.steps.now c.read_node.new.steps)
           (sym (ap reverse (c.in_ok-keep.ensures.none none)))
           (turn.left_out c.args.source.now c.args.root c.args.name.now
           (record { branches = c.in_ok-own.child; at = c.turns.top.at + length c.read_parts-start.result.0.now })
           (record { branches = c.settle-others.result; at = c.turns.top.at }) (reverse c.turns.choices.items) both none)
       | inr more ↦ subst (λ os. Holds c.args.source.now c.args.root c.args.name.now
           (record { branches = c.in_ok-own.child; at = c.turns.top.at + length c.read_parts-start.result.0.now }) os
-          (set c.turns.marks.items (c.read_parts-start.result.1 - c.args.source.now.from) true) c.args.steps.now c.read_node.new.steps)
+          c.mark-else-branches-eq0.new.self c.args.steps.now c.read_node.new.steps)
           (sym (turn.popped c.keep.new.choices.items c.turns.choices.items (record { branches = c.settle-others.result; at = c.turns.top.at })
           (c.in_ok-keep.ensures.some more))) both
     ]

@@ -6,7 +6,6 @@ use Rattle.mach_dyld.proofs.walk.ExportWalk.start.Goals as goal
 pub returns-clause-start : goal.returns-clause-start
 returns-clause-start g c =
     let s = c.args.source.now in
-    let filled = c.in_ok-vec.ensures.items_if_clones_equal (λ y e. e) in
     elim (cases_lt s.from s.upto) [
       | inl inside ↦ inl (
         lt-leb s.upto s.from inside,
@@ -15,11 +14,11 @@ returns-clause-start g c =
               inside = inside;
               root = refl;
               label = refl;
-              no_name = c.new.ensures.items;
-              no_marks = filled ∙ ap (λ n. replicate n false) c.saturating_sub-len.ensures;
+              no_name = c.new-2.ensures.items;
+              no_marks = c.in_ok-new.ensures ∙ ap (λ n. replicate n false) c.saturating_sub-len.ensures;
               left = refl;
               name_len = refl;
-              none_open = ap reverse c.new-2.ensures.items;
+              none_open = ap reverse c.new-3.ensures.items;
               none_found = refl;
               none_visited = refl;
             }),

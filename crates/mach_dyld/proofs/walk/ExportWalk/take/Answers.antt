@@ -23,9 +23,9 @@ overflow_sub-start g c = (child_of c.args.self.now c.requires.2).low
 pub overflow_sub-start-2 : goal.overflow_sub-start-2
 overflow_sub-start-2 g c = (child_of c.args.self.now c.requires.2).low
 
-pub returns-then-index-clause-refused : goal.returns-then-index-clause-refused
-returns-then-index-clause-refused g c = λ found n at. record {
-  fault = turn.met (child_of c.args.self.now at) (omega arith) c.index.ensures c.if-index.true;
+pub returns-then-is_marked-clause-refused : goal.returns-then-is_marked-clause-refused
+returns-then-is_marked-clause-refused g c = λ found n at. record {
+  fault = turn.met (child_of c.args.self.now at) (omega arith) c.is_marked.ensures c.if-is_marked.true;
   visited = n;
   visits = (child_of c.args.self.now at).visits;
   few_visits = (child_of c.args.self.now at).few;
@@ -47,7 +47,7 @@ pub returns-in_err-own-clause-refused : goal.returns-in_err-own-clause-refused
 returns-in_err-own-clause-refused g c =
     let p = err_from_is_err_and c.from_residual-in_err-own.result c.from_residual-in_err-own.ensures.1 in
     rw (p.1, p.2) (λ found n at.
-    let off = turn.clear (child_of c.args.self.now at) (omega arith) c.index.ensures c.if-index.false in
+    let off = turn.clear (child_of c.args.self.now at) (omega arith) c.is_marked.ensures c.if-is_marked.false in
     record {
       fault = Stands-reported (fault_in c.args.self.now.source) c.in_err-own.field-0.0
           (turn.child_fault (child_of c.args.self.now at) (omega arith) (fault_of c.in_err-own.field-0.0) c.in_err-own.ensures.node);
@@ -61,12 +61,12 @@ pub go_on-requires-in_default : goal.go_on-requires-in_default
 go_on-requires-in_default g c =
     let cut = c.in_ok-extend_from_slice.ensures.items ∙ ap (λ (x : List ℕ). x ++ c.as_bytes.result.now) c.truncate.ensures.items
     ∙ ap (λ (x : List ℕ). take c.args.self.now.top.name_len c.args.self.now.name.items ++ x) c.as_bytes.ensures.value in
-    let off = turn.clear (child_of c.args.self.now c.requires.2) (omega arith) c.index.ensures c.if-index.false in (
+    let off = turn.clear (child_of c.args.self.now c.requires.2) (omega arith) c.is_marked.ensures c.if-is_marked.false in (
       c.requires.0 ++ own_entries c.extend_from_slice.new.self.items (info_in c.in_ok-own.own),
       suc c.requires.1,
       (
         c.requires.2.0,
-        turn.passed_by (child_of c.args.self.now c.requires.2) (omega arith) off cut
+        turn.passed_by (child_of c.args.self.now c.requires.2) (omega arith) off cut c.mark.ensures
             (info_in c.in_ok-own.own) _ c.in_ok-own.ensures.node (rw c.in_default.is refl),
       ),
     )
@@ -75,13 +75,13 @@ pub returns-in_default-clause-found : goal.returns-in_default-clause-found
 returns-in_default-clause-found g c = λ found n at.
     let cut = c.in_ok-extend_from_slice.ensures.items ∙ ap (λ (x : List ℕ). x ++ c.as_bytes.result.now) c.truncate.ensures.items
     ∙ ap (λ (x : List ℕ). take c.args.self.now.top.name_len c.args.self.now.name.items ++ x) c.as_bytes.ensures.value in
-    let off = turn.clear (child_of c.args.self.now at) (omega arith) c.index.ensures c.if-index.false in (
+    let off = turn.clear (child_of c.args.self.now at) (omega arith) c.is_marked.ensures c.if-is_marked.false in (
       suc n,
       subst (λ (x : List ℕ). HasFound (found ++ own_entries x (info_in c.in_ok-own.own)) (suc n) c.go_on-in_default.new.self)
           (sym c.go_on-in_default.ensures.name)
           (c.go_on-in_default.ensures.found (found ++ own_entries c.extend_from_slice.new.self.items (info_in c.in_ok-own.own)) (suc n) (
             at.0,
-            turn.passed_by (child_of c.args.self.now at) (omega arith) off cut (info_in c.in_ok-own.own) _ c.in_ok-own.ensures.node
+            turn.passed_by (child_of c.args.self.now at) (omega arith) off cut c.mark.ensures (info_in c.in_ok-own.own) _ c.in_ok-own.ensures.node
                 (rw c.in_default.is refl),
           )),
       omega (arith, c.in_ok-own.ensures.visits),
@@ -95,16 +95,16 @@ returns-in_default-clause-utf8 g c =
 
 pub returns-in_default-clause-less : goal.returns-in_default-clause-less
 returns-in_default-clause-less g c =
-    let off = turn.clear (child_of c.args.self.now c.requires.2) (omega arith) c.index.ensures c.if-index.false in
+    let off = turn.clear (child_of c.args.self.now c.requires.2) (omega arith) c.is_marked.ensures c.if-is_marked.false in
     let w = c.args.self.now in
-    less_passed w.over (length w.source.bytes.now) w.marks.items w.top (w.next.start - w.source.from) (reverse w.stack.items) (turn.within
-    (child_of c.args.self.now c.requires.2) (omega arith)) off c.go_on-in_default.ensures.less
+    less_passed w.over (length w.source.bytes.now) w.marks c.mark.new.self w.top (w.next.start - w.source.from) (reverse w.stack.items)
+    (turn.within (child_of c.args.self.now c.requires.2) (omega arith)) off c.mark.ensures c.go_on-in_default.ensures.less
 
 pub returns-in_err-keep_below-clause-refused : goal.returns-in_err-keep_below-clause-refused
 returns-in_err-keep_below-clause-refused g c =
     let p = err_from_is_err_and c.from_residual-in_err-keep_below.result c.from_residual-in_err-keep_below.ensures.1 in
     rw (p.1, p.2) (λ found n at.
-    let off = turn.clear (child_of c.args.self.now at) (omega arith) c.index.ensures c.if-index.false in
+    let off = turn.clear (child_of c.args.self.now at) (omega arith) c.is_marked.ensures c.if-is_marked.false in
     record {
       fault = tt;
       visited = suc n;
@@ -117,7 +117,7 @@ pub returns-clause-found : goal.returns-clause-found
 returns-clause-found g c = λ found n at.
     let cut = c.in_ok-extend_from_slice.ensures.items ∙ ap (λ (x : List ℕ). x ++ c.as_bytes.result.now) c.truncate.ensures.items
     ∙ ap (λ (x : List ℕ). take c.args.self.now.top.name_len c.args.self.now.name.items ++ x) c.as_bytes.ensures.value in
-    let off = turn.clear (child_of c.args.self.now at) (omega arith) c.index.ensures c.if-index.false in
+    let off = turn.clear (child_of c.args.self.now at) (omega arith) c.is_marked.ensures c.if-is_marked.false in
     let s = c.args.self.now.source in
     let node = subst (λ (bs : Option Branches). node_in s c.args.self.now.next.start ≡ Ok (node_of s
     (c.in_ok-own.own, bs))) c.in-Some.is c.in_ok-own.ensures.node in
@@ -126,7 +126,8 @@ returns-clause-found g c = λ found n at.
       inl (
         at.0,
         inr
-            (turn.entered (child_of c.args.self.now at) (omega arith) off cut (info_in c.in_ok-own.own) c.in-Some.branches node readable c.len-name_len.result
+            (turn.entered (child_of c.args.self.now at) (omega arith) off cut c.mark.ensures (info_in c.in_ok-own.own) c.in-Some.branches node readable
+            c.len-name_len.result
             (omega (arith, c.extend_from_slice.new.self.ok.0, c.len-name_len.ensures)) (reverse c.keep_below.new.stack.items)
             c.in_ok-keep_below.ensures.kept c.in_ok-keep_below.ensures.used_up),
       ),
@@ -141,11 +142,11 @@ returns-clause-utf8 g c =
 
 pub returns-clause-less : goal.returns-clause-less
 returns-clause-less g c =
-    let off = turn.clear (child_of c.args.self.now c.requires.2) (omega arith) c.index.ensures c.if-index.false in
+    let off = turn.clear (child_of c.args.self.now c.requires.2) (omega arith) c.is_marked.ensures c.if-is_marked.false in
     let few = subst (λ (bs : Option Branches). IfSome bs (λ b. b.left + 1 ≤ length c.args.self.now.source.bytes.now)) c.in-Some.is c.in_ok-own.ensures.few in
     let w = c.args.self.now in
-    less_entered w.over (length w.source.bytes.now) w.marks.items w.top
+    less_entered w.over (length w.source.bytes.now) w.marks c.mark.new.self w.top
     (record { left = c.in-Some.branches.left; place = c.in-Some.branches.place; name_len = c.len-name_len.result })
     (w.next.start - w.source.from) (reverse w.stack.items) (reverse c.keep_below.new.stack.items) c.requires.2.0 (omega (arith, few)) (turn.within
-    (child_of c.args.self.now c.requires.2) (omega arith)) off
+    (child_of c.args.self.now c.requires.2) (omega arith)) off c.mark.ensures
     c.in_ok-keep_below.ensures.kept c.in_ok-keep_below.ensures.used_up

@@ -1,0 +1,3 @@
+mod Written
+mod Facts
+mod Showing

@@ -1,0 +1,6 @@
+pub mod Parts
+pub mod Rows
+pub mod Lines
+pub mod OpcodeBindings
+pub mod Shown
+pub mod Held

@@ -1,0 +1,85 @@
+-- The lines that are printed of binds and fixups.
+use Rattle.std.specs.Prelude.{◌≡◌, ◌==◌, ℕ, List, [], ◌++◌, codes, map, Bool, true, false, Option, Some, None, Result, Ok, Err}
+use Rattle.std.specs.Prelude.{if◌then◌else◌}
+use Rattle.std.specs.Fmt.{digits, signed_decimal}
+use Rattle.std.specs.Io.KnownBytes.{Appends}
+use Rattle.std.specs.List.{flat_map, list_all}
+use Rattle.std.specs.Result.{is_ok}
+use Rattle.mach_base.specs.Fault.{Fault}
+use Rattle.mach_base.specs.Words.{words_of}
+use Rattle.mach_base.specs.declared.error.Error.{Error}
+use Rattle.mach_chained.specs.Pointers.{Auth}
+use Rattle.machfixups.specs.Rows.{Place, Bind, Action, binds, rebases, is_value, Row, row_view, row_read}
+use Rattle.machfixups.specs.declared.row.Row as declared
+
+-- a number in hexadecimal
+abbrev pub hex : ℕ → List ℕ
+hex n = codes "0x" ++ digits 16 false n
+
+-- an address, the name of the segment and that of the section
+abbrev pub place_text : Place → List ℕ
+place_text p = hex p.address ++ codes " " ++ p.segment ++ codes " " ++ p.section
+
+-- the keys of arm64e
+abbrev pub key_text : ℕ → List ℕ
+key_text key =
+    if key == 0 then codes "IA"
+    else (if key == 1 then codes "IB"
+    else (if key == 2 then codes "DA"
+    else codes "DB"))
+
+abbrev pub address_text : (is_address_diverse : Bool) → List ℕ
+address_text true = codes ":address"
+address_text false = []
+
+-- how a pointer is signed: the key, what is mixed in, and whether the pointer's own address is mixed in, too
+abbrev pub auth_text : Auth → List ℕ
+auth_text a = codes "auth:" ++ key_text a.key ++ codes ":" ++ hex a.diversity ++ address_text a.is_address_diverse
+
+-- the flags of a bind, joined by commas, `-` where there are none
+abbrev pub flags_text : (is_weak is_lazy : Bool) → Option Auth → List ℕ
+flags_text false false None = codes "-"
+flags_text true false None = codes "weak"
+flags_text false true None = codes "lazy"
+flags_text true true None = codes "weak,lazy"
+flags_text false false (Some a) = auth_text a
+flags_text true false (Some a) = codes "weak," ++ auth_text a
+flags_text false true (Some a) = codes "lazy," ++ auth_text a
+flags_text true true (Some a) = codes "weak,lazy," ++ auth_text a
+
+abbrev pub bind_text : Bind → List ℕ
+bind_text b =
+    codes "bind " ++ signed_decimal b.ordinal ++ codes " " ++ signed_decimal b.addend ++ codes " "
+    ++ flags_text b.is_weak b.is_lazy b.auth ++ codes " " ++ b.name
+
+-- a rebase has flags where its pointer is signed
+abbrev pub rebase_text : ℕ → Option Auth → List ℕ
+rebase_text target None = codes "rebase " ++ hex target
+rebase_text target (Some a) = codes "rebase " ++ hex target ++ codes " " ++ auth_text a
+
+abbrev pub action_text : Action → List ℕ
+action_text (binds b) = bind_text b
+action_text (rebases target auth) = rebase_text target auth
+action_text (is_value number) = codes "value " ++ hex number
+
+abbrev pub row_text : Row → List ℕ
+row_text r = place_text r.place ++ codes " " ++ action_text r.action
+
+-- The line of a row as it was answered: the row, or why there is none.
+abbrev pub row_line : Result declared.Row Error → List ℕ
+row_line (Ok r) = row_text (row_view r) ++ codes "\n"
+row_line (Err e) = codes "unreadable: " ++ words_of e ++ codes "\n"
+
+-- The text is a line for each of these rows, in order; one that is missing is an error that reports its fault. It is
+-- whole where none is missing.
+pub record AreLines (rows : List (Result Row Fault)) (text : List ℕ) (whole : Bool) : Type 0 where
+  pub answers : List (Result declared.Row Error)
+  pub are_rows : map row_read answers ≡ rows
+  pub is_text : text ≡ flat_map row_line answers
+  pub is_whole : whole ≡ list_all is_ok rows
+
+-- What was written is such lines.
+pub record WritesLines (rows : List (Result Row Fault)) (whole : Bool) (old new : Option (List ℕ)) : Type 0 where
+  pub text : List ℕ
+  pub lines : AreLines rows text whole
+  pub written : Appends old new text

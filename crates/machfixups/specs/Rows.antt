@@ -1,0 +1,153 @@
+-- What is shown of each bind of the opcodes and of each fixup of the chains.
+use Rattle.std.specs.Prelude.{ℕ, ℤ, pos, negsuc, ◌+ℤ◌, List, codes, map, ◌++◌, Bool, false, Option, Some, None, option_map, Result, Ok, Err, slice_get}
+use Rattle.mach_base.specs.Answer.{◌>>=◌}
+use Rattle.mach_base.specs.Fault.{Fault, malformed}
+use Rattle.mach_base.specs.declared.error.Error.{Error}
+use Rattle.mach_parts.specs.Bindings.{Binding, Provider, of_library, itself, main_executable, flat, weak_lookup}
+use Rattle.mach_parts.specs.Items.{read_as}
+use Rattle.mach_chained.specs.Fixups.{Fixup}
+use Rattle.mach_chained.specs.Header.{Fixups}
+use Rattle.mach_chained.specs.Imports.{Import, import_at}
+use Rattle.mach_chained.specs.PointerViews.{auth_seen}
+use Rattle.mach_chained.specs.Views.{fixups_view}
+use Rattle.mach_chained.specs.declared.header.ChainedFixups.{ChainedFixups}
+use Rattle.mach_chained.specs.Pointers.{Kind, rebase, bind, value, Auth}
+use Rattle.machfixups.specs.Parts.{Part, part_with, section_with}
+use Rattle.machfixups.specs.declared.row.Action as declared_action
+use Rattle.machfixups.specs.declared.row.Action.TheVariants as variants
+use Rattle.machfixups.specs.declared.row.Bind as declared_bind
+use Rattle.machfixups.specs.declared.row.Place as declared_place
+use Rattle.machfixups.specs.declared.row.Row as declared
+
+-- where a pointer lies: its address, and the names that are shown of its segment and its section
+pub record Place : Type 0 where
+  pub address : ℕ
+  pub segment : List ℕ
+  pub section : List ℕ
+
+-- a symbol whose address a pointer takes: 0 is the image itself as its provider, above it a library of the image's list,
+-- -1 the main executable, -2 any image (flat), -3 the weak look-up
+pub record Bind : Type 0 where
+  pub name : List ℕ
+  pub ordinal : ℤ
+  pub addend : ℤ
+  pub is_weak : Bool
+  pub is_lazy : Bool
+  pub auth : Option Auth
+
+-- what is asked for: a symbol's address, an address that moves with the image, or a number
+pub data Action : Type 0 where
+  binds : Bind → Action
+  rebases : (target : ℕ) → Option Auth → Action
+  is_value : ℕ → Action
+
+pub record Row : Type 0 where
+  pub place : Place
+  pub action : Action
+
+-- the place of an address in a segment, if there is one
+abbrev pub place_in : Option Part → ℕ → Place
+place_in None address = record { address = address; segment = codes "-"; section = codes "-" }
+place_in (Some p) address = record { address = address; segment = p.name; section = section_with address p.sections }
+
+-- ---- binds of the opcodes
+
+abbrev pub ordinal_of : Provider → ℤ
+ordinal_of (of_library ordinal name) = pos ordinal
+ordinal_of itself = pos 0
+ordinal_of main_executable = negsuc 0
+ordinal_of flat = negsuc 1
+ordinal_of weak_lookup = negsuc 2
+
+abbrev pub bind_of_binding : Binding → Bind
+bind_of_binding b = record {
+  name = b.name;
+  ordinal = ordinal_of b.provider;
+  addend = b.addend;
+  is_weak = b.is_weak;
+  is_lazy = b.is_lazy;
+  auth = None;
+}
+
+-- that of a bind of the opcodes, in the first segment that holds its address
+abbrev pub row_of_binding : List Part → Binding → Row
+row_of_binding parts b = record {
+  place = place_in (part_with b.address parts) b.address;
+  action = binds (bind_of_binding b);
+}
+
+-- ---- fixups of the chains
+
+-- the import of a number, if there are chains and their table has it
+abbrev pub import_in : Option Fixups → ℕ → Result Import Fault
+import_in None k = Err malformed
+import_in (Some table) k = import_at table k
+
+-- the bind of an import: the addend of the table and that of the pointer together
+abbrev pub bind_of_import : Import → ℤ → Option Auth → Bind
+bind_of_import i inline auth = record {
+  name = i.name;
+  ordinal = i.library;
+  addend = i.addend +ℤ inline;
+  is_weak = i.is_weak;
+  is_lazy = false;
+  auth = auth;
+}
+
+abbrev pub action_of : Option Fixups → Kind → Option Auth → Result Action Fault
+action_of table (rebase target) auth = Ok (rebases target auth)
+action_of table (value number) auth = Ok (is_value number)
+action_of table (bind import inline) auth = import_in table import >>= (λ i. Ok (binds (bind_of_import i inline auth)))
+
+-- that of a fixup, in its segment
+abbrev pub row_of_fixup : List Part → Option Fixups → Fixup → Result Row Fault
+row_of_fixup parts table f =
+    action_of table f.kind f.auth
+    >>= (λ action. Ok (record { place = place_in (slice_get parts f.segment) f.address; action = action }))
+
+-- ---- all rows
+
+abbrev pub binding_row : List Part → Result Binding Fault → Result Row Fault
+binding_row parts item = item >>= (λ b. Ok (row_of_binding parts b))
+
+abbrev pub fixup_row : List Part → Option Fixups → Result Fixup Fault → Result Row Fault
+fixup_row parts table item = item >>= row_of_fixup parts table
+
+-- those chained fixups, if they can be read
+abbrev pub table_of : Result (Option Fixups) Fault → Option Fixups
+table_of (Ok table) = table
+table_of (Err f) = None
+
+-- a row for each bind of the opcodes in order, then one for each fixup of the chains, or why there is none
+abbrev pub rows_of : List Part → Option Fixups → List (Result Binding Fault) → List (Result Fixup Fault) → List (Result Row Fault)
+rows_of parts table bindings fixups = map (binding_row parts) bindings ++ map (fixup_row parts table) fixups
+
+-- ---- what the code's values stand for
+
+abbrev pub table_seen : Option ChainedFixups → Option Fixups
+table_seen table = option_map fixups_view table
+
+abbrev pub place_view : declared_place.Place → Place
+place_view p = record { address = p.address; segment = p.segment.now; section = p.section.now }
+
+abbrev pub bind_view : declared_bind.Bind → Bind
+bind_view b = record {
+  name = b.name.now;
+  ordinal = b.ordinal;
+  addend = b.addend;
+  is_weak = b.is_weak;
+  is_lazy = b.is_lazy;
+  auth = auth_seen b.auth;
+}
+
+abbrev pub action_view : declared_action.Action → Action
+action_view (variants.Bind b) = binds (bind_view b)
+action_view (variants.Rebase target auth) = rebases target (auth_seen auth)
+action_view (variants.Value number) = is_value number
+
+abbrev pub row_view : declared.Row → Row
+row_view r = record { place = place_view r.place; action = action_view r.action }
+
+-- a row, as it was answered
+abbrev pub row_read : Result declared.Row Error → Result Row Fault
+row_read answer = read_as row_view answer

@@ -1,0 +1,108 @@
+//! The lines of an image's binds and fixups.
+
+ghost use Rattle.std.specs.Prelude.{◌≡◌, ℕ, List, Option, Result, map, IfOk};
+ghost use Rattle.std.specs.Io.KnownBytes.{Appends};
+ghost use Rattle.std.specs.Result.{is_ok};
+ghost use Rattle.mach_base.specs.Fault.{Fault};
+ghost use Rattle.mach_chained.specs.Fixups.{Fixup};
+ghost use Rattle.mach_chained.specs.Header.{Fixups};
+ghost use Rattle.mach_dyld.specs.BindingsLeft.{bindings_left};
+ghost use Rattle.mach_parts.specs.Bindings.{Binding};
+ghost use Rattle.goblin_mach.specs.Facts.{HasChainedFixups, HasFixups};
+ghost use Rattle.goblin_mach.specs.Fixups.{chained_held};
+ghost use Rattle.goblin_mach.specs.FixupsLeft.{fixups_left};
+ghost use Rattle.goblin_mach.specs.OpenImage.{IsImage};
+ghost use Rattle.machfixups.specs.Lines.{row_line, WritesLines};
+ghost use Rattle.machfixups.specs.Parts.{parts_seen};
+ghost use Rattle.machfixups.specs.Rows.{binding_row, fixup_row, rows_of, table_of, table_seen};
+ghost use Rattle.machfixups.specs.OpcodeBindings.{HasOpcodeBindings};
+
+use crate::parts::Part;
+use crate::row::{Row, binding_row, fixup_row};
+use goblin_mach::chained_fixups::ChainedFixups;
+use goblin_mach::{FixupIterator, MachO, OpcodeBindingIterator, describe, laws};
+use std::alloc::Allocator;
+use std::io;
+use std::io::Write;
+
+/// Prints exactly a line for each bind of the opcodes that the image has in its bytes, in order, and then one for each
+/// fixup of its chains, and answers whether all of them can be read. Where one can't its line says why.
+pub fn print_fixups<A: Allocator, B: Allocator, O: Write>(
+    image: &MachO<'_, A>,
+    parts: &[Part<'_, B>],
+    out: &mut O,
+) -> io::Result<bool>
+    ensures { (bytes : List ℕ) (o : ℕ) → IsImage bytes o image.now
+        → IfOk result (λ whole. (bindings : List (Result Binding Fault)) × HasOpcodeBindings bytes o bindings
+        × (chained : Result (Option Fixups) Fault) × HasChainedFixups bytes o chained
+        × (fixups : List (Result Fixup Fault)) × HasFixups bytes o fixups
+        × WritesLines (rows_of (parts_seen parts.now) (table_of chained) bindings fixups) whole (O.contents out.old) (O.contents out.new)) }
+{
+    laws::strict_image_is_lossy(image);
+    let binds_read = print_bindings(image.opcode_bindings(), parts, out)?;
+    let table = table_of(image);
+    let fixups_read = print_chains(image.fixups(), parts, &table, out)?;
+    Ok(binds_read & fixups_read)
+}
+
+// The chained fixups of an image, if it has any that can be read.
+fn table_of<'a, A: Allocator>(image: &MachO<'a, A>) -> Option<ChainedFixups<'a>>
+    ensures { table_seen result ≡ table_of (chained_held image.now) }
+{
+    match image.chained_fixups() {
+        Ok(found) => found,
+        Err(_) => None,
+    }
+}
+
+// Prints a line for each bind of the opcodes, and answers whether all can be read.
+fn print_bindings<B: Allocator, O: Write>(
+    bindings: OpcodeBindingIterator<'_, '_>,
+    parts: &[Part<'_, B>],
+    out: &mut O,
+) -> io::Result<bool>
+    ensures { IfOk result (λ whole. WritesLines (map (binding_row (parts_seen parts.now)) (bindings_left bindings.entry)) whole
+        (O.contents out.old) (O.contents out.new)) }
+{
+    let mut whole = true;
+    'bindings: for binding in bindings {
+        let row = binding_row(parts, binding);
+        whole &= print_row(&row, out)?;
+    }
+    Ok(whole)
+}
+
+// Prints a line for each fixup of the chains, and answers whether all can be read.
+fn print_chains<B: Allocator, O: Write>(
+    fixups: FixupIterator<'_, '_>,
+    parts: &[Part<'_, B>],
+    table: &Option<ChainedFixups<'_>>,
+    out: &mut O,
+) -> io::Result<bool>
+    ensures { IfOk result (λ whole. WritesLines (map (fixup_row (parts_seen parts.now) (table_seen table.now)) (fixups_left fixups.entry)) whole
+        (O.contents out.old) (O.contents out.new)) }
+{
+    let mut whole = true;
+    'fixups: for fixup in fixups {
+        let row = fixup_row(parts, table, fixup);
+        whole &= print_row(&row, out)?;
+    }
+    Ok(whole)
+}
+
+// Prints the line of a row, and answers whether there is one.
+fn print_row<O: Write>(answer: &goblin_mach::Result<Row<'_, '_>>, out: &mut O) -> io::Result<bool>
+    ensures { IfOk result (λ whole. (whole ≡ is_ok answer.now) × Appends (O.contents out.old) (O.contents out.new) (row_line answer.now)) }
+{
+    match answer {
+        Ok(row) => {
+            writeln!(out, "{row}")?;
+            Ok(true)
+        }
+        Err(error) => {
+            let words = describe(error);
+            writeln!(out, "unreadable: {words}")?;
+            Ok(false)
+        }
+    }
+}

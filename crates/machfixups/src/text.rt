@@ -1,0 +1,138 @@
+//! Binds and fixups as they are printed.
+
+ghost use Rattle.std.specs.Prelude.{◌≡◌, Some};
+ghost use Rattle.mach_chained.specs.PointerViews.{auth_view, auth_seen};
+ghost use Rattle.machfixups.specs.Lines.{place_text, key_text, address_text, auth_text, flags_text, bind_text, action_text, row_text};
+ghost use Rattle.machfixups.specs.Rows.{place_view, bind_view, action_view, row_view};
+
+use crate::row::{Action, Bind, Place, Row};
+use goblin_mach::chained_fixups::PointerAuth;
+use std::fmt;
+use std::fmt::{Display, Formatter, Write};
+
+impl Display for Place<'_> {
+    ghost output = { λ t. Some (place_text (place_view t)) };
+
+    fn fmt<W: Write>(&self, f: &mut Formatter<W>) -> fmt::Result {
+        let Place {
+            address,
+            segment,
+            section,
+        } = *self;
+        write!(f, "0x{address:x} {segment} {section}")
+    }
+}
+
+// The key of a signed pointer.
+fn key_text(key: u8) -> &'static str
+    ensures { result.now ≡ key_text key }
+{
+    match key {
+        0 => "IA",
+        1 => "IB",
+        2 => "DA",
+        _ => "DB",
+    }
+}
+
+// Whether a signed pointer's own address is mixed in.
+fn address_text(is_address_diverse: bool) -> &'static str
+    ensures { result.now ≡ address_text is_address_diverse }
+{
+    if is_address_diverse { ":address" } else { "" }
+}
+
+// How a pointer is signed.
+#[derive(Clone, Copy)]
+struct AuthText(PointerAuth);
+
+impl Display for AuthText {
+    ghost output = { λ t. Some (auth_text (auth_view t.0)) };
+
+    fn fmt<W: Write>(&self, f: &mut Formatter<W>) -> fmt::Result {
+        let key = key_text(self.0.key);
+        let diversity = self.0.diversity;
+        let address = address_text(self.0.is_address_diverse);
+        write!(f, "auth:{key}:0x{diversity:x}{address}")
+    }
+}
+
+// The flags of a bind.
+#[derive(Clone, Copy)]
+struct FlagsText {
+    is_weak: bool,
+    is_lazy: bool,
+    auth: Option<PointerAuth>,
+}
+
+impl Display for FlagsText {
+    ghost output = { λ t. Some (flags_text t.is_weak t.is_lazy (auth_seen t.auth)) };
+
+    fn fmt<W: Write>(&self, f: &mut Formatter<W>) -> fmt::Result {
+        let Some(auth) = self.auth else {
+            return match (self.is_weak, self.is_lazy) {
+                (false, false) => write!(f, "-"),
+                (true, false) => write!(f, "weak"),
+                (false, true) => write!(f, "lazy"),
+                (true, true) => write!(f, "weak,lazy"),
+            };
+        };
+        let auth = AuthText(auth);
+        match (self.is_weak, self.is_lazy) {
+            (false, false) => write!(f, "{auth}"),
+            (true, false) => write!(f, "weak,{auth}"),
+            (false, true) => write!(f, "lazy,{auth}"),
+            (true, true) => write!(f, "weak,lazy,{auth}"),
+        }
+    }
+}
+
+impl Display for Bind<'_> {
+    ghost output = { λ t. Some (bind_text (bind_view t)) };
+
+    fn fmt<W: Write>(&self, f: &mut Formatter<W>) -> fmt::Result {
+        let Bind {
+            name,
+            ordinal,
+            addend,
+            is_weak,
+            is_lazy,
+            auth,
+        } = *self;
+        let flags = FlagsText {
+            is_weak,
+            is_lazy,
+            auth,
+        };
+        write!(f, "bind {ordinal} {addend} {flags} {name}")
+    }
+}
+
+impl Display for Action<'_> {
+    ghost output = { λ t. Some (action_text (action_view t)) };
+
+    fn fmt<W: Write>(&self, f: &mut Formatter<W>) -> fmt::Result {
+        match self {
+            Action::Bind(bind) => write!(f, "{bind}"),
+            Action::Rebase { target, auth: None } => write!(f, "rebase 0x{target:x}"),
+            Action::Rebase {
+                target,
+                auth: Some(auth),
+            } => {
+                let auth = AuthText(*auth);
+                write!(f, "rebase 0x{target:x} {auth}")
+            }
+            Action::Value(number) => write!(f, "value 0x{number:x}"),
+        }
+    }
+}
+
+impl Display for Row<'_, '_> {
+    ghost output = { λ t. Some (row_text (row_view t)) };
+
+    fn fmt<W: Write>(&self, f: &mut Formatter<W>) -> fmt::Result {
+        let place = self.place;
+        let action = self.action;
+        write!(f, "{place} {action}")
+    }
+}

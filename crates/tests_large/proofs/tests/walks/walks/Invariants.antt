@@ -1,0 +1,9 @@
+use Rattle.mach_dyld.specs.WalkState.{work_left}
+use Rattle.mach_dyld.specs.Walks.{IsWalk}
+use Rattle.tests_large.proofs.tests.walks.walks.Given as goal
+
+abbrev pub invariant-exports : goal.invariant-exports
+invariant-exports g l = IsWalk l.walk
+
+abbrev pub decreases-exports : goal.decreases-exports
+decreases-exports g l = work_left l.walk
