@@ -132,7 +132,8 @@ fn changed(changes: &[(usize, u8)]) -> [u8; 436] {
 }
 
 // The fixups of file D.
-const FIXUPS: &str = "0 0x0 0x100000000 bind 0 5; 0 0x8 0x100000008 rebase 0x1000; 1 0x0 0x100004000 rebase 0x1000; 1 0x8 0x100004008 bind 0 5; ";
+const FIXUPS: &str =
+    "0 0x0 0x100000000 bind 0 5; 0 0x8 0x100000008 rebase 0x1000; 1 0x0 0x100004000 rebase 0x1000; 1 0x8 0x100004008 bind 0 5; ";
 
 // What its opcodes bind, and what its chains bind.
 const BY_OPCODES: &str = "_b 1 L 0x140 0x100004000 0; _c flat 0x148 0x100004008 0; ";

@@ -2,8 +2,7 @@
 
 use crate::tests::build::{header, words};
 use crate::tests::same::same;
-use goblin_mach::MachO;
-use goblin_mach::Provider;
+use goblin_mach::{MachO, Provider};
 use std::alloc::{AllocError, Global};
 use std::test::Fail;
 
