@@ -1,3 +1,4 @@
+pub mod CommandItems
 pub mod Exits
 pub mod Fields
 pub mod Headers

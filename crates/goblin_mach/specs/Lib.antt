@@ -1,5 +1,6 @@
 pub mod Magic
 pub mod Chain
+pub mod CommandItems
 pub mod Readings
 pub mod EntryPoint
 pub mod Subjects

@@ -2,6 +2,7 @@
 
 pub mod binding_laws;
 pub mod bindings;
+pub mod command_iterator;
 pub mod commands;
 pub mod entry;
 pub mod exported;

@@ -6,6 +6,7 @@ pub use crate::fat_file::laws::{entries_by_number, fat_file_of_bytes, records_by
 pub use crate::image::binding_laws::{
     image_bindings_are_imports, one_list_of_image_bindings, one_list_of_image_fixups,
 };
+pub use crate::image::command_iterator::commands_one_by_one;
 pub use crate::image::exported::exported_or_not;
 pub use crate::image::facts::{
     base_of_image, bindings_of_image, chained_fixups_of_image, commands_of_image,

@@ -11,12 +11,14 @@ pub use crate::fat_file::arches::FatArchIterator;
 pub use crate::fat_file::entry::SingleArch;
 pub use crate::fat_file::multi_arch::{MultiArch, SingleArchIterator};
 pub use crate::image::bindings::BindingIterator;
+pub use crate::image::command_iterator::CommandIterator;
 pub use crate::image::exported::find_export;
 pub use crate::image::fixups::FixupIterator;
 pub use crate::image::libraries::{Library, LibraryIterator, LibraryKind};
 pub use crate::image::mach::Mach;
 pub use crate::image::macho::MachO;
 pub use crate::image::magic::{parse_magic_and_ctx, peek, peek_bytes};
+pub use crate::image::subjects::{id_place, library_place, run_path_place};
 pub use crate::view::{LinkView, link_view};
 pub use mach_base::{
     BE, Container, Ctx, Description, Endian, Error, Hint, HintData, IntoCtx, LE, Record, Result,
@@ -33,8 +35,8 @@ pub use mach_records::{constants, cputype};
 pub mod chained_fixups {
     pub use mach_chained::{
         ChainPointer, ChainedBindIterator, ChainedFixups, ChainedFixupsHeader, ChainedImport,
-        ChainedImportIterator, ChainedStartsInSegment, Fixup, FixupIterator, FixupKind,
-        ImportFormat, PointerAuth, PointerFormat, SIZEOF_CHAINED_FIXUPS_HEADER,
+        ChainedImportIterator, ChainedStartsInSegment, Fixup, FixupCursor, FixupIterator,
+        FixupKind, ImportFormat, PointerAuth, PointerFormat, SIZEOF_CHAINED_FIXUPS_HEADER,
         SIZEOF_CHAINED_STARTS_IN_SEGMENT, read_pointer,
     };
 }

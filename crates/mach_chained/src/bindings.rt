@@ -4,7 +4,8 @@ ghost use Rattle.std.specs.Prelude.{◌≡◌, ◌+◌, ◌≤◌, ◌+ℤ◌, [
 ghost use Rattle.std.specs.Iterator.{YieldsFirstBy};
 ghost use Rattle.mach_base.specs.Answer.{Reads, Stands, IsOkUnlessMemory};
 ghost use Rattle.mach_base.specs.Fault.{Fault};
-ghost use Rattle.mach_chained.specs.Bindings.{place_in_file, signed_or_malformed, binding_of, binding_in, bindings_of, AreBindingItems, ListsBindings, BindingFault};
+ghost use Rattle.mach_chained.specs.Bindings.{place_in_file, signed_or_malformed, binding_of, binding_in, bindings_of, AreBindingItems, ListsBindings};
+ghost use Rattle.mach_chained.specs.Bindings.{BindingFault};
 ghost use Rattle.mach_chained.specs.Chained.{Placed, AreFixups, fixup_items};
 ghost use Rattle.mach_chained.specs.WalkViews.{input_of, input_in, fixup_view};
 ghost use Rattle.mach_parts.specs.Bindings as declared;
@@ -14,7 +15,7 @@ ghost use Rattle.mach_chained.specs.BindingViews.{bindings_seen, bindings_left, 
 use crate::fixups::FixupIterator;
 use crate::header::ChainedFixups;
 use crate::pointer::FixupKind;
-use crate::source::{Fixup, nth_segment};
+use crate::source::{Fixup, Source, nth_segment};
 use mach_base::{Error, Result, Steps};
 use mach_parts::binding::{Binding, Provider};
 use mach_parts::segment::Segment;
@@ -144,17 +145,22 @@ impl<'a> ChainedFixups<'a> {
     }
 }
 
-impl<'a> ChainedBindIterator<'a, '_> {
+impl<'a> Source<'a, '_> {
     // The binding of a bind.
     #[tactic(auto, unfolding(crate::specs::Bindings::binding_of))]
     #[inline(always)]
-    fn bound(&self, fixup: &Fixup, import: u32, addend: i32) -> Result<Binding<'a>>
-        ensures { Reads binding_view result (binding_of (input_of self.now.fixups.source) (texts self.now.libs.now) (fixup_view fixup.now) import addend) }
+    fn bound(
+        &self,
+        libs: &[&'a str],
+        fixup: &Fixup,
+        import: u32,
+        addend: i32,
+    ) -> Result<Binding<'a>>
+        ensures { Reads binding_view result (binding_of (input_of self.now) (texts libs.now) (fixup_view fixup.now) import addend) }
     {
-        let source = &self.fixups.source;
-        let found = source.fixups.import(import)?;
-        let provider = Provider::of_ordinal(self.libs, i64::from(found.library))?;
-        let offset = place_in_file(source.segments, fixup.segment, fixup.offset)?;
+        let found = self.fixups.import(import)?;
+        let provider = Provider::of_ordinal(libs, i64::from(found.library))?;
+        let offset = place_in_file(self.segments, fixup.segment, fixup.offset)?;
         let addend = whole_addend(found.addend, addend)?;
         Ok(Binding {
             name: found.name,
@@ -167,28 +173,56 @@ impl<'a> ChainedBindIterator<'a, '_> {
         })
     }
 
+    // What comes of a fixup, if it is a bind.
+    #[inline(always)]
+    fn binding(&self, libs: &[&'a str], fixup: &Fixup) -> Option<Result<Binding<'a>>>
+        ensures { MatchOption result
+            (binding_in (input_of self.now) (texts libs.now) (fixup_view fixup.now) ≡ None)
+            (λ answer. binding_in (input_of self.now) (texts libs.now) (fixup_view fixup.now) ≡ Some (binding_read answer)) }
+    {
+        match fixup.kind {
+            FixupKind::Bind { import, addend } => {
+                match self.bound(libs, fixup, import, addend) {
+                    Ok(binding) => Some(Ok(binding)),
+                    Err(e) => Some(Err(e)),
+                }
+            }
+            FixupKind::Rebase { target: _ } => None,
+            FixupKind::Value { value: _ } => None,
+        }
+    }
+}
+
+impl<'a> ChainedFixups<'a> {
+    /// What comes of a fixup of the chains, if it is a bind: its binding, or why it has none. `libs` are the image's
+    /// libraries, by ordinal, `segments` its segments, and `base` is the address of its first byte in memory.
+    #[inline(always)]
+    pub fn binding(
+        &self,
+        libs: &[&'a str],
+        segments: &[Segment<'a>],
+        base: u64,
+        fixup: &Fixup,
+    ) -> Option<Result<Binding<'a>>>
+        ensures { MatchOption result
+            (binding_in (input_in self.now segments.now base) (texts libs.now) (fixup_view fixup.now) ≡ None)
+            (λ answer. binding_in (input_in self.now segments.now base) (texts libs.now) (fixup_view fixup.now) ≡ Some (binding_read answer)) }
+    {
+        let source = Source {
+            fixups: *self,
+            segments,
+            base,
+        };
+        source.binding(libs, fixup)
+    }
+}
+
+impl<'a> ChainedBindIterator<'a, '_> {
     // Ends.
     fn end(&mut self)
         ensures { bindings_left self.new ≡ [] }
     {
         self.ended = true;
-    }
-
-    // What comes of a fixup, if it is a bind.
-    #[inline(always)]
-    fn binding(&self, fixup: &Fixup) -> Option<Result<Binding<'a>>>
-        ensures { MatchOption result
-            (binding_in (input_of self.now.fixups.source) (texts self.now.libs.now) (fixup_view fixup.now) ≡ None)
-            (λ answer. binding_in (input_of self.now.fixups.source) (texts self.now.libs.now) (fixup_view fixup.now) ≡ Some (binding_read answer)) }
-    {
-        match fixup.kind {
-            FixupKind::Bind { import, addend } => match self.bound(fixup, import, addend) {
-                Ok(binding) => Some(Ok(binding)),
-                Err(e) => Some(Err(e)),
-            },
-            FixupKind::Rebase { target: _ } => None,
-            FixupKind::Value { value: _ } => None,
-        }
     }
 
     // The next binding, or the fault that ends them, with a count of the pointers read.
@@ -213,7 +247,7 @@ impl<'a> ChainedBindIterator<'a, '_> {
                     return Some(Err(e));
                 }
             };
-            match self.binding(&fixup) {
+            match self.fixups.source.binding(self.libs, &fixup) {
                 None => {}
                 Some(Ok(binding)) => return Some(Ok(binding)),
                 Some(Err(e)) => {

@@ -3,6 +3,7 @@
 
 mod bindings;
 mod bits;
+mod cursor;
 mod fixups;
 mod format;
 mod header;
@@ -14,6 +15,7 @@ mod source;
 mod starts;
 
 pub use crate::bindings::ChainedBindIterator;
+pub use crate::cursor::FixupCursor;
 pub use crate::fixups::FixupIterator;
 pub use crate::format::{ImportFormat, PointerFormat};
 pub use crate::header::{ChainedFixups, ChainedFixupsHeader, SIZEOF_CHAINED_FIXUPS_HEADER};

@@ -6,9 +6,11 @@ ghost use Rattle.mach_base.specs.Fault.{malformed};
 ghost use Rattle.mach_base.specs.Number.{number, number_at};
 ghost use Rattle.mach_base.specs.Sums.{found_or_malformed};
 ghost use Rattle.mach_chained.specs.Pointers.{pointer_width};
-ghost use Rattle.mach_chained.specs.Fixups.{Input, span_at, no_ends, ends_of, in_memory, behind, start_at, spot_of, spot_by, start_among, first_in_page, next_in_page, fixup_at};
+ghost use Rattle.mach_chained.specs.Fixups.{Input, span_at, no_ends, ends_of, in_memory, behind, start_at, spot_of, spot_by, start_among, first_in_page};
+ghost use Rattle.mach_chained.specs.Fixups.{next_in_page, fixup_at};
 ghost use Rattle.mach_chained.specs.WalkViews.{input_of, chains_view, span_view, span_seen, spot_view, spot_seen, fixup_seen};
 ghost use Rattle.mach_chained.specs.FixupsLeft.{next_spot};
+ghost use Rattle.mach_chained.specs.Opened.{nothing_opened};
 ghost use Rattle.std.specs.Prelude.{slice_get};
 
 use crate::format::PointerFormat;
@@ -141,6 +143,7 @@ impl<'a> Span<'a> {
     pub fn before_all() -> Self
         ensures ends { ends_of (span_view result) ≡ no_ends }
         ensures pages { result.chains.page_count ≡ 0 }
+        ensures whole { span_view result ≡ nothing_opened }
     {
         Span {
             number: 0,

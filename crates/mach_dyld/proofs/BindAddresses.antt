@@ -26,10 +26,10 @@ held offset s h e = by_test (nat_lt offset s.vmsize) refl e
     by_test true lt e = (ltb-true offset s.vmsize lt, same_ok e)
     by_test false lt e = absurd (cc)
 
-abbrev target_at : List ℕ → ℕ → ℕ → Result Target Fault
+abbrev pub target_at : List ℕ → ℕ → ℕ → Result Target Fault
 target_at dylib o a = Ok (record { dylib = dylib; offset = o; address = a })
 
-abbrev summed_at : List ℕ → ℕ → Segment → Result Target Fault
+abbrev pub summed_at : List ℕ → ℕ → Segment → Result Target Fault
 summed_at dylib offset s = sum_of s.fileoff offset >>= λ (o : ℕ). sum_of s.vmaddr offset >>= λ (a : ℕ). target_at dylib o a
 
 target_lies : (x : Input) (number k offset : ℕ) (t : Target) → target_of x number k offset ≡ Ok t → LiesIn x.segments k t.address

@@ -38,7 +38,7 @@ mutual
             ∙ (sym (append_assoc first some more.0) ∙ ap (λ (x : List Entry). x ++ more.0) (sym e)))),
       )
 
-whole_list : (t : Trie) (s : ℕ) (p : List ℕ) (xs : List Entry) → Lists t s p xs → ListBegins t s p xs
+pub whole_list : (t : Trie) (s : ℕ) (p : List ℕ) (xs : List Entry) → Lists t s p xs → ListBegins t s p xs
 whole_list t s p [] (nothing out) = none_yet
 whole_list t s p xs (a_node {others = others} node is all e) = node_begun node is (whole_begun t p node.branches others all) e
 

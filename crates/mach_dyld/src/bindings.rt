@@ -9,6 +9,7 @@ ghost use Rattle.mach_dyld.specs.Streams.{Placed};
 ghost use Rattle.mach_dyld.specs.Imports.{input_in};
 ghost use Rattle.mach_dyld.specs.Exports.{texts};
 ghost use Rattle.mach_dyld.specs.BindLeft.{input_of, bind_of};
+ghost use Rattle.mach_dyld.specs.BindCursors.{IsOverBindings, IsBindingBy, KeepsBindingPlace};
 ghost use Rattle.mach_parts.specs.Bindings.{provider_of, provider_view, binding_view, binding_read};
 ghost use Rattle.mach_dyld.specs.Bindings as defined;
 ghost use Rattle.mach_dyld.specs.Bindings.{spot_of, binding_of, AreBindings};
@@ -28,12 +29,12 @@ use mach_parts::segment::Segment;
 /// fault; then its error; then nothing more. It takes no memory.
 #[derive(Drop)]
 pub struct OpcodeBindingIterator<'a, 'b> {
-    source: Source<'a, 'b>,
-    lazy_from: usize,
-    lazy_upto: usize,
-    state: State<'a>,
+    pub(crate) source: Source<'a, 'b>,
+    pub(crate) lazy_from: usize,
+    pub(crate) lazy_upto: usize,
+    pub(crate) state: State<'a>,
     // The special ordinal, where it was set after the library.
-    special: Option<i64>,
+    pub(crate) special: Option<i64>,
 }
 
 impl<'a> BindInterpreter<'a> {
@@ -46,9 +47,10 @@ impl<'a> BindInterpreter<'a> {
         segments: &'b [Segment<'a>],
         ctx: Ctx,
     ) -> OpcodeBindingIterator<'a, 'b>
-        ensures { (ps : List Placed) × (qs : List Placed)
+        ensures items { (ps : List Placed) × (qs : List Placed)
             × AreBindings (input_in self.now (pointer_size ctx.container) (texts libs.now) segments.now)
             self.now.non_lazy self.now.lazy ps qs (bindings_left result) }
+        ensures over { IsOverBindings (input_in self.now (pointer_size ctx.container) (texts libs.now) segments.now) self.now.lazy result }
     {
         OpcodeBindingIterator {
             source: Source {
@@ -173,6 +175,8 @@ impl<'a> OpcodeBindingIterator<'a, '_> {
         requires on { self.old.state.ended ≡ false }
         ensures items { IfOk result (λ b. bindings_left self.old ≡ Ok (binding_view b) ∷ bindings_left self.new) }
         ensures err { IfErr result (λ e. bindings_left self.old ≡ Err (fault_of e) ∷ []) }
+        ensures keeps { KeepsBindingPlace self.old self.new }
+        ensures bound { IfOk result (λ b. IsBindingBy self.new (binding_view b)) }
     {
         let Some(binding) = self.binding() else {
             return Err(self.bind_error());
@@ -194,6 +198,7 @@ impl<'a> OpcodeBindingIterator<'a, '_> {
         ensures err { IfErr result (λ e. bindings_left self.old ≡ Err (fault_of e) ∷ []) }
         ensures on { self.new.state.ended ≡ false }
         ensures is_lazy { self.new.state.settings.is_lazy ≡ self.old.state.settings.is_lazy }
+        ensures keeps { KeepsBindingPlace self.old self.new }
     {
         let (bytes, pointer) = (self.source.bytes, self.source.pointer);
         let place = self.state.place;
@@ -223,6 +228,7 @@ impl<'a> OpcodeBindingIterator<'a, '_> {
         ensures left { opcodes_left self.old ≡ opcodes_left self.new }
         ensures on { self.new.state.ended ≡ false }
         ensures is_lazy { self.new.state.settings.is_lazy ≡ true }
+        ensures keeps { KeepsBindingPlace self.old self.new }
     {
         self.state = State::start(self.lazy_from, self.lazy_upto, true);
         self.special = None;
@@ -237,6 +243,7 @@ impl<'a> OpcodeBindingIterator<'a, '_> {
         ensures on { self.new.state.ended ≡ false }
         ensures there { IfOk result (λ there. there ≡ true → 0 < self.new.state.count) }
         ensures end { IfOk result (λ there. there ≡ false → IsAtEnd self.new) }
+        ensures keeps { KeepsBindingPlace self.old self.new }
     {
         'reading: while self.state.count == 0 {
             if self.state.place < self.state.upto {
@@ -253,15 +260,18 @@ impl<'a> OpcodeBindingIterator<'a, '_> {
     // Ends.
     #[inline(always)]
     fn end(&mut self)
-        ensures { bindings_left self.new ≡ [] }
+        ensures none { bindings_left self.new ≡ [] }
+        ensures keeps { KeepsBindingPlace self.old self.new }
     {
         self.state.ended = true;
     }
 
     // The binding that comes next, or the fault that ends them.
     #[inline(always)]
-    fn step(&mut self) -> Option<Result<Binding<'a>>>
-        ensures { YieldsFirstBy binding_read bindings_left self.old result self.new }
+    pub(crate) fn step(&mut self) -> Option<Result<Binding<'a>>>
+        ensures items { YieldsFirstBy binding_read bindings_left self.old result self.new }
+        ensures keeps { KeepsBindingPlace self.old self.new }
+        ensures bound { IfSome result (λ item. IfOk item (λ b. IsBindingBy self.new (binding_view b))) }
     {
         if self.state.ended {
             return None;

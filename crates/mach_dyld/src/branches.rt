@@ -1,6 +1,6 @@
 //! The branches of a node as the look-up of a name keeps them: how many are left, and the place of the first.
 
-ghost use Rattle.std.specs.Prelude.{◌≡◌, ℕ, IfOk, Ok};
+ghost use Rattle.std.specs.Prelude.{◌≡◌, ◌≤◌, ℕ, IfOk, Ok, length};
 ghost use Rattle.mach_base.specs.Answer.{Reads};
 ghost use Rattle.mach_dyld.specs.Trie as trie;
 ghost use Rattle.mach_dyld.specs.Nodes.{branch_at, children_at};
@@ -22,6 +22,7 @@ pub struct BranchRun {
 pub fn read_run(bytes: &[u8], from: usize, place: usize) -> Result<BranchRun>
     ensures value { Reads (branches_of bytes.now from) result (children_at bytes.now from place) }
     ensures readable { IfOk result (IsReadable bytes.now from) }
+    ensures few { IfOk result (λ b. b.left ≤ length bytes.now) }
 {
     let (count, place) = number(bytes, place)?;
     let left = count as usize;

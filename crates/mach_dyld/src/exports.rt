@@ -4,17 +4,18 @@ ghost use Rattle.std.specs.Prelude.{◌≡◌, ◌≤◌, ◌<◌, ◌+◌, ◌-
 ghost use Rattle.mach_base.specs.Answer.{Stands, IsOkUnlessMemory};
 ghost use Rattle.mach_dyld.specs.Trie.{Entry, offset_of};
 ghost use Rattle.mach_dyld.specs.Exports.{texts, info_of, entries};
-ghost use Rattle.mach_dyld.specs.TrieRange.{empty_range, range_in, trie_there, ListsExports, ExportsFault};
+ghost use Rattle.mach_dyld.specs.TrieRange.{empty_range, range_in, range_upto, trie_there, ListsExports, ExportsFault};
 ghost use Rattle.mach_dyld.specs.Visits.{Visits};
 ghost use Rattle.mach_dyld.specs.Walks.{HasGiven};
 
+pub use crate::cursor::{NextExport, TrieCursor};
 pub use crate::info::{
     EXPORT_SYMBOL_FLAGS_KIND_ABSOLUTE, EXPORT_SYMBOL_FLAGS_KIND_MASK,
     EXPORT_SYMBOL_FLAGS_KIND_REGULAR, EXPORT_SYMBOL_FLAGS_KIND_THREAD_LOCAL,
     EXPORT_SYMBOL_FLAGS_REEXPORT, EXPORT_SYMBOL_FLAGS_STUB_AND_RESOLVER,
     EXPORT_SYMBOL_FLAGS_WEAK_DEFINITION, ExportInfo, SymbolKind,
 };
-pub use crate::walk::ExportWalk;
+pub use crate::walk::{ExportWalk, Open};
 use crate::walk::{Source, list_all};
 use mach_base::{ByteCount, Result, Steps};
 use mach_records::{DyldInfoCommand, LinkeditDataCommand};
@@ -112,6 +113,35 @@ impl<'a> ExportTrie<'a> {
             from: 0,
             upto: 0,
         }
+    }
+
+    /// The trie from a place of the bytes up to another; an empty one where these don't lie in the bytes.
+    pub fn at(bytes: &'a [u8], from: usize, upto: usize) -> Self
+        ensures { result ≡ range_upto bytes.now from upto }
+    {
+        if from <= upto && upto <= bytes.len() {
+            ExportTrie { bytes, from, upto }
+        } else {
+            ExportTrie {
+                bytes,
+                from: 0,
+                upto: 0,
+            }
+        }
+    }
+
+    /// Where the trie begins.
+    pub fn from(&self) -> usize
+        ensures { result ≡ self.now.from }
+    {
+        self.from
+    }
+
+    /// The place behind it.
+    pub fn upto(&self) -> usize
+        ensures { result ≡ self.now.upto }
+    {
+        self.upto
     }
 
     // The trie in so many bytes from an offset on; an empty one where they don't lie in the bytes.

@@ -4,6 +4,7 @@
 pub mod bind_opcodes;
 pub mod bindings;
 mod branches;
+mod cursor;
 pub mod exports;
 pub mod imports;
 mod info;

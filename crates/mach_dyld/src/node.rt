@@ -100,10 +100,10 @@ pub(crate) fn branches_error(bytes: &[u8], from: usize, count: usize, first: usi
     }
 }
 
-// A branch and the place after it, wherever `read_branch` finds one.
+/// A branch and the place after it, wherever `read_branch` finds one.
 #[tactic(auto, unfolding(crate::specs::Nodes::branch_at))]
 #[inline(always)]
-fn quick_branch(bytes: &[u8], from: usize, place: usize) -> Option<(Branch<'_>, usize)>
+pub(crate) fn quick_branch(bytes: &[u8], from: usize, place: usize) -> Option<(Branch<'_>, usize)>
     ensures { MatchOption result (IsErr (branch_at bytes.now from place))
         (λ found. branch_at bytes.now from place ≡ Ok (branch_of found.0, found.1)) }
 {

@@ -32,11 +32,15 @@ pub struct Source<'a, 'b> {
     pub upto: usize,
 }
 
-/// An open node: how many of its branches are left, where these begin, and how long its name is.
+/// An open node of an export trie.
 #[derive(Clone, Copy, Debug)]
+#[repr(C)]
 pub struct Open {
+    /// How many of its branches are left.
     pub left: usize,
+    /// Where these begin.
     pub place: usize,
+    /// How long its name is.
     pub name_len: usize,
 }
 
@@ -62,7 +66,7 @@ fn rare_own<'a>(source: &Source<'a, '_>, size: u64, place: usize) -> Result<(Exp
 
 // An own export of so many bytes, and the place of the branches.
 #[inline(always)]
-fn own_export<'a>(
+pub(crate) fn own_export<'a>(
     source: &Source<'a, '_>,
     size: u64,
     place: usize,

@@ -1,5 +1,5 @@
 -- Lists whose items go by their number.
-use Rattle.std.proofs.Common.{◌≡◌, ℕ, zero, suc, ◌+◌, ◌-◌, ◌<◌, ◌∷◌, length, Result, Ok, Err, Some, slice_get, refl, sym, ap, ◌∙◌, arith}
+use Rattle.std.proofs.Common.{◌≡◌, ℕ, zero, suc, ◌+◌, ◌-◌, ◌<◌, ◌∷◌, length, drop, Result, Ok, Err, Some, slice_get, refl, sym, ap, ◌∙◌, arith}
 use Rattle.mach_base.specs.declared.error.Error.{Error}
 use Rattle.mach_base.specs.Answer.{Reads}
 use Rattle.mach_base.specs.Fault.{Fault}
@@ -38,3 +38,18 @@ slice_get-items_from item first (suc count) (suc k) inside =
 -- an item of a list that begins with the first
 pub slice_get-items : {A : Type 0} (item : ℕ → A) (count k : ℕ) → k < count → slice_get (items_from item 0 count) k ≡ Some (item k)
 slice_get-items item count k inside = slice_get-items_from item 0 count k inside ∙ ap (λ (n : ℕ). Some (item n)) (omega arith)
+
+-- those behind the first ones
+drop-items_from : {A : Type 0} (item : ℕ → A) (first count k : ℕ) → drop k (items_from item first count) ≡ items_from item (first + k) (count - k)
+drop-items_from item first count zero =
+    let same : first + 0 ≡ first = omega arith in
+    let all : count - 0 ≡ count = omega arith in rw (same, all) refl
+drop-items_from item first zero (suc k) = let none : 0 - suc k ≡ 0 = omega arith in rw none refl
+drop-items_from item first (suc count) (suc k) =
+    let same : (first + 1) + k ≡ first + suc k = omega arith in
+    let fewer : suc count - suc k ≡ count - k = omega arith in
+    drop-items_from item (first + 1) count k ∙ rw (same, fewer) refl
+
+-- those of a list that begins with the first
+pub drop-items : {A : Type 0} (item : ℕ → A) (count k : ℕ) → drop k (items_from item 0 count) ≡ items_from item k (count - k)
+drop-items item count k = let same : 0 + k ≡ k = omega arith in drop-items_from item 0 count k ∙ rw same refl

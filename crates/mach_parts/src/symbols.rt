@@ -1,9 +1,10 @@
 //! Symbols and their names (`mach-o/nlist.h`).
 
-ghost use Rattle.std.specs.Prelude.{◌≡◌, ◌<◌, ◌^◌, [], Ok, length};
+ghost use Rattle.std.specs.Prelude.{◌≡◌, ◌<◌, ◌^◌, ◌↔◌, [], Ok, length, drop, IsTrue};
 ghost use Rattle.mach_base.specs.declared.context.Endian.TheVariants.{Little};
 ghost use Rattle.mach_base.specs.declared.context.Container.TheVariants.{Big};
 ghost use Rattle.mach_base.specs.Answer.{Reads};
+ghost use Rattle.mach_base.specs.Number.{place_after};
 ghost use Rattle.mach_parts.specs.Symbols.{symbol_place, symbol_at, symbols_of, table_at};
 ghost use Rattle.mach_parts.specs.SymbolViews.{table_of, table_view, symbol_read, symbols_left};
 
@@ -135,6 +136,75 @@ impl<'a> Symbols<'a> {
         ensures bounded { length (symbols_left result) < 2 ^ 64 }
     {
         SymbolIterator::new(self.table)
+    }
+
+    /// The symbols of which `count` records stand from `start` on, and the names from `strtab` on, in the width
+    /// and the byte order of `ctx`. None of this is tested.
+    pub fn at(bytes: &'a [u8], start: usize, count: usize, strtab: usize, ctx: Ctx) -> Symbols<'a>
+        ensures { table_of result ≡ record { bytes = bytes.now; start = start; nsyms = count; strtab = strtab; ctx = ctx } }
+    {
+        Symbols {
+            table: Table {
+                bytes,
+                start,
+                nsyms: count,
+                strtab,
+                ctx,
+            },
+        }
+    }
+
+    /// The place of the first record.
+    pub fn start(&self) -> usize
+        ensures { result ≡ (table_of self.now).start }
+    {
+        self.table.start
+    }
+
+    /// How many symbols there are said to be.
+    pub fn len(&self) -> usize
+        ensures { result ≡ (table_of self.now).nsyms }
+    {
+        self.table.nsyms
+    }
+
+    /// Whether there are said to be none.
+    pub fn is_empty(&self) -> bool
+        ensures { IsTrue result ↔ ((table_of self.now).nsyms ≡ 0) }
+    {
+        self.table.nsyms == 0
+    }
+
+    /// The place from which the places of names count.
+    pub fn strtab(&self) -> usize
+        ensures { result ≡ (table_of self.now).strtab }
+    {
+        self.table.strtab
+    }
+
+    /// The width of a record, and the byte order.
+    pub fn ctx(&self) -> Ctx
+        ensures { result ≡ (table_of self.now).ctx }
+    {
+        self.table.ctx
+    }
+
+    /// Where the name of a symbol of these stands; the last place that 64 bits have where it passes them.
+    #[inline(always)]
+    pub fn name_place(&self, symbol: &Nlist) -> usize
+        ensures { result ≡ place_after (table_of self.now).strtab symbol.now.n_strx }
+    {
+        self.table.strtab.saturating_add(symbol.n_strx)
+    }
+
+    /// The symbols from a number on, in order.
+    pub fn iter_from(&self, first: usize) -> SymbolIterator<'a>
+        ensures { symbols_left result ≡ drop first (symbols_of (table_of self.now)) }
+    {
+        SymbolIterator {
+            table: self.table,
+            index: first,
+        }
     }
 
     /// A symbol with its name; how many there are said to be is not tested.

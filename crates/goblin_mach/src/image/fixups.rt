@@ -54,6 +54,14 @@ pub fn last_readable<S: Subject>(subject: &S, commands: &[LoadCommand]) -> Optio
     last
 }
 
+/// The place and the size of the data that the last command brings, if one does.
+pub fn chained_place(commands: &[LoadCommand]) -> Option<(u32, u32)>
+    ensures { result ≡ chained_place_in (map command_of commands.now) }
+{
+    let place = last_readable(&ChainedPlaces, commands)?;
+    Some((place.dataoff, place.datasize))
+}
+
 /// The chained fixups that the last command brings, if one does.
 pub fn chained_fixups<'a>(
     bytes: &'a [u8],

@@ -21,8 +21,8 @@ fn place_of(start: usize, offset: u32) -> usize
     start.saturating_add(offset as usize)
 }
 
-// Where the name of a library stands, if the command brings one in.
-fn library_place(command: &LoadCommand) -> Option<usize>
+/// Where the name of a library stands in the bytes, if the command brings one in.
+pub fn library_place(command: &LoadCommand) -> Option<usize>
     ensures { let c = command_of command.now in result ≡ (if is_library c.kind then Some (name_place c) else None) }
 {
     match &command.command {
@@ -35,8 +35,8 @@ fn library_place(command: &LoadCommand) -> Option<usize>
     }
 }
 
-// Where the image's own name stands, if the command gives one.
-fn id_place(command: &LoadCommand) -> Option<usize>
+/// Where the image's own name stands in the bytes, if the command gives one.
+pub fn id_place(command: &LoadCommand) -> Option<usize>
     ensures { let c = command_of command.now in result ≡ (if is_id c.kind then Some (name_place c) else None) }
 {
     match &command.command {
@@ -45,8 +45,8 @@ fn id_place(command: &LoadCommand) -> Option<usize>
     }
 }
 
-// Where the path on which libraries are sought stands, if the command names one.
-fn run_path_place(command: &LoadCommand) -> Option<usize>
+/// Where the path on which libraries are sought stands in the bytes, if the command names one.
+pub fn run_path_place(command: &LoadCommand) -> Option<usize>
     ensures { let c = command_of command.now in result ≡ (if is_run_path c.kind then Some (name_place c) else None) }
 {
     match &command.command {

@@ -3,6 +3,7 @@
 ghost use Rattle.std.specs.Prelude.{◌≡◌, ◌+◌, ◌≤◌, ◌%◌, ◌^◌, length, Ok, IsErr, false, IfNone, MatchOption};
 ghost use Rattle.mach_dyld.specs.Instructions.{row_at};
 ghost use Rattle.mach_dyld.specs.BindLeft.{start_of, executed_by, state_of};
+ghost use Rattle.mach_dyld.specs.NamePlaces.{IsUnnamed, NameStands};
 
 use crate::bind_opcodes::*;
 use crate::imports::instruction::rare_sleb;
@@ -28,6 +29,7 @@ impl<'a> State<'a> {
         ensures state { state_of result
             ≡ start_of (record { from = from; upto = upto; is_lazy = is_lazy }) }
         ensures on { result.ended ≡ false }
+        ensures unnamed { IsUnnamed result.settings }
     {
         State {
             from,
@@ -63,6 +65,7 @@ impl<'a> State<'a> {
         ensures upto { self.new.upto ≡ self.old.upto }
         ensures ended { self.new.ended ≡ self.old.ended }
         ensures is_lazy { self.new.settings.is_lazy ≡ self.old.settings.is_lazy }
+        ensures named { NameStands bytes.now self.old.settings → NameStands bytes.now self.new.settings }
     {
         self.stride = 0;
         let after = match opcode {
@@ -82,6 +85,7 @@ impl<'a> State<'a> {
             BIND_OPCODE_SET_SYMBOL_TRAILING_FLAGS_IMM => {
                 let name = quick_text(bytes, place)?;
                 self.settings.name = name;
+                self.settings.name_place = place;
                 self.settings.flags = imm;
                 place + name.len() + 1
             }

@@ -1,6 +1,6 @@
 //! What dyld does with an image: its fixups, and what it binds.
 
-ghost use Rattle.std.specs.Prelude.{◌≡◌};
+ghost use Rattle.std.specs.Prelude.{◌≡◌, option_map};
 ghost use Rattle.mach_base.specs.Answer.{Reads};
 ghost use Rattle.mach_base.specs.Context.{pointer_size};
 ghost use Rattle.mach_dyld.specs.BindingsLeft as dyld;
@@ -8,19 +8,35 @@ ghost use Rattle.mach_dyld.specs.Exports.{texts};
 ghost use Rattle.mach_parts.specs.Segments.{segments_in};
 ghost use Rattle.goblin_mach.specs.Bindings.{AreOpcodeBindings, AreChainBindings, AreImageBindings};
 ghost use Rattle.goblin_mach.specs.BindingsLeft.{chain_bindings_left, bindings_left};
-ghost use Rattle.goblin_mach.specs.Fixups.{AreImageFixups, base_held, chained_held, chained_seen};
+ghost use Rattle.goblin_mach.specs.Fixups.{AreImageFixups, base_held, chained_held, chained_place_in, chained_seen};
 ghost use Rattle.goblin_mach.specs.FixupsLeft.{fixups_left};
-ghost use Rattle.goblin_mach.specs.OpenImage.{binds_held, ctx_held};
+ghost use Rattle.goblin_mach.specs.OpenImage.{binds_held, bytes_held, commands_held, ctx_held, trie_held};
 
 use crate::image::bindings::{BindingIterator, ChainBindings};
-use crate::image::fixups::{FixupIterator, base_of, chained_fixups};
+use crate::image::fixups::{FixupIterator, base_of, chained_fixups, chained_place};
 use crate::image::macho::MachO;
-use mach_base::Result;
+use mach_base::{Ctx, Result};
 use mach_chained::{ChainedBindIterator, ChainedFixups};
 use mach_dyld::bindings::OpcodeBindingIterator;
+use mach_dyld::exports::ExportTrie;
+use mach_dyld::imports::BindInterpreter;
 use std::alloc::Allocator;
 
 impl<'a, A: Allocator> MachO<'a, A> {
+    /// The bytes that the image was opened in, to which the places of its records count.
+    pub fn bytes(&self) -> &'a [u8]
+        ensures { result.now ≡ bytes_held self.now }
+    {
+        self.bytes
+    }
+
+    /// The width and the byte order in which its records are read.
+    pub fn ctx(&self) -> Ctx
+        ensures { result ≡ ctx_held self.now }
+    {
+        self.ctx
+    }
+
     /// The address of the image's first byte in memory, before sliding: the `vmaddr` of the first segment
     /// named `__TEXT` that the image holds at the call, or 0 where none is. Places of chained fixups count
     /// from it.
@@ -28,6 +44,28 @@ impl<'a, A: Allocator> MachO<'a, A> {
         ensures { result ≡ base_held self.now }
     {
         base_of(self.segments.as_slice())
+    }
+
+    /// The export trie that the image holds, if a command brings one.
+    pub fn export_trie(&self) -> Option<&ExportTrie<'a>>
+        ensures { option_map (λ trie. trie.now) result ≡ trie_held self.now }
+    {
+        self.export_trie.as_ref()
+    }
+
+    /// The ranges of the binds that the image holds, if a command brings any.
+    pub fn binds(&self) -> Option<&BindInterpreter<'a>>
+        ensures { option_map (λ binds. binds.now) result ≡ binds_held self.now }
+    {
+        self.bind_interpreter.as_ref()
+    }
+
+    /// The place and the size of the data of the chained fixups: those of the last `LC_DYLD_CHAINED_FIXUPS` among the
+    /// load commands that the image holds at the call, if one is there.
+    pub fn chained_place(&self) -> Option<(u32, u32)>
+        ensures { result ≡ chained_place_in (commands_held self.now) }
+    {
+        chained_place(self.load_commands.as_slice())
     }
 
     /// The chained fixups of the image (`mach-o/fixup-chains.h`): those of the last

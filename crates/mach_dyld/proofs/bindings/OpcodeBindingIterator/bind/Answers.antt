@@ -1,5 +1,6 @@
 use Rattle.mach_dyld.proofs.Names.{◌≡◌, Bool, List, Result, Ok, Fault, suc, ◌-◌, ◌∷◌, [], ◌∙◌, sym, ap, arith, Err, malformed, Bind, State, input_of}
-use Rattle.mach_dyld.proofs.Names.{state_of, bind_of, moved}
+use Rattle.mach_dyld.proofs.Names.{state_of, bind_of, moved, subst}
+use Rattle.mach_dyld.specs.Bindings.{binding_of}
 use Rattle.mach_parts.specs.Bindings.{binding_view}
 use Rattle.mach_dyld.specs.BindingsLeft.{lazy_of, ordinal_of, ordinal_now}
 use Rattle.mach_parts.specs.Bindings.{Binding}
@@ -35,3 +36,13 @@ returns-clause-items c =
     c.in-Some.ensures
     ∙ sym (ap (λ m. Ok (binding_view c.in-Some.binding) ∷ m)
     (ap (left c.advance.new.self.is_lazy) c.advance.ensures.moved ∙ ap (λ l. left l (moved it.state.stride old)) c.advance.ensures.same))
+
+pub returns-clause-bound : goal.returns-clause-bound
+unfolding moved
+returns-clause-bound c =
+    let it = c.args.self.now in
+    let offset = it.state.settings.offset in (
+      offset,
+      subst (λ (b : Bind). binding_of (input_of it.source) (ordinal_now it.special b.library) (record b { offset = offset })
+          ≡ Ok (binding_view c.in-Some.binding)) (sym c.advance.ensures.moved) c.in-Some.ensures,
+    )

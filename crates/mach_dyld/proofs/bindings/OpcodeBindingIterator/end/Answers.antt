@@ -4,6 +4,6 @@ unfoldable use Rattle.mach_dyld.specs.BindingsLeft.{bindings_left}
 use Rattle.mach_dyld.proofs.BindingSteps.{none_behind_end}
 use Rattle.mach_dyld.proofs.bindings.OpcodeBindingIterator.end.Goals as goal
 
-pub returns : goal.returns
+pub returns-clause-none : goal.returns-clause-none
 unfolding bindings_left
-returns c = none_behind_end (input_of c.args.self.now.source) (lazy_of c.args.self.now) (ordinal_of c.args.self.now) _ refl
+returns-clause-none c = none_behind_end (input_of c.args.self.now.source) (lazy_of c.args.self.now) (ordinal_of c.args.self.now) _ refl

@@ -3,9 +3,9 @@ unfoldable use Rattle.mach_dyld.specs.BindingsLeft.{bindings_left}
 use Rattle.mach_dyld.proofs.BindingLists.{bindings_of_ranges}
 use Rattle.mach_dyld.proofs.imports.BindInterpreter.bindings.Goals as goal
 
-pub returns : goal.returns
+pub returns-clause-items : goal.returns-clause-items
 unfolding bindings_left
-returns c =
+returns-clause-items c =
     let b = c.args.self.now in
     let libs = texts c.args.libs.now in
     let segments = c.args.segments.now in

@@ -9,14 +9,14 @@ returns-in-Err-clause-only g c = λ list l.
     let it = c.start-left.ensures.items in
     absurd (has_none c.args.self.now (pointer_size c.args.ctx.container) (texts c.args.libs.now) c.args.segments.now it.0 it.1 _ it.2
     (imports_seen c.binds.found.items) _ c.binds.invariant.items
-    c.end_at_instruction.result (c.in-Err.ensures.items ∙ c.end_at_instruction.ensures.0) list l)
+    c.end_at_instruction.result (c.in-Err.ensures.items ∙ c.end_at_instruction.ensures.fails.0) list l)
 
 pub returns-in-Err-clause-refused : goal.returns-in-Err-clause-refused
 returns-in-Err-clause-refused g c =
     let it = c.start-left.ensures.items in
     refuses c.args.self.now (pointer_size c.args.ctx.container) (texts c.args.libs.now) c.args.segments.now it.0 it.1 _ it.2 (imports_seen c.binds.found.items)
     _ c.binds.invariant.items
-    c.end_at_instruction.result (c.in-Err.ensures.items ∙ c.end_at_instruction.ensures.0)
+    c.end_at_instruction.result (c.in-Err.ensures.items ∙ c.end_at_instruction.ensures.fails.0)
 
 pub returns-in-Err-clause-bounded : goal.returns-in-Err-clause-bounded
 returns-in-Err-clause-bounded g c =
@@ -28,14 +28,14 @@ returns-in_default-clause-only g c = λ list l.
     let it = c.start-left.ensures.items in
     absurd (has_none c.args.self.now (pointer_size c.args.ctx.container) (texts c.args.libs.now) c.args.segments.now it.0 it.1 _ it.2
     (imports_seen c.binds.found.items) _ c.binds.invariant.items
-    c.end_at_bind.result (c.in-Ok-true.ensures.items ∙ c.in_default.ensures.none.0 ∙ c.end_at_bind.ensures.0) list l)
+    c.end_at_bind.result (c.in-Ok-true.ensures.items ∙ c.in_default.ensures.none.0 ∙ c.end_at_bind.ensures.fails.0) list l)
 
 pub returns-in_default-clause-refused : goal.returns-in_default-clause-refused
 returns-in_default-clause-refused g c =
     let it = c.start-left.ensures.items in
     refuses c.args.self.now (pointer_size c.args.ctx.container) (texts c.args.libs.now) c.args.segments.now it.0 it.1 _ it.2 (imports_seen c.binds.found.items)
     _ c.binds.invariant.items
-    c.end_at_bind.result (c.in-Ok-true.ensures.items ∙ c.in_default.ensures.none.0 ∙ c.end_at_bind.ensures.0)
+    c.end_at_bind.result (c.in-Ok-true.ensures.items ∙ c.in_default.ensures.none.0 ∙ c.end_at_bind.ensures.fails.0)
 
 pub returns-in_default-clause-bounded : goal.returns-in_default-clause-bounded
 returns-in_default-clause-bounded g c =

@@ -2,9 +2,9 @@ use Rattle.mach_dyld.proofs.Names.{◌≡◌, suc, ◌-◌, ◌∷◌, [], ◌�
 use Rattle.mach_dyld.proofs.BindSteps.{at_end, after_refusal}
 use Rattle.mach_dyld.proofs.imports.iterator.BindIterator.end_at_bind.Goals as goal
 
-pub returns : goal.returns
+pub returns-clause-fails : goal.returns-clause-fails
 unfolding imports_left
-returns c =
+returns-clause-fails c =
     let it = c.args.self.now in
     let k : it.state.count ≡ suc (it.state.count - 1) = omega arith in (
       after_refusal (input_of it.source) (lazy_of it) (state_of it.state) (it.state.count - 1) malformed k c.requires.on c.requires.none

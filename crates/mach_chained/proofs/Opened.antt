@@ -1,0 +1,86 @@
+-- The segment that was opened last opens again by its number.
+use Rattle.std.proofs.Common.{◌≡◌, ℕ, zero, Bool, true, false, cond, not, ◌==◌, Option, Some, None, Result, Ok, Err, refl, sym, ap, subst, ◌∙◌, nat_le, arith}
+use Rattle.mach_base.proofs.Binds.{bind_ok, same_ok}
+use Rattle.mach_base.specs.Answer.{◌>>=◌}
+use Rattle.mach_base.specs.Fault.{Fault, malformed}
+use Rattle.mach_base.specs.Sums.{found_or_malformed}
+use Rattle.mach_parts.specs.declared.segment.Segment.{Segment}
+use Rattle.mach_chained.specs.declared.starts.ChainedStartsInSegment.{ChainedStartsInSegment}
+use Rattle.mach_chained.specs.Fixups.{Input, Span, Ends, no_ends, in_memory, behind, span_of, span_by}
+unfoldable use Rattle.mach_chained.specs.Fixups.{span_at}
+use Rattle.mach_chained.specs.Starts.{Chains, starts_at, chains_of}
+use Rattle.std.specs.Prelude.{slice_get}
+use Rattle.mach_chained.specs.FixupCursors.{says_yes}
+use Rattle.mach_chained.specs.Opened.{IsKnown, nothing_opened, span_or_nothing}
+use Rattle.std.proofs.lemmas.Bool.{le-leb}
+
+-- nothing stands before the first
+first_behind : (chains : Chains) (s : Segment) → behind no_ends chains s ≡ Ok s
+first_behind chains s = rw (le-leb 0 chains.place (omega arith), le-leb 0 s.fileoff (omega arith)) refl
+
+-- where a segment stands behind another, it is that segment
+same_behind : (before : Ends) (chains : Chains) (s t : Segment) → behind before chains s ≡ Ok t → s ≡ t
+same_behind before chains s t e = by_tests (nat_le before.starts chains.place) (nat_le before.in_file s.fileoff) e
+  where
+    by_tests : (p q : Bool) → cond p (cond q (Ok s) (Err malformed)) (Err malformed) ≡ Ok t → s ≡ t
+    by_tests true true e = same_ok e
+    by_tests true false e = absurd (cc)
+    by_tests false q e = absurd (cc)
+
+-- the segment behind another is the same behind none
+abbrev then_span : Ends → ℕ → Chains → Segment → Result (Option Span) Fault
+then_span before k chains h = behind before chains h >>= λ (n : Segment). Ok (Some (span_of k chains n))
+
+some_same : {r q : Span} → ◌≡◌ {A = Result (Option Span) Fault} (Ok (Some r)) (Ok (Some q)) → r ≡ q
+some_same e = cc
+
+span_same : (before : Ends) (k : ℕ) (chains : Chains) (h : Segment) (s : Span) → then_span before k chains h ≡ Ok (Some s) → span_of k chains h ≡ s
+span_same before k chains h s e =
+    let d = bind_ok (behind before chains h) (λ (n : Segment). Ok (Some (span_of k chains n))) (Some s) e in
+    ap (λ (n : Segment). span_of k chains n) (same_behind before chains h d.0 d.1) ∙ some_same d.2
+
+module _ (x : Input) (before : Ends) (k : ℕ) (s : Span) where
+  by_memory : (chains : Chains) (r : Result Segment Fault) → (r >>= then_span before k chains) ≡ Ok (Some s)
+      → ((r >>= then_span no_ends k chains) ≡ Ok (Some s)) × (k ≡ s.number)
+  by_memory chains (Ok h) e =
+      let same = span_same before k chains h s e in (
+        ap (λ (r : Result Segment Fault). r >>= λ (n : Segment). Ok (Some (span_of k chains n))) (first_behind chains h) ∙ ap (λ (q : Span). Ok (Some q)) same,
+        ap (λ (q : Span). q.number) same,
+      )
+  by_memory chains (Err f) e = absurd (cc)
+
+  by_segment : (chains : Chains) (r : Result Segment Fault) → (r >>= λ (g : Segment). in_memory x chains g >>= then_span before k chains) ≡ Ok (Some s)
+      → ((r >>= λ (g : Segment). in_memory x chains g >>= then_span no_ends k chains) ≡ Ok (Some s)) × (k ≡ s.number)
+  by_segment chains (Ok g) e = by_memory chains (in_memory x chains g) e
+  by_segment chains (Err f) e = absurd (cc)
+
+  by_chains : (r : Result Chains Fault)
+      → (r >>= λ (chains : Chains). found_or_malformed (slice_get x.segments k) >>= λ (g : Segment). in_memory x chains g >>= then_span before k chains)
+      ≡ Ok (Some s)
+      → ((r >>= λ (chains : Chains). found_or_malformed (slice_get x.segments k) >>= λ (g : Segment). in_memory x chains g >>= then_span no_ends k chains)
+      ≡ Ok (Some s)) × (k ≡ s.number)
+  by_chains (Ok chains) e = by_segment chains (found_or_malformed (slice_get x.segments k)) e
+  by_chains (Err f) e = absurd (cc)
+
+  by_starts : (r : Result (Option (ChainedStartsInSegment × ℕ)) Fault) → (r >>= span_by x before k) ≡ Ok (Some s)
+      → ((r >>= span_by x no_ends k) ≡ Ok (Some s)) × (k ≡ s.number)
+  by_starts (Ok None) e = absurd (cc)
+  by_starts (Ok (Some starts)) e = by_chains (chains_of starts.0 starts.1) e
+  by_starts (Err f) e = absurd (cc)
+
+-- by its number
+pub opens_again : (x : Input) (before : Ends) (k : ℕ) (s : Span) → span_at x before k ≡ Ok (Some s) → span_at x no_ends s.number ≡ Ok (Some s)
+unfolding span_at
+opens_again x before k s e =
+    let again = by_starts x before k s (starts_at x.fixups k) e in subst (λ (n : ℕ). span_at x no_ends n ≡ Ok (Some s)) again.1 again.0
+
+-- a segment that is known is the one that opens by its number
+pub known_span : (x : Input) (b : Bool) (s : Span) (n : ℕ) → says_yes n ≡ b → IsKnown x b s
+    → cond (n == 0) nothing_opened (span_or_nothing (span_at x no_ends s.number)) ≡ s
+known_span x b s n e known = by_test (n == 0) b e known
+  where
+    by_test : (t c : Bool) → not t ≡ c → IsKnown x c s → cond t nothing_opened (span_or_nothing (span_at x no_ends s.number)) ≡ s
+    by_test true true e known = absurd (cc)
+    by_test true false e known = sym known
+    by_test false true e known = ap span_or_nothing known
+    by_test false false e known = absurd (cc)

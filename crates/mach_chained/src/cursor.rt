@@ -1,0 +1,159 @@
+//! How far the walk along chains has come, as numbers.
+
+ghost use Rattle.std.specs.Prelude.{◌≡◌};
+ghost use Rattle.mach_chained.specs.FixupCursors.{says_yes, place_of, span_in, fixups_behind, IsOver};
+ghost use Rattle.mach_chained.specs.Fixups.{Input, no_ends, span_at};
+ghost use Rattle.mach_chained.specs.FixupsLeft.{fixups_left};
+ghost use Rattle.mach_chained.specs.Opened.{IsKnown, span_or_nothing};
+ghost use Rattle.mach_chained.specs.WalkViews.{input_of, input_in, span_view};
+
+use crate::fixups::FixupIterator;
+use crate::header::ChainedFixups;
+use crate::source::{NextPlace, PagePlace, Source, Span};
+use mach_parts::segment::Segment;
+
+/// How far the walk along chains has come: numbers alone, which go with the bytes and the chained fixups. Whatever
+/// they are, going on from them gives fixups, or an error, or nothing.
+#[derive(Clone, Copy, Debug)]
+#[repr(C)]
+pub struct FixupCursor {
+    /// The number of the segment that is opened next.
+    pub segment: u32,
+    /// That of the one that is being read.
+    pub number: u32,
+    /// Where the next fixup stands in its page, or the place that it doesn't lie before.
+    pub at: usize,
+    /// The number of a start of the page.
+    pub index: u32,
+    /// The page that is looked at next.
+    pub next_page: u16,
+    /// The page that is being read.
+    pub page: u16,
+    /// 1 where the next fixup stands at `at`, 2 where it stands at the start `index`, and else in another page.
+    pub next: u8,
+    /// Whether the start `index` comes behind the chain, whether a segment is being read, and whether all was given:
+    /// 0 says no.
+    pub has_more: u8,
+    pub opened: u8,
+    pub ended: u8,
+}
+
+// A number that says whether.
+fn flag(yes: bool) -> u8
+    ensures { says_yes result ≡ yes }
+{
+    if yes { 1 } else { 0 }
+}
+
+// The numbers of a place: its kind, the place in the page, whether a start comes behind the chain, and its number.
+fn numbers_of(next: NextPlace) -> (u8, usize, u8, u32)
+    ensures { place_of result.0 result.1 result.2 result.3 ≡ next }
+{
+    match next {
+        NextPlace::Nothing => (0, 0, 0, 0),
+        NextPlace::Start { index, least } => (2, least, 0, index),
+        NextPlace::Fixup(place) => match place.more {
+            None => (1, place.at, 0, 0),
+            Some(index) => (1, place.at, 1, index),
+        },
+    }
+}
+
+impl FixupCursor {
+    // The place that its numbers say.
+    fn next_place(&self) -> NextPlace
+        ensures { result ≡ place_of self.now.next self.now.at self.now.has_more self.now.index }
+    {
+        match self.next {
+            1 => {
+                let more = if self.has_more == 0 {
+                    None
+                } else {
+                    Some(self.index)
+                };
+                NextPlace::Fixup(PagePlace { at: self.at, more })
+            }
+            2 => NextPlace::Start {
+                index: self.index,
+                least: self.at,
+            },
+            _ => NextPlace::Nothing,
+        }
+    }
+}
+
+impl<'a, 'b> Source<'a, 'b> {
+    // The segment of a number, and whether there is one with chains.
+    fn span_again(&self, number: u32) -> (Span<'a>, bool)
+        ensures span { span_view result.0 ≡ span_or_nothing (span_at (input_of self.now) no_ends number) }
+        ensures known { IsKnown (input_of self.now) result.1 (span_view result.0) }
+    {
+        match self.span(&Span::before_all(), number) {
+            Ok(Some(span)) => (span, true),
+            Ok(None) => (Span::before_all(), false),
+            Err(_) => (Span::before_all(), false),
+        }
+    }
+
+    // The segment that a cursor is in, and whether there is one.
+    fn span_of(&self, cursor: &FixupCursor) -> (Span<'a>, bool)
+        ensures span { span_view result.0 ≡ span_in (input_of self.now) cursor.now }
+        ensures known { IsKnown (input_of self.now) result.1 (span_view result.0) }
+    {
+        if cursor.opened == 0 {
+            return (Span::before_all(), false);
+        }
+        self.span_again(cursor.number)
+    }
+}
+
+impl<'a> ChainedFixups<'a> {
+    /// The fixups that come behind a cursor of such an iterator.
+    pub fn fixups_from<'b>(
+        &self,
+        segments: &'b [Segment<'a>],
+        base: u64,
+        cursor: &FixupCursor,
+    ) -> FixupIterator<'a, 'b>
+        ensures items { fixups_left result ≡ fixups_behind (input_in self.now segments.now base) cursor.now }
+        ensures over { IsOver (input_in self.now segments.now base) result }
+    {
+        let source = Source {
+            fixups: *self,
+            segments,
+            base,
+        };
+        let (span, opened) = source.span_of(cursor);
+        FixupIterator {
+            source,
+            segment: cursor.segment,
+            span,
+            opened,
+            next_page: cursor.next_page,
+            page: cursor.page,
+            next: cursor.next_place(),
+            ended: cursor.ended != 0,
+        }
+    }
+}
+
+impl FixupIterator<'_, '_> {
+    /// A cursor of the fixups that are left.
+    pub fn cursor(&self) -> FixupCursor
+        ensures { (x : Input) → IsOver x self.now → fixups_behind x result ≡ fixups_left self.now }
+    {
+        let (next, at, has_more, index) = numbers_of(self.next);
+        FixupCursor {
+            segment: self.segment,
+            number: self.span.number,
+            at,
+            index,
+            next_page: self.next_page,
+            page: self.page,
+            next,
+            has_more,
+            opened: flag(self.opened),
+            ended: flag(self.ended),
+        }
+    }
+}

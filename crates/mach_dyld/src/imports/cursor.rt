@@ -1,0 +1,297 @@
+//! How far the reading of binds has come, as numbers, and imports and bindings with the places of their names.
+
+ghost use Rattle.std.specs.Prelude.{◌≡◌, ℕ, List, None, IfOk, IfSome};
+ghost use Rattle.std.specs.Iterator.{YieldsFirstBy};
+ghost use Rattle.mach_base.specs.Context.{pointer_size};
+ghost use Rattle.mach_base.specs.Text.{text_at};
+ghost use Rattle.mach_dyld.specs.BindCursors.{says_yes, special_in, state_in, imports_behind, bindings_behind, IsOver, IsOverBindings, placed_read};
+ghost use Rattle.mach_dyld.specs.BindCursors.{placed_binding_read, IsPlaced, Stands};
+ghost use Rattle.mach_dyld.specs.BindLeft.{imports_left, input_of, start_of, state_of};
+ghost use Rattle.mach_dyld.specs.BindingsLeft.{bindings_left};
+ghost use Rattle.mach_dyld.specs.Exports.{texts};
+ghost use Rattle.mach_dyld.specs.Imports.{input_in};
+ghost use Rattle.mach_dyld.specs.NamePlaces.{NameStands, text_or_none, IsNamed};
+ghost use Rattle.mach_dyld.specs.Streams.{Input, Range};
+
+use crate::bindings::OpcodeBindingIterator;
+use crate::imports::settings::Settings;
+use crate::imports::source::Source;
+use crate::imports::state::State;
+use crate::imports::{BindInterpreter, BindIterator, Import, pointer_len};
+use mach_base::{Ctx, Result, Steps, read_text};
+use mach_parts::binding::Binding;
+use mach_parts::segment::Segment;
+
+/// How far the reading of binds has come: numbers alone, which go with the bytes and the binds. Whatever they are,
+/// reading on from them gives items, or an error, or nothing.
+#[derive(Clone, Copy, Debug)]
+#[repr(C)]
+pub struct BindCursor {
+    /// Where the stream that is read begins.
+    pub from: usize,
+    /// The place behind it.
+    pub upto: usize,
+    /// The place of the next instruction.
+    pub place: usize,
+    /// The binds that the last instruction still makes.
+    pub count: u64,
+    /// How far it advances after each.
+    pub stride: u64,
+    /// Where the symbol's name stands: no name was set where no text stands there.
+    pub name_place: usize,
+    /// The library's number.
+    pub library: u64,
+    /// The special ordinal, where one was set after the library.
+    pub special: i64,
+    /// The offset in the segment.
+    pub offset: u64,
+    pub addend: i64,
+    /// The place after the last DONE, counted from the start of the range, or 0.
+    pub sequence: u64,
+    pub segment: u8,
+    pub flags: u8,
+    /// Whether there is a special ordinal, whether the lazy stream is read, and whether all was given: 0 says no.
+    pub has_special: u8,
+    pub is_lazy: u8,
+    pub ended: u8,
+}
+
+/// An import, with the place of its name in the bytes and the number of its library.
+#[derive(Debug, Drop)]
+pub struct PlacedImport<'a> {
+    pub import: Import<'a>,
+    /// Where its name stands; no such place where it has no name.
+    pub name_place: usize,
+    /// Its library's ordinal.
+    pub library: u64,
+}
+
+/// A binding, with the place of its name in the bytes.
+#[derive(Clone, Copy, Debug)]
+pub struct PlacedBinding<'a> {
+    pub binding: Binding<'a>,
+    /// Where its name stands; no such place where it has no name.
+    pub name_place: usize,
+}
+
+// A number that says whether.
+fn flag(yes: bool) -> u8
+    ensures { says_yes result ≡ yes }
+{
+    if yes { 1 } else { 0 }
+}
+
+// The text at a place, and the place; no text and the last place there is where none stands there.
+fn name_at(bytes: &[u8], place: usize) -> (&str, usize)
+    ensures text { result.0.now ≡ text_or_none (text_at bytes.now place) }
+    ensures stands { IsNamed bytes.now result.0.now result.1 }
+{
+    match read_text(bytes, place) {
+        Ok(name) => (name, place),
+        Err(_) => ("", usize::MAX),
+    }
+}
+
+// The place of a name, or one outside the bytes where none was set.
+fn place_in(bytes: &[u8], place: usize) -> usize
+    ensures { (name : List ℕ) → IsNamed bytes.now name place → text_or_none (text_at bytes.now result) ≡ name }
+{
+    if place < bytes.len() {
+        place
+    } else {
+        bytes.len()
+    }
+}
+
+impl<'a> State<'a> {
+    // Its numbers.
+    fn cursor(&self, bytes: &[u8], special: Option<i64>) -> BindCursor
+        ensures state { NameStands bytes.now self.now.settings → state_in bytes.now result ≡ state_of self.now }
+        ensures special { special_in result ≡ special }
+        ensures library { result.library ≡ self.now.settings.library }
+    {
+        let settings = &self.settings;
+        BindCursor {
+            from: self.from,
+            upto: self.upto,
+            place: self.place,
+            count: self.count,
+            stride: self.stride,
+            name_place: place_in(bytes, settings.name_place),
+            library: settings.library,
+            special: special.unwrap_or(0),
+            offset: settings.offset,
+            addend: settings.addend,
+            sequence: settings.sequence,
+            segment: settings.segment,
+            flags: settings.flags,
+            has_special: flag(special.is_some()),
+            is_lazy: flag(settings.is_lazy),
+            ended: flag(self.ended),
+        }
+    }
+
+    // The state of these numbers.
+    fn at(bytes: &'a [u8], cursor: &BindCursor) -> State<'a>
+        ensures state { state_of result ≡ state_in bytes.now cursor.now }
+        ensures named { NameStands bytes.now result.settings }
+    {
+        let (name, name_place) = name_at(bytes, cursor.name_place);
+        State {
+            from: cursor.from,
+            upto: cursor.upto,
+            place: cursor.place,
+            count: cursor.count,
+            stride: cursor.stride,
+            settings: Settings {
+                name,
+                name_place,
+                library: cursor.library,
+                offset: cursor.offset,
+                addend: cursor.addend,
+                sequence: cursor.sequence,
+                segment: cursor.segment,
+                flags: cursor.flags,
+                is_lazy: cursor.is_lazy != 0,
+            },
+            ended: cursor.ended != 0,
+        }
+    }
+}
+
+impl BindCursor {
+    // The special ordinal, if one was set.
+    fn special(&self) -> Option<i64>
+        ensures { result ≡ special_in self.now }
+    {
+        if self.has_special != 0 {
+            Some(self.special)
+        } else {
+            None
+        }
+    }
+}
+
+impl<'a> BindInterpreter<'a> {
+    // What is read, over these libraries and segments.
+    fn source<'b>(
+        &self,
+        libs: &'b [&'a str],
+        segments: &'b [Segment<'a>],
+        ctx: Ctx,
+    ) -> Source<'a, 'b>
+        ensures input { input_of result ≡ input_in self.now (pointer_size ctx.container) (texts libs.now) segments.now }
+        ensures bytes { result.bytes.now ≡ self.now.bytes }
+    {
+        Source {
+            bytes: self.bytes,
+            pointer: pointer_len(ctx),
+            libs,
+            segments,
+        }
+    }
+
+    /// The imports that come behind a cursor of such an iterator.
+    pub fn imports_from<'b>(
+        &self,
+        libs: &'b [&'a str],
+        segments: &'b [Segment<'a>],
+        ctx: Ctx,
+        cursor: &BindCursor,
+    ) -> BindIterator<'a, 'b>
+        ensures items { imports_left result
+            ≡ imports_behind (input_in self.now (pointer_size ctx.container) (texts libs.now) segments.now) self.now.lazy cursor.now }
+        ensures over { IsOver (input_in self.now (pointer_size ctx.container) (texts libs.now) segments.now) self.now.lazy result }
+    {
+        BindIterator {
+            source: self.source(libs, segments, ctx),
+            lazy_from: self.lazy_from,
+            lazy_upto: self.lazy_upto,
+            state: State::at(self.bytes, cursor),
+        }
+    }
+
+    /// The bindings that come behind a cursor of such an iterator.
+    pub fn bindings_from<'b>(
+        &self,
+        libs: &'b [&'a str],
+        segments: &'b [Segment<'a>],
+        ctx: Ctx,
+        cursor: &BindCursor,
+    ) -> OpcodeBindingIterator<'a, 'b>
+        ensures items { bindings_left result
+            ≡ bindings_behind (input_in self.now (pointer_size ctx.container) (texts libs.now) segments.now) self.now.lazy cursor.now }
+        ensures over { IsOverBindings (input_in self.now (pointer_size ctx.container) (texts libs.now) segments.now) self.now.lazy result }
+    {
+        OpcodeBindingIterator {
+            source: self.source(libs, segments, ctx),
+            lazy_from: self.lazy_from,
+            lazy_upto: self.lazy_upto,
+            state: State::at(self.bytes, cursor),
+            special: cursor.special(),
+        }
+    }
+
+    /// The cursor of an iterator at the start, over imports or over bindings.
+    pub fn cursor(&self) -> BindCursor
+        ensures state { state_in self.now.bytes result ≡ start_of self.now.non_lazy }
+        ensures special { special_in result ≡ None }
+        ensures library { result.library ≡ 0 }
+    {
+        State::start(self.from, self.upto, false).cursor(self.bytes, None)
+    }
+}
+
+impl<'a> BindIterator<'a, '_> {
+    /// A cursor of the imports that are left.
+    pub fn cursor(&self) -> BindCursor
+        ensures { (x : Input) (lazy : Range) → IsOver x lazy self.now → imports_behind x lazy result ≡ imports_left self.now }
+    {
+        self.state.cursor(self.source.bytes, None)
+    }
+
+    /// The next import with its places, or the fault that ends them.
+    #[inline(always)]
+    pub fn next_placed(&mut self) -> Option<Result<PlacedImport<'a>>>
+        ensures items { YieldsFirstBy placed_read imports_left self.old result self.new }
+        ensures over { (x : Input) (lazy : Range) → IsOver x lazy self.old → IsOver x lazy self.new }
+        ensures placed { (x : Input) (lazy : Range) → IsOver x lazy self.old → IfSome result (λ item. IfOk item (IsPlaced x)) }
+    {
+        match self.step(&mut Steps::new()) {
+            None => None,
+            Some(Err(e)) => Some(Err(e)),
+            Some(Ok(import)) => Some(Ok(PlacedImport {
+                import,
+                name_place: self.state.settings.name_place,
+                library: self.state.settings.library,
+            })),
+        }
+    }
+}
+
+impl<'a> OpcodeBindingIterator<'a, '_> {
+    /// A cursor of the bindings that are left.
+    pub fn cursor(&self) -> BindCursor
+        ensures { (x : Input) (lazy : Range) → IsOverBindings x lazy self.now → bindings_behind x lazy result ≡ bindings_left self.now }
+    {
+        self.state.cursor(self.source.bytes, self.special)
+    }
+
+    /// The next binding with the place of its name, or the fault that ends them.
+    #[inline(always)]
+    pub fn next_placed(&mut self) -> Option<Result<PlacedBinding<'a>>>
+        ensures items { YieldsFirstBy placed_binding_read bindings_left self.old result self.new }
+        ensures over { (x : Input) (lazy : Range) → IsOverBindings x lazy self.old → IsOverBindings x lazy self.new }
+        ensures placed { (x : Input) (lazy : Range) → IsOverBindings x lazy self.old
+            → IfSome result (λ item. IfOk item (λ p. Stands x.bytes p.name_place p.binding.name.now)) }
+    {
+        match self.step() {
+            None => None,
+            Some(Err(e)) => Some(Err(e)),
+            Some(Ok(binding)) => Some(Ok(PlacedBinding {
+                binding,
+                name_place: self.state.settings.name_place,
+            })),
+        }
+    }
+}
