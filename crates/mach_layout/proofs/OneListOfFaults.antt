@@ -1,0 +1,109 @@
+-- The bytes of an image have one list of faults of its layout.
+use Rattle.std.proofs.Common.{◌≡◌, ◌+◌, ◌++◌, ℕ, List, [], Option, Some, None, Result, sym, ap, subst, ◌∙◌}
+use Rattle.mach_base.specs.Context.{pointer_size}
+use Rattle.mach_base.specs.Fault.{Fault}
+use Rattle.mach_base.specs.declared.context.Ctx.{Ctx}
+use Rattle.mach_load.specs.Command.{Command}
+use Rattle.mach_parts.specs.Bindings.{Binding}
+use Rattle.mach_parts.specs.Header.{header_size}
+use Rattle.mach_parts.specs.declared.segment.Segment.{Segment}
+use Rattle.mach_dyld.specs.BindingLaws.{HasOneListOfBindings}
+use Rattle.mach_dyld.specs.Imports.{BindRanges, input_in}
+use Rattle.goblin_mach.specs.Bindings.{AreOpcodeBindings}
+use Rattle.goblin_mach.specs.Facts.{OfImage}
+use Rattle.goblin_mach.specs.Image.{LossyOpensAs}
+use Rattle.goblin_mach.specs.Subjects.{binds_in, libs_in}
+use Rattle.goblin_mach.proofs.Chains.{same_chain}
+use Rattle.goblin_mach.proofs.Images.{same_header}
+use Rattle.mach_layout.specs.Bindings.{has_fault}
+use Rattle.mach_layout.specs.Commands.{command_faults}
+use Rattle.mach_layout.specs.Entry.{entry_faults}
+use Rattle.mach_layout.specs.Facts.{AreBindsOf, HasLayoutFaults}
+use Rattle.mach_layout.specs.Faults.{AddsSegments, AddsSections, AddsSymbols, AreLayoutFaults}
+use Rattle.mach_layout.specs.Fixups.{fixup_faults}
+use Rattle.mach_layout.specs.Laid.{Laid, laid_in}
+use Rattle.mach_layout.specs.Libraries.{text_faults}
+use Rattle.mach_layout.specs.Ranges.{out_of_file_faults, header_faults, linkedit_faults}
+use Rattle.mach_layout.specs.Sections.{section_faults}
+use Rattle.mach_layout.specs.Segments.{segment_faults, segment_order_faults, encrypted_faults}
+use Rattle.mach_layout.specs.Sweep.{AreShared}
+use Rattle.mach_layout.specs.Symbols.{symbol_faults}
+use Rattle.mach_layout.specs.declared.claim.Claim.{Claim}
+use Rattle.mach_layout.specs.declared.fault.LayoutFault.{LayoutFault}
+use Rattle.mach_layout.specs.declared.fault.Rule.{Rule}
+use Rattle.mach_layout.proofs.BytesFacts.{same_faults, told_alike}
+
+-- one image opens at a place, so what holds of one holds of the same context and commands as another fact
+there : (bytes : List ℕ) (o : ℕ) (Holds : Ctx → List Command → Type 0) (ctx : Ctx) (cs : List Command) → LossyOpensAs bytes o ctx cs
+    → OfImage bytes o Holds → Holds ctx cs
+there bytes o Holds ctx cs opens q =
+    let same_ctx : q.ctx ≡ ctx = same_header bytes o q.ctx ctx q.opens.header opens.header in
+    let chain = (subst (λ (c : Ctx). LossyOpensAs bytes o c q.cs) same_ctx q.opens).chain in
+    let same : q.cs ≡ cs = same_chain ctx.le bytes (o + header_size ctx.container) q.cs cs chain.chain opens.chain.chain
+    (chain.count ∙ sym opens.chain.count) in
+    subst (λ (ds : List Command). Holds ctx ds) same (subst (λ (c : Ctx). Holds c q.cs) same_ctx q.holds)
+
+-- what is told of some ranges is one list
+abbrev pub OneShared : Type 0
+OneShared = (rule : Rule) (ranges : List Claim) (told others : List LayoutFault) → AreShared rule ranges told → AreShared rule ranges others → told ≡ others
+
+module _ (one_shared : OneShared) (laid : Laid) where
+  segments_alike : (old list others : List LayoutFault) → AddsSegments laid old list → AddsSegments laid old others → list ≡ others
+  segments_alike old list others h k =
+      let front : List LayoutFault = old ++ command_faults laid ++ out_of_file_faults laid ++ segment_faults laid in
+      h.joined
+      ∙ ap (λ (memory : List LayoutFault). front ++ memory ++ h.files ++ segment_order_faults laid)
+      (one_shared _ _ h.memory k.memory h.memory_shared k.memory_shared)
+      ∙ ap (λ (files : List LayoutFault). front ++ k.memory ++ files ++ segment_order_faults laid)
+      (one_shared _ _ h.files k.files h.files_shared k.files_shared)
+      ∙ sym k.joined
+
+  sections_alike : (old before list others : List LayoutFault) → old ≡ before → AddsSections laid old list → AddsSections laid before others → list ≡ others
+  sections_alike old before list others same h k =
+      let behind : List LayoutFault → List LayoutFault → List LayoutFault → List LayoutFault = λ first sections claims.
+      first ++ section_faults laid ++ sections ++ claims ++ header_faults laid ++ linkedit_faults laid ++ encrypted_faults laid in
+      h.joined
+      ∙ ap (λ (first : List LayoutFault). behind first h.sections h.claims) same
+      ∙ ap (λ (sections : List LayoutFault). behind before sections h.claims) (one_shared _ _ h.sections k.sections h.sections_shared k.sections_shared)
+      ∙ ap (λ (claims : List LayoutFault). behind before k.sections claims) (one_shared _ _ h.claims k.claims h.claims_shared k.claims_shared)
+      ∙ sym k.joined
+
+  module _ (AreBinds : List LayoutFault → Type 0) (one_binds : (told others : List LayoutFault) → AreBinds told → AreBinds others → told ≡ others) where
+    symbols_alike : (old before list others : List LayoutFault) → old ≡ before
+        → AddsSymbols laid AreBinds old list → AddsSymbols laid AreBinds before others → list ≡ others
+    symbols_alike old before list others same h k =
+        let behind : List LayoutFault → List LayoutFault → List LayoutFault = λ first binds.
+        first ++ symbol_faults laid ++ entry_faults laid ++ text_faults laid ++ binds ++ fixup_faults laid in
+        h.joined
+        ∙ ap (λ (first : List LayoutFault). behind first h.binds) same
+        ∙ ap (λ (binds : List LayoutFault). behind before binds) (one_binds h.binds k.binds h.are_binds k.are_binds)
+        ∙ sym k.joined
+
+    faults_alike : (list others : List LayoutFault) → AreLayoutFaults laid AreBinds list → AreLayoutFaults laid AreBinds others → list ≡ others
+    faults_alike list others h k =
+        symbols_alike h.of_sections k.of_sections list others
+        (sections_alike h.of_segments k.of_segments h.of_sections k.of_sections
+        (segments_alike [] h.of_segments k.of_segments h.segments k.segments) h.sections k.sections) h.symbols k.symbols
+
+module _ (one_run : HasOneListOfBindings) where
+  one_opcodes : (b : Option BindRanges) (n : ℕ) (libs : List (List ℕ)) (segments : List Segment) (items others : List (Result Binding Fault))
+      → AreOpcodeBindings b n libs segments items → AreOpcodeBindings b n libs segments others → items ≡ others
+  one_opcodes None n libs segments items others h k = h ∙ sym k
+  one_opcodes (Some b) n libs segments items others h k =
+      one_run (input_in b n libs segments) b.non_lazy b.lazy h.0 h.1 k.0 k.1 items others h.2 k.2
+
+  binds_alike : (bytes : List ℕ) (ctx : Ctx) (cs : List Command) (told others : List LayoutFault)
+      → AreBindsOf bytes ctx cs told → AreBindsOf bytes ctx cs others → told ≡ others
+  binds_alike bytes ctx cs told others h k =
+      let b = binds_in bytes cs in
+      let n = pointer_size ctx.container in
+      let libs = libs_in bytes cs in
+      let j = same_faults b n libs k.0 h.0 (k.2 ∙ sym h.2) k.1 k.3 in
+      let same : has_fault h.1 ≡ has_fault k.1 =
+      ap (λ (items : List (Result Binding Fault)). has_fault items) (one_opcodes b n libs h.0 h.1 j.0 h.3 j.1) ∙ sym j.2 in
+      h.4 ∙ told_alike (laid_in bytes ctx cs) h.1 k.1 same ∙ sym k.4
+
+  pub one_list : OneShared → (bytes : List ℕ) (list others : List LayoutFault) → HasLayoutFaults bytes list → HasLayoutFaults bytes others → list ≡ others
+  one_list one_shared bytes list others h k =
+      faults_alike one_shared (laid_in bytes h.ctx h.cs) (AreBindsOf bytes h.ctx h.cs) (binds_alike bytes h.ctx h.cs) list others h.holds
+      (there bytes 0 (λ ctx cs. AreLayoutFaults (laid_in bytes ctx cs) (AreBindsOf bytes ctx cs) others) h.ctx h.cs h.opens k)

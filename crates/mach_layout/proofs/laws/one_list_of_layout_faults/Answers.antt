@@ -1,0 +1,6 @@
+use Rattle.mach_layout.proofs.OneArrangement.{one_shared}
+use Rattle.mach_layout.proofs.OneListOfFaults.{one_list}
+use Rattle.mach_layout.proofs.laws.one_list_of_layout_faults.Goals as goal
+
+pub returns : goal.returns
+returns c = one_list c.one_list_of_bindings.ensures one_shared
