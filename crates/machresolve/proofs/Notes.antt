@@ -1,7 +1,8 @@
 -- What is noted on a way, and which failures are told.
-use Rattle.std.proofs.Common.{◌≡◌, ◌∙◌, ◌<◌, ℕ, Bool, true, false, not, List, [], ◌∷◌, ◌++◌, length, map, refl, sym, ap, arith, length-append}
-use Rattle.std.specs.Prelude.{Result, Ok, Err, if◌then◌else◌, nat_lt}
+use Rattle.std.proofs.Common.{◌≡◌, ◌∙◌, ◌<◌, ℕ, Bool, true, false, not, List, [], ◌∷◌, ◌++◌, length, map, refl, sym, ap, subst, arith, length-append}
+use Rattle.std.specs.Prelude.{Result, Ok, Err, IfErr, if◌then◌else◌, nat_lt}
 use Rattle.std.specs.List.{list_any}
+use Rattle.std.specs.Result.{IsErrAnd}
 use Rattle.std.proofs.lemmas.Bool.{true≢false, false≢true}
 use Rattle.std.proofs.lemmas.Bool.Decides.{Decides-ltb}
 use Rattle.std.proofs.lemmas.List.{map_push}
@@ -59,7 +60,7 @@ pub again : (s : Symbol) (old new : List Symbol) (n m : ℕ) → new ≡ inserte
     → nat_lt n m ≡ false → IsAmong (symbol_seen s) (map symbol_seen old)
 again s old new n m is few many off = again_by (list_any (is_same s) old) s old new n m refl is few many off
 
-tells_more : (P Q : Fault → Type 0) (e : Error) → ((f : Fault) → P f → Q f) → Tells P e → Tells Q e
+pub tells_more : (P Q : Fault → Type 0) (e : Error) → ((f : Fault) → P f → Q f) → Tells P e → Tells Q e
 tells_more P Q (Malformed msg) more t = more _ t
 tells_more P Q (BadMagic magic) more t = more _ t
 tells_more P Q (Scroll e) more t = more _ t
@@ -86,3 +87,8 @@ stands_as P (BadMagic magic) t = t
 stands_as P (Scroll e) t = t
 stands_as P (BufferTooShort count what) t = t
 stands_as P (Memory e) t = tt
+
+-- want of memory is a failure
+pub memory_fails : {T : Type 0} (P : ℕ → Fault → Type 0) (r : Result T Failure) → IsErrAnd r (λ x. x ≡ failures.Memory) → IfErr r (IsFailure P)
+memory_fails P (Ok x) h = absurd h
+memory_fails P (Err x) h = subst (IsFailure P) (sym h) tt

@@ -1,5 +1,5 @@
 -- A program that was opened, and what it says.
-use Rattle.std.proofs.Common.{◌≡◌, ◌∙◌, ◌∷◌, [], ℕ, Bool, List, Option, Result, Ok, map, unwrap_or, ap}
+use Rattle.std.proofs.Common.{◌≡◌, ◌∙◌, ℕ, Bool, List, Option, Result, Ok, map, unwrap_or, ap}
 use Rattle.mach_base.specs.Fault.{Fault}
 use Rattle.mach_parts.specs.Bindings.{Binding}
 use Rattle.goblin_mach.specs.Facts.{OfImage, HasName, HasLibrariesByKind, HasBindings}
@@ -9,8 +9,7 @@ use Rattle.goblin_mach.specs.OpenImage.{IsImage, commands_held}
 use Rattle.goblin_mach.specs.Subjects.{own_name_in}
 use Rattle.goblin_mach.specs.declared.image.macho.MachO.{MachO}
 use Rattle.machresolve.specs.Answers.{Program}
-use Rattle.machresolve.specs.Files.{File}
-use Rattle.machresolve.specs.Given.{Given, Gathers, may_be_absent}
+use Rattle.machresolve.specs.Given.{Given, Gathered, GathersAll, may_be_absent}
 use Rattle.machresolve.specs.Resolved.{IsProgram, HoldsItems, AnswerFault, ResolveFault, of_bindings, of_trie}
 
 name_said : (bytes path name : List ℕ) (own : Option (List ℕ)) → name ≡ unwrap_or own path → HasName bytes 0 own
@@ -38,8 +37,8 @@ is_program g m p bindings own libraries is name has absences are all = record {
 }
 
 -- a fault that stands where the bindings of an opened program are answered stands in the program or in a trie
-pub more_faults : {A : Type 0} (p : Given) (ls : List Given) (m : MachO A) (files : List File) → Gathers 0 (p ∷ ls) [] files
-    → ((items : List (Result Binding Fault)) → HoldsItems m items → HasBindings p.bytes 0 items) → (n : ℕ) (f : Fault) → AnswerFault files m n f
+pub more_faults : {A : Type 0} (p : Given) (ls : List Given) (m : MachO A) (all : Gathered) → GathersAll p ls all
+    → ((items : List (Result Binding Fault)) → HoldsItems m items → HasBindings p.bytes 0 items) → (n : ℕ) (f : Fault) → AnswerFault all.files m n f
     → ResolveFault p ls n f
-more_faults p ls m files gathered stand n f (of_bindings bindings rest holds) = of_bindings bindings rest (stand _ holds)
-more_faults p ls m files gathered stand n f (of_trie stands) = of_trie files gathered stands
+more_faults p ls m all gathered stand n f (of_bindings bindings rest holds) = of_bindings bindings rest (stand _ holds)
+more_faults p ls m all gathered stand n f (of_trie stands) = of_trie all gathered stands

@@ -8,8 +8,10 @@ use Rattle.mach_base.specs.Fault.{Fault}
 use Rattle.goblin_mach.specs.Libraries.{LibraryView}
 use Rattle.machresolve.specs.Opened.{given_seen}
 use Rattle.machresolve.specs.declared.given.Given as declared
-use Rattle.machresolve.specs.Given.{Given, OpenFault, GivenFault, Adds, counts, is_named, reexported, is_reexport, is_weak_kind}
-use Rattle.machresolve.specs.Seen.{file_seen}
+use Rattle.machresolve.specs.Note.{Note, given_before}
+use Rattle.machresolve.specs.Given.{Given, Adds, counts, again, is_named, reexported, is_reexport, is_weak_kind, NumberedFault, OpenFault, LibraryFault, FaultFor, of_program, of_library}
+use Rattle.machresolve.specs.Seen.{file_seen, note_seen}
+use Rattle.machresolve.specs.declared.note.Note as noted
 use Rattle.machresolve.specs.declared.file.File.{File}
 
 list_any-map : {X Y : Type 0} (p : X → Bool) (h : Y → X) (ys : List Y) → list_any p (map h ys) ≡ list_any (λ y. p (h y)) ys
@@ -33,10 +35,37 @@ names_more items more keys others f pushed inserted named =
     ∙ (ap (λ (xs : List (List ℕ)). xs ++ f.name.now ∷ []) named
     ∙ (sym (map_push (λ k. k.now) keys f.name) ∙ sym (ap (map (λ k. k.now)) inserted))))
 
-pub adds_more : {A : Type 0} (items more : List (File A)) (f : File A) → more ≡ items ++ f ∷ [] → is_named (map file_seen items) f.name.now ≡ false
-    → Adds (map file_seen items) (file_seen f) (map file_seen more)
-adds_more items more f pushed new =
-    subst (Adds (map file_seen items) (file_seen f)) (sym (ap (map file_seen) pushed ∙ map_push file_seen items f)) (counts new)
+pub adds_more : {A : Type 0} (items more : List (File A)) (notes : List Note) (f : File A) → more ≡ items ++ f ∷ []
+    → is_named (map file_seen items) f.name.now ≡ false
+    → Adds (record { files = map file_seen items; notes = notes }) (file_seen f) (record { files = map file_seen more; notes = notes })
+adds_more items more notes f pushed new =
+    subst (λ (fs : List _). Adds (record { files = map file_seen items; notes = notes }) (file_seen f) (record { files = fs; notes = notes }))
+    (sym (ap (map file_seen) pushed ∙ map_push file_seen items f)) (counts new)
+
+pub adds_again : {A : Type 0} (items : List (File A)) (notes more : List Note) (f : File A) → more ≡ notes ++ given_before f.number f.name.now ∷ []
+    → is_named (map file_seen items) f.name.now ≡ true
+    → Adds (record { files = map file_seen items; notes = notes }) (file_seen f) (record { files = map file_seen items; notes = more })
+adds_again items notes more f pushed there =
+    subst (λ (ns : List Note). Adds (record { files = map file_seen items; notes = notes }) (file_seen f) (record { files = map file_seen items; notes = ns }))
+    (sym pushed) (again there)
+
+-- a file that counts
+pub adds_new : {A : Type 0} (items more : List (File A)) (notes kept : List noted.Note) (f : File A) → more ≡ items ++ f ∷ [] → kept ≡ notes
+    → is_named (map file_seen items) f.name.now ≡ false
+    → Adds (record { files = map file_seen items; notes = map note_seen notes }) (file_seen f) (record { files = map file_seen more; notes = map note_seen kept })
+adds_new items more notes kept f pushed same new =
+    subst (λ (ns : List noted.Note). Adds (record { files = map file_seen items; notes = map note_seen notes }) (file_seen f) (record { files = map file_seen more; notes = map note_seen ns }))
+    (sym same) (adds_more items more (map note_seen notes) f pushed new)
+
+-- a file whose name is there, which is noted
+pub adds_known : {A : Type 0} (items kept : List (File A)) (notes more : List noted.Note) (n : noted.Note) (f : File A) → kept ≡ items → more ≡ notes ++ n ∷ []
+    → note_seen n ≡ given_before f.number f.name.now → is_named (map file_seen items) f.name.now ≡ true
+    → Adds (record { files = map file_seen items; notes = map note_seen notes }) (file_seen f) (record { files = map file_seen kept; notes = map note_seen more })
+adds_known items kept notes more n f same pushed is there =
+    subst (λ (fs : List (File _)). Adds (record { files = map file_seen items; notes = map note_seen notes }) (file_seen f) (record { files = map file_seen fs; notes = map note_seen more }))
+    (sym same)
+    (adds_again items (map note_seen notes) (map note_seen more) f
+    (ap (map note_seen) pushed ∙ (map_push note_seen notes n ∙ ap (λ (x : Note). map note_seen notes ++ x ∷ []) is)) there)
 
 -- one more library that was gone over
 pub reexported_more : (all : List (List ℕ)) (names pushed : List (Bor (List ℕ))) (l : LibraryView) (ls left : List LibraryView) (name : Bor (List ℕ))
@@ -65,18 +94,18 @@ absent_more all front pushed l ls left b so_far is same more =
     ∙ (sym (append_assoc front (is_weak_kind l.kind ∷ []) rest)
     ∙ ap (λ (xs : List Bool). xs ++ rest) (ap (λ (x : Bool). front ++ x ∷ []) (sym same) ∙ sym more)))
 
--- the first file that is given, and one behind it
-pub first_given : (p : Given) (ls : List Given) (n : ℕ) (f : Fault) → OpenFault 0 p n f → GivenFault (p ∷ ls) n f
-first_given p ls n f stands =
-    (p, ap (slice_get (p ∷ ls)) stands.0 ∙ slice_get-get_or (p ∷ ls) 0 p (omega arith), (refl, stands.1))
+-- a fault of the program
+pub program_fault : (cputype : ℕ) (p : Given) (ls : List Given) (n : ℕ) (f : Fault) → OpenFault 0 p n f → FaultFor cputype p ls n f
+program_fault cputype p ls n f stands = subst (λ (k : ℕ). FaultFor cputype p ls k f) (sym stands.0) (of_program stands.1)
 
-pub next_given : (p : Given) (ls : List declared.Given) (i : ℕ) (d : declared.Given) → i < length ls → (n : ℕ) (f : Fault)
-    → OpenFault (i + 1) (given_seen (get_or ls i d)) n f → GivenFault (p ∷ map given_seen ls) n f
-next_given p ls i d inside n f stands =
+-- a fault of a library, by its place among them
+pub library_fault : (cputype : ℕ) (p : Given) (ls : List declared.Given) (i : ℕ) (d : declared.Given) → i < length ls → (n : ℕ) (f : Fault)
+    → NumberedFault (i + 1) (LibraryFault cputype (given_seen (get_or ls i d))) n f → FaultFor cputype p (map given_seen ls) n f
+library_fault cputype p ls i d inside n f stands =
     let xs = map given_seen ls in
-    let at : slice_get (p ∷ xs) (suc i) ≡ Some (get_or xs i p) = slice_get-get_or (p ∷ xs) (suc i) p (omega (arith, length-map ls given_seen)) in
-    let number : n ≡ suc i = stands.0 ∙ omega arith in
-    (given_seen (get_or ls i d), ap (slice_get (p ∷ xs)) number ∙ (at ∙ ap Some (get_or-map given_seen ls i d p inside)), (refl, stands.1))
+    let at : slice_get xs i ≡ Some (get_or xs i (given_seen d)) = slice_get-get_or xs i (given_seen d) (omega (arith, length-map ls given_seen)) in
+    subst (λ (k : ℕ). FaultFor cputype p xs k f) (sym stands.0)
+    (of_library i (given_seen (get_or ls i d)) (at ∙ ap Some (get_or-map given_seen ls i d (given_seen d) inside)) stands.1)
 
 pub given_at : (ls : List declared.Given) (i : ℕ) (d : declared.Given) → i < length ls
     → drop i (map given_seen ls) ≡ given_seen (get_or ls i d) ∷ drop (i + 1) (map given_seen ls)

@@ -1,5 +1,5 @@
 -- The files that are given, and what the bytes of each say.
-use Rattle.std.specs.Prelude.{◌≡◌, ◌==◌, ◌+◌, ℕ, Bool, true, false, List, [], ◌∷◌, ◌++◌, map, Some, unwrap_or, slice_get, bytes_eq, if◌then◌else◌}
+use Rattle.std.specs.Prelude.{◌≡◌, ◌==◌, ◌+◌, ℕ, Bool, true, false, List, [], ◌∷◌, ◌++◌, map, Some, None, unwrap_or, slice_get, bytes_eq, if◌then◌else◌}
 use Rattle.std.specs.List.{list_any}
 use Rattle.mach_base.specs.Fault.{Fault}
 use Rattle.mach_parts.specs.Header.{IsHeader}
@@ -11,6 +11,8 @@ use Rattle.goblin_mach.specs.Subjects.{own_name_in, trie_in, libs_in}
 use Rattle.goblin_mach.specs.declared.image.libraries.LibraryKind.{LibraryKind}
 use Rattle.goblin_mach.specs.declared.image.libraries.LibraryKind.TheVariants.{Required, Weak, Reexport, Upward, Lazy}
 use Rattle.machresolve.specs.Files.{File}
+use Rattle.machresolve.specs.Note.{Note, given_before, nothing_for}
+use Rattle.machresolve.specs.Cpu.{IsOfCpu, HasFor, ForFault}
 
 -- a file as it is given: its path, and its bytes
 pub record Given : Type 0 where
@@ -54,21 +56,68 @@ pub record IsFile (number : ℕ) (g : Given) (f : File) : Type 0 where
 abbrev pub is_named : List File → List ℕ → Bool
 is_named files name = list_any (λ f. bytes_eq name f.name) files
 
--- a file counts where none of its name is there before
-pub data Adds (files : List File) (f : File) : List File → Type 0 where
-  again : is_named files f.name ≡ true → Adds files f files
-  counts : is_named files f.name ≡ false → Adds files f (files ++ f ∷ [])
+-- the files that count, and notes of the others
+pub record Gathered : Type 0 where
+  pub files : List File
+  pub notes : List Note
 
--- The files that are given, from this number on, added one after the other.
-pub data Gathers : ℕ → List Given → List File → List File → Type 0 where
-  done : {n : ℕ} {files : List File} → Gathers n [] files files
-  next : {n : ℕ} {g : Given} {gs : List Given} {files all : List File} (f : File) (more : List File) → IsFile n g f → Adds files f more
-      → Gathers (n + 1) gs more all → Gathers n (g ∷ gs) files all
+abbrev pub with_note : Gathered → Note → Gathered
+with_note x n = record { files = x.files; notes = x.notes ++ n ∷ [] }
+
+-- a file counts where none of its name is there before
+pub data Adds (x : Gathered) (f : File) : Gathered → Type 0 where
+  again : is_named x.files f.name ≡ true → Adds x f (with_note x (given_before f.number f.name))
+  counts : is_named x.files f.name ≡ false → Adds x f (record { files = x.files ++ f ∷ []; notes = x.notes })
+
+-- the file that a library is for a cpu
+pub record IsLibrary (cputype number : ℕ) (g : Given) (f : File) : Type 0 where
+  pub bytes : List ℕ
+  pub has : HasFor g.bytes cputype (Some bytes)
+  pub is_file : IsFile number (record { path = g.path; bytes = bytes }) f
+
+-- a library is added as it is for a cpu; where it is nothing, that is noted
+pub data AddsLibrary (cputype number : ℕ) (g : Given) (x : Gathered) : Gathered → Type 0 where
+  library : (f : File) (more : Gathered) → IsLibrary cputype number g f → Adds x f more → AddsLibrary cputype number g x more
+  passed : HasFor g.bytes cputype None → AddsLibrary cputype number g x (with_note x (nothing_for number cputype))
+
+-- The libraries that are given, from this number on, added one after the other.
+pub data Gathers (cputype : ℕ) : ℕ → List Given → Gathered → Gathered → Type 0 where
+  done : {n : ℕ} {x : Gathered} → Gathers cputype n [] x x
+  next : {n : ℕ} {g : Given} {gs : List Given} {x all : Gathered} (more : Gathered) → AddsLibrary cputype n g x more
+      → Gathers cputype (n + 1) gs more all → Gathers cputype n (g ∷ gs) x all
+
+-- one file alone
+abbrev pub only : File → Gathered
+only f = record { files = f ∷ []; notes = [] }
+
+-- the program, which is file 0, and the libraries behind it, as they are for a cpu
+abbrev pub GathersFor : ℕ → Given → List Given → Gathered → Type 0
+GathersFor cputype program libraries all = (own : File) × IsFile 0 program own × Gathers cputype 1 libraries (only own) all
+
+-- the same, for the program's cpu
+abbrev pub GathersAll : Given → List Given → Gathered → Type 0
+GathersAll program libraries all = (cputype : ℕ) × IsOfCpu program.bytes cputype × GathersFor cputype program libraries all
+
+-- a fault is one of this file, by its number
+abbrev pub NumberedFault : ℕ → (Fault → Type 0) → ℕ → Fault → Type 0
+NumberedFault number IsFault n f = (n ≡ number) × IsFault f
 
 -- a fault stands where this file, of this number, is opened
 abbrev pub OpenFault : ℕ → Given → ℕ → Fault → Type 0
-OpenFault number g n f = (n ≡ number) × ImageFault g.bytes 0 f
+OpenFault number g = NumberedFault number (ImageFault g.bytes 0)
 
--- a fault stands where the file of this number is opened
-abbrev pub GivenFault : List Given → ℕ → Fault → Type 0
-GivenFault given number f = (g : Given) × (slice_get given number ≡ Some g) × OpenFault number g number f
+-- a fault stands where a library is opened for a cpu: where its bytes for the cpu are found, or in them
+pub data LibraryFault (cputype : ℕ) (g : Given) : Fault → Type 0 where
+  unfound : {f : Fault} → ForFault g.bytes cputype f → LibraryFault cputype g f
+  of_image : {f : Fault} (bytes : List ℕ) → HasFor g.bytes cputype (Some bytes) → ImageFault bytes 0 f → LibraryFault cputype g f
+
+-- a fault stands where the file of this number is opened: the program, or a library for a cpu
+pub data FaultFor (cputype : ℕ) (program : Given) (libraries : List Given) : ℕ → Fault → Type 0 where
+  of_program : {f : Fault} → ImageFault program.bytes 0 f → FaultFor cputype program libraries 0 f
+  of_library : {f : Fault} (index : ℕ) (g : Given) → slice_get libraries index ≡ Some g → LibraryFault cputype g f
+      → FaultFor cputype program libraries (index + 1) f
+
+-- the same, for the program's cpu; a program that doesn't open has none
+pub data GivenFault (program : Given) (libraries : List Given) (n : ℕ) (f : Fault) : Type 0 where
+  unopened : n ≡ 0 → ImageFault program.bytes 0 f → GivenFault program libraries n f
+  opened : (cputype : ℕ) → IsOfCpu program.bytes cputype → FaultFor cputype program libraries n f → GivenFault program libraries n f

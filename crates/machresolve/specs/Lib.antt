@@ -3,10 +3,13 @@ pub mod Behind
 pub mod Follow
 pub mod Special
 pub mod Answers
-pub mod Lines
+pub mod Note
+pub mod Cpu
 pub mod Given
 pub mod Failures
 pub mod Seen
 pub mod Opened
 pub mod Resolved
-pub mod Outcome
+pub mod Report
+pub mod Lines
+pub mod Runs

@@ -15,7 +15,8 @@ use Rattle.goblin_mach.specs.Subjects.{own_name_in}
 use Rattle.goblin_mach.specs.declared.image.macho.MachO.{MachO}
 use Rattle.machresolve.specs.Files.{File, TrieFaultAt}
 use Rattle.machresolve.specs.Answers.{Program, Answer, AreAnswers}
-use Rattle.machresolve.specs.Given.{Given, Gathers, GivenFault, may_be_absent}
+use Rattle.machresolve.specs.Given.{Given, Gathered, GathersAll, GivenFault, may_be_absent}
+use Rattle.machresolve.specs.Note.{Note}
 
 -- The bytes are this program: they open; its name is its own, or its path; and these are its bindings, all of them.
 pub record IsProgram (g : Given) (p : Program) (bindings : List Binding) : Type 0 where
@@ -24,10 +25,11 @@ pub record IsProgram (g : Given) (p : Program) (bindings : List Binding) : Type 
   pub absences : OfImage g.bytes 0 (λ ctx cs. p.may_be_absent ≡ may_be_absent (libraries_in g.bytes cs))
   pub bindings_are : HasBindings g.bytes 0 (map (λ b. Ok b) bindings)
 
--- these are the answers for the bindings of a program, in order, among the program and some libraries
-pub record IsResolved (program : Given) (libraries : List Given) (answers : List Answer) : Type 0 where
+-- These are the answers for the bindings of a program, in order, among the program and some libraries, and these are the
+-- notes of libraries that do not count.
+pub record IsResolved (program : Given) (libraries : List Given) (answers : List Answer) (notes : List Note) : Type 0 where
   pub files : List File
-  pub gathered : Gathers 0 (program ∷ libraries) [] files
+  pub gathered : GathersAll program libraries (record { files = files; notes = notes })
   pub known : Program
   pub bindings : List Binding
   pub is_program : IsProgram program known bindings
@@ -35,11 +37,10 @@ pub record IsResolved (program : Given) (libraries : List Given) (answers : List
 
 -- why a program is refused
 pub data ResolveFault (program : Given) (libraries : List Given) : ℕ → Fault → Type 0 where
-  of_file : {n : ℕ} {f : Fault} → GivenFault (program ∷ libraries) n f → ResolveFault program libraries n f
+  of_file : {n : ℕ} {f : Fault} → GivenFault program libraries n f → ResolveFault program libraries n f
   of_bindings : {f : Fault} (bindings : List Binding) (rest : List (Result Binding Fault)) → HasBindings program.bytes 0 (map (λ b. Ok b) bindings ++ Err f ∷ rest)
       → ResolveFault program libraries 0 f
-  of_trie : {n : ℕ} {f : Fault} (files : List File) → Gathers 0 (program ∷ libraries) [] files → TrieFaultAt files n f
-      → ResolveFault program libraries n f
+  of_trie : {n : ℕ} {f : Fault} (all : Gathered) → GathersAll program libraries all → TrieFaultAt all.files n f → ResolveFault program libraries n f
 
 -- ---- of an image as it is held
 

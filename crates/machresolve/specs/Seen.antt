@@ -1,5 +1,6 @@
 -- What the program's own types mean.
-use Rattle.std.specs.Prelude.{◌≡◌, ◌↔◌, ℕ, List, map, Option, option_map, Some, None, slice_get, IsTrue, if◌then◌else◌}
+use Rattle.std.specs.Prelude.{◌≡◌, ◌≢◌, ◌↔◌, ℕ, Result, Ok, Err, List, map, Option, option_map, Some, None, slice_get, IsTrue, if◌then◌else◌}
+use Rattle.mach_base.specs.declared.error.Error.{Error}
 use Rattle.mach_dyld.specs.Exports.{texts}
 use Rattle.mach_dyld.specs.Trie.{Info}
 use Rattle.mach_parts.specs.Bindings.{provider_view}
@@ -9,6 +10,9 @@ use Rattle.machresolve.specs.Behind as behind
 use Rattle.machresolve.specs.Follow as follow
 use Rattle.machresolve.specs.Special as special
 use Rattle.machresolve.specs.Answers as answers
+use Rattle.machresolve.specs.Note as note
+use Rattle.machresolve.specs.Given as gathered
+use Rattle.machresolve.specs.Report as report
 use Rattle.machresolve.specs.declared.file.File.{File}
 use Rattle.machresolve.specs.declared.file.Files.{Files}
 use Rattle.machresolve.specs.declared.behind.Edge.{Edge}
@@ -21,6 +25,16 @@ use Rattle.machresolve.specs.declared.follow.Step.TheVariants.{Leads, Ends}
 use Rattle.machresolve.specs.declared.special.Definition.{Definition}
 use Rattle.machresolve.specs.declared.answers.Answer.{Answer}
 use Rattle.machresolve.specs.declared.answers.Program.{Program}
+use Rattle.machresolve.specs.declared.failure.Failure.{Failure}
+use Rattle.machresolve.specs.declared.failure.Failure.TheVariants as failures
+use Rattle.machresolve.specs.declared.note.Note.{Note}
+use Rattle.machresolve.specs.declared.note.Note.TheVariants.{GivenBefore, NothingFor}
+use Rattle.machresolve.specs.declared.given.Gathered.{Gathered}
+use Rattle.machresolve.specs.declared.resolve.Resolved.{Resolved}
+use Rattle.machresolve.specs.declared.report.Outcome.{Outcome}
+use Rattle.machresolve.specs.declared.report.Outcome.TheVariants.{Answered, Archive, Refused}
+use Rattle.machresolve.specs.declared.report.Report.{Report}
+use Rattle.machresolve.specs.declared.report.Report.TheVariants.{One, Entries, Nothing}
 
 abbrev pub file_seen : {A : Type 0} → File A → files.File
 file_seen f = record {
@@ -89,3 +103,27 @@ strong_place (Some d) = if d.is_weak then None else Some d.place
 abbrev pub first_place : Option Place → Option Definition → Option Place
 first_place (Some place) found = Some place
 first_place None found = option_map (λ (d : Definition). d.place) found
+
+abbrev pub note_seen : Note → note.Note
+note_seen (GivenBefore library name) = note.given_before library name.now
+note_seen (NothingFor library cputype) = note.nothing_for library cputype
+
+abbrev pub gathered_seen : {A : Type 0} → Gathered A → gathered.Gathered
+gathered_seen g = record { files = files_seen g.files; notes = map note_seen g.notes.items }
+
+abbrev pub outcome_seen : {A : Type 0} → Outcome A → report.Outcome
+outcome_seen (Answered resolved) = report.answered (map answer_seen resolved.answers.items) (map note_seen resolved.notes.items)
+outcome_seen Archive = report.archive
+outcome_seen (Refused file e) = report.refused file e
+
+abbrev pub report_seen : {A : Type 0} → Report A → report.Report
+report_seen (One outcome) = report.one (outcome_seen outcome)
+report_seen (Entries outcomes) = report.entries (map outcome_seen outcomes.items)
+report_seen (Nothing cputype) = report.nothing cputype
+
+-- the outcome for a failure: a refused file, or none, where the failure is another
+abbrev pub IsRefusal : {A : Type 0} → Failure → Result (Outcome A) Failure → Type 0
+IsRefusal failure (Ok (Refused file e)) = failure ≡ failures.Refused file e
+IsRefusal failure (Ok Archive) = ⊥
+IsRefusal failure (Ok (Answered resolved)) = ⊥
+IsRefusal failure (Err kept) = (kept ≡ failure) × ((file : ℕ) (e : Error) → failure ≢ failures.Refused file e)

@@ -1,6 +1,7 @@
 //! The answers for the bindings of a program.
 
-ghost use Rattle.std.specs.Prelude.{◌≡◌, ◌||◌, IfOk, IfErr};
+ghost use Rattle.std.specs.Prelude.{◌≡◌, ◌||◌, map, IfOk, IfErr};
+ghost use Rattle.std.specs.List.{list_all};
 ghost use Rattle.mach_parts.specs.Bindings.{provider_view, binding_view};
 ghost use Rattle.machresolve.specs.Files.{TrieFaultAt};
 ghost use Rattle.machresolve.specs.Behind.{Met, IsBehindAll};
@@ -125,4 +126,15 @@ pub fn answer_for<'a, A: Allocator + Copy>(
         place,
         is_weak: is_weak || is_missed(program, provider, place),
     })
+}
+
+/// Whether all bindings are settled.
+pub fn all_settled(answers: &[Answer<'_>]) -> bool
+    ensures { result ≡ list_all is_settled (map answer_seen answers.now) }
+{
+    let mut settled = true;
+    for answer in answers {
+        settled &= answer.is_settled();
+    }
+    settled
 }

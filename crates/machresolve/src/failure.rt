@@ -4,7 +4,8 @@ ghost use Rattle.std.specs.Prelude.{◌≡◌};
 ghost use Rattle.machresolve.specs.Failures.{told_as};
 ghost use Rattle.machresolve.specs.declared.failure.Failure.TheVariants as failures;
 
-use goblin_mach::{Error, describe};
+use crate::lines::RefusalText;
+use goblin_mach::Error;
 use std::alloc::{AllocError, AllocFailed};
 use std::io::Write;
 use std::{fmt, io};
@@ -59,8 +60,10 @@ impl From<io::Error> for Failure {
 impl fmt::Display for Failure {
     fn fmt<W: fmt::Write>(&self, f: &mut fmt::Formatter<W>) -> fmt::Result {
         match self {
-            Failure::Refused { file: 0, error } => write!(f, "the program: {}", describe(error)),
-            Failure::Refused { file, error } => write!(f, "library {file}: {}", describe(error)),
+            Failure::Refused { file, error } => {
+                let refusal = RefusalText { file: *file, error };
+                write!(f, "{refusal}")
+            }
             Failure::Memory => write!(f, "out of memory"),
             Failure::Unwritten => write!(f, "cannot write"),
         }

@@ -1,13 +1,14 @@
-//! An answer as it is printed.
+//! Answers, notes and refusals as they are printed.
 
 ghost use Rattle.std.specs.Prelude.{◌≡◌, Some};
 ghost use Rattle.mach_parts.specs.Bindings.{provider_view};
-ghost use Rattle.machresolve.specs.Lines.{provider_text, place_text, front_text, answer_text};
-ghost use Rattle.machresolve.specs.Seen.{place_seen, answer_seen};
+ghost use Rattle.machresolve.specs.Lines.{provider_text, place_text, front_text, answer_text, file_text, refusal_text, nothing_words, nothing_text, note_text};
+ghost use Rattle.machresolve.specs.Seen.{place_seen, answer_seen, note_seen};
 
 use crate::answers::Answer;
 use crate::follow::Place;
-use goblin_mach::Provider;
+use crate::note::Note;
+use goblin_mach::{Error, Provider, describe};
 use std::fmt;
 use std::fmt::{Display, Formatter, Write};
 
@@ -82,5 +83,91 @@ impl<'a> Display for Answer<'a> {
         let front = self.front();
         let place = PlaceText(self.place);
         write!(f, "{name} {provider} {front}{place}")
+    }
+}
+
+// A file by its number.
+#[derive(Clone, Copy)]
+struct FileText(usize);
+
+impl Display for FileText {
+    ghost output = { λ t. Some (file_text t.0) };
+
+    fn fmt<W: Write>(&self, f: &mut Formatter<W>) -> fmt::Result {
+        let number = self.0;
+        if number == 0 {
+            write!(f, "the program")
+        } else {
+            write!(f, "library {number}")
+        }
+    }
+}
+
+/// Why a file is refused.
+#[derive(Clone, Copy)]
+pub struct RefusalText<'b> {
+    /// The number of the file, the program's being 0.
+    pub file: usize,
+    pub error: &'b Error,
+}
+
+impl<'b> Display for RefusalText<'b> {
+    ghost output = { λ t. Some (refusal_text t.file t.error.now) };
+
+    fn fmt<W: Write>(&self, f: &mut Formatter<W>) -> fmt::Result {
+        let file = FileText(self.file);
+        let words = describe(self.error);
+        write!(f, "{file}: {words}")
+    }
+}
+
+// That nothing is there for a cpu.
+#[derive(Clone, Copy)]
+struct NothingWords(u32);
+
+impl Display for NothingWords {
+    ghost output = { λ t. Some (nothing_words t.0) };
+
+    fn fmt<W: Write>(&self, f: &mut Formatter<W>) -> fmt::Result {
+        let cputype = self.0;
+        write!(f, "nothing for cputype 0x{cputype:x}")
+    }
+}
+
+/// A file that has nothing for a cpu.
+#[derive(Clone, Copy)]
+pub struct NothingText {
+    /// The number of the file, the program's being 0.
+    pub file: usize,
+    pub cputype: u32,
+}
+
+impl Display for NothingText {
+    ghost output = { λ t. Some (nothing_text t.file t.cputype) };
+
+    fn fmt<W: Write>(&self, f: &mut Formatter<W>) -> fmt::Result {
+        let file = FileText(self.file);
+        let words = NothingWords(self.cputype);
+        write!(f, "{file}: {words}")
+    }
+}
+
+impl<'a> Display for Note<'a> {
+    ghost output = { λ n. Some (note_text (note_seen n)) };
+
+    fn fmt<W: Write>(&self, f: &mut Formatter<W>) -> fmt::Result {
+        match *self {
+            Note::GivenBefore { library, name } => {
+                let library = FileText(library);
+                write!(f, "{library}: {name} is given before")
+            }
+            Note::NothingFor { library, cputype } => {
+                let nothing = NothingText {
+                    file: library,
+                    cputype,
+                };
+                write!(f, "{nothing}")
+            }
+        }
     }
 }

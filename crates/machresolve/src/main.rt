@@ -1,7 +1,7 @@
 //! Says for each binding of a program where it is found among some libraries, and at which address: for the binds of
-//! its opcodes, and for those of its chains. Each file is one image; an entry of a fat file has to be taken out of it
-//! first. A library is known by its own name (LC_ID_DYLIB), or by its path where it has none; the first of several of
-//! one name counts. Names are compared as texts.
+//! its opcodes, and for those of its chains. Of a fat program it says so for each entry, or for the first of the cpu
+//! that is wanted; a fat library stands for its first entry of the program's cpu. A library is known by its own name
+//! (LC_ID_DYLIB), or by its path where it has none; the first of several of one name counts. Names are compared as texts.
 #![tactic(auto)]
 
 mod answers;
@@ -12,44 +12,60 @@ mod files;
 mod follow;
 mod given;
 mod lines;
+mod note;
+mod report;
 mod resolve;
 mod run;
 mod special;
 #[cfg(test)]
 mod tests;
+mod words;
 
 use given::Given;
 use run::{run, run_line};
 use std::io::BufWriter;
 use std::process::ExitCode;
 use std::{env, fs, io};
+use words::{Asked, read_words};
 
-const USAGE: &str = "usage: machresolve PROGRAM LIBRARY..";
+const USAGE: &str = "usage: machresolve [--cputype 0xN] PROGRAM LIBRARY..";
 
 const VERSION: &str = "machresolve 0.1.0";
 
 fn main(rt: HostRuntime) -> ExitCode {
-    let Ok(args) = env::args(&rt) else {
-        return bad_usage(&rt);
-    };
-    let Ok(args) = args.collect::<Vec<String>>(rt.alloc()) else {
-        return ExitCode::from(out_of_memory(&rt));
-    };
-    let [_, first, others @ ..] = args.as_slice() else {
-        return bad_usage(&rt);
-    };
-    ExitCode::from(match first.as_str() {
-        "--help" => run_line(USAGE, &mut io::writer(&rt), &mut rt.stderr()),
-        "--version" => run_line(VERSION, &mut io::writer(&rt), &mut rt.stderr()),
-        program => match resolve_files(&rt, program, others) {
-            Ok(status) | Err(status) => status,
+    let status = match env::args(&rt) {
+        Ok(args) => match args.collect::<Vec<String>>(rt.alloc()) {
+            Ok(args) => start(&rt, args.as_slice()),
+            Err(_) => out_of_memory(&rt),
         },
-    })
+        Err(error) if error.kind() == io::ErrorKind::OutOfMemory => out_of_memory(&rt),
+        Err(_) => bad_usage(&rt),
+    };
+    ExitCode::from(status)
 }
 
-fn bad_usage(rt: &impl Eprint) -> ExitCode {
+// Does what the arguments ask for; the first is the program's name.
+fn start(rt: &HostRuntime, args: &[String]) -> u8 {
+    match args {
+        [_, word] if word.as_str() == "--help" => {
+            run_line(USAGE, &mut io::writer(rt), &mut rt.stderr())
+        }
+        [_, word] if word.as_str() == "--version" => {
+            run_line(VERSION, &mut io::writer(rt), &mut rt.stderr())
+        }
+        [_, words @ ..] => match read_words(words) {
+            Some(asked) => match resolve_files(rt, asked) {
+                Ok(status) | Err(status) => status,
+            },
+            None => bad_usage(rt),
+        },
+        [] => bad_usage(rt),
+    }
+}
+
+fn bad_usage(rt: &impl Eprint) -> u8 {
     let _ = rt.eprintln(USAGE);
-    ExitCode::from(2)
+    2
 }
 
 fn out_of_memory(rt: &impl Eprint) -> u8 {
@@ -58,16 +74,16 @@ fn out_of_memory(rt: &impl Eprint) -> u8 {
 }
 
 // Resolves a program over libraries, and answers the exit status; Err where not all could be read.
-fn resolve_files(rt: &HostRuntime, program: &str, libraries: &[String]) -> Result<u8, u8> {
-    let bytes = read(rt, program)?;
+fn resolve_files(rt: &HostRuntime, asked: Asked<'_>) -> Result<u8, u8> {
+    let bytes = read(rt, asked.program)?;
     let mut contents = Vec::new(rt.alloc());
-    for library in libraries {
+    for library in asked.libraries {
         if contents.push(read(rt, library)?).is_err() {
             return Err(out_of_memory(rt));
         }
     }
     let mut given = Vec::new(rt.alloc());
-    for (path, bytes) in libraries.iter().zip(contents.iter()) {
+    for (path, bytes) in asked.libraries.iter().zip(contents.iter()) {
         let library = Given {
             path: path.as_str(),
             bytes: bytes.as_slice(),
@@ -80,11 +96,12 @@ fn resolve_files(rt: &HostRuntime, program: &str, libraries: &[String]) -> Resul
         return Err(out_of_memory(rt));
     };
     let program = Given {
-        path: program,
+        path: asked.program,
         bytes: bytes.as_slice(),
     };
     Ok(run(
         rt.alloc(),
+        asked.wanted,
         program,
         given.as_slice(),
         &mut out,

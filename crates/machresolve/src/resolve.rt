@@ -7,14 +7,15 @@ ghost use Rattle.machresolve.specs.Answers as answered;
 ghost use Rattle.machresolve.specs.Answers.{AreAnswers};
 ghost use Rattle.machresolve.specs.Failures.{IsFailure};
 ghost use Rattle.machresolve.specs.Resolved.{HoldsBindings, IsResolved, ResolveFault, AnswerFault};
-ghost use Rattle.machresolve.specs.Seen.{files_seen, program_seen, answer_seen};
+ghost use Rattle.machresolve.specs.Seen.{files_seen, program_seen, answer_seen, note_seen};
 ghost use Rattle.machresolve.specs.Opened.{given_seen};
 
 use crate::answers::{Answer, Program, answer_for};
 use crate::behind::behind_all;
 use crate::failure::Failure;
 use crate::file::Files;
-use crate::given::{Given, absences_of, gather};
+use crate::given::{Gathered, Given, absences_of, gather};
+use crate::note::Note;
 use goblin_mach::{MachO, laws};
 use std::alloc::Allocator;
 
@@ -43,6 +44,15 @@ fn answer_all<'a, A: Allocator + Copy>(
     Ok(answers)
 }
 
+/// A program, resolved.
+#[derive(Drop)]
+pub struct Resolved<'a, A: Allocator> {
+    /// The answers for its bindings, in order.
+    pub answers: Vec<Answer<'a>, A>,
+    /// Notes of the libraries that count for nothing.
+    pub notes: Vec<Note<'a>, A>,
+}
+
 /// The answers for the bindings of a program, in order, among the program and some libraries. Each refusal but
 /// want of memory is a fault that stands: where a file is opened, in the program's bindings, or in a trie on the
 /// way of a name that is sought.
@@ -50,18 +60,19 @@ pub fn resolve<'a, A: Allocator + Copy>(
     alloc: A,
     program: Given<'a>,
     libraries: &[Given<'a>],
-) -> Result<Vec<Answer<'a>, A>, Failure>
-    ensures resolved { IfOk result (λ v. IsResolved (given_seen program.entry) (map given_seen libraries.now) (map answer_seen v.items)) }
+) -> Result<Resolved<'a, A>, Failure>
+    ensures resolved { IfOk result (λ r. IsResolved (given_seen program.entry) (map given_seen libraries.now) (map answer_seen r.answers.items) (map note_seen r.notes.items)) }
     ensures refused { IfErr result (IsFailure (ResolveFault (given_seen program.entry) (map given_seen libraries.now))) }
 {
     let image = match MachO::parse(alloc, program.bytes, 0) {
         Ok(image) => image,
         Err(error) => return Err(Failure::refused(0, error)),
     };
-    let files = match gather(alloc, program, libraries) {
-        Ok(files) => files,
+    let gathered = match gather(alloc, image.header.cputype, program, libraries) {
+        Ok(gathered) => gathered,
         Err(failure) => return Err(failure),
     };
+    let Gathered { files, notes } = gathered;
     let all = behind_all(alloc, &files)?;
     let known = Program {
         name: image.name.unwrap_or(program.path),
@@ -71,7 +82,7 @@ pub fn resolve<'a, A: Allocator + Copy>(
     laws::libraries_by_kind_of_image(&image);
     laws::bindings_of_image(&image);
     match answer_all(alloc, &files, all.places.as_slice(), &known, &image) {
-        Ok(answers) => Ok(answers),
+        Ok(answers) => Ok(Resolved { answers, notes }),
         Err(failure) => Err(failure),
     }
 }

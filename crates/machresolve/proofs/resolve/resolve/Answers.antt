@@ -1,4 +1,4 @@
-use Rattle.std.proofs.Common.{◌∷◌, Ok, map, refl, sym, subst}
+use Rattle.std.proofs.Common.{Ok, map, refl, sym, subst}
 use Rattle.mach_parts.specs.Bindings.{Binding}
 use Rattle.goblin_mach.specs.Image.{ImageFault}
 use Rattle.goblin_mach.specs.Libraries.{libraries_in}
@@ -6,12 +6,12 @@ use Rattle.goblin_mach.specs.OpenImage.{bytes_held, commands_held}
 use Rattle.mach_dyld.specs.Exports.{text_in}
 use Rattle.machresolve.specs.Failures.{IsFailure}
 use Rattle.machresolve.specs.Answers.{Program}
-use Rattle.machresolve.specs.Given.{GivenFault}
+use Rattle.machresolve.specs.Given.{FaultFor, unopened, opened}
 use Rattle.machresolve.specs.Resolved.{AnswerFault, ResolveFault, of_file}
-use Rattle.machresolve.specs.Seen.{files_seen, met_seen}
+use Rattle.machresolve.specs.Seen.{files_seen, gathered_seen, met_seen}
 use Rattle.machresolve.specs.Opened.{given_seen}
-use Rattle.machresolve.proofs.Opening.{first_given}
-use Rattle.machresolve.proofs.Notes.{fails_more, stands_more}
+use Rattle.machresolve.proofs.Cpus.{of_cpu}
+use Rattle.machresolve.proofs.Notes.{fails_more, stands_more, memory_fails}
 use Rattle.machresolve.proofs.Opened.{is_program, more_faults}
 use Rattle.machresolve.proofs.Steps.{told, given_name}
 use Rattle.machresolve.proofs.resolve.resolve.Goals as goal
@@ -22,13 +22,15 @@ returns-in-Err-clause-refused g c =
     let ls = map given_seen c.args.libraries.now in
     subst (IsFailure (ResolveFault p ls)) (sym c.refused.ensures)
     (told (ResolveFault p ls) 0 c.in-Err.error
-    (stands_more (ImageFault p.bytes 0) (ResolveFault p ls 0) c.in-Err.error (λ f stands. of_file (first_given p ls 0 f (refl, stands))) c.in-Err.ensures.refused))
+    (stands_more (ImageFault p.bytes 0) (ResolveFault p ls 0) c.in-Err.error (λ f stands. of_file (unopened refl stands)) c.in-Err.ensures.refused))
 
 pub returns-in-Err-gather-clause-refused : goal.returns-in-Err-gather-clause-refused
 returns-in-Err-gather-clause-refused g c =
     let p = given_seen c.args.program in
     let ls = map given_seen c.args.libraries.now in
-    fails_more (GivenFault (p ∷ ls)) (ResolveFault p ls) c.in-Err-gather.failure (λ n f stands. of_file stands) c.in-Err-gather.ensures.refused
+    let cpu = c.in-Ok.image.header.cputype in
+    fails_more (FaultFor cpu p ls) (ResolveFault p ls) c.in-Err-gather.failure
+    (λ n f stands. of_file (opened cpu (of_cpu p.bytes c.in-Ok.image c.in-Ok.ensures.opened) stands)) c.in-Err-gather.ensures.refused
 
 pub returns-in-Ok-answer_all-clause-resolved : goal.returns-in-Ok-answer_all-clause-resolved
 returns-in-Ok-answer_all-clause-resolved g c =
@@ -39,8 +41,8 @@ returns-in-Ok-answer_all-clause-resolved g c =
     let libraries = libraries_in (bytes_held m) (commands_held m) in
     let answered = c.in-Ok-answer_all.ensures.answered (met_seen c.in_ok-all.all) c.in_ok-all.ensures (sym c.as_slice.ensures.value) in
     record {
-      files = files_seen c.in-Ok-gather.files;
-      gathered = c.in-Ok-gather.ensures.gathered;
+      files = files_seen c.in-Ok-gather.gathered.files;
+      gathered = (m.header.cputype, of_cpu p.bytes m is, c.in-Ok-gather.ensures.gathered);
       known = known;
       bindings = answered.0;
       is_program = is_program p m known answered.0 (text_in m.name) libraries is
@@ -57,7 +59,18 @@ returns-clause-refused g c =
     let p = given_seen c.args.program in
     let ls = map given_seen c.args.libraries.now in
     let m = c.in-Ok.image in
-    let files = files_seen c.in-Ok-gather.files in
+    let is = c.in-Ok.ensures.opened in
+    let all = gathered_seen c.in-Ok-gather.gathered in
+    let files = all.files in
     fails_more (AnswerFault files m) (ResolveFault p ls) c.in-Err-answer_all.failure
-    (more_faults p ls m files c.in-Ok-gather.ensures.gathered (λ items. (c.bindings_of_image.ensures.strict p.bytes 0 c.in-Ok.ensures.opened items).1))
+    (more_faults p ls m all (m.header.cputype, of_cpu p.bytes m is, c.in-Ok-gather.ensures.gathered) (λ items. (c.bindings_of_image.ensures.strict p.bytes 0 c.in-Ok.ensures.opened items).1))
     c.in-Err-answer_all.ensures.refused
+
+pub returns-in_err-all-clause-refused : goal.returns-in_err-all-clause-refused
+returns-in_err-all-clause-refused g c =
+    memory_fails (ResolveFault (given_seen c.args.program) (map given_seen c.args.libraries.now)) c.from_residual.result c.from_residual.ensures.1
+
+pub returns-in_err-absences_of-clause-refused : goal.returns-in_err-absences_of-clause-refused
+returns-in_err-absences_of-clause-refused g c =
+    memory_fails (ResolveFault (given_seen c.args.program) (map given_seen c.args.libraries.now)) c.from_residual-in_err-absences_of.result
+    c.from_residual-in_err-absences_of.ensures.1
