@@ -1,0 +1,40 @@
+/* example FILE: the libraries and the symbols of an image, or of each image of a fat file. */
+#include "goblin_mach.h"
+#include <inttypes.h>
+#include <stdio.h>
+#include <stdlib.h>
+
+static int show(const uint8_t *bytes, size_t len) {
+    gm_image image;
+    gm_error error;
+    if (gm_open(bytes, len, 0, GM_STRICT, NULL, &image, &error)) {
+        fprintf(stderr, "%s\n", error.text);
+        return 1;
+    }
+    gm_library libraries[16];
+    for (size_t first = 0, n; (n = gm_libraries(bytes, len, &image, first, libraries, 16)); first += n)
+        for (size_t i = 0; i < n; i++)
+            printf("library %zu: %.*s\n", first + i + 1, (int)libraries[i].name_len, (const char *)bytes + libraries[i].name);
+    gm_symbol symbols[256];
+    for (size_t first = 0, n; (n = gm_symbols(bytes, len, &image, first, symbols, 256)); first += n)
+        for (size_t i = 0; i < n; i++)
+            if (symbols[i].code == GM_OK)
+                printf("%016" PRIx64 " %.*s\n", symbols[i].value, (int)symbols[i].name_len, (const char *)bytes + symbols[i].name);
+    return 0;
+}
+
+int main(int argc, char **argv) {
+    FILE *file = argc == 2 ? fopen(argv[1], "rb") : NULL;
+    if (!file || fseek(file, 0, SEEK_END)) return 2;
+    size_t len = (size_t)ftell(file);
+    uint8_t *bytes = malloc(len + 1);
+    rewind(file);
+    if (!bytes || fread(bytes, 1, len, file) != len) return 2;
+    gm_fat_entry entries[8];
+    size_t n = gm_fat_entries(bytes, len, 0, entries, 8);
+    int bad = n ? 0 : show(bytes, len);
+    for (size_t i = 0; i < n; i++)
+        if (entries[i].offset <= len && entries[i].size <= len - entries[i].offset)
+            bad |= show(bytes + entries[i].offset, entries[i].size);
+    return bad;
+}

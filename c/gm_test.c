@@ -1,0 +1,320 @@
+/* gm_test WHAT FILE prints the lines of a list, for comparison with the programs of this repository.
+   gm_test check FILE.. tests each file and each of its prefixes: batches of 1, 2, 7 and all give the same rows, the rest of an
+   array stays, memory may be refused at any request, an arena serves without malloc, NULL serves with length 0.
+   gm_test damage COUNT FILE.. hands in COUNT images of made-up numbers, by a fixed seed. */
+#define _GNU_SOURCE
+#include "goblin_mach.h"
+#include <inttypes.h>
+#include <stdio.h>
+#include <stdlib.h>
+#include <string.h>
+
+typedef struct { const uint8_t *bytes; size_t len; gm_image image; gm_segment segment; gm_section section; } given;
+
+#define DIE(...) (fprintf(stderr, __VA_ARGS__), fputc('\n', stderr), exit(1))
+
+/* ---- the lists: how many rows a call wrote, and the line of a row */
+
+static void text(FILE *to, const given *g, size_t at, size_t len) {
+    if (at > g->len || len > g->len - at) DIE("a text stands outside of the bytes");
+    fwrite(g->bytes + at, 1, len, to);
+}
+
+#define LIST(name, row, call, ...) \
+    static size_t rows_##name(const given *g, size_t first, void *out, size_t cap) { (void)g; row *rows = out; return call; } \
+    static void line_##name(FILE *to, const given *g, const void *at) { const row *r = at; (void)g; __VA_ARGS__; fputc('\n', to); }
+
+#define OF g->bytes, g->len, &g->image
+LIST(entries, gm_fat_entry, gm_fat_entries(g->bytes, g->len, first, rows, cap),
+     fprintf(to, "%x %x %u %u %u %u", r->cputype, r->cpusubtype, r->offset, r->size, r->align, r->code))
+LIST(commands, gm_command, gm_commands(OF, first, rows, cap), fprintf(to, "0x%zx %x size: %zu", r->offset, r->cmd, r->size))
+LIST(segments, gm_segment, gm_segments(OF, first, rows, cap),
+     fprintf(to, "%.16s %" PRIx64 " %" PRIx64 " %" PRIx64 " %" PRIx64 " %zu %zu %x %x %u %x", (const char *)r->name, r->vmaddr, r->vmsize, r->fileoff,
+             r->filesize, r->command, r->data_len, r->maxprot, r->initprot, r->sections, r->flags))
+LIST(sections, gm_section, gm_sections(OF, g->segment.command, g->segment.sections, first, rows, cap),
+     fprintf(to, "%.16s %.16s %" PRIx64 " %" PRIx64 " %zu %u %u %u %u %x %u", (const char *)r->name, (const char *)r->segment, r->addr, r->size,
+             r->data_len, r->offset, r->align, r->reloff, r->nreloc, r->flags, r->code))
+LIST(relocations, gm_relocation, gm_relocations(OF, g->section.reloff, g->section.nreloc, first, rows, cap),
+     fprintf(to, "%" PRId32 " %08x %u", r->address, r->info, r->code))
+LIST(symbols, gm_symbol, gm_symbols(OF, first, rows, cap),
+     fprintf(to, "%0*" PRIx64 " %x %zu %x %u ", g->image.is_64 ? 16 : 8, r->value, r->n_type, r->section, r->desc, r->code); text(to, g, r->name, r->name_len))
+LIST(libraries, gm_library, gm_libraries(OF, first, rows, cap),
+     fprintf(to, "%u %u %x %x ", r->kind, r->timestamp, r->current_version, r->compatibility_version); text(to, g, r->name, r->name_len))
+static size_t fixups(const given *g, size_t first, gm_fixup *rows, size_t cap) {
+    size_t count = SIZE_MAX;
+    gm_error e;
+    uint32_t code = gm_fixups(OF, first, rows, cap, &count, NULL, &e);
+    if (code && count != SIZE_MAX) DIE("a refusal changed the count");
+    return code ? 0 : count;
+}
+LIST(fixups, gm_fixup, fixups(g, first, rows, cap),
+     fprintf(to, "%" PRIx64 " %" PRIx64 " %" PRIx64 " %u %u %u %d %u %u %u %u %u", r->address, r->offset, r->target, r->segment, r->kind, r->import,
+             r->addend, r->is_signed, r->key, r->diversity, r->is_address_diverse, r->code))
+LIST(run_paths, gm_run_path, gm_run_paths(OF, first, rows, cap), text(to, g, r->path, r->path_len))
+
+typedef struct {
+    const char *name;
+    size_t size;
+    size_t (*rows)(const given *, size_t, void *, size_t);
+    void (*line)(FILE *, const given *, const void *);
+} list;
+#define ONE(name, row) {#name, sizeof(row), rows_##name, line_##name}
+static const list lists[] = {ONE(commands, gm_command), ONE(segments, gm_segment), ONE(symbols, gm_symbol), ONE(libraries, gm_library),
+                             ONE(run_paths, gm_run_path), ONE(fixups, gm_fixup), ONE(entries, gm_fat_entry),
+                             ONE(sections, gm_section), ONE(relocations, gm_relocation)};
+enum { LISTS = sizeof lists / sizeof *lists, LIMIT = 400 };
+
+/* the lines of a list in batches of so many, at most LIMIT of them; each array is as long as it is said to be */
+static char *lines(const list *l, const given *g, size_t batch) {
+    char *text_of = NULL;
+    size_t len = 0, n = 0, k, room;
+    FILE *to = open_memstream(&text_of, &len);
+    do {
+        room = LIMIT - n < batch ? LIMIT - n : batch;
+        uint8_t *out = malloc(room * l->size + !room);
+        memset(out, 0xa5, room * l->size);
+        k = l->rows(g, n, room ? out : NULL, room);
+        if (k > room) DIE("%s: more rows than fit", l->name);
+        for (size_t i = k * l->size; i < room * l->size; i++)
+            if (out[i] != 0xa5) DIE("%s: the rest of the array was written", l->name);
+        for (size_t i = 0; i < k; i++) l->line(to, g, out + i * l->size);
+        free(out);
+        n += k;
+    } while (k == room && room);
+    fclose(to);
+    return text_of;
+}
+
+/* ---- memory that is refused at a request, and that is counted */
+
+typedef struct { size_t asked, refused, held; } counted;
+static void *take(void *self, size_t size) {
+    counted *c = self;
+    if (++c->asked == c->refused) return NULL;
+    c->held++;
+    return malloc(size);
+}
+static void give(void *self, void *block) { ((counted *)self)->held--; free(block); }
+
+static size_t mallocs;
+void *__real_malloc(size_t size);
+void *__wrap_malloc(size_t size);
+void *__wrap_malloc(size_t size) { mallocs++; return __real_malloc(size); }
+
+static uint32_t opens(given *g, uint32_t mode) {
+    gm_error e = {0}, f = {0};
+    gm_image other;
+    memset(&other, 0x5a, sizeof other);
+    gm_image before = other;
+    uint32_t code = gm_open(g->bytes, g->len, 0, mode, NULL, &g->image, &e);
+    if (code != e.code || e.text[123] || !e.text[0] != !code) DIE("an error without its code and its words");
+    for (size_t k = 1;; k++) {
+        counted c = {0, k, 0};
+        gm_memory m = {&c, take, give};
+        uint32_t again = gm_open(g->bytes, g->len, 0, mode, &m, &other, &f);
+        if (c.held) DIE("a block was kept");
+        if (again && memcmp(&other, &before, sizeof other)) DIE("a refusal changed the image");
+        if (again != GM_NO_MEMORY) {
+            if (again != code || (!code && memcmp(&other, &g->image, sizeof other))) DIE("memory changed an answer");
+            break;
+        }
+    }
+    static _Alignas(16) uint8_t room[1 << 16];
+    gm_arena arena = {room, sizeof room, 0, 0};
+    gm_memory m = gm_arena_memory(&arena);
+    size_t before_call = mallocs;
+    uint32_t again = gm_open(g->bytes, g->len, 0, mode, &m, &other, &f);
+    if (mallocs != before_call || arena.blocks) DIE("an arena did not serve");
+    if (again != code) DIE("an arena changed an answer");
+    return code;
+}
+
+/* ---- tests */
+
+static size_t tested;
+
+static void same_in_batches(const list *l, const given *g) {
+    static const size_t batches[] = {1, 2, 7};
+    char *all = lines(l, g, LIMIT);
+    for (int i = 0; i < 3; i++) {
+        char *some = lines(l, g, batches[i]);
+        if (strcmp(all, some)) DIE("%s: batches of %zu differ", l->name, batches[i]);
+        free(some);
+    }
+    free(all);
+    tested++;
+    l->rows(g, 0, NULL, 0);
+}
+
+static void check_parts(given *g) {
+    gm_segment segments[16];
+    gm_section sections[16];
+    size_t n = gm_segments(OF, 0, segments, 16);
+    for (size_t i = 0; i < n; i++) {
+        g->segment = segments[i];
+        same_in_batches(&lists[7], g);
+        size_t m = gm_sections(OF, segments[i].command, segments[i].sections, 0, sections, 16);
+        for (size_t k = 0; k < m; k++) {
+            g->section = sections[k];
+            same_in_batches(&lists[8], g);
+        }
+    }
+}
+
+/* a name that is sought, also with memory that is refused; machdump has the exports of file C */
+static void finds(const given *g, const char *name, size_t name_len) {
+    gm_export found, before;
+    char library[8], target[8];
+    gm_error e = {0}, f = {0};
+    memset(&before, 0x5a, sizeof before);
+    found = before;
+    uint32_t code = gm_find_export(OF, name, name_len, &found, library, sizeof library, NULL, 0, NULL, &e);
+    if (code != e.code || (code && memcmp(&found, &before, sizeof found))) DIE("a refusal changed the export");
+    for (size_t k = 1;; k++) {
+        counted c = {0, k, 0};
+        gm_memory m = {&c, take, give};
+        gm_export again = before;
+        uint32_t code_again = gm_find_export(OF, name, name_len, &again, library, sizeof library, target, sizeof target, &m, &f);
+        if (c.held) DIE("a block was kept");
+        if (code_again != GM_NO_MEMORY) {
+            if (code_again != code || memcmp(&again, &found, sizeof found)) DIE("memory changed an export");
+            break;
+        }
+    }
+    if (!code && found.kind > GM_STUB) DIE("an export of no kind");
+    tested++;
+}
+
+static void check(const uint8_t *bytes, size_t len) {
+    given g = {.bytes = bytes, .len = len};
+    same_in_batches(&lists[6], &g);
+    for (uint32_t mode = GM_STRICT; mode <= GM_LOSSY; mode++) {
+        if (opens(&g, mode)) continue;
+        char *all = lines(&lists[0], &g, LIMIT);
+        size_t count = 0;
+        for (char *c = all; *c; c++) count += *c == '\n';
+        free(all);
+        if (count != g.image.commands) DIE("%zu commands of %zu", count, g.image.commands);
+        for (int i = 0; i < 6; i++) same_in_batches(&lists[i], &g);
+        check_parts(&g);
+        finds(&g, NULL, 0);
+        finds(&g, "a", 1);
+        finds(&g, "\xff", 1);
+    }
+}
+
+static uint64_t seed = 88172645463325252u;
+static uint64_t chance(void) { seed ^= seed << 13; seed ^= seed >> 7; seed ^= seed << 17; return seed; }
+
+/* numbers of all kinds: small ones, ones near the length, ones near the last of 32 and 64 bits */
+static uint64_t made_up(size_t len) {
+    switch (chance() % 6) {
+    case 0: return chance() % 4;
+    case 1: return chance() % 256;
+    case 2: return len - chance() % 32;
+    case 3: return UINT64_MAX - chance() % 64;
+    case 4: return UINT32_MAX - chance() % 64;
+    default: return chance();
+    }
+}
+
+static FILE *away;
+
+static void damage(const uint8_t *bytes, size_t len) {
+    given g = {.bytes = bytes, .len = len};
+    gm_error e;
+    if (chance() % 2) gm_open(bytes, len, 0, GM_LOSSY, NULL, &g.image, &e);
+    uint8_t *parts[] = {(uint8_t *)&g.image, (uint8_t *)&g.segment, (uint8_t *)&g.section};
+    size_t sizes[] = {sizeof g.image, sizeof g.segment, sizeof g.section};
+    for (int i = 0; i < 3; i++)
+        for (size_t at = 0; at + 4 <= sizes[i]; at += 4) {
+            uint64_t number = made_up(len);
+            if (chance() % 3 == 0) memcpy(parts[i] + at, &number, at % 8 || at + 8 > sizes[i] ? 4 : 8);
+        }
+    gm_export found;
+    char library[4], target[4];
+    gm_find_export(bytes, len, &g.image, "a", chance() % 2, &found, library, chance() % 5, target, chance() % 5, NULL, &e);
+    for (size_t i = 0; i < LISTS; i++) {
+        size_t first = chance() % 2 ? 0 : made_up(len), cap = chance() % 5;
+        uint8_t *out = malloc(cap * lists[i].size + !cap);
+        size_t k = lists[i].rows(&g, first, out, cap);
+        if (k > cap) DIE("%s: more rows than fit", lists[i].name);
+        for (size_t n = 0; n < k; n++) lists[i].line(away, &g, out + n * lists[i].size);
+        free(out);
+    }
+}
+
+/* a line for an export of each of these names, as machdump shows it */
+static void print_exports(const given *g, const char *names) {
+    for (const char *at = names; *at; at += strcspn(at, ",") + 1) {
+        gm_export found;
+        gm_error e;
+        size_t n = strcspn(at, ",");
+        if (gm_find_export(OF, at, n, &found, NULL, 0, NULL, 0, NULL, &e)) printf("refused: %s\n", e.text);
+        else if (found.kind == GM_ADDRESS) printf("0x%" PRIx64 " %.*s\n", found.address, (int)n, at);
+        if (!at[n]) break;
+    }
+}
+
+static void print(const char *what, const uint8_t *bytes, size_t len) {
+    given g = {.bytes = bytes, .len = len};
+    gm_error e;
+    if (gm_open(bytes, len, 0, GM_STRICT, NULL, &g.image, &e)) { printf("refused: %s\n", e.text); return; }
+    if (!strncmp(what, "find:", 5)) print_exports(&g, what + 5);
+    for (size_t i = 0; i < LISTS; i++)
+        if (!strcmp(what, lists[i].name)) {
+            char *all = lines(&lists[i], &g, 100);
+            fputs(all, stdout);
+            free(all);
+        }
+}
+
+/* exactly the bytes of a file, so that a read behind them is seen */
+static uint8_t *read_file(const char *name, size_t *len) {
+    FILE *f = fopen(name, "rb");
+    if (!f) DIE("%s can't be opened", name);
+    fseek(f, 0, SEEK_END);
+    *len = (size_t)ftell(f);
+    rewind(f);
+    uint8_t *bytes = malloc(*len + !*len);
+    if (fread(bytes, 1, *len, f) != *len) DIE("%s can't be read", name);
+    fclose(f);
+    return bytes;
+}
+
+int main(int argc, char **argv) {
+    if (gm_version() != GM_VERSION) DIE("the header is of version %d and the library of %u", GM_VERSION, gm_version());
+    if (argc < 3) DIE("usage: gm_test WHAT FILE, gm_test check FILE.., gm_test damage COUNT FILE..");
+    int of_damage = !strcmp(argv[1], "damage");
+    away = fopen("/dev/null", "w");
+    if (!away) DIE("/dev/null can't be opened");
+    check(NULL, 0);
+    for (int i = 2 + of_damage; i < argc; i++) {
+        size_t len;
+        uint8_t *bytes = read_file(argv[i], &len);
+        if (of_damage) {
+            for (long k = strtol(argv[2], NULL, 10); k > 0; k--) damage(bytes, len);
+        } else if (!strcmp(argv[1], "check")) {
+            for (size_t n = 0; n <= len; n++) {
+                uint8_t *prefix = malloc(n + !n);
+                memcpy(prefix, bytes, n);
+                check(prefix, n);
+                free(prefix);
+            }
+        } else {
+            gm_fat_entry entries[8];
+            size_t n = gm_fat_entries(bytes, len, 0, entries, 8);
+            if (!n) print(argv[1], bytes, len);
+            for (size_t k = 0; k < n; k++) {
+                printf("arch %zu\n", k);
+                const gm_fat_entry *e = entries + k;
+                if (e->size >= 8 && !memcmp(bytes + e->offset, "!<arch>\n", 8)) puts("archive");
+                else print(argv[1], bytes + e->offset, e->size);
+            }
+        }
+        free(bytes);
+    }
+    fclose(away);
+    if (!strcmp(argv[1], "check")) printf("%zu lists agree\n", tested);
+    return 0;
+}

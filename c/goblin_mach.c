@@ -1,0 +1,115 @@
+/* The thin C side of goblin_mach: NULL where a length is 0, and the caller's memory. Nothing proves this file; README says what
+   is trusted in it. Every other line of the library is Rattle, proved. */
+#include "goblin_mach.h"
+#include <stdlib.h>
+#include <string.h>
+
+/* ---- memory: the library's blocks come from the allocator of the call that runs in this thread, or from malloc */
+
+typedef struct { bool some; void *at; } tried;
+
+static _Thread_local const gm_memory *memory_of_call;
+static max_align_t nothing; /* stands where C says NULL */
+
+static tried try_block(void *block) { return (tried){block != NULL, block ? block : &nothing}; }
+
+tried rattle_alloc(size_t size, size_t align) {
+    const gm_memory *m = memory_of_call;
+    if (size == 0) size = align;
+    return try_block(m ? m->take(m->self, size) : malloc(size));
+}
+
+void rattle_dealloc(void *block) {
+    const gm_memory *m = memory_of_call;
+    if (m) m->give(m->self, block); else free(block);
+}
+
+tried rattle_realloc(void *block, size_t kept, size_t size, size_t align) {
+    if (!memory_of_call) return try_block(realloc(block, size ? size : align));
+    tried grown = rattle_alloc(size, align);
+    if (!grown.some) return grown;
+    memcpy(grown.at, block, kept < size ? kept : size);
+    rattle_dealloc(block);
+    return grown;
+}
+
+/* ---- an arena: blocks one behind the other; the last is given back, and all of it once no block is left */
+
+static void *arena_take(void *self, size_t size) {
+    gm_arena *a = self;
+    size_t from = (a->used + 15) & ~(size_t)15;
+    if (from > a->size || size > a->size - from) return NULL;
+    a->used = from + size;
+    a->blocks++;
+    return a->bytes + from;
+}
+
+static void arena_give(void *self, void *block) {
+    gm_arena *a = self;
+    (void)block;
+    if (--a->blocks == 0) a->used = 0;
+}
+
+gm_memory gm_arena_memory(gm_arena *arena) { return (gm_memory){arena, arena_take, arena_give}; }
+
+/* ---- the calls: what Rattle exports takes no NULL */
+
+#define AT(p) ((p) ? (p) : (void *)&nothing)
+#define BYTES ((bytes) ? (bytes) : (const uint8_t *)&nothing)
+
+uint32_t gmr_version(void);
+uint32_t gm_version(void) { return gmr_version(); }
+
+uint32_t gmr_open(const uint8_t *, size_t, size_t, uint32_t, gm_image *, gm_error *);
+uint32_t gm_open(const uint8_t *bytes, size_t len, size_t offset, uint32_t mode, const gm_memory *memory, gm_image *image, gm_error *error) {
+    memory_of_call = memory;
+    uint32_t code = gmr_open(BYTES, len, offset, mode, image, error);
+    memory_of_call = NULL;
+    return code;
+}
+
+size_t gmr_fat_entries(const uint8_t *, size_t, size_t, gm_fat_entry *, size_t);
+size_t gm_fat_entries(const uint8_t *bytes, size_t len, size_t first, gm_fat_entry *out, size_t cap) {
+    return gmr_fat_entries(BYTES, len, first, AT(out), cap);
+}
+
+/* the rows of an image from a number on */
+#define ROWS(name, row) \
+    size_t gmr_##name(const uint8_t *, size_t, const gm_image *, size_t, row *, size_t); \
+    size_t gm_##name(const uint8_t *bytes, size_t len, const gm_image *image, size_t first, row *out, size_t cap) { \
+        return gmr_##name(BYTES, len, image, first, AT(out), cap); \
+    }
+ROWS(commands, gm_command)
+ROWS(segments, gm_segment)
+ROWS(symbols, gm_symbol)
+ROWS(libraries, gm_library)
+ROWS(run_paths, gm_run_path)
+
+size_t gmr_sections(const uint8_t *, size_t, const gm_image *, size_t, uint32_t, size_t, gm_section *, size_t);
+size_t gm_sections(const uint8_t *bytes, size_t len, const gm_image *image, size_t command, uint32_t sections, size_t first, gm_section *out, size_t cap) {
+    return gmr_sections(BYTES, len, image, command, sections, first, AT(out), cap);
+}
+
+size_t gmr_relocations(const uint8_t *, size_t, const gm_image *, uint32_t, uint32_t, size_t, gm_relocation *, size_t);
+size_t gm_relocations(const uint8_t *bytes, size_t len, const gm_image *image, uint32_t reloff, uint32_t nreloc, size_t first, gm_relocation *out, size_t cap) {
+    return gmr_relocations(BYTES, len, image, reloff, nreloc, first, AT(out), cap);
+}
+
+uint32_t gmr_fixups(const uint8_t *, size_t, const gm_image *, size_t, gm_fixup *, size_t, size_t *, gm_error *);
+uint32_t gm_fixups(const uint8_t *bytes, size_t len, const gm_image *image, size_t first, gm_fixup *out, size_t cap, size_t *count,
+                   const gm_memory *memory, gm_error *error) {
+    memory_of_call = memory;
+    uint32_t code = gmr_fixups(BYTES, len, image, first, AT(out), cap, count, error);
+    memory_of_call = NULL;
+    return code;
+}
+
+uint32_t gmr_find_export(const uint8_t *, size_t, const gm_image *, const char *, size_t, gm_export *, char *, size_t, char *, size_t, gm_error *);
+uint32_t gm_find_export(const uint8_t *bytes, size_t len, const gm_image *image, const char *name, size_t name_len, gm_export *found,
+                        char *library, size_t library_cap, char *target, size_t target_cap, const gm_memory *memory, gm_error *error) {
+    memory_of_call = memory;
+    uint32_t code = gmr_find_export(BYTES, len, image, name ? name : (const char *)&nothing, name_len, found, AT(library), library_cap,
+                                    AT(target), target_cap, error);
+    memory_of_call = NULL;
+    return code;
+}

@@ -1,0 +1,4 @@
+pub mod Filled
+pub mod CommandLists
+pub mod OpenedImage
+pub mod OpenedLists

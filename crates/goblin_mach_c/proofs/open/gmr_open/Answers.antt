@@ -1,0 +1,5 @@
+use Rattle.goblin_mach_c.proofs.OpenedImage.{opened_of}
+use Rattle.goblin_mach_c.proofs.open.gmr_open.Goals as goal
+
+pub returns-in-Ok-clause-opened : goal.returns-in-Ok-clause-opened
+returns-in-Ok-clause-opened c = λ _. opened_of c.args.bytes.now c.args.offset c.in-Ok.found _ _ c.in-Ok.ensures.opened c.in-Ok.ensures.strict c.numbers.ensures

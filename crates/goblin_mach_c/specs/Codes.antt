@@ -1,0 +1,18 @@
+-- The code by which C is told of a fault (`goblin_mach.h`, GM_MALFORMED and those behind it).
+use Rattle.std.specs.Prelude.{◌≡◌, ◌⊎◌, ℕ}
+use Rattle.mach_base.specs.Fault.{Fault, malformed, bad_magic, bad_offset, too_big, bad_input, too_short, no_memory}
+
+abbrev pub code_of_fault : Fault → ℕ
+code_of_fault malformed = 1
+code_of_fault (bad_magic magic) = 2
+code_of_fault (bad_offset place) = 3
+code_of_fault (too_big size len) = 3
+code_of_fault (bad_input size) = 3
+code_of_fault (too_short count what) = 4
+code_of_fault no_memory = 5
+
+-- a call that answers this code was refused for a fault that stands, or for want of memory
+pub record IsRefusal (IsFault : Fault → Type 0) (code : ℕ) : Type 0 where
+  pub fault : Fault
+  pub is_code : code ≡ code_of_fault fault
+  pub stands : (fault ≡ no_memory) ⊎ IsFault fault

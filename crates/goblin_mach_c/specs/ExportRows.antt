@@ -1,0 +1,40 @@
+-- What an image exports a name as, as C sees it.
+use Rattle.std.specs.Prelude.{◌≡◌, ◌⊎◌, ◌++◌, ℕ, List, [], length, take, drop, min, Option, Some, None, Bool}
+use Rattle.std.specs.Str.{IsUtf8}
+use Rattle.mach_base.specs.Fault.{Fault, malformed}
+use Rattle.mach_dyld.specs.Trie.{Info, regular, reexport, stub}
+use Rattle.goblin_mach.specs.Facts.{HasExportsFault}
+use Rattle.goblin_mach_c.specs.Opened.{FaultIn}
+use Rattle.goblin_mach_c.specs.declared.find.gm_export.{gm_export}
+
+-- the library of a re-export, by its name
+abbrev pub library_text : Option Info → List ℕ
+library_text (Some (reexport lib name flags)) = lib
+library_text _ = []
+
+abbrev pub text_or_none : Option (List ℕ) → List ℕ
+text_or_none None = []
+text_or_none (Some text) = text
+
+-- the name that a re-export has there, if it is another one
+abbrev pub target_text : Option Info → List ℕ
+target_text (Some (reexport lib name flags)) = text_or_none name
+target_text _ = []
+
+-- an answer: 0 none, 1 an address, 2 a re-export, 3 a stub with its resolver
+abbrev pub export_row : Option Info → gm_export
+export_row None = record { address = 0; resolver = 0; flags = 0; library_len = 0; target_len = 0; kind = 0; reserved = 0 }
+export_row (Some (regular address flags)) =
+    record { address = address; resolver = 0; flags = flags; library_len = 0; target_len = 0; kind = 1; reserved = 0 }
+export_row (Some (reexport lib name flags)) =
+    record { address = 0; resolver = 0; flags = flags; library_len = length lib; target_len = length (text_or_none name); kind = 2; reserved = 0 }
+export_row (Some (stub at resolver flags)) =
+    record { address = at.number; resolver = resolver.number; flags = flags; library_len = 0; target_len = 0; kind = 3; reserved = 0 }
+
+-- a text was written into the front of an array, as much of it as fits, and the rest of the array is as it was
+abbrev pub IsPut : List ℕ → List ℕ → List ℕ → Type 0
+IsPut text old new = let n = min (length text) (length old) in new ≡ take n text ++ drop n old
+
+-- a fault for which a name can't be sought
+abbrev pub FindFault : Bool → List ℕ → ℕ → List ℕ → Fault → Type 0
+FindFault lossy bytes o name f = (FaultIn lossy bytes o f ⊎ HasExportsFault bytes o f) ⊎ ((f ≡ malformed) × ¬ IsUtf8 name)

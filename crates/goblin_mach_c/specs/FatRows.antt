@@ -1,0 +1,32 @@
+-- The entries of a fat file as C sees them.
+use Rattle.std.specs.Prelude.{◌==◌, ℕ, List, Result, Ok, Err, if◌then◌else◌}
+use Rattle.mach_base.specs.Fault.{Fault}
+use Rattle.mach_base.specs.Number.{number_at}
+use Rattle.mach_base.specs.declared.context.Endian.TheVariants.{Big}
+use Rattle.mach_parts.specs.Items.{items_from}
+use Rattle.mach_parts.specs.declared.fat.FatArch.{FatArch}
+use Rattle.goblin_mach.specs.FatFile.{FatFile, arch_at, fat_file_in}
+use Rattle.goblin_mach_c.specs.Codes.{code_of_fault}
+use Rattle.goblin_mach_c.specs.declared.fat.gm_fat_entry.{gm_fat_entry}
+
+-- the record of an entry, or why it isn't there
+abbrev pub fat_row : Result FatArch Fault → gm_fat_entry
+fat_row (Ok a) = record { cputype = a.cputype; cpusubtype = a.cpusubtype; offset = a.offset; size = a.size; align = a.align; code = 0 }
+fat_row (Err f) = record { cputype = 0; cpusubtype = 0; offset = 0; size = 0; align = 0; code = code_of_fault f }
+
+-- how many entries a file has whose front can be read
+abbrev pub count_in : Result FatFile Fault → ℕ
+count_in (Ok file) = file.narches
+count_in (Err f) = 0
+
+abbrev pub count_behind : Result ℕ Fault → List ℕ → ℕ
+count_behind (Ok magic) bytes = if magic == 0xcafe_babe then count_in (fat_file_in bytes) else 0
+count_behind (Err f) bytes = 0
+
+-- how many entries some bytes have: none where they don't begin with the magic of a fat file, or its header is short
+abbrev pub fat_count : List ℕ → ℕ
+fat_count bytes = count_behind (number_at Big 4 bytes 0) bytes
+
+-- the entries of some bytes, in order
+abbrev pub fat_rows : List ℕ → List gm_fat_entry
+fat_rows bytes = items_from (λ k. fat_row (arch_at bytes k)) 0 (fat_count bytes)

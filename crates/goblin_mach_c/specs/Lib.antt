@@ -1,0 +1,11 @@
+pub mod Fill
+pub mod Codes
+pub mod Seen
+pub mod CommandRows
+pub mod PartRows
+pub mod SectionRows
+pub mod FatRows
+pub mod Opened
+pub mod SymbolRows
+pub mod FixupRows
+pub mod ExportRows

@@ -1,0 +1,95 @@
+-- What the commands of an image say as C sees it: segments, libraries and run paths.
+use Rattle.std.specs.Prelude.{ℕ, List, [], ◌∷◌, length, Option, Some, None, Result, Ok, Err}
+use Rattle.mach_base.specs.Fault.{Fault}
+use Rattle.mach_load.specs.Command.{Command}
+use Rattle.mach_parts.specs.Segment.{SegmentView}
+use Rattle.goblin_mach.specs.Libraries.{NamedLibrary, named_by}
+use Rattle.goblin_mach.specs.Subjects.{lossy_segment_by, name_place, run_path_by}
+use Rattle.goblin_mach.specs.declared.image.libraries.LibraryKind.{LibraryKind}
+use Rattle.goblin_mach.specs.declared.image.libraries.LibraryKind.TheVariants.{Required, Weak, Reexport, Upward, Lazy}
+use Rattle.goblin_mach_c.specs.CommandRows.{commands_seen}
+use Rattle.goblin_mach_c.specs.Seen.{ctx_seen}
+use Rattle.goblin_mach_c.specs.declared.images.gm_image.{gm_image}
+use Rattle.goblin_mach_c.specs.declared.libraries.gm_library.{gm_library}
+use Rattle.goblin_mach_c.specs.declared.run_paths.gm_run_path.{gm_run_path}
+use Rattle.goblin_mach_c.specs.declared.segments.gm_segment.{gm_segment}
+
+-- a row before others, if there is one
+abbrev pub with_rows : {R : Type 0} → Option R → List R → List R
+with_rows None rows = rows
+with_rows (Some row) rows = row ∷ rows
+
+-- the rows of the commands that have one, in order
+abbrev pub rows_of : {R : Type 0} → (Command → Option R) → List Command → List R
+rows_of row [] = []
+rows_of row (c ∷ cs) = with_rows (row c) (rows_of row cs)
+
+-- what was read as C sees it; nothing where nothing could be read
+abbrev pub shown : {V R : Type 0} → (V → R) → Option (Result V Fault) → Option R
+shown show None = None
+shown show (Some (Ok v)) = Some (show v)
+shown show (Some (Err f)) = None
+
+-- A segment: its command stands at `command`, and `data_len` bytes of the file from `fileoff` on are its data.
+abbrev pub segment_row : SegmentView → gm_segment
+segment_row s =
+    record {
+      name = s.command.segname;
+      vmaddr = s.command.vmaddr;
+      vmsize = s.command.vmsize;
+      fileoff = s.command.fileoff;
+      filesize = s.command.filesize;
+      command = s.offset;
+      data_len = length s.bytes;
+      maxprot = s.command.maxprot;
+      initprot = s.command.initprot;
+      sections = s.command.nsects;
+      flags = s.command.flags;
+    }
+
+-- the segment that a command is, if it is one
+abbrev pub segment_row_by : List ℕ → gm_image → Command → Option gm_segment
+segment_row_by bytes image c = shown segment_row (lossy_segment_by (ctx_seen image) bytes c)
+
+-- the segments of an image
+abbrev pub segment_rows : List ℕ → gm_image → List gm_segment
+segment_rows bytes image = rows_of (segment_row_by bytes image) (commands_seen bytes image)
+
+-- the number of a kind of library
+abbrev pub kind_number : LibraryKind → ℕ
+kind_number Required = 0
+kind_number Weak = 1
+kind_number Reexport = 2
+kind_number Upward = 3
+kind_number Lazy = 4
+
+-- A library: its name stands at `name`, and has `name_len` bytes.
+abbrev pub library_row : Command → NamedLibrary → gm_library
+library_row c l =
+    record {
+      name = name_place c;
+      name_len = length l.name;
+      kind = kind_number l.kind;
+      timestamp = l.timestamp;
+      current_version = l.current_version;
+      compatibility_version = l.compatibility_version;
+    }
+
+-- the library that a command brings in, if it does, and its name can be read
+abbrev pub library_row_by : List ℕ → Command → Option gm_library
+library_row_by bytes c = shown (library_row c) (named_by bytes c)
+
+-- the libraries of an image, the one of ordinal 1 first
+abbrev pub library_rows : List ℕ → gm_image → List gm_library
+library_rows bytes image = rows_of (library_row_by bytes) (commands_seen bytes image)
+
+-- A run path: it stands at `path` and has `path_len` bytes.
+abbrev pub run_path_row : Command → List ℕ → gm_run_path
+run_path_row c path = record { path = name_place c; path_len = length path }
+
+abbrev pub run_path_row_by : List ℕ → Command → Option gm_run_path
+run_path_row_by bytes c = shown (run_path_row c) (run_path_by bytes c)
+
+-- the run paths of an image
+abbrev pub run_path_rows : List ℕ → gm_image → List gm_run_path
+run_path_rows bytes image = rows_of (run_path_row_by bytes) (commands_seen bytes image)

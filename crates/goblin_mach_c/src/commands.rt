@@ -1,0 +1,102 @@
+//! The load commands, one behind the other, with no memory.
+
+ghost use Rattle.std.specs.Prelude.{◌≡◌, drop, map, min};
+ghost use Rattle.std.specs.Iterator.{YieldsFirst, YieldsFirstBy};
+ghost use Rattle.mach_load.specs.Variants.{command_of};
+ghost use Rattle.goblin_mach_c.specs.CommandRows.{command_row, command_rows, commands_left, commands_seen};
+ghost use Rattle.goblin_mach_c.specs.Fill.{Fills};
+
+use crate::images::{ctx_of, gm_image};
+use crate::rows::{Rows, fill, skip};
+use mach_base::Endian;
+use mach_load::LoadCommand;
+
+/// The commands from a place on: so many, or those before the first that can't be read.
+#[derive(Clone, Copy)]
+pub struct Commands<'a> {
+    bytes: &'a [u8],
+    place: usize,
+    count: usize,
+    le: Endian,
+}
+
+// The smaller one of two numbers.
+fn no_more_than(count: usize, most: usize) -> usize
+    ensures { result ≡ min count most }
+{
+    if count < most { count } else { most }
+}
+
+impl<'a> Commands<'a> {
+    /// Those of an image: no more than could lie in the bytes.
+    pub fn of(bytes: &'a [u8], image: &gm_image) -> Self
+        ensures { commands_left result ≡ commands_seen bytes.now image.now }
+    {
+        Commands {
+            bytes,
+            place: image.first_command,
+            count: no_more_than(image.commands, bytes.len() / 8),
+            le: ctx_of(image).le,
+        }
+    }
+
+    /// The next command.
+    #[inline(always)]
+    pub fn next_command(&mut self) -> Option<LoadCommand>
+        ensures { YieldsFirstBy command_of commands_left self.old result self.new }
+    {
+        if self.count == 0 {
+            return None;
+        }
+        match LoadCommand::parse(self.bytes, &mut self.place, self.le) {
+            Ok(command) => {
+                self.count -= 1;
+                Some(command)
+            }
+            Err(_) => {
+                self.count = 0;
+                None
+            }
+        }
+    }
+}
+
+/// A load command: its record stands at `offset` and has `size` bytes.
+#[derive(Clone, Copy)]
+#[repr(C)]
+pub struct gm_command {
+    pub offset: usize,
+    pub size: usize,
+    pub cmd: u32,
+}
+
+impl<'a> Rows for Commands<'a> {
+    type Row = gm_command;
+
+    ghost left = { λ it. map command_row (commands_left it) };
+
+    fn next(&mut self) -> Option<gm_command> {
+        let command = self.next_command()?;
+        Some(gm_command {
+            offset: command.offset,
+            size: command.command.cmdsize(),
+            cmd: command.command.cmd(),
+        })
+    }
+}
+
+/// Writes the commands of an image from a number on, as many as there are and fit, and answers how many. There is none
+/// behind the first that can't be read.
+#[unsafe(no_mangle)]
+pub extern "C" fn gmr_commands(
+    bytes: &[u8],
+    image: &gm_image,
+    first: usize,
+    out: &mut [gm_command],
+) -> usize
+    ensures { Fills (drop first (command_rows bytes.now image.now)) out.old out.new result }
+{
+    let mut commands = Commands::of(bytes, image);
+    skip(&mut commands, first);
+    fill(&mut commands, out)
+}

@@ -1,0 +1,83 @@
+//! Errors: a code and words.
+
+ghost use Rattle.std.specs.Prelude.{◌≡◌, ◌≢◌, Some, slice_get};
+ghost use Rattle.mach_base.specs.Fault.{fault_of};
+ghost use Rattle.goblin_mach_c.specs.Codes.{code_of_fault};
+
+use arrayvec::ArrayString;
+use mach_base::{Error, describe};
+use std::fmt::Write;
+
+/// Everything went well.
+pub const GM_OK: u32 = 0;
+
+/// The bytes break a rule of the format.
+pub const GM_MALFORMED: u32 = 1;
+
+/// The magic number is none of those that are read.
+pub const GM_BAD_MAGIC: u32 = 2;
+
+/// A read fails at its place.
+pub const GM_SHORT: u32 = 3;
+
+/// So many things cannot lie in the bytes.
+pub const GM_TOO_MANY: u32 = 4;
+
+/// Memory was refused.
+pub const GM_NO_MEMORY: u32 = 5;
+
+/// The code of an error.
+pub fn code_of(error: &Error) -> u32
+    ensures code { result ≡ code_of_fault (fault_of error.now) }
+    ensures some { result ≢ 0 }
+{
+    match error {
+        Error::Malformed(_) => GM_MALFORMED,
+        Error::BadMagic(_) => GM_BAD_MAGIC,
+        Error::Scroll(_) => GM_SHORT,
+        Error::BufferTooShort(..) => GM_TOO_MANY,
+        Error::Memory(_) => GM_NO_MEMORY,
+    }
+}
+
+/// Why a call was refused.
+#[derive(Clone, Copy)]
+#[repr(C)]
+pub struct gm_error {
+    pub code: u32,
+    /// The words, with zero bytes behind them.
+    pub text: [u8; 124],
+}
+
+// Words as a text of 124 bytes, of which the last is 0.
+fn text_of(words: &[u8]) -> [u8; 124]
+    ensures { slice_get result 123 ≡ Some 0 }
+{
+    let mut text = [0; 124];
+    for index in 0..123usize {
+        let Some(byte) = words.get(index) else {
+            return text;
+        };
+        text[index] = *byte;
+    }
+    text
+}
+
+/// Reports an error, and answers its code.
+#[cold]
+#[inline(never)]
+pub fn refuse(error: &Error, out: &mut gm_error) -> u32
+    ensures code { result ≡ code_of_fault (fault_of error.now) }
+    ensures some { result ≢ 0 }
+    ensures told { out.new.code ≡ result }
+    ensures ended { slice_get out.new.text 123 ≡ Some 0 }
+{
+    let mut words: ArrayString<123> = ArrayString::new();
+    let _written = write!(words, "{}", describe(error));
+    let code = code_of(error);
+    *out = gm_error {
+        code,
+        text: text_of(words.as_str().as_bytes()),
+    };
+    code
+}

@@ -1,0 +1,90 @@
+//! The entries of a fat file, read in place.
+
+ghost use Rattle.std.specs.Prelude.{◌≡◌, drop};
+ghost use Rattle.goblin_mach.specs.FatFile.{arch_at, arch_read};
+ghost use Rattle.goblin_mach_c.specs.Fill.{Fills};
+ghost use Rattle.goblin_mach_c.specs.FatRows.{fat_count, fat_row, fat_rows};
+
+use crate::errors::{GM_OK, code_of};
+use crate::numbered::{Numbered, Numbers, rows_from};
+use crate::rows::fill;
+use goblin_mach::peek;
+use mach_base::Result;
+use mach_parts::fat::{FAT_MAGIC, FatArch, FatHeader, SIZEOF_FAT_ARCH, SIZEOF_FAT_HEADER};
+
+/// An entry of a fat file, as its record says (struct fat_arch). Where `code` is not `GM_OK` the record can't be read,
+/// and the rest is 0.
+#[derive(Clone, Copy)]
+#[repr(C)]
+pub struct gm_fat_entry {
+    pub cputype: u32,
+    pub cpusubtype: u32,
+    pub offset: u32,
+    pub size: u32,
+    pub align: u32,
+    pub code: u32,
+}
+
+// A record as C sees it.
+fn row_of(found: &Result<FatArch>) -> gm_fat_entry
+    ensures { result ≡ fat_row (arch_read found.now) }
+{
+    match found {
+        Ok(arch) => gm_fat_entry {
+            cputype: arch.cputype,
+            cpusubtype: arch.cpusubtype,
+            offset: arch.offset,
+            size: arch.size,
+            align: arch.align,
+            code: GM_OK,
+        },
+        Err(why) => gm_fat_entry {
+            cputype: 0,
+            cpusubtype: 0,
+            offset: 0,
+            size: 0,
+            align: 0,
+            code: code_of(why),
+        },
+    }
+}
+
+// The records of a fat file.
+#[derive(Clone, Copy)]
+struct Records<'a> {
+    bytes: &'a [u8],
+}
+
+impl<'a> Numbered for Records<'a> {
+    type Row = gm_fat_entry;
+
+    ghost item = { λ s k. fat_row (arch_at s.bytes.now k) };
+
+    fn at(&self, number: u32) -> gm_fat_entry {
+        let place = SIZEOF_FAT_HEADER + number as usize * SIZEOF_FAT_ARCH;
+        row_of(&FatArch::parse(self.bytes, place))
+    }
+}
+
+// How many entries the header of a fat file says; 0 where the bytes begin with none.
+fn count_of(bytes: &[u8]) -> u32
+    ensures { result ≡ fat_count bytes.now }
+{
+    match peek(bytes, 0) {
+        Ok(FAT_MAGIC) => match FatHeader::parse(bytes) {
+            Ok(header) => header.nfat_arch,
+            Err(_) => 0,
+        },
+        _ => 0,
+    }
+}
+
+/// Writes the entries of a fat file from a number on, as many as there are and fit, and answers how many: none where the
+/// bytes don't begin as a fat file does.
+#[unsafe(no_mangle)]
+pub extern "C" fn gmr_fat_entries(bytes: &[u8], first: usize, out: &mut [gm_fat_entry]) -> usize
+    ensures { Fills (drop first (fat_rows bytes.now)) out.old out.new result }
+{
+    let mut rows = rows_from(Records { bytes }, first, count_of(bytes));
+    fill(&mut rows, out)
+}

@@ -1,0 +1,181 @@
+//! What an image exports one name as.
+
+ghost use Rattle.std.specs.Prelude.{◌≡◌, ◌≢◌, ◌⊎◌, IfOk, IfErr, Option, option_map};
+ghost use Rattle.mach_base.specs.Answer.{Stands};
+ghost use Rattle.mach_dyld.specs.Exports.{info_of};
+ghost use Rattle.mach_dyld.specs.Trie as trie;
+ghost use Rattle.goblin_mach.specs.Facts.{HasExportOf, HasExportsFault};
+ghost use Rattle.goblin_mach_c.specs.Codes.{IsRefusal};
+ghost use Rattle.goblin_mach_c.specs.ExportRows.{FindFault, IsPut, export_row, library_text, target_text};
+ghost use Rattle.goblin_mach_c.specs.Opened.{FaultIn, lossy_mode};
+
+use crate::errors::{GM_OK, gm_error, refuse};
+use crate::images::gm_image;
+use crate::open::open;
+use goblin_mach::exports::ExportInfo;
+use goblin_mach::laws::{exports_of_image, found_export_of_image};
+use mach_base::{Error, Result};
+use std::alloc::Global;
+
+/// What an image exports a name as. `kind` is 0 where it does not, 1 for an address, 2 for a symbol of another library, 3 for a
+/// stub with its resolver. Addresses count from the image's start.
+#[derive(Clone, Copy)]
+#[repr(C)]
+pub struct gm_export {
+    pub address: u64,
+    pub resolver: u64,
+    pub flags: u64,
+    /// How long the name of the other library is, and the name there; 0 where it is the same name.
+    pub library_len: usize,
+    pub target_len: usize,
+    pub kind: u32,
+    pub reserved: u32,
+}
+
+// What the image at a place exports a name as.
+fn find<'a>(
+    alloc: Global,
+    bytes: &'a [u8],
+    offset: usize,
+    lossy: bool,
+    name: &str,
+) -> Result<Option<ExportInfo<'a>>>
+    ensures found { IfOk result (λ o. HasExportOf bytes.now offset name.now (option_map info_of o)) }
+    ensures refused { IfErr result (Stands (λ f. FaultIn lossy bytes.now offset f ⊎ HasExportsFault bytes.now offset f)) }
+{
+    let image = open(alloc.clone()?, bytes, offset, lossy)?;
+    found_export_of_image(&image);
+    exports_of_image(&image);
+    image.find_export(alloc, name)
+}
+
+// The numbers of an answer.
+fn row_of(found: &Option<ExportInfo<'_>>) -> gm_export
+    ensures { result ≡ export_row (option_map info_of found.now) }
+{
+    match found {
+        None => gm_export {
+            address: 0,
+            resolver: 0,
+            flags: 0,
+            library_len: 0,
+            target_len: 0,
+            kind: 0,
+            reserved: 0,
+        },
+        Some(ExportInfo::Regular { address, flags }) => gm_export {
+            address: *address,
+            resolver: 0,
+            flags: *flags,
+            library_len: 0,
+            target_len: 0,
+            kind: 1,
+            reserved: 0,
+        },
+        Some(
+            ExportInfo::Reexport {
+                lib,
+                lib_symbol_name,
+                flags,
+            },
+        ) => gm_export {
+            address: 0,
+            resolver: 0,
+            flags: *flags,
+            library_len: lib.len(),
+            target_len: lib_symbol_name.unwrap_or("").len(),
+            kind: 2,
+            reserved: 0,
+        },
+        Some(
+            ExportInfo::Stub {
+                stub_offset,
+                resolver_offset,
+                flags,
+            },
+        ) => gm_export {
+            address: u64::from(*stub_offset),
+            resolver: u64::from(*resolver_offset),
+            flags: *flags,
+            library_len: 0,
+            target_len: 0,
+            kind: 3,
+            reserved: 0,
+        },
+    }
+}
+
+// The name of the library of a re-export; else no text.
+fn library_of<'a>(found: &Option<ExportInfo<'a>>) -> &'a str
+    ensures { result.now ≡ library_text (option_map info_of found.now) }
+{
+    match found {
+        Some(ExportInfo::Reexport { lib, .. }) => *lib,
+        _ => "",
+    }
+}
+
+// The name that a re-export has there, if it is another one; else no text.
+fn target_of<'a>(found: &Option<ExportInfo<'a>>) -> &'a str
+    ensures { result.now ≡ target_text (option_map info_of found.now) }
+{
+    match found {
+        Some(
+            ExportInfo::Reexport {
+                lib_symbol_name: Some(name),
+                ..
+            },
+        ) => *name,
+        _ => "",
+    }
+}
+
+// Puts a text into the front of an array, as much of it as fits.
+fn put(text: &str, out: &mut [u8])
+    ensures { IsPut text.now out.old out.new }
+{
+    let text = text.as_bytes();
+    let count = if text.len() < out.len() {
+        text.len()
+    } else {
+        out.len()
+    };
+    out[..count].copy_from_slice(&text[..count]);
+}
+
+/// Seeks a name among the exports of an image, by its trie: only nodes on the way of the name are read. Of a re-export the name
+/// of the library is put into `library`, and the name there into `target`, as much as fits. It opens the image again, and takes
+/// memory for its commands while it runs. A refusal leaves all but the error.
+#[unsafe(no_mangle)]
+pub extern "C" fn gmr_find_export(
+    alloc: Global,
+    bytes: &[u8],
+    image: &gm_image,
+    name: &[u8],
+    export: &mut gm_export,
+    library: &mut [u8],
+    target: &mut [u8],
+    error: &mut gm_error,
+) -> u32
+    ensures found { result ≡ 0 → (found : Option (trie.Info)) × HasExportOf bytes.now image.now.offset name.now found × (export.new ≡ export_row found)
+        × IsPut (library_text found) library.old library.new × IsPut (target_text found) target.old target.new }
+    ensures refused { result ≢ 0 → IsRefusal (FindFault (lossy_mode image.now.is_lossy) bytes.now image.now.offset name.now) result }
+    ensures kept { result ≢ 0 → export.new ≡ export.old }
+    ensures library { result ≢ 0 → library.new ≡ library.old }
+    ensures target { result ≢ 0 → target.new ≡ target.old }
+    ensures told { result ≢ 0 → error.new.code ≡ result }
+    ensures quiet { result ≡ 0 → error.new ≡ error.old }
+{
+    let Ok(name) = str::from_utf8(name) else {
+        return refuse(&Error::Malformed("a name is UTF-8"), error);
+    };
+    match find(alloc, bytes, image.offset, image.is_lossy != 0, name) {
+        Ok(found) => {
+            *export = row_of(&found);
+            put(library_of(&found), library);
+            put(target_of(&found), target);
+            GM_OK
+        }
+        Err(why) => refuse(&why, error),
+    }
+}

@@ -1,0 +1,62 @@
+//! An image as C has it: numbers, which go with the bytes that it was opened in.
+
+ghost use Rattle.std.specs.Prelude.{◌≡◌};
+ghost use Rattle.goblin_mach_c.specs.Seen.{ctx_seen};
+
+use mach_base::{Container, Ctx, Endian};
+
+/// An image that was opened: numbers of its header and its commands.
+#[derive(Clone, Copy)]
+#[repr(C)]
+pub struct gm_image {
+    /// Where it begins in the bytes.
+    pub offset: usize,
+    /// The address at which it begins to run, or 0.
+    pub entry: u64,
+    /// Where its first command stands.
+    pub first_command: usize,
+    pub commands: usize,
+    /// How many segments it has, how many libraries with itself as the first, how many run paths and symbols.
+    pub segments: usize,
+    pub libraries: usize,
+    pub run_paths: usize,
+    pub symbols: usize,
+    /// Where its symbols stand, and their names.
+    pub symbols_at: usize,
+    pub names_at: usize,
+    pub magic: u32,
+    pub cputype: u32,
+    pub cpusubtype: u32,
+    pub filetype: u32,
+    pub flags: u32,
+    /// 0 or 1 each.
+    pub is_lossy: u32,
+    pub is_old_style_entry: u32,
+    pub is_little_endian: u32,
+    pub is_64: u32,
+}
+
+/// The width and the byte order of an image.
+pub fn ctx_of(image: &gm_image) -> Ctx
+    ensures { result ≡ ctx_seen image.now }
+{
+    let container = if image.is_64 == 0 {
+        Container::Little
+    } else {
+        Container::Big
+    };
+    let le = if image.is_little_endian == 0 {
+        Endian::Big
+    } else {
+        Endian::Little
+    };
+    Ctx::new(container, le)
+}
+
+/// The version of the interface: that of the header that goes with it.
+#[unsafe(no_mangle)]
+pub extern "C" fn gmr_version() -> u32
+    ensures { result ≡ 1 }
+{
+    1
+}

@@ -1,0 +1,22 @@
+//! Theorems: what the lists of an image that `gm_open` opened are in the bytes.
+
+ghost use Rattle.std.specs.Prelude.{◌≡◌, ℕ, List, Result, map};
+ghost use Rattle.mach_base.specs.Fault.{Fault};
+ghost use Rattle.mach_parts.specs.declared.symbols.nlist.Nlist.{Nlist};
+ghost use Rattle.mach_parts.specs.Segment.{SegmentView};
+ghost use Rattle.goblin_mach.specs.Facts.{HasCommands, HasSegments, HasSymbols};
+ghost use Rattle.goblin_mach_c.specs.CommandRows.{commands_seen};
+ghost use Rattle.goblin_mach_c.specs.Opened.{IsOpened};
+ghost use Rattle.goblin_mach_c.specs.PartRows.{segment_row, segment_rows};
+ghost use Rattle.goblin_mach_c.specs.SymbolRows.{symbol_row, symbol_rows};
+ghost use Rattle.goblin_mach_c.specs.declared.images.gm_image.{gm_image};
+
+/// The commands that its numbers say are the image's commands, and the segments among them its segments; and its
+/// symbols are those of the image's table.
+pub fn lists_of_opened()
+    ensures commands { (bytes : List ℕ) (o : ℕ) (c : gm_image) → IsOpened bytes o c → HasCommands bytes o (commands_seen bytes c) }
+    ensures segments { (bytes : List ℕ) (o : ℕ) (c : gm_image) → IsOpened bytes o c
+        → (segments : List SegmentView) × HasSegments bytes o segments × (segment_rows bytes c ≡ map segment_row segments) }
+    ensures symbols { (bytes : List ℕ) (o : ℕ) (c : gm_image) → IsOpened bytes o c
+        → (rows : List (Result (List ℕ × Nlist) Fault)) × HasSymbols bytes o rows × (symbol_rows bytes c ≡ map (symbol_row c.names_at) rows) }
+{}

@@ -1,0 +1,22 @@
+//! The C interface of goblin_mach: every function takes the bytes again, answers a code or a count, and writes only
+//! into what the caller hands in. Nothing is kept between calls.
+#![tactic(auto)]
+
+mod commands;
+mod errors;
+mod fat;
+mod find;
+mod fixups;
+mod images;
+mod laws;
+mod libraries;
+mod numbered;
+mod open;
+mod picked;
+mod relocations;
+mod rows;
+mod run_paths;
+mod sections;
+mod segments;
+mod symbols;
+mod tests;

@@ -1,0 +1,122 @@
+//! Opening.
+
+ghost use Rattle.std.specs.Prelude.{◌≡◌, ◌≢◌, ◌⊎◌, ◌≤◌, ◌+◌, length, IfOk, IfErr, false, option_map};
+ghost use Rattle.mach_base.specs.Answer.{Stands, IsOkUnlessMemory};
+ghost use Rattle.mach_parts.specs.Header.{header_size};
+ghost use Rattle.mach_parts.specs.SymbolViews.{table_of};
+ghost use Rattle.goblin_mach.specs.OpenImage.{IsImage, IsLossyImage};
+ghost use Rattle.goblin_mach_c.specs.Codes.{IsRefusal};
+ghost use Rattle.goblin_mach_c.specs.Opened.{AreTableNumbers, FaultIn, HoldsNumbers, IsOpened, OpensIn, flag, lossy_mode, width_of};
+
+use crate::errors::{GM_OK, gm_error, refuse};
+use crate::images::gm_image;
+use goblin_mach::MachO;
+use goblin_mach::laws::{strict_image_is_lossy, strict_opens_lossily};
+use mach_base::{Container, Ctx, Endian, Result, SizeWith};
+use mach_parts::header::Header;
+use mach_parts::symbols::Symbols;
+use std::alloc::Global;
+
+// Opens in a mode.
+pub fn open(alloc: Global, bytes: &[u8], offset: usize, lossy: bool) -> Result<MachO<'_, Global>>
+    ensures opened { IfOk result (IsLossyImage bytes.now offset) }
+    ensures strict { lossy ≡ false → IfOk result (IsImage bytes.now offset) }
+    ensures only { OpensIn lossy bytes.now offset → IsOkUnlessMemory result }
+    ensures refused { IfErr result (Stands (FaultIn lossy bytes.now offset)) }
+{
+    if lossy {
+        MachO::parse_lossy(alloc, bytes, offset)
+    } else {
+        let image = MachO::parse(alloc, bytes, offset)?;
+        strict_image_is_lossy(&image);
+        Ok(image)
+    }
+}
+
+// 1 says yes and 0 says no.
+pub fn flag(yes: bool) -> u32
+    ensures { result ≡ flag yes }
+{
+    if yes { 1 } else { 0 }
+}
+
+// Where the first command of an image stands.
+fn first_command(bytes: &[u8], offset: usize, is_64: bool) -> usize
+    requires { offset + 32 ≤ length bytes.now }
+    ensures { result ≡ offset + header_size (width_of is_64) }
+{
+    let container = if is_64 {
+        Container::Big
+    } else {
+        Container::Little
+    };
+    offset + Header::size_with(&Ctx::new(container, Endian::Little))
+}
+
+// Where the symbols stand, how many they are, and where their names begin.
+fn table_numbers(symbols: &Option<Symbols<'_>>) -> (usize, usize, usize)
+    ensures { AreTableNumbers (option_map table_of symbols.now) result.0 result.1 result.2 }
+{
+    match symbols {
+        Some(table) => (table.start(), table.len(), table.strtab()),
+        None => (0, 0, 0),
+    }
+}
+
+// The numbers of an image that was opened at a place.
+fn numbers(bytes: &[u8], image: &MachO<'_, Global>, offset: usize, lossy: bool) -> gm_image
+    requires { offset + 32 ≤ length bytes.now }
+    ensures { HoldsNumbers image.now offset lossy result }
+{
+    let (symbols_at, symbols, names_at) = table_numbers(&image.symbols);
+    gm_image {
+        offset,
+        entry: image.entry,
+        first_command: first_command(bytes, offset, image.is_64),
+        commands: image.load_commands.as_slice().len(),
+        segments: image.segments.as_slice().len(),
+        libraries: image.libs.as_slice().len(),
+        run_paths: image.rpaths.as_slice().len(),
+        symbols,
+        symbols_at,
+        names_at,
+        magic: image.header.magic,
+        cputype: image.header.cputype,
+        cpusubtype: image.header.cpusubtype,
+        filetype: image.header.filetype,
+        flags: image.header.flags,
+        is_lossy: flag(lossy),
+        is_old_style_entry: flag(image.old_style_entry),
+        is_little_endian: flag(image.little_endian),
+        is_64: flag(image.is_64),
+    }
+}
+
+/// Opens the image at a place of the bytes: strictly where `mode` is 0, else in lossy mode. It takes memory for the
+/// commands while it runs. A refusal leaves the image as it was.
+#[unsafe(no_mangle)]
+pub extern "C" fn gmr_open(
+    alloc: Global,
+    bytes: &[u8],
+    offset: usize,
+    mode: u32,
+    image: &mut gm_image,
+    error: &mut gm_error,
+) -> u32
+    ensures opened { result ≡ 0 → IsOpened bytes.now offset image.new }
+    ensures mode { result ≡ 0 → image.new.is_lossy ≡ flag (lossy_mode mode) }
+    ensures only { OpensIn (lossy_mode mode) bytes.now offset → (result ≡ 0) ⊎ (result ≡ 5) }
+    ensures refused { result ≢ 0 → IsRefusal (FaultIn (lossy_mode mode) bytes.now offset) result }
+    ensures told { result ≢ 0 → error.new.code ≡ result }
+    ensures kept { result ≢ 0 → image.new ≡ image.old }
+    ensures quiet { result ≡ 0 → error.new ≡ error.old }
+{
+    let lossy = mode != 0;
+    match open(alloc, bytes, offset, lossy) {
+        Ok(found) => {
+            *image = numbers(bytes, &found, offset, lossy);
+            GM_OK
+        }
+        Err(why) => refuse(&why, error),
+    }
+}

@@ -1,0 +1,43 @@
+//! Rows one after the other, and the array of a caller that they are written into.
+
+ghost use Rattle.std.specs.Prelude.{◌≡◌, List, drop};
+ghost use Rattle.std.specs.Iterator.{YieldsFirst};
+ghost use Rattle.goblin_mach_c.specs.Fill.{Fills};
+
+/// Rows, one at a time.
+pub trait Rows {
+    type Row: Copy;
+
+    // The rows that are left.
+    ghost left: { Self → List Self.Row };
+
+    /// The next row, if there is one.
+    fn next(&mut self) -> Option<Self::Row>
+        ensures { YieldsFirst left self.old result self.new };
+}
+
+/// Writes rows into the front of an array, as many as there are and fit, and answers how many.
+#[inline(always)]
+pub fn fill<R: Rows>(rows: &mut R, out: &mut [R::Row]) -> usize
+    ensures filled { Fills (R.left rows.old) out.old out.new result }
+    ensures rest { R.left rows.new ≡ drop result (R.left rows.old) }
+{
+    for k in 0..out.len() {
+        let Some(row) = rows.next() else {
+            return k;
+        };
+        out[k] = row;
+    }
+    out.len()
+}
+
+/// Passes over so many rows, or over all where there are fewer.
+pub fn skip<R: Rows>(rows: &mut R, count: usize)
+    ensures { R.left rows.new ≡ drop count (R.left rows.old) }
+{
+    for _ in 0..count {
+        let Some(_) = rows.next() else {
+            return;
+        };
+    }
+}

@@ -1,0 +1,251 @@
+/* goblin_mach reads Apple's Mach-O images out of bytes in memory. Each call is proved never to read or write outside of
+   what is handed in, whatever the bytes and the numbers are, and to write what is said of it here: docs/C.md has the
+   whole of it. The bytes must not change during a call. Nothing is kept between calls: a gm_image is numbers, is the
+   caller's, may be copied, and goes with the bytes that it was opened in. Any thread may call.
+
+   Calls with `first`, `out` and `cap` write the items of a list from number `first` on, as many as there are and fit,
+   answer how many, and leave the rest of the array as it was: 0 says that there are no more. NULL may stand where a
+   length is 0. Calls that answer a code answer GM_OK, or why not, with words in *error. */
+#ifndef GOBLIN_MACH_H
+#define GOBLIN_MACH_H
+#include <stdbool.h>
+#include <stddef.h>
+#include <stdint.h>
+#ifdef __cplusplus
+extern "C" {
+#endif
+
+/* the version of this header; gm_version() answers that of the library */
+#define GM_VERSION 1
+uint32_t gm_version(void);
+
+/* malformed bytes; a magic of no image; a read past the end or of no text; too many of a thing; memory was refused */
+enum { GM_OK, GM_MALFORMED, GM_BAD_MAGIC, GM_SHORT, GM_TOO_MANY, GM_NO_MEMORY };
+
+/* why a call was refused; the text ends with a zero byte */
+typedef struct gm_error { uint32_t code; char text[124]; } gm_error;
+
+/* Memory for a call: `take` answers a block of `size` bytes, aligned to 16, or NULL; `give` takes one back. A call gives
+   back all that it took. Where NULL is handed in for a gm_memory, malloc and free serve. */
+typedef struct gm_memory {
+    void *self;
+    void *(*take)(void *self, size_t size);
+    void (*give)(void *self, void *block);
+} gm_memory;
+
+/* Such memory out of bytes of the caller's, which are aligned to 16; `used` and `blocks` begin as 0. */
+typedef struct gm_arena { uint8_t *bytes; size_t size, used, blocks; } gm_arena;
+gm_memory gm_arena_memory(gm_arena *arena);
+
+/* ---- a fat file: its entries, 0 where the bytes are none. What an entry holds is bytes + offset, size of them; test
+   that they lie in the file. An entry whose code is not GM_OK can't be read. */
+typedef struct gm_fat_entry { uint32_t cputype, cpusubtype, offset, size, align, code; } gm_fat_entry;
+size_t gm_fat_entries(const uint8_t *bytes, size_t len, size_t first, gm_fat_entry *out, size_t cap);
+
+/* ---- an image */
+typedef struct gm_image {
+    size_t offset;                                              /* where it begins in the bytes */
+    uint64_t entry;                                             /* the address at which it begins to run, or 0 */
+    size_t first_command, commands;                             /* where its commands begin, and how many they are */
+    size_t segments, libraries, run_paths, symbols;             /* how many; the image itself is one of its libraries */
+    size_t symbols_at, names_at;                                /* where its symbols stand, and their names */
+    uint32_t magic, cputype, cpusubtype, filetype, flags;       /* of its header */
+    uint32_t is_lossy, is_old_style_entry, is_little_endian, is_64; /* 0 or 1 each */
+} gm_image;
+enum { GM_STRICT, GM_LOSSY };
+
+/* Opens the image at `offset`. GM_STRICT refuses what can't be read; GM_LOSSY passes over it. It takes memory while it
+   runs, for the commands. A refusal leaves *image as it was, and GM_OK leaves *error. */
+uint32_t gm_open(const uint8_t *bytes, size_t len, size_t offset, uint32_t mode, const gm_memory *memory, gm_image *image, gm_error *error);
+
+/* ---- its load commands: each record stands at `offset` and has `size` bytes */
+typedef struct gm_command { size_t offset, size; uint32_t cmd; } gm_command;
+size_t gm_commands(const uint8_t *bytes, size_t len, const gm_image *image, size_t first, gm_command *out, size_t cap);
+
+/* ---- its segments: the command stands at `command`; the data are `data_len` bytes from `fileoff` on, or none */
+typedef struct gm_segment {
+    uint8_t name[16]; /* with zeros behind it, if it has fewer than 16 bytes */
+    uint64_t vmaddr, vmsize, fileoff, filesize;
+    size_t command, data_len;
+    uint32_t maxprot, initprot, sections, flags;
+} gm_segment;
+size_t gm_segments(const uint8_t *bytes, size_t len, const gm_image *image, size_t first, gm_segment *out, size_t cap);
+
+/* ---- the sections of a segment, which hands in its `command` and its `sections`; the data of a section are `data_len`
+   bytes from `offset` on */
+typedef struct gm_section {
+    uint8_t name[16], segment[16];
+    uint64_t addr, size;
+    size_t data_len;
+    uint32_t offset, align, reloff, nreloc, flags, code; /* code: GM_OK, or why it can't be read */
+} gm_section;
+size_t gm_sections(const uint8_t *bytes, size_t len, const gm_image *image, size_t command, uint32_t sections, size_t first, gm_section *out, size_t cap);
+
+/* ---- the relocations of a section, which hands in its `reloff` and its `nreloc` */
+typedef struct gm_relocation { int32_t address; uint32_t info, code; } gm_relocation;
+size_t gm_relocations(const uint8_t *bytes, size_t len, const gm_image *image, uint32_t reloff, uint32_t nreloc, size_t first, gm_relocation *out, size_t cap);
+
+/* ---- its symbols: the name of one is `name_len` bytes at bytes + name */
+typedef struct gm_symbol {
+    uint64_t value;
+    size_t name, name_len, section;
+    uint32_t code; /* GM_OK, or why it can't be read */
+    uint16_t desc;
+    uint8_t n_type;
+} gm_symbol;
+size_t gm_symbols(const uint8_t *bytes, size_t len, const gm_image *image, size_t first, gm_symbol *out, size_t cap);
+
+/* ---- its libraries, the one of ordinal 1 first: the name of one is `name_len` bytes at bytes + name */
+typedef struct gm_library { size_t name, name_len; uint32_t kind, timestamp, current_version, compatibility_version; } gm_library;
+enum { GM_REQUIRED, GM_WEAK, GM_REEXPORT, GM_UPWARD, GM_LAZY };
+size_t gm_libraries(const uint8_t *bytes, size_t len, const gm_image *image, size_t first, gm_library *out, size_t cap);
+
+/* ---- the paths on which its libraries are sought: each is `path_len` bytes at bytes + path */
+typedef struct gm_run_path { size_t path, path_len; } gm_run_path;
+size_t gm_run_paths(const uint8_t *bytes, size_t len, const gm_image *image, size_t first, gm_run_path *out, size_t cap);
+
+/* ---- one name among its exports: addresses count from the image's start */
+typedef struct gm_export {
+    uint64_t address, resolver, flags;
+    size_t library_len, target_len; /* of a re-export: how long the library's name is, and the name there; 0: the same name */
+    uint32_t kind, reserved;
+} gm_export;
+enum { GM_NO_EXPORT, GM_ADDRESS, GM_REEXPORTED, GM_STUB };
+
+/* Seeks a name, by the nodes on its way alone. Of a re-export as much of the library's name as fits is put into `library`, and of
+   the name there into `target`. It opens the image again, and takes memory while it runs. A refusal leaves all but *error. */
+uint32_t gm_find_export(const uint8_t *bytes, size_t len, const gm_image *image, const char *name, size_t name_len, gm_export *found,
+                        char *library, size_t library_cap, char *target, size_t target_cap, const gm_memory *memory, gm_error *error);
+
+/* ---- the fixups of its chains (LC_DYLD_CHAINED_FIXUPS): a pointer at `address` in memory, `offset` bytes behind the start
+   of segment number `segment` */
+typedef struct gm_fixup {
+    uint64_t address, offset;
+    uint64_t target; /* the address of a rebase, or the number */
+    uint32_t segment, kind;
+    uint32_t import; /* of a bind: the number of its import, and what is added to the address */
+    int32_t addend;
+    uint32_t is_signed, key, diversity, is_address_diverse; /* how the pointer is signed on arm64e */
+    uint32_t code; /* GM_OK, or why the chains can't be read further */
+} gm_fixup;
+enum { GM_REBASE, GM_BIND, GM_NUMBER };
+
+/* The fixups from number `first` on, and how many were written to *count. It opens the image again, and takes memory while
+   it runs. A refusal leaves the array and *count as they were. */
+uint32_t gm_fixups(const uint8_t *bytes, size_t len, const gm_image *image, size_t first, gm_fixup *out, size_t cap, size_t *count,
+                   const gm_memory *memory, gm_error *error);
+
+/* The layout that Rattle gives each struct (x86-64 Linux): a C compiler that lays one out otherwise refuses this header. */
+#if !defined __cplusplus && __STDC_VERSION__ >= 201112L
+#define GM_FIELD(type, field, at, size) \
+    _Static_assert(offsetof(type, field) == (at) && sizeof(((type *)0)->field) == (size), #type "." #field)
+#define GM_SIZE(type, size) _Static_assert(sizeof(type) == (size), #type)
+GM_FIELD(gm_command, offset, 0, 8);
+GM_FIELD(gm_command, size, 8, 8);
+GM_FIELD(gm_command, cmd, 16, 4);
+GM_SIZE(gm_command, 24);
+GM_FIELD(gm_error, code, 0, 4);
+GM_FIELD(gm_error, text, 4, 124);
+GM_SIZE(gm_error, 128);
+GM_FIELD(gm_export, address, 0, 8);
+GM_FIELD(gm_export, resolver, 8, 8);
+GM_FIELD(gm_export, flags, 16, 8);
+GM_FIELD(gm_export, library_len, 24, 8);
+GM_FIELD(gm_export, target_len, 32, 8);
+GM_FIELD(gm_export, kind, 40, 4);
+GM_FIELD(gm_export, reserved, 44, 4);
+GM_SIZE(gm_export, 48);
+GM_FIELD(gm_fat_entry, cputype, 0, 4);
+GM_FIELD(gm_fat_entry, cpusubtype, 4, 4);
+GM_FIELD(gm_fat_entry, offset, 8, 4);
+GM_FIELD(gm_fat_entry, size, 12, 4);
+GM_FIELD(gm_fat_entry, align, 16, 4);
+GM_FIELD(gm_fat_entry, code, 20, 4);
+GM_SIZE(gm_fat_entry, 24);
+GM_FIELD(gm_fixup, address, 0, 8);
+GM_FIELD(gm_fixup, offset, 8, 8);
+GM_FIELD(gm_fixup, target, 16, 8);
+GM_FIELD(gm_fixup, segment, 24, 4);
+GM_FIELD(gm_fixup, kind, 28, 4);
+GM_FIELD(gm_fixup, import, 32, 4);
+GM_FIELD(gm_fixup, addend, 36, 4);
+GM_FIELD(gm_fixup, is_signed, 40, 4);
+GM_FIELD(gm_fixup, key, 44, 4);
+GM_FIELD(gm_fixup, diversity, 48, 4);
+GM_FIELD(gm_fixup, is_address_diverse, 52, 4);
+GM_FIELD(gm_fixup, code, 56, 4);
+GM_SIZE(gm_fixup, 64);
+GM_FIELD(gm_image, offset, 0, 8);
+GM_FIELD(gm_image, entry, 8, 8);
+GM_FIELD(gm_image, first_command, 16, 8);
+GM_FIELD(gm_image, commands, 24, 8);
+GM_FIELD(gm_image, segments, 32, 8);
+GM_FIELD(gm_image, libraries, 40, 8);
+GM_FIELD(gm_image, run_paths, 48, 8);
+GM_FIELD(gm_image, symbols, 56, 8);
+GM_FIELD(gm_image, symbols_at, 64, 8);
+GM_FIELD(gm_image, names_at, 72, 8);
+GM_FIELD(gm_image, magic, 80, 4);
+GM_FIELD(gm_image, cputype, 84, 4);
+GM_FIELD(gm_image, cpusubtype, 88, 4);
+GM_FIELD(gm_image, filetype, 92, 4);
+GM_FIELD(gm_image, flags, 96, 4);
+GM_FIELD(gm_image, is_lossy, 100, 4);
+GM_FIELD(gm_image, is_old_style_entry, 104, 4);
+GM_FIELD(gm_image, is_little_endian, 108, 4);
+GM_FIELD(gm_image, is_64, 112, 4);
+GM_SIZE(gm_image, 120);
+GM_FIELD(gm_library, name, 0, 8);
+GM_FIELD(gm_library, name_len, 8, 8);
+GM_FIELD(gm_library, kind, 16, 4);
+GM_FIELD(gm_library, timestamp, 20, 4);
+GM_FIELD(gm_library, current_version, 24, 4);
+GM_FIELD(gm_library, compatibility_version, 28, 4);
+GM_SIZE(gm_library, 32);
+GM_FIELD(gm_relocation, address, 0, 4);
+GM_FIELD(gm_relocation, info, 4, 4);
+GM_FIELD(gm_relocation, code, 8, 4);
+GM_SIZE(gm_relocation, 12);
+GM_FIELD(gm_run_path, path, 0, 8);
+GM_FIELD(gm_run_path, path_len, 8, 8);
+GM_SIZE(gm_run_path, 16);
+GM_FIELD(gm_section, name, 0, 16);
+GM_FIELD(gm_section, segment, 16, 16);
+GM_FIELD(gm_section, addr, 32, 8);
+GM_FIELD(gm_section, size, 40, 8);
+GM_FIELD(gm_section, data_len, 48, 8);
+GM_FIELD(gm_section, offset, 56, 4);
+GM_FIELD(gm_section, align, 60, 4);
+GM_FIELD(gm_section, reloff, 64, 4);
+GM_FIELD(gm_section, nreloc, 68, 4);
+GM_FIELD(gm_section, flags, 72, 4);
+GM_FIELD(gm_section, code, 76, 4);
+GM_SIZE(gm_section, 80);
+GM_FIELD(gm_segment, name, 0, 16);
+GM_FIELD(gm_segment, vmaddr, 16, 8);
+GM_FIELD(gm_segment, vmsize, 24, 8);
+GM_FIELD(gm_segment, fileoff, 32, 8);
+GM_FIELD(gm_segment, filesize, 40, 8);
+GM_FIELD(gm_segment, command, 48, 8);
+GM_FIELD(gm_segment, data_len, 56, 8);
+GM_FIELD(gm_segment, maxprot, 64, 4);
+GM_FIELD(gm_segment, initprot, 68, 4);
+GM_FIELD(gm_segment, sections, 72, 4);
+GM_FIELD(gm_segment, flags, 76, 4);
+GM_SIZE(gm_segment, 80);
+GM_FIELD(gm_symbol, value, 0, 8);
+GM_FIELD(gm_symbol, name, 8, 8);
+GM_FIELD(gm_symbol, name_len, 16, 8);
+GM_FIELD(gm_symbol, section, 24, 8);
+GM_FIELD(gm_symbol, code, 32, 4);
+GM_FIELD(gm_symbol, desc, 36, 2);
+GM_FIELD(gm_symbol, n_type, 38, 1);
+GM_SIZE(gm_symbol, 40);
+#undef GM_FIELD
+#undef GM_SIZE
+#endif
+
+#ifdef __cplusplus
+}
+#endif
+#endif

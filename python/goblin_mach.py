@@ -1,0 +1,439 @@
+"""Reads Apple's Mach-O images, by the proved library libgoblin_mach.so.
+
+    import goblin_mach
+    with goblin_mach.open("a.out") as file:
+        for image in file:
+            for symbol in image.symbols():
+                print(hex(symbol.value), symbol.name)
+
+A file is mapped, not copied. Each list is an iterator that asks the library for 1,000 items at a time. What can't be read of a
+list is an item with an `error`; what can't be opened raises `Refused`. It needs no package beside Python 3.8.
+"""
+
+import ctypes
+import mmap
+import os
+import sys
+from ctypes import c_char, c_int32, c_size_t, c_uint8, c_uint16, c_uint32, c_uint64
+from dataclasses import dataclass
+from typing import Iterator, Optional
+
+VERSION = 1
+STRICT, LOSSY = 0, 1
+FIXUPS = ("rebase", "bind", "number")
+EXPORTS = (None, "address", "re-export", "stub")
+KINDS = ("required", "weak", "reexport", "upward", "lazy")
+ERRORS = {1: "malformed", 2: "bad magic", 3: "out of the bytes, or no text", 4: "too many", 5: "out of memory"}
+BATCH = 1000
+
+
+class _Error(ctypes.Structure):
+    _fields_ = [("code", c_uint32), ("text", c_char * 124)]
+
+
+class _Image(ctypes.Structure):
+    _fields_ = (
+        [("offset", c_size_t), ("entry", c_uint64)]
+        + [(n, c_size_t) for n in ("first_command", "commands", "segments", "libraries", "run_paths", "symbols", "symbols_at", "names_at")]
+        + [(n, c_uint32) for n in ("magic", "cputype", "cpusubtype", "filetype", "flags")]
+        + [(n, c_uint32) for n in ("is_lossy", "is_old_style_entry", "is_little_endian", "is_64")]
+    )
+
+
+class _FatEntry(ctypes.Structure):
+    _fields_ = [(n, c_uint32) for n in ("cputype", "cpusubtype", "offset", "size", "align", "code")]
+
+
+class _Command(ctypes.Structure):
+    _fields_ = [("offset", c_size_t), ("size", c_size_t), ("cmd", c_uint32)]
+
+
+class _Segment(ctypes.Structure):
+    _fields_ = (
+        [("name", c_uint8 * 16)]
+        + [(n, c_uint64) for n in ("vmaddr", "vmsize", "fileoff", "filesize")]
+        + [("command", c_size_t), ("data_len", c_size_t)]
+        + [(n, c_uint32) for n in ("maxprot", "initprot", "sections", "flags")]
+    )
+
+
+class _Section(ctypes.Structure):
+    _fields_ = (
+        [("name", c_uint8 * 16), ("segment", c_uint8 * 16), ("addr", c_uint64), ("size", c_uint64), ("data_len", c_size_t)]
+        + [(n, c_uint32) for n in ("offset", "align", "reloff", "nreloc", "flags", "code")]
+    )
+
+
+class _Relocation(ctypes.Structure):
+    _fields_ = [("address", c_int32), ("info", c_uint32), ("code", c_uint32)]
+
+
+class _Symbol(ctypes.Structure):
+    _fields_ = [("value", c_uint64), ("name", c_size_t), ("name_len", c_size_t), ("section", c_size_t)] + [
+        ("code", c_uint32), ("desc", c_uint16), ("n_type", c_uint8)]
+
+
+class _Library(ctypes.Structure):
+    _fields_ = [("name", c_size_t), ("name_len", c_size_t)] + [
+        (n, c_uint32) for n in ("kind", "timestamp", "current_version", "compatibility_version")]
+
+
+class _Fixup(ctypes.Structure):
+    _fields_ = (
+        [(n, c_uint64) for n in ("address", "offset", "target")]
+        + [(n, c_uint32) for n in ("segment", "kind", "import_number")]
+        + [("addend", c_int32)]
+        + [(n, c_uint32) for n in ("is_signed", "key", "diversity", "is_address_diverse", "code")]
+    )
+
+
+class _Export(ctypes.Structure):
+    _fields_ = [(n, c_uint64) for n in ("address", "resolver", "flags")] + [
+        ("library_len", c_size_t), ("target_len", c_size_t), ("kind", c_uint32), ("reserved", c_uint32)]
+
+
+class _RunPath(ctypes.Structure):
+    _fields_ = [("path", c_size_t), ("path_len", c_size_t)]
+
+
+def _load():
+    here = os.path.dirname(os.path.abspath(__file__))
+    named = os.environ.get("GOBLIN_MACH")
+    for path in [named] if named else [os.path.join(here, "libgoblin_mach.so"), os.path.join(here, "..", "build", "libgoblin_mach.so"), "libgoblin_mach.so"]:
+        try:
+            lib = ctypes.CDLL(path)
+            break
+        except OSError:
+            continue
+    else:
+        raise OSError("libgoblin_mach.so is not found: build it by ./build-c, and name it in GOBLIN_MACH")
+    lib.gm_version.restype = c_uint32
+    if lib.gm_version() != VERSION:
+        raise OSError(f"libgoblin_mach.so is of version {lib.gm_version()}, and this module of {VERSION}")
+    lib.gm_open.restype = lib.gm_fixups.restype = lib.gm_find_export.restype = c_uint32
+    for name in ("fat_entries", "commands", "segments", "sections", "relocations", "symbols", "libraries", "run_paths"):
+        getattr(lib, "gm_" + name).restype = c_size_t
+    return lib
+
+
+_lib = _load()
+
+
+class Refused(Exception):
+    """Why an image was refused: `code` is its number, the words say where."""
+
+    def __init__(self, error):
+        super().__init__(error.text.decode())
+        self.code = error.code
+
+
+@dataclass(frozen=True)
+class FatEntry:
+    cputype: int
+    cpusubtype: int
+    offset: int
+    size: int
+    align: int
+    error: Optional[str]
+
+
+@dataclass(frozen=True)
+class Command:
+    offset: int
+    size: int
+    cmd: int
+
+
+@dataclass(frozen=True)
+class Segment:
+    name: bytes
+    vmaddr: int
+    vmsize: int
+    fileoff: int
+    filesize: int
+    maxprot: int
+    initprot: int
+    flags: int
+    data: memoryview
+    command: int
+    nsects: int
+
+
+@dataclass(frozen=True)
+class Section:
+    name: bytes
+    segment: bytes
+    addr: int
+    size: int
+    offset: int
+    align: int
+    reloff: int
+    nreloc: int
+    flags: int
+    data: memoryview
+    error: Optional[str]
+
+
+@dataclass(frozen=True)
+class Relocation:
+    address: int
+    info: int
+    error: Optional[str]
+
+
+@dataclass(frozen=True)
+class Symbol:
+    name: str
+    value: int
+    section: int
+    n_type: int
+    desc: int
+    error: Optional[str]
+
+
+@dataclass(frozen=True)
+class Library:
+    ordinal: int
+    name: str
+    kind: str
+    timestamp: int
+    current_version: int
+    compatibility_version: int
+
+
+@dataclass(frozen=True)
+class Fixup:
+    """A pointer to be corrected. `target` of a rebase is an address, `import_number` of a bind counts from 0."""
+
+    address: int
+    segment: int
+    offset: int
+    kind: str
+    target: int
+    import_number: int
+    addend: int
+    is_signed: bool
+    key: int
+    diversity: int
+    is_address_diverse: bool
+    error: Optional[str]
+
+
+@dataclass(frozen=True)
+class Export:
+    """What a name is exported as: `kind` is "address", "re-export" or "stub". Addresses count from the image's start."""
+
+    name: str
+    kind: str
+    address: int
+    resolver: int
+    flags: int
+    library: Optional[str]
+    target: Optional[str]
+
+
+class _Buffer(ctypes.Structure):
+    """The front of CPython's Py_buffer."""
+
+    _fields_ = [("buf", ctypes.c_void_p), ("obj", ctypes.py_object), ("len", ctypes.c_ssize_t), ("itemsize", ctypes.c_ssize_t),
+                ("readonly", ctypes.c_int), ("ndim", ctypes.c_int), ("format", ctypes.c_char_p), ("shape", ctypes.c_void_p),
+                ("strides", ctypes.c_void_p), ("suboffsets", ctypes.c_void_p), ("internal", ctypes.c_void_p)]
+
+
+_get_buffer = ctypes.pythonapi.PyObject_GetBuffer
+_get_buffer.argtypes = [ctypes.py_object, ctypes.POINTER(_Buffer), ctypes.c_int]
+_give_buffer = ctypes.pythonapi.PyBuffer_Release
+_give_buffer.argtypes = [ctypes.POINTER(_Buffer)]
+
+
+class _Bytes:
+    """Some bytes, and where they lie in memory. They are not copied."""
+
+    def __init__(self, data):
+        self.view = memoryview(data).cast("B")
+        self.len = len(self.view)
+        buffer = _Buffer()
+        _get_buffer(self.view, ctypes.byref(buffer), 0)
+        self.at = ctypes.c_void_p(buffer.buf if self.len else None)
+        _give_buffer(ctypes.byref(buffer))
+
+    def text(self, place, size):
+        return str(self.view[place:place + size], "utf-8")
+
+
+def _rows(call, row):
+    """The rows of a list, in batches: a call answers how many it wrote from a number on."""
+    first, out = 0, (row * BATCH)()
+    while True:
+        count = call(c_size_t(first), out, c_size_t(BATCH))
+        for item in out[:count]:
+            yield item
+        first += count
+        if count < BATCH:
+            return
+
+
+def _name(raw):
+    return bytes(raw).split(b"\0", 1)[0]
+
+
+class Image:
+    """An image in some bytes, which stay as they are while it is used."""
+
+    def __init__(self, data, offset=0, mode=STRICT):
+        self._bytes = data if isinstance(data, _Bytes) else _Bytes(data)
+        self._numbers, error = _Image(), _Error()
+        n = self._numbers
+        if _lib.gm_open(self._bytes.at, c_size_t(self._bytes.len), c_size_t(offset), c_uint32(mode), None, ctypes.byref(n), ctypes.byref(error)):
+            raise Refused(error)
+        self.offset, self.entry = n.offset, n.entry
+        self.cputype, self.cpusubtype, self.filetype, self.flags = n.cputype, n.cpusubtype, n.filetype, n.flags
+        self.is_64, self.is_little_endian = bool(n.is_64), bool(n.is_little_endian)
+
+    def _list(self, name, row, *numbers):
+        call, b = getattr(_lib, "gm_" + name), self._bytes
+        return _rows(lambda first, out, cap: call(b.at, c_size_t(b.len), ctypes.byref(self._numbers), *numbers, first, out, cap), row)
+
+    def commands(self) -> Iterator[Command]:
+        for c in self._list("commands", _Command):
+            yield Command(c.offset, c.size, c.cmd)
+
+    def segments(self) -> Iterator[Segment]:
+        for s in self._list("segments", _Segment):
+            data = self._bytes.view[s.fileoff:s.fileoff + s.data_len]
+            yield Segment(_name(s.name), s.vmaddr, s.vmsize, s.fileoff, s.filesize, s.maxprot, s.initprot, s.flags, data, s.command, s.sections)
+
+    def sections(self, segment: Segment) -> Iterator[Section]:
+        for s in self._list("sections", _Section, c_size_t(segment.command), c_uint32(segment.nsects)):
+            data = self._bytes.view[s.offset:s.offset + s.data_len]
+            yield Section(_name(s.name), _name(s.segment), s.addr, s.size, s.offset, s.align, s.reloff, s.nreloc, s.flags, data, ERRORS.get(s.code))
+
+    def relocations(self, section: Section) -> Iterator[Relocation]:
+        for r in self._list("relocations", _Relocation, c_uint32(section.reloff), c_uint32(section.nreloc)):
+            yield Relocation(r.address, r.info, ERRORS.get(r.code))
+
+    def symbols(self) -> Iterator[Symbol]:
+        for s in self._list("symbols", _Symbol):
+            yield Symbol(self._bytes.text(s.name, s.name_len), s.value, s.section, s.n_type, s.desc, ERRORS.get(s.code))
+
+    def libraries(self) -> Iterator[Library]:
+        for number, l in enumerate(self._list("libraries", _Library)):
+            yield Library(number + 1, self._bytes.text(l.name, l.name_len), KINDS[l.kind], l.timestamp, l.current_version, l.compatibility_version)
+
+    def _fixups(self, first, out, cap):
+        count, error, b = c_size_t(), _Error(), self._bytes
+        if _lib.gm_fixups(b.at, c_size_t(b.len), ctypes.byref(self._numbers), first, out, cap, ctypes.byref(count), None, ctypes.byref(error)):
+            raise Refused(error)
+        return count.value
+
+    def fixups(self) -> Iterator[Fixup]:
+        for f in _rows(self._fixups, _Fixup):
+            yield Fixup(f.address, f.segment, f.offset, FIXUPS[f.kind], f.target, f.import_number, f.addend, bool(f.is_signed), f.key, f.diversity,
+                        bool(f.is_address_diverse), ERRORS.get(f.code))
+
+    def find_export(self, name: str) -> Optional[Export]:
+        """What the image exports a name as, or None."""
+        raw, found, error, b, room = name.encode(), _Export(), _Error(), self._bytes, 256
+        while True:
+            library, target = ctypes.create_string_buffer(room), ctypes.create_string_buffer(room)
+            if _lib.gm_find_export(b.at, c_size_t(b.len), ctypes.byref(self._numbers), raw, c_size_t(len(raw)), ctypes.byref(found), library,
+                                   c_size_t(room), target, c_size_t(room), None, ctypes.byref(error)):
+                raise Refused(error)
+            if max(found.library_len, found.target_len) <= room:
+                break
+            room = max(found.library_len, found.target_len)
+        if not found.kind:
+            return None
+        told = found.kind == 2
+        return Export(name, EXPORTS[found.kind], found.address, found.resolver, found.flags, library.raw[:found.library_len].decode() if told else None,
+                      (target.raw[:found.target_len].decode() or name) if told else None)
+
+    def run_paths(self) -> Iterator[str]:
+        for p in self._list("run_paths", _RunPath):
+            yield self._bytes.text(p.path, p.path_len)
+
+
+def fat_entries(data) -> Iterator[FatEntry]:
+    """The entries of a fat file; none where the bytes are no fat file."""
+    held = data if isinstance(data, _Bytes) else _Bytes(data)
+    for e in _rows(lambda first, out, cap: _lib.gm_fat_entries(held.at, c_size_t(held.len), first, out, cap), _FatEntry):
+        yield FatEntry(e.cputype, e.cpusubtype, e.offset, e.size, e.align, ERRORS.get(e.code))
+
+
+class File:
+    """A mapped file; it is gone over image by image, archives left out. Items may be used as long as it is open."""
+
+    def __init__(self, path, mode=STRICT):
+        self._mode = mode
+        with _open(path, "rb") as file:
+            empty = os.fstat(file.fileno()).st_size == 0
+            self._map = b"" if empty else mmap.mmap(file.fileno(), 0, access=mmap.ACCESS_READ)
+
+    def __iter__(self) -> Iterator[Image]:
+        whole = memoryview(self._map)
+        entries = list(fat_entries(whole))
+        if not entries:
+            yield Image(whole, 0, self._mode)
+        for e in entries:
+            part = whole[e.offset:e.offset + e.size]
+            if bytes(part[:8]) != b"!<arch>\n":
+                yield Image(part, 0, self._mode)
+
+    def __enter__(self):
+        return self
+
+    def __exit__(self, *_):
+        self._map = b""
+
+
+_open = open
+
+
+def open(path, mode=STRICT) -> File:
+    """Maps a file. Its images are opened one by one as it is gone over, and each that can't be raises `Refused`."""
+    return File(path, mode)
+
+
+def _lines(image, what):
+    if what == "commands":
+        for c in image.commands():
+            yield f"0x{c.offset:x} {c.cmd:x} size: {c.size}"
+    elif what == "symbols":
+        for s in image.symbols():
+            yield f"unreadable: {s.error}" if s.error else f"{s.value:0{16 if image.is_64 else 8}x} {s.n_type:x} {s.section} {s.desc:x} 0 {s.name}"
+    elif what == "libraries":
+        for l in image.libraries():
+            yield f"{KINDS.index(l.kind)} {l.timestamp} {l.current_version:x} {l.compatibility_version:x} {l.name}"
+    elif what == "segments":
+        for s in image.segments():
+            yield (f"{s.name.decode()} {s.vmaddr:x} {s.vmsize:x} {s.fileoff:x} {s.filesize:x} {s.command} {len(s.data)} "
+                   f"{s.maxprot:x} {s.initprot:x} {s.nsects} {s.flags:x}")
+    elif what == "fixups":
+        for f in image.fixups():
+            code = next((number for number, words in ERRORS.items() if words == f.error), 0)
+            yield (f"{f.address:x} {f.offset:x} {f.target:x} {f.segment} {FIXUPS.index(f.kind)} {f.import_number} {f.addend} {int(f.is_signed)} "
+                   f"{f.key} {f.diversity} {int(f.is_address_diverse)} {code}")
+    elif what == "run_paths":
+        yield from image.run_paths()
+
+
+WORDS = ("commands", "segments", "symbols", "libraries", "run_paths", "fixups")
+
+
+def main(words):
+    if len(words) != 2 or words[0] not in WORDS:
+        print(f"usage: python3 -m goblin_mach {'|'.join(WORDS)} FILE", file=sys.stderr)
+        return 2
+    try:
+        with open(words[1]) as file:
+            for image in file:
+                for line in _lines(image, words[0]):
+                    print(line)
+    except (OSError, Refused) as why:
+        print(f"goblin_mach: {why}", file=sys.stderr)
+        return 1
+    return 0
+
+
+if __name__ == "__main__":
+    sys.exit(main(sys.argv[1:]))
