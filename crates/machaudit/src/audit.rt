@@ -1,340 +1,218 @@
-//! What is wrong with a file, part by part.
+//! What is wrong with a file, image by image and part by part.
 
-ghost use Rattle.std.specs.Prelude.{◌≡◌, ◌<◌, ℕ, List, Ok, IsTrue, IfOk};
-ghost use Rattle.std.specs.List.{list_all};
-ghost use Rattle.mach_base.specs.Context.{pointer_size};
-ghost use Rattle.mach_dyld.specs.Exports.{texts};
-ghost use Rattle.mach_dyld.specs.Imports as binds;
-ghost use Rattle.mach_dyld.specs.Trie as trie;
-ghost use Rattle.mach_dyld.specs.TrieRange.{ListsExports};
-ghost use Rattle.mach_parts.specs.RelocationItems.{relocations_left};
-ghost use Rattle.mach_parts.specs.SectionItems.{sections_left};
-ghost use Rattle.mach_parts.specs.Segment.{segment_view, sections_of};
-ghost use Rattle.mach_parts.specs.Segments.{segments_in};
-ghost use Rattle.goblin_mach.specs.BindingsLeft.{bindings_left};
+ghost use Rattle.std.specs.Prelude.{◌≡◌, ◌<◌, ℕ, List, [], map, Result, Option, IfOk};
+ghost use Rattle.mach_base.specs.Answer.{Stands};
+ghost use Rattle.mach_base.specs.Fault.{Fault};
+ghost use Rattle.mach_parts.specs.Segment.{segment_view};
 ghost use Rattle.goblin_mach.specs.FatEntry.{entry_at};
 ghost use Rattle.goblin_mach.specs.FatFile.{file_held};
-ghost use Rattle.goblin_mach.specs.FixupsLeft.{fixups_left};
-ghost use Rattle.goblin_mach.specs.OpenImage.{IsImage, bytes_held, ctx_held, segments_held, trie_held, binds_held};
-ghost use Rattle.goblin_mach.specs.Relocations.{relocated_sections_in};
-ghost use Rattle.goblin_mach.specs.Subjects.{ListsImageImports, symbols_held, trie_or_empty};
-ghost use Rattle.machaudit.specs.Sound.{IsSound, IsSoundFat, IsSoundEntry, IsSoundImage, are_all_ok, all_relocated};
+ghost use Rattle.goblin_mach.specs.OpenImage.{IsImage};
+ghost use Rattle.goblin_mach.specs.View.{IsTold};
+ghost use Rattle.mach_layout.specs.Bindings.{AreBindFaults};
+ghost use Rattle.mach_layout.specs.Containers.{AreContainerFaults};
+ghost use Rattle.mach_layout.specs.Faults.{AreLayoutFaults};
+ghost use Rattle.mach_layout.specs.Laid.{laid_held};
+ghost use Rattle.machaudit.specs.Sound.{IsSound, IsSoundEntry, IsSoundFat, IsSoundImage, IsLong, IsLongEntry, IsLongFat, HasLongList, all_relocations};
+ghost use Rattle.machaudit.specs.Told.{TellsRelocations, faults_in};
+ghost use Rattle.machaudit.specs.Verdicts.{Judges, is_clean, verdict_of_parts, verdict_of_image, verdict_of_entry, verdict_of_fat, verdict_of_report};
+ghost use Rattle.machaudit.specs.declared.verdict.Verdict.TheVariants as verdicts;
 
-use crate::report::{Failure, Place, print_fault, print_part};
-use goblin_mach::segment::{RelocationIterator, SectionIterator, Segment};
-use goblin_mach::{
-    BindingIterator, Error, FixupIterator, Mach, MachO, MultiArch, SingleArch, laws,
+use crate::lists::{
+    audit_bindings, audit_exports, audit_fixups, audit_imports, audit_relocations, audit_sections,
+    audit_symbols,
 };
+use crate::report::{EntryReport, Failure, FatReport, ImageReport, Part, Parts, Report, no_memory};
+use goblin_mach::segment::Segment;
+use goblin_mach::{Ctx, Error, Mach, MachO, MultiArch, SingleArch, laws};
+use mach_layout::{LayoutFault, container_faults, laws as layout_laws, layout_faults};
 use std::alloc::Allocator;
-use std::io::Write;
 
-// After so many faults of one list the rest of it is not read: a file of few bytes can say that it has
-// four thousand million symbols.
-const MOST_FAULTS: usize = 10;
-
-// The segments whose data are not in the file: none where the image opened strictly.
-fn audit_data<O: Write>(segments: &[Segment<'_>], out: &mut O) -> Result<usize, Failure> {
-    let mut faults = 0usize;
-    for (number, segment) in segments.iter().enumerate() {
-        if segment.bytes.len() as u64 != segment.filesize {
-            writeln!(
-                out,
-                "  data: segment {number}: {} bytes at {:#x} are not in the file",
-                segment.filesize, segment.fileoff
-            )?;
-            faults = faults.saturating_add(1);
-        }
-    }
-    print_part("data", faults, out)
-}
-
-// The sections of a segment, which has this number.
-fn audit_segment<O: Write>(
-    segment: usize,
-    sections: SectionIterator<'_>,
-    out: &mut O,
-) -> Result<usize, Failure>
-    ensures { result ≡ Ok 0 → IsTrue (are_all_ok (sections_left sections.entry)) }
+// The relocations of all sections, where these were gone over to their end and each can be read.
+fn audit_relocated<A: Allocator + Clone>(
+    alloc: A,
+    bytes: &[u8],
+    ctx: Ctx,
+    segments: &[Segment<'_>],
+    sections: &Part<A>,
+    limit: usize,
+) -> Result<Option<Part<A>>, Failure>
+    ensures { IfOk result (TellsRelocations limit (faults_in (all_relocations ctx bytes.now (map segment_view segments.now))) (is_clean sections.now)) }
 {
-    let mut faults = 0usize;
-    let mut index = 0usize;
-    'sections: for section in sections {
-        if let Err(error) = section {
-            faults += print_fault(Place::Section { segment, index }, &error, out)?;
-        }
-        if faults >= MOST_FAULTS {
-            break;
-        }
-        index = index.saturating_add(1);
+    if !sections.is_clean() {
+        return Ok(None);
     }
-    Ok(faults)
+    let part = audit_relocations(alloc, bytes, ctx, segments, limit)?;
+    Ok(Some(part))
 }
 
-// The sections of all segments.
-fn audit_sections<O: Write>(segments: &[Segment<'_>], out: &mut O) -> Result<usize, Failure>
-    ensures { result ≡ Ok 0 → IsTrue (list_all (λ s. are_all_ok (sections_of (segment_view s))) segments.now) }
-{
-    let mut faults = 0usize;
-    let mut number = 0usize;
-    for segment in segments {
-        faults = faults.saturating_add(audit_segment(number, segment.into_iter(), out)?);
-        number = number.saturating_add(1);
-    }
-    print_part("sections", faults, out)
-}
-
-// The relocations of a section, which has this number in its segment.
-fn audit_section<O: Write>(
-    section: usize,
-    relocations: RelocationIterator<'_>,
-    out: &mut O,
-) -> Result<usize, Failure>
-    ensures { result ≡ Ok 0 → IsTrue (are_all_ok (relocations_left relocations.entry)) }
-{
-    let mut faults = 0usize;
-    let mut index = 0usize;
-    'relocations: for relocation in relocations {
-        if let Err(error) = relocation {
-            faults += print_fault(Place::Relocation { section, index }, &error, out)?;
-        }
-        if faults >= MOST_FAULTS {
-            break;
-        }
-        index = index.saturating_add(1);
-    }
-    Ok(faults)
-}
-
-// The relocations of all sections. They are not read where a section can't be read: that was told.
-fn audit_relocations<A: Allocator, B: Allocator, O: Write>(
+// The faults of the layout of an image.
+fn audit_layout<A: Allocator, B: Allocator + Clone>(
     alloc: B,
     image: &MachO<'_, A>,
-    all_sections: bool,
-    out: &mut O,
-) -> Result<usize, Failure>
-    ensures { IsTrue all_sections → result ≡ Ok 0 → IsTrue (all_relocated (relocated_sections_in (ctx_held image.now) (bytes_held image.now) (segments_held image.now))) }
+) -> Result<Vec<LayoutFault, B>, Failure>
+    ensures { IfOk result (λ v. AreLayoutFaults (laid_held image.now) (AreBindFaults image.now) v.items) }
 {
-    if !all_sections {
-        writeln!(out, "  relocations: not read, since a section can't be")?;
-        return Ok(0);
-    }
-    let sections = match image.relocations(alloc) {
-        Ok(sections) => sections,
-        Err(error) => return print_fault(Place::Relocations, &error, out),
-    };
-    let mut faults = 0usize;
-    for (number, relocations, _) in sections.as_slice() {
-        let relocations = relocations.clone()?;
-        faults = faults.saturating_add(audit_section(*number, relocations, out)?);
-    }
-    print_part("relocations", faults, out)
-}
-
-// The symbols.
-fn audit_symbols<A: Allocator, O: Write>(
-    image: &MachO<'_, A>,
-    out: &mut O,
-) -> Result<usize, Failure>
-    ensures { result ≡ Ok 0 → IsTrue (are_all_ok (symbols_held image.now.symbols)) }
-{
-    let mut faults = 0usize;
-    let mut index = 0usize;
-    'symbols: for symbol in image.symbols() {
-        if let Err(error) = symbol {
-            faults += print_fault(Place::Symbol(index), &error, out)?;
-        }
-        if faults >= MOST_FAULTS {
-            break;
-        }
-        index = index.saturating_add(1);
-    }
-    print_part("symbols", faults, out)
-}
-
-// The exports that a trie lists. They are gone over one at a time, and none is kept.
-fn audit_trie<A: Allocator, B: Allocator + Clone, O: Write>(
-    alloc: B,
-    image: &MachO<'_, A>,
-    out: &mut O,
-) -> Result<usize, Failure>
-    ensures { result ≡ Ok 0 → (list : List trie.Entry) × ListsExports (trie_or_empty (trie_held image.now)) (texts image.now.libs.items) list }
-{
-    let mut walk = match image.walk_exports(alloc) {
-        Ok(walk) => walk,
-        Err(error) => return print_fault(Place::Trie, &error, out),
-    };
-    'exports: while let Some(export) = walk.next() {
-        if let Err(error) = export {
-            return print_fault(Place::Trie, &error, out);
-        }
-    }
-    print_part("trie", 0, out)
-}
-
-// The imports that binds list.
-fn audit_binds<A: Allocator, B: Allocator, O: Write>(
-    alloc: B,
-    image: &MachO<'_, A>,
-    out: &mut O,
-) -> Result<usize, Failure>
-    ensures { result ≡ Ok 0 → (list : List binds.Import) × ListsImageImports (binds_held image.now) (pointer_size (ctx_held image.now).container)
-        (texts image.now.libs.items) (segments_in image.now.segments) list }
-{
-    match image.imports(alloc) {
-        Ok(_) => print_part("binds", 0, out),
-        Err(error) => print_fault(Place::Binds, &error, out),
+    match layout_faults(alloc, image) {
+        Ok(faults) => Ok(faults),
+        Err(_) => Err(Failure::Memory),
     }
 }
 
-// The fixups of an image's chains, up to the first fault.
-fn audit_fixups<O: Write>(fixups: FixupIterator<'_, '_>, out: &mut O) -> Result<usize, Failure>
-    ensures { result ≡ Ok 0 → IsTrue (are_all_ok (fixups_left fixups.entry)) }
+// The faults of the table of a fat file.
+fn audit_container<A: Allocator + Clone>(
+    alloc: A,
+    bytes: &[u8],
+) -> Result<Vec<LayoutFault, A>, Failure>
+    ensures { IfOk result (λ v. AreContainerFaults bytes.now v.items) }
 {
-    'fixups: for fixup in fixups {
-        if let Err(error) = fixup {
-            return print_fault(Place::Fixups, &error, out);
-        }
+    match container_faults(alloc, bytes) {
+        Ok(faults) => Ok(faults),
+        Err(_) => Err(Failure::Memory),
     }
-    print_part("fixups", 0, out)
-}
-
-// What dyld binds of an image, by opcodes and by chains, up to the first fault.
-fn audit_bindings<O: Write>(
-    bindings: BindingIterator<'_, '_>,
-    out: &mut O,
-) -> Result<usize, Failure>
-    ensures { result ≡ Ok 0 → IsTrue (are_all_ok (bindings_left bindings.entry)) }
-{
-    'bindings: for binding in bindings {
-        if let Err(error) = binding {
-            return print_fault(Place::Bindings, &error, out);
-        }
-    }
-    print_part("bindings", 0, out)
 }
 
 // All parts of an image that opened.
-fn audit_image<A: Allocator, B: Allocator + Clone, O: Write>(
+fn audit_parts<A: Allocator, B: Allocator + Clone>(
     alloc: &B,
     image: &MachO<'_, A>,
-    out: &mut O,
-) -> Result<usize, Failure>
-    ensures { (bytes : List ℕ) → IsImage bytes 0 image.now → result ≡ Ok 0 → IsSoundImage bytes }
+    limit: usize,
+) -> Result<Parts<B>, Failure>
+    ensures { (bytes : List ℕ) → IsImage bytes 0 image.now
+        → IfOk result (λ p. Judges (IsSoundImage bytes) (HasLongList limit bytes) (verdict_of_parts p)) }
 {
     let segments = image.segments.as_slice();
-    let data = audit_data(segments, out)?;
-    let sections = audit_sections(segments, out)?;
-    let relocations = audit_relocations(alloc.clone()?, image, sections == 0, out)?;
-    let symbols = audit_symbols(image, out)?;
-    let trie = audit_trie(alloc.clone()?, image, out)?;
-    let binds = audit_binds(alloc.clone()?, image, out)?;
-    let fixups = audit_fixups(image.fixups(), out)?;
-    let bindings = audit_bindings(image.bindings(), out)?;
-    let read = data.saturating_add(sections).saturating_add(relocations);
-    let listed = symbols.saturating_add(trie).saturating_add(binds);
-    let bound = fixups.saturating_add(bindings);
-    laws::walked_exports_of_image(image);
-    laws::imports_of_image(image);
+    let (bytes, ctx) = (image.bytes(), image.ctx());
+    let sections = audit_sections(alloc.clone()?, segments, limit)?;
+    let relocations = audit_relocated(alloc.clone()?, bytes, ctx, segments, &sections, limit)?;
+    let symbols = audit_symbols(alloc.clone()?, image.symbols(), limit)?;
+    let exports = audit_exports(alloc.clone()?, image, limit)?;
+    let imports = audit_imports(alloc.clone()?, image.iter_imports(), limit)?;
+    let fixups = audit_fixups(alloc.clone()?, image.fixups(), limit)?;
+    let bindings = audit_bindings(alloc.clone()?, image.bindings(), limit)?;
+    let layout = audit_layout(alloc.clone()?, image)?;
+    layout_laws::layout_faults_of_image(image);
+    layout_laws::one_list_of_layout_faults();
+    laws::faulty_tries_have_no_list();
+    laws::import_items_of_image(image);
     laws::fixups_of_image(image);
+    laws::one_list_of_image_fixups();
     laws::bindings_of_image(image);
-    laws::segments_of_image(image);
-    laws::relocations_of_image(image);
-    laws::symbols_of_image(image);
-    Ok(read.saturating_add(listed).saturating_add(bound))
+    laws::one_list_of_image_bindings();
+    Ok(Parts {
+        sections,
+        relocations,
+        symbols,
+        exports,
+        imports,
+        fixups,
+        bindings,
+        layout,
+    })
 }
 
 // What can be read in lossy mode of bytes that were refused for an error. Where lossy mode refuses them,
 // too, nothing more is told.
-fn audit_refused<A: Allocator + Clone, O: Write>(
+fn audit_refused<A: Allocator + Clone>(
     alloc: &A,
     bytes: &[u8],
-    error: &Error,
-    out: &mut O,
-) -> Result<usize, Failure>
-    ensures { IfOk result (λ faults. 0 < faults) }
+    error: Error,
+    limit: usize,
+) -> Result<ImageReport<A>, Failure>
+    ensures { IfOk result (λ r. (verdict_of_image r ≡ verdicts.Faulty) × IsTold error) }
 {
-    let refused = print_fault(Place::Opening, error, out)?;
+    let error = no_memory(error)?;
     match Mach::parse_lossy(alloc.clone()?, bytes) {
         Ok(Mach::Binary(image)) => {
-            let opens = print_part("opens lossily", 0, out)?;
-            let parts = audit_image(alloc, &image, out)?;
-            Ok(refused.saturating_add(opens).saturating_add(parts))
+            let parts = audit_parts(alloc, &image, limit)?;
+            Ok(ImageReport::OpensLossily(error, parts))
         }
-        Ok(Mach::Fat(_)) => Ok(refused),
         Err(Error::Memory(_)) => Err(Failure::Memory),
-        Err(_) => Ok(refused),
+        Ok(Mach::Fat(_)) | Err(_) => Ok(ImageReport::Refused(error)),
     }
 }
 
 // An entry of a fat file, which is to stand in these bytes.
-fn audit_entry<A: Allocator + Clone, O: Write>(
+fn audit_entry<A: Allocator + Clone>(
     alloc: &A,
     container: &MultiArch<'_, A>,
     index: usize,
     bytes: &[u8],
-    out: &mut O,
-) -> Result<usize, Failure>
-    ensures { result ≡ Ok 0 → IsSoundEntry (entry_at (file_held container.now) index) }
+    limit: usize,
+) -> Result<EntryReport<A>, Failure>
+    ensures { IfOk result (λ r. Judges (IsSoundEntry (entry_at (file_held container.now) index)) (IsLongEntry limit (entry_at (file_held container.now) index))
+        (verdict_of_entry r)) }
 {
-    writeln!(out, "arch {index}")?;
     match container.get(index) {
-        Ok(SingleArch::Archive(_)) => print_part("archive", 0, out),
+        Ok(SingleArch::Archive(_)) => Ok(EntryReport::Archive),
         Ok(SingleArch::MachO(image)) => {
-            let opens = print_part("opens", 0, out)?;
-            let parts = audit_image(alloc, &image, out)?;
-            Ok(opens.saturating_add(parts))
+            let parts = audit_parts(alloc, &image, limit)?;
+            Ok(EntryReport::Image(ImageReport::Opens(parts)))
         }
-        Err(error) => audit_refused(alloc, bytes, &error, out),
+        Err(error) => {
+            let image = audit_refused(alloc, bytes, error, limit)?;
+            Ok(EntryReport::Image(image))
+        }
     }
 }
 
-// A fat file: its table, and then its entries. Where the table can't be read there are none, and a file
-// without entries has no image.
-fn audit_fat<A: Allocator + Clone, O: Write>(
+// A fat file: its table, and then its entries. Where the table can't be read none is gone over.
+fn audit_fat<A: Allocator + Clone>(
     alloc: &A,
     container: &MultiArch<'_, A>,
     bytes: &[u8],
-    out: &mut O,
-) -> Result<usize, Failure>
-    ensures { result ≡ Ok 0 → IsSoundFat (file_held container.now) }
+    limit: usize,
+) -> Result<FatReport<A>, Failure>
+    ensures { IfOk result (λ r. Judges (AreContainerFaults bytes.now [] × IsSoundFat (file_held container.now))
+        (IsLongFat limit (file_held container.now)) (verdict_of_fat r)) }
 {
-    writeln!(out, "fat file of {}", container.narches)?;
+    let count = container.narches;
+    let mut entries = Vec::new(alloc.clone()?);
     let arches = match container.arches() {
         Ok(arches) => arches,
-        Err(error) => return print_fault(Place::Table, &error, out),
+        Err(error) => {
+            return Ok(FatReport {
+                count,
+                table: Some(no_memory(error)?),
+                container: Vec::new(alloc.clone()?),
+                entries,
+                cut: false,
+            });
+        }
     };
-    let mut faults = print_part("table", 0, out)?;
-    if container.narches == 0 {
-        writeln!(out, "  entries: no image")?;
-        return Ok(1);
-    }
-    for index in 0..container.narches {
+    let container_faults = audit_container(alloc.clone()?, bytes)?;
+    for index in 0..count.min(limit) {
         let entry = arches.get(index).map_or(&[][..], |arch| arch.slice(bytes));
-        faults = faults.saturating_add(audit_entry(alloc, container, index, entry, out)?);
+        entries.push(audit_entry(alloc, container, index, entry, limit)?)?;
     }
-    Ok(faults)
+    Ok(FatReport {
+        count,
+        table: None,
+        container: container_faults,
+        entries,
+        cut: limit < count,
+    })
 }
 
-/// Prints what can be read of a file, part by part, with each fault, and answers how many faults there
-/// are: none only where the file is sound. Of one list at most ten are told.
-pub fn audit<A: Allocator + Clone, O: Write>(
+/// What is said of a file. Of each list at most `limit` items are gone over, and of the faults of a part the first ten are told.
+pub fn audit<A: Allocator + Clone>(
     alloc: &A,
     bytes: &[u8],
-    out: &mut O,
-) -> Result<usize, Failure>
-    ensures { result ≡ Ok 0 → IsSound bytes.now }
+    limit: usize,
+) -> Result<Report<A>, Failure>
+    ensures { IfOk result (λ r. Judges (IsSound bytes.now) (IsLong limit bytes.now) (verdict_of_report r)) }
 {
     match Mach::parse(alloc.clone()?, bytes) {
         Ok(Mach::Binary(image)) => {
-            writeln!(out, "image")?;
-            let opens = print_part("opens", 0, out)?;
-            let parts = audit_image(alloc, &image, out)?;
-            Ok(opens.saturating_add(parts))
+            let parts = audit_parts(alloc, &image, limit)?;
+            Ok(Report::Image(ImageReport::Opens(parts)))
         }
-        Ok(Mach::Fat(container)) => audit_fat(alloc, &container, bytes, out),
+        Ok(Mach::Fat(container)) => {
+            let fat = audit_fat(alloc, &container, bytes, limit)?;
+            Ok(Report::Fat(fat))
+        }
         Err(error) => {
-            writeln!(out, "refused")?;
-            audit_refused(alloc, bytes, &error, out)
+            let image = audit_refused(alloc, bytes, error, limit)?;
+            Ok(Report::Image(image))
         }
     }
 }

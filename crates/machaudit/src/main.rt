@@ -1,35 +1,50 @@
-//! Says what is wrong with a Mach-O file: whether it opens, and each part of it that can't be read.
+//! Says what is wrong with Mach-O files: whether each opens, and each part of it that can't be read or lies where it can't.
 #![tactic(auto)]
 
 mod audit;
+mod files;
+mod json;
+mod layout_text;
+mod lists;
+mod options;
 mod report;
 mod run;
+mod tally;
 #[cfg(test)]
 mod tests;
+mod text;
+mod verdict;
 
-use report::Failure;
-use run::{run, run_line};
+use files::run_files;
+use options::{Request, read_words};
+use run::run_line;
+use std::io::BufWriter;
 use std::process::ExitCode;
-use std::{env, fs, io};
+use std::{env, io};
 
-const USAGE: &str = "usage: machaudit FILE";
+const USAGE: &str =
+    "usage: machaudit [--quiet | --json] [--limit N] FILE..\n       machaudit --help | --version\nFILE may be -, for names on standard input, one a line";
 
-const VERSION: &str = "machaudit 0.1.0";
+const VERSION: &str = "machaudit 0.2.0";
 
 fn main(rt: HostRuntime) -> ExitCode {
     let Ok(args) = env::args(&rt) else {
         return bad_usage(&rt);
     };
     let Ok(args) = args.collect::<Vec<String>>(rt.alloc()) else {
-        return ExitCode::from(Failure::Memory.tell(&mut rt.stderr()));
+        return out_of_memory(&rt);
     };
-    let [_, word] = args.as_slice() else {
-        return bad_usage(&rt);
+    let words = args.as_slice().get(1..).unwrap_or(&[]);
+    let Ok(mut lines) = BufWriter::new(rt.alloc(), io::writer(&rt)) else {
+        return out_of_memory(&rt);
     };
-    ExitCode::from(match word.as_str() {
-        "--help" => run_line(USAGE, &mut io::writer(&rt), &mut rt.stderr()),
-        "--version" => run_line(VERSION, &mut io::writer(&rt), &mut rt.stderr()),
-        file => audit_file(&rt, file),
+    ExitCode::from(match read_words(words) {
+        Request::Help => run_line(USAGE, &mut lines, &mut rt.stderr()),
+        Request::Version => run_line(VERSION, &mut lines, &mut rt.stderr()),
+        Request::Audit(options, files) => {
+            run_files(&rt, options, files, &mut lines, &mut rt.stderr())
+        }
+        Request::Nothing => return bad_usage(&rt),
     })
 }
 
@@ -38,23 +53,7 @@ fn bad_usage(rt: &impl Eprint) -> ExitCode {
     ExitCode::from(2)
 }
 
-fn audit_file(rt: &HostRuntime, file: &str) -> u8 {
-    match fs::read(rt, file) {
-        Ok(bytes) => run(
-            rt.alloc(),
-            bytes.as_slice(),
-            &mut io::writer(rt),
-            &mut rt.stderr(),
-        ),
-        Err(error) => refuse(rt, file, &error),
-    }
-}
-
-// Says why a file could not be read, and answers the exit status.
-fn refuse(rt: &HostRuntime, file: &str, error: &io::Error) -> u8 {
-    if error.kind() == io::ErrorKind::OutOfMemory {
-        return Failure::Memory.tell(&mut rt.stderr());
-    }
-    let _ = rt.eprintln(format_args!("machaudit: cannot read {file}"));
-    2
+fn out_of_memory(rt: &impl Eprint) -> ExitCode {
+    let _ = rt.eprintln("machaudit: out of memory");
+    ExitCode::from(2)
 }

@@ -1,43 +1,20 @@
-//! The lines of an audit.
+//! What an audit says of a file.
 
-ghost use Rattle.std.specs.Prelude.{◌≡◌, ◌≤◌, ◌↔◌, IfOk};
+ghost use Rattle.std.specs.Prelude.{◌≡◌, IfOk};
+ghost use Rattle.goblin_mach.specs.View.{IsTold};
 
-use goblin_mach::{Error, describe};
-use std::alloc::AllocError;
-use std::io::Write;
+use goblin_mach::Error;
+use mach_layout::LayoutFault;
+use std::alloc::{AllocError, AllocFailed, Allocator, Global};
 use std::{fmt, io};
 
 /// Why an audit was not ended.
-#[derive(Drop)]
+#[derive(Clone, Copy, Debug)]
 pub enum Failure {
     /// Memory was refused.
     Memory,
     /// A line was not written.
     Unwritten,
-}
-
-impl Failure {
-    /// The exit status: 1 for want of memory, 2 for a line that was not written.
-    pub fn status(&self) -> u8
-        ensures bounds { (1 ≤ result) × (result ≤ 2) }
-        ensures unwritten { (result ≡ 2) ↔ (self.now ≡ Failure.Unwritten) }
-    {
-        match self {
-            Failure::Memory => 1,
-            Failure::Unwritten => 2,
-        }
-    }
-
-    /// Says on `err` what was the matter, and answers the exit status: 2, too, where that can't be written.
-    pub fn tell<E: Write>(&self, err: &mut E) -> u8
-        ensures bounds { (1 ≤ result) × (result ≤ 2) }
-        ensures unwritten { self.now ≡ Failure.Unwritten → result ≡ 2 }
-    {
-        match writeln!(err, "machaudit: {self}") {
-            Ok(()) => self.status(),
-            Err(_) => 2,
-        }
-    }
 }
 
 impl fmt::Display for Failure {
@@ -55,75 +32,135 @@ impl From<AllocError> for Failure {
     }
 }
 
+impl<T: Drop> From<AllocFailed<T>> for Failure {
+    fn from(_error: AllocFailed<T>) -> Failure {
+        Failure::Memory
+    }
+}
+
 impl From<io::Error> for Failure {
     fn from(_error: io::Error) -> Failure {
         Failure::Unwritten
     }
 }
 
-/// Where a fault stands.
-#[derive(Clone, Copy)]
+/// An error that is no want of memory.
+pub fn no_memory(error: Error) -> Result<Error, Failure>
+    ensures { IfOk result (λ e. (e ≡ error) × IsTold e) }
+{
+    match error {
+        Error::Memory(_) => Err(Failure::Memory),
+        other => Ok(other),
+    }
+}
+
+/// Where an item stands that can't be read.
+#[derive(Clone, Copy, Debug)]
 pub enum Place {
-    /// Where the image is opened.
-    Opening,
-    /// The table of a fat file.
-    Table,
     /// A section of a segment, both by their numbers.
-    Section { segment: usize, index: usize },
-    /// The sections that have relocations, as a whole.
-    Relocations,
-    /// A relocation of a section, which has this number in its segment.
-    Relocation { section: usize, index: usize },
+    Section {
+        segment: usize,
+        index: usize,
+    },
+    /// A relocation of a section, all by their numbers.
+    Relocation {
+        segment: usize,
+        section: usize,
+        index: usize,
+    },
     /// A symbol.
     Symbol(usize),
-    /// The export trie.
-    Trie,
-    /// The binds.
-    Binds,
-    /// The fixups of chains.
-    Fixups,
+    /// The export behind so many.
+    Export(usize),
+    /// The import behind so many.
+    Import(usize),
+    /// The fixup behind so many.
+    Fixup(usize),
+    /// The binding behind so many.
+    Binding(usize),
+}
+
+/// An item that can't be read.
+#[derive(Drop)]
+pub struct Finding {
+    /// Where it stands.
+    pub place: Place,
+    /// Why it can't be read.
+    pub error: Error,
+}
+
+/// What is said of the lists of one part of an image.
+#[derive(Drop)]
+pub struct Part<A: Allocator = Global> {
+    /// The first items that can't be read, ten at most.
+    pub told: Vec<Finding, A>,
+    /// How many can't be read of those that were gone over.
+    pub faults: usize,
+    /// Whether there are more items than are gone over.
+    pub cut: bool,
+}
+
+/// What is said of an image that opened, part by part.
+#[derive(Drop)]
+pub struct Parts<A: Allocator = Global> {
+    /// The sections of all segments.
+    pub sections: Part<A>,
+    /// The relocations of all sections; none where a section can't be read.
+    pub relocations: Option<Part<A>>,
+    /// The symbols.
+    pub symbols: Part<A>,
+    /// The exports of the trie.
+    pub exports: Part<A>,
+    /// The imports of the opcodes, as a linker lists them.
+    pub imports: Part<A>,
+    /// The fixups of the chains.
+    pub fixups: Part<A>,
     /// What dyld binds, by opcodes and by chains.
-    Bindings,
+    pub bindings: Part<A>,
+    /// The faults of its layout.
+    pub layout: Vec<LayoutFault, A>,
 }
 
-impl fmt::Display for Place {
-    fn fmt<W: fmt::Write>(&self, f: &mut fmt::Formatter<W>) -> fmt::Result {
-        match self {
-            Place::Opening => write!(f, "opens"),
-            Place::Table => write!(f, "table"),
-            Place::Section { segment, index } => {
-                write!(f, "sections: segment {segment}, section {index}")
-            }
-            Place::Relocations => write!(f, "relocations"),
-            Place::Relocation { section, index } => {
-                write!(f, "relocations: section {section}, relocation {index}")
-            }
-            Place::Symbol(index) => write!(f, "symbols: symbol {index}"),
-            Place::Trie => write!(f, "trie"),
-            Place::Binds => write!(f, "binds"),
-            Place::Fixups => write!(f, "fixups"),
-            Place::Bindings => write!(f, "bindings"),
-        }
-    }
+/// What is said of an image.
+#[derive(Drop)]
+pub enum ImageReport<A: Allocator = Global> {
+    /// It opens.
+    Opens(Parts<A>),
+    /// It opens in lossy mode alone, for this reason.
+    OpensLossily(Error, Parts<A>),
+    /// It doesn't open, for this reason.
+    Refused(Error),
 }
 
-/// Prints a fault, and answers that it is one. Want of memory is none.
-pub fn print_fault<O: Write>(place: Place, error: &Error, out: &mut O) -> Result<usize, Failure>
-    ensures { IfOk result (λ faults. faults ≡ 1) }
-{
-    if let Error::Memory(_) = error {
-        return Err(Failure::Memory);
-    }
-    writeln!(out, "  {place}: {}", describe(error))?;
-    Ok(1)
+/// What is said of an entry of a fat file.
+#[derive(Drop)]
+pub enum EntryReport<A: Allocator = Global> {
+    /// It is an archive.
+    Archive,
+    /// It is an image.
+    Image(ImageReport<A>),
 }
 
-/// Prints that a part is readable, where it has no faults, and answers how many it has.
-pub fn print_part<O: Write>(part: &str, faults: usize, out: &mut O) -> Result<usize, Failure>
-    ensures { IfOk result (λ answer. answer ≡ faults) }
-{
-    if faults == 0 {
-        writeln!(out, "  {part}: ok")?;
-    }
-    Ok(faults)
+/// What is said of a fat file.
+#[derive(Drop)]
+pub struct FatReport<A: Allocator = Global> {
+    /// How many entries its header says.
+    pub count: usize,
+    /// Why its table can't be read, if it can't.
+    pub table: Option<Error>,
+    /// The faults of its table, where this can be read.
+    pub container: Vec<LayoutFault, A>,
+    /// What is said of its entries, in order.
+    pub entries: Vec<EntryReport<A>, A>,
+    /// Whether it has more entries than are gone over.
+    pub cut: bool,
+}
+
+/// What is said of a file.
+#[derive(Drop)]
+pub enum Report<A: Allocator = Global> {
+    /// It is an image, or nothing that opens.
+    Image(ImageReport<A>),
+    /// It is a fat file.
+    Fat(FatReport<A>),
 }

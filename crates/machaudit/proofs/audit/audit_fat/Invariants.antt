@@ -1,8 +1,8 @@
-use Rattle.std.proofs.Common.{◌≡◌, ◌<◌, ℕ}
-use Rattle.goblin_mach.specs.FatEntry.{entry_at}
 use Rattle.goblin_mach.specs.FatFile.{file_held}
-use Rattle.machaudit.specs.Sound.{IsSoundEntry}
+use Rattle.machaudit.proofs.Entries.{AllSound, SomeLong}
+use Rattle.machaudit.specs.Verdicts.{Judges, verdict_of_entries}
 use Rattle.machaudit.proofs.audit.audit_fat.Given as goal
 
 abbrev pub invariant-loop-index : goal.invariant-loop-index
-invariant-loop-index g l = l.faults ≡ 0 → (k : ℕ) → k < l.index → IsSoundEntry (entry_at (file_held l.container) k)
+invariant-loop-index g l =
+    Judges (AllSound (file_held l.container) l.index) (SomeLong l.limit (file_held l.container) l.index) (verdict_of_entries l.entries.items)

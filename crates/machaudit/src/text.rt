@@ -1,0 +1,148 @@
+//! The lines of an audit.
+
+ghost use Rattle.std.specs.Prelude.{◌≡◌};
+
+use crate::layout_text::print_layout;
+use crate::report::{EntryReport, FatReport, Finding, ImageReport, Part, Parts, Place, Report};
+use crate::verdict::Verdict;
+use goblin_mach::{Error, describe};
+use std::alloc::Allocator;
+use std::io::Write;
+use std::{fmt, io};
+
+impl fmt::Display for Place {
+    fn fmt<W: fmt::Write>(&self, f: &mut fmt::Formatter<W>) -> fmt::Result {
+        match self {
+            Place::Section { segment, index } => write!(f, "segment {segment}, section {index}"),
+            Place::Relocation {
+                segment,
+                section,
+                index,
+            } => write!(
+                f,
+                "segment {segment}, section {section}, relocation {index}"
+            ),
+            Place::Symbol(index) => write!(f, "symbol {index}"),
+            Place::Export(index) => write!(f, "export {index}"),
+            Place::Import(index) => write!(f, "import {index}"),
+            Place::Fixup(index) => write!(f, "fixup {index}"),
+            Place::Binding(index) => write!(f, "binding {index}"),
+        }
+    }
+}
+
+impl fmt::Display for Verdict {
+    fn fmt<W: fmt::Write>(&self, f: &mut fmt::Formatter<W>) -> fmt::Result {
+        match self {
+            Verdict::Sound => write!(f, "sound"),
+            Verdict::Unended => write!(f, "not sound: limit met"),
+            Verdict::Faulty => write!(f, "not sound"),
+        }
+    }
+}
+
+// Prints the faults that are told of a part.
+fn print_findings<O: Write>(name: &str, told: &[Finding], out: &mut O) -> io::Result<()> {
+    'told: for finding in told {
+        let place = finding.place;
+        writeln!(out, "  {name}: {place}: {}", describe(&finding.error))?;
+    }
+    Ok(())
+}
+
+// Prints what is said of a part.
+fn print_part<A: Allocator, O: Write>(name: &str, part: &Part<A>, out: &mut O) -> io::Result<()> {
+    if part.is_clean() {
+        return writeln!(out, "  {name}: ok");
+    }
+    print_findings(name, part.told.as_slice(), out)?;
+    let more = part.faults.saturating_sub(part.told.len());
+    if more > 0 {
+        writeln!(out, "  {name}: and {more} more")?;
+    }
+    if part.cut {
+        writeln!(out, "  {name}: limit met")?;
+    }
+    Ok(())
+}
+
+// Prints what is said of all parts.
+fn print_parts<A: Allocator, O: Write>(parts: &Parts<A>, out: &mut O) -> io::Result<()> {
+    print_part("sections", &parts.sections, out)?;
+    match &parts.relocations {
+        Some(part) => print_part("relocations", part, out)?,
+        None => writeln!(out, "  relocations: not read, since a section can't be")?,
+    }
+    print_part("symbols", &parts.symbols, out)?;
+    print_part("exports", &parts.exports, out)?;
+    print_part("imports", &parts.imports, out)?;
+    print_part("fixups", &parts.fixups, out)?;
+    print_part("bindings", &parts.bindings, out)?;
+    print_layout("layout", parts.layout.as_slice(), out)
+}
+
+// Prints why something doesn't open.
+fn print_refusal<O: Write>(part: &str, error: &Error, out: &mut O) -> io::Result<()> {
+    writeln!(out, "  {part}: {}", describe(error))
+}
+
+// Prints what is said of an image.
+fn print_image<A: Allocator, O: Write>(image: &ImageReport<A>, out: &mut O) -> io::Result<()> {
+    match image {
+        ImageReport::Opens(parts) => {
+            writeln!(out, "  opens: ok")?;
+            print_parts(parts, out)
+        }
+        ImageReport::OpensLossily(error, parts) => {
+            print_refusal("opens", error, out)?;
+            writeln!(out, "  opens lossily: ok")?;
+            print_parts(parts, out)
+        }
+        ImageReport::Refused(error) => print_refusal("opens", error, out),
+    }
+}
+
+// Prints what is said of an entry of a fat file, which has this number.
+fn print_entry<A: Allocator, O: Write>(
+    index: usize,
+    entry: &EntryReport<A>,
+    out: &mut O,
+) -> io::Result<()> {
+    writeln!(out, "arch {index}")?;
+    match entry {
+        EntryReport::Archive => writeln!(out, "  archive: ok"),
+        EntryReport::Image(image) => print_image(image, out),
+    }
+}
+
+// Prints what is said of a fat file.
+fn print_fat<A: Allocator, O: Write>(fat: &FatReport<A>, out: &mut O) -> io::Result<()> {
+    writeln!(out, "fat file of {}", fat.count)?;
+    match &fat.table {
+        Some(error) => print_refusal("table", error, out)?,
+        None => print_layout("table", fat.container.as_slice(), out)?,
+    }
+    if fat.count == 0 {
+        writeln!(out, "  entries: no image")?;
+    }
+    'entries: for (index, entry) in fat.entries.as_slice().iter().enumerate() {
+        print_entry(index, entry, out)?;
+    }
+    if fat.cut {
+        writeln!(out, "  entries: limit met")?;
+    }
+    Ok(())
+}
+
+/// Prints what is said of a file, and whether it is sound.
+pub fn print_report<A: Allocator, O: Write>(report: &Report<A>, out: &mut O) -> io::Result<()> {
+    match report {
+        Report::Image(image) => {
+            writeln!(out, "image")?;
+            print_image(image, out)?;
+        }
+        Report::Fat(fat) => print_fat(fat, out)?,
+    }
+    let verdict = report.verdict();
+    writeln!(out, "{verdict}")
+}
