@@ -216,30 +216,27 @@ fn built_files(rt: HostRuntime) -> Result<(), Fail> {
     let alloc = rt.alloc();
     let (status, text) = audited(alloc, &FILE_A)?;
     same(&rt, status, 1);
-    same_faults(&rt, "A", text.as_str(), &FAULTS_A);
+    same_faults(&rt, "A", text.as_str(), FAULTS_A);
     let (status, text) = audited(alloc, &FILE_B)?;
     same(&rt, status, 1);
-    same_faults(&rt, "B", text.as_str(), &FAULTS_B);
+    same_faults(&rt, "B", text.as_str(), FAULTS_B);
     let (status, text) = audited(alloc, &file_c(alloc)?)?;
     same(&rt, status, 1);
-    same_faults(&rt, "C", text.as_str(), &FAULTS_B);
+    same_faults(&rt, "C", text.as_str(), FAULTS_B);
     Ok(())
 }
 
-const FAULTS_A: [&str; 2] = [
-    "layout: no segment of header: header at 0x0: 0x0 against 0x38",
-    "layout: no entry: header at 0x0: 0x0 against 0x0",
-];
+const FAULTS_A: &str = "layout: no segment of header: header at 0x0: 0x0 against 0x38
+layout: no entry: header at 0x0: 0x0 against 0x0";
 
-const FAULTS_B: [&str; 7] = [
-    "layout: claims share: bind opcodes at 0xd8: 0x138 against 0x140 of section 1 at 0x20",
-    "layout: out of linkedit: bind opcodes at 0xd8: 0x140 against 0x0",
-    "layout: out of linkedit: lazy bind opcodes at 0xd8: 0x148 against 0x0",
-    "layout: out of linkedit: export trie at 0xd8: 0x153 against 0x0",
-    "layout: out of linkedit: symbols at 0x108: 0x170 against 0x0",
-    "layout: out of linkedit: strings at 0x108: 0x178 against 0x0",
-    "layout: entry out of code: entry at 0x120: 0x138 against 0x138",
-];
+const FAULTS_B: &str =
+    "layout: claims share: bind opcodes at 0xd8: 0x138 against 0x140 of section 1 at 0x20
+layout: out of linkedit: bind opcodes at 0xd8: 0x140 against 0x0
+layout: out of linkedit: lazy bind opcodes at 0xd8: 0x148 against 0x0
+layout: out of linkedit: export trie at 0xd8: 0x153 against 0x0
+layout: out of linkedit: symbols at 0x108: 0x170 against 0x0
+layout: out of linkedit: strings at 0x108: 0x178 against 0x0
+layout: entry out of code: entry at 0x120: 0x138 against 0x138";
 
 // A fat file of one slice, the small library at 4096, or of two that are this one.
 fn fat_file(alloc: Global, count: u8) -> Result<Vec<u8>, AllocError> {
@@ -266,14 +263,13 @@ fn fat_files(rt: HostRuntime) -> Result<(), Fail> {
     same(&rt, text.as_str(), want.as_str());
     let (status, text) = audited(alloc, &fat_file(alloc, 2)?)?;
     same(&rt, status, 1);
-    same_faults(&rt, "two slices", text.as_str(), &FAULTS_OF_TWO);
+    same_faults(&rt, "two slices", text.as_str(), FAULTS_OF_TWO);
     Ok(())
 }
 
-const FAULTS_OF_TWO: [&str; 2] = [
-    "table: slice again: slice 1 at 0x1c: 0x1000007000003 against 0x1000007000004 of slice 0 at 0x8",
-    "table: slices share: slice 1 at 0x1c: 0x1000 against 0x30a0 of slice 0 at 0x8",
-];
+const FAULTS_OF_TWO: &str =
+    "table: slice again: slice 1 at 0x1c: 0x1000007000003 against 0x1000007000004 of slice 0 at 0x8
+table: slices share: slice 1 at 0x1c: 0x1000 against 0x30a0 of slice 0 at 0x8";
 
 // A sum over bytes and their places, by which an image is known to be the one that is meant.
 fn sum_of(bytes: &[u8]) -> u64 {
@@ -628,54 +624,48 @@ fn long_names_in_little_memory(rt: HostRuntime) -> Result<(), Fail> {
     Ok(())
 }
 
-// Other bytes of file B from a place on, and the first faults that are told then.
-const MANY: [(&str, usize, &[u8], &[&str]); 3] = [
+// Other bytes of file B from a place on, and the lines of the first faults that are told then.
+const MANY: [(&str, usize, &[u8], &str); 3] = [
     (
         "sections past the end",
         96,
         &[99],
-        &[
-            "sections: segment 0, section 3: 80 bytes are wanted and 32 are left",
-            "sections: segment 0, section 4: offset 424 is past the end",
-            "sections: segment 0, section 5: offset 504 is past the end",
-            "sections: segment 0, section 6: offset 584 is past the end",
-            "sections: segment 0, section 7: offset 664 is past the end",
-            "sections: segment 0, section 8: offset 744 is past the end",
-            "sections: segment 0, section 9: offset 824 is past the end",
-            "sections: segment 0, section 10: offset 904 is past the end",
-            "sections: segment 0, section 11: offset 984 is past the end",
-            "sections: segment 0, section 12: offset 1064 is past the end",
-            "sections: and 86 more",
-            "relocations: not read, since a section can't be",
-        ],
+        "sections: segment 0, section 3: 80 bytes are wanted and 32 are left
+sections: segment 0, section 4: offset 424 is past the end
+sections: segment 0, section 5: offset 504 is past the end
+sections: segment 0, section 6: offset 584 is past the end
+sections: segment 0, section 7: offset 664 is past the end
+sections: segment 0, section 8: offset 744 is past the end
+sections: segment 0, section 9: offset 824 is past the end
+sections: segment 0, section 10: offset 904 is past the end
+sections: segment 0, section 11: offset 984 is past the end
+sections: segment 0, section 12: offset 1064 is past the end
+sections: and 86 more
+relocations: not read, since a section can't be",
     ),
     (
         "symbols past the end",
         276,
         &[0xff, 0xff, 0xff, 0xff],
-        &[
-            "symbols: symbol 1: 16 bytes are wanted and 8 are left",
-            "symbols: symbol 2: offset 384 is past the end",
-            "symbols: symbol 3: offset 400 is past the end",
-            "symbols: symbol 4: offset 416 is past the end",
-            "symbols: symbol 5: offset 432 is past the end",
-            "symbols: symbol 6: offset 448 is past the end",
-            "symbols: symbol 7: offset 464 is past the end",
-            "symbols: symbol 8: offset 480 is past the end",
-            "symbols: symbol 9: offset 496 is past the end",
-            "symbols: symbol 10: offset 512 is past the end",
-            "symbols: and 989 more",
-            "symbols: limit met",
-        ],
+        "symbols: symbol 1: 16 bytes are wanted and 8 are left
+symbols: symbol 2: offset 384 is past the end
+symbols: symbol 3: offset 400 is past the end
+symbols: symbol 4: offset 416 is past the end
+symbols: symbol 5: offset 432 is past the end
+symbols: symbol 6: offset 448 is past the end
+symbols: symbol 7: offset 464 is past the end
+symbols: symbol 8: offset 480 is past the end
+symbols: symbol 9: offset 496 is past the end
+symbols: symbol 10: offset 512 is past the end
+symbols: and 989 more
+symbols: limit met",
     ),
     (
         "a bind in no segment",
         0x13d,
         &[0x71],
-        &[
-            "imports: import 0: malformed: a bind's segment is one of the list",
-            "bindings: binding 0: malformed: a bind lies inside its segment, at places of 64 bits",
-        ],
+        "imports: import 0: malformed: a bind's segment is one of the list
+bindings: binding 0: malformed: a bind lies inside its segment, at places of 64 bits",
     ),
 ];
 
@@ -692,32 +682,66 @@ fn many_faults(rt: HostRuntime) -> Result<(), Fail> {
 }
 
 // Asserts that the lines of faults are these, in order.
-fn same_faults(rt: &impl Abort, name: &str, text: &str, faults: &[&str]) {
-    let mut met = 0usize;
+fn same_faults(rt: &impl Abort, name: &str, text: &str, faults: &str) {
+    let mut wanted = faults.lines();
     for line in text.lines() {
         if let Some(fault) = line.strip_prefix("  ")
             && !fault.ends_with(": ok")
         {
-            same_of(rt, name, Some(&fault), faults.get(met));
-            met = met.saturating_add(1);
+            same_of(rt, name, Some(fault), wanted.next());
         }
     }
-    same_of(rt, name, met, faults.len());
+    same_of(rt, name, None, wanted.next());
+}
+
+// The small image with the other bytes of a row's first line, and the name of the field.
+fn small_changed(alloc: Global, head: &str) -> Result<(Vec<u8>, &str), Fail> {
+    let mut words = head.splitn(4, ' ');
+    let (Some(kind), Some(place), Some(digits), Some(name)) = (
+        words.next(),
+        words.next(),
+        words.next(),
+        words.next(),
+    ) else {
+        return Err(Fail::from("a row has four words"));
+    };
+    let mut file = small(alloc, kind_of(kind)?)?;
+    let place = place.parse::<usize>()?;
+    for (index, pair) in digits.as_bytes().chunks_exact(2).enumerate() {
+        let byte = u8::from_str_radix(str::from_utf8(pair)?, 16)?;
+        match file.get_mut(place.saturating_add(index)) {
+            Some(other) => *other = byte,
+            None => return Err(Fail::from("a change lies in the file")),
+        }
+    }
+    Ok((file, name))
+}
+
+// The image of a row's first word.
+fn kind_of(word: &str) -> Result<Kind, Fail> {
+    match word {
+        "Library" => Ok(Kind::Library),
+        "Old" => Ok(Kind::Old),
+        "Executable" => Ok(Kind::Executable),
+        "Object" => Ok(Kind::Object),
+        _ => Err(Fail::from("a row names a small image")),
+    }
 }
 
 #[test]
 fn one_change_for_each_rule(rt: HostRuntime) -> Result<(), Fail> {
     let alloc = rt.alloc();
-    for row in &ROWS {
-        let mut file = small(alloc, row.kind)?;
-        for (index, byte) in row.bytes.iter().enumerate() {
-            if let Some(other) = file.get_mut(row.place.saturating_add(index)) {
-                *other = *byte;
-            }
-        }
+    let mut count = 0u32;
+    for row in ROWS.split("\n\n") {
+        let Some((head, faults)) = row.split_once('\n') else {
+            return Err(Fail::from("a row has lines of faults"));
+        };
+        let (file, name) = small_changed(alloc, head)?;
         let (status, text) = audited(alloc, &file)?;
-        same_of(&rt, row.name, status, 1);
-        same_faults(&rt, row.name, text.as_str(), row.faults);
+        same_of(&rt, name, status, 1);
+        same_faults(&rt, name, text.as_str(), faults);
+        count = count.saturating_add(1);
     }
+    same(&rt, count, 69);
     Ok(())
 }

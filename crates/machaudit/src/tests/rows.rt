@@ -1,628 +1,270 @@
 //! One change of a small image for each rule, and all faults that are told then.
 
-use crate::tests::images::Kind;
+/// The changes, with an empty line between two. The first line of each has the image, the place from which on other bytes
+/// stand, their hexadecimal digits and the name of the field; the lines behind it are those of the faults.
+pub const ROWS: &str = "Library 12 04 filetype
+layout: file kind: header at 0x0: 0x4 against 0x0
+layout: id unexpected: command at 0x2d0: 0x4 against 0x0
 
-/// A change of a small image.
-pub struct Row {
-    /// The field that is changed.
-    pub name: &'static str,
-    /// The image.
-    pub kind: Kind,
-    /// The place from which on other bytes stand, and these.
-    pub place: usize,
-    pub bytes: &'static [u8],
-    /// The lines of the faults.
-    pub faults: &'static [&'static str],
-}
+Library 20 a020 sizeofcmds
+layout: commands out of file: header at 0x0: 0x20c0 against 0x20a0
+layout: commands end early: header at 0x0: 0x358 against 0x20c0
 
-/// The changes.
+Library 844 08 signature.cmdsize
+layout: command size: command at 0x348: 0x8 against 0x10
+layout: commands end early: header at 0x0: 0x350 against 0x358
 
-pub const ROWS: [Row; 69] = [
-    Row {
-        name: "filetype",
-        kind: Kind::Library,
-        place: 12,
-        bytes: &[0x04],
-        faults: &[
-            "layout: file kind: header at 0x0: 0x4 against 0x0",
-            "layout: id unexpected: command at 0x2d0: 0x4 against 0x0",
-        ],
-    },
-    Row {
-        name: "sizeofcmds",
-        kind: Kind::Library,
-        place: 20,
-        bytes: &[0xa0, 0x20],
-        faults: &[
-            "layout: commands out of file: header at 0x0: 0x20c0 against 0x20a0",
-            "layout: commands end early: header at 0x0: 0x358 against 0x20c0",
-        ],
-    },
-    Row {
-        name: "signature.cmdsize",
-        kind: Kind::Library,
-        place: 844,
-        bytes: &[0x08],
-        faults: &[
-            "layout: command size: command at 0x348: 0x8 against 0x10",
-            "layout: commands end early: header at 0x0: 0x350 against 0x358",
-        ],
-    },
-    Row {
-        name: "library.cmdsize",
-        kind: Kind::Library,
-        place: 756,
-        bytes: &[0x1c],
-        faults: &[
-            "layout: command size: command at 0x1327: 0x0 against 0x8",
-            "layout: command size: command at 0x1327: 0x0 against 0x8",
-            "layout: command unaligned: command at 0x2f0: 0x1c against 0x8",
-            "layout: command unaligned: command at 0x30c: 0x1b against 0x8",
-            "layout: command out of commands: command at 0x327: 0x1327 against 0x358",
-            "layout: command out of commands: command at 0x1327: 0x1327 against 0x358",
-            "layout: command out of commands: command at 0x1327: 0x1327 against 0x358",
-        ],
-    },
-    Row {
-        name: "sizeofcmds",
-        kind: Kind::Library,
-        place: 20,
-        bytes: &[0x30],
-        faults: &["layout: command out of commands: command at 0x348: 0x358 against 0x350"],
-    },
-    Row {
-        name: "__DATA.nsects",
-        kind: Kind::Library,
-        place: 328,
-        bytes: &[0x01],
-        faults: &["layout: command count: command at 0x108: 0xe8 against 0x98"],
-    },
-    Row {
-        name: "__PAGEZERO.cmd",
-        kind: Kind::Executable,
-        place: 32,
-        bytes: &[0x01],
-        faults: &[
-            "layout: command count: command at 0x20: 0x48 against 0x38",
-            "layout: segment width: command at 0x20: 0x1 against 0x19",
-            "layout: segments share file: segment at 0x68: 0x0 against 0x1 of segment at 0x20",
-        ],
-    },
-    Row {
-        name: "ncmds",
-        kind: Kind::Library,
-        place: 16,
-        bytes: &[0xc8],
-        faults: &["opens: 200 load commands do not fit the file"],
-    },
-    Row {
-        name: "sizeofcmds",
-        kind: Kind::Library,
-        place: 20,
-        bytes: &[0x40],
-        faults: &["layout: commands end early: header at 0x0: 0x358 against 0x360"],
-    },
-    Row {
-        name: "ncmds",
-        kind: Kind::Library,
-        place: 16,
-        bytes: &[0x0b],
-        faults: &["layout: commands end early: header at 0x0: 0x348 against 0x358"],
-    },
-    Row {
-        name: "data_in_code.cmd",
-        kind: Kind::Library,
-        place: 824,
-        bytes: &[0x26],
-        faults: &["layout: command again: command at 0x338: 0x26 against 0x1 of command at 0x328"],
-    },
-    Row {
-        name: "symtab.cmd",
-        kind: Kind::Library,
-        place: 616,
-        bytes: &[0x7f],
-        faults: &[
-            "layout: dynamic symbols alone: command at 0x280: 0xb against 0x2",
-            "layout: indirect symbol: indirect symbols at 0x280: 0x2 against 0x0",
-        ],
-    },
-    Row {
-        name: "dysymtab.nindirectsyms",
-        kind: Kind::Library,
-        place: 700,
-        bytes: &[0x00, 0x10],
-        faults: &["layout: out of file: indirect symbols at 0x280: 0x6068 against 0x20a0"],
-    },
-    Row {
-        name: "symtab.strsize",
-        kind: Kind::Library,
-        place: 636,
-        bytes: &[0x00, 0x10],
-        faults: &["layout: out of file: strings at 0x268: 0x3070 against 0x20a0"],
-    },
-    Row {
-        name: "dyld_info.bind_off",
-        kind: Kind::Old,
-        place: 484,
-        bytes: &[0xff, 0xff, 0xff, 0xf0],
-        faults: &[
-            "imports: import 0: offset 4294967280 is past the end",
-            "bindings: binding 0: offset 4294967280 is past the end",
-            "layout: out of file: bind opcodes at 0x1d4: 0xfffffff8 against 0x20a0",
-            "layout: binds: binds at 0x1d4: 0x0 against 0x0",
-        ],
-    },
-    Row {
-        name: "segment.0.reloff",
-        kind: Kind::Object,
-        place: 160,
-        bytes: &[0x00, 0x00, 0x01],
-        faults: &[
-            "relocations: segment 0, section 0, relocation 0: offset 65536 is past the end",
-            "layout: out of file: relocations 1 at 0x20: 0x10008 against 0x1b8",
-        ],
-    },
-    Row {
-        name: "symtab.nsyms",
-        kind: Kind::Object,
-        place: 276,
-        bytes: &[0x4d],
-        faults: &[
-            "symbols: symbol 2: 16 bytes are wanted and 8 are left",
-            "symbols: symbol 3: offset 448 is past the end",
-            "symbols: symbol 4: offset 464 is past the end",
-            "symbols: symbol 5: offset 480 is past the end",
-            "symbols: symbol 6: offset 496 is past the end",
-            "symbols: symbol 7: offset 512 is past the end",
-            "symbols: symbol 8: offset 528 is past the end",
-            "symbols: symbol 9: offset 544 is past the end",
-            "symbols: symbol 10: offset 560 is past the end",
-            "symbols: symbol 11: offset 576 is past the end",
-            "symbols: and 65 more",
-            "layout: out of file: symbols at 0x108: 0x660 against 0x1b8",
-            "layout: symbol range order: symbol ranges 3 at 0x120: 0x4d against 0x2",
-        ],
-    },
-    Row {
-        name: "__LINKEDIT.vmsize",
-        kind: Kind::Library,
-        place: 529,
-        bytes: &[0xf0, 0xff, 0xff, 0xff, 0xff, 0xff, 0xff],
-        faults: &[
-            "layout: segment beyond addresses: segment at 0x1f0: 0xffffffffffffffff against 0xffffffffffffffff",
-        ],
-    },
-    Row {
-        name: "__DATA.vmsize",
-        kind: Kind::Library,
-        place: 296,
-        bytes: &[0xf0, 0x0f],
-        faults: &["layout: segment file larger: segment at 0x108: 0x1000 against 0xff0"],
-    },
-    Row {
-        name: "__LINKEDIT.vmaddr",
-        kind: Kind::Library,
-        place: 521,
-        bytes: &[0x28],
-        faults: &["layout: segment address unaligned: segment at 0x1f0: 0x2800 against 0x1000"],
-    },
-    Row {
-        name: "__DATA.fileoff",
-        kind: Kind::Library,
-        place: 304,
-        bytes: &[0xf8, 0x0f],
-        faults: &[
-            "layout: segment place unaligned: segment at 0x108: 0xff8 against 0x1000",
-            "layout: segments share file: segment at 0x108: 0xff8 against 0x1000 of segment at 0x20",
-            "layout: section elsewhere: section 1 at 0x108: 0x8 against 0x0 of segment at 0x108",
-        ],
-    },
-    Row {
-        name: "__LINKEDIT.segname",
-        kind: Kind::Library,
-        place: 506,
-        bytes: &[0x44, 0x41, 0x54, 0x41, 0x00, 0x00, 0x00, 0x00],
-        faults: &[
-            "layout: segment name again: segment at 0x1f0: 0x0 against 0x0 of segment at 0x108",
-            "layout: out of linkedit: rebase opcodes at 0x238: 0x2008 against 0x0",
-            "layout: out of linkedit: bind opcodes at 0x238: 0x2010 against 0x0",
-            "layout: out of linkedit: weak bind opcodes at 0x238: 0x2018 against 0x0",
-            "layout: out of linkedit: lazy bind opcodes at 0x238: 0x2020 against 0x0",
-            "layout: out of linkedit: export trie at 0x238: 0x2028 against 0x0",
-            "layout: out of linkedit: symbols at 0x268: 0x2068 against 0x0",
-            "layout: out of linkedit: strings at 0x268: 0x2080 against 0x0",
-            "layout: out of linkedit: indirect symbols at 0x280: 0x2070 against 0x0",
-            "layout: out of linkedit: function starts at 0x328: 0x2030 against 0x0",
-            "layout: out of linkedit: data in code at 0x338: 0x2038 against 0x0",
-            "layout: out of linkedit: and 1 more",
-        ],
-    },
-    Row {
-        name: "__LINKEDIT.initprot",
-        kind: Kind::Library,
-        place: 556,
-        bytes: &[0x03],
-        faults: &["layout: segment rights: segment at 0x1f0: 0x3 against 0x1"],
-    },
-    Row {
-        name: "__DATA.vmaddr",
-        kind: Kind::Library,
-        place: 289,
-        bytes: &[0x00],
-        faults: &[
-            "layout: segments share memory: segment at 0x108: 0x0 against 0x1000 of segment at 0x20",
-            "layout: section out of memory: section 1 at 0x108: 0x1008 against 0x1000 of segment at 0x108",
-            "layout: section out of memory: section 2 at 0x108: 0x1110 against 0x1000 of segment at 0x108",
-        ],
-    },
-    Row {
-        name: "__DATA.vmsize",
-        kind: Kind::Library,
-        place: 296,
-        bytes: &[0x01],
-        faults: &[
-            "layout: segments share memory: segment at 0x1f0: 0x2000 against 0x2001 of segment at 0x108",
-        ],
-    },
-    Row {
-        name: "__DATA.filesize",
-        kind: Kind::Library,
-        place: 312,
-        bytes: &[0x01],
-        faults: &[
-            "layout: segment file larger: segment at 0x108: 0x1001 against 0x1000",
-            "layout: segments share file: segment at 0x1f0: 0x2000 against 0x2001 of segment at 0x108",
-        ],
-    },
-    Row {
-        name: "__TEXT.filesize",
-        kind: Kind::Library,
-        place: 81,
-        bytes: &[0x01],
-        faults: &[
-            "layout: no segment of header: header at 0x0: 0x0 against 0x358",
-            "layout: section out of bytes: section 1 at 0x20: 0xf10 against 0x100 of segment at 0x20",
-            "layout: section out of bytes: section 2 at 0x20: 0xf1c against 0x100 of segment at 0x20",
-        ],
-    },
-    Row {
-        name: "__DATA.vmaddr",
-        kind: Kind::Library,
-        place: 289,
-        bytes: &[0x30],
-        faults: &[
-            "layout: section out of memory: section 1 at 0x108: 0x1008 against 0x4000 of segment at 0x108",
-            "layout: section out of memory: section 2 at 0x108: 0x1110 against 0x4000 of segment at 0x108",
-        ],
-    },
-    Row {
-        name: "__DATA.1.addr",
-        kind: Kind::Library,
-        place: 448,
-        bytes: &[0xf8, 0x1f],
-        faults: &[
-            "layout: section out of memory: section 2 at 0x108: 0x2008 against 0x2000 of segment at 0x108",
-        ],
-    },
-    Row {
-        name: "__DATA.0.offset",
-        kind: Kind::Library,
-        place: 384,
-        bytes: &[0x20, 0x0f],
-        faults: &[
-            "layout: section out of bytes: section 1 at 0x108: 0xf28 against 0x2000 of segment at 0x108",
-        ],
-    },
-    Row {
-        name: "__DATA.0.offset",
-        kind: Kind::Library,
-        place: 384,
-        bytes: &[0x10],
-        faults: &[
-            "layout: section elsewhere: section 1 at 0x108: 0x10 against 0x0 of segment at 0x108",
-        ],
-    },
-    Row {
-        name: "__DATA.1.align",
-        kind: Kind::Library,
-        place: 468,
-        bytes: &[0x10],
-        faults: &["layout: section alignment: section 2 at 0x108: 0x10 against 0xf"],
-    },
-    Row {
-        name: "__DATA.1.align",
-        kind: Kind::Library,
-        place: 468,
-        bytes: &[0x0c],
-        faults: &["layout: section unaligned: section 2 at 0x108: 0x1100 against 0x1000"],
-    },
-    Row {
-        name: "__DATA.1.segname",
-        kind: Kind::Library,
-        place: 434,
-        bytes: &[0x54, 0x45, 0x58, 0x54],
-        faults: &[
-            "layout: section of other: section 2 at 0x108: 0x0 against 0x0 of segment at 0x108",
-        ],
-    },
-    Row {
-        name: "__TEXT.0.size",
-        kind: Kind::Library,
-        place: 144,
-        bytes: &[0x14],
-        faults: &[
-            "layout: sections share memory: section 2 at 0x20: 0xf10 against 0xf14 of section 1 at 0x20",
-            "layout: claims share: section 2 at 0x20: 0xf10 against 0xf14 of section 1 at 0x20",
-        ],
-    },
-    Row {
-        name: "segment.0.size",
-        kind: Kind::Object,
-        place: 144,
-        bytes: &[0x14],
-        faults: &[
-            "layout: sections share memory: section 2 at 0x20: 0x10 against 0x14 of section 1 at 0x20",
-            "layout: claims share: section 2 at 0x20: 0x180 against 0x184 of section 1 at 0x20",
-        ],
-    },
-    Row {
-        name: "function_starts.datasize",
-        kind: Kind::Library,
-        place: 820,
-        bytes: &[0x09],
-        faults: &[
-            "layout: claims share: data in code at 0x338: 0x2030 against 0x2031 of function starts at 0x328",
-        ],
-    },
-    Row {
-        name: "symtab.symoff",
-        kind: Kind::Library,
-        place: 624,
-        bytes: &[0x40],
-        faults: &[
-            "symbols: symbol 0: offset 12144 is past the end",
-            "symbols: symbol 1: offset 12148 is past the end",
-            "layout: claims share: indirect symbols at 0x280: 0x2068 against 0x2070 of symbols at 0x268",
-            "layout: symbol name: symbols at 0x268: 0xf00 against 0x10",
-            "layout: symbol name: symbols 1 at 0x268: 0xf04 against 0x10",
-            "layout: symbol range kind: symbols 1 at 0x268: 0x0 against 0x0",
-            "layout: symbol range kind: symbols 2 at 0x268: 0x0 against 0x0",
-        ],
-    },
-    Row {
-        name: "segment.0.reloff",
-        kind: Kind::Object,
-        place: 160,
-        bytes: &[0x80],
-        faults: &[
-            "layout: claims share: section 2 at 0x20: 0x180 against 0x188 of relocations 1 at 0x20",
-        ],
-    },
-    Row {
-        name: "encryption.cryptoff",
-        kind: Kind::Executable,
-        place: 944,
-        bytes: &[0x20, 0x00],
-        faults: &["layout: header shared: encrypted at 0x3a8: 0x20 against 0x3d0"],
-    },
-    Row {
-        name: "__TEXT.0.offset",
-        kind: Kind::Library,
-        place: 153,
-        bytes: &[0x01],
-        faults: &[
-            "layout: section elsewhere: section 1 at 0x20: 0x100 against 0xf00 of segment at 0x20",
-            "layout: claims share: section 1 at 0x20: 0x100 against 0x358 of header at 0x0",
-        ],
-    },
-    Row {
-        name: "__LINKEDIT.filesize",
-        kind: Kind::Library,
-        place: 544,
-        bytes: &[0x90],
-        faults: &["layout: out of linkedit: signature at 0x348: 0x20a0 against 0x2090"],
-    },
-    Row {
-        name: "encryption.cryptoff",
-        kind: Kind::Executable,
-        place: 945,
-        bytes: &[0x10],
-        faults: &["layout: encrypted not executable: encrypted at 0x3a8: 0x101c against 0x0"],
-    },
-    Row {
-        name: "function_starts.dataoff",
-        kind: Kind::Library,
-        place: 816,
-        bytes: &[0x29],
-        faults: &[
-            "layout: claims share: data in code at 0x338: 0x2030 against 0x2031 of function starts at 0x328",
-        ],
-    },
-    Row {
-        name: "signature.dataoff",
-        kind: Kind::Library,
-        place: 848,
-        bytes: &[0x88],
-        faults: &["layout: out of file: signature at 0x348: 0x20a8 against 0x20a0"],
-    },
-    Row {
-        name: "symbol0.n_sect",
-        kind: Kind::Library,
-        place: 8253,
-        bytes: &[0x4d],
-        faults: &["layout: symbol section: symbols at 0x268: 0x4d against 0x4"],
-    },
-    Row {
-        name: "symbol0.n_sect",
-        kind: Kind::Library,
-        place: 8253,
-        bytes: &[0x00],
-        faults: &["layout: symbol section: symbols at 0x268: 0x0 against 0x4"],
-    },
-    Row {
-        name: "symbol2.n_sect",
-        kind: Kind::Library,
-        place: 8285,
-        bytes: &[0x01],
-        faults: &["layout: symbol section: symbols 2 at 0x268: 0x1 against 0x4"],
-    },
-    Row {
-        name: "symbol1.n_strx",
-        kind: Kind::Library,
-        place: 8264,
-        bytes: &[0x10],
-        faults: &["layout: symbol name: symbols 1 at 0x268: 0x10 against 0x10"],
-    },
-    Row {
-        name: "symtab.strsize",
-        kind: Kind::Library,
-        place: 636,
-        bytes: &[0x05],
-        faults: &[
-            "layout: symbol name: symbols 1 at 0x268: 0x4 against 0x5",
-            "layout: symbol name: symbols 2 at 0x268: 0x7 against 0x5",
-        ],
-    },
-    Row {
-        name: "dysymtab.nundefsym",
-        kind: Kind::Library,
-        place: 668,
-        bytes: &[0x02],
-        faults: &["layout: symbol range: symbol ranges 2 at 0x280: 0x4 against 0x3"],
-    },
-    Row {
-        name: "dysymtab.nextdefsym",
-        kind: Kind::Library,
-        place: 660,
-        bytes: &[0x00],
-        faults: &["layout: symbol range order: symbol ranges 2 at 0x280: 0x2 against 0x1"],
-    },
-    Row {
-        name: "dysymtab.nlocalsym",
-        kind: Kind::Library,
-        place: 652,
-        bytes: &[0x02],
-        faults: &[
-            "layout: symbol range kind: symbols 1 at 0x268: 0xf against 0x0",
-            "layout: symbol range order: symbol ranges 1 at 0x280: 0x1 against 0x2",
-        ],
-    },
-    Row {
-        name: "symbol0.n_type",
-        kind: Kind::Library,
-        place: 8252,
-        bytes: &[0x0f],
-        faults: &["layout: symbol range kind: symbols at 0x268: 0xf against 0x0"],
-    },
-    Row {
-        name: "symbol2.n_desc",
-        kind: Kind::Library,
-        place: 8287,
-        bytes: &[0x02],
-        faults: &["layout: symbol library: symbols 2 at 0x268: 0x2 against 0x1"],
-    },
-    Row {
-        name: "indirect0",
-        kind: Kind::Library,
-        place: 8296,
-        bytes: &[0x03],
-        faults: &["layout: indirect symbol: indirect symbols at 0x280: 0x3 against 0x3"],
-    },
-    Row {
-        name: "__TEXT.1.reserved1",
-        kind: Kind::Library,
-        place: 252,
-        bytes: &[0x02],
-        faults: &["layout: indirect section: section 2 at 0x20: 0x3 against 0x2"],
-    },
-    Row {
-        name: "__TEXT.1.reserved2",
-        kind: Kind::Library,
-        place: 256,
-        bytes: &[0x00],
-        faults: &["layout: indirect section: section 2 at 0x20: 0xc against 0x0"],
-    },
-    Row {
-        name: "dysymtab.nindirectsyms",
-        kind: Kind::Library,
-        place: 700,
-        bytes: &[0x01],
-        faults: &["layout: indirect section: section 1 at 0x108: 0x2 against 0x1"],
-    },
-    Row {
-        name: "main.entryoff",
-        kind: Kind::Executable,
-        place: 833,
-        bytes: &[0x10],
-        faults: &["layout: entry out of code: entry at 0x338: 0x1000 against 0x3d0"],
-    },
-    Row {
-        name: "main.entryoff",
-        kind: Kind::Executable,
-        place: 832,
-        bytes: &[0x40, 0x00],
-        faults: &["layout: entry out of code: entry at 0x338: 0x40 against 0x3d0"],
-    },
-    Row {
-        name: "main.cmd",
-        kind: Kind::Executable,
-        place: 824,
-        bytes: &[0x7f, 0x00, 0x00, 0x00],
-        faults: &["layout: no entry: header at 0x0: 0x0 against 0x0"],
-    },
-    Row {
-        name: "__TEXT.initprot",
-        kind: Kind::Executable,
-        place: 164,
-        bytes: &[0x01],
-        faults: &[
-            "layout: encrypted not executable: encrypted at 0x3a8: 0xf1c against 0x0",
-            "layout: entry out of code: entry at 0x338: 0xf00 against 0x3d0",
-        ],
-    },
-    Row {
-        name: "library.name",
-        kind: Kind::Library,
-        place: 760,
-        bytes: &[0x20],
-        faults: &["layout: text misplaced: text at 0x2f0: 0x20 against 0x20"],
-    },
-    Row {
-        name: "library.name",
-        kind: Kind::Library,
-        place: 760,
-        bytes: &[0x14],
-        faults: &["layout: text misplaced: text at 0x2f0: 0x14 against 0x20"],
-    },
-    Row {
-        name: "library.tail",
-        kind: Kind::Library,
-        place: 777,
-        bytes: &[0x61, 0x62, 0x63, 0x64, 0x65, 0x66, 0x67],
-        faults: &["layout: text misplaced: text at 0x2f0: 0x18 against 0x20"],
-    },
-    Row {
-        name: "library.tail",
-        kind: Kind::Library,
-        place: 776,
-        bytes: &[0x00, 0x00],
-        faults: &["layout: text empty: text at 0x2f0: 0x18 against 0x20"],
-    },
-    Row {
-        name: "id.cmd",
-        kind: Kind::Library,
-        place: 720,
-        bytes: &[0x0c],
-        faults: &["layout: id missing: header at 0x0: 0x6 against 0x0"],
-    },
-    Row {
-        name: "library.cmd",
-        kind: Kind::Executable,
-        place: 848,
-        bytes: &[0x0d],
-        faults: &[
-            "layout: symbol library: symbols 2 at 0x2b0: 0x1 against 0x0",
-            "layout: id unexpected: command at 0x350: 0x2 against 0x0",
-        ],
-    },
-];
+Library 756 1c library.cmdsize
+layout: command size: command at 0x1327: 0x0 against 0x8
+layout: command size: command at 0x1327: 0x0 against 0x8
+layout: command unaligned: command at 0x2f0: 0x1c against 0x8
+layout: command unaligned: command at 0x30c: 0x1b against 0x8
+layout: command out of commands: command at 0x327: 0x1327 against 0x358
+layout: command out of commands: command at 0x1327: 0x1327 against 0x358
+layout: command out of commands: command at 0x1327: 0x1327 against 0x358
+
+Library 20 30 sizeofcmds
+layout: command out of commands: command at 0x348: 0x358 against 0x350
+
+Library 328 01 __DATA.nsects
+layout: command count: command at 0x108: 0xe8 against 0x98
+
+Executable 32 01 __PAGEZERO.cmd
+layout: command count: command at 0x20: 0x48 against 0x38
+layout: segment width: command at 0x20: 0x1 against 0x19
+layout: segments share file: segment at 0x68: 0x0 against 0x1 of segment at 0x20
+
+Library 16 c8 ncmds
+opens: 200 load commands do not fit the file
+
+Library 20 40 sizeofcmds
+layout: commands end early: header at 0x0: 0x358 against 0x360
+
+Library 16 0b ncmds
+layout: commands end early: header at 0x0: 0x348 against 0x358
+
+Library 824 26 data_in_code.cmd
+layout: command again: command at 0x338: 0x26 against 0x1 of command at 0x328
+
+Library 616 7f symtab.cmd
+layout: dynamic symbols alone: command at 0x280: 0xb against 0x2
+layout: indirect symbol: indirect symbols at 0x280: 0x2 against 0x0
+
+Library 700 0010 dysymtab.nindirectsyms
+layout: out of file: indirect symbols at 0x280: 0x6068 against 0x20a0
+
+Library 636 0010 symtab.strsize
+layout: out of file: strings at 0x268: 0x3070 against 0x20a0
+
+Old 484 fffffff0 dyld_info.bind_off
+imports: import 0: offset 4294967280 is past the end
+bindings: binding 0: offset 4294967280 is past the end
+layout: out of file: bind opcodes at 0x1d4: 0xfffffff8 against 0x20a0
+layout: binds: binds at 0x1d4: 0x0 against 0x0
+
+Object 160 000001 segment.0.reloff
+relocations: segment 0, section 0, relocation 0: offset 65536 is past the end
+layout: out of file: relocations 1 at 0x20: 0x10008 against 0x1b8
+
+Object 276 4d symtab.nsyms
+symbols: symbol 2: 16 bytes are wanted and 8 are left
+symbols: symbol 3: offset 448 is past the end
+symbols: symbol 4: offset 464 is past the end
+symbols: symbol 5: offset 480 is past the end
+symbols: symbol 6: offset 496 is past the end
+symbols: symbol 7: offset 512 is past the end
+symbols: symbol 8: offset 528 is past the end
+symbols: symbol 9: offset 544 is past the end
+symbols: symbol 10: offset 560 is past the end
+symbols: symbol 11: offset 576 is past the end
+symbols: and 65 more
+layout: out of file: symbols at 0x108: 0x660 against 0x1b8
+layout: symbol range order: symbol ranges 3 at 0x120: 0x4d against 0x2
+
+Library 529 f0ffffffffffff __LINKEDIT.vmsize
+layout: segment beyond addresses: segment at 0x1f0: 0xffffffffffffffff against 0xffffffffffffffff
+
+Library 296 f00f __DATA.vmsize
+layout: segment file larger: segment at 0x108: 0x1000 against 0xff0
+
+Library 521 28 __LINKEDIT.vmaddr
+layout: segment address unaligned: segment at 0x1f0: 0x2800 against 0x1000
+
+Library 304 f80f __DATA.fileoff
+layout: segment place unaligned: segment at 0x108: 0xff8 against 0x1000
+layout: segments share file: segment at 0x108: 0xff8 against 0x1000 of segment at 0x20
+layout: section elsewhere: section 1 at 0x108: 0x8 against 0x0 of segment at 0x108
+
+Library 506 4441544100000000 __LINKEDIT.segname
+layout: segment name again: segment at 0x1f0: 0x0 against 0x0 of segment at 0x108
+layout: out of linkedit: rebase opcodes at 0x238: 0x2008 against 0x0
+layout: out of linkedit: bind opcodes at 0x238: 0x2010 against 0x0
+layout: out of linkedit: weak bind opcodes at 0x238: 0x2018 against 0x0
+layout: out of linkedit: lazy bind opcodes at 0x238: 0x2020 against 0x0
+layout: out of linkedit: export trie at 0x238: 0x2028 against 0x0
+layout: out of linkedit: symbols at 0x268: 0x2068 against 0x0
+layout: out of linkedit: strings at 0x268: 0x2080 against 0x0
+layout: out of linkedit: indirect symbols at 0x280: 0x2070 against 0x0
+layout: out of linkedit: function starts at 0x328: 0x2030 against 0x0
+layout: out of linkedit: data in code at 0x338: 0x2038 against 0x0
+layout: out of linkedit: and 1 more
+
+Library 556 03 __LINKEDIT.initprot
+layout: segment rights: segment at 0x1f0: 0x3 against 0x1
+
+Library 289 00 __DATA.vmaddr
+layout: segments share memory: segment at 0x108: 0x0 against 0x1000 of segment at 0x20
+layout: section out of memory: section 1 at 0x108: 0x1008 against 0x1000 of segment at 0x108
+layout: section out of memory: section 2 at 0x108: 0x1110 against 0x1000 of segment at 0x108
+
+Library 296 01 __DATA.vmsize
+layout: segments share memory: segment at 0x1f0: 0x2000 against 0x2001 of segment at 0x108
+
+Library 312 01 __DATA.filesize
+layout: segment file larger: segment at 0x108: 0x1001 against 0x1000
+layout: segments share file: segment at 0x1f0: 0x2000 against 0x2001 of segment at 0x108
+
+Library 81 01 __TEXT.filesize
+layout: no segment of header: header at 0x0: 0x0 against 0x358
+layout: section out of bytes: section 1 at 0x20: 0xf10 against 0x100 of segment at 0x20
+layout: section out of bytes: section 2 at 0x20: 0xf1c against 0x100 of segment at 0x20
+
+Library 289 30 __DATA.vmaddr
+layout: section out of memory: section 1 at 0x108: 0x1008 against 0x4000 of segment at 0x108
+layout: section out of memory: section 2 at 0x108: 0x1110 against 0x4000 of segment at 0x108
+
+Library 448 f81f __DATA.1.addr
+layout: section out of memory: section 2 at 0x108: 0x2008 against 0x2000 of segment at 0x108
+
+Library 384 200f __DATA.0.offset
+layout: section out of bytes: section 1 at 0x108: 0xf28 against 0x2000 of segment at 0x108
+
+Library 384 10 __DATA.0.offset
+layout: section elsewhere: section 1 at 0x108: 0x10 against 0x0 of segment at 0x108
+
+Library 468 10 __DATA.1.align
+layout: section alignment: section 2 at 0x108: 0x10 against 0xf
+
+Library 468 0c __DATA.1.align
+layout: section unaligned: section 2 at 0x108: 0x1100 against 0x1000
+
+Library 434 54455854 __DATA.1.segname
+layout: section of other: section 2 at 0x108: 0x0 against 0x0 of segment at 0x108
+
+Library 144 14 __TEXT.0.size
+layout: sections share memory: section 2 at 0x20: 0xf10 against 0xf14 of section 1 at 0x20
+layout: claims share: section 2 at 0x20: 0xf10 against 0xf14 of section 1 at 0x20
+
+Object 144 14 segment.0.size
+layout: sections share memory: section 2 at 0x20: 0x10 against 0x14 of section 1 at 0x20
+layout: claims share: section 2 at 0x20: 0x180 against 0x184 of section 1 at 0x20
+
+Library 820 09 function_starts.datasize
+layout: claims share: data in code at 0x338: 0x2030 against 0x2031 of function starts at 0x328
+
+Library 624 40 symtab.symoff
+symbols: symbol 0: offset 12144 is past the end
+symbols: symbol 1: offset 12148 is past the end
+layout: claims share: indirect symbols at 0x280: 0x2068 against 0x2070 of symbols at 0x268
+layout: symbol name: symbols at 0x268: 0xf00 against 0x10
+layout: symbol name: symbols 1 at 0x268: 0xf04 against 0x10
+layout: symbol range kind: symbols 1 at 0x268: 0x0 against 0x0
+layout: symbol range kind: symbols 2 at 0x268: 0x0 against 0x0
+
+Object 160 80 segment.0.reloff
+layout: claims share: section 2 at 0x20: 0x180 against 0x188 of relocations 1 at 0x20
+
+Executable 944 2000 encryption.cryptoff
+layout: header shared: encrypted at 0x3a8: 0x20 against 0x3d0
+
+Library 153 01 __TEXT.0.offset
+layout: section elsewhere: section 1 at 0x20: 0x100 against 0xf00 of segment at 0x20
+layout: claims share: section 1 at 0x20: 0x100 against 0x358 of header at 0x0
+
+Library 544 90 __LINKEDIT.filesize
+layout: out of linkedit: signature at 0x348: 0x20a0 against 0x2090
+
+Executable 945 10 encryption.cryptoff
+layout: encrypted not executable: encrypted at 0x3a8: 0x101c against 0x0
+
+Library 816 29 function_starts.dataoff
+layout: claims share: data in code at 0x338: 0x2030 against 0x2031 of function starts at 0x328
+
+Library 848 88 signature.dataoff
+layout: out of file: signature at 0x348: 0x20a8 against 0x20a0
+
+Library 8253 4d symbol0.n_sect
+layout: symbol section: symbols at 0x268: 0x4d against 0x4
+
+Library 8253 00 symbol0.n_sect
+layout: symbol section: symbols at 0x268: 0x0 against 0x4
+
+Library 8285 01 symbol2.n_sect
+layout: symbol section: symbols 2 at 0x268: 0x1 against 0x4
+
+Library 8264 10 symbol1.n_strx
+layout: symbol name: symbols 1 at 0x268: 0x10 against 0x10
+
+Library 636 05 symtab.strsize
+layout: symbol name: symbols 1 at 0x268: 0x4 against 0x5
+layout: symbol name: symbols 2 at 0x268: 0x7 against 0x5
+
+Library 668 02 dysymtab.nundefsym
+layout: symbol range: symbol ranges 2 at 0x280: 0x4 against 0x3
+
+Library 660 00 dysymtab.nextdefsym
+layout: symbol range order: symbol ranges 2 at 0x280: 0x2 against 0x1
+
+Library 652 02 dysymtab.nlocalsym
+layout: symbol range kind: symbols 1 at 0x268: 0xf against 0x0
+layout: symbol range order: symbol ranges 1 at 0x280: 0x1 against 0x2
+
+Library 8252 0f symbol0.n_type
+layout: symbol range kind: symbols at 0x268: 0xf against 0x0
+
+Library 8287 02 symbol2.n_desc
+layout: symbol library: symbols 2 at 0x268: 0x2 against 0x1
+
+Library 8296 03 indirect0
+layout: indirect symbol: indirect symbols at 0x280: 0x3 against 0x3
+
+Library 252 02 __TEXT.1.reserved1
+layout: indirect section: section 2 at 0x20: 0x3 against 0x2
+
+Library 256 00 __TEXT.1.reserved2
+layout: indirect section: section 2 at 0x20: 0xc against 0x0
+
+Library 700 01 dysymtab.nindirectsyms
+layout: indirect section: section 1 at 0x108: 0x2 against 0x1
+
+Executable 833 10 main.entryoff
+layout: entry out of code: entry at 0x338: 0x1000 against 0x3d0
+
+Executable 832 4000 main.entryoff
+layout: entry out of code: entry at 0x338: 0x40 against 0x3d0
+
+Executable 824 7f000000 main.cmd
+layout: no entry: header at 0x0: 0x0 against 0x0
+
+Executable 164 01 __TEXT.initprot
+layout: encrypted not executable: encrypted at 0x3a8: 0xf1c against 0x0
+layout: entry out of code: entry at 0x338: 0xf00 against 0x3d0
+
+Library 760 20 library.name
+layout: text misplaced: text at 0x2f0: 0x20 against 0x20
+
+Library 760 14 library.name
+layout: text misplaced: text at 0x2f0: 0x14 against 0x20
+
+Library 777 61626364656667 library.tail
+layout: text misplaced: text at 0x2f0: 0x18 against 0x20
+
+Library 776 0000 library.tail
+layout: text empty: text at 0x2f0: 0x18 against 0x20
+
+Library 720 0c id.cmd
+layout: id missing: header at 0x0: 0x6 against 0x0
+
+Executable 848 0d library.cmd
+layout: symbol library: symbols 2 at 0x2b0: 0x1 against 0x0
+layout: id unexpected: command at 0x350: 0x2 against 0x0";
