@@ -1,12 +1,10 @@
 -- The layout that an image holds, and that of the bytes that it was opened in.
-use Rattle.std.proofs.Common.{◌≡◌, ℕ, List, [], ◌∷◌, ◌++◌, map, Bool, true, false, Option, Some, None, Result, Ok, Err, refl, sym, ap, subst, ◌∙◌, append-nil}
+use Rattle.std.proofs.Common.{◌≡◌, ℕ, List, [], ◌∷◌, ◌++◌, map, Bool, Option, None, Result, Ok, Err, refl, sym, ap, subst, ◌∙◌, append-nil}
 use Rattle.std.specs.Prelude.{◌↔◌, if◌then◌else◌}
 use Rattle.mach_base.specs.Context.{pointer_size}
 use Rattle.mach_base.specs.Fault.{Fault}
 use Rattle.mach_base.specs.declared.context.Ctx.{Ctx}
-use Rattle.mach_load.specs.Command.{Command}
 use Rattle.mach_parts.specs.Bindings.{Binding}
-use Rattle.mach_parts.specs.Header.{header_in}
 use Rattle.mach_parts.specs.Segment.{segment_view}
 use Rattle.mach_parts.specs.Segments.{segments_in}
 use Rattle.mach_parts.specs.declared.header.Header.{Header}
@@ -15,13 +13,12 @@ use Rattle.mach_dyld.specs.Bindings.{upto_fault}
 use Rattle.mach_dyld.specs.Exports.{texts}
 use Rattle.mach_dyld.specs.Imports.{BindRanges}
 use Rattle.goblin_mach.specs.Bindings.{AreOpcodeBindings, AreImageBindings}
-use Rattle.goblin_mach.specs.Facts.{OfImage, AreSegments}
-use Rattle.goblin_mach.specs.OpenImage.{IsLossyImage, commands_held, ctx_held, bytes_held, binds_held}
+use Rattle.goblin_mach.specs.OpenImage.{IsLossyImage, commands_held, ctx_held}
 use Rattle.goblin_mach.specs.Subjects.{binds_in, libs_in}
 use Rattle.goblin_mach.specs.declared.image.macho.MachO.{MachO}
 use Rattle.goblin_mach.proofs.Facts.{of_image, image_of, is_just}
 use Rattle.goblin_mach.proofs.SameBindings.{same_image_bindings}
-use Rattle.mach_layout.specs.Bindings.{AreBindFaults, AreHeldBindings, binds_told, binds_place, has_fault}
+use Rattle.mach_layout.specs.Bindings.{AreBindFaults, binds_told, binds_place, has_fault}
 use Rattle.mach_layout.specs.Claims.{claims_of}
 use Rattle.mach_layout.specs.Facts.{AreBindsOf, HasClaims, HasLayoutFaults}
 use Rattle.mach_layout.specs.Faults.{AreLayoutFaults}

@@ -1,6 +1,6 @@
 -- The names of segments that were met.
 use Rattle.std.proofs.Common.{◌≡◌, ℕ, ◌+◌, ◌<◌, Bool, true, false, List, [], ◌∷◌, ◌++◌, Option, Some, None, option_map}
-use Rattle.std.proofs.Common.{refl, sym, ap, subst, ◌∙◌, append_assoc, append-nil, length, map, get_or, take, drop, not, nat_lt, unwrap_or, arith}
+use Rattle.std.proofs.Common.{refl, sym, ap, ◌∙◌, append_assoc, append-nil, length, map, get_or, take, drop, not, nat_lt, unwrap_or, arith}
 use Rattle.std.specs.Prelude.{if◌then◌else◌}
 use Rattle.std.specs.List.{cons_option, filter_map, find, position_or_len}
 use Rattle.std.specs.Option.{option_or}
@@ -16,7 +16,7 @@ use Rattle.mach_load.specs.Command.{Command}
 use Rattle.mach_load.specs.Variants.{command_of}
 use Rattle.mach_load.specs.declared.load_command.LoadCommand.{LoadCommand}
 use Rattle.mach_layout.specs.Laid.{segment_of}
-use Rattle.mach_layout.specs.Segments.{same_name, segment_name, named_among, names_again, segment_name_again}
+use Rattle.mach_layout.specs.Segments.{same_name, segment_name, named_among, names_again}
 use Rattle.mach_layout.specs.declared.fault.LayoutFault.{LayoutFault}
 use Rattle.mach_layout.specs.declared.parts.PlacedSegment.{PlacedSegment}
 

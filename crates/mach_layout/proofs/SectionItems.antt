@@ -1,5 +1,5 @@
 -- The sections of a segment, from one on.
-use Rattle.std.proofs.Common.{◌≡◌, ℕ, ◌+◌, ◌-◌, ◌<◌, ◌≤◌, List, [], ◌∷◌, Option, Some, None, Result, Ok, Err, refl, sym, ap, subst, ◌∙◌, arith}
+use Rattle.std.proofs.Common.{◌≡◌, ℕ, ◌+◌, ◌-◌, ◌<◌, ◌≤◌, List, [], ◌∷◌, Some, Result, Ok, Err, refl, ap, ◌∙◌, arith}
 use Rattle.std.specs.Result.{result_ok}
 use Rattle.mach_base.specs.Answer.{Reads}
 use Rattle.mach_base.specs.Fault.{Fault}
@@ -7,7 +7,7 @@ use Rattle.mach_base.specs.declared.context.Ctx.{Ctx}
 use Rattle.mach_base.specs.declared.error.Error.{Error}
 use Rattle.mach_parts.specs.Items.{items_from}
 use Rattle.mach_parts.proofs.ItemLists.{items_from-first}
-use Rattle.mach_layout.specs.Laid.{in_front, open_sections, placed_section_at, sections_from}
+use Rattle.mach_layout.specs.Laid.{in_front, placed_section_at, sections_from}
 use Rattle.mach_layout.specs.PartsLeft.{TakesSection}
 use Rattle.mach_layout.specs.declared.parts.PlacedSection.{PlacedSection}
 use Rattle.mach_layout.specs.declared.parts.PlacedSegment.{PlacedSegment}

@@ -1,5 +1,5 @@
 -- The ranges of the file that the parts of an image claim (`mach-o/loader.h`: each offset and size or count of a command).
-use Rattle.std.specs.Prelude.{◌==◌, ℕ, ◌*◌, ◌&&◌, not, Bool, List, [], ◌∷◌, ◌++◌, flat_map, option_map, Option, Some, None, if◌then◌else◌}
+use Rattle.std.specs.Prelude.{◌==◌, ℕ, ◌*◌, ◌&&◌, not, Bool, List, [], ◌∷◌, ◌++◌, flat_map, Option, Some, None, if◌then◌else◌}
 use Rattle.mach_base.specs.Record.{Value, number_among}
 use Rattle.mach_base.specs.declared.context.Container.{Container}
 use Rattle.mach_base.specs.declared.context.Container.TheVariants.{Little, Big}

@@ -1,6 +1,6 @@
 -- The faults of the table of a fat file (`mach-o/fat.h`, struct fat_header and fat_arch; LLVM refuses a file that has one).
-use Rattle.std.specs.Prelude.{◌==◌, ◌≡◌, ◌||◌, not, ℕ, zero, suc, ◌+◌, ◌-◌, ◌*◌, ◌%◌, ◌^◌, List, [], ◌∷◌, ◌++◌, length, map, filter_map, nat_lt}
-use Rattle.std.specs.Prelude.{Option, Some, None, option_map, option_and_then, option_to_list, Result, Ok, Err, if◌then◌else◌}
+use Rattle.std.specs.Prelude.{◌==◌, ◌≡◌, ◌||◌, ℕ, zero, suc, ◌+◌, ◌*◌, ◌%◌, ◌^◌, List, [], ◌∷◌, ◌++◌, length, filter_map, nat_lt}
+use Rattle.std.specs.Prelude.{Option, Some, None, option_and_then, option_to_list, Result, Ok, Err, if◌then◌else◌}
 use Rattle.mach_base.specs.Answer.{◌>>=◌}
 use Rattle.mach_base.specs.Fault.{Fault}
 use Rattle.mach_base.specs.Number.{number_at}

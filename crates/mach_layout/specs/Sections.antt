@@ -1,5 +1,5 @@
 -- Rules of sections (`mach-o/loader.h`, struct section and section_64).
-use Rattle.std.specs.Prelude.{◌==◌, ℕ, ◌+◌, ◌%◌, ◌^◌, ◌-◌, ◌&&◌, ◌||◌, not, nat_le, nat_lt, Bool, List, [], ◌∷◌, ◌++◌, filter_map, Option, Some, None}
+use Rattle.std.specs.Prelude.{◌==◌, ◌%◌, ◌^◌, ◌-◌, ◌&&◌, ◌||◌, not, nat_le, nat_lt, Bool, List, ◌++◌, filter_map, Option, Some, None}
 use Rattle.std.specs.Prelude.{if◌then◌else◌}
 use Rattle.std.specs.List.{before_first}
 use Rattle.std.specs.Str.{bytes_eq}

@@ -1,5 +1,5 @@
 -- What is told of the parts of an image, and whether it is sound.
-use Rattle.std.proofs.Common.{◌≡◌, ◌<◌, ◌≤◌, ◌∙◌, ℕ, zero, suc, Bool, true, false, List, [], ◌∷◌, map, length, Option, Some, None, Result, Ok, Err}
+use Rattle.std.proofs.Common.{◌≡◌, ◌<◌, ◌∙◌, ℕ, zero, suc, Bool, true, false, List, [], ◌∷◌, map, length, Option, Some, None, Result, Ok, Err}
 use Rattle.std.proofs.Common.{refl, sym, ap, subst, arith, inl, inr}
 use Rattle.std.specs.Prelude.{◌⊎◌, ◌↔◌, ◌==◌, ◌&&◌, not, IsTrue, is_ok, if◌then◌else◌}
 use Rattle.std.proofs.Math.Dec.{eqb-suc-zero}
@@ -23,18 +23,17 @@ use Rattle.mach_parts.specs.declared.symbols.nlist.Nlist.{Nlist}
 use Rattle.goblin_mach.proofs.Facts.{moved, strict-lossy, segments_are, symbols_are, imports_are, exports_are, is_just, of_image}
 use Rattle.goblin_mach.proofs.Walked.{walked_list, walked_fault}
 use Rattle.goblin_mach.specs.Facts.{HasSegments, HasSymbols, HasExports, HasImports, HasImportItems, HasFixups, HasBindings}
-use Rattle.goblin_mach.specs.Image.{Opens}
 use Rattle.goblin_mach.specs.OpenImage.{IsImage, commands_held, segments_held, trie_held, binds_held, ctx_held, bytes_held}
 use Rattle.goblin_mach.specs.Readings.{read_of}
-use Rattle.goblin_mach.specs.Subjects.{ListsImageImports, ListsImageExports, ImageExportsFault, AreImageBindItems, symbols_held, trie_or_empty}
+use Rattle.goblin_mach.specs.Subjects.{ListsImageImports, ListsImageExports, AreImageBindItems, symbols_held, trie_or_empty}
 use Rattle.goblin_mach.specs.Subjects.{trie_in, libs_in, lossy_segment_by}
 use Rattle.goblin_mach.specs.declared.image.macho.MachO.{MachO}
 use Rattle.machaudit.proofs.Told.{told_sound, told_faulty, told_long}
 use Rattle.machaudit.proofs.Verdicts.{number, sound_judged, faulty_judged, part_judged, both_judged, judged_as}
-use Rattle.machaudit.specs.Sound.{IsSoundImage, HasLongList, of_sections, of_relocations, of_symbols, of_exports, of_imports, of_fixups, of_bindings}
+use Rattle.machaudit.specs.Sound.{IsSoundImage, HasLongList, of_sections, of_relocations, of_symbols, of_exports, of_imports}
 use Rattle.machaudit.specs.Sound.{HasAllRelocations, ExportsBegin, are_all_ok, all_sections, all_relocations}
 use Rattle.machaudit.specs.Told.{TellsOf, TellsOfTrie, TellsRelocations, faults_in}
-use Rattle.machaudit.specs.Verdicts.{Judges, both, verdict_of, verdict_of_read, verdict_of_parts, verdict_of_layout, is_clean}
+use Rattle.machaudit.specs.Verdicts.{Judges, verdict_of, verdict_of_read, verdict_of_parts, verdict_of_layout, is_clean}
 use Rattle.mach_layout.specs.Facts.{HasLayoutFaults}
 use Rattle.mach_layout.specs.declared.fault.LayoutFault.{LayoutFault}
 use Rattle.machaudit.specs.declared.report.Part.{Part}

@@ -1,18 +1,15 @@
 -- One item more, and what is told then; what follows of a list from what is told of it.
-use Rattle.std.proofs.Common.{◌≡◌, ◌<◌, ◌≤◌, ◌+◌, ◌-◌, ◌^◌, ◌++◌, ◌∷◌, [], ◌∙◌, subst, ℕ, zero, suc, Bool, true, false, List, map, take, length, refl}
+use Rattle.std.proofs.Common.{◌≡◌, ◌<◌, ◌≤◌, ◌+◌, ◌-◌, ◌^◌, ◌++◌, ◌∷◌, [], ◌∙◌, subst, ℕ, zero, suc, true, false, List, take, length, refl}
 use Rattle.std.proofs.Common.{sym, ap, arith, Option, Some, None, Result, Ok, Err}
 use Rattle.std.specs.Prelude.{is_ok, IsTrue, nat_lt}
 use Rattle.std.specs.List.{list_all}
-use Rattle.std.proofs.lemmas.Bool.{false≢true, true≢false, le-ltb, lt-ltb, ltb-true, ltb-false}
-use Rattle.std.proofs.lemmas.List.{take-append-le, take_all, length-append, length-map, append-nil, append_assoc}
+use Rattle.std.proofs.lemmas.Bool.{false≢true, le-ltb, lt-ltb, ltb-true, ltb-false}
+use Rattle.std.proofs.lemmas.List.{take-append-le, take_all, length-append, length-map}
 use Rattle.std.proofs.lemmas.List.Elements.{filter_map-append}
 use Rattle.mach_base.specs.Fault.{Fault}
 use Rattle.machaudit.specs.Told.{Tells, TellsOf, HasMet, fault_in, faults_in, faults_of}
-use Rattle.machaudit.specs.Verdicts.{Judges, both, verdict_of}
 use Rattle.machaudit.specs.declared.report.Part.{Part}
 use Rattle.machaudit.specs.declared.tally.Tally.{Tally}
-use Rattle.machaudit.specs.declared.verdict.Verdict.TheVariants.{Sound, Unended, Faulty}
-use Rattle.machaudit.specs.declared.verdict.Verdict.{Verdict}
 
 -- ---- the first items
 

@@ -1,5 +1,5 @@
 -- Verdicts, and what they say of the parts.
-use Rattle.std.proofs.Common.{◌≡◌, ◌<◌, ◌≤◌, ℕ, zero, suc, Bool, true, false, refl, sym, ap, arith, inl, inr}
+use Rattle.std.proofs.Common.{◌≡◌, ◌<◌, ◌≤◌, ℕ, zero, suc, Bool, true, false, refl, ap, arith, inl, inr}
 use Rattle.std.proofs.Math.Dec.{eqb-suc-zero}
 use Rattle.std.specs.Prelude.{◌⊎◌, IsTrue, ◌==◌, if◌then◌else◌}
 use Rattle.machaudit.specs.Verdicts.{Judges, both, status_of, verdict_of}

@@ -1,5 +1,5 @@
 -- When a file is sound: everything in it opens and can be read.
-use Rattle.std.specs.Prelude.{◌≡◌, ◌<◌, ◌≤◌, ℕ, Bool, IsTrue, is_ok, List, [], map, length, Result, Ok, Err, IsOk}
+use Rattle.std.specs.Prelude.{◌≡◌, ◌<◌, ◌≤◌, ℕ, Bool, IsTrue, is_ok, List, [], length, Result, Ok, Err, IsOk}
 use Rattle.std.specs.List.{list_all, flat_map}
 use Rattle.mach_base.specs.Fault.{Fault}
 use Rattle.mach_base.specs.declared.context.Ctx.{Ctx}

@@ -5,11 +5,10 @@ use Rattle.mach_base.specs.Fault.{Fault, fault_of}
 use Rattle.mach_base.specs.declared.error.Error.{Error}
 use Rattle.mach_parts.specs.declared.fat.FatArch.{FatArch}
 use Rattle.goblin_mach.specs.FatFile.{file_held, archs_of, first_of_cpu}
-use Rattle.goblin_mach.specs.Image.{ImageFault}
 use Rattle.goblin_mach.specs.OpenImage.{IsImage, IsFatMach, commands_held}
 use Rattle.goblin_mach.specs.declared.fat_file.multi_arch.MultiArch.{MultiArch}
 use Rattle.goblin_mach.specs.declared.image.macho.MachO.{MachO}
-use Rattle.machresolve.specs.Cpu.{IsOfCpu, entry_bytes, FindsRecord, HasFor, image, other_image, entry, no_entry, ForFault, of_table}
+use Rattle.machresolve.specs.Cpu.{IsOfCpu, entry_bytes, FindsRecord, HasFor, image, other_image, entry, of_table}
 use Rattle.machresolve.specs.Files.{File}
 use Rattle.machresolve.specs.Given.{Given, IsFile, IsLibrary, NumberedFault, OpenFault, LibraryFault, unfound, of_image}
 use Rattle.machresolve.proofs.Notes.{stands_as}

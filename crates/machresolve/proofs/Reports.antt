@@ -17,7 +17,6 @@ use Rattle.machresolve.specs.Report.{IsOutcome, fault, IsEntryOutcome, an_image,
 use Rattle.machresolve.specs.Resolved.{ResolveFault}
 use Rattle.machresolve.specs.Seen.{outcome_seen, IsRefusal}
 use Rattle.machresolve.specs.declared.failure.Failure.{Failure}
-use Rattle.machresolve.specs.declared.failure.Failure.TheVariants as failures
 use Rattle.machresolve.specs.declared.report.Outcome.{Outcome}
 use Rattle.machresolve.specs.declared.report.Outcome.TheVariants.{Answered, Archive, Refused}
 use Rattle.machresolve.proofs.Notes.{stands_more, tells_more}

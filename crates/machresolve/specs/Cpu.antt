@@ -1,5 +1,5 @@
 -- What a file has for a cpu: itself, or an entry of its table (`mach-o/fat.h`).
-use Rattle.std.specs.Prelude.{◌≡◌, ◌≢◌, ℕ, List, Option, Some, None, option_map, Ok, Err}
+use Rattle.std.specs.Prelude.{◌≡◌, ◌≢◌, ℕ, List, Option, Some, None, Ok, Err}
 use Rattle.mach_base.specs.Fault.{Fault}
 use Rattle.mach_parts.specs.Fat.{part_of}
 use Rattle.mach_parts.specs.Header.{IsHeader}

@@ -30,7 +30,6 @@ use Rattle.machresolve.specs.declared.failure.Failure.TheVariants as failures
 use Rattle.machresolve.specs.declared.note.Note.{Note}
 use Rattle.machresolve.specs.declared.note.Note.TheVariants.{GivenBefore, NothingFor}
 use Rattle.machresolve.specs.declared.given.Gathered.{Gathered}
-use Rattle.machresolve.specs.declared.resolve.Resolved.{Resolved}
 use Rattle.machresolve.specs.declared.report.Outcome.{Outcome}
 use Rattle.machresolve.specs.declared.report.Outcome.TheVariants.{Answered, Archive, Refused}
 use Rattle.machresolve.specs.declared.report.Report.{Report}

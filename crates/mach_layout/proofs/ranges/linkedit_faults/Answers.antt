@@ -5,7 +5,7 @@ use Rattle.std.proofs.lemmas.Iterator.Consumers.{YieldsList-at, YieldsList-from_
 use Rattle.mach_layout.specs.Claims.{claims_of}
 use Rattle.mach_layout.specs.ClaimsLeft.{claims_left}
 use Rattle.mach_layout.specs.Laid.{laid_of}
-use Rattle.mach_layout.specs.Ranges.{linkedit_of, out_of_linkedit}
+use Rattle.mach_layout.specs.Ranges.{out_of_linkedit}
 use Rattle.mach_layout.specs.declared.claim.Claim.{Claim}
 use Rattle.mach_layout.proofs.Chains.{at_ok}
 use Rattle.mach_layout.proofs.ranges.linkedit_faults.Goals as goal

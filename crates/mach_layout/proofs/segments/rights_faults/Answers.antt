@@ -1,7 +1,6 @@
-use Rattle.std.proofs.Common.{◌++◌, ap, append_assoc, ◌∙◌, rules, tests}
+use Rattle.std.proofs.Common.{ap, ◌∙◌, rules, tests}
 use Rattle.std.proofs.lemmas.Iterator.Adapters.{items_from_extend}
 use Rattle.std.proofs.lemmas.Iterator.Consumers.{YieldsList-from_filter_map, YieldsList-from_first}
-use Rattle.std.specs.List.{filter_map}
 use Rattle.mach_layout.specs.Laid.{laid_of, segments_of}
 use Rattle.mach_layout.specs.PartsLeft.{segments_left}
 use Rattle.mach_layout.specs.Segments.{segment_rights}

@@ -1,4 +1,4 @@
-use Rattle.std.proofs.Common.{[], ◌∙◌, ap, sym, subst}
+use Rattle.std.proofs.Common.{◌∙◌, ap, sym, subst}
 use Rattle.std.specs.Prelude.{option_map}
 use Rattle.mach_base.specs.Fault.{fault_of}
 use Rattle.mach_parts.specs.SectionItems.{sections_left, section_read, section_and_bytes}

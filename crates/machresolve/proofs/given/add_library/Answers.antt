@@ -1,4 +1,4 @@
-use Rattle.std.proofs.Common.{◌∙◌, ◌++◌, ◌∷◌, [], map, sym, ap, subst}
+use Rattle.std.proofs.Common.{◌∙◌, map, sym, ap, subst}
 use Rattle.std.proofs.lemmas.List.{map_push}
 use Rattle.machresolve.specs.Given.{AddsLibrary, library, passed}
 use Rattle.machresolve.specs.Opened.{given_seen}

@@ -1,6 +1,6 @@
-use Rattle.std.proofs.Common.{◌+◌, ◌∷◌, map, get_or, sym, subst, arith}
+use Rattle.std.proofs.Common.{◌+◌, map, get_or, sym, subst, arith}
 use Rattle.std.proofs.lemmas.List.{drop_all, length-map}
-use Rattle.machresolve.specs.Given.{Gathers, done, next, NumberedFault, OpenFault, LibraryFault, FaultFor, of_program}
+use Rattle.machresolve.specs.Given.{Gathers, done, next, NumberedFault, OpenFault, LibraryFault, FaultFor}
 use Rattle.machresolve.specs.Seen.{file_seen, gathered_seen}
 use Rattle.machresolve.specs.Opened.{given_seen}
 use Rattle.machresolve.proofs.Notes.{fails_more}

@@ -1,4 +1,4 @@
-use Rattle.std.proofs.Common.{◌∙◌, ◌+◌, ◌++◌, ◌∷◌, [], map, take, get_or, sym, ap, subst}
+use Rattle.std.proofs.Common.{◌∙◌, ◌+◌, ◌++◌, ◌∷◌, [], map, take, sym, ap, subst}
 use Rattle.std.proofs.lemmas.List.{map_push, take_more}
 use Rattle.machresolve.specs.Opened.{given_seen}
 use Rattle.machresolve.specs.Report.{entry_of, IsEntryOutcome, AreEntryOutcomes}

@@ -1,4 +1,4 @@
-use Rattle.std.proofs.Common.{List, [], take, Some, None, refl, sym, subst}
+use Rattle.std.proofs.Common.{List, take, Some, None, refl, sym, subst}
 use Rattle.std.proofs.lemmas.List.{append-nil}
 use Rattle.mach_base.specs.Fault.{Fault, fault_of}
 use Rattle.machaudit.specs.Told.{Tells, faults_of}
