@@ -1,4 +1,4 @@
-/* gm_test WHAT FILE prints the lines of a list, for comparison with the programs of this repository.
+/* gm_test WHAT FILE prints the lines of a list, for comparison with the programs of this repository; gm_test names the rules of layout.
    gm_test check FILE.. tests each file and each of its prefixes: batches of 1, 2, 7 and all give the same rows, the rest of an
    array stays, memory may be refused at any request, an arena serves without malloc, NULL serves with length 0.
    gm_test damage COUNT FILE.. hands in COUNT images of made-up numbers, by a fixed seed. */
@@ -360,9 +360,21 @@ static uint8_t *read_file(const char *name, size_t *len) {
     return bytes;
 }
 
+/* each rule and each part by its number, with its plain name */
+static int print_names(void) {
+    for (uint32_t n = GM_LAYOUT_NONE + 1; n <= GM_LAYOUT_SLICES_SHARE; n++) printf("Rule %u %s\n", n, gm_layout_rule(n));
+    for (uint32_t n = GM_PART_NONE + 1; n <= GM_PART_SLICE; n++) printf("Part %u %s\n", n, gm_layout_part(n));
+    const char *none[] = {gm_layout_rule(GM_LAYOUT_NONE), gm_layout_rule(GM_LAYOUT_SLICES_SHARE + 1), gm_layout_rule(UINT32_MAX),
+                          gm_layout_part(GM_PART_NONE), gm_layout_part(GM_PART_SLICE + 1), gm_layout_part(UINT32_MAX)};
+    for (size_t i = 0; i < sizeof none / sizeof *none; i++)
+        if (strcmp(none[i], "none")) DIE("a number that is none has a name");
+    return 0;
+}
+
 int main(int argc, char **argv) {
     if (gm_version() != GM_VERSION) DIE("the header is of version %d and the library of %u", GM_VERSION, gm_version());
-    if (argc < 3) DIE("usage: gm_test WHAT FILE, gm_test check FILE.., gm_test damage COUNT FILE..");
+    if (argc == 2 && !strcmp(argv[1], "names")) return print_names();
+    if (argc < 3) DIE("usage: gm_test names, gm_test WHAT FILE, gm_test check FILE.., gm_test damage COUNT FILE..");
     int of_damage = !strcmp(argv[1], "damage");
     away = fopen("/dev/null", "w");
     if (!away) DIE("/dev/null can't be opened");
