@@ -235,6 +235,7 @@ static void tells(told *call, const given *g) {
     memset(before, 0x5a, sizeof before);
     memcpy(all, before, sizeof all);
     uint32_t code = call(g, 0, all, CAP, &count, NULL, &e);
+    if (code) DIE("what opened has no layout: %s", e.text);
     for (size_t k = 1;; k++) {
         counted c = {0, k, 0};
         gm_memory m = {&c, take, give};
@@ -257,6 +258,21 @@ static void tells(told *call, const given *g) {
     tested++;
 }
 
+/* the layout of an image behind other bytes is that of the image */
+static void lies_behind(const given *g) {
+    const size_t front = 16;
+    uint8_t *bytes = malloc(front + g->len);
+    memset(bytes, 0x5a, front);
+    memcpy(bytes + front, g->bytes, g->len);
+    given behind = {.bytes = bytes, .len = front + g->len, .image = g->image};
+    behind.image.offset = front;
+    char *here = lines(named("layout"), g, LIMIT), *there = lines(named("layout"), &behind, LIMIT);
+    if (strcmp(here, there)) DIE("the layout behind other bytes differs");
+    free(here);
+    free(there);
+    free(bytes);
+}
+
 static void check(const uint8_t *bytes, size_t len) {
     given g = {.bytes = bytes, .len = len};
     same_in_batches(&lists[6], &g);
@@ -273,6 +289,7 @@ static void check(const uint8_t *bytes, size_t len) {
         check_parts(&g);
         same_in_batches(named("layout"), &g);
         tells(told_of_image, &g);
+        lies_behind(&g);
         finds(&g, NULL, 0);
         finds(&g, "a", 1);
         finds(&g, "\xff", 1);

@@ -1,8 +1,6 @@
 -- Faults of layout as C sees them: their rules and parts as the numbers of `goblin_mach.h` (GM_LAYOUT_FILE_KIND, GM_PART_HEADER and those behind them).
-use Rattle.std.specs.Prelude.{◌≡◌, ◌==◌, ℕ, List, [], drop, Bool, true, false, Option, Some, None, Result, Ok, Err}
-use Rattle.mach_base.specs.Fault.{Fault}
-use Rattle.mach_base.specs.Number.{number_at}
-use Rattle.mach_base.specs.declared.context.Endian.TheVariants.{Big}
+use Rattle.std.specs.Prelude.{◌≡◌, ℕ, List, [], drop, Option, Some, None}
+use Rattle.goblin_mach.specs.Image.{HasFatMagic}
 use Rattle.mach_layout.specs.Containers.{AreContainerFaults}
 use Rattle.mach_layout.specs.declared.fault.LayoutFault.{LayoutFault}
 use Rattle.mach_layout.specs.declared.fault.Owner.{Owner}
@@ -143,16 +141,7 @@ layout_row f =
 abbrev pub file_of : List ℕ → gm_image → List ℕ
 file_of bytes image = drop image.offset bytes
 
--- whether a magic that was read is that of a fat file
-abbrev pub is_fat_magic : Result ℕ Fault → Bool
-is_fat_magic (Ok magic) = magic == 0xcafe_babe
-is_fat_magic (Err f) = false
-
--- these are the faults of a table, where there is one; else there is none
-abbrev pub AreTableFaults : Bool → List ℕ → List LayoutFault → Type 0
-AreTableFaults true bytes faults = AreContainerFaults bytes faults
-AreTableFaults false bytes faults = faults ≡ []
-
 -- the faults of the table of a fat file; none where the bytes don't begin with its magic
-abbrev pub HasTableFaults : List ℕ → List LayoutFault → Type 0
-HasTableFaults bytes faults = AreTableFaults (is_fat_magic (number_at Big 4 bytes 0)) bytes faults
+pub record HasTableFaults (bytes : List ℕ) (faults : List LayoutFault) : Type 0 where
+  pub table : HasFatMagic bytes → AreContainerFaults bytes faults
+  pub none : ¬ HasFatMagic bytes → faults ≡ []

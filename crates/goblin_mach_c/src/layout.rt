@@ -1,6 +1,6 @@
 //! The faults of the layout of an image, and of the table of a fat file.
 
-ghost use Rattle.std.specs.Prelude.{◌≡◌, ◌≢◌, ◌⊎◌, drop, map, List, IfOk, IfErr};
+ghost use Rattle.std.specs.Prelude.{◌≡◌, ◌≢◌, ◌⊎◌, ℕ, drop, map, List, IfOk, IfErr};
 ghost use Rattle.mach_base.specs.Answer.{Stands, IsOkUnlessMemory};
 ghost use Rattle.mach_layout.specs.Facts.{HasLayoutFaults};
 ghost use Rattle.mach_layout.specs.declared.fault.LayoutFault as declared;
@@ -8,7 +8,8 @@ ghost use Rattle.goblin_mach_c.specs.Codes.{IsRefusal};
 ghost use Rattle.goblin_mach_c.specs.Fill.{Fills};
 ghost use Rattle.goblin_mach_c.specs.LayoutRows as rows;
 ghost use Rattle.goblin_mach_c.specs.LayoutRows.{HasTableFaults, file_of, layout_row};
-ghost use Rattle.goblin_mach_c.specs.Opened.{FaultIn, OpensIn, lossy_mode};
+ghost use Rattle.goblin_mach_c.specs.Opened.{FaultIn, IsOpened, OpensIn, lossy_mode};
+ghost use Rattle.goblin_mach_c.specs.declared.images.gm_image as numbers;
 
 use crate::errors::{GM_OK, gm_error, refuse};
 use crate::images::gm_image;
@@ -298,3 +299,9 @@ pub extern "C" fn gmr_container_faults(
         Err(why) => refuse(&why, error),
     }
 }
+
+/// Of an image that `gm_open` opened at the first of the bytes the file opens that begins with it: want of memory alone keeps its
+/// faults from being told.
+pub fn layout_of_opened()
+    ensures { (bytes : List ℕ) (c : numbers.gm_image) → IsOpened bytes 0 c → OpensIn (lossy_mode c.is_lossy) (file_of bytes c) 0 }
+{}
