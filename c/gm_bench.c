@@ -47,19 +47,13 @@ static size_t layout(void) {
     return count;
 }
 
-/* how long one call takes, over so many of them that the clock can tell */
-static double lasts(size_t (*call)(void), size_t calls, size_t *items) {
-    double begun = now();
-    for (size_t k = 0; k < calls; k++) *items = call();
-    return (now() - begun) / (double)calls;
-}
-
 static void time_of(const char *name, size_t (*call)(void)) {
     double least = 1e30, begun = now();
-    size_t items = 0, calls = 1;
-    while (calls < 1u << 20 && lasts(call, calls, &items) * (double)calls < 1e6) calls *= 2;
-    for (int k = 0; k < 5 || now() - begun < 1e9; k++) {
-        double t = lasts(call, calls, &items);
+    size_t items = 0;
+    for (int k = 0; k < 5 || (now() - begun < 1e9 && k < 1000000); k++) {
+        double t = now();
+        items = call();
+        t = now() - t;
         if (t < least) least = t;
     }
     printf("%-10s %8zu items %12.0f ns %10.2f ns an item\n", name, items, least, items ? least / (double)items : 0);
