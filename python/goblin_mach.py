@@ -320,17 +320,18 @@ def _owner(part, command, index):
 
 
 def _faults(call, *given):
-    """The faults of layout that a call writes, behind what it is handed first."""
-
-    def batch(first, out, cap):
-        count, error = c_size_t(), _Error()
-        if call(*given, first, out, cap, ctypes.byref(count), None, ctypes.byref(error)):
+    """The faults of layout that a call writes, behind what it is handed first. Each call seeks all of them, so batches double."""
+    first, cap = 0, BATCH
+    while True:
+        out, count, error = (_LayoutFault * cap)(), c_size_t(), _Error()
+        if call(*given, c_size_t(first), out, c_size_t(cap), ctypes.byref(count), None, ctypes.byref(error)):
             raise Refused(error)
-        return count.value
-
-    for f in _rows(batch, _LayoutFault):
-        yield LayoutFault(_lib.gm_layout_rule(c_uint32(f.rule)).decode(), _owner(f.part, f.command, f.index), f.found, f.limit,
-                          _owner(f.other_part, f.other_command, f.other_index))
+        for f in out[:count.value]:
+            yield LayoutFault(_lib.gm_layout_rule(c_uint32(f.rule)).decode(), _owner(f.part, f.command, f.index), f.found, f.limit,
+                              _owner(f.other_part, f.other_command, f.other_index))
+        if count.value < cap:
+            return
+        first, cap = first + cap, 2 * cap
 
 
 class Image:
