@@ -379,12 +379,10 @@ static uint8_t *read_file(const char *name, size_t *len) {
 
 /* each rule and each part by its number, with its plain name */
 static int print_names(void) {
-    for (uint32_t n = GM_LAYOUT_NONE + 1; n <= GM_LAYOUT_SLICES_SHARE; n++) printf("Rule %u %s\n", n, gm_layout_rule(n));
-    for (uint32_t n = GM_PART_NONE + 1; n <= GM_PART_SLICE; n++) printf("Part %u %s\n", n, gm_layout_part(n));
-    const char *none[] = {gm_layout_rule(GM_LAYOUT_NONE), gm_layout_rule(GM_LAYOUT_SLICES_SHARE + 1), gm_layout_rule(UINT32_MAX),
-                          gm_layout_part(GM_PART_NONE), gm_layout_part(GM_PART_SLICE + 1), gm_layout_part(UINT32_MAX)};
-    for (size_t i = 0; i < sizeof none / sizeof *none; i++)
-        if (strcmp(none[i], "none")) DIE("a number that is none has a name");
+    for (uint32_t n = 1; strcmp(gm_layout_rule(n), "none"); n++) printf("Rule %u %s\n", n, gm_layout_rule(n));
+    for (uint32_t n = 1; strcmp(gm_layout_part(n), "none"); n++) printf("Part %u %s\n", n, gm_layout_part(n));
+    if (strcmp(gm_layout_rule(GM_LAYOUT_NONE), "none") || strcmp(gm_layout_rule(UINT32_MAX), "none") || strcmp(gm_layout_part(GM_PART_NONE), "none")
+        || strcmp(gm_layout_part(UINT32_MAX), "none")) DIE("a number that is none has a name");
     return 0;
 }
 
