@@ -45,12 +45,14 @@ def part_of(parts, name):
 
 
 def compare(data, audit, seen):
-    """The faults of a table, and of an image that is no fat file."""
+    """The faults of a table, and of each image that opens."""
     pairs = [(told(goblin_mach.container_faults(data)), part_of(audit["container"], "table"))]
-    if audit["kind"] == "image" and audit["images"][0]["opens"] != "no":
-        image = audit["images"][0]
-        mode = goblin_mach.STRICT if image["opens"] == "strictly" else goblin_mach.LOSSY
-        pairs.append((told(goblin_mach.Image(data, 0, mode).layout_faults()), part_of(image["parts"], "layout")))
+    entries = list(goblin_mach.fat_entries(data))
+    files = [data[e.offset:e.offset + e.size] for e in entries] or [data]
+    for file, image in zip(files, audit["images"]):
+        if image.get("opens", "no") != "no":
+            mode = goblin_mach.STRICT if image["opens"] == "strictly" else goblin_mach.LOSSY
+            pairs.append((told(goblin_mach.Image(file, 0, mode).layout_faults()), part_of(image["parts"], "layout")))
     for found, wanted in pairs:
         if any(kind == "unreadable" for kind, _, _ in wanted[0]):  # a table that isn't in the file is judged by the library alone
             continue
