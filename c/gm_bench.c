@@ -13,7 +13,7 @@ static uint64_t seen;
 
 static double now(void) {
     struct timespec t;
-    clock_gettime(CLOCK_THREAD_CPUTIME_ID, &t);
+    clock_gettime(CLOCK_MONOTONIC, &t);
     return (double)t.tv_sec * 1e9 + (double)t.tv_nsec;
 }
 
@@ -32,10 +32,25 @@ WALK(commands, gm_command, rows[i].size)
 WALK(segments, gm_segment, rows[i].vmsize)
 WALK(libraries, gm_library, rows[i].name_len)
 
+static size_t fixups(void) {
+    static gm_fixup rows[1 << 20];
+    size_t count = 0;
+    gm_fixups(bytes, len, &image, 0, rows, 1 << 20, &count, NULL, &error);
+    for (size_t i = 0; i < count; i++) seen += rows[i].address;
+    return count;
+}
+
+static size_t layout(void) {
+    static gm_layout_fault rows[1 << 16];
+    size_t count = 0;
+    gm_layout_faults(bytes, len, &image, 0, rows, 1 << 16, &count, NULL, &error);
+    return count;
+}
+
 static void time_of(const char *name, size_t (*call)(void)) {
     double least = 1e30, begun = now();
     size_t items = 0;
-    for (int k = 0; k < 5 || (now() - begun < 1e9 && k < 100000); k++) {
+    for (int k = 0; k < 5 || (now() - begun < 1e9 && k < 1000000); k++) {
         double t = now();
         items = call();
         t = now() - t;
@@ -58,5 +73,7 @@ int main(int argc, char **argv) {
     time_of("commands", commands);
     time_of("segments", segments);
     time_of("libraries", libraries);
+    time_of("fixups", fixups);
+    time_of("layout", layout);
     return seen == 1;
 }

@@ -1,4 +1,4 @@
-/* gm_test WHAT FILE prints the lines of a list, for comparison with the programs of this repository.
+/* gm_test WHAT FILE prints the lines of a list, for comparison with the programs of this repository; gm_test names the rules of layout.
    gm_test check FILE.. tests each file and each of its prefixes: batches of 1, 2, 7 and all give the same rows, the rest of an
    array stays, memory may be refused at any request, an arena serves without malloc, NULL serves with length 0.
    gm_test damage COUNT FILE.. hands in COUNT images of made-up numbers, by a fixed seed. */
@@ -52,6 +52,39 @@ LIST(fixups, gm_fixup, fixups(g, first, rows, cap),
              r->addend, r->is_signed, r->key, r->diversity, r->is_address_diverse, r->code))
 LIST(run_paths, gm_run_path, gm_run_paths(OF, first, rows, cap), text(to, g, r->path, r->path_len))
 
+/* ---- faults of layout, of an image and of a fat file's table: the lines are those of machaudit */
+
+typedef uint32_t told(const given *g, size_t first, gm_layout_fault *out, size_t cap, size_t *count, const gm_memory *memory, gm_error *e);
+static uint32_t told_of_image(const given *g, size_t first, gm_layout_fault *out, size_t cap, size_t *count, const gm_memory *memory, gm_error *e) {
+    return gm_layout_faults(OF, first, out, cap, count, memory, e);
+}
+static uint32_t told_of_table(const given *g, size_t first, gm_layout_fault *out, size_t cap, size_t *count, const gm_memory *memory, gm_error *e) {
+    return gm_container_faults(g->bytes, g->len, first, out, cap, count, memory, e);
+}
+static size_t faults(told *call, const given *g, size_t first, gm_layout_fault *rows, size_t cap) {
+    size_t count = SIZE_MAX;
+    gm_error e;
+    uint32_t code = call(g, first, rows, cap, &count, NULL, &e);
+    if (code && (count != SIZE_MAX || code != e.code)) DIE("a refusal changed the count, or has another code");
+    return code ? 0 : count;
+}
+static void owner(FILE *to, uint32_t part, uint64_t index, uint64_t command) {
+    fputs(gm_layout_part(part), to);
+    if (index || part == GM_PART_SECTION || part == GM_PART_RELOCATIONS || part == GM_PART_SLICE || part == GM_PART_IMPORTS || part == GM_PART_SYMBOL_RANGES)
+        fprintf(to, " %" PRIu64, index);
+    fprintf(to, " at 0x%" PRIx64, command);
+}
+static void fault(FILE *to, const gm_layout_fault *r) {
+    fprintf(to, "%s: ", gm_layout_rule(r->rule));
+    owner(to, r->part, r->index, r->command);
+    fprintf(to, ": 0x%" PRIx64 " against 0x%" PRIx64, r->found, r->limit);
+    if (!r->other_part) return;
+    fputs(" of ", to);
+    owner(to, r->other_part, r->other_index, r->other_command);
+}
+LIST(layout, gm_layout_fault, faults(told_of_image, g, first, rows, cap), fault(to, r))
+LIST(table, gm_layout_fault, faults(told_of_table, g, first, rows, cap), fault(to, r))
+
 typedef struct {
     const char *name;
     size_t size;
@@ -61,8 +94,15 @@ typedef struct {
 #define ONE(name, row) {#name, sizeof(row), rows_##name, line_##name}
 static const list lists[] = {ONE(commands, gm_command), ONE(segments, gm_segment), ONE(symbols, gm_symbol), ONE(libraries, gm_library),
                              ONE(run_paths, gm_run_path), ONE(fixups, gm_fixup), ONE(entries, gm_fat_entry),
-                             ONE(sections, gm_section), ONE(relocations, gm_relocation)};
+                             ONE(sections, gm_section), ONE(relocations, gm_relocation), ONE(layout, gm_layout_fault),
+                             ONE(table, gm_layout_fault)};
 enum { LISTS = sizeof lists / sizeof *lists, LIMIT = 400 };
+
+static const list *named(const char *name) {
+    for (size_t i = 0; i < LISTS; i++)
+        if (!strcmp(name, lists[i].name)) return &lists[i];
+    return NULL;
+}
 
 /* the lines of a list in batches of so many, at most LIMIT of them; each array is as long as it is said to be */
 static char *lines(const list *l, const given *g, size_t batch) {
@@ -185,9 +225,59 @@ static void finds(const given *g, const char *name, size_t name_len) {
     tested++;
 }
 
+/* faults with memory that is refused at each request, and out of an arena */
+static void tells(told *call, const given *g) {
+    enum { CAP = 8, USED = offsetof(gm_layout_fault, other_part) + 4 };
+    static _Alignas(16) uint8_t room[1 << 20];
+    gm_layout_fault all[CAP], again[CAP], before[CAP];
+    size_t count = SIZE_MAX, count_again;
+    gm_error e = {0}, f = {0};
+    memset(before, 0x5a, sizeof before);
+    memcpy(all, before, sizeof all);
+    uint32_t code = call(g, 0, all, CAP, &count, NULL, &e);
+    if (code) DIE("what opened has no layout: %s", e.text);
+    for (size_t k = 1;; k++) {
+        counted c = {0, k, 0};
+        gm_memory m = {&c, take, give};
+        count_again = SIZE_MAX;
+        memcpy(again, before, sizeof again);
+        uint32_t code_again = call(g, 0, again, CAP, &count_again, &m, &f);
+        if (c.held) DIE("a block was kept");
+        if (code_again && (count_again != SIZE_MAX || memcmp(again, before, sizeof again))) DIE("a refusal changed the faults");
+        if (code_again == GM_NO_MEMORY) continue;
+        if (code_again != code || count_again != count) DIE("memory changed the faults");
+        for (size_t i = 0; i < CAP; i++)
+            if (memcmp(again + i, all + i, USED)) DIE("memory changed a fault");
+        break;
+    }
+    gm_arena arena = {room, sizeof room, 0, 0};
+    gm_memory m = gm_arena_memory(&arena);
+    size_t before_call = mallocs;
+    if (call(g, 0, again, CAP, &count_again, &m, &f) != code || count_again != count) DIE("an arena changed the faults");
+    if (mallocs != before_call || arena.blocks) DIE("an arena did not serve");
+    tested++;
+}
+
+/* the layout of an image behind other bytes is that of the image */
+static void lies_behind(const given *g) {
+    const size_t front = 16;
+    uint8_t *bytes = malloc(front + g->len);
+    memset(bytes, 0x5a, front);
+    memcpy(bytes + front, g->bytes, g->len);
+    given behind = {.bytes = bytes, .len = front + g->len, .image = g->image};
+    behind.image.offset = front;
+    char *here = lines(named("layout"), g, LIMIT), *there = lines(named("layout"), &behind, LIMIT);
+    if (strcmp(here, there)) DIE("the layout behind other bytes differs");
+    free(here);
+    free(there);
+    free(bytes);
+}
+
 static void check(const uint8_t *bytes, size_t len) {
     given g = {.bytes = bytes, .len = len};
     same_in_batches(&lists[6], &g);
+    same_in_batches(named("table"), &g);
+    tells(told_of_table, &g);
     for (uint32_t mode = GM_STRICT; mode <= GM_LOSSY; mode++) {
         if (opens(&g, mode)) continue;
         char *all = lines(&lists[0], &g, LIMIT);
@@ -197,6 +287,9 @@ static void check(const uint8_t *bytes, size_t len) {
         if (count != g.image.commands) DIE("%zu commands of %zu", count, g.image.commands);
         for (int i = 0; i < 6; i++) same_in_batches(&lists[i], &g);
         check_parts(&g);
+        same_in_batches(named("layout"), &g);
+        tells(told_of_image, &g);
+        lies_behind(&g);
         finds(&g, NULL, 0);
         finds(&g, "a", 1);
         finds(&g, "\xff", 1);
@@ -256,17 +349,19 @@ static void print_exports(const given *g, const char *names) {
     }
 }
 
+static void print_list(const list *l, const given *g) {
+    char *all = lines(l, g, 100);
+    fputs(all, stdout);
+    free(all);
+}
+
 static void print(const char *what, const uint8_t *bytes, size_t len) {
     given g = {.bytes = bytes, .len = len};
     gm_error e;
     if (gm_open(bytes, len, 0, GM_STRICT, NULL, &g.image, &e)) { printf("refused: %s\n", e.text); return; }
     if (!strncmp(what, "find:", 5)) print_exports(&g, what + 5);
-    for (size_t i = 0; i < LISTS; i++)
-        if (!strcmp(what, lists[i].name)) {
-            char *all = lines(&lists[i], &g, 100);
-            fputs(all, stdout);
-            free(all);
-        }
+    const list *l = named(what);
+    if (l) print_list(l, &g);
 }
 
 /* exactly the bytes of a file, so that a read behind them is seen */
@@ -282,9 +377,19 @@ static uint8_t *read_file(const char *name, size_t *len) {
     return bytes;
 }
 
+/* each rule and each part by its number, with its plain name */
+static int print_names(void) {
+    for (uint32_t n = 1; strcmp(gm_layout_rule(n), "none"); n++) printf("Rule %u %s\n", n, gm_layout_rule(n));
+    for (uint32_t n = 1; strcmp(gm_layout_part(n), "none"); n++) printf("Part %u %s\n", n, gm_layout_part(n));
+    if (strcmp(gm_layout_rule(GM_LAYOUT_NONE), "none") || strcmp(gm_layout_rule(UINT32_MAX), "none") || strcmp(gm_layout_part(GM_PART_NONE), "none")
+        || strcmp(gm_layout_part(UINT32_MAX), "none")) DIE("a number that is none has a name");
+    return 0;
+}
+
 int main(int argc, char **argv) {
     if (gm_version() != GM_VERSION) DIE("the header is of version %d and the library of %u", GM_VERSION, gm_version());
-    if (argc < 3) DIE("usage: gm_test WHAT FILE, gm_test check FILE.., gm_test damage COUNT FILE..");
+    if (argc == 2 && !strcmp(argv[1], "names")) return print_names();
+    if (argc < 3) DIE("usage: gm_test names, gm_test WHAT FILE, gm_test check FILE.., gm_test damage COUNT FILE..");
     int of_damage = !strcmp(argv[1], "damage");
     away = fopen("/dev/null", "w");
     if (!away) DIE("/dev/null can't be opened");
@@ -305,6 +410,7 @@ int main(int argc, char **argv) {
             gm_fat_entry entries[8];
             size_t n = gm_fat_entries(bytes, len, 0, entries, 8);
             if (!n) print(argv[1], bytes, len);
+            if (!strcmp(argv[1], "layout")) print_list(named("table"), &(given){.bytes = bytes, .len = len});
             for (size_t k = 0; k < n; k++) {
                 printf("arch %zu\n", k);
                 const gm_fat_entry *e = entries + k;

@@ -113,3 +113,20 @@ uint32_t gm_find_export(const uint8_t *bytes, size_t len, const gm_image *image,
     memory_of_call = NULL;
     return code;
 }
+
+#define WITH_MEMORY(call) { memory_of_call = memory; uint32_t code = call; memory_of_call = NULL; return code; }
+
+uint32_t gmr_layout_faults(const uint8_t *, size_t, const gm_image *, size_t, gm_layout_fault *, size_t, size_t *, gm_error *);
+uint32_t gm_layout_faults(const uint8_t *bytes, size_t len, const gm_image *image, size_t first, gm_layout_fault *out, size_t cap, size_t *count,
+                          const gm_memory *memory, gm_error *error)
+    WITH_MEMORY(gmr_layout_faults(BYTES, len, image, first, AT(out), cap, count, error))
+
+uint32_t gmr_container_faults(const uint8_t *, size_t, size_t, gm_layout_fault *, size_t, size_t *, gm_error *);
+uint32_t gm_container_faults(const uint8_t *bytes, size_t len, size_t first, gm_layout_fault *out, size_t cap, size_t *count,
+                             const gm_memory *memory, gm_error *error)
+    WITH_MEMORY(gmr_container_faults(BYTES, len, first, AT(out), cap, count, error))
+
+#define WORDS(name, words) words,
+static const char *const rules[] = {"none", GM_LAYOUT_RULES(WORDS)}, *const parts[] = {"none", GM_LAYOUT_PARTS(WORDS)};
+const char *gm_layout_rule(uint32_t rule) { return rules[rule < sizeof rules / sizeof *rules ? rule : 0]; }
+const char *gm_layout_part(uint32_t part) { return parts[part < sizeof parts / sizeof *parts ? part : 0]; }

@@ -135,6 +135,67 @@ enum { GM_REBASE, GM_BIND, GM_NUMBER };
 uint32_t gm_fixups(const uint8_t *bytes, size_t len, const gm_image *image, size_t first, gm_fixup *out, size_t cap, size_t *count,
                    const gm_memory *memory, gm_error *error);
 
+/* ---- the faults of its layout, rule by rule: what of the file lies where the format and its readers don't allow it. docs/C.md
+   says what `found` and `limit` of each rule are. */
+typedef struct gm_layout_fault {
+    uint64_t found, limit;               /* what is there, and what it breaks */
+    uint64_t command, index;             /* whose it is: the place of its command or record, and its number there, or 0 */
+    uint64_t other_command, other_index; /* the same of the other one, where two disagree */
+    uint32_t rule, part, other_part;     /* GM_LAYOUT_.., and GM_PART_..: other_part is GM_PART_NONE where there is no other one */
+} gm_layout_fault;
+
+/* the rules and the parts, with their plain names */
+#define GM_LAYOUT_RULES(X) \
+    X(FILE_KIND, "file kind") X(COMMANDS_OUT_OF_FILE, "commands out of file") X(COMMAND_SIZE, "command size") \
+    X(COMMAND_UNALIGNED, "command unaligned") X(COMMAND_OUT_OF_COMMANDS, "command out of commands") X(COMMAND_COUNT, "command count") \
+    X(SEGMENT_WIDTH, "segment width") X(COMMANDS_END_EARLY, "commands end early") X(COMMAND_AGAIN, "command again") \
+    X(DYNAMIC_SYMBOLS_ALONE, "dynamic symbols alone") X(OUT_OF_FILE, "out of file") \
+    X(SEGMENT_BEYOND_ADDRESSES, "segment beyond addresses") X(SEGMENT_FILE_LARGER, "segment file larger") \
+    X(SEGMENT_ADDRESS_UNALIGNED, "segment address unaligned") X(SEGMENT_PLACE_UNALIGNED, "segment place unaligned") \
+    X(SEGMENT_NAME_AGAIN, "segment name again") X(SEGMENT_RIGHTS, "segment rights") X(SEGMENTS_SHARE_MEMORY, "segments share memory") \
+    X(SEGMENTS_SHARE_FILE, "segments share file") X(NO_SEGMENT_OF_HEADER, "no segment of header") \
+    X(SECTION_OUT_OF_MEMORY, "section out of memory") X(SECTION_OUT_OF_BYTES, "section out of bytes") \
+    X(SECTION_ELSEWHERE, "section elsewhere") X(SECTION_ALIGNMENT, "section alignment") X(SECTION_UNALIGNED, "section unaligned") \
+    X(SECTION_OF_OTHER, "section of other") X(SECTIONS_SHARE_MEMORY, "sections share memory") X(CLAIMS_SHARE, "claims share") \
+    X(HEADER_SHARED, "header shared") X(OUT_OF_LINKEDIT, "out of linkedit") X(ENCRYPTED_NOT_EXECUTABLE, "encrypted not executable") \
+    X(SYMBOL_SECTION, "symbol section") X(SYMBOL_NAME, "symbol name") X(SYMBOL_RANGE, "symbol range") \
+    X(SYMBOL_RANGE_KIND, "symbol range kind") X(SYMBOL_LIBRARY, "symbol library") X(INDIRECT_SYMBOL, "indirect symbol") \
+    X(INDIRECT_SECTION, "indirect section") X(SYMBOL_RANGE_ORDER, "symbol range order") X(ENTRY_OUT_OF_CODE, "entry out of code") \
+    X(NO_ENTRY, "no entry") X(TEXT_MISPLACED, "text misplaced") X(TEXT_EMPTY, "text empty") X(ID_MISSING, "id missing") \
+    X(ID_UNEXPECTED, "id unexpected") X(BINDS, "binds") X(CHAINED_FIXUPS, "chained fixups") X(IMPORT_LIBRARY, "import library") \
+    X(IMPORT_NAME, "import name") X(RECORDS_OUT_OF_FILE, "records out of file") X(SLICE_OUT_OF_FILE, "slice out of file") \
+    X(SLICE_IN_RECORDS, "slice in records") X(SLICE_ALIGNMENT, "slice alignment") X(SLICE_UNALIGNED, "slice unaligned") \
+    X(SLICE_AGAIN, "slice again") X(SLICE_OF_OTHER_CPU, "slice of other cpu") X(SLICES_SHARE, "slices share")
+#define GM_LAYOUT_PARTS(X) \
+    X(HEADER, "header") X(COMMAND, "command") X(TEXT, "text") X(SEGMENT, "segment") X(SECTION, "section") X(RELOCATIONS, "relocations") \
+    X(SYMBOLS, "symbols") X(SYMBOL_RANGES, "symbol ranges") X(STRINGS, "strings") X(TABLE_OF_CONTENTS, "table of contents") \
+    X(MODULES, "modules") X(EXTERNAL_REFERENCES, "external references") X(INDIRECT_SYMBOLS, "indirect symbols") \
+    X(EXTERNAL_RELOCATIONS, "external relocations") X(LOCAL_RELOCATIONS, "local relocations") X(REBASE_OPCODES, "rebase opcodes") \
+    X(BIND_OPCODES, "bind opcodes") X(WEAK_BIND_OPCODES, "weak bind opcodes") X(LAZY_BIND_OPCODES, "lazy bind opcodes") \
+    X(EXPORT_TRIE, "export trie") X(SIGNATURE, "signature") X(SPLIT_INFO, "split info") X(FUNCTION_STARTS, "function starts") \
+    X(DATA_IN_CODE, "data in code") X(SIGNATURE_REQUIREMENTS, "signature requirements") X(LINKER_HINTS, "linker hints") \
+    X(CHAINED_FIXUPS, "chained fixups") X(IMPORTS, "imports") X(ENCRYPTED, "encrypted") X(NOTE, "note") \
+    X(TWOLEVEL_HINTS, "twolevel hints") X(GDB_SYMBOLS, "gdb symbols") X(BINDS, "binds") X(ENTRY, "entry") X(SLICE, "slice")
+#define GM_LAYOUT_RULE(name, words) GM_LAYOUT_##name,
+#define GM_LAYOUT_PART(name, words) GM_PART_##name,
+enum { GM_LAYOUT_NONE, GM_LAYOUT_RULES(GM_LAYOUT_RULE) };
+enum { GM_PART_NONE, GM_LAYOUT_PARTS(GM_LAYOUT_PART) };
+#undef GM_LAYOUT_RULE
+#undef GM_LAYOUT_PART
+
+/* the plain name of a rule, and of a part; "none" of a number that is none */
+const char *gm_layout_rule(uint32_t rule);
+const char *gm_layout_part(uint32_t part);
+
+/* The faults from number `first` on, and how many were written to *count: those of the file that begins with the image, and places count
+   from there. It opens the image again, and takes memory while it runs. A refusal leaves the array and *count as they were. */
+uint32_t gm_layout_faults(const uint8_t *bytes, size_t len, const gm_image *image, size_t first, gm_layout_fault *out, size_t cap, size_t *count,
+                          const gm_memory *memory, gm_error *error);
+
+/* The same of the table of a fat file: none where the bytes are none. GM_NO_MEMORY is its one refusal. */
+uint32_t gm_container_faults(const uint8_t *bytes, size_t len, size_t first, gm_layout_fault *out, size_t cap, size_t *count,
+                             const gm_memory *memory, gm_error *error);
+
 /* The layout that Rattle gives each struct (x86-64 Linux): a C compiler that lays one out otherwise refuses this header. */
 #if !defined __cplusplus && __STDC_VERSION__ >= 201112L
 #define GM_FIELD(type, field, at, size) \
@@ -195,6 +256,16 @@ GM_FIELD(gm_image, is_old_style_entry, 104, 4);
 GM_FIELD(gm_image, is_little_endian, 108, 4);
 GM_FIELD(gm_image, is_64, 112, 4);
 GM_SIZE(gm_image, 120);
+GM_FIELD(gm_layout_fault, found, 0, 8);
+GM_FIELD(gm_layout_fault, limit, 8, 8);
+GM_FIELD(gm_layout_fault, command, 16, 8);
+GM_FIELD(gm_layout_fault, index, 24, 8);
+GM_FIELD(gm_layout_fault, other_command, 32, 8);
+GM_FIELD(gm_layout_fault, other_index, 40, 8);
+GM_FIELD(gm_layout_fault, rule, 48, 4);
+GM_FIELD(gm_layout_fault, part, 52, 4);
+GM_FIELD(gm_layout_fault, other_part, 56, 4);
+GM_SIZE(gm_layout_fault, 64);
 GM_FIELD(gm_library, name, 0, 8);
 GM_FIELD(gm_library, name_len, 8, 8);
 GM_FIELD(gm_library, kind, 16, 4);

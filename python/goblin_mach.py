@@ -96,6 +96,11 @@ class _RunPath(ctypes.Structure):
     _fields_ = [("path", c_size_t), ("path_len", c_size_t)]
 
 
+class _LayoutFault(ctypes.Structure):
+    _fields_ = [(n, c_uint64) for n in ("found", "limit", "command", "index", "other_command", "other_index")] + [
+        (n, c_uint32) for n in ("rule", "part", "other_part")]
+
+
 def _load():
     here = os.path.dirname(os.path.abspath(__file__))
     named = os.environ.get("GOBLIN_MACH")
@@ -113,6 +118,8 @@ def _load():
     lib.gm_open.restype = lib.gm_fixups.restype = lib.gm_find_export.restype = c_uint32
     for name in ("fat_entries", "commands", "segments", "sections", "relocations", "symbols", "libraries", "run_paths"):
         getattr(lib, "gm_" + name).restype = c_size_t
+    lib.gm_layout_faults.restype = lib.gm_container_faults.restype = c_uint32
+    lib.gm_layout_rule.restype = lib.gm_layout_part.restype = ctypes.c_char_p
     return lib
 
 
@@ -232,6 +239,37 @@ class Export:
     target: Optional[str]
 
 
+NUMBERED = ("section", "relocations", "slice", "imports", "symbol ranges")
+
+
+@dataclass(frozen=True)
+class Owner:
+    """Whose a range or a fault is: a part, the place of its command or record, and its number there, or 0."""
+
+    part: str
+    command: int
+    index: int
+
+    def __str__(self):
+        number = f" {self.index}" if self.index or self.part in NUMBERED else ""
+        return f"{self.part}{number} at 0x{self.command:x}"
+
+
+@dataclass(frozen=True)
+class LayoutFault:
+    """A fault of layout, of the rule with this plain name: what is there and what it breaks, as docs/C.md says of the rule."""
+
+    rule: str
+    owner: Owner
+    found: int
+    limit: int
+    other: Optional[Owner]
+
+    def __str__(self):
+        other = f" of {self.other}" if self.other else ""
+        return f"{self.rule}: {self.owner}: 0x{self.found:x} against 0x{self.limit:x}{other}"
+
+
 class _Buffer(ctypes.Structure):
     """The front of CPython's Py_buffer."""
 
@@ -275,6 +313,25 @@ def _rows(call, row):
 
 def _name(raw):
     return bytes(raw).split(b"\0", 1)[0]
+
+
+def _owner(part, command, index):
+    return Owner(_lib.gm_layout_part(c_uint32(part)).decode(), command, index) if part else None
+
+
+def _faults(call, *given):
+    """The faults of layout that a call writes, behind what it is handed first. Each call seeks all of them, so batches double."""
+    first, cap = 0, BATCH
+    while True:
+        out, count, error = (_LayoutFault * cap)(), c_size_t(), _Error()
+        if call(*given, c_size_t(first), out, c_size_t(cap), ctypes.byref(count), None, ctypes.byref(error)):
+            raise Refused(error)
+        for f in out[:count.value]:
+            yield LayoutFault(_lib.gm_layout_rule(c_uint32(f.rule)).decode(), _owner(f.part, f.command, f.index), f.found, f.limit,
+                              _owner(f.other_part, f.other_command, f.other_index))
+        if count.value < cap:
+            return
+        first, cap = first + cap, 2 * cap
 
 
 class Image:
@@ -352,12 +409,24 @@ class Image:
         for p in self._list("run_paths", _RunPath):
             yield self._bytes.text(p.path, p.path_len)
 
+    def layout_faults(self) -> Iterator[LayoutFault]:
+        """What lies where the format and its readers don't allow it, of the file that begins with the image."""
+        b = self._bytes
+        return _faults(_lib.gm_layout_faults, b.at, c_size_t(b.len), ctypes.byref(self._numbers))
+
 
 def fat_entries(data) -> Iterator[FatEntry]:
     """The entries of a fat file; none where the bytes are no fat file."""
     held = data if isinstance(data, _Bytes) else _Bytes(data)
     for e in _rows(lambda first, out, cap: _lib.gm_fat_entries(held.at, c_size_t(held.len), first, out, cap), _FatEntry):
         yield FatEntry(e.cputype, e.cpusubtype, e.offset, e.size, e.align, ERRORS.get(e.code))
+
+
+def container_faults(data) -> Iterator[LayoutFault]:
+    """The faults of the table of a fat file; none where the bytes are no fat file."""
+    held = data if isinstance(data, _Bytes) else _Bytes(data)
+    for fault in _faults(_lib.gm_container_faults, held.at, c_size_t(held.len)):
+        yield fault
 
 
 class File:
@@ -378,6 +447,10 @@ class File:
             part = whole[e.offset:e.offset + e.size]
             if bytes(part[:8]) != b"!<arch>\n":
                 yield Image(part, 0, self._mode)
+
+    def container_faults(self) -> Iterator[LayoutFault]:
+        """The faults of its table, if it is a fat file."""
+        return container_faults(memoryview(self._map))
 
     def __enter__(self):
         return self
@@ -415,9 +488,11 @@ def _lines(image, what):
                    f"{f.key} {f.diversity} {int(f.is_address_diverse)} {code}")
     elif what == "run_paths":
         yield from image.run_paths()
+    elif what == "layout":
+        yield from image.layout_faults()
 
 
-WORDS = ("commands", "segments", "symbols", "libraries", "run_paths", "fixups")
+WORDS = ("commands", "segments", "symbols", "libraries", "run_paths", "fixups", "layout")
 
 
 def main(words):
@@ -426,6 +501,9 @@ def main(words):
         return 2
     try:
         with open(words[1]) as file:
+            if words[0] == "layout":
+                for fault in file.container_faults():
+                    print(fault)
             for image in file:
                 for line in _lines(image, words[0]):
                     print(line)

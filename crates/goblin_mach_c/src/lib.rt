@@ -9,6 +9,7 @@ mod find;
 mod fixups;
 mod images;
 mod laws;
+mod layout;
 mod libraries;
 mod numbered;
 mod open;
