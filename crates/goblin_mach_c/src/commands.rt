@@ -1,14 +1,16 @@
 //! The load commands, one behind the other, with no memory.
 
-ghost use Rattle.std.specs.Prelude.{◌≡◌, drop, map, min};
+ghost use Rattle.std.specs.Prelude.{◌≡◌, ◌+◌, drop, map, min, IfOk};
 ghost use Rattle.std.specs.Iterator.{YieldsFirst, YieldsFirstBy};
+ghost use Rattle.mach_base.specs.Answer.{Reads};
+ghost use Rattle.mach_load.specs.Command.{cmdsize_of, command_at};
 ghost use Rattle.mach_load.specs.Variants.{command_of};
 ghost use Rattle.goblin_mach_c.specs.CommandRows.{command_row, command_rows, commands_left, commands_seen};
 ghost use Rattle.goblin_mach_c.specs.Fill.{Fills};
 
 use crate::images::{ctx_of, gm_image};
 use crate::rows::{Rows, fill, skip};
-use mach_base::Endian;
+use mach_base::{Endian, Result};
 use mach_load::LoadCommand;
 
 /// The commands from a place on: so many, or those before the first that can't be read.
@@ -25,6 +27,18 @@ fn no_more_than(count: usize, most: usize) -> usize
     ensures { result ≡ min count most }
 {
     if count < most { count } else { most }
+}
+
+// The load command at a place, which it moves behind the command.
+#[inline(always)]
+fn read(bytes: &[u8], place: &mut usize, le: Endian) -> Result<LoadCommand>
+    ensures found { Reads command_of result (command_at le bytes.now place.old) }
+    ensures moved { IfOk result (λ c. place.new ≡ place.old + cmdsize_of (command_of c)) }
+{
+    match LoadCommand::quick(bytes, place, le) {
+        Some(command) => Ok(command),
+        None => LoadCommand::parse(bytes, place, le),
+    }
 }
 
 impl<'a> Commands<'a> {
@@ -48,7 +62,7 @@ impl<'a> Commands<'a> {
         if self.count == 0 {
             return None;
         }
-        match LoadCommand::parse(self.bytes, &mut self.place, self.le) {
+        match read(self.bytes, &mut self.place, self.le) {
             Ok(command) => {
                 self.count -= 1;
                 Some(command)

@@ -72,7 +72,8 @@ impl<'a> Subject for Libraries<'a> {
 
     #[inline(always)]
     fn read(&self, command: &LoadCommand) -> Option<Result<&'a str>> {
-        library_place(command).map(|place| read_text(self.bytes, place))
+        let place = library_place(command)?;
+        Some(read_text(self.bytes, place))
     }
 }
 
@@ -92,7 +93,8 @@ impl<'a> Subject for Ids<'a> {
     ghost reading = { λ s. id_by s.bytes.now };
 
     fn read(&self, command: &LoadCommand) -> Option<Result<&'a str>> {
-        id_place(command).map(|place| read_text(self.bytes, place))
+        let place = id_place(command)?;
+        Some(read_text(self.bytes, place))
     }
 }
 
@@ -113,7 +115,8 @@ impl<'a> Subject for RunPaths<'a> {
 
     #[inline(always)]
     fn read(&self, command: &LoadCommand) -> Option<Result<&'a str>> {
-        run_path_place(command).map(|place| read_text(self.bytes, place))
+        let place = run_path_place(command)?;
+        Some(read_text(self.bytes, place))
     }
 }
 
