@@ -40,13 +40,58 @@ LIST(symbols, gm_symbol, gm_symbols(OF, first, rows, cap),
      fprintf(to, "%0*" PRIx64 " %x %zu %x %u ", g->image.is_64 ? 16 : 8, r->value, r->n_type, r->section, r->desc, r->code); text(to, g, r->name, r->name_len))
 LIST(libraries, gm_library, gm_libraries(OF, first, rows, cap),
      fprintf(to, "%u %u %x %x ", r->kind, r->timestamp, r->current_version, r->compatibility_version); text(to, g, r->name, r->name_len))
-static size_t fixups(const given *g, size_t first, gm_fixup *rows, size_t cap) {
-    size_t count = SIZE_MAX;
-    gm_error e;
-    uint32_t code = gm_fixups(OF, first, rows, cap, &count, NULL, &e);
-    if (code && count != SIZE_MAX) DIE("a refusal changed the count");
-    return code ? 0 : count;
+/* memory that is refused at a request, and that is counted */
+
+typedef struct { size_t asked, refused, held; } counted;
+static void *take(void *self, size_t size) {
+    counted *c = self;
+    if (++c->asked == c->refused) return NULL;
+    c->held++;
+    return malloc(size);
 }
+static void give(void *self, void *block) { ((counted *)self)->held--; free(block); }
+
+static uint64_t made_up(size_t len);
+static void make_up(void *at, size_t size, size_t len);
+
+static int of_damage;
+
+/* what comes behind a cursor: from the start at 0, else where the last call went; of damage a cursor of made-up numbers */
+#define BEHIND(name, row, place) \
+    static size_t name(const given *g, size_t first, row *rows, size_t cap) { \
+        static place at; \
+        if (!first) memset(&at, 0, sizeof at); \
+        if (of_damage) make_up(&at, sizeof at, g->len); \
+        place before = at; \
+        size_t count = SIZE_MAX; \
+        gm_error e; \
+        uint32_t code = gm_##name(OF, &at, rows, cap, &count, NULL, &e); \
+        if (code && (count != SIZE_MAX || memcmp(&before, &at, sizeof at))) DIE("a refusal changed the count or the cursor"); \
+        return code ? 0 : count; \
+    } \
+    static void name##_refused(const given *g) { \
+        row rows[4], first[4]; \
+        place at = {0}, begun = {0}; \
+        size_t many = 0, count = SIZE_MAX; \
+        gm_error e = {0}, f = {0}; \
+        memset(first, 0xa5, sizeof first); \
+        uint32_t code = gm_##name(OF, &begun, first, 4, &many, NULL, &e); \
+        if (code != e.code) DIE("an error without its code"); \
+        for (size_t k = 1;; k++) { \
+            counted c = {0, k, 0}; \
+            gm_memory m = {&c, take, give}; \
+            place untouched = {0}; \
+            memset(rows, 0xa5, sizeof rows); \
+            uint32_t again = gm_##name(OF, &at, rows, 4, &count, &m, &f); \
+            if (c.held) DIE("a block was kept"); \
+            if (again && (count != SIZE_MAX || memcmp(&at, &untouched, sizeof at) || *(uint8_t *)rows != 0xa5)) DIE("a refusal left something"); \
+            if (again != GM_NO_MEMORY) { \
+                if (again != code || (!code && (count != many || memcmp(rows, first, sizeof rows)))) DIE("memory changed an answer"); \
+                break; \
+            } \
+        } \
+    }
+BEHIND(fixups, gm_fixup, gm_fixup_cursor)
 LIST(fixups, gm_fixup, fixups(g, first, rows, cap),
      fprintf(to, "%" PRIx64 " %" PRIx64 " %" PRIx64 " %u %u %u %d %u %u %u %u %u", r->address, r->offset, r->target, r->segment, r->kind, r->import,
              r->addend, r->is_signed, r->key, r->diversity, r->is_address_diverse, r->code))
@@ -85,16 +130,7 @@ static char *lines(const list *l, const given *g, size_t batch) {
     return text_of;
 }
 
-/* ---- memory that is refused at a request, and that is counted */
-
-typedef struct { size_t asked, refused, held; } counted;
-static void *take(void *self, size_t size) {
-    counted *c = self;
-    if (++c->asked == c->refused) return NULL;
-    c->held++;
-    return malloc(size);
-}
-static void give(void *self, void *block) { ((counted *)self)->held--; free(block); }
+/* ---- memory of a call */
 
 static size_t mallocs;
 void *__real_malloc(size_t size);
@@ -197,6 +233,7 @@ static void check(const uint8_t *bytes, size_t len) {
         if (count != g.image.commands) DIE("%zu commands of %zu", count, g.image.commands);
         for (int i = 0; i < 6; i++) same_in_batches(&lists[i], &g);
         check_parts(&g);
+        fixups_refused(&g);
         finds(&g, NULL, 0);
         finds(&g, "a", 1);
         finds(&g, "\xff", 1);
@@ -218,19 +255,23 @@ static uint64_t made_up(size_t len) {
     }
 }
 
+/* made-up numbers in some places of a struct */
+static void make_up(void *at, size_t size, size_t len) {
+    for (size_t k = 0; k + 4 <= size; k += 4) {
+        uint64_t number = made_up(len);
+        if (chance() % 3 == 0) memcpy((uint8_t *)at + k, &number, k % 8 || k + 8 > size ? 4 : 8);
+    }
+}
+
 static FILE *away;
 
 static void damage(const uint8_t *bytes, size_t len) {
     given g = {.bytes = bytes, .len = len};
     gm_error e;
     if (chance() % 2) gm_open(bytes, len, 0, GM_LOSSY, NULL, &g.image, &e);
-    uint8_t *parts[] = {(uint8_t *)&g.image, (uint8_t *)&g.segment, (uint8_t *)&g.section};
-    size_t sizes[] = {sizeof g.image, sizeof g.segment, sizeof g.section};
-    for (int i = 0; i < 3; i++)
-        for (size_t at = 0; at + 4 <= sizes[i]; at += 4) {
-            uint64_t number = made_up(len);
-            if (chance() % 3 == 0) memcpy(parts[i] + at, &number, at % 8 || at + 8 > sizes[i] ? 4 : 8);
-        }
+    make_up(&g.image, sizeof g.image, len);
+    make_up(&g.segment, sizeof g.segment, len);
+    make_up(&g.section, sizeof g.section, len);
     gm_export found;
     char library[4], target[4];
     gm_find_export(bytes, len, &g.image, "a", chance() % 2, &found, library, chance() % 5, target, chance() % 5, NULL, &e);
@@ -285,7 +326,7 @@ static uint8_t *read_file(const char *name, size_t *len) {
 int main(int argc, char **argv) {
     if (gm_version() != GM_VERSION) DIE("the header is of version %d and the library of %u", GM_VERSION, gm_version());
     if (argc < 3) DIE("usage: gm_test WHAT FILE, gm_test check FILE.., gm_test damage COUNT FILE..");
-    int of_damage = !strcmp(argv[1], "damage");
+    of_damage = !strcmp(argv[1], "damage");
     away = fopen("/dev/null", "w");
     if (!away) DIE("/dev/null can't be opened");
     check(NULL, 0);

@@ -130,9 +130,12 @@ typedef struct gm_fixup {
 } gm_fixup;
 enum { GM_REBASE, GM_BIND, GM_NUMBER };
 
-/* The fixups from number `first` on, and how many were written to *count. It opens the image again, and takes memory while
-   it runs. A refusal leaves the array and *count as they were. */
-uint32_t gm_fixups(const uint8_t *bytes, size_t len, const gm_image *image, size_t first, gm_fixup *out, size_t cap, size_t *count,
+/* How far fixups were given: numbers that the calls alone read. All zero is the start. It goes with the bytes and the image. */
+typedef struct gm_fixup_cursor { uint64_t chains[4]; uint32_t stage, reserved; } gm_fixup_cursor;
+
+/* The fixups behind a cursor, which is moved behind them, and how many were written to *count: fewer than `cap` says that there are
+   no more. It opens the image again, and takes memory while it runs. A refusal leaves the array, *count and the cursor as they were. */
+uint32_t gm_fixups(const uint8_t *bytes, size_t len, const gm_image *image, gm_fixup_cursor *cursor, gm_fixup *out, size_t cap, size_t *count,
                    const gm_memory *memory, gm_error *error);
 
 /* The layout that Rattle gives each struct (x86-64 Linux): a C compiler that lays one out otherwise refuses this header. */
@@ -175,6 +178,9 @@ GM_FIELD(gm_fixup, diversity, 48, 4);
 GM_FIELD(gm_fixup, is_address_diverse, 52, 4);
 GM_FIELD(gm_fixup, code, 56, 4);
 GM_SIZE(gm_fixup, 64);
+GM_FIELD(gm_fixup_cursor, chains, 0, 32);
+GM_FIELD(gm_fixup_cursor, stage, 32, 4);
+GM_SIZE(gm_fixup_cursor, 40);
 GM_FIELD(gm_image, offset, 0, 8);
 GM_FIELD(gm_image, entry, 8, 8);
 GM_FIELD(gm_image, first_command, 16, 8);

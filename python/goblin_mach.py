@@ -87,6 +87,10 @@ class _Fixup(ctypes.Structure):
     )
 
 
+class _FixupCursor(ctypes.Structure):
+    _fields_ = [("chains", c_uint64 * 4), ("stage", c_uint32), ("reserved", c_uint32)]
+
+
 class _Export(ctypes.Structure):
     _fields_ = [(n, c_uint64) for n in ("address", "resolver", "flags")] + [
         ("library_len", c_size_t), ("target_len", c_size_t), ("kind", c_uint32), ("reserved", c_uint32)]
@@ -320,14 +324,19 @@ class Image:
         for number, l in enumerate(self._list("libraries", _Library)):
             yield Library(number + 1, self._bytes.text(l.name, l.name_len), KINDS[l.kind], l.timestamp, l.current_version, l.compatibility_version)
 
-    def _fixups(self, first, out, cap):
-        count, error, b = c_size_t(), _Error(), self._bytes
-        if _lib.gm_fixups(b.at, c_size_t(b.len), ctypes.byref(self._numbers), first, out, cap, ctypes.byref(count), None, ctypes.byref(error)):
-            raise Refused(error)
-        return count.value
+    def _behind(self, name, row, cursor):
+        """The rows of a list that goes on from a cursor, which begins as zeros."""
+        call, b, count, error = getattr(_lib, "gm_" + name), self._bytes, c_size_t(), _Error()
+
+        def batch(_first, out, cap):
+            if call(b.at, c_size_t(b.len), ctypes.byref(self._numbers), ctypes.byref(cursor), out, cap, ctypes.byref(count), None, ctypes.byref(error)):
+                raise Refused(error)
+            return count.value
+
+        return _rows(batch, row)
 
     def fixups(self) -> Iterator[Fixup]:
-        for f in _rows(self._fixups, _Fixup):
+        for f in self._behind("fixups", _Fixup, _FixupCursor()):
             yield Fixup(f.address, f.segment, f.offset, FIXUPS[f.kind], f.target, f.import_number, f.addend, bool(f.is_signed), f.key, f.diversity,
                         bool(f.is_address_diverse), ERRORS.get(f.code))
 

@@ -9,3 +9,5 @@ pub mod Opened
 pub mod SymbolRows
 pub mod FixupRows
 pub mod ExportRows
+pub mod Say
+pub mod FixupsBehind

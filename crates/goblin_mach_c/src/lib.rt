@@ -3,11 +3,13 @@
 #![tactic(auto)]
 
 mod commands;
+mod cursor_laws;
 mod errors;
 mod fat;
 mod find;
 mod fixups;
 mod images;
+mod items;
 mod laws;
 mod libraries;
 mod numbered;
