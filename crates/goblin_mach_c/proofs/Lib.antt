@@ -4,3 +4,4 @@ pub mod OpenedImage
 pub mod OpenedLists
 pub mod Said
 pub mod HeldFacts
+pub mod HeldBinds

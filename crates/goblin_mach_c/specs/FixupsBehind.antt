@@ -1,5 +1,5 @@
 -- How far the fixups of an image were given, and those that come behind.
-use Rattle.std.specs.Prelude.{◌≡◌, ◌==◌, ℕ, List, [], ◌∷◌, if◌then◌else◌, Option, Some, None, Result, Ok, Err, map, drop}
+use Rattle.std.specs.Prelude.{◌≡◌, ℕ, List, [], ◌∷◌, Option, Some, None, Result, Ok, Err, map, drop}
 use Rattle.mach_base.specs.Fault.{Fault, fault_of}
 use Rattle.mach_parts.specs.declared.segment.Segment.{Segment}
 use Rattle.mach_chained.specs.FixupCursors.{IsOver, fixups_behind}
@@ -11,19 +11,11 @@ use Rattle.goblin_mach.specs.Facts.{AreSegments, OfImage}
 use Rattle.goblin_mach.specs.Fixups.{AreImageFixups, chained_in, input_over}
 use Rattle.goblin_mach_c.specs.Fill.{Fills}
 use Rattle.goblin_mach_c.specs.FixupRows.{fixup_row}
+use Rattle.goblin_mach_c.specs.Stage.{Stage, start, under_way, over, stage_of}
 use Rattle.goblin_mach_c.specs.declared.fixups.gm_fixup.{gm_fixup}
 use Rattle.goblin_mach_c.specs.declared.fixups.gm_fixup_cursor.{gm_fixup_cursor}
 use Rattle.goblin_mach_c.specs.declared.fixups.FixupRows.{FixupRows}
 use Rattle.goblin_mach_c.specs.declared.fixups.FixupRows.TheVariants as rows
-
--- how far a cursor says that it has come: 0 is the start, 1 is along the chains, and at any other number all were given
-pub data Stage : Type 0 where
-  start : Stage
-  chains : Stage
-  over : Stage
-
-abbrev pub stage_of : ℕ → Stage
-stage_of n = if n == 0 then start else (if n == 1 then chains else over)
 
 -- those behind a place of the chains, where their front can be read
 abbrev pub chains_behind : FixupCursor → Result (Option Fixups) Fault → List Segment → List (Result Fixup Fault)
@@ -34,7 +26,7 @@ chains_behind c (Ok (Some fixups)) segments = fixups_behind (input_over fixups s
 -- these fixups come at a stage, of these chains over these segments: at the start all of them
 abbrev pub AreAtStage : Stage → FixupCursor → Result (Option Fixups) Fault → List Segment → List (Result Fixup Fault) → Type 0
 AreAtStage start c chained segments items = AreImageFixups chained segments items
-AreAtStage chains c chained segments items = items ≡ chains_behind c chained segments
+AreAtStage under_way c chained segments items = items ≡ chains_behind c chained segments
 AreAtStage over c chained segments items = items ≡ []
 
 -- these come behind a cursor

@@ -10,4 +10,7 @@ pub mod SymbolRows
 pub mod FixupRows
 pub mod ExportRows
 pub mod Say
+pub mod Stage
 pub mod FixupsBehind
+pub mod ImportRows
+pub mod ImportsBehind

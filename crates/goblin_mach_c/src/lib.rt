@@ -9,6 +9,7 @@ mod fat;
 mod find;
 mod fixups;
 mod images;
+mod imports;
 mod items;
 mod laws;
 mod libraries;
