@@ -5,3 +5,6 @@ pub mod OpenedLists
 pub mod Said
 pub mod HeldFacts
 pub mod HeldBinds
+pub mod BoundNames
+pub mod BoundChains
+pub mod BeginsThere

@@ -1,5 +1,5 @@
 -- How far the fixups of an image were given, and those that come behind.
-use Rattle.std.specs.Prelude.{◌≡◌, ℕ, List, [], ◌∷◌, Option, Some, None, Result, Ok, Err, map, drop}
+use Rattle.std.specs.Prelude.{◌≡◌, ℕ, List, [], Option, Some, None, Result, Ok, Err, map, drop}
 use Rattle.mach_base.specs.Fault.{Fault, fault_of}
 use Rattle.mach_parts.specs.declared.segment.Segment.{Segment}
 use Rattle.mach_chained.specs.FixupCursors.{IsOver, fixups_behind}
@@ -8,7 +8,9 @@ use Rattle.mach_chained.specs.Fixups.{Fixup}
 use Rattle.mach_chained.specs.Header.{Fixups}
 use Rattle.mach_chained.specs.declared.cursor.FixupCursor.{FixupCursor}
 use Rattle.goblin_mach.specs.Facts.{AreSegments, OfImage}
+use Rattle.mach_chained.specs.Views.{fixups_view}
 use Rattle.goblin_mach.specs.Fixups.{AreImageFixups, chained_in, input_over}
+use Rattle.goblin_mach.specs.FixupsLeft.{told_first}
 use Rattle.goblin_mach_c.specs.Fill.{Fills}
 use Rattle.goblin_mach_c.specs.FixupRows.{fixup_row}
 use Rattle.goblin_mach_c.specs.Stage.{Stage, start, under_way, over, stage_of}
@@ -49,9 +51,8 @@ pub record WritesFixups (bytes : List ℕ) (o : ℕ) (before after : gm_fixup_cu
 -- ---- what is left to the rows
 
 abbrev pub items_left : FixupRows → List (Result Fixup Fault)
-items_left rows.Nothing = []
-items_left (rows.Refused e) = Err (fault_of e) ∷ []
-items_left (rows.Chains it) = walk.fixups_left it
+items_left (rows.Unread why) = told_first why
+items_left (rows.Chains it) = walk.fixups_left it.fixups
 
 -- chains, and the segments that they go over
 pub record Chains : Type 0 where
@@ -60,6 +61,7 @@ pub record Chains : Type 0 where
 
 -- the rows are read from these
 abbrev pub AreOver : Chains → FixupRows → Type 0
-AreOver x rows.Nothing = Unit {0}
-AreOver x (rows.Refused e) = x.chained ≡ Err (fault_of e)
-AreOver x (rows.Chains it) = (fixups : Fixups) × (x.chained ≡ Ok (Some fixups)) × IsOver (input_over fixups x.segments) it
+AreOver x (rows.Unread None) = Unit {0}
+AreOver x (rows.Unread (Some e)) = x.chained ≡ Err (fault_of e)
+AreOver x (rows.Chains it) =
+    (x.chained ≡ Ok (Some (fixups_view it.chained))) × IsOver (input_over (fixups_view it.chained) x.segments) it.fixups

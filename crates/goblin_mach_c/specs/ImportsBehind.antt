@@ -8,6 +8,11 @@ use Rattle.mach_dyld.specs.BindLeft.{imports_left}
 use Rattle.mach_dyld.specs.Imports.{BindRanges, Import, input_in}
 use Rattle.mach_dyld.specs.declared.imports.cursor.BindCursor.{BindCursor}
 use Rattle.goblin_mach.specs.Facts.{AreSegments, OfImage}
+use Rattle.goblin_mach.specs.OpenImage.{binds_held, ctx_held}
+use Rattle.goblin_mach.specs.declared.image.macho.MachO.{MachO}
+use Rattle.std.specs.declared.alloc.Global.{Global}
+use Rattle.mach_dyld.specs.Exports.{texts}
+use Rattle.mach_parts.specs.Segments.{segments_in}
 use Rattle.goblin_mach.specs.Subjects.{AreImageBindItems, binds_in, libs_in}
 use Rattle.goblin_mach_c.specs.ImportRows.{IsImportRow}
 use Rattle.goblin_mach_c.specs.Say.{FillsBy}
@@ -23,6 +28,10 @@ pub record Binds : Type 0 where
   pub pointer : ℕ
   pub libs : List (List ℕ)
   pub segments : List Segment
+
+-- those of an image that is held
+abbrev pub binds_of : MachO Global → Binds
+binds_of m = record { ranges = binds_held m; pointer = pointer_size (ctx_held m).container; libs = texts m.libs.items; segments = segments_in m.segments }
 
 -- the imports behind a place of the streams; none where there are no binds
 abbrev pub streams_behind : BindCursor → Option BindRanges → Binds → List (Result Import Fault)

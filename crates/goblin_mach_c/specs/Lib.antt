@@ -14,3 +14,5 @@ pub mod Stage
 pub mod FixupsBehind
 pub mod ImportRows
 pub mod ImportsBehind
+pub mod BindingRows
+pub mod BindingsBehind

@@ -18,7 +18,9 @@ use crate::images::gm_image;
 use crate::items::{ItemRows, fill_items};
 use crate::open::{flag, open};
 use goblin_mach::MachO;
-use goblin_mach::chained_fixups::{Fixup, FixupCursor, FixupIterator, FixupKind, PointerAuth};
+use goblin_mach::chained_fixups::{
+    ChainedFixups, Fixup, FixupCursor, FixupIterator, FixupKind, PointerAuth,
+};
 use mach_base::{Error, Result, Steps};
 use std::alloc::Global;
 
@@ -137,12 +139,20 @@ pub struct gm_fixup_cursor {
     pub stage: u32,
 }
 
-/// What is left of the fixups of an image: nothing, why the front of its chains can't be read, or fixups of its chains.
+/// Fixups of an image's chains, and what stands at the front of these.
 #[derive(Drop)]
-enum FixupRows<'a, 'b> {
-    Nothing,
-    Refused(Error),
-    Chains(FixupIterator<'a, 'b>),
+pub struct ChainWalk<'a, 'b> {
+    pub chained: ChainedFixups<'a>,
+    pub fixups: FixupIterator<'a, 'b>,
+}
+
+/// What is left of the fixups of an image.
+#[derive(Drop)]
+pub enum FixupRows<'a, 'b> {
+    /// There is no chain to be read; and why not, as long as that was not told.
+    Unread(Option<Error>),
+    /// Fixups of its chains.
+    Chains(ChainWalk<'a, 'b>),
 }
 
 impl<'a, 'b> ItemRows for FixupRows<'a, 'b> {
@@ -161,14 +171,12 @@ impl<'a, 'b> ItemRows for FixupRows<'a, 'b> {
     #[inline(always)]
     fn next(&mut self) -> Option<gm_fixup> {
         match self {
-            FixupRows::Nothing => None,
-            FixupRows::Refused(why) => {
-                let row = refused_row(why);
-                *self = FixupRows::Nothing;
-                Some(row)
+            FixupRows::Unread(told) => {
+                let why = told.take()?;
+                Some(refused_row(&why))
             }
-            FixupRows::Chains(fixups) => {
-                let found = fixups.next_counted(&mut Steps::new())?;
+            FixupRows::Chains(walk) => {
+                let found = walk.fixups.next_counted(&mut Steps::new())?;
                 Some(row_of(&found))
             }
         }
@@ -195,31 +203,35 @@ fn at_stage(stage: u32) -> gm_fixup_cursor
 }
 
 impl<'a, 'b> FixupRows<'a, 'b> {
-    // Those behind a cursor.
-    fn behind(image: &'b MachO<'a, Global>, cursor: &gm_fixup_cursor) -> Self
+    /// Those behind a cursor.
+    pub fn behind(image: &'b MachO<'a, Global>, cursor: &gm_fixup_cursor) -> Self
         ensures items { AreFixupsBehind cursor.now (chained_held image.now) (segments_in image.now.segments) (items_left result) }
         ensures over { AreOver (record { chained = chained_held image.now; segments = segments_in image.now.segments }) result }
     {
         let (segments, base) = (image.segments.as_slice(), image.base());
         match (cursor.stage, image.chained_fixups()) {
-            (0, Ok(Some(chained))) => FixupRows::Chains(chained.fixups(segments, base)),
-            (0, Err(why)) => FixupRows::Refused(why),
-            (1, Ok(Some(chained))) => {
-                FixupRows::Chains(chained.fixups_from(segments, base, &cursor.chains))
-            }
-            _ => FixupRows::Nothing,
+            (0, Ok(Some(chained))) => FixupRows::Chains(ChainWalk {
+                chained,
+                fixups: chained.fixups(segments, base),
+            }),
+            (0, Err(why)) => FixupRows::Unread(Some(why)),
+            (1, Ok(Some(chained))) => FixupRows::Chains(ChainWalk {
+                chained,
+                fixups: chained.fixups_from(segments, base, &cursor.chains),
+            }),
+            _ => FixupRows::Unread(None),
         }
     }
 
-    // A cursor of those that are left.
-    fn cursor(&self) -> gm_fixup_cursor
+    /// A cursor of those that are left.
+    pub fn cursor(&self) -> gm_fixup_cursor
         ensures { (x : Chains) → AreOver x self.now → AreFixupsBehind result x.chained x.segments (items_left self.now) }
     {
         match self {
-            FixupRows::Nothing => at_stage(2),
-            FixupRows::Refused(_) => at_stage(0),
-            FixupRows::Chains(fixups) => gm_fixup_cursor {
-                chains: fixups.cursor(),
+            FixupRows::Unread(None) => at_stage(2),
+            FixupRows::Unread(Some(_)) => at_stage(0),
+            FixupRows::Chains(walk) => gm_fixup_cursor {
+                chains: walk.fixups.cursor(),
                 stage: 1,
             },
         }

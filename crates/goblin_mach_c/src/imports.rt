@@ -1,17 +1,14 @@
 //! The imports of an image's binds.
 
-ghost use Rattle.std.specs.Prelude.{◌≡◌, ◌≢◌, ℕ, List, Err, Result, MatchResult};
-ghost use Rattle.mach_base.specs.Context.{pointer_size};
+ghost use Rattle.std.specs.Prelude.{◌≡◌, ◌≢◌, ℕ, List, Result, Some};
 ghost use Rattle.mach_base.specs.Fault.{Fault, fault_of};
 ghost use Rattle.mach_dyld.specs.BindCursors.{Stands};
 ghost use Rattle.mach_dyld.specs.BindViews.{import_in};
-ghost use Rattle.mach_dyld.specs.Exports.{texts};
 ghost use Rattle.mach_dyld.specs.Imports as defined;
-ghost use Rattle.mach_parts.specs.Segments.{segments_in};
-ghost use Rattle.goblin_mach.specs.OpenImage.{binds_held, bytes_held, ctx_held};
+ghost use Rattle.goblin_mach.specs.OpenImage.{binds_held};
 ghost use Rattle.goblin_mach_c.specs.Codes.{IsRefusal};
 ghost use Rattle.goblin_mach_c.specs.ImportRows.{IsImportRow, IsNameAt, import_row, no_import};
-ghost use Rattle.goblin_mach_c.specs.ImportsBehind.{AreImportsBehind, AreOver, Binds, WritesImports, items_left};
+ghost use Rattle.goblin_mach_c.specs.ImportsBehind.{AreImportsBehind, AreOver, Binds, WritesImports, binds_of, items_left};
 ghost use Rattle.goblin_mach_c.specs.Opened.{FaultIn, lossy_mode};
 
 use crate::errors::{GM_OK, code_of, gm_error, refuse};
@@ -142,22 +139,9 @@ impl<'a, 'b> ItemRows for ImportRows<'a, 'b> {
 impl<'a, 'b> ImportRows<'a, 'b> {
     // Those behind a cursor.
     fn behind(image: &'b MachO<'a, Global>, cursor: &gm_bind_cursor) -> Self
-        ensures items { AreImportsBehind cursor.now (record {
-          ranges = binds_held image.now;
-          pointer = pointer_size (ctx_held image.now).container;
-          libs = texts image.now.libs.items;
-          segments = segments_in image.now.segments;
-        }) (items_left result) }
+        ensures items { AreImportsBehind cursor.now (binds_of image.now) (items_left result) }
         ensures over { (bytes : List ℕ) → ((b : defined.BindRanges) → binds_held image.now ≡ Some b → b.bytes ≡ bytes)
-            → AreOver (
-              bytes,
-              record {
-                ranges = binds_held image.now;
-                pointer = pointer_size (ctx_held image.now).container;
-                libs = texts image.now.libs.items;
-                segments = segments_in image.now.segments;
-              },
-            ) result }
+            → AreOver (bytes, binds_of image.now) result }
     {
         let Some(binds) = image.binds() else {
             return ImportRows::Nothing;
@@ -189,7 +173,7 @@ impl<'a, 'b> ImportRows<'a, 'b> {
 }
 
 // The cursor behind the last import.
-fn over() -> gm_bind_cursor
+pub fn over() -> gm_bind_cursor
     ensures { result.stage ≡ 2 }
 {
     let binds = BindCursor {

@@ -2,6 +2,7 @@
 //! into what the caller hands in. Nothing is kept between calls.
 #![tactic(auto)]
 
+mod bindings;
 mod commands;
 mod cursor_laws;
 mod errors;
