@@ -95,6 +95,20 @@ BEHIND(fixups, gm_fixup, gm_fixup_cursor)
 LIST(fixups, gm_fixup, fixups(g, first, rows, cap),
      fprintf(to, "%" PRIx64 " %" PRIx64 " %" PRIx64 " %u %u %u %d %u %u %u %u %u", r->address, r->offset, r->target, r->segment, r->kind, r->import,
              r->addend, r->is_signed, r->key, r->diversity, r->is_address_diverse, r->code))
+/* machdump's line of an import stands last */
+static void dylib(FILE *to, const given *g, uint64_t ordinal) {
+    gm_library l;
+    if (!ordinal) fputs("self", to);
+    else if (gm_libraries(OF, ordinal - 1, &l, 1)) text(to, g, l.name, l.name_len);
+}
+BEHIND(imports, gm_import, gm_bind_cursor)
+LIST(imports, gm_import, imports(g, first, rows, cap),
+     fprintf(to, "%u %" PRIu64 " %" PRIx64 " %" PRId64 " %" PRIx64 " %zu %u %u 0x%" PRIx64 " ", r->code, r->library, r->offset, r->addend,
+             r->start_of_sequence_offset, r->size, r->is_weak, r->is_lazy, r->address); dylib(to, g, r->library); fputc(' ', to); text(to, g, r->name, r->name_len))
+BEHIND(bindings, gm_binding, gm_binding_cursor)
+LIST(bindings, gm_binding, bindings(g, first, rows, cap),
+     fprintf(to, "%u %u %" PRIu64 " %" PRIx64 " %" PRId64 " %u %u 0x%" PRIx64 " ", r->code, r->provider, r->library, r->offset, r->addend, r->is_weak,
+             r->is_lazy, r->address); text(to, g, r->name, r->name_len))
 LIST(run_paths, gm_run_path, gm_run_paths(OF, first, rows, cap), text(to, g, r->path, r->path_len))
 
 typedef struct {
@@ -105,7 +119,7 @@ typedef struct {
 } list;
 #define ONE(name, row) {#name, sizeof(row), rows_##name, line_##name}
 static const list lists[] = {ONE(commands, gm_command), ONE(segments, gm_segment), ONE(symbols, gm_symbol), ONE(libraries, gm_library),
-                             ONE(run_paths, gm_run_path), ONE(fixups, gm_fixup), ONE(entries, gm_fat_entry),
+                             ONE(run_paths, gm_run_path), ONE(fixups, gm_fixup), ONE(imports, gm_import), ONE(bindings, gm_binding), ONE(entries, gm_fat_entry),
                              ONE(sections, gm_section), ONE(relocations, gm_relocation)};
 enum { LISTS = sizeof lists / sizeof *lists, LIMIT = 400 };
 
@@ -188,11 +202,11 @@ static void check_parts(given *g) {
     size_t n = gm_segments(OF, 0, segments, 16);
     for (size_t i = 0; i < n; i++) {
         g->segment = segments[i];
-        same_in_batches(&lists[7], g);
+        same_in_batches(&lists[9], g);
         size_t m = gm_sections(OF, segments[i].command, segments[i].sections, 0, sections, 16);
         for (size_t k = 0; k < m; k++) {
             g->section = sections[k];
-            same_in_batches(&lists[8], g);
+            same_in_batches(&lists[10], g);
         }
     }
 }
@@ -223,7 +237,7 @@ static void finds(const given *g, const char *name, size_t name_len) {
 
 static void check(const uint8_t *bytes, size_t len) {
     given g = {.bytes = bytes, .len = len};
-    same_in_batches(&lists[6], &g);
+    same_in_batches(&lists[8], &g);
     for (uint32_t mode = GM_STRICT; mode <= GM_LOSSY; mode++) {
         if (opens(&g, mode)) continue;
         char *all = lines(&lists[0], &g, LIMIT);
@@ -231,9 +245,11 @@ static void check(const uint8_t *bytes, size_t len) {
         for (char *c = all; *c; c++) count += *c == '\n';
         free(all);
         if (count != g.image.commands) DIE("%zu commands of %zu", count, g.image.commands);
-        for (int i = 0; i < 6; i++) same_in_batches(&lists[i], &g);
+        for (int i = 0; i < 8; i++) same_in_batches(&lists[i], &g);
         check_parts(&g);
         fixups_refused(&g);
+        imports_refused(&g);
+        bindings_refused(&g);
         finds(&g, NULL, 0);
         finds(&g, "a", 1);
         finds(&g, "\xff", 1);

@@ -106,6 +106,8 @@ size_t gm_relocations(const uint8_t *bytes, size_t len, const gm_image *image, u
         return code; \
     }
 BEHIND(fixups, gm_fixup, gm_fixup_cursor)
+BEHIND(imports, gm_import, gm_bind_cursor)
+BEHIND(bindings, gm_binding, gm_binding_cursor)
 
 uint32_t gmr_find_export(const uint8_t *, size_t, const gm_image *, const char *, size_t, gm_export *, char *, size_t, char *, size_t, gm_error *);
 uint32_t gm_find_export(const uint8_t *bytes, size_t len, const gm_image *image, const char *name, size_t name_len, gm_export *found,
