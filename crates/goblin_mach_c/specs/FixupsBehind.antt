@@ -35,18 +35,26 @@ AreAtStage over c chained segments items = items ≡ []
 abbrev pub AreFixupsBehind : gm_fixup_cursor → Result (Option Fixups) Fault → List Segment → List (Result Fixup Fault) → Type 0
 AreFixupsBehind c chained segments items = AreAtStage (stage_of c.stage) c.chains chained segments items
 
--- these fixups of the image at o come behind a cursor
-abbrev pub HasFixupsBehind : List ℕ → ℕ → gm_fixup_cursor → List (Result Fixup Fault) → Type 0
-HasFixupsBehind bytes o c items = OfImage bytes o (λ ctx cs. (segments : List Segment) × AreSegments ctx bytes cs segments
-    × AreFixupsBehind c (chained_in ctx bytes cs) segments items)
-
 -- The rows of the fixups behind a cursor were written, as many as there are and fit, and behind the new cursor come the
 -- others.
-pub record WritesFixups (bytes : List ℕ) (o : ℕ) (before after : gm_fixup_cursor) (old new : List gm_fixup) (n : ℕ) : Type 0 where
+pub record AreFixupsWritten (chained : Result (Option Fixups) Fault) (segments : List Segment) (before after : gm_fixup_cursor) (old new : List gm_fixup)
+    (n : ℕ) : Type 0 where
   pub items : List (Result Fixup Fault)
-  pub behind : HasFixupsBehind bytes o before items
+  pub behind : AreFixupsBehind before chained segments items
   pub rows : Fills (map fixup_row items) old new n
-  pub rest : HasFixupsBehind bytes o after (drop n items)
+  pub rest : AreFixupsBehind after chained segments (drop n items)
+
+-- the chains of the image at o, over its segments
+abbrev pub OfChains : List ℕ → ℕ → (Result (Option Fixups) Fault → List Segment → Type 0) → Type 0
+OfChains bytes o Holds = OfImage bytes o (λ ctx cs. (segments : List Segment) × AreSegments ctx bytes cs segments × Holds (chained_in ctx bytes cs) segments)
+
+-- these fixups of the image at o come behind a cursor
+abbrev pub HasFixupsBehind : List ℕ → ℕ → gm_fixup_cursor → List (Result Fixup Fault) → Type 0
+HasFixupsBehind bytes o c items = OfChains bytes o (λ chained segments. AreFixupsBehind c chained segments items)
+
+-- the rows of the fixups of the image at o were written
+abbrev pub WritesFixups : List ℕ → ℕ → (before after : gm_fixup_cursor) → (old new : List gm_fixup) → ℕ → Type 0
+WritesFixups bytes o before after old new n = OfChains bytes o (λ chained segments. AreFixupsWritten chained segments before after old new n)
 
 -- ---- what is left to the rows
 

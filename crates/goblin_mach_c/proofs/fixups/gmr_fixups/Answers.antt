@@ -1,10 +1,10 @@
-use Rattle.std.proofs.Common.{List, Result, drop, subst}
+use Rattle.std.proofs.Common.{List, Result, subst}
 use Rattle.mach_base.specs.Fault.{Fault}
 use Rattle.mach_chained.specs.Fixups.{Fixup}
 use Rattle.mach_parts.specs.Segments.{segments_in}
 use Rattle.goblin_mach.specs.Fixups.{chained_held}
 use Rattle.goblin_mach_c.specs.FixupRows.{fixup_row}
-use Rattle.goblin_mach_c.specs.FixupsBehind.{AreFixupsBehind, Chains, items_left}
+use Rattle.goblin_mach_c.specs.FixupsBehind.{AreFixupsBehind, AreFixupsWritten, Chains, items_left}
 use Rattle.goblin_mach_c.proofs.HeldFacts.{of_held}
 use Rattle.goblin_mach_c.proofs.Said.{mapped_fills}
 use Rattle.goblin_mach_c.proofs.fixups.gmr_fixups.Goals as goal
@@ -16,13 +16,12 @@ returns-in-Ok-clause-written c = λ _.
     let over = c.behind-rows.ensures.over in
     let items = items_left c.behind-rows.result in
     let n = c.fill_items.result in
-    record {
+    of_held c.args.bytes.now c.args.image.now.offset m c.in-Ok.ensures.opened
+    (λ _ chained _ _ segments. AreFixupsWritten chained segments c.args.cursor.now c.cursor.result c.args.out.now c.fill_items.new.out n)
+    (record {
       items = items;
-      behind = of_held c.args.bytes.now c.args.image.now.offset m c.in-Ok.ensures.opened
-          (λ _ chained _ _ segments. AreFixupsBehind c.args.cursor.now chained segments items) c.behind-rows.ensures.items;
+      behind = c.behind-rows.ensures.items;
       rows = mapped_fills fixup_row items c.args.out.now c.fill_items.new.out n (c.fill_items.ensures.filled x over);
-      rest = of_held c.args.bytes.now c.args.image.now.offset m c.in-Ok.ensures.opened
-          (λ _ chained _ _ segments. AreFixupsBehind c.cursor.result chained segments (drop n items))
-          (subst (λ (l : List (Result Fixup Fault)). AreFixupsBehind c.cursor.result x.chained x.segments l) (c.fill_items.ensures.rest x over)
-          (c.cursor.ensures x (c.fill_items.ensures.over x over)));
-    }
+      rest = subst (λ (l : List (Result Fixup Fault)). AreFixupsBehind c.cursor.result x.chained x.segments l) (c.fill_items.ensures.rest x over)
+          (c.cursor.ensures x (c.fill_items.ensures.over x over));
+    })
