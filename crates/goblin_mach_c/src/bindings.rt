@@ -26,7 +26,7 @@ ghost use Rattle.goblin_mach_c.specs.Opened.{FaultIn, lossy_mode};
 use crate::errors::{GM_OK, code_of, gm_error, refuse};
 use crate::fixups::{ChainWalk, FixupRows, gm_fixup_cursor};
 use crate::images::gm_image;
-use crate::imports::{gm_bind_cursor, over};
+use crate::imports::{gm_bind_cursor, over, place_of_name};
 use crate::items::{ItemRows, fill_items};
 use crate::open::{flag, open};
 use goblin_mach::chained_fixups::{ChainedFixups, Fixup, FixupKind};
@@ -83,14 +83,6 @@ fn numbers_of(provider: Provider<'_>) -> (u32, u64)
     }
 }
 
-// Where a name is said to stand: one of no bytes at 0.
-#[inline(always)]
-fn said_place(name: &str, place: usize) -> usize
-    ensures { (bytes : List ℕ) → (name.now ≡ []) ⊎ StandsIn bytes place name.now → StandsIn bytes result name.now }
-{
-    if name.is_empty() { 0 } else { place }
-}
-
 // Why the bindings can't be read further, as C sees it.
 fn refused_row(why: &Error) -> gm_binding
     ensures { result ≡ no_binding (fault_of why.now) }
@@ -121,7 +113,7 @@ fn row_of(placed: &PlacedBinding<'_>) -> gm_binding
         address: binding.address,
         offset: binding.offset,
         addend: binding.addend,
-        name: said_place(binding.name, placed.name_place),
+        name: place_of_name(binding.name, placed.name_place),
         name_len: binding.name.len(),
         library,
         provider,

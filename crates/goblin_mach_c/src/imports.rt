@@ -1,11 +1,12 @@
 //! The imports of an image's binds.
 
-ghost use Rattle.std.specs.Prelude.{◌≡◌, ◌≢◌, ℕ, List, Result, Some};
+ghost use Rattle.std.specs.Prelude.{◌≡◌, ◌≢◌, ℕ, List, [], Result, Some, ◌⊎◌};
 ghost use Rattle.mach_base.specs.Fault.{Fault, fault_of};
 ghost use Rattle.mach_dyld.specs.BindCursors.{Stands};
 ghost use Rattle.mach_dyld.specs.BindViews.{import_in};
 ghost use Rattle.mach_dyld.specs.Imports as defined;
 ghost use Rattle.goblin_mach.specs.OpenImage.{binds_held};
+ghost use Rattle.goblin_mach_c.specs.BindingRows.{StandsIn};
 ghost use Rattle.goblin_mach_c.specs.Codes.{IsRefusal};
 ghost use Rattle.goblin_mach_c.specs.ImportRows.{IsImportRow, IsNameAt, import_row, no_import};
 ghost use Rattle.goblin_mach_c.specs.ImportsBehind.{AreImportsBehind, AreOver, Binds, WritesImports, binds_of, items_left};
@@ -54,10 +55,11 @@ pub struct gm_bind_cursor {
     pub stage: u32,
 }
 
-// Where a name is said to stand.
+/// Where a name is said to stand: one of no bytes at 0.
 #[inline(always)]
 pub fn place_of_name(name: &str, place: usize) -> usize
-    ensures { (bytes : List ℕ) → Stands bytes place name.now → IsNameAt bytes result name.now }
+    ensures text { (bytes : List ℕ) → Stands bytes place name.now → IsNameAt bytes result name.now }
+    ensures stands { (bytes : List ℕ) → (name.now ≡ []) ⊎ StandsIn bytes place name.now → StandsIn bytes result name.now }
 {
     if name.is_empty() { 0 } else { place }
 }
@@ -172,7 +174,7 @@ impl<'a, 'b> ImportRows<'a, 'b> {
     }
 }
 
-// The cursor behind the last import.
+/// The cursor behind the last import.
 pub fn over() -> gm_bind_cursor
     ensures { result.stage ≡ 2 }
 {
