@@ -32,13 +32,24 @@ WALK(commands, gm_command, rows[i].size)
 WALK(segments, gm_segment, rows[i].vmsize)
 WALK(libraries, gm_library, rows[i].name_len)
 
-static size_t fixups(void) {
-    static gm_fixup rows[1 << 20];
-    size_t count = 0;
-    gm_fixups(bytes, len, &image, 0, rows, 1 << 20, &count, NULL, &error);
-    for (size_t i = 0; i < count; i++) seen += rows[i].address;
-    return count;
-}
+/* lists that go on from a cursor, in batches of so many */
+static size_t batch;
+#define WALK_BEHIND(list, row, place, use) \
+    static size_t list(void) { \
+        static row rows[LARGEST]; \
+        place at = {0}; \
+        size_t all = 0, n; \
+        do { \
+            if (gm_##list(bytes, len, &image, &at, rows, batch, &n, NULL, &error)) break; \
+            for (size_t i = 0; i < n; i++) seen += use; \
+            all += n; \
+        } while (n == batch); \
+        return all; \
+    }
+enum { LARGEST = 1 << 20 };
+WALK_BEHIND(fixups, gm_fixup, gm_fixup_cursor, rows[i].address)
+WALK_BEHIND(imports, gm_import, gm_bind_cursor, rows[i].address + rows[i].name_len)
+WALK_BEHIND(bindings, gm_binding, gm_binding_cursor, rows[i].address + rows[i].name_len)
 
 static size_t layout(void) {
     static gm_layout_fault rows[1 << 16];
@@ -73,7 +84,14 @@ int main(int argc, char **argv) {
     time_of("commands", commands);
     time_of("segments", segments);
     time_of("libraries", libraries);
-    time_of("fixups", fixups);
     time_of("layout", layout);
+    static const size_t batches[] = {1000, LARGEST};
+    for (int i = 0; i < 2; i++) {
+        batch = batches[i];
+        printf("in batches of %zu\n", batch);
+        time_of("fixups", fixups);
+        time_of("imports", imports);
+        time_of("bindings", bindings);
+    }
     return seen == 1;
 }

@@ -40,16 +40,75 @@ LIST(symbols, gm_symbol, gm_symbols(OF, first, rows, cap),
      fprintf(to, "%0*" PRIx64 " %x %zu %x %u ", g->image.is_64 ? 16 : 8, r->value, r->n_type, r->section, r->desc, r->code); text(to, g, r->name, r->name_len))
 LIST(libraries, gm_library, gm_libraries(OF, first, rows, cap),
      fprintf(to, "%u %u %x %x ", r->kind, r->timestamp, r->current_version, r->compatibility_version); text(to, g, r->name, r->name_len))
-static size_t fixups(const given *g, size_t first, gm_fixup *rows, size_t cap) {
-    size_t count = SIZE_MAX;
-    gm_error e;
-    uint32_t code = gm_fixups(OF, first, rows, cap, &count, NULL, &e);
-    if (code && count != SIZE_MAX) DIE("a refusal changed the count");
-    return code ? 0 : count;
+/* memory that is refused at a request, and that is counted */
+
+typedef struct { size_t asked, refused, held; } counted;
+static void *take(void *self, size_t size) {
+    counted *c = self;
+    if (++c->asked == c->refused) return NULL;
+    c->held++;
+    return malloc(size);
 }
+static void give(void *self, void *block) { ((counted *)self)->held--; free(block); }
+
+static uint64_t made_up(size_t len);
+static void make_up(void *at, size_t size, size_t len);
+
+static int of_damage;
+
+/* what comes behind a cursor: from the start at 0, else where the last call went; of damage a cursor of made-up numbers */
+#define BEHIND(name, row, place) \
+    static size_t name(const given *g, size_t first, row *rows, size_t cap) { \
+        static place at; \
+        if (!first) memset(&at, 0, sizeof at); \
+        if (of_damage) make_up(&at, sizeof at, g->len); \
+        place before = at; \
+        size_t count = SIZE_MAX; \
+        gm_error e; \
+        uint32_t code = gm_##name(OF, &at, rows, cap, &count, NULL, &e); \
+        if (code && (count != SIZE_MAX || memcmp(&before, &at, sizeof at))) DIE("a refusal changed the count or the cursor"); \
+        return code ? 0 : count; \
+    } \
+    static void name##_refused(const given *g) { \
+        row rows[4], first[4]; \
+        place at = {0}, begun = {0}; \
+        size_t many = 0, count = SIZE_MAX; \
+        gm_error e = {0}, f = {0}; \
+        memset(first, 0xa5, sizeof first); \
+        uint32_t code = gm_##name(OF, &begun, first, 4, &many, NULL, &e); \
+        if (code != e.code) DIE("an error without its code"); \
+        for (size_t k = 1;; k++) { \
+            counted c = {0, k, 0}; \
+            gm_memory m = {&c, take, give}; \
+            place untouched = {0}; \
+            memset(rows, 0xa5, sizeof rows); \
+            uint32_t again = gm_##name(OF, &at, rows, 4, &count, &m, &f); \
+            if (c.held) DIE("a block was kept"); \
+            if (again && (count != SIZE_MAX || memcmp(&at, &untouched, sizeof at) || *(uint8_t *)rows != 0xa5)) DIE("a refusal left something"); \
+            if (again != GM_NO_MEMORY) { \
+                if (again != code || (!code && (count != many || memcmp(rows, first, sizeof rows)))) DIE("memory changed an answer"); \
+                break; \
+            } \
+        } \
+    }
+BEHIND(fixups, gm_fixup, gm_fixup_cursor)
 LIST(fixups, gm_fixup, fixups(g, first, rows, cap),
      fprintf(to, "%" PRIx64 " %" PRIx64 " %" PRIx64 " %u %u %u %d %u %u %u %u %u", r->address, r->offset, r->target, r->segment, r->kind, r->import,
              r->addend, r->is_signed, r->key, r->diversity, r->is_address_diverse, r->code))
+/* machdump's line of an import stands last */
+static void dylib(FILE *to, const given *g, uint64_t ordinal) {
+    gm_library l;
+    if (!ordinal) fputs("self", to);
+    else if (gm_libraries(OF, ordinal - 1, &l, 1)) text(to, g, l.name, l.name_len);
+}
+BEHIND(imports, gm_import, gm_bind_cursor)
+LIST(imports, gm_import, imports(g, first, rows, cap),
+     fprintf(to, "%u %" PRIu64 " %" PRIx64 " %" PRId64 " %" PRIx64 " %zu %u %u 0x%" PRIx64 " ", r->code, r->library, r->offset, r->addend,
+             r->start_of_sequence_offset, r->size, r->is_weak, r->is_lazy, r->address); dylib(to, g, r->library); fputc(' ', to); text(to, g, r->name, r->name_len))
+BEHIND(bindings, gm_binding, gm_binding_cursor)
+LIST(bindings, gm_binding, bindings(g, first, rows, cap),
+     fprintf(to, "%u %u %" PRIu64 " %" PRIx64 " %" PRId64 " %u %u 0x%" PRIx64 " ", r->code, r->provider, r->library, r->offset, r->addend, r->is_weak,
+             r->is_lazy, r->address); text(to, g, r->name, r->name_len))
 LIST(run_paths, gm_run_path, gm_run_paths(OF, first, rows, cap), text(to, g, r->path, r->path_len))
 
 /* ---- faults of layout, of an image and of a fat file's table: the lines are those of machaudit */
@@ -93,9 +152,8 @@ typedef struct {
 } list;
 #define ONE(name, row) {#name, sizeof(row), rows_##name, line_##name}
 static const list lists[] = {ONE(commands, gm_command), ONE(segments, gm_segment), ONE(symbols, gm_symbol), ONE(libraries, gm_library),
-                             ONE(run_paths, gm_run_path), ONE(fixups, gm_fixup), ONE(entries, gm_fat_entry),
-                             ONE(sections, gm_section), ONE(relocations, gm_relocation), ONE(layout, gm_layout_fault),
-                             ONE(table, gm_layout_fault)};
+                             ONE(run_paths, gm_run_path), ONE(fixups, gm_fixup), ONE(imports, gm_import), ONE(bindings, gm_binding), ONE(entries, gm_fat_entry),
+                             ONE(sections, gm_section), ONE(relocations, gm_relocation), ONE(layout, gm_layout_fault), ONE(table, gm_layout_fault)};
 enum { LISTS = sizeof lists / sizeof *lists, LIMIT = 400 };
 
 static const list *named(const char *name) {
@@ -125,16 +183,7 @@ static char *lines(const list *l, const given *g, size_t batch) {
     return text_of;
 }
 
-/* ---- memory that is refused at a request, and that is counted */
-
-typedef struct { size_t asked, refused, held; } counted;
-static void *take(void *self, size_t size) {
-    counted *c = self;
-    if (++c->asked == c->refused) return NULL;
-    c->held++;
-    return malloc(size);
-}
-static void give(void *self, void *block) { ((counted *)self)->held--; free(block); }
+/* ---- memory of a call */
 
 static size_t mallocs;
 void *__real_malloc(size_t size);
@@ -192,11 +241,11 @@ static void check_parts(given *g) {
     size_t n = gm_segments(OF, 0, segments, 16);
     for (size_t i = 0; i < n; i++) {
         g->segment = segments[i];
-        same_in_batches(&lists[7], g);
+        same_in_batches(&lists[9], g);
         size_t m = gm_sections(OF, segments[i].command, segments[i].sections, 0, sections, 16);
         for (size_t k = 0; k < m; k++) {
             g->section = sections[k];
-            same_in_batches(&lists[8], g);
+            same_in_batches(&lists[10], g);
         }
     }
 }
@@ -275,7 +324,7 @@ static void lies_behind(const given *g) {
 
 static void check(const uint8_t *bytes, size_t len) {
     given g = {.bytes = bytes, .len = len};
-    same_in_batches(&lists[6], &g);
+    same_in_batches(named("entries"), &g);
     same_in_batches(named("table"), &g);
     tells(told_of_table, &g);
     for (uint32_t mode = GM_STRICT; mode <= GM_LOSSY; mode++) {
@@ -285,9 +334,12 @@ static void check(const uint8_t *bytes, size_t len) {
         for (char *c = all; *c; c++) count += *c == '\n';
         free(all);
         if (count != g.image.commands) DIE("%zu commands of %zu", count, g.image.commands);
-        for (int i = 0; i < 6; i++) same_in_batches(&lists[i], &g);
+        for (int i = 0; i < 8; i++) same_in_batches(&lists[i], &g);
         check_parts(&g);
         same_in_batches(named("layout"), &g);
+        fixups_refused(&g);
+        imports_refused(&g);
+        bindings_refused(&g);
         tells(told_of_image, &g);
         lies_behind(&g);
         finds(&g, NULL, 0);
@@ -311,19 +363,23 @@ static uint64_t made_up(size_t len) {
     }
 }
 
+/* made-up numbers in some places of a struct */
+static void make_up(void *at, size_t size, size_t len) {
+    for (size_t k = 0; k + 4 <= size; k += 4) {
+        uint64_t number = made_up(len);
+        if (chance() % 3 == 0) memcpy((uint8_t *)at + k, &number, k % 8 || k + 8 > size ? 4 : 8);
+    }
+}
+
 static FILE *away;
 
 static void damage(const uint8_t *bytes, size_t len) {
     given g = {.bytes = bytes, .len = len};
     gm_error e;
     if (chance() % 2) gm_open(bytes, len, 0, GM_LOSSY, NULL, &g.image, &e);
-    uint8_t *parts[] = {(uint8_t *)&g.image, (uint8_t *)&g.segment, (uint8_t *)&g.section};
-    size_t sizes[] = {sizeof g.image, sizeof g.segment, sizeof g.section};
-    for (int i = 0; i < 3; i++)
-        for (size_t at = 0; at + 4 <= sizes[i]; at += 4) {
-            uint64_t number = made_up(len);
-            if (chance() % 3 == 0) memcpy(parts[i] + at, &number, at % 8 || at + 8 > sizes[i] ? 4 : 8);
-        }
+    make_up(&g.image, sizeof g.image, len);
+    make_up(&g.segment, sizeof g.segment, len);
+    make_up(&g.section, sizeof g.section, len);
     gm_export found;
     char library[4], target[4];
     gm_find_export(bytes, len, &g.image, "a", chance() % 2, &found, library, chance() % 5, target, chance() % 5, NULL, &e);
@@ -390,7 +446,7 @@ int main(int argc, char **argv) {
     if (gm_version() != GM_VERSION) DIE("the header is of version %d and the library of %u", GM_VERSION, gm_version());
     if (argc == 2 && !strcmp(argv[1], "names")) return print_names();
     if (argc < 3) DIE("usage: gm_test names, gm_test WHAT FILE, gm_test check FILE.., gm_test damage COUNT FILE..");
-    int of_damage = !strcmp(argv[1], "damage");
+    of_damage = !strcmp(argv[1], "damage");
     away = fopen("/dev/null", "w");
     if (!away) DIE("/dev/null can't be opened");
     check(NULL, 0);

@@ -95,14 +95,19 @@ size_t gm_relocations(const uint8_t *bytes, size_t len, const gm_image *image, u
     return gmr_relocations(BYTES, len, image, reloff, nreloc, first, AT(out), cap);
 }
 
-uint32_t gmr_fixups(const uint8_t *, size_t, const gm_image *, size_t, gm_fixup *, size_t, size_t *, gm_error *);
-uint32_t gm_fixups(const uint8_t *bytes, size_t len, const gm_image *image, size_t first, gm_fixup *out, size_t cap, size_t *count,
-                   const gm_memory *memory, gm_error *error) {
-    memory_of_call = memory;
-    uint32_t code = gmr_fixups(BYTES, len, image, first, AT(out), cap, count, error);
-    memory_of_call = NULL;
-    return code;
-}
+/* the items of an image behind a cursor */
+#define BEHIND(name, row, place) \
+    uint32_t gmr_##name(const uint8_t *, size_t, const gm_image *, place *, row *, size_t, size_t *, gm_error *); \
+    uint32_t gm_##name(const uint8_t *bytes, size_t len, const gm_image *image, place *cursor, row *out, size_t cap, size_t *count, \
+                       const gm_memory *memory, gm_error *error) { \
+        memory_of_call = memory; \
+        uint32_t code = gmr_##name(BYTES, len, image, cursor, AT(out), cap, count, error); \
+        memory_of_call = NULL; \
+        return code; \
+    }
+BEHIND(fixups, gm_fixup, gm_fixup_cursor)
+BEHIND(imports, gm_import, gm_bind_cursor)
+BEHIND(bindings, gm_binding, gm_binding_cursor)
 
 uint32_t gmr_find_export(const uint8_t *, size_t, const gm_image *, const char *, size_t, gm_export *, char *, size_t, char *, size_t, gm_error *);
 uint32_t gm_find_export(const uint8_t *bytes, size_t len, const gm_image *image, const char *name, size_t name_len, gm_export *found,

@@ -5,7 +5,12 @@
 
    Calls with `first`, `out` and `cap` write the items of a list from number `first` on, as many as there are and fit,
    answer how many, and leave the rest of the array as it was: 0 says that there are no more. NULL may stand where a
-   length is 0. Calls that answer a code answer GM_OK, or why not, with words in *error. */
+   length is 0. Calls that answer a code answer GM_OK, or why not, with words in *error.
+
+   Calls with a cursor write the items behind it, as many as there are and fit, move it behind them, and say in *count how many:
+   fewer than `cap` says that there are no more. A cursor is numbers that the calls alone read; all zero is the start; it goes
+   with the bytes and the image, and may be copied. They open the image again, and take memory while they run. A refusal leaves
+   the array, the cursor and *count as they were. */
 #ifndef GOBLIN_MACH_H
 #define GOBLIN_MACH_H
 #include <stdbool.h>
@@ -130,11 +135,40 @@ typedef struct gm_fixup {
 } gm_fixup;
 enum { GM_REBASE, GM_BIND, GM_NUMBER };
 
-/* The fixups from number `first` on, and how many were written to *count. It opens the image again, and takes memory while
-   it runs. A refusal leaves the array and *count as they were. */
-uint32_t gm_fixups(const uint8_t *bytes, size_t len, const gm_image *image, size_t first, gm_fixup *out, size_t cap, size_t *count,
+typedef struct gm_fixup_cursor { uint64_t chains[4]; uint32_t stage, reserved; } gm_fixup_cursor;
+uint32_t gm_fixups(const uint8_t *bytes, size_t len, const gm_image *image, gm_fixup_cursor *cursor, gm_fixup *out, size_t cap, size_t *count,
                    const gm_memory *memory, gm_error *error);
 
+/* ---- its imports, by the binds of LC_DYLD_INFO: the name of one is `name_len` bytes at bytes + name, and its library is the one
+   of ordinal `library`, 0 for the image itself */
+typedef struct gm_import {
+    uint64_t address, offset; /* of the pointer to bind: in memory, and in the file */
+    int64_t addend;
+    uint64_t start_of_sequence_offset; /* the place after the last DONE before it, counted from the start of its range, or 0 */
+    size_t name, name_len;
+    uint64_t library;
+    size_t size;                /* 8 for a lazy one, else 0 */
+    uint32_t is_weak, is_lazy; /* whether the symbol may be missing, whether it is bound at its first use: 0 or 1 each */
+    uint32_t code;              /* GM_OK, or why they can't be read further */
+} gm_import;
+typedef struct gm_bind_cursor { uint64_t binds[12]; uint32_t stage, reserved; } gm_bind_cursor;
+uint32_t gm_imports(const uint8_t *bytes, size_t len, const gm_image *image, gm_bind_cursor *cursor, gm_import *out, size_t cap, size_t *count,
+                    const gm_memory *memory, gm_error *error);
+
+/* ---- what dyld binds of it, by the opcodes of LC_DYLD_INFO and then by the chains: the name of one is `name_len` bytes at bytes + name */
+typedef struct gm_binding {
+    uint64_t address, offset; /* of the pointer to bind: in memory, and in the file */
+    int64_t addend;
+    size_t name, name_len;
+    uint64_t library;           /* the ordinal of a library, and else 0 */
+    uint32_t provider;          /* where the symbol is looked for */
+    uint32_t is_weak, is_lazy; /* whether the symbol may be missing, whether it is bound at its first use: 0 or 1 each */
+    uint32_t code;              /* GM_OK, or why they can't be read further */
+} gm_binding;
+enum { GM_OF_LIBRARY, GM_OF_ITSELF, GM_OF_PROGRAM, GM_OF_ANY, GM_OF_ANY_WEAK };
+typedef struct gm_binding_cursor { gm_bind_cursor opcodes; gm_fixup_cursor chains; } gm_binding_cursor;
+uint32_t gm_bindings(const uint8_t *bytes, size_t len, const gm_image *image, gm_binding_cursor *cursor, gm_binding *out, size_t cap, size_t *count,
+                     const gm_memory *memory, gm_error *error);
 /* ---- the faults of its layout, rule by rule: what of the file lies where the format and its readers don't allow it. docs/C.md
    says what `found` and `limit` of each rule are. */
 typedef struct gm_layout_fault {
@@ -201,6 +235,23 @@ uint32_t gm_container_faults(const uint8_t *bytes, size_t len, size_t first, gm_
 #define GM_FIELD(type, field, at, size) \
     _Static_assert(offsetof(type, field) == (at) && sizeof(((type *)0)->field) == (size), #type "." #field)
 #define GM_SIZE(type, size) _Static_assert(sizeof(type) == (size), #type)
+GM_FIELD(gm_bind_cursor, binds, 0, 96);
+GM_FIELD(gm_bind_cursor, stage, 96, 4);
+GM_SIZE(gm_bind_cursor, 104);
+GM_FIELD(gm_binding, address, 0, 8);
+GM_FIELD(gm_binding, offset, 8, 8);
+GM_FIELD(gm_binding, addend, 16, 8);
+GM_FIELD(gm_binding, name, 24, 8);
+GM_FIELD(gm_binding, name_len, 32, 8);
+GM_FIELD(gm_binding, library, 40, 8);
+GM_FIELD(gm_binding, provider, 48, 4);
+GM_FIELD(gm_binding, is_weak, 52, 4);
+GM_FIELD(gm_binding, is_lazy, 56, 4);
+GM_FIELD(gm_binding, code, 60, 4);
+GM_SIZE(gm_binding, 64);
+GM_FIELD(gm_binding_cursor, opcodes, 0, 104);
+GM_FIELD(gm_binding_cursor, chains, 104, 40);
+GM_SIZE(gm_binding_cursor, 144);
 GM_FIELD(gm_command, offset, 0, 8);
 GM_FIELD(gm_command, size, 8, 8);
 GM_FIELD(gm_command, cmd, 16, 4);
@@ -236,6 +287,9 @@ GM_FIELD(gm_fixup, diversity, 48, 4);
 GM_FIELD(gm_fixup, is_address_diverse, 52, 4);
 GM_FIELD(gm_fixup, code, 56, 4);
 GM_SIZE(gm_fixup, 64);
+GM_FIELD(gm_fixup_cursor, chains, 0, 32);
+GM_FIELD(gm_fixup_cursor, stage, 32, 4);
+GM_SIZE(gm_fixup_cursor, 40);
 GM_FIELD(gm_image, offset, 0, 8);
 GM_FIELD(gm_image, entry, 8, 8);
 GM_FIELD(gm_image, first_command, 16, 8);
@@ -256,6 +310,18 @@ GM_FIELD(gm_image, is_old_style_entry, 104, 4);
 GM_FIELD(gm_image, is_little_endian, 108, 4);
 GM_FIELD(gm_image, is_64, 112, 4);
 GM_SIZE(gm_image, 120);
+GM_FIELD(gm_import, address, 0, 8);
+GM_FIELD(gm_import, offset, 8, 8);
+GM_FIELD(gm_import, addend, 16, 8);
+GM_FIELD(gm_import, start_of_sequence_offset, 24, 8);
+GM_FIELD(gm_import, name, 32, 8);
+GM_FIELD(gm_import, name_len, 40, 8);
+GM_FIELD(gm_import, library, 48, 8);
+GM_FIELD(gm_import, size, 56, 8);
+GM_FIELD(gm_import, is_weak, 64, 4);
+GM_FIELD(gm_import, is_lazy, 68, 4);
+GM_FIELD(gm_import, code, 72, 4);
+GM_SIZE(gm_import, 80);
 GM_FIELD(gm_layout_fault, found, 0, 8);
 GM_FIELD(gm_layout_fault, limit, 8, 8);
 GM_FIELD(gm_layout_fault, command, 16, 8);

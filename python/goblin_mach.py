@@ -14,13 +14,14 @@ import ctypes
 import mmap
 import os
 import sys
-from ctypes import c_char, c_int32, c_size_t, c_uint8, c_uint16, c_uint32, c_uint64
+from ctypes import c_char, c_int32, c_int64, c_size_t, c_uint8, c_uint16, c_uint32, c_uint64
 from dataclasses import dataclass
 from typing import Iterator, Optional
 
 VERSION = 1
 STRICT, LOSSY = 0, 1
 FIXUPS = ("rebase", "bind", "number")
+PROVIDERS = ("library", "itself", "program", "any", "any weak")
 EXPORTS = (None, "address", "re-export", "stub")
 KINDS = ("required", "weak", "reexport", "upward", "lazy")
 ERRORS = {1: "malformed", 2: "bad magic", 3: "out of the bytes, or no text", 4: "too many", 5: "out of memory"}
@@ -87,6 +88,28 @@ class _Fixup(ctypes.Structure):
     )
 
 
+class _FixupCursor(ctypes.Structure):
+    _fields_ = [("chains", c_uint64 * 4), ("stage", c_uint32), ("reserved", c_uint32)]
+
+
+class _Import(ctypes.Structure):
+    _fields_ = [("address", c_uint64), ("offset", c_uint64), ("addend", c_int64), ("start_of_sequence_offset", c_uint64), ("name", c_size_t),
+                ("name_len", c_size_t), ("library", c_uint64), ("size", c_size_t), ("is_weak", c_uint32), ("is_lazy", c_uint32), ("code", c_uint32)]
+
+
+class _BindCursor(ctypes.Structure):
+    _fields_ = [("binds", c_uint64 * 12), ("stage", c_uint32), ("reserved", c_uint32)]
+
+
+class _Binding(ctypes.Structure):
+    _fields_ = [("address", c_uint64), ("offset", c_uint64), ("addend", c_int64), ("name", c_size_t), ("name_len", c_size_t), ("library", c_uint64),
+                ("provider", c_uint32), ("is_weak", c_uint32), ("is_lazy", c_uint32), ("code", c_uint32)]
+
+
+class _BindingCursor(ctypes.Structure):
+    _fields_ = [("opcodes", _BindCursor), ("chains", _FixupCursor)]
+
+
 class _Export(ctypes.Structure):
     _fields_ = [(n, c_uint64) for n in ("address", "resolver", "flags")] + [
         ("library_len", c_size_t), ("target_len", c_size_t), ("kind", c_uint32), ("reserved", c_uint32)]
@@ -115,7 +138,8 @@ def _load():
     lib.gm_version.restype = c_uint32
     if lib.gm_version() != VERSION:
         raise OSError(f"libgoblin_mach.so is of version {lib.gm_version()}, and this module of {VERSION}")
-    lib.gm_open.restype = lib.gm_fixups.restype = lib.gm_find_export.restype = c_uint32
+    for name in ("open", "find_export", "fixups", "imports", "bindings"):
+        getattr(lib, "gm_" + name).restype = c_uint32
     for name in ("fat_entries", "commands", "segments", "sections", "relocations", "symbols", "libraries", "run_paths"):
         getattr(lib, "gm_" + name).restype = c_size_t
     lib.gm_layout_faults.restype = lib.gm_container_faults.restype = c_uint32
@@ -223,6 +247,37 @@ class Fixup:
     key: int
     diversity: int
     is_address_diverse: bool
+    error: Optional[str]
+
+
+@dataclass(frozen=True)
+class Import:
+    """A symbol that the image takes from a library, whose ordinal is `library`: 0 is the image itself. `offset` is a place in the file."""
+
+    name: str
+    library: int
+    address: int
+    offset: int
+    addend: int
+    size: int
+    start_of_sequence_offset: int
+    is_weak: bool
+    is_lazy: bool
+    error: Optional[str]
+
+
+@dataclass(frozen=True)
+class Binding:
+    """A place that takes a symbol's address from a provider: "library" (by its ordinal), "itself", "program", "any" or "any weak"."""
+
+    name: str
+    provider: str
+    library: int
+    address: int
+    offset: int
+    addend: int
+    is_weak: bool
+    is_lazy: bool
     error: Optional[str]
 
 
@@ -377,16 +432,33 @@ class Image:
         for number, l in enumerate(self._list("libraries", _Library)):
             yield Library(number + 1, self._bytes.text(l.name, l.name_len), KINDS[l.kind], l.timestamp, l.current_version, l.compatibility_version)
 
-    def _fixups(self, first, out, cap):
-        count, error, b = c_size_t(), _Error(), self._bytes
-        if _lib.gm_fixups(b.at, c_size_t(b.len), ctypes.byref(self._numbers), first, out, cap, ctypes.byref(count), None, ctypes.byref(error)):
-            raise Refused(error)
-        return count.value
+    def _behind(self, name, row, cursor):
+        """The rows of a list that goes on from a cursor, which begins as zeros."""
+        call, b, count, error = getattr(_lib, "gm_" + name), self._bytes, c_size_t(), _Error()
+
+        def batch(_first, out, cap):
+            if call(b.at, c_size_t(b.len), ctypes.byref(self._numbers), ctypes.byref(cursor), out, cap, ctypes.byref(count), None, ctypes.byref(error)):
+                raise Refused(error)
+            return count.value
+
+        return _rows(batch, row)
 
     def fixups(self) -> Iterator[Fixup]:
-        for f in _rows(self._fixups, _Fixup):
+        for f in self._behind("fixups", _Fixup, _FixupCursor()):
             yield Fixup(f.address, f.segment, f.offset, FIXUPS[f.kind], f.target, f.import_number, f.addend, bool(f.is_signed), f.key, f.diversity,
                         bool(f.is_address_diverse), ERRORS.get(f.code))
+
+    def imports(self) -> Iterator[Import]:
+        """Its imports by the binds of LC_DYLD_INFO; the last may be the error that ends them."""
+        for i in self._behind("imports", _Import, _BindCursor()):
+            yield Import(self._bytes.text(i.name, i.name_len), i.library, i.address, i.offset, i.addend, i.size, i.start_of_sequence_offset,
+                         bool(i.is_weak), bool(i.is_lazy), ERRORS.get(i.code))
+
+    def bindings(self) -> Iterator[Binding]:
+        """What dyld binds of it, by opcodes and then by chains; the last may be the error that ends them."""
+        for b in self._behind("bindings", _Binding, _BindingCursor()):
+            yield Binding(self._bytes.text(b.name, b.name_len), PROVIDERS[b.provider], b.library, b.address, b.offset, b.addend,
+                          bool(b.is_weak), bool(b.is_lazy), ERRORS.get(b.code))
 
     def find_export(self, name: str) -> Optional[Export]:
         """What the image exports a name as, or None."""
@@ -467,6 +539,10 @@ def open(path, mode=STRICT) -> File:
     return File(path, mode)
 
 
+def _code(error):
+    return next((number for number, words in ERRORS.items() if words == error), 0)
+
+
 def _lines(image, what):
     if what == "commands":
         for c in image.commands():
@@ -483,16 +559,24 @@ def _lines(image, what):
                    f"{s.maxprot:x} {s.initprot:x} {s.nsects} {s.flags:x}")
     elif what == "fixups":
         for f in image.fixups():
-            code = next((number for number, words in ERRORS.items() if words == f.error), 0)
             yield (f"{f.address:x} {f.offset:x} {f.target:x} {f.segment} {FIXUPS.index(f.kind)} {f.import_number} {f.addend} {int(f.is_signed)} "
-                   f"{f.key} {f.diversity} {int(f.is_address_diverse)} {code}")
+                   f"{f.key} {f.diversity} {int(f.is_address_diverse)} {_code(f.error)}")
+    elif what == "imports":
+        names = ["self"] + [l.name for l in image.libraries()]
+        for i in image.imports():
+            yield (f"{_code(i.error)} {i.library} {i.offset:x} {i.addend} {i.start_of_sequence_offset:x} {i.size} {int(i.is_weak)} {int(i.is_lazy)} "
+                   f"0x{i.address:x} {names[i.library]} {i.name}")
+    elif what == "bindings":
+        for b in image.bindings():
+            yield (f"{_code(b.error)} {PROVIDERS.index(b.provider)} {b.library} {b.offset:x} {b.addend} {int(b.is_weak)} {int(b.is_lazy)} "
+                   f"0x{b.address:x} {b.name}")
     elif what == "run_paths":
         yield from image.run_paths()
     elif what == "layout":
         yield from image.layout_faults()
 
 
-WORDS = ("commands", "segments", "symbols", "libraries", "run_paths", "fixups", "layout")
+WORDS = ("commands", "segments", "symbols", "libraries", "run_paths", "fixups", "imports", "bindings", "layout")
 
 
 def main(words):

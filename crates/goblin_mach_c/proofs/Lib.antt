@@ -2,3 +2,9 @@ pub mod Filled
 pub mod CommandLists
 pub mod OpenedImage
 pub mod OpenedLists
+pub mod Said
+pub mod HeldFacts
+pub mod HeldBinds
+pub mod BoundNames
+pub mod BoundChains
+pub mod BeginsThere

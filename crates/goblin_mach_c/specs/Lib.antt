@@ -9,4 +9,11 @@ pub mod Opened
 pub mod SymbolRows
 pub mod FixupRows
 pub mod ExportRows
+pub mod Say
+pub mod Stage
+pub mod FixupsBehind
+pub mod ImportRows
+pub mod ImportsBehind
+pub mod BindingRows
+pub mod BindingsBehind
 pub mod LayoutRows

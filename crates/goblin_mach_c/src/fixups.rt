@@ -1,26 +1,27 @@
 //! The fixups of an image's chains.
 
-ghost use Rattle.std.specs.Prelude.{◌≡◌, ◌≢◌, drop, map, List, Result};
-ghost use Rattle.mach_base.specs.Fault.{Fault};
+ghost use Rattle.std.specs.Prelude.{◌≡◌, ◌≢◌, Err, Result};
+ghost use Rattle.mach_base.specs.Fault.{Fault, fault_of};
 ghost use Rattle.mach_chained.specs.Fixups as defined;
 ghost use Rattle.mach_chained.specs.PointerViews.{auth_seen, kind_view};
 ghost use Rattle.mach_chained.specs.WalkViews.{fixup_read};
-ghost use Rattle.goblin_mach.specs.Facts.{HasFixups};
-ghost use Rattle.goblin_mach.specs.FixupsLeft.{fixups_left};
+ghost use Rattle.mach_parts.specs.Segments.{segments_in};
+ghost use Rattle.goblin_mach.specs.Fixups.{chained_held};
 ghost use Rattle.goblin_mach_c.specs.Codes.{IsRefusal};
-ghost use Rattle.goblin_mach_c.specs.Fill.{Fills};
 ghost use Rattle.goblin_mach_c.specs.FixupRows as rows;
 ghost use Rattle.goblin_mach_c.specs.FixupRows.{fixup_row};
+ghost use Rattle.goblin_mach_c.specs.FixupsBehind.{AreFixupsBehind, AreOver, Chains, WritesFixups, items_left};
 ghost use Rattle.goblin_mach_c.specs.Opened.{FaultIn, lossy_mode};
 
 use crate::errors::{GM_OK, code_of, gm_error, refuse};
 use crate::images::gm_image;
+use crate::items::{ItemRows, fill_items};
 use crate::open::{flag, open};
-use crate::rows::{Rows, fill, skip};
-use goblin_mach::FixupIterator;
-use goblin_mach::chained_fixups::{Fixup, FixupKind, PointerAuth};
-use goblin_mach::laws::fixups_of_image;
-use mach_base::Result;
+use goblin_mach::MachO;
+use goblin_mach::chained_fixups::{
+    ChainedFixups, Fixup, FixupCursor, FixupIterator, FixupKind, PointerAuth,
+};
+use mach_base::{Error, Result, Steps};
 use std::alloc::Global;
 
 /// A pointer that is to be corrected: at `address` in memory, `offset` bytes behind the start of segment `segment`.
@@ -80,6 +81,26 @@ fn asked(kind: FixupKind) -> (u32, u64, u32, i32)
     }
 }
 
+// Why the chains can't be read further, as C sees it.
+fn refused_row(why: &Error) -> gm_fixup
+    ensures { result ≡ fixup_row (Err (fault_of why.now)) }
+{
+    gm_fixup {
+        address: 0,
+        offset: 0,
+        target: 0,
+        segment: 0,
+        kind: 0,
+        import: 0,
+        addend: 0,
+        is_signed: 0,
+        key: 0,
+        diversity: 0,
+        is_address_diverse: 0,
+        code: code_of(why),
+    }
+}
+
 // A fixup as C sees it.
 #[inline(always)]
 fn row_of(found: &Result<Fixup>) -> gm_fixup
@@ -104,70 +125,145 @@ fn row_of(found: &Result<Fixup>) -> gm_fixup
                 code: GM_OK,
             }
         }
-        Err(why) => gm_fixup {
-            address: 0,
-            offset: 0,
-            target: 0,
-            segment: 0,
-            kind: 0,
-            import: 0,
-            addend: 0,
-            is_signed: 0,
-            key: 0,
-            diversity: 0,
-            is_address_diverse: 0,
-            code: code_of(why),
-        },
+        Err(why) => refused_row(why),
     }
 }
 
-/// Fixups as C sees them, one at a time.
-#[derive(Drop)]
-struct FixupRows<'a, 'b> {
-    fixups: FixupIterator<'a, 'b>,
+/// How far the fixups of an image were given: numbers alone, which go with the bytes and the image. All zero is the start.
+#[derive(Clone, Copy)]
+#[repr(C)]
+pub struct gm_fixup_cursor {
+    /// How far the walk along the chains has come.
+    pub chains: FixupCursor,
+    /// 0 at the start, 1 along the chains; any other number says that all were given.
+    pub stage: u32,
 }
 
-impl<'a, 'b> Rows for FixupRows<'a, 'b> {
+/// Fixups of an image's chains, and what stands at the front of these.
+#[derive(Drop)]
+pub struct ChainWalk<'a, 'b> {
+    pub chained: ChainedFixups<'a>,
+    pub fixups: FixupIterator<'a, 'b>,
+}
+
+/// What is left of the fixups of an image.
+#[derive(Drop)]
+pub enum FixupRows<'a, 'b> {
+    /// There is no chain to be read; and why not, as long as that was not told.
+    Unread(Option<Error>),
+    /// Fixups of its chains.
+    Chains(ChainWalk<'a, 'b>),
+}
+
+impl<'a, 'b> ItemRows for FixupRows<'a, 'b> {
     type Row = gm_fixup;
 
-    ghost left = { λ it. map fixup_row (fixups_left it.fixups) };
+    ghost Source = { Chains };
+
+    ghost Item = { Result defined.Fixup Fault };
+
+    ghost left = { items_left };
+
+    ghost IsOver = { AreOver };
+
+    ghost Says = { λ _ item row. row ≡ fixup_row item };
 
     #[inline(always)]
     fn next(&mut self) -> Option<gm_fixup> {
-        let found = self.fixups.next()?;
-        Some(row_of(&found))
+        match self {
+            FixupRows::Unread(told) => {
+                let why = told.take()?;
+                Some(refused_row(&why))
+            }
+            FixupRows::Chains(walk) => {
+                let found = walk.fixups.next_counted(&mut Steps::new())?;
+                Some(row_of(&found))
+            }
+        }
     }
 }
 
-/// Writes the fixups of an image's chains from a number on, as many as there are and fit, and how many to `count`. The last
-/// may be the error that ends them. It opens the image again, and takes memory for its commands while it runs. A refusal
-/// leaves the array and the count.
+// A cursor of a stage at which it is not said how far the walk has come.
+fn at_stage(stage: u32) -> gm_fixup_cursor
+    ensures { result.stage ≡ stage }
+{
+    let chains = FixupCursor {
+        segment: 0,
+        number: 0,
+        at: 0,
+        index: 0,
+        next_page: 0,
+        page: 0,
+        next: 0,
+        has_more: 0,
+        opened: 0,
+        ended: 0,
+    };
+    gm_fixup_cursor { chains, stage }
+}
+
+impl<'a, 'b> FixupRows<'a, 'b> {
+    /// Those behind a cursor.
+    pub fn behind(image: &'b MachO<'a, Global>, cursor: &gm_fixup_cursor) -> Self
+        ensures items { AreFixupsBehind cursor.now (chained_held image.now) (segments_in image.now.segments) (items_left result) }
+        ensures over { AreOver (record { chained = chained_held image.now; segments = segments_in image.now.segments }) result }
+    {
+        let (segments, base) = (image.segments.as_slice(), image.base());
+        match (cursor.stage, image.chained_fixups()) {
+            (0, Ok(Some(chained))) => FixupRows::Chains(ChainWalk {
+                chained,
+                fixups: chained.fixups(segments, base),
+            }),
+            (0, Err(why)) => FixupRows::Unread(Some(why)),
+            (1, Ok(Some(chained))) => FixupRows::Chains(ChainWalk {
+                chained,
+                fixups: chained.fixups_from(segments, base, &cursor.chains),
+            }),
+            _ => FixupRows::Unread(None),
+        }
+    }
+
+    /// A cursor of those that are left.
+    pub fn cursor(&self) -> gm_fixup_cursor
+        ensures { (x : Chains) → AreOver x self.now → AreFixupsBehind result x.chained x.segments (items_left self.now) }
+    {
+        match self {
+            FixupRows::Unread(None) => at_stage(2),
+            FixupRows::Unread(Some(_)) => at_stage(0),
+            FixupRows::Chains(walk) => gm_fixup_cursor {
+                chains: walk.fixups.cursor(),
+                stage: 1,
+            },
+        }
+    }
+}
+
+/// Writes the fixups of an image's chains behind a cursor, as many as there are and fit, and how many to `count`, and moves
+/// the cursor behind them. The last may be the error that ends them. It opens the image again, and takes memory for its
+/// commands while it runs. A refusal leaves the array, the count and the cursor.
 #[unsafe(no_mangle)]
 pub extern "C" fn gmr_fixups(
     alloc: Global,
     bytes: &[u8],
     image: &gm_image,
-    first: usize,
+    cursor: &mut gm_fixup_cursor,
     out: &mut [gm_fixup],
     count: &mut usize,
     error: &mut gm_error,
 ) -> u32
-    ensures written { result ≡ 0 → (items : List (Result defined.Fixup Fault)) × HasFixups bytes.now image.now.offset items
-        × Fills (drop first (map fixup_row items)) out.old out.new count.new }
+    ensures written { result ≡ 0 → WritesFixups bytes.now image.now.offset cursor.old cursor.new out.old out.new count.new }
     ensures refused { result ≢ 0 → IsRefusal (FaultIn (lossy_mode image.now.is_lossy) bytes.now image.now.offset) result }
     ensures array { result ≢ 0 → out.new ≡ out.old }
     ensures count { result ≢ 0 → count.new ≡ count.old }
+    ensures cursor { result ≢ 0 → cursor.new ≡ cursor.old }
     ensures told { result ≢ 0 → error.new.code ≡ result }
     ensures quiet { result ≡ 0 → error.new ≡ error.old }
 {
     match open(alloc, bytes, image.offset, image.is_lossy != 0) {
         Ok(found) => {
-            fixups_of_image(&found);
-            let mut rows = FixupRows {
-                fixups: found.fixups(),
-            };
-            skip(&mut rows, first);
-            *count = fill(&mut rows, out);
+            let mut rows = FixupRows::behind(&found, cursor);
+            *count = fill_items(&mut rows, out);
+            *cursor = rows.cursor();
             GM_OK
         }
         Err(why) => refuse(&why, error),

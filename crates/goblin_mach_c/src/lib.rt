@@ -2,12 +2,16 @@
 //! into what the caller hands in. Nothing is kept between calls.
 #![tactic(auto)]
 
+mod bindings;
 mod commands;
+mod cursor_laws;
 mod errors;
 mod fat;
 mod find;
 mod fixups;
 mod images;
+mod imports;
+mod items;
 mod laws;
 mod layout;
 mod libraries;

@@ -1,0 +1,21 @@
+use Rattle.std.proofs.Common.{◌++◌, List, Result, ap}
+use Rattle.mach_base.specs.Fault.{Fault}
+use Rattle.mach_dyld.specs.Bindings.{upto_fault}
+use Rattle.mach_parts.specs.Bindings.{Binding, texts}
+use Rattle.goblin_mach_c.specs.BindingsBehind.{opcodes_left}
+use Rattle.goblin_mach_c.specs.FixupsBehind.{items_left}
+use Rattle.goblin_mach_c.proofs.BoundChains.{same_chains}
+use Rattle.goblin_mach_c.proofs.bindings.BindingRows.cursor.Goals as goal
+
+pub returns : goal.returns
+returns c = λ x over.
+    let it = c.args.self.now in
+    let by_opcodes = opcodes_left it.opcodes in
+    record {
+      by_opcodes = by_opcodes;
+      fixups = items_left it.fixups;
+      opcodes = c.opcode_cursor.ensures x over.opcodes;
+      chains = c.cursor.ensures (record { chained = x.chained; segments = x.binds.segments }) over.fixups;
+      are = ap (λ (l : List (Result Binding Fault)). upto_fault (by_opcodes ++ l))
+          (same_chains x.chained x.binds it.fixups it.segments.now it.base (texts it.libs.now) over.fixups over.libs over.segments over.base);
+    }

@@ -1,0 +1,30 @@
+use Rattle.std.proofs.Common.{◌≡◌, ◌+◌, ◌∙◌, ℕ, sym, ap, subst, arith}
+use Rattle.std.proofs.Math.Nat.{min-eq_left}
+use Rattle.mach_chained.specs.Pointers.{bind}
+use Rattle.mach_chained.specs.PointerViews.{kind_view}
+use Rattle.mach_chained.specs.WalkViews.{fixup_view, input_in}
+use Rattle.goblin_mach_c.specs.BindingRows.{StandsIn}
+use Rattle.goblin_mach_c.proofs.BoundNames.{bound_name, part_stands, text_stands}
+use Rattle.goblin_mach_c.proofs.bindings.name_place.Goals as goal
+
+pub returns-in-Ok : goal.returns-in-Ok
+returns-in-Ok c = λ bytes size short payload segments base libs b is.
+    let f = fixup_view c.args.fixup.now in
+    let chained = c.args.chained.now in
+    let kind : f.kind ≡ bind c.in-Bind.import c.in-Bind.addend = ap kind_view c.in-Bind.is in
+    let found = bound_name (input_in chained segments base) libs f c.in-Bind.import c.in-Bind.addend b kind is in
+    let text = c.in-Ok.ensures.place found.0 found.1 in
+    let place = c.in-Ok.place in
+    let stands = part_stands size bytes c.args.chains_at chained.payload.now place found.0.name payload (text_stands chained.payload.now place found.0.name text) in
+    let within = stands.within in
+    let same : c.args.chains_at + place ≡ c.saturating_add.result =
+    sym (c.saturating_add.ensures ∙ min-eq_left (omega (arith, within, short))) in
+    subst (StandsIn bytes c.saturating_add.result) (sym found.2) (subst (λ (n : ℕ). StandsIn bytes n found.0.name) same stands)
+
+pub returns-in-Err : goal.returns-in-Err
+returns-in-Err c = λ bytes size short payload segments base libs b is.
+    let f = fixup_view c.args.fixup.now in
+    let kind : f.kind ≡ bind c.in-Bind.import c.in-Bind.addend = ap kind_view c.in-Bind.is in
+    let found = bound_name (input_in c.args.chained.now segments base) libs f c.in-Bind.import c.in-Bind.addend b kind is in
+    let wrong = c.in-Err.ensures.refused in
+    let there = found.1 in absurd (cc)

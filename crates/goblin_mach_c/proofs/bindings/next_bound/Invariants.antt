@@ -1,0 +1,17 @@
+use Rattle.std.proofs.Common.{◌≡◌, length}
+use Rattle.mach_chained.specs.FixupCursors.{IsOver}
+use Rattle.mach_chained.specs.Fixups.{Input}
+use Rattle.mach_chained.specs.FixupsLeft.{fixups_left}
+use Rattle.mach_parts.specs.Bindings.{texts}
+use Rattle.goblin_mach_c.specs.BindingsBehind.{bound_left}
+use Rattle.goblin_mach_c.proofs.bindings.next_bound.Given as goal
+
+abbrev pub invariant-fixups : goal.invariant-fixups
+invariant-fixups l = record {
+  items : bound_left l.initial.walk l.segments l.base (texts l.libs) ≡ bound_left l.walk l.segments l.base (texts l.libs);
+  over : (x : Input) → IsOver x l.initial.walk.fixups → IsOver x l.walk.fixups;
+  chained : l.walk.chained ≡ l.initial.walk.chained;
+}
+
+abbrev pub decreases-fixups : goal.decreases-fixups
+decreases-fixups l = length (fixups_left l.walk.fixups)

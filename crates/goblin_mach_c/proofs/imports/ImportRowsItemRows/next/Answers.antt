@@ -1,0 +1,31 @@
+use Rattle.std.proofs.Common.{◌∙◌, ◌∷◌, List, ℕ, Ok, Err, IfOk, ap, subst, slice_get}
+use Rattle.mach_base.specs.Fault.{fault_of}
+use Rattle.mach_dyld.specs.BindCursors.{IsPlaced, Stands, placed_read}
+use Rattle.mach_dyld.specs.BindLeft.{imports_left}
+use Rattle.mach_dyld.specs.BindViews.{import_in}
+use Rattle.mach_dyld.specs.Imports.{input_in}
+use Rattle.goblin_mach_c.specs.ImportsBehind.{AreOver, items_left}
+use Rattle.goblin_mach_c.proofs.imports.ImportRowsItemRows.next.Goals as goal
+
+pub returns-in-Ok-clause-says : goal.returns-in-Ok-clause-says
+returns-in-Ok-clause-says c = λ x over.
+    let o = subst (AreOver x) c.in-Binds.is over in
+    let input = input_in o.0 x.1.pointer x.1.libs x.1.segments in
+    let found = c.in_ok-placed-in-Binds in
+    let p = c.in-Ok.placed in
+    let placed : IsPlaced input p = subst (λ f. IfOk f (IsPlaced input)) c.in-Ok.is (found.ensures.placed input o.0.lazy o.3) in (
+      Ok (import_in p.import),
+      ap items_left c.in-Binds.is ∙ found.ensures.items ∙ ap (λ f. placed_read f ∷ imports_left c.next_placed.new.self) c.in-Ok.is,
+      record {
+        numbers = c.row_of.ensures.numbers;
+        name = c.row_of.ensures.name x.0 (subst (λ (bytes : List ℕ). Stands bytes p.name_place p.import.name.now) o.2 placed.name);
+        library = ap (slice_get x.1.libs) c.row_of.ensures.library ∙ placed.library_is;
+      },
+    )
+
+pub returns-in-Err-clause-says : goal.returns-in-Err-clause-says
+returns-in-Err-clause-says c = λ x over. (
+  Err (fault_of c.in-Err.why),
+  ap items_left c.in-Binds.is ∙ c.in_ok-placed-in-Binds.ensures.items ∙ ap (λ f. placed_read f ∷ imports_left c.next_placed.new.self) c.in-Err.is,
+  c.refused_row.ensures,
+)

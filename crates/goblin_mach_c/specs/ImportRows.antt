@@ -1,0 +1,57 @@
+-- Imports as C sees them.
+use Rattle.std.specs.Prelude.{◌≡◌, ◌⊎◌, ℕ, pos, List, [], length, Some, Result, Ok, Err, slice_get}
+use Rattle.mach_base.specs.Fault.{Fault}
+use Rattle.mach_base.specs.Text.{text_at}
+use Rattle.mach_dyld.specs.Imports.{Import}
+use Rattle.goblin_mach_c.specs.Codes.{code_of_fault}
+use Rattle.goblin_mach_c.specs.Opened.{flag}
+use Rattle.goblin_mach_c.specs.declared.imports.gm_import.{gm_import}
+
+-- a name is the text at a place; one of no bytes is said to stand at 0
+abbrev pub IsNameAt : List ℕ → ℕ → List ℕ → Type 0
+IsNameAt bytes place name = ((name ≡ []) × (place ≡ 0)) ⊎ (text_at bytes place ≡ Ok name)
+
+-- an import whose name stands at a place, and whose library has an ordinal
+abbrev pub import_row : (place library : ℕ) → Import → gm_import
+import_row place library i =
+    record {
+      address = i.address;
+      offset = i.offset;
+      addend = i.addend;
+      start_of_sequence_offset = i.start_of_sequence_offset;
+      name = place;
+      name_len = length i.name;
+      library = library;
+      size = i.size;
+      is_weak = flag i.is_weak;
+      is_lazy = flag i.is_lazy;
+      code = 0;
+    }
+
+-- why the imports can't be read further
+abbrev pub no_import : Fault → gm_import
+no_import f =
+    record {
+      address = 0;
+      offset = 0;
+      addend = pos 0;
+      start_of_sequence_offset = 0;
+      name = 0;
+      name_len = 0;
+      library = 0;
+      size = 0;
+      is_weak = 0;
+      is_lazy = 0;
+      code = code_of_fault f;
+    }
+
+-- The row has the numbers of the import; its name stands where the row says, and its library is the one of that ordinal.
+pub record SaysImport (bytes : List ℕ) (libs : List (List ℕ)) (i : Import) (row : gm_import) : Type 0 where
+  pub numbers : row ≡ import_row row.name row.library i
+  pub name : IsNameAt bytes row.name i.name
+  pub library : slice_get libs row.library ≡ Some i.dylib
+
+-- a row says an import, or the fault that ends them
+abbrev pub IsImportRow : List ℕ → List (List ℕ) → Result Import Fault → gm_import → Type 0
+IsImportRow bytes libs (Ok i) row = SaysImport bytes libs i row
+IsImportRow bytes libs (Err f) row = row ≡ no_import f

@@ -1,0 +1,82 @@
+-- How far the imports of an image were given, and those that come behind.
+use Rattle.std.specs.Prelude.{◌≡◌, ℕ, List, [], Option, Some, None, Result, drop}
+use Rattle.mach_base.specs.Context.{pointer_size}
+use Rattle.mach_base.specs.Fault.{Fault}
+use Rattle.mach_parts.specs.declared.segment.Segment.{Segment}
+use Rattle.mach_dyld.specs.BindCursors.{IsOver, imports_behind}
+use Rattle.mach_dyld.specs.BindLeft.{imports_left}
+use Rattle.mach_dyld.specs.Imports.{BindRanges, Import, input_in}
+use Rattle.mach_dyld.specs.declared.imports.cursor.BindCursor.{BindCursor}
+use Rattle.goblin_mach.specs.Facts.{AreSegments, OfImage}
+use Rattle.goblin_mach.specs.OpenImage.{binds_held, ctx_held}
+use Rattle.goblin_mach.specs.declared.image.macho.MachO.{MachO}
+use Rattle.std.specs.declared.alloc.Global.{Global}
+use Rattle.mach_dyld.specs.Exports.{texts}
+use Rattle.mach_parts.specs.Segments.{segments_in}
+use Rattle.goblin_mach.specs.Subjects.{AreImageBindItems, binds_in, libs_in}
+use Rattle.goblin_mach_c.specs.ImportRows.{IsImportRow}
+use Rattle.goblin_mach_c.specs.Say.{FillsBy}
+use Rattle.goblin_mach_c.specs.Stage.{Stage, start, under_way, over, stage_of}
+use Rattle.goblin_mach_c.specs.declared.imports.gm_bind_cursor.{gm_bind_cursor}
+use Rattle.goblin_mach_c.specs.declared.imports.gm_import.{gm_import}
+use Rattle.goblin_mach_c.specs.declared.imports.ImportRows.{ImportRows}
+use Rattle.goblin_mach_c.specs.declared.imports.ImportRows.TheVariants as rows
+
+-- Binds with what they are resolved over: how many bytes a pointer has, the libraries by their ordinals, and the segments.
+pub record Binds : Type 0 where
+  pub ranges : Option BindRanges
+  pub pointer : ℕ
+  pub libs : List (List ℕ)
+  pub segments : List Segment
+
+-- those of an image that is held
+abbrev pub binds_of : MachO Global → Binds
+binds_of m = record { ranges = binds_held m; pointer = pointer_size (ctx_held m).container; libs = texts m.libs.items; segments = segments_in m.segments }
+
+-- the imports behind a place of the streams; none where there are no binds
+abbrev pub streams_behind : BindCursor → Option BindRanges → Binds → List (Result Import Fault)
+streams_behind c None x = []
+streams_behind c (Some b) x = imports_behind (input_in b x.pointer x.libs x.segments) b.lazy c
+
+-- these imports come at a stage: at the start all of them
+abbrev pub AreAtStage : Stage → BindCursor → Binds → List (Result Import Fault) → Type 0
+AreAtStage start c x items = AreImageBindItems x.ranges x.pointer x.libs x.segments items
+AreAtStage under_way c x items = items ≡ streams_behind c x.ranges x
+AreAtStage over c x items = items ≡ []
+
+-- these come behind a cursor
+abbrev pub AreImportsBehind : gm_bind_cursor → Binds → List (Result Import Fault) → Type 0
+AreImportsBehind c x items = AreAtStage (stage_of c.stage) c.binds x items
+
+-- The rows of the imports behind a cursor were written, as many as there are and fit, and behind the new cursor come the
+-- others.
+pub record AreImportsWritten (bytes : List ℕ) (x : Binds) (before after : gm_bind_cursor) (old new : List gm_import) (n : ℕ) : Type 0 where
+  pub items : List (Result Import Fault)
+  pub behind : AreImportsBehind before x items
+  pub rows : FillsBy (IsImportRow bytes x.libs) items old new n
+  pub rest : AreImportsBehind after x (drop n items)
+
+-- the binds of the image at o, over its libraries and its segments
+abbrev pub OfBinds : List ℕ → ℕ → (Binds → Type 0) → Type 0
+OfBinds bytes o Holds = OfImage bytes o (λ ctx cs. (segments : List Segment) × AreSegments ctx bytes cs segments
+    × Holds (record { ranges = binds_in bytes cs; pointer = pointer_size ctx.container; libs = libs_in bytes cs; segments = segments }))
+
+-- these imports of the image at o come behind a cursor
+abbrev pub HasImportsBehind : List ℕ → ℕ → gm_bind_cursor → List (Result Import Fault) → Type 0
+HasImportsBehind bytes o c items = OfBinds bytes o (λ x. AreImportsBehind c x items)
+
+-- the rows of the imports of the image at o were written
+abbrev pub WritesImports : List ℕ → ℕ → (before after : gm_bind_cursor) → (old new : List gm_import) → ℕ → Type 0
+WritesImports bytes o before after old new n = OfBinds bytes o (λ x. AreImportsWritten bytes x before after old new n)
+
+-- ---- what is left to the rows
+
+abbrev pub items_left : ImportRows → List (Result Import Fault)
+items_left rows.Nothing = []
+items_left (rows.Binds it) = imports_left it
+
+-- the rows are read from these binds, which stand in these bytes
+abbrev pub AreOver : List ℕ × Binds → ImportRows → Type 0
+AreOver x rows.Nothing = Unit {0}
+AreOver x (rows.Binds it) =
+    (b : BindRanges) × (x.1.ranges ≡ Some b) × (b.bytes ≡ x.0) × IsOver (input_in b x.1.pointer x.1.libs x.1.segments) b.lazy it

@@ -1,0 +1,365 @@
+//! What dyld binds of an image: by its opcodes, and then by its chains.
+
+ghost use Rattle.std.specs.Prelude.{◌≡◌, ◌≢◌, ◌<◌, ◌^◌, ◌⊎◌, ℕ, List, [], length, Ok, Err, Some, Result, IfOk, IfSome, Option};
+ghost use Rattle.mach_base.specs.Fault.{Fault, fault_of};
+ghost use Rattle.mach_base.specs.Number.{slice_at};
+ghost use Rattle.mach_chained.specs.Bindings.{binding_in, bindings_of};
+ghost use Rattle.mach_chained.specs.FixupCursors.{IsOver};
+ghost use Rattle.mach_chained.specs.Fixups as fixups;
+ghost use Rattle.mach_chained.specs.FixupsLeft.{fixups_left};
+ghost use Rattle.mach_chained.specs.Header.{Fixups};
+ghost use Rattle.mach_chained.specs.Views.{fixups_view};
+ghost use Rattle.mach_chained.specs.WalkViews.{fixup_view, input_in};
+ghost use Rattle.mach_dyld.specs.Imports.{BindRanges};
+ghost use Rattle.mach_parts.specs.Bindings as defined;
+ghost use Rattle.mach_parts.specs.Bindings.{binding_view, provider_view, texts};
+ghost use Rattle.mach_parts.specs.declared.segment.Segment as declared_segment;
+ghost use Rattle.goblin_mach.specs.Fixups.{chained_held};
+ghost use Rattle.goblin_mach.specs.OpenImage.{binds_held, bytes_held};
+ghost use Rattle.goblin_mach_c.specs.BindingRows.{IsBindingRow, StandsIn, binding_row, no_binding, ordinal_number, provider_number};
+ghost use Rattle.goblin_mach_c.specs.BindingsBehind.{AreAtStage, AreBindingsBehind, AreOver, AreOverOpcodes, BindingSource, ComesFirst, IsPlaced, StandAt, WritesBindings, all_left, bound_left, chains_left, items_left, opcodes_left};
+ghost use Rattle.goblin_mach_c.specs.Codes.{IsRefusal};
+ghost use Rattle.goblin_mach_c.specs.ImportsBehind.{binds_of};
+ghost use Rattle.goblin_mach_c.specs.Stage.{stage_of};
+ghost use Rattle.goblin_mach_c.specs.Opened.{FaultIn, lossy_mode};
+
+use crate::errors::{GM_OK, code_of, gm_error, refuse};
+use crate::fixups::{ChainWalk, FixupRows, gm_fixup_cursor};
+use crate::images::gm_image;
+use crate::imports::{gm_bind_cursor, over, place_of_name};
+use crate::items::{ItemRows, fill_items};
+use crate::open::{flag, open};
+use goblin_mach::chained_fixups::{ChainedFixups, Fixup, FixupKind};
+use goblin_mach::imports::PlacedBinding;
+use goblin_mach::segment::Segment;
+use goblin_mach::{MachO, OpcodeBindingIterator, Provider};
+use mach_base::{Error, Result, Steps};
+use std::alloc::Global;
+
+/// A place in memory that takes a symbol's address from a provider: the symbol's name is `name_len` bytes at `name`.
+#[derive(Clone, Copy)]
+#[repr(C)]
+pub struct gm_binding {
+    /// The address in memory of the pointer to bind, and its place in the file.
+    pub address: u64,
+    pub offset: u64,
+    /// What is added to the symbol's address.
+    pub addend: i64,
+    pub name: usize,
+    pub name_len: usize,
+    /// The ordinal of the library, and else 0.
+    pub library: u64,
+    /// 0 a library, 1 the image itself, 2 the program, 3 any image, 4 any image, a definition that isn't weak before others.
+    pub provider: u32,
+    /// Whether the symbol may be missing, and whether it is bound at its first use: 0 or 1 each.
+    pub is_weak: u32,
+    pub is_lazy: u32,
+    /// `GM_OK`, or why the bindings can't be read further.
+    pub code: u32,
+}
+
+/// How far the bindings of an image were given: numbers alone, which go with the bytes and the image. All zero is the start.
+#[derive(Clone, Copy)]
+#[repr(C)]
+pub struct gm_binding_cursor {
+    /// How far those of the opcodes were given.
+    pub opcodes: gm_bind_cursor,
+    /// How far the fixups of the chains have been gone over.
+    pub chains: gm_fixup_cursor,
+}
+
+// The numbers of a provider.
+#[inline(always)]
+fn numbers_of(provider: Provider<'_>) -> (u32, u64)
+    ensures provider { result.0 ≡ provider_number (provider_view provider.entry) }
+    ensures ordinal { result.1 ≡ ordinal_number (provider_view provider.entry) }
+{
+    match provider {
+        Provider::Library { ordinal, name: _ } => (0, ordinal),
+        Provider::Itself => (1, 0),
+        Provider::MainExecutable => (2, 0),
+        Provider::Flat => (3, 0),
+        Provider::WeakLookup => (4, 0),
+    }
+}
+
+// Why the bindings can't be read further, as C sees it.
+fn refused_row(why: &Error) -> gm_binding
+    ensures { result ≡ no_binding (fault_of why.now) }
+{
+    gm_binding {
+        address: 0,
+        offset: 0,
+        addend: 0,
+        name: 0,
+        name_len: 0,
+        library: 0,
+        provider: 0,
+        is_weak: 0,
+        is_lazy: 0,
+        code: code_of(why),
+    }
+}
+
+// A binding as C sees it.
+#[inline(always)]
+fn row_of(placed: &PlacedBinding<'_>) -> gm_binding
+    ensures numbers { result ≡ binding_row result.name (binding_view placed.now.binding) }
+    ensures name { (bytes : List ℕ) → IsPlaced bytes placed.now → StandsIn bytes result.name placed.now.binding.name.now }
+{
+    let binding = &placed.binding;
+    let (provider, library) = numbers_of(binding.provider);
+    gm_binding {
+        address: binding.address,
+        offset: binding.offset,
+        addend: binding.addend,
+        name: place_of_name(binding.name, placed.name_place),
+        name_len: binding.name.len(),
+        library,
+        provider,
+        is_weak: flag(binding.is_weak),
+        is_lazy: flag(binding.is_lazy),
+        code: GM_OK,
+    }
+}
+
+// Where the name of a bind of the chains stands, whose data begin at a place.
+#[inline(always)]
+fn name_place(chained: &ChainedFixups<'_>, chains_at: usize, fixup: &Fixup) -> usize
+    ensures { (bytes : List ℕ) (size : ℕ) → length bytes < 2 ^ 64 → slice_at size bytes chains_at ≡ Ok (fixups_view chained.now).payload
+        → (segments : List (declared_segment.Segment)) (base : ℕ) (libs : List (List ℕ)) (b : defined.Binding)
+        → binding_in (input_in chained.now segments base) libs (fixup_view fixup.now) ≡ Some (Ok b) → StandsIn bytes result b.name }
+{
+    let FixupKind::Bind { import, addend: _ } = fixup.kind else {
+        return 0;
+    };
+    match chained.import_name_place(import) {
+        Ok(place) => chains_at.saturating_add(place),
+        Err(_) => 0,
+    }
+}
+
+// The next binding of the chains, whose data begin at a place, or the fault that ends them.
+fn next_bound<'a>(
+    walk: &mut ChainWalk<'a, '_>,
+    libs: &[&'a str],
+    segments: &[Segment<'a>],
+    base: u64,
+    chains_at: usize,
+) -> Option<Result<PlacedBinding<'a>>>
+    ensures items { ComesFirst (bound_left walk.old segments.now base (texts libs.now)) result (bound_left walk.new segments.now base (texts libs.now)) }
+    ensures over { (x : fixups.Input) → IsOver x walk.old.fixups → IsOver x walk.new.fixups }
+    ensures chained { walk.new.chained ≡ walk.old.chained }
+    ensures placed { (bytes : List ℕ) (size : ℕ) → length bytes < 2 ^ 64 → slice_at size bytes chains_at ≡ Ok (fixups_view walk.old.chained).payload
+        → IfSome result (λ item. IfOk item (IsPlaced bytes)) }
+{
+    'fixups: loop {
+        let fixup = match walk.fixups.next_counted(&mut Steps::new()) {
+            None => return None,
+            Some(Ok(fixup)) => fixup,
+            Some(Err(why)) => return Some(Err(why)),
+        };
+        match walk.chained.binding(libs, segments, base, &fixup) {
+            None => {}
+            Some(Ok(binding)) => {
+                let name_place = name_place(&walk.chained, chains_at, &fixup);
+                return Some(Ok(PlacedBinding {
+                    binding,
+                    name_place,
+                }));
+            }
+            Some(Err(why)) => return Some(Err(why)),
+        }
+    }
+}
+
+/// What is left of the bindings of an image: those of its opcodes, and the fixups of its chains, whose data begin at a place.
+#[derive(Drop)]
+struct BindingRows<'a, 'b> {
+    opcodes: Option<OpcodeBindingIterator<'a, 'b>>,
+    fixups: FixupRows<'a, 'b>,
+    libs: &'b [&'a str],
+    segments: &'b [Segment<'a>],
+    base: u64,
+    chains_at: usize,
+}
+
+impl<'a, 'b> BindingRows<'a, 'b> {
+    // The next binding of the chains, or the fault that ends them.
+    fn next_of_chains(&mut self) -> Option<Result<PlacedBinding<'a>>>
+        ensures items { ComesFirst (chains_left self.old) result (chains_left self.new) }
+        ensures opcodes { self.new.opcodes ≡ self.old.opcodes }
+        ensures over { (x : BindingSource) → AreOver x self.old → AreOver x self.new }
+        ensures placed { (x : BindingSource) → AreOver x self.old → IfSome result (λ item. IfOk item (IsPlaced x.bytes)) }
+    {
+        let (libs, segments, base, chains_at) = (
+            self.libs,
+            self.segments,
+            self.base,
+            self.chains_at,
+        );
+        match &mut self.fixups {
+            FixupRows::Unread(told) => {
+                let why = told.take()?;
+                Some(Err(why))
+            }
+            FixupRows::Chains(walk) => next_bound(walk, libs, segments, base, chains_at),
+        }
+    }
+
+    // The next binding, or the next fault.
+    #[inline(always)]
+    fn step(&mut self) -> Option<Result<PlacedBinding<'a>>>
+        ensures items { ComesFirst (all_left self.old) result (all_left self.new) }
+        ensures over { (x : BindingSource) → AreOver x self.old → AreOver x self.new }
+        ensures placed { (x : BindingSource) → AreOver x self.old → IfSome result (λ item. IfOk item (IsPlaced x.bytes)) }
+    {
+        if let Some(opcodes) = &mut self.opcodes {
+            if let Some(item) = opcodes.next_placed() {
+                return Some(item);
+            }
+        }
+        self.opcodes = None;
+        self.next_of_chains()
+    }
+
+    // Leaves nothing.
+    fn end(&mut self)
+        ensures left { items_left self.new ≡ [] }
+        ensures over { (x : BindingSource) → AreOver x self.old → AreOver x self.new }
+    {
+        self.opcodes = None;
+        self.fixups = FixupRows::Unread(None);
+    }
+}
+
+impl<'a, 'b> ItemRows for BindingRows<'a, 'b> {
+    type Row = gm_binding;
+
+    ghost Source = { BindingSource };
+
+    ghost Item = { Result defined.Binding Fault };
+
+    ghost left = { items_left };
+
+    ghost IsOver = { AreOver };
+
+    ghost Says = { λ x item row. IsBindingRow x.bytes item row };
+
+    #[inline(always)]
+    fn next(&mut self) -> Option<gm_binding> {
+        match self.step()? {
+            Ok(placed) => Some(row_of(&placed)),
+            Err(why) => {
+                self.end();
+                Some(refused_row(&why))
+            }
+        }
+    }
+}
+
+// The bindings of an image's opcodes behind a cursor.
+fn opcodes_behind<'a, 'b>(
+    image: &'b MachO<'a, Global>,
+    cursor: &gm_bind_cursor,
+) -> Option<OpcodeBindingIterator<'a, 'b>>
+    ensures items { AreAtStage (stage_of cursor.now.stage) cursor.now.binds (binds_of image.now) (opcodes_left result) }
+    ensures over { (bytes : List ℕ) (chained : Result (Option Fixups) Fault) → ((b : BindRanges) → binds_held image.now ≡ Some b → b.bytes ≡ bytes)
+        → AreOverOpcodes (record { bytes = bytes; binds = binds_of image.now; chained = chained }) result }
+{
+    let binds = image.binds()?;
+    let (libs, segments, ctx) = (
+        image.libs.as_slice(),
+        image.segments.as_slice(),
+        image.ctx(),
+    );
+    match cursor.stage {
+        0 => Some(binds.bindings(libs, segments, ctx)),
+        1 => Some(binds.bindings_from(libs, segments, ctx, &cursor.binds)),
+        _ => None,
+    }
+}
+
+// A cursor of those that are left.
+fn opcode_cursor(opcodes: &Option<OpcodeBindingIterator<'_, '_>>) -> gm_bind_cursor
+    ensures { (x : BindingSource) → AreOverOpcodes x opcodes.now
+        → AreAtStage (stage_of result.stage) result.binds x.binds (opcodes_left opcodes.now) }
+{
+    match opcodes {
+        None => over(),
+        Some(opcodes) => gm_bind_cursor {
+            binds: opcodes.cursor(),
+            stage: 1,
+        },
+    }
+}
+
+// Where the data of an image's chains begin.
+fn chains_at(image: &MachO<'_, Global>) -> usize
+    ensures { StandAt (record { bytes = bytes_held image.now; binds = binds_of image.now; chained = chained_held image.now }) result }
+{
+    match image.chained_place() {
+        Some((place, _)) => place as usize,
+        None => 0,
+    }
+}
+
+impl<'a, 'b> BindingRows<'a, 'b> {
+    // Those behind a cursor.
+    fn behind(image: &'b MachO<'a, Global>, cursor: &gm_binding_cursor) -> Self
+        ensures items { AreBindingsBehind cursor.now (binds_of image.now) (chained_held image.now) (items_left result) }
+        ensures over { (bytes : List ℕ) → ((b : BindRanges) → binds_held image.now ≡ Some b → b.bytes ≡ bytes) → bytes_held image.now ≡ bytes
+            → length bytes < 2 ^ 64 → AreOver (record { bytes = bytes; binds = binds_of image.now; chained = chained_held image.now }) result }
+    {
+        BindingRows {
+            opcodes: opcodes_behind(image, &cursor.opcodes),
+            fixups: FixupRows::behind(image, &cursor.chains),
+            libs: image.libs.as_slice(),
+            segments: image.segments.as_slice(),
+            base: image.base(),
+            chains_at: chains_at(image),
+        }
+    }
+
+    // A cursor of those that are left.
+    fn cursor(&self) -> gm_binding_cursor
+        ensures { (x : BindingSource) → AreOver x self.now → AreBindingsBehind result x.binds x.chained (items_left self.now) }
+    {
+        gm_binding_cursor {
+            opcodes: opcode_cursor(&self.opcodes),
+            chains: self.fixups.cursor(),
+        }
+    }
+}
+
+/// Writes what dyld binds of an image behind a cursor, by its opcodes and then by its chains, as much as there is and fits,
+/// and how many to `count`, and moves the cursor behind them. The last may be the error that ends them. It opens the image
+/// again, and takes memory for its commands while it runs. A refusal leaves the array, the count and the cursor.
+#[unsafe(no_mangle)]
+pub extern "C" fn gmr_bindings(
+    alloc: Global,
+    bytes: &[u8],
+    image: &gm_image,
+    cursor: &mut gm_binding_cursor,
+    out: &mut [gm_binding],
+    count: &mut usize,
+    error: &mut gm_error,
+) -> u32
+    ensures written { result ≡ 0 → WritesBindings bytes.now image.now.offset cursor.old cursor.new out.old out.new count.new }
+    ensures refused { result ≢ 0 → IsRefusal (FaultIn (lossy_mode image.now.is_lossy) bytes.now image.now.offset) result }
+    ensures array { result ≢ 0 → out.new ≡ out.old }
+    ensures count { result ≢ 0 → count.new ≡ count.old }
+    ensures cursor { result ≢ 0 → cursor.new ≡ cursor.old }
+    ensures told { result ≢ 0 → error.new.code ≡ result }
+    ensures quiet { result ≡ 0 → error.new ≡ error.old }
+{
+    match open(alloc, bytes, image.offset, image.is_lossy != 0) {
+        Ok(found) => {
+            let mut rows = BindingRows::behind(&found, cursor);
+            *count = fill_items(&mut rows, out);
+            *cursor = rows.cursor();
+            GM_OK
+        }
+        Err(why) => refuse(&why, error),
+    }
+}

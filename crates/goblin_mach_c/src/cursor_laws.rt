@@ -1,0 +1,32 @@
+//! Theorems: at a cursor that is all zero, what comes behind is the whole list.
+
+ghost use Rattle.std.specs.Prelude.{◌≡◌, ◌↔◌, ℕ, List, Result};
+ghost use Rattle.mach_base.specs.Fault.{Fault};
+ghost use Rattle.mach_chained.specs.Fixups.{Fixup};
+ghost use Rattle.mach_dyld.specs.Imports.{Import};
+ghost use Rattle.goblin_mach.specs.Facts.{HasBindings, HasFixups, HasImportItems};
+ghost use Rattle.mach_parts.specs.Bindings.{Binding};
+ghost use Rattle.goblin_mach_c.specs.BindingsBehind.{HasBindingsBehind};
+ghost use Rattle.goblin_mach_c.specs.declared.bindings.gm_binding_cursor.{gm_binding_cursor};
+ghost use Rattle.goblin_mach_c.specs.FixupsBehind.{HasFixupsBehind};
+ghost use Rattle.goblin_mach_c.specs.ImportsBehind.{HasImportsBehind};
+ghost use Rattle.goblin_mach_c.specs.declared.imports.gm_bind_cursor.{gm_bind_cursor};
+ghost use Rattle.goblin_mach_c.specs.declared.fixups.gm_fixup_cursor.{gm_fixup_cursor};
+
+/// At stage 0 the fixups behind a cursor are all those of the image.
+pub fn fixups_begin_at_the_start()
+    ensures { (bytes : List ℕ) (o : ℕ) (c : gm_fixup_cursor) → c.stage ≡ 0 → (items : List (Result Fixup Fault))
+        → HasFixupsBehind bytes o c items ↔ HasFixups bytes o items }
+{}
+
+/// At stage 0 the imports behind a cursor are all those of the image.
+pub fn imports_begin_at_the_start()
+    ensures { (bytes : List ℕ) (o : ℕ) (c : gm_bind_cursor) → c.stage ≡ 0 → (items : List (Result Import Fault))
+        → HasImportsBehind bytes o c items ↔ HasImportItems bytes o items }
+{}
+
+/// At stage 0 of both parts the bindings behind a cursor are all those of the image.
+pub fn bindings_begin_at_the_start()
+    ensures { (bytes : List ℕ) (o : ℕ) (c : gm_binding_cursor) → c.opcodes.stage ≡ 0 → c.chains.stage ≡ 0
+        → (items : List (Result Binding Fault)) → HasBindingsBehind bytes o c items ↔ HasBindings bytes o items }
+{}

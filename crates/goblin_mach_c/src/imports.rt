@@ -1,0 +1,232 @@
+//! The imports of an image's binds.
+
+ghost use Rattle.std.specs.Prelude.{◌≡◌, ◌≢◌, ℕ, List, [], Result, Some, ◌⊎◌};
+ghost use Rattle.mach_base.specs.Fault.{Fault, fault_of};
+ghost use Rattle.mach_dyld.specs.BindCursors.{Stands};
+ghost use Rattle.mach_dyld.specs.BindViews.{import_in};
+ghost use Rattle.mach_dyld.specs.Imports as defined;
+ghost use Rattle.goblin_mach.specs.OpenImage.{binds_held};
+ghost use Rattle.goblin_mach_c.specs.BindingRows.{StandsIn};
+ghost use Rattle.goblin_mach_c.specs.Codes.{IsRefusal};
+ghost use Rattle.goblin_mach_c.specs.ImportRows.{IsImportRow, IsNameAt, import_row, no_import};
+ghost use Rattle.goblin_mach_c.specs.ImportsBehind.{AreImportsBehind, AreOver, Binds, WritesImports, binds_of, items_left};
+ghost use Rattle.goblin_mach_c.specs.Opened.{FaultIn, lossy_mode};
+
+use crate::errors::{GM_OK, code_of, gm_error, refuse};
+use crate::images::gm_image;
+use crate::items::{ItemRows, fill_items};
+use crate::open::{flag, open};
+use goblin_mach::MachO;
+use goblin_mach::imports::{BindCursor, BindIterator, PlacedImport};
+use mach_base::{Error, Result};
+use std::alloc::Global;
+
+/// A symbol that the image takes from a library: its name is `name_len` bytes at `name`, and its library is the one of
+/// ordinal `library`, 0 for the image itself.
+#[derive(Clone, Copy)]
+#[repr(C)]
+pub struct gm_import {
+    /// The address in memory of the pointer to bind, and its place in the file.
+    pub address: u64,
+    pub offset: u64,
+    /// What is added to the symbol's address.
+    pub addend: i64,
+    /// The place after the last DONE before the bind, counted from the start of its range, or 0.
+    pub start_of_sequence_offset: u64,
+    pub name: usize,
+    pub name_len: usize,
+    pub library: u64,
+    /// 8 for a lazy import, else 0.
+    pub size: usize,
+    /// Whether the symbol may be missing, and whether it is bound at its first use: 0 or 1 each.
+    pub is_weak: u32,
+    pub is_lazy: u32,
+    /// `GM_OK`, or why the imports can't be read further.
+    pub code: u32,
+}
+
+/// How far the imports of an image were given: numbers alone, which go with the bytes and the image. All zero is the start.
+#[derive(Clone, Copy)]
+#[repr(C)]
+pub struct gm_bind_cursor {
+    /// How far the reading of the streams has come.
+    pub binds: BindCursor,
+    /// 0 at the start, 1 in the streams; any other number says that all were given.
+    pub stage: u32,
+}
+
+/// Where a name is said to stand: one of no bytes at 0.
+#[inline(always)]
+pub fn place_of_name(name: &str, place: usize) -> usize
+    ensures text { (bytes : List ℕ) → Stands bytes place name.now → IsNameAt bytes result name.now }
+    ensures stands { (bytes : List ℕ) → (name.now ≡ []) ⊎ StandsIn bytes place name.now → StandsIn bytes result name.now }
+{
+    if name.is_empty() { 0 } else { place }
+}
+
+// Why the imports can't be read further, as C sees it.
+fn refused_row(why: &Error) -> gm_import
+    ensures { result ≡ no_import (fault_of why.now) }
+{
+    gm_import {
+        address: 0,
+        offset: 0,
+        addend: 0,
+        start_of_sequence_offset: 0,
+        name: 0,
+        name_len: 0,
+        library: 0,
+        size: 0,
+        is_weak: 0,
+        is_lazy: 0,
+        code: code_of(why),
+    }
+}
+
+// An import as C sees it.
+#[inline(always)]
+fn row_of(placed: &PlacedImport<'_>) -> gm_import
+    ensures numbers { result ≡ import_row result.name result.library (import_in placed.now.import) }
+    ensures library { result.library ≡ placed.now.library }
+    ensures name { (bytes : List ℕ) → Stands bytes placed.now.name_place placed.now.import.name.now → IsNameAt bytes result.name placed.now.import.name.now }
+{
+    let import = &placed.import;
+    gm_import {
+        address: import.address,
+        offset: import.offset,
+        addend: import.addend,
+        start_of_sequence_offset: import.start_of_sequence_offset,
+        name: place_of_name(import.name, placed.name_place),
+        name_len: import.name.len(),
+        library: placed.library,
+        size: import.size,
+        is_weak: flag(import.is_weak),
+        is_lazy: flag(import.is_lazy),
+        code: GM_OK,
+    }
+}
+
+/// What is left of the imports of an image: nothing, or those of its binds.
+#[derive(Drop)]
+enum ImportRows<'a, 'b> {
+    Nothing,
+    Binds(BindIterator<'a, 'b>),
+}
+
+impl<'a, 'b> ItemRows for ImportRows<'a, 'b> {
+    type Row = gm_import;
+
+    ghost Source = { List ℕ × Binds };
+
+    ghost Item = { Result defined.Import Fault };
+
+    ghost left = { items_left };
+
+    ghost IsOver = { AreOver };
+
+    ghost Says = { λ x item row. IsImportRow x.0 x.1.libs item row };
+
+    #[inline(always)]
+    fn next(&mut self) -> Option<gm_import> {
+        match self {
+            ImportRows::Nothing => None,
+            ImportRows::Binds(imports) => match imports.next_placed()? {
+                Ok(placed) => Some(row_of(&placed)),
+                Err(why) => Some(refused_row(&why)),
+            },
+        }
+    }
+}
+
+impl<'a, 'b> ImportRows<'a, 'b> {
+    // Those behind a cursor.
+    fn behind(image: &'b MachO<'a, Global>, cursor: &gm_bind_cursor) -> Self
+        ensures items { AreImportsBehind cursor.now (binds_of image.now) (items_left result) }
+        ensures over { (bytes : List ℕ) → ((b : defined.BindRanges) → binds_held image.now ≡ Some b → b.bytes ≡ bytes)
+            → AreOver (bytes, binds_of image.now) result }
+    {
+        let Some(binds) = image.binds() else {
+            return ImportRows::Nothing;
+        };
+        let (libs, segments, ctx) = (
+            image.libs.as_slice(),
+            image.segments.as_slice(),
+            image.ctx(),
+        );
+        match cursor.stage {
+            0 => ImportRows::Binds(binds.iter(libs, segments, ctx)),
+            1 => ImportRows::Binds(binds.imports_from(libs, segments, ctx, &cursor.binds)),
+            _ => ImportRows::Nothing,
+        }
+    }
+
+    // A cursor of those that are left.
+    fn cursor(&self) -> gm_bind_cursor
+        ensures { (x : List ℕ × Binds) → AreOver x self.now → AreImportsBehind result x.1 (items_left self.now) }
+    {
+        match self {
+            ImportRows::Nothing => over(),
+            ImportRows::Binds(imports) => gm_bind_cursor {
+                binds: imports.cursor(),
+                stage: 1,
+            },
+        }
+    }
+}
+
+/// The cursor behind the last import.
+pub fn over() -> gm_bind_cursor
+    ensures { result.stage ≡ 2 }
+{
+    let binds = BindCursor {
+        from: 0,
+        upto: 0,
+        place: 0,
+        count: 0,
+        stride: 0,
+        name_place: 0,
+        library: 0,
+        special: 0,
+        offset: 0,
+        addend: 0,
+        sequence: 0,
+        segment: 0,
+        flags: 0,
+        has_special: 0,
+        is_lazy: 0,
+        ended: 0,
+    };
+    gm_bind_cursor { binds, stage: 2 }
+}
+
+/// Writes the imports of an image's binds behind a cursor, as many as there are and fit, and how many to `count`, and moves
+/// the cursor behind them. The last may be the error that ends them. It opens the image again, and takes memory for its
+/// commands while it runs. A refusal leaves the array, the count and the cursor.
+#[unsafe(no_mangle)]
+pub extern "C" fn gmr_imports(
+    alloc: Global,
+    bytes: &[u8],
+    image: &gm_image,
+    cursor: &mut gm_bind_cursor,
+    out: &mut [gm_import],
+    count: &mut usize,
+    error: &mut gm_error,
+) -> u32
+    ensures written { result ≡ 0 → WritesImports bytes.now image.now.offset cursor.old cursor.new out.old out.new count.new }
+    ensures refused { result ≢ 0 → IsRefusal (FaultIn (lossy_mode image.now.is_lossy) bytes.now image.now.offset) result }
+    ensures array { result ≢ 0 → out.new ≡ out.old }
+    ensures count { result ≢ 0 → count.new ≡ count.old }
+    ensures cursor { result ≢ 0 → cursor.new ≡ cursor.old }
+    ensures told { result ≢ 0 → error.new.code ≡ result }
+    ensures quiet { result ≡ 0 → error.new ≡ error.old }
+{
+    match open(alloc, bytes, image.offset, image.is_lossy != 0) {
+        Ok(found) => {
+            let mut rows = ImportRows::behind(&found, cursor);
+            *count = fill_items(&mut rows, out);
+            *cursor = rows.cursor();
+            GM_OK
+        }
+        Err(why) => refuse(&why, error),
+    }
+}
