@@ -29,7 +29,7 @@ out_length rows left old out k p less =
 set_front : {R : Type 0} (old : List R) (k : ℕ) (row : R) → k < length old → set (drop k old) 0 row ≡ row ∷ drop (k + 1) old
 set_front old k row less = sym (drop-set-add k old 0 row) ∙ ap (λ n. drop k (set old n row)) (omega arith) ∙ drop-set old k row less
 
-set_behind : {R : Type 0} (done old : List R) (k : ℕ) (row : R) → length done ≡ k → k < length old
+pub set_behind : {R : Type 0} (done old : List R) (k : ℕ) (row : R) → length done ≡ k → k < length old
     → set (done ++ drop k old) k row ≡ done ++ row ∷ drop (k + 1) old
 set_behind done old k row many less =
     let zero_is : k - k ≡ 0 = omega arith in

@@ -2,3 +2,6 @@ pub mod Filled
 pub mod CommandLists
 pub mod OpenedImage
 pub mod OpenedLists
+pub mod ListedExports
+pub mod WalkedTries
+pub mod WalkedImages

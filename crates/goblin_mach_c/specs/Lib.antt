@@ -9,3 +9,4 @@ pub mod Opened
 pub mod SymbolRows
 pub mod FixupRows
 pub mod ExportRows
+pub mod ExportWalk

@@ -4,6 +4,7 @@
 
 mod commands;
 mod errors;
+mod exports;
 mod fat;
 mod find;
 mod fixups;
