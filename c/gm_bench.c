@@ -32,6 +32,23 @@ WALK(commands, gm_command, rows[i].size)
 WALK(segments, gm_segment, rows[i].vmsize)
 WALK(libraries, gm_library, rows[i].name_len)
 
+static size_t cap = 1000;
+static size_t exports(void) {
+    static gm_listed_export out[1 << 20];
+    static char name[1 << 16], names[1 << 26];
+    static gm_open_node stack[1 << 16];
+    gm_export_walk walk = {0};
+    gm_export_room room = {name, sizeof name, stack, 1 << 16, out, cap, names, sizeof names};
+    gm_export_batch b = {0};
+    size_t n = 0;
+    do {
+        if (gm_exports(bytes, len, &image, &walk, &room, &b, NULL, &error)) break;
+        for (size_t i = 0; i < b.count; i++) seen += out[i].what.address + out[i].name_len;
+        n += b.count;
+    } while (b.end == GM_MORE);
+    return n;
+}
+
 static void time_of(const char *name, size_t (*call)(void)) {
     double least = 1e30, begun = now();
     size_t items = 0;
@@ -58,5 +75,8 @@ int main(int argc, char **argv) {
     time_of("commands", commands);
     time_of("segments", segments);
     time_of("libraries", libraries);
+    time_of("exports", exports);
+    cap = 1 << 20;
+    time_of("at once", exports);
     return seen == 1;
 }

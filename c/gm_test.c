@@ -185,6 +185,122 @@ static void finds(const given *g, const char *name, size_t name_len) {
     tested++;
 }
 
+/* ---- exports */
+
+/* the room of a walk: each buffer is as long as it is said to be, so that a write behind it is seen */
+static void *grown(void *held, size_t old, size_t size) {
+    uint8_t *more = malloc(size + !size);
+    if (!more) DIE("no memory");
+    memset(more, 0xa5, size);
+    if (old) memcpy(more, held, old);
+    free(held);
+    return more;
+}
+static gm_export_room room_of(size_t some, size_t cap) {
+    gm_export_room r = {NULL, some, NULL, some, NULL, cap, NULL, some};
+    r.name = grown(NULL, 0, some);
+    r.stack = grown(NULL, 0, some * sizeof *r.stack);
+    r.out = grown(NULL, 0, cap * sizeof *r.out);
+    r.names = grown(NULL, 0, some);
+    return r;
+}
+static void give_room(gm_export_room *r) { free(r->name); free(r->stack); free(r->out); free(r->names); }
+
+/* a batch, and that what is behind its rows and its names is as it was */
+static uint32_t export_batch(const given *g, gm_export_walk *walk, const gm_export_room *r, gm_export_batch *b, const gm_memory *m) {
+    gm_error e = {0};
+    memset(r->out, 0xa5, r->cap * sizeof *r->out);
+    memset(r->names, 0xa5, r->names_cap);
+    uint32_t code = gm_exports(OF, walk, r, b, m, &e);
+    if (code != e.code || (b->end == GM_REFUSED) != !!code) DIE("an end that is not that of the code");
+    if (b->count > r->cap || b->names_len > r->names_cap) DIE("more exports than fit");
+    for (size_t i = b->count * sizeof *r->out; i < r->cap * sizeof *r->out; i++)
+        if (((uint8_t *)r->out)[i] != 0xa5) DIE("exports: the rest of the array was written");
+    for (size_t i = b->names_len; i < r->names_cap; i++)
+        if ((uint8_t)r->names[i] != 0xa5) DIE("exports: the rest of the names was written");
+    return code;
+}
+
+/* goes on where it says that something is too short: with a byte or a node more than is asked for never, so that each call counts */
+static void give_more(gm_export_room *r, const gm_export_batch *b) {
+    size_t *cap = b->end == GM_NAME_SHORT ? &r->name_cap : b->end == GM_STACK_SHORT ? &r->stack_cap : &r->names_cap;
+    if (b->needed <= *cap) DIE("no more is needed than there is");
+    if (b->end == GM_NAME_SHORT) r->name = grown(r->name, *cap, b->needed);
+    else if (b->end == GM_STACK_SHORT) r->stack = grown(r->stack, *cap * sizeof *r->stack, b->needed * sizeof *r->stack);
+    else r->names = grown(r->names, 0, b->needed);
+    *cap = b->needed;
+}
+
+/* the lines of the exports in batches of so many, and how the walk ends; the buffers begin with so many bytes and nodes */
+static char *export_lines(const given *g, size_t cap, size_t some) {
+    char *text_of = NULL;
+    size_t len = 0;
+    FILE *to = open_memstream(&text_of, &len);
+    gm_export_walk walk = {0};
+    gm_export_room r = room_of(some, cap);
+    gm_export_batch b;
+    for (;;) {
+        uint32_t code = export_batch(g, &walk, &r, &b, NULL);
+        for (size_t i = 0, at = 0; i < b.count; at += r.out[i++].name_len) {
+            const gm_listed_export *x = r.out + i;
+            if (x->name != at || x->name_len > b.names_len - at || x->what.kind < GM_ADDRESS || x->what.kind > GM_STUB) DIE("a row of no name");
+            fprintf(to, "0x%" PRIx64 " %.*s\n", x->what.kind == GM_ADDRESS ? x->what.address : 0, (int)x->name_len, r.names + x->name);
+        }
+        if (code) {
+            if (walk.code != code || export_batch(g, &walk, &r, &b, NULL) != code || b.count) DIE("a refused walk went on");
+            fprintf(to, "refused: %u\n", code);
+            break;
+        }
+        if (b.end == GM_END) {
+            if (export_batch(g, &walk, &r, &b, NULL) || b.end != GM_END || b.count) DIE("a walk went on behind its end");
+            break;
+        }
+        if (b.end != GM_MORE) give_more(&r, &b);
+        else if (!b.count) DIE("a batch gave nothing");
+    }
+    give_room(&r);
+    fclose(to);
+    return text_of;
+}
+
+/* memory is refused at each request in turn, in the middle of a walk; and a walk in buffers of no length */
+static void exports_by_memory(const given *g) {
+    gm_export_walk walk = {0}, zeros = {0};
+    gm_export_room none = {0}, r = room_of(64, 2);
+    gm_export_batch b;
+    gm_error e;
+    if (!gm_exports(OF, &zeros, &none, &b, NULL, &e) && (b.end != GM_MORE || b.count)) DIE("rows without an array");
+    export_batch(g, &walk, &r, &b, NULL);
+    for (size_t k = 1; !walk.code; k++) {
+        counted c = {0, k, 0};
+        gm_memory m = {&c, take, give};
+        gm_export_walk before = walk;
+        char name[64];
+        gm_open_node stack[64];
+        memcpy(name, r.name, 64);
+        memcpy(stack, r.stack, sizeof stack);
+        uint32_t code = export_batch(g, &walk, &r, &b, &m);
+        if (c.held) DIE("a block was kept");
+        if (code != GM_NO_MEMORY) break;
+        if (b.count || memcmp(&walk, &before, sizeof walk) || memcmp(name, r.name, 64) || memcmp(stack, r.stack, sizeof stack)) DIE("a refusal changed the walk");
+    }
+    give_room(&r);
+}
+
+static void check_exports(const given *g) {
+    char *all = export_lines(g, LIMIT, 4096);
+    static const size_t batches[] = {1, 2, 7};
+    for (int i = 0; i < 3; i++)
+        for (size_t some = 0; some <= 64; some += 32) {
+            char *part = export_lines(g, batches[i], some);
+            if (strcmp(all, part)) DIE("exports: batches of %zu differ", batches[i]);
+            free(part);
+        }
+    free(all);
+    exports_by_memory(g);
+    tested++;
+}
+
 static void check(const uint8_t *bytes, size_t len) {
     given g = {.bytes = bytes, .len = len};
     same_in_batches(&lists[6], &g);
@@ -197,6 +313,7 @@ static void check(const uint8_t *bytes, size_t len) {
         if (count != g.image.commands) DIE("%zu commands of %zu", count, g.image.commands);
         for (int i = 0; i < 6; i++) same_in_batches(&lists[i], &g);
         check_parts(&g);
+        check_exports(&g);
         finds(&g, NULL, 0);
         finds(&g, "a", 1);
         finds(&g, "\xff", 1);
@@ -218,6 +335,23 @@ static uint64_t made_up(size_t len) {
     }
 }
 
+/* a walk of which each number may be made up, with open nodes that may be */
+static void damage_walk(const given *g) {
+    gm_export_walk walk = {0};
+    gm_export_room r = room_of(chance() % 40, chance() % 5);
+    gm_export_batch b;
+    if (chance() % 2) export_batch(g, &walk, &r, &b, NULL);
+    uint64_t *numbers = (uint64_t *)&walk, *nodes = (uint64_t *)r.stack;
+    for (size_t i = 0; i < 7; i++)
+        if (chance() % 3 == 0) numbers[i] = made_up(g->len);
+    for (size_t i = 0; i < r.stack_cap * 3; i++)
+        if (chance() % 4 == 0) nodes[i] = made_up(g->len);
+    walk.is_begun = chance() % 8 != 0;
+    if (walk.visits_left > 1000) walk.visits_left = chance() % 1000;
+    for (int i = 0; i < 3; i++) export_batch(g, &walk, &r, &b, NULL);
+    give_room(&r);
+}
+
 static FILE *away;
 
 static void damage(const uint8_t *bytes, size_t len) {
@@ -234,6 +368,7 @@ static void damage(const uint8_t *bytes, size_t len) {
     gm_export found;
     char library[4], target[4];
     gm_find_export(bytes, len, &g.image, "a", chance() % 2, &found, library, chance() % 5, target, chance() % 5, NULL, &e);
+    damage_walk(&g);
     for (size_t i = 0; i < LISTS; i++) {
         size_t first = chance() % 2 ? 0 : made_up(len), cap = chance() % 5;
         uint8_t *out = malloc(cap * lists[i].size + !cap);
@@ -261,6 +396,11 @@ static void print(const char *what, const uint8_t *bytes, size_t len) {
     gm_error e;
     if (gm_open(bytes, len, 0, GM_STRICT, NULL, &g.image, &e)) { printf("refused: %s\n", e.text); return; }
     if (!strncmp(what, "find:", 5)) print_exports(&g, what + 5);
+    if (!strcmp(what, "exports")) {
+        char *all = export_lines(&g, 1000, 16);
+        fputs(all, stdout);
+        free(all);
+    }
     for (size_t i = 0; i < LISTS; i++)
         if (!strcmp(what, lists[i].name)) {
             char *all = lines(&lists[i], &g, 100);
