@@ -133,6 +133,14 @@ module _ {s : Source} {t : TrieRange} {libs : List (List ℕ)} (reads : ReadsTri
   too_deep on deep (at_end n phase l) = absurd (omega arith)
   too_deep on deep (in_fault f k) = is_faulty f k
 
+  -- nor are more visits left than the range has places
+  pub too_far : {c : TrieCursor} {name : List ℕ} {stack : List Open} {found : List Entry} → c.phase ≤ 1 → s.upto - s.from < c.visits_left
+      → HasCome s c name stack found → IsFaulty t libs
+  too_far on far (at_root marks phase kept fresh) = absurd (let k = kept.visits in omega arith)
+  too_far on far (on_the_way marks n phase kept h) = absurd (let k = kept.visits in omega arith)
+  too_far on far (at_end n phase l) = absurd (omega arith)
+  too_far on far (in_fault f k) = is_faulty f k
+
 -- a cursor that has given nothing yet
 pub starts : (s : Source) (c : TrieCursor) (name : List ℕ) (stack : List Open) → s.from < s.upto → c.phase ≡ 0 → c.visits_left ≡ s.upto - s.from
     → c.name_len ≡ 0 → c.depth ≡ 0 → c.top.left ≡ 0 → c.top.name_len ≡ 0 → HasCome s c name stack []
