@@ -1,5 +1,5 @@
 -- Where an export stands that a cursor gave.
-use Rattle.mach_dyld.proofs.Names.{◌≡◌, ◌==◌, ◌+◌, ◌>>=◌, ℕ, List, Bool, true, false, cond, Option, None, Some, Result, Ok, Err, refl, sym, ap, subst, ◌∙◌, inl, inr}
+use Rattle.mach_dyld.proofs.Names.{◌≡◌, ◌==◌, ◌>>=◌, ℕ, List, cond, Option, None, Some, Result, Ok, Err, sym, ap, subst, ◌∙◌, inl, inr}
 use Rattle.mach_dyld.proofs.Names.{Fault, Branch, Info, Node, slice_get, bind_ok, chosen, same_ok, found_or_malformed, sum_of, uleb_at, text_at, own_at}
 use Rattle.mach_dyld.proofs.Names.{children_at, terminal_at, inner_at, node_at}
 use Rattle.mach_dyld.specs.Cursors.{IsOwnAt, IsReexportAt, place_at}

@@ -1,9 +1,9 @@
 -- What a cursor has given of the trie that it goes over.
-use Rattle.mach_dyld.proofs.Names.{◌≡◌, ◌<◌, ◌≤◌, ◌-◌, length, replicate, false, Some, ℕ, Bool, List, [], ◌∷◌, ◌++◌, ◌⊎◌, refl, sym, ap, subst, ◌∙◌, arith}
-use Rattle.mach_dyld.proofs.Names.{inl, inr, append-nil, Fault, Branch, Entry, Source}
+use Rattle.mach_dyld.proofs.Names.{◌≡◌, ◌<◌, ◌≤◌, ◌-◌, length, replicate, false, Some, ℕ, Bool, List, [], ◌⊎◌, refl, sym, ap, subst, ◌∙◌, arith}
+use Rattle.mach_dyld.proofs.Names.{inl, inr, append-nil, Fault, Entry, Source}
 use Rattle.mach_dyld.proofs.Names.{texts, source_trie, fault_in, ListBegins, none_yet, no_further, Holds, IsFresh, HasListed, TrieRange, TrieFault, Trie}
 use Rattle.mach_dyld.proofs.Names.{ListsExports}
-use Rattle.mach_dyld.proofs.Names.{trie_there, ExportsFault}
+use Rattle.mach_dyld.proofs.Names.{trie_there}
 use Rattle.std.specs.Borrow.{Bor}
 use Rattle.mach_dyld.proofs.WalkTurns.{nothing_listed}
 use Rattle.mach_dyld.proofs.TrieBegins.{whole_list, listed_there, begun_there}

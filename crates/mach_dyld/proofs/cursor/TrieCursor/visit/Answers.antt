@@ -1,4 +1,4 @@
-use Rattle.std.proofs.Common.{arith, refl, ◌∙◌, sym, ap}
+use Rattle.std.proofs.Common.{arith, refl, ◌∙◌, ap}
 use Rattle.mach_base.specs.Fault.{malformed, fault_of}
 use Rattle.mach_dyld.proofs.Names.{append-nil, subst, ℕ, List, Entry, Ok, Option, info_in, node_at, texts}
 use Rattle.mach_dyld.specs.BranchViews.{branches_of}
