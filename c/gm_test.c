@@ -131,7 +131,7 @@ static uint32_t opens(given *g, uint32_t mode) {
 
 /* ---- tests */
 
-static size_t tested;
+static size_t tested, alike, others, brought;
 
 static void same_in_batches(const list *l, const given *g) {
     static const size_t batches[] = {1, 2, 7};
@@ -231,8 +231,25 @@ static void give_more(gm_export_room *r, const gm_export_batch *b) {
     *cap = b->needed;
 }
 
+/* an export is what it is where its name is sought: the first of that name, so that of two with one name the others may differ */
+static void same_as_found(const given *g, const gm_listed_export *x, const char *names) {
+    gm_export found;
+    gm_error e;
+    static char library[1 << 12], target[1 << 12];
+    if (gm_find_export(OF, names + x->name, x->name_len, &found, library, sizeof library, target, sizeof target, NULL, &e)) return;
+    if (found.kind == GM_NO_EXPORT) DIE("an export that is not found");
+    if (memcmp(&found, &x->what, sizeof found)) { others++; return; }
+    alike++;
+    if (found.kind != GM_REEXPORTED) return;
+    if (found.target_len > g->len || x->target > g->len - found.target_len || memcmp(g->bytes + x->target, target, found.target_len)) DIE("another target");
+    gm_library l;
+    if (x->library && (gm_libraries(OF, x->library - 1, &l, 1) != 1 || l.name_len != found.library_len || memcmp(g->bytes + l.name, library, l.name_len)))
+        DIE("another library");
+    brought++;
+}
+
 /* the lines of the exports in batches of so many, and how the walk ends; the buffers begin with so many bytes and nodes */
-static char *export_lines(const given *g, size_t cap, size_t some) {
+static char *export_lines(const given *g, size_t cap, size_t some, bool of_library) {
     char *text_of = NULL;
     size_t len = 0;
     FILE *to = open_memstream(&text_of, &len);
@@ -244,7 +261,12 @@ static char *export_lines(const given *g, size_t cap, size_t some) {
         for (size_t i = 0, at = 0; i < b.count; at += r.out[i++].name_len) {
             const gm_listed_export *x = r.out + i;
             if (x->name != at || x->name_len > b.names_len - at || x->what.kind < GM_ADDRESS || x->what.kind > GM_STUB) DIE("a row of no name");
-            fprintf(to, "0x%" PRIx64 " %.*s\n", x->what.kind == GM_ADDRESS ? x->what.address : 0, (int)x->name_len, r.names + x->name);
+            if (of_library) {
+                fprintf(to, "%zu ", x->what.kind == GM_REEXPORTED ? x->library : 0);
+                text(to, g, x->what.target_len ? x->target : 0, x->what.target_len);
+                fprintf(to, " %.*s\n", (int)x->name_len, r.names + x->name);
+            } else fprintf(to, "0x%" PRIx64 " %.*s\n", x->what.kind == GM_ADDRESS ? x->what.address : 0, (int)x->name_len, r.names + x->name);
+            same_as_found(g, x, r.names);
         }
         if (code) {
             if (walk.code != code || export_batch(g, &walk, &r, &b, NULL) != code || b.count) DIE("a refused walk went on");
@@ -288,11 +310,11 @@ static void exports_by_memory(const given *g) {
 }
 
 static void check_exports(const given *g) {
-    char *all = export_lines(g, LIMIT, 4096);
+    char *all = export_lines(g, LIMIT, 4096, true);
     static const size_t batches[] = {1, 2, 7};
     for (int i = 0; i < 3; i++)
         for (size_t some = 0; some <= 64; some += 32) {
-            char *part = export_lines(g, batches[i], some);
+            char *part = export_lines(g, batches[i], some, true);
             if (strcmp(all, part)) DIE("exports: batches of %zu differ", batches[i]);
             free(part);
         }
@@ -396,8 +418,8 @@ static void print(const char *what, const uint8_t *bytes, size_t len) {
     gm_error e;
     if (gm_open(bytes, len, 0, GM_STRICT, NULL, &g.image, &e)) { printf("refused: %s\n", e.text); return; }
     if (!strncmp(what, "find:", 5)) print_exports(&g, what + 5);
-    if (!strcmp(what, "exports")) {
-        char *all = export_lines(&g, 1000, 16);
+    if (!strcmp(what, "exports") || !strcmp(what, "reexports")) {
+        char *all = export_lines(&g, 1000, 16, !strcmp(what, "reexports"));
         fputs(all, stdout);
         free(all);
     }
@@ -455,6 +477,6 @@ int main(int argc, char **argv) {
         free(bytes);
     }
     fclose(away);
-    if (!strcmp(argv[1], "check")) printf("%zu lists agree\n", tested);
+    if (!strcmp(argv[1], "check")) printf("%zu lists agree; %zu exports as they are found, %zu of them brought, and %zu others of a name\n", tested, alike, brought, others);
     return 0;
 }

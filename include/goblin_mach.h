@@ -123,7 +123,7 @@ uint32_t gm_find_export(const uint8_t *bytes, size_t len, const gm_image *image,
    go with the bytes, the image, and the `name` and the `stack` that the call before left. */
 typedef struct gm_open_node { size_t left, place, name_len; } gm_open_node;
 typedef struct gm_export_walk {
-    size_t phase, visits_left, name_len, depth;
+    size_t phase, visits_left, name_len, depth, node;
     gm_open_node top;
     uint32_t is_begun;
     uint32_t code; /* GM_OK, or why the walk was refused; the next call is refused so again */
@@ -132,6 +132,8 @@ typedef struct gm_export_walk {
 /* a row: its name is `name_len` bytes at names + name, with no zero byte behind */
 typedef struct gm_listed_export {
     size_t name, name_len;
+    size_t library; /* of a re-export: number `library - 1` of gm_libraries; 0 is the image itself */
+    size_t target;  /* the name there is `what.target_len` bytes at bytes + target; none: the same name */
     gm_export what; /* `kind` is never GM_NO_EXPORT */
 } gm_listed_export;
 
@@ -209,10 +211,11 @@ GM_FIELD(gm_export_walk, phase, 0, 8);
 GM_FIELD(gm_export_walk, visits_left, 8, 8);
 GM_FIELD(gm_export_walk, name_len, 16, 8);
 GM_FIELD(gm_export_walk, depth, 24, 8);
-GM_FIELD(gm_export_walk, top, 32, 24);
-GM_FIELD(gm_export_walk, is_begun, 56, 4);
-GM_FIELD(gm_export_walk, code, 60, 4);
-GM_SIZE(gm_export_walk, 64);
+GM_FIELD(gm_export_walk, node, 32, 8);
+GM_FIELD(gm_export_walk, top, 40, 24);
+GM_FIELD(gm_export_walk, is_begun, 64, 4);
+GM_FIELD(gm_export_walk, code, 68, 4);
+GM_SIZE(gm_export_walk, 72);
 GM_FIELD(gm_fat_entry, cputype, 0, 4);
 GM_FIELD(gm_fat_entry, cpusubtype, 4, 4);
 GM_FIELD(gm_fat_entry, offset, 8, 4);
@@ -262,8 +265,10 @@ GM_FIELD(gm_library, compatibility_version, 28, 4);
 GM_SIZE(gm_library, 32);
 GM_FIELD(gm_listed_export, name, 0, 8);
 GM_FIELD(gm_listed_export, name_len, 8, 8);
-GM_FIELD(gm_listed_export, what, 16, 48);
-GM_SIZE(gm_listed_export, 64);
+GM_FIELD(gm_listed_export, library, 16, 8);
+GM_FIELD(gm_listed_export, target, 24, 8);
+GM_FIELD(gm_listed_export, what, 32, 48);
+GM_SIZE(gm_listed_export, 80);
 GM_FIELD(gm_open_node, left, 0, 8);
 GM_FIELD(gm_open_node, place, 8, 8);
 GM_FIELD(gm_open_node, name_len, 16, 8);

@@ -98,12 +98,12 @@ class _OpenNode(ctypes.Structure):
 
 
 class _ExportWalk(ctypes.Structure):
-    _fields_ = [("phase", c_size_t), ("visits_left", c_size_t), ("name_len", c_size_t), ("depth", c_size_t)] + [
+    _fields_ = [(n, c_size_t) for n in ("phase", "visits_left", "name_len", "depth", "node")] + [
         ("top", _OpenNode), ("is_begun", c_uint32), ("code", c_uint32)]
 
 
 class _ListedExport(ctypes.Structure):
-    _fields_ = [("name", c_size_t), ("name_len", c_size_t), ("what", _Export)]
+    _fields_ = [(n, c_size_t) for n in ("name", "name_len", "library", "target")] + [("what", _Export)]
 
 
 class _ExportRoom(ctypes.Structure):
@@ -395,14 +395,18 @@ class Image:
 
     def exports(self) -> Iterator[Export]:
         """All exports, in the order of the trie. A fault of the trie raises `Refused` behind those that stand before it."""
-        room, error, b = _Room(), _Error(), self._bytes
+        room, error, b, libraries = _Room(), _Error(), self._bytes, []
         while True:
             code = _lib.gm_exports(b.at, c_size_t(b.len), ctypes.byref(self._numbers), ctypes.byref(room.walk), ctypes.byref(room.numbers()),
                                    ctypes.byref(room.batch), None, ctypes.byref(error))
             names = bytes(room.names[:room.batch.names_len])
             for row in room.out[:room.batch.count]:
-                name, what = names[row.name:row.name + row.name_len].decode(), row.what
-                yield self.find_export(name) if what.kind == 2 else Export(name, EXPORTS[what.kind], what.address, what.resolver, what.flags, None, None)
+                name, what, library, target = names[row.name:row.name + row.name_len].decode(), row.what, None, None
+                if what.kind == 2:
+                    libraries = libraries or [l.name for l in self.libraries()]
+                    library = libraries[row.library - 1] if row.library else self.find_export(name).library
+                    target = b.text(row.target, what.target_len) or name
+                yield Export(name, EXPORTS[what.kind], what.address, what.resolver, what.flags, library, target)
             if code:
                 raise Refused(error)
             if room.batch.end == END:

@@ -4,4 +4,5 @@ pub mod OpenedImage
 pub mod OpenedLists
 pub mod ListedExports
 pub mod WalkedTries
+pub mod TrieBytes
 pub mod WalkedImages

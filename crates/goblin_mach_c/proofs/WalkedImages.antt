@@ -1,29 +1,32 @@
 -- Walks of an image's exports, by its bytes and as the image is held.
-use Rattle.std.proofs.Common.{◌≡◌, ◌≢◌, ◌++◌, [], ℕ, List, inl, inr, refl, sym, ap, subst, arith}
+use Rattle.std.proofs.Common.{◌≡◌, ◌≢◌, ◌++◌, [], ℕ, List, Option, Ok, inl, inr, refl, sym, ap, subst, arith}
 use Rattle.std.proofs.lemmas.List.{append-nil}
 use Rattle.std.specs.declared.alloc.Global.{Global}
 use Rattle.mach_base.specs.declared.context.Ctx.{Ctx}
+use Rattle.mach_base.specs.Text.{text_at}
 use Rattle.mach_load.specs.Command.{Command}
 use Rattle.mach_dyld.specs.Exports.{texts}
 use Rattle.mach_dyld.specs.Trie.{Entry}
 use Rattle.mach_dyld.specs.TrieRange.{TrieRange}
 use Rattle.mach_dyld.specs.declared.walk.Open.{Open}
 use Rattle.goblin_mach.specs.Image.{LossyOpens}
-use Rattle.goblin_mach.specs.OpenImage.{IsLossyImage, trie_held}
+use Rattle.goblin_mach.specs.OpenImage.{IsLossyImage, commands_held, trie_held}
 use Rattle.goblin_mach.specs.Subjects.{libs_in, trie_in, trie_or_empty}
 use Rattle.goblin_mach.specs.declared.image.macho.MachO.{MachO}
-use Rattle.goblin_mach.proofs.Facts.{exports_are, exports_fail, image_of, moved, of_image}
+use Rattle.goblin_mach.proofs.Facts.{exports_are, exports_fail, libraries_are, image_of, moved, of_image}
 use Rattle.goblin_mach.proofs.Walked.{walked_fault, walked_list}
-use Rattle.goblin_mach_c.specs.ExportWalk.{AreWritten, EndsWith, GoesAlong, GoesOn, HasWalked, HasWalkedTrie, IsRefusedWalk, no_batch}
+use Rattle.goblin_mach_c.specs.ExportWalk.{AreWritten, EndsWith, GoesAlong, GoesOn, HasLibrary, HasWalked, HasWalkedTrie, IsNumbered, IsRefusedWalk, no_batch}
+use Rattle.goblin_mach_c.proofs.ListedExports.{written_there}
+use Rattle.goblin_mach_c.proofs.TrieBytes.{text_there}
 use Rattle.goblin_mach_c.specs.declared.exports.gm_export_batch.{gm_export_batch}
 use Rattle.goblin_mach_c.specs.declared.exports.gm_export_walk.{gm_export_walk}
 use Rattle.goblin_mach_c.specs.declared.exports.gm_listed_export.{gm_listed_export}
 
 -- ---- a call that gives nothing
 
-pub none_written : (b : gm_export_batch) (out : List gm_listed_export) (text : List ℕ) → b ≡ no_batch
-    → AreWritten [] b.count b.names_len out out text text
-none_written b out text is = rw is (record { is_count = refl; is_used = refl; rows = refl; names = refl })
+pub none_written : (bytes : List ℕ) (o : ℕ) (b : gm_export_batch) (out : List gm_listed_export) (text : List ℕ) → b ≡ no_batch
+    → AreWritten bytes (HasLibrary bytes o) [] b.count b.names_len out out text text
+none_written bytes o b out text is = rw is (record { is_count = refl; is_used = refl; listed = []; are = tt; rows = refl; names = refl })
 
 pub stays : (bytes : List ℕ) (o : ℕ) (w : gm_export_walk) (name : List ℕ) (stack : List Open) → GoesOn bytes o w name stack [] w name stack
 stays bytes o w name stack found h = subst (HasWalked bytes o w name stack) (sym (append-nil found)) h
@@ -70,6 +73,16 @@ module _ (bytes : List ℕ) (o : ℕ) (m : MachO Global) (p : IsLossyImage bytes
       → HasWalked bytes o w name stack found
   there w name stack found h =
       of_image bytes o m p (Walked w name stack found) (moved (λ t l. HasWalkedTrie (trie_or_empty t) l w name stack found) _ _ _ _ p.fields.trie p.fields.libs h)
+
+  -- its rows
+  pub rows_there : (given : List Entry) (count used : ℕ) (old new : List gm_listed_export) (names names' : List ℕ)
+      → AreWritten trie.bytes (IsNumbered libs) given count used old new names names'
+      → AreWritten bytes (HasLibrary bytes o) given count used old new names names'
+  rows_there given count used old new names names' w =
+      written_there trie.bytes bytes (IsNumbered libs) (HasLibrary bytes o)
+      (λ place text e. text_there bytes (commands_held m) place text
+      (subst (λ (t : Option TrieRange). text_at (trie_or_empty t).bytes place ≡ Ok text) p.fields.trie e))
+      (λ number name e. (libs, (libraries_are bytes o m p libs).1 refl, e)) w
 
   module _ (w w' : gm_export_walk) (name name' : List ℕ) (stack stack' : List Open) (given : List Entry) (end : ℕ)
       (g : GoesAlong trie libs w w' name name' stack stack' given end) where

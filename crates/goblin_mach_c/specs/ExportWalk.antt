@@ -1,17 +1,18 @@
 -- The exports of an image in batches, as C sees them.
-use Rattle.std.specs.Prelude.{◌≡◌, ◌≢◌, ◌+◌, ◌++◌, ◌⊎◌, ℕ, List, [], ◌∷◌, length, drop, Option, Some, None, Result, Ok, Err, nat_lt, if◌then◌else◌}
+use Rattle.std.specs.Prelude.{◌≡◌, ◌≢◌, ◌+◌, ◌++◌, ◌⊎◌, ℕ, List, [], ◌∷◌, length, drop, Option, Some, None, Result, Ok, Err, nat_lt, slice_get, if◌then◌else◌}
 use Rattle.mach_base.specs.Fault.{Fault}
+use Rattle.mach_base.specs.Text.{text_at}
 use Rattle.mach_dyld.specs.Cursors.{HasGivenTo, IsFaulty, NextGives}
-use Rattle.mach_dyld.specs.Trie.{Entry}
+use Rattle.mach_dyld.specs.Trie.{Entry, Info, regular, reexport, stub}
 use Rattle.mach_dyld.specs.TrieRange.{ListsExports, TrieRange}
 use Rattle.mach_dyld.specs.declared.cursor.NextExport.{NextExport}
 use Rattle.mach_dyld.specs.declared.cursor.NextExport.TheVariants as next
 use Rattle.mach_dyld.specs.declared.cursor.TrieCursor.{TrieCursor}
 use Rattle.mach_dyld.specs.declared.info.ExportInfo.{ExportInfo}
 use Rattle.mach_dyld.specs.declared.walk.Open.{Open}
-use Rattle.goblin_mach.specs.Facts.{HasExports, HasExportsFault, OfImage}
+use Rattle.goblin_mach.specs.Facts.{HasExports, HasExportsFault, HasLibraries, OfImage}
 use Rattle.goblin_mach.specs.Subjects.{libs_in, trie_in, trie_or_empty}
-use Rattle.goblin_mach_c.specs.ExportRows.{export_row}
+use Rattle.goblin_mach_c.specs.ExportRows.{export_row, text_or_none}
 use Rattle.goblin_mach_c.specs.declared.exports.Ending.{Ending}
 use Rattle.goblin_mach_c.specs.declared.exports.Ending.TheVariants.{End, Refused, NameTooLong, StackTooShort}
 use Rattle.goblin_mach_c.specs.declared.exports.gm_export_batch.{gm_export_batch}
@@ -20,27 +21,51 @@ use Rattle.goblin_mach_c.specs.declared.exports.gm_listed_export.{gm_listed_expo
 
 -- ---- rows
 
--- an export whose name stands at a place among the names
-abbrev pub listed_row : ℕ → Entry → gm_listed_export
-listed_row place e = record { name = place; name_len = length e.name; what = export_row (Some e.info) }
+-- Of a re-export the library is the one of this number, and its name there is the text at this place, empty where it is the
+-- same name. Of another export both are 0.
+abbrev pub IsBrought : List ℕ → (ℕ → List ℕ → Type 0) → Info → ℕ → ℕ → Type 0
+IsBrought bytes IsLibrary (regular address flags) library target = (library ≡ 0) × (target ≡ 0)
+IsBrought bytes IsLibrary (reexport lib name flags) library target = IsLibrary library lib × (text_at bytes target ≡ Ok (text_or_none name))
+IsBrought bytes IsLibrary (stub at resolver flags) library target = (library ≡ 0) × (target ≡ 0)
+
+-- the row of an export whose name stands at a place among the names
+pub record IsListed (bytes : List ℕ) (IsLibrary : ℕ → List ℕ → Type 0) (place : ℕ) (e : Entry) (row : gm_listed_export) : Type 0 where
+  pub name : row.name ≡ place
+  pub name_len : row.name_len ≡ length e.name
+  pub what : row.what ≡ export_row (Some e.info)
+  pub brought : IsBrought bytes IsLibrary e.info row.library row.target
 
 -- some names, one behind the other
 abbrev pub names_of : List Entry → List ℕ
 names_of [] = []
 names_of (e ∷ es) = e.name ++ names_of es
 
--- exports whose names stand so, from a place among the names on
-abbrev pub listed_rows : ℕ → List Entry → List gm_listed_export
-listed_rows place [] = []
-listed_rows place (e ∷ es) = listed_row place e ∷ listed_rows (place + length e.name) es
+-- the rows of exports whose names stand so, from a place among the names on
+abbrev pub AreListed : List ℕ → (ℕ → List ℕ → Type 0) → ℕ → List Entry → List gm_listed_export → Type 0
+AreListed bytes IsLibrary place [] [] = Unit {0}
+AreListed bytes IsLibrary place [] (row ∷ rows) = ⊥
+AreListed bytes IsLibrary place (e ∷ es) [] = ⊥
+AreListed bytes IsLibrary place (e ∷ es) (row ∷ rows) =
+    IsListed bytes IsLibrary place e row × AreListed bytes IsLibrary (place + length e.name) es rows
 
 -- These exports were written: so many rows in front of an array, and so many bytes of names in front of a text. What is
 -- behind them is as it was.
-pub record AreWritten (given : List Entry) (count used : ℕ) (old new : List gm_listed_export) (text text' : List ℕ) : Type 0 where
+pub record AreWritten (bytes : List ℕ) (IsLibrary : ℕ → List ℕ → Type 0) (given : List Entry) (count used : ℕ) (old new : List gm_listed_export)
+    (text text' : List ℕ) : Type 0 where
   pub is_count : count ≡ length given
   pub is_used : used ≡ length (names_of given)
-  pub rows : new ≡ listed_rows 0 given ++ drop count old
+  pub listed : List gm_listed_export
+  pub are : AreListed bytes IsLibrary 0 given listed
+  pub rows : new ≡ listed ++ drop count old
   pub names : text' ≡ names_of given ++ drop used text
+
+-- the library of this number has this name, the image itself being number 0
+abbrev pub HasLibrary : List ℕ → ℕ → ℕ → List ℕ → Type 0
+HasLibrary bytes o number name = (libs : List (List ℕ)) × HasLibraries bytes o libs × (slice_get libs number ≡ Some name)
+
+-- the same of a list of libraries
+abbrev pub IsNumbered : List (List ℕ) → ℕ → List ℕ → Type 0
+IsNumbered libs number name = slice_get libs number ≡ Some name
 
 -- ---- walks
 

@@ -1,7 +1,7 @@
 //! The exports of an image in batches, by a walk whose numbers, name and open nodes are the caller's.
 
 ghost use Rattle.std.specs.Prelude.{◌≡◌, ◌≢◌, ◌+◌, ◌++◌, ◌<◌, ◌≤◌, ◌⊎◌, ℕ, List, Option, Some, None, IsErr, drop, length, min, take};
-ghost use Rattle.mach_dyld.specs.Cursors.{HasGivenTo, IsFaulty};
+ghost use Rattle.mach_dyld.specs.Cursors.{HasGivenTo, IsFaulty, IsOwnAt};
 ghost use Rattle.mach_dyld.specs.Exports.{info_of, texts};
 ghost use Rattle.mach_dyld.specs.Trie.{Entry};
 ghost use Rattle.mach_dyld.specs.TrieRange.{empty_range};
@@ -9,7 +9,7 @@ ghost use Rattle.goblin_mach.specs.OpenImage.{trie_held};
 ghost use Rattle.goblin_mach.specs.Subjects.{trie_or_empty};
 ghost use Rattle.goblin_mach_c.specs.Codes.{IsRefusal};
 ghost use Rattle.goblin_mach_c.specs.ExportRows.{export_row};
-ghost use Rattle.goblin_mach_c.specs.ExportWalk.{AreWritten, EndsWith, GoesAlong, GoesOn, HasWalkedTrie, IsRefusedWalk, StopsAt, end_number, needed_number, next_of, no_batch};
+ghost use Rattle.goblin_mach_c.specs.ExportWalk.{AreWritten, EndsWith, GoesAlong, GoesOn, HasLibrary, HasWalkedTrie, IsBrought, IsNumbered, IsRefusedWalk, StopsAt, end_number, needed_number, next_of, no_batch};
 ghost use Rattle.goblin_mach_c.specs.Opened.{FaultIn, lossy_mode};
 ghost use Rattle.goblin_mach_c.specs.declared.exports.Ending.TheVariants as ending;
 
@@ -35,12 +35,15 @@ pub struct gm_export_walk {
     pub code: u32,
 }
 
-/// An export. Its name stands at `name` among the names, and has `name_len` bytes.
+/// An export. Its name stands at `name` among the names, and has `name_len` bytes. Of a re-export `library` is the number of the
+/// library, the image itself being number 0, and the name there stands at `target` in the bytes.
 #[derive(Clone, Copy)]
 #[repr(C)]
 pub struct gm_listed_export {
     pub name: usize,
     pub name_len: usize,
+    pub library: usize,
+    pub target: usize,
     pub what: gm_export,
 }
 
@@ -117,6 +120,21 @@ fn put_name(name: &[u8], count: usize, names: &mut [u8], at: usize) -> usize
     count
 }
 
+// Of a re-export that was given last the number of its library, and where its name there stands.
+#[inline(always)]
+fn brought_from(trie: &ExportTrie<'_>, cursor: &TrieCursor, info: &ExportInfo<'_>) -> (usize, usize)
+    ensures { (libs : List (List ℕ)) → IsOwnAt trie.now.bytes libs trie.now.from cursor.now.node (info_of info.now)
+        → IsBrought trie.now.bytes (IsNumbered libs) (info_of info.now) result.0 result.1 }
+{
+    match info {
+        ExportInfo::Reexport { .. } => match trie.reexport_place(cursor) {
+            Some((ordinal, place)) => (ordinal as usize, place),
+            None => (0, 0),
+        },
+        ExportInfo::Regular { .. } | ExportInfo::Stub { .. } => (0, 0),
+    }
+}
+
 // Goes on along a trie, and writes the exports that come: their rows into an array, and their names one behind the other. It
 // stops where the array is full or a name might not fit, and answers how many rows and how many bytes it wrote, and
 // what came in place of an export, if anything did.
@@ -129,12 +147,13 @@ fn write_exports<'a>(
     out: &mut [gm_listed_export],
     names: &mut [u8],
 ) -> (usize, usize, Option<Ending>)
-    ensures written { (given : List Entry) × AreWritten given result.0 result.1 out.old out.new names.old names.new
+    ensures written { (given : List Entry) × AreWritten trie.now.bytes (IsNumbered (texts libs.now)) given result.0 result.1 out.old out.new names.old names.new
         × ((found : List Entry) → HasGivenTo trie.now (texts libs.now) cursor.old name.old stack.old found
         → StopsAt trie.now (texts libs.now) (found ++ given) result.2 cursor.new name.new stack.new) }
     ensures full { result.2 ≡ None → (result.0 ≡ length out.old) ⊎ (length names.old < result.1 + length name.old) }
     ensures lens { (length name.new ≡ length name.old) × (length names.new ≡ length names.old) × (length stack.new ≡ length stack.old) }
     ensures name { (n : ℕ) → result.2 ≡ Some (ending.NameTooLong n) → length name.old < n }
+    ensures stack { result.2 ≡ Some ending.StackTooShort → length stack.old ≤ cursor.new.depth }
 {
     let mut used = 0;
     for k in 0..out.len() {
@@ -144,9 +163,12 @@ fn write_exports<'a>(
         match export_or_ending(trie.next_export(libs, cursor, name, stack)) {
             Ok(info) => {
                 let len = put_name(name, cursor.name_len, names, used);
+                let (library, target) = brought_from(trie, cursor, &info);
                 out[k] = gm_listed_export {
                     name: used,
                     name_len: len,
+                    library,
+                    target,
                     what: row_of(&Some(info)),
                 };
                 used += len;
@@ -211,12 +233,13 @@ fn go_along<'a>(
     error: &mut gm_error,
 ) -> u32
     requires ready { walk.old.code ≡ 0 }
-    ensures written { (given : List Entry) × AreWritten given batch.new.count batch.new.names_len out.old out.new names.old names.new
+    ensures written { (given : List Entry) × AreWritten trie.now.bytes (IsNumbered (texts libs.now)) given batch.new.count batch.new.names_len
+        out.old out.new names.old names.new
         × GoesAlong trie.now (texts libs.now) walk.old walk.new name.old name.new stack.old stack.new given batch.new.end }
     ensures full { batch.new.end ≡ 0 → (batch.new.count ≡ length out.old) ⊎ (length names.old < batch.new.names_len + length name.old) }
     ensures no_room { batch.new.end ≡ 2 → (length names.old < length name.old) × (batch.new.needed ≡ length name.old) }
     ensures name { batch.new.end ≡ 3 → length name.old < batch.new.needed }
-    ensures stack { batch.new.end ≡ 4 → length stack.old < batch.new.needed }
+    ensures stack { batch.new.end ≡ 4 → (length stack.old ≤ walk.new.cursor.depth) × (batch.new.needed ≡ length stack.old + 1) }
     ensures refused { result ≢ 0 → batch.new.end ≡ 5 }
     ensures good { result ≡ 0 → batch.new.end < 5 }
     ensures marked { walk.new.code ≡ result }
@@ -284,7 +307,8 @@ pub extern "C" fn gmr_exports(
     batch: &mut gm_export_batch,
     error: &mut gm_error,
 ) -> u32
-    ensures written { (given : List Entry) × AreWritten given batch.new.count batch.new.names_len out.old out.new names.old names.new
+    ensures written { (given : List Entry) × AreWritten bytes.now (HasLibrary bytes.now image.now.offset) given batch.new.count batch.new.names_len
+        out.old out.new names.old names.new
         × GoesOn bytes.now image.now.offset walk.old name.old stack.old given walk.new name.new stack.new
         × (batch.new.end ≡ 1 → EndsWith bytes.now image.now.offset walk.old name.old stack.old given) }
     ensures refused { result ≢ 0 → IsRefusal (FaultIn (lossy_mode image.now.is_lossy) bytes.now image.now.offset) result
@@ -297,7 +321,7 @@ pub extern "C" fn gmr_exports(
     ensures full { batch.new.end ≡ 0 → (batch.new.count ≡ length out.old) ⊎ (length names.old < batch.new.names_len + length name.old) }
     ensures no_room { batch.new.end ≡ 2 → (length names.old < length name.old) × (batch.new.needed ≡ length name.old) }
     ensures name { batch.new.end ≡ 3 → length name.old < batch.new.needed }
-    ensures stack { batch.new.end ≡ 4 → length stack.old < batch.new.needed }
+    ensures stack { batch.new.end ≡ 4 → (length stack.old ≤ walk.new.cursor.depth) × (batch.new.needed ≡ length stack.old + 1) }
     ensures told { result ≢ 0 → error.new.code ≡ result }
     ensures quiet { result ≡ 0 → error.new ≡ error.old }
 {
