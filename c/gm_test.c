@@ -1,6 +1,7 @@
 /* gm_test WHAT FILE prints the lines of a list, for comparison with the programs of this repository.
    gm_test check FILE.. tests each file and each of its prefixes: batches of 1, 2, 7 and all give the same rows, the rest of an
    array stays, memory may be refused at any request, an arena serves without malloc, NULL serves with length 0.
+   gm_test deep LEVELS goes over a trie of so many levels in buffers that grow.
    gm_test damage COUNT FILE.. hands in COUNT images of made-up numbers, by a fixed seed. */
 #define _GNU_SOURCE
 #include "goblin_mach.h"
@@ -197,11 +198,11 @@ static void *grown(void *held, size_t old, size_t size) {
     return more;
 }
 static gm_export_room room_of(size_t some, size_t cap) {
-    gm_export_room r = {NULL, some, NULL, some, NULL, cap, NULL, some};
+    gm_export_room r = {NULL, some, NULL, some, NULL, cap, NULL, some > 64 ? 16 * some : some};
     r.name = grown(NULL, 0, some);
     r.stack = grown(NULL, 0, some * sizeof *r.stack);
     r.out = grown(NULL, 0, cap * sizeof *r.out);
-    r.names = grown(NULL, 0, some);
+    r.names = grown(NULL, 0, r.names_cap);
     return r;
 }
 static void give_room(gm_export_room *r) { free(r->name); free(r->stack); free(r->out); free(r->names); }
@@ -265,8 +266,8 @@ static char *export_lines(const given *g, size_t cap, size_t some, bool of_libra
                 fprintf(to, "%zu ", x->what.kind == GM_REEXPORTED ? x->library : 0);
                 text(to, g, x->what.target_len ? x->target : 0, x->what.target_len);
                 fprintf(to, " %.*s\n", (int)x->name_len, r.names + x->name);
+                same_as_found(g, x, r.names);
             } else fprintf(to, "0x%" PRIx64 " %.*s\n", x->what.kind == GM_ADDRESS ? x->what.address : 0, (int)x->name_len, r.names + x->name);
-            same_as_found(g, x, r.names);
         }
         if (code) {
             if (walk.code != code || export_batch(g, &walk, &r, &b, NULL) != code || b.count) DIE("a refused walk went on");
@@ -307,6 +308,46 @@ static void exports_by_memory(const given *g) {
         if (b.count || memcmp(&walk, &before, sizeof walk) || memcmp(name, r.name, 64) || memcmp(stack, r.stack, sizeof stack)) DIE("a refusal changed the walk");
     }
     give_room(&r);
+}
+
+/* a trie of so many levels, each of an inner node with two branches: the first leads on, the second to an export */
+static void put_uleb3(uint8_t *at, size_t n) { at[0] = n | 0x80, at[1] = n >> 7 | 0x80, at[2] = n >> 14; }
+static void check_deep(size_t levels) {
+    enum { AT = 48, NODE = 12, LEAF = 4 };
+    size_t size = levels * (NODE + LEAF) + LEAF;
+    given held = {.len = AT + size}, *g = &held;
+    uint8_t *bytes = calloc(1, AT + size), *trie = bytes + AT;
+    const uint32_t header[] = {0xfeedfacf, 0x01000007, 3, 6, 1, 16, 0, 0, 0x80000033, 16, AT, (uint32_t)size};
+    memcpy(bytes, header, sizeof header);
+    for (size_t i = 0; i < levels; i++) {
+        uint8_t *node = trie + i * (NODE + LEAF);
+        node[1] = 2, node[2] = 'a', node[7] = 'b';
+        put_uleb3(node + 4, (i + 1) * (NODE + LEAF));
+        put_uleb3(node + 9, i * (NODE + LEAF) + NODE);
+        memcpy(node + NODE, (uint8_t[]){2, 0, i & 127, 0}, LEAF);
+    }
+    memcpy(trie + levels * (NODE + LEAF), (uint8_t[]){2, 0, 7, 0}, LEAF);
+    g->bytes = bytes;
+    gm_error e;
+    if (gm_open(g->bytes, g->len, 0, GM_STRICT, NULL, &g->image, &e)) DIE("a deep trie: %s", e.text);
+    gm_export_walk walk = {0};
+    gm_export_room r = room_of(0, 100);
+    gm_export_batch b;
+    size_t n = 0;
+    do {
+        if (gm_exports(OF, &walk, &r, &b, NULL, &e)) DIE("a deep trie: %s", e.text);
+        for (size_t i = 0; i < b.count; i++, n++) {
+            const gm_listed_export *x = r.out + i;
+            bool last = n == 0; /* the deepest comes first, and then the others from below */
+            if (x->name_len != (last ? levels : levels - n + 1) || r.names[x->name + x->name_len - 1] != (last ? 'a' : 'b')) DIE("export %zu of a deep trie", n);
+        }
+        b.needed *= 2;
+        if (b.end != GM_MORE && b.end != GM_END) give_more(&r, &b);
+    } while (b.end != GM_END);
+    if (n != levels + 1 || r.stack_cap < levels - 1) DIE("a deep trie of %zu exports and %zu nodes", n, r.stack_cap);
+    printf("%zu levels in %zu bytes\n", levels, size);
+    give_room(&r);
+    free(bytes);
 }
 
 static void check_exports(const given *g) {
@@ -419,7 +460,7 @@ static void print(const char *what, const uint8_t *bytes, size_t len) {
     if (gm_open(bytes, len, 0, GM_STRICT, NULL, &g.image, &e)) { printf("refused: %s\n", e.text); return; }
     if (!strncmp(what, "find:", 5)) print_exports(&g, what + 5);
     if (!strcmp(what, "exports") || !strcmp(what, "reexports")) {
-        char *all = export_lines(&g, 1000, 16, !strcmp(what, "reexports"));
+        char *all = export_lines(&g, 1000, 1 << 16, !strcmp(what, "reexports"));
         fputs(all, stdout);
         free(all);
     }
@@ -446,10 +487,11 @@ static uint8_t *read_file(const char *name, size_t *len) {
 
 int main(int argc, char **argv) {
     if (gm_version() != GM_VERSION) DIE("the header is of version %d and the library of %u", GM_VERSION, gm_version());
-    if (argc < 3) DIE("usage: gm_test WHAT FILE, gm_test check FILE.., gm_test damage COUNT FILE..");
+    if (argc < 3) DIE("usage: gm_test WHAT FILE, gm_test check FILE.., gm_test damage COUNT FILE.., gm_test deep LEVELS");
     int of_damage = !strcmp(argv[1], "damage");
     away = fopen("/dev/null", "w");
     if (!away) DIE("/dev/null can't be opened");
+    if (!strcmp(argv[1], "deep")) return check_deep((size_t)strtol(argv[2], NULL, 10)), 0;
     check(NULL, 0);
     for (int i = 2 + of_damage; i < argc; i++) {
         size_t len;

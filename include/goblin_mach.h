@@ -138,7 +138,7 @@ typedef struct gm_listed_export {
 } gm_listed_export;
 
 /* What a call may write into. `name` is the walk's, for the longest name; `stack` is, for the nodes that are open at once;
-   `out` is for rows, and `names` for their names, one behind the other. */
+   `out` is for rows, and `names` for their names, one behind the other: let it be many times as long as `name`. */
 typedef struct gm_export_room {
     char *name; size_t name_cap;
     gm_open_node *stack; size_t stack_cap;
