@@ -15,7 +15,7 @@ use Rattle.goblin_mach.specs.Subjects.{libs_in, trie_in, trie_or_empty}
 use Rattle.goblin_mach.specs.declared.image.macho.MachO.{MachO}
 use Rattle.goblin_mach.proofs.Facts.{exports_are, exports_fail, libraries_are, image_of, moved, of_image}
 use Rattle.goblin_mach.proofs.Walked.{walked_fault, walked_list}
-use Rattle.goblin_mach_c.specs.ExportWalk.{AreWritten, EndsWith, GoesAlong, GoesOn, HasLibrary, HasWalked, HasWalkedTrie, IsNumbered, IsRefusedWalk, no_batch}
+use Rattle.goblin_mach_c.specs.ExportWalk.{AreWritten, EndsWith, GoesAlong, GoesOn, HasLibrary, HasNextName, HasWalked, HasWalkedTrie, IsNextName, IsNumbered, IsRefusedWalk, no_batch}
 use Rattle.goblin_mach_c.proofs.ListedExports.{written_there}
 use Rattle.goblin_mach_c.proofs.TrieBytes.{text_there}
 use Rattle.goblin_mach_c.specs.declared.exports.gm_export_batch.{gm_export_batch}
@@ -83,6 +83,12 @@ module _ (bytes : List ℕ) (o : ℕ) (m : MachO Global) (p : IsLossyImage bytes
       (λ place text e. text_there bytes (commands_held m) place text
       (subst (λ (t : Option TrieRange). text_at (trie_or_empty t).bytes place ≡ Ok text) p.fields.trie e))
       (λ number name e. (libs, (libraries_are bytes o m p libs).1 refl, e)) w
+
+  -- the name that comes next
+  pub next_name_there : (w : gm_export_walk) (n : ℕ) → IsNextName trie w.cursor n → HasNextName bytes o w n
+  next_name_there w n h =
+      of_image bytes o m p (λ ctx cs. IsNextName (trie_or_empty (trie_in bytes cs)) w.cursor n)
+      (subst (λ (t : Option TrieRange). IsNextName (trie_or_empty t) w.cursor n) p.fields.trie h)
 
   module _ (w w' : gm_export_walk) (name name' : List ℕ) (stack stack' : List Open) (given : List Entry) (end : ℕ)
       (g : GoesAlong trie libs w w' name name' stack stack' given end) where

@@ -1,13 +1,13 @@
 -- Walks of an export trie, batch by batch.
-use Rattle.std.proofs.Common.{◌≡◌, ◌≢◌, ◌++◌, ◌⊎◌, [], ℕ, List, Bool, true, false, Option, Some, None, sym, subst, ◌∙◌, arith, inr}
+use Rattle.std.proofs.Common.{◌-◌, ◌^◌, ◌<◌, Err, length, ◌≡◌, ◌≢◌, ◌++◌, ◌⊎◌, [], ℕ, List, Bool, true, false, Option, Some, None, sym, subst, ◌∙◌, arith, inr}
 use Rattle.std.specs.Prelude.{nat_lt, if◌then◌else◌}
-use Rattle.mach_dyld.specs.CursorState.{in_fault}
+use Rattle.mach_dyld.specs.CursorState.{IsFull, in_fault}
 use Rattle.mach_dyld.specs.Cursors.{HasGivenTo, IsFaulty}
 use Rattle.mach_dyld.specs.Trie.{Entry}
 use Rattle.mach_dyld.specs.TrieRange.{ListsExports, TrieRange}
 use Rattle.mach_dyld.specs.declared.cursor.TrieCursor.{TrieCursor}
 use Rattle.mach_dyld.specs.declared.walk.Open.{Open}
-use Rattle.goblin_mach_c.specs.ExportWalk.{GoesAlong, HasWalkedTrie, StopsAt, end_number}
+use Rattle.goblin_mach_c.specs.ExportWalk.{GoesAlong, HasWalkedTrie, IsNextName, StopsAt, end_number, next_of}
 use Rattle.goblin_mach_c.specs.declared.exports.Ending.{Ending}
 use Rattle.goblin_mach_c.specs.declared.exports.Ending.TheVariants.{End, Refused, NameTooLong, StackTooShort}
 use Rattle.goblin_mach_c.specs.declared.exports.gm_export_walk.{gm_export_walk}
@@ -75,3 +75,15 @@ goes_along {t} {libs} {w} {b} {w'} {name} {name'} {stack} {stack'} {given} room 
   ended = λ one found h. is_whole t libs w'.cursor name' stack' (found ++ given) room longest e (stops found ((begins found h).begun begun)) (sym is ∙ one);
   refused = λ five found h. is_refused t libs w'.cursor name' stack' (found ++ given) room longest e (stops found ((begins found h).begun begun)) (sym is ∙ five);
 }
+
+-- the name that was too long
+pub long_name : (t : TrieRange) (c : TrieCursor) (name : List ℕ) (stack : List Open) (e : Ending) (n : ℕ)
+    → ◌≡◌ {A = Option Ending} (Some e) (Some (NameTooLong n)) → length name < 2 ^ 64 - 1 → IsFull t.bytes t.from c name stack (Some (next_of (Err e)))
+    → (length name < n) × IsNextName t c n
+long_name t c name stack (End) n is few full = absurd (cc)
+long_name t c name stack (Refused error) n is few full = absurd (cc)
+long_name t c name stack (StackTooShort) n is few full = absurd (cc)
+long_name t c name stack (NameTooLong m) n is few full =
+    let same : m ≡ n = cc in
+    let many = full.2 in
+    let past = full.3 in (omega (arith, same, many, past, few), (full.0, full.1, sym same ∙ many))

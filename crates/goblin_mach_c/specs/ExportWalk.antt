@@ -1,7 +1,8 @@
 -- The exports of an image in batches, as C sees them.
-use Rattle.std.specs.Prelude.{◌≡◌, ◌≢◌, ◌+◌, ◌++◌, ◌⊎◌, ℕ, List, [], ◌∷◌, length, drop, Option, Some, None, Result, Ok, Err, nat_lt, slice_get, if◌then◌else◌}
+use Rattle.std.specs.Prelude.{◌≡◌, ◌≢◌, ◌+◌, ◌-◌, ◌^◌, ◌++◌, ◌⊎◌, ℕ, List, [], ◌∷◌, length, drop, min, Option, Some, None, Result, Ok, Err, nat_lt, slice_get, if◌then◌else◌}
 use Rattle.mach_base.specs.Fault.{Fault}
 use Rattle.mach_base.specs.Text.{text_at}
+use Rattle.mach_dyld.specs.CursorState.{IsNextLabel}
 use Rattle.mach_dyld.specs.Cursors.{HasGivenTo, IsFaulty, NextGives}
 use Rattle.mach_dyld.specs.Trie.{Entry, Info, regular, reexport, stub}
 use Rattle.mach_dyld.specs.TrieRange.{ListsExports, TrieRange}
@@ -96,6 +97,15 @@ EndsWith bytes o w name stack given = (found : List Entry) → HasWalked bytes o
 -- Where the walk had given anything, a fault stands in the trie.
 abbrev pub IsRefusedWalk : List ℕ → ℕ → gm_export_walk → List ℕ → List Open → Type 0
 IsRefusedWalk bytes o w name stack = (found : List Entry) → HasWalked bytes o w name stack found → HasFaultyTrie bytes o
+
+-- The name that comes next in a trie has so many bytes, as far as 64 bits tell: those of the node on top, and those of the label of
+-- its next branch.
+abbrev pub IsNextName : TrieRange → TrieCursor → ℕ → Type 0
+IsNextName t c n = (label : List ℕ) × IsNextLabel t.bytes t.from c label × (n ≡ min (c.top.name_len + length label) (2 ^ 64 - 1))
+
+-- the same of the trie of the image at o
+abbrev pub HasNextName : List ℕ → ℕ → gm_export_walk → ℕ → Type 0
+HasNextName bytes o w n = OfImage bytes o (λ ctx cs. IsNextName (trie_or_empty (trie_in bytes cs)) w.cursor n)
 
 -- ---- the same of a trie
 

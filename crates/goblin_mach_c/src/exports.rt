@@ -9,7 +9,7 @@ ghost use Rattle.goblin_mach.specs.OpenImage.{trie_held};
 ghost use Rattle.goblin_mach.specs.Subjects.{trie_or_empty};
 ghost use Rattle.goblin_mach_c.specs.Codes.{IsRefusal};
 ghost use Rattle.goblin_mach_c.specs.ExportRows.{export_row};
-ghost use Rattle.goblin_mach_c.specs.ExportWalk.{AreWritten, EndsWith, GoesAlong, GoesOn, HasLibrary, HasWalkedTrie, IsBrought, IsNumbered, IsRefusedWalk, StopsAt, end_number, needed_number, next_of, no_batch};
+ghost use Rattle.goblin_mach_c.specs.ExportWalk.{AreWritten, EndsWith, GoesAlong, GoesOn, HasLibrary, HasNextName, HasWalkedTrie, IsBrought, IsNextName, IsNumbered, IsRefusedWalk, StopsAt, end_number, needed_number, next_of, no_batch};
 ghost use Rattle.goblin_mach_c.specs.Opened.{FaultIn, lossy_mode};
 ghost use Rattle.goblin_mach_c.specs.declared.exports.Ending.TheVariants as ending;
 
@@ -152,7 +152,7 @@ fn write_exports<'a>(
         → StopsAt trie.now (texts libs.now) (found ++ given) result.2 cursor.new name.new stack.new) }
     ensures full { result.2 ≡ None → (result.0 ≡ length out.old) ⊎ (length names.old < result.1 + length name.old) }
     ensures lens { (length name.new ≡ length name.old) × (length names.new ≡ length names.old) × (length stack.new ≡ length stack.old) }
-    ensures name { (n : ℕ) → result.2 ≡ Some (ending.NameTooLong n) → length name.old < n }
+    ensures name { (n : ℕ) → result.2 ≡ Some (ending.NameTooLong n) → (length name.old < n) × IsNextName trie.now cursor.new n }
     ensures stack { result.2 ≡ Some ending.StackTooShort → length stack.old ≤ cursor.new.depth }
 {
     let mut used = 0;
@@ -238,7 +238,7 @@ fn go_along<'a>(
         × GoesAlong trie.now (texts libs.now) walk.old walk.new name.old name.new stack.old stack.new given batch.new.end }
     ensures full { batch.new.end ≡ 0 → (batch.new.count ≡ length out.old) ⊎ (length names.old < batch.new.names_len + length name.old) }
     ensures no_room { batch.new.end ≡ 2 → (length names.old < length name.old) × (batch.new.needed ≡ length name.old) }
-    ensures name { batch.new.end ≡ 3 → length name.old < batch.new.needed }
+    ensures name { batch.new.end ≡ 3 → (length name.old < batch.new.needed) × IsNextName trie.now walk.new.cursor batch.new.needed }
     ensures stack { batch.new.end ≡ 4 → (length stack.old ≤ walk.new.cursor.depth) × (batch.new.needed ≡ length stack.old + 1) }
     ensures refused { result ≢ 0 → batch.new.end ≡ 5 }
     ensures good { result ≡ 0 → batch.new.end < 5 }
@@ -320,7 +320,7 @@ pub extern "C" fn gmr_exports(
     ensures end { (result ≡ 0 → batch.new.end < 5) × (result ≢ 0 → batch.new.end ≡ 5) }
     ensures full { batch.new.end ≡ 0 → (batch.new.count ≡ length out.old) ⊎ (length names.old < batch.new.names_len + length name.old) }
     ensures no_room { batch.new.end ≡ 2 → (length names.old < length name.old) × (batch.new.needed ≡ length name.old) }
-    ensures name { batch.new.end ≡ 3 → length name.old < batch.new.needed }
+    ensures name { batch.new.end ≡ 3 → (length name.old < batch.new.needed) × HasNextName bytes.now image.now.offset walk.new batch.new.needed }
     ensures stack { batch.new.end ≡ 4 → (length stack.old ≤ walk.new.cursor.depth) × (batch.new.needed ≡ length stack.old + 1) }
     ensures told { result ≢ 0 → error.new.code ≡ result }
     ensures quiet { result ≡ 0 → error.new ≡ error.old }

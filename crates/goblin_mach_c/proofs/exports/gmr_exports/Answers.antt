@@ -1,11 +1,11 @@
-use Rattle.std.proofs.Common.{[], ap, inl, inr}
+use Rattle.std.proofs.Common.{[], ap, subst, inl, inr}
 use Rattle.mach_dyld.specs.Exports.{texts}
 use Rattle.mach_dyld.specs.TrieRange.{TrieRange}
 use Rattle.goblin_mach.proofs.Facts.{moved}
-use Rattle.goblin_mach_c.specs.ExportWalk.{AreWritten, GoesAlong, IsNumbered}
+use Rattle.goblin_mach_c.specs.ExportWalk.{AreWritten, GoesAlong, IsNextName, IsNumbered}
 use Rattle.goblin_mach_c.specs.Opened.{FaultIn, lossy_mode}
 use Rattle.goblin_mach_c.proofs.OpenedImage.{refusal_of}
-use Rattle.goblin_mach_c.proofs.WalkedImages.{bears_code, ends_with, goes_on, is_refused_walk, no_end, none_written, rows_there, stays}
+use Rattle.goblin_mach_c.proofs.WalkedImages.{bears_code, ends_with, goes_on, is_refused_walk, next_name_there, no_end, none_written, rows_there, stays}
 use Rattle.goblin_mach_c.proofs.exports.gmr_exports.Goals as goal
 
 pub returns-then-walk-ne0-clause-written : goal.returns-then-walk-ne0-clause-written
@@ -43,6 +43,15 @@ returns-in-Ok-clause-refused c = λ some.
     moved (λ t l. GoesAlong t l c.args.walk.now new.walk c.args.name.now new.name c.args.stack.now new.stack wrote.0 new.batch.end) _ _ _ _
     c.trie_of-trie.ensures (ap texts c.as_slice.ensures.value) wrote.2 in
     inr (is_refused_walk c.args.bytes.now c.args.image.now.offset c.in-Ok.found c.in-Ok.ensures.opened _ _ _ _ _ _ _ _ along (c.go_along.ensures.refused some))
+
+pub returns-in-Ok-clause-name : goal.returns-in-Ok-clause-name
+returns-in-Ok-clause-name c = λ three.
+    let long = c.go_along.ensures.name three in
+    let new = c.go_along.new in (
+      long.0,
+      next_name_there c.args.bytes.now c.args.image.now.offset c.in-Ok.found c.in-Ok.ensures.opened new.walk new.batch.needed
+          (subst (λ (t : TrieRange). IsNextName t new.walk.cursor new.batch.needed) c.trie_of-trie.ensures long.1),
+    )
 
 pub returns-in-Err-clause-written : goal.returns-in-Err-clause-written
 returns-in-Err-clause-written c = (

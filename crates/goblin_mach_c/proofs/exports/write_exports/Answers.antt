@@ -1,9 +1,11 @@
-use Rattle.std.proofs.Common.{◌≡◌, ◌∙◌, ◌++◌, ℕ, Some, length, refl, sym, subst, arith, length-set, length-take}
+use Rattle.std.proofs.Common.{◌-◌, ◌<◌, ◌^◌, ◌≡◌, ◌∙◌, ◌++◌, ℕ, Some, length, refl, sym, subst, arith, length-set, length-take}
+use Rattle.mach_dyld.specs.CursorState.{IsFull}
 use Rattle.mach_dyld.specs.Cursors.{NextGives, StandsAt}
 use Rattle.mach_dyld.specs.Exports.{texts}
 use Rattle.mach_dyld.specs.declared.cursor.NextExport.{NextExport}
 use Rattle.goblin_mach_c.specs.ExportWalk.{AreWritten, IsNumbered}
 use Rattle.goblin_mach_c.proofs.ListedExports.{none_so_far, one_more}
+use Rattle.goblin_mach_c.proofs.WalkedTries.{long_name}
 use Rattle.goblin_mach_c.proofs.exports.write_exports.Goals as goal
 
 pub loop-k-init : goal.loop-k-init
@@ -62,3 +64,16 @@ returns-clause-written c =
       subst (λ (n : ℕ). AreWritten c.args.trie.now.bytes (IsNumbered (texts c.args.libs.now)) so.given n c.loop-k.used c.args.out.now c.loop-k.out c.args.names.now c.loop-k.names) all so.written,
       so.walked,
     )
+
+pub returns-in-Err-clause-name : goal.returns-in-Err-clause-name
+returns-in-Err-clause-name c = λ n is.
+    let t = c.args.trie.now in
+    let cursor = c.next_export.new.cursor in
+    let name = c.next_export.new.name in
+    let full = subst (λ (x : NextExport). IsFull t.bytes t.from cursor name c.next_export.new.stack (Some x)) (sym c.in-Err.ensures) c.next_export.ensures.full in
+    let same = c.next_export.ensures.name_len in
+    let kept = c.loop-k.invariant.name_len in
+    let few : length name < 2 ^ 64 - 1 = omega arith in
+    let long = long_name t cursor name c.next_export.new.stack c.in-Err.ending n is few full in
+    let less = long.0 in
+    (omega (arith, same, kept, less), long.1)
