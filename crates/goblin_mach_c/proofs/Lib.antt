@@ -6,3 +6,4 @@ pub mod ListedExports
 pub mod WalkedTries
 pub mod TrieBytes
 pub mod WalkedImages
+pub mod WalkedLists
