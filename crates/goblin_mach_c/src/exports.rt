@@ -1,14 +1,13 @@
 //! The exports of an image in batches, by a walk whose numbers, name and open nodes are the caller's.
 
-ghost use Rattle.std.specs.Prelude.{◌≡◌, ◌≢◌, ◌+◌, ◌++◌, ◌<◌, ◌≤◌, ◌⊎◌, ℕ, List, Option, Some, None, IsErr, drop, length, min, take};
-ghost use Rattle.mach_dyld.specs.Cursors.{HasGivenTo, IsFaulty, IsOwnAt};
+ghost use Rattle.std.specs.Prelude.{◌≡◌, ◌≢◌, ◌+◌, ◌++◌, ◌<◌, ◌≤◌, ◌⊎◌, ℕ, List, Option, Some, None, drop, length, take};
+ghost use Rattle.mach_dyld.specs.Cursors.{HasGivenTo, IsOwnAt};
 ghost use Rattle.mach_dyld.specs.Exports.{info_of, texts};
 ghost use Rattle.mach_dyld.specs.Trie.{Entry};
 ghost use Rattle.mach_dyld.specs.TrieRange.{empty_range};
 ghost use Rattle.goblin_mach.specs.OpenImage.{trie_held};
 ghost use Rattle.goblin_mach.specs.Subjects.{trie_or_empty};
 ghost use Rattle.goblin_mach_c.specs.Codes.{IsRefusal};
-ghost use Rattle.goblin_mach_c.specs.ExportRows.{export_row};
 ghost use Rattle.goblin_mach_c.specs.ExportWalk.{AreWritten, EndsWith, GoesAlong, GoesOn, HasLibrary, HasNextName, HasWalkedTrie, IsBrought, IsNextName, IsNumbered, IsRefusedWalk, StopsAt, end_number, needed_number, next_of, no_batch};
 ghost use Rattle.goblin_mach_c.specs.Opened.{FaultIn, lossy_mode};
 ghost use Rattle.goblin_mach_c.specs.declared.exports.Ending.TheVariants as ending;
