@@ -51,6 +51,22 @@ WALK_BEHIND(fixups, gm_fixup, gm_fixup_cursor, rows[i].address)
 WALK_BEHIND(imports, gm_import, gm_bind_cursor, rows[i].address + rows[i].name_len)
 WALK_BEHIND(bindings, gm_binding, gm_binding_cursor, rows[i].address + rows[i].name_len)
 
+static size_t exports(void) {
+    static gm_listed_export out[LARGEST];
+    static char name[1 << 16], names[1 << 26];
+    static gm_open_node stack[1 << 16];
+    gm_export_walk walk = {0};
+    gm_export_room room = {name, sizeof name, stack, 1 << 16, out, batch, names, sizeof names};
+    gm_export_batch b = {0};
+    size_t n = 0;
+    do {
+        if (gm_exports(bytes, len, &image, &walk, &room, &b, NULL, &error)) break;
+        for (size_t i = 0; i < b.count; i++) seen += out[i].what.address + out[i].name_len;
+        n += b.count;
+    } while (b.end == GM_MORE);
+    return n;
+}
+
 static size_t layout(void) {
     static gm_layout_fault rows[1 << 16];
     size_t count = 0;
@@ -89,6 +105,7 @@ int main(int argc, char **argv) {
     for (int i = 0; i < 2; i++) {
         batch = batches[i];
         printf("in batches of %zu\n", batch);
+        time_of("exports", exports);
         time_of("fixups", fixups);
         time_of("imports", imports);
         time_of("bindings", bindings);

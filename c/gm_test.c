@@ -1,6 +1,7 @@
 /* gm_test WHAT FILE prints the lines of a list, for comparison with the programs of this repository; gm_test names the rules of layout.
    gm_test check FILE.. tests each file and each of its prefixes: batches of 1, 2, 7 and all give the same rows, the rest of an
    array stays, memory may be refused at any request, an arena serves without malloc, NULL serves with length 0.
+   gm_test deep LEVELS goes over a trie of so many levels in buffers that grow.
    gm_test damage COUNT FILE.. hands in COUNT images of made-up numbers, by a fixed seed. */
 #define _GNU_SOURCE
 #include "goblin_mach.h"
@@ -220,7 +221,7 @@ static uint32_t opens(given *g, uint32_t mode) {
 
 /* ---- tests */
 
-static size_t tested;
+static size_t tested, alike, others, brought;
 
 static void same_in_batches(const list *l, const given *g) {
     static const size_t batches[] = {1, 2, 7};
@@ -322,6 +323,184 @@ static void lies_behind(const given *g) {
     free(bytes);
 }
 
+/* ---- exports */
+
+/* the room of a walk: each buffer is as long as it is said to be, so that a write behind it is seen */
+static void *grown(void *held, size_t old, size_t size) {
+    uint8_t *more = malloc(size + !size);
+    if (!more) DIE("no memory");
+    memset(more, 0xa5, size);
+    if (old) memcpy(more, held, old);
+    free(held);
+    return more;
+}
+static gm_export_room room_of(size_t some, size_t cap) {
+    gm_export_room r = {NULL, some, NULL, some, NULL, cap, NULL, some > 64 ? 16 * some : some};
+    r.name = grown(NULL, 0, some);
+    r.stack = grown(NULL, 0, some * sizeof *r.stack);
+    r.out = grown(NULL, 0, cap * sizeof *r.out);
+    r.names = grown(NULL, 0, r.names_cap);
+    return r;
+}
+static void give_room(gm_export_room *r) { free(r->name); free(r->stack); free(r->out); free(r->names); }
+
+/* a batch, and that what is behind its rows and its names is as it was */
+static uint32_t export_batch(const given *g, gm_export_walk *walk, const gm_export_room *r, gm_export_batch *b, const gm_memory *m) {
+    gm_error e = {0};
+    memset(r->out, 0xa5, r->cap * sizeof *r->out);
+    memset(r->names, 0xa5, r->names_cap);
+    uint32_t code = gm_exports(OF, walk, r, b, m, &e);
+    if (code != e.code || (b->end == GM_REFUSED) != !!code) DIE("an end that is not that of the code");
+    if (b->count > r->cap || b->names_len > r->names_cap) DIE("more exports than fit");
+    for (size_t i = b->count * sizeof *r->out; i < r->cap * sizeof *r->out; i++)
+        if (((uint8_t *)r->out)[i] != 0xa5) DIE("exports: the rest of the array was written");
+    for (size_t i = b->names_len; i < r->names_cap; i++)
+        if ((uint8_t)r->names[i] != 0xa5) DIE("exports: the rest of the names was written");
+    return code;
+}
+
+/* goes on where it says that something is too short: with a byte or a node more than is asked for never, so that each call counts */
+static void give_more(gm_export_room *r, const gm_export_batch *b) {
+    size_t *cap = b->end == GM_NAME_SHORT ? &r->name_cap : b->end == GM_STACK_SHORT ? &r->stack_cap : &r->names_cap;
+    if (b->needed <= *cap) DIE("no more is needed than there is");
+    if (b->end == GM_NAME_SHORT) r->name = grown(r->name, *cap, b->needed);
+    else if (b->end == GM_STACK_SHORT) r->stack = grown(r->stack, *cap * sizeof *r->stack, b->needed * sizeof *r->stack);
+    else r->names = grown(r->names, 0, b->needed);
+    *cap = b->needed;
+}
+
+/* an export is what it is where its name is sought: the first of that name, so that of two with one name the others may differ */
+static void same_as_found(const given *g, const gm_listed_export *x, const char *names) {
+    gm_export found;
+    gm_error e;
+    static char library[1 << 12], target[1 << 12];
+    if (gm_find_export(OF, names + x->name, x->name_len, &found, library, sizeof library, target, sizeof target, NULL, &e)) return;
+    if (found.kind == GM_NO_EXPORT) DIE("an export that is not found");
+    if (memcmp(&found, &x->what, sizeof found)) { others++; return; }
+    alike++;
+    if (found.kind != GM_REEXPORTED) return;
+    if (found.target_len > g->len || x->target > g->len - found.target_len || memcmp(g->bytes + x->target, target, found.target_len)) DIE("another target");
+    gm_library l;
+    if (x->library && (gm_libraries(OF, x->library - 1, &l, 1) != 1 || l.name_len != found.library_len || memcmp(g->bytes + l.name, library, l.name_len)))
+        DIE("another library");
+    brought++;
+}
+
+/* the lines of the exports in batches of so many, and how the walk ends; the buffers begin with so many bytes and nodes */
+static char *export_lines(const given *g, size_t cap, size_t some, bool of_library) {
+    char *text_of = NULL;
+    size_t len = 0;
+    FILE *to = open_memstream(&text_of, &len);
+    gm_export_walk walk = {0};
+    gm_export_room r = room_of(some, cap);
+    gm_export_batch b;
+    for (;;) {
+        uint32_t code = export_batch(g, &walk, &r, &b, NULL);
+        for (size_t i = 0, at = 0; i < b.count; at += r.out[i++].name_len) {
+            const gm_listed_export *x = r.out + i;
+            if (x->name != at || x->name_len > b.names_len - at || x->what.kind < GM_ADDRESS || x->what.kind > GM_STUB) DIE("a row of no name");
+            if (of_library) {
+                fprintf(to, "%zu ", x->what.kind == GM_REEXPORTED ? x->library : 0);
+                text(to, g, x->what.target_len ? x->target : 0, x->what.target_len);
+                fprintf(to, " %.*s\n", (int)x->name_len, r.names + x->name);
+                same_as_found(g, x, r.names);
+            } else fprintf(to, "0x%" PRIx64 " %.*s\n", x->what.kind == GM_ADDRESS ? x->what.address : 0, (int)x->name_len, r.names + x->name);
+        }
+        if (code) {
+            if (walk.code != code || export_batch(g, &walk, &r, &b, NULL) != code || b.count) DIE("a refused walk went on");
+            fprintf(to, "refused: %u\n", code);
+            break;
+        }
+        if (b.end == GM_END) {
+            if (export_batch(g, &walk, &r, &b, NULL) || b.end != GM_END || b.count) DIE("a walk went on behind its end");
+            break;
+        }
+        if (b.end != GM_MORE) give_more(&r, &b);
+        else if (!b.count) DIE("a batch gave nothing");
+    }
+    give_room(&r);
+    fclose(to);
+    return text_of;
+}
+
+/* memory is refused at each request in turn, in the middle of a walk; and a walk in buffers of no length */
+static void exports_by_memory(const given *g) {
+    gm_export_walk walk = {0}, zeros = {0};
+    gm_export_room none = {0}, r = room_of(64, 2);
+    gm_export_batch b;
+    gm_error e;
+    if (!gm_exports(OF, &zeros, &none, &b, NULL, &e) && (b.end != GM_MORE || b.count)) DIE("rows without an array");
+    export_batch(g, &walk, &r, &b, NULL);
+    for (size_t k = 1; !walk.code; k++) {
+        counted c = {0, k, 0};
+        gm_memory m = {&c, take, give};
+        gm_export_walk before = walk;
+        char name[64];
+        gm_open_node stack[64];
+        memcpy(name, r.name, 64);
+        memcpy(stack, r.stack, sizeof stack);
+        uint32_t code = export_batch(g, &walk, &r, &b, &m);
+        if (c.held) DIE("a block was kept");
+        if (code != GM_NO_MEMORY) break;
+        if (b.count || memcmp(&walk, &before, sizeof walk) || memcmp(name, r.name, 64) || memcmp(stack, r.stack, sizeof stack)) DIE("a refusal changed the walk");
+    }
+    give_room(&r);
+}
+
+/* a trie of so many levels, each of an inner node with two branches: the first leads on, the second to an export */
+static void put_uleb3(uint8_t *at, size_t n) { at[0] = n | 0x80, at[1] = n >> 7 | 0x80, at[2] = n >> 14; }
+static void check_deep(size_t levels) {
+    enum { AT = 48, NODE = 12, LEAF = 4 };
+    size_t size = levels * (NODE + LEAF) + LEAF;
+    given held = {.len = AT + size}, *g = &held;
+    uint8_t *bytes = calloc(1, AT + size), *trie = bytes + AT;
+    const uint32_t header[] = {0xfeedfacf, 0x01000007, 3, 6, 1, 16, 0, 0, 0x80000033, 16, AT, (uint32_t)size};
+    memcpy(bytes, header, sizeof header);
+    for (size_t i = 0; i < levels; i++) {
+        uint8_t *node = trie + i * (NODE + LEAF);
+        node[1] = 2, node[2] = 'a', node[7] = 'b';
+        put_uleb3(node + 4, (i + 1) * (NODE + LEAF));
+        put_uleb3(node + 9, i * (NODE + LEAF) + NODE);
+        memcpy(node + NODE, (uint8_t[]){2, 0, i & 127, 0}, LEAF);
+    }
+    memcpy(trie + levels * (NODE + LEAF), (uint8_t[]){2, 0, 7, 0}, LEAF);
+    g->bytes = bytes;
+    gm_error e;
+    if (gm_open(g->bytes, g->len, 0, GM_STRICT, NULL, &g->image, &e)) DIE("a deep trie: %s", e.text);
+    gm_export_walk walk = {0};
+    gm_export_room r = room_of(0, 100);
+    gm_export_batch b;
+    size_t n = 0;
+    do {
+        if (gm_exports(OF, &walk, &r, &b, NULL, &e)) DIE("a deep trie: %s", e.text);
+        for (size_t i = 0; i < b.count; i++, n++) {
+            const gm_listed_export *x = r.out + i;
+            bool last = n == 0; /* the deepest comes first, and then the others from below */
+            if (x->name_len != (last ? levels : levels - n + 1) || r.names[x->name + x->name_len - 1] != (last ? 'a' : 'b')) DIE("export %zu of a deep trie", n);
+        }
+        b.needed *= 2;
+        if (b.end != GM_MORE && b.end != GM_END) give_more(&r, &b);
+    } while (b.end != GM_END);
+    if (n != levels + 1 || r.stack_cap < levels - 1) DIE("a deep trie of %zu exports and %zu nodes", n, r.stack_cap);
+    printf("%zu levels in %zu bytes\n", levels, size);
+    give_room(&r);
+    free(bytes);
+}
+
+static void check_exports(const given *g) {
+    char *all = export_lines(g, LIMIT, 4096, true);
+    static const size_t batches[] = {1, 2, 7};
+    for (int i = 0; i < 3; i++)
+        for (size_t some = 0; some <= 64; some += 32) {
+            char *part = export_lines(g, batches[i], some, true);
+            if (strcmp(all, part)) DIE("exports: batches of %zu differ", batches[i]);
+            free(part);
+        }
+    free(all);
+    exports_by_memory(g);
+    tested++;
+}
+
 static void check(const uint8_t *bytes, size_t len) {
     given g = {.bytes = bytes, .len = len};
     same_in_batches(named("entries"), &g);
@@ -337,6 +516,7 @@ static void check(const uint8_t *bytes, size_t len) {
         for (int i = 0; i < 8; i++) same_in_batches(&lists[i], &g);
         check_parts(&g);
         same_in_batches(named("layout"), &g);
+        check_exports(&g);
         fixups_refused(&g);
         imports_refused(&g);
         bindings_refused(&g);
@@ -371,6 +551,23 @@ static void make_up(void *at, size_t size, size_t len) {
     }
 }
 
+/* a walk of which each number may be made up, with open nodes that may be */
+static void damage_walk(const given *g) {
+    gm_export_walk walk = {0};
+    gm_export_room r = room_of(chance() % 40, chance() % 5);
+    gm_export_batch b;
+    if (chance() % 2) export_batch(g, &walk, &r, &b, NULL);
+    uint64_t *numbers = (uint64_t *)&walk, *nodes = (uint64_t *)r.stack;
+    for (size_t i = 0; i < 7; i++)
+        if (chance() % 3 == 0) numbers[i] = made_up(g->len);
+    for (size_t i = 0; i < r.stack_cap * 3; i++)
+        if (chance() % 4 == 0) nodes[i] = made_up(g->len);
+    walk.is_begun = chance() % 8 != 0;
+    if (walk.visits_left > 1000) walk.visits_left = chance() % 1000;
+    for (int i = 0; i < 3; i++) export_batch(g, &walk, &r, &b, NULL);
+    give_room(&r);
+}
+
 static FILE *away;
 
 static void damage(const uint8_t *bytes, size_t len) {
@@ -383,6 +580,7 @@ static void damage(const uint8_t *bytes, size_t len) {
     gm_export found;
     char library[4], target[4];
     gm_find_export(bytes, len, &g.image, "a", chance() % 2, &found, library, chance() % 5, target, chance() % 5, NULL, &e);
+    damage_walk(&g);
     for (size_t i = 0; i < LISTS; i++) {
         size_t first = chance() % 2 ? 0 : made_up(len), cap = chance() % 5;
         uint8_t *out = malloc(cap * lists[i].size + !cap);
@@ -416,6 +614,11 @@ static void print(const char *what, const uint8_t *bytes, size_t len) {
     gm_error e;
     if (gm_open(bytes, len, 0, GM_STRICT, NULL, &g.image, &e)) { printf("refused: %s\n", e.text); return; }
     if (!strncmp(what, "find:", 5)) print_exports(&g, what + 5);
+    if (!strcmp(what, "exports") || !strcmp(what, "reexports")) {
+        char *all = export_lines(&g, 1000, 1 << 16, !strcmp(what, "reexports"));
+        fputs(all, stdout);
+        free(all);
+    }
     const list *l = named(what);
     if (l) print_list(l, &g);
 }
@@ -445,10 +648,11 @@ static int print_names(void) {
 int main(int argc, char **argv) {
     if (gm_version() != GM_VERSION) DIE("the header is of version %d and the library of %u", GM_VERSION, gm_version());
     if (argc == 2 && !strcmp(argv[1], "names")) return print_names();
-    if (argc < 3) DIE("usage: gm_test names, gm_test WHAT FILE, gm_test check FILE.., gm_test damage COUNT FILE..");
+    if (argc < 3) DIE("usage: gm_test names, gm_test WHAT FILE, gm_test check FILE.., gm_test damage COUNT FILE.., gm_test deep LEVELS");
     of_damage = !strcmp(argv[1], "damage");
     away = fopen("/dev/null", "w");
     if (!away) DIE("/dev/null can't be opened");
+    if (!strcmp(argv[1], "deep")) return check_deep((size_t)strtol(argv[2], NULL, 10)), 0;
     check(NULL, 0);
     for (int i = 2 + of_damage; i < argc; i++) {
         size_t len;
@@ -477,6 +681,6 @@ int main(int argc, char **argv) {
         free(bytes);
     }
     fclose(away);
-    if (!strcmp(argv[1], "check")) printf("%zu lists agree\n", tested);
+    if (!strcmp(argv[1], "check")) printf("%zu lists agree; %zu exports as they are found, %zu of them brought, and %zu others of a name\n", tested, alike, brought, others);
     return 0;
 }

@@ -119,6 +119,16 @@ uint32_t gm_find_export(const uint8_t *bytes, size_t len, const gm_image *image,
     return code;
 }
 
+uint32_t gmr_exports(const uint8_t *, size_t, const gm_image *, gm_export_walk *, char *, size_t, gm_open_node *, size_t, gm_listed_export *, size_t,
+                     char *, size_t, gm_export_batch *, gm_error *);
+uint32_t gm_exports(const uint8_t *bytes, size_t len, const gm_image *image, gm_export_walk *walk, const gm_export_room *room,
+                    gm_export_batch *batch, const gm_memory *memory, gm_error *error) {
+    memory_of_call = memory;
+    uint32_t code = gmr_exports(BYTES, len, image, walk, AT(room->name), room->name_cap, AT(room->stack), room->stack_cap, AT(room->out), room->cap,
+                                AT(room->names), room->names_cap, batch, error);
+    memory_of_call = NULL;
+    return code;
+}
 #define WITH_MEMORY(call) { memory_of_call = memory; uint32_t code = call; memory_of_call = NULL; return code; }
 
 uint32_t gmr_layout_faults(const uint8_t *, size_t, const gm_image *, size_t, gm_layout_fault *, size_t, size_t *, gm_error *);

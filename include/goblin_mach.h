@@ -122,6 +122,52 @@ enum { GM_NO_EXPORT, GM_ADDRESS, GM_REEXPORTED, GM_STUB };
 uint32_t gm_find_export(const uint8_t *bytes, size_t len, const gm_image *image, const char *name, size_t name_len, gm_export *found,
                         char *library, size_t library_cap, char *target, size_t target_cap, const gm_memory *memory, gm_error *error);
 
+/* ---- all of its exports, in batches */
+
+/* How far a walk of the exports has come: numbers, all 0 at the start, as in `gm_export_walk walk = {0};`. They may be copied, and
+   go with the bytes, the image, and the `name` and the `stack` that the call before left. */
+typedef struct gm_open_node { size_t left, place, name_len; } gm_open_node;
+typedef struct gm_export_walk {
+    size_t phase, visits_left, name_len, depth, node;
+    gm_open_node top;
+    uint32_t is_begun;
+    uint32_t code; /* GM_OK, or why the walk was refused; the next call is refused so again */
+} gm_export_walk;
+
+/* a row: its name is `name_len` bytes at names + name, with no zero byte behind */
+typedef struct gm_listed_export {
+    size_t name, name_len;
+    size_t library; /* of a re-export: number `library - 1` of gm_libraries; 0 is the image itself */
+    size_t target;  /* the name there is `what.target_len` bytes at bytes + target; none: the same name */
+    gm_export what; /* `kind` is never GM_NO_EXPORT */
+} gm_listed_export;
+
+/* What a call may write into. `name` is the walk's, for the longest name; `stack` is, for the nodes that are open at once;
+   `out` is for rows, and `names` for their names, one behind the other: let it be many times as long as `name`. */
+typedef struct gm_export_room {
+    char *name; size_t name_cap;
+    gm_open_node *stack; size_t stack_cap;
+    gm_listed_export *out; size_t cap;
+    char *names; size_t names_cap;
+} gm_export_room;
+
+/* so many rows and so many bytes of names were written; why there are no more; and how much is needed to go on */
+typedef struct gm_export_batch { size_t count, names_len, needed; uint32_t end, reserved; } gm_export_batch;
+enum {
+    GM_MORE,        /* the array is full, or less is left of `names` than a name may need: call again */
+    GM_END,         /* there are no more */
+    GM_NO_ROOM,     /* `names` is shorter than `name` */
+    GM_NAME_SHORT,  /* the name that comes next needs `needed` bytes of `name` */
+    GM_STACK_SHORT, /* the stack needs `needed` nodes */
+    GM_REFUSED      /* the code says why; the rows before it stand */
+};
+
+/* Goes on with a walk. Where `name` or `stack` is too short, or `names` is, call again with more, which begins with what was
+   there; no export is lost. It opens the image again, and takes memory while it runs. Refused for want of memory, it leaves
+   all but *batch and *error as they were, and may be called again. */
+uint32_t gm_exports(const uint8_t *bytes, size_t len, const gm_image *image, gm_export_walk *walk, const gm_export_room *room,
+                    gm_export_batch *batch, const gm_memory *memory, gm_error *error);
+
 /* ---- the fixups of its chains (LC_DYLD_CHAINED_FIXUPS): a pointer at `address` in memory, `offset` bytes behind the start
    of segment number `segment` */
 typedef struct gm_fixup {
@@ -267,6 +313,21 @@ GM_FIELD(gm_export, target_len, 32, 8);
 GM_FIELD(gm_export, kind, 40, 4);
 GM_FIELD(gm_export, reserved, 44, 4);
 GM_SIZE(gm_export, 48);
+GM_FIELD(gm_export_batch, count, 0, 8);
+GM_FIELD(gm_export_batch, names_len, 8, 8);
+GM_FIELD(gm_export_batch, needed, 16, 8);
+GM_FIELD(gm_export_batch, end, 24, 4);
+GM_FIELD(gm_export_batch, reserved, 28, 4);
+GM_SIZE(gm_export_batch, 32);
+GM_FIELD(gm_export_walk, phase, 0, 8);
+GM_FIELD(gm_export_walk, visits_left, 8, 8);
+GM_FIELD(gm_export_walk, name_len, 16, 8);
+GM_FIELD(gm_export_walk, depth, 24, 8);
+GM_FIELD(gm_export_walk, node, 32, 8);
+GM_FIELD(gm_export_walk, top, 40, 24);
+GM_FIELD(gm_export_walk, is_begun, 64, 4);
+GM_FIELD(gm_export_walk, code, 68, 4);
+GM_SIZE(gm_export_walk, 72);
 GM_FIELD(gm_fat_entry, cputype, 0, 4);
 GM_FIELD(gm_fat_entry, cpusubtype, 4, 4);
 GM_FIELD(gm_fat_entry, offset, 8, 4);
@@ -339,6 +400,16 @@ GM_FIELD(gm_library, timestamp, 20, 4);
 GM_FIELD(gm_library, current_version, 24, 4);
 GM_FIELD(gm_library, compatibility_version, 28, 4);
 GM_SIZE(gm_library, 32);
+GM_FIELD(gm_listed_export, name, 0, 8);
+GM_FIELD(gm_listed_export, name_len, 8, 8);
+GM_FIELD(gm_listed_export, library, 16, 8);
+GM_FIELD(gm_listed_export, target, 24, 8);
+GM_FIELD(gm_listed_export, what, 32, 48);
+GM_SIZE(gm_listed_export, 80);
+GM_FIELD(gm_open_node, left, 0, 8);
+GM_FIELD(gm_open_node, place, 8, 8);
+GM_FIELD(gm_open_node, name_len, 16, 8);
+GM_SIZE(gm_open_node, 24);
 GM_FIELD(gm_relocation, address, 0, 4);
 GM_FIELD(gm_relocation, info, 4, 4);
 GM_FIELD(gm_relocation, code, 8, 4);

@@ -22,6 +22,7 @@ VERSION = 1
 STRICT, LOSSY = 0, 1
 FIXUPS = ("rebase", "bind", "number")
 PROVIDERS = ("library", "itself", "program", "any", "any weak")
+MORE, END, NO_ROOM, NAME_SHORT, STACK_SHORT, REFUSED = range(6)
 EXPORTS = (None, "address", "re-export", "stub")
 KINDS = ("required", "weak", "reexport", "upward", "lazy")
 ERRORS = {1: "malformed", 2: "bad magic", 3: "out of the bytes, or no text", 4: "too many", 5: "out of memory"}
@@ -115,6 +116,28 @@ class _Export(ctypes.Structure):
         ("library_len", c_size_t), ("target_len", c_size_t), ("kind", c_uint32), ("reserved", c_uint32)]
 
 
+class _OpenNode(ctypes.Structure):
+    _fields_ = [("left", c_size_t), ("place", c_size_t), ("name_len", c_size_t)]
+
+
+class _ExportWalk(ctypes.Structure):
+    _fields_ = [(n, c_size_t) for n in ("phase", "visits_left", "name_len", "depth", "node")] + [
+        ("top", _OpenNode), ("is_begun", c_uint32), ("code", c_uint32)]
+
+
+class _ListedExport(ctypes.Structure):
+    _fields_ = [(n, c_size_t) for n in ("name", "name_len", "library", "target")] + [("what", _Export)]
+
+
+class _ExportRoom(ctypes.Structure):
+    _fields_ = [("name", ctypes.c_void_p), ("name_cap", c_size_t), ("stack", ctypes.c_void_p), ("stack_cap", c_size_t),
+                ("out", ctypes.c_void_p), ("cap", c_size_t), ("names", ctypes.c_void_p), ("names_cap", c_size_t)]
+
+
+class _ExportBatch(ctypes.Structure):
+    _fields_ = [("count", c_size_t), ("names_len", c_size_t), ("needed", c_size_t), ("end", c_uint32), ("reserved", c_uint32)]
+
+
 class _RunPath(ctypes.Structure):
     _fields_ = [("path", c_size_t), ("path_len", c_size_t)]
 
@@ -138,7 +161,7 @@ def _load():
     lib.gm_version.restype = c_uint32
     if lib.gm_version() != VERSION:
         raise OSError(f"libgoblin_mach.so is of version {lib.gm_version()}, and this module of {VERSION}")
-    for name in ("open", "find_export", "fixups", "imports", "bindings"):
+    for name in ("open", "find_export", "exports", "fixups", "imports", "bindings"):
         getattr(lib, "gm_" + name).restype = c_uint32
     for name in ("fat_entries", "commands", "segments", "sections", "relocations", "symbols", "libraries", "run_paths"):
         getattr(lib, "gm_" + name).restype = c_size_t
@@ -339,6 +362,28 @@ _give_buffer = ctypes.pythonapi.PyBuffer_Release
 _give_buffer.argtypes = [ctypes.POINTER(_Buffer)]
 
 
+class _Room:
+    """The buffers of a walk of exports, which grow as it asks for more."""
+
+    def __init__(self):
+        self.walk, self.batch = _ExportWalk(), _ExportBatch()
+        self.out = (_ListedExport * BATCH)()
+        self.name, self.names, self.stack = (c_char * 256)(), (c_char * 65536)(), (_OpenNode * 64)()
+
+    def numbers(self):
+        held = (self.name, self.stack, self.out, self.names)
+        return _ExportRoom(*(number for item in held for number in (ctypes.addressof(item), len(item))))
+
+    def grow(self):
+        end, count = self.batch.end, 2 * self.batch.needed
+        if end == NAME_SHORT:
+            self.name = (c_char * count)(*self.name)
+        elif end == STACK_SHORT:
+            self.stack = (_OpenNode * count)(*self.stack)
+        if end == NO_ROOM or len(self.names) < 16 * len(self.name):
+            self.names = (c_char * max(count, 16 * len(self.name)))()
+
+
 class _Bytes:
     """Some bytes, and where they lie in memory. They are not copied."""
 
@@ -477,6 +522,27 @@ class Image:
         return Export(name, EXPORTS[found.kind], found.address, found.resolver, found.flags, library.raw[:found.library_len].decode() if told else None,
                       (target.raw[:found.target_len].decode() or name) if told else None)
 
+    def exports(self) -> Iterator[Export]:
+        """All exports, in the order of the trie. A fault of the trie raises `Refused` behind those that stand before it."""
+        room, error, b, libraries = _Room(), _Error(), self._bytes, []
+        while True:
+            code = _lib.gm_exports(b.at, c_size_t(b.len), ctypes.byref(self._numbers), ctypes.byref(room.walk), ctypes.byref(room.numbers()),
+                                   ctypes.byref(room.batch), None, ctypes.byref(error))
+            names = bytes(room.names[:room.batch.names_len])
+            for row in room.out[:room.batch.count]:
+                name, what, library, target = names[row.name:row.name + row.name_len].decode(), row.what, None, None
+                if what.kind == 2:
+                    libraries = libraries or [l.name for l in self.libraries()]
+                    library = libraries[row.library - 1] if row.library else self.find_export(name).library
+                    target = b.text(row.target, what.target_len) or name
+                yield Export(name, EXPORTS[what.kind], what.address, what.resolver, what.flags, library, target)
+            if code:
+                raise Refused(error)
+            if room.batch.end == END:
+                return
+            if room.batch.end != MORE:
+                room.grow()
+
     def run_paths(self) -> Iterator[str]:
         for p in self._list("run_paths", _RunPath):
             yield self._bytes.text(p.path, p.path_len)
@@ -561,6 +627,9 @@ def _lines(image, what):
         for f in image.fixups():
             yield (f"{f.address:x} {f.offset:x} {f.target:x} {f.segment} {FIXUPS.index(f.kind)} {f.import_number} {f.addend} {int(f.is_signed)} "
                    f"{f.key} {f.diversity} {int(f.is_address_diverse)} {_code(f.error)}")
+    elif what == "exports":
+        for e in image.exports():
+            yield f"0x{e.address if e.kind == EXPORTS[1] else 0:x} {e.name}"
     elif what == "imports":
         names = ["self"] + [l.name for l in image.libraries()]
         for i in image.imports():
@@ -576,7 +645,7 @@ def _lines(image, what):
         yield from image.layout_faults()
 
 
-WORDS = ("commands", "segments", "symbols", "libraries", "run_paths", "fixups", "imports", "bindings", "layout")
+WORDS = ("commands", "segments", "symbols", "libraries", "run_paths", "fixups", "exports", "imports", "bindings", "layout")
 
 
 def main(words):

@@ -2,6 +2,11 @@ pub mod Filled
 pub mod CommandLists
 pub mod OpenedImage
 pub mod OpenedLists
+pub mod ListedExports
+pub mod WalkedTries
+pub mod TrieBytes
+pub mod WalkedImages
+pub mod WalkedLists
 pub mod Said
 pub mod HeldFacts
 pub mod HeldBinds

@@ -9,6 +9,7 @@ pub mod Opened
 pub mod SymbolRows
 pub mod FixupRows
 pub mod ExportRows
+pub mod ExportWalk
 pub mod Say
 pub mod Stage
 pub mod FixupsBehind

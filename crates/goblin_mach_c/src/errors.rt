@@ -81,3 +81,17 @@ pub fn refuse(error: &Error, out: &mut gm_error) -> u32
     };
     code
 }
+
+/// Reports a refusal of before again, by its code.
+#[cold]
+#[inline(never)]
+pub fn refuse_again(code: u32, out: &mut gm_error) -> u32
+    ensures code { result ≡ code }
+    ensures told { out.new.code ≡ code }
+{
+    *out = gm_error {
+        code,
+        text: text_of(b"it was refused before"),
+    };
+    code
+}

@@ -50,7 +50,7 @@ fn find<'a>(
 }
 
 // The numbers of an answer.
-fn row_of(found: &Option<ExportInfo<'_>>) -> gm_export
+pub fn row_of(found: &Option<ExportInfo<'_>>) -> gm_export
     ensures { result ≡ export_row (option_map info_of found.now) }
 {
     match found {

@@ -1,14 +1,19 @@
 //! Theorems: what the lists of an image that `gm_open` opened are in the bytes.
 
-ghost use Rattle.std.specs.Prelude.{◌≡◌, ℕ, List, Result, map};
+ghost use Rattle.std.specs.Prelude.{◌≡◌, ◌++◌, [], ℕ, List, Result, map};
 ghost use Rattle.mach_base.specs.Fault.{Fault};
 ghost use Rattle.mach_parts.specs.declared.symbols.nlist.Nlist.{Nlist};
 ghost use Rattle.mach_parts.specs.Segment.{SegmentView};
-ghost use Rattle.goblin_mach.specs.Facts.{HasCommands, HasSegments, HasSymbols};
+ghost use Rattle.mach_dyld.specs.Trie.{Entry};
+ghost use Rattle.mach_dyld.specs.declared.walk.Open.{Open};
+ghost use Rattle.goblin_mach.specs.Facts.{HasCommands, HasExports, HasSegments, HasSymbols};
+ghost use Rattle.goblin_mach.specs.Image.{LossyOpens};
 ghost use Rattle.goblin_mach_c.specs.CommandRows.{commands_seen};
+ghost use Rattle.goblin_mach_c.specs.ExportWalk.{HasWalked};
 ghost use Rattle.goblin_mach_c.specs.Opened.{IsOpened};
 ghost use Rattle.goblin_mach_c.specs.PartRows.{segment_row, segment_rows};
 ghost use Rattle.goblin_mach_c.specs.SymbolRows.{symbol_row, symbol_rows};
+ghost use Rattle.goblin_mach_c.specs.declared.exports.gm_export_walk.{gm_export_walk};
 ghost use Rattle.goblin_mach_c.specs.declared.images.gm_image.{gm_image};
 
 /// The commands that its numbers say are the image's commands, and the segments among them its segments; and its
@@ -19,4 +24,16 @@ pub fn lists_of_opened()
         → (segments : List SegmentView) × HasSegments bytes o segments × (segment_rows bytes c ≡ map segment_row segments) }
     ensures symbols { (bytes : List ℕ) (o : ℕ) (c : gm_image) → IsOpened bytes o c
         → (rows : List (Result (List ℕ × Nlist) Fault)) × HasSymbols bytes o rows × (symbol_rows bytes c ≡ map (symbol_row c.names_at) rows) }
+{}
+
+/// A walk of exports that is all zeros has given nothing of an image that opens.
+pub fn walk_of_zeros()
+    ensures { (bytes : List ℕ) (o : ℕ) (w : gm_export_walk) (name : List ℕ) (stack : List Open) → LossyOpens bytes o → w.is_begun ≡ 0 → w.code ≡ 0
+        → HasWalked bytes o w name stack [] }
+{}
+
+/// What a walk has given of an image whose exports have a list begins that list: none is left out, and none comes twice.
+pub fn walks_begin_the_list()
+    ensures { (bytes : List ℕ) (o : ℕ) (w : gm_export_walk) (name : List ℕ) (stack : List Open) (found : List Entry) (list : List Entry)
+        → HasWalked bytes o w name stack found → HasExports bytes o list → (rest : List Entry) × (list ≡ found ++ rest) }
 {}

@@ -6,6 +6,7 @@ mod bindings;
 mod commands;
 mod cursor_laws;
 mod errors;
+mod exports;
 mod fat;
 mod find;
 mod fixups;

@@ -1,9 +1,9 @@
 -- What a cursor has given of the trie that it goes over.
-use Rattle.mach_dyld.proofs.Names.{◌≡◌, ◌<◌, ◌≤◌, ◌-◌, length, replicate, false, Some, ℕ, Bool, List, [], ◌∷◌, ◌++◌, ◌⊎◌, refl, sym, ap, subst, ◌∙◌, arith}
-use Rattle.mach_dyld.proofs.Names.{inl, inr, append-nil, Fault, Branch, Entry, Source}
+use Rattle.mach_dyld.proofs.Names.{◌≡◌, ◌<◌, ◌≤◌, ◌-◌, length, replicate, false, Some, ℕ, Bool, List, [], ◌⊎◌, refl, sym, ap, subst, ◌∙◌, arith}
+use Rattle.mach_dyld.proofs.Names.{inl, inr, append-nil, Fault, Entry, Source}
 use Rattle.mach_dyld.proofs.Names.{texts, source_trie, fault_in, ListBegins, none_yet, no_further, Holds, IsFresh, HasListed, TrieRange, TrieFault, Trie}
 use Rattle.mach_dyld.proofs.Names.{ListsExports}
-use Rattle.mach_dyld.proofs.Names.{trie_there, ExportsFault}
+use Rattle.mach_dyld.proofs.Names.{trie_there}
 use Rattle.std.specs.Borrow.{Bor}
 use Rattle.mach_dyld.proofs.WalkTurns.{nothing_listed}
 use Rattle.mach_dyld.proofs.TrieBegins.{whole_list, listed_there, begun_there}
@@ -132,6 +132,14 @@ module _ {s : Source} {t : TrieRange} {libs : List (List ℕ)} (reads : ReadsTri
   too_deep on deep (on_the_way marks n phase kept h) = absurd (let k = kept.depth in omega arith)
   too_deep on deep (at_end n phase l) = absurd (omega arith)
   too_deep on deep (in_fault f k) = is_faulty f k
+
+  -- nor are more visits left than the range has places
+  pub too_far : {c : TrieCursor} {name : List ℕ} {stack : List Open} {found : List Entry} → c.phase ≤ 1 → s.upto - s.from < c.visits_left
+      → HasCome s c name stack found → IsFaulty t libs
+  too_far on far (at_root marks phase kept fresh) = absurd (let k = kept.visits in omega arith)
+  too_far on far (on_the_way marks n phase kept h) = absurd (let k = kept.visits in omega arith)
+  too_far on far (at_end n phase l) = absurd (omega arith)
+  too_far on far (in_fault f k) = is_faulty f k
 
 -- a cursor that has given nothing yet
 pub starts : (s : Source) (c : TrieCursor) (name : List ℕ) (stack : List Open) → s.from < s.upto → c.phase ≡ 0 → c.visits_left ≡ s.upto - s.from

@@ -1,23 +1,22 @@
 -- The walk by a cursor, turn by turn.
-use Rattle.mach_dyld.proofs.Names.{◌≡◌, ◌<◌, ◌≤◌, ◌+◌, ◌-◌, ℕ, zero, suc, Bool, true, false, List, [], ◌∷◌, ◌++◌, length, take, set, get_or, reverse}
+use Rattle.mach_dyld.proofs.Names.{◌≡◌, ◌<◌, ◌≤◌, ◌+◌, ◌-◌, ℕ, zero, suc, true, false, List, [], ◌∷◌, ◌++◌, length, take, set, get_or, reverse}
 use Rattle.mach_dyld.proofs.Names.{reverse-append}
 use Rattle.std.proofs.Common.{◌^◌, min}
-use Rattle.mach_dyld.proofs.Names.{◌⊎◌, Ok, Err, IsErr, branch_at, refl, sym, ap, subst, ◌∙◌, arith, inl, inr, Fault, malformed, Branch, Node, Entry, entry}
+use Rattle.mach_dyld.proofs.Names.{◌⊎◌, Ok, Err, IsErr, branch_at, refl, sym, ap, ◌∙◌, arith, inl, inr, Fault, malformed, Branch, Node, Entry}
 use Rattle.mach_dyld.proofs.Names.{own_entries, Info, Option, None, Some}
-use Rattle.mach_dyld.proofs.Names.{branches_at, node_in, fault_in, Source, Holds, HasListed, IsFresh, Keeps, length-take, length-append, append-nil, cases_eq}
+use Rattle.mach_dyld.proofs.Names.{branches_at, node_in, fault_in, Source, Holds, length-take, length-append, cases_eq}
 use Rattle.mach_dyld.proofs.Names.{slice_get}
 use Rattle.std.proofs.lemmas.List.{take-take, take_more}
 use Rattle.std.proofs.lemmas.Option.{get_or_from_slice_get, slice_get_within}
 use Rattle.mach_dyld.specs.BranchViews.{branches_of, IsReadable}
 use Rattle.mach_dyld.specs.NodeViews.{those_read}
-use Rattle.mach_dyld.specs.CursorState.{below, name_of, IsKept, root, HasCome, at_root, on_the_way, at_end, in_fault, IsAtChild, TurnGives, IsAsBefore}
+use Rattle.mach_dyld.specs.CursorState.{below, name_of, root, HasCome, at_root, on_the_way, at_end, in_fault, IsAtChild, TurnGives, IsAsBefore}
 use Rattle.mach_dyld.specs.CursorState.{IsStopped, IsFull, IsNextLabel}
 use Rattle.mach_dyld.specs.declared.branches.BranchRun.{BranchRun}
 use Rattle.mach_dyld.specs.declared.cursor.NextExport.{NextExport}
 use Rattle.mach_dyld.specs.declared.cursor.NextExport.TheVariants.{Export, End, Refused, NameTooLong, StackTooShort}
 use Rattle.mach_dyld.specs.declared.cursor.TrieCursor.{TrieCursor}
 use Rattle.mach_dyld.specs.declared.walk.Open.{Open}
-use Rattle.mach_dyld.proofs.TreeWalk as tree
 use Rattle.mach_dyld.proofs.TrieBegins.{on_or_off}
 use Rattle.mach_dyld.proofs.WalkTurns as turn
 use Rattle.mach_dyld.proofs.WalkTurns.{Child}

@@ -4,15 +4,15 @@
 //! It keeps no marks. A tree has no more nodes than its range has places, so a count of visits ends a walk that
 //! comes to nodes again and again.
 
-ghost use Rattle.std.specs.Prelude.{◌≡◌, ◌≤◌, ◌<◌, ◌+◌, ◌-◌, ◌^◌, ◌++◌, ◌∷◌, [], ℕ, List, length, take, min, Some, IfOk, IfNone};
+ghost use Rattle.std.specs.Prelude.{◌≡◌, ◌≤◌, ◌<◌, ◌+◌, ◌-◌, ◌^◌, ◌++◌, ◌∷◌, [], ℕ, List, length, take, min, Option, Some, IfOk, IfNone};
 ghost use Rattle.mach_base.specs.Answer.{Reads};
 ghost use Rattle.mach_dyld.specs.BranchViews.{IsReadable};
 ghost use Rattle.mach_dyld.specs.CursorState.{below, IsAtChild, HasCome, TurnGives, IsAsBefore, IsStopped, IsFull, work, work_of};
-ghost use Rattle.mach_dyld.specs.Cursors.{HasGivenTo, NextGives, BeginsOrFaulty};
+ghost use Rattle.mach_dyld.specs.Cursors.{HasGivenTo, NextGives, BeginsOrFaulty, IsOwnAt, IsReexportAt, StandsAt, place_at};
 ghost use Rattle.mach_dyld.specs.Exports.{texts};
 ghost use Rattle.mach_dyld.specs.LookUpViews as look_up;
 ghost use Rattle.mach_dyld.specs.NodeViews.{branch_of};
-ghost use Rattle.mach_dyld.specs.Trie.{Entry};
+ghost use Rattle.mach_dyld.specs.Trie.{Entry, reexport};
 ghost use Rattle.mach_dyld.specs.WalkViews.{node_in};
 ghost use Rattle.mach_dyld.specs.declared.cursor.NextExport.TheVariants as next;
 
@@ -43,6 +43,8 @@ pub struct TrieCursor {
     pub name_len: usize,
     /// How many open nodes are kept below the top.
     pub depth: usize,
+    /// Where the node begins that was met last.
+    pub node: usize,
     /// The open node whose branch comes next.
     pub top: Open,
 }
@@ -80,6 +82,15 @@ fn read_node<'a>(
     let (own, place) = own_export(source, size, place)?;
     let branches = read_run(source.bytes, source.from, place)?;
     Ok((Some(own), branches))
+}
+
+// Of a re-export of the node at a start: the ordinal, and the place behind it.
+fn read_place(bytes: &[u8], start: usize) -> Result<(u64, usize)>
+    ensures { Reads (λ found. found) result (place_at bytes.now start) }
+{
+    let (_, place) = number(bytes, start)?;
+    let (_, place) = number(bytes, place)?;
+    number(bytes, place)
 }
 
 // Puts a label behind the front of a name.
@@ -125,6 +136,7 @@ impl TrieCursor {
         ensures less { (most : ℕ) → IfNone result (work_of most self.new stack.now < work_of most self.old stack.now) }
         ensures depth { self.new.depth ≤ self.old.depth }
         ensures stopped { IsStopped result → ⊥ }
+        ensures placed { (bytes : List ℕ) (libs : List (List ℕ)) (from : ℕ) → StandsAt bytes libs from self.new.node result }
     {
         if self.depth == 0 {
             self.phase = OVER;
@@ -142,13 +154,21 @@ impl TrieCursor {
 
     // Goes on at a node of this name with these branches, beside what is left of the one before.
     #[inline(always)]
-    fn enter(&mut self, stack: &mut [Open], rest: Open, name_len: usize, branches: BranchRun)
+    fn enter(
+        &mut self,
+        stack: &mut [Open],
+        rest: Open,
+        name_len: usize,
+        start: usize,
+        branches: BranchRun,
+    )
         requires visits { 0 < self.old.visits_left }
         requires room { 0 < rest.left → self.old.depth < length stack.old }
         requires kept { self.old.depth ≤ length stack.old }
         ensures way { self.new.phase ≡ 1 }
         ensures visits { self.new.visits_left + 1 ≡ self.old.visits_left }
         ensures name { self.new.name_len ≡ name_len }
+        ensures node { self.new.node ≡ start }
         ensures leaf { branches.left ≡ 0 → (self.new.top ≡ rest) × (below self.new stack.new ≡ below self.old stack.old) }
         ensures opened { 0 < branches.left → self.new.top ≡ record { left = branches.left; place = branches.place; name_len = name_len } }
         ensures over { 0 < branches.left → 0 < rest.left → below self.new stack.new ≡ rest ∷ below self.old stack.old }
@@ -159,6 +179,7 @@ impl TrieCursor {
         self.phase = ON_THE_WAY;
         self.visits_left -= 1;
         self.name_len = name_len;
+        self.node = start;
         if branches.left == 0 {
             self.top = rest;
             return;
@@ -190,6 +211,7 @@ impl TrieCursor {
         ensures stopped { IsStopped result → IsAsBefore self.old self.new name.old name.new stack.old stack.new }
         ensures long { (n : ℕ) → result ≡ Some (next.NameTooLong n) → (n ≡ min (rest.name_len + length (branch_of branch.entry).label) (2 ^ 64 - 1))
             × (length name.old < rest.name_len + length (branch_of branch.entry).label) }
+        ensures placed { StandsAt source.now.bytes.now (texts source.now.libs.now) source.now.from self.new.node result }
         ensures full { result ≡ Some next.StackTooShort → length stack.old ≤ self.old.depth }
         ensures less { IfNone result (work_of (length source.now.bytes.now) self.new stack.new
             ≤ work (length source.now.bytes.now) self.old.visits_left (rest ∷ below self.old stack.old)) }
@@ -217,7 +239,7 @@ impl TrieCursor {
             Err(e) => return Some(self.refuse(e)),
         };
         put_label(name, rest.name_len, label.as_bytes());
-        self.enter(stack, rest, rest.name_len + label.len(), branches);
+        self.enter(stack, rest, rest.name_len + label.len(), start, branches);
         match own {
             Some(info) => Some(NextExport::Export(info)),
             None => None,
@@ -241,6 +263,7 @@ impl TrieCursor {
             → TurnGives source.now found result self.new name.new stack.new }
         ensures stopped { IsStopped result → IsAsBefore self.old self.new name.old name.new stack.old stack.new }
         ensures full { IsFull source.now.bytes.now source.now.from self.new name.new stack.new result }
+        ensures placed { StandsAt source.now.bytes.now (texts source.now.libs.now) source.now.from self.new.node result }
         ensures less { IfNone result (work_of (length source.now.bytes.now) self.new stack.new < work_of (length source.now.bytes.now) self.old stack.old) }
         ensures depth { self.new.depth ≤ length stack.new }
         ensures name_len { length name.new ≡ length name.old }
@@ -268,6 +291,7 @@ impl TrieCursor {
             → TurnGives source.now found result self.new name.new stack.new }
         ensures stopped { IsStopped result → IsAsBefore self.old self.new name.old name.new stack.old stack.new }
         ensures full { IsFull source.now.bytes.now source.now.from self.new name.new stack.new result }
+        ensures placed { StandsAt source.now.bytes.now (texts source.now.libs.now) source.now.from self.new.node result }
         ensures less { IfNone result (work_of (length source.now.bytes.now) self.new stack.new < work_of (length source.now.bytes.now) self.old stack.old) }
         ensures depth { self.new.depth ≤ length stack.new }
         ensures name_len { length name.new ≡ length name.old }
@@ -302,6 +326,7 @@ impl<'a> ExportTrie<'a> {
             visits_left: self.upto.saturating_sub(self.from),
             name_len: 0,
             depth: 0,
+            node: 0,
             top: Open {
                 left: 0,
                 place: 0,
@@ -329,6 +354,7 @@ impl<'a> ExportTrie<'a> {
         ensures begun { (found : List Entry) → HasGivenTo self.now (texts libs.now) cursor.old name.old stack.old found
             → BeginsOrFaulty self.now (texts libs.now) found }
         ensures full { IsFull self.now.bytes self.now.from cursor.new name.new stack.new (Some result) }
+        ensures placed { StandsAt self.now.bytes (texts libs.now) self.now.from cursor.new.node (Some result) }
         ensures name_len { length name.new ≡ length name.old }
         ensures stack_len { length stack.new ≡ length stack.old }
     {
@@ -341,11 +367,24 @@ impl<'a> ExportTrie<'a> {
         if cursor.phase <= ON_THE_WAY && cursor.depth > stack.len() {
             return cursor.refuse(Error::Malformed("the open nodes are those of the stack"));
         }
+        if cursor.phase <= ON_THE_WAY && cursor.visits_left > self.upto - self.from {
+            return cursor.refuse(Error::Malformed("a node is visited once"));
+        }
         'turns: while cursor.phase <= ON_THE_WAY {
             if let Some(given) = cursor.turn(&source, name, stack) {
                 return given;
             }
         }
         NextExport::End
+    }
+    /// Of a re-export that a cursor gave last: the ordinal of its library, and where its name there stands in the bytes.
+    pub fn reexport_place(&self, cursor: &TrieCursor) -> Option<(u64, usize)>
+        ensures { (libs : List (List ℕ)) (lib : List ℕ) (name : Option (List ℕ)) (flags : ℕ)
+            → IsOwnAt self.now.bytes libs self.now.from cursor.now.node (reexport lib name flags) → IsReexportAt self.now.bytes libs lib name result }
+    {
+        match read_place(self.bytes, cursor.node) {
+            Ok(found) => Some(found),
+            Err(_) => None,
+        }
     }
 }

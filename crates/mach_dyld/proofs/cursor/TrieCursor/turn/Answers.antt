@@ -23,3 +23,6 @@ returns-clause-full c =
     full_by c.args.source.now.bytes.now c.args.source.now.from c.args.self.now c.visit.new.self c.args.name.now c.visit.new.name
     c.in-Some.branch.label.now c.args.stack.now c.visit.new.stack c.visit.result (inr (c.in-Some.branch.start, c.in-Some.after, c.in-Some.ensures))
     c.visit.ensures.stopped c.visit.ensures.long c.visit.ensures.full
+
+pub returns-then-self-eq0-clause-placed : goal.returns-then-self-eq0-clause-placed
+returns-then-self-eq0-clause-placed c = c.close.ensures.placed _ _ _

@@ -1,6 +1,8 @@
-use Rattle.std.proofs.Common.{arith, refl, ◌∙◌, sym, ap}
+use Rattle.std.proofs.Common.{arith, refl, ◌∙◌, ap}
 use Rattle.mach_base.specs.Fault.{malformed, fault_of}
-use Rattle.mach_dyld.proofs.Names.{append-nil, subst, List, Entry, info_in}
+use Rattle.mach_dyld.proofs.Names.{append-nil, subst, ℕ, List, Entry, Ok, Option, info_in, node_at, texts}
+use Rattle.mach_dyld.specs.BranchViews.{branches_of}
+use Rattle.mach_dyld.specs.declared.info.ExportInfo.{ExportInfo}
 use Rattle.mach_dyld.specs.CursorState.{HasCome}
 use Rattle.mach_dyld.proofs.CursorTurns.{passes, too_many, faulty, enters}
 use Rattle.mach_dyld.proofs.cursor.TrieCursor.visit.Goals as goal
@@ -31,3 +33,12 @@ returns-in-None-clause-gives c = λ found at.
     c.in-Ok.ensures.node c.in-Ok.ensures.readable (omega arith)
     c.put_label.ensures.len (rw c.as_bytes.ensures.value at c.put_label.ensures.text) e.way e.visits (omega arith) e.kept e.leaf (omega arith) e.over
     e.in_place))
+
+pub returns-in-Some-clause-placed : goal.returns-in-Some-clause-placed
+returns-in-Some-clause-placed c =
+    let s = c.args.source.now in
+    let branches = branches_of s.bytes.now s.from c.in-Ok.node.1 in (
+      branches,
+      ap (λ (n : ℕ). node_at s.bytes.now (texts s.libs.now) s.from n) c.enter.ensures.node ∙ c.in-Ok.ensures.node
+          ∙ ap (λ (o : Option ExportInfo). Ok (record { own = info_in o; branches = branches })) c.in-Some.is,
+    )

@@ -1,7 +1,7 @@
 use Rattle.std.proofs.Common.{arith, refl, subst, Some}
 use Rattle.mach_dyld.specs.CursorState.{IsFull}
 use Rattle.mach_dyld.specs.TrieRange.{TrieRange}
-use Rattle.mach_dyld.proofs.CursorTries.{reads_of, next_gives, over_gives, too_deep, begins_there, given_by}
+use Rattle.mach_dyld.proofs.CursorTries.{reads_of, next_gives, over_gives, too_deep, too_far, begins_there, given_by}
 use Rattle.mach_dyld.proofs.exports.ExportTrie.next_export.Goals as goal
 use Rattle.mach_dyld.proofs.exports.ExportTrie.next_export.Goals.{else-cursor-le-ON_THE_WAY-via-then-cursor-le-ON_THE_WAY+else-cursor-stack}
 use Rattle.mach_dyld.proofs.exports.ExportTrie.next_export.Goals.{else-cursor-le-ON_THE_WAY-via-else-cursor-le-ON_THE_WAY}
@@ -13,6 +13,15 @@ returns-then-cursor-stack-clause-gives c = λ found given.
 
 pub returns-then-cursor-stack-clause-begun : goal.returns-then-cursor-stack-clause-begun
 returns-then-cursor-stack-clause-begun c = λ found given.
+    let reads = reads_of c.self.inside.bytes c.args.libs c.self.view_is in begins_there reads (given _ reads)
+
+pub returns-then-cursor-self-clause-gives : goal.returns-then-cursor-self-clause-gives
+returns-then-cursor-self-clause-gives c = λ found given.
+    let reads = reads_of c.self.inside.bytes c.args.libs c.self.view_is in
+    rw c.refuse-then-cursor-self.ensures.refused (too_far reads c.if-cursor-le-ON_THE_WAY-2.true c.if-cursor-self.true (given _ reads))
+
+pub returns-then-cursor-self-clause-begun : goal.returns-then-cursor-self-clause-begun
+returns-then-cursor-self-clause-begun c = λ found given.
     let reads = reads_of c.self.inside.bytes c.args.libs c.self.view_is in begins_there reads (given _ reads)
 
 pub turns-init : goal.turns-init

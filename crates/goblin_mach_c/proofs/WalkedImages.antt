@@ -1,0 +1,107 @@
+-- Walks of an image's exports, by its bytes and as the image is held.
+use Rattle.std.proofs.Common.{◌≡◌, ◌≢◌, ◌++◌, [], ℕ, List, Option, Ok, inl, inr, refl, sym, ap, subst, arith}
+use Rattle.std.proofs.lemmas.List.{append-nil}
+use Rattle.std.specs.declared.alloc.Global.{Global}
+use Rattle.mach_base.specs.declared.context.Ctx.{Ctx}
+use Rattle.mach_base.specs.Text.{text_at}
+use Rattle.mach_load.specs.Command.{Command}
+use Rattle.mach_dyld.specs.Exports.{texts}
+use Rattle.mach_dyld.specs.Trie.{Entry}
+use Rattle.mach_dyld.specs.TrieRange.{TrieRange}
+use Rattle.mach_dyld.specs.declared.walk.Open.{Open}
+use Rattle.goblin_mach.specs.Image.{LossyOpens}
+use Rattle.goblin_mach.specs.OpenImage.{IsLossyImage, commands_held, trie_held}
+use Rattle.goblin_mach.specs.Subjects.{libs_in, trie_in, trie_or_empty}
+use Rattle.goblin_mach.specs.declared.image.macho.MachO.{MachO}
+use Rattle.goblin_mach.proofs.Facts.{exports_are, exports_fail, libraries_are, image_of, moved, of_image}
+use Rattle.goblin_mach.proofs.Walked.{walked_fault, walked_list}
+use Rattle.goblin_mach_c.specs.ExportWalk.{AreWritten, EndsWith, GoesAlong, GoesOn, HasLibrary, HasNextName, HasWalked, HasWalkedTrie, IsNextName, IsNumbered, IsRefusedWalk, no_batch}
+use Rattle.goblin_mach_c.proofs.ListedExports.{written_there}
+use Rattle.goblin_mach_c.proofs.TrieBytes.{text_there}
+use Rattle.goblin_mach_c.specs.declared.exports.gm_export_batch.{gm_export_batch}
+use Rattle.goblin_mach_c.specs.declared.exports.gm_export_walk.{gm_export_walk}
+use Rattle.goblin_mach_c.specs.declared.exports.gm_listed_export.{gm_listed_export}
+
+-- ---- a call that gives nothing
+
+pub none_written : (bytes : List ℕ) (o : ℕ) (b : gm_export_batch) (out : List gm_listed_export) (text : List ℕ) → b ≡ no_batch
+    → AreWritten bytes (HasLibrary bytes o) [] b.count b.names_len out out text text
+none_written bytes o b out text is = rw is (record { is_count = refl; is_used = refl; listed = []; are = tt; rows = refl; names = refl })
+
+pub stays : (bytes : List ℕ) (o : ℕ) (w : gm_export_walk) (name : List ℕ) (stack : List Open) → GoesOn bytes o w name stack [] w name stack
+stays bytes o w name stack found h = subst (HasWalked bytes o w name stack) (sym (append-nil found)) h
+
+pub no_end : (b : gm_export_batch) → b ≡ no_batch → b.end ≡ 1 → ⊥
+no_end b is end = let five = ap (λ (x : gm_export_batch). x.end) is in omega (arith, five, end)
+
+-- a walk that bears a code
+pub bears_code : (bytes : List ℕ) (o : ℕ) (w : gm_export_walk) (name : List ℕ) (stack : List Open) → w.code ≢ 0 → IsRefusedWalk bytes o w name stack
+bears_code bytes o w name stack code found q =
+    let fault = q.holds.refused code in
+    (fault.0, record { ctx = q.ctx; cs = q.cs; opens = q.opens; holds = walked_fault (trie_in bytes q.cs) (libs_in bytes q.cs) fault.0 fault.1 })
+
+-- a walk of zeros
+pub zeros : (bytes : List ℕ) (o : ℕ) (w : gm_export_walk) (name : List ℕ) (stack : List Open) → LossyOpens bytes o → w.is_begun ≡ 0 → w.code ≡ 0
+    → HasWalked bytes o w name stack []
+zeros bytes o w name stack opens start code = record {
+  ctx = opens.0;
+  cs = opens.1;
+  opens = opens.2;
+  holds = record { start = λ _. refl; begun = λ wrong. absurd (wrong start); refused = λ wrong. absurd (wrong code) };
+}
+
+-- ---- an image that is held
+
+module _ (bytes : List ℕ) (o : ℕ) (m : MachO Global) (p : IsLossyImage bytes o m) where
+  abbrev Walked : gm_export_walk → List ℕ → List Open → List Entry → Ctx → List Command → Type 0
+  Walked w name stack found ctx cs = HasWalkedTrie (trie_or_empty (trie_in bytes cs)) (libs_in bytes cs) w name stack found
+
+  -- the trie that it holds
+  abbrev trie : TrieRange
+  trie = trie_or_empty (trie_held m)
+
+  abbrev libs : List (List ℕ)
+  libs = texts m.libs.items
+
+  held : (w : gm_export_walk) (name : List ℕ) (stack : List Open) (found : List Entry) → HasWalked bytes o w name stack found
+      → HasWalkedTrie trie libs w name stack found
+  held w name stack found q =
+      moved (λ t l. HasWalkedTrie (trie_or_empty t) l w name stack found) _ _ _ _ (sym p.fields.trie) (sym p.fields.libs)
+      (image_of bytes o m p (Walked w name stack found) q)
+
+  there : (w : gm_export_walk) (name : List ℕ) (stack : List Open) (found : List Entry) → HasWalkedTrie trie libs w name stack found
+      → HasWalked bytes o w name stack found
+  there w name stack found h =
+      of_image bytes o m p (Walked w name stack found) (moved (λ t l. HasWalkedTrie (trie_or_empty t) l w name stack found) _ _ _ _ p.fields.trie p.fields.libs h)
+
+  -- its rows
+  pub rows_there : (given : List Entry) (count used : ℕ) (old new : List gm_listed_export) (names names' : List ℕ)
+      → AreWritten trie.bytes (IsNumbered libs) given count used old new names names'
+      → AreWritten bytes (HasLibrary bytes o) given count used old new names names'
+  rows_there given count used old new names names' w =
+      written_there trie.bytes bytes (IsNumbered libs) (HasLibrary bytes o)
+      (λ place text e. text_there bytes (commands_held m) place text
+      (subst (λ (t : Option TrieRange). text_at (trie_or_empty t).bytes place ≡ Ok text) p.fields.trie e))
+      (λ number name e. (libs, (libraries_are bytes o m p libs).1 refl, e)) w
+
+  -- the name that comes next
+  pub next_name_there : (w : gm_export_walk) (n : ℕ) → IsNextName trie w.cursor n → HasNextName bytes o w n
+  next_name_there w n h =
+      of_image bytes o m p (λ ctx cs. IsNextName (trie_or_empty (trie_in bytes cs)) w.cursor n)
+      (subst (λ (t : Option TrieRange). IsNextName (trie_or_empty t) w.cursor n) p.fields.trie h)
+
+  module _ (w w' : gm_export_walk) (name name' : List ℕ) (stack stack' : List Open) (given : List Entry) (end : ℕ)
+      (g : GoesAlong trie libs w w' name name' stack stack' given end) where
+    pub goes_on : GoesOn bytes o w name stack given w' name' stack'
+    goes_on found q = there w' name' stack' (found ++ given) (g.walked found (held w name stack found q))
+
+    pub ends_with : end ≡ 1 → EndsWith bytes o w name stack given
+    ends_with one found q = elim (g.ended one found (held w name stack found q)) [
+      | inl list ↦ inl ((exports_are bytes o m p (found ++ given)).1 (walked_list (trie_held m) libs (found ++ given) list))
+      | inr fault ↦ inr (fault.0, (exports_fail bytes o m p fault.0).1 (walked_fault (trie_held m) libs fault.0 fault.1))
+    ]
+
+    pub is_refused_walk : end ≡ 5 → IsRefusedWalk bytes o w name stack
+    is_refused_walk five found q =
+        let fault = g.refused five found (held w name stack found q) in
+        (fault.0, (exports_fail bytes o m p fault.0).1 (walked_fault (trie_held m) libs fault.0 fault.1))

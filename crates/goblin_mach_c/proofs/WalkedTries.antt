@@ -1,0 +1,89 @@
+-- Walks of an export trie, batch by batch.
+use Rattle.std.proofs.Common.{◌-◌, ◌^◌, ◌<◌, Err, length, ◌≡◌, ◌≢◌, ◌++◌, ◌⊎◌, [], ℕ, List, Bool, true, false, Option, Some, None, sym, subst, ◌∙◌, arith, inr}
+use Rattle.std.specs.Prelude.{nat_lt, if◌then◌else◌}
+use Rattle.mach_dyld.specs.CursorState.{IsFull, in_fault}
+use Rattle.mach_dyld.specs.Cursors.{HasGivenTo, IsFaulty}
+use Rattle.mach_dyld.specs.Trie.{Entry}
+use Rattle.mach_dyld.specs.TrieRange.{ListsExports, TrieRange}
+use Rattle.mach_dyld.specs.declared.cursor.TrieCursor.{TrieCursor}
+use Rattle.mach_dyld.specs.declared.walk.Open.{Open}
+use Rattle.goblin_mach_c.specs.ExportWalk.{GoesAlong, HasWalkedTrie, IsNextName, StopsAt, end_number, next_of}
+use Rattle.goblin_mach_c.specs.declared.exports.Ending.{Ending}
+use Rattle.goblin_mach_c.specs.declared.exports.Ending.TheVariants.{End, Refused, NameTooLong, StackTooShort}
+use Rattle.goblin_mach_c.specs.declared.exports.gm_export_walk.{gm_export_walk}
+
+-- where a fault stands, a cursor has given anything
+pub faulty_given : {t : TrieRange} {libs : List (List ℕ)} {c : TrieCursor} {name : List ℕ} {stack : List Open} {found : List Entry} → IsFaulty t libs
+    → HasGivenTo t libs c name stack found
+faulty_given fault s reads = in_fault fault.0 (rw (reads.bytes, reads.over, reads.from, reads.upto) fault.1)
+
+-- a cursor that has given nothing begins a walk
+pub walk_begins : {t : TrieRange} {libs : List (List ℕ)} {w : gm_export_walk} {c : TrieCursor} {name : List ℕ} {stack : List Open} {found : List Entry}
+    → w.is_begun ≡ 0 → HasGivenTo t libs c name stack [] → HasWalkedTrie t libs w name stack found
+    → HasWalkedTrie t libs (record { cursor = c; is_begun = 1; code = w.code }) name stack found
+walk_begins {t} {libs} {w} {c} {name} {stack} none given h = record {
+  start = λ wrong. absurd (omega (arith, wrong));
+  begun = λ _. subst (HasGivenTo t libs c name stack) (sym (h.start none)) given;
+  refused = h.refused;
+}
+
+-- ---- how a batch ends
+
+not_one : (b : Bool) → ◌≡◌ {A = ℕ} (if b then 2 else 0) 1 → ⊥
+not_one true e = omega (arith, e)
+not_one false e = omega (arith, e)
+
+not_five : (b : Bool) → ◌≡◌ {A = ℕ} (if b then 2 else 0) 5 → ⊥
+not_five true e = omega (arith, e)
+not_five false e = omega (arith, e)
+
+module _ (t : TrieRange) (libs : List (List ℕ)) (c : TrieCursor) (name : List ℕ) (stack : List Open) (all : List Entry) where
+  stands_at : (e : Option Ending) → StopsAt t libs all e c name stack → HasGivenTo t libs c name stack all
+  stands_at None s = s
+  stands_at (Some (End)) s = s.0
+  stands_at (Some (Refused error)) s = faulty_given s
+  stands_at (Some (NameTooLong n)) s = s
+  stands_at (Some (StackTooShort)) s = s
+
+  is_whole : (room longest : ℕ) (e : Option Ending) → StopsAt t libs all e c name stack → end_number room longest e ≡ 1 → ListsExports t libs all ⊎ IsFaulty t libs
+  is_whole room longest None s is = absurd (not_one (nat_lt room longest) is)
+  is_whole room longest (Some (End)) s is = s.1
+  is_whole room longest (Some (Refused error)) s is = inr s
+  is_whole room longest (Some (NameTooLong n)) s is = absurd (omega (arith, is))
+  is_whole room longest (Some (StackTooShort)) s is = absurd (omega (arith, is))
+
+  is_refused : (room longest : ℕ) (e : Option Ending) → StopsAt t libs all e c name stack → end_number room longest e ≡ 5 → IsFaulty t libs
+  is_refused room longest None s is = absurd (not_five (nat_lt room longest) is)
+  is_refused room longest (Some (End)) s is = absurd (omega (arith, is))
+  is_refused room longest (Some (Refused error)) s is = s
+  is_refused room longest (Some (NameTooLong n)) s is = absurd (omega (arith, is))
+  is_refused room longest (Some (StackTooShort)) s is = absurd (omega (arith, is))
+
+-- a batch goes along the trie
+pub goes_along : {t : TrieRange} {libs : List (List ℕ)} {w b w' : gm_export_walk} {name name' : List ℕ} {stack stack' : List Open} {given : List Entry}
+    (room longest end : ℕ) (e : Option Ending)
+    → ((found : List Entry) → HasWalkedTrie t libs w name stack found → HasWalkedTrie t libs b name stack found) → b.is_begun ≢ 0
+    → ((found : List Entry) → HasGivenTo t libs b.cursor name stack found → StopsAt t libs (found ++ given) e w'.cursor name' stack')
+    → w'.is_begun ≡ b.is_begun → end ≡ end_number room longest e → (w'.code ≢ 0 → end_number room longest e ≡ 5)
+    → GoesAlong t libs w w' name name' stack stack' given end
+goes_along {t} {libs} {w} {b} {w'} {name} {name'} {stack} {stack'} {given} room longest end e begins begun stops same is marked = record {
+  walked = λ found h. record {
+    start = λ wrong. absurd (begun (sym same ∙ wrong));
+    begun = λ _. stands_at t libs w'.cursor name' stack' (found ++ given) e (stops found ((begins found h).begun begun));
+    refused = λ code. is_refused t libs w'.cursor name' stack' (found ++ given) room longest e (stops found ((begins found h).begun begun)) (marked code);
+  };
+  ended = λ one found h. is_whole t libs w'.cursor name' stack' (found ++ given) room longest e (stops found ((begins found h).begun begun)) (sym is ∙ one);
+  refused = λ five found h. is_refused t libs w'.cursor name' stack' (found ++ given) room longest e (stops found ((begins found h).begun begun)) (sym is ∙ five);
+}
+
+-- the name that was too long
+pub long_name : (t : TrieRange) (c : TrieCursor) (name : List ℕ) (stack : List Open) (e : Ending) (n : ℕ)
+    → ◌≡◌ {A = Option Ending} (Some e) (Some (NameTooLong n)) → length name < 2 ^ 64 - 1 → IsFull t.bytes t.from c name stack (Some (next_of (Err e)))
+    → (length name < n) × IsNextName t c n
+long_name t c name stack (End) n is few full = absurd (cc)
+long_name t c name stack (Refused error) n is few full = absurd (cc)
+long_name t c name stack (StackTooShort) n is few full = absurd (cc)
+long_name t c name stack (NameTooLong m) n is few full =
+    let same : m ≡ n = cc in
+    let many = full.2 in
+    let past = full.3 in (omega (arith, same, many, past, few), (full.0, full.1, sym same ∙ many))

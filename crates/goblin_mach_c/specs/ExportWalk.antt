@@ -1,0 +1,151 @@
+-- The exports of an image in batches, as C sees them.
+use Rattle.std.specs.Prelude.{◌≡◌, ◌≢◌, ◌+◌, ◌-◌, ◌^◌, ◌++◌, ◌⊎◌, ℕ, List, [], ◌∷◌, length, drop, min, Option, Some, None, Result, Ok, Err, nat_lt, slice_get, if◌then◌else◌}
+use Rattle.mach_base.specs.Fault.{Fault}
+use Rattle.mach_base.specs.Text.{text_at}
+use Rattle.mach_dyld.specs.CursorState.{IsNextLabel}
+use Rattle.mach_dyld.specs.Cursors.{HasGivenTo, IsFaulty, NextGives}
+use Rattle.mach_dyld.specs.Trie.{Entry, Info, regular, reexport, stub}
+use Rattle.mach_dyld.specs.TrieRange.{ListsExports, TrieRange}
+use Rattle.mach_dyld.specs.declared.cursor.NextExport.{NextExport}
+use Rattle.mach_dyld.specs.declared.cursor.NextExport.TheVariants as next
+use Rattle.mach_dyld.specs.declared.cursor.TrieCursor.{TrieCursor}
+use Rattle.mach_dyld.specs.declared.info.ExportInfo.{ExportInfo}
+use Rattle.mach_dyld.specs.declared.walk.Open.{Open}
+use Rattle.goblin_mach.specs.Facts.{HasExports, HasExportsFault, HasLibraries, OfImage}
+use Rattle.goblin_mach.specs.Subjects.{libs_in, trie_in, trie_or_empty}
+use Rattle.goblin_mach_c.specs.ExportRows.{export_row, text_or_none}
+use Rattle.goblin_mach_c.specs.declared.exports.Ending.{Ending}
+use Rattle.goblin_mach_c.specs.declared.exports.Ending.TheVariants.{End, Refused, NameTooLong, StackTooShort}
+use Rattle.goblin_mach_c.specs.declared.exports.gm_export_batch.{gm_export_batch}
+use Rattle.goblin_mach_c.specs.declared.exports.gm_export_walk.{gm_export_walk}
+use Rattle.goblin_mach_c.specs.declared.exports.gm_listed_export.{gm_listed_export}
+
+-- ---- rows
+
+-- Of a re-export the library is the one of this number, and its name there is the text at this place, empty where it is the
+-- same name. Of another export both are 0.
+abbrev pub IsBrought : List ℕ → (ℕ → List ℕ → Type 0) → Info → ℕ → ℕ → Type 0
+IsBrought bytes IsLibrary (regular address flags) library target = (library ≡ 0) × (target ≡ 0)
+IsBrought bytes IsLibrary (reexport lib name flags) library target = IsLibrary library lib × (text_at bytes target ≡ Ok (text_or_none name))
+IsBrought bytes IsLibrary (stub at resolver flags) library target = (library ≡ 0) × (target ≡ 0)
+
+-- the row of an export whose name stands at a place among the names
+pub record IsListed (bytes : List ℕ) (IsLibrary : ℕ → List ℕ → Type 0) (place : ℕ) (e : Entry) (row : gm_listed_export) : Type 0 where
+  pub name : row.name ≡ place
+  pub name_len : row.name_len ≡ length e.name
+  pub what : row.what ≡ export_row (Some e.info)
+  pub brought : IsBrought bytes IsLibrary e.info row.library row.target
+
+-- some names, one behind the other
+abbrev pub names_of : List Entry → List ℕ
+names_of [] = []
+names_of (e ∷ es) = e.name ++ names_of es
+
+-- the rows of exports whose names stand so, from a place among the names on
+abbrev pub AreListed : List ℕ → (ℕ → List ℕ → Type 0) → ℕ → List Entry → List gm_listed_export → Type 0
+AreListed bytes IsLibrary place [] [] = Unit {0}
+AreListed bytes IsLibrary place [] (row ∷ rows) = ⊥
+AreListed bytes IsLibrary place (e ∷ es) [] = ⊥
+AreListed bytes IsLibrary place (e ∷ es) (row ∷ rows) =
+    IsListed bytes IsLibrary place e row × AreListed bytes IsLibrary (place + length e.name) es rows
+
+-- These exports were written: so many rows in front of an array, and so many bytes of names in front of a text. What is
+-- behind them is as it was.
+pub record AreWritten (bytes : List ℕ) (IsLibrary : ℕ → List ℕ → Type 0) (given : List Entry) (count used : ℕ) (old new : List gm_listed_export)
+    (text text' : List ℕ) : Type 0 where
+  pub is_count : count ≡ length given
+  pub is_used : used ≡ length (names_of given)
+  pub listed : List gm_listed_export
+  pub are : AreListed bytes IsLibrary 0 given listed
+  pub rows : new ≡ listed ++ drop count old
+  pub names : text' ≡ names_of given ++ drop used text
+
+-- the library of this number has this name, the image itself being number 0
+abbrev pub HasLibrary : List ℕ → ℕ → ℕ → List ℕ → Type 0
+HasLibrary bytes o number name = (libs : List (List ℕ)) × HasLibraries bytes o libs × (slice_get libs number ≡ Some name)
+
+-- the same of a list of libraries
+abbrev pub IsNumbered : List (List ℕ) → ℕ → List ℕ → Type 0
+IsNumbered libs number name = slice_get libs number ≡ Some name
+
+-- ---- walks
+
+-- A walk of this trie, over these libraries, has given these exports: nothing before it has begun; what its cursor has
+-- given from then on; and it bears the code of a refusal only where a fault stands in the trie.
+pub record HasWalkedTrie (t : TrieRange) (libs : List (List ℕ)) (w : gm_export_walk) (name : List ℕ) (stack : List Open) (found : List Entry) : Type 0 where
+  pub start : w.is_begun ≡ 0 → found ≡ []
+  pub begun : w.is_begun ≢ 0 → HasGivenTo t libs w.cursor name stack found
+  pub refused : w.code ≢ 0 → IsFaulty t libs
+
+-- A walk of the exports of the image at o, with this name and these open nodes, has given these.
+abbrev pub HasWalked : List ℕ → ℕ → gm_export_walk → List ℕ → List Open → List Entry → Type 0
+HasWalked bytes o w name stack found =
+    OfImage bytes o (λ ctx cs. HasWalkedTrie (trie_or_empty (trie_in bytes cs)) (libs_in bytes cs) w name stack found)
+
+-- a fault stands in the trie of the image at o
+abbrev pub HasFaultyTrie : List ℕ → ℕ → Type 0
+HasFaultyTrie bytes o = (f : Fault) × HasExportsFault bytes o f
+
+-- Whatever the walk had given before, it has given that and these.
+abbrev pub GoesOn : List ℕ → ℕ → gm_export_walk → List ℕ → List Open → List Entry → gm_export_walk → List ℕ → List Open → Type 0
+GoesOn bytes o w name stack given w' name' stack' = (found : List Entry) → HasWalked bytes o w name stack found → HasWalked bytes o w' name' stack' (found ++ given)
+
+-- Whatever the walk had given before, that and these are the image's exports; or a fault stands in its trie.
+abbrev pub EndsWith : List ℕ → ℕ → gm_export_walk → List ℕ → List Open → List Entry → Type 0
+EndsWith bytes o w name stack given = (found : List Entry) → HasWalked bytes o w name stack found → HasExports bytes o (found ++ given) ⊎ HasFaultyTrie bytes o
+
+-- Where the walk had given anything, a fault stands in the trie.
+abbrev pub IsRefusedWalk : List ℕ → ℕ → gm_export_walk → List ℕ → List Open → Type 0
+IsRefusedWalk bytes o w name stack = (found : List Entry) → HasWalked bytes o w name stack found → HasFaultyTrie bytes o
+
+-- The name that comes next in a trie has so many bytes, as far as 64 bits tell: those of the node on top, and those of the label of
+-- its next branch.
+abbrev pub IsNextName : TrieRange → TrieCursor → ℕ → Type 0
+IsNextName t c n = (label : List ℕ) × IsNextLabel t.bytes t.from c label × (n ≡ min (c.top.name_len + length label) (2 ^ 64 - 1))
+
+-- the same of the trie of the image at o
+abbrev pub HasNextName : List ℕ → ℕ → gm_export_walk → ℕ → Type 0
+HasNextName bytes o w n = OfImage bytes o (λ ctx cs. IsNextName (trie_or_empty (trie_in bytes cs)) w.cursor n)
+
+-- ---- the same of a trie
+
+-- what a cursor gives next, as an export or as what comes in its place
+abbrev pub next_of : Result ExportInfo Ending → NextExport
+next_of (Ok info) = next.Export info
+next_of (Err (End)) = next.End
+next_of (Err (Refused e)) = next.Refused e
+next_of (Err (NameTooLong n)) = next.NameTooLong n
+next_of (Err (StackTooShort)) = next.StackTooShort
+
+-- the cursor has given these exports, and then comes this ending, if any
+abbrev pub StopsAt : TrieRange → List (List ℕ) → List Entry → Option Ending → TrieCursor → List ℕ → List Open → Type 0
+StopsAt t libs found None c name stack = HasGivenTo t libs c name stack found
+StopsAt t libs found (Some e) c name stack = NextGives t libs found (next_of (Err e)) c name stack
+
+-- why a batch ends, as C is told it
+abbrev pub end_number : ℕ → ℕ → Option Ending → ℕ
+end_number room name None = if nat_lt room name then 2 else 0
+end_number room name (Some (End)) = 1
+end_number room name (Some (Refused e)) = 5
+end_number room name (Some (NameTooLong n)) = 3
+end_number room name (Some (StackTooShort)) = 4
+
+-- how many bytes or open nodes it must have to go on
+abbrev pub needed_number : ℕ → ℕ → ℕ → Option Ending → ℕ
+needed_number room name stack None = if nat_lt room name then name else 0
+needed_number room name stack (Some (End)) = 0
+needed_number room name stack (Some (Refused e)) = 0
+needed_number room name stack (Some (NameTooLong n)) = n
+needed_number room name stack (Some (StackTooShort)) = stack + 1
+
+-- the batch of a call that was refused before it gave anything
+abbrev pub no_batch : gm_export_batch
+no_batch = record { count = 0; names_len = 0; needed = 0; end = 5; reserved = 0 }
+
+-- Whatever a walk of this trie had given before: it has given that and these; at the end (1) they are the trie's exports, or
+-- it has none; and at a refusal (5) a fault stands in it.
+pub record GoesAlong (t : TrieRange) (libs : List (List ℕ)) (w w' : gm_export_walk) (name name' : List ℕ) (stack stack' : List Open) (given : List Entry)
+    (end : ℕ) : Type 0 where
+  pub walked : (found : List Entry) → HasWalkedTrie t libs w name stack found → HasWalkedTrie t libs w' name' stack' (found ++ given)
+  pub ended : end ≡ 1 → (found : List Entry) → HasWalkedTrie t libs w name stack found → ListsExports t libs (found ++ given) ⊎ IsFaulty t libs
+  pub refused : end ≡ 5 → (found : List Entry) → HasWalkedTrie t libs w name stack found → IsFaulty t libs

@@ -1,0 +1,353 @@
+//! The exports of an image in batches, by a walk whose numbers, name and open nodes are the caller's.
+
+ghost use Rattle.std.specs.Prelude.{◌≡◌, ◌≢◌, ◌+◌, ◌++◌, ◌<◌, ◌≤◌, ◌⊎◌, ℕ, List, Option, Some, None, drop, length, take};
+ghost use Rattle.mach_dyld.specs.Cursors.{HasGivenTo, IsOwnAt};
+ghost use Rattle.mach_dyld.specs.Exports.{info_of, texts};
+ghost use Rattle.mach_dyld.specs.Trie.{Entry};
+ghost use Rattle.mach_dyld.specs.TrieRange.{empty_range};
+ghost use Rattle.goblin_mach.specs.OpenImage.{trie_held};
+ghost use Rattle.goblin_mach.specs.Subjects.{trie_or_empty};
+ghost use Rattle.goblin_mach_c.specs.Codes.{IsRefusal};
+ghost use Rattle.goblin_mach_c.specs.ExportWalk.{AreWritten, EndsWith, GoesAlong, GoesOn, HasLibrary, HasNextName, HasWalkedTrie, IsBrought, IsNextName, IsNumbered, IsRefusedWalk, StopsAt, end_number, needed_number, next_of, no_batch};
+ghost use Rattle.goblin_mach_c.specs.Opened.{FaultIn, lossy_mode};
+ghost use Rattle.goblin_mach_c.specs.declared.exports.Ending.TheVariants as ending;
+
+use crate::errors::{GM_OK, gm_error, refuse, refuse_again};
+use crate::find::{gm_export, row_of};
+use crate::images::gm_image;
+use crate::open::open;
+use goblin_mach::MachO;
+use goblin_mach::exports::{ExportInfo, ExportTrie, NextExport, Open, TrieCursor};
+use goblin_mach::laws::walked_exports_of_image;
+use mach_base::Error;
+use std::alloc::Global;
+
+/// How far a walk of an image's exports has come: numbers alone, each of them 0 at the start. They go with the image, and
+/// with the name and the open nodes that the call before was handed.
+#[derive(Clone, Copy)]
+#[repr(C)]
+pub struct gm_export_walk {
+    pub cursor: TrieCursor,
+    /// 0 before the first batch, else 1.
+    pub is_begun: u32,
+    /// Why the walk was refused, or `GM_OK`.
+    pub code: u32,
+}
+
+/// An export. Its name stands at `name` among the names, and has `name_len` bytes. Of a re-export `library` is the number of the
+/// library, the image itself being number 0, and the name there stands at `target` in the bytes.
+#[derive(Clone, Copy)]
+#[repr(C)]
+pub struct gm_listed_export {
+    pub name: usize,
+    pub name_len: usize,
+    pub library: usize,
+    pub target: usize,
+    pub what: gm_export,
+}
+
+/// What a batch has, and why it ends.
+#[derive(Clone, Copy)]
+#[repr(C)]
+pub struct gm_export_batch {
+    /// How many rows were written, and how many bytes of names.
+    pub count: usize,
+    pub names_len: usize,
+    /// How many bytes or open nodes there must be to go on.
+    pub needed: usize,
+    /// One of the numbers of an end.
+    pub end: u32,
+    pub reserved: u32,
+}
+
+/// The array is full, or what is left for names is less than a name may need.
+const GM_MORE: u32 = 0;
+
+/// There are no more exports.
+const GM_END: u32 = 1;
+
+/// A name may be longer than all that is there for names.
+const GM_NO_ROOM: u32 = 2;
+
+/// The name that comes next is longer than the walk's name may be.
+const GM_NAME_SHORT: u32 = 3;
+
+/// More nodes are open than the stack has.
+const GM_STACK_SHORT: u32 = 4;
+
+/// The call was refused.
+const GM_REFUSED: u32 = 5;
+
+// What comes in place of an export.
+#[derive(Drop)]
+enum Ending {
+    End,
+    Refused(Error),
+    NameTooLong(usize),
+    StackTooShort,
+}
+
+// The export that comes next, or what comes in its place.
+#[inline(always)]
+fn export_or_ending(next: NextExport<'_>) -> Result<ExportInfo<'_>, Ending>
+    ensures { next_of result ≡ next.entry }
+{
+    match next {
+        NextExport::Export(info) => Ok(info),
+        NextExport::End => Err(Ending::End),
+        NextExport::Refused(error) => Err(Ending::Refused(error)),
+        NextExport::NameTooLong(needed) => Err(Ending::NameTooLong(needed)),
+        NextExport::StackTooShort => Err(Ending::StackTooShort),
+    }
+}
+
+// Puts the front of a name, so many bytes or all of them, at a place among others. Answers how many these are.
+#[inline(always)]
+fn put_name(name: &[u8], count: usize, names: &mut [u8], at: usize) -> usize
+    requires { at + length name.now ≤ length names.old }
+    ensures count { result ≡ length (take count name.now) }
+    ensures written { names.new ≡ take at names.old ++ take count name.now ++ drop (at + result) names.old }
+    ensures len { length names.new ≡ length names.old }
+{
+    let count = if count < name.len() {
+        count
+    } else {
+        name.len()
+    };
+    let end = at + count;
+    names[at..end].copy_from_slice(&name[..count]);
+    count
+}
+
+// Of a re-export that was given last the number of its library, and where its name there stands.
+#[inline(always)]
+fn brought_from(trie: &ExportTrie<'_>, cursor: &TrieCursor, info: &ExportInfo<'_>) -> (usize, usize)
+    ensures { (libs : List (List ℕ)) → IsOwnAt trie.now.bytes libs trie.now.from cursor.now.node (info_of info.now)
+        → IsBrought trie.now.bytes (IsNumbered libs) (info_of info.now) result.0 result.1 }
+{
+    match info {
+        ExportInfo::Reexport { .. } => match trie.reexport_place(cursor) {
+            Some((ordinal, place)) => (ordinal as usize, place),
+            None => (0, 0),
+        },
+        ExportInfo::Regular { .. } | ExportInfo::Stub { .. } => (0, 0),
+    }
+}
+
+// Goes on along a trie, and writes the exports that come: their rows into an array, and their names one behind the other. It
+// stops where the array is full or a name might not fit, and answers how many rows and how many bytes it wrote, and
+// what came in place of an export, if anything did.
+fn write_exports<'a>(
+    trie: &ExportTrie<'a>,
+    libs: &[&'a str],
+    cursor: &mut TrieCursor,
+    name: &mut [u8],
+    stack: &mut [Open],
+    out: &mut [gm_listed_export],
+    names: &mut [u8],
+) -> (usize, usize, Option<Ending>)
+    ensures written { (given : List Entry) × AreWritten trie.now.bytes (IsNumbered (texts libs.now)) given result.0 result.1 out.old out.new names.old names.new
+        × ((found : List Entry) → HasGivenTo trie.now (texts libs.now) cursor.old name.old stack.old found
+        → StopsAt trie.now (texts libs.now) (found ++ given) result.2 cursor.new name.new stack.new) }
+    ensures full { result.2 ≡ None → (result.0 ≡ length out.old) ⊎ (length names.old < result.1 + length name.old) }
+    ensures lens { (length name.new ≡ length name.old) × (length names.new ≡ length names.old) × (length stack.new ≡ length stack.old) }
+    ensures name { (n : ℕ) → result.2 ≡ Some (ending.NameTooLong n) → (length name.old < n) × IsNextName trie.now cursor.new n }
+    ensures stack { result.2 ≡ Some ending.StackTooShort → length stack.old ≤ cursor.new.depth }
+{
+    let mut used = 0;
+    for k in 0..out.len() {
+        if names.len() - used < name.len() {
+            return (k, used, None);
+        }
+        match export_or_ending(trie.next_export(libs, cursor, name, stack)) {
+            Ok(info) => {
+                let len = put_name(name, cursor.name_len, names, used);
+                let (library, target) = brought_from(trie, cursor, &info);
+                out[k] = gm_listed_export {
+                    name: used,
+                    name_len: len,
+                    library,
+                    target,
+                    what: row_of(&Some(info)),
+                };
+                used += len;
+            }
+            Err(ending) => return (k, used, Some(ending)),
+        }
+    }
+    (out.len(), used, None)
+}
+
+// Why a batch ends, and how much there must be to go on.
+fn end_of(ending: &Option<Ending>, name: &[u8], names: &[u8], stack: &[Open]) -> (u32, usize)
+    ensures end { result.0 ≡ end_number (length names.now) (length name.now) ending.now }
+    ensures needed { result.1 ≡ needed_number (length names.now) (length name.now) (length stack.now) ending.now }
+{
+    match ending {
+        None if names.len() < name.len() => (GM_NO_ROOM, name.len()),
+        None => (GM_MORE, 0),
+        Some(Ending::End) => (GM_END, 0),
+        Some(Ending::Refused(_)) => (GM_REFUSED, 0),
+        Some(Ending::NameTooLong(needed)) => (GM_NAME_SHORT, *needed),
+        Some(Ending::StackTooShort) => (GM_STACK_SHORT, stack.len() + 1),
+    }
+}
+
+// Tells of a refusal, if the batch ends by one.
+fn told(ending: Option<Ending>, error: &mut gm_error) -> u32
+    ensures good { (room : ℕ) (name : ℕ) → result ≡ 0 → end_number room name ending < 5 }
+    ensures refused { (room : ℕ) (name : ℕ) → result ≢ 0 → end_number room name ending ≡ 5 }
+    ensures told { result ≢ 0 → error.new.code ≡ result }
+    ensures quiet { result ≡ 0 → error.new ≡ error.old }
+{
+    match ending {
+        Some(Ending::Refused(why)) => refuse(&why, error),
+        Some(Ending::End | Ending::NameTooLong(_) | Ending::StackTooShort) | None => GM_OK,
+    }
+}
+
+// Begins a walk, if it has not begun.
+fn begin(trie: &ExportTrie<'_>, walk: &mut gm_export_walk)
+    ensures begun { walk.new.is_begun ≢ 0 }
+    ensures code { walk.new.code ≡ walk.old.code }
+    ensures same { (libs : List (List ℕ)) (name : List ℕ) (stack : List Open) (found : List Entry)
+        → HasWalkedTrie trie.now libs walk.old name stack found → HasWalkedTrie trie.now libs walk.new name stack found }
+{
+    if walk.is_begun == 0 {
+        walk.cursor = trie.cursor();
+        walk.is_begun = 1;
+    }
+}
+
+// Goes on with a walk along a trie.
+fn go_along<'a>(
+    trie: &ExportTrie<'a>,
+    libs: &[&'a str],
+    walk: &mut gm_export_walk,
+    name: &mut [u8],
+    stack: &mut [Open],
+    out: &mut [gm_listed_export],
+    names: &mut [u8],
+    batch: &mut gm_export_batch,
+    error: &mut gm_error,
+) -> u32
+    requires ready { walk.old.code ≡ 0 }
+    ensures written { (given : List Entry) × AreWritten trie.now.bytes (IsNumbered (texts libs.now)) given batch.new.count batch.new.names_len
+        out.old out.new names.old names.new
+        × GoesAlong trie.now (texts libs.now) walk.old walk.new name.old name.new stack.old stack.new given batch.new.end }
+    ensures full { batch.new.end ≡ 0 → (batch.new.count ≡ length out.old) ⊎ (length names.old < batch.new.names_len + length name.old) }
+    ensures no_room { batch.new.end ≡ 2 → (length names.old < length name.old) × (batch.new.needed ≡ length name.old) }
+    ensures name { batch.new.end ≡ 3 → (length name.old < batch.new.needed) × IsNextName trie.now walk.new.cursor batch.new.needed }
+    ensures stack { batch.new.end ≡ 4 → (length stack.old ≤ walk.new.cursor.depth) × (batch.new.needed ≡ length stack.old + 1) }
+    ensures refused { result ≢ 0 → batch.new.end ≡ 5 }
+    ensures good { result ≡ 0 → batch.new.end < 5 }
+    ensures marked { walk.new.code ≡ result }
+    ensures told { result ≢ 0 → error.new.code ≡ result }
+    ensures quiet { result ≡ 0 → error.new ≡ error.old }
+{
+    begin(trie, walk);
+    let (count, names_len, ending) = write_exports(
+        trie,
+        libs,
+        &mut walk.cursor,
+        name,
+        stack,
+        out,
+        names,
+    );
+    let (end, needed) = end_of(&ending, name, names, stack);
+    *batch = gm_export_batch {
+        count,
+        names_len,
+        needed,
+        end,
+        reserved: 0,
+    };
+    walk.code = told(ending, error);
+    walk.code
+}
+
+// The trie that an image holds, or one of no bytes.
+fn trie_of<'a, 'b>(image: &'b MachO<'a, Global>, empty: &'b ExportTrie<'a>) -> &'b ExportTrie<'a>
+    requires { empty.now ≡ empty_range }
+    ensures { result.now ≡ trie_or_empty (trie_held image.now) }
+{
+    image.export_trie().unwrap_or(empty)
+}
+
+// The batch of a call that was refused before it gave anything.
+fn nothing() -> gm_export_batch
+    ensures { result ≡ no_batch }
+{
+    gm_export_batch {
+        count: 0,
+        names_len: 0,
+        needed: 0,
+        end: GM_REFUSED,
+        reserved: 0,
+    }
+}
+
+/// Goes on with a walk of an image's exports: writes a row for each export that comes and its name behind that of the one
+/// before, and what the batch has and why it ends to `batch`. `name` and `stack` are the walk's between the calls: where one is
+/// too short, or there is no room for a name, the call may be made again with more, which begins with what was there. It opens
+/// the image again, and takes memory for its commands while it runs. A refusal before it goes on leaves all but the batch and the
+/// error; a walk that was refused for a fault of its trie stays refused.
+#[unsafe(no_mangle)]
+pub extern "C" fn gmr_exports(
+    alloc: Global,
+    bytes: &[u8],
+    image: &gm_image,
+    walk: &mut gm_export_walk,
+    name: &mut [u8],
+    stack: &mut [Open],
+    out: &mut [gm_listed_export],
+    names: &mut [u8],
+    batch: &mut gm_export_batch,
+    error: &mut gm_error,
+) -> u32
+    ensures written { (given : List Entry) × AreWritten bytes.now (HasLibrary bytes.now image.now.offset) given batch.new.count batch.new.names_len
+        out.old out.new names.old names.new
+        × GoesOn bytes.now image.now.offset walk.old name.old stack.old given walk.new name.new stack.new
+        × (batch.new.end ≡ 1 → EndsWith bytes.now image.now.offset walk.old name.old stack.old given) }
+    ensures refused { result ≢ 0 → IsRefusal (FaultIn (lossy_mode image.now.is_lossy) bytes.now image.now.offset) result
+        ⊎ IsRefusedWalk bytes.now image.now.offset walk.old name.old stack.old }
+    ensures marked { result ≢ 0 → (walk.new.code ≡ result) ⊎ (walk.new.code ≡ walk.old.code) }
+    ensures kept { result ≢ 0 → walk.new.code ≡ walk.old.code → (walk.new ≡ walk.old) × (name.new ≡ name.old) × (stack.new ≡ stack.old)
+        × (out.new ≡ out.old) × (names.new ≡ names.old) }
+    ensures again { walk.old.code ≢ 0 → result ≡ walk.old.code }
+    ensures end { (result ≡ 0 → batch.new.end < 5) × (result ≢ 0 → batch.new.end ≡ 5) }
+    ensures full { batch.new.end ≡ 0 → (batch.new.count ≡ length out.old) ⊎ (length names.old < batch.new.names_len + length name.old) }
+    ensures no_room { batch.new.end ≡ 2 → (length names.old < length name.old) × (batch.new.needed ≡ length name.old) }
+    ensures name { batch.new.end ≡ 3 → (length name.old < batch.new.needed) × HasNextName bytes.now image.now.offset walk.new batch.new.needed }
+    ensures stack { batch.new.end ≡ 4 → (length stack.old ≤ walk.new.cursor.depth) × (batch.new.needed ≡ length stack.old + 1) }
+    ensures told { result ≢ 0 → error.new.code ≡ result }
+    ensures quiet { result ≡ 0 → error.new ≡ error.old }
+{
+    if walk.code != 0 {
+        *batch = nothing();
+        return refuse_again(walk.code, error);
+    }
+    match open(alloc, bytes, image.offset, image.is_lossy != 0) {
+        Ok(found) => {
+            walked_exports_of_image(&found);
+            let empty = ExportTrie::empty();
+            let trie = trie_of(&found, &empty);
+            go_along(
+                trie,
+                found.libs.as_slice(),
+                walk,
+                name,
+                stack,
+                out,
+                names,
+                batch,
+                error,
+            )
+        }
+        Err(why) => {
+            *batch = nothing();
+            refuse(&why, error)
+        }
+    }
+}
