@@ -56,17 +56,14 @@ gm_memory gm_arena_memory(gm_arena *arena) { return (gm_memory){arena, arena_tak
 
 #define AT(p) ((p) ? (p) : (void *)&nothing)
 #define BYTES ((bytes) ? (bytes) : (const uint8_t *)&nothing)
+#define WITH_MEMORY(call) { memory_of_call = memory; uint32_t code = call; memory_of_call = NULL; return code; }
 
 uint32_t gmr_version(void);
 uint32_t gm_version(void) { return gmr_version(); }
 
 uint32_t gmr_open(const uint8_t *, size_t, size_t, uint32_t, gm_image *, gm_error *);
-uint32_t gm_open(const uint8_t *bytes, size_t len, size_t offset, uint32_t mode, const gm_memory *memory, gm_image *image, gm_error *error) {
-    memory_of_call = memory;
-    uint32_t code = gmr_open(BYTES, len, offset, mode, image, error);
-    memory_of_call = NULL;
-    return code;
-}
+uint32_t gm_open(const uint8_t *bytes, size_t len, size_t offset, uint32_t mode, const gm_memory *memory, gm_image *image, gm_error *error)
+    WITH_MEMORY(gmr_open(BYTES, len, offset, mode, image, error))
 
 size_t gmr_fat_entries(const uint8_t *, size_t, size_t, gm_fat_entry *, size_t);
 size_t gm_fat_entries(const uint8_t *bytes, size_t len, size_t first, gm_fat_entry *out, size_t cap) {
@@ -95,46 +92,28 @@ size_t gm_relocations(const uint8_t *bytes, size_t len, const gm_image *image, u
     return gmr_relocations(BYTES, len, image, reloff, nreloc, first, AT(out), cap);
 }
 
-/* the items of an image behind a cursor */
+/* the items of an image behind a cursor, or from a number on */
 #define BEHIND(name, row, place) \
-    uint32_t gmr_##name(const uint8_t *, size_t, const gm_image *, place *, row *, size_t, size_t *, gm_error *); \
-    uint32_t gm_##name(const uint8_t *bytes, size_t len, const gm_image *image, place *cursor, row *out, size_t cap, size_t *count, \
-                       const gm_memory *memory, gm_error *error) { \
-        memory_of_call = memory; \
-        uint32_t code = gmr_##name(BYTES, len, image, cursor, AT(out), cap, count, error); \
-        memory_of_call = NULL; \
-        return code; \
-    }
-BEHIND(fixups, gm_fixup, gm_fixup_cursor)
-BEHIND(imports, gm_import, gm_bind_cursor)
-BEHIND(bindings, gm_binding, gm_binding_cursor)
+    uint32_t gmr_##name(const uint8_t *, size_t, const gm_image *, place, row *, size_t, size_t *, gm_error *); \
+    uint32_t gm_##name(const uint8_t *bytes, size_t len, const gm_image *image, place from, row *out, size_t cap, size_t *count, \
+                       const gm_memory *memory, gm_error *error) \
+        WITH_MEMORY(gmr_##name(BYTES, len, image, from, AT(out), cap, count, error))
+BEHIND(fixups, gm_fixup, gm_fixup_cursor *)
+BEHIND(imports, gm_import, gm_bind_cursor *)
+BEHIND(bindings, gm_binding, gm_binding_cursor *)
+BEHIND(layout_faults, gm_layout_fault, size_t)
 
 uint32_t gmr_find_export(const uint8_t *, size_t, const gm_image *, const char *, size_t, gm_export *, char *, size_t, char *, size_t, gm_error *);
 uint32_t gm_find_export(const uint8_t *bytes, size_t len, const gm_image *image, const char *name, size_t name_len, gm_export *found,
-                        char *library, size_t library_cap, char *target, size_t target_cap, const gm_memory *memory, gm_error *error) {
-    memory_of_call = memory;
-    uint32_t code = gmr_find_export(BYTES, len, image, name ? name : (const char *)&nothing, name_len, found, AT(library), library_cap,
-                                    AT(target), target_cap, error);
-    memory_of_call = NULL;
-    return code;
-}
+                        char *library, size_t library_cap, char *target, size_t target_cap, const gm_memory *memory, gm_error *error)
+    WITH_MEMORY(gmr_find_export(BYTES, len, image, AT((char *)name), name_len, found, AT(library), library_cap, AT(target), target_cap, error))
 
 uint32_t gmr_exports(const uint8_t *, size_t, const gm_image *, gm_export_walk *, char *, size_t, gm_open_node *, size_t, gm_listed_export *, size_t,
                      char *, size_t, gm_export_batch *, gm_error *);
 uint32_t gm_exports(const uint8_t *bytes, size_t len, const gm_image *image, gm_export_walk *walk, const gm_export_room *room,
-                    gm_export_batch *batch, const gm_memory *memory, gm_error *error) {
-    memory_of_call = memory;
-    uint32_t code = gmr_exports(BYTES, len, image, walk, AT(room->name), room->name_cap, AT(room->stack), room->stack_cap, AT(room->out), room->cap,
-                                AT(room->names), room->names_cap, batch, error);
-    memory_of_call = NULL;
-    return code;
-}
-#define WITH_MEMORY(call) { memory_of_call = memory; uint32_t code = call; memory_of_call = NULL; return code; }
-
-uint32_t gmr_layout_faults(const uint8_t *, size_t, const gm_image *, size_t, gm_layout_fault *, size_t, size_t *, gm_error *);
-uint32_t gm_layout_faults(const uint8_t *bytes, size_t len, const gm_image *image, size_t first, gm_layout_fault *out, size_t cap, size_t *count,
-                          const gm_memory *memory, gm_error *error)
-    WITH_MEMORY(gmr_layout_faults(BYTES, len, image, first, AT(out), cap, count, error))
+                    gm_export_batch *batch, const gm_memory *memory, gm_error *error)
+    WITH_MEMORY(gmr_exports(BYTES, len, image, walk, AT(room->name), room->name_cap, AT(room->stack), room->stack_cap, AT(room->out), room->cap,
+                            AT(room->names), room->names_cap, batch, error))
 
 uint32_t gmr_container_faults(const uint8_t *, size_t, size_t, gm_layout_fault *, size_t, size_t *, gm_error *);
 uint32_t gm_container_faults(const uint8_t *bytes, size_t len, size_t first, gm_layout_fault *out, size_t cap, size_t *count,
