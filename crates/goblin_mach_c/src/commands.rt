@@ -1,16 +1,14 @@
 //! The load commands, one behind the other, with no memory.
 
-ghost use Rattle.std.specs.Prelude.{◌≡◌, ◌+◌, drop, map, min, IfOk};
+ghost use Rattle.std.specs.Prelude.{◌≡◌, drop, map, min};
 ghost use Rattle.std.specs.Iterator.{YieldsFirst, YieldsFirstBy};
-ghost use Rattle.mach_base.specs.Answer.{Reads};
-ghost use Rattle.mach_load.specs.Command.{cmdsize_of, command_at};
 ghost use Rattle.mach_load.specs.Variants.{command_of};
 ghost use Rattle.goblin_mach_c.specs.CommandRows.{command_row, command_rows, commands_left, commands_seen};
 ghost use Rattle.goblin_mach_c.specs.Fill.{Fills};
 
 use crate::images::{ctx_of, gm_image};
 use crate::rows::{Rows, fill, skip};
-use mach_base::{Endian, Result};
+use mach_base::Endian;
 use mach_load::LoadCommand;
 
 /// The commands from a place on: so many, or those before the first that can't be read.
@@ -27,18 +25,6 @@ fn no_more_than(count: usize, most: usize) -> usize
     ensures { result ≡ min count most }
 {
     if count < most { count } else { most }
-}
-
-// The load command at a place, which it moves behind the command.
-#[inline(always)]
-fn read(bytes: &[u8], place: &mut usize, le: Endian) -> Result<LoadCommand>
-    ensures found { Reads command_of result (command_at le bytes.now place.old) }
-    ensures moved { IfOk result (λ c. place.new ≡ place.old + cmdsize_of (command_of c)) }
-{
-    match LoadCommand::quick(bytes, place, le) {
-        Some(command) => Ok(command),
-        None => LoadCommand::parse(bytes, place, le),
-    }
 }
 
 impl<'a> Commands<'a> {
@@ -62,7 +48,7 @@ impl<'a> Commands<'a> {
         if self.count == 0 {
             return None;
         }
-        match read(self.bytes, &mut self.place, self.le) {
+        match LoadCommand::parse(self.bytes, &mut self.place, self.le) {
             Ok(command) => {
                 self.count -= 1;
                 Some(command)
@@ -71,6 +57,23 @@ impl<'a> Commands<'a> {
                 self.count = 0;
                 None
             }
+        }
+    }
+
+    /// The same, for those who look at its fields: most commands are read in place.
+    #[inline(always)]
+    pub fn next_in_place(&mut self) -> Option<LoadCommand>
+        ensures { YieldsFirstBy command_of commands_left self.old result self.new }
+    {
+        if self.count == 0 {
+            return None;
+        }
+        match LoadCommand::quick(self.bytes, &mut self.place, self.le) {
+            Some(command) => {
+                self.count -= 1;
+                Some(command)
+            }
+            None => self.next_command(),
         }
     }
 }

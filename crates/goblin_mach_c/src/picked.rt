@@ -36,7 +36,7 @@ impl<'a, P: Pick + Drop> Rows for Picked<'a, P> {
 
     fn next(&mut self) -> Option<P::Row> {
         'commands: loop {
-            match self.commands.next_command() {
+            match self.commands.next_in_place() {
                 None => return None,
                 Some(command) => {
                     if let Some(row) = self.what.pick(&command) {

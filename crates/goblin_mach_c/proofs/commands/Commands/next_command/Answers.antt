@@ -20,4 +20,4 @@ returns-in-Ok c =
 pub returns-in-Err : goal.returns-in-Err
 returns-in-Err c =
     let it = c.args.self.now in
-    (no_command it.le it.bytes.now it.place it.count _ c.in-Err.ensures.found, none_from it.le it.bytes.now c.read.new.place 0 refl)
+    (no_command it.le it.bytes.now it.place it.count _ c.in-Err.ensures.found, none_from it.le it.bytes.now c.parse.new.offset 0 refl)
