@@ -111,6 +111,7 @@ LIST(bindings, gm_binding, bindings(g, first, rows, cap),
      fprintf(to, "%u %u %" PRIu64 " %" PRIx64 " %" PRId64 " %u %u 0x%" PRIx64 " ", r->code, r->provider, r->library, r->offset, r->addend, r->is_weak,
              r->is_lazy, r->address); text(to, g, r->name, r->name_len))
 LIST(run_paths, gm_run_path, gm_run_paths(OF, first, rows, cap), text(to, g, r->path, r->path_len))
+LIST(ids, gm_id, gm_ids(OF, first, rows, cap), text(to, g, r->name, r->name_len))
 
 /* ---- faults of layout, of an image and of a fat file's table: the lines are those of machaudit */
 
@@ -154,7 +155,7 @@ typedef struct {
 #define ONE(name, row) {#name, sizeof(row), rows_##name, line_##name}
 static const list lists[] = {ONE(commands, gm_command), ONE(segments, gm_segment), ONE(symbols, gm_symbol), ONE(libraries, gm_library),
                              ONE(run_paths, gm_run_path), ONE(fixups, gm_fixup), ONE(imports, gm_import), ONE(bindings, gm_binding), ONE(entries, gm_fat_entry),
-                             ONE(sections, gm_section), ONE(relocations, gm_relocation), ONE(layout, gm_layout_fault), ONE(table, gm_layout_fault)};
+                             ONE(sections, gm_section), ONE(relocations, gm_relocation), ONE(layout, gm_layout_fault), ONE(table, gm_layout_fault), ONE(ids, gm_id)};
 enum { LISTS = sizeof lists / sizeof *lists, LIMIT = 400 };
 
 static const list *named(const char *name) {
@@ -516,6 +517,7 @@ static void check(const uint8_t *bytes, size_t len) {
         for (int i = 0; i < 8; i++) same_in_batches(&lists[i], &g);
         check_parts(&g);
         same_in_batches(named("layout"), &g);
+        same_in_batches(named("ids"), &g);
         check_exports(&g);
         fixups_refused(&g);
         imports_refused(&g);

@@ -81,6 +81,7 @@ ROWS(segments, gm_segment)
 ROWS(symbols, gm_symbol)
 ROWS(libraries, gm_library)
 ROWS(run_paths, gm_run_path)
+ROWS(ids, gm_id)
 
 size_t gmr_sections(const uint8_t *, size_t, const gm_image *, size_t, uint32_t, size_t, gm_section *, size_t);
 size_t gm_sections(const uint8_t *bytes, size_t len, const gm_image *image, size_t command, uint32_t sections, size_t first, gm_section *out, size_t cap) {

@@ -109,6 +109,11 @@ size_t gm_libraries(const uint8_t *bytes, size_t len, const gm_image *image, siz
 typedef struct gm_run_path { size_t path, path_len; } gm_run_path;
 size_t gm_run_paths(const uint8_t *bytes, size_t len, const gm_image *image, size_t first, gm_run_path *out, size_t cap);
 
+/* ---- the names by which the image itself is known as a library (LC_ID_DYLIB), each `name_len` bytes at bytes + name: where there are several, the
+   last one counts */
+typedef struct gm_id { size_t name, name_len; } gm_id;
+size_t gm_ids(const uint8_t *bytes, size_t len, const gm_image *image, size_t first, gm_id *out, size_t cap);
+
 /* ---- one name among its exports: addresses count from the image's start */
 typedef struct gm_export {
     uint64_t address, resolver, flags;
@@ -351,6 +356,9 @@ GM_SIZE(gm_fixup, 64);
 GM_FIELD(gm_fixup_cursor, chains, 0, 32);
 GM_FIELD(gm_fixup_cursor, stage, 32, 4);
 GM_SIZE(gm_fixup_cursor, 40);
+GM_FIELD(gm_id, name, 0, 8);
+GM_FIELD(gm_id, name_len, 8, 8);
+GM_SIZE(gm_id, 16);
 GM_FIELD(gm_image, offset, 0, 8);
 GM_FIELD(gm_image, entry, 8, 8);
 GM_FIELD(gm_image, first_command, 16, 8);

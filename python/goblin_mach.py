@@ -142,6 +142,10 @@ class _RunPath(ctypes.Structure):
     _fields_ = [("path", c_size_t), ("path_len", c_size_t)]
 
 
+class _Id(ctypes.Structure):
+    _fields_ = [("name", c_size_t), ("name_len", c_size_t)]
+
+
 class _LayoutFault(ctypes.Structure):
     _fields_ = [(n, c_uint64) for n in ("found", "limit", "command", "index", "other_command", "other_index")] + [
         (n, c_uint32) for n in ("rule", "part", "other_part")]
@@ -163,7 +167,7 @@ def _load():
         raise OSError(f"libgoblin_mach.so is of version {lib.gm_version()}, and this module of {VERSION}")
     for name in ("open", "find_export", "exports", "fixups", "imports", "bindings"):
         getattr(lib, "gm_" + name).restype = c_uint32
-    for name in ("fat_entries", "commands", "segments", "sections", "relocations", "symbols", "libraries", "run_paths"):
+    for name in ("fat_entries", "commands", "segments", "sections", "relocations", "symbols", "libraries", "run_paths", "ids"):
         getattr(lib, "gm_" + name).restype = c_size_t
     lib.gm_layout_faults.restype = lib.gm_container_faults.restype = c_uint32
     lib.gm_layout_rule.restype = lib.gm_layout_part.restype = ctypes.c_char_p
@@ -532,8 +536,8 @@ class Image:
             for row in room.out[:room.batch.count]:
                 name, what, library, target = names[row.name:row.name + row.name_len].decode(), row.what, None, None
                 if what.kind == 2:
-                    libraries = libraries or [l.name for l in self.libraries()]
-                    library = libraries[row.library - 1] if row.library else self.find_export(name).library
+                    libraries = libraries or [self.name or "self", *(l.name for l in self.libraries())]
+                    library = libraries[row.library]
                     target = b.text(row.target, what.target_len) or name
                 yield Export(name, EXPORTS[what.kind], what.address, what.resolver, what.flags, library, target)
             if code:
@@ -546,6 +550,19 @@ class Image:
     def run_paths(self) -> Iterator[str]:
         for p in self._list("run_paths", _RunPath):
             yield self._bytes.text(p.path, p.path_len)
+
+    def ids(self) -> Iterator[str]:
+        """The names by which the image is known as a library; the last one counts."""
+        for i in self._list("ids", _Id):
+            yield self._bytes.text(i.name, i.name_len)
+
+    @property
+    def name(self) -> Optional[str]:
+        """The name by which the image is known as a library, if it has one."""
+        name = None
+        for name in self.ids():
+            pass
+        return name
 
     def layout_faults(self) -> Iterator[LayoutFault]:
         """What lies where the format and its readers don't allow it, of the file that begins with the image."""
@@ -641,11 +658,13 @@ def _lines(image, what):
                    f"0x{b.address:x} {b.name}")
     elif what == "run_paths":
         yield from image.run_paths()
+    elif what == "ids":
+        yield from image.ids()
     elif what == "layout":
         yield from image.layout_faults()
 
 
-WORDS = ("commands", "segments", "symbols", "libraries", "run_paths", "fixups", "exports", "imports", "bindings", "layout")
+WORDS = ("commands", "segments", "symbols", "libraries", "run_paths", "ids", "fixups", "exports", "imports", "bindings", "layout")
 
 
 def main(words):

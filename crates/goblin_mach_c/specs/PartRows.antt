@@ -4,13 +4,14 @@ use Rattle.mach_base.specs.Fault.{Fault}
 use Rattle.mach_load.specs.Command.{Command}
 use Rattle.mach_parts.specs.Segment.{SegmentView}
 use Rattle.goblin_mach.specs.Libraries.{NamedLibrary, named_by}
-use Rattle.goblin_mach.specs.Subjects.{lossy_segment_by, name_place, run_path_by}
+use Rattle.goblin_mach.specs.Subjects.{id_by, lossy_segment_by, name_place, run_path_by}
 use Rattle.goblin_mach.specs.declared.image.libraries.LibraryKind.{LibraryKind}
 use Rattle.goblin_mach.specs.declared.image.libraries.LibraryKind.TheVariants.{Required, Weak, Reexport, Upward, Lazy}
 use Rattle.goblin_mach_c.specs.CommandRows.{commands_seen}
 use Rattle.goblin_mach_c.specs.Seen.{ctx_seen}
 use Rattle.goblin_mach_c.specs.declared.images.gm_image.{gm_image}
 use Rattle.goblin_mach_c.specs.declared.libraries.gm_library.{gm_library}
+use Rattle.goblin_mach_c.specs.declared.ids.gm_id.{gm_id}
 use Rattle.goblin_mach_c.specs.declared.run_paths.gm_run_path.{gm_run_path}
 use Rattle.goblin_mach_c.specs.declared.segments.gm_segment.{gm_segment}
 
@@ -93,3 +94,14 @@ run_path_row_by bytes c = shown (run_path_row c) (run_path_by bytes c)
 -- the run paths of an image
 abbrev pub run_path_rows : List ℕ → gm_image → List gm_run_path
 run_path_rows bytes image = rows_of (run_path_row_by bytes) (commands_seen bytes image)
+
+-- A name by which the image is known as a library: it stands at `name` and has `name_len` bytes.
+abbrev pub id_row : Command → List ℕ → gm_id
+id_row c name = record { name = name_place c; name_len = length name }
+
+abbrev pub id_row_by : List ℕ → Command → Option gm_id
+id_row_by bytes c = shown (id_row c) (id_by bytes c)
+
+-- these names, of which the last is the image's own
+abbrev pub id_rows : List ℕ → gm_image → List gm_id
+id_rows bytes image = rows_of (id_row_by bytes) (commands_seen bytes image)

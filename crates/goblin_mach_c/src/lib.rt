@@ -10,6 +10,7 @@ mod exports;
 mod fat;
 mod find;
 mod fixups;
+mod ids;
 mod images;
 mod imports;
 mod items;
