@@ -647,6 +647,21 @@ static int print_names(void) {
     return 0;
 }
 
+/* what no clause of the library says: the words of errors */
+static void check_words(void) {
+    static const struct { uint8_t bytes[31]; uint32_t code; const char *text; } rows[] = {
+        {{0xcf, 0xfa, 0xed, 0xfe}, GM_MALFORMED, "malformed: a header is 32 bytes"},
+        {{0, 0, 0xca, 0xfe}, GM_BAD_MAGIC, "bad magic 0xcafe"},
+    };
+    for (size_t n = 0; n < sizeof rows / sizeof *rows; n++) {
+        gm_image image;
+        gm_error e;
+        memset(&e, 1, sizeof e);
+        uint32_t code = gm_open(rows[n].bytes, sizeof rows[n].bytes, 0, GM_STRICT, NULL, &image, &e);
+        if (code != rows[n].code || code != e.code || strcmp(e.text, rows[n].text)) DIE("'%s', and not '%s'", e.text, rows[n].text);
+    }
+}
+
 int main(int argc, char **argv) {
     if (gm_version() != GM_VERSION) DIE("the header is of version %d and the library of %u", GM_VERSION, gm_version());
     if (argc == 2 && !strcmp(argv[1], "names")) return print_names();
@@ -655,6 +670,7 @@ int main(int argc, char **argv) {
     away = fopen("/dev/null", "w");
     if (!away) DIE("/dev/null can't be opened");
     if (!strcmp(argv[1], "deep")) return check_deep((size_t)strtol(argv[2], NULL, 10)), 0;
+    check_words();
     check(NULL, 0);
     for (int i = 2 + of_damage; i < argc; i++) {
         size_t len;

@@ -1,5 +1,5 @@
 -- Facts on bytes, and the image that was opened there.
-use Rattle.std.proofs.Common.{◌≡◌, ℕ, ◌+◌, List, map, Option, Result, Ok, refl, sym, ap, subst, ◌∙◌}
+use Rattle.std.proofs.Common.{◌≡◌, ℕ, ◌+◌, List, Option, Result, Ok, refl, sym, ap, subst, ◌∙◌}
 use Rattle.std.specs.Prelude.{◌↔◌}
 use Rattle.mach_base.specs.declared.context.Ctx.{Ctx}
 use Rattle.mach_base.specs.Context.{pointer_size}
@@ -7,32 +7,33 @@ use Rattle.mach_base.specs.Fault.{Fault}
 use Rattle.mach_base.proofs.Binds.{same_ok}
 use Rattle.mach_load.specs.Command.{Command}
 use Rattle.mach_parts.specs.Header.{header_size}
-use Rattle.mach_parts.specs.Segment.{SegmentView, segment_view}
-use Rattle.mach_parts.specs.Segments.{segments_in}
-use Rattle.mach_parts.specs.declared.segment.Segment.{Segment}
+use Rattle.mach_parts.specs.Bindings.{Binding}
+use Rattle.mach_parts.specs.Segment.{SegmentView}
 use Rattle.mach_parts.specs.declared.symbols.nlist.Nlist.{Nlist}
 use Rattle.mach_dyld.specs.Exports.{texts, text_in}
-use Rattle.mach_dyld.specs.Imports.{BindRanges, Import}
+use Rattle.mach_dyld.specs.Imports.{Import}
 use Rattle.mach_dyld.specs.Trie as trie
-use Rattle.mach_dyld.specs.TrieRange.{TrieRange}
+use Rattle.mach_chained.specs.Fixups.{Fixup}
+use Rattle.mach_chained.specs.Header.{Fixups}
 use Rattle.goblin_mach.specs.EntryPoint.{EntryPoint, entry_point_in}
+use Rattle.goblin_mach.specs.ImageFacts.{Facts, facts_in, facts_held, HasFacts, OfFacts}
 use Rattle.goblin_mach.specs.Facts.{OfImage, HasCommands, HasSymbols, HasSegments, HasRelocations, HasName, HasLibraries, HasRunPaths, HasEntryPoint}
-use Rattle.goblin_mach.specs.Facts.{HasExports, HasExportsFault, HasImports, HasImportsFault, HasImportItems, AreSegments}
+use Rattle.goblin_mach.specs.Facts.{HasExports, HasExportsFault, HasImports, HasImportsFault, HasImportItems}
 use Rattle.goblin_mach.specs.Image.{LossyOpensAs}
-use Rattle.goblin_mach.specs.Facts.{HasLibrariesByKind, HasExportOf}
+use Rattle.goblin_mach.specs.Bindings.{AreImageBindings}
+use Rattle.goblin_mach.specs.Facts.{HasLibrariesByKind, HasExportOf, HasChainedFixups, HasBase, HasFixups, HasBindings}
+use Rattle.goblin_mach.specs.Fixups.{AreImageFixups, base_held, base_of, chained_held, chained_in}
 use Rattle.goblin_mach.specs.Libraries.{LibraryView, libraries_in}
 use Rattle.goblin_mach.specs.LookUp.{StandsInImage}
-use Rattle.goblin_mach.specs.Subjects.{binds_in, ListsImageImports, ImageImportsFault, AreImageBindItems, lossy_segment_by, trie_in, ListsImageExports}
-use Rattle.goblin_mach.specs.Subjects.{ImageExportsFault, own_name_in, libs_in, run_path_by, table_in, symbols_in, symbols_held}
+use Rattle.goblin_mach.specs.Subjects.{ListsImageImports, ImageImportsFault, AreImageBindItems, ListsImageExports}
+use Rattle.goblin_mach.specs.Subjects.{ImageExportsFault, symbols_in, symbols_held}
 use Rattle.goblin_mach.specs.Magic.{cputype_at}
 use Rattle.goblin_mach.specs.OpenImage.{IsImage, IsLossyImage, HasFields, commands_held, segments_held, trie_held, binds_held, ctx_held, bytes_held}
-use Rattle.goblin_mach.specs.Readings.{read_of}
 use Rattle.goblin_mach.specs.Relocations.{RelocatedSection, relocated_sections_in}
 use Rattle.goblin_mach.specs.declared.image.macho.MachO.{MachO}
 use Rattle.goblin_mach.proofs.Chains.{same_chain}
 use Rattle.goblin_mach.proofs.Images.{same_header}
 use Rattle.goblin_mach.proofs.Lossy.{same_segments}
-use Rattle.goblin_mach.proofs.SameSegments.{same_image_list, same_image_fault, same_image_items}
 
 -- an image that was opened strictly is the one that opens in lossy mode
 pub strict-lossy : {A : Type 0} (bytes : List ℕ) (o : ℕ) (m : MachO A) → IsImage bytes o m → IsLossyImage bytes o m
@@ -47,59 +48,69 @@ strict-lossy bytes o m p =
 pub moved : {X Y : Type 0} (P : X → Y → Type 0) (x z : X) (y w : Y) → x ≡ z → y ≡ w → P x y → P z w
 moved P x z y w p q h = subst (λ (v : _). P z v) q (subst (λ (v : _). P v y) p h)
 
+-- one image opens at a place, so what holds of one holds of the same context and commands as another fact
+pub one_image : (bytes : List ℕ) (o : ℕ) (Holds : Ctx → List Command → Type 0) (ctx : Ctx) (cs : List Command) → LossyOpensAs bytes o ctx cs
+    → OfImage bytes o Holds → Holds ctx cs
+one_image bytes o Holds ctx cs opens q =
+    let same_ctx : q.ctx ≡ ctx = same_header bytes o q.ctx ctx q.opens.header opens.header in
+    let chain = (subst (λ (c : Ctx). LossyOpensAs bytes o c q.cs) same_ctx q.opens).chain in
+    let same : q.cs ≡ cs = same_chain ctx.le bytes (o + header_size ctx.container) q.cs cs chain.chain opens.chain.chain
+    (chain.count ∙ sym opens.chain.count) in
+    moved Holds q.ctx ctx q.cs cs same_ctx same q.holds
+
+-- what is said of the facts of an image holds of the bytes
+pub said : (bytes : List ℕ) (o : ℕ) (f : Facts) → HasFacts bytes o f → (Says : Facts → Type 0) → OfFacts bytes o Says ↔ Says f
+said bytes o f h Says = (
+  λ q. subst Says (sym (one_image bytes o (λ ctx cs. f ≡ facts_in ctx bytes o cs) q.ctx q.cs q.opens h)) q.holds,
+  λ s. record { ctx = h.ctx; cs = h.cs; opens = h.opens; holds = subst Says h.holds s },
+)
+
 module _ {A : Type 0} (bytes : List ℕ) (o : ℕ) (m : MachO A) (p : IsLossyImage bytes o m) where
   -- what holds of the context and the commands of the image is a fact on the bytes
-  pub of_image : (Holds : Ctx → List Command → Type 0) → Holds p.ctx (commands_held m) → OfImage bytes o Holds
+  of_image : (Holds : Ctx → List Command → Type 0) → Holds p.ctx (commands_held m) → OfImage bytes o Holds
   of_image Holds h = record { ctx = p.ctx; cs = commands_held m; opens = p.opens; holds = h }
 
-  -- and back: no other image opens there
-  pub image_of : (Holds : Ctx → List Command → Type 0) → OfImage bytes o Holds → Holds p.ctx (commands_held m)
-  image_of Holds q =
-      let same_ctx : q.ctx ≡ p.ctx = same_header bytes o q.ctx p.ctx q.opens.header p.opens.header in
-      let chain = (subst (λ (c : Ctx). LossyOpensAs bytes o c q.cs) same_ctx q.opens).chain in
-      let whole = p.opens.chain in
-      let same : q.cs ≡ commands_held m = same_chain p.ctx.le bytes (o + header_size p.ctx.container) q.cs (commands_held m) chain.chain whole.chain
-      (chain.count ∙ sym whole.count) in
-      moved Holds q.ctx p.ctx q.cs (commands_held m) same_ctx same q.holds
+  -- and back
+  image_of : (Holds : Ctx → List Command → Type 0) → OfImage bytes o Holds → Holds p.ctx (commands_held m)
+  image_of Holds q = one_image bytes o Holds p.ctx (commands_held m) p.opens q
 
-  -- a value that is so and no other
-  pub is_just : {X : Type 0} (there : Ctx → List Command → X) (held x : X) → held ≡ there p.ctx (commands_held m)
-      → OfImage bytes o (λ ctx cs. x ≡ there ctx cs) ↔ (x ≡ held)
-  is_just there held x same =
-      ((λ h. image_of (λ ctx cs. x ≡ there ctx cs) h ∙ sym same), (λ e. of_image (λ ctx cs. x ≡ there ctx cs) (e ∙ same)))
+  -- they are the same
+  pub same_facts : facts_held m ≡ facts_in p.ctx bytes o (commands_held m)
+  same_facts = let f = p.fields in
+      rw (f.ctx_is, f.bytes_is, f.header, f.segments, f.symbols, f.libs, f.rpaths, f.name, f.trie, f.binds) refl
+
+  -- so it has those that are held
+  pub has_facts : HasFacts bytes o (facts_held m)
+  has_facts = record { ctx = p.ctx; cs = commands_held m; opens = p.opens; holds = same_facts }
+
+  pub facts_are : (Says : Facts → Type 0) → OfFacts bytes o Says ↔ Says (facts_held m)
+  facts_are = said bytes o (facts_held m) has_facts
 
   pub commands_are : (commands : List Command) → HasCommands bytes o commands ↔ (commands ≡ commands_held m)
-  commands_are commands = is_just (λ ctx cs. cs) (commands_held m) commands refl
+  commands_are commands = facts_are (λ f. commands ≡ f.commands)
 
   pub symbols_are : (rows : List (Result (List ℕ × Nlist) Fault)) → HasSymbols bytes o rows ↔ (rows ≡ symbols_held m.symbols)
-  symbols_are rows = is_just (λ ctx cs. symbols_in (table_in ctx bytes cs)) (symbols_held m.symbols) rows (ap symbols_in p.fields.symbols)
+  symbols_are rows = facts_are (λ f. rows ≡ symbols_in f.symbols)
 
   pub segments_are : (segments : List SegmentView) → HasSegments bytes o segments ↔ (segments ≡ segments_held m)
-  segments_are segments = is_just (λ ctx cs. read_of (lossy_segment_by ctx bytes) cs) (segments_held m) segments p.fields.segments
+  segments_are segments = facts_are (λ f. segments ≡ f.segments)
 
   pub relocations_are : (found : Result (List RelocatedSection) Fault)
       → HasRelocations bytes o found ↔ (found ≡ relocated_sections_in (ctx_held m) (bytes_held m) (segments_held m))
-  relocations_are found =
-      is_just (λ ctx cs. relocated_sections_in ctx bytes (read_of (lossy_segment_by ctx bytes) cs))
-      (relocated_sections_in (ctx_held m) (bytes_held m) (segments_held m)) found
-      (ap (λ c. relocated_sections_in c (bytes_held m) (segments_held m)) p.fields.ctx_is
-      ∙ ap (λ bs. relocated_sections_in p.ctx bs (segments_held m)) p.fields.bytes_is
-      ∙ ap (relocated_sections_in p.ctx bytes) p.fields.segments)
+  relocations_are found = facts_are (λ f. found ≡ relocated_sections_in f.ctx f.bytes f.segments)
 
   pub name_is : (name : Option (List ℕ)) → HasName bytes o name ↔ (name ≡ text_in m.name)
-  name_is name = is_just (λ ctx cs. own_name_in bytes cs) (text_in m.name) name p.fields.name
+  name_is name = facts_are (λ f. name ≡ f.name)
 
   pub libraries_are : (libs : List (List ℕ)) → HasLibraries bytes o libs ↔ (libs ≡ texts m.libs.items)
-  libraries_are libs = is_just (λ ctx cs. libs_in bytes cs) (texts m.libs.items) libs p.fields.libs
+  libraries_are libs = facts_are (λ f. libs ≡ f.libs)
 
   pub libraries_by_kind_are : (libraries : List LibraryView)
       → HasLibrariesByKind bytes o libraries ↔ (libraries ≡ libraries_in (bytes_held m) (commands_held m))
-  libraries_by_kind_are libraries =
-      is_just (λ ctx cs. libraries_in bytes cs) (libraries_in (bytes_held m) (commands_held m)) libraries
-      (ap (λ bs. libraries_in bs (commands_held m)) p.fields.bytes_is)
+  libraries_by_kind_are libraries = facts_are (λ f. libraries ≡ libraries_in f.bytes f.commands)
 
   pub run_paths_are : (paths : List (List ℕ)) → HasRunPaths bytes o paths ↔ (paths ≡ texts m.rpaths.items)
-  run_paths_are paths = is_just (λ ctx cs. read_of (run_path_by bytes) cs) (texts m.rpaths.items) paths p.fields.rpaths
+  run_paths_are paths = facts_are (λ f. paths ≡ f.run_paths)
 
   pub entry_point_is : (point : EntryPoint) → HasEntryPoint bytes o point ↔ (point ≡ record { address = m.entry; old_style = m.old_style_entry })
   entry_point_is point = (
@@ -107,65 +118,38 @@ module _ {A : Type 0} (bytes : List ℕ) (o : ℕ) (m : MachO A) (p : IsLossyIma
     λ e. of_image (λ ctx cs. entry_point_in (cputype_at ctx bytes o) cs ≡ Ok point) (p.fields.entry ∙ ap Ok (sym e)),
   )
 
-  -- what is said of its trie and its libraries
-  over_trie : (Says : Option TrieRange → List (List ℕ) → Type 0)
-      → OfImage bytes o (λ ctx cs. Says (trie_in bytes cs) (libs_in bytes cs)) ↔ Says (trie_held m) (texts m.libs.items)
-  over_trie Says = (
-    λ h. moved Says _ _ _ _ (sym p.fields.trie) (sym p.fields.libs) (image_of (λ ctx cs. Says (trie_in bytes cs) (libs_in bytes cs)) h),
-    λ h. of_image (λ ctx cs. Says (trie_in bytes cs) (libs_in bytes cs)) (moved Says _ _ _ _ p.fields.trie p.fields.libs h),
-  )
-
   pub exports_are : (list : List trie.Entry) → HasExports bytes o list ↔ ListsImageExports (trie_held m) (texts m.libs.items) list
-  exports_are list = over_trie (λ t l. ListsImageExports t l list)
+  exports_are list = facts_are (λ f. ListsImageExports f.trie f.libs list)
 
-  pub exports_fail : (f : Fault) → HasExportsFault bytes o f ↔ ImageExportsFault (trie_held m) (texts m.libs.items) f
-  exports_fail f = over_trie (λ t l. ImageExportsFault t l f)
+  pub exports_fail : (fault : Fault) → HasExportsFault bytes o fault ↔ ImageExportsFault (trie_held m) (texts m.libs.items) fault
+  exports_fail fault = facts_are (λ f. ImageExportsFault f.trie f.libs fault)
 
   pub export_is : (name : List ℕ) (found : Option trie.Info)
       → HasExportOf bytes o name found ↔ StandsInImage (trie_held m) (texts m.libs.items) name found
-  export_is name found = over_trie (λ t l. StandsInImage t l name found)
+  export_is name found = facts_are (λ f. StandsInImage f.trie f.libs name found)
 
-  -- what is said of its binds, its pointers, its libraries and its segments, as they are held
-  abbrev IsHeld : (Option BindRanges → ℕ → List (List ℕ) → List Segment → Type 0) → Type 0
-  IsHeld Says = Says (binds_held m) (pointer_size (ctx_held m).container) (texts m.libs.items) (segments_in m.segments)
+  pub imports_are : (list : List Import)
+      → HasImports bytes o list ↔ ListsImageImports (binds_held m) (pointer_size (ctx_held m).container) (texts m.libs.items) (segments_held m) list
+  imports_are list = facts_are (λ f. ListsImageImports f.binds (pointer_size f.ctx.container) f.libs f.segments list)
 
-  -- the same by the commands
-  abbrev IsBound : (Option BindRanges → ℕ → List (List ℕ) → List Segment → Type 0) → Ctx → List Command → Type 0
-  IsBound Says ctx cs =
-      (segments : List Segment) × AreSegments ctx bytes cs segments × Says (binds_in bytes cs) (pointer_size ctx.container) (libs_in bytes cs) segments
+  pub imports_fail : (fault : Fault)
+      → HasImportsFault bytes o fault ↔ ImageImportsFault (binds_held m) (pointer_size (ctx_held m).container) (texts m.libs.items) (segments_held m) fault
+  imports_fail fault = facts_are (λ f. ImageImportsFault f.binds (pointer_size f.ctx.container) f.libs f.segments fault)
 
-  bound : (Says : Option BindRanges → ℕ → List (List ℕ) → List Segment → Type 0) → IsHeld Says → OfImage bytes o (IsBound Says)
-  bound Says h =
-      let segments = segments_in m.segments in
-      let here : Says (binds_held m) (pointer_size p.ctx.container) (texts m.libs.items) segments =
-      subst (λ (c : Ctx). Says (binds_held m) (pointer_size c.container) (texts m.libs.items) segments) p.fields.ctx_is h in
-      of_image (IsBound Says) (
-        segments,
-        p.fields.segments,
-        moved (λ b l. Says b (pointer_size p.ctx.container) l segments) _ _ _ _ p.fields.binds p.fields.libs
-            here,
-      )
+  pub import_items_are : (items : List (Result Import Fault))
+      → HasImportItems bytes o items ↔ AreImageBindItems (binds_held m) (pointer_size (ctx_held m).container) (texts m.libs.items) (segments_held m) items
+  import_items_are items = facts_are (λ f. AreImageBindItems f.binds (pointer_size f.ctx.container) f.libs f.segments items)
 
-  -- segments that look alike make the same imports
-  over_binds : (Says : Option BindRanges → ℕ → List (List ℕ) → List Segment → Type 0)
-      → ((b : Option BindRanges) (n : ℕ) (l : List (List ℕ)) (xs ys : List Segment) → map segment_view xs ≡ map segment_view ys → Says b n l xs → Says b n l ys)
-      → OfImage bytes o (IsBound Says) ↔ IsHeld Says
-  over_binds Says kept = (
-    λ q.
-        let segments = segments_in m.segments in
-        let h = image_of (IsBound Says) q in
-        let there = kept (binds_in bytes (commands_held m)) (pointer_size p.ctx.container) (libs_in bytes (commands_held m)) h.0 segments
-        (h.1 ∙ sym p.fields.segments) h.2 in
-        subst (λ (c : Ctx). Says (binds_held m) (pointer_size c.container) (texts m.libs.items) segments) (sym p.fields.ctx_is)
-        (moved (λ b l. Says b (pointer_size p.ctx.container) l segments) _ _ _ _ (sym p.fields.binds) (sym p.fields.libs) there),
-    bound Says,
-  )
+  pub chained_fixups_are : (found : Result (Option Fixups) Fault) → HasChainedFixups bytes o found ↔ (found ≡ chained_held m)
+  chained_fixups_are found = facts_are (λ f. found ≡ chained_in f.ctx f.bytes f.commands)
 
-  pub imports_are : (list : List Import) → HasImports bytes o list ↔ IsHeld (λ b n l s. ListsImageImports b n l s list)
-  imports_are list = over_binds (λ b n l s. ListsImageImports b n l s list) (λ b n l xs ys same. same_image_list b n l xs ys same list)
+  pub base_is : (address : ℕ) → HasBase bytes o address ↔ (address ≡ base_held m)
+  base_is address = facts_are (λ f. address ≡ base_of f.segments)
 
-  pub imports_fail : (f : Fault) → HasImportsFault bytes o f ↔ IsHeld (λ b n l s. ImageImportsFault b n l s f)
-  imports_fail f = over_binds (λ b n l s. ImageImportsFault b n l s f) (λ b n l xs ys same. same_image_fault b n l xs ys same f)
+  pub fixups_are : (items : List (Result Fixup Fault)) → HasFixups bytes o items ↔ AreImageFixups (chained_held m) (segments_held m) items
+  fixups_are items = facts_are (λ f. AreImageFixups (chained_in f.ctx f.bytes f.commands) f.segments items)
 
-  pub import_items_are : (items : List (Result Import Fault)) → HasImportItems bytes o items ↔ IsHeld (λ b n l s. AreImageBindItems b n l s items)
-  import_items_are items = over_binds (λ b n l s. AreImageBindItems b n l s items) (λ b n l xs ys same. same_image_items b n l xs ys same items)
+  pub bindings_are : (items : List (Result Binding Fault)) → HasBindings bytes o items
+      ↔ AreImageBindings (binds_held m) (chained_held m) (pointer_size (ctx_held m).container) (texts m.libs.items) (segments_held m) items
+  bindings_are items =
+      facts_are (λ f. AreImageBindings f.binds (chained_in f.ctx f.bytes f.commands) (pointer_size f.ctx.container) f.libs f.segments items)

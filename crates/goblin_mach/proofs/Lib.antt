@@ -11,12 +11,8 @@ pub mod Opened
 pub mod Relocations
 pub mod Lossy
 pub mod Libraries
-pub mod SameSegments
 pub mod Bases
-pub mod SameFixups
-pub mod SameBindings
 pub mod Facts
-pub mod DyldFacts
 pub mod OneList
 pub mod Exported
 pub mod NamedExports

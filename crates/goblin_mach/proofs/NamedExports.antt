@@ -1,22 +1,17 @@
 -- What the list of a trie says of a name, and what its paths say.
-use Rattle.std.proofs.Common.{◌≡◌, ℕ, ◌+◌, ◌++◌, List, [], ◌∷◌, inl, inr, Option, Some, None, refl, sym, ap, subst, ◌∙◌}
+use Rattle.std.proofs.Common.{◌≡◌, ℕ, ◌++◌, List, [], ◌∷◌, inl, inr, Option, Some, None, refl, sym, ap, subst, ◌∙◌}
 use Rattle.std.specs.Prelude.{slice_get}
 use Rattle.mach_base.specs.Among.{IsAmong}
-use Rattle.mach_base.specs.declared.context.Ctx.{Ctx}
-use Rattle.mach_load.specs.Command.{Command}
 use Rattle.mach_dyld.specs.Trie.{Info, Branch, Node, Trie, Entry}
 use Rattle.mach_dyld.specs.LookUp.{IsFirstOf, IsExportOf}
 use Rattle.mach_dyld.specs.TerminalPaths.{EndsWith, IsNameOf, BelongsTo, EachBelongs}
 use Rattle.mach_dyld.specs.TrieRange.{TrieRange, trie_there}
 use Rattle.mach_dyld.proofs.TerminalPaths.{lists_paths}
 use Rattle.mach_dyld.proofs.TriePaths.{same_node, same_some, leads_to_one}
-use Rattle.mach_parts.specs.Header.{header_size}
-use Rattle.goblin_mach.specs.Facts.{OfImage, HasExports, HasExportOf}
-use Rattle.goblin_mach.specs.Image.{LossyOpensAs}
+use Rattle.goblin_mach.specs.Facts.{HasExports, HasExportOf}
 use Rattle.goblin_mach.specs.LookUp.{StandsInImage, IsListedAs}
 use Rattle.goblin_mach.specs.Subjects.{ListsImageExports, trie_in, libs_in}
-use Rattle.goblin_mach.proofs.Chains.{same_chain}
-use Rattle.goblin_mach.proofs.Images.{same_header}
+use Rattle.goblin_mach.proofs.Facts.{one_image}
 
 module _ (t : Trie) where
   -- a path has one name
@@ -122,14 +117,6 @@ listed_in (Some t) libs list name info lists stands =
 
 -- and of the bytes, in which one image opens at most
 module _ (bytes : List ℕ) (o : ℕ) where
-  of_one : (Holds : Ctx → List Command → Type 0) (ctx : Ctx) (cs : List Command) → LossyOpensAs bytes o ctx cs → OfImage bytes o Holds → Holds ctx cs
-  of_one Holds ctx cs opens q =
-      let same_ctx : q.ctx ≡ ctx = same_header bytes o q.ctx ctx q.opens.header opens.header in
-      let chain = (subst (λ (c : Ctx). LossyOpensAs bytes o c q.cs) same_ctx q.opens).chain in
-      let same : q.cs ≡ cs = same_chain ctx.le bytes (o + header_size ctx.container) q.cs cs chain.chain opens.chain.chain
-      (chain.count ∙ sym opens.chain.count) in
-      subst (λ (x : List Command). Holds ctx x) same (subst (λ (c : Ctx). Holds c q.cs) same_ctx q.holds)
-
   pub first_of_exports : (list : List Entry) (name : List ℕ) (found : Option Info) → HasExports bytes o list → IsFirstOf name list found
       → HasExportOf bytes o name found
   first_of_exports list name found p first =
@@ -143,10 +130,10 @@ module _ (bytes : List ℕ) (o : ℕ) where
   pub missing_export : (list : List Entry) (name : List ℕ) → HasExports bytes o list → HasExportOf bytes o name None → IsFirstOf name list None
   missing_export list name p q =
       missing_in (trie_in bytes p.cs) (libs_in bytes p.cs) list name p.holds
-      (of_one (λ ctx cs. StandsInImage (trie_in bytes cs) (libs_in bytes cs) name None) p.ctx p.cs p.opens q)
+      (one_image bytes o (λ ctx cs. StandsInImage (trie_in bytes cs) (libs_in bytes cs) name None) p.ctx p.cs p.opens q)
 
   pub listed_export : (list : List Entry) (name : List ℕ) (info : Info) → HasExports bytes o list → HasExportOf bytes o name (Some info)
       → IsListedAs name info list
   listed_export list name info p q =
       listed_in (trie_in bytes p.cs) (libs_in bytes p.cs) list name info p.holds
-      (of_one (λ ctx cs. StandsInImage (trie_in bytes cs) (libs_in bytes cs) name (Some info)) p.ctx p.cs p.opens q)
+      (one_image bytes o (λ ctx cs. StandsInImage (trie_in bytes cs) (libs_in bytes cs) name (Some info)) p.ctx p.cs p.opens q)

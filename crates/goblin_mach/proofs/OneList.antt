@@ -1,40 +1,23 @@
 -- An image has one list of fixups and one of bindings, and when its bindings tell what its imports tell.
-use Rattle.std.proofs.Common.{◌≡◌, ◌+◌, ◌++◌, ℕ, List, [], ◌∷◌, map, Option, Some, None, Result, Ok, Err, refl, sym, ap, subst, ◌∙◌}
+use Rattle.std.proofs.Common.{◌≡◌, ◌<◌, ◌++◌, ℕ, List, [], ◌∷◌, Option, Some, None, Result, Ok, Err, refl, sym, ap, subst, ◌∙◌, append_assoc, append-nil, arith}
 use Rattle.mach_base.specs.Context.{pointer_size}
+use Rattle.mach_base.specs.declared.context.Container.{Container}
+use Rattle.mach_base.specs.declared.context.Container.TheVariants.{Little, Big}
 use Rattle.mach_base.specs.Fault.{Fault}
-use Rattle.mach_base.specs.declared.context.Ctx.{Ctx}
-use Rattle.mach_load.specs.Command.{Command}
 use Rattle.mach_parts.specs.Bindings.{Binding}
-use Rattle.mach_parts.specs.Header.{header_size}
-use Rattle.mach_parts.specs.declared.segment.Segment.{Segment}
+use Rattle.mach_parts.specs.Segment.{SegmentView}
 use Rattle.mach_dyld.specs.BindingLaws as dyld
-use Rattle.mach_dyld.specs.BindingLaws.{told, told_by_import, told_by_binding}
-use Rattle.mach_dyld.specs.Bindings.{upto_fault}
-use Rattle.mach_dyld.specs.Imports.{BindRanges, Import, input_in}
+use Rattle.mach_dyld.specs.Bindings.{bindings_in, fault_item, upto_fault}
+use Rattle.mach_dyld.specs.Imports.{BindRanges, Import, imports_in, input_in}
 use Rattle.mach_chained.specs.Bindings.{bindings_of}
 use Rattle.mach_chained.specs.Chained.{Placed, AreFixups, AreFixupItems, fixup_items}
 use Rattle.mach_chained.specs.Fixups.{Input, Fixup}
 use Rattle.mach_chained.specs.Header.{Fixups}
-use Rattle.goblin_mach.specs.BindingLaws.{HasOneListOfFixups, HasOneListOfBindings, ArePlainImports, TellTheSame}
+use Rattle.goblin_mach.specs.BindingLaws.{HasOneListOfFixups, HasOneListOfBindings, ArePlainImports, EachTells, TellTheSame}
 use Rattle.goblin_mach.specs.Bindings.{AreOpcodeBindings, AreChainBindings, AreImageBindings}
-use Rattle.goblin_mach.specs.Facts.{OfImage, AreSegments}
 use Rattle.goblin_mach.specs.Fixups.{AreImageFixups, chained_at, chained_in, input_over}
-use Rattle.goblin_mach.specs.Image.{LossyOpensAs}
-use Rattle.goblin_mach.specs.Subjects.{binds_in, libs_in}
-use Rattle.goblin_mach.proofs.Chains.{same_chain}
-use Rattle.goblin_mach.proofs.Images.{same_header}
-use Rattle.goblin_mach.proofs.SameBindings.{same_image_bindings}
-use Rattle.goblin_mach.proofs.SameFixups.{same_image_fixups}
-
--- one image opens at a place, so what holds of one holds of the same context and commands as another fact
-there : (bytes : List ℕ) (o : ℕ) (Holds : Ctx → List Command → Type 0) (ctx : Ctx) (cs : List Command) → LossyOpensAs bytes o ctx cs
-    → OfImage bytes o Holds → Holds ctx cs
-there bytes o Holds ctx cs opens q =
-    let same_ctx : q.ctx ≡ ctx = same_header bytes o q.ctx ctx q.opens.header opens.header in
-    let chain = (subst (λ (c : Ctx). LossyOpensAs bytes o c q.cs) same_ctx q.opens).chain in
-    let same : q.cs ≡ cs = same_chain ctx.le bytes (o + header_size ctx.container) q.cs cs chain.chain opens.chain.chain
-    (chain.count ∙ sym opens.chain.count) in
-    subst (λ (ds : List Command). Holds ctx ds) same (subst (λ (c : Ctx). Holds c q.cs) same_ctx q.holds)
+use Rattle.goblin_mach.specs.Subjects.{binds_in, libs_in, lossy_segments_in}
+use Rattle.goblin_mach.proofs.Facts.{one_image}
 
 -- ---- the law of one list of fixups, as it is stated below
 
@@ -47,7 +30,7 @@ module _ (one : OneListOfFixups) where
       let same = one x ps qs stop other are be in
       is ∙ ap (λ (rs : List Placed). fixup_items rs stop) same.0 ∙ ap (fixup_items qs) same.1 ∙ sym so
 
-  one_fixups : (chained : Result (Option Fixups) Fault) (segments : List Segment) (items others : List (Result Fixup Fault))
+  one_fixups : (chained : Result (Option Fixups) Fault) (segments : List SegmentView) (items others : List (Result Fixup Fault))
       → AreImageFixups chained segments items → AreImageFixups chained segments others → items ≡ others
   one_fixups (Err f) segments items others h k = h ∙ sym k
   one_fixups (Ok None) segments items others h k = h ∙ sym k
@@ -55,12 +38,10 @@ module _ (one : OneListOfFixups) where
 
   pub one_image_fixups : HasOneListOfFixups
   one_image_fixups bytes o items others h k =
-      let second = there bytes o (λ ctx cs. (segments : List Segment) × AreSegments ctx bytes cs segments × AreImageFixups (chained_in ctx bytes cs) segments others)
-      h.ctx h.cs h.opens k in
-      one_fixups (chained_in h.ctx bytes h.cs) h.holds.0 items others h.holds.2
-      (same_image_fixups second.0 h.holds.0 (second.1 ∙ sym h.holds.1) (chained_in h.ctx bytes h.cs) others second.2)
+      let second = one_image bytes o (λ ctx cs. AreImageFixups (chained_in ctx bytes cs) (lossy_segments_in ctx bytes cs) others) h.ctx h.cs h.opens k in
+      one_fixups (chained_in h.ctx bytes h.cs) (lossy_segments_in h.ctx bytes h.cs) items others h.holds second
 
-  one_chains : (chained : Result (Option Fixups) Fault) (libs : List (List ℕ)) (segments : List Segment) (items others : List (Result Binding Fault))
+  one_chains : (chained : Result (Option Fixups) Fault) (libs : List (List ℕ)) (segments : List SegmentView) (items others : List (Result Binding Fault))
       → AreChainBindings chained libs segments items → AreChainBindings chained libs segments others → items ≡ others
   one_chains (Err f) libs segments items others h k = h ∙ sym k
   one_chains (Ok None) libs segments items others h k = h ∙ sym k
@@ -69,13 +50,13 @@ module _ (one : OneListOfFixups) where
       is ∙ ap (bindings_of x libs) (one_list_of_items x xs ys are be) ∙ sym so
 
   module _ (one_run : dyld.HasOneListOfBindings) where
-    one_opcodes : (b : Option BindRanges) (n : ℕ) (libs : List (List ℕ)) (segments : List Segment) (items others : List (Result Binding Fault))
+    one_opcodes : (b : Option BindRanges) (n : ℕ) (libs : List (List ℕ)) (segments : List SegmentView) (items others : List (Result Binding Fault))
         → AreOpcodeBindings b n libs segments items → AreOpcodeBindings b n libs segments others → items ≡ others
     one_opcodes None n libs segments items others h k = h ∙ sym k
     one_opcodes (Some b) n libs segments items others h k =
         one_run (input_in b n libs segments) b.non_lazy b.lazy h.0 h.1 k.0 k.1 items others h.2 k.2
 
-    one_bindings : (b : Option BindRanges) (chained : Result (Option Fixups) Fault) (n : ℕ) (libs : List (List ℕ)) (segments : List Segment)
+    one_bindings : (b : Option BindRanges) (chained : Result (Option Fixups) Fault) (n : ℕ) (libs : List (List ℕ)) (segments : List SegmentView)
         (items others : List (Result Binding Fault)) → AreImageBindings b chained n libs segments items → AreImageBindings b chained n libs segments others → items ≡ others
     one_bindings b chained n libs segments items others h k =
         h.are
@@ -85,15 +66,10 @@ module _ (one : OneListOfFixups) where
 
     pub one_image_bindings : HasOneListOfBindings
     one_image_bindings bytes o items others h k =
-        let b = binds_in bytes h.cs in
-        let chained = chained_in h.ctx bytes h.cs in
-        let n = pointer_size h.ctx.container in
-        let libs = libs_in bytes h.cs in
-        let second = there bytes o (λ ctx cs. (segments : List Segment) × AreSegments ctx bytes cs segments
-        × AreImageBindings (binds_in bytes cs) (chained_in ctx bytes cs) (pointer_size ctx.container) (libs_in bytes cs) segments others)
-        h.ctx h.cs h.opens k in
-        one_bindings b chained n libs h.holds.0 items others h.holds.2
-        (same_image_bindings b chained n libs second.0 h.holds.0 (second.1 ∙ sym h.holds.1) others second.2)
+        let second = one_image bytes o (λ ctx cs. AreImageBindings (binds_in bytes cs) (chained_in ctx bytes cs) (pointer_size ctx.container) (libs_in bytes cs)
+        (lossy_segments_in ctx bytes cs) others) h.ctx h.cs h.opens k in
+        one_bindings (binds_in bytes h.cs) (chained_in h.ctx bytes h.cs) (pointer_size h.ctx.container) (libs_in bytes h.cs)
+        (lossy_segments_in h.ctx bytes h.cs) items others h.holds second
 
 -- ---- beside imports
 
@@ -103,9 +79,41 @@ ended_once [] = refl
 ended_once (Ok b ∷ items) = ap (λ (xs : List (Result Binding Fault)). Ok b ∷ xs) (ended_once items)
 ended_once (Err f ∷ items) = refl
 
-module _ (tell : dyld.TellTheSame) where
+-- items that agree, before others of which each tells
+each_front : (first : List ℕ) (is cs : List (Result Import Fault)) (bs ds : List (Result Binding Fault)) → dyld.Agree first is bs
+    → EachTells first cs (upto_fault ds) → EachTells first (is ++ cs) (upto_fault (bs ++ ds))
+each_front first [] cs [] ds h k = k
+each_front first [] cs (b ∷ bs) ds h k = absurd h
+each_front first (i ∷ is) cs [] ds h k = absurd h
+each_front first (i ∷ is) cs (Ok b ∷ bs) ds h k = (h.0, each_front first is cs bs ds h.1 k)
+each_front first (i ∷ is) cs (Err f ∷ bs) ds h k = tt
+
+-- behind the last
+each_end : (first : List ℕ) (t : Option Fault) → EachTells first [] (upto_fault (fault_item t))
+each_end first None = refl
+each_end first (Some f) = tt
+
+each_of_both : (first : List ℕ) (is cs : List (Result Import Fault)) (bs ds : List (Result Binding Fault)) (s t : Option Fault) → dyld.Agree first is bs
+    → dyld.Agree first cs ds → EachTells first (is ++ cs) (upto_fault (bs ++ fault_item s ++ ds ++ fault_item t))
+each_of_both first is cs bs ds None t h k =
+    let rest : EachTells first cs (upto_fault (ds ++ fault_item t)) =
+    subst (λ (ys : List (Result Import Fault)). EachTells first ys (upto_fault (ds ++ fault_item t))) (append-nil cs)
+    (each_front first cs [] ds (fault_item t) k (each_end first t)) in
+    subst (λ (ys : List (Result Binding Fault)). EachTells first (is ++ cs) (upto_fault ys))
+    (sym (append_assoc bs ds (fault_item t)) ∙ ap (λ (ys : List (Result Binding Fault)). ys ++ ds ++ fault_item t) (sym (append-nil bs)))
+    (each_front first is cs bs (ds ++ fault_item t) h rest)
+each_of_both first is cs bs ds (Some f) t h k =
+    subst (λ (ys : List (Result Binding Fault)). EachTells first (is ++ cs) (upto_fault ys))
+    (sym (append_assoc bs (Err f ∷ ds) (fault_item t)) ∙ ap (λ (ys : List (Result Binding Fault)). ys ++ fault_item t) (sym (append_assoc bs (Err f ∷ []) ds)))
+    (each_front first is cs bs (Err f ∷ (ds ++ fault_item t)) h tt)
+
+more_than_none : (c : Container) → 0 < pointer_size c
+more_than_none Little = omega arith
+more_than_none Big = omega arith
+
+module _ (tell : dyld.TellTheSame) (one : dyld.HasOneListOfBindings) where
   -- the bindings are those of the opcodes, where there are no chains
-  opcodes_alone : (b : BindRanges) (n : ℕ) (libs : List (List ℕ)) (segments : List Segment) (items by_opcodes by_chains : List (Result Binding Fault))
+  opcodes_alone : (b : BindRanges) (n : ℕ) (libs : List (List ℕ)) (segments : List SegmentView) (items by_opcodes by_chains : List (Result Binding Fault))
       → AreOpcodeBindings (Some b) n libs segments by_opcodes → by_chains ≡ [] → items ≡ upto_fault (by_opcodes ++ by_chains) → items ≡ by_opcodes
   opcodes_alone b n libs segments items by_opcodes by_chains (ps, qs, are) none is =
       is
@@ -114,17 +122,22 @@ module _ (tell : dyld.TellTheSame) where
       ∙ ended_once _
       ∙ sym are.are
 
-  told_of : (b : Option BindRanges) (n : ℕ) (first : List ℕ) (others libs : List (List ℕ)) (segments : List Segment) (imports : List (Result Import Fault))
-      (bindings : List (Result Binding Fault)) → libs ≡ first ∷ others → ArePlainImports b n libs segments imports
-      → AreImageBindings b (Ok None) n libs segments bindings → map (told told_by_import) imports ≡ map (told (told_by_binding first)) bindings
-  told_of None n first others libs segments imports bindings are_libs none h =
+  told_of : (b : Option BindRanges) (n : ℕ) (first : List ℕ) (others libs : List (List ℕ)) (segments : List SegmentView) (imports : List (Result Import Fault))
+      (bindings : List (Result Binding Fault)) → 0 < n → libs ≡ first ∷ others → ArePlainImports b n libs segments imports
+      → AreImageBindings b (Ok None) n libs segments bindings → EachTells first imports bindings
+  told_of None n first others libs segments imports bindings more are_libs none h =
       let nothing : bindings ≡ [] =
       h.are ∙ ap (λ (xs : List (Result Binding Fault)). upto_fault (xs ++ h.by_chains)) h.opcodes ∙ ap upto_fault h.chains in
-      ap (map (told told_by_import)) none ∙ sym (ap (map (told (told_by_binding first))) nothing)
-  told_of (Some b) n first others libs segments imports bindings are_libs (ps, qs, plain, lazy_plain, are) h =
+      subst (EachTells first imports) (sym nothing) none
+  told_of (Some b) n first others libs segments imports bindings more are_libs (ps, qs, items, plain, lazy_plain, are, is) h =
+      let x = input_in b n libs segments in
       let same : bindings ≡ h.by_opcodes = opcodes_alone b n libs segments bindings h.by_opcodes h.by_chains h.opcodes h.chains h.are in
-      tell (input_in b n libs segments) b.non_lazy b.lazy first others ps qs h.opcodes.0 h.opcodes.1 imports h.by_opcodes are_libs plain lazy_plain are h.opcodes.2
-      ∙ sym (ap (map (told (told_by_binding first))) same)
+      let other : h.by_opcodes ≡ items = one x b.non_lazy b.lazy h.opcodes.0 h.opcodes.1 ps qs h.by_opcodes items h.opcodes.2 are in
+      subst (EachTells first imports) (sym (same ∙ other ∙ are.are))
+      (subst (λ (ys : List (Result Import Fault)). EachTells first ys
+      (upto_fault (bindings_in x b.non_lazy ps ++ fault_item are.stop ++ bindings_in x b.lazy qs ++ fault_item are.lazy_stop))) (sym is)
+      (each_of_both first (imports_in x b.non_lazy ps) (imports_in x b.lazy qs) (bindings_in x b.non_lazy ps) (bindings_in x b.lazy qs) are.stop are.lazy_stop
+      (tell x b.non_lazy first others ps are_libs more plain) (tell x b.lazy first others qs are_libs more lazy_plain)))
 
   pub tell_the_same : TellTheSame
   tell_the_same bytes o first others imports bindings libs plain bound =
@@ -133,9 +146,9 @@ module _ (tell : dyld.TellTheSame) where
       let n = pointer_size ctx.container in
       let b = binds_in bytes cs in
       let names = libs_in bytes cs in
-      let named : first ∷ others ≡ names = there bytes o (λ c ds. first ∷ others ≡ libs_in bytes ds) ctx cs plain.opens libs in
-      let found = there bytes o (λ c ds. (segments : List Segment) × AreSegments c bytes ds segments
-      × AreImageBindings (binds_in bytes ds) (chained_in c bytes ds) (pointer_size c.container) (libs_in bytes ds) segments bindings) ctx cs plain.opens bound in
-      let here = same_image_bindings b (chained_in ctx bytes cs) n names found.0 plain.holds.0 (found.1 ∙ sym plain.holds.1) bindings found.2 in
-      told_of b n first others names plain.holds.0 imports bindings (sym named) plain.holds.2
-      (subst (λ (place : Option (ℕ × ℕ)). AreImageBindings b (chained_at ctx.le bytes place) n names plain.holds.0 bindings) plain.holds.3 here)
+      let named : first ∷ others ≡ names = one_image bytes o (λ c ds. first ∷ others ≡ libs_in bytes ds) ctx cs plain.opens libs in
+      let segments = lossy_segments_in ctx bytes cs in
+      let here = one_image bytes o (λ c ds. AreImageBindings (binds_in bytes ds) (chained_in c bytes ds) (pointer_size c.container) (libs_in bytes ds)
+      (lossy_segments_in c bytes ds) bindings) ctx cs plain.opens bound in
+      told_of b n first others names segments imports bindings (more_than_none ctx.container) (sym named) plain.holds.0
+      (subst (λ (place : Option (ℕ × ℕ)). AreImageBindings b (chained_at ctx.le bytes place) n names segments bindings) plain.holds.1 here)

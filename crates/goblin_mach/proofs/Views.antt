@@ -8,7 +8,6 @@ use Rattle.mach_base.specs.declared.error.Error.TheVariants as errors
 use Rattle.mach_base.specs.Answer.{Stands}
 use Rattle.mach_base.specs.Context.{pointer_size}
 use Rattle.mach_base.specs.Fault.{Fault, malformed, bad_magic, too_short, fault_of_scroll}
-use Rattle.mach_parts.specs.Segments.{segments_in}
 use Rattle.mach_dyld.specs.Exports.{texts}
 use Rattle.mach_dyld.specs.Imports.{Import}
 use Rattle.mach_dyld.specs.Trie as trie
@@ -18,7 +17,7 @@ use Rattle.goblin_mach.specs.FatEntry.{FatEntry, archive, image, IsEntry}
 use Rattle.goblin_mach.specs.declared.fat_file.entry.SingleArch.TheVariants as entries
 use Rattle.goblin_mach.specs.declared.view.LinkView.TheVariants as views
 use Rattle.goblin_mach.specs.Subjects.{ListsImageImports, ListsImageExports}
-use Rattle.goblin_mach.specs.OpenImage.{IsImage, commands_held, trie_held, binds_held, ctx_held}
+use Rattle.goblin_mach.specs.OpenImage.{IsImage, commands_held, trie_held, binds_held, ctx_held, segments_held}
 use Rattle.goblin_mach.specs.View.{LinksImage, LinksFault, ItemFault, of_links, FaultHeld, IsTold, Tells, IsViewItem, AreViewItems}
 use Rattle.goblin_mach.specs.declared.view.LinkView.{LinkView}
 use Rattle.goblin_mach.specs.declared.image.macho.MachO.{MachO}
@@ -35,7 +34,7 @@ tells P Q (errors.Memory e) t to h = absurd t
 -- the lists that an image holds are those that it links
 pub image-links : {A : Type 0} (bytes : List ℕ) (m : MachO A) (list : List trie.Entry) (imports : List Import) → IsImage bytes 0 m
     → ListsImageExports (trie_held m) (texts m.libs.items) list
-    → ListsImageImports (binds_held m) (pointer_size (ctx_held m).container) (texts m.libs.items) (segments_in m.segments) imports
+    → ListsImageImports (binds_held m) (pointer_size (ctx_held m).container) (texts m.libs.items) (segments_held m) imports
     → LinksImage bytes list imports
 image-links bytes m list imports p exported imported =
     let q = strict-lossy bytes 0 m p in

@@ -1,11 +1,10 @@
 -- What the bytes say of the image that opens at a place, subject by subject, and of a list of exports.
-use Rattle.std.specs.Prelude.{◌≡◌, ◌≢◌, ℕ, List, map, take, Option, Some, Result, Ok, All, Any, slice_get}
+use Rattle.std.specs.Prelude.{◌≡◌, ◌≢◌, ℕ, List, take, Option, Some, Result, Ok, All, Any, slice_get}
 use Rattle.mach_base.specs.Context.{pointer_size}
 use Rattle.mach_base.specs.Fault.{Fault}
 use Rattle.mach_base.specs.declared.context.Ctx.{Ctx}
 use Rattle.mach_load.specs.Command.{Command}
-use Rattle.mach_parts.specs.Segment.{SegmentView, segment_view}
-use Rattle.mach_parts.specs.declared.segment.Segment.{Segment}
+use Rattle.mach_parts.specs.Segment.{SegmentView}
 use Rattle.mach_parts.specs.declared.symbols.nlist.Nlist.{Nlist}
 use Rattle.mach_dyld.specs.Imports.{Import}
 use Rattle.mach_dyld.specs.Trie as trie
@@ -21,7 +20,7 @@ use Rattle.goblin_mach.specs.Image.{LossyOpensAs}
 use Rattle.goblin_mach.specs.Magic.{cputype_at}
 use Rattle.goblin_mach.specs.Readings.{read_of}
 use Rattle.goblin_mach.specs.Relocations.{RelocatedSection, relocated_sections_in}
-use Rattle.goblin_mach.specs.Subjects.{binds_in, ListsImageImports, ImageImportsFault, AreImageBindItems, lossy_segment_by, trie_in, ListsImageExports}
+use Rattle.goblin_mach.specs.Subjects.{binds_in, ListsImageImports, ImageImportsFault, AreImageBindItems, lossy_segments_in, trie_in, ListsImageExports}
 use Rattle.goblin_mach.specs.Subjects.{ImageExportsFault, own_name_in, libs_in, run_path_by, table_in, symbols_in}
 
 -- An image opens at o, in lossy mode at least, and this holds of its context and its commands.
@@ -41,12 +40,12 @@ HasSymbols bytes o rows = OfImage bytes o (λ ctx cs. rows ≡ symbols_in (table
 
 -- its segments, in the order of their commands; data that are not in the bytes are empty
 abbrev pub HasSegments : List ℕ → ℕ → List SegmentView → Type 0
-HasSegments bytes o segments = OfImage bytes o (λ ctx cs. segments ≡ read_of (lossy_segment_by ctx bytes) cs)
+HasSegments bytes o segments = OfImage bytes o (λ ctx cs. segments ≡ lossy_segments_in ctx bytes cs)
 
 -- its sections that have relocations, or the fault of the first section that can't be read
 abbrev pub HasRelocations : List ℕ → ℕ → Result (List RelocatedSection) Fault → Type 0
 HasRelocations bytes o found =
-    OfImage bytes o (λ ctx cs. found ≡ relocated_sections_in ctx bytes (read_of (lossy_segment_by ctx bytes) cs))
+    OfImage bytes o (λ ctx cs. found ≡ relocated_sections_in ctx bytes (lossy_segments_in ctx bytes cs))
 
 -- the name by which it is known as a library, if it has one
 abbrev pub HasName : List ℕ → ℕ → Option (List ℕ) → Type 0
@@ -80,24 +79,17 @@ HasExportsFault bytes o f = OfImage bytes o (λ ctx cs. ImageExportsFault (trie_
 abbrev pub HasExportOf : List ℕ → ℕ → List ℕ → Option trie.Info → Type 0
 HasExportOf bytes o name found = OfImage bytes o (λ ctx cs. StandsInImage (trie_in bytes cs) (libs_in bytes cs) name found)
 
--- some segments as they are held, which are those of the commands
-abbrev pub AreSegments : Ctx → List ℕ → List Command → List Segment → Type 0
-AreSegments ctx bytes cs segments = map segment_view segments ≡ read_of (lossy_segment_by ctx bytes) cs
-
 -- its imports: the list of its last binds, over its libraries and its segments
 abbrev pub HasImports : List ℕ → ℕ → List Import → Type 0
-HasImports bytes o list = OfImage bytes o (λ ctx cs. (segments : List Segment) × AreSegments ctx bytes cs segments
-    × ListsImageImports (binds_in bytes cs) (pointer_size ctx.container) (libs_in bytes cs) segments list)
+HasImports bytes o list = OfImage bytes o (λ ctx cs. ListsImageImports (binds_in bytes cs) (pointer_size ctx.container) (libs_in bytes cs) (lossy_segments_in ctx bytes cs) list)
 
 -- a fault stands in its binds
 abbrev pub HasImportsFault : List ℕ → ℕ → Fault → Type 0
-HasImportsFault bytes o f = OfImage bytes o (λ ctx cs. (segments : List Segment) × AreSegments ctx bytes cs segments
-    × ImageImportsFault (binds_in bytes cs) (pointer_size ctx.container) (libs_in bytes cs) segments f)
+HasImportsFault bytes o f = OfImage bytes o (λ ctx cs. ImageImportsFault (binds_in bytes cs) (pointer_size ctx.container) (libs_in bytes cs) (lossy_segments_in ctx bytes cs) f)
 
 -- its imports one at a time, up to the first fault
 abbrev pub HasImportItems : List ℕ → ℕ → List (Result Import Fault) → Type 0
-HasImportItems bytes o items = OfImage bytes o (λ ctx cs. (segments : List Segment) × AreSegments ctx bytes cs segments
-    × AreImageBindItems (binds_in bytes cs) (pointer_size ctx.container) (libs_in bytes cs) segments items)
+HasImportItems bytes o items = OfImage bytes o (λ ctx cs. AreImageBindItems (binds_in bytes cs) (pointer_size ctx.container) (libs_in bytes cs) (lossy_segments_in ctx bytes cs) items)
 
 -- its chained fixups, if it has any, or why their front can't be read
 abbrev pub HasChainedFixups : List ℕ → ℕ → Result (Option Fixups) Fault → Type 0
@@ -105,17 +97,15 @@ HasChainedFixups bytes o found = OfImage bytes o (λ ctx cs. found ≡ chained_i
 
 -- the address of its first byte in memory
 abbrev pub HasBase : List ℕ → ℕ → ℕ → Type 0
-HasBase bytes o address = OfImage bytes o (λ ctx cs. address ≡ base_of (read_of (lossy_segment_by ctx bytes) cs))
+HasBase bytes o address = OfImage bytes o (λ ctx cs. address ≡ base_of (lossy_segments_in ctx bytes cs))
 
 -- the fixups of its chains one at a time, up to the first fault
 abbrev pub HasFixups : List ℕ → ℕ → List (Result Fixup Fault) → Type 0
-HasFixups bytes o items = OfImage bytes o (λ ctx cs. (segments : List Segment) × AreSegments ctx bytes cs segments
-    × AreImageFixups (chained_in ctx bytes cs) segments items)
+HasFixups bytes o items = OfImage bytes o (λ ctx cs. AreImageFixups (chained_in ctx bytes cs) (lossy_segments_in ctx bytes cs) items)
 
 -- what dyld binds of it, over its libraries and its segments: by its opcodes and then by its chains, up to the first fault
 abbrev pub HasBindings : List ℕ → ℕ → List (Result Binding Fault) → Type 0
-HasBindings bytes o items = OfImage bytes o (λ ctx cs. (segments : List Segment) × AreSegments ctx bytes cs segments
-    × AreImageBindings (binds_in bytes cs) (chained_in ctx bytes cs) (pointer_size ctx.container) (libs_in bytes cs) segments items)
+HasBindings bytes o items = OfImage bytes o (λ ctx cs. AreImageBindings (binds_in bytes cs) (chained_in ctx bytes cs) (pointer_size ctx.container) (libs_in bytes cs) (lossy_segments_in ctx bytes cs) items)
 
 -- an export of this name with this address is among them
 abbrev pub IsExportedAt : List ℕ → ℕ → List trie.Entry → Type 0

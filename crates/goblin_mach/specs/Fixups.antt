@@ -1,6 +1,6 @@
 -- The chained fixups of an image: where its commands place their data (`mach-o/loader.h`, LC_DYLD_CHAINED_FIXUPS), the
 -- address that they count from (dyld), and its fixups in order (`mach-o/fixup-chains.h`).
-use Rattle.std.specs.Prelude.{◌≡◌, ℕ, List, [], ◌∷◌, ◌++◌, map, replicate, codes, nat_eq, Bool, filter, Option, Some, None, option_map, unwrap_or}
+use Rattle.std.specs.Prelude.{◌≡◌, ℕ, List, [], ◌∷◌, ◌++◌, replicate, codes, nat_eq, Bool, filter, Option, Some, None, option_map, unwrap_or}
 use Rattle.std.specs.Prelude.{Result, Ok, Err}
 use Rattle.std.specs.List.{starts_with}
 use Rattle.mach_base.specs.Answer.{◌>>=◌}
@@ -10,8 +10,7 @@ use Rattle.mach_base.specs.declared.context.Ctx.{Ctx}
 use Rattle.mach_base.specs.declared.context.Endian.{Endian}
 use Rattle.mach_load.specs.Command.{Command}
 use Rattle.mach_load.specs.Commands.{Kind, dyld_chained_fixups}
-use Rattle.mach_parts.specs.Segment.{SegmentView, segment_view}
-use Rattle.mach_parts.specs.declared.segment.Segment.{Segment}
+use Rattle.mach_parts.specs.Segment.{SegmentView}
 use Rattle.mach_chained.specs.Chained.{AreFixupItems}
 use Rattle.mach_chained.specs.Fixups.{Input, Fixup}
 use Rattle.mach_chained.specs.Header.{Fixups, fixups_at}
@@ -56,14 +55,14 @@ unfoldable pub base_of : List SegmentView → ℕ
 base_of segments = unwrap_or (option_map (λ s. s.command.vmaddr) (first_of (filter is_text_segment segments))) 0
 
 -- what fixups over these segments are read from
-abbrev pub input_over : Fixups → List Segment → Input
-input_over fixups segments = record { fixups = fixups; segments = segments; base = base_of (map segment_view segments) }
+abbrev pub input_over : Fixups → List SegmentView → Input
+input_over fixups segments = record { fixups = fixups; segments = segments; base = base_of segments }
 
 -- ---- the fixups
 
 -- these are the fixups of an image's chains, up to the first fault: none where it has none, and where their front can't
 -- be read its fault alone
-abbrev pub AreImageFixups : Result (Option Fixups) Fault → List Segment → List (Result Fixup Fault) → Type 0
+abbrev pub AreImageFixups : Result (Option Fixups) Fault → List SegmentView → List (Result Fixup Fault) → Type 0
 AreImageFixups (Err f) segments items = items ≡ Err f ∷ []
 AreImageFixups (Ok None) segments items = items ≡ []
 AreImageFixups (Ok (Some fixups)) segments items = AreFixupItems (input_over fixups segments) items

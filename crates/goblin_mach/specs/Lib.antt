@@ -14,6 +14,7 @@ pub mod FixupsLeft
 pub mod Bindings
 pub mod BindingsLeft
 pub mod Facts
+pub mod ImageFacts
 pub mod BindingLaws
 pub mod FatFile
 pub mod FatEntry

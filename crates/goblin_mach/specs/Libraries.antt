@@ -1,8 +1,7 @@
 -- The libraries of an image, each with how the image brings it in (`mach-o/loader.h`, struct dylib_command).
-use Rattle.std.specs.Prelude.{ℕ, ◌+◌, List, [], ◌∷◌, map, Option, Some, None, option_map, Result, Ok}
+use Rattle.std.specs.Prelude.{ℕ, ◌+◌, List, [], ◌∷◌, map, Option, Some, None, option_map, Ok}
 use Rattle.std.specs.Slice.Iter.{iter_rest}
 use Rattle.mach_base.specs.Answer.{◌>>=◌}
-use Rattle.mach_base.specs.Fault.{Fault}
 use Rattle.mach_base.specs.Number.{place_after}
 use Rattle.mach_base.specs.Record.{Value, number_among}
 use Rattle.mach_base.specs.Text.{text_at}

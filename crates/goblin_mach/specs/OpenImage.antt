@@ -19,7 +19,7 @@ use Rattle.goblin_mach.specs.Image.{OpensAs, LossyOpensAs, HasFatMagic}
 use Rattle.goblin_mach.specs.Magic.{cputype_at}
 use Rattle.goblin_mach.specs.Readings.{Reading, read_of, said, last_or, IsRefused}
 use Rattle.goblin_mach.specs.Subjects.{table_by, id_by, trie_by, binds_by}
-use Rattle.goblin_mach.specs.Subjects.{binds_in, library_by, segment_by, lossy_segment_by, trie_in, own_name_in, libs_in, run_path_by, table_in}
+use Rattle.goblin_mach.specs.Subjects.{binds_in, library_by, segment_by, lossy_segments_in, trie_in, own_name_in, libs_in, run_path_by, table_in}
 use Rattle.goblin_mach.specs.declared.fat_file.multi_arch.MultiArch.{MultiArch}
 use Rattle.goblin_mach.specs.declared.image.fields.Fields.{Fields}
 use Rattle.goblin_mach.specs.declared.image.mach.Mach.TheVariants.{Fat, Binary}
@@ -78,7 +78,7 @@ pub record IsImage {A : Type 0} (bytes : List ℕ) (o : ℕ) (m : MachO A) : Typ
 pub record IsLossyImage {A : Type 0} (bytes : List ℕ) (o : ℕ) (m : MachO A) : Type 0 where
   pub ctx : Ctx
   pub opens : LossyOpensAs bytes o ctx (commands_held m)
-  pub fields : HasFields bytes o ctx (read_of (lossy_segment_by ctx bytes) (commands_held m)) m
+  pub fields : HasFields bytes o ctx (lossy_segments_in ctx bytes (commands_held m)) m
 
 -- the file is a fat file, with the count of its header
 pub record IsFatMach {A : Type 0} (bytes : List ℕ) (m : MultiArch A) : Type 0 where

@@ -15,7 +15,6 @@ use Rattle.mach_load.specs.Commands.{segment64, symtab, dyld_info, dyld_info_onl
 use Rattle.mach_parts.specs.Segment.{SegmentView, widened, segment_at, lossy_segment_at}
 use Rattle.mach_parts.specs.SymbolViews.{table_of}
 use Rattle.mach_parts.specs.Symbols.{SymbolTable, symbols_of, table_at}
-use Rattle.mach_parts.specs.declared.segment.Segment.{Segment}
 use Rattle.mach_parts.specs.declared.symbols.Symbols.{Symbols}
 use Rattle.mach_parts.specs.declared.symbols.nlist.Nlist.{Nlist}
 use Rattle.mach_dyld.specs.BindFault.{BindFault}
@@ -82,6 +81,10 @@ segment_by ctx bytes c = option_map (segment_at ctx bytes c.offset) (segment_com
 -- the same in lossy mode, which is never refused: data that are not in the bytes are empty
 abbrev pub lossy_segment_by : Ctx → List ℕ → Reading SegmentView
 lossy_segment_by ctx bytes c = option_map (lossy_segment_at ctx bytes c.offset) (segment_command_by c.kind c.values)
+
+-- the segments of an image, in the order of their commands; data that are not in the bytes are empty
+abbrev pub lossy_segments_in : Ctx → List ℕ → List Command → List SegmentView
+lossy_segments_in ctx bytes cs = read_of (lossy_segment_by ctx bytes) cs
 
 -- the command that describes symbols
 abbrev pub is_symtab : Kind → Bool
@@ -155,16 +158,16 @@ abbrev pub binds_in : List ℕ → List Command → Option BindRanges
 binds_in bytes cs = last_of (read_of (binds_by bytes) cs)
 
 -- the imports of an image: those of its binds, or none where it has no binds
-abbrev pub ListsImageImports : Option BindRanges → ℕ → List (List ℕ) → List Segment → List Import → Type 0
+abbrev pub ListsImageImports : Option BindRanges → ℕ → List (List ℕ) → List SegmentView → List Import → Type 0
 ListsImageImports None pointer libs segments list = list ≡ []
 ListsImageImports (Some b) pointer libs segments list = ListsImports b pointer libs segments list
 
-abbrev pub ImageImportsFault : Option BindRanges → ℕ → List (List ℕ) → List Segment → Fault → Type 0
+abbrev pub ImageImportsFault : Option BindRanges → ℕ → List (List ℕ) → List SegmentView → Fault → Type 0
 ImageImportsFault None pointer libs segments f = ⊥
 ImageImportsFault (Some b) pointer libs segments f = BindFault b pointer libs segments f
 
 -- the imports of an image one at a time, up to the first fault; none where it has no binds
-abbrev pub AreImageBindItems : Option BindRanges → ℕ → List (List ℕ) → List Segment → List (Result Import Fault) → Type 0
+abbrev pub AreImageBindItems : Option BindRanges → ℕ → List (List ℕ) → List SegmentView → List (Result Import Fault) → Type 0
 AreImageBindItems None pointer libs segments items = items ≡ []
 AreImageBindItems (Some b) pointer libs segments items =
     (ps : List Placed) × (qs : List Placed) × AreBindItems (input_in b pointer libs segments) b.non_lazy b.lazy ps qs items

@@ -4,7 +4,6 @@ use Rattle.mach_base.specs.Context.{pointer_size}
 use Rattle.mach_base.specs.Fault.{Fault, bad_magic, malformed, too_short, fault_of_scroll}
 use Rattle.mach_base.specs.declared.error.Error.TheVariants as errors
 use Rattle.mach_base.specs.declared.error.Error.{Error}
-use Rattle.mach_parts.specs.Segments.{segments_in}
 use Rattle.mach_dyld.specs.BindViews.{imports_seen}
 use Rattle.mach_dyld.specs.Exports.{texts, entries}
 use Rattle.mach_dyld.specs.Imports.{Import}
@@ -13,7 +12,7 @@ use Rattle.goblin_mach.specs.Facts.{HasExports, HasExportsFault, HasImports, Has
 use Rattle.goblin_mach.specs.FatEntry.{FatEntry, image, entries_of, FatEntryFault, archive}
 use Rattle.goblin_mach.specs.FatFile.{FatFile, fat_file_in, arches_in}
 use Rattle.goblin_mach.specs.Image.{Opens, ImageFault, HasFatMagic, MachFault}
-use Rattle.goblin_mach.specs.OpenImage.{trie_held, binds_held, ctx_held}
+use Rattle.goblin_mach.specs.OpenImage.{trie_held, binds_held, ctx_held, segments_held}
 use Rattle.goblin_mach.specs.Subjects.{ListsImageImports, ImageImportsFault, ListsImageExports, ImageExportsFault}
 use Rattle.goblin_mach.specs.declared.image.macho.MachO.{MachO}
 use Rattle.goblin_mach.specs.declared.view.LinkView.TheVariants.{Image, Archive}
@@ -50,14 +49,14 @@ pub data ViewFault (bytes : List ℕ) : Fault → Type 0 where
 -- the two lists are those of an image as it is held
 pub record LinksHeld {A B : Type 0} (m : MachO A) (l : Links B) : Type 0 where
   pub exports : ListsImageExports (trie_held m) (texts m.libs.items) (entries l.exports.items)
-  pub imports : ListsImageImports (binds_held m) (pointer_size (ctx_held m).container) (texts m.libs.items) (segments_in m.segments)
+  pub imports : ListsImageImports (binds_held m) (pointer_size (ctx_held m).container) (texts m.libs.items) (segments_held m)
       (imports_seen l.imports.items)
 
 -- a fault stands in one of them
 abbrev pub FaultHeld : {A : Type 0} → MachO A → Fault → Type 0
 FaultHeld m f =
     ImageExportsFault (trie_held m) (texts m.libs.items) f
-    ⊎ ImageImportsFault (binds_held m) (pointer_size (ctx_held m).container) (texts m.libs.items) (segments_in m.segments) f
+    ⊎ ImageImportsFault (binds_held m) (pointer_size (ctx_held m).container) (texts m.libs.items) (segments_held m) f
 
 -- what an item shows of an entry: an archive's bytes, or the two lists of an image
 abbrev pub Shows : {A : Type 0} → FatEntry → LinkView A → Type 0

@@ -10,7 +10,7 @@ pub use crate::image::command_iterator::commands_one_by_one;
 pub use crate::image::exported::exported_or_not;
 pub use crate::image::facts::{
     base_of_image, bindings_of_image, chained_fixups_of_image, commands_of_image,
-    entry_point_of_image, exports_of_image, fixups_of_image, found_export_of_image,
+    entry_point_of_image, exports_of_image, facts_of_image, fixups_of_image, found_export_of_image,
     import_items_of_image, imports_of_image, libraries_by_kind_of_image, libraries_of_image,
     links_of_image, name_of_image, relocations_of_image, run_paths_of_image, segments_of_image,
     strict_image_is_lossy, symbols_of_image, walked_exports_of_image,

@@ -13,7 +13,7 @@ use Rattle.mach_chained.specs.Header.{Fixups, fixups_at, header_at, readable}
 use Rattle.mach_chained.specs.Views.{fixups_view}
 use Rattle.mach_chained.specs.declared.format.ImportFormat.{ImportFormat}
 use Rattle.mach_chained.specs.declared.header.ChainedFixupsHeader.{ChainedFixupsHeader}
-use Rattle.mach_parts.specs.Segment.{segment_view}
+use Rattle.mach_parts.specs.Segment.{SegmentView, segment_view}
 use Rattle.mach_parts.specs.declared.segment.Segment.{Segment}
 use Rattle.goblin_mach.specs.Fixups.{base_of, chained_at}
 use Rattle.goblin_mach_c.specs.BindingsBehind.{bindings_by, chains_by}
@@ -96,14 +96,14 @@ none_by (Ok None) x = refl
 none_by (Ok (Some c)) x = refl
 
 pub same_chains : (chained : Result (Option Fixups) Fault) (x : Binds) (it : FixupRows) (segments : List Segment) (base : ℕ) (libs : List (List ℕ))
-    → AreOver (record { chained = chained; segments = x.segments }) it → libs ≡ x.libs → segments ≡ x.segments → base ≡ base_of (map segment_view x.segments)
+    → AreOver (record { chained = chained; segments = x.segments }) it → libs ≡ x.libs → map segment_view segments ≡ x.segments → base ≡ base_of x.segments
     → chains_by it segments base libs ≡ bindings_by chained x (items_left it)
 same_chains chained x (rows.Unread None) segments base libs over l s b = none_by chained x
 same_chains chained x (rows.Unread (Some e)) segments base libs over l s b = sym (ap (λ (r : Result (Option Fixups) Fault). bindings_by r x (Err (fault_of e) ∷ [])) over)
 same_chains chained x (rows.Chains it) segments base libs over l s b =
     let left = walk.fixups_left it.fixups in
     let front = fixups_view it.chained in
-    ap (λ (v : List (List ℕ)). bindings_of (record { fixups = front; segments = segments; base = base }) v left) l
-    ∙ ap (λ (v : List Segment). bindings_of (record { fixups = front; segments = v; base = base }) x.libs left) s
+    ap (λ (v : List (List ℕ)). bindings_of (record { fixups = front; segments = map segment_view segments; base = base }) v left) l
+    ∙ ap (λ (v : List SegmentView). bindings_of (record { fixups = front; segments = v; base = base }) x.libs left) s
     ∙ ap (λ (v : ℕ). bindings_of (record { fixups = front; segments = x.segments; base = v }) x.libs left) b
     ∙ sym (ap (λ (r : Result (Option Fixups) Fault). bindings_by r x left) over.0)

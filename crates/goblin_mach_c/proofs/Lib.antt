@@ -8,8 +8,8 @@ pub mod TrieBytes
 pub mod WalkedImages
 pub mod WalkedLists
 pub mod Said
-pub mod HeldFacts
 pub mod HeldBinds
 pub mod BoundNames
+pub mod FactsBehind
 pub mod BoundChains
 pub mod BeginsThere

@@ -2,9 +2,7 @@
 use Rattle.std.proofs.Common.{◌≡◌, ◌≢◌, ◌++◌, [], ℕ, List, Option, Ok, inl, inr, refl, sym, ap, subst, arith}
 use Rattle.std.proofs.lemmas.List.{append-nil}
 use Rattle.std.specs.declared.alloc.Global.{Global}
-use Rattle.mach_base.specs.declared.context.Ctx.{Ctx}
 use Rattle.mach_base.specs.Text.{text_at}
-use Rattle.mach_load.specs.Command.{Command}
 use Rattle.mach_dyld.specs.Exports.{texts}
 use Rattle.mach_dyld.specs.Trie.{Entry}
 use Rattle.mach_dyld.specs.TrieRange.{TrieRange}
@@ -13,7 +11,7 @@ use Rattle.goblin_mach.specs.Image.{LossyOpens}
 use Rattle.goblin_mach.specs.OpenImage.{IsLossyImage, commands_held, trie_held}
 use Rattle.goblin_mach.specs.Subjects.{libs_in, trie_in, trie_or_empty}
 use Rattle.goblin_mach.specs.declared.image.macho.MachO.{MachO}
-use Rattle.goblin_mach.proofs.Facts.{exports_are, exports_fail, libraries_are, image_of, moved, of_image}
+use Rattle.goblin_mach.proofs.Facts.{exports_are, exports_fail, facts_are, libraries_are}
 use Rattle.goblin_mach.proofs.Walked.{walked_fault, walked_list}
 use Rattle.goblin_mach_c.specs.ExportWalk.{AreWritten, EndsWith, GoesAlong, GoesOn, HasLibrary, HasNextName, HasWalked, HasWalkedTrie, IsNextName, IsNumbered, IsRefusedWalk, no_batch}
 use Rattle.goblin_mach_c.proofs.ListedExports.{written_there}
@@ -53,9 +51,6 @@ zeros bytes o w name stack opens start code = record {
 -- ---- an image that is held
 
 module _ (bytes : List ℕ) (o : ℕ) (m : MachO Global) (p : IsLossyImage bytes o m) where
-  abbrev Walked : gm_export_walk → List ℕ → List Open → List Entry → Ctx → List Command → Type 0
-  Walked w name stack found ctx cs = HasWalkedTrie (trie_or_empty (trie_in bytes cs)) (libs_in bytes cs) w name stack found
-
   -- the trie that it holds
   abbrev trie : TrieRange
   trie = trie_or_empty (trie_held m)
@@ -65,14 +60,11 @@ module _ (bytes : List ℕ) (o : ℕ) (m : MachO Global) (p : IsLossyImage bytes
 
   held : (w : gm_export_walk) (name : List ℕ) (stack : List Open) (found : List Entry) → HasWalked bytes o w name stack found
       → HasWalkedTrie trie libs w name stack found
-  held w name stack found q =
-      moved (λ t l. HasWalkedTrie (trie_or_empty t) l w name stack found) _ _ _ _ (sym p.fields.trie) (sym p.fields.libs)
-      (image_of bytes o m p (Walked w name stack found) q)
+  held w name stack found = (facts_are bytes o m p (λ f. HasWalkedTrie (trie_or_empty f.trie) f.libs w name stack found)).0
 
   there : (w : gm_export_walk) (name : List ℕ) (stack : List Open) (found : List Entry) → HasWalkedTrie trie libs w name stack found
       → HasWalked bytes o w name stack found
-  there w name stack found h =
-      of_image bytes o m p (Walked w name stack found) (moved (λ t l. HasWalkedTrie (trie_or_empty t) l w name stack found) _ _ _ _ p.fields.trie p.fields.libs h)
+  there w name stack found = (facts_are bytes o m p (λ f. HasWalkedTrie (trie_or_empty f.trie) f.libs w name stack found)).1
 
   -- its rows
   pub rows_there : (given : List Entry) (count used : ℕ) (old new : List gm_listed_export) (names names' : List ℕ)
@@ -86,9 +78,7 @@ module _ (bytes : List ℕ) (o : ℕ) (m : MachO Global) (p : IsLossyImage bytes
 
   -- the name that comes next
   pub next_name_there : (w : gm_export_walk) (n : ℕ) → IsNextName trie w.cursor n → HasNextName bytes o w n
-  next_name_there w n h =
-      of_image bytes o m p (λ ctx cs. IsNextName (trie_or_empty (trie_in bytes cs)) w.cursor n)
-      (subst (λ (t : Option TrieRange). IsNextName (trie_or_empty t) w.cursor n) p.fields.trie h)
+  next_name_there w n = (facts_are bytes o m p (λ f. IsNextName (trie_or_empty f.trie) w.cursor n)).1
 
   module _ (w w' : gm_export_walk) (name name' : List ℕ) (stack stack' : List Open) (given : List Entry) (end : ℕ)
       (g : GoesAlong trie libs w w' name name' stack stack' given end) where

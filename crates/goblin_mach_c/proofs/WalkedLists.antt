@@ -1,9 +1,6 @@
 -- What a walk of an image's exports has given begins the image's list.
-use Rattle.std.proofs.Common.{◌≡◌, ◌+◌, ◌++◌, ◌∷◌, [], ℕ, zero, suc, List, map, Option, Some, None, inl, inr, refl, sym, ap, subst, ◌∙◌, arith}
+use Rattle.std.proofs.Common.{◌≡◌, ◌++◌, ◌∷◌, [], ℕ, zero, suc, List, map, Option, Some, None, inl, inr, refl, sym, ap, subst, ◌∙◌, arith}
 use Rattle.std.specs.Borrow.{Bor}
-use Rattle.mach_base.specs.declared.context.Ctx.{Ctx}
-use Rattle.mach_load.specs.Command.{Command}
-use Rattle.mach_parts.specs.Header.{header_size}
 use Rattle.mach_dyld.specs.Cursors.{HasGivenTo, ReadsTrie}
 use Rattle.mach_dyld.specs.Exports.{texts}
 use Rattle.mach_dyld.specs.Lists.{Lists, nothing}
@@ -15,12 +12,9 @@ use Rattle.mach_dyld.specs.declared.walk.Source.{Source}
 use Rattle.mach_dyld.proofs.CursorTries.{begins_there}
 use Rattle.mach_dyld.proofs.TrieBegins.{prefix_of}
 use Rattle.mach_dyld.proofs.TrieRanges.{fault-excludes_list}
-use Rattle.goblin_mach.specs.Facts.{HasExports, OfImage}
-use Rattle.goblin_mach.specs.Image.{LossyOpensAs}
+use Rattle.goblin_mach.specs.Facts.{HasExports}
 use Rattle.goblin_mach.specs.Subjects.{ImageExportsFault, ListsImageExports, libs_in, trie_in, trie_or_empty}
-use Rattle.goblin_mach.proofs.Chains.{same_chain}
-use Rattle.goblin_mach.proofs.Facts.{moved}
-use Rattle.goblin_mach.proofs.Images.{same_header}
+use Rattle.goblin_mach.proofs.Facts.{one_image}
 use Rattle.goblin_mach.proofs.Walked.{walked_fault}
 use Rattle.goblin_mach_c.specs.ExportWalk.{HasWalked, HasWalkedTrie}
 use Rattle.goblin_mach_c.specs.declared.exports.gm_export_walk.{gm_export_walk}
@@ -77,17 +71,8 @@ walk_begins_list t libs w name stack found list zero is h l = (list, ap (λ (es 
 walk_begins_list t libs w name stack found list (suc n) is h l =
     given_begins t libs w.cursor name stack found list (h.begun (λ wrong. absurd (let two = sym is ∙ wrong in omega (arith, two)))) l
 
--- what stands in the one image of a place
-same_image : {P : Ctx → List Command → Type 0} {bytes : List ℕ} {o : ℕ} {ctx : Ctx} {cs : List Command} → LossyOpensAs bytes o ctx cs → OfImage bytes o P → P ctx cs
-same_image {P} {bytes} {o} {ctx} {cs} opens q =
-    let same_ctx : q.ctx ≡ ctx = same_header bytes o q.ctx ctx q.opens.header opens.header in
-    let chain = (subst (λ (c : Ctx). LossyOpensAs bytes o c q.cs) same_ctx q.opens).chain in
-    let whole = opens.chain in
-    let same : q.cs ≡ cs = same_chain ctx.le bytes (o + header_size ctx.container) q.cs cs chain.chain whole.chain (chain.count ∙ sym whole.count) in
-    moved P q.ctx ctx q.cs cs same_ctx same q.holds
-
 pub given_begins_list : (bytes : List ℕ) (o : ℕ) (w : gm_export_walk) (name : List ℕ) (stack : List Open) (found list : List Entry)
     → HasWalked bytes o w name stack found → HasExports bytes o list → (rest : List Entry) × (list ≡ found ++ rest)
 given_begins_list bytes o w name stack found list walked exports =
     walk_begins_list (trie_in bytes walked.cs) (libs_in bytes walked.cs) w name stack found list w.is_begun refl walked.holds
-    (same_image {P = λ ctx cs. ListsImageExports (trie_in bytes cs) (libs_in bytes cs) list} walked.opens exports)
+    (one_image bytes o (λ ctx cs. ListsImageExports (trie_in bytes cs) (libs_in bytes cs) list) walked.ctx walked.cs walked.opens exports)

@@ -1,6 +1,5 @@
 -- How far the bindings of an image were given, and those that come behind.
 use Rattle.std.specs.Prelude.{◌≡◌, ◌<◌, ◌^◌, ◌⊎◌, ◌++◌, ℕ, List, [], ◌∷◌, Option, Some, None, Result, Ok, Err, map, length, drop}
-use Rattle.mach_base.specs.Context.{pointer_size}
 use Rattle.mach_base.specs.Fault.{Fault, fault_of}
 use Rattle.mach_base.specs.Number.{slice_at}
 use Rattle.mach_base.specs.declared.error.Error.{Error}
@@ -20,13 +19,12 @@ use Rattle.mach_dyld.specs.declared.imports.cursor.BindCursor.{BindCursor}
 use Rattle.mach_dyld.specs.declared.imports.cursor.PlacedBinding.{PlacedBinding}
 use Rattle.mach_dyld.specs.declared.bindings.OpcodeBindingIterator.{OpcodeBindingIterator}
 use Rattle.goblin_mach.specs.Bindings.{AreOpcodeBindings}
-use Rattle.goblin_mach.specs.Facts.{AreSegments, OfImage}
+use Rattle.goblin_mach.specs.Facts.{OfImage}
 use Rattle.goblin_mach.specs.Fixups.{base_of, chained_in, input_over}
 use Rattle.goblin_mach.specs.FixupsLeft.{told_first}
-use Rattle.goblin_mach.specs.Subjects.{binds_in, libs_in}
 use Rattle.goblin_mach_c.specs.BindingRows.{IsBindingRow, StandsIn}
 use Rattle.goblin_mach_c.specs.FixupsBehind.{AreFixupsBehind, AreOver as AreOverFixups}
-use Rattle.goblin_mach_c.specs.ImportsBehind.{Binds}
+use Rattle.goblin_mach_c.specs.ImportsBehind.{Binds, binds_there}
 use Rattle.goblin_mach_c.specs.Say.{FillsBy}
 use Rattle.goblin_mach_c.specs.Stage.{Stage, start, under_way, over, stage_of}
 use Rattle.goblin_mach_c.specs.declared.bindings.gm_binding.{gm_binding}
@@ -74,8 +72,7 @@ pub record AreBindingsWritten (bytes : List ℕ) (x : Binds) (chained : Result (
 
 -- the binds and the chains of the image at o, over its libraries and its segments
 abbrev pub OfBindings : List ℕ → ℕ → (Binds → Result (Option Fixups) Fault → Type 0) → Type 0
-OfBindings bytes o Holds = OfImage bytes o (λ ctx cs. (segments : List Segment) × AreSegments ctx bytes cs segments
-    × Holds (record { ranges = binds_in bytes cs; pointer = pointer_size ctx.container; libs = libs_in bytes cs; segments = segments }) (chained_in ctx bytes cs))
+OfBindings bytes o Holds = OfImage bytes o (λ ctx cs. Holds (binds_there ctx bytes cs) (chained_in ctx bytes cs))
 
 -- these bindings of the image at o come behind a cursor
 abbrev pub HasBindingsBehind : List ℕ → ℕ → gm_binding_cursor → List (Result Binding Fault) → Type 0
@@ -130,8 +127,8 @@ pub record AreOver (x : BindingSource) (it : BindingRows) : Type 0 where
   pub opcodes : AreOverOpcodes x it.opcodes
   pub fixups : AreOverFixups (record { chained = x.chained; segments = x.binds.segments }) it.fixups
   pub libs : texts it.libs.now ≡ x.binds.libs
-  pub segments : it.segments.now ≡ x.binds.segments
-  pub base : it.base ≡ base_of (map segment_view x.binds.segments)
+  pub segments : map segment_view it.segments.now ≡ x.binds.segments
+  pub base : it.base ≡ base_of x.binds.segments
   pub chains : StandAt x it.chains_at
   pub short : length x.bytes < 2 ^ 64
 

@@ -1,16 +1,17 @@
 -- How far the fixups of an image were given, and those that come behind.
 use Rattle.std.specs.Prelude.{◌≡◌, ℕ, List, [], Option, Some, None, Result, Ok, Err, map, drop}
 use Rattle.mach_base.specs.Fault.{Fault, fault_of}
-use Rattle.mach_parts.specs.declared.segment.Segment.{Segment}
+use Rattle.mach_parts.specs.Segment.{SegmentView}
 use Rattle.mach_chained.specs.FixupCursors.{IsOver, fixups_behind}
 use Rattle.mach_chained.specs.FixupsLeft as walk
 use Rattle.mach_chained.specs.Fixups.{Fixup}
 use Rattle.mach_chained.specs.Header.{Fixups}
 use Rattle.mach_chained.specs.declared.cursor.FixupCursor.{FixupCursor}
-use Rattle.goblin_mach.specs.Facts.{AreSegments, OfImage}
+use Rattle.goblin_mach.specs.Facts.{OfImage}
 use Rattle.mach_chained.specs.Views.{fixups_view}
 use Rattle.goblin_mach.specs.Fixups.{AreImageFixups, chained_in, input_over}
 use Rattle.goblin_mach.specs.FixupsLeft.{told_first}
+use Rattle.goblin_mach.specs.Subjects.{lossy_segments_in}
 use Rattle.goblin_mach_c.specs.Fill.{Fills}
 use Rattle.goblin_mach_c.specs.FixupRows.{fixup_row}
 use Rattle.goblin_mach_c.specs.Stage.{Stage, start, under_way, over, stage_of}
@@ -20,24 +21,24 @@ use Rattle.goblin_mach_c.specs.declared.fixups.FixupRows.{FixupRows}
 use Rattle.goblin_mach_c.specs.declared.fixups.FixupRows.TheVariants as rows
 
 -- those behind a place of the chains, where their front can be read
-abbrev pub chains_behind : FixupCursor → Result (Option Fixups) Fault → List Segment → List (Result Fixup Fault)
+abbrev pub chains_behind : FixupCursor → Result (Option Fixups) Fault → List SegmentView → List (Result Fixup Fault)
 chains_behind c (Err f) segments = []
 chains_behind c (Ok None) segments = []
 chains_behind c (Ok (Some fixups)) segments = fixups_behind (input_over fixups segments) c
 
 -- these fixups come at a stage, of these chains over these segments: at the start all of them
-abbrev pub AreAtStage : Stage → FixupCursor → Result (Option Fixups) Fault → List Segment → List (Result Fixup Fault) → Type 0
+abbrev pub AreAtStage : Stage → FixupCursor → Result (Option Fixups) Fault → List SegmentView → List (Result Fixup Fault) → Type 0
 AreAtStage start c chained segments items = AreImageFixups chained segments items
 AreAtStage under_way c chained segments items = items ≡ chains_behind c chained segments
 AreAtStage over c chained segments items = items ≡ []
 
 -- these come behind a cursor
-abbrev pub AreFixupsBehind : gm_fixup_cursor → Result (Option Fixups) Fault → List Segment → List (Result Fixup Fault) → Type 0
+abbrev pub AreFixupsBehind : gm_fixup_cursor → Result (Option Fixups) Fault → List SegmentView → List (Result Fixup Fault) → Type 0
 AreFixupsBehind c chained segments items = AreAtStage (stage_of c.stage) c.chains chained segments items
 
 -- The rows of the fixups behind a cursor were written, as many as there are and fit, and behind the new cursor come the
 -- others.
-pub record AreFixupsWritten (chained : Result (Option Fixups) Fault) (segments : List Segment) (before after : gm_fixup_cursor) (old new : List gm_fixup)
+pub record AreFixupsWritten (chained : Result (Option Fixups) Fault) (segments : List SegmentView) (before after : gm_fixup_cursor) (old new : List gm_fixup)
     (n : ℕ) : Type 0 where
   pub items : List (Result Fixup Fault)
   pub behind : AreFixupsBehind before chained segments items
@@ -45,8 +46,8 @@ pub record AreFixupsWritten (chained : Result (Option Fixups) Fault) (segments :
   pub rest : AreFixupsBehind after chained segments (drop n items)
 
 -- the chains of the image at o, over its segments
-abbrev pub OfChains : List ℕ → ℕ → (Result (Option Fixups) Fault → List Segment → Type 0) → Type 0
-OfChains bytes o Holds = OfImage bytes o (λ ctx cs. (segments : List Segment) × AreSegments ctx bytes cs segments × Holds (chained_in ctx bytes cs) segments)
+abbrev pub OfChains : List ℕ → ℕ → (Result (Option Fixups) Fault → List SegmentView → Type 0) → Type 0
+OfChains bytes o Holds = OfImage bytes o (λ ctx cs. Holds (chained_in ctx bytes cs) (lossy_segments_in ctx bytes cs))
 
 -- these fixups of the image at o come behind a cursor
 abbrev pub HasFixupsBehind : List ℕ → ℕ → gm_fixup_cursor → List (Result Fixup Fault) → Type 0
@@ -65,7 +66,7 @@ items_left (rows.Chains it) = walk.fixups_left it.fixups
 -- chains, and the segments that they go over
 pub record Chains : Type 0 where
   pub chained : Result (Option Fixups) Fault
-  pub segments : List Segment
+  pub segments : List SegmentView
 
 -- the rows are read from these
 abbrev pub AreOver : Chains → FixupRows → Type 0

@@ -2,18 +2,19 @@
 use Rattle.std.specs.Prelude.{◌≡◌, ℕ, List, [], Option, Some, None, Result, drop}
 use Rattle.mach_base.specs.Context.{pointer_size}
 use Rattle.mach_base.specs.Fault.{Fault}
-use Rattle.mach_parts.specs.declared.segment.Segment.{Segment}
+use Rattle.mach_base.specs.declared.context.Ctx.{Ctx}
+use Rattle.mach_load.specs.Command.{Command}
+use Rattle.mach_parts.specs.Segment.{SegmentView}
 use Rattle.mach_dyld.specs.BindCursors.{IsOver, imports_behind}
 use Rattle.mach_dyld.specs.BindLeft.{imports_left}
 use Rattle.mach_dyld.specs.Imports.{BindRanges, Import, input_in}
 use Rattle.mach_dyld.specs.declared.imports.cursor.BindCursor.{BindCursor}
-use Rattle.goblin_mach.specs.Facts.{AreSegments, OfImage}
-use Rattle.goblin_mach.specs.OpenImage.{binds_held, ctx_held}
+use Rattle.goblin_mach.specs.Facts.{OfImage}
+use Rattle.goblin_mach.specs.OpenImage.{binds_held, ctx_held, segments_held}
 use Rattle.goblin_mach.specs.declared.image.macho.MachO.{MachO}
 use Rattle.std.specs.declared.alloc.Global.{Global}
 use Rattle.mach_dyld.specs.Exports.{texts}
-use Rattle.mach_parts.specs.Segments.{segments_in}
-use Rattle.goblin_mach.specs.Subjects.{AreImageBindItems, binds_in, libs_in}
+use Rattle.goblin_mach.specs.Subjects.{AreImageBindItems, binds_in, libs_in, lossy_segments_in}
 use Rattle.goblin_mach_c.specs.ImportRows.{IsImportRow}
 use Rattle.goblin_mach_c.specs.Say.{FillsBy}
 use Rattle.goblin_mach_c.specs.Stage.{Stage, start, under_way, over, stage_of}
@@ -27,11 +28,16 @@ pub record Binds : Type 0 where
   pub ranges : Option BindRanges
   pub pointer : ℕ
   pub libs : List (List ℕ)
-  pub segments : List Segment
+  pub segments : List SegmentView
 
 -- those of an image that is held
 abbrev pub binds_of : MachO Global → Binds
-binds_of m = record { ranges = binds_held m; pointer = pointer_size (ctx_held m).container; libs = texts m.libs.items; segments = segments_in m.segments }
+binds_of m = record { ranges = binds_held m; pointer = pointer_size (ctx_held m).container; libs = texts m.libs.items; segments = segments_held m }
+
+-- those of the commands of some bytes
+abbrev pub binds_there : Ctx → List ℕ → List Command → Binds
+binds_there ctx bytes cs =
+    record { ranges = binds_in bytes cs; pointer = pointer_size ctx.container; libs = libs_in bytes cs; segments = lossy_segments_in ctx bytes cs }
 
 -- the imports behind a place of the streams; none where there are no binds
 abbrev pub streams_behind : BindCursor → Option BindRanges → Binds → List (Result Import Fault)
@@ -58,8 +64,7 @@ pub record AreImportsWritten (bytes : List ℕ) (x : Binds) (before after : gm_b
 
 -- the binds of the image at o, over its libraries and its segments
 abbrev pub OfBinds : List ℕ → ℕ → (Binds → Type 0) → Type 0
-OfBinds bytes o Holds = OfImage bytes o (λ ctx cs. (segments : List Segment) × AreSegments ctx bytes cs segments
-    × Holds (record { ranges = binds_in bytes cs; pointer = pointer_size ctx.container; libs = libs_in bytes cs; segments = segments }))
+OfBinds bytes o Holds = OfImage bytes o (λ ctx cs. Holds (binds_there ctx bytes cs))
 
 -- these imports of the image at o come behind a cursor
 abbrev pub HasImportsBehind : List ℕ → ℕ → gm_bind_cursor → List (Result Import Fault) → Type 0

@@ -5,8 +5,8 @@ ghost use Rattle.mach_base.specs.Fault.{Fault, fault_of};
 ghost use Rattle.mach_chained.specs.Fixups as defined;
 ghost use Rattle.mach_chained.specs.PointerViews.{auth_seen, kind_view};
 ghost use Rattle.mach_chained.specs.WalkViews.{fixup_read};
-ghost use Rattle.mach_parts.specs.Segments.{segments_in};
 ghost use Rattle.goblin_mach.specs.Fixups.{chained_held};
+ghost use Rattle.goblin_mach.specs.OpenImage.{segments_held};
 ghost use Rattle.goblin_mach_c.specs.Codes.{IsRefusal};
 ghost use Rattle.goblin_mach_c.specs.FixupRows as rows;
 ghost use Rattle.goblin_mach_c.specs.FixupRows.{fixup_row};
@@ -205,8 +205,8 @@ fn at_stage(stage: u32) -> gm_fixup_cursor
 impl<'a, 'b> FixupRows<'a, 'b> {
     /// Those behind a cursor.
     pub fn behind(image: &'b MachO<'a, Global>, cursor: &gm_fixup_cursor) -> Self
-        ensures items { AreFixupsBehind cursor.now (chained_held image.now) (segments_in image.now.segments) (items_left result) }
-        ensures over { AreOver (record { chained = chained_held image.now; segments = segments_in image.now.segments }) result }
+        ensures items { AreFixupsBehind cursor.now (chained_held image.now) (segments_held image.now) (items_left result) }
+        ensures over { AreOver (record { chained = chained_held image.now; segments = segments_held image.now }) result }
     {
         let (segments, base) = (image.segments.as_slice(), image.base());
         match (cursor.stage, image.chained_fixups()) {

@@ -195,6 +195,9 @@ pub fn over() -> gm_bind_cursor
         has_special: 0,
         is_lazy: 0,
         ended: 0,
+        kind: 0,
+        has_name: 0,
+        has_segment: 0,
     };
     gm_bind_cursor { binds, stage: 2 }
 }

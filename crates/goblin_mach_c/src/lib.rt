@@ -26,4 +26,3 @@ mod run_paths;
 mod sections;
 mod segments;
 mod symbols;
-mod tests;

@@ -1,10 +1,10 @@
 -- The segment that was opened last opens again by its number.
-use Rattle.std.proofs.Common.{◌≡◌, ℕ, zero, Bool, true, false, cond, not, ◌==◌, Option, Some, None, Result, Ok, Err, refl, sym, ap, subst, ◌∙◌, nat_le, arith}
+use Rattle.std.proofs.Common.{◌≡◌, ℕ, Bool, true, false, cond, not, ◌==◌, Option, Some, None, Result, Ok, Err, refl, sym, ap, subst, ◌∙◌, nat_le, arith}
 use Rattle.mach_base.proofs.Binds.{bind_ok, same_ok}
 use Rattle.mach_base.specs.Answer.{◌>>=◌}
 use Rattle.mach_base.specs.Fault.{Fault, malformed}
 use Rattle.mach_base.specs.Sums.{found_or_malformed}
-use Rattle.mach_parts.specs.declared.segment.Segment.{Segment}
+use Rattle.mach_parts.specs.Segment.{SegmentView}
 use Rattle.mach_chained.specs.declared.starts.ChainedStartsInSegment.{ChainedStartsInSegment}
 use Rattle.mach_chained.specs.Fixups.{Input, Span, Ends, no_ends, in_memory, behind, span_of, span_by}
 unfoldable use Rattle.mach_chained.specs.Fixups.{span_at}
@@ -15,12 +15,12 @@ use Rattle.mach_chained.specs.Opened.{IsKnown, nothing_opened, span_or_nothing}
 use Rattle.std.proofs.lemmas.Bool.{le-leb}
 
 -- nothing stands before the first
-first_behind : (chains : Chains) (s : Segment) → behind no_ends chains s ≡ Ok s
-first_behind chains s = rw (le-leb 0 chains.place (omega arith), le-leb 0 s.fileoff (omega arith)) refl
+first_behind : (chains : Chains) (s : SegmentView) → behind no_ends chains s ≡ Ok s
+first_behind chains s = rw (le-leb 0 chains.place (omega arith), le-leb 0 s.command.fileoff (omega arith)) refl
 
 -- where a segment stands behind another, it is that segment
-same_behind : (before : Ends) (chains : Chains) (s t : Segment) → behind before chains s ≡ Ok t → s ≡ t
-same_behind before chains s t e = by_tests (nat_le before.starts chains.place) (nat_le before.in_file s.fileoff) e
+same_behind : (before : Ends) (chains : Chains) (s t : SegmentView) → behind before chains s ≡ Ok t → s ≡ t
+same_behind before chains s t e = by_tests (nat_le before.starts chains.place) (nat_le before.in_file s.command.fileoff) e
   where
     by_tests : (p q : Bool) → cond p (cond q (Ok s) (Err malformed)) (Err malformed) ≡ Ok t → s ≡ t
     by_tests true true e = same_ok e
@@ -28,36 +28,36 @@ same_behind before chains s t e = by_tests (nat_le before.starts chains.place) (
     by_tests false q e = absurd (cc)
 
 -- the segment behind another is the same behind none
-abbrev then_span : Ends → ℕ → Chains → Segment → Result (Option Span) Fault
-then_span before k chains h = behind before chains h >>= λ (n : Segment). Ok (Some (span_of k chains n))
+abbrev then_span : Ends → ℕ → Chains → SegmentView → Result (Option Span) Fault
+then_span before k chains h = behind before chains h >>= λ (n : SegmentView). Ok (Some (span_of k chains n))
 
 some_same : {r q : Span} → ◌≡◌ {A = Result (Option Span) Fault} (Ok (Some r)) (Ok (Some q)) → r ≡ q
 some_same e = cc
 
-span_same : (before : Ends) (k : ℕ) (chains : Chains) (h : Segment) (s : Span) → then_span before k chains h ≡ Ok (Some s) → span_of k chains h ≡ s
+span_same : (before : Ends) (k : ℕ) (chains : Chains) (h : SegmentView) (s : Span) → then_span before k chains h ≡ Ok (Some s) → span_of k chains h ≡ s
 span_same before k chains h s e =
-    let d = bind_ok (behind before chains h) (λ (n : Segment). Ok (Some (span_of k chains n))) (Some s) e in
-    ap (λ (n : Segment). span_of k chains n) (same_behind before chains h d.0 d.1) ∙ some_same d.2
+    let d = bind_ok (behind before chains h) (λ (n : SegmentView). Ok (Some (span_of k chains n))) (Some s) e in
+    ap (λ (n : SegmentView). span_of k chains n) (same_behind before chains h d.0 d.1) ∙ some_same d.2
 
 module _ (x : Input) (before : Ends) (k : ℕ) (s : Span) where
-  by_memory : (chains : Chains) (r : Result Segment Fault) → (r >>= then_span before k chains) ≡ Ok (Some s)
+  by_memory : (chains : Chains) (r : Result SegmentView Fault) → (r >>= then_span before k chains) ≡ Ok (Some s)
       → ((r >>= then_span no_ends k chains) ≡ Ok (Some s)) × (k ≡ s.number)
   by_memory chains (Ok h) e =
       let same = span_same before k chains h s e in (
-        ap (λ (r : Result Segment Fault). r >>= λ (n : Segment). Ok (Some (span_of k chains n))) (first_behind chains h) ∙ ap (λ (q : Span). Ok (Some q)) same,
+        ap (λ (r : Result SegmentView Fault). r >>= λ (n : SegmentView). Ok (Some (span_of k chains n))) (first_behind chains h) ∙ ap (λ (q : Span). Ok (Some q)) same,
         ap (λ (q : Span). q.number) same,
       )
   by_memory chains (Err f) e = absurd (cc)
 
-  by_segment : (chains : Chains) (r : Result Segment Fault) → (r >>= λ (g : Segment). in_memory x chains g >>= then_span before k chains) ≡ Ok (Some s)
-      → ((r >>= λ (g : Segment). in_memory x chains g >>= then_span no_ends k chains) ≡ Ok (Some s)) × (k ≡ s.number)
+  by_segment : (chains : Chains) (r : Result SegmentView Fault) → (r >>= λ (g : SegmentView). in_memory x chains g >>= then_span before k chains) ≡ Ok (Some s)
+      → ((r >>= λ (g : SegmentView). in_memory x chains g >>= then_span no_ends k chains) ≡ Ok (Some s)) × (k ≡ s.number)
   by_segment chains (Ok g) e = by_memory chains (in_memory x chains g) e
   by_segment chains (Err f) e = absurd (cc)
 
   by_chains : (r : Result Chains Fault)
-      → (r >>= λ (chains : Chains). found_or_malformed (slice_get x.segments k) >>= λ (g : Segment). in_memory x chains g >>= then_span before k chains)
+      → (r >>= λ (chains : Chains). found_or_malformed (slice_get x.segments k) >>= λ (g : SegmentView). in_memory x chains g >>= then_span before k chains)
       ≡ Ok (Some s)
-      → ((r >>= λ (chains : Chains). found_or_malformed (slice_get x.segments k) >>= λ (g : Segment). in_memory x chains g >>= then_span no_ends k chains)
+      → ((r >>= λ (chains : Chains). found_or_malformed (slice_get x.segments k) >>= λ (g : SegmentView). in_memory x chains g >>= then_span no_ends k chains)
       ≡ Ok (Some s)) × (k ≡ s.number)
   by_chains (Ok chains) e = by_segment chains (found_or_malformed (slice_get x.segments k)) e
   by_chains (Err f) e = absurd (cc)

@@ -6,16 +6,16 @@ use Rattle.mach_base.specs.Answer.{◌>>=◌}
 use Rattle.mach_base.specs.Fault.{Fault, malformed}
 use Rattle.mach_base.specs.Sums.{found_or_malformed, sum_of}
 use Rattle.mach_parts.specs.Bindings.{Binding, provider_of}
-use Rattle.mach_parts.specs.declared.segment.Segment.{Segment}
+use Rattle.mach_parts.specs.Segment.{SegmentView}
 use Rattle.mach_chained.specs.Imports.{import_at}
 use Rattle.mach_chained.specs.Pointers.{Kind, rebase, bind, value}
 use Rattle.mach_chained.specs.Fixups.{Input, Fixup}
 use Rattle.mach_chained.specs.Chained.{Placed, AreFixups, fixup_items, AreFixupItems}
 
 -- where an offset in a segment lies in the file
-abbrev pub place_in_file : List Segment → ℕ → ℕ → Result ℕ Fault
+abbrev pub place_in_file : List SegmentView → ℕ → ℕ → Result ℕ Fault
 place_in_file segments number offset =
-    found_or_malformed (slice_get segments number) >>= (λ segment. sum_of segment.fileoff offset)
+    found_or_malformed (slice_get segments number) >>= (λ segment. sum_of segment.command.fileoff offset)
 
 -- a number of 64 bits with a sign
 abbrev pub signed_or_malformed : ℤ → Result ℤ Fault

@@ -1,5 +1,5 @@
 -- How far the walk along chains has come, as numbers.
-use Rattle.std.specs.Prelude.{◌≡◌, ◌==◌, ℕ, List, Bool, not, Option, Some, None, Result, if◌then◌else◌}
+use Rattle.std.specs.Prelude.{◌≡◌, ◌==◌, ℕ, List, Bool, not, Some, None, Result, if◌then◌else◌}
 use Rattle.mach_base.specs.Fault.{Fault}
 use Rattle.mach_parts.specs.Bindings.{Binding}
 use Rattle.mach_chained.specs.Bindings.{bindings_of}

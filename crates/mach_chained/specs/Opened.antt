@@ -1,5 +1,5 @@
 -- The segment that was opened last.
-use Rattle.std.specs.Prelude.{◌≡◌, ◌⊎◌, [], Bool, true, false, Option, Some, None, Result, Ok, Err}
+use Rattle.std.specs.Prelude.{◌≡◌, [], Bool, true, false, Option, Some, None, Result, Ok, Err}
 use Rattle.mach_base.specs.Fault.{Fault}
 use Rattle.mach_chained.specs.Fixups.{Input, Span, no_ends, span_at}
 use Rattle.mach_chained.specs.declared.format.PointerFormat.TheVariants.{Generic64}

@@ -1,6 +1,6 @@
 //! The bindings of an image whose binds stand in chains.
 
-ghost use Rattle.std.specs.Prelude.{◌≡◌, ◌+◌, ◌≤◌, ◌+ℤ◌, [], List, length, Option, Some, None, IfOk, IfErr, IfNone, IfSome, OnOk, MatchOption};
+ghost use Rattle.std.specs.Prelude.{◌≡◌, ◌+◌, ◌≤◌, ◌+ℤ◌, [], List, length, map, Option, Some, None, IfOk, IfErr, IfNone, IfSome, OnOk, MatchOption};
 ghost use Rattle.std.specs.Iterator.{YieldsFirstBy};
 ghost use Rattle.mach_base.specs.Answer.{Reads, Stands, IsOkUnlessMemory};
 ghost use Rattle.mach_base.specs.Fault.{Fault};
@@ -8,6 +8,7 @@ ghost use Rattle.mach_chained.specs.Bindings.{place_in_file, signed_or_malformed
 ghost use Rattle.mach_chained.specs.Bindings.{BindingFault};
 ghost use Rattle.mach_chained.specs.Chained.{Placed, AreFixups, fixup_items};
 ghost use Rattle.mach_chained.specs.WalkViews.{input_of, input_in, fixup_view};
+ghost use Rattle.mach_parts.specs.Segment.{segment_view};
 ghost use Rattle.mach_parts.specs.Bindings as declared;
 ghost use Rattle.mach_parts.specs.Bindings.{texts, binding_view, binding_read};
 ghost use Rattle.mach_chained.specs.BindingViews.{bindings_seen, bindings_left, pointers_left};
@@ -24,7 +25,7 @@ use std::alloc::Allocator;
 // Where an offset in a segment lies in the file.
 #[inline(always)]
 fn place_in_file(segments: &[Segment<'_>], number: u32, offset: u64) -> Result<u64>
-    ensures { Reads (λ n. n) result (place_in_file segments.now number offset) }
+    ensures { Reads (λ n. n) result (place_in_file (map segment_view segments.now) number offset) }
 {
     let segment = nth_segment(segments, number)?;
     match segment.fileoff.checked_add(offset) {

@@ -11,7 +11,8 @@ ghost use Rattle.mach_chained.specs.Fixups.{next_in_page, fixup_at};
 ghost use Rattle.mach_chained.specs.WalkViews.{input_of, chains_view, span_view, span_seen, spot_view, spot_seen, fixup_seen};
 ghost use Rattle.mach_chained.specs.FixupsLeft.{next_spot};
 ghost use Rattle.mach_chained.specs.Opened.{nothing_opened};
-ghost use Rattle.std.specs.Prelude.{slice_get};
+ghost use Rattle.std.specs.Prelude.{map, slice_get};
+ghost use Rattle.mach_parts.specs.Segment.{segment_view};
 
 use crate::format::PointerFormat;
 use crate::header::ChainedFixups;
@@ -79,9 +80,10 @@ pub enum NextPlace {
 }
 
 /// The segment of a number.
+#[tactic(auto, using(mach_parts::proofs::SegmentViews::segment_seen))]
 #[inline(always)]
 pub fn nth_segment<'b, 'a>(segments: &'b [Segment<'a>], number: u32) -> Result<&'b Segment<'a>>
-    ensures { Reads (λ s. s.now) result (found_or_malformed (slice_get segments.now number)) }
+    ensures { Reads (λ s. segment_view s.now) result (found_or_malformed (slice_get (map segment_view segments.now) number)) }
 {
     match segments.get(number as usize) {
         Some(segment) => Ok(segment),
@@ -188,7 +190,7 @@ impl<'a> Span<'a> {
 impl<'a, 'b> Source<'a, 'b> {
     // The segment, where its chains know its place in memory.
     fn in_memory(&self, chains: &Chains, segment: &'b Segment<'a>) -> Result<&'b Segment<'a>>
-        ensures { Reads (λ s. s.now) result (in_memory (input_of self.now) (chains_view chains.now) segment.now) }
+        ensures { Reads (λ s. segment_view s.now) result (in_memory (input_of self.now) (chains_view chains.now) (segment_view segment.now)) }
     {
         let address = u128::from(self.base) + u128::from(chains.segment_offset);
         if address != u128::from(segment.vmaddr) {
@@ -204,7 +206,7 @@ impl<'a, 'b> Source<'a, 'b> {
         chains: &Chains,
         segment: &'b Segment<'a>,
     ) -> Result<&'b Segment<'a>>
-        ensures { Reads (λ s. s.now) result (behind (ends_of (span_view before.now)) (chains_view chains.now) segment.now) }
+        ensures { Reads (λ s. segment_view s.now) result (behind (ends_of (span_view before.now)) (chains_view chains.now) (segment_view segment.now)) }
     {
         if chains.place < before.chains.upto {
             return Err(Error::Malformed("starts lie behind those before them"));

@@ -1,13 +1,14 @@
 -- A range that is cut behind a DONE.
 use Rattle.mach_dyld.proofs.Names.{◌≡◌, ℕ, ◌+◌, ◌-◌, ◌*◌, ◌%◌, ◌^◌, ◌<◌, ◌≤◌, List, [], ◌∷◌, ◌++◌, map, Bool, true, false, Some, None, Result, Ok, Err, refl}
 use Rattle.mach_dyld.proofs.Names.{sym, ap, subst, ◌∙◌, arith, zero-add, pos, filter_map, range_with_len, cons_option, AllByRecursion, cond, map-append, ◌>>=◌}
-use Rattle.mach_dyld.proofs.Names.{Fault, Segment, Input, Range, Placed, Follow, StandsIn, AllStand, stream_end, IsBeginning, IsStream, Bind, is_done}
+use Rattle.mach_dyld.proofs.Names.{Fault, SegmentView, Input, Range, Placed, Follow, StandsIn, AllStand, stream_end, IsBeginning, IsStream, Bind, is_done}
 use Rattle.mach_dyld.proofs.Names.{sets_segment, nearer_than, nearest_or, done_after, bind_after, binds_at, binds_from, stride_in, count_in, library_in}
 use Rattle.mach_dyld.proofs.Names.{flags_in, symbol_name_in, addend_in, segment_in, offset_in, advances, Import, Target, import_of, imports_in, import_with}
 use Rattle.mach_dyld.proofs.Names.{target_of, BindRanges, input_in, ListsImports}
 use Rattle.mach_dyld.specs.BindCut.{HasList, ListsByStream, raised, front_range, rest_range, CutsBehindDone}
-use Rattle.mach_dyld.proofs.BindPlaces.{ends_after}
+use Rattle.mach_dyld.specs.RowsMove.{ends_after}
 use Rattle.mach_dyld.proofs.BindReading.{one_longest}
+use Rattle.mach_dyld.specs.Streams.{reader_of}
 use Rattle.mach_dyld.proofs.BindLists.{longest_stream}
 use Rattle.mach_dyld.proofs.BindTotal.{behind, onto, binds-append}
 use Rattle.mach_dyld.proofs.BindLast.{all-append}
@@ -211,7 +212,7 @@ raised_oks n (i ∷ low) = ap (λ ys. Ok (raised n i) ∷ ys) (raised_oks n low)
 
 -- ---- the lists of both streams
 
-module _ (b : BindRanges) (pointer : ℕ) (libs : List (List ℕ)) (segments : List Segment) (list : List Import) where
+module _ (b : BindRanges) (pointer : ℕ) (libs : List (List ℕ)) (segments : List SegmentView) (list : List Import) where
   abbrev input : Input
   input = input_in b pointer libs segments
 
@@ -286,7 +287,7 @@ module _ (x : Input) (r : Range) (front : List Placed) (d : Placed) (list : List
 
   together : Halves → HasList x r list
   together (one, two, h, k, j) =
-      let same : h.0 ≡ heads = (one_longest x first_range h.0 heads None None (longest_stream x first_range h.0 h.1)
+      let same : h.0 ≡ heads = (one_longest (reader_of x) first_range h.0 heads None None (longest_stream x first_range h.0 h.1)
       (longest_stream x first_range heads front_stream)).0 in
       let rest_follows : Follow d.after k.0 = k.1.beginning.follow in
       let follow : Follow (stream_end r.from heads) k.0 = subst (λ (m : ℕ). Follow m k.0) (sym front_ends) rest_follows in

@@ -1,12 +1,12 @@
 -- Where the name of a bind stands, and which library it is of.
-use Rattle.mach_dyld.proofs.Names.{◌≡◌, ◌⊎◌, ◌<◌, ◌≤◌, ◌^◌, ℕ, ℤ, List, [], Option, Some, None, Result, Ok, Err, refl, sym, ap, subst, ◌∙◌, arith, inl, inr}
-use Rattle.mach_dyld.proofs.Names.{length}
-use Rattle.mach_dyld.proofs.Names.{slice_get, found_or_malformed, ◌>>=◌, bind_ok, same_ok, Fault, Segment, Input, Bind, Import, Target, target_of, import_of}
+use Rattle.mach_dyld.proofs.Names.{◌≡◌, ◌⊎◌, ◌≤◌, ℕ, List, [], Option, Some, None, Result, Ok, Err, refl, sym, ap, ◌∙◌, arith, inl, inr}
+use Rattle.mach_dyld.proofs.Names.{length, Bool, true, false, cond, malformed}
+use Rattle.mach_dyld.proofs.Names.{slice_get, found_or_malformed, ◌>>=◌, bind_ok, same_ok, Fault, Input, Bind, Import, Target, target_of, import_of}
 use Rattle.mach_dyld.proofs.Names.{import_with}
-use Rattle.mach_dyld.proofs.Names.{holding, sum_of, text_at}
-use Rattle.mach_dyld.proofs.BindAddresses.{target_at, summed_at}
+use Rattle.mach_dyld.proofs.Names.{text_at}
+use Rattle.mach_dyld.proofs.BindAddresses.{target_spot}
 use Rattle.mach_parts.specs.Bindings.{Binding, Provider, provider_of}
-use Rattle.mach_dyld.specs.Bindings.{binding_with}
+use Rattle.mach_dyld.specs.Bindings.{Given, is_complete, binding_with}
 unfoldable use Rattle.mach_dyld.specs.Bindings.{binding_of, spot_of}
 use Rattle.mach_dyld.specs.NamePlaces.{IsNamed, text_or_none}
 use Rattle.std.proofs.lemmas.Bool.{le-leb}
@@ -31,16 +31,8 @@ found_text None s e = absurd (cc)
 found_text (Some r) s e = ap (λ (q : List ℕ). Some q) (same_ok e)
 
 target_library : (x : Input) (number k offset : ℕ) (t : Target) → target_of x number k offset ≡ Ok t → slice_get x.libs number ≡ Some t.dylib
-unfolding target_of
 target_library x number k offset t e =
-    let a = bind_ok (found_or_malformed (slice_get x.libs number))
-    (λ (dylib : List ℕ). found_or_malformed (slice_get x.segments k)
-    >>= λ (s : Segment). holding offset s >>= λ (h : Segment). summed_at dylib offset h) t e in
-    let b = bind_ok (found_or_malformed (slice_get x.segments k)) (λ (s : Segment). holding offset s >>= λ (h : Segment). summed_at a.0 offset h) t a.2 in
-    let c = bind_ok (holding offset b.0) (λ (h : Segment). summed_at a.0 offset h) t b.2 in
-    let o = bind_ok (sum_of c.0.fileoff offset) (λ (o : ℕ). sum_of c.0.vmaddr offset >>= λ (v : ℕ). target_at a.0 o v) t c.2 in
-    let v = bind_ok (sum_of c.0.vmaddr offset) (λ (v : ℕ). target_at a.0 o.0 v) t o.2 in
-    found_text (slice_get x.libs number) a.0 a.1 ∙ ap (λ (y : Target). Some y.dylib) (same_ok v.2)
+    let p = target_spot x number k offset t e in found_text (slice_get x.libs number) p.0 p.1 ∙ ap (λ (y : Target). Some y.dylib) p.2.made
 
 -- the name and the library of an import
 pub import_tells : (x : Input) (b : Bind) (i : Import) → import_of x b ≡ Ok i → (b.name ≡ i.name) × (slice_get x.libs b.library ≡ Some i.dylib)
@@ -50,13 +42,30 @@ import_tells x b i e =
     let same : import_with b t.0 ≡ i = same_ok t.2 in
     (ap (λ (j : Import). j.name) same, target_library x b.library b.segment b.offset t.0 t.1 ∙ ap (λ (j : Import). Some j.dylib) same)
 
--- the name of a binding
-pub binding_tells : (x : Input) (ordinal : ℤ) (b : Bind) (i : Binding) → binding_of x ordinal b ≡ Ok i → b.name ≡ i.name
+abbrev made_with : Input → Given → Bind → Result Binding Fault
+made_with x g b =
+    provider_of x.libs g.ordinal >>= λ (p : Provider). spot_of x.pointer x.segments b.segment b.offset >>= λ (s : ℕ × ℕ). Ok (binding_with b p s)
+
+-- a binding is complete, and has a provider and a spot
+pub made_of : (x : Input) (g : Given) (b : Bind) (i : Binding) → binding_of x g b ≡ Ok i
+    → (p : Provider) × (s : ℕ × ℕ) × (is_complete g ≡ true) × (provider_of x.libs g.ordinal ≡ Ok p)
+    × (spot_of x.pointer x.segments b.segment b.offset ≡ Ok s) × (binding_with b p s ≡ i)
 unfolding binding_of
-binding_tells x ordinal b i e =
-    let p = bind_ok (provider_of x.libs ordinal) (λ (p : Provider). spot_of x.segments b.segment b.offset >>= λ (s : ℕ × ℕ). Ok (binding_with b p s)) i e in
-    let s = bind_ok (spot_of x.segments b.segment b.offset) (λ (s : ℕ × ℕ). Ok (binding_with b p.0 s)) i p.2 in
-    ap (λ (j : Binding). j.name) (same_ok s.2)
+made_of x g b i e = by_test (is_complete g) refl e
+  where
+    by_test : (t : Bool) → is_complete g ≡ t → cond t (made_with x g b) (Err malformed) ≡ Ok i
+        → (p : Provider) × (s : ℕ × ℕ) × (is_complete g ≡ true) × (provider_of x.libs g.ordinal ≡ Ok p)
+        × (spot_of x.pointer x.segments b.segment b.offset ≡ Ok s) × (binding_with b p s ≡ i)
+    by_test true t e =
+        let p = bind_ok (provider_of x.libs g.ordinal)
+        (λ (p : Provider). spot_of x.pointer x.segments b.segment b.offset >>= λ (s : ℕ × ℕ). Ok (binding_with b p s)) i e in
+        let s = bind_ok (spot_of x.pointer x.segments b.segment b.offset) (λ (s : ℕ × ℕ). Ok (binding_with b p.0 s)) i p.2 in
+        (p.0, s.0, t, p.1, s.1, same_ok s.2)
+    by_test false t e = absurd (cc)
+
+-- the name of a binding
+pub binding_tells : (x : Input) (g : Given) (b : Bind) (i : Binding) → binding_of x g b ≡ Ok i → b.name ≡ i.name
+binding_tells x g b i e = let made = made_of x g b i e in ap (λ (j : Binding). j.name) made.5
 
 -- a name that is known stands there
 pub stands : (bytes name : List ℕ) (place : ℕ) → IsNamed bytes name place → (name ≡ []) ⊎ (text_at bytes place ≡ Ok name)

@@ -5,8 +5,9 @@ use Rattle.mach_dyld.proofs.Names.{Instruction, done, library, symbol, addend, s
 use Rattle.mach_dyld.proofs.Names.{times_at}
 use Rattle.mach_dyld.proofs.Names.{row_at, Placed, Bind, set_by, moved}
 use Rattle.mach_dyld.specs.Instructions.{nothing}
-use Rattle.mach_dyld.specs.Bindings.{is_threaded}
-use Rattle.mach_dyld.specs.BindingsLeft.{ordinal_after, ordinal_now, special_after}
+use Rattle.mach_dyld.specs.Binds.{done_is}
+use Rattle.mach_dyld.specs.BindingsLeft.{ordinal_now, special_after}
+use Rattle.mach_dyld.proofs.BindingSet.{ordinal_after}
 
 abbrev Found : Type 0
 Found = Result (Instruction × ℕ) Fault
@@ -64,9 +65,47 @@ quiet_row pointer bytes opcode imm place a b c =
     (quiet_either (opcode == 0xb0) _ _ (quiet_here (binds 1 (imm * pointer)) place refl)
     (quiet_either (opcode == 0xc0) _ _ (quiet_times bytes place) (quiet_here nothing place refl)))))))))
 
-pub threaded_row : (pointer : ℕ) (bytes : List ℕ) (opcode imm place : ℕ) → opcode ≡ 0xd0 → row_at pointer bytes opcode imm place ≡ Ok (nothing, place)
-unfolding row_at
-threaded_row pointer bytes opcode imm place e = rw e refl
+quiet_not_done : (i : Instruction) → is_quiet i ≡ true → done_is i ≡ false
+quiet_not_done done h = cc
+quiet_not_done (library n) h = refl
+quiet_not_done (symbol flags name) h = refl
+quiet_not_done (addend n) h = refl
+quiet_not_done (segment k n) h = refl
+quiet_not_done (advance n) h = refl
+quiet_not_done (binds count skip) h = refl
+quiet_not_done nothing h = refl
+
+-- what holds of a library's instruction, where it is one, and of those that set none, holds of that of a row
+module _ (P : Instruction → Type 0) (pointer : ℕ) (bytes : List ℕ) (opcode imm place : ℕ) where
+  row_imm : opcode ≡ 0x10 → row_at pointer bytes opcode imm place ≡ Ok (library imm, place)
+  unfolding row_at
+  row_imm e = rw e refl
+
+  row_uleb : opcode ≡ 0x20 → row_at pointer bytes opcode imm place ≡ with_uleb library bytes place
+  unfolding row_at
+  row_uleb e = ap (λ n. row_at pointer bytes n imm place) e
+
+  of_uleb : (found : Instruction × ℕ) → with_uleb library bytes place ≡ Ok found → ((n : ℕ) → P (library n)) → P found.0
+  unfolding with_uleb
+  of_uleb found e h =
+      let n = bind_ok (uleb_at bytes place) (λ (n : ℕ × ℕ). Ok (library n.0, n.1)) found e in
+      subst (λ (y : Instruction × ℕ). P y.0) (same_ok n.2) (h n.0.0)
+
+  of_row : (found : Instruction × ℕ) → row_at pointer bytes opcode imm place ≡ Ok found → opcode ≢ 0x00 → (opcode ≡ 0x10 → P (library imm))
+      → (opcode ≡ 0x20 → (n : ℕ) → P (library n)) → (opcode ≢ 0x10 → opcode ≢ 0x20 → (i : Instruction) → is_quiet i ≡ true → P i) → P found.0
+  of_row found row d in_imm in_uleb in_rest = elim (cases_eq opcode 0x10) [
+    | inl e ↦ subst (λ (y : Instruction × ℕ). P y.0) (same_ok (sym (row_imm e) ∙ row)) (in_imm e)
+    | inr m ↦ elim (cases_eq opcode 0x20) [
+      | inl e ↦ of_uleb found (sym (row_uleb e) ∙ row) (in_uleb e)
+      | inr u ↦ in_rest m u found.0 (quiet_row pointer bytes opcode imm place d m u found row)
+    ]
+  ]
+
+-- a DONE has opcode 0
+pub no_done : (pointer : ℕ) (bytes : List ℕ) (opcode imm place : ℕ) (found : Instruction × ℕ) → row_at pointer bytes opcode imm place ≡ Ok found
+    → opcode ≢ 0x00 → done_is found.0 ≡ false
+no_done pointer bytes opcode imm place found row d =
+    of_row (λ i. done_is i ≡ false) pointer bytes opcode imm place found row d (λ e. refl) (λ e n. refl) (λ m u i q. quiet_not_done i q)
 
 -- ---- the ordinal
 
@@ -74,32 +113,19 @@ threaded_row pointer bytes opcode imm place e = rw e refl
 abbrev at_byte : ℕ → Instruction → ℕ → Placed
 at_byte place i after = record { place = place; instruction = i; after = after }
 
-module _ (bytes : List ℕ) (place byte : ℕ) (there : byte_at bytes place ≡ Ok byte) where
-  pub threaded : (after : ℕ) → bit_and byte 0xf0 ≡ 0xd0 → is_threaded bytes (at_byte place nothing after) ≡ true
-  threaded after e = rw (there, e) refl
-
-  pub not_threaded : (i : Instruction) (after : ℕ) → bit_and byte 0xf0 ≢ 0xd0 → is_threaded bytes (at_byte place i after) ≡ false
-  not_threaded done after h = refl
-  not_threaded (library n) after h = refl
-  not_threaded (symbol flags name) after h = refl
-  not_threaded (addend n) after h = refl
-  not_threaded (segment k n) after h = refl
-  not_threaded (advance n) after h = refl
-  not_threaded (binds count skip) after h = refl
-  not_threaded nothing after h = rw there (ne_eqb (bit_and byte 0xf0) 0xd0 h)
-
+module _ (bytes : List ℕ) (place byte : ℕ) (there : byte_at bytes place ≡ Ok byte) (special : Option ℤ) (end : ℕ) (b : Bind) (after : ℕ) where
   -- the ordinal is kept
-  kept : (special : Option ℤ) (end : ℕ) (b : Bind) (i : Instruction) (after : ℕ) → is_quiet i ≡ true → bit_and byte 0xf0 ≢ 0x30
+  kept : (i : Instruction) → is_quiet i ≡ true → bit_and byte 0xf0 ≢ 0x30
       → ordinal_after bytes (at_byte place i after) (ordinal_now special b.library) ≡ ordinal_now special (set_by i end b).library
   unfolding set_by moved
-  kept special end b done after q h = cc
-  kept special end b (library n) after q h = cc
-  kept special end b (symbol flags name) after q h = refl
-  kept special end b (addend n) after q h = refl
-  kept special end b (segment k n) after q h = refl
-  kept special end b (advance n) after q h = refl
-  kept special end b (binds count skip) after q h = refl
-  kept special end b nothing after q h = rw (there, ne_eqb (bit_and byte 0xf0) 0x30 h) refl
+  kept done q h = cc
+  kept (library n) q h = cc
+  kept (symbol flags name) q h = refl
+  kept (addend n) q h = refl
+  kept (segment k n) q h = refl
+  kept (advance n) q h = refl
+  kept (binds count skip) q h = refl
+  kept nothing q h = rw (there, ne_eqb (bit_and byte 0xf0) 0x30 h) refl
 
   abbrev opcode_there : ℕ
   opcode_there = bit_and byte 0xf0
@@ -107,67 +133,32 @@ module _ (bytes : List ℕ) (place byte : ℕ) (there : byte_at bytes place ≡ 
   abbrev imm_there : ℕ
   imm_there = bit_and byte 0x0f
 
-  module _ (pointer : ℕ) (special : Option ℤ) (end : ℕ) (b : Bind) where
-    abbrev Next : Instruction → ℕ → Type 0
-    Next i after =
-        ordinal_after bytes (at_byte place i after) (ordinal_now special b.library)
-        ≡ ordinal_now (special_after special opcode_there imm_there) (set_by i end b).library
+  abbrev Next : Instruction → Type 0
+  Next i =
+      ordinal_after bytes (at_byte place i after) (ordinal_now special b.library)
+      ≡ ordinal_now (special_after special opcode_there imm_there) (set_by i end b).library
 
-    abbrev row_there : Found
-    row_there = row_at pointer bytes opcode_there imm_there (place + 1)
+  row_special : (pointer : ℕ) → opcode_there ≡ 0x30 → row_at pointer bytes opcode_there imm_there (place + 1) ≡ Ok (nothing, place + 1)
+  unfolding row_at
+  row_special pointer e = rw e refl
 
-    by_instruction : (i j : Instruction) (after : ℕ) → j ≡ i → Next j after → Next i after
-    by_instruction i j after e h = subst (λ (k : Instruction). Next k after) e h
+  next_special : opcode_there ≡ 0x30 → Next nothing
+  unfolding set_by
+  next_special e = rw (there, e) refl
 
-    found_there : (i j : Instruction) (after end_of : ℕ) → row_there ≡ Ok (j, end_of) → row_there ≡ Ok (i, after) → j ≡ i
-    found_there i j after end_of e h = ap (λ (y : Instruction × ℕ). y.0) (same_ok (sym e ∙ h))
+  next_imm : opcode_there ≡ 0x10 → Next (library imm_there)
+  unfolding set_by
+  next_imm e = rw e refl
 
-    next_special : (i : Instruction) (after : ℕ) → opcode_there ≡ 0x30 → row_there ≡ Ok (i, after) → Next i after
-    unfolding row_at
-    next_special i after e h = by_instruction i nothing after (found_there i nothing after (place + 1) (rw e refl) h) (rw (there, e) refl)
+  next_uleb : opcode_there ≡ 0x20 → (n : ℕ) → Next (library n)
+  unfolding set_by
+  next_uleb e n = rw e refl
 
-    next_done : (i : Instruction) (after : ℕ) → opcode_there ≡ 0x00 → row_there ≡ Ok (i, after) → Next i after
-    unfolding row_at set_by
-    next_done i after e h = by_instruction i done after (found_there i done after (place + 1) (rw e refl) h) (rw e refl)
-
-    next_imm : (i : Instruction) (after : ℕ) → opcode_there ≡ 0x10 → row_there ≡ Ok (i, after) → Next i after
-    unfolding row_at set_by
-    next_imm i after e h =
-        by_instruction i (library imm_there) after (found_there i (library imm_there) after (place + 1) (rw e refl) h) (rw e refl)
-
-    row_of_uleb : opcode_there ≡ 0x20 → row_there ≡ with_uleb library bytes (place + 1)
-    unfolding row_at
-    row_of_uleb e = ap (λ n. row_at pointer bytes n imm_there (place + 1)) e
-
-    next_number : (n after : ℕ) → opcode_there ≡ 0x20 → Next (library n) after
-    unfolding set_by
-    next_number n after e = rw e refl
-
-    next_uleb : (i : Instruction) (after : ℕ) → opcode_there ≡ 0x20 → row_there ≡ Ok (i, after) → Next i after
-    unfolding with_uleb
-    next_uleb i after e h =
-        let n = bind_ok (uleb_at bytes (place + 1)) (λ (n : ℕ × ℕ). Ok (library n.0, n.1)) (i, after) (sym (row_of_uleb e) ∙ h) in
-        by_instruction i (library n.0.0) after (ap (λ (y : Instruction × ℕ). y.0) (same_ok n.2)) (next_number n.0.0 after e)
-
-    next_kept : (i : Instruction) (after : ℕ) → opcode_there ≢ 0x30 → opcode_there ≢ 0x00 → opcode_there ≢ 0x10 → opcode_there ≢ 0x20
-        → row_there ≡ Ok (i, after) → Next i after
-    next_kept i after s d m u h =
-        let quiet = quiet_row pointer bytes opcode_there imm_there (place + 1) d m u (i, after) h in
-        rw (ne_eqb opcode_there 0x30 s, ne_eqb opcode_there 0x00 d, ne_eqb opcode_there 0x10 m, ne_eqb opcode_there 0x20 u)
-        (kept special end b i after quiet s)
-
-    -- the ordinal after an instruction, by its opcode
-    pub next_ordinal : (i : Instruction) (after : ℕ) → row_there ≡ Ok (i, after) → Next i after
-    next_ordinal i after h = elim (cases_eq opcode_there 0x30) [
-      | inl e ↦ next_special i after e h
-      | inr s ↦ elim (cases_eq opcode_there 0x00) [
-        | inl e ↦ next_done i after e h
-        | inr d ↦ elim (cases_eq opcode_there 0x10) [
-          | inl e ↦ next_imm i after e h
-          | inr m ↦ elim (cases_eq opcode_there 0x20) [
-            | inl e ↦ next_uleb i after e h
-            | inr u ↦ next_kept i after s d m u h
-          ]
-        ]
-      ]
-    ]
+  -- the ordinal after an instruction, by its opcode
+  pub next_ordinal : (pointer : ℕ) (found : Instruction × ℕ) → opcode_there ≢ 0x00
+      → row_at pointer bytes opcode_there imm_there (place + 1) ≡ Ok found → Next found.0
+  next_ordinal pointer found d row = elim (cases_eq opcode_there 0x30) [
+    | inl e ↦ subst (λ (y : Instruction × ℕ). Next y.0) (same_ok (sym (row_special pointer e) ∙ row)) (next_special e)
+    | inr s ↦ of_row Next pointer bytes opcode_there imm_there (place + 1) found row d next_imm next_uleb
+        (λ m u i q. rw (ne_eqb opcode_there 0x30 s, ne_eqb opcode_there 0x10 m, ne_eqb opcode_there 0x20 u) (kept i q s))
+  ]

@@ -25,12 +25,15 @@ pub use Rattle.mach_base.specs.Sums.{found_or_malformed, sum_of}
 pub use Rattle.mach_base.specs.Text.{run_at}
 unfoldable pub use Rattle.mach_base.specs.Text.{text_at}
 pub use Rattle.mach_base.specs.declared.error.Error.{Error}
-pub use Rattle.mach_parts.specs.declared.segment.Segment.{Segment}
+pub use Rattle.mach_parts.specs.Segment.{SegmentView}
 pub use Rattle.mach_dyld.specs.BindFault.{BindFault, StreamFault, unreadable, no_import}
-pub use Rattle.mach_dyld.specs.BindItems.{fault_item, upto_fault, AreBindItems}
-pub use Rattle.mach_dyld.specs.BindLeft.{input_of, lazy_of, state_of, IsAtEnd, reading_from, State, start_of, ReadAhead, goes_on, fresh, executed_by, bind_of}
-unfoldable pub use Rattle.mach_dyld.specs.BindLeft.{imports_left, reads_left, rest_of, items_of, reads_of, strides, after_strides, reading_within, moved}
-unfoldable pub use Rattle.mach_dyld.specs.BindLeft.{set_by, run, executed}
+pub use Rattle.mach_dyld.specs.BindItems.{AreBindItems}
+pub use Rattle.mach_dyld.specs.BindLeft.{imports_left, reads_left, import_rules}
+pub use Rattle.mach_dyld.specs.Faults.{fault_item, upto_fault, AreItems}
+pub use Rattle.mach_dyld.specs.Machine.{input_of, lazy_of, state_of, range_of, IsAtEnd, reading_from, State, start_of, ReadAhead, goes_on, fresh, executed_by}
+pub use Rattle.mach_dyld.specs.Machine.{bind_of, Rules, Reads, Moves, reader_by, set_after}
+unfoldable pub use Rattle.mach_dyld.specs.Machine.{items_left, opcodes_left, rest_of, items_of, reads_of, strides, after_strides, reading_within, moved}
+unfoldable pub use Rattle.mach_dyld.specs.Machine.{set_by, run, executed}
 pub use Rattle.mach_dyld.specs.BindViews.{imports_seen, import_in}
 pub use Rattle.mach_dyld.specs.Binds.{Bind, binds_of, is_done, sets_segment, nearer_than, nearest_or, done_after, binds_at, stride_in, count_in, library_in}
 pub use Rattle.mach_dyld.specs.Binds.{flags_in, symbol_name_in, addend_in, segment_in, offset_in, advances, last_setting, advance_in, sequence_of, reached}
@@ -48,6 +51,7 @@ pub use Rattle.mach_dyld.specs.Nodes.{own_at, trie_of}
 unfoldable pub use Rattle.mach_dyld.specs.Nodes.{branch_at, branches_at, children_at, terminal_at, inner_at, node_at}
 pub use Rattle.mach_dyld.specs.Paths.{StartsFrom, Leads, Before, Path, IsTree}
 pub use Rattle.mach_dyld.specs.Streams.{Input, Range, Placed, Follow, StandsIn, AllStand, stream_end, IsBeginning, IsStream, IsLongest, BeginningsHave, Stops}
+pub use Rattle.mach_dyld.specs.Streams.{Reader, StandsBy, AllStandBy, IsBeginningBy, StopsBy, IsLongestBy}
 pub use Rattle.mach_dyld.specs.TerminalPaths.{EndsWith, IsTerminal, BelongsTo, EachBelongs, AreInOrder, ListsPaths}
 pub use Rattle.mach_dyld.specs.Trie.{Branch, Info, Node, Entry, Trie, IsNode, entry, own_entries, regular, stub}
 pub use Rattle.mach_dyld.specs.TrieFault.{TrieFault, at_node, met_again}

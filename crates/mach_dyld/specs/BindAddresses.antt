@@ -1,20 +1,29 @@
 -- Where the imports of binds lie in memory.
 use Rattle.std.specs.Prelude.{◌≡◌, ◌+◌, ◌<◌, ◌≤◌, ℕ, List, All, Some, Result, Ok, IfOk, slice_get}
 use Rattle.mach_base.specs.Fault.{Fault}
-use Rattle.mach_parts.specs.declared.segment.Segment.{Segment}
+use Rattle.mach_parts.specs.Segment.{SegmentView}
 use Rattle.mach_dyld.specs.Streams.{Input, Range, Placed}
 use Rattle.mach_dyld.specs.Binds.{Bind}
 use Rattle.mach_dyld.specs.Imports.{Import, import_of, BindRanges, ListsImports}
 use Rattle.mach_dyld.specs.BindItems.{AreBindItems}
 
 -- the address is in the segment of this number
-abbrev pub LiesIn : List Segment → ℕ → ℕ → Type 0
+abbrev pub LiesIn : List SegmentView → ℕ → ℕ → Type 0
 LiesIn segments number address =
-    (s : Segment) × (slice_get segments number ≡ Some s) × (s.vmaddr ≤ address) × (address < s.vmaddr + s.vmsize)
+    (s : SegmentView) × (slice_get segments number ≡ Some s) × (s.command.vmaddr ≤ address) × (address < s.command.vmaddr + s.command.vmsize)
 
 -- it is in one of the segments
-abbrev pub LiesInSome : List Segment → ℕ → Type 0
+abbrev pub LiesInSome : List SegmentView → ℕ → Type 0
 LiesInSome segments address = (number : ℕ) × LiesIn segments number address
+
+-- so many bytes from the address on are in the segment of this number
+abbrev pub LiesWhole : List SegmentView → ℕ → ℕ → ℕ → Type 0
+LiesWhole segments number address len =
+    (s : SegmentView) × (slice_get segments number ≡ Some s) × (s.command.vmaddr ≤ address) × (address + len ≤ s.command.vmaddr + s.command.vmsize)
+
+-- they are in one of the segments
+abbrev pub LiesWholeInSome : List SegmentView → ℕ → ℕ → Type 0
+LiesWholeInSome segments address len = (number : ℕ) × LiesWhole segments number address len
 
 -- the import of a bind is in the bind's segment
 abbrev pub BindLiesIn : Type 0
@@ -22,7 +31,7 @@ BindLiesIn = (x : Input) (b : Bind) (i : Import) → import_of x b ≡ Ok i → 
 
 -- each import of a list is in one of the segments
 abbrev pub ListLiesIn : Type 0
-ListLiesIn = (b : BindRanges) (pointer : ℕ) (libs : List (List ℕ)) (segments : List Segment) (list : List Import)
+ListLiesIn = (b : BindRanges) (pointer : ℕ) (libs : List (List ℕ)) (segments : List SegmentView) (list : List Import)
     → ListsImports b pointer libs segments list → All (λ i. LiesInSome segments i.address) list
 
 -- so is each import that comes alone

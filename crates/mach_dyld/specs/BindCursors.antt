@@ -4,15 +4,15 @@ use Rattle.mach_base.specs.Fault.{Fault, fault_of}
 use Rattle.mach_base.specs.Text.{text_at}
 use Rattle.mach_base.specs.declared.error.Error.{Error}
 use Rattle.mach_parts.specs.Bindings.{Binding, binding_view}
-use Rattle.mach_parts.specs.declared.binding.Binding as declared_binding
-use Rattle.mach_dyld.specs.BindLeft.{State, items_of, input_of, lazy_of, bind_of}
+use Rattle.mach_dyld.specs.BindLeft.{import_rules}
+use Rattle.mach_dyld.specs.Machine as machine
+use Rattle.mach_dyld.specs.Machine.{State, items_of}
 use Rattle.mach_dyld.specs.BindViews.{import_in}
-use Rattle.mach_dyld.specs.Bindings.{binding_of}
-use Rattle.mach_dyld.specs.BindingsLeft as bindings
-use Rattle.mach_dyld.specs.BindingsLeft.{bindings_after, ordinal_now, ordinal_of}
+use Rattle.mach_dyld.specs.BindingsLeft.{binding_rules}
+use Rattle.mach_dyld.specs.declared.bindings.Extra.{Extra}
 use Rattle.mach_dyld.specs.Binds.{Bind}
-use Rattle.mach_dyld.specs.Imports.{Import, import_of}
-use Rattle.mach_dyld.specs.NamePlaces.{NameStands, text_or_none}
+use Rattle.mach_dyld.specs.Imports.{Import}
+use Rattle.mach_dyld.specs.NamePlaces.{text_or_none}
 use Rattle.mach_dyld.specs.Streams.{Input, Range}
 use Rattle.mach_dyld.specs.declared.bindings.OpcodeBindingIterator.{OpcodeBindingIterator}
 use Rattle.mach_dyld.specs.declared.imports.cursor.BindCursor.{BindCursor}
@@ -50,42 +50,24 @@ state_in bytes c = record {
 abbrev pub special_in : BindCursor → Option ℤ
 special_in c = if c.has_special == 0 then None else Some c.special
 
+-- the settings of bindings beside those of a bind
+abbrev pub extra_in : BindCursor → Extra
+extra_in c = record { special = special_in c; kind = c.kind; has_name = says_yes c.has_name; has_segment = says_yes c.has_segment }
+
 -- the imports that come behind a cursor, where this is the lazy stream
 abbrev pub imports_behind : Input → Range → BindCursor → List (Result Import Fault)
-imports_behind x lazy c = items_of x lazy (state_in x.bytes c)
+imports_behind x lazy c = items_of import_rules x lazy (record {}) (state_in x.bytes c)
 
 -- the bindings that come behind it
 abbrev pub bindings_behind : Input → Range → BindCursor → List (Result Binding Fault)
-bindings_behind x lazy c = bindings_after x lazy (ordinal_now (special_in c) c.library) (state_in x.bytes c)
+bindings_behind x lazy c = items_of binding_rules x lazy (extra_in c) (state_in x.bytes c)
 
 -- the iterator reads this, and knows where its name stands
-pub record IsOver (x : Input) (lazy : Range) (it : BindIterator) : Type 0 where
-  pub source : input_of it.source ≡ x
-  pub lazy_is : lazy_of it ≡ lazy
-  pub named : NameStands it.source.bytes.now it.state.settings
+abbrev pub IsOver : Input → Range → BindIterator → Type 0
+IsOver x lazy it = machine.IsOver x lazy it.stream
 
-pub record IsOverBindings (x : Input) (lazy : Range) (it : OpcodeBindingIterator) : Type 0 where
-  pub source : input_of it.source ≡ x
-  pub lazy_is : bindings.lazy_of it ≡ lazy
-  pub named : NameStands it.source.bytes.now it.state.settings
-
--- it reads what it read, and knows where its name stands if it did
-pub record KeepsPlace (old new : BindIterator) : Type 0 where
-  pub source : new.source ≡ old.source
-  pub lazy_is : lazy_of new ≡ lazy_of old
-  pub named : NameStands old.source.bytes.now old.state.settings → NameStands old.source.bytes.now new.state.settings
-
-pub record KeepsBindingPlace (old new : OpcodeBindingIterator) : Type 0 where
-  pub source : new.source ≡ old.source
-  pub lazy_is : bindings.lazy_of new ≡ bindings.lazy_of old
-  pub named : NameStands old.source.bytes.now old.state.settings → NameStands old.source.bytes.now new.state.settings
-
--- the import is that of a bind with these settings, but for the offset
-abbrev pub IsBoundBy : BindIterator → Import → Type 0
-IsBoundBy it i = (offset : ℕ) × (import_of (input_of it.source) (record (bind_of it.state.settings) { offset = offset }) ≡ Ok i)
-
-abbrev pub IsBindingBy : OpcodeBindingIterator → Binding → Type 0
-IsBindingBy it b = (offset : ℕ) × (binding_of (input_of it.source) (ordinal_of it) (record (bind_of it.state.settings) { offset = offset }) ≡ Ok b)
+abbrev pub IsOverBindings : Input → Range → OpcodeBindingIterator → Type 0
+IsOverBindings x lazy it = machine.IsOver x lazy it.stream
 
 -- an import with its places, as it was read
 abbrev pub placed_read : Result PlacedImport Error → Result Import Fault

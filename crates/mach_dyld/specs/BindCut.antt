@@ -1,6 +1,6 @@
 -- A bind range that is cut behind a DONE, and the lists of single streams.
 use Rattle.std.specs.Prelude.{◌≡◌, ◌+◌, ◌-◌, ◌↔◌, ℕ, List, [], ◌∷◌, ◌++◌, map, true, Ok}
-use Rattle.mach_parts.specs.declared.segment.Segment.{Segment}
+use Rattle.mach_parts.specs.Segment.{SegmentView}
 use Rattle.mach_dyld.specs.Streams.{Input, Range, Placed, IsBeginning, IsStream}
 use Rattle.mach_dyld.specs.Binds.{is_done}
 use Rattle.mach_dyld.specs.Imports.{Import, imports_in, BindRanges, input_in, ListsImports}
@@ -11,7 +11,7 @@ HasList x r list = (ps : List Placed) × IsStream x r ps × (imports_in x r ps �
 
 -- the list of both streams is that of the non-lazy one, then that of the lazy one
 abbrev pub ListsByStream : Type 0
-ListsByStream = (b : BindRanges) (pointer : ℕ) (libs : List (List ℕ)) (segments : List Segment) (list : List Import)
+ListsByStream = (b : BindRanges) (pointer : ℕ) (libs : List (List ℕ)) (segments : List SegmentView) (list : List Import)
     → ListsImports b pointer libs segments list
     ↔ ((one : List Import) × (two : List Import) × HasList (input_in b pointer libs segments) b.non_lazy one
     × HasList (input_in b pointer libs segments) b.lazy two × (list ≡ one ++ two))

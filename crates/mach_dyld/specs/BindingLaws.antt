@@ -1,18 +1,17 @@
 -- What holds of all bindings: how they follow from the instructions in order, where they lie, and when they are those
 -- of the imports.
-use Rattle.std.specs.Prelude.{◌≡◌, ◌≢◌, ℕ, ℤ, pos, List, [], ◌∷◌, ◌++◌, map, All, reverse, Bool, Option, Some, None, Result, Ok, Err, IfOk, bit_and}
+use Rattle.std.specs.Prelude.{◌≡◌, ◌≢◌, ◌<◌, ℕ, ℤ, pos, List, [], ◌∷◌, ◌++◌, All, reverse, Bool, Option, Some, None, Result, Ok, Err, IfOk, bit_and}
 use Rattle.std.specs.List.{AllByRecursion}
 use Rattle.mach_base.specs.Fault.{Fault}
 use Rattle.mach_dyld.specs.Instructions.{byte_at}
 use Rattle.mach_dyld.specs.Streams.{Input, Range, Placed}
 use Rattle.mach_dyld.specs.Binds.{Bind}
-use Rattle.mach_dyld.specs.Imports.{Import}
-use Rattle.mach_dyld.specs.BindItems.{AreBindItems}
+use Rattle.mach_dyld.specs.Imports.{Import, imports_in}
 use Rattle.mach_dyld.specs.BindLast.{IsLast}
-use Rattle.mach_dyld.specs.BindAddresses.{LiesIn, LiesInSome}
+use Rattle.mach_dyld.specs.BindAddresses.{LiesWhole, LiesWholeInSome}
 use Rattle.mach_parts.specs.Bindings.{Provider, of_library, itself, main_executable, flat, weak_lookup}
 use Rattle.mach_parts.specs.Bindings.{Binding}
-use Rattle.mach_dyld.specs.Bindings.{binding_of, ordinal_in, last_ordinal, bindings_at, bindings_in, AreBindings}
+use Rattle.mach_dyld.specs.Bindings.{Given, binding_of, ordinal_in, last_ordinal, bindings_at, bindings_in, AreBindings}
 
 -- the ordinal of a bind is the one that was set last after the last DONE before it, or 0
 abbrev pub FindsLastOrdinal : Type 0
@@ -28,20 +27,21 @@ abbrev pub HasOneListOfBindings : Type 0
 HasOneListOfBindings = (x : Input) (non_lazy lazy : Range) (ps qs ps' qs' : List Placed) (items others : List (Result Binding Fault))
     → AreBindings x non_lazy lazy ps qs items → AreBindings x non_lazy lazy ps' qs' others → items ≡ others
 
--- the binding of a bind is in the bind's segment
+-- the pointer of a bind's binding is in the bind's segment
 abbrev pub BindingLiesIn : Type 0
-BindingLiesIn = (x : Input) (ordinal : ℤ) (b : Bind) (found : Binding) → binding_of x ordinal b ≡ Ok found → LiesIn x.segments b.segment found.address
+BindingLiesIn = (x : Input) (g : Given) (b : Bind) (found : Binding) → binding_of x g b ≡ Ok found
+    → LiesWhole x.segments b.segment found.address x.pointer
 
--- each binding is in one of the segments
+-- that of each binding is in one of the segments
 abbrev pub BindingsLieIn : Type 0
 BindingsLieIn = (x : Input) (non_lazy lazy : Range) (ps qs : List Placed) (items : List (Result Binding Fault))
-    → AreBindings x non_lazy lazy ps qs items → All (λ item. IfOk item (λ b. LiesInSome x.segments b.address)) items
+    → AreBindings x non_lazy lazy ps qs items → All (λ item. IfOk item (λ b. LiesWholeInSome x.segments b.address x.pointer)) items
 
 -- ---- beside imports
 
--- its opcode is neither 3 nor 0xd
+-- its opcode is not 3
 abbrev pub IsPlain : List ℕ → Placed → Type 0
-IsPlain bytes p = (byte : ℕ) → byte_at bytes p.place ≡ Ok byte → (bit_and byte 0xf0 ≢ 0x30) × (bit_and byte 0xf0 ≢ 0xd0)
+IsPlain bytes p = (byte : ℕ) → byte_at bytes p.place ≡ Ok byte → bit_and byte 0xf0 ≢ 0x30
 
 -- what imports and bindings both tell, the library by its name
 pub record Told : Type 0 where
@@ -87,11 +87,13 @@ abbrev pub told : {A : Type 0} → (A → Told) → Result A Fault → Result To
 told tell (Ok i) = Ok (tell i)
 told tell (Err f) = Err f
 
--- where all instructions are plain, over a list of libraries that has a first, the bindings tell what the imports
--- tell, one by one, and end at the same fault
+-- each binding tells what the import at its place tells, and there are as many of both, faults among them
+abbrev pub Agree : List ℕ → List (Result Import Fault) → List (Result Binding Fault) → Type 0
+Agree first [] [] = Unit {0}
+Agree first (i ∷ is) (b ∷ bs) = IfOk b (λ found. told told_by_import i ≡ Ok (told_by_binding first found)) × Agree first is bs
+Agree first _ _ = ⊥
+
+-- of the same instructions, which are plain, over a list of libraries that has a first, bindings and imports agree
 abbrev pub TellTheSame : Type 0
-TellTheSame = (x : Input) (non_lazy lazy : Range) (first : List ℕ) (others : List (List ℕ)) (ps qs ps' qs' : List Placed)
-    (items : List (Result Import Fault)) (bindings : List (Result Binding Fault)) → x.libs ≡ first ∷ others
-    → AllByRecursion (IsPlain x.bytes) ps → AllByRecursion (IsPlain x.bytes) qs
-    → AreBindItems x non_lazy lazy ps qs items → AreBindings x non_lazy lazy ps' qs' bindings
-    → map (told told_by_import) items ≡ map (told (told_by_binding first)) bindings
+TellTheSame = (x : Input) (r : Range) (first : List ℕ) (others : List (List ℕ)) (ps : List Placed) → x.libs ≡ first ∷ others → 0 < x.pointer
+    → AllByRecursion (IsPlain x.bytes) ps → Agree first (imports_in x r ps) (bindings_in x r ps)

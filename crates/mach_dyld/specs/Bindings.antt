@@ -1,17 +1,18 @@
 -- The bindings of bind opcodes, as dyld makes them: the binds of `Binds`, each with its provider.
-use Rattle.std.specs.Prelude.{◌≡◌, ◌==◌, ◌-ℤ◌, ℕ, ℤ, pos, List, [], ◌∷◌, ◌++◌, map, Bool, false, not, Option, Some, None, Result, Ok, Err}
-use Rattle.std.specs.Prelude.{if◌then◌else◌, bit_and, slice_get}
+use Rattle.std.specs.Prelude.{◌==◌, ◌-ℤ◌, ℕ, ℤ, pos, List, [], ◌∷◌, ◌++◌, map, Bool, true, false, not, Option, Some, None, Result, Ok, Err}
+use Rattle.std.specs.Prelude.{◌+◌, ◌-◌, if◌then◌else◌, bit_and, nat_lt, nat_le, slice_get}
 use Rattle.mach_base.specs.Answer.{◌>>=◌}
 use Rattle.mach_base.specs.Fault.{Fault, malformed}
 use Rattle.mach_base.specs.Sums.{found_or_malformed, sum_of}
-use Rattle.mach_parts.specs.declared.segment.Segment.{Segment}
-use Rattle.mach_dyld.specs.Instructions.{Instruction, library, nothing, byte_at}
-use Rattle.mach_dyld.specs.Streams.{Input, Range, Placed, IsLongest}
+use Rattle.mach_parts.specs.Segment.{SegmentView}
+use Rattle.mach_dyld.specs.Faults.{AreItems}
+pub use Rattle.mach_dyld.specs.Faults.{fault_item, upto_fault}
+use Rattle.mach_dyld.specs.Instructions.{Instruction, done, library, nothing, byte_at, row_at}
+use Rattle.mach_dyld.specs.Streams.{Input, Range, Placed, Reader}
 use Rattle.mach_dyld.specs.Binds.{Bind, binds_at, last_setting}
-use Rattle.mach_dyld.specs.Imports.{holding}
 use Rattle.mach_parts.specs.Bindings.{Provider, provider_of, Binding}
 
--- ---- one instruction: what `Instructions` reads as nothing may set a special ordinal, or be a threaded bind
+-- ---- one instruction: what `Instructions` reads as nothing may set a special ordinal, or a type
 
 -- opcode 3's immediate is 0, or its ordinal and 16
 abbrev pub special_ordinal : ℕ → ℤ
@@ -30,27 +31,53 @@ ordinal_by _ byte = None
 abbrev pub ordinal_in : List ℕ → Placed → Option ℤ
 ordinal_in bytes p = ordinal_by p.instruction (byte_at bytes p.place)
 
-abbrev pub threaded_by : Result ℕ Fault → Bool
-threaded_by (Err f) = false
-threaded_by (Ok byte) = bit_and byte 0xf0 == 0xd0
+abbrev pub kind_by : Result ℕ Fault → Option ℕ
+kind_by (Err f) = None
+kind_by (Ok byte) = if bit_and byte 0xf0 == 0x50 then Some (bit_and byte 0x0f) else None
 
-abbrev pub nothing_is_threaded : Instruction → Result ℕ Fault → Bool
-nothing_is_threaded nothing byte = threaded_by byte
-nothing_is_threaded _ byte = false
+-- the type that an instruction sets: opcode 5's immediate
+abbrev pub kind_in : List ℕ → Placed → Option ℕ
+kind_in bytes p = kind_by (byte_at bytes p.place)
 
--- opcode 0xd
-abbrev pub is_threaded : List ℕ → Placed → Bool
-is_threaded bytes p = nothing_is_threaded p.instruction (byte_at bytes p.place)
+abbrev pub sets_by : ℕ → Result ℕ Fault → Option Bool
+sets_by opcode (Err f) = None
+sets_by opcode (Ok byte) = if bit_and byte 0xf0 == opcode then Some true else None
+
+-- whether it has this opcode
+abbrev pub sets_in : List ℕ → ℕ → Placed → Option Bool
+sets_in bytes opcode p = sets_by opcode (byte_at bytes p.place)
+
+-- ---- what is read, as dyld reads it (`MachOAnalyzer::forEachBind_OpcodesRegular`, `_OpcodesLazy`): a DONE leads to the
+-- end of the non-lazy range, and opcodes above 0xc are none, threaded binds among them
+
+-- where it goes on behind a DONE
+abbrev pub done_leads_to : Range → ℕ → ℕ
+done_leads_to r place = if r.is_lazy then place else place + (r.upto - place)
+
+unfoldable pub bindings_row : Range → ℕ → List ℕ → ℕ → ℕ → ℕ → Result (Instruction × ℕ) Fault
+bindings_row r pointer bytes opcode imm place =
+    if nat_lt 0xc0 opcode then Err malformed
+    else (if opcode == 0x00 then Ok (done, done_leads_to r place)
+    else row_at pointer bytes opcode imm place)
+
+unfoldable pub opcode_at : Range → ℕ → List ℕ → Reader
+opcode_at r pointer bytes place = do
+  byte ← byte_at bytes place
+  bindings_row r pointer bytes (bit_and byte 0xf0) (bit_and byte 0x0f) (place + 1)
 
 -- ---- bindings
 
--- where an offset in a segment, which holds it, lies in the file and in memory
-unfoldable pub spot_of : List Segment → ℕ → ℕ → Result (ℕ × ℕ) Fault
-spot_of segments number offset = do
+-- the segment, where it holds so many bytes from the offset on
+abbrev pub holding_all : ℕ → ℕ → SegmentView → Result SegmentView Fault
+holding_all len offset segment = if nat_le (offset + len) segment.command.vmsize then Ok segment else Err malformed
+
+-- where an offset in a segment, which holds a pointer there, lies in the file and in memory
+unfoldable pub spot_of : ℕ → List SegmentView → ℕ → ℕ → Result (ℕ × ℕ) Fault
+spot_of pointer segments number offset = do
   segment ← found_or_malformed (slice_get segments number)
-  holder ← holding offset segment
-  in_file ← sum_of holder.fileoff offset
-  address ← sum_of holder.vmaddr offset
+  holder ← holding_all pointer offset segment
+  in_file ← sum_of holder.command.fileoff offset
+  address ← sum_of holder.command.vmaddr offset
   Ok (in_file, address)
 
 abbrev pub binding_with : Bind → Provider → ℕ × ℕ → Binding
@@ -64,23 +91,44 @@ binding_with b provider spot = record {
   is_lazy = b.is_lazy;
 }
 
--- the binding of a bind by its ordinal, if it has one
-unfoldable pub binding_of : Input → ℤ → Bind → Result Binding Fault
-binding_of x ordinal b = do
-  provider ← provider_of x.libs ordinal
-  spot ← spot_of x.segments b.segment b.offset
-  Ok (binding_with b provider spot)
+-- what was set before a bind beside its settings: the ordinal, the type, a name, a segment
+pub record Given : Type 0 where
+  pub ordinal : ℤ
+  pub kind : ℕ
+  pub has_name : Bool
+  pub has_segment : Bool
+
+-- a name, a segment and a type of 1, 2 or 3
+abbrev pub is_complete : Given → Bool
+is_complete g = if g.has_name then (if g.has_segment then (if nat_lt 0 g.kind then nat_lt g.kind 4 else false) else false) else false
+
+-- the binding of a bind by what was set, if it has one
+unfoldable pub binding_of : Input → Given → Bind → Result Binding Fault
+binding_of x g b = if is_complete g then (do
+  provider ← provider_of x.libs g.ordinal
+  spot ← spot_of x.pointer x.segments b.segment b.offset
+  Ok (binding_with b provider spot)) else Err malformed
 
 -- the ordinal that was set last after the last DONE, or 0: the list has the nearest first
 abbrev pub last_ordinal : List ℕ → List Placed → ℤ
 last_ordinal bytes back = last_setting (pos 0) (ordinal_in bytes) back
 
--- what comes of an instruction, before which others stand, the nearest first: a threaded bind is a fault, so that
--- nothing of what is read behind it comes up to the first fault
+-- the type where a range begins: binds of the lazy one are pointers, and set none
+abbrev pub first_kind : Bool → ℕ
+first_kind is_lazy = if is_lazy then 1 else 0
+
+-- what was set last after the last DONE
+abbrev pub last_given : List ℕ → Bool → List Placed → Given
+last_given bytes is_lazy back = record {
+  ordinal = last_ordinal bytes back;
+  kind = last_setting (first_kind is_lazy) (kind_in bytes) back;
+  has_name = last_setting false (sets_in bytes 0x40) back;
+  has_segment = last_setting false (sets_in bytes 0x70) back;
+}
+
+-- what comes of an instruction, before which others stand, the nearest first
 abbrev pub bindings_at : Input → Range → List Placed → Placed → List (Result Binding Fault)
-bindings_at x r back p =
-    if is_threaded x.bytes p then Err malformed ∷ []
-    else map (binding_of x (last_ordinal x.bytes back)) (binds_at x.pointer r back p)
+bindings_at x r back p = map (binding_of x (last_given x.bytes r.is_lazy (p ∷ back))) (binds_at x.pointer r back p)
 
 -- what comes of instructions, before which others stand, the nearest first
 unfoldable pub bindings_from : Input → Range → List Placed → List Placed → List (Result Binding Fault)
@@ -93,21 +141,6 @@ bindings_in x r ps = bindings_from x r [] ps
 
 -- ---- both streams
 
-abbrev pub fault_item : {A : Type 0} → Option Fault → List (Result A Fault)
-fault_item None = []
-fault_item (Some f) = Err f ∷ []
-
--- the items up to the first fault, with it
-abbrev pub upto_fault : {A : Type 0} → List (Result A Fault) → List (Result A Fault)
-upto_fault [] = []
-upto_fault (Ok i ∷ items) = Ok i ∷ upto_fault items
-upto_fault (Err f ∷ items) = Err f ∷ []
-
--- these are the items of both streams, whose longest beginnings are given: what comes of the non-lazy one, then
--- of the lazy one, up to the first fault
-pub record AreBindings (x : Input) (non_lazy lazy : Range) (ps qs : List Placed) (items : List (Result Binding Fault)) : Type 0 where
-  pub stop : Option Fault
-  pub lazy_stop : Option Fault
-  pub longest : IsLongest x non_lazy ps stop
-  pub lazy_longest : IsLongest x lazy qs lazy_stop
-  pub are : items ≡ upto_fault (bindings_in x non_lazy ps ++ fault_item stop ++ bindings_in x lazy qs ++ fault_item lazy_stop)
+-- these are the bindings of both streams
+abbrev pub AreBindings : Input → Range → Range → List Placed → List Placed → List (Result Binding Fault) → Type 0
+AreBindings x non_lazy lazy ps qs items = AreItems (λ r. opcode_at r x.pointer x.bytes) (bindings_in x) non_lazy lazy ps qs items

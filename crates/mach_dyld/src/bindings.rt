@@ -1,27 +1,29 @@
 //! The bindings of bind opcodes, as dyld makes them, one at a time.
 
-ghost use Rattle.std.specs.Prelude.{◌≡◌, ◌+◌, ◌<◌, ◌≤◌, List, [], ◌∷◌, length, Ok, Err, IfOk, IfErr, IfSome, IfNone, OnOk, MatchOption, true, false};
+ghost use Rattle.std.specs.Prelude.{◌≡◌, ◌+◌, ◌<◌, List, [], ◌∷◌, Ok, Err, IsErr, MatchOption, IfSome, IfOk, length, map, nat_le, bit_and};
 ghost use Rattle.std.specs.Iterator.{YieldsFirstBy};
 ghost use Rattle.mach_base.specs.Context.{pointer_size};
-ghost use Rattle.mach_base.specs.Fault.{malformed, bad_offset, fault_of};
+ghost use Rattle.mach_base.specs.Fault.{malformed, fault_of};
+ghost use Rattle.mach_parts.specs.Segment.{segment_view};
+ghost use Rattle.mach_dyld.specs.Machine.{StopsFor, Fails, Keeps, IsMadeBy, items_left, range_of};
 ghost use Rattle.mach_dyld.specs.Instructions.{byte_at};
 ghost use Rattle.mach_dyld.specs.Streams.{Placed};
 ghost use Rattle.mach_dyld.specs.Imports.{input_in};
 ghost use Rattle.mach_dyld.specs.Exports.{texts};
-ghost use Rattle.mach_dyld.specs.BindLeft.{input_of, bind_of};
-ghost use Rattle.mach_dyld.specs.BindCursors.{IsOverBindings, IsBindingBy, KeepsBindingPlace};
+ghost use Rattle.mach_dyld.specs.BindCursors.{IsOverBindings};
 ghost use Rattle.mach_parts.specs.Bindings.{provider_of, provider_view, binding_view, binding_read};
 ghost use Rattle.mach_dyld.specs.Bindings as defined;
-ghost use Rattle.mach_dyld.specs.Bindings.{spot_of, binding_of, AreBindings};
-ghost use Rattle.mach_dyld.specs.BindingsLeft.{ordinal_of, special_after, bindings_left, opcodes_left, IsAtEnd};
+ghost use Rattle.mach_dyld.specs.Bindings.{spot_of, is_complete, opcode_at, done_leads_to, AreBindings};
+ghost use Rattle.mach_dyld.specs.BindingsLeft.{ordinal_now, given_now, special_after, first_extra, extra_after, binding_rules, bindings_left};
 
 use crate::bind_opcodes::*;
+use crate::imports::BindInterpreter;
 use crate::imports::instruction::instruction_error;
 use crate::imports::settings::Settings;
 use crate::imports::source::Source;
 use crate::imports::state::State;
-use crate::imports::{BindInterpreter, pointer_len};
-use mach_base::{Ctx, Error, Result};
+use crate::imports::stream::{Makes, Stop, Stream};
+use mach_base::{Ctx, Error, Result, ScrollError, Steps};
 use mach_parts::binding::{Binding, Provider};
 use mach_parts::segment::Segment;
 
@@ -29,12 +31,7 @@ use mach_parts::segment::Segment;
 /// fault; then its error; then nothing more. It takes no memory.
 #[derive(Drop)]
 pub struct OpcodeBindingIterator<'a, 'b> {
-    pub(crate) source: Source<'a, 'b>,
-    pub(crate) lazy_from: usize,
-    pub(crate) lazy_upto: usize,
-    pub(crate) state: State<'a>,
-    // The special ordinal, where it was set after the library.
-    pub(crate) special: Option<i64>,
+    pub(crate) stream: Stream<'a, 'b, Extra>,
 }
 
 impl<'a> BindInterpreter<'a> {
@@ -48,39 +45,54 @@ impl<'a> BindInterpreter<'a> {
         ctx: Ctx,
     ) -> OpcodeBindingIterator<'a, 'b>
         ensures items { (ps : List Placed) × (qs : List Placed)
-            × AreBindings (input_in self.now (pointer_size ctx.container) (texts libs.now) segments.now)
+            × AreBindings (input_in self.now (pointer_size ctx.container) (texts libs.now) (map segment_view segments.now))
             self.now.non_lazy self.now.lazy ps qs (bindings_left result) }
-        ensures over { IsOverBindings (input_in self.now (pointer_size ctx.container) (texts libs.now) segments.now) self.now.lazy result }
+        ensures over { IsOverBindings (input_in self.now (pointer_size ctx.container) (texts libs.now) (map segment_view segments.now)) self.now.lazy result }
     {
         OpcodeBindingIterator {
-            source: Source {
-                bytes: self.bytes,
-                pointer: pointer_len(ctx),
-                libs,
-                segments,
-            },
-            lazy_from: self.lazy_from,
-            lazy_upto: self.lazy_upto,
-            state: State::start(self.from, self.upto, false),
-            special: None,
+            stream: self.stream(libs, segments, ctx),
         }
     }
 }
 
-// Where an offset in a segment lies in the file and in memory, if it lies in the segment.
-#[tactic(auto, unfolding(crate::specs::Bindings::spot_of))]
+// Where an offset in a segment lies in the file and in memory, if a pointer there lies in the segment.
+#[tactic(auto, using(mach_parts::proofs::SegmentViews::segment_seen), unfolding(crate::specs::Bindings::spot_of))]
 #[inline(always)]
-fn spot(segments: &[Segment<'_>], number: u8, offset: u64) -> Option<(u64, u64)>
-    ensures { MatchOption result (spot_of segments.now number offset ≡ Err malformed)
-        (λ s. spot_of segments.now number offset ≡ Ok s) }
+fn spot(pointer: u8, segments: &[Segment<'_>], number: u8, offset: u64) -> Option<(u64, u64)>
+    ensures { MatchOption result (spot_of pointer (map segment_view segments.now) number offset ≡ Err malformed)
+        (λ s. spot_of pointer (map segment_view segments.now) number offset ≡ Ok s) }
 {
     let segment = segments.get(usize::from(number))?;
-    if !segment.holds(offset) {
+    if !holds_all(segment.vmsize, offset, pointer) {
         return None;
     }
     let in_file = segment.fileoff.checked_add(offset)?;
     let address = segment.vmaddr.checked_add(offset)?;
     Some((in_file, address))
+}
+
+// Where it goes on behind a DONE, which is the instruction that comes next.
+#[inline(always)]
+fn behind_done(state: &State<'_>) -> usize
+    requires { state.now.place < state.now.upto }
+    ensures { result ≡ done_leads_to (range_of state.now) (state.now.place + 1) }
+{
+    if state.settings.is_lazy {
+        state.place + 1
+    } else {
+        state.upto
+    }
+}
+
+// Whether so many bytes from the offset on lie in a segment of that size.
+#[inline(always)]
+fn holds_all(size: u64, offset: u64, len: u8) -> bool
+    ensures { result ≡ nat_le (offset + len) size }
+{
+    match offset.checked_add(u64::from(len)) {
+        Some(end) => end <= size,
+        None => false,
+    }
 }
 
 // The ordinal that opcode 3 sets by its immediate.
@@ -91,60 +103,137 @@ fn special_ordinal(imm: u8) -> i64
     if imm == 0 { 0 } else { i64::from(imm) - 16 }
 }
 
-// The special ordinal after an opcode with its immediate.
+// The special ordinal after an opcode other than DONE, with its immediate.
 #[inline(always)]
 fn next_special(special: Option<i64>, opcode: Opcode, imm: u8) -> Option<i64>
     ensures { result ≡ special_after special opcode imm }
 {
     match opcode {
         BIND_OPCODE_SET_DYLIB_SPECIAL_IMM => Some(special_ordinal(imm)),
-        BIND_OPCODE_DONE | BIND_OPCODE_SET_DYLIB_ORDINAL_IMM | BIND_OPCODE_SET_DYLIB_ORDINAL_ULEB =>
-            None,
+        BIND_OPCODE_SET_DYLIB_ORDINAL_IMM | BIND_OPCODE_SET_DYLIB_ORDINAL_ULEB => None,
         _ => special,
     }
 }
 
-// The byte at a place, if there is one.
-#[tactic(auto, unfolding(crate::specs::Instructions::byte_at))]
-#[inline(always)]
-fn byte_of(bytes: &[u8], place: usize) -> Option<u8>
-    ensures value { MatchOption result (byte_at bytes.now place ≡ Err (bad_offset place))
-        (λ byte. byte_at bytes.now place ≡ Ok byte) }
-    ensures within { IfSome result (λ byte. place + 1 ≤ length bytes.now) }
-    ensures past { IfNone result (length bytes.now ≤ place) }
-{
-    match bytes.get(place) {
-        Some(byte) => Some(*byte),
-        None => None,
-    }
+/// The settings that dyld's binds have beside those of a bind.
+#[derive(Clone, Copy)]
+pub struct Extra {
+    /// The special ordinal, where it was set after the library.
+    pub special: Option<i64>,
+    /// The type.
+    pub kind: u8,
+    /// Whether a name was set, and whether a segment was.
+    pub has_name: bool,
+    pub has_segment: bool,
 }
 
-impl<'a> OpcodeBindingIterator<'a, '_> {
+impl Extra {
     // The provider by the ordinal that was set last.
     #[inline(always)]
-    fn provider(&self) -> Option<Provider<'a>>
+    fn provider<'a>(self, libs: &[&'a str], library: u64) -> Option<Provider<'a>>
         ensures { MatchOption result
-            (provider_of (texts self.now.source.libs.now) (ordinal_of self.now) ≡ Err malformed)
-            (λ p. provider_of (texts self.now.source.libs.now) (ordinal_of self.now) ≡ Ok (provider_view p)) }
+            (provider_of (texts libs.now) (ordinal_now self.special library) ≡ Err malformed)
+            (λ p. provider_of (texts libs.now) (ordinal_now self.special library) ≡ Ok (provider_view p)) }
     {
         match self.special {
-            Some(ordinal) => Provider::by_ordinal(self.source.libs, ordinal),
-            None => Provider::by_number(self.source.libs, self.state.settings.library),
+            Some(ordinal) => Provider::by_ordinal(libs, ordinal),
+            None => Provider::by_number(libs, library),
         }
     }
 
-    // The binding of the bind that comes now, if it has one.
+    // Whether a name, a segment and a type were set.
+    #[inline(always)]
+    fn is_complete(self, library: u64) -> bool
+        ensures { result ≡ is_complete (given_now self library) }
+    {
+        self.has_name && self.has_segment && 0 < self.kind && self.kind < 4
+    }
+}
+
+impl<'a> Makes<'a> for Extra {
+    type Item = Binding<'a>;
+
+    ghost use Rattle.mach_parts.specs.Bindings as parts;
+    ghost use Rattle.mach_parts.specs.Bindings.{binding_view};
+    ghost use Rattle.mach_dyld.specs.BindingsLeft.{binding_rules};
+    ghost use Rattle.mach_dyld.specs.RowsMove.{binding_reads};
+
+    ghost Seen = { parts.Binding };
+
+    ghost seen = { binding_view };
+
+    ghost rules = { binding_rules };
+
+    ghost reads = { binding_reads };
+
+    #[inline(always)]
+    fn first(is_lazy: bool) -> Self
+        ensures { result ≡ first_extra is_lazy }
+    {
+        Extra {
+            special: None,
+            kind: if is_lazy { BIND_TYPE_POINTER } else { 0 },
+            has_name: false,
+            has_segment: false,
+        }
+    }
+
+    #[inline(always)]
+    fn set(self, is_lazy: bool, byte: u8) -> Self
+        ensures { result ≡ extra_after is_lazy (bit_and byte 0xf0) (bit_and byte 0x0f) self }
+    {
+        let (opcode, imm) = (byte & BIND_OPCODE_MASK, byte & BIND_IMMEDIATE_MASK);
+        if opcode == BIND_OPCODE_DONE {
+            return <Extra as Makes<'a>>::first(is_lazy);
+        }
+        Extra {
+            special: next_special(self.special, opcode, imm),
+            kind: if opcode == BIND_OPCODE_SET_TYPE_IMM {
+                imm
+            } else {
+                self.kind
+            },
+            has_name: if opcode == BIND_OPCODE_SET_SYMBOL_TRAILING_FLAGS_IMM {
+                true
+            } else {
+                self.has_name
+            },
+            has_segment: if opcode == BIND_OPCODE_SET_SEGMENT_AND_OFFSET_ULEB {
+                true
+            } else {
+                self.has_segment
+            },
+        }
+    }
+
+    #[inline(always)]
+    fn execute(state: &mut State<'a>, bytes: &'a [u8], pointer: u8, byte: u8) -> Option<()> {
+        let (opcode, imm) = (byte & BIND_OPCODE_MASK, byte & BIND_IMMEDIATE_MASK);
+        if opcode > BIND_OPCODE_DO_BIND_ULEB_TIMES_SKIPPING_ULEB {
+            return None;
+        }
+        if opcode == BIND_OPCODE_DONE {
+            let to = behind_done(state);
+            state.pass(to);
+            return Some(());
+        }
+        let operands = state.place + 1;
+        state.execute(bytes, pointer, opcode, imm, operands)
+    }
+
     #[tactic(auto, unfolding(crate::specs::Bindings::binding_of))]
     #[inline(always)]
-    fn binding(&self) -> Option<Binding<'a>>
-        ensures { MatchOption result
-            (binding_of (input_of self.now.source) (ordinal_of self.now) (bind_of self.now.state.settings) ≡ Err malformed)
-            (λ b. binding_of (input_of self.now.source) (ordinal_of self.now) (bind_of self.now.state.settings)
-            ≡ Ok (binding_view b)) }
-    {
-        let provider = self.provider()?;
-        let settings = &self.state.settings;
-        let (offset, address) = spot(self.source.segments, settings.segment, settings.offset)?;
+    fn make(self, source: &Source<'a, '_>, settings: &Settings<'a>) -> Option<Binding<'a>> {
+        if !self.is_complete(settings.library) {
+            return None;
+        }
+        let provider = self.provider(source.libs, settings.library)?;
+        let (offset, address) = spot(
+            source.pointer,
+            source.segments,
+            settings.segment,
+            settings.offset,
+        )?;
         Some(Binding {
             name: settings.name,
             provider,
@@ -155,144 +244,82 @@ impl<'a> OpcodeBindingIterator<'a, '_> {
             is_lazy: settings.is_lazy,
         })
     }
+}
 
+// Why the instruction at the state's place can't be read.
+#[tactic(auto, unfolding(crate::specs::Bindings::opcode_at, crate::specs::Instructions::byte_at))]
+fn opcode_error(state: &State<'_>, bytes: &[u8], pointer: u8, byte: u8) -> Error
+    requires unreadable { IsErr (opcode_at (range_of state.now) pointer bytes.now state.now.place) }
+    requires byte { state.now.place < length bytes.now → byte_at bytes.now state.now.place ≡ Ok byte }
+    ensures { opcode_at (range_of state.now) pointer bytes.now state.now.place ≡ Err (fault_of result) }
+{
+    if state.place >= bytes.len() {
+        return Error::Scroll(ScrollError::BadOffset(state.place));
+    }
+    if byte & BIND_OPCODE_MASK > BIND_OPCODE_DO_BIND_ULEB_TIMES_SKIPPING_ULEB {
+        return Error::Malformed("an opcode of a stream is known");
+    }
+    instruction_error(bytes, pointer, state.place, byte)
+}
+
+impl<'a> OpcodeBindingIterator<'a, '_> {
     // Why the bind that comes now has no binding.
-    #[cold]
-    #[inline(never)]
     fn bind_error(&self) -> Error
         ensures { fault_of result ≡ malformed }
     {
-        match self.provider() {
+        let (more, library) = (self.stream.more, self.stream.state.settings.library);
+        if !more.is_complete(library) {
+            return Error::Malformed("a bind has a name, a segment and a type");
+        }
+        match more.provider(self.stream.source.libs, library) {
             None => Error::Malformed("a bind's ordinal is one of a provider"),
             Some(_) => Error::Malformed("a bind lies inside its segment, at places of 64 bits"),
         }
     }
 
-    // The binding of the bind that comes now, and moves on behind it.
-    #[inline(always)]
-    fn bind(&mut self) -> Result<Binding<'a>>
-        requires count { 0 < self.old.state.count }
-        requires on { self.old.state.ended ≡ false }
-        ensures items { IfOk result (λ b. bindings_left self.old ≡ Ok (binding_view b) ∷ bindings_left self.new) }
-        ensures err { IfErr result (λ e. bindings_left self.old ≡ Err (fault_of e) ∷ []) }
-        ensures keeps { KeepsBindingPlace self.old self.new }
-        ensures bound { IfOk result (λ b. IsBindingBy self.new (binding_view b)) }
+    // Why no binding comes.
+    #[cold]
+    #[inline(never)]
+    fn error(&self, stop: Stop) -> Error
+        requires { StopsFor binding_rules self.now.stream stop }
+        ensures { items_left binding_rules self.now.stream ≡ Err (fault_of result) ∷ [] }
     {
-        let Some(binding) = self.binding() else {
-            return Err(self.bind_error());
-        };
-        self.state.count -= 1;
-        let stride = self.state.stride;
-        self.state.settings.advance(stride);
-        Ok(binding)
-    }
-
-    // Reads the instruction that comes next.
-    #[inline(always)]
-    fn read(&mut self) -> Result<()>
-        requires count { self.old.state.count ≡ 0 }
-        requires on { self.old.state.ended ≡ false }
-        requires within { self.old.state.place < self.old.state.upto }
-        ensures items { OnOk result (bindings_left self.old ≡ bindings_left self.new) }
-        ensures left { OnOk result (opcodes_left self.old ≡ opcodes_left self.new + 1) }
-        ensures err { IfErr result (λ e. bindings_left self.old ≡ Err (fault_of e) ∷ []) }
-        ensures on { self.new.state.ended ≡ false }
-        ensures is_lazy { self.new.state.settings.is_lazy ≡ self.old.state.settings.is_lazy }
-        ensures keeps { KeepsBindingPlace self.old self.new }
-    {
-        let (bytes, pointer) = (self.source.bytes, self.source.pointer);
-        let place = self.state.place;
-        let Some(byte) = byte_of(bytes, place) else {
-            return Err(instruction_error(bytes, pointer, place, 0));
-        };
-        let (opcode, imm) = (byte & BIND_OPCODE_MASK, byte & BIND_IMMEDIATE_MASK);
-        if opcode == BIND_OPCODE_THREADED {
-            return Err(Error::Malformed("a bind is not threaded"));
-        }
-        match self.state.execute(bytes, pointer, opcode, imm, place + 1) {
-            Some(()) => {
-                self.special = next_special(self.special, opcode, imm);
-                Ok(())
+        let stream = &self.stream;
+        match stop {
+            Stop::Instruction(byte) => {
+                opcode_error(
+                    &stream.state,
+                    stream.source.bytes,
+                    stream.source.pointer,
+                    byte,
+                )
             }
-            None => Err(instruction_error(bytes, pointer, place, byte)),
+            Stop::Bind => self.bind_error(),
         }
     }
 
-    // Goes over to the lazy stream.
-    fn go_over(&mut self)
-        requires count { self.old.state.count ≡ 0 }
-        requires on { self.old.state.ended ≡ false }
-        requires past { self.old.state.upto ≤ self.old.state.place }
-        requires non_lazy { self.old.state.settings.is_lazy ≡ false }
-        ensures items { bindings_left self.old ≡ bindings_left self.new }
-        ensures left { opcodes_left self.old ≡ opcodes_left self.new }
-        ensures on { self.new.state.ended ≡ false }
-        ensures is_lazy { self.new.state.settings.is_lazy ≡ true }
-        ensures keeps { KeepsBindingPlace self.old self.new }
+    // Ends where no binding comes, with the error.
+    fn end_at(&mut self, stop: Stop) -> Error
+        requires { StopsFor binding_rules self.old.stream stop }
+        ensures fails { Fails binding_rules self.old.stream self.new.stream result }
+        ensures keeps { Keeps self.old.stream self.new.stream }
     {
-        self.state = State::start(self.lazy_from, self.lazy_upto, true);
-        self.special = None;
+        let error = self.error(stop);
+        self.stream.state.ended = true;
+        error
     }
 
-    // Reads on up to a bind: false where both streams are at their end.
-    #[inline(always)]
-    fn arrive(&mut self) -> Result<bool>
-        requires on { self.old.state.ended ≡ false }
-        ensures items { OnOk result (bindings_left self.old ≡ bindings_left self.new) }
-        ensures err { IfErr result (λ e. bindings_left self.old ≡ Err (fault_of e) ∷ []) }
-        ensures on { self.new.state.ended ≡ false }
-        ensures there { IfOk result (λ there. there ≡ true → 0 < self.new.state.count) }
-        ensures end { IfOk result (λ there. there ≡ false → IsAtEnd self.new) }
-        ensures keeps { KeepsBindingPlace self.old self.new }
-    {
-        'reading: while self.state.count == 0 {
-            if self.state.place < self.state.upto {
-                self.read()?;
-            } else if self.state.settings.is_lazy {
-                return Ok(false);
-            } else {
-                self.go_over();
-            }
-        }
-        Ok(true)
-    }
-
-    // Ends.
-    #[inline(always)]
-    fn end(&mut self)
-        ensures none { bindings_left self.new ≡ [] }
-        ensures keeps { KeepsBindingPlace self.old self.new }
-    {
-        self.state.ended = true;
-    }
-
-    // The binding that comes next, or the fault that ends them.
+    // The next binding, or the fault that ends them.
     #[inline(always)]
     pub(crate) fn step(&mut self) -> Option<Result<Binding<'a>>>
         ensures items { YieldsFirstBy binding_read bindings_left self.old result self.new }
-        ensures keeps { KeepsBindingPlace self.old self.new }
-        ensures bound { IfSome result (λ item. IfOk item (λ b. IsBindingBy self.new (binding_view b))) }
+        ensures keeps { Keeps self.old.stream self.new.stream }
+        ensures bound { IfSome result (λ item. IfOk item (λ b. IsMadeBy binding_rules self.new.stream (binding_view b))) }
     {
-        if self.state.ended {
-            return None;
-        }
-        match self.arrive() {
-            Ok(true) => {}
-            Ok(false) => {
-                self.end();
-                return None;
-            }
-            Err(e) => {
-                self.end();
-                return Some(Err(e));
-            }
-        }
-        match self.bind() {
-            Ok(binding) => Some(Ok(binding)),
-            Err(e) => {
-                self.end();
-                Some(Err(e))
-            }
+        match self.stream.step(&mut Steps::new()) {
+            None => None,
+            Some(Ok(binding)) => Some(Ok(binding)),
+            Some(Err(stop)) => Some(Err(self.end_at(stop))),
         }
     }
 }
@@ -316,22 +343,24 @@ impl Default for OpcodeBindingIterator<'_, '_> {
     ghost is_default = { λ it. bindings_left it ≡ [] };
 
     /// No bindings.
-    #[tactic(auto, unfolding(crate::specs::BindingsLeft::bindings_left, crate::specs::BindingsLeft::bindings_after))]
+    #[tactic(auto, unfolding(crate::specs::Machine::items_left, crate::specs::Machine::items_of))]
     fn default() -> Self {
         OpcodeBindingIterator {
-            source: Source {
-                bytes: &[],
-                pointer: 0,
-                libs: &[],
-                segments: &[],
+            stream: Stream {
+                source: Source {
+                    bytes: &[],
+                    pointer: 0,
+                    libs: &[],
+                    segments: &[],
+                },
+                lazy_from: 0,
+                lazy_upto: 0,
+                state: State {
+                    ended: true,
+                    ..State::start(0, 0, true)
+                },
+                more: <Extra as Makes<'_>>::first(true),
             },
-            lazy_from: 0,
-            lazy_upto: 0,
-            state: State {
-                ended: true,
-                ..State::start(0, 0, true)
-            },
-            special: None,
         }
     }
 }

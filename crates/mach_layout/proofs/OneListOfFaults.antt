@@ -1,21 +1,17 @@
 -- The bytes of an image have one list of faults of its layout.
-use Rattle.std.proofs.Common.{◌≡◌, ◌+◌, ◌++◌, ℕ, List, [], Option, Some, None, Result, sym, ap, subst, ◌∙◌}
+use Rattle.std.proofs.Common.{◌≡◌, ◌++◌, ℕ, List, [], Option, Some, None, Result, sym, ap, ◌∙◌}
 use Rattle.mach_base.specs.Context.{pointer_size}
 use Rattle.mach_base.specs.Fault.{Fault}
 use Rattle.mach_base.specs.declared.context.Ctx.{Ctx}
 use Rattle.mach_load.specs.Command.{Command}
 use Rattle.mach_parts.specs.Bindings.{Binding}
-use Rattle.mach_parts.specs.Header.{header_size}
-use Rattle.mach_parts.specs.declared.segment.Segment.{Segment}
+use Rattle.mach_parts.specs.Segment.{SegmentView}
 use Rattle.mach_dyld.specs.BindingLaws.{HasOneListOfBindings}
 use Rattle.mach_dyld.specs.Imports.{BindRanges, input_in}
 use Rattle.goblin_mach.specs.Bindings.{AreOpcodeBindings}
-use Rattle.goblin_mach.specs.Facts.{OfImage}
-use Rattle.goblin_mach.specs.Image.{LossyOpensAs}
-use Rattle.goblin_mach.specs.Subjects.{binds_in, libs_in}
-use Rattle.goblin_mach.proofs.Chains.{same_chain}
-use Rattle.goblin_mach.proofs.Images.{same_header}
-use Rattle.mach_layout.specs.Bindings.{has_fault}
+use Rattle.goblin_mach.specs.Subjects.{binds_in, libs_in, lossy_segments_in}
+use Rattle.goblin_mach.proofs.Facts.{one_image}
+use Rattle.mach_layout.specs.Bindings.{binds_told}
 use Rattle.mach_layout.specs.Commands.{command_faults}
 use Rattle.mach_layout.specs.Entry.{entry_faults}
 use Rattle.mach_layout.specs.Facts.{AreBindsOf, HasLayoutFaults}
@@ -31,17 +27,6 @@ use Rattle.mach_layout.specs.Symbols.{symbol_faults}
 use Rattle.mach_layout.specs.declared.claim.Claim.{Claim}
 use Rattle.mach_layout.specs.declared.fault.LayoutFault.{LayoutFault}
 use Rattle.mach_layout.specs.declared.fault.Rule.{Rule}
-use Rattle.mach_layout.proofs.BytesFacts.{same_faults, told_alike}
-
--- one image opens at a place, so what holds of one holds of the same context and commands as another fact
-there : (bytes : List ℕ) (o : ℕ) (Holds : Ctx → List Command → Type 0) (ctx : Ctx) (cs : List Command) → LossyOpensAs bytes o ctx cs
-    → OfImage bytes o Holds → Holds ctx cs
-there bytes o Holds ctx cs opens q =
-    let same_ctx : q.ctx ≡ ctx = same_header bytes o q.ctx ctx q.opens.header opens.header in
-    let chain = (subst (λ (c : Ctx). LossyOpensAs bytes o c q.cs) same_ctx q.opens).chain in
-    let same : q.cs ≡ cs = same_chain ctx.le bytes (o + header_size ctx.container) q.cs cs chain.chain opens.chain.chain
-    (chain.count ∙ sym opens.chain.count) in
-    subst (λ (ds : List Command). Holds ctx ds) same (subst (λ (c : Ctx). Holds c q.cs) same_ctx q.holds)
 
 -- what is told of some ranges is one list
 abbrev pub OneShared : Type 0
@@ -86,7 +71,7 @@ module _ (one_shared : OneShared) (laid : Laid) where
         (segments_alike [] h.of_segments k.of_segments h.segments k.segments) h.sections k.sections) h.symbols k.symbols
 
 module _ (one_run : HasOneListOfBindings) where
-  one_opcodes : (b : Option BindRanges) (n : ℕ) (libs : List (List ℕ)) (segments : List Segment) (items others : List (Result Binding Fault))
+  one_opcodes : (b : Option BindRanges) (n : ℕ) (libs : List (List ℕ)) (segments : List SegmentView) (items others : List (Result Binding Fault))
       → AreOpcodeBindings b n libs segments items → AreOpcodeBindings b n libs segments others → items ≡ others
   one_opcodes None n libs segments items others h k = h ∙ sym k
   one_opcodes (Some b) n libs segments items others h k =
@@ -95,15 +80,12 @@ module _ (one_run : HasOneListOfBindings) where
   binds_alike : (bytes : List ℕ) (ctx : Ctx) (cs : List Command) (told others : List LayoutFault)
       → AreBindsOf bytes ctx cs told → AreBindsOf bytes ctx cs others → told ≡ others
   binds_alike bytes ctx cs told others h k =
-      let b = binds_in bytes cs in
-      let n = pointer_size ctx.container in
-      let libs = libs_in bytes cs in
-      let j = same_faults b n libs k.0 h.0 (k.2 ∙ sym h.2) k.1 k.3 in
-      let same : has_fault h.1 ≡ has_fault k.1 =
-      ap (λ (items : List (Result Binding Fault)). has_fault items) (one_opcodes b n libs h.0 h.1 j.0 h.3 j.1) ∙ sym j.2 in
-      h.4 ∙ told_alike (laid_in bytes ctx cs) h.1 k.1 same ∙ sym k.4
+      h.2
+      ∙ ap (binds_told (laid_in bytes ctx cs))
+      (one_opcodes (binds_in bytes cs) (pointer_size ctx.container) (libs_in bytes cs) (lossy_segments_in ctx bytes cs) h.0 k.0 h.1 k.1)
+      ∙ sym k.2
 
   pub one_list : OneShared → (bytes : List ℕ) (list others : List LayoutFault) → HasLayoutFaults bytes list → HasLayoutFaults bytes others → list ≡ others
   one_list one_shared bytes list others h k =
       faults_alike one_shared (laid_in bytes h.ctx h.cs) (AreBindsOf bytes h.ctx h.cs) (binds_alike bytes h.ctx h.cs) list others h.holds
-      (there bytes 0 (λ ctx cs. AreLayoutFaults (laid_in bytes ctx cs) (AreBindsOf bytes ctx cs) others) h.ctx h.cs h.opens k)
+      (one_image bytes 0 (λ ctx cs. AreLayoutFaults (laid_in bytes ctx cs) (AreBindsOf bytes ctx cs) others) h.ctx h.cs h.opens k)

@@ -8,9 +8,8 @@ use Rattle.mach_dyld.specs.Exports.{texts}
 use Rattle.mach_load.specs.Command.{Command}
 use Rattle.mach_load.specs.Commands.{Kind, dyld_info, dyld_info_only}
 use Rattle.mach_parts.specs.Bindings.{Binding}
-use Rattle.mach_parts.specs.Segments.{segments_in}
 use Rattle.goblin_mach.specs.Bindings.{AreOpcodeBindings}
-use Rattle.goblin_mach.specs.OpenImage.{binds_held, ctx_held}
+use Rattle.goblin_mach.specs.OpenImage.{binds_held, ctx_held, segments_held}
 use Rattle.goblin_mach.specs.declared.image.macho.MachO.{MachO}
 use Rattle.mach_layout.specs.Laid.{Laid, laid_held}
 use Rattle.mach_layout.specs.Symbols.{fault_at}
@@ -48,7 +47,7 @@ binds_told laid items = if has_fault items then fault_at rule.Binds part.Binds (
 
 -- these are the bindings of the opcodes that an image holds, up to the first fault
 abbrev pub AreHeldBindings : {A : Type 0} → MachO A → List (Result Binding Fault) → Type 0
-AreHeldBindings m items = AreOpcodeBindings (binds_held m) (pointer_size (ctx_held m).container) (texts m.libs.items) (segments_in m.segments) items
+AreHeldBindings m items = AreOpcodeBindings (binds_held m) (pointer_size (ctx_held m).container) (texts m.libs.items) (segments_held m) items
 
 -- these are the faults of the opcodes that an image holds
 abbrev pub AreBindFaults : {A : Type 0} → MachO A → List LayoutFault → Type 0

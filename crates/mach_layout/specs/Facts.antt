@@ -5,10 +5,9 @@ use Rattle.mach_base.specs.Fault.{Fault}
 use Rattle.mach_base.specs.declared.context.Ctx.{Ctx}
 use Rattle.mach_load.specs.Command.{Command}
 use Rattle.mach_parts.specs.Bindings.{Binding}
-use Rattle.mach_parts.specs.declared.segment.Segment.{Segment}
 use Rattle.goblin_mach.specs.Bindings.{AreOpcodeBindings}
-use Rattle.goblin_mach.specs.Facts.{OfImage, AreSegments}
-use Rattle.goblin_mach.specs.Subjects.{binds_in, libs_in}
+use Rattle.goblin_mach.specs.Facts.{OfImage}
+use Rattle.goblin_mach.specs.Subjects.{binds_in, libs_in, lossy_segments_in}
 use Rattle.mach_layout.specs.Bindings.{binds_told}
 use Rattle.mach_layout.specs.Claims.{claims_of}
 use Rattle.mach_layout.specs.Faults.{AreLayoutFaults}
@@ -18,8 +17,9 @@ use Rattle.mach_layout.specs.declared.fault.LayoutFault.{LayoutFault}
 
 -- these are the faults of what the opcodes of an image bind, over its libraries and its segments
 abbrev pub AreBindsOf : List ℕ → Ctx → List Command → List LayoutFault → Type 0
-AreBindsOf bytes ctx cs told = (segments : List Segment) × (items : List (Result Binding Fault)) × AreSegments ctx bytes cs segments
-    × AreOpcodeBindings (binds_in bytes cs) (pointer_size ctx.container) (libs_in bytes cs) segments items × (told ≡ binds_told (laid_in bytes ctx cs) items)
+AreBindsOf bytes ctx cs told = (items : List (Result Binding Fault))
+    × AreOpcodeBindings (binds_in bytes cs) (pointer_size ctx.container) (libs_in bytes cs) (lossy_segments_in ctx bytes cs) items
+    × (told ≡ binds_told (laid_in bytes ctx cs) items)
 
 -- the faults of its layout
 abbrev pub HasLayoutFaults : List ℕ → List LayoutFault → Type 0

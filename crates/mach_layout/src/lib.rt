@@ -22,8 +22,6 @@ mod sections;
 mod segments;
 mod sweep;
 mod symbols;
-#[cfg(test)]
-mod tests;
 mod words;
 
 pub use crate::claim::Claim;

@@ -1,3 +1,4 @@
 pub mod Headers
 pub mod ItemLists
 pub mod AllRead
+pub mod SegmentViews

@@ -17,11 +17,12 @@ pub fn one_list_of_image_bindings()
     mach_chained::laws::one_list_of_fixups();
 }
 
-/// Where no instruction of an image's binds has opcode 3 or 0xd, and it has no chained fixups, its bindings
-/// tell what its imports tell, one by one, and end at the same fault: the name, the library's name, the
+/// Where no instruction of an image's bindings has opcode 3, and it has no chained fixups, each binding tells
+/// what the import of its bind tells, up to the first fault of the bindings: the name, the library's name, the
 /// places, the addend and both flags.
 pub fn image_bindings_are_imports()
     ensures { TellTheSame }
 {
     mach_dyld::laws::bindings_are_imports();
+    mach_dyld::laws::one_list_of_bindings();
 }

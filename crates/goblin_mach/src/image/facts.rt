@@ -10,7 +10,6 @@ ghost use Rattle.mach_dyld.specs.Exports.{texts, text_in};
 ghost use Rattle.mach_dyld.specs.Imports.{Import};
 ghost use Rattle.mach_dyld.specs.Trie as trie;
 ghost use Rattle.mach_parts.specs.Segment.{SegmentView};
-ghost use Rattle.mach_parts.specs.Segments.{segments_in};
 ghost use Rattle.mach_parts.specs.declared.symbols.nlist.Nlist.{Nlist};
 ghost use Rattle.mach_chained.specs.Fixups.{Fixup};
 ghost use Rattle.mach_chained.specs.Header.{Fixups};
@@ -25,6 +24,7 @@ ghost use Rattle.goblin_mach.specs.OpenImage.{IsImage, IsLossyImage, commands_he
 ghost use Rattle.goblin_mach.specs.Relocations.{RelocatedSection, relocated_sections_in};
 ghost use Rattle.goblin_mach.specs.View.{LinksImage, LinksFault, FaultHeld};
 ghost use Rattle.goblin_mach.specs.Facts.{HasLibrariesByKind, HasExportOf};
+ghost use Rattle.goblin_mach.specs.ImageFacts.{HasFacts, facts_held};
 ghost use Rattle.goblin_mach.specs.Libraries.{LibraryView, libraries_in};
 ghost use Rattle.goblin_mach.specs.LookUp.{StandsInImage};
 
@@ -102,6 +102,12 @@ pub fn entry_point_of_image<A: Allocator>(image: &MachO<'_, A>)
     ensures lossy { (bytes : List ℕ) (o : ℕ) → IsLossyImage bytes o image.now → (point : EntryPoint) → HasEntryPoint bytes o point ↔ (point ≡ record { address = image.now.entry; old_style = image.now.old_style_entry }) }
 {}
 
+/// All that is said of an image, as it holds it, is what the bytes say.
+pub fn facts_of_image<A: Allocator>(image: &MachO<'_, A>)
+    ensures strict { (bytes : List ℕ) (o : ℕ) → IsImage bytes o image.now → HasFacts bytes o (facts_held image.now) }
+    ensures lossy { (bytes : List ℕ) (o : ℕ) → IsLossyImage bytes o image.now → HasFacts bytes o (facts_held image.now) }
+{}
+
 /// The exports that `MachO::exports` lists, and the faults that it reports, are those of the bytes.
 pub fn exports_of_image<A: Allocator>(image: &MachO<'_, A>)
     ensures strict { (bytes : List ℕ) (o : ℕ) → IsImage bytes o image.now → (list : List trie.Entry) → HasExports bytes o list ↔ ListsImageExports (trie_held image.now) (texts image.now.libs.items) list }
@@ -122,21 +128,21 @@ pub fn walked_exports_of_image<A: Allocator>(image: &MachO<'_, A>)
 /// The imports that `MachO::imports` lists, and the faults that it reports, are those of the bytes.
 pub fn imports_of_image<A: Allocator>(image: &MachO<'_, A>)
     ensures strict { (bytes : List ℕ) (o : ℕ) → IsImage bytes o image.now → (list : List Import)
-        → HasImports bytes o list ↔ ListsImageImports (binds_held image.now) (pointer_size (ctx_held image.now).container) (texts image.now.libs.items) (segments_in image.now.segments) list }
+        → HasImports bytes o list ↔ ListsImageImports (binds_held image.now) (pointer_size (ctx_held image.now).container) (texts image.now.libs.items) (segments_held image.now) list }
     ensures lossy { (bytes : List ℕ) (o : ℕ) → IsLossyImage bytes o image.now → (list : List Import)
-        → HasImports bytes o list ↔ ListsImageImports (binds_held image.now) (pointer_size (ctx_held image.now).container) (texts image.now.libs.items) (segments_in image.now.segments) list }
+        → HasImports bytes o list ↔ ListsImageImports (binds_held image.now) (pointer_size (ctx_held image.now).container) (texts image.now.libs.items) (segments_held image.now) list }
     ensures strict_faults { (bytes : List ℕ) (o : ℕ) → IsImage bytes o image.now → (f : Fault)
-        → HasImportsFault bytes o f ↔ ImageImportsFault (binds_held image.now) (pointer_size (ctx_held image.now).container) (texts image.now.libs.items) (segments_in image.now.segments) f }
+        → HasImportsFault bytes o f ↔ ImageImportsFault (binds_held image.now) (pointer_size (ctx_held image.now).container) (texts image.now.libs.items) (segments_held image.now) f }
     ensures lossy_faults { (bytes : List ℕ) (o : ℕ) → IsLossyImage bytes o image.now → (f : Fault)
-        → HasImportsFault bytes o f ↔ ImageImportsFault (binds_held image.now) (pointer_size (ctx_held image.now).container) (texts image.now.libs.items) (segments_in image.now.segments) f }
+        → HasImportsFault bytes o f ↔ ImageImportsFault (binds_held image.now) (pointer_size (ctx_held image.now).container) (texts image.now.libs.items) (segments_held image.now) f }
 {}
 
 /// The imports that `MachO::iter_imports` gives one at a time, up to the first fault, are those of the bytes.
 pub fn import_items_of_image<A: Allocator>(image: &MachO<'_, A>)
     ensures strict { (bytes : List ℕ) (o : ℕ) → IsImage bytes o image.now → (items : List (Result Import Fault))
-        → HasImportItems bytes o items ↔ AreImageBindItems (binds_held image.now) (pointer_size (ctx_held image.now).container) (texts image.now.libs.items) (segments_in image.now.segments) items }
+        → HasImportItems bytes o items ↔ AreImageBindItems (binds_held image.now) (pointer_size (ctx_held image.now).container) (texts image.now.libs.items) (segments_held image.now) items }
     ensures lossy { (bytes : List ℕ) (o : ℕ) → IsLossyImage bytes o image.now → (items : List (Result Import Fault))
-        → HasImportItems bytes o items ↔ AreImageBindItems (binds_held image.now) (pointer_size (ctx_held image.now).container) (texts image.now.libs.items) (segments_in image.now.segments) items }
+        → HasImportItems bytes o items ↔ AreImageBindItems (binds_held image.now) (pointer_size (ctx_held image.now).container) (texts image.now.libs.items) (segments_held image.now) items }
 {}
 
 /// What `MachO::chained_fixups` answers is what the bytes say.
@@ -154,19 +160,19 @@ pub fn base_of_image<A: Allocator>(image: &MachO<'_, A>)
 /// The fixups that `MachO::fixups` gives one at a time, up to the first fault, are those of the bytes.
 pub fn fixups_of_image<A: Allocator>(image: &MachO<'_, A>)
     ensures strict { (bytes : List ℕ) (o : ℕ) → IsImage bytes o image.now → (items : List (Result Fixup Fault))
-        → HasFixups bytes o items ↔ AreImageFixups (chained_held image.now) (segments_in image.now.segments) items }
+        → HasFixups bytes o items ↔ AreImageFixups (chained_held image.now) (segments_held image.now) items }
     ensures lossy { (bytes : List ℕ) (o : ℕ) → IsLossyImage bytes o image.now → (items : List (Result Fixup Fault))
-        → HasFixups bytes o items ↔ AreImageFixups (chained_held image.now) (segments_in image.now.segments) items }
+        → HasFixups bytes o items ↔ AreImageFixups (chained_held image.now) (segments_held image.now) items }
 {}
 
 /// The bindings that `MachO::bindings` gives one at a time, up to the first fault, are those of the bytes.
 pub fn bindings_of_image<A: Allocator>(image: &MachO<'_, A>)
     ensures strict { (bytes : List ℕ) (o : ℕ) → IsImage bytes o image.now → (items : List (Result Binding Fault))
         → HasBindings bytes o items ↔ AreImageBindings (binds_held image.now) (chained_held image.now) (pointer_size (ctx_held image.now).container)
-        (texts image.now.libs.items) (segments_in image.now.segments) items }
+        (texts image.now.libs.items) (segments_held image.now) items }
     ensures lossy { (bytes : List ℕ) (o : ℕ) → IsLossyImage bytes o image.now → (items : List (Result Binding Fault))
         → HasBindings bytes o items ↔ AreImageBindings (binds_held image.now) (chained_held image.now) (pointer_size (ctx_held image.now).container)
-        (texts image.now.libs.items) (segments_in image.now.segments) items }
+        (texts image.now.libs.items) (segments_held image.now) items }
 {}
 
 /// An image that was opened strictly at 0 links the lists that it holds, and a fault that stands in one
@@ -174,7 +180,7 @@ pub fn bindings_of_image<A: Allocator>(image: &MachO<'_, A>)
 pub fn links_of_image<A: Allocator>(image: &MachO<'_, A>)
     ensures listed { (bytes : List ℕ) (list : List trie.Entry) (imports : List Import) → IsImage bytes 0 image.now
         → ListsImageExports (trie_held image.now) (texts image.now.libs.items) list
-        → ListsImageImports (binds_held image.now) (pointer_size (ctx_held image.now).container) (texts image.now.libs.items) (segments_in image.now.segments) imports
+        → ListsImageImports (binds_held image.now) (pointer_size (ctx_held image.now).container) (texts image.now.libs.items) (segments_held image.now) imports
         → LinksImage bytes list imports }
     ensures refused { (bytes : List ℕ) (f : Fault) → IsImage bytes 0 image.now → FaultHeld image.now f → LinksFault bytes f }
 {}

@@ -8,7 +8,6 @@ ghost use Rattle.mach_dyld.specs.Exports.{texts, entries};
 ghost use Rattle.mach_dyld.specs.Imports as binds;
 ghost use Rattle.mach_dyld.specs.Trie.{Entry};
 ghost use Rattle.mach_dyld.specs.Walks.{HasGiven};
-ghost use Rattle.mach_parts.specs.Segments.{segments_in};
 ghost use Rattle.goblin_mach.specs.Image.{Opens, LossyOpens, ImageFault, LossyFault};
 ghost use Rattle.goblin_mach.specs.Subjects.{ListsImageImports, ImageImportsFault, ListsImageExports, ImageExportsFault, trie_len, trie_or_empty};
 
@@ -179,11 +178,11 @@ impl<'a, A: Allocator> MachO<'a, A> {
     /// no command brings binds. Each refusal but `Error::Memory` is a fault that stands in the binds.
     pub fn imports<B: Allocator>(&self, alloc: B) -> Result<Vec<Import<'a>, B>>
         ensures listed { IfOk result (λ v. ListsImageImports (binds_held self.now) (pointer_size (ctx_held self.now).container)
-            (texts self.now.libs.items) (segments_in self.now.segments) (imports_seen v.items)) }
+            (texts self.now.libs.items) (segments_held self.now) (imports_seen v.items)) }
         ensures only { (list : List (binds.Import)) → ListsImageImports (binds_held self.now) (pointer_size (ctx_held self.now).container)
-            (texts self.now.libs.items) (segments_in self.now.segments) list → IsOkUnlessMemory result }
+            (texts self.now.libs.items) (segments_held self.now) list → IsOkUnlessMemory result }
         ensures refused { IfErr result (Stands (ImageImportsFault (binds_held self.now) (pointer_size (ctx_held self.now).container)
-            (texts self.now.libs.items) (segments_in self.now.segments))) }
+            (texts self.now.libs.items) (segments_held self.now))) }
     {
         match &self.bind_interpreter {
             Some(binds) => {
@@ -206,7 +205,7 @@ impl<'a, A: Allocator> MachO<'a, A> {
     /// where no command brings binds. It takes no memory.
     pub fn iter_imports<'b>(&'b self) -> BindIterator<'a, 'b>
         ensures { AreImageBindItems (binds_held self.now) (pointer_size (ctx_held self.now).container)
-            (texts self.now.libs.items) (segments_in self.now.segments) (imports_left result) }
+            (texts self.now.libs.items) (segments_held self.now) (imports_left result) }
     {
         let Some(binds) = &self.bind_interpreter else {
             return BindIterator::default();

@@ -1,24 +1,27 @@
 //! How far the reading of binds has come, as numbers, and imports and bindings with the places of their names.
 
-ghost use Rattle.std.specs.Prelude.{◌≡◌, ℕ, List, None, IfOk, IfSome};
+ghost use Rattle.std.specs.Prelude.{◌≡◌, ℕ, List, map, false, IfOk, IfSome};
 ghost use Rattle.std.specs.Iterator.{YieldsFirstBy};
 ghost use Rattle.mach_base.specs.Context.{pointer_size};
 ghost use Rattle.mach_base.specs.Text.{text_at};
-ghost use Rattle.mach_dyld.specs.BindCursors.{says_yes, special_in, state_in, imports_behind, bindings_behind, IsOver, IsOverBindings, placed_read};
+ghost use Rattle.mach_parts.specs.Segment.{segment_view};
+ghost use Rattle.mach_dyld.specs.BindCursors.{says_yes, special_in, extra_in, state_in, imports_behind, bindings_behind, IsOver, IsOverBindings, placed_read};
 ghost use Rattle.mach_dyld.specs.BindCursors.{placed_binding_read, IsPlaced, Stands};
-ghost use Rattle.mach_dyld.specs.BindLeft.{imports_left, input_of, start_of, state_of};
-ghost use Rattle.mach_dyld.specs.BindingsLeft.{bindings_left};
+ghost use Rattle.mach_dyld.specs.BindLeft.{imports_left};
+ghost use Rattle.mach_dyld.specs.Machine as machine;
+ghost use Rattle.mach_dyld.specs.Machine.{items_left, items_of, start_of, state_of};
+ghost use Rattle.mach_dyld.specs.BindingsLeft.{bindings_left, first_extra};
 ghost use Rattle.mach_dyld.specs.Exports.{texts};
 ghost use Rattle.mach_dyld.specs.Imports.{input_in};
 ghost use Rattle.mach_dyld.specs.NamePlaces.{NameStands, text_or_none, IsNamed};
 ghost use Rattle.mach_dyld.specs.Streams.{Input, Range};
 
-use crate::bindings::OpcodeBindingIterator;
+use crate::bindings::{Extra, OpcodeBindingIterator};
 use crate::imports::settings::Settings;
-use crate::imports::source::Source;
 use crate::imports::state::State;
-use crate::imports::{BindInterpreter, BindIterator, Import, pointer_len};
-use mach_base::{Ctx, Result, Steps, read_text};
+use crate::imports::stream::{Makes, Stream};
+use crate::imports::{BindInterpreter, BindIterator, Import, Plain};
+use mach_base::{Ctx, Result, read_text};
 use mach_parts::binding::Binding;
 use mach_parts::segment::Segment;
 
@@ -54,6 +57,10 @@ pub struct BindCursor {
     pub has_special: u8,
     pub is_lazy: u8,
     pub ended: u8,
+    /// The type, and whether a name and a segment were set, for bindings.
+    pub kind: u8,
+    pub has_name: u8,
+    pub has_segment: u8,
 }
 
 /// An import, with the place of its name in the bytes and the number of its library.
@@ -105,9 +112,9 @@ fn place_in(bytes: &[u8], place: usize) -> usize
 
 impl<'a> State<'a> {
     // Its numbers.
-    fn cursor(&self, bytes: &[u8], special: Option<i64>) -> BindCursor
+    fn cursor(&self, bytes: &[u8], more: Extra) -> BindCursor
         ensures state { NameStands bytes.now self.now.settings → state_in bytes.now result ≡ state_of self.now }
-        ensures special { special_in result ≡ special }
+        ensures more { extra_in result ≡ more }
         ensures library { result.library ≡ self.now.settings.library }
     {
         let settings = &self.settings;
@@ -119,15 +126,18 @@ impl<'a> State<'a> {
             stride: self.stride,
             name_place: place_in(bytes, settings.name_place),
             library: settings.library,
-            special: special.unwrap_or(0),
+            special: more.special.unwrap_or(0),
             offset: settings.offset,
             addend: settings.addend,
             sequence: settings.sequence,
             segment: settings.segment,
             flags: settings.flags,
-            has_special: flag(special.is_some()),
+            has_special: flag(more.special.is_some()),
             is_lazy: flag(settings.is_lazy),
             ended: flag(self.ended),
+            kind: more.kind,
+            has_name: flag(more.has_name),
+            has_segment: flag(more.has_segment),
         }
     }
 
@@ -160,6 +170,18 @@ impl<'a> State<'a> {
 }
 
 impl BindCursor {
+    // The settings of bindings beside those of a bind.
+    fn extra(&self) -> Extra
+        ensures { result ≡ extra_in self.now }
+    {
+        Extra {
+            special: self.special(),
+            kind: self.kind,
+            has_name: self.has_name != 0,
+            has_segment: self.has_segment != 0,
+        }
+    }
+
     // The special ordinal, if one was set.
     fn special(&self) -> Option<i64>
         ensures { result ≡ special_in self.now }
@@ -173,21 +195,25 @@ impl BindCursor {
 }
 
 impl<'a> BindInterpreter<'a> {
-    // What is read, over these libraries and segments.
-    fn source<'b>(
+    // The streams from a cursor on, with these settings beside those of a bind.
+    fn stream_from<'b, M: Makes<'a>>(
         &self,
         libs: &'b [&'a str],
         segments: &'b [Segment<'a>],
         ctx: Ctx,
-    ) -> Source<'a, 'b>
-        ensures input { input_of result ≡ input_in self.now (pointer_size ctx.container) (texts libs.now) segments.now }
-        ensures bytes { result.bytes.now ≡ self.now.bytes }
+        cursor: &BindCursor,
+        more: M,
+    ) -> Stream<'a, 'b, M>
+        ensures items { items_left M.rules result ≡ items_of M.rules
+            (input_in self.now (pointer_size ctx.container) (texts libs.now) (map segment_view segments.now)) self.now.lazy more (state_in self.now.bytes cursor.now) }
+        ensures over { machine.IsOver (input_in self.now (pointer_size ctx.container) (texts libs.now) (map segment_view segments.now)) self.now.lazy result }
     {
-        Source {
-            bytes: self.bytes,
-            pointer: pointer_len(ctx),
-            libs,
-            segments,
+        Stream {
+            source: self.source(libs, segments, ctx),
+            lazy_from: self.lazy_from,
+            lazy_upto: self.lazy_upto,
+            state: State::at(self.bytes, cursor),
+            more,
         }
     }
 
@@ -200,14 +226,11 @@ impl<'a> BindInterpreter<'a> {
         cursor: &BindCursor,
     ) -> BindIterator<'a, 'b>
         ensures items { imports_left result
-            ≡ imports_behind (input_in self.now (pointer_size ctx.container) (texts libs.now) segments.now) self.now.lazy cursor.now }
-        ensures over { IsOver (input_in self.now (pointer_size ctx.container) (texts libs.now) segments.now) self.now.lazy result }
+            ≡ imports_behind (input_in self.now (pointer_size ctx.container) (texts libs.now) (map segment_view segments.now)) self.now.lazy cursor.now }
+        ensures over { IsOver (input_in self.now (pointer_size ctx.container) (texts libs.now) (map segment_view segments.now)) self.now.lazy result }
     {
         BindIterator {
-            source: self.source(libs, segments, ctx),
-            lazy_from: self.lazy_from,
-            lazy_upto: self.lazy_upto,
-            state: State::at(self.bytes, cursor),
+            stream: self.stream_from(libs, segments, ctx, cursor, Plain),
         }
     }
 
@@ -220,25 +243,24 @@ impl<'a> BindInterpreter<'a> {
         cursor: &BindCursor,
     ) -> OpcodeBindingIterator<'a, 'b>
         ensures items { bindings_left result
-            ≡ bindings_behind (input_in self.now (pointer_size ctx.container) (texts libs.now) segments.now) self.now.lazy cursor.now }
-        ensures over { IsOverBindings (input_in self.now (pointer_size ctx.container) (texts libs.now) segments.now) self.now.lazy result }
+            ≡ bindings_behind (input_in self.now (pointer_size ctx.container) (texts libs.now) (map segment_view segments.now)) self.now.lazy cursor.now }
+        ensures over { IsOverBindings (input_in self.now (pointer_size ctx.container) (texts libs.now) (map segment_view segments.now)) self.now.lazy result }
     {
         OpcodeBindingIterator {
-            source: self.source(libs, segments, ctx),
-            lazy_from: self.lazy_from,
-            lazy_upto: self.lazy_upto,
-            state: State::at(self.bytes, cursor),
-            special: cursor.special(),
+            stream: self.stream_from(libs, segments, ctx, cursor, cursor.extra()),
         }
     }
 
     /// The cursor of an iterator at the start, over imports or over bindings.
     pub fn cursor(&self) -> BindCursor
         ensures state { state_in self.now.bytes result ≡ start_of self.now.non_lazy }
-        ensures special { special_in result ≡ None }
+        ensures more { extra_in result ≡ first_extra false }
         ensures library { result.library ≡ 0 }
     {
-        State::start(self.from, self.upto, false).cursor(self.bytes, None)
+        State::start(self.from, self.upto, false).cursor(
+            self.bytes,
+            <Extra as Makes<'_>>::first(false),
+        )
     }
 }
 
@@ -247,7 +269,7 @@ impl<'a> BindIterator<'a, '_> {
     pub fn cursor(&self) -> BindCursor
         ensures { (x : Input) (lazy : Range) → IsOver x lazy self.now → imports_behind x lazy result ≡ imports_left self.now }
     {
-        self.state.cursor(self.source.bytes, None)
+        self.stream.state.cursor(self.stream.source.bytes, <Extra as Makes<'_>>::first(false))
     }
 
     /// The next import with its places, or the fault that ends them.
@@ -257,13 +279,13 @@ impl<'a> BindIterator<'a, '_> {
         ensures over { (x : Input) (lazy : Range) → IsOver x lazy self.old → IsOver x lazy self.new }
         ensures placed { (x : Input) (lazy : Range) → IsOver x lazy self.old → IfSome result (λ item. IfOk item (IsPlaced x)) }
     {
-        match self.step(&mut Steps::new()) {
+        match self.step() {
             None => None,
             Some(Err(e)) => Some(Err(e)),
             Some(Ok(import)) => Some(Ok(PlacedImport {
                 import,
-                name_place: self.state.settings.name_place,
-                library: self.state.settings.library,
+                name_place: self.stream.state.settings.name_place,
+                library: self.stream.state.settings.library,
             })),
         }
     }
@@ -274,7 +296,9 @@ impl<'a> OpcodeBindingIterator<'a, '_> {
     pub fn cursor(&self) -> BindCursor
         ensures { (x : Input) (lazy : Range) → IsOverBindings x lazy self.now → bindings_behind x lazy result ≡ bindings_left self.now }
     {
-        self.state.cursor(self.source.bytes, self.special)
+        self.stream
+            .state
+            .cursor(self.stream.source.bytes, self.stream.more)
     }
 
     /// The next binding with the place of its name, or the fault that ends them.
@@ -290,7 +314,7 @@ impl<'a> OpcodeBindingIterator<'a, '_> {
             Some(Err(e)) => Some(Err(e)),
             Some(Ok(binding)) => Some(Ok(PlacedBinding {
                 binding,
-                name_place: self.state.settings.name_place,
+                name_place: self.stream.state.settings.name_place,
             })),
         }
     }

@@ -1,8 +1,8 @@
 //! How far the reading of a stream has come.
 
-ghost use Rattle.std.specs.Prelude.{◌≡◌, ◌+◌, ◌≤◌, ◌%◌, ◌^◌, length, Ok, IsErr, false, IfNone, MatchOption};
-ghost use Rattle.mach_dyld.specs.Instructions.{row_at};
-ghost use Rattle.mach_dyld.specs.BindLeft.{start_of, executed_by, state_of};
+ghost use Rattle.std.specs.Prelude.{◌≡◌, ◌+◌, ◌≤◌, ◌%◌, ◌^◌, ℕ, length, Ok, IsErr, false, IfNone, MatchOption};
+ghost use Rattle.mach_dyld.specs.Instructions.{done, row_at};
+ghost use Rattle.mach_dyld.specs.Machine.{start_of, executed, executed_by, state_of};
 ghost use Rattle.mach_dyld.specs.NamePlaces.{IsUnnamed, NameStands};
 
 use crate::bind_opcodes::*;
@@ -45,7 +45,7 @@ impl<'a> State<'a> {
     /// Reads the operands of an opcode with its immediate, which stand at a place, and takes the
     /// settings and the binds of the instruction; None where they can't be read. A pointer has so many
     /// bytes.
-    #[tactic(auto, unfolding(crate::specs::Instructions::row_at, crate::specs::Instructions::with_uleb, crate::specs::Instructions::symbol_operand_at, crate::specs::Instructions::addend_at, crate::specs::Instructions::times_at, crate::specs::BindLeft::set_by, crate::specs::BindLeft::executed))]
+    #[tactic(auto, unfolding(crate::specs::Instructions::row_at, crate::specs::Instructions::with_uleb, crate::specs::Instructions::symbol_operand_at, crate::specs::Instructions::addend_at, crate::specs::Instructions::times_at, crate::specs::Machine::set_by, crate::specs::Machine::executed))]
     #[inline(always)]
     pub fn execute(
         &mut self,
@@ -63,6 +63,7 @@ impl<'a> State<'a> {
         ensures place { IfNone result (self.new.place ≡ self.old.place) }
         ensures count { IfNone result (self.new.count ≡ 0) }
         ensures upto { self.new.upto ≡ self.old.upto }
+        ensures from { self.new.from ≡ self.old.from }
         ensures ended { self.new.ended ≡ self.old.ended }
         ensures is_lazy { self.new.settings.is_lazy ≡ self.old.settings.is_lazy }
         ensures named { NameStands bytes.now self.old.settings → NameStands bytes.now self.new.settings }
@@ -128,6 +129,22 @@ impl<'a> State<'a> {
         };
         self.place = after;
         Some(())
+    }
+
+    /// Goes on at a place, behind a DONE.
+    #[tactic(auto, unfolding(crate::specs::Machine::set_by, crate::specs::Machine::executed))]
+    pub fn pass(&mut self, to: usize)
+        requires count { self.old.count ≡ 0 }
+        ensures state { (pointer : ℕ) → executed pointer done to (state_of self.old) ≡ state_of self.new }
+        ensures upto { self.new.upto ≡ self.old.upto }
+        ensures from { self.new.from ≡ self.old.from }
+        ensures ended { self.new.ended ≡ self.old.ended }
+        ensures is_lazy { self.new.settings.is_lazy ≡ self.old.settings.is_lazy }
+        ensures named { IsUnnamed self.new.settings }
+    {
+        self.stride = 0;
+        self.settings.clear(to.saturating_sub(self.from) as u64);
+        self.place = to;
     }
 
     // So many binds, after each of which it advances by the skip and a pointer.

@@ -30,8 +30,8 @@ pub fn bindings_lie_in_segments()
     ensures { BindingsLieIn }
 {}
 
-/// Where no instruction has opcode 3 or 0xd, the bindings tell what the imports tell, one by one, and end
-/// at the same fault: the name, the library's name, the places, the addend and both flags.
+/// Of the same instructions, none of which has opcode 3, each binding tells what the import of its bind tells: the
+/// name, the library's name, the places, the addend and both flags.
 pub fn bindings_are_imports()
     ensures { TellTheSame }
 {}

@@ -5,12 +5,11 @@ ghost use Rattle.mach_base.specs.Answer.{Reads};
 ghost use Rattle.mach_base.specs.Context.{pointer_size};
 ghost use Rattle.mach_dyld.specs.BindingsLeft as dyld;
 ghost use Rattle.mach_dyld.specs.Exports.{texts};
-ghost use Rattle.mach_parts.specs.Segments.{segments_in};
 ghost use Rattle.goblin_mach.specs.Bindings.{AreOpcodeBindings, AreChainBindings, AreImageBindings};
 ghost use Rattle.goblin_mach.specs.BindingsLeft.{chain_bindings_left, bindings_left};
 ghost use Rattle.goblin_mach.specs.Fixups.{AreImageFixups, base_held, chained_held, chained_place_in, chained_seen};
 ghost use Rattle.goblin_mach.specs.FixupsLeft.{fixups_left};
-ghost use Rattle.goblin_mach.specs.OpenImage.{binds_held, bytes_held, commands_held, ctx_held, trie_held};
+ghost use Rattle.goblin_mach.specs.OpenImage.{binds_held, bytes_held, commands_held, ctx_held, trie_held, segments_held};
 
 use crate::image::bindings::{BindingIterator, ChainBindings};
 use crate::image::fixups::{FixupIterator, base_of, chained_fixups, chained_place};
@@ -82,7 +81,7 @@ impl<'a, A: Allocator> MachO<'a, A> {
     /// and along the chains, up to the first fault, and its error last; none where no command brings any.
     /// Where their front can't be read, its error alone. It takes no memory.
     pub fn fixups<'b>(&'b self) -> FixupIterator<'a, 'b>
-        ensures { AreImageFixups (chained_held self.now) (segments_in self.now.segments) (fixups_left result) }
+        ensures { AreImageFixups (chained_held self.now) (segments_held self.now) (fixups_left result) }
     {
         let found = match self.chained_fixups() {
             Ok(found) => found,
@@ -99,7 +98,7 @@ impl<'a, A: Allocator> MachO<'a, A> {
     /// fault, and its error last; none where no command brings binds. It takes no memory.
     pub fn opcode_bindings<'b>(&'b self) -> OpcodeBindingIterator<'a, 'b>
         ensures { AreOpcodeBindings (binds_held self.now) (pointer_size (ctx_held self.now).container)
-            (texts self.now.libs.items) (segments_in self.now.segments) (dyld.bindings_left result) }
+            (texts self.now.libs.items) (segments_held self.now) (dyld.bindings_left result) }
     {
         let Some(binds) = &self.bind_interpreter else {
             return OpcodeBindingIterator::default();
@@ -109,7 +108,7 @@ impl<'a, A: Allocator> MachO<'a, A> {
 
     // Those of its chains.
     fn chain_bindings<'b>(&'b self) -> ChainBindings<'a, 'b>
-        ensures { AreChainBindings (chained_held self.now) (texts self.now.libs.items) (segments_in self.now.segments)
+        ensures { AreChainBindings (chained_held self.now) (texts self.now.libs.items) (segments_held self.now)
             (chain_bindings_left result) }
     {
         let found = match self.chained_fixups() {
@@ -130,7 +129,7 @@ impl<'a, A: Allocator> MachO<'a, A> {
     pub fn bindings<'b>(&'b self) -> BindingIterator<'a, 'b>
         ensures { AreImageBindings (binds_held self.now) (chained_held self.now)
             (pointer_size (ctx_held self.now).container) (texts self.now.libs.items)
-            (segments_in self.now.segments) (bindings_left result) }
+            (segments_held self.now) (bindings_left result) }
     {
         BindingIterator::over(self.opcode_bindings(), self.chain_bindings())
     }

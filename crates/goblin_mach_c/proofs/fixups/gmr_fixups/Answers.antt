@@ -1,23 +1,24 @@
 use Rattle.std.proofs.Common.{List, Result, subst}
 use Rattle.mach_base.specs.Fault.{Fault}
 use Rattle.mach_chained.specs.Fixups.{Fixup}
-use Rattle.mach_parts.specs.Segments.{segments_in}
+use Rattle.goblin_mach.proofs.Facts.{facts_are}
 use Rattle.goblin_mach.specs.Fixups.{chained_held}
+use Rattle.goblin_mach.specs.OpenImage.{segments_held}
 use Rattle.goblin_mach_c.specs.FixupRows.{fixup_row}
 use Rattle.goblin_mach_c.specs.FixupsBehind.{AreFixupsBehind, AreFixupsWritten, Chains, items_left}
-use Rattle.goblin_mach_c.proofs.HeldFacts.{of_held}
+use Rattle.goblin_mach_c.proofs.FactsBehind.{chains_by}
 use Rattle.goblin_mach_c.proofs.Said.{mapped_fills}
 use Rattle.goblin_mach_c.proofs.fixups.gmr_fixups.Goals as goal
 
 pub returns-in-Ok-clause-written : goal.returns-in-Ok-clause-written
 returns-in-Ok-clause-written c = λ _.
     let m = c.in-Ok.found in
-    let x : Chains = record { chained = chained_held m; segments = segments_in m.segments } in
+    let x : Chains = record { chained = chained_held m; segments = segments_held m } in
     let over = c.behind-rows.ensures.over in
     let items = items_left c.behind-rows.result in
     let n = c.fill_items.result in
-    of_held c.args.bytes.now c.args.image.now.offset m c.in-Ok.ensures.opened
-    (λ _ chained _ _ segments. AreFixupsWritten chained segments c.args.cursor.now c.cursor.result c.args.out.now c.fill_items.new.out n)
+    (facts_are c.args.bytes.now c.args.image.now.offset m c.in-Ok.ensures.opened
+    (λ f. AreFixupsWritten (chains_by f) f.segments c.args.cursor.now c.cursor.result c.args.out.now c.fill_items.new.out n)).1
     (record {
       items = items;
       behind = c.behind-rows.ensures.items;

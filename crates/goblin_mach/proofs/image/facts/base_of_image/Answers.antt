@@ -1,5 +1,4 @@
-use Rattle.goblin_mach.proofs.Facts.{strict-lossy}
-use Rattle.goblin_mach.proofs.DyldFacts.{base_is}
+use Rattle.goblin_mach.proofs.Facts.{strict-lossy, base_is}
 use Rattle.goblin_mach.proofs.image.facts.base_of_image.Goals as goal
 
 pub returns : goal.returns

@@ -1,5 +1,4 @@
-use Rattle.goblin_mach.proofs.Facts.{strict-lossy}
-use Rattle.goblin_mach.proofs.DyldFacts.{bindings_are}
+use Rattle.goblin_mach.proofs.Facts.{strict-lossy, bindings_are}
 use Rattle.goblin_mach.proofs.image.facts.bindings_of_image.Goals as goal
 
 pub returns : goal.returns

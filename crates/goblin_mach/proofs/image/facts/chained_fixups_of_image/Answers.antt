@@ -1,5 +1,4 @@
-use Rattle.goblin_mach.proofs.Facts.{strict-lossy}
-use Rattle.goblin_mach.proofs.DyldFacts.{chained_fixups_are}
+use Rattle.goblin_mach.proofs.Facts.{strict-lossy, chained_fixups_are}
 use Rattle.goblin_mach.proofs.image.facts.chained_fixups_of_image.Goals as goal
 
 pub returns : goal.returns

@@ -1,6 +1,7 @@
-use Rattle.std.proofs.Common.{◌≡◌, ℕ, List, Ok, ap, subst}
+use Rattle.std.proofs.Common.{◌≡◌, ℕ, List, Ok, map, ap, subst}
 use Rattle.mach_base.specs.Number.{slice_at}
 use Rattle.mach_parts.specs.Bindings.{texts}
+use Rattle.mach_parts.specs.Segment.{segment_view}
 use Rattle.goblin_mach.specs.Fixups.{chained_held}
 use Rattle.goblin_mach_c.proofs.bindings.BindingRows.behind.Goals as goal
 
@@ -9,7 +10,7 @@ returns-clause-over c = λ bytes stand same short. record {
   opcodes = c.opcodes_behind.ensures.over bytes (chained_held c.args.image.now) stand;
   fixups = c.behind.ensures.over;
   libs = ap texts c.as_slice.ensures.value;
-  segments = c.as_slice-2.ensures;
+  segments = ap (map segment_view) c.as_slice-2.ensures;
   base = c.base.ensures;
   chains = λ chained is.
       let there = c.chains_at.ensures chained is in

@@ -1,18 +1,14 @@
-use Rattle.mach_dyld.proofs.Names.{◌∙◌, ap, sym, ℕ, ℤ, Option, Input, Range, State, input_of, state_of}
-use Rattle.mach_dyld.specs.BindCursors.{state_in, special_in}
-use Rattle.mach_dyld.specs.BindingsLeft.{ordinal_now, lazy_of}
-unfoldable use Rattle.mach_dyld.specs.BindingsLeft.{bindings_left, bindings_after}
+use Rattle.mach_dyld.proofs.Names.{◌∙◌, ap, sym, Input, Range, State, items_left, items_of, input_of, lazy_of}
+use Rattle.mach_dyld.specs.BindCursors.{state_in, extra_in}
+use Rattle.mach_dyld.specs.BindingsLeft.{binding_rules}
 use Rattle.mach_dyld.proofs.bindings.OpcodeBindingIterator.cursor.Goals as goal
 
 pub returns : goal.returns
-unfolding bindings_left
+unfolding items_left
 returns c = λ x lazy over.
-    let it = c.args.self.now in
+    let it = c.args.self.now.stream in
     let k = c.cursor.result in
-    ap (λ (i : Input). bindings_after i lazy (ordinal_now (special_in k) k.library) (state_in i.bytes k)) (sym over.source)
-    ∙ ap (λ (r : Range). bindings_after (input_of it.source) r (ordinal_now (special_in k) k.library) (state_in it.source.bytes.now k)) (sym over.lazy_is)
-    ∙ ap (λ (q : Option ℤ). bindings_after (input_of it.source) (lazy_of it) (ordinal_now q k.library) (state_in it.source.bytes.now k))
-    c.cursor.ensures.special
-    ∙ ap (λ (n : ℕ). bindings_after (input_of it.source) (lazy_of it) (ordinal_now it.special n) (state_in it.source.bytes.now k)) c.cursor.ensures.library
-    ∙ ap (λ (s : State). bindings_after (input_of it.source) (lazy_of it) (ordinal_now it.special it.state.settings.library) s)
-    (c.cursor.ensures.state over.named)
+    ap (λ (i : Input). items_of binding_rules i lazy (extra_in k) (state_in i.bytes k)) (sym over.source)
+    ∙ ap (λ (r : Range). items_of binding_rules (input_of it.source) r (extra_in k) (state_in it.source.bytes.now k)) (sym over.lazy_is)
+    ∙ ap (λ m. items_of binding_rules (input_of it.source) (lazy_of it) m (state_in it.source.bytes.now k)) c.cursor.ensures.more
+    ∙ ap (λ (s : State). items_of binding_rules (input_of it.source) (lazy_of it) it.more s) (c.cursor.ensures.state over.named)

@@ -1,15 +1,16 @@
-use Rattle.mach_dyld.proofs.Names.{◌∙◌, sym, ap, pointer_size, BindRanges, input_in, texts, start_of}
-unfoldable use Rattle.mach_dyld.specs.BindingsLeft.{bindings_left}
-use Rattle.mach_dyld.proofs.BindingLists.{bindings_of_ranges}
+use Rattle.mach_dyld.proofs.Names.{map, pointer_size, input_in, texts}
+use Rattle.mach_parts.specs.Segment.{segment_view}
+use Rattle.mach_dyld.specs.Bindings.{bindings_in}
+use Rattle.mach_dyld.specs.BindingsLeft.{binding_rules}
+use Rattle.mach_dyld.specs.RowsMove.{binding_reads}
+use Rattle.mach_dyld.proofs.BindingRun.{tied_at_start}
+use Rattle.mach_dyld.proofs.StreamStarts.{starts}
 use Rattle.mach_dyld.proofs.imports.BindInterpreter.bindings.Goals as goal
 
 pub returns-clause-items : goal.returns-clause-items
-unfolding bindings_left
 returns-clause-items c =
     let b = c.args.self.now in
-    let libs = texts c.args.libs.now in
-    let segments = c.args.segments.now in
-    let view = c.self.view_is in
-    bindings_of_ranges b (pointer_size c.args.ctx.container) libs segments _ _ _ (ap (λ (r : BindRanges). r.non_lazy.is_lazy) (sym view))
-    (ap (λ (r : BindRanges). input_in r c.pointer_len.result libs segments) view ∙ ap (λ p. input_in b p libs segments) c.pointer_len.ensures)
-    (ap (λ (r : BindRanges). r.lazy) view) (c.start.ensures.state ∙ ap (λ (r : BindRanges). start_of r.non_lazy) view)
+    let x = input_in b (pointer_size c.args.ctx.container) (texts c.args.libs.now) (map segment_view c.args.segments.now) in
+    let s = starts binding_rules binding_reads x (bindings_in x) (tied_at_start x) b.non_lazy b.lazy c.stream.ensures.order.0 c.stream.ensures.order.1 _ _
+    c.stream.ensures.items c.stream.ensures.reads in
+    (s.0, s.1, s.2)

@@ -5,7 +5,7 @@ use Rattle.mach_dyld.proofs.imports.BindInterpreter.imports_counted.Given as goa
 abbrev pub invariant-binds : goal.invariant-binds
 invariant-binds g l = record {
   items : imports_left l.initial.left ≡ oks (imports_seen l.found.items) ++ imports_left l.left;
-  on : l.left.state.ended ≡ false;
+  on : l.left.stream.state.ended ≡ false;
   reads : l.steps + reads_left l.left ≡ l.initial.steps + reads_left l.initial.left;
   kept : l.initial.steps ≤ l.steps;
 }

@@ -1,8 +1,7 @@
-use Rattle.std.proofs.Common.{List, map, length, ap, arith, ◌∙◌}
+use Rattle.std.proofs.Common.{List, map, ap, arith, ◌∙◌}
 use Rattle.std.proofs.lemmas.List.{length-map}
 use Rattle.std.specs.Slice.Iter.{iter_rest}
 use Rattle.mach_load.specs.Variants.{command_of}
-use Rattle.mach_load.specs.Command.{Command}
 use Rattle.mach_load.specs.declared.load_command.LoadCommand.{LoadCommand}
 use Rattle.goblin_mach.specs.Libraries.{libraries_in}
 use Rattle.goblin_mach.proofs.Libraries.{counted_commands}

@@ -1,0 +1,14 @@
+-- What lists are read from, by what is told of an image.
+use Rattle.std.proofs.Common.{Option, Result}
+use Rattle.mach_base.specs.Context.{pointer_size}
+use Rattle.mach_base.specs.Fault.{Fault}
+use Rattle.mach_chained.specs.Header.{Fixups}
+use Rattle.goblin_mach.specs.Fixups.{chained_in}
+use Rattle.goblin_mach.specs.ImageFacts.{Facts}
+use Rattle.goblin_mach_c.specs.ImportsBehind.{Binds}
+
+abbrev pub binds_by : Facts → Binds
+binds_by f = record { ranges = f.binds; pointer = pointer_size f.ctx.container; libs = f.libs; segments = f.segments }
+
+abbrev pub chains_by : Facts → Result (Option Fixups) Fault
+chains_by f = chained_in f.ctx f.bytes f.commands
