@@ -1,23 +1,9 @@
 //! Says what is wrong with Mach-O files: whether each opens, and each part of it that can't be read or lies where it can't.
 #![tactic(auto)]
 
-mod audit;
-mod files;
-mod json;
-mod layout_text;
-mod lists;
-mod options;
-mod report;
-mod run;
-mod tally;
-#[cfg(test)]
-mod tests;
-mod text;
-mod verdict;
-
-use files::run_files;
-use options::{Request, read_words};
-use run::run_line;
+use mach_audit::files::run_files;
+use mach_audit::run::run_line;
+use mach_audit::{Request, read_words};
 use std::io::BufWriter;
 use std::process::ExitCode;
 use std::{env, io};

@@ -4,7 +4,7 @@ mod files;
 mod same;
 
 use crate::run::{run, say};
-use crate::tests::files::{ARCHIVE, FILE_B, file_c};
+use crate::tests::files::{ARCHIVE, FILE_B, file_c, typed_file_c};
 use crate::tests::same::{same, same_at, same_of};
 use linked_list_allocator::LocalHeap;
 use std::alloc::Global;
@@ -82,7 +82,7 @@ impl Clock for Broken {
     }
 }
 
-// The table of file C.
+// The table of file C with a type for its first bind.
 const TABLE: &str =
     "parse                2 items     500.0 ns least    1000.0 ns median     440 MB/s
 exports              2 items     500.0 ns least    1000.0 ns median     440 MB/s
@@ -95,6 +95,17 @@ symbols              1 items    1000.0 ns least    2000.0 ns median     440 MB/s
 relocations          1 items    1000.0 ns least    2000.0 ns median     440 MB/s
 link_view            4 items     250.0 ns least     500.0 ns median     440 MB/s
 ";
+
+// The lines of file C, whose first bind has no type, and what is said then.
+const FRONT: &str =
+    "parse                2 items     500.0 ns least    1000.0 ns median     440 MB/s
+exports              2 items     500.0 ns least    1000.0 ns median     440 MB/s
+find_export          2 items     500.0 ns least    1000.0 ns median     440 MB/s
+imports              2 items     500.0 ns least    1000.0 ns median     440 MB/s
+iter_imports         2 items     500.0 ns least    1000.0 ns median     440 MB/s
+";
+
+const UNTYPED: &str = "machbench: malformed: a bind has a name, a segment and a type\n";
 
 // What is said of a failed write.
 const UNWRITTEN: &[u8] = b"machbench: cannot write\n";
@@ -122,11 +133,20 @@ fn table(rt: HostRuntime) -> Result<(), Fail> {
     shows(
         &rt,
         rt.alloc(),
-        "file C",
-        &file_c(rt.alloc())?,
+        "file C with a type",
+        &typed_file_c(rt.alloc())?,
         0,
         TABLE,
         "",
+    );
+    shows(
+        &rt,
+        rt.alloc(),
+        "file C, whose first bind has no type",
+        &file_c(rt.alloc())?,
+        1,
+        FRONT,
+        UNTYPED,
     );
     Ok(())
 }
@@ -164,7 +184,7 @@ fn no_clock(rt: HostRuntime) {
 #[test]
 fn failed_writes(rt: HostRuntime) -> Result<(), Fail> {
     let alloc = rt.alloc();
-    let whole = file_c(alloc)?;
+    let whole = typed_file_c(alloc)?;
     for left in 0..=TABLE.len() {
         let mut out = BufWriter::new(alloc, Full { left })?;
         let mut reasons = Vec::new(alloc);
@@ -207,7 +227,7 @@ fn unsaid(rt: HostRuntime) -> Result<(), Fail> {
 
 #[test]
 fn want_of_memory(rt: HostRuntime) -> Result<(), Fail> {
-    let whole = file_c(rt.alloc())?;
+    let whole = typed_file_c(rt.alloc())?;
     let mut refused = 0u32;
     let mut timed = 0u32;
     for size in 0..400 {

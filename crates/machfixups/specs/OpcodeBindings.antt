@@ -3,12 +3,10 @@ use Rattle.std.specs.Prelude.{ℕ, List, Result}
 use Rattle.mach_base.specs.Context.{pointer_size}
 use Rattle.mach_base.specs.Fault.{Fault}
 use Rattle.mach_parts.specs.Bindings.{Binding}
-use Rattle.mach_parts.specs.declared.segment.Segment.{Segment}
 use Rattle.goblin_mach.specs.Bindings.{AreOpcodeBindings}
-use Rattle.goblin_mach.specs.Facts.{OfImage, AreSegments}
-use Rattle.goblin_mach.specs.Subjects.{binds_in, libs_in}
+use Rattle.goblin_mach.specs.Facts.{OfImage}
+use Rattle.goblin_mach.specs.Subjects.{binds_in, libs_in, lossy_segments_in}
 
 -- its binds by opcodes one at a time, over its libraries and its segments, up to the first fault
 abbrev pub HasOpcodeBindings : List ℕ → ℕ → List (Result Binding Fault) → Type 0
-HasOpcodeBindings bytes o items = OfImage bytes o (λ ctx cs. (segments : List Segment) × AreSegments ctx bytes cs segments
-    × AreOpcodeBindings (binds_in bytes cs) (pointer_size ctx.container) (libs_in bytes cs) segments items)
+HasOpcodeBindings bytes o items = OfImage bytes o (λ ctx cs. AreOpcodeBindings (binds_in bytes cs) (pointer_size ctx.container) (libs_in bytes cs) (lossy_segments_in ctx bytes cs) items)

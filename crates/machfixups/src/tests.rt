@@ -42,6 +42,13 @@ const OPCODES: &str = "0x100004000 __DATA __got bind 1 -8 - _o
 0x100004020 __DATA - bind 1 0 weak,lazy _m
 ";
 
+// The first of them, and the lazy ones.
+const FIRST_BIND: &str = "0x100004000 __DATA __got bind 1 -8 - _o\n";
+
+const LAZY: &str = "0x100004018 __DATA __data bind 1 0 lazy _l
+0x100004020 __DATA - bind 1 0 weak,lazy _m
+";
+
 // Those of its chains in the first segment that has any.
 const FIRST: &str = "0x100004000 __DATA __got bind 1 0 - _a\n";
 
@@ -63,16 +70,32 @@ const OTHERS: &str = "0x100008000 __AUTH __all rebase 0x100001234 auth:DA:0x2b:a
 0x10000c008 __NUM - bind 0 -6 - _c
 ";
 
-// The lines of file B.
-const LINES_B: &str = "0x100000010 __TEXT - bind 1 0 - _a\n0x100000018 __TEXT - bind 1 0 lazy _b\n";
+// The line of file B, whose first bind has no type.
+const LINES_B: &str = "unreadable: malformed: a bind has a name, a segment and a type\n";
+
+// Its lines with a type, which takes the place of a byte of the name.
+const LINES_TYPED: &str =
+    "0x100000010 __TEXT - bind 1 0 - a\n0x100000018 __TEXT - bind 1 0 lazy _b\n";
+
+const TYPED: [u8; 8] = [0x11, 0x40, 0x61, 0, 0x51, 0x70, 0x10, 0x90];
 
 // What is said of a failed write.
 const UNWRITTEN: &[u8] = b"machfixups: cannot write\n";
 
 // The image with both, with other bytes at a place.
 fn changed(alloc: Global, place: usize, others: &[u8]) -> Result<Vec<u8>, AllocError> {
+    changed_of(alloc, &BOTH, place, others)
+}
+
+// A file with other bytes at a place.
+fn changed_of(
+    alloc: Global,
+    file: &[u8],
+    place: usize,
+    others: &[u8],
+) -> Result<Vec<u8>, AllocError> {
     let mut bytes = Vec::new(alloc);
-    for (index, byte) in BOTH.iter().enumerate() {
+    for (index, byte) in file.iter().enumerate() {
         let other = index
             .checked_sub(place)
             .and_then(|behind| others.get(behind));
@@ -107,9 +130,20 @@ fn whole_files(rt: HostRuntime) -> Result<(), Fail> {
             "arch 1\nrefused: malformed: an entry has 16 bytes or more\n",
         ],
     )?;
-    let rows: [(&str, &[u8], u8, &str, &str); 7] = [
+    let typed = changed_of(alloc, &FILE_B, 312, &TYPED)?;
+    let ended = changed(alloc, 1011, &[0])?;
+    let ended_lines = joined(alloc, &[FIRST_BIND, LAZY, FIRST, SECOND, REST, OTHERS])?;
+    let rows: [(&str, &[u8], u8, &str, &str); 9] = [
         ("both", &BOTH, 0, &lines, ""),
-        ("file B", &FILE_B, 0, LINES_B, ""),
+        ("a DONE behind the first bind", &ended, 0, &ended_lines, ""),
+        (
+            "file B, whose first bind has no type",
+            &FILE_B,
+            1,
+            LINES_B,
+            "",
+        ),
+        ("file B with a type", &typed, 0, LINES_TYPED, ""),
         ("a fat file", &fat, 0, &fat_lines, ""),
         (
             "a fat file, cut",
@@ -179,7 +213,7 @@ fn faults(rt: HostRuntime) -> Result<(), Fail> {
     let threaded_lines = joined(
         alloc,
         &[
-            "unreadable: malformed: a bind is not threaded\n",
+            "unreadable: malformed: an opcode of a stream is known\n",
             FIRST,
             SECOND,
             REST,
@@ -194,10 +228,24 @@ fn faults(rt: HostRuntime) -> Result<(), Fail> {
             "unreadable: malformed: chained fixups are of version 0\n",
         ],
     )?;
-    let rows: [(&str, &[u8], &str); 4] = [
+    let unknown = changed(alloc, 1000, &[0xe0])?;
+    let untyped = changed(alloc, 1005, &[0x50])?;
+    let untyped_lines = joined(
+        alloc,
+        &[
+            "unreadable: malformed: a bind has a name, a segment and a type\n",
+            FIRST,
+            SECOND,
+            REST,
+            OTHERS,
+        ],
+    )?;
+    let rows: [(&str, &[u8], &str); 6] = [
         ("a name out of the bytes", &named, &named_lines),
         ("a table of one import", &few, &few_lines),
         ("a threaded bind", &threaded, &threaded_lines),
+        ("an opcode that is none", &unknown, &threaded_lines),
+        ("a bind without a type", &untyped, &untyped_lines),
         ("chains of another version", &later, &later_lines),
     ];
     for (name, bytes, out) in rows {
@@ -316,16 +364,21 @@ fn failed_writes(rt: HostRuntime) -> Result<(), Fail> {
             "arch 1\narchive\n",
         ],
     )?;
-    let files: [(&[u8], &str); 2] = [(&FILE_B, LINES_B), (&fat, &lines)];
+    let typed = changed_of(alloc, &FILE_B, 312, &TYPED)?;
+    let files: [(&[u8], &str); 3] = [(&FILE_B, LINES_B), (&typed, LINES_TYPED), (&fat, &lines)];
     for (bytes, lines) in files {
-        for left in 0..=lines.len() {
+        for left in 0..lines.len() {
             let mut out = BufWriter::new(alloc, Full { left })?;
             let mut reasons = Vec::new(alloc);
             let answer = run(alloc, bytes, &mut out, &mut reasons);
-            let said = if left < lines.len() { UNWRITTEN } else { b"" };
-            assert_eq!(rt; answer == 2, left < lines.len(), "after {left} bytes");
-            assert_eq!(rt; reasons.as_slice(), said, "after {left} bytes");
+            assert_eq!(rt; answer, 2, "after {left} bytes");
+            assert_eq!(rt; reasons.as_slice(), UNWRITTEN, "after {left} bytes");
         }
+        let mut out = BufWriter::new(alloc, Full { left: lines.len() })?;
+        let mut reasons = Vec::new(alloc);
+        let answer = run(alloc, bytes, &mut out, &mut reasons);
+        assert_eq!(rt; answer == 2, false, "all lines");
+        assert_eq!(rt; reasons.len(), 0, "all lines");
     }
     let answer = run(alloc, &[], &mut Vec::new(alloc), &mut Full { left: 3 });
     assert_eq!(rt; answer, 2);
@@ -401,13 +454,13 @@ fn want_of_memory(rt: HostRuntime) -> Result<(), Fail> {
 #[test]
 fn many_binds_take_no_memory(rt: HostRuntime) -> Result<(), Fail> {
     let alloc = rt.alloc();
-    // Library 1, "_", segment 1 at 0, and 2^63 binds that stay there.
+    // Library 1, "_", type 1, segment 1 at 0, and 2^63 binds that stay there.
     let many = changed(
         alloc,
         1000,
         &[
-            0x11, 0x40, b'_', 0, 0x71, 0, 0xc0, 0x80, 0x80, 0x80, 0x80, 0x80, 0x80, 0x80, 0x80,
-            0x80, 1, 0xf8, 0xff, 0xff, 0xff, 0xff, 0xff, 0xff, 0xff, 0xff, 1,
+            0x11, 0x40, b'_', 0, 0x51, 0x71, 0, 0xc0, 0x80, 0x80, 0x80, 0x80, 0x80, 0x80, 0x80,
+            0x80, 0x80, 1, 0xf8, 0xff, 0xff, 0xff, 0xff, 0xff, 0xff, 0xff, 0xff, 1,
         ],
     )?;
     let mut reasons = Vec::new(alloc);

@@ -4,29 +4,12 @@
 //! (LC_ID_DYLIB), or by its path where it has none; the first of several of one name counts. Names are compared as texts.
 #![tactic(auto)]
 
-mod answers;
-mod behind;
-mod failure;
-mod file;
-mod files;
-mod follow;
-mod given;
-mod lines;
-mod note;
-mod report;
-mod resolve;
-mod run;
-mod special;
-#[cfg(test)]
-mod tests;
-mod words;
-
-use given::Given;
-use run::{run, run_line};
+use mach_resolve::reading::{out_of_memory, read};
+use mach_resolve::run::{run, run_line};
+use mach_resolve::{Asked, Given, read_words};
 use std::io::BufWriter;
 use std::process::ExitCode;
-use std::{env, fs, io};
-use words::{Asked, read_words};
+use std::{env, io};
 
 const USAGE: &str = "usage: machresolve [--cputype 0xN] PROGRAM LIBRARY..";
 
@@ -68,11 +51,6 @@ fn bad_usage(rt: &impl Eprint) -> u8 {
     2
 }
 
-fn out_of_memory(rt: &impl Eprint) -> u8 {
-    let _ = rt.eprintln("machresolve: out of memory");
-    2
-}
-
 // Resolves a program over libraries, and answers the exit status; Err where not all could be read.
 fn resolve_files(rt: &HostRuntime, asked: Asked<'_>) -> Result<u8, u8> {
     let bytes = read(rt, asked.program)?;
@@ -107,16 +85,4 @@ fn resolve_files(rt: &HostRuntime, asked: Asked<'_>) -> Result<u8, u8> {
         &mut out,
         &mut rt.stderr(),
     ))
-}
-
-// The bytes of a file. Where it can't be read, it says why, and answers the exit status.
-fn read(rt: &HostRuntime, file: &str) -> Result<Vec<u8>, u8> {
-    match fs::read(rt, file) {
-        Ok(bytes) => Ok(bytes),
-        Err(error) if error.kind() == io::ErrorKind::OutOfMemory => Err(out_of_memory(rt)),
-        Err(_) => {
-            let _ = rt.eprintln(format_args!("machresolve: cannot read {file}"));
-            Err(2)
-        }
-    }
 }

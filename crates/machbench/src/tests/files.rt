@@ -45,3 +45,14 @@ pub fn file_c(alloc: Global) -> Result<Vec<u8>, AllocError> {
     bytes.extend_from_slice(&ARCHIVE)?;
     Ok(bytes)
 }
+
+/// The same with a type for the first bind of file B, which takes the place of a byte of the name.
+pub fn typed_file_c(alloc: Global) -> Result<Vec<u8>, AllocError> {
+    let mut bytes = file_c(alloc)?;
+    for (place, byte) in [(362, 0x61), (363, 0), (364, 0x51)] {
+        if let Some(there) = bytes.get_mut(place) {
+            *there = byte;
+        }
+    }
+    Ok(bytes)
+}

@@ -136,7 +136,7 @@ const FIXUPS: &str =
     "0 0x0 0x100000000 bind 0 5; 0 0x8 0x100000008 rebase 0x1000; 1 0x0 0x100004000 rebase 0x1000; 1 0x8 0x100004008 bind 0 5; ";
 
 // What its opcodes bind, and what its chains bind.
-const BY_OPCODES: &str = "_b 1 L 0x140 0x100004000 0; _c flat 0x148 0x100004008 0; ";
+const BY_OPCODES: &str = "b 1 L 0x140 0x100004000 0; _c flat 0x148 0x100004008 0; ";
 
 const BY_CHAINS: &str = "_a 1 L 0x130 0x100000000 5; _a 1 L 0x148 0x100004008 5; ";
 
@@ -184,6 +184,9 @@ fn opcodes_or_chains(rt: HostRuntime) -> Result<(), Fail> {
     three_times(&rt, alloc, "empty ranges", &empty_ranges, chains.as_str())?;
     let without_opcodes = changed(&[(208, 0x7f)]);
     three_times(&rt, alloc, "chains", &without_opcodes, chains.as_str())?;
+    let done = changed(&[(288, 0)]);
+    let behind_done = format!(in alloc; "{FIXUPS}| _c flat 0x148 0x100004008 0; {BY_CHAINS}")?;
+    three_times(&rt, alloc, "DONE at once", &done, behind_done.as_str())?;
     Ok(())
 }
 
@@ -215,10 +218,14 @@ fn first_faults(rt: HostRuntime) -> Result<(), Fail> {
         &changed(&[(293, 0x79)]),
         non_lazy.as_str(),
     )?;
-    let lazy = format!(in alloc; "{FIXUPS}| _b 1 L 0x140 0x100004000 0; malformed")?;
+    let lazy = format!(in alloc; "{FIXUPS}| b 1 L 0x140 0x100004000 0; malformed")?;
     three_times(&rt, alloc, "lazy", &changed(&[(301, 0x79)]), lazy.as_str())?;
     let chain = format!(in alloc; "{FIXUPS}| {BY_OPCODES}malformed")?;
     three_times(&rt, alloc, "chain", &changed(&[(428, 2)]), chain.as_str())?;
+    let untyped = changed(&[(292, 0x50)]);
+    three_times(&rt, alloc, "type 0", &untyped, non_lazy.as_str())?;
+    let unknown = changed(&[(292, 0xe0)]);
+    three_times(&rt, alloc, "0xe0", &unknown, non_lazy.as_str())?;
     Ok(())
 }
 
@@ -268,15 +275,24 @@ fn lossy_alone(rt: HostRuntime) -> Result<(), Fail> {
     Ok(())
 }
 
-// Where nothing but opcodes of one library binds, the bindings are the imports.
+// Where nothing but opcodes of one library binds, and the binds have types, the bindings are the imports.
 #[test]
 fn bindings_of_file_b(rt: HostRuntime) -> Result<(), Fail> {
     let alloc = rt.alloc();
     let image = MachO::parse(alloc, &FILE_B, 0)?;
+    answers(&rt, of_image(&rt, alloc, &image), "| malformed")?;
+    // The name is shorter by a byte, and a type stands in its place.
+    let mut typed = FILE_B;
+    for (place, byte) in [(314, 0x61), (315, 0), (316, 0x51)] {
+        if let Some(there) = typed.get_mut(place) {
+            *there = byte;
+        }
+    }
+    let image = MachO::parse(alloc, &typed, 0)?;
     answers(
         &rt,
         of_image(&rt, alloc, &image),
-        "| _a 1 L 0x10 0x100000010 0; _b 1 L 0x18 0x100000018 0; ",
+        "| a 1 L 0x10 0x100000010 0; _b 1 L 0x18 0x100000018 0; ",
     )?;
     Ok(())
 }

@@ -17,6 +17,11 @@ const WIDE: Ctx = Ctx {
     le: LE,
 };
 
+const NARROW: Ctx = Ctx {
+    container: Container::Little,
+    le: LE,
+};
+
 // A segment of so many bytes at an address, at byte 0 of the file.
 fn segment(vmaddr: u64, vmsize: u64) -> Segment<'static> {
     let mut segment = Segment::new(WIDE, &[]);
@@ -29,6 +34,14 @@ fn segment(vmaddr: u64, vmsize: u64) -> Segment<'static> {
 fn whole(bytes: &[u8]) -> DyldInfoCommand {
     DyldInfoCommand {
         bind_size: (bytes.len() & 0xffff) as u32,
+        ..DyldInfoCommand::default()
+    }
+}
+
+// The command whose lazy range is all the bytes.
+fn all_lazy(bytes: &[u8]) -> DyldInfoCommand {
+    DyldInfoCommand {
+        lazy_bind_size: (bytes.len() & 0xffff) as u32,
         ..DyldInfoCommand::default()
     }
 }
@@ -96,13 +109,25 @@ fn listed(
     binds: &BindInterpreter<'_>,
     segments: &[Segment<'_>],
 ) -> Result<String, AllocError> {
-    text_of(alloc, binds.bindings(&LIBS, segments, WIDE))
+    listed_in(alloc, binds, segments, WIDE)
 }
 
-// Streams of 64 bits with one segment of 0x1000 bytes at 0, and their bindings.
-const ROWS: [(&str, &[u8], &str); 25] = [
+fn listed_in(
+    alloc: Global,
+    binds: &BindInterpreter<'_>,
+    segments: &[Segment<'_>],
+    ctx: Ctx,
+) -> Result<String, AllocError> {
+    text_of(alloc, binds.bindings(&LIBS, segments, ctx))
+}
+
+// What a bind needs: the empty name, type 1, and segment 0 at 0.
+const HEAD: [u8; 5] = [0x40, 0, 0x51, 0x70, 0];
+
+// Streams of 64 bits behind that head, with one segment of 0x1000 bytes at 0, and their bindings.
+const ROWS: [(&str, &[u8], &str); 26] = [
     ("none", &[], ""),
-    ("fresh settings", &[0x90], "[] itself 0x0; "),
+    ("a fresh ordinal", &[0x90], "[] itself 0x0; "),
     ("opcode 1", &[0x12, 0x90], "[] 2 M 0x0; "),
     ("opcode 1 with 0", &[0x12, 0x10, 0x90], "[] itself 0x0; "),
     (
@@ -142,16 +167,23 @@ const ROWS: [(&str, &[u8], &str); 25] = [
     (
         "a special library stays",
         &[
-            0x3e, 0x40, 0x5f, 0x61, 0, 0x60, 0x7f, 0x70, 8, 0x80, 8, 0x51, 0xe0, 0xf0, 0x90, 0x90,
+            0x3e, 0x40, 0x5f, 0x61, 0, 0x60, 0x7f, 0x70, 8, 0x80, 8, 0x51, 0x90, 0x90,
         ],
         "[_a] flat 0x10 -1; [_a] flat 0x18 -1; ",
     ),
     (
-        "DONE",
+        "a special library stays, and opcodes that are none come before its binds",
+        &[
+            0x3e, 0x40, 0x5f, 0x61, 0, 0x60, 0x7f, 0x70, 8, 0x80, 8, 0x51, 0xe0, 0xf0, 0x90, 0x90,
+        ],
+        "malformed",
+    ),
+    (
+        "DONE ends the non-lazy stream",
         &[
             0x3e, 0x41, 0x5f, 0x61, 0, 0x60, 0x7f, 0x70, 8, 0x90, 0, 0x90,
         ],
-        "[_a] flat 0x8 -1 weak; [] itself 0x0; ",
+        "[_a] flat 0x8 -1 weak; ",
     ),
     (
         "a new name's flags",
@@ -172,7 +204,7 @@ const ROWS: [(&str, &[u8], &str); 25] = [
     (
         "an operand that is cut",
         &[0x11, 0x90, 0x3e, 0x70],
-        "[] 1 L 0x0; bad offset 4",
+        "[] 1 L 0x0; bad offset 9",
     ),
 ];
 
@@ -180,7 +212,150 @@ const ROWS: [(&str, &[u8], &str); 25] = [
 fn rows(rt: HostRuntime) -> Result<(), Fail> {
     let alloc = rt.alloc();
     let segments = [segment(0, 0x1000)];
-    for (name, bytes, want) in ROWS {
+    for (name, rest, want) in ROWS {
+        let mut bytes = HEAD.to_vec(alloc)?;
+        bytes.extend_from_slice(rest)?;
+        let binds = BindInterpreter::new(&bytes, &whole(&bytes));
+        let got = listed(alloc, &binds, &segments)?;
+        assert_eq!(rt; got.as_str(), want, "{name}");
+    }
+    Ok(())
+}
+
+// Whole streams of the same kind: what each bind needs, where the stream ends, and opcodes that are none.
+const RULES: [(&str, &[u8], &str); 30] = [
+    (
+        "name, type and segment",
+        &[0x40, 0x5f, 0x61, 0, 0x51, 0x70, 0x10, 0x90],
+        "[_a] itself 0x10; ",
+    ),
+    (
+        "the empty name is one",
+        &[0x40, 0, 0x51, 0x70, 0x10, 0x90],
+        "[] itself 0x10; ",
+    ),
+    ("fresh settings", &[0x90], "malformed"),
+    ("no name", &[0x51, 0x70, 0x10, 0x90], "malformed"),
+    (
+        "no segment",
+        &[0x40, 0x5f, 0x61, 0, 0x51, 0x90],
+        "malformed",
+    ),
+    (
+        "no type",
+        &[0x40, 0x5f, 0x61, 0, 0x70, 0x10, 0x90],
+        "malformed",
+    ),
+    (
+        "type 0",
+        &[0x40, 0x5f, 0x61, 0, 0x50, 0x70, 0x10, 0x90],
+        "malformed",
+    ),
+    (
+        "types 2 and 3",
+        &[0x40, 0x5f, 0x61, 0, 0x52, 0x70, 0x10, 0x90, 0x53, 0x90],
+        "[_a] itself 0x10; [_a] itself 0x18; ",
+    ),
+    (
+        "type 4",
+        &[0x40, 0x5f, 0x61, 0, 0x54, 0x70, 0x10, 0x90],
+        "malformed",
+    ),
+    (
+        "type 15",
+        &[0x40, 0x5f, 0x61, 0, 0x5f, 0x70, 0x10, 0x90],
+        "malformed",
+    ),
+    (
+        "type 4, and not used",
+        &[0x40, 0x5f, 0x61, 0, 0x54, 0x70, 0x10, 0x51, 0x90],
+        "[_a] itself 0x10; ",
+    ),
+    (
+        "type 4 at the second bind",
+        &[0x40, 0x5f, 0x61, 0, 0x51, 0x70, 0x10, 0x90, 0x54, 0x90],
+        "[_a] itself 0x10; malformed",
+    ),
+    (
+        "segment 3, and not used",
+        &[
+            0x40, 0x5f, 0x61, 0, 0x51, 0x73, 255, 255, 0x7f, 0x70, 0x10, 0x90,
+        ],
+        "[_a] itself 0x10; ",
+    ),
+    ("nothing is set, and no bind", &[0xc0, 0, 0], ""),
+    ("nothing is set, by an advance", &[0xa0, 8], "malformed"),
+    ("nothing is set, scaled", &[0xb1], "malformed"),
+    ("nothing is set, by a count", &[0xc0, 2, 0], "malformed"),
+    ("DONE at once", &[0, 0x90], ""),
+    (
+        "DONE, and all set anew",
+        &[
+            0x40, 0x5f, 0x61, 0, 0x51, 0x70, 0x10, 0x90, 0, 0x40, 0x5f, 0x62, 0, 0x51, 0x70, 0x18,
+            0x90,
+        ],
+        "[_a] itself 0x10; ",
+    ),
+    (
+        "DONE of immediate 5, and an opcode that is none",
+        &[0x40, 0x5f, 0x61, 0, 0x51, 0x70, 0x10, 0x90, 5, 0xd0],
+        "[_a] itself 0x10; ",
+    ),
+    (
+        "DONE, and an operand that is cut",
+        &[0x40, 0x5f, 0x61, 0, 0x51, 0x70, 0x10, 0x90, 0, 0x80],
+        "[_a] itself 0x10; ",
+    ),
+    (
+        "0xd0",
+        &[0x40, 0x5f, 0x61, 0, 0x51, 0x70, 0x10, 0x90, 0xd0],
+        "[_a] itself 0x10; malformed",
+    ),
+    (
+        "0xe0",
+        &[0x40, 0x5f, 0x61, 0, 0x51, 0x70, 0x10, 0x90, 0xe0],
+        "[_a] itself 0x10; malformed",
+    ),
+    (
+        "0xf0",
+        &[0x40, 0x5f, 0x61, 0, 0x51, 0x70, 0x10, 0x90, 0xf0],
+        "[_a] itself 0x10; malformed",
+    ),
+    ("0xef, before all", &[0xef, 0, 0x90], "malformed"),
+    (
+        "the last pointer, and one behind it",
+        &[0x40, 0x5f, 0x61, 0, 0x51, 0x70, 0xf8, 0x1f, 0x90, 0x90],
+        "[_a] itself 0xff8; malformed",
+    ),
+    (
+        "a pointer whose last byte is out",
+        &[0x40, 0x5f, 0x61, 0, 0x51, 0x70, 0xf9, 0x1f, 0x90],
+        "malformed",
+    ),
+    (
+        "a pointer whose first byte alone is in",
+        &[0x40, 0x5f, 0x61, 0, 0x51, 0x70, 0xff, 0x1f, 0x90],
+        "malformed",
+    ),
+    (
+        "the third of a count is out",
+        &[0x40, 0x5f, 0x61, 0, 0x51, 0x70, 0xec, 0x1f, 0xc0, 3, 0],
+        "[_a] itself 0xfec; [_a] itself 0xff4; malformed",
+    ),
+    (
+        "a pointer out, and not used",
+        &[
+            0x40, 0x5f, 0x61, 0, 0x51, 0x70, 0xff, 0x1f, 0x70, 0x10, 0x90,
+        ],
+        "[_a] itself 0x10; ",
+    ),
+];
+
+#[test]
+fn rules(rt: HostRuntime) -> Result<(), Fail> {
+    let alloc = rt.alloc();
+    let segments = [segment(0, 0x1000)];
+    for (name, bytes, want) in RULES {
         let binds = BindInterpreter::new(bytes, &whole(bytes));
         let got = listed(alloc, &binds, &segments)?;
         assert_eq!(rt; got.as_str(), want, "{name}");
@@ -188,15 +363,146 @@ fn rows(rt: HostRuntime) -> Result<(), Fail> {
     Ok(())
 }
 
+// The same of the lazy stream, which goes on behind DONE, and in which the type begins as 1.
+const LAZY: [(&str, &[u8], &str); 16] = [
+    (
+        "no type",
+        &[0x40, 0x5f, 0x61, 0, 0x70, 0x10, 0x90],
+        "[_a] itself 0x10 lazy; ",
+    ),
+    (
+        "type 0",
+        &[0x50, 0x40, 0x5f, 0x61, 0, 0x70, 0x10, 0x90],
+        "malformed",
+    ),
+    (
+        "type 3",
+        &[0x53, 0x40, 0x5f, 0x61, 0, 0x70, 0x10, 0x90],
+        "[_a] itself 0x10 lazy; ",
+    ),
+    (
+        "type 4",
+        &[0x54, 0x40, 0x5f, 0x61, 0, 0x70, 0x10, 0x90],
+        "malformed",
+    ),
+    ("fresh settings", &[0x90], "malformed"),
+    ("no name", &[0x70, 0x10, 0x90], "malformed"),
+    ("no segment", &[0x40, 0x5f, 0x61, 0, 0x90], "malformed"),
+    (
+        "DONE goes on",
+        &[
+            0x3e, 0x40, 0x5f, 0x61, 0, 0x70, 0x10, 0x90, 0, 0x40, 0x5f, 0x62, 0, 0x70, 0x18, 0x90,
+            0,
+        ],
+        "[_a] flat 0x10 lazy; [_b] itself 0x18 lazy; ",
+    ),
+    (
+        "DONE, and no name",
+        &[0x40, 0x5f, 0x61, 0, 0x70, 0x10, 0x90, 0, 0x70, 0x18, 0x90],
+        "[_a] itself 0x10 lazy; malformed",
+    ),
+    (
+        "DONE, and no segment",
+        &[
+            0x40, 0x5f, 0x61, 0, 0x70, 0x10, 0x90, 0, 0x40, 0x5f, 0x62, 0, 0x90,
+        ],
+        "[_a] itself 0x10 lazy; malformed",
+    ),
+    (
+        "DONE, and the type is 1 again",
+        &[
+            0x54, 0x40, 0x5f, 0x61, 0, 0x70, 0x10, 0, 0x40, 0x5f, 0x62, 0, 0x70, 0x18, 0x90,
+        ],
+        "[_b] itself 0x18 lazy; ",
+    ),
+    (
+        "DONE, and 0xd0",
+        &[0x40, 0x5f, 0x61, 0, 0x70, 0x10, 0x90, 0, 0xd0],
+        "[_a] itself 0x10 lazy; malformed",
+    ),
+    (
+        "DONE, and 0xe0",
+        &[0x40, 0x5f, 0x61, 0, 0x70, 0x10, 0x90, 0, 0xe0],
+        "[_a] itself 0x10 lazy; malformed",
+    ),
+    (
+        "0xf0",
+        &[0x40, 0x5f, 0x61, 0, 0x70, 0x10, 0x90, 0xf0],
+        "[_a] itself 0x10 lazy; malformed",
+    ),
+    (
+        "the last pointer, and one behind it",
+        &[0x40, 0x5f, 0x61, 0, 0x70, 0xf8, 0x1f, 0x90, 0x90],
+        "[_a] itself 0xff8 lazy; malformed",
+    ),
+    (
+        "a pointer whose last byte is out",
+        &[0x40, 0x5f, 0x61, 0, 0x70, 0xf9, 0x1f, 0x90],
+        "malformed",
+    ),
+];
+
+#[test]
+fn rules_of_lazy_binds(rt: HostRuntime) -> Result<(), Fail> {
+    let alloc = rt.alloc();
+    let segments = [segment(0, 0x1000)];
+    for (name, bytes, want) in LAZY {
+        let binds = BindInterpreter::new(bytes, &all_lazy(bytes));
+        let got = listed(alloc, &binds, &segments)?;
+        assert_eq!(rt; got.as_str(), want, "{name}");
+    }
+    Ok(())
+}
+
+// A DONE of the non-lazy stream leads to the lazy one.
+#[test]
+fn done_leads_to_the_lazy_stream(rt: HostRuntime) -> Result<(), Fail> {
+    let alloc = rt.alloc();
+    let bytes = [
+        0x40, 0x5f, 0x61, 0, 0x51, 0x70, 0x10, 0x90, 0, 0xe0, 0x90, 0x40, 0x5f, 0x62, 0, 0x70,
+        0x18, 0x90,
+    ];
+    let command = DyldInfoCommand {
+        bind_size: 11,
+        lazy_bind_off: 11,
+        lazy_bind_size: 7,
+        ..DyldInfoCommand::default()
+    };
+    let binds = BindInterpreter::new(&bytes, &command);
+    let text = listed(alloc, &binds, &[segment(0, 0x1000)])?;
+    assert_eq!(rt; text.as_str(), "[_a] itself 0x10; [_b] itself 0x18 lazy; ");
+    Ok(())
+}
+
+// Pointers of 32 bits have 4 bytes.
+#[test]
+fn pointers_of_32_bits(rt: HostRuntime) -> Result<(), Fail> {
+    let alloc = rt.alloc();
+    let segments = [segment(0, 0x1000)];
+    let bytes = [0x40, 0x5f, 0x61, 0, 0x51, 0x70, 0xfc, 0x1f, 0x90, 0x90];
+    let binds = BindInterpreter::new(&bytes, &whole(&bytes));
+    let text = listed_in(alloc, &binds, &segments, NARROW)?;
+    assert_eq!(rt; text.as_str(), "[_a] itself 0xffc; malformed", "32 bits");
+    let text = listed(alloc, &binds, &segments)?;
+    assert_eq!(rt; text.as_str(), "malformed", "64 bits");
+    let bytes = [0x40, 0x5f, 0x61, 0, 0x51, 0x70, 0xfd, 0x1f, 0x90];
+    let binds = BindInterpreter::new(&bytes, &whole(&bytes));
+    let text = listed_in(alloc, &binds, &segments, NARROW)?;
+    assert_eq!(rt; text.as_str(), "malformed", "32 bits, the last byte out");
+    Ok(())
+}
+
 #[test]
 fn both_streams(rt: HostRuntime) -> Result<(), Fail> {
     let alloc = rt.alloc();
     let segments = [segment(0, 0x1000)];
-    let bytes = [0x3e, 0x41, 0x5f, 0x61, 0, 0x90, 0x90, 0x3d, 0x90, 0xd0];
+    let bytes = [
+        0x3e, 0x41, 0x5f, 0x61, 0, 0x51, 0x70, 0, 0x90, 0x40, 0, 0x70, 0, 0x90, 0x3d, 0x90, 0xd0,
+    ];
     let mut command = DyldInfoCommand {
-        bind_size: 6,
-        lazy_bind_off: 6,
-        lazy_bind_size: 3,
+        bind_size: 9,
+        lazy_bind_off: 9,
+        lazy_bind_size: 7,
         ..DyldInfoCommand::default()
     };
     let binds = BindInterpreter::new(&bytes, &command);
@@ -205,19 +511,19 @@ fn both_streams(rt: HostRuntime) -> Result<(), Fail> {
         text.as_str(),
         "[_a] flat 0x0 weak; [] itself 0x0 lazy; [] weak look-up 0x8 lazy; "
     );
-    command.lazy_bind_size = 4;
+    command.lazy_bind_size = 8;
     let binds = BindInterpreter::new(&bytes, &command);
     let text = listed(alloc, &binds, &segments)?;
     assert_eq!(rt;
         text.as_str(),
         "[_a] flat 0x0 weak; [] itself 0x0 lazy; [] weak look-up 0x8 lazy; malformed"
     );
-    command.bind_size = 10;
+    command.bind_size = 17;
     let binds = BindInterpreter::new(&bytes, &command);
     let text = listed(alloc, &binds, &segments)?;
     assert_eq!(rt;
         text.as_str(),
-        "[_a] flat 0x0 weak; [_a] flat 0x8 weak; [_a] weak look-up 0x10 weak; malformed"
+        "[_a] flat 0x0 weak; [] flat 0x0; [] weak look-up 0x8; malformed"
     );
     Ok(())
 }
@@ -234,12 +540,20 @@ fn first_address(given: OpcodeBindingIterator<'_, '_>) -> Option<u64> {
 #[test]
 fn places(rt: HostRuntime) -> Result<(), Fail> {
     let alloc = rt.alloc();
-    let bytes = [0x3e, 0x70, 0, 0x90, 0x90];
+    let bytes = [0x40, 0, 0x51, 0x3e, 0x70, 0, 0x90, 0x90];
     let binds = BindInterpreter::new(&bytes, &whole(&bytes));
-    let text = listed(alloc, &binds, &[segment(0, 9)])?;
+    let text = listed(alloc, &binds, &[segment(0, 16)])?;
     assert_eq!(rt; text.as_str(), "[] flat 0x0; [] flat 0x8; ", "inside");
+    let text = listed(alloc, &binds, &[segment(0, 9)])?;
+    assert_eq!(rt;
+        text.as_str(),
+        "[] flat 0x0; malformed",
+        "its first byte alone inside"
+    );
     let text = listed(alloc, &binds, &[segment(0, 8)])?;
     assert_eq!(rt; text.as_str(), "[] flat 0x0; malformed", "past its segment");
+    let text = listed(alloc, &binds, &[segment(0, 7)])?;
+    assert_eq!(rt; text.as_str(), "malformed", "the first one's last byte out");
     let text = listed(alloc, &binds, &[])?;
     assert_eq!(rt; text.as_str(), "malformed", "no segment");
     let last = [segment(u64::MAX - 7, u64::MAX)];
@@ -277,13 +591,13 @@ fn counted(left: OpcodeBindingIterator<'_, '_>) -> (u64, u64) {
 #[test]
 fn thousands(rt: HostRuntime) {
     let segments = [segment(0, 0x8000)];
-    let bytes = [0x3e, 0xc0, 0x80, 0x20, 0];
+    let bytes = [0x40, 0, 0x51, 0x70, 0, 0x3e, 0xc0, 0x80, 0x20, 0];
     let binds = BindInterpreter::new(&bytes, &whole(&bytes));
     let (flat, others) = counted(binds.bindings(&LIBS, &segments, WIDE));
     assert_eq!(rt; flat, 4096);
     assert_eq!(rt; others, 0);
     let bytes = [
-        0x3e, 0xc0, 255, 255, 255, 255, 255, 255, 255, 255, 255, 1, 0,
+        0x40, 0, 0x51, 0x70, 0, 0x3e, 0xc0, 255, 255, 255, 255, 255, 255, 255, 255, 255, 1, 0,
     ];
     let binds = BindInterpreter::new(&bytes, &whole(&bytes));
     let (flat, others) = counted(binds.bindings(&LIBS, &segments, WIDE));

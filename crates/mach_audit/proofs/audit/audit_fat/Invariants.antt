@@ -1,0 +1,8 @@
+use Rattle.goblin_mach.specs.FatFile.{file_held}
+use Rattle.mach_audit.proofs.Entries.{AllSound, SomeLong}
+use Rattle.mach_audit.specs.Verdicts.{Judges, verdict_of_entries}
+use Rattle.mach_audit.proofs.audit.audit_fat.Given as goal
+
+abbrev pub invariant-loop-index : goal.invariant-loop-index
+invariant-loop-index g l =
+    Judges (AllSound (file_held l.container) l.index) (SomeLong l.limit (file_held l.container) l.index) (verdict_of_entries l.entries.items)

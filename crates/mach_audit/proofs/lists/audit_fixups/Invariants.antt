@@ -1,0 +1,7 @@
+use Rattle.std.proofs.Common.{[]}
+use Rattle.goblin_mach.specs.FixupsLeft.{fixups_left}
+use Rattle.mach_audit.proofs.Goes.{Goes}
+use Rattle.mach_audit.proofs.lists.audit_fixups.Given as goal
+
+abbrev pub invariant-fixups : goal.invariant-fixups
+invariant-fixups g l = Goes l.fn.limit [] (fixups_left l.fn.fixups) (fixups_left l.fixup-iterator) l.tally

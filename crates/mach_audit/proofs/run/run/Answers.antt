@@ -1,0 +1,14 @@
+use Rattle.mach_audit.proofs.Verdicts.{status_bound, status_sound, status_faulty}
+use Rattle.mach_audit.specs.Verdicts.{verdict_of_report}
+use Rattle.mach_audit.proofs.run.run.Goals as goal
+
+pub returns-clause-bounds : goal.returns-clause-bounds
+returns-clause-bounds g c = rw (c.status.ensures, c.verdict.ensures) (status_bound (verdict_of_report c.in_ok-report.report))
+
+pub returns-clause-sound : goal.returns-clause-sound
+returns-clause-sound g c = λ zero.
+    status_sound (verdict_of_report c.in_ok-report.report) c.in_ok-report.ensures (rw (c.status.ensures, c.verdict.ensures) at zero)
+
+pub returns-clause-faulty : goal.returns-clause-faulty
+returns-clause-faulty g c = λ one.
+    status_faulty (verdict_of_report c.in_ok-report.report) c.in_ok-report.ensures (rw (c.status.ensures, c.verdict.ensures) at one)

@@ -1,0 +1,106 @@
+-- When a file is sound: everything in it opens and can be read.
+use Rattle.std.specs.Prelude.{◌≡◌, ◌<◌, ◌≤◌, ℕ, Bool, IsTrue, is_ok, List, [], length, Result, Ok, Err, IsOk}
+use Rattle.std.specs.List.{list_all, flat_map}
+use Rattle.mach_base.specs.Fault.{Fault}
+use Rattle.mach_base.specs.declared.context.Ctx.{Ctx}
+use Rattle.mach_dyld.specs.Imports.{Import}
+use Rattle.mach_dyld.specs.Lists.{ListBegins}
+use Rattle.mach_dyld.specs.Trie as trie
+use Rattle.mach_dyld.specs.TrieRange.{trie_there}
+use Rattle.mach_chained.specs.Fixups.{Fixup}
+use Rattle.mach_parts.specs.Bindings.{Binding}
+use Rattle.mach_parts.specs.Relocation.{relocations_at}
+use Rattle.mach_parts.specs.Segment.{SegmentView, sections_of}
+use Rattle.mach_parts.specs.declared.relocation.RelocationInfo.{RelocationInfo}
+use Rattle.mach_parts.specs.declared.segment.section.Section.{Section}
+use Rattle.mach_parts.specs.declared.symbols.nlist.Nlist.{Nlist}
+use Rattle.mach_layout.specs.Containers.{AreContainerFaults}
+use Rattle.mach_layout.specs.Facts.{HasLayoutFaults}
+use Rattle.goblin_mach.specs.Facts.{OfImage, HasSegments, HasSymbols, HasExports, HasImports, HasImportItems, HasFixups, HasBindings}
+use Rattle.goblin_mach.specs.FatEntry.{FatEntry, archive, image, entry_at}
+use Rattle.goblin_mach.specs.FatFile.{FatFile, fat_file_in, arches_in}
+use Rattle.goblin_mach.specs.Image.{HasFatMagic, Opens}
+use Rattle.goblin_mach.specs.Subjects.{lossy_segments_in, libs_in, trie_in, trie_or_empty}
+
+-- whether every item of a list is there, and none is a fault
+abbrev pub are_all_ok : {X : Type 0} → List (Result X Fault) → Bool
+are_all_ok items = list_all is_ok items
+
+-- the sections of some segments, one after the other, each with its data or why it isn't there
+abbrev pub all_sections : List SegmentView → List (Result (Section × List ℕ) Fault)
+all_sections segments = flat_map sections_of segments
+
+-- the relocations of a section that is there
+abbrev pub relocations_by : Ctx → List ℕ → Result (Section × List ℕ) Fault → List (Result RelocationInfo Fault)
+relocations_by ctx bytes (Ok found) = relocations_at ctx.le bytes found.0.reloff found.0.nreloc
+relocations_by ctx bytes (Err f) = []
+
+-- those of all sections of some segments, one after the other
+abbrev pub all_relocations : Ctx → List ℕ → List SegmentView → List (Result RelocationInfo Fault)
+all_relocations ctx bytes segments = flat_map (λ s. flat_map (relocations_by ctx bytes) (sections_of s)) segments
+
+-- the relocations of an image, those of all its sections
+abbrev pub HasAllRelocations : List ℕ → ℕ → List (Result RelocationInfo Fault) → Type 0
+HasAllRelocations bytes o items = OfImage bytes o (λ ctx cs. items ≡ all_relocations ctx bytes (lossy_segments_in ctx bytes cs))
+
+-- the exports of an image begin with these
+abbrev pub ExportsBegin : List ℕ → ℕ → List trie.Entry → Type 0
+ExportsBegin bytes o found = OfImage bytes o (λ ctx cs.
+    ListBegins (trie_there (trie_or_empty (trie_in bytes cs)) (libs_in bytes cs)) (trie_or_empty (trie_in bytes cs)).from [] found)
+
+-- The image at 0 opens strictly, so that its segments have their data; its layout has no fault; the sections of all its segments, all its relocations
+-- and all its symbols can be read; its exports and its imports have lists; and all fixups of its chains are there, and all
+-- that dyld binds of it.
+pub record IsSoundImage (bytes : List ℕ) : Type 0 where
+  pub opens : Opens bytes 0
+  pub layout : HasLayoutFaults bytes []
+  pub sections : (segments : List SegmentView) × HasSegments bytes 0 segments × IsTrue (are_all_ok (all_sections segments))
+  pub relocations : (items : List (Result RelocationInfo Fault)) × HasAllRelocations bytes 0 items × IsTrue (are_all_ok items)
+  pub symbols : (rows : List (Result (List ℕ × Nlist) Fault)) × HasSymbols bytes 0 rows × IsTrue (are_all_ok rows)
+  pub exports : (list : List trie.Entry) × HasExports bytes 0 list
+  pub imports : (list : List Import) × HasImports bytes 0 list
+  pub fixups : (items : List (Result Fixup Fault)) × HasFixups bytes 0 items × IsTrue (are_all_ok items)
+  pub bindings : (items : List (Result Binding Fault)) × HasBindings bytes 0 items × IsTrue (are_all_ok items)
+
+-- A list of the image at 0 has more than so many items: one of those of its sections, its relocations, and so on.
+pub data HasLongList (limit : ℕ) (bytes : List ℕ) : Type 0 where
+  of_sections : (segments : List SegmentView) → HasSegments bytes 0 segments → limit < length (all_sections segments) → HasLongList limit bytes
+  of_relocations : (items : List (Result RelocationInfo Fault)) → HasAllRelocations bytes 0 items → limit < length items → HasLongList limit bytes
+  of_symbols : (rows : List (Result (List ℕ × Nlist) Fault)) → HasSymbols bytes 0 rows → limit < length rows → HasLongList limit bytes
+  of_exports : (found : List trie.Entry) → ExportsBegin bytes 0 found → limit ≤ length found → HasLongList limit bytes
+  of_imports : (items : List (Result Import Fault)) → HasImportItems bytes 0 items → limit < length items → HasLongList limit bytes
+  of_fixups : (items : List (Result Fixup Fault)) → HasFixups bytes 0 items → limit < length items → HasLongList limit bytes
+  of_bindings : (items : List (Result Binding Fault)) → HasBindings bytes 0 items → limit < length items → HasLongList limit bytes
+
+-- an entry of a fat file is an archive, or an image that is sound
+abbrev pub IsSoundEntry : Result FatEntry Fault → Type 0
+IsSoundEntry (Ok (archive bytes)) = Unit {0}
+IsSoundEntry (Ok (image bytes)) = IsSoundImage bytes
+IsSoundEntry (Err f) = ⊥
+
+-- an entry is an image with a list of more than so many items
+abbrev pub IsLongEntry : ℕ → Result FatEntry Fault → Type 0
+IsLongEntry limit (Ok (archive bytes)) = ⊥
+IsLongEntry limit (Ok (image bytes)) = HasLongList limit bytes
+IsLongEntry limit (Err f) = ⊥
+
+-- a fat file has an entry, its table can be read, and all its entries are sound
+pub record IsSoundFat (file : FatFile) : Type 0 where
+  pub some : 0 < file.narches
+  pub table : IsOk (arches_in file)
+  pub entries : (k : ℕ) → k < file.narches → IsSoundEntry (entry_at file k)
+
+-- a fat file has more than so many entries, or one of them a list of more items
+pub data IsLongFat (limit : ℕ) (file : FatFile) : Type 0 where
+  of_entries : limit < file.narches → IsLongFat limit file
+  of_entry : (k : ℕ) → k < file.narches → IsLongEntry limit (entry_at file k) → IsLongFat limit file
+
+-- The file is an image that is sound, or a fat file that is, whose table has no fault.
+pub data IsSound (bytes : List ℕ) : Type 0 where
+  one_image : IsSoundImage bytes → IsSound bytes
+  fat_file : (file : FatFile) → HasFatMagic bytes → fat_file_in bytes ≡ Ok file → AreContainerFaults bytes [] → IsSoundFat file → IsSound bytes
+
+-- The file has a list of more than so many items.
+pub data IsLong (limit : ℕ) (bytes : List ℕ) : Type 0 where
+  of_image : HasLongList limit bytes → IsLong limit bytes
+  of_fat : (file : FatFile) → HasFatMagic bytes → fat_file_in bytes ≡ Ok file → IsLongFat limit file → IsLong limit bytes

@@ -1,0 +1,218 @@
+//! What is wrong with a file, image by image and part by part.
+
+ghost use Rattle.std.specs.Prelude.{◌≡◌, ◌<◌, ℕ, List, [], map, Result, Option, IfOk};
+ghost use Rattle.mach_base.specs.Answer.{Stands};
+ghost use Rattle.mach_base.specs.Fault.{Fault};
+ghost use Rattle.mach_parts.specs.Segment.{segment_view};
+ghost use Rattle.goblin_mach.specs.FatEntry.{entry_at};
+ghost use Rattle.goblin_mach.specs.FatFile.{file_held};
+ghost use Rattle.goblin_mach.specs.OpenImage.{IsImage};
+ghost use Rattle.goblin_mach.specs.View.{IsTold};
+ghost use Rattle.mach_layout.specs.Bindings.{AreBindFaults};
+ghost use Rattle.mach_layout.specs.Containers.{AreContainerFaults};
+ghost use Rattle.mach_layout.specs.Faults.{AreLayoutFaults};
+ghost use Rattle.mach_layout.specs.Laid.{laid_held};
+ghost use Rattle.mach_audit.specs.Sound.{IsSound, IsSoundEntry, IsSoundFat, IsSoundImage, IsLong, IsLongEntry, IsLongFat, HasLongList, all_relocations};
+ghost use Rattle.mach_audit.specs.Told.{TellsRelocations, faults_in};
+ghost use Rattle.mach_audit.specs.Verdicts.{Judges, is_clean, verdict_of_parts, verdict_of_image, verdict_of_entry, verdict_of_fat, verdict_of_report};
+ghost use Rattle.mach_audit.specs.declared.verdict.Verdict.TheVariants as verdicts;
+
+use crate::lists::{
+    audit_bindings, audit_exports, audit_fixups, audit_imports, audit_relocations, audit_sections,
+    audit_symbols,
+};
+use crate::report::{EntryReport, Failure, FatReport, ImageReport, Part, Parts, Report, no_memory};
+use goblin_mach::segment::Segment;
+use goblin_mach::{Ctx, Error, Mach, MachO, MultiArch, SingleArch, laws};
+use mach_layout::{LayoutFault, container_faults, laws as layout_laws, layout_faults};
+use std::alloc::Allocator;
+
+// The relocations of all sections, where these were gone over to their end and each can be read.
+fn audit_relocated<A: Allocator + Clone>(
+    alloc: A,
+    bytes: &[u8],
+    ctx: Ctx,
+    segments: &[Segment<'_>],
+    sections: &Part<A>,
+    limit: usize,
+) -> Result<Option<Part<A>>, Failure>
+    ensures { IfOk result (TellsRelocations limit (faults_in (all_relocations ctx bytes.now (map segment_view segments.now))) (is_clean sections.now)) }
+{
+    if !sections.is_clean() {
+        return Ok(None);
+    }
+    let part = audit_relocations(alloc, bytes, ctx, segments, limit)?;
+    Ok(Some(part))
+}
+
+// The faults of the layout of an image.
+fn audit_layout<A: Allocator, B: Allocator + Clone>(
+    alloc: B,
+    image: &MachO<'_, A>,
+) -> Result<Vec<LayoutFault, B>, Failure>
+    ensures { IfOk result (λ v. AreLayoutFaults (laid_held image.now) (AreBindFaults image.now) v.items) }
+{
+    match layout_faults(alloc, image) {
+        Ok(faults) => Ok(faults),
+        Err(_) => Err(Failure::Memory),
+    }
+}
+
+// The faults of the table of a fat file.
+fn audit_container<A: Allocator + Clone>(
+    alloc: A,
+    bytes: &[u8],
+) -> Result<Vec<LayoutFault, A>, Failure>
+    ensures { IfOk result (λ v. AreContainerFaults bytes.now v.items) }
+{
+    match container_faults(alloc, bytes) {
+        Ok(faults) => Ok(faults),
+        Err(_) => Err(Failure::Memory),
+    }
+}
+
+// All parts of an image that opened.
+fn audit_parts<A: Allocator, B: Allocator + Clone>(
+    alloc: &B,
+    image: &MachO<'_, A>,
+    limit: usize,
+) -> Result<Parts<B>, Failure>
+    ensures { (bytes : List ℕ) → IsImage bytes 0 image.now
+        → IfOk result (λ p. Judges (IsSoundImage bytes) (HasLongList limit bytes) (verdict_of_parts p)) }
+{
+    let segments = image.segments.as_slice();
+    let (bytes, ctx) = (image.bytes(), image.ctx());
+    let sections = audit_sections(alloc.clone()?, segments, limit)?;
+    let relocations = audit_relocated(alloc.clone()?, bytes, ctx, segments, &sections, limit)?;
+    let symbols = audit_symbols(alloc.clone()?, image.symbols(), limit)?;
+    let exports = audit_exports(alloc.clone()?, image, limit)?;
+    let imports = audit_imports(alloc.clone()?, image.iter_imports(), limit)?;
+    let fixups = audit_fixups(alloc.clone()?, image.fixups(), limit)?;
+    let bindings = audit_bindings(alloc.clone()?, image.bindings(), limit)?;
+    let layout = audit_layout(alloc.clone()?, image)?;
+    layout_laws::layout_faults_of_image(image);
+    layout_laws::one_list_of_layout_faults();
+    laws::faulty_tries_have_no_list();
+    laws::import_items_of_image(image);
+    laws::fixups_of_image(image);
+    laws::one_list_of_image_fixups();
+    laws::bindings_of_image(image);
+    laws::one_list_of_image_bindings();
+    Ok(Parts {
+        sections,
+        relocations,
+        symbols,
+        exports,
+        imports,
+        fixups,
+        bindings,
+        layout,
+    })
+}
+
+// What can be read in lossy mode of bytes that were refused for an error. Where lossy mode refuses them,
+// too, nothing more is told.
+fn audit_refused<A: Allocator + Clone>(
+    alloc: &A,
+    bytes: &[u8],
+    error: Error,
+    limit: usize,
+) -> Result<ImageReport<A>, Failure>
+    ensures { IfOk result (λ r. (verdict_of_image r ≡ verdicts.Faulty) × IsTold error) }
+{
+    let error = no_memory(error)?;
+    match Mach::parse_lossy(alloc.clone()?, bytes) {
+        Ok(Mach::Binary(image)) => {
+            let parts = audit_parts(alloc, &image, limit)?;
+            Ok(ImageReport::OpensLossily(error, parts))
+        }
+        Err(Error::Memory(_)) => Err(Failure::Memory),
+        Ok(Mach::Fat(_)) | Err(_) => Ok(ImageReport::Refused(error)),
+    }
+}
+
+// An entry of a fat file, which is to stand in these bytes.
+fn audit_entry<A: Allocator + Clone>(
+    alloc: &A,
+    container: &MultiArch<'_, A>,
+    index: usize,
+    bytes: &[u8],
+    limit: usize,
+) -> Result<EntryReport<A>, Failure>
+    ensures { IfOk result (λ r. Judges (IsSoundEntry (entry_at (file_held container.now) index)) (IsLongEntry limit (entry_at (file_held container.now) index))
+        (verdict_of_entry r)) }
+{
+    match container.get(index) {
+        Ok(SingleArch::Archive(_)) => Ok(EntryReport::Archive),
+        Ok(SingleArch::MachO(image)) => {
+            let parts = audit_parts(alloc, &image, limit)?;
+            Ok(EntryReport::Image(ImageReport::Opens(parts)))
+        }
+        Err(error) => {
+            let image = audit_refused(alloc, bytes, error, limit)?;
+            Ok(EntryReport::Image(image))
+        }
+    }
+}
+
+// A fat file: its table, and then its entries. Where the table can't be read none is gone over.
+fn audit_fat<A: Allocator + Clone>(
+    alloc: &A,
+    container: &MultiArch<'_, A>,
+    bytes: &[u8],
+    limit: usize,
+) -> Result<FatReport<A>, Failure>
+    ensures { IfOk result (λ r. Judges (AreContainerFaults bytes.now [] × IsSoundFat (file_held container.now))
+        (IsLongFat limit (file_held container.now)) (verdict_of_fat r)) }
+{
+    let count = container.narches;
+    let mut entries = Vec::new(alloc.clone()?);
+    let arches = match container.arches() {
+        Ok(arches) => arches,
+        Err(error) => {
+            return Ok(FatReport {
+                count,
+                table: Some(no_memory(error)?),
+                container: Vec::new(alloc.clone()?),
+                entries,
+                cut: false,
+            });
+        }
+    };
+    let container_faults = audit_container(alloc.clone()?, bytes)?;
+    for index in 0..count.min(limit) {
+        let entry = arches.get(index).map_or(&[][..], |arch| arch.slice(bytes));
+        entries.push(audit_entry(alloc, container, index, entry, limit)?)?;
+    }
+    Ok(FatReport {
+        count,
+        table: None,
+        container: container_faults,
+        entries,
+        cut: limit < count,
+    })
+}
+
+/// What is said of a file. Of each list at most `limit` items are gone over, and of the faults of a part the first ten are told.
+pub fn audit<A: Allocator + Clone>(
+    alloc: &A,
+    bytes: &[u8],
+    limit: usize,
+) -> Result<Report<A>, Failure>
+    ensures { IfOk result (λ r. Judges (IsSound bytes.now) (IsLong limit bytes.now) (verdict_of_report r)) }
+{
+    match Mach::parse(alloc.clone()?, bytes) {
+        Ok(Mach::Binary(image)) => {
+            let parts = audit_parts(alloc, &image, limit)?;
+            Ok(Report::Image(ImageReport::Opens(parts)))
+        }
+        Ok(Mach::Fat(container)) => {
+            let fat = audit_fat(alloc, &container, bytes, limit)?;
+            Ok(Report::Fat(fat))
+        }
+        Err(error) => {
+            let image = audit_refused(alloc, bytes, error, limit)?;
+            Ok(Report::Image(image))
+        }
+    }
+}

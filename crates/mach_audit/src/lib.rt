@@ -1,0 +1,18 @@
+//! What is wrong with a Mach-O file: whether it opens, and each part of it that can't be read or lies where it can't, and what
+//! `machaudit` prints of it.
+#![tactic(auto)]
+
+mod audit;
+pub mod files;
+mod json;
+mod layout_text;
+mod lists;
+mod options;
+mod report;
+pub mod run;
+mod tally;
+mod text;
+mod verdict;
+
+pub use crate::options::{Format, Options, Request, read_words};
+pub use crate::report::Failure;

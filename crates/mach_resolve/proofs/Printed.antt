@@ -1,0 +1,44 @@
+-- Lines, one after the other.
+use Rattle.std.proofs.Common.{◌≡◌, ◌∙◌, ◌+◌, ◌++◌, ◌∷◌, [], ℕ, List, Option, length, sym, ap, subst, arith}
+use Rattle.std.specs.Prelude.{codes}
+use Rattle.std.proofs.lemmas.List.{append-nil, append_assoc}
+use Rattle.std.specs.Io.KnownBytes.{Appends}
+use Rattle.mach_base.proofs.Written.{Appends-none}
+use Rattle.mach_resolve.specs.Answers.{Answer}
+use Rattle.mach_resolve.specs.Follow.{not_given}
+use Rattle.mach_resolve.specs.Note.{Note}
+use Rattle.mach_resolve.specs.Report.{Outcome}
+use Rattle.mach_resolve.specs.Lines.{place_text, answer_text, lines_of, arch_line, entry_text, entries_text, note_text, said_line, said_lines}
+
+pub lines_push : (xs : List Answer) (a : Answer) → lines_of (xs ++ a ∷ []) ≡ lines_of xs ++ (answer_text a ++ codes "\n")
+lines_push [] a = append-nil (answer_text a ++ codes "\n")
+lines_push (x ∷ xs) a =
+    ap (λ t. answer_text x ++ codes "\n" ++ t) (lines_push xs a)
+    ∙ sym (append_assoc (answer_text x ++ codes "\n") (lines_of xs) (answer_text a ++ codes "\n"))
+
+-- a gap's text, with its parts bracketed from the right, as they are written
+pub gap_text : (library reexported : List ℕ)
+    → codes "not found; " ++ (library ++ (codes " re-exports " ++ (reexported ++ codes ", which is not given"))) ≡ place_text (not_given library reexported)
+gap_text library reexported =
+    let front = codes "not found; " ++ library in
+    let tail = reexported ++ codes ", which is not given" in
+    sym (append_assoc (front ++ codes " re-exports ") reexported (codes ", which is not given")
+    ∙ (append_assoc front (codes " re-exports ") tail ∙ append_assoc (codes "not found; ") library (codes " re-exports " ++ tail)))
+
+pub said_push : (ns : List Note) (n : Note) → said_lines (ns ++ n ∷ []) ≡ said_lines ns ++ said_line (note_text n)
+said_push [] n = append-nil (said_line (note_text n))
+said_push (x ∷ ns) n =
+    ap (λ t. said_line (note_text x) ++ t) (said_push ns n) ∙ sym (append_assoc (said_line (note_text x)) (said_lines ns) (said_line (note_text n)))
+
+-- one more entry, behind the others
+pub entries_push : (k : ℕ) (os : List Outcome) (o : Outcome) → entries_text k (os ++ o ∷ []) ≡ entries_text k os ++ (arch_line (k + length os) ++ entry_text o)
+entries_push k [] o =
+    append-nil (arch_line k ++ entry_text o) ∙ ap (λ (i : ℕ). arch_line i ++ entry_text o) (omega arith)
+entries_push k (x ∷ os) o =
+    ap (λ t. arch_line k ++ entry_text x ++ t)
+    (entries_push (k + 1) os o ∙ ap (λ (i : ℕ). entries_text (k + 1) os ++ (arch_line i ++ entry_text o)) (omega arith))
+    ∙ sym (append_assoc (arch_line k ++ entry_text x) (entries_text (k + 1) os) (arch_line (k + length (x ∷ os)) ++ entry_text o))
+
+-- where there is no text, nothing is written
+pub nothing_written : (known : Option (List ℕ)) (text : List ℕ) → text ≡ [] → Appends known known text
+nothing_written known text none = subst (Appends known known) (sym none) (Appends-none known)

@@ -1,0 +1,9 @@
+use Rattle.std.proofs.Common.{map, take}
+use Rattle.mach_resolve.specs.Report.{AreEntryOutcomes}
+use Rattle.mach_resolve.specs.Opened.{given_seen}
+use Rattle.mach_resolve.specs.Seen.{outcome_seen}
+use Rattle.mach_resolve.proofs.report.entry_outcomes.Given as goal
+
+abbrev pub invariant-arches : goal.invariant-arches
+invariant-arches g l =
+    AreEntryOutcomes (given_seen l.program) (map given_seen l.libraries) (take l.arch-index l.arches) (map outcome_seen l.outcomes.items)

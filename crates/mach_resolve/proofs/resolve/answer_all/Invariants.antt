@@ -1,0 +1,15 @@
+use Rattle.std.proofs.Common.{◌≡◌, ◌++◌, List, Result, Ok, map}
+use Rattle.mach_base.specs.Fault.{Fault}
+use Rattle.mach_parts.specs.Bindings.{Binding}
+use Rattle.goblin_mach.specs.BindingsLeft.{bindings_left}
+use Rattle.mach_resolve.specs.Behind.{Met, IsBehindAll}
+use Rattle.mach_resolve.specs.Answers.{AreAnswers}
+use Rattle.mach_resolve.specs.Resolved.{HoldsItems}
+use Rattle.mach_resolve.specs.Seen.{files_seen, program_seen, answer_seen}
+use Rattle.mach_resolve.proofs.resolve.answer_all.Given as goal
+
+abbrev pub invariant-bindings : goal.invariant-bindings
+invariant-bindings g l =
+    (items : List (Result Binding Fault)) × HoldsItems l.image items
+    × (bindings : List Binding) × (items ≡ map (λ b. Ok b) bindings ++ bindings_left l.item-iterator)
+    × ((met : Met) → IsBehindAll (files_seen l.files) met → met.places ≡ l.all → AreAnswers (files_seen l.files) (program_seen l.program) bindings (map answer_seen l.answers.items))

@@ -1,0 +1,9 @@
+use Rattle.std.proofs.Common.{map, take}
+use Rattle.std.specs.Io.KnownBytes.{Appends}
+use Rattle.mach_resolve.specs.Lines.{entries_text}
+use Rattle.mach_resolve.specs.Seen.{outcome_seen}
+use Rattle.mach_resolve.proofs.run.print_entries.Given as goal
+
+abbrev pub invariant-outcomes : goal.invariant-outcomes
+invariant-outcomes g l =
+    Appends (g.O.Write.contents l.fn.out) (g.O.Write.contents l.out) (entries_text 0 (map outcome_seen (take l.index l.outcomes)))

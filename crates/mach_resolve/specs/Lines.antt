@@ -1,0 +1,144 @@
+-- The lines that are printed, and what is said of libraries that do not count and of refused files.
+use Rattle.std.specs.Prelude.{◌==◌, ◌+◌, ℕ, Bool, true, false, List, [], ◌∷◌, ◌++◌, codes, if◌then◌else◌}
+use Rattle.std.specs.Fmt.{digits, decimal}
+use Rattle.mach_base.specs.Words.{words_of}
+use Rattle.mach_base.specs.declared.error.Error.{Error}
+use Rattle.mach_parts.specs.Bindings.{Provider, of_library, itself, main_executable, flat, weak_lookup}
+use Rattle.mach_resolve.specs.Follow.{Place, found, leads_back, no_library, missing, not_given, not_found, no_main}
+use Rattle.mach_resolve.specs.Answers.{Answer}
+use Rattle.mach_resolve.specs.Note.{Note, given_before, nothing_for, all_noted}
+use Rattle.mach_resolve.specs.Report.{Outcome, answered, archive, refused, Report, one, entries, nothing}
+
+abbrev pub provider_text : Provider → List ℕ
+provider_text (of_library ordinal name) = name
+provider_text itself = codes "this-image"
+provider_text main_executable = codes "main-executable"
+provider_text flat = codes "flat-namespace"
+provider_text weak_lookup = codes "weak-lookup"
+
+-- an address in a file
+abbrev pub address_text : ℕ → List ℕ → List ℕ
+address_text address file = codes "0x" ++ digits 16 false address ++ codes " in " ++ file
+
+abbrev pub found_text : List ℕ → ℕ → Bool → List ℕ
+found_text file address false = address_text address file
+found_text file address true = codes "absolute " ++ address_text address file
+
+abbrev pub place_text : Place → List ℕ
+place_text (found file address is_absolute) = found_text file address is_absolute
+place_text (leads_back library) = codes "leads back to " ++ library
+place_text (no_library library) = codes "no library " ++ library
+place_text (missing library) = codes "missing in " ++ library
+place_text (not_given library reexported) = codes "not found; " ++ library ++ codes " re-exports " ++ reexported ++ codes ", which is not given"
+place_text not_found = codes "not found"
+place_text no_main = codes "no main executable"
+
+abbrev pub weak_text : Bool → List ℕ
+weak_text is_weak = if is_weak then codes "weak, " else []
+
+-- what stands before the place, where the name may be nowhere
+abbrev pub front_by : Place → Bool → List ℕ
+front_by (found file address is_absolute) is_weak = []
+front_by (leads_back library) is_weak = []
+front_by (no_library library) is_weak = weak_text is_weak
+front_by (missing library) is_weak = weak_text is_weak
+front_by (not_given library reexported) is_weak = weak_text is_weak
+front_by not_found is_weak = weak_text is_weak
+front_by no_main is_weak = weak_text is_weak
+
+abbrev pub front_text : Answer → List ℕ
+front_text a = front_by a.place a.is_weak
+
+-- the name, who is to give it, and where it is
+abbrev pub answer_text : Answer → List ℕ
+answer_text a = a.name ++ codes " " ++ provider_text a.provider ++ codes " " ++ front_text a ++ place_text a.place
+
+-- a line each, in order
+abbrev pub lines_of : List Answer → List ℕ
+lines_of [] = []
+lines_of (a ∷ others) = answer_text a ++ codes "\n" ++ lines_of others
+
+-- a file by its number
+abbrev pub file_text : ℕ → List ℕ
+file_text file = if file == 0 then codes "the program" else codes "library " ++ decimal file
+
+-- why a file is refused
+abbrev pub refusal_text : ℕ → Error → List ℕ
+refusal_text file e = file_text file ++ codes ": " ++ words_of e
+
+abbrev pub nothing_words : ℕ → List ℕ
+nothing_words cputype = codes "nothing for cputype 0x" ++ digits 16 false cputype
+
+-- a file has nothing for a cpu
+abbrev pub nothing_text : ℕ → ℕ → List ℕ
+nothing_text file cputype = file_text file ++ codes ": " ++ nothing_words cputype
+
+abbrev pub note_text : Note → List ℕ
+note_text (given_before library name) = file_text library ++ codes ": " ++ name ++ codes " is given before"
+note_text (nothing_for library cputype) = nothing_text library cputype
+
+-- a line that is said
+abbrev pub said_line : List ℕ → List ℕ
+said_line text = codes "machresolve: " ++ text ++ codes "\n"
+
+abbrev pub said_lines : List Note → List ℕ
+said_lines [] = []
+said_lines (n ∷ notes) = said_line (note_text n) ++ said_lines notes
+
+-- what is printed of an entry
+abbrev pub entry_text : Outcome → List ℕ
+entry_text (answered answers notes) = lines_of answers
+entry_text archive = codes "archive\n"
+entry_text (refused file e) = codes "refused: " ++ refusal_text file e ++ codes "\n"
+
+-- the line under which entry i stands
+abbrev pub arch_line : ℕ → List ℕ
+arch_line i = codes "arch " ++ decimal i ++ codes "\n"
+
+-- entries from number i on, each under its line
+abbrev pub entries_text : ℕ → List Outcome → List ℕ
+entries_text i [] = []
+entries_text i (o ∷ others) = arch_line i ++ entry_text o ++ entries_text (i + 1) others
+
+-- what is printed of one program: where it is refused, nothing
+abbrev pub one_text : Outcome → List ℕ
+one_text (answered answers notes) = lines_of answers
+one_text archive = codes "archive\n"
+one_text (refused file e) = []
+
+-- what is printed of a program
+abbrev pub printed : Report → List ℕ
+printed (one o) = one_text o
+printed (entries outcomes) = entries_text 0 outcomes
+printed (nothing cputype) = []
+
+abbrev pub notes_of : Outcome → List Note
+notes_of (answered answers notes) = notes
+notes_of archive = []
+notes_of (refused file e) = []
+
+-- those of all entries, each once
+abbrev pub all_notes : List Note → List Outcome → List Note
+all_notes notes [] = notes
+all_notes notes (o ∷ others) = all_notes (all_noted notes (notes_of o)) others
+
+abbrev pub notes_in : Report → List Note
+notes_in (one o) = all_noted [] (notes_of o)
+notes_in (entries outcomes) = all_notes [] outcomes
+notes_in (nothing cputype) = []
+
+-- why nothing is printed of one program
+abbrev pub said_refusal : Outcome → List ℕ
+said_refusal (answered answers notes) = []
+said_refusal archive = []
+said_refusal (refused file e) = said_line (refusal_text file e)
+
+-- why nothing is printed
+abbrev pub said_first : Report → List ℕ
+said_first (one o) = said_refusal o
+said_first (entries outcomes) = []
+said_first (nothing cputype) = said_line (nothing_text 0 cputype)
+
+-- what is said of a program
+abbrev pub said : Report → List ℕ
+said r = said_first r ++ said_lines (notes_in r)

@@ -1,0 +1,237 @@
+//! What is told of a program: of one image, or of each entry of a fat one.
+
+ghost use Rattle.std.specs.Prelude.{◌≡◌, map, Some, None, IfOk};
+ghost use Rattle.std.specs.List.{list_all};
+ghost use Rattle.goblin_mach.specs.OpenImage.{IsFatMach};
+ghost use Rattle.mach_resolve.specs.Cpu.{IsOfCpu};
+ghost use Rattle.mach_resolve.specs.Opened.{given_seen};
+ghost use Rattle.mach_resolve.specs.Report.{entry_of, IsOneOf, IsOutcome, IsEntryOutcome, AreEntryOutcomes, IsReport, is_whole, all_whole};
+ghost use Rattle.mach_resolve.specs.Seen.{outcome_seen, report_seen, IsRefusal};
+
+use crate::answers::all_settled;
+use crate::failure::Failure;
+use crate::given::Given;
+use crate::resolve::{Resolved, resolve};
+use goblin_mach::fat::FatArch;
+use goblin_mach::{Error, Mach, MultiArch};
+use std::alloc::Allocator;
+
+/// What is told of one program.
+#[derive(Drop)]
+pub enum Outcome<'a, A: Allocator> {
+    /// Its answers.
+    Answered(Resolved<'a, A>),
+    /// It is an archive.
+    Archive,
+    /// A file is refused: the program, which is file 0, or a library by its number.
+    Refused { file: usize, error: Error },
+}
+
+/// What is told of a whole file.
+#[derive(Drop)]
+pub enum Report<'a, A: Allocator> {
+    /// Of one image, or of the entry that is asked for; or why the file is refused.
+    One(Outcome<'a, A>),
+    /// Of each entry of a fat file, in order.
+    Entries(Vec<Outcome<'a, A>, A>),
+    /// It has nothing for this cpu.
+    Nothing(u32),
+}
+
+impl<'a, A: Allocator> Outcome<'a, A> {
+    // Whether all is settled, and nothing refused.
+    fn is_whole(&self) -> bool
+        ensures { result ≡ is_whole (outcome_seen self.now) }
+    {
+        match self {
+            Outcome::Answered(resolved) => all_settled(&resolved.answers),
+            Outcome::Archive => true,
+            Outcome::Refused { .. } => false,
+        }
+    }
+}
+
+// Whether all is settled in all entries, and nothing refused.
+fn all_whole<A: Allocator>(outcomes: &[Outcome<'_, A>]) -> bool
+    ensures { result ≡ list_all is_whole (map outcome_seen outcomes.now) }
+{
+    let mut whole = true;
+    for outcome in outcomes {
+        whole &= outcome.is_whole();
+    }
+    whole
+}
+
+impl<'a, A: Allocator> Report<'a, A> {
+    /// Whether all is settled, and nothing refused.
+    pub fn is_whole(&self) -> bool
+        ensures { result ≡ all_whole (report_seen self.now) }
+    {
+        match self {
+            Report::One(outcome) => outcome.is_whole(),
+            Report::Entries(outcomes) => all_whole(outcomes),
+            Report::Nothing(_) => false,
+        }
+    }
+}
+
+// The outcome for a refused file; want of memory stays a failure.
+fn refusal<'a, A: Allocator>(failure: Failure) -> Result<Outcome<'a, A>, Failure>
+    ensures { IsRefusal failure result }
+{
+    match failure {
+        Failure::Refused { file, error } => Ok(Outcome::Refused { file, error }),
+        Failure::Memory | Failure::Unwritten => Err(failure),
+    }
+}
+
+// The outcome for an image.
+fn outcome_for<'a, A: Allocator + Copy>(
+    alloc: A,
+    program: Given<'a>,
+    libraries: &[Given<'a>],
+) -> Result<Outcome<'a, A>, Failure>
+    ensures { IfOk result (λ o. IsOutcome (given_seen program.entry) (map given_seen libraries.now) (outcome_seen o)) }
+{
+    match resolve(alloc, program, libraries) {
+        Ok(resolved) => Ok(Outcome::Answered(resolved)),
+        Err(failure) => refusal(failure),
+    }
+}
+
+// The outcome for an entry of a fat program, by its record.
+fn entry_outcome<'a, A: Allocator + Copy>(
+    alloc: A,
+    program: Given<'a>,
+    arch: &FatArch,
+    libraries: &[Given<'a>],
+) -> Result<Outcome<'a, A>, Failure>
+    ensures { IfOk result (λ o. IsEntryOutcome (entry_of (given_seen program.entry) arch.now) (map given_seen libraries.now) (outcome_seen o)) }
+{
+    let Given { path, bytes } = program;
+    let bytes = arch.slice(bytes);
+    if bytes.starts_with(b"!<arch>\n") {
+        Ok(Outcome::Archive)
+    } else {
+        outcome_for(alloc, Given { path, bytes }, libraries)
+    }
+}
+
+// The outcomes for the entries of a fat program, by their records, in order.
+fn entry_outcomes<'a, A: Allocator + Copy>(
+    alloc: A,
+    program: Given<'a>,
+    arches: &[FatArch],
+    libraries: &[Given<'a>],
+) -> Result<Vec<Outcome<'a, A>, A>, Failure>
+    ensures { IfOk result (λ v. AreEntryOutcomes (given_seen program.entry) (map given_seen libraries.now) arches.now (map outcome_seen v.items)) }
+{
+    let mut outcomes = Vec::new(alloc);
+    'arches: for arch in arches {
+        match entry_outcome(alloc, program, arch, libraries) {
+            Ok(outcome) => outcomes.push(outcome)?,
+            Err(failure) => return Err(failure),
+        }
+    }
+    Ok(outcomes)
+}
+
+// What is told of a fat program, of all its entries.
+fn report_all<'a, A: Allocator + Copy>(
+    alloc: A,
+    program: Given<'a>,
+    container: &MultiArch<'a, A>,
+    libraries: &[Given<'a>],
+) -> Result<Report<'a, A>, Failure>
+    ensures { IsFatMach program.entry.bytes.now container.now → IfOk result (λ r. IsReport (given_seen program.entry) (map given_seen libraries.now) None (report_seen r)) }
+{
+    match container.arches() {
+        Ok(arches) => match entry_outcomes(alloc, program, &arches, libraries) {
+            Ok(outcomes) => Ok(Report::Entries(outcomes)),
+            Err(failure) => Err(failure),
+        },
+        Err(error) => match refusal(Failure::refused(0, error)) {
+            Ok(outcome) => Ok(Report::One(outcome)),
+            Err(failure) => Err(failure),
+        },
+    }
+}
+
+// What is told of a fat program, of its first entry of a cpu.
+fn report_entry<'a, A: Allocator + Copy>(
+    alloc: A,
+    cputype: u32,
+    program: Given<'a>,
+    container: &MultiArch<'a, A>,
+    libraries: &[Given<'a>],
+) -> Result<Report<'a, A>, Failure>
+    ensures { IsFatMach program.entry.bytes.now container.now → IfOk result (λ r. IsReport (given_seen program.entry) (map given_seen libraries.now) (Some cputype) (report_seen r)) }
+{
+    match container.find_cputype(cputype) {
+        Ok(Some(arch)) => match entry_outcome(alloc, program, &arch, libraries) {
+            Ok(outcome) => Ok(Report::One(outcome)),
+            Err(failure) => Err(failure),
+        },
+        Ok(None) => Ok(Report::Nothing(cputype)),
+        Err(error) => match refusal(Failure::refused(0, error)) {
+            Ok(outcome) => Ok(Report::One(outcome)),
+            Err(failure) => Err(failure),
+        },
+    }
+}
+
+// What is told of a program that is one image.
+fn report_one<'a, A: Allocator + Copy>(
+    alloc: A,
+    program: Given<'a>,
+    libraries: &[Given<'a>],
+) -> Result<Report<'a, A>, Failure>
+    ensures { IfOk result (λ r. IsOneOf (IsOutcome (given_seen program.entry) (map given_seen libraries.now)) (report_seen r)) }
+{
+    match outcome_for(alloc, program, libraries) {
+        Ok(outcome) => Ok(Report::One(outcome)),
+        Err(failure) => Err(failure),
+    }
+}
+
+// What is told of a program that is one image of a cpu.
+fn report_image<'a, A: Allocator + Copy>(
+    alloc: A,
+    wanted: Option<u32>,
+    cputype: u32,
+    program: Given<'a>,
+    libraries: &[Given<'a>],
+) -> Result<Report<'a, A>, Failure>
+    ensures { IsOfCpu program.entry.bytes.now cputype → IfOk result (λ r. IsReport (given_seen program.entry) (map given_seen libraries.now) wanted (report_seen r)) }
+{
+    match wanted {
+        Some(other) if other != cputype => Ok(Report::Nothing(other)),
+        Some(_) => report_one(alloc, program, libraries),
+        None => report_one(alloc, program, libraries),
+    }
+}
+
+/// What is told of a program: of all of it, or of what it has for a cpu that is wanted. Only memory can be wanting.
+pub fn report_on<'a, A: Allocator + Copy>(
+    alloc: A,
+    wanted: Option<u32>,
+    program: Given<'a>,
+    libraries: &[Given<'a>],
+) -> Result<Report<'a, A>, Failure>
+    ensures { IfOk result (λ r. IsReport (given_seen program.entry) (map given_seen libraries.now) wanted (report_seen r)) }
+{
+    match Mach::parse(alloc, program.bytes) {
+        Ok(Mach::Binary(image)) => {
+            let cputype = image.header.cputype;
+            report_image(alloc, wanted, cputype, program, libraries)
+        }
+        Ok(Mach::Fat(container)) => match wanted {
+            Some(cputype) => report_entry(alloc, cputype, program, &container, libraries),
+            None => report_all(alloc, program, &container, libraries),
+        },
+        Err(error) => match refusal(Failure::refused(0, error)) {
+            Ok(outcome) => Ok(Report::One(outcome)),
+            Err(failure) => Err(failure),
+        },
+    }
+}

@@ -1,0 +1,266 @@
+//! What the program prints, and its exit status.
+
+ghost use Rattle.std.specs.Prelude.{◌≡◌, ◌≢◌, ◌≤◌, ◌⊎◌, ◌++◌, map, codes, IfOk, OnOk};
+ghost use Rattle.std.specs.Io.KnownBytes.{Appends};
+ghost use Rattle.mach_resolve.specs.Lines.{lines_of, entry_text, arch_line, entries_text, one_text, printed, notes_in, all_notes, said_refusal, said_first, said_lines, said, notes_of};
+ghost use Rattle.mach_resolve.specs.Note.{all_noted};
+ghost use Rattle.mach_resolve.specs.Opened.{given_seen};
+ghost use Rattle.mach_resolve.specs.Runs.{status_by, Runs};
+ghost use Rattle.mach_resolve.specs.Seen.{answer_seen, note_seen, outcome_seen, report_seen};
+
+use crate::answers::Answer;
+use crate::failure::Failure;
+use crate::given::Given;
+use crate::lines::{NothingText, RefusalText};
+use crate::note::{Note, Notes, note_all};
+use crate::report::{Outcome, Report, report_on};
+use indexmap::IndexSet;
+use std::alloc::{AllocFailed, Allocator};
+use std::io;
+use std::io::Write;
+
+/// Resolves a program, or what it has for a cpu that is wanted, and answers the exit status: 0 where each binding is
+/// settled; 1 where one is not, or a file is refused; 2 for want of memory, and where a write fails. The lines of one
+/// image are written whole or not at all. Notes, and why nothing is printed, go to `err`.
+pub fn run<'a, A: Allocator + Copy, O: Write, E: Write>(
+    alloc: A,
+    wanted: Option<u32>,
+    program: Given<'a>,
+    libraries: &[Given<'a>],
+    out: &mut O,
+    err: &mut E,
+) -> u8
+    ensures status { result ≤ 2 }
+    ensures runs { result ≢ 2 → Runs wanted (given_seen program.entry) (map given_seen libraries.now) result (O.contents out.old) (O.contents out.new) (E.contents err.old) (E.contents err.new) }
+{
+    match tell(alloc, wanted, program, libraries, out, err) {
+        Ok(whole) => status(whole),
+        Err(failure) => fail(&failure, err),
+    }
+}
+
+// The status, by whether all is settled and nothing refused.
+fn status(whole: bool) -> u8
+    ensures { result ≡ status_by whole }
+{
+    if whole { 0 } else { 1 }
+}
+
+// Writes what is told of a program, and answers whether all is settled and nothing refused.
+fn tell<'a, A: Allocator + Copy, O: Write, E: Write>(
+    alloc: A,
+    wanted: Option<u32>,
+    program: Given<'a>,
+    libraries: &[Given<'a>],
+    out: &mut O,
+    err: &mut E,
+) -> Result<bool, Failure>
+    ensures { IfOk result (λ whole. Runs wanted (given_seen program.entry) (map given_seen libraries.now) (status_by whole) (O.contents out.old) (O.contents out.new) (E.contents err.old) (E.contents err.new)) }
+{
+    let report = match report_on(alloc, wanted, program, libraries) {
+        Ok(report) => report,
+        Err(failure) => return Err(failure),
+    };
+    let notes = notes_in(alloc, &report)?;
+    print_report(&report, out)?;
+    say(&report, &notes, err)?;
+    Ok(report.is_whole())
+}
+
+// Prints what is told of a program, and sees to it that it is written.
+fn print_report<A: Allocator, O: Write>(report: &Report<'_, A>, out: &mut O) -> io::Result<()>
+    ensures { OnOk result (Appends (O.contents out.old) (O.contents out.new) (printed (report_seen report.now))) }
+{
+    print_whole(report, out)?;
+    out.flush()
+}
+
+// Prints what is told of a program.
+fn print_whole<A: Allocator, O: Write>(report: &Report<'_, A>, out: &mut O) -> io::Result<()>
+    ensures { OnOk result (Appends (O.contents out.old) (O.contents out.new) (printed (report_seen report.now))) }
+{
+    match report {
+        Report::One(outcome) => print_one(outcome, out),
+        Report::Entries(outcomes) => print_entries(outcomes, out),
+        Report::Nothing(_) => Ok(()),
+    }
+}
+
+// Prints what is told of one program: where it is refused, nothing.
+fn print_one<A: Allocator, O: Write>(outcome: &Outcome<'_, A>, out: &mut O) -> io::Result<()>
+    ensures { OnOk result (Appends (O.contents out.old) (O.contents out.new) (one_text (outcome_seen outcome.now))) }
+{
+    match outcome {
+        Outcome::Answered(resolved) => print_answers(&resolved.answers, out),
+        Outcome::Archive => writeln!(out, "archive"),
+        Outcome::Refused { .. } => Ok(()),
+    }
+}
+
+// Prints what is told of the entries of a fat program, each under its line.
+fn print_entries<A: Allocator, O: Write>(outcomes: &[Outcome<'_, A>], out: &mut O) -> io::Result<()>
+    ensures { OnOk result (Appends (O.contents out.old) (O.contents out.new) (entries_text 0 (map outcome_seen outcomes.now))) }
+{
+    'outcomes: for (index, outcome) in outcomes.iter().enumerate() {
+        print_entry(index, outcome, out)?;
+    }
+    Ok(())
+}
+
+// Prints what is told of an entry, under its line.
+fn print_entry<A: Allocator, O: Write>(
+    index: usize,
+    outcome: &Outcome<'_, A>,
+    out: &mut O,
+) -> io::Result<()>
+    ensures { OnOk result (Appends (O.contents out.old) (O.contents out.new) (arch_line index ++ entry_text (outcome_seen outcome.now))) }
+{
+    writeln!(out, "arch {index}")?;
+    print_outcome(outcome, out)
+}
+
+// Prints what is told of one program.
+fn print_outcome<A: Allocator, O: Write>(outcome: &Outcome<'_, A>, out: &mut O) -> io::Result<()>
+    ensures { OnOk result (Appends (O.contents out.old) (O.contents out.new) (entry_text (outcome_seen outcome.now))) }
+{
+    match outcome {
+        Outcome::Answered(resolved) => print_answers(&resolved.answers, out),
+        Outcome::Archive => writeln!(out, "archive"),
+        Outcome::Refused { file, error } => {
+            let refusal = RefusalText { file: *file, error };
+            writeln!(out, "refused: {refusal}")
+        }
+    }
+}
+
+// Prints a line for each answer, in order.
+fn print_answers<O: Write>(answers: &[Answer<'_>], out: &mut O) -> io::Result<()>
+    ensures { OnOk result (Appends (O.contents out.old) (O.contents out.new) (lines_of (map answer_seen answers.now))) }
+{
+    'answers: for answer in answers {
+        writeln!(out, "{answer}")?;
+    }
+    Ok(())
+}
+
+// The notes of a program, each once.
+fn notes_in<'a, A: Allocator + Copy>(
+    alloc: A,
+    report: &Report<'a, A>,
+) -> Result<Notes<'a, A>, AllocFailed<Note<'a>>>
+    ensures { IfOk result (λ s. map note_seen s.keys ≡ notes_in (report_seen report.now)) }
+{
+    let mut notes = IndexSet::new(alloc);
+    match report {
+        Report::One(outcome) => note_outcome(&mut notes, outcome)?,
+        Report::Entries(outcomes) => note_entries(&mut notes, outcomes)?,
+        Report::Nothing(_) => {}
+    }
+    Ok(notes)
+}
+
+// Adds the notes of some entries, but for those that are there.
+fn note_entries<'a, A: Allocator + Copy>(
+    notes: &mut Notes<'a, A>,
+    outcomes: &[Outcome<'a, A>],
+) -> Result<(), AllocFailed<Note<'a>>>
+    ensures { OnOk result (map note_seen notes.new.keys ≡ all_notes (map note_seen notes.old.keys) (map outcome_seen outcomes.now)) }
+{
+    'outcomes: for outcome in outcomes {
+        note_outcome(notes, outcome)?;
+    }
+    Ok(())
+}
+
+// Adds the notes of one program, but for those that are there.
+fn note_outcome<'a, A: Allocator + Copy>(
+    notes: &mut Notes<'a, A>,
+    outcome: &Outcome<'a, A>,
+) -> Result<(), AllocFailed<Note<'a>>>
+    ensures { OnOk result (map note_seen notes.new.keys ≡ all_noted (map note_seen notes.old.keys) (notes_of (outcome_seen outcome.now))) }
+{
+    match outcome {
+        Outcome::Answered(resolved) => note_all(notes, &resolved.notes),
+        Outcome::Archive | Outcome::Refused { .. } => Ok(()),
+    }
+}
+
+// Says what is said of a program: why nothing is printed, and the notes.
+fn say<'a, A: Allocator, E: Write>(
+    report: &Report<'a, A>,
+    notes: &Notes<'a, A>,
+    err: &mut E,
+) -> io::Result<()>
+    ensures { map note_seen notes.now.keys ≡ notes_in (report_seen report.now) → OnOk result (Appends (E.contents err.old) (E.contents err.new) (said (report_seen report.now))) }
+{
+    say_first(report, err)?;
+    say_notes(notes.as_slice(), err)
+}
+
+// Says why nothing is printed, if that is so.
+fn say_first<A: Allocator, E: Write>(report: &Report<'_, A>, err: &mut E) -> io::Result<()>
+    ensures { OnOk result (Appends (E.contents err.old) (E.contents err.new) (said_first (report_seen report.now))) }
+{
+    match report {
+        Report::One(outcome) => say_refusal(outcome, err),
+        Report::Entries(_) => Ok(()),
+        Report::Nothing(cputype) => {
+            let nothing = NothingText {
+                file: 0,
+                cputype: *cputype,
+            };
+            writeln!(err, "machresolve: {nothing}")
+        }
+    }
+}
+
+// Says why one program is refused, if it is.
+fn say_refusal<A: Allocator, E: Write>(outcome: &Outcome<'_, A>, err: &mut E) -> io::Result<()>
+    ensures { OnOk result (Appends (E.contents err.old) (E.contents err.new) (said_refusal (outcome_seen outcome.now))) }
+{
+    match outcome {
+        Outcome::Answered(_) => Ok(()),
+        Outcome::Archive => Ok(()),
+        Outcome::Refused { file, error } => {
+            let refusal = RefusalText { file: *file, error };
+            writeln!(err, "machresolve: {refusal}")
+        }
+    }
+}
+
+// Says some notes, a line each.
+fn say_notes<E: Write>(notes: &[Note<'_>], err: &mut E) -> io::Result<()>
+    ensures { OnOk result (Appends (E.contents err.old) (E.contents err.new) (said_lines (map note_seen notes.now))) }
+{
+    'notes: for note in notes {
+        writeln!(err, "machresolve: {note}")?;
+    }
+    Ok(())
+}
+
+// Says on `err` what was the matter, if that can be written, and answers the exit status.
+fn fail<E: Write>(failure: &Failure, err: &mut E) -> u8
+    ensures { result ≡ 2 }
+{
+    let _ = writeln!(err, "machresolve: {failure}");
+    2
+}
+
+/// Prints a line, and answers the exit status: 0; 2 where the write fails, and then `err` says so.
+pub fn run_line<O: Write, E: Write>(line: &str, out: &mut O, err: &mut E) -> u8
+    ensures status { (result ≡ 0) ⊎ (result ≡ 2) }
+    ensures printed { result ≡ 0 → Appends (O.contents out.old) (O.contents out.new) (line.now ++ codes "\n") }
+{
+    match print_line(line, out) {
+        Ok(()) => 0,
+        Err(_) => fail(&Failure::Unwritten, err),
+    }
+}
+
+// Prints a line.
+fn print_line<O: Write>(line: &str, out: &mut O) -> io::Result<()>
+    ensures { OnOk result (Appends (O.contents out.old) (O.contents out.new) (line.now ++ codes "\n")) }
+{
+    writeln!(out, "{line}")?;
+    out.flush()
+}

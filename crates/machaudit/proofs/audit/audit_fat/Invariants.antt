@@ -1,8 +1,0 @@
-use Rattle.goblin_mach.specs.FatFile.{file_held}
-use Rattle.machaudit.proofs.Entries.{AllSound, SomeLong}
-use Rattle.machaudit.specs.Verdicts.{Judges, verdict_of_entries}
-use Rattle.machaudit.proofs.audit.audit_fat.Given as goal
-
-abbrev pub invariant-loop-index : goal.invariant-loop-index
-invariant-loop-index g l =
-    Judges (AllSound (file_held l.container) l.index) (SomeLong l.limit (file_held l.container) l.index) (verdict_of_entries l.entries.items)

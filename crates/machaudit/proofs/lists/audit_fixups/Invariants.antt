@@ -1,7 +1,0 @@
-use Rattle.std.proofs.Common.{[]}
-use Rattle.goblin_mach.specs.FixupsLeft.{fixups_left}
-use Rattle.machaudit.proofs.Goes.{Goes}
-use Rattle.machaudit.proofs.lists.audit_fixups.Given as goal
-
-abbrev pub invariant-fixups : goal.invariant-fixups
-invariant-fixups g l = Goes l.fn.limit [] (fixups_left l.fn.fixups) (fixups_left l.fixup-iterator) l.tally

@@ -1,9 +1,0 @@
-use Rattle.std.proofs.Common.{◌≡◌, ◌++◌, map}
-use Rattle.goblin_mach.specs.Libraries.{libraries_in, libraries_left}
-use Rattle.goblin_mach.specs.OpenImage.{bytes_held, commands_held}
-use Rattle.machresolve.specs.Given.{may_be_absent, is_weak_kind}
-use Rattle.machresolve.proofs.given.absences_of.Given as goal
-
-abbrev pub invariant-libraries : goal.invariant-libraries
-invariant-libraries g l =
-    may_be_absent (libraries_in (bytes_held l.image) (commands_held l.image)) ≡ l.absences.items ++ map (λ x. is_weak_kind x.kind) (libraries_left l.library-iterator)

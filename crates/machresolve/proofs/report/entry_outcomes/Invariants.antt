@@ -1,9 +1,0 @@
-use Rattle.std.proofs.Common.{map, take}
-use Rattle.machresolve.specs.Report.{AreEntryOutcomes}
-use Rattle.machresolve.specs.Opened.{given_seen}
-use Rattle.machresolve.specs.Seen.{outcome_seen}
-use Rattle.machresolve.proofs.report.entry_outcomes.Given as goal
-
-abbrev pub invariant-arches : goal.invariant-arches
-invariant-arches g l =
-    AreEntryOutcomes (given_seen l.program) (map given_seen l.libraries) (take l.arch-index l.arches) (map outcome_seen l.outcomes.items)

@@ -1,6 +1,0 @@
--- What a file as it was given means.
-use Rattle.machresolve.specs.Given as given
-use Rattle.machresolve.specs.declared.given.Given.{Given}
-
-abbrev pub given_seen : Given → given.Given
-given_seen g = record { path = g.path.now; bytes = g.bytes.now }

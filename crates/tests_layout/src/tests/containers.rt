@@ -1,0 +1,162 @@
+//! Rows of the rules of the table of a fat file.
+
+use crate::tests::commands::line;
+use mach_layout::container_faults;
+use std::alloc::{AllocError, Global};
+use std::test::Fail;
+
+// A fat file of two images of 32 bytes, at 64 and at 96, in words of four bytes with the highest first. The records end
+// at 48.
+const TWO_IMAGES: [u32; 32] = [
+    0xcafe_babe,
+    2,
+    0x0100_0007,
+    3,
+    64,
+    32,
+    5,
+    0x0100_000c,
+    0,
+    96,
+    32,
+    5,
+    0,
+    0,
+    0,
+    0,
+    0xcffa_edfe,
+    0x0700_0001,
+    0,
+    0,
+    0,
+    0,
+    0,
+    0,
+    0xcffa_edfe,
+    0x0c00_0001,
+    0,
+    0,
+    0,
+    0,
+    0,
+    0,
+];
+
+// Words that are put in the place of others, by number, how many words there are, and what is told then.
+struct Row {
+    changes: &'static [(usize, u32)],
+    words: usize,
+    want: &'static str,
+}
+
+const ROWS: &[Row] = &[
+    Row {
+        changes: &[],
+        words: 32,
+        want: "",
+    },
+    Row {
+        changes: &[(1, 0)],
+        words: 32,
+        want: "",
+    },
+    Row {
+        changes: &[(1, 1)],
+        words: 2,
+        want: "RecordsOutOfFile 0: 28 8; ",
+    },
+    Row {
+        changes: &[],
+        words: 1,
+        want: "RecordsOutOfFile 0: 8 4; ",
+    },
+    Row {
+        changes: &[(5, 0)],
+        words: 32,
+        want: "SliceOutOfFile 8: 64 128; ",
+    },
+    Row {
+        changes: &[(10, 33)],
+        words: 32,
+        want: "SliceOutOfFile 28: 129 128; ",
+    },
+    Row {
+        changes: &[(4, 32)],
+        words: 32,
+        want: "SliceInRecords 8: 32 48; ",
+    },
+    Row {
+        changes: &[(6, 16)],
+        words: 32,
+        want: "SliceAlignment 8: 16 15; ",
+    },
+    Row {
+        changes: &[(4, 48)],
+        words: 32,
+        want: "SliceUnaligned 8: 48 32; ",
+    },
+    Row {
+        changes: &[(7, 0x0100_0007), (8, 0x8000_0003)],
+        words: 32,
+        want: "SliceAgain 28: 281475094151171 281475094151172, 8; SliceOfOtherCpu 28: 16777223 16777228; ",
+    },
+    Row {
+        changes: &[(2, 7)],
+        words: 32,
+        want: "SliceOfOtherCpu 8: 7 16777223; ",
+    },
+    Row {
+        changes: &[(5, 33)],
+        words: 32,
+        want: "SlicesShare 28: 96 97, 8; ",
+    },
+];
+
+// The bytes of some words, with some of them changed.
+fn changed(alloc: Global, words: &[u32], changes: &[(usize, u32)]) -> Result<Vec<u8>, AllocError> {
+    let mut bytes = Vec::new(alloc);
+    for (number, word) in words.iter().enumerate() {
+        let mut value = *word;
+        for (place, change) in changes {
+            if *place == number {
+                value = *change;
+            }
+        }
+        for byte in value.to_be_bytes() {
+            bytes.push(byte)?;
+        }
+    }
+    Ok(bytes)
+}
+
+#[test]
+fn faults_of_a_fat_file(rt: HostRuntime) -> Result<(), Fail> {
+    let alloc = rt.alloc();
+    for row in ROWS {
+        let bytes = changed(alloc, &TWO_IMAGES[..row.words], row.changes)?;
+        let faults = container_faults(alloc, bytes.as_slice())?;
+        let got = line(alloc, faults.as_slice())?;
+        if got.as_str() != row.want {
+            return Err(Fail::from(format!(in alloc; "{:?}: {got}", row.changes)?));
+        }
+    }
+    Ok(())
+}
+
+// Of each of 2000 slices without bytes, at 0 and of one cpu, that it has none and where it begins; of all but the first
+// that it is a second one.
+#[test]
+fn faults_of_many_slices(rt: HostRuntime) -> Result<(), Fail> {
+    let alloc = rt.alloc();
+    let mut bytes = changed(alloc, &[0xcafe_babe, 2000], &[])?;
+    for _ in 0..2000 {
+        for byte in changed(alloc, &[7, 3, 0, 0, 0], &[])?.as_slice() {
+            bytes.push(*byte)?;
+        }
+    }
+    let faults = container_faults(alloc, bytes.as_slice())?;
+    if faults.len() != 5999 {
+        return Err(Fail::from("not three of each but the first"));
+    }
+    Ok(())
+}

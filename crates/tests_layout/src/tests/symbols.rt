@@ -1,0 +1,296 @@
+//! Rows of symbols and of what dyld binds by opcodes: the smallest sound library, with one change each.
+
+use goblin_mach::MachO;
+use mach_layout::{LayoutFault, Rule, layout_faults};
+use std::alloc::{AllocError, Global};
+use std::test::Fail;
+
+// A library of 64 bits with __TEXT (__text, __stubs), __DATA (__got, __bss) and __LINKEDIT: its header and commands, and
+// its tables at 0x2000. It brings in one library and has three symbols: a local one, an external one and one of the library.
+const LIBRARY_FRONT: [u8; 853] = [
+    0xcf, 0xfa, 0xed, 0xfe, 7, 0, 0, 1, 3, 0, 0, 0, 6, 0, 0, 0, 0xc, 0, 0, 0, 0x38, 3, 0, 0, 0x85,
+    0, 0, 0, 0, 0, 0, 0, 0x19, 0, 0, 0, 0xe8, 0, 0, 0, 0x5f, 0x5f, 0x54, 0x45, 0x58, 0x54, 0, 0, 0,
+    0, 0, 0, 0, 0, 0, 0, 0, 0, 0, 0, 0, 0, 0, 0, 0, 0x10, 0, 0, 0, 0, 0, 0, 0, 0, 0, 0, 0, 0, 0, 0,
+    0, 0x10, 0, 0, 0, 0, 0, 0, 5, 0, 0, 0, 5, 0, 0, 0, 2, 0, 0, 0, 0, 0, 0, 0, 0x5f, 0x5f, 0x74,
+    0x65, 0x78, 0x74, 0, 0, 0, 0, 0, 0, 0, 0, 0, 0, 0x5f, 0x5f, 0x54, 0x45, 0x58, 0x54, 0, 0, 0, 0,
+    0, 0, 0, 0, 0, 0, 0, 0xf, 0, 0, 0, 0, 0, 0, 0x10, 0, 0, 0, 0, 0, 0, 0, 0, 0xf, 0, 0, 2, 0, 0,
+    0, 0, 0, 0, 0, 0, 0, 0, 0, 0, 4, 0, 0x80, 0, 0, 0, 0, 0, 0, 0, 0, 0, 0, 0, 0, 0x5f, 0x5f, 0x73,
+    0x74, 0x75, 0x62, 0x73, 0, 0, 0, 0, 0, 0, 0, 0, 0, 0x5f, 0x5f, 0x54, 0x45, 0x58, 0x54, 0, 0, 0,
+    0, 0, 0, 0, 0, 0, 0, 0x10, 0xf, 0, 0, 0, 0, 0, 0, 0xc, 0, 0, 0, 0, 0, 0, 0, 0x10, 0xf, 0, 0, 2,
+    0, 0, 0, 0, 0, 0, 0, 0, 0, 0, 0, 8, 4, 0, 0x80, 0, 0, 0, 0, 0xc, 0, 0, 0, 0, 0, 0, 0, 0x19, 0,
+    0, 0, 0xe8, 0, 0, 0, 0x5f, 0x5f, 0x44, 0x41, 0x54, 0x41, 0, 0, 0, 0, 0, 0, 0, 0, 0, 0, 0, 0x10,
+    0, 0, 0, 0, 0, 0, 0, 0x10, 0, 0, 0, 0, 0, 0, 0, 0x10, 0, 0, 0, 0, 0, 0, 0, 0x10, 0, 0, 0, 0, 0,
+    0, 3, 0, 0, 0, 3, 0, 0, 0, 2, 0, 0, 0, 0, 0, 0, 0, 0x5f, 0x5f, 0x67, 0x6f, 0x74, 0, 0, 0, 0, 0,
+    0, 0, 0, 0, 0, 0, 0x5f, 0x5f, 0x44, 0x41, 0x54, 0x41, 0, 0, 0, 0, 0, 0, 0, 0, 0, 0, 0, 0x10, 0,
+    0, 0, 0, 0, 0, 8, 0, 0, 0, 0, 0, 0, 0, 0, 0x10, 0, 0, 2, 0, 0, 0, 0, 0, 0, 0, 0, 0, 0, 0, 6, 0,
+    0, 0, 1, 0, 0, 0, 0, 0, 0, 0, 0, 0, 0, 0, 0x5f, 0x5f, 0x62, 0x73, 0x73, 0, 0, 0, 0, 0, 0, 0, 0,
+    0, 0, 0, 0x5f, 0x5f, 0x44, 0x41, 0x54, 0x41, 0, 0, 0, 0, 0, 0, 0, 0, 0, 0, 0, 0x11, 0, 0, 0, 0,
+    0, 0, 0x10, 0, 0, 0, 0, 0, 0, 0, 0, 0, 0, 0, 2, 0, 0, 0, 0, 0, 0, 0, 0, 0, 0, 0, 1, 0, 0, 0, 0,
+    0, 0, 0, 0, 0, 0, 0, 0, 0, 0, 0, 0x19, 0, 0, 0, 0x48, 0, 0, 0, 0x5f, 0x5f, 0x4c, 0x49, 0x4e,
+    0x4b, 0x45, 0x44, 0x49, 0x54, 0, 0, 0, 0, 0, 0, 0, 0x20, 0, 0, 0, 0, 0, 0, 0, 0x10, 0, 0, 0, 0,
+    0, 0, 0, 0x20, 0, 0, 0, 0, 0, 0, 0xa0, 0, 0, 0, 0, 0, 0, 0, 1, 0, 0, 0, 1, 0, 0, 0, 0, 0, 0, 0,
+    0, 0, 0, 0, 0x22, 0, 0, 0x80, 0x30, 0, 0, 0, 0, 0x20, 0, 0, 8, 0, 0, 0, 8, 0x20, 0, 0, 8, 0, 0,
+    0, 0x10, 0x20, 0, 0, 8, 0, 0, 0, 0x18, 0x20, 0, 0, 8, 0, 0, 0, 0x20, 0x20, 0, 0, 8, 0, 0, 0, 2,
+    0, 0, 0, 0x18, 0, 0, 0, 0x38, 0x20, 0, 0, 3, 0, 0, 0, 0x70, 0x20, 0, 0, 0x10, 0, 0, 0, 0xb, 0,
+    0, 0, 0x50, 0, 0, 0, 0, 0, 0, 0, 1, 0, 0, 0, 1, 0, 0, 0, 1, 0, 0, 0, 2, 0, 0, 0, 1, 0, 0, 0, 0,
+    0, 0, 0, 0, 0, 0, 0, 0, 0, 0, 0, 0, 0, 0, 0, 0, 0, 0, 0, 0, 0, 0, 0, 0x68, 0x20, 0, 0, 2, 0, 0,
+    0, 0, 0, 0, 0, 0, 0, 0, 0, 0, 0, 0, 0, 0, 0, 0, 0, 0xd, 0, 0, 0, 0x20, 0, 0, 0, 0x18, 0, 0, 0,
+    0, 0, 0, 0, 0, 0, 0, 0, 0, 0, 0, 0, 0x2f, 0x61, 0, 0, 0, 0, 0, 0, 0xc, 0, 0, 0, 0x20, 0, 0, 0,
+    0x18, 0, 0, 0, 0, 0, 0, 0, 0, 0, 0, 0, 0, 0, 0, 0, 0x2f, 0x62, 0, 0, 0, 0, 0, 0, 0x1b, 0, 0, 0,
+    0x18, 0, 0, 0, 0x75, 0x75, 0x75, 0x75, 0x75, 0x75, 0x75, 0x75, 0x75, 0x75, 0x75, 0x75, 0x75,
+    0x75, 0x75, 0x75, 0x26, 0, 0, 0, 0x10, 0, 0, 0, 0x28, 0x20, 0, 0, 8, 0, 0, 0, 0x29, 0, 0, 0,
+    0x10, 0, 0, 0, 0x30, 0x20, 0, 0, 8, 0, 0, 0, 0x1d, 0, 0, 0, 0x10, 0, 0, 0, 0x80, 0x20, 0, 0,
+    0x20,
+];
+
+const LIBRARY_TABLES: [u8; 160] = [
+    0, 0, 0, 0, 0, 0, 0, 0, 0, 0, 0, 0, 0, 0, 0, 0, 0, 0, 0, 0, 0, 0, 0, 0, 0, 0, 0, 0, 0, 0, 0, 0,
+    0, 0, 0, 0, 0, 0, 0, 0, 0, 0, 0, 0, 0, 0, 0, 0, 0, 0, 0, 0, 0, 0, 0, 0, 1, 0, 0, 0, 0xe, 1, 0,
+    0, 0, 0xf, 0, 0, 0, 0, 0, 0, 4, 0, 0, 0, 0xf, 1, 0, 0, 4, 0xf, 0, 0, 0, 0, 0, 0, 7, 0, 0, 0, 1,
+    0, 0, 1, 0, 0, 0, 0, 0, 0, 0, 0, 2, 0, 0, 0, 0, 0, 0, 0x80, 0, 0x5f, 0x6c, 0, 0x5f, 0x65, 0,
+    0x5f, 0x75, 0, 0, 0, 0, 0, 0, 0, 0, 0, 0, 0, 0, 0, 0, 0, 0, 0, 0, 0, 0, 0, 0, 0, 0, 0, 0, 0, 0,
+    0, 0, 0, 0, 0, 0, 0, 0, 0, 0, 0,
+];
+
+// What is changed: a name, the place, the bytes that stand there then, and what is told: rule, number, found and limit.
+type Row<'r> = (&'r str, usize, &'r [u8], &'r [(Rule, u64, u64, u64)]);
+
+const ROWS: [Row<'static>; 26] = [
+    ("sound", 24, &[0x85], &[]),
+    (
+        "a section that there is not",
+        8253,
+        &[77],
+        &[(Rule::SymbolSection, 0, 77, 4)],
+    ),
+    ("the last section", 8253, &[4], &[]),
+    (
+        "one behind the last section",
+        8253,
+        &[5],
+        &[(Rule::SymbolSection, 0, 5, 4)],
+    ),
+    (
+        "no section where there is to be one",
+        8253,
+        &[0],
+        &[(Rule::SymbolSection, 0, 0, 4)],
+    ),
+    (
+        "a section of an undefined symbol",
+        8285,
+        &[1],
+        &[(Rule::SymbolSection, 2, 1, 4)],
+    ),
+    ("an entry for a debugger has none", 8252, &[0x64, 0], &[]),
+    (
+        "a name behind the strings",
+        8264,
+        &[16],
+        &[(Rule::SymbolName, 1, 16, 16)],
+    ),
+    ("a name that is the last byte", 8264, &[15], &[]),
+    ("no name", 8264, &[0], &[]),
+    ("a name without an end", 8319, &[1], &[]),
+    (
+        "strings too short",
+        636,
+        &[5],
+        &[(Rule::SymbolName, 1, 4, 5), (Rule::SymbolName, 2, 7, 5)],
+    ),
+    (
+        "a range too long",
+        668,
+        &[2],
+        &[(Rule::SymbolRange, 2, 4, 3)],
+    ),
+    (
+        "a range of none far behind",
+        664,
+        &[99, 0, 0, 0, 0, 0, 0, 0],
+        &[(Rule::SymbolRangeOrder, 3, 3, 2)],
+    ),
+    (
+        "an external symbol among the local ones",
+        8252,
+        &[0x0f],
+        &[(Rule::SymbolRangeKind, 0, 0x0f, 0)],
+    ),
+    ("a local symbol of one linked image", 8252, &[0x1f], &[]),
+    (
+        "the second local symbol is external",
+        652,
+        &[2],
+        &[
+            (Rule::SymbolRangeKind, 1, 0x0f, 0),
+            (Rule::SymbolRangeOrder, 1, 1, 2),
+        ],
+    ),
+    (
+        "a range in the place of one that is empty",
+        660,
+        &[0],
+        &[(Rule::SymbolRangeOrder, 2, 2, 1)],
+    ),
+    (
+        "a library that there is not",
+        8286,
+        &[0, 2],
+        &[(Rule::SymbolLibrary, 2, 2, 1)],
+    ),
+    ("a special library", 8286, &[0, 0xfe], &[]),
+    (
+        "a library below the special ones",
+        8286,
+        &[0, 0xfd],
+        &[(Rule::SymbolLibrary, 2, 0xfd, 1)],
+    ),
+    ("no two levels of names", 24, &[5], &[]),
+    (
+        "an indirect symbol that there is not",
+        8296,
+        &[3],
+        &[(Rule::IndirectSymbol, 0, 3, 3)],
+    ),
+    (
+        "a section behind its indirect symbols",
+        252,
+        &[2],
+        &[(Rule::IndirectSection, 2, 3, 2)],
+    ),
+    (
+        "stubs of no bytes",
+        256,
+        &[0],
+        &[(Rule::IndirectSection, 2, 12, 0)],
+    ),
+    (
+        "too few indirect symbols",
+        700,
+        &[1],
+        &[(Rule::IndirectSection, 1, 2, 1)],
+    ),
+];
+
+// The bytes of the library.
+pub fn library(alloc: Global) -> Result<Vec<u8>, AllocError> {
+    let mut bytes = Vec::new(alloc);
+    bytes.extend_from_slice(&LIBRARY_FRONT)?;
+    bytes.resize(0x2000, 0)?;
+    bytes.extend_from_slice(&LIBRARY_TABLES)?;
+    Ok(bytes)
+}
+
+// Puts bytes in the place of others.
+pub fn put(bytes: &mut [u8], place: usize, others: &[u8]) {
+    for (byte, other) in bytes.iter_mut().skip(place).zip(others) {
+        *byte = *other;
+    }
+}
+
+/// Whether faults are these: rule, number, found and limit of each.
+pub fn are(faults: &[LayoutFault], wanted: &[(Rule, u64, u64, u64)]) -> bool {
+    faults.len() == wanted.len()
+        && faults.iter().zip(wanted).all(|(fault, row)| {
+            fault.rule == row.0
+                && fault.owner.index == row.1
+                && fault.found == row.2
+                && fault.limit == row.3
+        })
+}
+
+// The rules that these rows are of.
+const RULES: &[Rule] = &[
+    Rule::SymbolSection,
+    Rule::SymbolName,
+    Rule::SymbolRange,
+    Rule::SymbolRangeKind,
+    Rule::SymbolLibrary,
+    Rule::IndirectSymbol,
+    Rule::IndirectSection,
+    Rule::SymbolRangeOrder,
+    Rule::Binds,
+];
+
+// What is told of an image by these rules.
+fn told(alloc: Global, bytes: &[u8]) -> Result<Vec<LayoutFault>, Fail> {
+    let image = MachO::parse(alloc, bytes, 0)?;
+    let mut faults = Vec::new(alloc);
+    for fault in &layout_faults(alloc, &image)? {
+        if RULES.contains(&fault.rule) {
+            faults.push(*fault)?;
+        }
+    }
+    Ok(faults)
+}
+
+#[test]
+fn rows_of_symbols(rt: HostRuntime) -> Result<(), Fail> {
+    let alloc = rt.alloc();
+    for (name, place, others, wanted) in &ROWS {
+        let mut bytes = library(alloc)?;
+        put(&mut bytes, *place, others);
+        let faults = told(alloc, &bytes)?;
+        if !are(&faults, wanted) {
+            return Err(Fail::from(*name));
+        }
+    }
+    Ok(())
+}
+
+// A symbol of section 9, which there is not.
+const STRAY: [u8; 16] = [0, 0, 0, 0, 0xe, 9, 0, 0, 0, 0, 0, 0, 0, 0, 0, 0];
+
+#[test]
+fn many_symbols(rt: HostRuntime) -> Result<(), Fail> {
+    let alloc = rt.alloc();
+    let mut bytes = library(alloc)?;
+    for _ in 0..5_000 {
+        bytes.extend_from_slice(&STRAY)?;
+    }
+    // The table is said to have 2^32 - 1 symbols from there on, of which 5,000 lie in the bytes.
+    put(&mut bytes, 624, &8352u32.to_le_bytes());
+    put(&mut bytes, 628, &[0xff; 4]);
+    put(&mut bytes, 632, &8352u32.to_le_bytes());
+    put(&mut bytes, 640, &[0x7f]);
+    let faults = told(alloc, &bytes)?;
+    if faults.len() != 5_000 || faults.iter().any(|f| f.rule != Rule::SymbolSection) {
+        return Err(Fail::from("not one fault of each symbol"));
+    }
+    Ok(())
+}
+
+// The bind opcodes, and whether a fault is told: a bind of the library of a number; one without a type, a name or a
+// segment; opcodes that are none, before a DONE and behind it; the segment's last pointer, and half of one.
+const BINDS: [(&[u8], bool); 11] = [
+    (&[0; 8], false),
+    (&[0x11, 0x40, 0x61, 0, 0x51, 0x71, 0, 0x90], false),
+    (&[0x12, 0x40, 0x61, 0, 0x51, 0x71, 0, 0x90], true),
+    (&[0x11, 0x40, 0x61, 0, 0x51, 0x79, 0, 0x90], true),
+    (&[0x11, 0x40, 0x61, 0, 0x71, 0, 0x90, 0], true),
+    (&[0x11, 0x51, 0x71, 0, 0x90, 0, 0, 0], true),
+    (&[0x11, 0x40, 0x61, 0, 0x51, 0x90, 0, 0], true),
+    (&[0xe0, 0, 0, 0, 0, 0, 0, 0], true),
+    (&[0, 0xe0, 0x90, 0xd0, 0, 0, 0, 0], false),
+    (&[0x40, 0x61, 0, 0x51, 0x71, 0xf8, 0x1f, 0x90], false),
+    (&[0x40, 0x61, 0, 0x51, 0x71, 0xfc, 0x1f, 0x90], true),
+];
+
+#[test]
+fn rows_of_binds(rt: HostRuntime) -> Result<(), Fail> {
+    let alloc = rt.alloc();
+    for (opcodes, is_told) in &BINDS {
+        let mut bytes = library(alloc)?;
+        put(&mut bytes, 8200, opcodes);
+        let faults = told(alloc, &bytes)?;
+        let wanted: &[(Rule, u64, u64, u64)] = if *is_told {
+            &[(Rule::Binds, 0, 0, 0)]
+        } else {
+            &[]
+        };
+        if !are(&faults, wanted) {
+            return Err(Fail::from("another answer of bind opcodes"));
+        }
+    }
+    Ok(())
+}
