@@ -1,10 +1,10 @@
-//! What no clause says: whole tables by a clock of the tests' own, hostile bytes, and writes that fail.
+//! What no clause says and no run shows: whole tables by a clock of the tests' own, writes that fail, and growths that are refused.
 
 mod files;
 mod same;
 
-use crate::run::{run, say};
-use crate::tests::files::{ARCHIVE, FILE_B, file_c, typed_file_c};
+use crate::run::run;
+use crate::tests::files::{FILE_B, file_c, typed_file_c};
 use crate::tests::same::{same, same_at, same_of};
 use linked_list_allocator::LocalHeap;
 use std::alloc::Global;
@@ -152,23 +152,6 @@ fn table(rt: HostRuntime) -> Result<(), Fail> {
 }
 
 #[test]
-fn no_tables(rt: HostRuntime) {
-    shows(
-        &rt,
-        rt.alloc(),
-        "more entries than the bytes hold",
-        &[0xca, 0xfe, 0xba, 0xbe, 0xff, 0xff, 0xff, 0xff, 0, 0, 0, 0],
-        1,
-        "",
-        "machbench: 4294967295 arches do not fit the file\n",
-    );
-    let refused = "machbench: malformed: a magic is 4 bytes\n";
-    shows(&rt, rt.alloc(), "no bytes", &[], 1, "", refused);
-    let refused = "machbench: bad magic 0x213c6172\n";
-    shows(&rt, rt.alloc(), "an archive", &ARCHIVE, 1, "", refused);
-}
-
-#[test]
 fn no_clock(rt: HostRuntime) {
     let alloc = rt.alloc();
     let mut reasons = Vec::new(alloc);
@@ -192,35 +175,6 @@ fn failed_writes(rt: HostRuntime) -> Result<(), Fail> {
         let said = if left < TABLE.len() { UNWRITTEN } else { b"" };
         same_at(&rt, left, answer == 2, left < TABLE.len());
         same_at(&rt, left, reasons.as_slice(), said);
-    }
-    Ok(())
-}
-
-#[test]
-fn failed_words(rt: HostRuntime) {
-    let mut out = Vec::new(rt.alloc());
-    let mut err = Full { left: 3 };
-    let answer = run(&Steps::new(), rt.alloc(), &[], &mut out, &mut err);
-    same(&rt, answer, 2);
-}
-
-#[test]
-fn says(rt: HostRuntime) {
-    let alloc = rt.alloc();
-    let mut lines = Vec::new(alloc);
-    let mut reasons = Vec::new(alloc);
-    same(&rt, say(crate::VERSION, &mut lines, &mut reasons), 0);
-    same(&rt, lines.as_slice(), b"machbench 0.1.0\n".as_slice());
-    same(&rt, reasons.len(), 0);
-}
-
-#[test]
-fn unsaid(rt: HostRuntime) -> Result<(), Fail> {
-    for left in 0..crate::HELP.len() {
-        let mut out = BufWriter::new(rt.alloc(), Full { left })?;
-        let mut reasons = Vec::new(rt.alloc());
-        same_at(&rt, left, say(crate::HELP, &mut out, &mut reasons), 2);
-        same_at(&rt, left, reasons.as_slice(), UNWRITTEN);
     }
     Ok(())
 }

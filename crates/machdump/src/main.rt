@@ -3,8 +3,6 @@
 #![tactic(auto)]
 
 mod run;
-#[cfg(test)]
-mod tests;
 
 use run::{Word, run};
 use std::process::ExitCode;

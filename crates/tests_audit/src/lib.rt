@@ -1,4 +1,4 @@
-//! Tests of `mach_audit`: what is printed, the status, and hostile bytes. There is nothing else here.
+//! Tests of `mach_audit` that no row of `machaudit` shows. There is nothing else here.
 #![tactic(auto)]
 
 #[cfg(test)]

@@ -2,12 +2,9 @@
 
 mod answers;
 mod bindings;
-mod by_hand;
 mod callers;
 mod chain;
-mod constants;
 mod container;
-mod debug;
 mod image;
 mod libraries;
 mod look_up;

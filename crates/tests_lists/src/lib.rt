@@ -1,5 +1,5 @@
-//! Tests of the lists of `mach_dyld`, exports and imports, and of memory: each growth of the library
-//! refused in turn, and the calls that take none. There is nothing else here.
+//! Tests of memory: each growth of the library refused in turn, and the calls that take none; and of the lists of tries as texts. There is
+//! nothing else here.
 #![tactic(auto)]
 
 #[cfg(test)]

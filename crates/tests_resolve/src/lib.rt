@@ -1,4 +1,4 @@
-//! Tests of `mach_resolve`: what is printed, the status, and hostile bytes. There is nothing else here.
+//! Tests of `mach_resolve` that no row of `machresolve` shows. There is nothing else here.
 #![tactic(auto)]
 
 #[cfg(test)]

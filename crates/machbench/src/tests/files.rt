@@ -30,8 +30,8 @@ pub const FILE_B: [u8; 376] = [
     0x00, 0x5f, 0x6d, 0x61, 0x69, 0x6e, 0x00, 0x00,
 ];
 
-/// An archive of no members, with eight bytes behind its magic.
-pub const ARCHIVE: [u8; 16] = [
+// An archive of no members, with eight bytes behind its magic.
+const ARCHIVE: [u8; 16] = [
     0x21, 0x3c, 0x61, 0x72, 0x63, 0x68, 0x3e, 0x0a, 0, 0, 0, 0, 0, 0, 0, 0,
 ];
 

@@ -9,11 +9,6 @@ pub fn same<T: Copy + Debug + PartialEq>(rt: &impl Abort, got: T, want: T) {
     assert_eq!(rt; got, want);
 }
 
-/// The same, of a row with a name.
-pub fn same_of<T: Copy + Debug + PartialEq>(rt: &impl Abort, name: &str, got: T, want: T) {
-    assert_eq!(rt; got, want, "{name}");
-}
-
 /// The same, at a row, a place or a size of this number.
 pub fn same_at<T: Copy + Debug + PartialEq>(rt: &impl Abort, number: usize, got: T, want: T) {
     assert_eq!(rt; got, want, "at {number}");

@@ -1,5 +1,5 @@
-//! Assertions by a call, which is checked in a fifth of the time of an `assert_eq!`. Each program's tests have this
-//! file, since no library may hold what can end a process.
+//! Assertions by a call, which is checked in a fifth of the time of an `assert_eq!`. Each crate of tests has
+//! this file, since no library may hold what can end a process.
 
 use std::fmt::Debug;
 use std::process::Abort;
@@ -12,9 +12,4 @@ pub fn same<T: Copy + Debug + PartialEq>(rt: &impl Abort, got: T, want: T) {
 /// The same, of a row with a name.
 pub fn same_of<T: Copy + Debug + PartialEq>(rt: &impl Abort, name: &str, got: T, want: T) {
     assert_eq!(rt; got, want, "{name}");
-}
-
-/// The same, at a row, a place or a size of this number.
-pub fn same_at<T: Copy + Debug + PartialEq>(rt: &impl Abort, number: usize, got: T, want: T) {
-    assert_eq!(rt; got, want, "at {number}");
 }

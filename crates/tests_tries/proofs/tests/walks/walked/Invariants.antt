@@ -1,6 +1,6 @@
 use Rattle.mach_dyld.specs.WalkState.{work_left}
 use Rattle.mach_dyld.specs.Walks.{IsWalk}
-use Rattle.tests_lists.proofs.tests.walks.walked.Given as goal
+use Rattle.tests_tries.proofs.tests.walks.walked.Given as goal
 
 abbrev pub invariant-exports : goal.invariant-exports
 invariant-exports l = IsWalk l.walk

@@ -1,0 +1,7 @@
+//! The worked rows of docs/FORMAT.md on tries.
+
+mod export_kinds;
+mod look_ups;
+mod same;
+mod tries;
+mod walks;

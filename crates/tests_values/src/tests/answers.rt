@@ -1,0 +1,15 @@
+//! What asserts a text that is made.
+
+use crate::tests::same::same;
+use std::alloc::AllocError;
+use std::process::Abort;
+
+/// Asserts that a text is the one that is wanted.
+pub fn answers(
+    rt: &impl Abort,
+    got: Result<String, AllocError>,
+    want: &str,
+) -> Result<(), AllocError> {
+    same(rt, got?.as_str(), want);
+    Ok(())
+}
