@@ -17,7 +17,9 @@ use Rattle.mach_parts.specs.Bindings.{Binding}
 use Rattle.mach_dyld.specs.Bindings.{Given, binding_with, holding_all, ordinal_in, ordinal_by, special_by, last_ordinal, last_given, bindings_at, bindings_in}
 use Rattle.mach_dyld.specs.Bindings.{highest_opcode, done_leads_to}
 unfoldable use Rattle.mach_dyld.specs.Bindings.{spot_of, binding_of, opcode_at, bindings_row}
-use Rattle.mach_dyld.specs.BindingLaws.{IsPlain, told, told_by_import, told_by_binding, library_name, EachTells, IsSetAnew, AreSetAnew, TellTheSame}
+use Rattle.mach_dyld.specs.BindingLaws.{IsPlain, told, told_by_import, told_by_binding, library_name, EachTells, IsSetAnew, AreSetAnew, AreReadAlike, TellTheSame}
+use Rattle.mach_dyld.specs.BindItems.{AreBindItems}
+use Rattle.mach_dyld.specs.Bindings.{AreBindings}
 use Rattle.mach_dyld.proofs.BindPlaced.{made_of}
 use Rattle.mach_dyld.proofs.BindingLaws.{held_all, spot_at, spot_parts}
 use Rattle.mach_dyld.proofs.BindingReading.{unknown, at_done, as_read}
@@ -643,8 +645,10 @@ imports_from : (x : Input) (r : Range) (ps : List Placed) → imports_in x r ps 
 unfolding imports_in
 imports_from x r ps = sym (all-map (import_of x) (binds_at x.pointer r) [] ps)
 
-pub tell_the_same : TellTheSame
-tell_the_same x non_lazy lazy first others ps qs ps' qs' imports bindings libs more second h i b =
+each_tells : (x : Input) (non_lazy lazy : Range) (first : List ℕ) (others : List (List ℕ)) (ps qs ps' qs' : List Placed) (imports : List (Result Import Fault))
+    (bindings : List (Result Binding Fault)) → x.libs ≡ first ∷ others → 0 < x.pointer → lazy.is_lazy ≡ true → AreReadAlike x non_lazy lazy ps qs
+    → AreBindItems x non_lazy lazy ps qs imports → AreBindings x non_lazy lazy ps' qs' bindings → EachTells first imports bindings
+each_tells x non_lazy lazy first others ps qs ps' qs' imports bindings libs more second h i b =
     let stop : i.stop ≡ None = (one_longest (reader_of x) non_lazy ps ps i.stop None i.longest (longest_stream x non_lazy ps h.whole)).1 in
     let ended = h.ends in
     let ends : Ends x first others libs more non_lazy ps = subst (Ends x first others libs more non_lazy) (sym ended.2) (ends_by x first others libs more non_lazy ended.0 ended.1 ended.3 ended.4) in
@@ -664,3 +668,19 @@ tell_the_same x non_lazy lazy first others ps qs ps' qs' imports bindings libs m
     ∙ ap (λ m. from_binds x first others libs more non_lazy [] ps ++ (fault_item i.stop ++ (m ++ (fault_item i.lazy_stop ++ [])))) (imports_from x lazy qs)) in
     let bs = b.are ∙ ap upto_fault (joined (bindings_in x non_lazy ps') (fault_item b.stop) (bindings_in x lazy qs') (fault_item b.lazy_stop)) in
     subst (λ m. EachTells first m bindings) (sym is) (subst (EachTells first _) (sym bs) (each_upto first _ _ tells))
+
+one_for_one : (first : List ℕ) (imports : List (Result Import Fault)) (list : List Binding) → EachTells first imports (map Ok list)
+    → map (told told_by_import) imports ≡ map (λ b. Ok (told_by_binding first b)) list
+one_for_one first imports [] e = ap (map (told told_by_import)) e
+one_for_one first [] (b ∷ list) e = absurd e
+one_for_one first (i ∷ imports) (b ∷ list) e =
+    ap (λ t. t ∷ map (told told_by_import) imports) e.0 ∙ ap (λ ts. Ok (told_by_binding first b) ∷ ts) (one_for_one first imports list e.1)
+
+pub tell_the_same : TellTheSame
+tell_the_same x non_lazy lazy first others ps qs ps' qs' us vs imports bindings libs more second h i b =
+    let front = (one_longest (reader_of x) non_lazy ps ps' None i.stop (longest_stream x non_lazy ps h.whole) i.longest).0 in
+    let back = (one_longest (reader_of x) lazy qs qs' h.lazy_stop i.lazy_stop h.lazy_longest i.lazy_longest).0 in
+    let alike : AreReadAlike x non_lazy lazy ps' qs' =
+    subst (λ ys. AreReadAlike x non_lazy lazy ys qs') front (subst (AreReadAlike x non_lazy lazy ps) back h) in
+    let each = each_tells x non_lazy lazy first others ps' qs' us vs imports bindings libs more second alike i b in
+    (each, (λ list is. one_for_one first imports list (subst (EachTells first imports) is each)))

@@ -1,10 +1,10 @@
 -- What holds of all bindings: how they follow from the instructions in order, where they lie, and when they are those
 -- of the imports.
-use Rattle.std.specs.Prelude.{◌≡◌, ◌≢◌, ◌⊎◌, ◌<◌, ℕ, ℤ, pos, List, [], ◌∷◌, ◌++◌, All, reverse, Bool, true, false, Option, Some, None, Result, Ok, Err, IfOk, bit_and}
+use Rattle.std.specs.Prelude.{◌≡◌, ◌≢◌, ◌⊎◌, ◌<◌, ℕ, ℤ, pos, List, [], ◌∷◌, ◌++◌, map, All, reverse, Bool, true, false, Option, Some, None, Result, Ok, Err, IfOk, bit_and}
 use Rattle.std.specs.List.{AllByRecursion, filter_map}
 use Rattle.mach_base.specs.Fault.{Fault}
 use Rattle.mach_dyld.specs.Instructions.{byte_at}
-use Rattle.mach_dyld.specs.Streams.{Input, Range, Placed, IsStream}
+use Rattle.mach_dyld.specs.Streams.{Input, Range, Placed, IsStream, IsLongest}
 use Rattle.mach_dyld.specs.Binds.{Bind, is_done, nearer_than, count_in, library_in, symbol_name_in, segment_in, addend_in}
 use Rattle.mach_dyld.specs.Imports.{Import}
 use Rattle.mach_dyld.specs.BindItems.{AreBindItems}
@@ -116,17 +116,25 @@ EndsInDones ps =
     (front : List Placed) × (dones : List Placed) × (ps ≡ front ++ dones)
     × AllByRecursion (λ p. is_done p ≡ false) front × AllByRecursion (λ p. is_done p ≡ true) dones
 
--- the instructions of two streams that imports and bindings read alike: none of them has opcode 3; the non-lazy ones
--- are all of their range, and end in DONEs; and of each lazy bind all is set behind the last DONE
-pub record AreReadAlike (x : Input) (non_lazy : Range) (ps qs : List Placed) : Type 0 where
+-- the instructions of two streams, as imports read them, that bindings read alike: none of them has opcode 3; the non-lazy
+-- ones are all of their range, and end in DONEs; and what a lazy bind has is set behind the last DONE
+pub record AreReadAlike (x : Input) (non_lazy lazy : Range) (ps qs : List Placed) : Type 0 where
+  pub whole : IsStream x non_lazy ps
+  pub lazy_stop : Option Fault
+  pub lazy_longest : IsLongest x lazy qs lazy_stop
   pub plain : AllByRecursion (IsPlain x.bytes) ps
   pub lazy_plain : AllByRecursion (IsPlain x.bytes) qs
-  pub whole : IsStream x non_lazy ps
   pub ends : EndsInDones ps
   pub anew : SetsAnew qs
 
--- then each binding tells what the import at its place tells, over a list of libraries that has a first
+-- where bindings have no fault, both tell one for one, so that they are as many
+abbrev pub TellOneForOne : List ℕ → List (Result Import Fault) → List (Result Binding Fault) → Type 0
+TellOneForOne first imports bindings =
+    (list : List Binding) → bindings ≡ map Ok list → map (told told_by_import) imports ≡ map (λ b. Ok (told_by_binding first b)) list
+
+-- so do bindings and imports of streams that are read alike, over a list of libraries that has a first
 abbrev pub TellTheSame : Type 0
-TellTheSame = (x : Input) (non_lazy lazy : Range) (first : List ℕ) (others : List (List ℕ)) (ps qs ps' qs' : List Placed)
+TellTheSame = (x : Input) (non_lazy lazy : Range) (first : List ℕ) (others : List (List ℕ)) (ps qs ps' qs' us vs : List Placed)
     (imports : List (Result Import Fault)) (bindings : List (Result Binding Fault)) → x.libs ≡ first ∷ others → 0 < x.pointer → lazy.is_lazy ≡ true
-    → AreReadAlike x non_lazy ps qs → AreBindItems x non_lazy lazy ps qs imports → AreBindings x non_lazy lazy ps' qs' bindings → EachTells first imports bindings
+    → AreReadAlike x non_lazy lazy ps qs → AreBindItems x non_lazy lazy ps' qs' imports → AreBindings x non_lazy lazy us vs bindings
+    → EachTells first imports bindings × TellOneForOne first imports bindings
