@@ -1,22 +1,27 @@
 -- An image has one list of fixups and one of bindings, and when its bindings tell what its imports tell.
-use Rattle.std.proofs.Common.{◌≡◌, ◌<◌, ◌++◌, ℕ, List, [], ◌∷◌, Option, Some, None, Result, Ok, Err, refl, sym, ap, subst, ◌∙◌, append_assoc, append-nil, arith}
+use Rattle.std.specs.Prelude.{option_map}
+use Rattle.std.proofs.Common.{◌≡◌, ◌<◌, ◌++◌, true, ℕ, List, [], ◌∷◌, Option, Some, None, Result, Ok, Err, refl, sym, ap, subst, ◌∙◌, append_assoc, append-nil, arith}
 use Rattle.mach_base.specs.Context.{pointer_size}
 use Rattle.mach_base.specs.declared.context.Container.{Container}
 use Rattle.mach_base.specs.declared.context.Container.TheVariants.{Little, Big}
 use Rattle.mach_base.specs.Fault.{Fault}
+use Rattle.mach_base.specs.Record.{Value}
+use Rattle.mach_load.specs.Command.{Command}
+use Rattle.mach_load.specs.Commands.{Kind, dyld_info, dyld_info_only}
 use Rattle.mach_parts.specs.Bindings.{Binding}
 use Rattle.mach_parts.specs.Segment.{SegmentView}
 use Rattle.mach_dyld.specs.BindingLaws as dyld
-use Rattle.mach_dyld.specs.Bindings.{bindings_in, fault_item, upto_fault}
-use Rattle.mach_dyld.specs.Imports.{BindRanges, Import, imports_in, input_in}
+use Rattle.mach_dyld.specs.Bindings.{upto_fault}
+use Rattle.mach_dyld.specs.Imports.{BindRanges, Import, input_in}
 use Rattle.mach_chained.specs.Bindings.{bindings_of}
 use Rattle.mach_chained.specs.Chained.{Placed, AreFixups, AreFixupItems, fixup_items}
 use Rattle.mach_chained.specs.Fixups.{Input, Fixup}
 use Rattle.mach_chained.specs.Header.{Fixups}
-use Rattle.goblin_mach.specs.BindingLaws.{HasOneListOfFixups, HasOneListOfBindings, ArePlainImports, EachTells, TellTheSame}
+use Rattle.goblin_mach.specs.BindingLaws.{HasOneListOfFixups, HasOneListOfBindings, AreAlike, TellTheSame}
 use Rattle.goblin_mach.specs.Bindings.{AreOpcodeBindings, AreChainBindings, AreImageBindings}
 use Rattle.goblin_mach.specs.Fixups.{AreImageFixups, chained_at, chained_in, input_over}
-use Rattle.goblin_mach.specs.Subjects.{binds_in, libs_in, lossy_segments_in}
+use Rattle.goblin_mach.specs.Readings.{read_of, last_or, keep}
+use Rattle.goblin_mach.specs.Subjects.{AreImageBindItems, bind_ranges_of, binds_by, binds_in, libs_in, lossy_segments_in}
 use Rattle.goblin_mach.proofs.Facts.{one_image}
 
 -- ---- the law of one list of fixups, as it is stated below
@@ -79,39 +84,33 @@ ended_once [] = refl
 ended_once (Ok b ∷ items) = ap (λ (xs : List (Result Binding Fault)). Ok b ∷ xs) (ended_once items)
 ended_once (Err f ∷ items) = refl
 
--- items that agree, before others of which each tells
-each_front : (first : List ℕ) (is cs : List (Result Import Fault)) (bs ds : List (Result Binding Fault)) → dyld.Agree first is bs
-    → EachTells first cs (upto_fault ds) → EachTells first (is ++ cs) (upto_fault (bs ++ ds))
-each_front first [] cs [] ds h k = k
-each_front first [] cs (b ∷ bs) ds h k = absurd h
-each_front first (i ∷ is) cs [] ds h k = absurd h
-each_front first (i ∷ is) cs (Ok b ∷ bs) ds h k = (h.0, each_front first is cs bs ds h.1 k)
-each_front first (i ∷ is) cs (Err f ∷ bs) ds h k = tt
-
--- behind the last
-each_end : (first : List ℕ) (t : Option Fault) → EachTells first [] (upto_fault (fault_item t))
-each_end first None = refl
-each_end first (Some f) = tt
-
-each_of_both : (first : List ℕ) (is cs : List (Result Import Fault)) (bs ds : List (Result Binding Fault)) (s t : Option Fault) → dyld.Agree first is bs
-    → dyld.Agree first cs ds → EachTells first (is ++ cs) (upto_fault (bs ++ fault_item s ++ ds ++ fault_item t))
-each_of_both first is cs bs ds None t h k =
-    let rest : EachTells first cs (upto_fault (ds ++ fault_item t)) =
-    subst (λ (ys : List (Result Import Fault)). EachTells first ys (upto_fault (ds ++ fault_item t))) (append-nil cs)
-    (each_front first cs [] ds (fault_item t) k (each_end first t)) in
-    subst (λ (ys : List (Result Binding Fault)). EachTells first (is ++ cs) (upto_fault ys))
-    (sym (append_assoc bs ds (fault_item t)) ∙ ap (λ (ys : List (Result Binding Fault)). ys ++ ds ++ fault_item t) (sym (append-nil bs)))
-    (each_front first is cs bs (ds ++ fault_item t) h rest)
-each_of_both first is cs bs ds (Some f) t h k =
-    subst (λ (ys : List (Result Binding Fault)). EachTells first (is ++ cs) (upto_fault ys))
-    (sym (append_assoc bs (Err f ∷ ds) (fault_item t)) ∙ ap (λ (ys : List (Result Binding Fault)). ys ++ fault_item t) (sym (append_assoc bs (Err f ∷ []) ds)))
-    (each_front first is cs bs (Err f ∷ (ds ++ fault_item t)) h tt)
-
 more_than_none : (c : Container) → 0 < pointer_size c
 more_than_none Little = omega arith
 more_than_none Big = omega arith
 
-module _ (tell : dyld.TellTheSame) (one : dyld.HasOneListOfBindings) where
+-- the second range is the lazy one
+abbrev IsSecondLazy : Option BindRanges → Type 0
+IsSecondLazy None = Unit {0}
+IsSecondLazy (Some b) = b.lazy.is_lazy ≡ true
+
+by_kind : (k : Kind) (bytes : List ℕ) (values : List Value) → IsSecondLazy (bind_ranges_of k bytes values)
+by_kind dyld_info bytes values = refl
+by_kind dyld_info_only bytes values = refl
+by_kind _ bytes values = tt
+
+last_lazy : (bytes : List ℕ) (cs : List Command) (before : Option BindRanges) → IsSecondLazy before → IsSecondLazy (last_or before (read_of (binds_by bytes) cs))
+last_lazy bytes [] before h = h
+last_lazy bytes (c ∷ cs) before h = one_more (bind_ranges_of c.kind bytes c.values) (by_kind c.kind bytes c.values) (λ now k. last_lazy bytes cs now k)
+  where
+    one_more : (o : Option BindRanges) → IsSecondLazy o → ((now : Option BindRanges) → IsSecondLazy now → IsSecondLazy (last_or now (read_of (binds_by bytes) cs)))
+        → IsSecondLazy (last_or before (keep (option_map (λ ranges. Ok ranges) o) (read_of (binds_by bytes) cs)))
+    one_more None k others = others before h
+    one_more (Some b) k others = others (Some b) k
+
+binds_are_lazy : (bytes : List ℕ) (cs : List Command) → IsSecondLazy (binds_in bytes cs)
+binds_are_lazy bytes cs = last_lazy bytes cs None tt
+
+module _ (tell : dyld.TellTheSame) where
   -- the bindings are those of the opcodes, where there are no chains
   opcodes_alone : (b : BindRanges) (n : ℕ) (libs : List (List ℕ)) (segments : List SegmentView) (items by_opcodes by_chains : List (Result Binding Fault))
       → AreOpcodeBindings (Some b) n libs segments by_opcodes → by_chains ≡ [] → items ≡ upto_fault (by_opcodes ++ by_chains) → items ≡ by_opcodes
@@ -122,33 +121,38 @@ module _ (tell : dyld.TellTheSame) (one : dyld.HasOneListOfBindings) where
       ∙ ended_once _
       ∙ sym are.are
 
+  abbrev Tell : List ℕ → List (Result Import Fault) → List (Result Binding Fault) → Type 0
+  Tell first imports bindings = dyld.EachTells first imports bindings × dyld.TellOneForOne first imports bindings
+
   told_of : (b : Option BindRanges) (n : ℕ) (first : List ℕ) (others libs : List (List ℕ)) (segments : List SegmentView) (imports : List (Result Import Fault))
-      (bindings : List (Result Binding Fault)) → 0 < n → libs ≡ first ∷ others → ArePlainImports b n libs segments imports
-      → AreImageBindings b (Ok None) n libs segments bindings → EachTells first imports bindings
-  told_of None n first others libs segments imports bindings more are_libs none h =
+      (bindings : List (Result Binding Fault)) → IsSecondLazy b → 0 < n → libs ≡ first ∷ others → AreAlike b n libs segments
+      → AreImageBindItems b n libs segments imports → AreImageBindings b (Ok None) n libs segments bindings → Tell first imports bindings
+  told_of None n first others libs segments imports bindings second more are_libs alike none h =
       let nothing : bindings ≡ [] =
       h.are ∙ ap (λ (xs : List (Result Binding Fault)). upto_fault (xs ++ h.by_chains)) h.opcodes ∙ ap upto_fault h.chains in
-      subst (EachTells first imports) (sym nothing) none
-  told_of (Some b) n first others libs segments imports bindings more are_libs (ps, qs, items, plain, lazy_plain, are, is) h =
+      subst (Tell first imports) (sym nothing) (subst (λ (is : List (Result Import Fault)). Tell first is []) (sym none) (refl, no_list first))
+    where
+      no_list : (first : List ℕ) → dyld.TellOneForOne first [] []
+      no_list first [] e = refl
+      no_list first (b ∷ list) e = absurd (cc)
+  told_of (Some b) n first others libs segments imports bindings second more are_libs (ps, qs, alike) (ps', qs', items) h =
       let x = input_in b n libs segments in
       let same : bindings ≡ h.by_opcodes = opcodes_alone b n libs segments bindings h.by_opcodes h.by_chains h.opcodes h.chains h.are in
-      let other : h.by_opcodes ≡ items = one x b.non_lazy b.lazy h.opcodes.0 h.opcodes.1 ps qs h.by_opcodes items h.opcodes.2 are in
-      subst (EachTells first imports) (sym (same ∙ other ∙ are.are))
-      (subst (λ (ys : List (Result Import Fault)). EachTells first ys
-      (upto_fault (bindings_in x b.non_lazy ps ++ fault_item are.stop ++ bindings_in x b.lazy qs ++ fault_item are.lazy_stop))) (sym is)
-      (each_of_both first (imports_in x b.non_lazy ps) (imports_in x b.lazy qs) (bindings_in x b.non_lazy ps) (bindings_in x b.lazy qs) are.stop are.lazy_stop
-      (tell x b.non_lazy first others ps are_libs more plain) (tell x b.lazy first others qs are_libs more lazy_plain)))
+      subst (Tell first imports) (sym same)
+      (tell x b.non_lazy b.lazy first others ps qs ps' qs' h.opcodes.0 h.opcodes.1 imports h.by_opcodes are_libs more second alike items h.opcodes.2)
 
   pub tell_the_same : TellTheSame
-  tell_the_same bytes o first others imports bindings libs plain bound =
-      let ctx = plain.ctx in
-      let cs = plain.cs in
+  tell_the_same bytes o first others imports bindings libs alike listed bound =
+      let ctx = alike.ctx in
+      let cs = alike.cs in
       let n = pointer_size ctx.container in
       let b = binds_in bytes cs in
       let names = libs_in bytes cs in
-      let named : first ∷ others ≡ names = one_image bytes o (λ c ds. first ∷ others ≡ libs_in bytes ds) ctx cs plain.opens libs in
+      let named : first ∷ others ≡ names = one_image bytes o (λ c ds. first ∷ others ≡ libs_in bytes ds) ctx cs alike.opens libs in
       let segments = lossy_segments_in ctx bytes cs in
+      let items = one_image bytes o (λ c ds. AreImageBindItems (binds_in bytes ds) (pointer_size c.container) (libs_in bytes ds)
+      (lossy_segments_in c bytes ds) imports) ctx cs alike.opens listed in
       let here = one_image bytes o (λ c ds. AreImageBindings (binds_in bytes ds) (chained_in c bytes ds) (pointer_size c.container) (libs_in bytes ds)
-      (lossy_segments_in c bytes ds) bindings) ctx cs plain.opens bound in
-      told_of b n first others names segments imports bindings (more_than_none ctx.container) (sym named) plain.holds.0
-      (subst (λ (place : Option (ℕ × ℕ)). AreImageBindings b (chained_at ctx.le bytes place) n names segments bindings) plain.holds.1 here)
+      (lossy_segments_in c bytes ds) bindings) ctx cs alike.opens bound in
+      told_of b n first others names segments imports bindings (binds_are_lazy bytes cs) (more_than_none ctx.container) (sym named) alike.holds.0 items
+      (subst (λ (place : Option (ℕ × ℕ)). AreImageBindings b (chained_at ctx.le bytes place) n names segments bindings) alike.holds.1 here)

@@ -192,7 +192,7 @@ pub fn over() -> gm_bind_cursor
         sequence: 0,
         segment: 0,
         flags: 0,
-        has_special: 0,
+        ordinal: 0,
         is_lazy: 0,
         ended: 0,
         kind: 0,

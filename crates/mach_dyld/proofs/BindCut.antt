@@ -2,7 +2,7 @@
 use Rattle.mach_dyld.proofs.Names.{◌≡◌, ℕ, ◌+◌, ◌-◌, ◌*◌, ◌%◌, ◌^◌, ◌<◌, ◌≤◌, List, [], ◌∷◌, ◌++◌, map, Bool, true, false, Some, None, Result, Ok, Err, refl}
 use Rattle.mach_dyld.proofs.Names.{sym, ap, subst, ◌∙◌, arith, zero-add, pos, filter_map, range_with_len, cons_option, AllByRecursion, cond, map-append, ◌>>=◌}
 use Rattle.mach_dyld.proofs.Names.{Fault, SegmentView, Input, Range, Placed, Follow, StandsIn, AllStand, stream_end, IsBeginning, IsStream, Bind, is_done}
-use Rattle.mach_dyld.proofs.Names.{sets_segment, nearer_than, nearest_or, done_after, bind_after, binds_at, binds_from, stride_in, count_in, library_in}
+use Rattle.mach_dyld.proofs.Names.{sets_segment, nearer_than, nearest_or, done_after, bind_after, binds_at, binds_from, all_from, stride_in, count_in, library_in}
 use Rattle.mach_dyld.proofs.Names.{flags_in, symbol_name_in, addend_in, segment_in, offset_in, advances, Import, Target, import_of, imports_in, import_with}
 use Rattle.mach_dyld.proofs.Names.{target_of, BindRanges, input_in, ListsImports}
 use Rattle.mach_dyld.specs.BindCut.{HasList, ListsByStream, raised, front_range, rest_range, CutsBehindDone}
@@ -10,7 +10,7 @@ use Rattle.mach_dyld.specs.RowsMove.{ends_after}
 use Rattle.mach_dyld.proofs.BindReading.{one_longest}
 use Rattle.mach_dyld.specs.Streams.{reader_of}
 use Rattle.mach_dyld.proofs.BindLists.{longest_stream}
-use Rattle.mach_dyld.proofs.BindTotal.{behind, onto, binds-append}
+use Rattle.mach_dyld.proofs.BindTotal.{behind, onto, all_from-append}
 use Rattle.mach_dyld.proofs.BindLast.{all-append}
 
 abbrev Item : Type 0
@@ -110,7 +110,7 @@ binds-done : (x : Input) (r : Range) (upto : ℕ) (back : List Placed) (d : Plac
     → r.from ≤ d.after → EndPast d.after back → d.after ≤ place
     → Follow place ps → AllStand x upto ps
     → binds_from x.pointer r (back ++ d ∷ far) ps ≡ map (raise (d.after - r.from)) (binds_from x.pointer (rest_range r d.after) back ps)
-unfolding binds_from
+unfolding all_from
 binds-done x r upto back d far place [] e h past k f a = refl
 binds-done x r upto back d far place (p ∷ ps) e h past k f a =
     let here = strides-done x.pointer r back d far (stride_in x.pointer p) (range_with_len 0 (count_in p)) e h past in
@@ -128,7 +128,7 @@ onto-push [] d back = refl
 onto-push (p ∷ ps) d back = onto-push ps d (p ∷ back)
 
 binds-upto : (pointer : ℕ) (r : Range) (upto : ℕ) (back ps : List Placed) → binds_from pointer r back ps ≡ binds_from pointer (front_range r upto) back ps
-unfolding binds_from bind_after
+unfolding all_from bind_after
 binds-upto pointer r upto back [] = refl
 binds-upto pointer r upto back (p ∷ ps) = ap (λ bs. binds_at pointer r back p ++ bs) (binds-upto pointer r upto (p ∷ back) ps)
 
@@ -159,7 +159,7 @@ imports_cut : (x : Input) (r : Range) (upto : ℕ) (front : List Placed) (d : Pl
 unfolding imports_in
 imports_cut x r upto front d rest e h f a =
     let n = d.after - r.from in
-    let one = binds-append x.pointer r [] (front ++ d ∷ []) rest in
+    let one = all_from-append (binds_at x.pointer r) [] (front ++ d ∷ []) rest in
     let two = onto-push front d [] in
     let three = binds-done x r upto [] d (onto front []) d.after rest e h tt (omega arith) f a in
     let bs : List Bind = binds_from x.pointer r [] (front ++ d ∷ []) in

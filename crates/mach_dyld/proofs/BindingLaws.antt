@@ -1,16 +1,15 @@
 -- How bindings follow from the instructions in order, that there is one list of them, and where they lie.
 use Rattle.mach_dyld.proofs.Names.{◌≡◌, ℕ, ◌+◌, List, [], ◌∷◌, ◌++◌, reverse, All, Bool, true, false, Result, Ok, Err, refl}
 use Rattle.mach_dyld.proofs.Names.{sym, ap, subst, ◌∙◌, arith, append_assoc, append-nil, pos, cond, Fault, malformed}
-use Rattle.mach_dyld.proofs.Names.{same_ok, SegmentView, Input, Range, Placed, Bind, binds_at}
+use Rattle.mach_dyld.proofs.Names.{same_ok, SegmentView, Input, Range, Placed, Bind, binds_at, all_from}
 use Rattle.std.proofs.lemmas.List.Elements.{All-nil, All-append}
 use Rattle.mach_dyld.specs.BindAddresses.{LiesWhole, LiesWholeInSome}
 unfoldable use Rattle.mach_parts.specs.Bindings.{provider_of}
 use Rattle.mach_parts.specs.Bindings.{Binding}
 use Rattle.mach_dyld.specs.Bindings.{Given, ordinal_in, last_given, holding_all, opcode_at, bindings_at, bindings_in}
-unfoldable use Rattle.mach_dyld.specs.Bindings.{spot_of, binding_of, bindings_from}
+unfoldable use Rattle.mach_dyld.specs.Bindings.{spot_of, binding_of}
 use Rattle.mach_dyld.specs.BindingLaws.{FindsLastOrdinal, AddsBindings, HasOneListOfBindings, BindingLiesIn, BindingsLieIn}
-use Rattle.mach_dyld.proofs.BindTotal.{onto}
-use Rattle.mach_dyld.proofs.BindLast.{is_last, onto-reverse}
+use Rattle.mach_dyld.proofs.BindLast.{is_last, adds_lem}
 use Rattle.mach_dyld.proofs.StreamStarts.{one_list_of, OfItem, each_of, of_both}
 use Rattle.mach_dyld.proofs.BindAddresses.{summed, Spot, spot_by}
 use Rattle.mach_dyld.proofs.BindPlaced.{made_of}
@@ -24,21 +23,8 @@ Item = Result Binding Fault
 pub finds_last_ordinal_lem : FindsLastOrdinal
 finds_last_ordinal_lem bytes ps = is_last (pos 0) (ordinal_in bytes) ps
 
-pub bindings-append : (x : Input) (r : Range) (back ps qs : List Placed)
-    → bindings_from x r back (ps ++ qs) ≡ bindings_from x r back ps ++ bindings_from x r (onto ps back) qs
-unfolding bindings_from
-bindings-append x r back [] qs = refl
-bindings-append x r back (p ∷ ps) qs =
-    ap (λ items. bindings_at x r back p ++ items) (bindings-append x r (p ∷ back) ps qs)
-    ∙ sym (append_assoc (bindings_at x r back p) (bindings_from x r (p ∷ back) ps) (bindings_from x r (onto ps (p ∷ back)) qs))
-
 pub adds_bindings_lem : AddsBindings
-unfolding bindings_from
-adds_bindings_lem x r ps p =
-    let back : onto ps [] ≡ reverse ps = onto-reverse ps [] ∙ append-nil (reverse ps) in
-    bindings-append x r [] ps (p ∷ [])
-    ∙ ap (λ b. bindings_in x r ps ++ (bindings_at x r b p ++ [])) back
-    ∙ ap (λ items. bindings_in x r ps ++ items) (append-nil (bindings_at x r (reverse ps) p))
+adds_bindings_lem x r ps p = adds_lem (bindings_at x r) ps p
 
 -- ---- one list
 
@@ -86,12 +72,12 @@ item_lies : (x : Input) (g : Given) (b : Bind) (item : Item) → binding_of x g 
 item_lies x g b (Ok i) e = (b.segment, binding_lies x g b i e)
 item_lies x g b (Err f) e = tt
 
-stream_lies : (x : Input) (r : Range) (back ps : List Placed) → All (OfItem (Lies x)) (bindings_from x r back ps)
-unfolding bindings_from
+stream_lies : (x : Input) (r : Range) (back ps : List Placed) → All (OfItem (Lies x)) (all_from (bindings_at x r) back ps)
+unfolding all_from
 stream_lies x r back [] = All-nil (OfItem (Lies x))
 stream_lies x r back (p ∷ ps) =
     let g = last_given x.bytes r.is_lazy (p ∷ back) in
-    All-append (OfItem (Lies x)) (bindings_at x r back p) (bindings_from x r (p ∷ back) ps)
+    All-append (OfItem (Lies x)) (bindings_at x r back p) (all_from (bindings_at x r) (p ∷ back) ps)
     (each_of (Lies x) (binding_of x g) (item_lies x g) (binds_at x.pointer r back p)) (stream_lies x r (p ∷ back) ps)
 
 pub bindings_lie : BindingsLieIn

@@ -110,7 +110,7 @@ no_done pointer bytes opcode imm place found row d =
 -- ---- the ordinal
 
 -- a byte that stands at the place of an instruction
-abbrev at_byte : ℕ → Instruction → ℕ → Placed
+abbrev pub at_byte : ℕ → Instruction → ℕ → Placed
 at_byte place i after = record { place = place; instruction = i; after = after }
 
 module _ (bytes : List ℕ) (place byte : ℕ) (there : byte_at bytes place ≡ Ok byte) (special : Option ℤ) (end : ℕ) (b : Bind) (after : ℕ) where
@@ -141,6 +141,11 @@ module _ (bytes : List ℕ) (place byte : ℕ) (there : byte_at bytes place ≡ 
   row_special : (pointer : ℕ) → opcode_there ≡ 0x30 → row_at pointer bytes opcode_there imm_there (place + 1) ≡ Ok (nothing, place + 1)
   unfolding row_at
   row_special pointer e = rw e refl
+
+  -- a DONE sets none
+  pub next_nothing : opcode_there ≡ 0x00 → Next nothing
+  unfolding set_by
+  next_nothing e = rw (there, e) refl
 
   next_special : opcode_there ≡ 0x30 → Next nothing
   unfolding set_by

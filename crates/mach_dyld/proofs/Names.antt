@@ -37,7 +37,8 @@ unfoldable pub use Rattle.mach_dyld.specs.Machine.{set_by, run, executed}
 pub use Rattle.mach_dyld.specs.BindViews.{imports_seen, import_in}
 pub use Rattle.mach_dyld.specs.Binds.{Bind, binds_of, is_done, sets_segment, nearer_than, nearest_or, done_after, binds_at, stride_in, count_in, library_in}
 pub use Rattle.mach_dyld.specs.Binds.{flags_in, symbol_name_in, addend_in, segment_in, offset_in, advances, last_setting, advance_in, sequence_of, reached}
-unfoldable pub use Rattle.mach_dyld.specs.Binds.{bind_after, binds_from}
+pub use Rattle.mach_dyld.specs.Binds.{binds_from}
+unfoldable pub use Rattle.mach_dyld.specs.Binds.{bind_after, all_from}
 pub use Rattle.mach_dyld.specs.Exports.{texts, entries}
 pub use Rattle.mach_dyld.specs.Imports.{Import, Target, holding, import_with, input_in, BindRanges, ListsImports, AreImports}
 unfoldable pub use Rattle.mach_dyld.specs.Imports.{target_of, import_of, imports_in}

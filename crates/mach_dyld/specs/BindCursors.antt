@@ -1,5 +1,5 @@
 -- How far the reading of binds has come, as numbers.
-use Rattle.std.specs.Prelude.{◌≡◌, ◌⊎◌, ◌==◌, ℕ, ℤ, List, [], Bool, true, false, Option, Some, None, Result, Ok, Err, if◌then◌else◌, slice_get}
+use Rattle.std.specs.Prelude.{◌≡◌, ◌⊎◌, ◌==◌, ℕ, ℤ, List, [], Bool, true, false, Option, Some, None, Result, Ok, Err, if◌then◌else◌, slice_get, bit_and}
 use Rattle.mach_base.specs.Fault.{Fault, fault_of}
 use Rattle.mach_base.specs.Text.{text_at}
 use Rattle.mach_base.specs.declared.error.Error.{Error}
@@ -48,11 +48,17 @@ state_in bytes c = record {
 }
 
 abbrev pub special_in : BindCursor → Option ℤ
-special_in c = if c.has_special == 0 then None else Some c.special
+special_in c = if says_yes (bit_and c.ordinal 2) then Some c.special else None
 
 -- the settings of bindings beside those of a bind
 abbrev pub extra_in : BindCursor → Extra
-extra_in c = record { special = special_in c; kind = c.kind; has_name = says_yes c.has_name; has_segment = says_yes c.has_segment }
+extra_in c = record {
+  special = special_in c;
+  kind = c.kind;
+  has_ordinal = says_yes (bit_and c.ordinal 1);
+  has_name = says_yes c.has_name;
+  has_segment = says_yes c.has_segment;
+}
 
 -- the imports that come behind a cursor, where this is the lazy stream
 abbrev pub imports_behind : Input → Range → BindCursor → List (Result Import Fault)

@@ -1,13 +1,13 @@
 -- The rules of imports, and what is left to an iterator over them. Callers don't need it: the contract of `iter` says
 -- that the items at the start are those of the definitions.
 use Rattle.std.specs.Prelude.{ℕ, List, Result}
-use Rattle.mach_base.specs.Fault.{Fault}
+use Rattle.mach_base.specs.Fault.{Fault, fault_of}
 use Rattle.mach_base.specs.declared.error.Error.{Error}
 use Rattle.mach_dyld.specs.Instructions.{instruction_at}
 use Rattle.mach_dyld.specs.Imports.{Target, import_of}
 use Rattle.mach_dyld.specs.Imports as imports
 use Rattle.mach_dyld.specs.BindViews.{import_in}
-use Rattle.mach_dyld.specs.Machine.{Rules, items_left, opcodes_left, item_read, Fails}
+use Rattle.mach_dyld.specs.Machine.{Rules, items_left, opcodes_left, item_read}
 pub use Rattle.mach_dyld.specs.Machine.{State, fresh, moved, start_of, input_of, bind_of, state_of, items_of, executed, executed_by, set_by}
 use Rattle.mach_dyld.specs.declared.imports.source.Place.{Place}
 use Rattle.mach_dyld.specs.declared.imports.Import.{Import}
@@ -18,7 +18,7 @@ use Rattle.mach_dyld.specs.declared.imports.iterator.Plain.{Plain}
 abbrev pub import_rules : Rules Plain imports.Import
 import_rules = record {
   first = λ is_lazy. record {};
-  set = λ is_lazy byte m. m;
+  set = λ byte m. m;
   read = λ r. instruction_at;
   makes = λ x b m. import_of x b;
 }
@@ -27,7 +27,7 @@ abbrev pub target_in : Place → Target
 target_in t = record { dylib = t.dylib.now; offset = t.offset; address = t.address }
 
 abbrev pub import_read : Result Import Error → Result imports.Import Fault
-import_read = item_read import_in
+import_read = item_read import_in fault_of
 
 -- the imports that are left, up to the first fault
 abbrev pub imports_left : BindIterator → List (Result imports.Import Fault)
@@ -36,7 +36,3 @@ imports_left it = items_left import_rules it.stream
 -- how many instructions are left to be read
 abbrev pub reads_left : BindIterator → ℕ
 reads_left it = opcodes_left import_rules it.stream
-
--- all that was left is the error's fault, and now nothing is left
-abbrev pub FailsWith : BindIterator → BindIterator → Error → Type 0
-FailsWith old new e = Fails import_rules old.stream new.stream e

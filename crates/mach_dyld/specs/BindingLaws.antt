@@ -1,12 +1,13 @@
 -- What holds of all bindings: how they follow from the instructions in order, where they lie, and when they are those
 -- of the imports.
-use Rattle.std.specs.Prelude.{◌≡◌, ◌≢◌, ◌<◌, ℕ, ℤ, pos, List, [], ◌∷◌, ◌++◌, All, reverse, Bool, Option, Some, None, Result, Ok, Err, IfOk, bit_and}
-use Rattle.std.specs.List.{AllByRecursion}
+use Rattle.std.specs.Prelude.{◌≡◌, ◌≢◌, ◌⊎◌, ◌<◌, ℕ, ℤ, pos, List, [], ◌∷◌, ◌++◌, map, All, reverse, Bool, true, false, Option, Some, None, Result, Ok, Err, IfOk, bit_and}
+use Rattle.std.specs.List.{AllByRecursion, filter_map}
 use Rattle.mach_base.specs.Fault.{Fault}
 use Rattle.mach_dyld.specs.Instructions.{byte_at}
-use Rattle.mach_dyld.specs.Streams.{Input, Range, Placed}
-use Rattle.mach_dyld.specs.Binds.{Bind}
-use Rattle.mach_dyld.specs.Imports.{Import, imports_in}
+use Rattle.mach_dyld.specs.Streams.{Input, Range, Placed, IsStream, IsLongest}
+use Rattle.mach_dyld.specs.Binds.{Bind, is_done, nearer_than, count_in, library_in, symbol_name_in, segment_in, addend_in}
+use Rattle.mach_dyld.specs.Imports.{Import}
+use Rattle.mach_dyld.specs.BindItems.{AreBindItems}
 use Rattle.mach_dyld.specs.BindLast.{IsLast}
 use Rattle.mach_dyld.specs.BindAddresses.{LiesWhole, LiesWholeInSome}
 use Rattle.mach_parts.specs.Bindings.{Provider, of_library, itself, main_executable, flat, weak_lookup}
@@ -87,13 +88,53 @@ abbrev pub told : {A : Type 0} → (A → Told) → Result A Fault → Result To
 told tell (Ok i) = Ok (tell i)
 told tell (Err f) = Err f
 
--- each binding tells what the import at its place tells, and there are as many of both, faults among them
-abbrev pub Agree : List ℕ → List (Result Import Fault) → List (Result Binding Fault) → Type 0
-Agree first [] [] = Unit {0}
-Agree first (i ∷ is) (b ∷ bs) = IfOk b (λ found. told told_by_import i ≡ Ok (told_by_binding first found)) × Agree first is bs
-Agree first _ _ = ⊥
+-- each binding tells what the import at its place tells, and the bindings end where the imports do, or at a fault
+abbrev pub EachTells : List ℕ → List (Result Import Fault) → List (Result Binding Fault) → Type 0
+EachTells first imports [] = imports ≡ []
+EachTells first imports (Err f ∷ bindings) = Unit {0}
+EachTells first [] (Ok b ∷ bindings) = ⊥
+EachTells first (i ∷ imports) (Ok b ∷ bindings) = (told told_by_import i ≡ Ok (told_by_binding first b)) × EachTells first imports bindings
 
--- of the same instructions, which are plain, over a list of libraries that has a first, bindings and imports agree
+-- behind the last DONE stands an instruction that has the operand: the list has the nearest first
+abbrev pub IsSetAnew : {A : Type 0} → (Placed → Option A) → List Placed → Type 0
+IsSetAnew operand back = filter_map operand (nearer_than is_done back) ≢ []
+
+-- a library, a name with its flags and a segment are set there, and an addend is, or nowhere
+pub record AreSetAnew (back : List Placed) : Type 0 where
+  pub library : IsSetAnew library_in back
+  pub name : IsSetAnew symbol_name_in back
+  pub segment : IsSetAnew segment_in back
+  pub addend : IsSetAnew addend_in back ⊎ (filter_map addend_in back ≡ [])
+
+-- so they are before each instruction that binds
+abbrev pub SetsAnew : List Placed → Type 0
+SetsAnew ps = (front : List Placed) (p : Placed) (behind : List Placed) → ps ≡ front ++ p ∷ behind → 0 < count_in p → AreSetAnew (reverse front)
+
+-- behind the first DONE are only DONEs
+abbrev pub EndsInDones : List Placed → Type 0
+EndsInDones ps =
+    (front : List Placed) × (dones : List Placed) × (ps ≡ front ++ dones)
+    × AllByRecursion (λ p. is_done p ≡ false) front × AllByRecursion (λ p. is_done p ≡ true) dones
+
+-- the instructions of two streams, as imports read them, that bindings read alike: none of them has opcode 3; the non-lazy
+-- ones are all of their range, and end in DONEs; and what a lazy bind has is set behind the last DONE
+pub record AreReadAlike (x : Input) (non_lazy lazy : Range) (ps qs : List Placed) : Type 0 where
+  pub whole : IsStream x non_lazy ps
+  pub lazy_stop : Option Fault
+  pub lazy_longest : IsLongest x lazy qs lazy_stop
+  pub plain : AllByRecursion (IsPlain x.bytes) ps
+  pub lazy_plain : AllByRecursion (IsPlain x.bytes) qs
+  pub ends : EndsInDones ps
+  pub anew : SetsAnew qs
+
+-- where bindings have no fault, both tell one for one, so that they are as many
+abbrev pub TellOneForOne : List ℕ → List (Result Import Fault) → List (Result Binding Fault) → Type 0
+TellOneForOne first imports bindings =
+    (list : List Binding) → bindings ≡ map Ok list → map (told told_by_import) imports ≡ map (λ b. Ok (told_by_binding first b)) list
+
+-- so do bindings and imports of streams that are read alike, over a list of libraries that has a first
 abbrev pub TellTheSame : Type 0
-TellTheSame = (x : Input) (r : Range) (first : List ℕ) (others : List (List ℕ)) (ps : List Placed) → x.libs ≡ first ∷ others → 0 < x.pointer
-    → AllByRecursion (IsPlain x.bytes) ps → Agree first (imports_in x r ps) (bindings_in x r ps)
+TellTheSame = (x : Input) (non_lazy lazy : Range) (first : List ℕ) (others : List (List ℕ)) (ps qs ps' qs' us vs : List Placed)
+    (imports : List (Result Import Fault)) (bindings : List (Result Binding Fault)) → x.libs ≡ first ∷ others → 0 < x.pointer → lazy.is_lazy ≡ true
+    → AreReadAlike x non_lazy lazy ps qs → AreBindItems x non_lazy lazy ps' qs' imports → AreBindings x non_lazy lazy us vs bindings
+    → EachTells first imports bindings × TellOneForOne first imports bindings

@@ -3,7 +3,7 @@
 use Rattle.std.specs.Prelude.{◌==◌, ℕ, ℤ, pos, List, Bool, true, false, Option, Some, None, Result, if◌then◌else◌, bit_and}
 use Rattle.mach_base.specs.Fault.{Fault}
 use Rattle.mach_parts.specs.Bindings.{Binding}
-use Rattle.mach_dyld.specs.Bindings.{Given, special_ordinal, first_kind, binding_of, opcode_at}
+use Rattle.mach_dyld.specs.Bindings.{Given, special_ordinal, first_kind, gives_ordinal, gives_name, gives_segment, binding_of, opcode_at}
 use Rattle.mach_dyld.specs.Machine.{Rules, items_left}
 use Rattle.mach_dyld.specs.declared.bindings.OpcodeBindingIterator.{OpcodeBindingIterator}
 use Rattle.mach_dyld.specs.declared.bindings.Extra.{Extra}
@@ -17,14 +17,15 @@ abbrev pub given_now : Extra → ℕ → Given
 given_now m library = record {
   ordinal = ordinal_now m.special library;
   kind = m.kind;
+  has_ordinal = m.has_ordinal;
   has_name = m.has_name;
   has_segment = m.has_segment;
 }
 
 abbrev pub first_extra : Bool → Extra
-first_extra is_lazy = record { special = None; kind = first_kind is_lazy; has_name = false; has_segment = false }
+first_extra is_lazy = record { special = None; kind = first_kind is_lazy; has_ordinal = false; has_name = false; has_segment = false }
 
--- the special ordinal after an opcode other than DONE, with its immediate
+-- the special ordinal after an opcode with its immediate
 abbrev pub special_after : Option ℤ → ℕ → ℕ → Option ℤ
 special_after special opcode imm =
     if opcode == 0x30 then Some (special_ordinal imm)
@@ -33,20 +34,19 @@ special_after special opcode imm =
     else special))
 
 -- the settings after an opcode with its immediate
-abbrev pub extra_after : Bool → ℕ → ℕ → Extra → Extra
-extra_after is_lazy opcode imm m =
-    if opcode == 0x00 then first_extra is_lazy
-    else record {
-      special = special_after m.special opcode imm;
-      kind = if opcode == 0x50 then imm else m.kind;
-      has_name = if opcode == 0x40 then true else m.has_name;
-      has_segment = if opcode == 0x70 then true else m.has_segment;
-    }
+abbrev pub extra_after : ℕ → ℕ → Extra → Extra
+extra_after opcode imm m = record {
+  special = special_after m.special opcode imm;
+  kind = if opcode == 0x50 then imm else m.kind;
+  has_ordinal = if gives_ordinal opcode then true else m.has_ordinal;
+  has_name = if gives_name opcode then true else m.has_name;
+  has_segment = if gives_segment opcode then true else m.has_segment;
+}
 
 abbrev pub binding_rules : Rules Extra Binding
 binding_rules = record {
   first = first_extra;
-  set = λ is_lazy byte m. extra_after is_lazy (bit_and byte 0xf0) (bit_and byte 0x0f) m;
+  set = λ byte m. extra_after (bit_and byte 0xf0) (bit_and byte 0x0f) m;
   read = opcode_at;
   makes = λ x b m. binding_of x (given_now m b.library) b;
 }

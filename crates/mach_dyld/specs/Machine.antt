@@ -2,9 +2,8 @@
 -- don't need it: the contracts of what they call say that the items at the start are those of the definitions.
 use Rattle.std.specs.Prelude.{◌≡◌, ◌+◌, ◌-◌, ◌%◌, ◌^◌, ◌<◌, ◌≤◌, ℕ, zero, suc, pos, List, [], ◌∷◌, ◌++◌, map, length, Bool, true, false}
 use Rattle.std.specs.Prelude.{Option, Some, None, Result, Ok, Err, IsErr, nat_lt, if◌then◌else◌}
-use Rattle.mach_base.specs.declared.error.Error.{Error}
 use Rattle.mach_base.specs.Answer.{◌>>=◌}
-use Rattle.mach_base.specs.Fault.{Fault, malformed, fault_of}
+use Rattle.mach_base.specs.Fault.{Fault, malformed}
 use Rattle.mach_parts.specs.Segment.{segment_view}
 use Rattle.mach_dyld.specs.Instructions as instructions
 use Rattle.mach_dyld.specs.Instructions.{done, library, symbol, addend, segment, advance, binds, nothing, byte_at}
@@ -27,7 +26,7 @@ use Rattle.mach_dyld.specs.declared.imports.stream.Stream.{Stream}
 -- of a bind.
 pub record Rules (M A : Type 0) : Type 0 where
   pub first : Bool → M
-  pub set : Bool → ℕ → M → M
+  pub set : ℕ → M → M
   pub read : Range → ℕ → List ℕ → Reader
   pub makes : Input → Bind → M → Result A Fault
 
@@ -44,9 +43,9 @@ pub record Reads {M A : Type 0} (u : Rules M A) : Type 0 where
   pub bytes : (r : Range) (pointer : ℕ) (bytes : List ℕ) (place : ℕ) (f : Fault) → byte_at bytes place ≡ Err f → u.read r pointer bytes place ≡ Err f
 
 -- the settings after an instruction, by the byte at its place
-abbrev pub set_after : {M A : Type 0} → Rules M A → Bool → Result ℕ Fault → M → M
-set_after u is_lazy (Err f) m = m
-set_after u is_lazy (Ok byte) m = u.set is_lazy byte m
+abbrev pub set_after : {M A : Type 0} → Rules M A → Result ℕ Fault → M → M
+set_after u (Err f) m = m
+set_after u (Ok byte) m = u.set byte m
 
 -- ---- the instructions that are read from a place on
 
@@ -112,7 +111,7 @@ unfoldable pub run : {M A : Type 0} → Rules M A → Input → Range → Bind �
 run u x r b m [] = []
 run u x r b m (p ∷ ps) =
     let c = set_by p.instruction (p.after - r.from) b in
-    let n = set_after u r.is_lazy (byte_at x.bytes p.place) m in
+    let n = set_after u (byte_at x.bytes p.place) m in
     map (λ d. u.makes x d n) (strides c (stride_in x.pointer p) (count_in p))
     ++ run u x r (after_strides c (stride_in x.pointer p) (count_in p)) n ps
 
@@ -209,13 +208,13 @@ unfoldable pub opcodes_left : {M A : Type 0} → Rules M A → Stream M → ℕ
 opcodes_left u it = reads_of u (input_of it.source) (lazy_of it) (state_of it.state)
 
 -- an item as it was read
-abbrev pub item_read : {I A : Type 0} → (I → A) → Result I Error → Result A Fault
-item_read seen (Ok i) = Ok (seen i)
-item_read seen (Err e) = Err (fault_of e)
+abbrev pub item_read : {I E A : Type 0} → (I → A) → (E → Fault) → Result I E → Result A Fault
+item_read seen fault (Ok i) = Ok (seen i)
+item_read seen fault (Err e) = Err (fault e)
 
--- all that was left is the error's fault, and now nothing is left
-abbrev pub Fails : {M A : Type 0} → Rules M A → Stream M → Stream M → Error → Type 0
-Fails u old new e = (items_left u old ≡ Err (fault_of e) ∷ []) × (items_left u new ≡ [])
+-- all that was left is a fault, and now nothing is left
+abbrev pub Fails : {M A : Type 0} → Rules M A → Stream M → Stream M → Fault → Type 0
+Fails u old new f = (items_left u old ≡ Err f ∷ []) × (items_left u new ≡ [])
 
 abbrev pub next_read : {M A : Type 0} → Rules M A → Stream M → Result (instructions.Instruction × ℕ) Fault
 next_read u it = u.read (range_of it.state) it.source.pointer it.source.bytes.now it.state.place

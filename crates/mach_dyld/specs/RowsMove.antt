@@ -13,6 +13,7 @@ unfoldable use Rattle.mach_dyld.specs.Instructions.{byte_at, with_uleb, addend_a
 use Rattle.mach_dyld.specs.Streams.{Range}
 use Rattle.mach_dyld.specs.Machine.{Reads}
 use Rattle.mach_dyld.specs.BindLeft.{import_rules}
+use Rattle.mach_dyld.specs.Bindings.{highest_opcode}
 unfoldable use Rattle.mach_dyld.specs.Bindings.{opcode_at, bindings_row}
 use Rattle.mach_dyld.specs.BindingsLeft.{binding_rules}
 
@@ -119,9 +120,9 @@ import_reads = record {
 past_bindings : (r : Range) (pointer : ℕ) (bytes : List ℕ) (opcode imm place : ℕ) → Past place (bindings_row r pointer bytes opcode imm place)
 unfolding bindings_row
 past_bindings r pointer bytes opcode imm place =
-    past_either (nat_lt 0xc0 opcode) place _ _ (past_none malformed place)
+    past_either (nat_lt (highest_opcode r.is_lazy) opcode) place _ _ (past_none malformed place)
     (past_either (opcode == 0x00) place _ _
-    (past_here done place (cond r.is_lazy place (place + (r.upto - place))) (behind r.is_lazy))
+    (past_here nothing place (cond r.is_lazy place (place + (r.upto - place))) (behind r.is_lazy))
     (past_row pointer bytes opcode imm place))
   where
     behind : (l : Bool) → place ≤ cond l place (place + (r.upto - place))

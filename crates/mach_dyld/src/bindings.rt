@@ -13,7 +13,7 @@ ghost use Rattle.mach_dyld.specs.Exports.{texts};
 ghost use Rattle.mach_dyld.specs.BindCursors.{IsOverBindings};
 ghost use Rattle.mach_parts.specs.Bindings.{provider_of, provider_view, binding_view, binding_read};
 ghost use Rattle.mach_dyld.specs.Bindings as defined;
-ghost use Rattle.mach_dyld.specs.Bindings.{spot_of, is_complete, opcode_at, done_leads_to, AreBindings};
+ghost use Rattle.mach_dyld.specs.Bindings.{spot_of, is_complete, gives_ordinal, highest_opcode, opcode_at, done_leads_to, AreBindings};
 ghost use Rattle.mach_dyld.specs.BindingsLeft.{ordinal_now, given_now, special_after, first_extra, extra_after, binding_rules, bindings_left};
 
 use crate::bind_opcodes::*;
@@ -84,6 +84,18 @@ fn behind_done(state: &State<'_>) -> usize
     }
 }
 
+// The highest opcode of a stream.
+#[inline(always)]
+fn highest(is_lazy: bool) -> Opcode
+    ensures { result ≡ highest_opcode is_lazy }
+{
+    if is_lazy {
+        BIND_OPCODE_DO_BIND
+    } else {
+        BIND_OPCODE_DO_BIND_ULEB_TIMES_SKIPPING_ULEB
+    }
+}
+
 // Whether so many bytes from the offset on lie in a segment of that size.
 #[inline(always)]
 fn holds_all(size: u64, offset: u64, len: u8) -> bool
@@ -103,7 +115,20 @@ fn special_ordinal(imm: u8) -> i64
     if imm == 0 { 0 } else { i64::from(imm) - 16 }
 }
 
-// The special ordinal after an opcode other than DONE, with its immediate.
+// Whether an opcode sets an ordinal.
+#[inline(always)]
+fn sets_ordinal(opcode: Opcode) -> bool
+    ensures { result ≡ gives_ordinal opcode }
+{
+    match opcode {
+        BIND_OPCODE_SET_DYLIB_ORDINAL_IMM
+        | BIND_OPCODE_SET_DYLIB_ORDINAL_ULEB
+        | BIND_OPCODE_SET_DYLIB_SPECIAL_IMM => true,
+        _ => false,
+    }
+}
+
+// The special ordinal after an opcode with its immediate.
 #[inline(always)]
 fn next_special(special: Option<i64>, opcode: Opcode, imm: u8) -> Option<i64>
     ensures { result ≡ special_after special opcode imm }
@@ -122,7 +147,8 @@ pub struct Extra {
     pub special: Option<i64>,
     /// The type.
     pub kind: u8,
-    /// Whether a name was set, and whether a segment was.
+    /// Whether an ordinal was set, and whether a name and a segment were.
+    pub has_ordinal: bool,
     pub has_name: bool,
     pub has_segment: bool,
 }
@@ -141,26 +167,30 @@ impl Extra {
         }
     }
 
-    // Whether a name, a segment and a type were set.
+    // Whether an ordinal, a name, a segment and a type were set.
     #[inline(always)]
     fn is_complete(self, library: u64) -> bool
         ensures { result ≡ is_complete (given_now self library) }
     {
-        self.has_name && self.has_segment && 0 < self.kind && self.kind < 4
+        self.has_ordinal && self.has_name && self.has_segment && 0 < self.kind && self.kind < 4
     }
 }
 
 impl<'a> Makes<'a> for Extra {
     type Item = Binding<'a>;
+    type Why = Error;
 
     ghost use Rattle.mach_parts.specs.Bindings as parts;
     ghost use Rattle.mach_parts.specs.Bindings.{binding_view};
     ghost use Rattle.mach_dyld.specs.BindingsLeft.{binding_rules};
+    ghost use Rattle.mach_base.specs.Fault.{fault_of};
     ghost use Rattle.mach_dyld.specs.RowsMove.{binding_reads};
 
     ghost Seen = { parts.Binding };
 
     ghost seen = { binding_view };
+
+    ghost fault = { fault_of };
 
     ghost rules = { binding_rules };
 
@@ -173,19 +203,17 @@ impl<'a> Makes<'a> for Extra {
         Extra {
             special: None,
             kind: if is_lazy { BIND_TYPE_POINTER } else { 0 },
+            has_ordinal: false,
             has_name: false,
             has_segment: false,
         }
     }
 
     #[inline(always)]
-    fn set(self, is_lazy: bool, byte: u8) -> Self
-        ensures { result ≡ extra_after is_lazy (bit_and byte 0xf0) (bit_and byte 0x0f) self }
+    fn set(self, byte: u8) -> Self
+        ensures { result ≡ extra_after (bit_and byte 0xf0) (bit_and byte 0x0f) self }
     {
         let (opcode, imm) = (byte & BIND_OPCODE_MASK, byte & BIND_IMMEDIATE_MASK);
-        if opcode == BIND_OPCODE_DONE {
-            return <Extra as Makes<'a>>::first(is_lazy);
-        }
         Extra {
             special: next_special(self.special, opcode, imm),
             kind: if opcode == BIND_OPCODE_SET_TYPE_IMM {
@@ -193,32 +221,53 @@ impl<'a> Makes<'a> for Extra {
             } else {
                 self.kind
             },
-            has_name: if opcode == BIND_OPCODE_SET_SYMBOL_TRAILING_FLAGS_IMM {
-                true
-            } else {
-                self.has_name
-            },
-            has_segment: if opcode == BIND_OPCODE_SET_SEGMENT_AND_OFFSET_ULEB {
-                true
-            } else {
-                self.has_segment
-            },
+            has_ordinal: self.has_ordinal || sets_ordinal(opcode),
+            has_name: self.has_name || opcode == BIND_OPCODE_SET_SYMBOL_TRAILING_FLAGS_IMM,
+            has_segment: self.has_segment || opcode == BIND_OPCODE_SET_SEGMENT_AND_OFFSET_ULEB,
         }
     }
 
     #[inline(always)]
     fn execute(state: &mut State<'a>, bytes: &'a [u8], pointer: u8, byte: u8) -> Option<()> {
         let (opcode, imm) = (byte & BIND_OPCODE_MASK, byte & BIND_IMMEDIATE_MASK);
-        if opcode > BIND_OPCODE_DO_BIND_ULEB_TIMES_SKIPPING_ULEB {
+        let top = highest(state.settings.is_lazy);
+        if opcode > top {
             return None;
         }
         if opcode == BIND_OPCODE_DONE {
             let to = behind_done(state);
-            state.pass(to);
+            state.go_to(to);
             return Some(());
         }
         let operands = state.place + 1;
         state.execute(bytes, pointer, opcode, imm, operands)
+    }
+
+    // Why the instruction at the state's place can't be read.
+    #[tactic(auto, unfolding(crate::specs::Bindings::opcode_at, crate::specs::Instructions::byte_at))]
+    fn unreadable(state: &State<'a>, bytes: &[u8], pointer: u8, byte: u8) -> Error {
+        if state.place >= bytes.len() {
+            return Error::Scroll(ScrollError::BadOffset(state.place));
+        }
+        let (opcode, top) = (byte & BIND_OPCODE_MASK, highest(state.settings.is_lazy));
+        if opcode > top {
+            return Error::Malformed("an opcode of a stream is known");
+        }
+        instruction_error(bytes, pointer, state.place, byte)
+    }
+
+    // Why a bind has no binding.
+    fn refusal(self, source: &Source<'a, '_>, settings: &Settings<'a>) -> Error {
+        if !self.has_ordinal {
+            return Error::Malformed("a bind has an ordinal");
+        }
+        if !self.is_complete(settings.library) {
+            return Error::Malformed("a bind has a name, a segment and a type");
+        }
+        match self.provider(source.libs, settings.library) {
+            None => Error::Malformed("a bind's ordinal is one of a provider"),
+            Some(_) => Error::Malformed("a bind lies inside its segment, at places of 64 bits"),
+        }
     }
 
     #[tactic(auto, unfolding(crate::specs::Bindings::binding_of))]
@@ -246,84 +295,6 @@ impl<'a> Makes<'a> for Extra {
     }
 }
 
-// Why the instruction at the state's place can't be read.
-#[tactic(auto, unfolding(crate::specs::Bindings::opcode_at, crate::specs::Instructions::byte_at))]
-fn opcode_error(state: &State<'_>, bytes: &[u8], pointer: u8, byte: u8) -> Error
-    requires unreadable { IsErr (opcode_at (range_of state.now) pointer bytes.now state.now.place) }
-    requires byte { state.now.place < length bytes.now → byte_at bytes.now state.now.place ≡ Ok byte }
-    ensures { opcode_at (range_of state.now) pointer bytes.now state.now.place ≡ Err (fault_of result) }
-{
-    if state.place >= bytes.len() {
-        return Error::Scroll(ScrollError::BadOffset(state.place));
-    }
-    if byte & BIND_OPCODE_MASK > BIND_OPCODE_DO_BIND_ULEB_TIMES_SKIPPING_ULEB {
-        return Error::Malformed("an opcode of a stream is known");
-    }
-    instruction_error(bytes, pointer, state.place, byte)
-}
-
-impl<'a> OpcodeBindingIterator<'a, '_> {
-    // Why the bind that comes now has no binding.
-    fn bind_error(&self) -> Error
-        ensures { fault_of result ≡ malformed }
-    {
-        let (more, library) = (self.stream.more, self.stream.state.settings.library);
-        if !more.is_complete(library) {
-            return Error::Malformed("a bind has a name, a segment and a type");
-        }
-        match more.provider(self.stream.source.libs, library) {
-            None => Error::Malformed("a bind's ordinal is one of a provider"),
-            Some(_) => Error::Malformed("a bind lies inside its segment, at places of 64 bits"),
-        }
-    }
-
-    // Why no binding comes.
-    #[cold]
-    #[inline(never)]
-    fn error(&self, stop: Stop) -> Error
-        requires { StopsFor binding_rules self.now.stream stop }
-        ensures { items_left binding_rules self.now.stream ≡ Err (fault_of result) ∷ [] }
-    {
-        let stream = &self.stream;
-        match stop {
-            Stop::Instruction(byte) => {
-                opcode_error(
-                    &stream.state,
-                    stream.source.bytes,
-                    stream.source.pointer,
-                    byte,
-                )
-            }
-            Stop::Bind => self.bind_error(),
-        }
-    }
-
-    // Ends where no binding comes, with the error.
-    fn end_at(&mut self, stop: Stop) -> Error
-        requires { StopsFor binding_rules self.old.stream stop }
-        ensures fails { Fails binding_rules self.old.stream self.new.stream result }
-        ensures keeps { Keeps self.old.stream self.new.stream }
-    {
-        let error = self.error(stop);
-        self.stream.state.ended = true;
-        error
-    }
-
-    // The next binding, or the fault that ends them.
-    #[inline(always)]
-    pub(crate) fn step(&mut self) -> Option<Result<Binding<'a>>>
-        ensures items { YieldsFirstBy binding_read bindings_left self.old result self.new }
-        ensures keeps { Keeps self.old.stream self.new.stream }
-        ensures bound { IfSome result (λ item. IfOk item (λ b. IsMadeBy binding_rules self.new.stream (binding_view b))) }
-    {
-        match self.stream.step(&mut Steps::new()) {
-            None => None,
-            Some(Ok(binding)) => Some(Ok(binding)),
-            Some(Err(stop)) => Some(Err(self.end_at(stop))),
-        }
-    }
-}
-
 impl<'a> Iterator for OpcodeBindingIterator<'a, '_> {
     type Item = Result<Binding<'a>>;
 
@@ -335,7 +306,7 @@ impl<'a> Iterator for OpcodeBindingIterator<'a, '_> {
 
     #[inline(always)]
     fn next(&mut self) -> Option<Result<Binding<'a>>> {
-        self.step()
+        self.stream.next_item()
     }
 }
 
@@ -343,24 +314,9 @@ impl Default for OpcodeBindingIterator<'_, '_> {
     ghost is_default = { λ it. bindings_left it ≡ [] };
 
     /// No bindings.
-    #[tactic(auto, unfolding(crate::specs::Machine::items_left, crate::specs::Machine::items_of))]
     fn default() -> Self {
         OpcodeBindingIterator {
-            stream: Stream {
-                source: Source {
-                    bytes: &[],
-                    pointer: 0,
-                    libs: &[],
-                    segments: &[],
-                },
-                lazy_from: 0,
-                lazy_upto: 0,
-                state: State {
-                    ended: true,
-                    ..State::start(0, 0, true)
-                },
-                more: <Extra as Makes<'_>>::first(true),
-            },
+            stream: Stream::none(<Extra as Makes<'_>>::first(true)),
         }
     }
 }

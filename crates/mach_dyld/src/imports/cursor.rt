@@ -1,6 +1,6 @@
 //! How far the reading of binds has come, as numbers, and imports and bindings with the places of their names.
 
-ghost use Rattle.std.specs.Prelude.{◌≡◌, ℕ, List, map, false, IfOk, IfSome};
+ghost use Rattle.std.specs.Prelude.{◌≡◌, ℕ, List, map, false, IfOk, IfSome, bit_and};
 ghost use Rattle.std.specs.Iterator.{YieldsFirstBy};
 ghost use Rattle.mach_base.specs.Context.{pointer_size};
 ghost use Rattle.mach_base.specs.Text.{text_at};
@@ -53,8 +53,9 @@ pub struct BindCursor {
     pub sequence: u64,
     pub segment: u8,
     pub flags: u8,
-    /// Whether there is a special ordinal, whether the lazy stream is read, and whether all was given: 0 says no.
-    pub has_special: u8,
+    /// For bindings, whether an ordinal was set (bit 0) and is a special one (bit 1).
+    pub ordinal: u8,
+    /// Whether the lazy stream is read, and whether all was given: 0 says no.
     pub is_lazy: u8,
     pub ended: u8,
     /// The type, and whether a name and a segment were set, for bindings.
@@ -86,6 +87,18 @@ fn flag(yes: bool) -> u8
     ensures { says_yes result ≡ yes }
 {
     if yes { 1 } else { 0 }
+}
+
+// A number whose two lowest bits say whether.
+fn flags(first: bool, second: bool) -> u8
+    ensures { (says_yes (bit_and result 1) ≡ first) × (says_yes (bit_and result 2) ≡ second) }
+{
+    match (first, second) {
+        (false, false) => 0,
+        (true, false) => 1,
+        (false, true) => 2,
+        (true, true) => 3,
+    }
 }
 
 // The text at a place, and the place; no text and the last place there is where none stands there.
@@ -132,7 +145,7 @@ impl<'a> State<'a> {
             sequence: settings.sequence,
             segment: settings.segment,
             flags: settings.flags,
-            has_special: flag(more.special.is_some()),
+            ordinal: flags(more.has_ordinal, more.special.is_some()),
             is_lazy: flag(settings.is_lazy),
             ended: flag(self.ended),
             kind: more.kind,
@@ -177,6 +190,7 @@ impl BindCursor {
         Extra {
             special: self.special(),
             kind: self.kind,
+            has_ordinal: self.ordinal & 1 != 0,
             has_name: self.has_name != 0,
             has_segment: self.has_segment != 0,
         }
@@ -186,7 +200,7 @@ impl BindCursor {
     fn special(&self) -> Option<i64>
         ensures { result ≡ special_in self.now }
     {
-        if self.has_special != 0 {
+        if self.ordinal & 2 != 0 {
             Some(self.special)
         } else {
             None
@@ -279,7 +293,7 @@ impl<'a> BindIterator<'a, '_> {
         ensures over { (x : Input) (lazy : Range) → IsOver x lazy self.old → IsOver x lazy self.new }
         ensures placed { (x : Input) (lazy : Range) → IsOver x lazy self.old → IfSome result (λ item. IfOk item (IsPlaced x)) }
     {
-        match self.step() {
+        match self.stream.next_item() {
             None => None,
             Some(Err(e)) => Some(Err(e)),
             Some(Ok(import)) => Some(Ok(PlacedImport {
@@ -309,7 +323,7 @@ impl<'a> OpcodeBindingIterator<'a, '_> {
         ensures placed { (x : Input) (lazy : Range) → IsOverBindings x lazy self.old
             → IfSome result (λ item. IfOk item (λ p. Stands x.bytes p.name_place p.binding.name.now)) }
     {
-        match self.step() {
+        match self.stream.next_item() {
             None => None,
             Some(Err(e)) => Some(Err(e)),
             Some(Ok(binding)) => Some(Ok(PlacedBinding {

@@ -1,7 +1,7 @@
 //! How far the reading of a stream has come.
 
 ghost use Rattle.std.specs.Prelude.{◌≡◌, ◌+◌, ◌≤◌, ◌%◌, ◌^◌, ℕ, length, Ok, IsErr, false, IfNone, MatchOption};
-ghost use Rattle.mach_dyld.specs.Instructions.{done, row_at};
+ghost use Rattle.mach_dyld.specs.Instructions.{nothing, row_at};
 ghost use Rattle.mach_dyld.specs.Machine.{start_of, executed, executed_by, state_of};
 ghost use Rattle.mach_dyld.specs.NamePlaces.{IsUnnamed, NameStands};
 
@@ -131,19 +131,18 @@ impl<'a> State<'a> {
         Some(())
     }
 
-    /// Goes on at a place, behind a DONE.
+    /// Goes on at a place; nothing is set.
     #[tactic(auto, unfolding(crate::specs::Machine::set_by, crate::specs::Machine::executed))]
-    pub fn pass(&mut self, to: usize)
+    #[inline(always)]
+    pub fn go_to(&mut self, to: usize)
         requires count { self.old.count ≡ 0 }
-        ensures state { (pointer : ℕ) → executed pointer done to (state_of self.old) ≡ state_of self.new }
+        ensures state { (pointer : ℕ) → executed pointer nothing to (state_of self.old) ≡ state_of self.new }
         ensures upto { self.new.upto ≡ self.old.upto }
         ensures from { self.new.from ≡ self.old.from }
         ensures ended { self.new.ended ≡ self.old.ended }
-        ensures is_lazy { self.new.settings.is_lazy ≡ self.old.settings.is_lazy }
-        ensures named { IsUnnamed self.new.settings }
+        ensures settings { self.new.settings ≡ self.old.settings }
     {
         self.stride = 0;
-        self.settings.clear(to.saturating_sub(self.from) as u64);
         self.place = to;
     }
 

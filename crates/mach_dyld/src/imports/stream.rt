@@ -1,12 +1,13 @@
 //! Two streams of instructions, one after the other, whose binds make items by rules.
 
 ghost use Rattle.std.specs.Prelude.{◌≡◌, ◌+◌, ◌-◌, ◌<◌, ◌≤◌, ◌^◌, [], ◌∷◌, length, min, IfOk, IfErr, IfNone, IfSome, OnOk, OnErr, Ok, Err, IsErr, MatchOption, true, false};
-ghost use Rattle.mach_base.specs.Fault.{malformed};
+ghost use Rattle.std.specs.Iterator.{YieldsFirstBy};
+ghost use Rattle.mach_base.specs.Fault.{Fault, malformed};
 ghost use Rattle.mach_dyld.specs.Instructions.{byte_at};
 ghost use Rattle.mach_dyld.specs.NamePlaces.{NameStands};
 ghost use Rattle.mach_dyld.specs.Streams.{Range};
 ghost use Rattle.mach_dyld.specs.Machine.{Rules, Reads, range_of, state_of, bind_of, input_of, executed_by, items_left, opcodes_left};
-ghost use Rattle.mach_dyld.specs.Machine.{StopsFor, IsUnreadable, MakesNothing, IsAtEnd, IsMadeBy, Keeps};
+ghost use Rattle.mach_dyld.specs.Machine.{StopsFor, IsUnreadable, MakesNothing, IsAtEnd, IsMadeBy, Keeps, Fails, item_read};
 
 use crate::imports::instruction::opcode_byte;
 use crate::imports::settings::Settings;
@@ -18,10 +19,15 @@ use mach_base::Steps;
 pub trait Makes<'a>: Copy {
     type Item: Drop;
 
-    // What contracts see of an item.
+    /// Why none comes.
+    type Why: Drop;
+
+    // What contracts see of an item, and of why none comes.
     ghost Seen: { Type 0 };
 
     ghost seen: { Self.Item → Seen };
+
+    ghost fault: { Self.Why → Fault };
 
     ghost rules: { Rules Self Seen };
 
@@ -33,8 +39,8 @@ pub trait Makes<'a>: Copy {
         ensures { result ≡ rules.first is_lazy };
 
     /// Those after an instruction, by its opcode byte.
-    fn set(self, is_lazy: bool, byte: u8) -> Self
-        ensures { result ≡ rules.set is_lazy byte self };
+    fn set(self, byte: u8) -> Self
+        ensures { result ≡ rules.set byte self };
 
     /// Executes the instruction that comes next, by its opcode byte; None where it can't be read. A pointer has so many
     /// bytes.
@@ -58,6 +64,16 @@ pub trait Makes<'a>: Copy {
     fn make(self, source: &Source<'a, '_>, settings: &Settings<'a>) -> Option<Self::Item>
         ensures { MatchOption result (rules.makes (input_of source.now) (bind_of settings.now) self ≡ Err malformed)
             (λ i. rules.makes (input_of source.now) (bind_of settings.now) self ≡ Ok (seen i)) };
+
+    /// Why the instruction at the state's place can't be read, whose opcode byte is this, if one stands there.
+    fn unreadable(state: &State<'a>, bytes: &[u8], pointer: u8, byte: u8) -> Self::Why
+        requires fault { IsErr (rules.read (range_of state.now) pointer bytes.now state.now.place) }
+        requires byte { state.now.place < length bytes.now → byte_at bytes.now state.now.place ≡ Ok byte }
+        ensures { rules.read (range_of state.now) pointer bytes.now state.now.place ≡ Err (fault result) };
+
+    /// Why a bind with these settings makes nothing.
+    fn refusal(self, source: &Source<'a, '_>, settings: &Settings<'a>) -> Self::Why
+        ensures { fault result ≡ malformed };
 }
 
 /// Why no item comes: the instruction that comes next can't be read, whose opcode byte is this, if one stands there; or
@@ -80,6 +96,28 @@ pub struct Stream<'a, 'b, M> {
 }
 
 impl<'a, 'b, M: Makes<'a>> Stream<'a, 'b, M> {
+    /// Two streams that have ended.
+    #[tactic(auto, unfolding(crate::specs::Machine::items_left, crate::specs::Machine::items_of))]
+    pub fn none(more: M) -> Self
+        ensures { items_left M.rules result ≡ [] }
+    {
+        Stream {
+            source: Source {
+                bytes: &[],
+                pointer: 0,
+                libs: &[],
+                segments: &[],
+            },
+            lazy_from: 0,
+            lazy_upto: 0,
+            state: State {
+                ended: true,
+                ..State::start(0, 0, true)
+            },
+            more,
+        }
+    }
+
     /// What the bind that comes now makes, if anything, and moves on behind it.
     #[inline(always)]
     pub fn bind(&mut self) -> Option<M::Item>
@@ -119,7 +157,7 @@ impl<'a, 'b, M: Makes<'a>> Stream<'a, 'b, M> {
         };
         match M::execute(&mut self.state, bytes, self.source.pointer, byte) {
             Some(()) => {
-                self.more = self.more.set(self.state.settings.is_lazy, byte);
+                self.more = self.more.set(byte);
                 Ok(())
             }
             None => Err(byte),
@@ -220,5 +258,45 @@ impl<'a, 'b, M: Makes<'a>> Stream<'a, 'b, M> {
             return Some(Err(Stop::Bind));
         };
         Some(Ok(item))
+    }
+
+    // Why no item comes.
+    #[cold]
+    #[inline(never)]
+    fn error(&self, stop: Stop) -> M::Why
+        requires { StopsFor M.rules self.now stop }
+        ensures { items_left M.rules self.now ≡ Err (M.fault result) ∷ [] }
+    {
+        match stop {
+            Stop::Instruction(byte) => {
+                M::unreadable(&self.state, self.source.bytes, self.source.pointer, byte)
+            }
+            Stop::Bind => self.more.refusal(&self.source, &self.state.settings),
+        }
+    }
+
+    /// Ends where no item comes, with the error.
+    pub fn end_at(&mut self, stop: Stop) -> M::Why
+        requires { StopsFor M.rules self.old stop }
+        ensures fails { Fails M.rules self.old self.new (M.fault result) }
+        ensures keeps { Keeps self.old self.new }
+    {
+        let error = self.error(stop);
+        self.state.ended = true;
+        error
+    }
+
+    /// The next item, or the fault that ends them.
+    #[inline(always)]
+    pub fn next_item(&mut self) -> Option<std::result::Result<M::Item, M::Why>>
+        ensures items { YieldsFirstBy (item_read M.seen M.fault) (items_left M.rules) self.old result self.new }
+        ensures keeps { Keeps self.old self.new }
+        ensures bound { IfSome result (λ item. IfOk item (λ i. IsMadeBy M.rules self.new (M.seen i))) }
+    {
+        match self.step(&mut Steps::new()) {
+            None => None,
+            Some(Ok(item)) => Some(Ok(item)),
+            Some(Err(stop)) => Some(Err(self.end_at(stop))),
+        }
     }
 }

@@ -3,8 +3,8 @@
 
 ghost use Rattle.mach_dyld.specs.BindingLaws.{FindsLastOrdinal, AddsBindings, HasOneListOfBindings, BindingLiesIn, BindingsLieIn, TellTheSame};
 
-/// The ordinal of a bind is the one that was set last after the last DONE before it, by opcode 1, 2 or 3,
-/// or 0.
+/// The ordinal of a bind is the one that was set last before it, by opcode 1, 2 or 3, or 0; no instruction that
+/// bindings read is a DONE.
 pub fn finds_last_ordinal()
     ensures { FindsLastOrdinal }
 {}
@@ -30,8 +30,8 @@ pub fn bindings_lie_in_segments()
     ensures { BindingsLieIn }
 {}
 
-/// Of the same instructions, none of which has opcode 3, each binding tells what the import of its bind tells: the
-/// name, the library's name, the places, the addend and both flags.
+/// Of streams that imports and bindings read alike, each binding tells what the import at its place tells: the name, the
+/// library's name, the places, the addend and both flags.
 pub fn bindings_are_imports()
     ensures { TellTheSame }
 {}

@@ -2,4 +2,4 @@ use Rattle.goblin_mach.proofs.OneList.{tell_the_same}
 use Rattle.goblin_mach.proofs.image.binding_laws.image_bindings_are_imports.Goals as goal
 
 pub returns : goal.returns
-returns c = tell_the_same c.bindings_are_imports.ensures c.one_list_of_bindings.ensures
+returns c = tell_the_same c.bindings_are_imports.ensures

@@ -7,7 +7,7 @@ use Rattle.mach_dyld.proofs.bindings.OpcodeBindingIterator.next_placed.Goals as 
 
 pub returns-in-Some-Ok-clause-placed : goal.returns-in-Some-Ok-clause-placed
 returns-in-Some-Ok-clause-placed c = λ x lazy over.
-    let new = c.step.new.self.stream in
+    let new = c.next_item.new.self in
     let bytes = c.args.self.now.stream.source.bytes.now in
     let bound = rw c.in-Some-Ok.field-0-is at c.in-Some-Ok.ensures.bound in
     let tells = binding_tells (input_of new.source) (given_now new.more new.state.settings.library)

@@ -3,7 +3,7 @@ use Rattle.mach_parts.specs.Segment.{segment_view}
 use Rattle.mach_dyld.specs.Bindings.{bindings_in}
 use Rattle.mach_dyld.specs.BindingsLeft.{binding_rules}
 use Rattle.mach_dyld.specs.RowsMove.{binding_reads}
-use Rattle.mach_dyld.proofs.BindingRun.{tied_at_start}
+use Rattle.mach_dyld.proofs.BindingRun.{bindings_at_start}
 use Rattle.mach_dyld.proofs.StreamStarts.{starts}
 use Rattle.mach_dyld.proofs.imports.BindInterpreter.bindings.Goals as goal
 
@@ -11,6 +11,6 @@ pub returns-clause-items : goal.returns-clause-items
 returns-clause-items c =
     let b = c.args.self.now in
     let x = input_in b (pointer_size c.args.ctx.container) (texts c.args.libs.now) (map segment_view c.args.segments.now) in
-    let s = starts binding_rules binding_reads x (bindings_in x) (tied_at_start x) b.non_lazy b.lazy c.stream.ensures.order.0 c.stream.ensures.order.1 _ _
+    let s = starts binding_rules binding_reads x (bindings_in x) (bindings_at_start x) b.non_lazy b.lazy c.stream.ensures.order.0 c.stream.ensures.order.1 _ _
     c.stream.ensures.items c.stream.ensures.reads in
     (s.0, s.1, s.2)

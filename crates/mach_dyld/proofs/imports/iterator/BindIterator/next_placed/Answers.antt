@@ -6,7 +6,7 @@ use Rattle.mach_dyld.proofs.imports.iterator.BindIterator.next_placed.Goals as g
 
 pub returns-in-Some-Ok-clause-placed : goal.returns-in-Some-Ok-clause-placed
 returns-in-Some-Ok-clause-placed c = λ x lazy over.
-    let new = c.step.new.self.stream in
+    let new = c.next_item.new.self in
     let bound = rw c.in-Some-Ok.field-0-is at c.in-Some-Ok.ensures.bound in
     let tells = import_tells (input_of new.source) (record (bind_of new.state.settings) { offset = bound.0 }) (import_in c.in-Some-Ok.import) bound.1 in
     let source = ap (λ (s : Source). input_of s) c.in-Some-Ok.ensures.keeps.source ∙ over.source in

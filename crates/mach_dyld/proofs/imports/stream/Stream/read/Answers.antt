@@ -20,10 +20,8 @@ returns-in-Some-execute-clause-items g c =
     let it = c.args.self.now in
     let u = g.M.Makes.rules in
     let t = state_of c.execute.new.state in
-    let same = c.in-Some-execute.ensures.is_lazy in
     (after_executed u g.M.Makes.reads (input_of it.source) (lazy_of it) it.more (state_of it.state) t
     c.requires.count c.requires.on c.requires.within c.in-Some.byte c.in-Some.ensures.value c.in-Some-execute.ensures.value).items
-    ∙ ap (λ (l : Bool). items_of u (input_of it.source) (lazy_of it) (u.set l c.in-Some.byte it.more) t) (sym same)
     ∙ ap (λ m. items_of u (input_of it.source) (lazy_of it) m t) (sym c.set-self.ensures)
 
 pub returns-in-Some-execute-clause-left : goal.returns-in-Some-execute-clause-left
