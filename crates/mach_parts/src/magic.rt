@@ -4,11 +4,11 @@ ghost use Rattle.std.specs.Prelude.{◌≡◌, Ok};
 ghost use Rattle.mach_base.specs.declared.context.Endian.TheVariants.{Big};
 ghost use Rattle.mach_base.specs.Answer.{Reads};
 ghost use Rattle.mach_base.specs.Number.{number_at};
-ghost use Rattle.goblin_mach.specs.Magic.{magic_at, ctx_of, hint_in};
+ghost use Rattle.mach_parts.specs.Magic.{magic_at, ctx_of, hint_in};
 
+use crate::fat::FAT_MAGIC;
+use crate::header::{MH_CIGAM, MH_CIGAM_64, MH_MAGIC, MH_MAGIC_64};
 use mach_base::{Container, Ctx, Endian, Hint, HintData, Result, read_u32};
-use mach_parts::fat::FAT_MAGIC;
-use mach_parts::header::{MH_CIGAM, MH_CIGAM_64, MH_MAGIC, MH_MAGIC_64};
 
 /// The number of the four bytes at a place, the highest byte first.
 pub fn peek(bytes: &[u8], offset: usize) -> Result<u32>
