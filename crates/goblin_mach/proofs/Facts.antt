@@ -27,7 +27,7 @@ use Rattle.goblin_mach.specs.Libraries.{LibraryView, libraries_in}
 use Rattle.goblin_mach.specs.LookUp.{StandsInImage}
 use Rattle.goblin_mach.specs.Subjects.{ListsImageImports, ImageImportsFault, AreImageBindItems, ListsImageExports}
 use Rattle.goblin_mach.specs.Subjects.{ImageExportsFault, symbols_in, symbols_held}
-use Rattle.goblin_mach.specs.Magic.{cputype_at}
+use Rattle.mach_parts.specs.Magic.{cputype_at}
 use Rattle.goblin_mach.specs.OpenImage.{IsImage, IsLossyImage, HasFields, commands_held, segments_held, trie_held, binds_held, ctx_held, bytes_held}
 use Rattle.goblin_mach.specs.Relocations.{RelocatedSection, relocated_sections_in}
 use Rattle.goblin_mach.specs.declared.image.macho.MachO.{MachO}

@@ -14,7 +14,7 @@ use Rattle.goblin_mach.specs.FatFile.{FatFile, arch_at}
 use Rattle.goblin_mach.specs.FatEntry.{FatEntry, archive, image, entry_by, fat_entry_of, entry_at, FatEntryFault, no_entry, no_image, OpensEntry}
 use Rattle.goblin_mach.specs.Image.{ImageFault}
 use Rattle.goblin_mach.specs.OpenImage.{IsImage}
-use Rattle.goblin_mach.specs.Magic.{hint_in}
+use Rattle.mach_parts.specs.Magic.{hint_in}
 use Rattle.goblin_mach.specs.declared.fat_file.entry.SingleArch.{SingleArch}
 use Rattle.goblin_mach.specs.declared.fat_file.entry.SingleArch.TheVariants.{MachO, Archive}
 use Rattle.goblin_mach.specs.declared.image.macho.MachO as held

@@ -12,7 +12,7 @@ use Rattle.mach_parts.specs.Header.{header_in, header_front, IsHeader}
 use Rattle.mach_parts.proofs.Headers.{header-found, header-missed}
 use Rattle.goblin_mach.specs.Image.{LossyFault, short_header}
 use Rattle.mach_base.specs.Number.{number}
-use Rattle.goblin_mach.specs.Magic.{magic_at, cputype_at, ncmds_at, sizeofcmds_at}
+use Rattle.mach_parts.specs.Magic.{magic_at, cputype_at, ncmds_at, sizeofcmds_at}
 
 pub ncmds_in : (w : Container) (le : Endian) (bytes : List ℕ) (o : ℕ) → (header_in w le bytes o).ncmds ≡ number le 4 (drop (o + 16) bytes)
 ncmds_in Little le bytes o = ap (λ (p : ℕ). number le 4 (drop p bytes)) (let e : o + 4 + 4 + 4 + 4 ≡ o + 16 = omega arith in e)

@@ -18,7 +18,7 @@ use Rattle.goblin_mach.specs.Image.{short_header, too_many_commands, broken_chai
 use Rattle.goblin_mach.specs.Image.{table, ImageFault, of_lossy, unreadable, HasFatMagic, MachOpens, MachFault, no_room, of_fat, of_image}
 use Rattle.goblin_mach.specs.Subjects.{segment_by, library_by, id_by, run_path_by, table_by}
 use Rattle.goblin_mach.specs.FatFile.{fat_file_in}
-use Rattle.goblin_mach.specs.Magic.{magic_at, ctx_of, cputype_at}
+use Rattle.mach_parts.specs.Magic.{magic_at, ctx_of, cputype_at}
 use Rattle.goblin_mach.specs.Readings.{Reading, AllRead, IsUnread}
 use Rattle.goblin_mach.proofs.Chains.{broken-excludes_chain, among-front, same_chain}
 use Rattle.goblin_mach.proofs.Readings.{unread-excludes_all}

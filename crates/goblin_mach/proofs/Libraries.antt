@@ -15,7 +15,8 @@ use Rattle.std.specs.Option.{is_some}
 use Rattle.std.proofs.lemmas.Option.{slice_get-map}
 use Rattle.mach_base.specs.Answer.{◌>>=◌}
 use Rattle.mach_base.specs.Text.{text_at}
-use Rattle.goblin_mach.specs.Subjects.{name_place, is_library, library_by, libs_in, own_name_in}
+use Rattle.mach_load.specs.Subjects.{is_library}
+use Rattle.goblin_mach.specs.Subjects.{name_place, library_by, libs_in, own_name_in}
 use Rattle.goblin_mach.specs.Libraries.{NamedLibrary, LibraryView, of_ordinal, by_ordinal, counted_from, libraries_in, named_by, named_library, library_kind, dylib_of_values}
 use Rattle.goblin_mach.specs.Readings.{Reading, read_of, keep}
 

@@ -7,11 +7,12 @@ use Rattle.mach_base.proofs.Binds.{same_ok}
 use Rattle.mach_records.specs.declared.segments.SegmentCommand64.{SegmentCommand64}
 use Rattle.mach_load.specs.Command.{Command}
 use Rattle.mach_parts.specs.Header.{header_size}
-use Rattle.mach_parts.specs.Segment.{SegmentView, segment_data, segment_at, lossy_segment_at}
+use Rattle.mach_parts.specs.Segment.{SegmentView, widened, segment_data, segment_at, lossy_segment_at}
 use Rattle.goblin_mach.specs.EntryPoint.{EntryPoint, entry_point_in}
 use Rattle.goblin_mach.specs.Image.{LossyOpensAs}
-use Rattle.goblin_mach.specs.Subjects.{segment_command_by, segment_by, lossy_segment_by, binds_in, trie_in, own_name_in, libs_in, run_path_by, table_in}
-use Rattle.goblin_mach.specs.Magic.{cputype_at}
+use Rattle.mach_load.specs.Subjects.{segment_command_by}
+use Rattle.goblin_mach.specs.Subjects.{segment_by, lossy_segment_by, binds_in, trie_in, own_name_in, libs_in, run_path_by, table_in}
+use Rattle.mach_parts.specs.Magic.{cputype_at}
 use Rattle.goblin_mach.specs.OpenImage.{IsImage, IsLossyImage, HasFields, commands_held, SameFields}
 use Rattle.goblin_mach.specs.Readings.{read_of, keep, IsRead, AllRead}
 use Rattle.goblin_mach.specs.declared.image.macho.MachO.{MachO}
@@ -35,7 +36,7 @@ pub same_segments : (ctx : Ctx) (bytes : List ℕ) (cs : List Command) → AllRe
     → read_of (segment_by ctx bytes) cs ≡ read_of (lossy_segment_by ctx bytes) cs
 same_segments ctx bytes [] all = refl
 same_segments ctx bytes (c ∷ cs) all =
-    let here : segment_by ctx bytes c ≡ lossy_segment_by ctx bytes c = same_segment ctx bytes c.offset (segment_command_by c.kind c.values) all.0 in
+    let here : segment_by ctx bytes c ≡ lossy_segment_by ctx bytes c = same_segment ctx bytes c.offset (segment_command_by widened c.kind c.values) all.0 in
     ap (λ (r : Option (Result SegmentView Fault)). keep r (read_of (segment_by ctx bytes) cs)) here
     ∙ ap (keep (lossy_segment_by ctx bytes c)) (same_segments ctx bytes cs all.1)
 

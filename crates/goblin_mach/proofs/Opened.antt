@@ -9,7 +9,7 @@ use Rattle.mach_parts.specs.SymbolViews.{table_of}
 use Rattle.mach_parts.specs.declared.header.Header.{Header}
 use Rattle.mach_dyld.specs.Exports.{texts, text_in}
 use Rattle.goblin_mach.specs.EntryPoint.{entry_point_in}
-use Rattle.goblin_mach.specs.Magic.{cputype_at}
+use Rattle.mach_parts.specs.Magic.{cputype_at}
 use Rattle.goblin_mach.specs.OpenImage.{AreFields, HasFields, IsMadeOf, commands_held, commands_of}
 use Rattle.goblin_mach.specs.Subjects.{libs_in}
 use Rattle.goblin_mach.specs.declared.image.fields.Fields.{Fields}

@@ -1,13 +1,13 @@
 -- Where an image begins to run (`mach-o/loader.h`, struct entry_point_command and thread_command; dyld).
-use Rattle.std.specs.Prelude.{◌≡◌, ◌⊎◌, ℕ, ◌+◌, ◌-◌, ◌^◌, List, [], ◌∷◌, ◌++◌, map, drop, codes, nat_eq, nat_le, nat_lt, Bool, true, false, ◌&&◌, Option, Some}
+use Rattle.std.specs.Prelude.{◌≡◌, ◌⊎◌, ℕ, ◌+◌, ◌-◌, ◌^◌, List, [], ◌∷◌, ◌++◌, codes, nat_eq, nat_le, nat_lt, Bool, true, false, ◌&&◌, Option, Some}
 use Rattle.std.specs.Prelude.{None, option_map, Result, Ok, Err, if◌then◌else◌}
 use Rattle.std.specs.List.{starts_with}
 use Rattle.mach_base.specs.Answer.{◌>>=◌}
 use Rattle.mach_base.specs.Fault.{Fault, malformed}
-use Rattle.mach_base.specs.Record.{Value, number_is, bytes_are, number_among, bytes_among}
+use Rattle.mach_base.specs.Record.{Value, number_among, bytes_among}
 use Rattle.mach_load.specs.Command.{Command}
 use Rattle.mach_load.specs.Commands.{Kind, main, segment32, segment64, unixthread}
-use Rattle.mach_load.specs.ThreadState.{pointer_in}
+use Rattle.mach_load.specs.ThreadState.{pointer_in, state_words}
 use Rattle.goblin_mach.specs.Readings.{Reading, read_of, first_of, IsUnread}
 use Rattle.goblin_mach.specs.declared.image.entry.Mapping.{Mapping}
 
@@ -18,14 +18,6 @@ main_of _ values = None
 
 abbrev pub main_by : Reading ℕ
 main_by c = option_map (λ entryoff. Ok entryoff) (main_of c.kind c.values)
-
-abbrev pub number_of : Value → ℕ
-number_of (number_is n) = n
-number_of (bytes_are bs) = 0
-
--- the words of a thread's state, which stand after cmd, cmdsize, flavor and count
-abbrev pub state_words : List Value → List ℕ
-state_words values = map number_of (drop 4 values)
 
 -- the words of the thread with which an image begins
 abbrev pub thread_of : Kind → List Value → Option (List ℕ)

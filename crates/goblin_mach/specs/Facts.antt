@@ -17,7 +17,7 @@ use Rattle.goblin_mach.specs.Libraries.{LibraryView, libraries_in}
 use Rattle.goblin_mach.specs.LookUp.{StandsInImage}
 use Rattle.goblin_mach.specs.EntryPoint.{EntryPoint, entry_point_in}
 use Rattle.goblin_mach.specs.Image.{LossyOpensAs}
-use Rattle.goblin_mach.specs.Magic.{cputype_at}
+use Rattle.mach_parts.specs.Magic.{cputype_at}
 use Rattle.goblin_mach.specs.Readings.{read_of}
 use Rattle.goblin_mach.specs.Relocations.{RelocatedSection, relocated_sections_in}
 use Rattle.goblin_mach.specs.Subjects.{binds_in, ListsImageImports, ImageImportsFault, AreImageBindItems, lossy_segments_in, trie_in, ListsImageExports}

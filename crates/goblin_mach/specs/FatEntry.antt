@@ -9,7 +9,7 @@ use Rattle.mach_parts.specs.Fat.{part_of}
 use Rattle.mach_parts.specs.Items.{items_from}
 use Rattle.goblin_mach.specs.FatFile.{FatFile, arch_at, file_held}
 use Rattle.goblin_mach.specs.Image.{Opens, ImageFault}
-use Rattle.goblin_mach.specs.Magic.{hint_in}
+use Rattle.mach_parts.specs.Magic.{hint_in}
 use Rattle.goblin_mach.specs.OpenImage.{IsImage}
 use Rattle.goblin_mach.specs.declared.fat_file.entry.SingleArch.TheVariants.{MachO, Archive}
 use Rattle.goblin_mach.specs.declared.fat_file.entry.SingleArch.{SingleArch}

@@ -10,7 +10,7 @@ use Rattle.goblin_mach.specs.Chain.{IsChain, IsBroken}
 use Rattle.goblin_mach.specs.EntryPoint.{pointer_by, entry_point_in}
 use Rattle.goblin_mach.specs.FatFile.{fat_file_in}
 use Rattle.goblin_mach.specs.Subjects.{segment_by, library_by, id_by, run_path_by, table_by}
-use Rattle.goblin_mach.specs.Magic.{magic_at, cputype_at, ncmds_at, sizeofcmds_at}
+use Rattle.mach_parts.specs.Magic.{magic_at, cputype_at, ncmds_at, sizeofcmds_at}
 use Rattle.goblin_mach.specs.Readings.{AllRead, IsUnread}
 
 -- the magic at o is one of an image, of which ctx speaks, and 32 bytes are there

@@ -1,4 +1,3 @@
-pub mod Magic
 pub mod Chain
 pub mod CommandItems
 pub mod Readings

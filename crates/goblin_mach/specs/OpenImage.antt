@@ -16,7 +16,7 @@ use Rattle.mach_dyld.specs.TrieRange.{TrieRange}
 use Rattle.goblin_mach.specs.EntryPoint.{entry_point_in}
 use Rattle.goblin_mach.specs.FatFile.{fat_file_in, file_held}
 use Rattle.goblin_mach.specs.Image.{OpensAs, LossyOpensAs, HasFatMagic}
-use Rattle.goblin_mach.specs.Magic.{cputype_at}
+use Rattle.mach_parts.specs.Magic.{cputype_at}
 use Rattle.goblin_mach.specs.Readings.{Reading, read_of, said, last_or, IsRefused}
 use Rattle.goblin_mach.specs.Subjects.{table_by, id_by, trie_by, binds_by}
 use Rattle.goblin_mach.specs.Subjects.{binds_in, library_by, segment_by, lossy_segments_in, trie_in, own_name_in, libs_in, run_path_by, table_in}

@@ -6,12 +6,10 @@ use Rattle.mach_base.specs.Number.{place_after}
 use Rattle.mach_base.specs.Record.{number_among, Value}
 use Rattle.mach_base.specs.Text.{text_at}
 use Rattle.mach_base.specs.declared.context.Ctx.{Ctx}
-use Rattle.mach_records.specs.Segments.{segment_command32_of_values, segment_command64_of_values}
 use Rattle.mach_records.specs.SymbolTables.{symtab_command_of_values}
-use Rattle.mach_records.specs.declared.segments.SegmentCommand64.{SegmentCommand64}
 use Rattle.mach_load.specs.Command.{Command}
-use Rattle.mach_load.specs.Commands.{Kind, load_dylib, load_upward_dylib, reexport_dylib, load_weak_dylib, lazy_load_dylib, id_dylib, rpath, segment32}
-use Rattle.mach_load.specs.Commands.{segment64, symtab, dyld_info, dyld_info_only, dyld_exports_trie}
+use Rattle.mach_load.specs.Commands.{Kind, id_dylib, rpath, symtab, dyld_info, dyld_info_only, dyld_exports_trie}
+use Rattle.mach_load.specs.Subjects.{is_library, segment_command_by}
 use Rattle.mach_parts.specs.Segment.{SegmentView, widened, segment_at, lossy_segment_at}
 use Rattle.mach_parts.specs.SymbolViews.{table_of}
 use Rattle.mach_parts.specs.Symbols.{SymbolTable, symbols_of, table_at}
@@ -24,15 +22,6 @@ use Rattle.mach_dyld.specs.Streams.{Placed}
 use Rattle.mach_dyld.specs.Trie.{Entry}
 use Rattle.mach_dyld.specs.TrieRange.{TrieRange, empty_range, range_in, ListsExports, ExportsFault}
 use Rattle.goblin_mach.specs.Readings.{Reading, read_of, last_of}
-
--- the five commands that bring a library in
-abbrev pub is_library : Kind → Bool
-is_library load_dylib = true
-is_library load_upward_dylib = true
-is_library reexport_dylib = true
-is_library load_weak_dylib = true
-is_library lazy_load_dylib = true
-is_library _ = false
 
 -- the command that names the image itself
 abbrev pub is_id : Kind → Bool
@@ -68,19 +57,13 @@ own_name_in bytes cs = last_of (read_of (id_by bytes) cs)
 abbrev pub libs_in : List ℕ → List Command → List (List ℕ)
 libs_in bytes cs = unwrap_or (own_name_in bytes cs) (codes "self") ∷ read_of (library_by bytes) cs
 
--- a command of a segment in the wider form, if it is one
-abbrev pub segment_command_by : Kind → List Value → Option SegmentCommand64
-segment_command_by segment32 values = Some (widened (segment_command32_of_values values))
-segment_command_by segment64 values = Some (segment_command64_of_values values)
-segment_command_by _ values = None
-
 -- the segment of a command with its data, or why its data are not in the bytes
 abbrev pub segment_by : Ctx → List ℕ → Reading SegmentView
-segment_by ctx bytes c = option_map (segment_at ctx bytes c.offset) (segment_command_by c.kind c.values)
+segment_by ctx bytes c = option_map (segment_at ctx bytes c.offset) (segment_command_by widened c.kind c.values)
 
 -- the same in lossy mode, which is never refused: data that are not in the bytes are empty
 abbrev pub lossy_segment_by : Ctx → List ℕ → Reading SegmentView
-lossy_segment_by ctx bytes c = option_map (lossy_segment_at ctx bytes c.offset) (segment_command_by c.kind c.values)
+lossy_segment_by ctx bytes c = option_map (lossy_segment_at ctx bytes c.offset) (segment_command_by widened c.kind c.values)
 
 -- the segments of an image, in the order of their commands; data that are not in the bytes are empty
 abbrev pub lossy_segments_in : Ctx → List ℕ → List Command → List SegmentView

@@ -13,7 +13,6 @@ pub mod laws;
 pub mod libraries;
 pub mod mach;
 pub mod macho;
-pub mod magic;
 pub mod once;
 pub mod opened;
 pub mod readings;

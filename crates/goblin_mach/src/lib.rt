@@ -17,7 +17,6 @@ pub use crate::image::fixups::FixupIterator;
 pub use crate::image::libraries::{Library, LibraryIterator, LibraryKind};
 pub use crate::image::mach::Mach;
 pub use crate::image::macho::MachO;
-pub use crate::image::magic::{parse_magic_and_ctx, peek, peek_bytes};
 pub use crate::image::subjects::{id_place, library_place, run_path_place};
 pub use crate::view::{LinkView, link_view};
 pub use mach_base::{
@@ -28,6 +27,7 @@ pub use mach_base::{
 pub use mach_dyld::bindings::OpcodeBindingIterator;
 pub use mach_dyld::{Steps, bind_opcodes, exports, imports};
 pub use mach_parts::binding::{Binding, Provider};
+pub use mach_parts::magic::{parse_magic_and_ctx, peek, peek_bytes};
 pub use mach_parts::{fat, header, relocation, segment, symbols};
 pub use mach_records::{constants, cputype};
 

@@ -8,7 +8,7 @@ use Rattle.mach_parts.specs.Symbols.{SymbolTable}
 use Rattle.mach_parts.specs.declared.header.Header.{Header}
 use Rattle.goblin_mach.specs.EntryPoint.{entry_point_in}
 use Rattle.goblin_mach.specs.Image.{AllReadable, ImageFault, LossyFault, LossyOpens, LossyOpensAs, Opens}
-use Rattle.goblin_mach.specs.Magic.{cputype_at}
+use Rattle.mach_parts.specs.Magic.{cputype_at}
 use Rattle.goblin_mach.specs.Readings.{read_of}
 use Rattle.goblin_mach.specs.Subjects.{libs_in, lossy_segment_by, run_path_by, table_in}
 use Rattle.mach_parts.specs.Segments.{segments_in}

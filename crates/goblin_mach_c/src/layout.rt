@@ -3,7 +3,7 @@
 ghost use Rattle.std.specs.Prelude.{◌≡◌, ◌≢◌, ◌⊎◌, ℕ, drop, map, List, IfOk, IfErr};
 ghost use Rattle.mach_base.specs.Answer.{Stands, IsOkUnlessMemory};
 ghost use Rattle.mach_layout.specs.Facts.{HasLayoutFaults};
-ghost use Rattle.mach_layout.specs.declared.fault.LayoutFault as declared;
+ghost use Rattle.mach_rules.specs.declared.fault.LayoutFault as declared;
 ghost use Rattle.goblin_mach_c.specs.Codes.{IsRefusal};
 ghost use Rattle.goblin_mach_c.specs.Fill.{Fills};
 ghost use Rattle.goblin_mach_c.specs.LayoutRows as rows;

@@ -17,10 +17,10 @@ use Rattle.goblin_mach.specs.FatEntry.{FatEntry, archive, image, entry_at, entri
 use Rattle.goblin_mach.specs.OpenImage.{IsImage}
 use Rattle.goblin_mach.specs.declared.fat_file.entry.SingleArch.TheVariants as arches
 use Rattle.goblin_mach.specs.declared.image.macho.MachO.{MachO}
-use Rattle.mach_layout.proofs.OneArrangement.{one_shared}
-use Rattle.mach_layout.specs.Containers.{AreContainerFaults}
-use Rattle.mach_layout.specs.declared.fault.LayoutFault.{LayoutFault}
-use Rattle.mach_layout.specs.declared.fault.Rule.TheVariants as rule
+use Rattle.mach_rules.proofs.OneArrangement.{one_shared}
+use Rattle.mach_rules.specs.Containers.{AreContainerFaults}
+use Rattle.mach_rules.specs.declared.fault.LayoutFault.{LayoutFault}
+use Rattle.mach_rules.specs.declared.fault.Rule.TheVariants as rule
 use Rattle.goblin_mach.specs.FatFile.{FatFile, fat_file_in, arches_in}
 use Rattle.goblin_mach.specs.Image.{Opens, HasFatMagic, ImageFault, MachFault}
 use Rattle.goblin_mach.specs.View.{HasEntries, fat_table, of_file, IsTold}

@@ -31,7 +31,7 @@ use Rattle.mach_audit.specs.Sound.{HasAllRelocations, ExportsBegin, are_all_ok, 
 use Rattle.mach_audit.specs.Told.{TellsOf, TellsOfTrie, TellsRelocations, faults_in}
 use Rattle.mach_audit.specs.Verdicts.{Judges, verdict_of, verdict_of_read, verdict_of_parts, verdict_of_layout, is_clean}
 use Rattle.mach_layout.specs.Facts.{HasLayoutFaults}
-use Rattle.mach_layout.specs.declared.fault.LayoutFault.{LayoutFault}
+use Rattle.mach_rules.specs.declared.fault.LayoutFault.{LayoutFault}
 use Rattle.mach_audit.specs.declared.report.Part.{Part}
 use Rattle.mach_audit.specs.declared.report.Parts.{Parts}
 use Rattle.mach_audit.specs.declared.verdict.Verdict.TheVariants.{Sound, Unended, Faulty}

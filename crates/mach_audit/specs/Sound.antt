@@ -14,7 +14,7 @@ use Rattle.mach_parts.specs.Segment.{SegmentView, sections_of}
 use Rattle.mach_parts.specs.declared.relocation.RelocationInfo.{RelocationInfo}
 use Rattle.mach_parts.specs.declared.segment.section.Section.{Section}
 use Rattle.mach_parts.specs.declared.symbols.nlist.Nlist.{Nlist}
-use Rattle.mach_layout.specs.Containers.{AreContainerFaults}
+use Rattle.mach_rules.specs.Containers.{AreContainerFaults}
 use Rattle.mach_layout.specs.Facts.{HasLayoutFaults}
 use Rattle.goblin_mach.specs.Facts.{OfImage, HasSegments, HasSymbols, HasExports, HasImports, HasImportItems, HasFixups, HasBindings}
 use Rattle.goblin_mach.specs.FatEntry.{FatEntry, archive, image, entry_at}

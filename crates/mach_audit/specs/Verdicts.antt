@@ -1,6 +1,6 @@
 -- Whether a file is sound, by what is said of it.
 use Rattle.std.specs.Prelude.{◌≡◌, ◌==◌, ◌||◌, ◌&&◌, ℕ, Bool, not, List, [], ◌∷◌, Option, Some, None, is_some, if◌then◌else◌}
-use Rattle.mach_layout.specs.declared.fault.LayoutFault.{LayoutFault}
+use Rattle.mach_rules.specs.declared.fault.LayoutFault.{LayoutFault}
 use Rattle.mach_audit.specs.declared.report.EntryReport.TheVariants as entries
 use Rattle.mach_audit.specs.declared.report.EntryReport.{EntryReport}
 use Rattle.mach_audit.specs.declared.report.FatReport.{FatReport}

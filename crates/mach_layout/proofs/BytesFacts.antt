@@ -10,12 +10,13 @@ use Rattle.goblin_mach.specs.OpenImage.{IsLossyImage}
 use Rattle.goblin_mach.specs.declared.image.macho.MachO.{MachO}
 use Rattle.goblin_mach.proofs.Facts.{facts_are}
 use Rattle.mach_layout.specs.Bindings.{AreBindFaults, binds_told}
-use Rattle.mach_layout.specs.Claims.{claims_of}
+use Rattle.mach_rules.specs.Claims.{claims_of}
 use Rattle.mach_layout.specs.Facts.{HasClaims, HasLayoutFaults}
-use Rattle.mach_layout.specs.Faults.{AreLayoutFaults}
-use Rattle.mach_layout.specs.Laid.{Laid, laid_held}
-use Rattle.mach_layout.specs.declared.claim.Claim.{Claim}
-use Rattle.mach_layout.specs.declared.fault.LayoutFault.{LayoutFault}
+use Rattle.mach_rules.specs.Faults.{AreLayoutFaults}
+use Rattle.mach_layout.specs.Held.{laid_held}
+use Rattle.mach_rules.specs.Laid.{Laid}
+use Rattle.mach_rules.specs.declared.claim.Claim.{Claim}
+use Rattle.mach_rules.specs.declared.fault.LayoutFault.{LayoutFault}
 
 -- what the rules read, and the faults of what the opcodes bind, by what is told of an image
 abbrev laid_by : Facts → Laid

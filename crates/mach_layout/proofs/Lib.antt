@@ -1,17 +1,2 @@
-pub mod Numbers
-pub mod Furthest
-pub mod OpenClaims
-pub mod SectionItems
-pub mod OneByOne
-mod States
-mod Firsts
-pub mod Joined
-pub mod Names
-pub mod Chains
-pub mod Ahead
-pub mod Texts
 pub mod BytesFacts
-pub mod OneArrangement
 pub mod OneListOfFaults
-pub mod Slices
-pub mod OneListOfSlices

@@ -12,21 +12,21 @@ use Rattle.goblin_mach.specs.Bindings.{AreOpcodeBindings}
 use Rattle.goblin_mach.specs.Subjects.{binds_in, libs_in, lossy_segments_in}
 use Rattle.goblin_mach.proofs.Facts.{one_image}
 use Rattle.mach_layout.specs.Bindings.{binds_told}
-use Rattle.mach_layout.specs.Commands.{command_faults}
-use Rattle.mach_layout.specs.Entry.{entry_faults}
+use Rattle.mach_rules.specs.Commands.{command_faults}
+use Rattle.mach_rules.specs.Entry.{entry_faults}
 use Rattle.mach_layout.specs.Facts.{AreBindsOf, HasLayoutFaults}
-use Rattle.mach_layout.specs.Faults.{AddsSegments, AddsSections, AddsSymbols, AreLayoutFaults}
-use Rattle.mach_layout.specs.Fixups.{fixup_faults}
-use Rattle.mach_layout.specs.Laid.{Laid, laid_in}
-use Rattle.mach_layout.specs.Libraries.{text_faults}
-use Rattle.mach_layout.specs.Ranges.{out_of_file_faults, header_faults, linkedit_faults}
-use Rattle.mach_layout.specs.Sections.{section_faults}
-use Rattle.mach_layout.specs.Segments.{segment_faults, segment_order_faults, encrypted_faults}
-use Rattle.mach_layout.specs.Sweep.{AreShared}
-use Rattle.mach_layout.specs.Symbols.{symbol_faults}
-use Rattle.mach_layout.specs.declared.claim.Claim.{Claim}
-use Rattle.mach_layout.specs.declared.fault.LayoutFault.{LayoutFault}
-use Rattle.mach_layout.specs.declared.fault.Rule.{Rule}
+use Rattle.mach_rules.specs.Faults.{AddsSegments, AddsSections, AddsSymbols, AreLayoutFaults}
+use Rattle.mach_rules.specs.Fixups.{fixup_faults}
+use Rattle.mach_rules.specs.Laid.{Laid, laid_in}
+use Rattle.mach_rules.specs.Libraries.{text_faults}
+use Rattle.mach_rules.specs.Ranges.{out_of_file_faults, header_faults, linkedit_faults}
+use Rattle.mach_rules.specs.Sections.{section_faults}
+use Rattle.mach_rules.specs.Segments.{segment_faults, segment_order_faults, encrypted_faults}
+use Rattle.mach_rules.specs.Sweep.{AreShared}
+use Rattle.mach_rules.specs.Symbols.{symbol_faults}
+use Rattle.mach_rules.specs.declared.claim.Claim.{Claim}
+use Rattle.mach_rules.specs.declared.fault.LayoutFault.{LayoutFault}
+use Rattle.mach_rules.specs.declared.fault.Rule.{Rule}
 
 -- what is told of some ranges is one list
 abbrev pub OneShared : Type 0

@@ -9,11 +9,11 @@ use Rattle.goblin_mach.specs.Bindings.{AreOpcodeBindings}
 use Rattle.goblin_mach.specs.Facts.{OfImage}
 use Rattle.goblin_mach.specs.Subjects.{binds_in, libs_in, lossy_segments_in}
 use Rattle.mach_layout.specs.Bindings.{binds_told}
-use Rattle.mach_layout.specs.Claims.{claims_of}
-use Rattle.mach_layout.specs.Faults.{AreLayoutFaults}
-use Rattle.mach_layout.specs.Laid.{laid_in}
-use Rattle.mach_layout.specs.declared.claim.Claim.{Claim}
-use Rattle.mach_layout.specs.declared.fault.LayoutFault.{LayoutFault}
+use Rattle.mach_rules.specs.Claims.{claims_of}
+use Rattle.mach_rules.specs.Faults.{AreLayoutFaults}
+use Rattle.mach_rules.specs.Laid.{laid_in}
+use Rattle.mach_rules.specs.declared.claim.Claim.{Claim}
+use Rattle.mach_rules.specs.declared.fault.LayoutFault.{LayoutFault}
 
 -- these are the faults of what the opcodes of an image bind, over its libraries and its segments
 abbrev pub AreBindsOf : List ℕ → Ctx → List Command → List LayoutFault → Type 0

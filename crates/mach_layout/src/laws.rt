@@ -3,15 +3,15 @@
 ghost use Rattle.std.specs.Prelude.{◌≡◌, ◌↔◌, ℕ, List};
 ghost use Rattle.goblin_mach.specs.OpenImage.{IsImage, IsLossyImage};
 ghost use Rattle.mach_layout.specs.Bindings.{AreBindFaults};
-ghost use Rattle.mach_layout.specs.Claims.{claims_of};
-ghost use Rattle.mach_layout.specs.Containers.{AreContainerFaults};
 ghost use Rattle.mach_layout.specs.Facts.{HasClaims, HasLayoutFaults};
-ghost use Rattle.mach_layout.specs.Faults.{AreLayoutFaults};
-ghost use Rattle.mach_layout.specs.Laid.{laid_held};
-ghost use Rattle.mach_layout.specs.declared.claim.Claim.{Claim};
-ghost use Rattle.mach_layout.specs.declared.fault.LayoutFault.{LayoutFault};
+ghost use Rattle.mach_layout.specs.Held.{laid_held};
+ghost use Rattle.mach_rules.specs.Claims.{claims_of};
+ghost use Rattle.mach_rules.specs.Faults.{AreLayoutFaults};
+ghost use Rattle.mach_rules.specs.declared.claim.Claim.{Claim};
+ghost use Rattle.mach_rules.specs.declared.fault.LayoutFault.{LayoutFault};
 
 use goblin_mach::MachO;
+pub use mach_rules::laws::one_list_of_container_faults;
 use std::alloc::Allocator;
 
 /// The claims that `claims` gives are those of the bytes.
@@ -34,8 +34,3 @@ pub fn one_list_of_layout_faults()
 {
     mach_dyld::laws::one_list_of_bindings();
 }
-
-/// A fat file has one list of faults of its table: where it has one, it has no other.
-pub fn one_list_of_container_faults()
-    ensures { (bytes : List ℕ) (list others : List LayoutFault) → AreContainerFaults bytes list → AreContainerFaults bytes others → list ≡ others }
-{}

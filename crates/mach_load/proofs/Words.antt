@@ -1,10 +1,16 @@
 -- The words of a thread's state, one after the other.
-use Rattle.std.proofs.Common.{◌≡◌, ℕ, zero, suc, ◌+◌, ◌-◌, ◌*◌, ◌<◌, List, [], ◌∷◌, ◌++◌, length, drop, replicate, refl, ap, ◌∙◌, arith, add-one}
+use Rattle.std.proofs.Common.{◌≡◌, ℕ, zero, suc, ◌+◌, ◌-◌, ◌*◌, ◌<◌, List, [], ◌∷◌, ◌++◌, length, drop, map, replicate, refl, ap, ◌∙◌, arith, add-one}
 use Rattle.std.specs.Prelude.{slice_set}
 use Rattle.std.proofs.lemmas.List.{length-append}
 use Rattle.mach_base.specs.declared.context.Endian.{Endian}
 use Rattle.mach_base.specs.Number.{number}
-use Rattle.mach_load.specs.ThreadState.{words_at}
+use Rattle.mach_base.specs.Record.{number_is}
+use Rattle.mach_load.specs.ThreadState.{words_at, number_of}
+
+-- the numbers of words are the words
+pub words_back : (words : List ℕ) → map number_of (map number_is words) ≡ words
+words_back [] = refl
+words_back (w ∷ ws) = ap (λ (rest : List ℕ). w ∷ rest) (words_back ws)
 
 length-words : (le : Endian) (bytes : List ℕ) (place n : ℕ) → length (words_at le bytes place n) ≡ n
 length-words le bytes place zero = refl

@@ -6,7 +6,7 @@ use Rattle.mach_base.specs.declared.context.Endian.{Endian}
 use Rattle.mach_base.specs.Answer.{◌>>=◌}
 use Rattle.mach_base.specs.Fault.{Fault, malformed}
 use Rattle.mach_base.specs.Number.{number}
-use Rattle.mach_base.specs.Record.{Field, num, Value, number_is, number_among, record_at}
+use Rattle.mach_base.specs.Record.{Field, num, Value, number_is, bytes_are, number_among, record_at}
 use Rattle.mach_load.specs.declared.thread.ThreadCommand.{ThreadCommand}
 
 -- cmd, cmdsize, flavor and count, which stand before the words
@@ -24,6 +24,14 @@ state_at le bytes place count = words_at le bytes place count ++ replicate (70 -
 
 abbrev pub thread_values : ThreadCommand → List Value
 thread_values t = number_is t.cmd ∷ number_is t.cmdsize ∷ number_is t.flavor ∷ number_is t.count ∷ map number_is t.thread_state
+
+abbrev pub number_of : Value → ℕ
+number_of (number_is n) = n
+number_of (bytes_are bs) = 0
+
+-- the words of a thread's state, which stand after cmd, cmdsize, flavor and count
+abbrev pub state_words : List Value → List ℕ
+state_words values = map number_of (drop 4 values)
 
 -- the state behind its head, which says how many words stand there
 abbrev pub state_behind : Endian → List ℕ → ℕ → List Value → Result (List Value) Fault

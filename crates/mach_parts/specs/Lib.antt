@@ -15,3 +15,4 @@ pub mod SegmentLending
 pub mod Symbols
 pub mod SymbolViews
 pub mod Bindings
+pub mod Magic

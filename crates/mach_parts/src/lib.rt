@@ -1,4 +1,4 @@
-//! The parts of an image: headers, fat records, segments, sections, relocations and symbols.
+//! The parts of an image: magics, headers, fat records, segments, sections, relocations and symbols.
 #![tactic(auto)]
 
 pub mod binding;
@@ -7,6 +7,7 @@ pub mod fat;
 pub mod header;
 pub mod laws;
 mod low_bits;
+pub mod magic;
 pub mod relocation;
 pub mod segment;
 pub mod symbols;

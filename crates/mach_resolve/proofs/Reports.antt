@@ -6,7 +6,7 @@ use Rattle.mach_base.specs.Fault.{Fault}
 use Rattle.mach_base.specs.declared.error.Error.{Error}
 use Rattle.mach_base.specs.declared.error.Error.TheVariants.{Malformed, BadMagic, Scroll, BufferTooShort, Memory}
 use Rattle.goblin_mach.specs.Image.{ImageFault, MachFault}
-use Rattle.goblin_mach.specs.Magic.{begins_archive}
+use Rattle.mach_parts.specs.Magic.{begins_archive}
 use Rattle.goblin_mach.specs.View.{Tells}
 use Rattle.mach_resolve.specs.Cpu as cpu
 use Rattle.mach_resolve.specs.Cpu.{IsOfCpu, ForFault}

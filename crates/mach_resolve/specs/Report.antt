@@ -6,7 +6,7 @@ use Rattle.mach_base.specs.declared.error.Error.{Error}
 use Rattle.mach_parts.specs.declared.fat.FatArch.{FatArch}
 use Rattle.goblin_mach.specs.FatFile.{FatFile, fat_file_in, arches_in}
 use Rattle.goblin_mach.specs.Image.{ImageFault, HasFatMagic, MachFault}
-use Rattle.goblin_mach.specs.Magic.{begins_archive}
+use Rattle.mach_parts.specs.Magic.{begins_archive}
 use Rattle.goblin_mach.specs.View.{Tells}
 use Rattle.mach_resolve.specs.Answers.{Answer, is_settled}
 use Rattle.mach_resolve.specs.Cpu.{IsOfCpu, entry_bytes, FindsRecord, ForFault}

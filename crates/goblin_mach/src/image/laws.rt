@@ -11,9 +11,9 @@ ghost use Rattle.goblin_mach.specs.Image.{Opens, LossyOpens};
 ghost use Rattle.goblin_mach.specs.OpenImage.{IsImage, IsLossyImage, SameFields};
 
 use crate::image::macho::MachO;
-use crate::image::magic::parse_magic_and_ctx;
 use mach_base::{Ctx, Result, TryIntoCtx};
 use mach_parts::header::Header;
+use mach_parts::magic::parse_magic_and_ctx;
 use std::alloc::Allocator;
 
 /// At most one chain of so many load commands stands at a place.

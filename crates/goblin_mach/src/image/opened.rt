@@ -5,14 +5,14 @@ ghost use Rattle.mach_base.specs.Answer.{Stands};
 ghost use Rattle.mach_parts.specs.Header.{IsHeader};
 ghost use Rattle.goblin_mach.specs.EntryPoint.{entry_point_in};
 ghost use Rattle.goblin_mach.specs.Image.{HasHeader, CountsFit, LossyOpensAs, LossyFault};
-ghost use Rattle.goblin_mach.specs.Magic.{cputype_at, ncmds_at};
+ghost use Rattle.mach_parts.specs.Magic.{cputype_at, ncmds_at};
 
 use crate::image::commands::read_commands;
 use crate::image::entry::entry;
-use crate::image::magic::parse_magic_and_ctx;
 use mach_base::{Ctx, Error, Result, SizeWith, pread_with};
 use mach_load::LoadCommand;
 use mach_parts::header::Header;
+use mach_parts::magic::parse_magic_and_ctx;
 use std::alloc::Allocator;
 
 /// What strict and lossy mode read alike.

@@ -4,7 +4,8 @@
 ghost use Rattle.std.specs.Prelude.{◌≡◌, List, ℕ, Some, None, if◌then◌else◌};
 ghost use Rattle.mach_base.specs.Number.{place_after};
 ghost use Rattle.mach_load.specs.Variants.{command_of};
-ghost use Rattle.goblin_mach.specs.Subjects.{is_library, is_id, is_run_path, name_place, library_by, id_by, run_path_by, table_by};
+ghost use Rattle.mach_load.specs.Subjects.{is_library};
+ghost use Rattle.goblin_mach.specs.Subjects.{is_id, is_run_path, name_place, library_by, id_by, run_path_by, table_by};
 
 use crate::image::readings::Subject;
 use mach_base::{Ctx, Result, read_text};

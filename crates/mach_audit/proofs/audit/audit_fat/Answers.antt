@@ -1,7 +1,7 @@
 use Rattle.std.proofs.Common.{◌≡◌, min, nat_lt, refl, arith}
 use Rattle.std.specs.Prelude.{IsOk}
 use Rattle.goblin_mach.specs.FatFile.{arches_in, file_held}
-use Rattle.mach_layout.specs.Containers.{AreContainerFaults}
+use Rattle.mach_rules.specs.Containers.{AreContainerFaults}
 use Rattle.mach_audit.proofs.Entries.{entries_more, no_entries_judged, fat_file_judged, refused_table_judged, one_container}
 use Rattle.mach_audit.proofs.Images.{layout_judged, alike}
 use Rattle.mach_audit.proofs.Verdicts.{both_judged}

@@ -3,7 +3,7 @@ use Rattle.std.proofs.lemmas.List.{append-nil}
 use Rattle.std.specs.List.{cons_option}
 use Rattle.mach_dyld.specs.BindingsLeft.{bindings_left}
 use Rattle.mach_layout.specs.Bindings.{binds_told}
-use Rattle.mach_layout.specs.Laid.{laid_held}
+use Rattle.mach_layout.specs.Held.{laid_held}
 use Rattle.mach_layout.proofs.bindings.bind_faults.Goals as goal
 use Rattle.mach_layout.proofs.bindings.bind_faults.Goals.{in-Some+in_ok-push, in_default}
 
@@ -11,7 +11,7 @@ pub returns-clause-told : goal.returns-clause-told
 returns-clause-told g c =
     let items = bindings_left c.opcode_bindings.result in
     let old = c.args.faults.now.items in
-    let told = c.binds_told.ensures ∙ ap (λ laid. binds_told laid items) c.of.ensures in (
+    let told = c.binds_told.ensures ∙ ap (λ laid. binds_told laid items) c.layout_of.ensures in (
       binds_told (laid_held c.args.image.now) items,
       (items, c.opcode_bindings.ensures, refl),
       elim c.match-binds_told.branch [

@@ -1,14 +1,14 @@
 use Rattle.std.proofs.Common.{List, subst}
 use Rattle.mach_layout.specs.Bindings.{AreBindFaults}
-use Rattle.mach_layout.specs.Faults.{AreLayoutFaults, AddsSegments}
-use Rattle.mach_layout.specs.Laid.{Laid, laid_of}
-use Rattle.mach_layout.specs.declared.fault.LayoutFault.{LayoutFault}
+use Rattle.mach_rules.specs.Faults.{AreLayoutFaults, AddsSegments}
+use Rattle.mach_rules.specs.Laid.{Laid, laid_of}
+use Rattle.mach_rules.specs.declared.fault.LayoutFault.{LayoutFault}
 use Rattle.mach_layout.proofs.faults.layout_faults.Goals as goal
 
 pub returns-clause-listed : goal.returns-clause-listed
 returns-clause-listed g c =
-    let laid = laid_of c.of-layout.result in
-    subst (λ (here : Laid). AreLayoutFaults here (AreBindFaults c.args.image.now) c.add_symbols.new.faults.items) c.of-layout.ensures
+    let laid = laid_of c.layout_of-layout.result in
+    subst (λ (here : Laid). AreLayoutFaults here (AreBindFaults c.args.image.now) c.add_all_symbols.new.faults.items) c.layout_of-layout.ensures
     (record {
       of_segments = c.add_segments.new.faults.items;
       of_sections = c.add_sections.new.faults.items;
@@ -16,5 +16,5 @@ returns-clause-listed g c =
           subst (λ (old : List LayoutFault). AddsSegments laid old c.add_segments.new.faults.items) c.new-faults.ensures.items
           c.in_ok-add_segments.ensures.told;
       sections = c.in_ok-add_sections.ensures.told;
-      symbols = c.in_ok-add_symbols.ensures.told;
+      symbols = c.in_ok-add_all_symbols.ensures.told;
     })

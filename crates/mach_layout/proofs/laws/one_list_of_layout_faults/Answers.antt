@@ -1,4 +1,4 @@
-use Rattle.mach_layout.proofs.OneArrangement.{one_shared}
+use Rattle.mach_rules.proofs.OneArrangement.{one_shared}
 use Rattle.mach_layout.proofs.OneListOfFaults.{one_list}
 use Rattle.mach_layout.proofs.laws.one_list_of_layout_faults.Goals as goal
 

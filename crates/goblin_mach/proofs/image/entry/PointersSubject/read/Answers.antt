@@ -1,6 +1,7 @@
 use Rattle.std.proofs.Common.{◌∙◌, List, ℕ, Some, sym, ap}
 use Rattle.mach_load.specs.ThreadState.{pointer_in}
-use Rattle.goblin_mach.proofs.Entries.{words_back, seen_read}
+use Rattle.mach_load.proofs.Words.{words_back}
+use Rattle.goblin_mach.proofs.Entries.{seen_read}
 use Rattle.goblin_mach.proofs.image.entry.PointersSubject.read.Goals as goal
 
 pub returns-in-Unixthread : goal.returns-in-Unixthread

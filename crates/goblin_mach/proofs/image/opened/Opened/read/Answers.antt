@@ -2,7 +2,7 @@ use Rattle.std.proofs.Common.{arith, map, inl, inr, refl}
 use Rattle.mach_load.specs.Variants.{command_of}
 use Rattle.goblin_mach.specs.EntryPoint.{EntryPointFault}
 use Rattle.goblin_mach.specs.Image.{LossyFault, HasFront, HasWholeChain, broken_chain, unknown_thread, no_entry_point}
-use Rattle.goblin_mach.specs.Magic.{cputype_at}
+use Rattle.mach_parts.specs.Magic.{cputype_at}
 use Rattle.goblin_mach.proofs.Exits.{exit_in}
 use Rattle.goblin_mach.proofs.image.opened.Opened.read.Goals as goal
 

@@ -1,0 +1,15 @@
+pub mod Numbers
+pub mod Furthest
+pub mod OpenClaims
+pub mod SectionItems
+pub mod OneByOne
+mod States
+mod Firsts
+pub mod Joined
+pub mod Names
+pub mod Chains
+pub mod Ahead
+pub mod Texts
+pub mod OneArrangement
+pub mod Slices
+pub mod OneListOfSlices

@@ -1,0 +1,24 @@
+use Rattle.std.proofs.Common.{◌++◌, ap, ◌∙◌}
+use Rattle.mach_rules.specs.Laid.{laid_of}
+use Rattle.mach_rules.specs.Ranges.{header_faults, linkedit_faults}
+use Rattle.mach_rules.specs.Segments.{encrypted_faults}
+use Rattle.mach_rules.proofs.faults.add_sections.Goals as goal
+
+pub returns-clause-told : goal.returns-clause-told
+returns-clause-told g c =
+    let laid = laid_of c.args.layout.now in
+    let sections = c.in_ok-sections_shared.ensures.told in
+    let claims = c.in_ok-claims_shared.ensures.told in
+    record {
+      sections = sections.0;
+      claims = claims.0;
+      sections_shared = sections.1;
+      claims_shared = claims.1;
+      joined =
+          c.in_ok-encrypted_faults.ensures.told
+          ∙ ap (λ fs. fs ++ encrypted_faults laid) (c.in_ok-linkedit_faults.ensures.told
+          ∙ ap (λ fs. fs ++ linkedit_faults laid) (c.in_ok-header_faults.ensures.told
+          ∙ ap (λ fs. fs ++ header_faults laid) (claims.2
+          ∙ ap (λ fs. fs ++ claims.0) (sections.2
+          ∙ ap (λ fs. fs ++ sections.0) c.in_ok-section_faults.ensures.told))));
+    }

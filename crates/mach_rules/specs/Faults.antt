@@ -1,0 +1,46 @@
+-- The faults of the layout of an image: those of each rule, in order.
+use Rattle.std.specs.Prelude.{◌≡◌, ◌++◌, List, []}
+use Rattle.mach_rules.specs.Commands.{command_faults}
+use Rattle.mach_rules.specs.Entry.{entry_faults}
+use Rattle.mach_rules.specs.Fixups.{fixup_faults}
+use Rattle.mach_rules.specs.Laid.{Laid}
+use Rattle.mach_rules.specs.Libraries.{text_faults}
+use Rattle.mach_rules.specs.Ranges.{out_of_file_faults, memory_ranges, file_ranges, section_ranges, lone_claims, header_faults, linkedit_faults}
+use Rattle.mach_rules.specs.Sections.{section_faults}
+use Rattle.mach_rules.specs.Segments.{segment_faults, segment_order_faults, encrypted_faults}
+use Rattle.mach_rules.specs.Sweep.{AreShared}
+use Rattle.mach_rules.specs.Symbols.{symbol_faults}
+use Rattle.mach_rules.specs.declared.fault.LayoutFault.{LayoutFault}
+use Rattle.mach_rules.specs.declared.fault.Rule.TheVariants as rule
+
+-- behind some faults those of the commands, of what is out of the file, and of the segments
+pub record AddsSegments (laid : Laid) (old new : List LayoutFault) : Type 0 where
+  pub memory : List LayoutFault
+  pub files : List LayoutFault
+  pub memory_shared : AreShared rule.SegmentsShareMemory (memory_ranges laid) memory
+  pub files_shared : AreShared rule.SegmentsShareFile (file_ranges laid) files
+  pub joined : new
+      ≡ old ++ command_faults laid ++ out_of_file_faults laid ++ segment_faults laid ++ memory ++ files ++ segment_order_faults laid
+
+-- behind some faults those of the sections, of the claims, and of what is in __LINKEDIT or encrypted
+pub record AddsSections (laid : Laid) (old new : List LayoutFault) : Type 0 where
+  pub sections : List LayoutFault
+  pub claims : List LayoutFault
+  pub sections_shared : AreShared rule.SectionsShareMemory (section_ranges laid) sections
+  pub claims_shared : AreShared rule.ClaimsShare (lone_claims laid) claims
+  pub joined : new
+      ≡ old ++ section_faults laid ++ sections ++ claims ++ header_faults laid ++ linkedit_faults laid ++ encrypted_faults laid
+
+-- behind some faults those of the symbols, of the entry, of texts, of what dyld binds, which are these, and of fixups
+pub record AddsSymbols (laid : Laid) (AreBinds : List LayoutFault → Type 0) (old new : List LayoutFault) : Type 0 where
+  pub binds : List LayoutFault
+  pub are_binds : AreBinds binds
+  pub joined : new ≡ old ++ symbol_faults laid ++ entry_faults laid ++ text_faults laid ++ binds ++ fixup_faults laid
+
+-- the faults of the layout of an image, of which those of what dyld binds are these
+pub record AreLayoutFaults (laid : Laid) (AreBinds : List LayoutFault → Type 0) (list : List LayoutFault) : Type 0 where
+  pub of_segments : List LayoutFault
+  pub of_sections : List LayoutFault
+  pub segments : AddsSegments laid [] of_segments
+  pub sections : AddsSections laid of_segments of_sections
+  pub symbols : AddsSymbols laid AreBinds of_sections list

@@ -1,0 +1,75 @@
+//! The faults of the layout of an image, but for those of what dyld binds by opcodes.
+
+ghost use Rattle.std.specs.Prelude.{◌≡◌, ◌++◌, OnOk};
+ghost use Rattle.mach_base.specs.Answer.{IsOkUnlessMemory};
+ghost use Rattle.mach_rules.specs.Entry as entry;
+ghost use Rattle.mach_rules.specs.Faults.{AddsSegments, AddsSections};
+ghost use Rattle.mach_rules.specs.Laid.{laid_of};
+ghost use Rattle.mach_rules.specs.Libraries as texts;
+ghost use Rattle.mach_rules.specs.Symbols as symbols;
+
+use crate::commands::command_faults;
+use crate::entry::entry_faults;
+use crate::fault::LayoutFault;
+use crate::layout::Layout;
+use crate::libraries::text_faults;
+use crate::ranges::{
+    claims_shared, files_shared, header_faults, linkedit_faults, memory_shared, out_of_file_faults,
+    sections_shared,
+};
+use crate::sections::section_faults;
+use crate::segments::{encrypted_faults, segment_faults, segment_order_faults};
+use crate::symbols::symbol_faults;
+use mach_base::Result;
+use std::alloc::Allocator;
+
+/// Adds the faults of the commands, of what is out of the file, and of the segments.
+pub fn add_segments<B: Allocator + Clone>(
+    faults: &mut Vec<LayoutFault, B>,
+    alloc: &B,
+    layout: &Layout<'_, '_>,
+) -> Result<()>
+    ensures told { OnOk result (AddsSegments (laid_of layout.now) faults.old.items faults.new.items) }
+    ensures only { IsOkUnlessMemory result }
+{
+    command_faults(faults, layout)?;
+    out_of_file_faults(faults, layout)?;
+    segment_faults(alloc.clone()?, faults, layout)?;
+    memory_shared(faults, alloc.clone()?, layout)?;
+    files_shared(faults, alloc.clone()?, layout)?;
+    segment_order_faults(faults, layout)?;
+    Ok(())
+}
+
+/// Adds those of the sections, of the claims, and of what is in `__LINKEDIT` or encrypted.
+pub fn add_sections<B: Allocator + Clone>(
+    faults: &mut Vec<LayoutFault, B>,
+    alloc: &B,
+    layout: &Layout<'_, '_>,
+) -> Result<()>
+    ensures told { OnOk result (AddsSections (laid_of layout.now) faults.old.items faults.new.items) }
+    ensures only { IsOkUnlessMemory result }
+{
+    section_faults(faults, layout)?;
+    sections_shared(faults, alloc.clone()?, layout)?;
+    claims_shared(faults, alloc.clone()?, layout)?;
+    header_faults(faults, layout)?;
+    linkedit_faults(faults, layout)?;
+    encrypted_faults(faults, layout)?;
+    Ok(())
+}
+
+/// Adds those of the symbols, of the entry and of texts.
+pub fn add_symbols<B: Allocator>(
+    faults: &mut Vec<LayoutFault, B>,
+    layout: &Layout<'_, '_>,
+) -> Result<()>
+    ensures told { let laid = laid_of layout.now in OnOk result (faults.new.items
+        ≡ faults.old.items ++ symbols.symbol_faults laid ++ entry.entry_faults laid ++ texts.text_faults laid) }
+    ensures only { IsOkUnlessMemory result }
+{
+    symbol_faults(faults, layout)?;
+    entry_faults(faults, layout)?;
+    text_faults(faults, layout)?;
+    Ok(())
+}
