@@ -25,13 +25,7 @@ library_by : (pointer : ℕ) (r : Range) (back : List Placed) (i : Instruction) 
     → (set_by i (after - r.from) (bind_after pointer r back 0)).library ≡ last_setting 0 library_in (at_byte place i after ∷ back)
 unfolding set_by bind_after moved
 library_by pointer r back done place after = refl
-library_by pointer r back (library n) place after = refl
-library_by pointer r back (symbol flags name) place after = refl
-library_by pointer r back (addend n) place after = refl
-library_by pointer r back (segment k n) place after = refl
-library_by pointer r back (advance n) place after = refl
-library_by pointer r back (binds count skip) place after = refl
-library_by pointer r back nothing place after = refl
+library_by pointer r back _ place after = refl
 
 abbrev given_by : ℤ → ℕ → Bool → Bool → Bool → Given
 given_by o k h n s = record { ordinal = o; kind = k; has_ordinal = h; has_name = n; has_segment = s }

@@ -524,6 +524,13 @@ fn faults_of_binds(rt: HostRuntime) -> Result<(), Fail> {
             INCOMPLETE,
         ),
         (
+            "no ordinal",
+            b"\x51\x70\x00\x40_n\x00\x90\x00",
+            1,
+            "",
+            "machresolve: the program: malformed: a bind has an ordinal\n",
+        ),
+        (
             "half a pointer out of its segment",
             b"\x51\x70\xfc\x1f\x11\x40_n\x00\x90\x00",
             1,
