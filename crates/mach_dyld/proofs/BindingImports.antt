@@ -2,9 +2,9 @@
 use Rattle.mach_dyld.proofs.Names.{◌≡◌, ◌≢◌, ◌⊎◌, inl, inr, ℕ, ℤ, zero, suc, ◌+◌, ◌-◌, ◌*◌, ◌%◌, ◌^◌, ◌<◌, ◌≤◌, List, [], ◌∷◌, ◌++◌, map, Bool, true, false}
 use Rattle.mach_dyld.proofs.Names.{Option, Some, None, Result, Ok, Err, refl, reverse, nat_lt, cases_eq, cases_Bool, ◌>>=◌, append_assoc, append-nil, bind_ok}
 use Rattle.mach_dyld.proofs.Names.{sym, ap, ◌∙◌, pos, cond, slice_get, range_with_len, filter_map, cons_option, AllByRecursion, IfOk, subst, same_ok, lt-ltb}
-use Rattle.mach_dyld.proofs.Names.{arith, ◌==◌, ne_eqb, bit_and, Fault, malformed, holding, SegmentView, Input, Range, Reader, StandsBy, AllStandBy, StopsBy}
-use Rattle.mach_dyld.proofs.Names.{Placed, Instruction, Follow, stream_end, fault_item, upto_fault, all_from, row_at, instruction_at}
-use Rattle.mach_dyld.proofs.Names.{done, library, symbol, addend, segment, advance, binds, byte_at, Bind, bind_after, binds_at, advances, advance_in, reached}
+use Rattle.mach_dyld.proofs.Names.{arith, ◌==◌, ne_eqb, bit_and, Fault, malformed, holding, SegmentView, Input, Range, Reader, AllStandBy, StopsBy}
+use Rattle.mach_dyld.proofs.Names.{Placed, Instruction, Follow, stream_end, fault_item, upto_fault, all_from, row_at}
+use Rattle.mach_dyld.proofs.Names.{done, library, symbol, segment, binds, byte_at, Bind, bind_after, binds_at, advances, advance_in, reached}
 use Rattle.mach_dyld.proofs.Names.{flags_in, symbol_name_in, addend_in, segment_in, offset_in, sets_segment, count_in, sequence_of, Target, import_with}
 use Rattle.mach_dyld.proofs.Names.{is_done, nearer_than, nearest_or, last_setting, library_in, Import, import_of, imports_in, target_of}
 use Rattle.std.proofs.lemmas.List.Elements.{filter_map-append}
