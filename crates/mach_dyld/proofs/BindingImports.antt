@@ -2,9 +2,9 @@
 use Rattle.mach_dyld.proofs.Names.{◌≡◌, ◌≢◌, ◌⊎◌, inl, inr, ℕ, ℤ, zero, suc, ◌+◌, ◌-◌, ◌*◌, ◌%◌, ◌^◌, ◌<◌, ◌≤◌, List, [], ◌∷◌, ◌++◌, map, Bool, true, false}
 use Rattle.mach_dyld.proofs.Names.{Option, Some, None, Result, Ok, Err, refl, reverse, nat_lt, cases_eq, cases_Bool, ◌>>=◌, append_assoc, append-nil, bind_ok}
 use Rattle.mach_dyld.proofs.Names.{sym, ap, ◌∙◌, pos, cond, slice_get, range_with_len, filter_map, cons_option, AllByRecursion, IfOk, subst, same_ok, lt-ltb}
-use Rattle.mach_dyld.proofs.Names.{arith, ◌==◌, ne_eqb, bit_and, Fault, malformed, holding, SegmentView, Input, Range, Reader, StandsBy, AllStandBy, StopsBy}
-use Rattle.mach_dyld.proofs.Names.{Placed, Instruction, Follow, stream_end, fault_item, upto_fault, all_from, row_at, instruction_at}
-use Rattle.mach_dyld.proofs.Names.{done, library, symbol, addend, segment, advance, binds, byte_at, Bind, bind_after, binds_at, advances, advance_in, reached}
+use Rattle.mach_dyld.proofs.Names.{arith, ◌==◌, ne_eqb, bit_and, Fault, malformed, holding, SegmentView, Input, Range, Reader, AllStandBy, StopsBy}
+use Rattle.mach_dyld.proofs.Names.{Placed, Instruction, Follow, stream_end, fault_item, upto_fault, all_from, row_at}
+use Rattle.mach_dyld.proofs.Names.{done, library, symbol, segment, binds, byte_at, Bind, bind_after, binds_at, advances, advance_in, reached}
 use Rattle.mach_dyld.proofs.Names.{flags_in, symbol_name_in, addend_in, segment_in, offset_in, sets_segment, count_in, sequence_of, Target, import_with}
 use Rattle.mach_dyld.proofs.Names.{is_done, nearer_than, nearest_or, last_setting, library_in, Import, import_of, imports_in, target_of}
 use Rattle.std.proofs.lemmas.List.Elements.{filter_map-append}
@@ -49,14 +49,9 @@ as_ordinal (Some n) = Some (pos n)
 
 library_alone : (place after : ℕ) (i : Instruction) (there : Result ℕ Fault) → PlainByte there
     → ordinal_by i there ≡ as_ordinal (library_in (record { place = place; instruction = i; after = after }))
-library_alone place after done there h = refl
 library_alone place after (library n) there h = refl
-library_alone place after (symbol flags name) there h = refl
-library_alone place after (addend n) there h = refl
-library_alone place after (segment k n) there h = refl
-library_alone place after (advance n) there h = refl
-library_alone place after (binds count skip) there h = refl
 library_alone place after nothing there h = no_special there h
+library_alone place after _ there h = refl
 
 abbrev Plain : List ℕ → List Placed → Type 0
 Plain bytes ps = AllByRecursion (IsPlain bytes) ps
@@ -93,13 +88,7 @@ still_held len offset s more e =
 
 abbrev undone_of : Instruction → Instruction
 undone_of done = nothing
-undone_of (library n) = library n
-undone_of (symbol flags name) = symbol flags name
-undone_of (addend n) = addend n
-undone_of (segment k n) = segment k n
-undone_of (advance n) = advance n
-undone_of (binds count skip) = binds count skip
-undone_of nothing = nothing
+undone_of i = i
 
 abbrev undone : Placed → Placed
 undone p = record { place = p.place; instruction = undone_of p.instruction; after = p.after }
@@ -107,33 +96,15 @@ undone p = record { place = p.place; instruction = undone_of p.instruction; afte
 -- it has what both have
 undone-same : {A : Type 0} (f : Instruction → A) → f nothing ≡ f done → (i : Instruction) → f (undone_of i) ≡ f i
 undone-same {A} f e done = e
-undone-same {A} f e (library n) = refl
-undone-same {A} f e (symbol flags name) = refl
-undone-same {A} f e (addend n) = refl
-undone-same {A} f e (segment k n) = refl
-undone-same {A} f e (advance n) = refl
-undone-same {A} f e (binds count skip) = refl
-undone-same {A} f e nothing = refl
+undone-same {A} f e _ = refl
 
 never_done : (i : Instruction) → done_is (undone_of i) ≡ false
 never_done done = refl
-never_done (library n) = refl
-never_done (symbol flags name) = refl
-never_done (addend n) = refl
-never_done (segment k n) = refl
-never_done (advance n) = refl
-never_done (binds count skip) = refl
-never_done nothing = refl
+never_done _ = refl
 
 undone_keeps : (i : Instruction) → done_is i ≡ false → undone_of i ≡ i
 undone_keeps done h = absurd (cc)
-undone_keeps (library n) h = refl
-undone_keeps (symbol flags name) h = refl
-undone_keeps (addend n) h = refl
-undone_keeps (segment k n) h = refl
-undone_keeps (advance n) h = refl
-undone_keeps (binds count skip) h = refl
-undone_keeps nothing h = refl
+undone_keeps _ h = refl
 
 undone_is : (p : Placed) → is_done p ≡ false → undone p ≡ p
 undone_is p h = ap (λ i. record { place = p.place; instruction = i; after = p.after }) (undone_keeps p.instruction h)
@@ -217,34 +188,16 @@ alike {A} {B} f g h (p ∷ ps) e =
     ap (λ o. cons_option o (filter_map (λ (q : Placed). f q.instruction) ps)) (h p.instruction c.0) ∙ alike f g h ps c.1
 
 name_alike : (i : Instruction) → flags_of i ≡ None → symbol_name_of i ≡ None
-name_alike done e = refl
-name_alike (library n) e = refl
 name_alike (symbol flags name) e = absurd (cc)
-name_alike (addend n) e = refl
-name_alike (segment k n) e = refl
-name_alike (advance n) e = refl
-name_alike (binds count skip) e = refl
-name_alike nothing e = refl
+name_alike _ e = refl
 
 offset_alike : (i : Instruction) → segment_offset_of i ≡ None → segment_of i ≡ None
-offset_alike done e = refl
-offset_alike (library n) e = refl
-offset_alike (symbol flags name) e = refl
-offset_alike (addend n) e = refl
 offset_alike (segment k n) e = absurd (cc)
-offset_alike (advance n) e = refl
-offset_alike (binds count skip) e = refl
-offset_alike nothing e = refl
+offset_alike _ e = refl
 
 set_segment : (i : Instruction) → segment_is i ≡ false → segment_of i ≡ None
-set_segment done e = refl
-set_segment (library n) e = refl
-set_segment (symbol flags name) e = refl
-set_segment (addend n) e = refl
 set_segment (segment k n) e = absurd (cc)
-set_segment (advance n) e = refl
-set_segment (binds count skip) e = refl
-set_segment nothing e = refl
+set_segment _ e = refl
 
 -- where a segment is set in the front, those since are of the front
 since_front : (near far : List Placed) → filter_map segment_in near ≢ [] → nearer_than sets_segment (near ++ far) ≡ nearer_than sets_segment near
@@ -346,14 +299,8 @@ told_sequence (Err f) b n = refl
 
 -- a DONE makes no bind
 done_count : (i : Instruction) → done_is i ≡ true → count_of i ≡ 0
-done_count done h = refl
-done_count (library n) h = refl
-done_count (symbol flags name) h = refl
-done_count (addend n) h = refl
-done_count (segment k n) h = refl
-done_count (advance n) h = refl
 done_count (binds count skip) h = absurd (cc)
-done_count nothing h = refl
+done_count _ h = refl
 
 module _ (x : Input) (first : List ℕ) (others : List (List ℕ)) (libs : x.libs ≡ first ∷ others) (more : 0 < x.pointer) where
   above_0 : (n : ℕ) → (suc n == 0) ≡ false
@@ -438,17 +385,11 @@ module _ (x : Input) (first : List ℕ) (others : List (List ℕ)) (libs : x.lib
       → last_ordinal x.bytes (undone (placed place i after) ∷ map undone back) ≡ pos (last_setting 0 library_in (undone (placed place i after) ∷ map undone back))
       → EachTells first is bs
       → EachTells first (imports_at r back (placed place i after) ++ is) (bindings_at x r (map undone back) (undone (placed place i after)) ++ bs)
-  here_tells r back place after done is bs same o e = e
-  here_tells r back place after (library n) is bs same o e = e
-  here_tells r back place after (symbol flags name) is bs same o e = e
-  here_tells r back place after (addend n) is bs same o e = e
-  here_tells r back place after (segment k n) is bs same o e = e
-  here_tells r back place after (advance n) is bs same o e = e
   here_tells r back place after (binds zero skip) is bs same o e = e
   here_tells r back place after (binds (suc n) skip) is bs same o e =
       strides_tell r back (last_given x.bytes r.is_lazy (placed place (binds (suc n) skip) after ∷ map undone back)) (skip + x.pointer)
       (range_with_len 0 (suc n)) is bs (same (omega arith)) o e
-  here_tells r back place after nothing is bs same o e = e
+  here_tells r back place after _ is bs same o e = e
 
   -- ---- two readings of a range
 

@@ -1,6 +1,6 @@
 -- How bindings follow from the instructions in order, that there is one list of them, and where they lie.
-use Rattle.mach_dyld.proofs.Names.{◌≡◌, ℕ, ◌+◌, List, [], ◌∷◌, ◌++◌, reverse, All, Bool, true, false, Result, Ok, Err, refl}
-use Rattle.mach_dyld.proofs.Names.{sym, ap, subst, ◌∙◌, arith, append_assoc, append-nil, pos, cond, Fault, malformed}
+use Rattle.mach_dyld.proofs.Names.{◌≡◌, ℕ, ◌+◌, List, [], ◌∷◌, All, Bool, true, false, Result, Ok, Err, refl}
+use Rattle.mach_dyld.proofs.Names.{sym, ap, subst, ◌∙◌, arith, pos, cond, Fault, malformed}
 use Rattle.mach_dyld.proofs.Names.{same_ok, SegmentView, Input, Range, Placed, Bind, binds_at, all_from}
 use Rattle.std.proofs.lemmas.List.Elements.{All-nil, All-append}
 use Rattle.mach_dyld.specs.BindAddresses.{LiesWhole, LiesWholeInSome}

@@ -67,13 +67,7 @@ quiet_row pointer bytes opcode imm place a b c =
 
 quiet_not_done : (i : Instruction) → is_quiet i ≡ true → done_is i ≡ false
 quiet_not_done done h = cc
-quiet_not_done (library n) h = refl
-quiet_not_done (symbol flags name) h = refl
-quiet_not_done (addend n) h = refl
-quiet_not_done (segment k n) h = refl
-quiet_not_done (advance n) h = refl
-quiet_not_done (binds count skip) h = refl
-quiet_not_done nothing h = refl
+quiet_not_done _ h = refl
 
 -- what holds of a library's instruction, where it is one, and of those that set none, holds of that of a row
 module _ (P : Instruction → Type 0) (pointer : ℕ) (bytes : List ℕ) (opcode imm place : ℕ) where
@@ -120,12 +114,8 @@ module _ (bytes : List ℕ) (place byte : ℕ) (there : byte_at bytes place ≡ 
   unfolding set_by moved
   kept done q h = cc
   kept (library n) q h = cc
-  kept (symbol flags name) q h = refl
-  kept (addend n) q h = refl
-  kept (segment k n) q h = refl
-  kept (advance n) q h = refl
-  kept (binds count skip) q h = refl
   kept nothing q h = rw (there, ne_eqb (bit_and byte 0xf0) 0x30 h) refl
+  kept _ q h = refl
 
   abbrev opcode_there : ℕ
   opcode_there = bit_and byte 0xf0

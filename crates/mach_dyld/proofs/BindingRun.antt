@@ -1,11 +1,11 @@
 -- What comes of bindings by settings that run forward is what looking back finds.
-use Rattle.mach_dyld.proofs.Names.{◌≡◌, ◌≢◌, ℕ, ℤ, ◌+◌, ◌-◌, List, [], ◌∷◌, Bool, true, false, Option, Some, None, Result, Ok, refl, sym, ap, subst}
-use Rattle.mach_dyld.proofs.Names.{◌∙◌, pos, cond, ◌==◌, bit_and, nat_lt, inl, inr, cases_eq, cases_Bool, ne_eqb, bind_ok, same_ok, Fault}
-use Rattle.mach_dyld.proofs.Names.{Instruction, done, library, symbol, addend, segment, advance, binds, byte_at, row_at, Placed, Range, Input, Bind, bind_after}
+use Rattle.mach_dyld.proofs.Names.{◌≡◌, ℕ, ℤ, ◌+◌, ◌-◌, List, ◌∷◌, Bool, true, false, Option, Some, None, Ok, refl, sym, ap, subst}
+use Rattle.mach_dyld.proofs.Names.{◌∙◌, pos, cond, ◌==◌, bit_and, nat_lt, inl, inr, cases_eq, cases_Bool, ne_eqb, bind_ok, same_ok}
+use Rattle.mach_dyld.proofs.Names.{Instruction, done, byte_at, Placed, Range, Input, bind_after}
 use Rattle.mach_dyld.proofs.Names.{is_done, fresh, set_by, run, set_after, library_in, last_setting, moved, StandsBy, AllStandBy, reader_by}
 use Rattle.mach_dyld.specs.Instructions.{nothing}
 use Rattle.mach_dyld.specs.Binds.{done_is}
-use Rattle.mach_dyld.specs.Bindings.{Given, last_given, last_ordinal, ordinal_in, kind_in, sets_in, first_kind, gives_ordinal, gives_name, gives_segment}
+use Rattle.mach_dyld.specs.Bindings.{Given, last_given, ordinal_in, kind_in, sets_in, first_kind, gives_ordinal, gives_name, gives_segment}
 use Rattle.mach_dyld.specs.Bindings.{highest_opcode, bindings_in}
 unfoldable use Rattle.mach_dyld.specs.Bindings.{binding_of, opcode_at, bindings_row}
 use Rattle.mach_dyld.specs.BindingsLeft.{binding_rules, given_now, first_extra, extra_after, ordinal_now, special_after}
@@ -25,13 +25,7 @@ library_by : (pointer : ℕ) (r : Range) (back : List Placed) (i : Instruction) 
     → (set_by i (after - r.from) (bind_after pointer r back 0)).library ≡ last_setting 0 library_in (at_byte place i after ∷ back)
 unfolding set_by bind_after moved
 library_by pointer r back done place after = refl
-library_by pointer r back (library n) place after = refl
-library_by pointer r back (symbol flags name) place after = refl
-library_by pointer r back (addend n) place after = refl
-library_by pointer r back (segment k n) place after = refl
-library_by pointer r back (advance n) place after = refl
-library_by pointer r back (binds count skip) place after = refl
-library_by pointer r back nothing place after = refl
+library_by pointer r back _ place after = refl
 
 abbrev given_by : ℤ → ℕ → Bool → Bool → Bool → Given
 given_by o k h n s = record { ordinal = o; kind = k; has_ordinal = h; has_name = n; has_segment = s }

@@ -178,6 +178,7 @@ impl Extra {
 
 impl<'a> Makes<'a> for Extra {
     type Item = Binding<'a>;
+
     type Why = Error;
 
     ghost use Rattle.mach_parts.specs.Bindings as parts;

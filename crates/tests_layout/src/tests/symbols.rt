@@ -261,8 +261,9 @@ fn many_symbols(rt: HostRuntime) -> Result<(), Fail> {
 }
 
 // The bind opcodes, and whether a fault is told: a bind of the library of a number; one without a type, a name or a
-// segment; opcodes that are none, before a DONE and behind it; the segment's last pointer, and half of one.
-const BINDS: [(&[u8], bool); 11] = [
+// segment; opcodes that are none, before a DONE and behind it; the segment's last pointer, half of one, and one without
+// an ordinal.
+const BINDS: [(&[u8], bool); 12] = [
     (&[0; 8], false),
     (&[0x11, 0x40, 0x61, 0, 0x51, 0x71, 0, 0x90], false),
     (&[0x12, 0x40, 0x61, 0, 0x51, 0x71, 0, 0x90], true),
@@ -272,8 +273,9 @@ const BINDS: [(&[u8], bool); 11] = [
     (&[0x11, 0x40, 0x61, 0, 0x51, 0x90, 0, 0], true),
     (&[0xe0, 0, 0, 0, 0, 0, 0, 0], true),
     (&[0, 0xe0, 0x90, 0xd0, 0, 0, 0, 0], false),
-    (&[0x40, 0x61, 0, 0x51, 0x71, 0xf8, 0x1f, 0x90], false),
-    (&[0x40, 0x61, 0, 0x51, 0x71, 0xfc, 0x1f, 0x90], true),
+    (&[0x10, 0x40, 0, 0x51, 0x71, 0xf8, 0x1f, 0x90], false),
+    (&[0x10, 0x40, 0, 0x51, 0x71, 0xfc, 0x1f, 0x90], true),
+    (&[0x40, 0, 0x51, 0x71, 0xf8, 0x1f, 0x90, 0], true),
 ];
 
 #[test]
