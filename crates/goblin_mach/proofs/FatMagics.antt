@@ -4,7 +4,7 @@ use Rattle.std.proofs.lemmas.Bool.{le-leb, lt-leb}
 use Rattle.mach_base.specs.declared.context.Endian.TheVariants.{Big}
 use Rattle.mach_base.specs.Number.{number, number_at}
 use Rattle.mach_base.proofs.Binds.{same_ok}
-use Rattle.goblin_mach.specs.Image.{HasFatMagic}
+use Rattle.goblin_mach.specs.File.{HasFatMagic}
 
 -- four bytes have a number
 pub number-there : (bytes : List ℕ) → 4 ≤ length bytes → number_at Big 4 bytes 0 ≡ Ok (number Big 4 (drop 0 bytes))

@@ -5,8 +5,8 @@ use Rattle.mach_base.specs.declared.context.Endian.TheVariants.{Big}
 use Rattle.mach_base.specs.Fault.{bad_offset, too_big}
 use Rattle.mach_base.specs.Number.{number, bounded}
 use Rattle.mach_base.proofs.Binds.{chosen, same_ok}
-use Rattle.mach_parts.specs.Items.{items_from}
-use Rattle.mach_parts.proofs.ItemLists.{length-items_from, slice_get-items}
+use Rattle.mach_base.specs.Items.{items_from}
+use Rattle.mach_base.proofs.ItemLists.{length-items_from, slice_get-items}
 use Rattle.goblin_mach.specs.FatFile.{FatFile, fat_file_in}
 
 some_is : {X : Type 0} (x y : X) → Some x ≡ Some y → x ≡ y

@@ -5,9 +5,9 @@ use Rattle.std.proofs.lemmas.Bool.{cases_lt, le-leb}
 use Rattle.std.proofs.lemmas.List.{append-nil}
 use Rattle.mach_base.specs.Answer.{◌>>=◌}
 use Rattle.mach_base.specs.Fault.{Fault}
-use Rattle.mach_parts.specs.Items.{all_read}
-use Rattle.mach_parts.specs.declared.fat.FatArch.{FatArch}
-use Rattle.mach_parts.proofs.AllRead.{onto}
+use Rattle.mach_base.specs.Items.{all_read}
+use Rattle.mach_headers.specs.declared.fat.FatArch.{FatArch}
+use Rattle.mach_base.proofs.AllRead.{onto}
 use Rattle.goblin_mach.specs.FatFile.{FatFile, archs_of, arches_in}
 
 -- what holds below a number and of it holds below the next

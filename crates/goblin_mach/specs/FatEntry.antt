@@ -5,12 +5,12 @@ use Rattle.mach_base.specs.Fault.{Fault, malformed}
 use Rattle.mach_base.specs.declared.error.Error.{Error}
 use Rattle.mach_base.specs.declared.hint.Hint.TheVariants as hints
 use Rattle.mach_base.specs.declared.hint.Hint.{Hint}
-use Rattle.mach_parts.specs.Fat.{part_of}
-use Rattle.mach_parts.specs.Items.{items_from}
+use Rattle.mach_headers.specs.Fat.{part_of}
+use Rattle.mach_base.specs.Items.{items_from}
 use Rattle.goblin_mach.specs.FatFile.{FatFile, arch_at, file_held}
-use Rattle.goblin_mach.specs.Image.{Opens, ImageFault}
-use Rattle.mach_parts.specs.Magic.{hint_in}
-use Rattle.goblin_mach.specs.OpenImage.{IsImage}
+use Rattle.mach_image.specs.Image.{Opens, ImageFault}
+use Rattle.mach_headers.specs.Magic.{hint_in}
+use Rattle.mach_image.specs.OpenImage.{IsImage}
 use Rattle.goblin_mach.specs.declared.fat_file.entry.SingleArch.TheVariants.{MachO, Archive}
 use Rattle.goblin_mach.specs.declared.fat_file.entry.SingleArch.{SingleArch}
 use Rattle.goblin_mach.specs.declared.fat_file.multi_arch.SingleArchIterator.{SingleArchIterator}

@@ -7,9 +7,9 @@ use Rattle.mach_base.specs.Number.{number, bounded, place_after}
 use Rattle.mach_base.specs.Record.{record_at}
 use Rattle.mach_base.specs.declared.context.Endian.TheVariants.{Big}
 use Rattle.mach_base.specs.declared.error.Error.{Error}
-use Rattle.mach_parts.specs.Fat.{fat_arch_fields, fat_arch_of_values}
-use Rattle.mach_parts.specs.Items.{items_from, all_read, read_as}
-use Rattle.mach_parts.specs.declared.fat.FatArch.{FatArch}
+use Rattle.mach_headers.specs.Fat.{fat_arch_fields, fat_arch_of_values}
+use Rattle.mach_base.specs.Items.{items_from, all_read, read_as}
+use Rattle.mach_headers.specs.declared.fat.FatArch.{FatArch}
 use Rattle.goblin_mach.specs.declared.fat_file.arches.FatArchIterator.{FatArchIterator}
 use Rattle.goblin_mach.specs.declared.fat_file.multi_arch.MultiArch.{MultiArch}
 

@@ -3,33 +3,36 @@
 #![tactic(auto)]
 
 mod fat_file;
-mod image;
 pub mod laws;
+mod mach;
 mod view;
 
 pub use crate::fat_file::arches::FatArchIterator;
 pub use crate::fat_file::entry::SingleArch;
 pub use crate::fat_file::multi_arch::{MultiArch, SingleArchIterator};
-pub use crate::image::bindings::BindingIterator;
-pub use crate::image::command_iterator::CommandIterator;
-pub use crate::image::exported::find_export;
-pub use crate::image::fixups::FixupIterator;
-pub use crate::image::libraries::{Library, LibraryIterator, LibraryKind};
-pub use crate::image::mach::Mach;
-pub use crate::image::macho::MachO;
-pub use crate::image::subjects::{id_place, library_place, run_path_place};
+pub use crate::mach::Mach;
 pub use crate::view::{LinkView, link_view};
 pub use mach_base::{
     BE, Container, Ctx, Description, Endian, Error, Hint, HintData, IntoCtx, LE, Record, Result,
-    ScrollError, SizeWith, Sleb128, TryFromCtx, TryIntoCtx, Uleb128, describe, gread_with,
+    ScrollError, SizeWith, Sleb128, Steps, TryFromCtx, TryIntoCtx, Uleb128, describe, gread_with,
     pread_with, pwrite_with, read_text, take_hint_bytes,
 };
-pub use mach_dyld::bindings::OpcodeBindingIterator;
-pub use mach_dyld::{Steps, bind_opcodes, exports, imports};
-pub use mach_parts::binding::{Binding, Provider};
-pub use mach_parts::magic::{parse_magic_and_ctx, peek, peek_bytes};
-pub use mach_parts::{fat, header, relocation, segment, symbols};
+pub use mach_binds::bindings::OpcodeBindingIterator;
+pub use mach_binds::{bind_opcodes, imports};
+pub use mach_headers::magic::{parse_magic_and_ctx, peek, peek_bytes};
+pub use mach_headers::{fat, header};
+pub use mach_image::bindings::BindingIterator;
+pub use mach_image::command_iterator::CommandIterator;
+pub use mach_image::exported::find_export;
+pub use mach_image::fixups::FixupIterator;
+pub use mach_image::libraries::{Library, LibraryIterator, LibraryKind};
+pub use mach_image::macho::MachO;
+pub use mach_image::subjects::{id_place, library_place, run_path_place};
 pub use mach_records::{constants, cputype};
+pub use mach_segments::binding::{Binding, Provider};
+pub use mach_segments::{relocation, segment};
+pub use mach_symbols::symbols;
+pub use mach_tries::exports;
 
 /// Chained fixups: what the data of `LC_DYLD_CHAINED_FIXUPS` and the pointers of the segments hold.
 pub mod chained_fixups {

@@ -15,10 +15,10 @@ use Rattle.mach_chained.specs.Bindings.{binding_by, binding_in, binding_of, plac
 use Rattle.mach_chained.specs.Fixups.{Fixup, Input}
 use Rattle.mach_chained.specs.Imports.{Import, import_at}
 use Rattle.mach_chained.specs.Pointers.{Kind, bind}
-use Rattle.mach_parts.specs.Bindings.{Binding, Provider, provider_of}
+use Rattle.mach_segments.specs.Bindings.{Binding, Provider, provider_of}
 use Rattle.mach_base.specs.declared.error.Error.{Error}
-use Rattle.mach_dyld.specs.BindCursors.{Stands}
-use Rattle.mach_dyld.specs.declared.imports.cursor.PlacedBinding.{PlacedBinding}
+use Rattle.mach_binds.specs.BindCursors.{Stands}
+use Rattle.mach_binds.specs.declared.imports.cursor.PlacedBinding.{PlacedBinding}
 use Rattle.goblin_mach_c.specs.BindingRows.{StandsIn}
 use Rattle.goblin_mach_c.specs.BindingsBehind.{IsPlaced}
 

@@ -3,8 +3,8 @@ use Rattle.std.proofs.Common.{Option, Result}
 use Rattle.mach_base.specs.Context.{pointer_size}
 use Rattle.mach_base.specs.Fault.{Fault}
 use Rattle.mach_chained.specs.Header.{Fixups}
-use Rattle.goblin_mach.specs.Fixups.{chained_in}
-use Rattle.goblin_mach.specs.ImageFacts.{Facts}
+use Rattle.mach_image.specs.Fixups.{chained_in}
+use Rattle.mach_image.specs.ImageFacts.{Facts}
 use Rattle.goblin_mach_c.specs.ImportsBehind.{Binds}
 
 abbrev pub binds_by : Facts → Binds

@@ -5,7 +5,7 @@ use Rattle.std.proofs.lemmas.List.{append_assoc, length-append, length-drop, dro
 use Rattle.std.proofs.Math.Seq.{take-append_seam, drop-append_seam}
 use Rattle.std.proofs.Math.ListN.{drop_of_length-le}
 use Rattle.std.proofs.Math.Nat.{min-eq_left, min-eq_right}
-use Rattle.mach_parts.specs.Items.{items_from}
+use Rattle.mach_base.specs.Items.{items_from}
 use Rattle.goblin_mach_c.specs.Fill.{Fills}
 
 -- The first k of these rows are written, and the others are left.

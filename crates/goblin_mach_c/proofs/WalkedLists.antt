@@ -1,21 +1,21 @@
 -- What a walk of an image's exports has given begins the image's list.
 use Rattle.std.proofs.Common.{◌≡◌, ◌++◌, ◌∷◌, [], ℕ, zero, suc, List, map, Option, Some, None, inl, inr, refl, sym, ap, subst, ◌∙◌, arith}
 use Rattle.std.specs.Borrow.{Bor}
-use Rattle.mach_dyld.specs.Cursors.{HasGivenTo, ReadsTrie}
-use Rattle.mach_dyld.specs.Exports.{texts}
-use Rattle.mach_dyld.specs.Lists.{Lists, nothing}
-use Rattle.mach_dyld.specs.Trie.{Entry}
-use Rattle.mach_dyld.specs.TrieRange.{TrieRange, trie_there}
-use Rattle.mach_dyld.specs.declared.cursor.TrieCursor.{TrieCursor}
-use Rattle.mach_dyld.specs.declared.walk.Open.{Open}
-use Rattle.mach_dyld.specs.declared.walk.Source.{Source}
-use Rattle.mach_dyld.proofs.CursorTries.{begins_there}
-use Rattle.mach_dyld.proofs.TrieBegins.{prefix_of}
-use Rattle.mach_dyld.proofs.TrieRanges.{fault-excludes_list}
-use Rattle.goblin_mach.specs.Facts.{HasExports}
-use Rattle.goblin_mach.specs.Subjects.{ImageExportsFault, ListsImageExports, libs_in, trie_in, trie_or_empty}
-use Rattle.goblin_mach.proofs.Facts.{one_image}
-use Rattle.goblin_mach.proofs.Walked.{walked_fault}
+use Rattle.mach_tries.specs.Cursors.{HasGivenTo, ReadsTrie}
+use Rattle.mach_base.specs.Text.{texts}
+use Rattle.mach_tries.specs.Lists.{Lists, nothing}
+use Rattle.mach_tries.specs.Trie.{Entry}
+use Rattle.mach_tries.specs.TrieRange.{TrieRange, trie_there}
+use Rattle.mach_tries.specs.declared.cursor.TrieCursor.{TrieCursor}
+use Rattle.mach_tries.specs.declared.walk.Open.{Open}
+use Rattle.mach_tries.specs.declared.walk.Source.{Source}
+use Rattle.mach_tries.proofs.CursorTries.{begins_there}
+use Rattle.mach_tries.proofs.TrieBegins.{prefix_of}
+use Rattle.mach_tries.proofs.TrieRanges.{fault-excludes_list}
+use Rattle.mach_image.specs.Facts.{HasExports}
+use Rattle.mach_image.specs.Subjects.{ImageExportsFault, ListsImageExports, libs_in, trie_in, trie_or_empty}
+use Rattle.mach_image.proofs.ImageFacts.{one_image}
+use Rattle.mach_image.proofs.Walked.{walked_fault}
 use Rattle.goblin_mach_c.specs.ExportWalk.{HasWalked, HasWalkedTrie}
 use Rattle.goblin_mach_c.specs.declared.exports.gm_export_walk.{gm_export_walk}
 

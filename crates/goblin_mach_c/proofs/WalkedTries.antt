@@ -1,12 +1,12 @@
 -- Walks of an export trie, batch by batch.
 use Rattle.std.proofs.Common.{◌-◌, ◌^◌, ◌<◌, Err, length, ◌≡◌, ◌≢◌, ◌++◌, ◌⊎◌, [], ℕ, List, Bool, true, false, Option, Some, None, sym, subst, ◌∙◌, arith, inr}
 use Rattle.std.specs.Prelude.{nat_lt, if◌then◌else◌}
-use Rattle.mach_dyld.specs.CursorState.{IsFull, in_fault}
-use Rattle.mach_dyld.specs.Cursors.{HasGivenTo, IsFaulty}
-use Rattle.mach_dyld.specs.Trie.{Entry}
-use Rattle.mach_dyld.specs.TrieRange.{ListsExports, TrieRange}
-use Rattle.mach_dyld.specs.declared.cursor.TrieCursor.{TrieCursor}
-use Rattle.mach_dyld.specs.declared.walk.Open.{Open}
+use Rattle.mach_tries.specs.CursorState.{IsFull, in_fault}
+use Rattle.mach_tries.specs.Cursors.{HasGivenTo, IsFaulty}
+use Rattle.mach_tries.specs.Trie.{Entry}
+use Rattle.mach_tries.specs.TrieRange.{ListsExports, TrieRange}
+use Rattle.mach_tries.specs.declared.cursor.TrieCursor.{TrieCursor}
+use Rattle.mach_tries.specs.declared.walk.Open.{Open}
 use Rattle.goblin_mach_c.specs.ExportWalk.{GoesAlong, HasWalkedTrie, IsNextName, StopsAt, end_number, next_of}
 use Rattle.goblin_mach_c.specs.declared.exports.Ending.{Ending}
 use Rattle.goblin_mach_c.specs.declared.exports.Ending.TheVariants.{End, Refused, NameTooLong, StackTooShort}

@@ -2,8 +2,8 @@
 use Rattle.std.specs.Prelude.{◌≡◌, ◌⊎◌, ◌++◌, ℕ, List, [], length, take, drop, min, Option, Some, None, Bool}
 use Rattle.std.specs.Str.{IsUtf8}
 use Rattle.mach_base.specs.Fault.{Fault, malformed}
-use Rattle.mach_dyld.specs.Trie.{Info, regular, reexport, stub}
-use Rattle.goblin_mach.specs.Facts.{HasExportsFault}
+use Rattle.mach_tries.specs.Trie.{Info, regular, reexport, stub}
+use Rattle.mach_image.specs.Facts.{HasExportsFault}
 use Rattle.goblin_mach_c.specs.Opened.{FaultIn}
 use Rattle.goblin_mach_c.specs.declared.find.gm_export.{gm_export}
 

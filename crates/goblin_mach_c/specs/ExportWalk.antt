@@ -2,17 +2,17 @@
 use Rattle.std.specs.Prelude.{◌≡◌, ◌≢◌, ◌+◌, ◌-◌, ◌^◌, ◌++◌, ◌⊎◌, ℕ, List, [], ◌∷◌, length, drop, min, Option, Some, None, Result, Ok, Err, nat_lt, slice_get, if◌then◌else◌}
 use Rattle.mach_base.specs.Fault.{Fault}
 use Rattle.mach_base.specs.Text.{text_at}
-use Rattle.mach_dyld.specs.CursorState.{IsNextLabel}
-use Rattle.mach_dyld.specs.Cursors.{HasGivenTo, IsFaulty, NextGives}
-use Rattle.mach_dyld.specs.Trie.{Entry, Info, regular, reexport, stub}
-use Rattle.mach_dyld.specs.TrieRange.{ListsExports, TrieRange}
-use Rattle.mach_dyld.specs.declared.cursor.NextExport.{NextExport}
-use Rattle.mach_dyld.specs.declared.cursor.NextExport.TheVariants as next
-use Rattle.mach_dyld.specs.declared.cursor.TrieCursor.{TrieCursor}
-use Rattle.mach_dyld.specs.declared.info.ExportInfo.{ExportInfo}
-use Rattle.mach_dyld.specs.declared.walk.Open.{Open}
-use Rattle.goblin_mach.specs.Facts.{HasExports, HasExportsFault, HasLibraries, OfImage}
-use Rattle.goblin_mach.specs.Subjects.{libs_in, trie_in, trie_or_empty}
+use Rattle.mach_tries.specs.CursorState.{IsNextLabel}
+use Rattle.mach_tries.specs.Cursors.{HasGivenTo, IsFaulty, NextGives}
+use Rattle.mach_tries.specs.Trie.{Entry, Info, regular, reexport, stub}
+use Rattle.mach_tries.specs.TrieRange.{ListsExports, TrieRange}
+use Rattle.mach_tries.specs.declared.cursor.NextExport.{NextExport}
+use Rattle.mach_tries.specs.declared.cursor.NextExport.TheVariants as next
+use Rattle.mach_tries.specs.declared.cursor.TrieCursor.{TrieCursor}
+use Rattle.mach_tries.specs.declared.info.ExportInfo.{ExportInfo}
+use Rattle.mach_tries.specs.declared.walk.Open.{Open}
+use Rattle.mach_image.specs.Facts.{HasExports, HasExportsFault, HasLibraries, OfImage}
+use Rattle.mach_image.specs.Subjects.{libs_in, trie_in, trie_or_empty}
 use Rattle.goblin_mach_c.specs.ExportRows.{export_row, text_or_none}
 use Rattle.goblin_mach_c.specs.declared.exports.Ending.{Ending}
 use Rattle.goblin_mach_c.specs.declared.exports.Ending.TheVariants.{End, Refused, NameTooLong, StackTooShort}

@@ -2,7 +2,7 @@
 use Rattle.std.specs.Prelude.{◌≡◌, ◌⊎◌, ℕ, pos, List, [], length, Some, Result, Ok, Err, slice_get}
 use Rattle.mach_base.specs.Fault.{Fault}
 use Rattle.mach_base.specs.Text.{text_at}
-use Rattle.mach_dyld.specs.Imports.{Import}
+use Rattle.mach_binds.specs.Imports.{Import}
 use Rattle.goblin_mach_c.specs.Codes.{code_of_fault}
 use Rattle.goblin_mach_c.specs.Opened.{flag}
 use Rattle.goblin_mach_c.specs.declared.imports.gm_import.{gm_import}

@@ -1,6 +1,6 @@
 -- Faults of layout as C sees them: their rules and parts as the numbers of `goblin_mach.h` (GM_LAYOUT_FILE_KIND, GM_PART_HEADER and those behind them).
 use Rattle.std.specs.Prelude.{◌≡◌, ℕ, List, [], drop, Option, Some, None}
-use Rattle.goblin_mach.specs.Image.{HasFatMagic}
+use Rattle.goblin_mach.specs.File.{HasFatMagic}
 use Rattle.mach_rules.specs.Containers.{AreContainerFaults}
 use Rattle.mach_rules.specs.declared.fault.LayoutFault.{LayoutFault}
 use Rattle.mach_rules.specs.declared.fault.Owner.{Owner}

@@ -2,9 +2,9 @@
 use Rattle.std.specs.Prelude.{ℕ, List, length, map, Result, Ok, Err}
 use Rattle.mach_base.specs.Fault.{Fault}
 use Rattle.mach_base.specs.Number.{place_after}
-use Rattle.mach_parts.specs.Symbols.{SymbolTable, symbols_of}
-use Rattle.mach_parts.specs.SymbolViews.{symbols_left}
-use Rattle.mach_parts.specs.declared.symbols.nlist.Nlist.{Nlist}
+use Rattle.mach_symbols.specs.Symbols.{SymbolTable, symbols_of}
+use Rattle.mach_symbols.specs.SymbolViews.{symbols_left}
+use Rattle.mach_symbols.specs.declared.symbols.nlist.Nlist.{Nlist}
 use Rattle.goblin_mach_c.specs.Codes.{code_of_fault}
 use Rattle.goblin_mach_c.specs.Seen.{ctx_seen}
 use Rattle.goblin_mach_c.specs.declared.images.gm_image.{gm_image}

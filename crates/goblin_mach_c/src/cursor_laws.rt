@@ -3,9 +3,9 @@
 ghost use Rattle.std.specs.Prelude.{◌≡◌, ◌↔◌, ℕ, List, Result};
 ghost use Rattle.mach_base.specs.Fault.{Fault};
 ghost use Rattle.mach_chained.specs.Fixups.{Fixup};
-ghost use Rattle.mach_dyld.specs.Imports.{Import};
-ghost use Rattle.goblin_mach.specs.Facts.{HasBindings, HasFixups, HasImportItems};
-ghost use Rattle.mach_parts.specs.Bindings.{Binding};
+ghost use Rattle.mach_binds.specs.Imports.{Import};
+ghost use Rattle.mach_image.specs.Facts.{HasBindings, HasFixups, HasImportItems};
+ghost use Rattle.mach_segments.specs.Bindings.{Binding};
 ghost use Rattle.goblin_mach_c.specs.BindingsBehind.{HasBindingsBehind};
 ghost use Rattle.goblin_mach_c.specs.declared.bindings.gm_binding_cursor.{gm_binding_cursor};
 ghost use Rattle.goblin_mach_c.specs.FixupsBehind.{HasFixupsBehind};

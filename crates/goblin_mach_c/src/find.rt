@@ -2,9 +2,9 @@
 
 ghost use Rattle.std.specs.Prelude.{◌≡◌, ◌≢◌, ◌⊎◌, IfOk, IfErr, Option, option_map};
 ghost use Rattle.mach_base.specs.Answer.{Stands};
-ghost use Rattle.mach_dyld.specs.Exports.{info_of};
-ghost use Rattle.mach_dyld.specs.Trie as trie;
-ghost use Rattle.goblin_mach.specs.Facts.{HasExportOf, HasExportsFault};
+ghost use Rattle.mach_tries.specs.Exports.{info_of};
+ghost use Rattle.mach_tries.specs.Trie as trie;
+ghost use Rattle.mach_image.specs.Facts.{HasExportOf, HasExportsFault};
 ghost use Rattle.goblin_mach_c.specs.Codes.{IsRefusal};
 ghost use Rattle.goblin_mach_c.specs.ExportRows.{FindFault, IsPut, export_row, library_text, target_text};
 ghost use Rattle.goblin_mach_c.specs.Opened.{FaultIn, lossy_mode};

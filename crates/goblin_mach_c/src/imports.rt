@@ -2,10 +2,10 @@
 
 ghost use Rattle.std.specs.Prelude.{◌≡◌, ◌≢◌, ℕ, List, [], Result, Some, ◌⊎◌};
 ghost use Rattle.mach_base.specs.Fault.{Fault, fault_of};
-ghost use Rattle.mach_dyld.specs.BindCursors.{Stands};
-ghost use Rattle.mach_dyld.specs.BindViews.{import_in};
-ghost use Rattle.mach_dyld.specs.Imports as defined;
-ghost use Rattle.goblin_mach.specs.OpenImage.{binds_held};
+ghost use Rattle.mach_binds.specs.BindCursors.{Stands};
+ghost use Rattle.mach_binds.specs.BindViews.{import_in};
+ghost use Rattle.mach_binds.specs.Imports as defined;
+ghost use Rattle.mach_image.specs.OpenImage.{binds_held};
 ghost use Rattle.goblin_mach_c.specs.BindingRows.{StandsIn};
 ghost use Rattle.goblin_mach_c.specs.Codes.{IsRefusal};
 ghost use Rattle.goblin_mach_c.specs.ImportRows.{IsImportRow, IsNameAt, import_row, no_import};

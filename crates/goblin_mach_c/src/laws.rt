@@ -2,12 +2,12 @@
 
 ghost use Rattle.std.specs.Prelude.{◌≡◌, ◌++◌, [], ℕ, List, Result, map};
 ghost use Rattle.mach_base.specs.Fault.{Fault};
-ghost use Rattle.mach_parts.specs.declared.symbols.nlist.Nlist.{Nlist};
-ghost use Rattle.mach_parts.specs.Segment.{SegmentView};
-ghost use Rattle.mach_dyld.specs.Trie.{Entry};
-ghost use Rattle.mach_dyld.specs.declared.walk.Open.{Open};
-ghost use Rattle.goblin_mach.specs.Facts.{HasCommands, HasExports, HasSegments, HasSymbols};
-ghost use Rattle.goblin_mach.specs.Image.{LossyOpens};
+ghost use Rattle.mach_symbols.specs.declared.symbols.nlist.Nlist.{Nlist};
+ghost use Rattle.mach_segments.specs.Segment.{SegmentView};
+ghost use Rattle.mach_tries.specs.Trie.{Entry};
+ghost use Rattle.mach_tries.specs.declared.walk.Open.{Open};
+ghost use Rattle.mach_image.specs.Facts.{HasCommands, HasExports, HasSegments, HasSymbols};
+ghost use Rattle.mach_image.specs.Image.{LossyOpens};
 ghost use Rattle.goblin_mach_c.specs.CommandRows.{commands_seen};
 ghost use Rattle.goblin_mach_c.specs.ExportWalk.{HasWalked};
 ghost use Rattle.goblin_mach_c.specs.Opened.{IsOpened};

@@ -17,9 +17,9 @@ use crate::open::open;
 use crate::rows::{Rows, fill, skip};
 use goblin_mach::peek;
 use mach_base::Result;
+use mach_headers::fat::FAT_MAGIC;
 use mach_layout::laws::layout_faults_of_image;
 use mach_layout::{LayoutFault, Owner, Part, Rule, container_faults, layout_faults};
-use mach_parts::fat::FAT_MAGIC;
 use std::alloc::Global;
 
 /// A fault of layout, of a rule: whose it is, the other one where two disagree, and the two numbers that show it.

@@ -2,7 +2,7 @@
 
 ghost use Rattle.std.specs.Prelude.{◌≡◌, drop, option_map};
 ghost use Rattle.mach_load.specs.Variants.{command_of};
-ghost use Rattle.goblin_mach.specs.Libraries.{dylib_of_values, library_kind};
+ghost use Rattle.mach_image.specs.Libraries.{dylib_of_values, library_kind};
 ghost use Rattle.goblin_mach_c.specs.Fill.{Fills};
 ghost use Rattle.goblin_mach_c.specs.PartRows.{kind_number, library_row_by, library_rows};
 

@@ -1,7 +1,7 @@
 //! Rows that go by their number.
 
 ghost use Rattle.std.specs.Prelude.{◌≡◌, ◌-◌, ℕ, drop};
-ghost use Rattle.mach_parts.specs.Items.{items_from};
+ghost use Rattle.mach_base.specs.Items.{items_from};
 
 use crate::rows::Rows;
 

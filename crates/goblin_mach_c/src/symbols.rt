@@ -1,7 +1,7 @@
 //! Symbols, read in place.
 
 ghost use Rattle.std.specs.Prelude.{◌≡◌, drop, map};
-ghost use Rattle.mach_parts.specs.SymbolViews.{symbol_read, symbols_left};
+ghost use Rattle.mach_symbols.specs.SymbolViews.{symbol_read, symbols_left};
 ghost use Rattle.goblin_mach_c.specs.Fill.{Fills};
 ghost use Rattle.goblin_mach_c.specs.SymbolRows.{symbol_row, symbol_rows, symbol_rows_left};
 
@@ -9,7 +9,7 @@ use crate::errors::{GM_OK, code_of};
 use crate::images::{ctx_of, gm_image};
 use crate::rows::{Rows, fill};
 use mach_base::Result;
-use mach_parts::symbols::{Nlist, SymbolIterator, Symbols};
+use mach_symbols::symbols::{Nlist, SymbolIterator, Symbols};
 
 /// A symbol. Its name stands at `name` in the bytes, and has `name_len` of them. Where `code` is not `GM_OK` it can't be
 /// read, and the rest is 0.

@@ -10,19 +10,20 @@ use Rattle.mach_base.specs.Answer.{Stands, FailsAs}
 use Rattle.mach_base.specs.Fault.{Fault, fault_of}
 use Rattle.mach_base.specs.declared.error.Error.TheVariants as errors
 use Rattle.mach_base.specs.declared.error.Error.{Error}
-use Rattle.mach_parts.specs.declared.fat.FatArch.{FatArch}
-use Rattle.goblin_mach.proofs.Images.{fat-excludes_image}
+use Rattle.mach_headers.specs.declared.fat.FatArch.{FatArch}
+use Rattle.goblin_mach.proofs.Files.{fat-excludes_image}
 use Rattle.goblin_mach.proofs.WholeFiles.{view_fault-excludes, entries_of_image}
 use Rattle.goblin_mach.specs.FatEntry.{FatEntry, archive, image, entry_at, entries_of, EntryOpens, IsEntry}
-use Rattle.goblin_mach.specs.OpenImage.{IsImage}
+use Rattle.mach_image.specs.OpenImage.{IsImage}
 use Rattle.goblin_mach.specs.declared.fat_file.entry.SingleArch.TheVariants as arches
-use Rattle.goblin_mach.specs.declared.image.macho.MachO.{MachO}
+use Rattle.mach_image.specs.declared.macho.MachO.{MachO}
 use Rattle.mach_rules.proofs.OneArrangement.{one_shared}
 use Rattle.mach_rules.specs.Containers.{AreContainerFaults}
 use Rattle.mach_rules.specs.declared.fault.LayoutFault.{LayoutFault}
 use Rattle.mach_rules.specs.declared.fault.Rule.TheVariants as rule
 use Rattle.goblin_mach.specs.FatFile.{FatFile, fat_file_in, arches_in}
-use Rattle.goblin_mach.specs.Image.{Opens, HasFatMagic, ImageFault, MachFault}
+use Rattle.mach_image.specs.Image.{Opens, ImageFault}
+use Rattle.goblin_mach.specs.File.{HasFatMagic, MachFault}
 use Rattle.goblin_mach.specs.View.{HasEntries, fat_table, of_file, IsTold}
 use Rattle.mach_audit.proofs.Goes.{stands_of}
 use Rattle.mach_audit.proofs.Verdicts.{sound_judged, unended_judged, faulty_judged, both_judged, both_faulty, both_assoc, both_sound, judged_as}

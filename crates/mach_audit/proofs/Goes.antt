@@ -12,11 +12,11 @@ use Rattle.mach_base.specs.Answer.{Stands}
 use Rattle.mach_base.specs.declared.error.Error.TheVariants as errors
 use Rattle.mach_base.specs.Fault.{Fault, fault_of}
 use Rattle.mach_base.specs.declared.error.Error.{Error}
-use Rattle.mach_dyld.specs.BindLeft.{import_read}
-use Rattle.mach_dyld.specs.declared.imports.Import.{Import}
-use Rattle.mach_parts.specs.Bindings.{binding_read}
-use Rattle.mach_parts.specs.Items.{read_as}
-use Rattle.mach_parts.specs.declared.binding.Binding.{Binding}
+use Rattle.mach_binds.specs.BindLeft.{import_read}
+use Rattle.mach_binds.specs.declared.imports.Import.{Import}
+use Rattle.mach_segments.specs.Bindings.{binding_read}
+use Rattle.mach_base.specs.Items.{read_as}
+use Rattle.mach_segments.specs.declared.binding.Binding.{Binding}
 use Rattle.goblin_mach.specs.View.{IsTold}
 use Rattle.mach_audit.specs.Told.{HasMet, fault_in, faults_in, faults_of}
 use Rattle.mach_audit.specs.declared.tally.Tally.{Tally}

@@ -7,23 +7,23 @@ use Rattle.std.proofs.lemmas.Bool.{false≢true, true≢false}
 use Rattle.std.specs.List.{list_all}
 use Rattle.mach_base.specs.Context.{pointer_size}
 use Rattle.mach_base.specs.Fault.{Fault}
-use Rattle.mach_dyld.proofs.BindLists.{list_from_items, items_from_list}
-use Rattle.mach_dyld.specs.Exports.{texts}
-use Rattle.mach_dyld.specs.Imports.{Import, BindRanges, input_in}
-use Rattle.mach_dyld.specs.Trie as trie
-use Rattle.mach_dyld.specs.Lists.{ListBegins}
-use Rattle.mach_dyld.specs.TrieRange.{TrieRange, trie_there, ListsExports, ExportsFault}
+use Rattle.mach_binds.proofs.BindLists.{list_from_items, items_from_list}
+use Rattle.mach_base.specs.Text.{texts}
+use Rattle.mach_binds.specs.Imports.{Import, BindRanges, input_in}
+use Rattle.mach_tries.specs.Trie as trie
+use Rattle.mach_tries.specs.Lists.{ListBegins}
+use Rattle.mach_tries.specs.TrieRange.{TrieRange, trie_there, ListsExports, ExportsFault}
 use Rattle.mach_chained.specs.Fixups.{Fixup}
-use Rattle.mach_parts.specs.Bindings.{Binding}
-use Rattle.mach_parts.specs.Segment.{SegmentView}
-use Rattle.mach_parts.specs.declared.relocation.RelocationInfo.{RelocationInfo}
-use Rattle.mach_parts.specs.declared.symbols.nlist.Nlist.{Nlist}
-use Rattle.goblin_mach.proofs.Facts.{facts_are, strict-lossy, segments_are, symbols_are, imports_are, exports_are}
-use Rattle.goblin_mach.proofs.Walked.{walked_list, walked_fault}
-use Rattle.goblin_mach.specs.Facts.{HasSegments, HasSymbols, HasExports, HasImports, HasImportItems, HasFixups, HasBindings}
-use Rattle.goblin_mach.specs.OpenImage.{IsImage, commands_held, segments_held, trie_held, binds_held, ctx_held, bytes_held}
-use Rattle.goblin_mach.specs.Subjects.{ListsImageImports, ListsImageExports, AreImageBindItems, symbols_held, trie_or_empty}
-use Rattle.goblin_mach.specs.declared.image.macho.MachO.{MachO}
+use Rattle.mach_segments.specs.Bindings.{Binding}
+use Rattle.mach_segments.specs.Segment.{SegmentView}
+use Rattle.mach_segments.specs.declared.relocation.RelocationInfo.{RelocationInfo}
+use Rattle.mach_symbols.specs.declared.symbols.nlist.Nlist.{Nlist}
+use Rattle.mach_image.proofs.ImageFacts.{facts_are, strict-lossy, segments_are, symbols_are, imports_are, exports_are}
+use Rattle.mach_image.proofs.Walked.{walked_list, walked_fault}
+use Rattle.mach_image.specs.Facts.{HasSegments, HasSymbols, HasExports, HasImports, HasImportItems, HasFixups, HasBindings}
+use Rattle.mach_image.specs.OpenImage.{IsImage, commands_held, segments_held, trie_held, binds_held, ctx_held, bytes_held}
+use Rattle.mach_image.specs.Subjects.{ListsImageImports, ListsImageExports, AreImageBindItems, symbols_held, trie_or_empty}
+use Rattle.mach_image.specs.declared.macho.MachO.{MachO}
 use Rattle.mach_audit.proofs.Told.{told_sound, told_faulty, told_long}
 use Rattle.mach_audit.proofs.Verdicts.{number, sound_judged, faulty_judged, part_judged, both_judged, judged_as}
 use Rattle.mach_audit.specs.Sound.{IsSoundImage, HasLongList, of_sections, of_relocations, of_symbols, of_exports, of_imports}

@@ -3,24 +3,25 @@ use Rattle.std.specs.Prelude.{◌≡◌, ◌<◌, ◌≤◌, ℕ, Bool, IsTrue, 
 use Rattle.std.specs.List.{list_all, flat_map}
 use Rattle.mach_base.specs.Fault.{Fault}
 use Rattle.mach_base.specs.declared.context.Ctx.{Ctx}
-use Rattle.mach_dyld.specs.Imports.{Import}
-use Rattle.mach_dyld.specs.Lists.{ListBegins}
-use Rattle.mach_dyld.specs.Trie as trie
-use Rattle.mach_dyld.specs.TrieRange.{trie_there}
+use Rattle.mach_binds.specs.Imports.{Import}
+use Rattle.mach_tries.specs.Lists.{ListBegins}
+use Rattle.mach_tries.specs.Trie as trie
+use Rattle.mach_tries.specs.TrieRange.{trie_there}
 use Rattle.mach_chained.specs.Fixups.{Fixup}
-use Rattle.mach_parts.specs.Bindings.{Binding}
-use Rattle.mach_parts.specs.Relocation.{relocations_at}
-use Rattle.mach_parts.specs.Segment.{SegmentView, sections_of}
-use Rattle.mach_parts.specs.declared.relocation.RelocationInfo.{RelocationInfo}
-use Rattle.mach_parts.specs.declared.segment.section.Section.{Section}
-use Rattle.mach_parts.specs.declared.symbols.nlist.Nlist.{Nlist}
+use Rattle.mach_segments.specs.Bindings.{Binding}
+use Rattle.mach_segments.specs.Relocation.{relocations_at}
+use Rattle.mach_segments.specs.Segment.{SegmentView, sections_of}
+use Rattle.mach_segments.specs.declared.relocation.RelocationInfo.{RelocationInfo}
+use Rattle.mach_segments.specs.declared.segment.section.Section.{Section}
+use Rattle.mach_symbols.specs.declared.symbols.nlist.Nlist.{Nlist}
 use Rattle.mach_rules.specs.Containers.{AreContainerFaults}
 use Rattle.mach_layout.specs.Facts.{HasLayoutFaults}
-use Rattle.goblin_mach.specs.Facts.{OfImage, HasSegments, HasSymbols, HasExports, HasImports, HasImportItems, HasFixups, HasBindings}
+use Rattle.mach_image.specs.Facts.{OfImage, HasSegments, HasSymbols, HasExports, HasImports, HasImportItems, HasFixups, HasBindings}
 use Rattle.goblin_mach.specs.FatEntry.{FatEntry, archive, image, entry_at}
 use Rattle.goblin_mach.specs.FatFile.{FatFile, fat_file_in, arches_in}
-use Rattle.goblin_mach.specs.Image.{HasFatMagic, Opens}
-use Rattle.goblin_mach.specs.Subjects.{lossy_segments_in, libs_in, trie_in, trie_or_empty}
+use Rattle.mach_image.specs.Image.{Opens}
+use Rattle.goblin_mach.specs.File.{HasFatMagic}
+use Rattle.mach_image.specs.Subjects.{lossy_segments_in, libs_in, trie_in, trie_or_empty}
 
 -- whether every item of a list is there, and none is a fault
 abbrev pub are_all_ok : {X : Type 0} → List (Result X Fault) → Bool

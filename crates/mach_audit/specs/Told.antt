@@ -2,9 +2,9 @@
 use Rattle.std.specs.Prelude.{◌≡◌, ◌<◌, ◌≤◌, ◌-◌, ◌^◌, ℕ, Bool, false, IsTrue, List, [], map, take, length, Option, Some, None, Result, Ok, Err, nat_lt}
 use Rattle.std.specs.List.{filter_map}
 use Rattle.mach_base.specs.Fault.{Fault, fault_of}
-use Rattle.mach_dyld.specs.Lists.{ListBegins}
-use Rattle.mach_dyld.specs.Trie as trie
-use Rattle.mach_dyld.specs.TrieRange.{TrieRange, trie_there, ListsExports, ExportsFault}
+use Rattle.mach_tries.specs.Lists.{ListBegins}
+use Rattle.mach_tries.specs.Trie as trie
+use Rattle.mach_tries.specs.TrieRange.{TrieRange, trie_there, ListsExports, ExportsFault}
 use Rattle.mach_audit.specs.declared.report.Finding.{Finding}
 use Rattle.mach_audit.specs.declared.report.Part.{Part}
 use Rattle.mach_audit.specs.declared.tally.Tally.{Tally}

@@ -3,10 +3,10 @@
 ghost use Rattle.std.specs.Prelude.{◌≡◌, ◌<◌, ℕ, List, [], map, Result, Option, IfOk};
 ghost use Rattle.mach_base.specs.Answer.{Stands};
 ghost use Rattle.mach_base.specs.Fault.{Fault};
-ghost use Rattle.mach_parts.specs.Segment.{segment_view};
+ghost use Rattle.mach_segments.specs.Segment.{segment_view};
 ghost use Rattle.goblin_mach.specs.FatEntry.{entry_at};
 ghost use Rattle.goblin_mach.specs.FatFile.{file_held};
-ghost use Rattle.goblin_mach.specs.OpenImage.{IsImage};
+ghost use Rattle.mach_image.specs.OpenImage.{IsImage};
 ghost use Rattle.goblin_mach.specs.View.{IsTold};
 ghost use Rattle.mach_layout.specs.Bindings.{AreBindFaults};
 ghost use Rattle.mach_rules.specs.Containers.{AreContainerFaults};

@@ -3,16 +3,16 @@
 ghost use Rattle.std.specs.Prelude.{◌≡◌, ◌++◌, ℕ, List, Option, IfOk, OnOk, map};
 ghost use Rattle.std.specs.List.{flat_map};
 ghost use Rattle.mach_base.specs.Fault.{Fault};
-ghost use Rattle.mach_dyld.specs.BindLeft.{imports_left};
-ghost use Rattle.mach_dyld.specs.Exports.{texts};
-ghost use Rattle.mach_parts.specs.RelocationItems.{relocations_left};
-ghost use Rattle.mach_parts.specs.SectionItems.{sections_left, section_read};
-ghost use Rattle.mach_parts.specs.Segment.{segment_view, sections_of};
-ghost use Rattle.mach_parts.specs.SymbolViews.{symbols_left};
-ghost use Rattle.goblin_mach.specs.BindingsLeft.{bindings_left};
-ghost use Rattle.goblin_mach.specs.FixupsLeft.{fixups_left};
-ghost use Rattle.goblin_mach.specs.OpenImage.{trie_held};
-ghost use Rattle.goblin_mach.specs.Subjects.{trie_or_empty};
+ghost use Rattle.mach_binds.specs.BindLeft.{imports_left};
+ghost use Rattle.mach_base.specs.Text.{texts};
+ghost use Rattle.mach_segments.specs.RelocationItems.{relocations_left};
+ghost use Rattle.mach_segments.specs.SectionItems.{sections_left, section_read};
+ghost use Rattle.mach_segments.specs.Segment.{segment_view, sections_of};
+ghost use Rattle.mach_symbols.specs.SymbolViews.{symbols_left};
+ghost use Rattle.mach_image.specs.BindingsLeft.{bindings_left};
+ghost use Rattle.mach_image.specs.FixupsLeft.{fixups_left};
+ghost use Rattle.mach_image.specs.OpenImage.{trie_held};
+ghost use Rattle.mach_image.specs.Subjects.{trie_or_empty};
 ghost use Rattle.mach_audit.specs.Sound.{all_sections, all_relocations, relocations_by};
 ghost use Rattle.mach_audit.specs.Told.{HasMet, TellsOf, TellsOfTrie, faults_in};
 

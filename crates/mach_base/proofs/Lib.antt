@@ -10,3 +10,5 @@ pub mod Signed
 pub mod FrontGroups
 pub mod Written
 pub mod Lanes
+pub mod ItemLists
+pub mod AllRead

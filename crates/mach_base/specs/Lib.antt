@@ -11,3 +11,4 @@ pub mod Record
 pub mod Front
 pub mod Among
 pub mod Sums
+pub mod Items

@@ -1,7 +1,8 @@
 -- Texts: bytes up to a zero, as names stand in load commands, string tables and tries.
-use Rattle.std.specs.Prelude.{◌==◌, ◌||◌, ℕ, ◌-◌, Bool, List, length, drop, Result, Ok, Err, nat_le, if◌then◌else◌}
+use Rattle.std.specs.Prelude.{◌==◌, ◌||◌, ℕ, ◌-◌, Bool, List, length, drop, map, Result, Ok, Err, nat_le, if◌then◌else◌}
 use Rattle.std.specs.List.{before_first}
 use Rattle.std.specs.Str.{is_utf8}
+use Rattle.std.specs.Borrow.{Bor}
 use Rattle.mach_base.specs.Fault.{Fault, bad_offset, bad_input}
 
 abbrev pub is_zero : ℕ → Bool
@@ -20,3 +21,7 @@ unfoldable pub text_at : List ℕ → ℕ → Result (List ℕ) Fault
 text_at bytes s =
     if nat_le (length bytes) s then Err (bad_offset s)
     else (if is_utf8 (run_at bytes s) then Ok (run_at bytes s) else Err (bad_input (length bytes - s)))
+
+-- the bytes of some texts
+abbrev pub texts : List (Bor (List ℕ)) → List (List ℕ)
+texts libs = map (λ text. text.now) libs

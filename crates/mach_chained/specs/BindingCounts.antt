@@ -3,7 +3,7 @@ use Rattle.std.specs.Prelude.{◌≡◌, ℕ, suc, List, [], ◌∷◌, map, len
 use Rattle.mach_chained.specs.Pointers.{Kind, rebase, bind, value}
 use Rattle.mach_chained.specs.Fixups.{Input}
 use Rattle.mach_chained.specs.Chained.{Placed, fixup_items}
-use Rattle.mach_parts.specs.Bindings.{Binding}
+use Rattle.mach_segments.specs.Bindings.{Binding}
 use Rattle.mach_chained.specs.Bindings.{bindings_of}
 
 -- one more, where it is a bind

@@ -8,9 +8,9 @@ ghost use Rattle.mach_chained.specs.Bindings.{place_in_file, signed_or_malformed
 ghost use Rattle.mach_chained.specs.Bindings.{BindingFault};
 ghost use Rattle.mach_chained.specs.Chained.{Placed, AreFixups, fixup_items};
 ghost use Rattle.mach_chained.specs.WalkViews.{input_of, input_in, fixup_view};
-ghost use Rattle.mach_parts.specs.Segment.{segment_view};
-ghost use Rattle.mach_parts.specs.Bindings as declared;
-ghost use Rattle.mach_parts.specs.Bindings.{texts, binding_view, binding_read};
+ghost use Rattle.mach_segments.specs.Segment.{segment_view};
+ghost use Rattle.mach_segments.specs.Bindings as declared;
+ghost use Rattle.mach_segments.specs.Bindings.{texts, binding_view, binding_read};
 ghost use Rattle.mach_chained.specs.BindingViews.{bindings_seen, bindings_left, pointers_left};
 
 use crate::fixups::FixupIterator;
@@ -18,8 +18,8 @@ use crate::header::ChainedFixups;
 use crate::pointer::FixupKind;
 use crate::source::{Fixup, Source, nth_segment};
 use mach_base::{Error, Result, Steps};
-use mach_parts::binding::{Binding, Provider};
-use mach_parts::segment::Segment;
+use mach_segments::binding::{Binding, Provider};
+use mach_segments::segment::Segment;
 use std::alloc::Allocator;
 
 // Where an offset in a segment lies in the file.

@@ -10,7 +10,7 @@ ghost use Rattle.mach_chained.specs.WalkViews.{input_of, input_in, span_view};
 use crate::fixups::FixupIterator;
 use crate::header::ChainedFixups;
 use crate::source::{NextPlace, PagePlace, Source, Span};
-use mach_parts::segment::Segment;
+use mach_segments::segment::Segment;
 
 /// How far the walk along chains has come: numbers alone, which go with the bytes and the chained fixups. Whatever
 /// they are, going on from them gives fixups, or an error, or nothing.

@@ -3,12 +3,12 @@ use Rattle.std.proofs.Common.{◌≡◌, ℕ, List, Result}
 use Rattle.std.specs.Prelude.{◌↔◌}
 use Rattle.mach_base.specs.Context.{pointer_size}
 use Rattle.mach_base.specs.Fault.{Fault}
-use Rattle.mach_parts.specs.Bindings.{Binding}
-use Rattle.goblin_mach.specs.Bindings.{AreOpcodeBindings}
-use Rattle.goblin_mach.specs.ImageFacts.{Facts}
-use Rattle.goblin_mach.specs.OpenImage.{IsLossyImage}
-use Rattle.goblin_mach.specs.declared.image.macho.MachO.{MachO}
-use Rattle.goblin_mach.proofs.Facts.{facts_are}
+use Rattle.mach_segments.specs.Bindings.{Binding}
+use Rattle.mach_image.specs.Bindings.{AreOpcodeBindings}
+use Rattle.mach_image.specs.ImageFacts.{Facts}
+use Rattle.mach_image.specs.OpenImage.{IsLossyImage}
+use Rattle.mach_image.specs.declared.macho.MachO.{MachO}
+use Rattle.mach_image.proofs.ImageFacts.{facts_are}
 use Rattle.mach_layout.specs.Bindings.{AreBindFaults, binds_told}
 use Rattle.mach_rules.specs.Claims.{claims_of}
 use Rattle.mach_layout.specs.Facts.{HasClaims, HasLayoutFaults}

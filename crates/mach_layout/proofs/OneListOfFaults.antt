@@ -4,13 +4,13 @@ use Rattle.mach_base.specs.Context.{pointer_size}
 use Rattle.mach_base.specs.Fault.{Fault}
 use Rattle.mach_base.specs.declared.context.Ctx.{Ctx}
 use Rattle.mach_load.specs.Command.{Command}
-use Rattle.mach_parts.specs.Bindings.{Binding}
-use Rattle.mach_parts.specs.Segment.{SegmentView}
-use Rattle.mach_dyld.specs.BindingLaws.{HasOneListOfBindings}
-use Rattle.mach_dyld.specs.Imports.{BindRanges, input_in}
-use Rattle.goblin_mach.specs.Bindings.{AreOpcodeBindings}
-use Rattle.goblin_mach.specs.Subjects.{binds_in, libs_in, lossy_segments_in}
-use Rattle.goblin_mach.proofs.Facts.{one_image}
+use Rattle.mach_segments.specs.Bindings.{Binding}
+use Rattle.mach_segments.specs.Segment.{SegmentView}
+use Rattle.mach_binds.specs.BindingLaws.{HasOneListOfBindings}
+use Rattle.mach_binds.specs.Imports.{BindRanges, input_in}
+use Rattle.mach_image.specs.Bindings.{AreOpcodeBindings}
+use Rattle.mach_image.specs.Subjects.{binds_in, libs_in, lossy_segments_in}
+use Rattle.mach_image.proofs.ImageFacts.{one_image}
 use Rattle.mach_layout.specs.Bindings.{binds_told}
 use Rattle.mach_rules.specs.Commands.{command_faults}
 use Rattle.mach_rules.specs.Entry.{entry_faults}

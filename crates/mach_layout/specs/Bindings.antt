@@ -3,11 +3,11 @@
 use Rattle.std.specs.Prelude.{◌≡◌, List, [], ◌∷◌, Bool, true, false, Result, Ok, Err, if◌then◌else◌}
 use Rattle.mach_base.specs.Context.{pointer_size}
 use Rattle.mach_base.specs.Fault.{Fault}
-use Rattle.mach_dyld.specs.Exports.{texts}
-use Rattle.mach_parts.specs.Bindings.{Binding}
-use Rattle.goblin_mach.specs.Bindings.{AreOpcodeBindings}
-use Rattle.goblin_mach.specs.OpenImage.{binds_held, ctx_held, segments_held}
-use Rattle.goblin_mach.specs.declared.image.macho.MachO.{MachO}
+use Rattle.mach_base.specs.Text.{texts}
+use Rattle.mach_segments.specs.Bindings.{Binding}
+use Rattle.mach_image.specs.Bindings.{AreOpcodeBindings}
+use Rattle.mach_image.specs.OpenImage.{binds_held, ctx_held, segments_held}
+use Rattle.mach_image.specs.declared.macho.MachO.{MachO}
 use Rattle.mach_rules.specs.Binds.{binds_fault}
 use Rattle.mach_rules.specs.Laid.{Laid}
 use Rattle.mach_rules.specs.declared.fault.LayoutFault.{LayoutFault}

@@ -4,10 +4,10 @@ use Rattle.mach_base.specs.Context.{pointer_size}
 use Rattle.mach_base.specs.Fault.{Fault}
 use Rattle.mach_base.specs.declared.context.Ctx.{Ctx}
 use Rattle.mach_load.specs.Command.{Command}
-use Rattle.mach_parts.specs.Bindings.{Binding}
-use Rattle.goblin_mach.specs.Bindings.{AreOpcodeBindings}
-use Rattle.goblin_mach.specs.Facts.{OfImage}
-use Rattle.goblin_mach.specs.Subjects.{binds_in, libs_in, lossy_segments_in}
+use Rattle.mach_segments.specs.Bindings.{Binding}
+use Rattle.mach_image.specs.Bindings.{AreOpcodeBindings}
+use Rattle.mach_image.specs.Facts.{OfImage}
+use Rattle.mach_image.specs.Subjects.{binds_in, libs_in, lossy_segments_in}
 use Rattle.mach_layout.specs.Bindings.{binds_told}
 use Rattle.mach_rules.specs.Claims.{claims_of}
 use Rattle.mach_rules.specs.Faults.{AreLayoutFaults}

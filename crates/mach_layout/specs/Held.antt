@@ -1,6 +1,6 @@
 -- What the rules read of an image that was opened at the first of its bytes.
-use Rattle.goblin_mach.specs.OpenImage.{bytes_held, ctx_held, commands_held}
-use Rattle.goblin_mach.specs.declared.image.macho.MachO.{MachO}
+use Rattle.mach_image.specs.OpenImage.{bytes_held, ctx_held, commands_held}
+use Rattle.mach_image.specs.declared.macho.MachO.{MachO}
 use Rattle.mach_rules.specs.Laid.{Laid}
 
 -- what an image holds of it

@@ -2,15 +2,16 @@
 
 ghost use Rattle.std.specs.Prelude.{◌≡◌, ◌++◌, [], List, OnOk};
 ghost use Rattle.mach_base.specs.Answer.{IsOkUnlessMemory};
-ghost use Rattle.mach_dyld.specs.BindingsLeft.{bindings_left};
+ghost use Rattle.mach_binds.specs.BindingsLeft.{bindings_left};
 ghost use Rattle.mach_layout.specs.Bindings as defined;
 ghost use Rattle.mach_rules.specs.Laid.{laid_of};
 ghost use Rattle.mach_rules.specs.declared.fault.LayoutFault as listed;
 ghost use Rattle.std.specs.List.{cons_option};
 
 use crate::layout::layout_of;
-use goblin_mach::{MachO, OpcodeBindingIterator};
 use mach_base::Result;
+use mach_binds::bindings::OpcodeBindingIterator;
+use mach_image::macho::MachO;
 use mach_rules::{Layout, LayoutFault, binds_fault};
 use std::alloc::Allocator;
 

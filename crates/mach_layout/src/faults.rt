@@ -11,8 +11,8 @@ ghost use Rattle.mach_rules.specs.Laid.{laid_of};
 
 use crate::bindings::bind_faults;
 use crate::layout::layout_of;
-use goblin_mach::MachO;
 use mach_base::Result;
+use mach_image::macho::MachO;
 use mach_rules::{
     ClaimIterator, Layout, LayoutFault, add_sections, add_segments, add_symbols, fixup_faults,
 };

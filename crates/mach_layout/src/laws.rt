@@ -1,7 +1,7 @@
 //! Laws between an image that was opened and the facts on the bytes that it was opened in.
 
 ghost use Rattle.std.specs.Prelude.{◌≡◌, ◌↔◌, ℕ, List};
-ghost use Rattle.goblin_mach.specs.OpenImage.{IsImage, IsLossyImage};
+ghost use Rattle.mach_image.specs.OpenImage.{IsImage, IsLossyImage};
 ghost use Rattle.mach_layout.specs.Bindings.{AreBindFaults};
 ghost use Rattle.mach_layout.specs.Facts.{HasClaims, HasLayoutFaults};
 ghost use Rattle.mach_layout.specs.Held.{laid_held};
@@ -10,7 +10,7 @@ ghost use Rattle.mach_rules.specs.Faults.{AreLayoutFaults};
 ghost use Rattle.mach_rules.specs.declared.claim.Claim.{Claim};
 ghost use Rattle.mach_rules.specs.declared.fault.LayoutFault.{LayoutFault};
 
-use goblin_mach::MachO;
+use mach_image::macho::MachO;
 pub use mach_rules::laws::one_list_of_container_faults;
 use std::alloc::Allocator;
 
@@ -32,5 +32,5 @@ pub fn layout_faults_of_image<A: Allocator>(image: &MachO<'_, A>)
 pub fn one_list_of_layout_faults()
     ensures { (bytes : List ℕ) (list others : List LayoutFault) → HasLayoutFaults bytes list → HasLayoutFaults bytes others → list ≡ others }
 {
-    mach_dyld::laws::one_list_of_bindings();
+    mach_binds::laws::one_list_of_bindings();
 }

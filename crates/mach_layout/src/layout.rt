@@ -4,7 +4,7 @@ ghost use Rattle.std.specs.Prelude.{◌≡◌};
 ghost use Rattle.mach_layout.specs.Held.{laid_held};
 ghost use Rattle.mach_rules.specs.Laid.{laid_of};
 
-use goblin_mach::MachO;
+use mach_image::macho::MachO;
 use mach_rules::Layout;
 use std::alloc::Allocator;
 

@@ -3,11 +3,12 @@ use Rattle.std.proofs.Common.{◌≡◌, ℕ, List, Option, Some, None, Ok, Err,
 use Rattle.mach_base.specs.Answer.{Stands}
 use Rattle.mach_base.specs.Fault.{Fault, fault_of}
 use Rattle.mach_base.specs.declared.error.Error.{Error}
-use Rattle.mach_parts.specs.declared.fat.FatArch.{FatArch}
+use Rattle.mach_headers.specs.declared.fat.FatArch.{FatArch}
 use Rattle.goblin_mach.specs.FatFile.{file_held, archs_of, first_of_cpu}
-use Rattle.goblin_mach.specs.OpenImage.{IsImage, IsFatMach, commands_held}
+use Rattle.mach_image.specs.OpenImage.{IsImage, commands_held}
+use Rattle.goblin_mach.specs.File.{IsFatMach}
 use Rattle.goblin_mach.specs.declared.fat_file.multi_arch.MultiArch.{MultiArch}
-use Rattle.goblin_mach.specs.declared.image.macho.MachO.{MachO}
+use Rattle.mach_image.specs.declared.macho.MachO.{MachO}
 use Rattle.mach_resolve.specs.Cpu.{IsOfCpu, entry_bytes, FindsRecord, HasFor, image, other_image, entry, of_table}
 use Rattle.mach_resolve.specs.Files.{File}
 use Rattle.mach_resolve.specs.Given.{Given, IsFile, IsLibrary, NumberedFault, OpenFault, LibraryFault, unfound, of_image}

@@ -1,13 +1,13 @@
 -- A program that was opened, and what it says.
 use Rattle.std.proofs.Common.{◌≡◌, ◌∙◌, ℕ, Bool, List, Option, Result, Ok, map, unwrap_or, ap}
 use Rattle.mach_base.specs.Fault.{Fault}
-use Rattle.mach_parts.specs.Bindings.{Binding}
-use Rattle.goblin_mach.specs.Facts.{OfImage, HasName, HasLibrariesByKind, HasBindings}
-use Rattle.goblin_mach.specs.Image.{Opens}
-use Rattle.goblin_mach.specs.Libraries.{LibraryView, libraries_in}
-use Rattle.goblin_mach.specs.OpenImage.{IsImage, commands_held}
-use Rattle.goblin_mach.specs.Subjects.{own_name_in}
-use Rattle.goblin_mach.specs.declared.image.macho.MachO.{MachO}
+use Rattle.mach_segments.specs.Bindings.{Binding}
+use Rattle.mach_image.specs.Facts.{OfImage, HasName, HasLibrariesByKind, HasBindings}
+use Rattle.mach_image.specs.Image.{Opens}
+use Rattle.mach_image.specs.Libraries.{LibraryView, libraries_in}
+use Rattle.mach_image.specs.OpenImage.{IsImage, commands_held}
+use Rattle.mach_image.specs.Subjects.{own_name_in}
+use Rattle.mach_image.specs.declared.macho.MachO.{MachO}
 use Rattle.mach_resolve.specs.Answers.{Program}
 use Rattle.mach_resolve.specs.Given.{Given, Gathered, GathersAll, may_be_absent}
 use Rattle.mach_resolve.specs.Resolved.{IsProgram, HoldsItems, AnswerFault, ResolveFault, of_bindings, of_trie}

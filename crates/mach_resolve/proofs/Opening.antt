@@ -5,7 +5,7 @@ use Rattle.std.specs.List.{list_any}
 use Rattle.std.proofs.lemmas.List.{append_assoc, map_push, length-map, at_drop_more, get_or-map}
 use Rattle.std.proofs.lemmas.Option.{slice_get-get_or}
 use Rattle.mach_base.specs.Fault.{Fault}
-use Rattle.goblin_mach.specs.Libraries.{LibraryView}
+use Rattle.mach_image.specs.Libraries.{LibraryView}
 use Rattle.mach_resolve.specs.Opened.{given_seen}
 use Rattle.mach_resolve.specs.declared.given.Given as declared
 use Rattle.mach_resolve.specs.Note.{Note, given_before}

@@ -5,8 +5,9 @@ use Rattle.mach_base.specs.Answer.{Stands}
 use Rattle.mach_base.specs.Fault.{Fault}
 use Rattle.mach_base.specs.declared.error.Error.{Error}
 use Rattle.mach_base.specs.declared.error.Error.TheVariants.{Malformed, BadMagic, Scroll, BufferTooShort, Memory}
-use Rattle.goblin_mach.specs.Image.{ImageFault, MachFault}
-use Rattle.mach_parts.specs.Magic.{begins_archive}
+use Rattle.mach_image.specs.Image.{ImageFault}
+use Rattle.goblin_mach.specs.File.{MachFault}
+use Rattle.mach_headers.specs.Magic.{begins_archive}
 use Rattle.goblin_mach.specs.View.{Tells}
 use Rattle.mach_resolve.specs.Cpu as cpu
 use Rattle.mach_resolve.specs.Cpu.{IsOfCpu, ForFault}

@@ -9,8 +9,8 @@ use Rattle.mach_base.specs.Answer.{Stands}
 use Rattle.mach_base.specs.Fault.{Fault}
 use Rattle.mach_base.specs.declared.error.Error.{Error}
 use Rattle.mach_base.specs.declared.error.Error.TheVariants.{Malformed, BadMagic, Scroll, BufferTooShort, Memory}
-use Rattle.mach_dyld.specs.Exports.{text_in}
-use Rattle.mach_dyld.specs.Trie.{Info}
+use Rattle.mach_tries.specs.Exports.{text_in}
+use Rattle.mach_tries.specs.Trie.{Info}
 use Rattle.mach_resolve.specs.Files.{File}
 use Rattle.mach_resolve.specs.Behind.{Met, IsBehindAll}
 use Rattle.mach_resolve.specs.Follow as follow

@@ -5,7 +5,7 @@ use Rattle.std.proofs.lemmas.List.{take_all}
 use Rattle.std.proofs.lemmas.List.Elements.{All-nil, All-more, All-weaker}
 use Rattle.std.proofs.lemmas.Option.{none-some, slice_get-get_or, get_or_from_slice_get}
 use Rattle.std.proofs.lemmas.Bool.{false≢true}
-use Rattle.mach_dyld.specs.Trie.{Info}
+use Rattle.mach_tries.specs.Trie.{Info}
 use Rattle.mach_resolve.specs.Files.{File}
 use Rattle.mach_resolve.specs.Follow as follow
 use Rattle.mach_resolve.specs.Special.{DefinesNot, NotStrong, DefinesFirst, IsWeakLookup, strong, weak, nowhere}

@@ -1,7 +1,7 @@
 -- The answers for the bindings of a program, and which of them are settled.
 use Rattle.std.specs.Prelude.{◌≡◌, ℕ, Bool, true, false, ◌||◌, ◌&&◌, List, [], slice_get, bytes_eq, unwrap_or}
 use Rattle.std.specs.List.{AllZip}
-use Rattle.mach_parts.specs.Bindings.{Binding, Provider, of_library, itself, main_executable, flat, weak_lookup}
+use Rattle.mach_segments.specs.Bindings.{Binding, Provider, of_library, itself, main_executable, flat, weak_lookup}
 use Rattle.mach_resolve.specs.Files.{File}
 use Rattle.mach_resolve.specs.Follow.{Place, found, leads_back, no_library, missing, not_given, not_found, no_main, Follow}
 use Rattle.mach_resolve.specs.Special.{IsFlat, IsWeakLookup, IsInMain}

@@ -1,13 +1,14 @@
 -- What a file has for a cpu: itself, or an entry of its table (`mach-o/fat.h`).
 use Rattle.std.specs.Prelude.{◌≡◌, ◌≢◌, ℕ, List, Option, Some, None, Ok, Err}
 use Rattle.mach_base.specs.Fault.{Fault}
-use Rattle.mach_parts.specs.Fat.{part_of}
-use Rattle.mach_parts.specs.Header.{IsHeader}
-use Rattle.mach_parts.specs.declared.fat.FatArch.{FatArch}
-use Rattle.mach_parts.specs.declared.header.Header.{Header}
-use Rattle.goblin_mach.specs.Facts.{OfImage}
+use Rattle.mach_headers.specs.Fat.{part_of}
+use Rattle.mach_headers.specs.Header.{IsHeader}
+use Rattle.mach_headers.specs.declared.fat.FatArch.{FatArch}
+use Rattle.mach_headers.specs.declared.header.Header.{Header}
+use Rattle.mach_image.specs.Facts.{OfImage}
 use Rattle.goblin_mach.specs.FatFile.{FatFile, fat_file_in, archs_of, first_of_cpu}
-use Rattle.goblin_mach.specs.Image.{Opens, ImageFault, HasFatMagic, MachFault}
+use Rattle.mach_image.specs.Image.{Opens, ImageFault}
+use Rattle.goblin_mach.specs.File.{HasFatMagic, MachFault}
 
 -- the bytes are an image of this cpu, which opens
 pub record IsOfCpu (bytes : List ℕ) (cputype : ℕ) : Type 0 where

@@ -1,10 +1,10 @@
 -- The files among which names are sought, and what the own trie of each says of a name (dyld).
 use Rattle.std.specs.Prelude.{◌≡◌, ℕ, Bool, List, Option, Some, None, slice_get, bytes_eq, position}
 use Rattle.mach_base.specs.Fault.{Fault}
-use Rattle.mach_dyld.specs.Trie.{Info}
-use Rattle.mach_dyld.specs.TrieRange.{TrieRange}
-use Rattle.goblin_mach.specs.LookUp.{StandsInImage}
-use Rattle.goblin_mach.specs.Subjects.{ImageExportsFault}
+use Rattle.mach_tries.specs.Trie.{Info}
+use Rattle.mach_tries.specs.TrieRange.{TrieRange}
+use Rattle.mach_image.specs.LookUp.{StandsInImage}
+use Rattle.mach_image.specs.Subjects.{ImageExportsFault}
 
 -- a file: its number among those that were given, the program's being 0; the name by which it is known; whether
 -- it is a main executable; the libraries that it re-exports as a whole, in order; and its trie, over its libraries

@@ -2,7 +2,7 @@
 -- re-exports of tries (dyld).
 use Rattle.std.specs.Prelude.{◌≡◌, ◌==◌, ℕ, Bool, List, [], ◌∷◌, ◌++◌, All, take, Option, Some, None, unwrap_or, slice_get, bit_and}
 use Rattle.mach_base.specs.Among.{IsAmong}
-use Rattle.mach_dyld.specs.Trie.{Info, regular, reexport, stub}
+use Rattle.mach_tries.specs.Trie.{Info, regular, reexport, stub}
 use Rattle.mach_resolve.specs.Files.{File, place_of, Says, Lacks}
 use Rattle.mach_resolve.specs.Behind.{Edge, Met, IsBehind}
 

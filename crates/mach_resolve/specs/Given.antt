@@ -2,14 +2,14 @@
 use Rattle.std.specs.Prelude.{◌≡◌, ◌==◌, ◌+◌, ℕ, Bool, true, false, List, [], ◌∷◌, ◌++◌, map, Some, None, unwrap_or, slice_get, bytes_eq, if◌then◌else◌}
 use Rattle.std.specs.List.{list_any}
 use Rattle.mach_base.specs.Fault.{Fault}
-use Rattle.mach_parts.specs.Header.{IsHeader}
-use Rattle.mach_parts.specs.declared.header.Header.{Header}
-use Rattle.goblin_mach.specs.Facts.{OfImage}
-use Rattle.goblin_mach.specs.Image.{Opens, ImageFault}
-use Rattle.goblin_mach.specs.Libraries.{LibraryView, libraries_in}
-use Rattle.goblin_mach.specs.Subjects.{own_name_in, trie_in, libs_in}
-use Rattle.goblin_mach.specs.declared.image.libraries.LibraryKind.{LibraryKind}
-use Rattle.goblin_mach.specs.declared.image.libraries.LibraryKind.TheVariants.{Required, Weak, Reexport, Upward, Lazy}
+use Rattle.mach_headers.specs.Header.{IsHeader}
+use Rattle.mach_headers.specs.declared.header.Header.{Header}
+use Rattle.mach_image.specs.Facts.{OfImage}
+use Rattle.mach_image.specs.Image.{Opens, ImageFault}
+use Rattle.mach_image.specs.Libraries.{LibraryView, libraries_in}
+use Rattle.mach_image.specs.Subjects.{own_name_in, trie_in, libs_in}
+use Rattle.mach_image.specs.declared.libraries.LibraryKind.{LibraryKind}
+use Rattle.mach_image.specs.declared.libraries.LibraryKind.TheVariants.{Required, Weak, Reexport, Upward, Lazy}
 use Rattle.mach_resolve.specs.Files.{File}
 use Rattle.mach_resolve.specs.Note.{Note, given_before, nothing_for}
 use Rattle.mach_resolve.specs.Cpu.{IsOfCpu, HasFor, ForFault}

@@ -3,7 +3,7 @@ use Rattle.std.specs.Prelude.{◌==◌, ◌+◌, ℕ, Bool, true, false, List, [
 use Rattle.std.specs.Fmt.{digits, decimal}
 use Rattle.mach_base.specs.Words.{words_of}
 use Rattle.mach_base.specs.declared.error.Error.{Error}
-use Rattle.mach_parts.specs.Bindings.{Provider, of_library, itself, main_executable, flat, weak_lookup}
+use Rattle.mach_segments.specs.Bindings.{Provider, of_library, itself, main_executable, flat, weak_lookup}
 use Rattle.mach_resolve.specs.Follow.{Place, found, leads_back, no_library, missing, not_given, not_found, no_main}
 use Rattle.mach_resolve.specs.Answers.{Answer}
 use Rattle.mach_resolve.specs.Note.{Note, given_before, nothing_for, all_noted}

@@ -3,10 +3,11 @@ use Rattle.std.specs.Prelude.{◌≡◌, ◌≢◌, ℕ, Bool, true, false, List
 use Rattle.std.specs.List.{AllZip, list_all}
 use Rattle.mach_base.specs.Fault.{Fault}
 use Rattle.mach_base.specs.declared.error.Error.{Error}
-use Rattle.mach_parts.specs.declared.fat.FatArch.{FatArch}
+use Rattle.mach_headers.specs.declared.fat.FatArch.{FatArch}
 use Rattle.goblin_mach.specs.FatFile.{FatFile, fat_file_in, arches_in}
-use Rattle.goblin_mach.specs.Image.{ImageFault, HasFatMagic, MachFault}
-use Rattle.mach_parts.specs.Magic.{begins_archive}
+use Rattle.mach_image.specs.Image.{ImageFault}
+use Rattle.goblin_mach.specs.File.{HasFatMagic, MachFault}
+use Rattle.mach_headers.specs.Magic.{begins_archive}
 use Rattle.goblin_mach.specs.View.{Tells}
 use Rattle.mach_resolve.specs.Answers.{Answer, is_settled}
 use Rattle.mach_resolve.specs.Cpu.{IsOfCpu, entry_bytes, FindsRecord, ForFault}

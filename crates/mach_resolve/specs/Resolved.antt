@@ -2,16 +2,16 @@
 use Rattle.std.specs.Prelude.{◌≡◌, ℕ, List, ◌∷◌, ◌++◌, map, unwrap_or, Result, Ok, Err}
 use Rattle.mach_base.specs.Context.{pointer_size}
 use Rattle.mach_base.specs.Fault.{Fault}
-use Rattle.mach_parts.specs.Bindings.{Binding}
-use Rattle.mach_dyld.specs.Exports.{texts}
-use Rattle.goblin_mach.specs.Bindings.{AreImageBindings}
-use Rattle.goblin_mach.specs.Facts.{OfImage, HasBindings}
-use Rattle.goblin_mach.specs.Fixups.{chained_held}
-use Rattle.goblin_mach.specs.Image.{Opens}
-use Rattle.goblin_mach.specs.Libraries.{libraries_in}
-use Rattle.goblin_mach.specs.OpenImage.{binds_held, ctx_held, segments_held}
-use Rattle.goblin_mach.specs.Subjects.{own_name_in}
-use Rattle.goblin_mach.specs.declared.image.macho.MachO.{MachO}
+use Rattle.mach_segments.specs.Bindings.{Binding}
+use Rattle.mach_base.specs.Text.{texts}
+use Rattle.mach_image.specs.Bindings.{AreImageBindings}
+use Rattle.mach_image.specs.Facts.{OfImage, HasBindings}
+use Rattle.mach_image.specs.Fixups.{chained_held}
+use Rattle.mach_image.specs.Image.{Opens}
+use Rattle.mach_image.specs.Libraries.{libraries_in}
+use Rattle.mach_image.specs.OpenImage.{binds_held, ctx_held, segments_held}
+use Rattle.mach_image.specs.Subjects.{own_name_in}
+use Rattle.mach_image.specs.declared.macho.MachO.{MachO}
 use Rattle.mach_resolve.specs.Files.{File, TrieFaultAt}
 use Rattle.mach_resolve.specs.Answers.{Program, Answer, AreAnswers}
 use Rattle.mach_resolve.specs.Given.{Given, Gathered, GathersAll, GivenFault, may_be_absent}

@@ -1,10 +1,10 @@
 -- What the program's own types mean.
 use Rattle.std.specs.Prelude.{◌≡◌, ◌≢◌, ◌↔◌, ℕ, Result, Ok, Err, List, map, Option, option_map, Some, None, slice_get, IsTrue, if◌then◌else◌}
 use Rattle.mach_base.specs.declared.error.Error.{Error}
-use Rattle.mach_dyld.specs.Exports.{texts}
-use Rattle.mach_dyld.specs.Trie.{Info}
-use Rattle.mach_parts.specs.Bindings.{provider_view}
-use Rattle.goblin_mach.specs.OpenImage.{trie_held}
+use Rattle.mach_base.specs.Text.{texts}
+use Rattle.mach_tries.specs.Trie.{Info}
+use Rattle.mach_segments.specs.Bindings.{provider_view}
+use Rattle.mach_image.specs.OpenImage.{trie_held}
 use Rattle.mach_resolve.specs.Files as files
 use Rattle.mach_resolve.specs.Behind as behind
 use Rattle.mach_resolve.specs.Follow as follow

@@ -1,6 +1,6 @@
 -- Where a name is found that is sought in any file: flat look-ups, and weak ones (dyld).
 use Rattle.std.specs.Prelude.{◌≡◌, ◌≢◌, ◌⊎◌, ℕ, List, [], All, take, IsTrue, IsFalse, Some, None, slice_get, bit_and}
-use Rattle.mach_dyld.specs.Trie.{Info}
+use Rattle.mach_tries.specs.Trie.{Info}
 use Rattle.mach_resolve.specs.Files.{File, Says}
 use Rattle.mach_resolve.specs.Behind.{Met, IsBehindAll}
 use Rattle.mach_resolve.specs.Follow.{Symbol, Place, found, not_found, no_main, address_of, flags_of, is_absolute, HasFirst, NoneHas, LeadsTo, Follow}

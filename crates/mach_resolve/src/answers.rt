@@ -2,7 +2,7 @@
 
 ghost use Rattle.std.specs.Prelude.{◌≡◌, ◌||◌, map, IfOk, IfErr};
 ghost use Rattle.std.specs.List.{list_all};
-ghost use Rattle.mach_parts.specs.Bindings.{provider_view, binding_view};
+ghost use Rattle.mach_segments.specs.Bindings.{provider_view, binding_view};
 ghost use Rattle.mach_resolve.specs.Files.{TrieFaultAt};
 ghost use Rattle.mach_resolve.specs.Behind.{Met, IsBehindAll};
 ghost use Rattle.mach_resolve.specs.Answers.{IsProvided, IsAnswer, is_absent_weak, is_settled};

@@ -1,7 +1,7 @@
 //! What the tries of the files say of a name.
 
 ghost use Rattle.std.specs.Prelude.{◌≡◌, ◌<◌, ℕ, Bool, length, map, option_map, slice_get, IfOk, IfErr, IfSome, IfNone, OnOk, OnErr, Some, None};
-ghost use Rattle.mach_dyld.specs.Exports.{info_of};
+ghost use Rattle.mach_tries.specs.Exports.{info_of};
 ghost use Rattle.mach_resolve.specs.Files.{place_of, Says, Lacks, TrieFaultAt};
 ghost use Rattle.mach_resolve.specs.Follow.{HasFirst, NoneHas};
 ghost use Rattle.mach_resolve.specs.Failures.{IsFailure};

@@ -2,7 +2,7 @@
 
 ghost use Rattle.std.specs.Prelude.{◌≡◌, ◌==◌, ◌<◌, ◌^◌, ◌+◌, ◌∷◌, ◌++◌, [], length, map, option_map, bit_and, true, false, Ok, IfOk, IfErr};
 ghost use Rattle.mach_base.specs.Among.{IsAmong};
-ghost use Rattle.mach_dyld.specs.Exports.{info_of};
+ghost use Rattle.mach_tries.specs.Exports.{info_of};
 ghost use Rattle.mach_resolve.specs.Files.{TrieFaultAt};
 ghost use Rattle.mach_resolve.specs.Follow.{Follow, found, nowhere};
 ghost use Rattle.mach_resolve.specs.Failures.{IsFailure};

@@ -1,9 +1,10 @@
 //! The files as they were given, opened.
 
 ghost use Rattle.std.specs.Prelude.{◌≡◌, ℕ, List, None, map, IfOk, IfErr, IfSome, IfNone};
-ghost use Rattle.mach_dyld.specs.Exports.{texts};
-ghost use Rattle.goblin_mach.specs.Libraries.{libraries_in};
-ghost use Rattle.goblin_mach.specs.OpenImage.{IsImage, IsFatMach, bytes_held, commands_held};
+ghost use Rattle.mach_base.specs.Text.{texts};
+ghost use Rattle.mach_image.specs.Libraries.{libraries_in};
+ghost use Rattle.mach_image.specs.OpenImage.{IsImage, bytes_held, commands_held};
+ghost use Rattle.goblin_mach.specs.File.{IsFatMach};
 ghost use Rattle.mach_resolve.specs.Failures.{IsFailure};
 ghost use Rattle.mach_resolve.specs.Cpu.{HasFor};
 ghost use Rattle.mach_resolve.specs.Given.{IsFile, IsLibrary, only, Adds, AddsLibrary, GathersFor, is_reexport, is_weak_kind, reexported, may_be_absent};

@@ -1,7 +1,7 @@
 //! Answers, notes and refusals as they are printed.
 
 ghost use Rattle.std.specs.Prelude.{◌≡◌, Some};
-ghost use Rattle.mach_parts.specs.Bindings.{provider_view};
+ghost use Rattle.mach_segments.specs.Bindings.{provider_view};
 ghost use Rattle.mach_resolve.specs.Lines.{provider_text, place_text, front_text, answer_text, file_text, refusal_text, nothing_words, nothing_text, note_text};
 ghost use Rattle.mach_resolve.specs.Seen.{place_seen, answer_seen, note_seen};
 

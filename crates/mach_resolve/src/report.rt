@@ -2,7 +2,7 @@
 
 ghost use Rattle.std.specs.Prelude.{◌≡◌, map, Some, None, IfOk};
 ghost use Rattle.std.specs.List.{list_all};
-ghost use Rattle.goblin_mach.specs.OpenImage.{IsFatMach};
+ghost use Rattle.goblin_mach.specs.File.{IsFatMach};
 ghost use Rattle.mach_resolve.specs.Cpu.{IsOfCpu};
 ghost use Rattle.mach_resolve.specs.Opened.{given_seen};
 ghost use Rattle.mach_resolve.specs.Report.{entry_of, IsOneOf, IsOutcome, IsEntryOutcome, AreEntryOutcomes, IsReport, is_whole, all_whole};

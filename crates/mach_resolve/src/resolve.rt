@@ -1,7 +1,7 @@
 //! A program, resolved: the answers for its bindings.
 
 ghost use Rattle.std.specs.Prelude.{◌≡◌, ◌∷◌, List, map, IfOk, IfErr, IsTrue, IsFalse};
-ghost use Rattle.mach_parts.specs.Bindings.{Binding};
+ghost use Rattle.mach_segments.specs.Bindings.{Binding};
 ghost use Rattle.mach_resolve.specs.Behind.{Met, IsBehindAll};
 ghost use Rattle.mach_resolve.specs.Answers as answered;
 ghost use Rattle.mach_resolve.specs.Answers.{AreAnswers};

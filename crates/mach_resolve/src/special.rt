@@ -1,7 +1,7 @@
 //! Names that are sought in any file, and in the main executable.
 
 ghost use Rattle.std.specs.Prelude.{◌≡◌, slice_get, Some, IfOk, IfErr, IfSome, IfNone};
-ghost use Rattle.mach_dyld.specs.Exports.{info_of};
+ghost use Rattle.mach_tries.specs.Exports.{info_of};
 ghost use Rattle.mach_resolve.specs.Files.{File, TrieFaultAt};
 ghost use Rattle.mach_resolve.specs.Follow.{flags_of};
 ghost use Rattle.mach_resolve.specs.Behind.{Met, IsBehindAll};

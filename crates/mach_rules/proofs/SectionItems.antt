@@ -5,8 +5,8 @@ use Rattle.mach_base.specs.Answer.{Reads}
 use Rattle.mach_base.specs.Fault.{Fault}
 use Rattle.mach_base.specs.declared.context.Ctx.{Ctx}
 use Rattle.mach_base.specs.declared.error.Error.{Error}
-use Rattle.mach_parts.specs.Items.{items_from}
-use Rattle.mach_parts.proofs.ItemLists.{items_from-first}
+use Rattle.mach_base.specs.Items.{items_from}
+use Rattle.mach_base.proofs.ItemLists.{items_from-first}
 use Rattle.mach_rules.specs.Laid.{in_front, placed_section_at, sections_from}
 use Rattle.mach_rules.specs.PartsLeft.{TakesSection}
 use Rattle.mach_rules.specs.declared.parts.PlacedSection.{PlacedSection}

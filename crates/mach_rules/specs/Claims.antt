@@ -8,8 +8,8 @@ use Rattle.mach_load.specs.Command.{Command}
 use Rattle.mach_load.specs.Commands.{Kind, symtab, dysymtab, dyld_info, dyld_info_only, code_signature, segment_split_info, function_starts, data_in_code}
 use Rattle.mach_load.specs.Commands.{dylib_code_sign_drs, linker_optimization_hint, dyld_exports_trie, dyld_chained_fixups, encryption_info32}
 use Rattle.mach_load.specs.Commands.{encryption_info64, note, twolevel_hints, symseg}
-use Rattle.mach_parts.specs.Section.{is_zero_fill}
-use Rattle.mach_parts.specs.Symbols.{nlist_size}
+use Rattle.mach_segments.specs.Section.{is_zero_fill}
+use Rattle.mach_symbols.specs.Symbols.{nlist_size}
 use Rattle.mach_rules.specs.Laid.{Laid, is_stub, is_dsym, used_end, segment_of, sections_by}
 use Rattle.mach_rules.specs.declared.claim.Claim.{Claim}
 use Rattle.mach_rules.specs.declared.fault.Part.{Part}

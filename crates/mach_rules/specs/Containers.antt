@@ -7,8 +7,8 @@ use Rattle.mach_base.specs.Number.{number_at}
 use Rattle.mach_base.specs.Record.{record_at}
 use Rattle.mach_base.specs.declared.context.Ctx.{Ctx}
 use Rattle.mach_base.specs.declared.context.Endian.TheVariants.{Big}
-use Rattle.mach_parts.specs.Fat.{fat_arch_fields, fat_arch_of_values}
-use Rattle.mach_parts.specs.Magic.{magic_at}
+use Rattle.mach_headers.specs.Fat.{fat_arch_fields, fat_arch_of_values}
+use Rattle.mach_headers.specs.Magic.{magic_at}
 use Rattle.mach_rules.specs.Commands.{of_header}
 use Rattle.mach_rules.specs.Sweep.{AreShared}
 use Rattle.mach_rules.specs.declared.claim.Claim.{Claim}

@@ -13,11 +13,11 @@ use Rattle.mach_base.specs.declared.context.Endian.{Endian}
 use Rattle.mach_load.specs.Command.{Command, cmdsize_of}
 use Rattle.mach_load.specs.Subjects.{segment_command_by}
 use Rattle.mach_load.specs.Variants.{command_of}
-use Rattle.mach_parts.specs.Header.{header_size, header_in}
-use Rattle.mach_parts.specs.Items.{items_from}
-use Rattle.mach_parts.specs.Section.{section_place}
-use Rattle.mach_parts.specs.Segment.{widened}
-use Rattle.mach_parts.specs.declared.header.Header.{Header}
+use Rattle.mach_headers.specs.Header.{header_size, header_in}
+use Rattle.mach_base.specs.Items.{items_from}
+use Rattle.mach_segments.specs.Section.{section_place}
+use Rattle.mach_segments.specs.Segment.{widened}
+use Rattle.mach_headers.specs.declared.header.Header.{Header}
 use Rattle.mach_records.specs.Segments.{section32_fields, section32_of_values, section64_fields, section64_of_values}
 use Rattle.mach_records.specs.declared.segments.Section32.{Section32}
 use Rattle.mach_records.specs.declared.segments.Section64.{Section64}

@@ -1,6 +1,6 @@
 -- What contracts see of the rules that symbols are asked.
 use Rattle.std.specs.Prelude.{ℕ, Option}
-use Rattle.mach_parts.specs.declared.symbols.nlist.Nlist.{Nlist}
+use Rattle.mach_symbols.specs.declared.symbols.nlist.Nlist.{Nlist}
 use Rattle.mach_rules.specs.Symbols.{if_there, symbol_in, symbol_section, symbol_name, symbol_library, indirect_in, indirect_symbol}
 use Rattle.mach_rules.specs.declared.fault.LayoutFault.{LayoutFault}
 use Rattle.mach_rules.specs.declared.symbols.PlacedSymtab.{PlacedSymtab}

@@ -12,8 +12,8 @@ use Rattle.mach_base.specs.declared.context.Endian.{Endian}
 use Rattle.mach_load.specs.Command.{Command}
 use Rattle.mach_load.specs.Commands.{Kind, symtab, dysymtab}
 use Rattle.mach_load.specs.Subjects.{is_library}
-use Rattle.mach_parts.specs.Symbols.{nlist_at, nlist_size, type_of}
-use Rattle.mach_parts.specs.declared.symbols.nlist.Nlist.{Nlist}
+use Rattle.mach_symbols.specs.Symbols.{nlist_at, nlist_size, type_of}
+use Rattle.mach_symbols.specs.declared.symbols.nlist.Nlist.{Nlist}
 use Rattle.mach_records.specs.SymbolTables.{symtab_command_of_values}
 use Rattle.mach_records.specs.declared.symbol_tables.DysymtabCommand.{DysymtabCommand}
 use Rattle.mach_rules.specs.Laid.{Laid, file_size, is_final, segment_of, sections_of, ends_past}

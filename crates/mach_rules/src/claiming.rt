@@ -3,7 +3,7 @@
 ghost use Rattle.std.specs.Prelude.{◌≡◌, ◌*◌, ◌∷◌, [], slice_get};
 ghost use Rattle.mach_records.specs.Linkedit.{dyld_info_command_values, linkedit_data_command_values};
 ghost use Rattle.mach_records.specs.SymbolTables.{symtab_command_values, dysymtab_command_values};
-ghost use Rattle.mach_parts.specs.Section.{is_zero_fill};
+ghost use Rattle.mach_segments.specs.Section.{is_zero_fill};
 ghost use Rattle.mach_load.specs.Variants.{command_of};
 ghost use Rattle.mach_rules.specs.Laid.{laid_of};
 ghost use Rattle.mach_rules.specs.Claims as defined;
@@ -15,9 +15,9 @@ use crate::layout::Layout;
 use crate::parts::{PlacedSection, PlacedSegment, segment_of, take_section};
 use mach_base::Container;
 use mach_load::{CommandVariant, LoadCommand};
-use mach_parts::symbols::{SIZEOF_NLIST_32, SIZEOF_NLIST_64};
 use mach_records::constants::{S_GB_ZEROFILL, S_THREAD_LOCAL_ZEROFILL, S_ZEROFILL, SECTION_TYPE};
 use mach_records::{DyldInfoCommand, DysymtabCommand, LinkeditDataCommand, SymtabCommand};
+use mach_symbols::symbols::{SIZEOF_NLIST_32, SIZEOF_NLIST_64};
 use std::slice::Iter;
 
 // So many bytes from a start on, claimed by a part of the command at a place.

@@ -13,8 +13,8 @@ use crate::commands::of_header;
 use crate::fault::{LayoutFault, Owner, Part, Rule};
 use crate::sweep::tell_ranges;
 use mach_base::{Endian, Result, read_u32};
-use mach_parts::fat::FatArch;
-use mach_parts::magic::parse_magic_and_ctx;
+use mach_headers::fat::FatArch;
+use mach_headers::magic::parse_magic_and_ctx;
 use std::alloc::Allocator;
 
 /// A record of a fat file, and its number, from 0.

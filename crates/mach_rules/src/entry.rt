@@ -13,8 +13,8 @@ use crate::fault::{LayoutFault, Owner, Part, Rule};
 use crate::layout::Layout;
 use crate::parts::PlacedSegment;
 use mach_base::Result;
+use mach_headers::header::MH_EXECUTE;
 use mach_load::{CommandVariant, LoadCommand};
-use mach_parts::header::MH_EXECUTE;
 use std::alloc::Allocator;
 
 /// The bit of a segment's rights that lets it be executed (`mach/vm_prot.h`).

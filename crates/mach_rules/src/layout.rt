@@ -11,11 +11,11 @@ ghost use Rattle.mach_rules.specs.PartsLeft.{segments_left, sections_left};
 use crate::claiming::ClaimIterator;
 use crate::parts::{SectionIterator, SegmentIterator};
 use mach_base::{Container, Ctx};
-use mach_load::LoadCommand;
-use mach_parts::header::{
+use mach_headers::header::{
     Header, MH_BUNDLE, MH_DSYM, MH_DYLIB, MH_DYLIB_STUB, MH_DYLINKER, MH_EXECUTE, MH_OBJECT,
     SIZEOF_HEADER_32, SIZEOF_HEADER_64,
 };
+use mach_load::LoadCommand;
 use mach_records::cputype::{CPU_TYPE_ARM64, CPU_TYPE_ARM64_32};
 
 /// What the rules read of an image: the bytes and the context that it was opened in, its header and its commands.

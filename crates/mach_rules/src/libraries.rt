@@ -12,8 +12,8 @@ use crate::commands::{bytes_from, of_command, of_header};
 use crate::fault::{LayoutFault, Owner, Part, Rule};
 use crate::layout::Layout;
 use mach_base::{Record, Result};
+use mach_headers::header::{MH_DYLIB, MH_DYLIB_STUB};
 use mach_load::{CommandVariant, LoadCommand};
-use mach_parts::header::{MH_DYLIB, MH_DYLIB_STUB};
 use mach_records::{
     DylibCommand, DylinkerCommand, FilesetEntryCommand, FvmfileCommand, FvmlibCommand, LcStr,
     PreboundDylibCommand, RpathCommand, SubClientCommand, SubFrameworkCommand, SubLibraryCommand,

@@ -3,8 +3,8 @@
 ghost use Rattle.std.specs.Prelude.{◌≡◌, ◌+◌, ◌<◌, ◌^◌, IfSome, filter_map, flat_map, map};
 ghost use Rattle.mach_base.specs.Answer.{Reads};
 ghost use Rattle.mach_load.specs.Variants.{command_of};
-ghost use Rattle.mach_parts.specs.Section.{section_place};
-ghost use Rattle.mach_parts.specs.Segment.{widened};
+ghost use Rattle.mach_segments.specs.Section.{section_place};
+ghost use Rattle.mach_segments.specs.Segment.{widened};
 ghost use Rattle.mach_rules.specs.Laid as defined;
 ghost use Rattle.mach_rules.specs.PartsLeft.{segments_left, sections_left, TakesSection};
 

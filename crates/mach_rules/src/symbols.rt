@@ -2,7 +2,7 @@
 
 ghost use Rattle.std.specs.Prelude.{◌≡◌, ◌++◌, OnOk};
 ghost use Rattle.mach_base.specs.Answer.{IsOkUnlessMemory, Reads};
-ghost use Rattle.mach_parts.specs.Symbols.{nlist_at};
+ghost use Rattle.mach_symbols.specs.Symbols.{nlist_at};
 ghost use Rattle.mach_rules.specs.Laid.{laid_of};
 ghost use Rattle.mach_rules.specs.Symbols as defined;
 ghost use Rattle.mach_rules.specs.SymbolViews.{by_rule};
@@ -21,12 +21,12 @@ use crate::symbols::indirect::{
 };
 use crate::symbols::ranges::{symbol_kind_faults, symbol_order_faults};
 use mach_base::{Container, Ctx, Record, Result, SizeWith};
+use mach_headers::header::MH_TWOLEVEL;
 use mach_load::{CommandVariant, LoadCommand};
-use mach_parts::header::MH_TWOLEVEL;
-use mach_parts::symbols::{
+use mach_records::{DysymtabCommand, SymtabCommand};
+use mach_symbols::symbols::{
     N_EXT, N_INDR, N_PBUD, N_SECT, N_STAB, N_TYPE, N_UNDF, Nlist, Nlist32, Nlist64,
 };
-use mach_records::{DysymtabCommand, SymtabCommand};
 use std::alloc::Allocator;
 
 /// The command of symbols, and its place.

@@ -1,8 +1,8 @@
 -- The records and the entries of a fat file, as the program's contracts speak of them.
 use Rattle.std.specs.Prelude.{◌≡◌, ◌<◌, ◌≤◌, ◌+◌, ℕ, List, Ok, length, take, drop}
-use Rattle.mach_parts.specs.declared.fat.FatArch.{FatArch}
+use Rattle.mach_headers.specs.declared.fat.FatArch.{FatArch}
 use Rattle.goblin_mach.specs.FatFile.{FatFile, fat_file_in, arch_at, arches_in}
-use Rattle.goblin_mach.specs.Image.{HasFatMagic}
+use Rattle.goblin_mach.specs.File.{HasFatMagic}
 
 -- The bytes are this fat file.
 pub record IsFatFile (bytes : List ℕ) (file : FatFile) : Type 0 where

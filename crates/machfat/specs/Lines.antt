@@ -3,9 +3,9 @@ use Rattle.std.specs.Prelude.{ℕ, ◌+◌, List, [], ◌∷◌, ◌++◌, codes
 use Rattle.std.specs.Fmt.{decimal, digits}
 use Rattle.mach_base.specs.declared.hint.Hint.{Hint}
 use Rattle.mach_base.specs.declared.hint.Hint.TheVariants.{Mach, MachFat, Archive, Unknown}
-use Rattle.mach_parts.specs.Fat.{part_of}
-use Rattle.mach_parts.specs.declared.fat.FatArch.{FatArch}
-use Rattle.mach_parts.specs.Magic.{hint_in}
+use Rattle.mach_headers.specs.Fat.{part_of}
+use Rattle.mach_headers.specs.declared.fat.FatArch.{FatArch}
+use Rattle.mach_headers.specs.Magic.{hint_in}
 
 -- what the first bytes of an entry hint at
 abbrev pub kind_by : Hint → List ℕ

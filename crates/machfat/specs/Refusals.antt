@@ -3,7 +3,7 @@ use Rattle.std.specs.Prelude.{ℕ, List, ◌++◌, codes}
 use Rattle.std.specs.Fmt.{decimal}
 use Rattle.mach_base.specs.Answer.{Stands}
 use Rattle.mach_base.specs.Words.{words_of}
-use Rattle.goblin_mach.specs.Image.{Opens}
+use Rattle.mach_image.specs.Image.{Opens}
 use Rattle.goblin_mach.specs.View.{ViewFault}
 use Rattle.machfat.specs.declared.refusal.Failure.TheVariants as failures
 use Rattle.machfat.specs.declared.refusal.Failure.{Failure}

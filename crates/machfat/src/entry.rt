@@ -2,7 +2,7 @@
 
 ghost use Rattle.std.specs.Prelude.{ℕ, List, IfOk, IfErr, OnOk};
 ghost use Rattle.std.specs.Io.KnownBytes.{Appends};
-ghost use Rattle.mach_parts.specs.declared.fat.FatArch.{FatArch};
+ghost use Rattle.mach_headers.specs.declared.fat.FatArch.{FatArch};
 ghost use Rattle.goblin_mach.specs.FatFile.{file_held};
 ghost use Rattle.machfat.specs.Entry.{IsFatFile, HasRecords, IsRecordOf, IsEntryOf};
 ghost use Rattle.machfat.specs.Lines.{record_line, lines_from};

@@ -2,7 +2,7 @@
 
 ghost use Rattle.std.specs.Prelude.{◌≡◌, ◌≢◌, ◌≤◌, ℕ, List, IsOk, OnOk, Err};
 ghost use Rattle.std.specs.Io.KnownBytes.{Appends};
-ghost use Rattle.mach_parts.specs.declared.fat.FatArch.{FatArch};
+ghost use Rattle.mach_headers.specs.declared.fat.FatArch.{FatArch};
 ghost use Rattle.machfat.specs.Entry.{HasRecords, IsEntryOf};
 ghost use Rattle.machfat.specs.Lines.{lines_from};
 ghost use Rattle.machfat.specs.Refusals.{RefusesList, complaint};

@@ -2,15 +2,15 @@
 use Rattle.std.proofs.Common.{ℕ, List, Result, refl}
 use Rattle.mach_base.specs.Context.{pointer_size}
 use Rattle.mach_base.specs.Fault.{Fault}
-use Rattle.mach_parts.specs.Bindings.{Binding}
-use Rattle.mach_dyld.specs.Exports.{texts}
+use Rattle.mach_segments.specs.Bindings.{Binding}
+use Rattle.mach_base.specs.Text.{texts}
 use Rattle.mach_chained.specs.Fixups.{Fixup}
-use Rattle.goblin_mach.specs.Bindings.{AreOpcodeBindings}
-use Rattle.goblin_mach.specs.Facts.{HasChainedFixups, HasFixups}
-use Rattle.goblin_mach.specs.Fixups.{AreImageFixups, chained_held}
-use Rattle.goblin_mach.specs.OpenImage.{IsLossyImage, binds_held, ctx_held, segments_held}
-use Rattle.goblin_mach.specs.declared.image.macho.MachO.{MachO}
-use Rattle.goblin_mach.proofs.Facts.{chained_fixups_are, fixups_are, facts_are}
+use Rattle.mach_image.specs.Bindings.{AreOpcodeBindings}
+use Rattle.mach_image.specs.Facts.{HasChainedFixups, HasFixups}
+use Rattle.mach_image.specs.Fixups.{AreImageFixups, chained_held}
+use Rattle.mach_image.specs.OpenImage.{IsLossyImage, binds_held, ctx_held, segments_held}
+use Rattle.mach_image.specs.declared.macho.MachO.{MachO}
+use Rattle.mach_image.proofs.ImageFacts.{chained_fixups_are, fixups_are, facts_are}
 use Rattle.machfixups.specs.OpcodeBindings.{HasOpcodeBindings}
 
 module _ {A : Type 0} (bytes : List ℕ) (o : ℕ) (m : MachO A) (p : IsLossyImage bytes o m) where

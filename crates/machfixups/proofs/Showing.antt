@@ -4,18 +4,18 @@ use Rattle.std.specs.Prelude.{◌&&◌, codes}
 use Rattle.std.specs.Borrow.{Bor}
 use Rattle.std.specs.Io.KnownBytes.{Appends}
 use Rattle.mach_base.specs.Fault.{Fault}
-use Rattle.mach_parts.specs.Items.{items_from}
-use Rattle.mach_parts.proofs.ItemLists.{length-items_from}
-use Rattle.mach_parts.specs.Segment.{SegmentView}
-use Rattle.mach_parts.specs.Bindings.{Binding}
+use Rattle.mach_base.specs.Items.{items_from}
+use Rattle.mach_base.proofs.ItemLists.{length-items_from}
+use Rattle.mach_segments.specs.Segment.{SegmentView}
+use Rattle.mach_segments.specs.Bindings.{Binding}
 use Rattle.mach_chained.specs.Fixups.{Fixup}
 use Rattle.mach_chained.specs.Header.{Fixups}
-use Rattle.goblin_mach.specs.Facts.{HasSegments, HasChainedFixups, HasFixups}
+use Rattle.mach_image.specs.Facts.{HasSegments, HasChainedFixups, HasFixups}
 use Rattle.goblin_mach.specs.FatEntry.{FatEntry, image, archive, entry_at, IsEntry}
 use Rattle.goblin_mach.specs.FatFile.{FatFile}
-use Rattle.goblin_mach.specs.OpenImage.{IsImage, commands_held}
+use Rattle.mach_image.specs.OpenImage.{IsImage, commands_held}
 use Rattle.goblin_mach.specs.declared.fat_file.entry.SingleArch.TheVariants as single
-use Rattle.goblin_mach.specs.declared.image.macho.MachO.{MachO}
+use Rattle.mach_image.specs.declared.macho.MachO.{MachO}
 use Rattle.machfixups.specs.Held.{ArePartsOf}
 use Rattle.machfixups.specs.OpcodeBindings.{HasOpcodeBindings}
 use Rattle.machfixups.specs.Parts.{Part, parts_of}

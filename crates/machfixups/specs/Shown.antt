@@ -7,15 +7,16 @@ use Rattle.mach_base.specs.Answer.{Stands}
 use Rattle.mach_base.specs.Fault.{Fault}
 use Rattle.mach_base.specs.Words.{words_of}
 use Rattle.mach_base.specs.declared.error.Error.{Error}
-use Rattle.mach_parts.specs.Bindings.{Binding}
-use Rattle.mach_parts.specs.Items.{items_from}
-use Rattle.mach_parts.specs.Segment.{SegmentView}
+use Rattle.mach_segments.specs.Bindings.{Binding}
+use Rattle.mach_base.specs.Items.{items_from}
+use Rattle.mach_segments.specs.Segment.{SegmentView}
 use Rattle.mach_chained.specs.Fixups.{Fixup}
 use Rattle.mach_chained.specs.Header.{Fixups}
-use Rattle.goblin_mach.specs.Facts.{HasSegments, HasChainedFixups, HasFixups}
+use Rattle.mach_image.specs.Facts.{HasSegments, HasChainedFixups, HasFixups}
 use Rattle.goblin_mach.specs.FatEntry.{FatEntry, archive, image, entry_at, FatEntryFault}
 use Rattle.goblin_mach.specs.FatFile.{FatFile, fat_file_in, arches_in}
-use Rattle.goblin_mach.specs.Image.{Opens, HasFatMagic}
+use Rattle.mach_image.specs.Image.{Opens}
+use Rattle.goblin_mach.specs.File.{HasFatMagic}
 use Rattle.goblin_mach.specs.View.{ViewFault, Tells}
 use Rattle.machfixups.specs.Lines.{AreLines}
 use Rattle.machfixups.specs.OpcodeBindings.{HasOpcodeBindings}

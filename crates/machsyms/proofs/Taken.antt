@@ -2,8 +2,8 @@
 use Rattle.std.proofs.Common.{◌≡◌, ◌++◌, ◌∷◌, [], ◌∙◌, ℕ, ◌+◌, zero, suc, ◌≤◌, ◌<◌, List, length, take, drop, get_or, refl, sym, ap, map, arith}
 use Rattle.std.proofs.lemmas.List.{append_assoc, take_all, take-append-le, map-append, at_drop_more}
 use Rattle.std.specs.List.{flat_map}
-use Rattle.mach_parts.specs.Segment.{segment_view, sections_of}
-use Rattle.mach_parts.specs.declared.segment.Segment.{Segment}
+use Rattle.mach_segments.specs.Segment.{segment_view, sections_of}
+use Rattle.mach_segments.specs.declared.segment.Segment.{Segment}
 use Rattle.machsyms.specs.Letters.{item_letter}
 
 -- what was cut off before doesn't come back

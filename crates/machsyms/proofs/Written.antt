@@ -6,8 +6,8 @@ use Rattle.std.specs.Io.KnownBytes.{Appends}
 use Rattle.mach_base.proofs.Written.{Appends-none, Appends-both}
 use Rattle.mach_base.specs.Fault.{Fault}
 use Rattle.mach_base.specs.declared.error.Error.{Error}
-use Rattle.mach_parts.specs.SymbolViews.{symbol_read}
-use Rattle.mach_parts.specs.declared.symbols.nlist.Nlist.{Nlist}
+use Rattle.mach_symbols.specs.SymbolViews.{symbol_read}
+use Rattle.mach_symbols.specs.declared.symbols.nlist.Nlist.{Nlist}
 use Rattle.machsyms.specs.Lines.{symbol_line, WritesLines}
 
 -- before the first symbol

@@ -1,11 +1,11 @@
 -- What was opened of a file, to be shown.
 use Rattle.std.specs.Prelude.{◌≡◌, ℕ, List, Result, Ok}
 use Rattle.mach_base.specs.Fault.{Fault}
-use Rattle.mach_parts.specs.Segment.{SegmentView}
-use Rattle.goblin_mach.specs.Facts.{HasSegments}
+use Rattle.mach_segments.specs.Segment.{SegmentView}
+use Rattle.mach_image.specs.Facts.{HasSegments}
 use Rattle.goblin_mach.specs.FatEntry as fat
 use Rattle.goblin_mach.specs.FatFile.{file_held}
-use Rattle.goblin_mach.specs.OpenImage.{IsImage}
+use Rattle.mach_image.specs.OpenImage.{IsImage}
 use Rattle.goblin_mach.specs.View.{Tells}
 use Rattle.machsyms.specs.Letters.{letters_of}
 use Rattle.machsyms.specs.Shown.{IsFatTable}

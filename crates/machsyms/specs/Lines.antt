@@ -8,9 +8,9 @@ use Rattle.std.specs.List.{flat_map}
 use Rattle.std.specs.Borrow.{Bor}
 use Rattle.mach_base.specs.Fault.{Fault}
 use Rattle.mach_base.specs.declared.error.Error.{Error}
-use Rattle.mach_parts.specs.Symbols.{type_of}
-use Rattle.mach_parts.specs.SymbolViews.{symbol_read}
-use Rattle.mach_parts.specs.declared.symbols.nlist.Nlist.{Nlist}
+use Rattle.mach_symbols.specs.Symbols.{type_of}
+use Rattle.mach_symbols.specs.SymbolViews.{symbol_read}
+use Rattle.mach_symbols.specs.declared.symbols.nlist.Nlist.{Nlist}
 use Rattle.machsyms.specs.Letters.{is_local, symbol_letter}
 use Rattle.machsyms.specs.Stabs.{stab_name}
 use Rattle.mach_base.specs.Words.{words_of}

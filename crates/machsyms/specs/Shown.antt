@@ -8,13 +8,14 @@ use Rattle.mach_base.specs.Fault.{Fault}
 use Rattle.mach_base.specs.Words.{words_of}
 use Rattle.mach_base.specs.declared.context.Container.TheVariants.{Big}
 use Rattle.mach_base.specs.declared.error.Error.{Error}
-use Rattle.mach_parts.specs.Items.{items_from}
-use Rattle.mach_parts.specs.Segment.{SegmentView}
-use Rattle.mach_parts.specs.declared.symbols.nlist.Nlist.{Nlist}
-use Rattle.goblin_mach.specs.Facts.{OfImage, HasSegments, HasSymbols}
+use Rattle.mach_base.specs.Items.{items_from}
+use Rattle.mach_segments.specs.Segment.{SegmentView}
+use Rattle.mach_symbols.specs.declared.symbols.nlist.Nlist.{Nlist}
+use Rattle.mach_image.specs.Facts.{OfImage, HasSegments, HasSymbols}
 use Rattle.goblin_mach.specs.FatEntry.{FatEntry, archive, image, entry_at, FatEntryFault}
 use Rattle.goblin_mach.specs.FatFile.{FatFile, fat_file_in, arches_in}
-use Rattle.goblin_mach.specs.Image.{Opens, HasFatMagic}
+use Rattle.mach_image.specs.Image.{Opens}
+use Rattle.goblin_mach.specs.File.{HasFatMagic}
 use Rattle.goblin_mach.specs.View.{ViewFault, Tells}
 use Rattle.machsyms.specs.Letters.{letters_of}
 use Rattle.machsyms.specs.Lines.{AreLines}

@@ -1,11 +1,11 @@
 //! The letters by which `nm` tells what a symbol is.
 
 ghost use Rattle.std.specs.Prelude.{◌≡◌, ◌++◌, ◌≤◌, ℕ, List, length, take, map, OnOk, IfOk};
-ghost use Rattle.mach_parts.specs.Items.{read_as};
-ghost use Rattle.mach_parts.specs.SectionItems.{section_read};
-ghost use Rattle.mach_parts.specs.Segment.{SegmentView, segment_view, sections_of};
-ghost use Rattle.goblin_mach.specs.Facts.{HasSegments};
-ghost use Rattle.goblin_mach.specs.OpenImage.{IsImage};
+ghost use Rattle.mach_base.specs.Items.{read_as};
+ghost use Rattle.mach_segments.specs.SectionItems.{section_read};
+ghost use Rattle.mach_segments.specs.Segment.{SegmentView, segment_view, sections_of};
+ghost use Rattle.mach_image.specs.Facts.{HasSegments};
+ghost use Rattle.mach_image.specs.OpenImage.{IsImage};
 ghost use Rattle.machsyms.specs.Letters.{section_letter, item_letter, letters_of, symbol_letter, type_letter, letter_at, is_called, is_name};
 
 use goblin_mach::segment::{Section, SectionData, Segment};

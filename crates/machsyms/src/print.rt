@@ -3,10 +3,10 @@
 ghost use Rattle.std.specs.Prelude.{ℕ, List, Result, OnOk};
 ghost use Rattle.std.specs.Io.KnownBytes.{Appends};
 ghost use Rattle.mach_base.specs.Fault.{Fault};
-ghost use Rattle.mach_parts.specs.declared.symbols.nlist.Nlist.{Nlist};
-ghost use Rattle.goblin_mach.specs.Facts.{HasSymbols};
-ghost use Rattle.goblin_mach.specs.OpenImage.{IsImage};
-ghost use Rattle.goblin_mach.specs.Subjects.{symbols_held};
+ghost use Rattle.mach_symbols.specs.declared.symbols.nlist.Nlist.{Nlist};
+ghost use Rattle.mach_image.specs.Facts.{HasSymbols};
+ghost use Rattle.mach_image.specs.OpenImage.{IsImage};
+ghost use Rattle.mach_image.specs.Subjects.{symbols_held};
 ghost use Rattle.machsyms.specs.Lines.{symbol_line, WritesLines};
 
 use crate::text::SymbolText;

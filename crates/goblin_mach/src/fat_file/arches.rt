@@ -5,7 +5,7 @@ ghost use Rattle.mach_base.specs.Answer.{Reads};
 ghost use Rattle.goblin_mach.specs.FatFile.{arch_place, arch_at};
 
 use mach_base::{ByteCount, Result};
-use mach_parts::fat::{FatArch, SIZEOF_FAT_ARCH, SIZEOF_FAT_HEADER};
+use mach_headers::fat::{FatArch, SIZEOF_FAT_ARCH, SIZEOF_FAT_HEADER};
 use std::fmt;
 use std::fmt::{Debug, Formatter, Write};
 

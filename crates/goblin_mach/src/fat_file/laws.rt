@@ -4,7 +4,7 @@ ghost use Rattle.std.specs.Prelude.{◌≡◌, ◌<◌, ◌≤◌, ℕ, List, Re
 ghost use Rattle.mach_base.specs.declared.context.Endian.TheVariants.{Big};
 ghost use Rattle.mach_base.specs.Fault.{Fault};
 ghost use Rattle.mach_base.specs.Number.{number};
-ghost use Rattle.mach_parts.specs.declared.fat.FatArch.{FatArch};
+ghost use Rattle.mach_headers.specs.declared.fat.FatArch.{FatArch};
 ghost use Rattle.goblin_mach.specs.FatEntry.{FatEntry, entry_at, entries_of};
 ghost use Rattle.goblin_mach.specs.FatFile.{FatFile, fat_file_in, arch_at, archs_of};
 

@@ -8,7 +8,7 @@ ghost use Rattle.goblin_mach.specs.FatEntry.{OpensEntry, entry_at};
 use crate::fat_file::arches::{FatArchIterator, arch_at};
 use crate::fat_file::entry::SingleArch;
 use mach_base::{ByteCount, Error, Result};
-use mach_parts::fat::{FatArch, FatHeader, SIZEOF_FAT_ARCH};
+use mach_headers::fat::{FatArch, FatHeader, SIZEOF_FAT_ARCH};
 use std::alloc::{AllocError, Allocator, Global};
 use std::fmt;
 use std::fmt::{Debug, Formatter, Write};

@@ -13,7 +13,7 @@ use crate::symbols::{
     PlacedDysymtab, PlacedSymtab, SymbolRange, fault_at, is_stab, symbol_in, symbols_there,
 };
 use mach_base::Result;
-use mach_parts::symbols::{N_EXT, N_PBUD, N_PEXT, N_TYPE, N_UNDF, Nlist};
+use mach_symbols::symbols::{N_EXT, N_PBUD, N_PEXT, N_TYPE, N_UNDF, Nlist};
 use std::alloc::Allocator;
 
 // Whether a symbol is known outside the image.

@@ -1,11 +1,11 @@
 //! The bindings of bind streams: which provider each has, and where they end.
 
 use mach_base::{Container, Ctx, Error, LE, ScrollError};
-use mach_dyld::bindings::OpcodeBindingIterator;
-use mach_dyld::imports::BindInterpreter;
-use mach_parts::binding::{Binding, Provider};
-use mach_parts::segment::Segment;
+use mach_binds::bindings::OpcodeBindingIterator;
+use mach_binds::imports::BindInterpreter;
 use mach_records::DyldInfoCommand;
+use mach_segments::binding::{Binding, Provider};
+use mach_segments::segment::Segment;
 use std::alloc::{AllocError, Global};
 use std::fmt::Write;
 use std::test::Fail;

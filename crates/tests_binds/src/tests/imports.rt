@@ -2,12 +2,11 @@
 
 use crate::tests::same::{same, same_of};
 use linked_list_allocator::LocalHeap;
-use mach_base::{Container, Ctx, Error, LE, ScrollError};
-use mach_dyld::Steps;
-use mach_dyld::bind_opcodes::opcode_to_str;
-use mach_dyld::imports::{BindInterpreter, BindIterator, Import};
-use mach_parts::segment::Segment;
+use mach_base::{Container, Ctx, Error, LE, ScrollError, Steps};
+use mach_binds::bind_opcodes::opcode_to_str;
+use mach_binds::imports::{BindInterpreter, BindIterator, Import};
 use mach_records::DyldInfoCommand;
+use mach_segments::segment::Segment;
 use std::alloc::{AllocError, Global};
 use std::fmt::Write;
 use std::test::Fail;

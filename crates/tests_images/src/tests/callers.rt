@@ -3,18 +3,19 @@
 
 ghost use Rattle.std.specs.Prelude.{◌≡◌, ◌<◌, ℕ, List, Bool, Result, Some, IfOk, MatchOption, option_map, slice_get};
 ghost use Rattle.mach_base.specs.Fault.{Fault};
-ghost use Rattle.mach_dyld.specs.BindLeft.{imports_left};
-ghost use Rattle.mach_dyld.specs.Exports.{texts, entries, info_of};
-ghost use Rattle.mach_dyld.specs.LookUp.{IsFirstOf};
-ghost use Rattle.mach_dyld.specs.Trie.{Entry};
-ghost use Rattle.goblin_mach.specs.Facts.{HasRunPaths, HasEntryPoint, HasImportItems, HasBindings, HasFixups, HasExports, HasExportOf, HasLibrariesByKind};
-ghost use Rattle.goblin_mach.specs.Facts.{IsExportedAt, IsNotExported};
-ghost use Rattle.goblin_mach.specs.BindingsLeft.{bindings_left};
-ghost use Rattle.goblin_mach.specs.FixupsLeft.{fixups_left};
+ghost use Rattle.mach_binds.specs.BindLeft.{imports_left};
+ghost use Rattle.mach_tries.specs.Exports.{entries, info_of};
+ghost use Rattle.mach_base.specs.Text.{texts};
+ghost use Rattle.mach_tries.specs.LookUp.{IsFirstOf};
+ghost use Rattle.mach_tries.specs.Trie.{Entry};
+ghost use Rattle.mach_image.specs.Facts.{HasRunPaths, HasEntryPoint, HasImportItems, HasBindings, HasFixups, HasExports, HasExportOf, HasLibrariesByKind};
+ghost use Rattle.mach_image.specs.Facts.{IsExportedAt, IsNotExported};
+ghost use Rattle.mach_image.specs.BindingsLeft.{bindings_left};
+ghost use Rattle.mach_image.specs.FixupsLeft.{fixups_left};
 ghost use Rattle.goblin_mach.specs.FatEntry.{FatEntry, entries_of, OpensEntry};
 ghost use Rattle.goblin_mach.specs.FatFile.{file_held};
-ghost use Rattle.goblin_mach.specs.Libraries.{libraries_left};
-ghost use Rattle.goblin_mach.specs.OpenImage.{IsImage, IsLossyImage};
+ghost use Rattle.mach_image.specs.Libraries.{libraries_left};
+ghost use Rattle.mach_image.specs.OpenImage.{IsImage, IsLossyImage};
 
 use crate::tests::same::same;
 use goblin_mach::exports::{Export, ExportInfo};

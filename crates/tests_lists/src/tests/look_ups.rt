@@ -2,8 +2,8 @@
 
 use crate::tests::refusing::Refusing;
 use mach_base::Error;
-use mach_dyld::exports::{ExportInfo, ExportTrie};
 use mach_records::DyldInfoCommand;
+use mach_tries::exports::{ExportInfo, ExportTrie};
 use std::alloc::{Allocator, Global};
 use std::test::Fail;
 use test_files::EXPORTS;

@@ -2,9 +2,9 @@
 
 use crate::tests::same::same;
 use mach_base::{Ctx, Error, Result, ScrollError, pread_with};
-use mach_parts::laws::symbols_counted;
-use mach_parts::symbols::{N_SECT, Nlist, SymbolIterator, Symbols, SymbolsCtx};
 use mach_records::SymtabCommand;
+use mach_symbols::laws::symbols_counted;
+use mach_symbols::symbols::{N_SECT, Nlist, SymbolIterator, Symbols, SymbolsCtx};
 use std::test::Fail;
 use test_files::FILE_B;
 

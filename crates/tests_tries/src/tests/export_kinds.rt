@@ -2,8 +2,8 @@
 
 use crate::tests::same::{same, same_of};
 use mach_base::Error;
-use mach_dyld::exports::{Export, ExportInfo, ExportTrie, SymbolKind};
 use mach_records::DyldInfoCommand;
+use mach_tries::exports::{Export, ExportInfo, ExportTrie, SymbolKind};
 use std::test::Fail;
 
 #[test]

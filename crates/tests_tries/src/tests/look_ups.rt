@@ -1,8 +1,8 @@
 //! The look-up of one name beside the list: rows, tries by chance, and ways that lead back.
 
 use mach_base::{Error, ScrollError};
-use mach_dyld::exports::{ExportInfo, ExportTrie};
 use mach_records::DyldInfoCommand;
+use mach_tries::exports::{ExportInfo, ExportTrie};
 use std::alloc::Global;
 use std::fmt::Write;
 use std::test::Fail;

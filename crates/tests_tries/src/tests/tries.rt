@@ -3,8 +3,8 @@
 use crate::tests::same::{same, same_of};
 use linked_list_allocator::LocalHeap;
 use mach_base::{Error, ScrollError};
-use mach_dyld::exports::ExportTrie;
 use mach_records::DyldInfoCommand;
+use mach_tries::exports::ExportTrie;
 use std::alloc::Global;
 use std::fmt::Write;
 use std::test::Fail;

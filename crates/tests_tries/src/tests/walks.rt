@@ -1,8 +1,8 @@
 //! Walks over tries: each export as it is given, its name lent; a fault in the middle; nothing after the end.
 
 use mach_base::Error;
-use mach_dyld::exports::{ExportInfo, ExportTrie};
 use mach_records::DyldInfoCommand;
+use mach_tries::exports::{ExportInfo, ExportTrie};
 use std::alloc::Global;
 use std::fmt::Write;
 use std::test::Fail;

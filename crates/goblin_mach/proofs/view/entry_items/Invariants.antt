@@ -1,6 +1,6 @@
 use Rattle.std.proofs.Common.{◌-◌, ◌++◌, List, Result}
 use Rattle.mach_base.specs.declared.error.Error.{Error}
-use Rattle.mach_parts.specs.Items.{items_from}
+use Rattle.mach_base.specs.Items.{items_from}
 use Rattle.goblin_mach.specs.FatEntry.{entry_at, entries_of}
 use Rattle.goblin_mach.specs.FatFile.{file_held}
 use Rattle.goblin_mach.specs.View.{AreViewItems}

@@ -1,8 +1,8 @@
 use Rattle.std.proofs.Common.{List, Result, subst, arith}
 use Rattle.mach_base.specs.Fault.{Fault}
-use Rattle.mach_parts.specs.Bindings.{Binding}
-use Rattle.goblin_mach.proofs.Facts.{facts_are}
-use Rattle.goblin_mach.specs.Fixups.{chained_held}
+use Rattle.mach_segments.specs.Bindings.{Binding}
+use Rattle.mach_image.proofs.ImageFacts.{facts_are}
+use Rattle.mach_image.specs.Fixups.{chained_held}
 use Rattle.goblin_mach_c.specs.BindingsBehind.{AreBindingsBehind, AreBindingsWritten, BindingSource, items_left}
 use Rattle.goblin_mach_c.specs.ImportsBehind.{binds_of}
 use Rattle.goblin_mach_c.proofs.HeldBinds.{binds_stand}

@@ -2,7 +2,7 @@ use Rattle.std.proofs.Common.{◌≡◌, length}
 use Rattle.mach_chained.specs.FixupCursors.{IsOver}
 use Rattle.mach_chained.specs.Fixups.{Input}
 use Rattle.mach_chained.specs.FixupsLeft.{fixups_left}
-use Rattle.mach_parts.specs.Bindings.{texts}
+use Rattle.mach_segments.specs.Bindings.{texts}
 use Rattle.goblin_mach_c.specs.BindingsBehind.{bound_left}
 use Rattle.goblin_mach_c.proofs.bindings.next_bound.Given as goal
 

@@ -1,5 +1,5 @@
 use Rattle.std.proofs.Common.{◌≡◌, ◌≤◌, length}
-use Rattle.mach_dyld.specs.Exports.{texts}
+use Rattle.mach_base.specs.Text.{texts}
 use Rattle.goblin_mach_c.proofs.ListedExports.{SoFar}
 use Rattle.goblin_mach_c.proofs.exports.write_exports.Given as goal
 

@@ -1,7 +1,7 @@
 use Rattle.std.proofs.Common.{List, Result, subst}
 use Rattle.mach_base.specs.Fault.{Fault}
-use Rattle.mach_dyld.specs.Imports.{Import}
-use Rattle.goblin_mach.proofs.Facts.{facts_are}
+use Rattle.mach_binds.specs.Imports.{Import}
+use Rattle.mach_image.proofs.ImageFacts.{facts_are}
 use Rattle.goblin_mach_c.specs.ImportsBehind.{AreImportsBehind, AreImportsWritten, Binds, binds_of, items_left}
 use Rattle.goblin_mach_c.proofs.HeldBinds.{binds_stand}
 use Rattle.goblin_mach_c.proofs.FactsBehind.{binds_by}

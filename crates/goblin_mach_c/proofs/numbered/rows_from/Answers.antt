@@ -1,5 +1,5 @@
 use Rattle.std.proofs.Common.{◌-◌, ◌∙◌, sym, ap, arith}
-use Rattle.mach_parts.specs.Items.{items_from}
+use Rattle.mach_base.specs.Items.{items_from}
 use Rattle.goblin_mach_c.proofs.Filled.{items_behind, no_items}
 use Rattle.goblin_mach_c.proofs.numbered.rows_from.Goals as goal
 use Rattle.goblin_mach_c.proofs.numbered.rows_from.Goals.{then-first-count, else-first-count}

@@ -1,7 +1,7 @@
 use Rattle.std.proofs.Common.{◌≡◌, ◌∙◌, drop, map, sym, ap}
 use Rattle.std.proofs.lemmas.List.{drop-map}
-use Rattle.mach_parts.specs.Symbols.{symbols_of}
-use Rattle.mach_parts.specs.SymbolViews.{table_of}
+use Rattle.mach_symbols.specs.Symbols.{symbols_of}
+use Rattle.mach_symbols.specs.SymbolViews.{table_of}
 use Rattle.goblin_mach_c.specs.SymbolRows.{symbol_row, table_seen}
 use Rattle.goblin_mach_c.proofs.symbols.rows_from.Goals as goal
 

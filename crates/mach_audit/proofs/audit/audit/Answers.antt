@@ -1,5 +1,5 @@
 use Rattle.goblin_mach.specs.FatFile.{file_held}
-use Rattle.goblin_mach.specs.OpenImage.{commands_held}
+use Rattle.mach_image.specs.OpenImage.{commands_held}
 use Rattle.mach_audit.proofs.Entries.{image_judged, fat_judged}
 use Rattle.mach_audit.specs.Verdicts.{verdict_of_parts, verdict_of_fat}
 use Rattle.mach_audit.proofs.audit.audit.Goals as goal

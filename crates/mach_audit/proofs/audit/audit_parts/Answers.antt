@@ -1,9 +1,9 @@
 use Rattle.std.proofs.Common.{map}
-use Rattle.mach_parts.specs.Segment.{segment_view}
-use Rattle.mach_dyld.specs.BindLeft.{imports_left}
-use Rattle.goblin_mach.specs.BindingsLeft.{bindings_left}
-use Rattle.goblin_mach.specs.Facts.{HasFixups, HasBindings}
-use Rattle.goblin_mach.specs.FixupsLeft.{fixups_left}
+use Rattle.mach_segments.specs.Segment.{segment_view}
+use Rattle.mach_binds.specs.BindLeft.{imports_left}
+use Rattle.mach_image.specs.BindingsLeft.{bindings_left}
+use Rattle.mach_image.specs.Facts.{HasFixups, HasBindings}
+use Rattle.mach_image.specs.FixupsLeft.{fixups_left}
 use Rattle.mach_audit.proofs.Images.{layout_judged, read_judged, judged_one, sections_judged, relocations_judged, symbols_judged, exports_judged}
 use Rattle.mach_audit.proofs.Images.{imports_judged, parts_judged}
 use Rattle.mach_layout.specs.Facts.{HasLayoutFaults}

@@ -1,7 +1,7 @@
 use Rattle.std.proofs.Common.{◌≡◌, ◌++◌, ℕ, List, Option}
 use Rattle.std.specs.List.{flat_map}
 use Rattle.mach_base.specs.Fault.{Fault}
-use Rattle.mach_parts.specs.SectionItems.{sections_left}
+use Rattle.mach_segments.specs.SectionItems.{sections_left}
 use Rattle.mach_audit.specs.Sound.{relocations_by}
 use Rattle.mach_audit.specs.Told.{HasMet, faults_in}
 use Rattle.mach_audit.proofs.lists.add_relocations.Given as goal

@@ -1,7 +1,7 @@
 use Rattle.std.proofs.Common.{◌∙◌, ap, sym, subst}
 use Rattle.std.specs.Prelude.{option_map}
 use Rattle.mach_base.specs.Fault.{fault_of}
-use Rattle.mach_parts.specs.RelocationItems.{relocations_left, relocation_read}
+use Rattle.mach_segments.specs.RelocationItems.{relocations_left, relocation_read}
 use Rattle.mach_audit.proofs.Goes.{Goes, goes_init, goes_on, goes_over, goes_cut, err_told}
 use Rattle.mach_audit.proofs.lists.add_relocations_of.Goals as goal
 

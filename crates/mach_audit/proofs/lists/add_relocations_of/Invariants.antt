@@ -1,6 +1,6 @@
 use Rattle.std.proofs.Common.{ℕ, List, Option}
 use Rattle.mach_base.specs.Fault.{Fault}
-use Rattle.mach_parts.specs.RelocationItems.{relocations_left}
+use Rattle.mach_segments.specs.RelocationItems.{relocations_left}
 use Rattle.mach_audit.specs.Told.{HasMet}
 use Rattle.mach_audit.proofs.Goes.{Goes}
 use Rattle.mach_audit.proofs.lists.add_relocations_of.Given as goal

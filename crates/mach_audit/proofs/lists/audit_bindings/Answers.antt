@@ -1,8 +1,8 @@
 use Rattle.std.proofs.Common.{[], ◌∙◌, ap, sym, subst}
 use Rattle.std.specs.Prelude.{option_map}
 use Rattle.mach_base.specs.Fault.{fault_of}
-use Rattle.mach_parts.specs.Bindings.{binding_read}
-use Rattle.goblin_mach.specs.BindingsLeft.{bindings_left}
+use Rattle.mach_segments.specs.Bindings.{binding_read}
+use Rattle.mach_image.specs.BindingsLeft.{bindings_left}
 use Rattle.mach_audit.proofs.Goes.{Goes, goes_init, goes_on, goes_over, goes_cut, binding_told}
 use Rattle.mach_audit.proofs.lists.audit_bindings.Goals as goal
 

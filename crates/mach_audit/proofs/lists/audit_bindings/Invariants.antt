@@ -1,5 +1,5 @@
 use Rattle.std.proofs.Common.{[]}
-use Rattle.goblin_mach.specs.BindingsLeft.{bindings_left}
+use Rattle.mach_image.specs.BindingsLeft.{bindings_left}
 use Rattle.mach_audit.proofs.Goes.{Goes}
 use Rattle.mach_audit.proofs.lists.audit_bindings.Given as goal
 

@@ -2,11 +2,12 @@ use Rattle.std.specs.Prelude.{IsTrue}
 use Rattle.std.proofs.Common.{◌≤◌, length, ◌∙◌, ◌++◌, ◌∷◌, [], List, Option, Some, None, ap, arith, subst, sym}
 use Rattle.std.proofs.lemmas.Bool.{false≢true}
 use Rattle.mach_base.specs.Fault.{Fault, fault_of}
-use Rattle.mach_dyld.specs.Exports.{texts, info_of}
-use Rattle.mach_dyld.specs.Trie.{entry}
-use Rattle.mach_dyld.specs.TrieRange.{ExportsFault}
-use Rattle.goblin_mach.specs.OpenImage.{trie_held}
-use Rattle.goblin_mach.specs.Subjects.{trie_or_empty}
+use Rattle.mach_tries.specs.Exports.{info_of}
+use Rattle.mach_base.specs.Text.{texts}
+use Rattle.mach_tries.specs.Trie.{entry}
+use Rattle.mach_tries.specs.TrieRange.{ExportsFault}
+use Rattle.mach_image.specs.OpenImage.{trie_held}
+use Rattle.mach_image.specs.Subjects.{trie_or_empty}
 use Rattle.mach_audit.proofs.Goes.{no_faults, no_faults_more, none_counted, more_found, fault_or_cut, cut_behind, stands_of}
 use Rattle.mach_audit.specs.Told.{HasMet}
 use Rattle.mach_audit.proofs.lists.audit_exports.Goals as goal

@@ -2,7 +2,7 @@ use Rattle.std.proofs.Common.{[], ◌∙◌, ap, sym, subst}
 use Rattle.std.specs.Prelude.{option_map}
 use Rattle.mach_base.specs.Fault.{fault_of}
 use Rattle.mach_chained.specs.WalkViews.{fixup_read, fixup_view}
-use Rattle.goblin_mach.specs.FixupsLeft.{fixups_left}
+use Rattle.mach_image.specs.FixupsLeft.{fixups_left}
 use Rattle.mach_audit.proofs.Goes.{Goes, goes_init, goes_on, goes_over, goes_cut, err_told}
 use Rattle.mach_audit.proofs.lists.audit_fixups.Goals as goal
 

@@ -1,5 +1,5 @@
 use Rattle.std.proofs.Common.{[]}
-use Rattle.goblin_mach.specs.FixupsLeft.{fixups_left}
+use Rattle.mach_image.specs.FixupsLeft.{fixups_left}
 use Rattle.mach_audit.proofs.Goes.{Goes}
 use Rattle.mach_audit.proofs.lists.audit_fixups.Given as goal
 

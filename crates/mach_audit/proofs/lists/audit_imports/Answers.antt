@@ -1,7 +1,7 @@
 use Rattle.std.proofs.Common.{[], ◌∙◌, ap, sym, subst}
 use Rattle.std.specs.Prelude.{option_map}
 use Rattle.mach_base.specs.Fault.{fault_of}
-use Rattle.mach_dyld.specs.BindLeft.{imports_left, import_read}
+use Rattle.mach_binds.specs.BindLeft.{imports_left, import_read}
 use Rattle.mach_audit.proofs.Goes.{Goes, goes_init, goes_on, goes_over, goes_cut, import_told}
 use Rattle.mach_audit.proofs.lists.audit_imports.Goals as goal
 

@@ -1,5 +1,5 @@
 use Rattle.std.proofs.Common.{[]}
-use Rattle.mach_dyld.specs.BindLeft.{imports_left}
+use Rattle.mach_binds.specs.BindLeft.{imports_left}
 use Rattle.mach_audit.proofs.Goes.{Goes}
 use Rattle.mach_audit.proofs.lists.audit_imports.Given as goal
 

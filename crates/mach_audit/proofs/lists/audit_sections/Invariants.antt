@@ -1,5 +1,5 @@
 use Rattle.std.proofs.Common.{map, take}
-use Rattle.mach_parts.specs.Segment.{segment_view}
+use Rattle.mach_segments.specs.Segment.{segment_view}
 use Rattle.mach_audit.specs.Sound.{all_sections}
 use Rattle.mach_audit.specs.Told.{HasMet, faults_in}
 use Rattle.mach_audit.proofs.lists.audit_sections.Given as goal

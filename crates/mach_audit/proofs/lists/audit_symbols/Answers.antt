@@ -1,7 +1,7 @@
 use Rattle.std.proofs.Common.{[], ◌∙◌, ap, sym, subst}
 use Rattle.std.specs.Prelude.{option_map}
 use Rattle.mach_base.specs.Fault.{fault_of}
-use Rattle.mach_parts.specs.SymbolViews.{symbols_left, symbol_read}
+use Rattle.mach_symbols.specs.SymbolViews.{symbols_left, symbol_read}
 use Rattle.mach_audit.proofs.Goes.{Goes, goes_init, goes_on, goes_over, goes_cut, err_told}
 use Rattle.mach_audit.proofs.lists.audit_symbols.Goals as goal
 

@@ -1,5 +1,5 @@
 use Rattle.std.proofs.Common.{[]}
-use Rattle.mach_parts.specs.SymbolViews.{symbols_left}
+use Rattle.mach_symbols.specs.SymbolViews.{symbols_left}
 use Rattle.mach_audit.proofs.Goes.{Goes}
 use Rattle.mach_audit.proofs.lists.audit_symbols.Given as goal
 

@@ -1,7 +1,7 @@
 use Rattle.std.proofs.Common.{◌∙◌, ◌++◌, [], refl, ap, sym}
 use Rattle.std.proofs.lemmas.List.{append-nil}
 use Rattle.std.specs.List.{cons_option}
-use Rattle.mach_dyld.specs.BindingsLeft.{bindings_left}
+use Rattle.mach_binds.specs.BindingsLeft.{bindings_left}
 use Rattle.mach_layout.specs.Bindings.{binds_told}
 use Rattle.mach_layout.specs.Held.{laid_held}
 use Rattle.mach_layout.proofs.bindings.bind_faults.Goals as goal

@@ -1,5 +1,5 @@
 use Rattle.std.proofs.Common.{◌≡◌}
-use Rattle.mach_dyld.specs.BindingsLeft.{bindings_left}
+use Rattle.mach_binds.specs.BindingsLeft.{bindings_left}
 use Rattle.mach_layout.specs.Bindings.{has_fault}
 use Rattle.mach_layout.proofs.bindings.has_fault.Given as goal
 

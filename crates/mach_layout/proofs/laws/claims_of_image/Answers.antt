@@ -1,4 +1,4 @@
-use Rattle.goblin_mach.proofs.Facts.{strict-lossy}
+use Rattle.mach_image.proofs.ImageFacts.{strict-lossy}
 use Rattle.mach_layout.proofs.BytesFacts.{claims_are}
 use Rattle.mach_layout.proofs.laws.claims_of_image.Goals as goal
 

@@ -1,5 +1,5 @@
 use Rattle.std.proofs.Common.{◌∙◌, Some, sym, ap}
-use Rattle.mach_dyld.specs.Exports.{info_of, text_in}
+use Rattle.mach_tries.specs.Exports.{info_of, text_in}
 use Rattle.mach_resolve.specs.Follow as follow
 use Rattle.mach_resolve.proofs.Steps.{given_name}
 use Rattle.mach_resolve.proofs.follow.lead.Goals as goal

@@ -1,5 +1,5 @@
 use Rattle.std.proofs.Common.{sym, subst}
-use Rattle.mach_dyld.specs.Exports.{info_of}
+use Rattle.mach_tries.specs.Exports.{info_of}
 use Rattle.mach_resolve.specs.Follow.{IsEnd, IsGiven, HasFirst, NoneHas, absent, unlisted}
 use Rattle.mach_resolve.specs.Seen.{file_seen, files_seen, met_seen, symbol_seen}
 use Rattle.mach_resolve.proofs.Steps.{is_step}

@@ -1,5 +1,6 @@
 use Rattle.std.proofs.Common.{refl, sym, subst}
-use Rattle.goblin_mach.specs.Image.{ImageFault, MachFault}
+use Rattle.mach_image.specs.Image.{ImageFault}
+use Rattle.goblin_mach.specs.File.{MachFault}
 use Rattle.mach_resolve.specs.Cpu.{of_file}
 use Rattle.mach_resolve.specs.Failures.{IsFailure}
 use Rattle.mach_resolve.specs.Given.{NumberedFault, LibraryFault, unfound}

@@ -1,6 +1,6 @@
 use Rattle.std.proofs.Common.{◌≡◌, ◌++◌, map}
-use Rattle.goblin_mach.specs.Libraries.{libraries_in, libraries_left}
-use Rattle.goblin_mach.specs.OpenImage.{bytes_held, commands_held}
+use Rattle.mach_image.specs.Libraries.{libraries_in, libraries_left}
+use Rattle.mach_image.specs.OpenImage.{bytes_held, commands_held}
 use Rattle.mach_resolve.specs.Given.{reexported}
 use Rattle.mach_resolve.proofs.given.reexports_of.Given as goal
 

@@ -1,6 +1,6 @@
 use Rattle.std.proofs.Common.{◌∙◌, map, sym, ap}
 use Rattle.std.proofs.lemmas.Result.{IfOk-weaker}
-use Rattle.mach_parts.specs.Magic.{begins_archive}
+use Rattle.mach_headers.specs.Magic.{begins_archive}
 use Rattle.mach_resolve.specs.Opened.{given_seen}
 use Rattle.mach_resolve.specs.Report.{an_archive}
 use Rattle.mach_resolve.specs.Seen.{outcome_seen}

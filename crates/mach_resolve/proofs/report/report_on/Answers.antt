@@ -1,5 +1,6 @@
 use Rattle.std.proofs.Common.{map}
-use Rattle.goblin_mach.specs.Image.{ImageFault, MachFault}
+use Rattle.mach_image.specs.Image.{ImageFault}
+use Rattle.goblin_mach.specs.File.{MachFault}
 use Rattle.mach_resolve.specs.Opened.{given_seen}
 use Rattle.mach_resolve.specs.Seen.{outcome_seen}
 use Rattle.mach_resolve.proofs.Reports.{program_refused, file_refused}

@@ -1,7 +1,7 @@
 use Rattle.std.proofs.Common.{◌∙◌, ◌++◌, ◌∷◌, [], Ok, map, sym, ap, subst}
 use Rattle.std.proofs.lemmas.List.{append_assoc, map_push}
-use Rattle.mach_parts.specs.Bindings.{Binding, binding_view, binding_read}
-use Rattle.goblin_mach.specs.BindingsLeft.{bindings_left}
+use Rattle.mach_segments.specs.Bindings.{Binding, binding_view, binding_read}
+use Rattle.mach_image.specs.BindingsLeft.{bindings_left}
 use Rattle.mach_resolve.specs.Files.{TrieFaultAt}
 use Rattle.mach_resolve.specs.Answers.{IsAnswer, AreAnswers}
 use Rattle.mach_resolve.specs.Failures.{IsFailure}

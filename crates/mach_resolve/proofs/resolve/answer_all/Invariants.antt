@@ -1,7 +1,7 @@
 use Rattle.std.proofs.Common.{◌≡◌, ◌++◌, List, Result, Ok, map}
 use Rattle.mach_base.specs.Fault.{Fault}
-use Rattle.mach_parts.specs.Bindings.{Binding}
-use Rattle.goblin_mach.specs.BindingsLeft.{bindings_left}
+use Rattle.mach_segments.specs.Bindings.{Binding}
+use Rattle.mach_image.specs.BindingsLeft.{bindings_left}
 use Rattle.mach_resolve.specs.Behind.{Met, IsBehindAll}
 use Rattle.mach_resolve.specs.Answers.{AreAnswers}
 use Rattle.mach_resolve.specs.Resolved.{HoldsItems}

@@ -1,9 +1,9 @@
 use Rattle.std.proofs.Common.{Ok, map, refl, sym, subst}
-use Rattle.mach_parts.specs.Bindings.{Binding}
-use Rattle.goblin_mach.specs.Image.{ImageFault}
-use Rattle.goblin_mach.specs.Libraries.{libraries_in}
-use Rattle.goblin_mach.specs.OpenImage.{bytes_held, commands_held}
-use Rattle.mach_dyld.specs.Exports.{text_in}
+use Rattle.mach_segments.specs.Bindings.{Binding}
+use Rattle.mach_image.specs.Image.{ImageFault}
+use Rattle.mach_image.specs.Libraries.{libraries_in}
+use Rattle.mach_image.specs.OpenImage.{bytes_held, commands_held}
+use Rattle.mach_tries.specs.Exports.{text_in}
 use Rattle.mach_resolve.specs.Failures.{IsFailure}
 use Rattle.mach_resolve.specs.Answers.{Program}
 use Rattle.mach_resolve.specs.Given.{FaultFor, unopened, opened}

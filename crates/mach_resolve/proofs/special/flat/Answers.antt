@@ -1,5 +1,5 @@
 use Rattle.std.proofs.Common.{[], sym, subst}
-use Rattle.mach_dyld.specs.Exports.{info_of}
+use Rattle.mach_tries.specs.Exports.{info_of}
 use Rattle.mach_resolve.specs.Follow.{Follow, HasFirst, NoneHas}
 use Rattle.mach_resolve.specs.Special.{IsFlat, nowhere, at, further}
 use Rattle.mach_resolve.specs.Seen.{file_seen, files_seen, symbol_seen, place_seen}

@@ -1,5 +1,5 @@
-use Rattle.mach_dyld.specs.WalkState.{work_left}
-use Rattle.mach_dyld.specs.Walks.{IsWalk}
+use Rattle.mach_tries.specs.WalkState.{work_left}
+use Rattle.mach_tries.specs.Walks.{IsWalk}
 use Rattle.machdump.proofs.run.print_exports.Given as goal
 
 abbrev pub invariant-exports : goal.invariant-exports

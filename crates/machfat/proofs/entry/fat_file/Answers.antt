@@ -1,6 +1,6 @@
 use Rattle.std.proofs.lemmas.Result.{err_from_is_err_and}
 use Rattle.mach_base.proofs.Faults.{Stands-in}
-use Rattle.goblin_mach.specs.OpenImage.{commands_held}
+use Rattle.mach_image.specs.OpenImage.{commands_held}
 use Rattle.goblin_mach.specs.View.{ViewFault, of_file}
 use Rattle.machfat.proofs.entry.fat_file.Goals as goal
 

@@ -1,6 +1,6 @@
 use Rattle.std.proofs.Common.{[], ◌∷◌, ◌++◌, ◌∙◌, refl, sym, ap, map}
 use Rattle.std.proofs.lemmas.List.{append_assoc}
-use Rattle.mach_dyld.specs.BindingsLeft.{bindings_left}
+use Rattle.mach_binds.specs.BindingsLeft.{bindings_left}
 use Rattle.machfixups.specs.Parts.{parts_seen}
 use Rattle.machfixups.specs.Rows.{binding_row, row_read}
 use Rattle.machfixups.proofs.Written.{no_lines, line_more}

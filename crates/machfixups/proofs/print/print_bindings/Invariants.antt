@@ -1,6 +1,6 @@
 use Rattle.std.proofs.Common.{◌≡◌, ◌++◌, List, Result, map}
 use Rattle.mach_base.specs.Fault.{Fault}
-use Rattle.mach_dyld.specs.BindingsLeft.{bindings_left}
+use Rattle.mach_binds.specs.BindingsLeft.{bindings_left}
 use Rattle.machfixups.specs.Lines.{WritesLines}
 use Rattle.machfixups.specs.Parts.{parts_seen}
 use Rattle.machfixups.specs.Rows.{Row, binding_row}

@@ -1,6 +1,6 @@
 use Rattle.std.proofs.Common.{[], ◌∷◌, ◌++◌, ◌∙◌, refl, sym, ap, map}
 use Rattle.std.proofs.lemmas.List.{append_assoc}
-use Rattle.goblin_mach.specs.FixupsLeft.{fixups_left}
+use Rattle.mach_image.specs.FixupsLeft.{fixups_left}
 use Rattle.machfixups.specs.Parts.{parts_seen}
 use Rattle.machfixups.specs.Rows.{fixup_row, row_read, table_seen}
 use Rattle.machfixups.proofs.Written.{no_lines, line_more}

@@ -1,6 +1,6 @@
 use Rattle.std.proofs.Common.{◌≡◌, ◌++◌, List, Result, map}
 use Rattle.mach_base.specs.Fault.{Fault}
-use Rattle.goblin_mach.specs.FixupsLeft.{fixups_left}
+use Rattle.mach_image.specs.FixupsLeft.{fixups_left}
 use Rattle.machfixups.specs.Lines.{WritesLines}
 use Rattle.machfixups.specs.Parts.{parts_seen}
 use Rattle.machfixups.specs.Rows.{Row, fixup_row, table_seen}

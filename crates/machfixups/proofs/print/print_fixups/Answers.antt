@@ -1,8 +1,8 @@
 use Rattle.std.proofs.Common.{Option, refl, subst, map}
 use Rattle.mach_chained.specs.Header.{Fixups}
-use Rattle.mach_dyld.specs.BindingsLeft.{bindings_left}
-use Rattle.goblin_mach.specs.Fixups.{chained_held}
-use Rattle.goblin_mach.specs.FixupsLeft.{fixups_left}
+use Rattle.mach_binds.specs.BindingsLeft.{bindings_left}
+use Rattle.mach_image.specs.Fixups.{chained_held}
+use Rattle.mach_image.specs.FixupsLeft.{fixups_left}
 use Rattle.machfixups.specs.Lines.{WritesLines}
 use Rattle.machfixups.specs.Parts.{parts_seen}
 use Rattle.machfixups.specs.Rows.{fixup_row}

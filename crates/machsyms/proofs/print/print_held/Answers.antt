@@ -1,6 +1,6 @@
 use Rattle.std.proofs.Common.{[], ◌∷◌, ◌++◌, ◌∙◌, sym, ap}
 use Rattle.std.proofs.lemmas.List.{append_assoc}
-use Rattle.mach_parts.specs.SymbolViews.{symbol_read, symbols_left}
+use Rattle.mach_symbols.specs.SymbolViews.{symbol_read, symbols_left}
 use Rattle.machsyms.proofs.Written.{no_lines, line_more}
 use Rattle.machsyms.proofs.print.print_held.Goals as goal
 

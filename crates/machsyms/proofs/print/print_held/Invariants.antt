@@ -1,8 +1,8 @@
 use Rattle.std.proofs.Common.{◌≡◌, ◌++◌, ℕ, List, Result}
 use Rattle.mach_base.specs.Fault.{Fault}
-use Rattle.mach_parts.specs.SymbolViews.{symbols_left}
-use Rattle.mach_parts.specs.declared.symbols.nlist.Nlist.{Nlist}
-use Rattle.goblin_mach.specs.Subjects.{symbols_held}
+use Rattle.mach_symbols.specs.SymbolViews.{symbols_left}
+use Rattle.mach_symbols.specs.declared.symbols.nlist.Nlist.{Nlist}
+use Rattle.mach_image.specs.Subjects.{symbols_held}
 use Rattle.machsyms.specs.Lines.{WritesLines}
 use Rattle.machsyms.proofs.print.print_held.Given as goal
 

@@ -1,4 +1,4 @@
-use Rattle.mach_parts.proofs.ItemLists.{length-items_from, slice_get-items}
+use Rattle.mach_base.proofs.ItemLists.{length-items_from, slice_get-items}
 use Rattle.goblin_mach.specs.FatFile.{arch_at}
 use Rattle.goblin_mach.proofs.FatNumbers.{item-only}
 use Rattle.goblin_mach.proofs.fat_file.laws.records_by_number.Goals as goal

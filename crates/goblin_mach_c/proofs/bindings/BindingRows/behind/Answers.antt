@@ -1,8 +1,8 @@
 use Rattle.std.proofs.Common.{◌≡◌, ℕ, List, Ok, map, ap, subst}
 use Rattle.mach_base.specs.Number.{slice_at}
-use Rattle.mach_parts.specs.Bindings.{texts}
-use Rattle.mach_parts.specs.Segment.{segment_view}
-use Rattle.goblin_mach.specs.Fixups.{chained_held}
+use Rattle.mach_segments.specs.Bindings.{texts}
+use Rattle.mach_segments.specs.Segment.{segment_view}
+use Rattle.mach_image.specs.Fixups.{chained_held}
 use Rattle.goblin_mach_c.proofs.bindings.BindingRows.behind.Goals as goal
 
 pub returns-clause-over : goal.returns-clause-over

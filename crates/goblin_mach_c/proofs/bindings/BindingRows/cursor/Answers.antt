@@ -1,7 +1,7 @@
 use Rattle.std.proofs.Common.{◌++◌, List, Result, ap}
 use Rattle.mach_base.specs.Fault.{Fault}
-use Rattle.mach_dyld.specs.Bindings.{upto_fault}
-use Rattle.mach_parts.specs.Bindings.{Binding, texts}
+use Rattle.mach_binds.specs.Bindings.{upto_fault}
+use Rattle.mach_segments.specs.Bindings.{Binding, texts}
 use Rattle.goblin_mach_c.specs.BindingsBehind.{opcodes_left}
 use Rattle.goblin_mach_c.specs.FixupsBehind.{items_left}
 use Rattle.goblin_mach_c.proofs.BoundChains.{same_chains}

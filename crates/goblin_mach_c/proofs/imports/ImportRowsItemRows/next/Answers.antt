@@ -1,9 +1,9 @@
 use Rattle.std.proofs.Common.{◌∙◌, ◌∷◌, List, ℕ, Ok, Err, IfOk, ap, subst, slice_get}
 use Rattle.mach_base.specs.Fault.{fault_of}
-use Rattle.mach_dyld.specs.BindCursors.{IsPlaced, Stands, placed_read}
-use Rattle.mach_dyld.specs.BindLeft.{imports_left}
-use Rattle.mach_dyld.specs.BindViews.{import_in}
-use Rattle.mach_dyld.specs.Imports.{input_in}
+use Rattle.mach_binds.specs.BindCursors.{IsPlaced, Stands, placed_read}
+use Rattle.mach_binds.specs.BindLeft.{imports_left}
+use Rattle.mach_binds.specs.BindViews.{import_in}
+use Rattle.mach_binds.specs.Imports.{input_in}
 use Rattle.goblin_mach_c.specs.ImportsBehind.{AreOver, items_left}
 use Rattle.goblin_mach_c.proofs.imports.ImportRowsItemRows.next.Goals as goal
 

@@ -3,7 +3,7 @@ use Rattle.mach_base.specs.Fault.{fault_of}
 use Rattle.mach_chained.specs.WalkViews.{input_of, fixup_view, fixup_read}
 use Rattle.mach_chained.specs.FixupsLeft.{fixups_left}
 use Rattle.mach_chained.specs.Bindings.{binding_in}
-use Rattle.mach_parts.specs.Bindings.{texts, binding_view, binding_read}
+use Rattle.mach_segments.specs.Bindings.{texts, binding_view, binding_read}
 use Rattle.mach_chained.specs.BindingViews.{bindings_left, pointers_left}
 use Rattle.mach_chained.proofs.BindingsLeft.{on_bindings, off_bindings, before_others, on_pointers, off_pointers}
 use Rattle.mach_chained.proofs.bindings.ChainedBindIterator.step.Goals as goal

@@ -3,7 +3,7 @@ use Rattle.mach_base.specs.Fault.{fault_of}
 use Rattle.mach_chained.specs.Chained.{Placed, fixup_items}
 use Rattle.mach_chained.specs.Bindings.{AreBindingItems}
 use Rattle.mach_chained.specs.WalkViews.{input_in}
-use Rattle.mach_parts.specs.Bindings.{texts, binding_read}
+use Rattle.mach_segments.specs.Bindings.{texts, binding_read}
 use Rattle.mach_chained.specs.BindingViews.{bindings_seen, bindings_left}
 use Rattle.mach_chained.proofs.Chained.{one_list}
 use Rattle.mach_chained.proofs.BindingLists.{oks, listed, refuses, has_none}

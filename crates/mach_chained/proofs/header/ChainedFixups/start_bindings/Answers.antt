@@ -4,7 +4,7 @@ use Rattle.mach_chained.specs.Fixups.{Input, Fixup}
 use Rattle.mach_chained.specs.Bindings.{bindings_of}
 use Rattle.mach_chained.specs.FixupsLeft.{fixups_left}
 use Rattle.mach_chained.specs.WalkViews.{input_in}
-use Rattle.mach_parts.specs.Bindings.{texts}
+use Rattle.mach_segments.specs.Bindings.{texts}
 use Rattle.mach_chained.specs.BindingViews.{bindings_left, pointers_left, fixup_count}
 use Rattle.mach_chained.proofs.BindingsLeft.{fixups_counted}
 use Rattle.mach_chained.proofs.header.ChainedFixups.start_bindings.Goals as goal

@@ -3,9 +3,9 @@ use Rattle.std.proofs.lemmas.Bool.Decides.{Decides-ltb}
 use Rattle.mach_resolve.specs.Files.{Says, TrieFaultAt}
 use Rattle.mach_resolve.specs.Failures.{IsFailure}
 use Rattle.mach_resolve.specs.Seen.{file_seen, files_seen}
-use Rattle.goblin_mach.specs.OpenImage.{trie_held}
-use Rattle.goblin_mach.specs.Subjects.{ImageExportsFault}
-use Rattle.mach_dyld.specs.Exports.{texts}
+use Rattle.mach_image.specs.OpenImage.{trie_held}
+use Rattle.mach_image.specs.Subjects.{ImageExportsFault}
+use Rattle.mach_base.specs.Text.{texts}
 use Rattle.mach_resolve.proofs.Found.{file_at}
 use Rattle.mach_resolve.proofs.Notes.{stands_more}
 use Rattle.mach_resolve.proofs.Steps.{told}

@@ -1,5 +1,5 @@
-use Rattle.mach_dyld.specs.WalkState.{work_left}
-use Rattle.mach_dyld.specs.Walks.{IsWalk}
+use Rattle.mach_tries.specs.WalkState.{work_left}
+use Rattle.mach_tries.specs.Walks.{IsWalk}
 use Rattle.tests_large.proofs.tests.walks.walks.Given as goal
 
 abbrev pub invariant-exports : goal.invariant-exports

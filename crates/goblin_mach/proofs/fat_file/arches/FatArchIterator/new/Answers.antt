@@ -1,5 +1,5 @@
 use Rattle.std.proofs.Common.{◌-◌, arith}
-use Rattle.mach_parts.proofs.ItemLists.{length-items_from}
+use Rattle.mach_base.proofs.ItemLists.{length-items_from}
 use Rattle.goblin_mach.specs.FatFile.{arch_at}
 use Rattle.goblin_mach.proofs.fat_file.arches.FatArchIterator.new.Goals as goal
 

@@ -2,8 +2,8 @@ use Rattle.std.proofs.Common.{ap, ◌∙◌}
 use Rattle.mach_base.specs.Fault.{fault_of}
 use Rattle.mach_base.proofs.Faults.{FailsAs-read}
 use Rattle.goblin_mach.specs.FatFile.{file_held, arches_in, archs_left, archs_of}
-use Rattle.mach_parts.specs.Items.{all_read}
-use Rattle.goblin_mach.proofs.Exits.{exit_gives}
+use Rattle.mach_base.specs.Items.{all_read}
+use Rattle.mach_image.proofs.Exits.{exit_gives}
 use Rattle.goblin_mach.proofs.FatRecords.{arches-first, arches-next, arches-whole, arches-refused}
 use Rattle.goblin_mach.proofs.fat_file.multi_arch.MultiArch.arches.Goals as goal
 

@@ -1,6 +1,6 @@
 use Rattle.std.proofs.Common.{◌≡◌}
-use Rattle.mach_parts.specs.Items.{all_read}
-use Rattle.mach_parts.proofs.AllRead.{onto}
+use Rattle.mach_base.specs.Items.{all_read}
+use Rattle.mach_base.proofs.AllRead.{onto}
 use Rattle.goblin_mach.specs.FatFile.{archs_of, file_held, archs_left}
 use Rattle.goblin_mach.proofs.fat_file.multi_arch.MultiArch.arches.Given as goal
 

@@ -1,5 +1,5 @@
 use Rattle.std.proofs.Common.{◌∙◌, sym}
-use Rattle.mach_parts.proofs.ItemLists.{length-items_from}
+use Rattle.mach_base.proofs.ItemLists.{length-items_from}
 use Rattle.goblin_mach.specs.FatEntry.{entry_at}
 use Rattle.goblin_mach.specs.FatFile.{file_held}
 use Rattle.goblin_mach.proofs.fat_file.multi_arch.SingleArchIteratorExactSizeIterator.len.Goals as goal

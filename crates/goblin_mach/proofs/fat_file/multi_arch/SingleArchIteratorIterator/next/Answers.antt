@@ -1,4 +1,4 @@
-use Rattle.mach_parts.proofs.ItemLists.{items_from-first, fewer_left}
+use Rattle.mach_base.proofs.ItemLists.{items_from-first, fewer_left}
 use Rattle.goblin_mach.specs.FatEntry.{entry_at}
 use Rattle.goblin_mach.specs.FatFile.{file_held}
 use Rattle.goblin_mach.proofs.fat_file.multi_arch.SingleArchIteratorIterator.next.Goals as goal

@@ -1,5 +1,0 @@
-use Rattle.goblin_mach.proofs.OneList.{tell_the_same}
-use Rattle.goblin_mach.proofs.image.binding_laws.image_bindings_are_imports.Goals as goal
-
-pub returns : goal.returns
-returns c = tell_the_same c.bindings_are_imports.ensures

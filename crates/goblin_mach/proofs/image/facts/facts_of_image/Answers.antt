@@ -1,9 +1,0 @@
-use Rattle.goblin_mach.proofs.Facts.{strict-lossy, has_facts}
-use Rattle.goblin_mach.proofs.image.facts.facts_of_image.Goals as goal
-
-pub returns : goal.returns
-returns g c =
-    let m = c.args.image.now in record {
-      strict = λ bytes o p. has_facts bytes o m (strict-lossy bytes o m p);
-      lossy = λ bytes o p. has_facts bytes o m p;
-    }

@@ -1,9 +1,0 @@
-use Rattle.goblin_mach.proofs.Facts.{strict-lossy, libraries_are}
-use Rattle.goblin_mach.proofs.image.facts.libraries_of_image.Goals as goal
-
-pub returns : goal.returns
-returns g c =
-    let m = c.args.image.now in record {
-      strict = λ bytes o p. libraries_are bytes o m (strict-lossy bytes o m p);
-      lossy = λ bytes o p. libraries_are bytes o m p;
-    }

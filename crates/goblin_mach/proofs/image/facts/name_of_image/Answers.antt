@@ -1,6 +1,0 @@
-use Rattle.goblin_mach.proofs.Facts.{strict-lossy, name_is}
-use Rattle.goblin_mach.proofs.image.facts.name_of_image.Goals as goal
-
-pub returns : goal.returns
-returns g c =
-    let m = c.args.image.now in record { strict = λ bytes o p. name_is bytes o m (strict-lossy bytes o m p); lossy = λ bytes o p. name_is bytes o m p }

@@ -1,5 +1,0 @@
-use Rattle.goblin_mach.proofs.Facts.{strict-lossy}
-use Rattle.goblin_mach.proofs.image.facts.strict_image_is_lossy.Goals as goal
-
-pub returns : goal.returns
-returns g c = λ bytes o p. strict-lossy bytes o c.args.image.now p

@@ -1,5 +1,0 @@
-use Rattle.goblin_mach.proofs.Libraries.{libs_by_name, ordinal_at}
-use Rattle.goblin_mach.proofs.image.libraries.libraries_by_ordinal.Goals as goal
-
-pub returns : goal.returns
-returns c = record { names = libs_by_name; ordinals = ordinal_at }

@@ -1,0 +1,24 @@
+//! What an image that was opened links.
+
+ghost use Rattle.std.specs.Prelude.{ℕ, List};
+ghost use Rattle.mach_base.specs.Context.{pointer_size};
+ghost use Rattle.mach_base.specs.Fault.{Fault};
+ghost use Rattle.mach_base.specs.Text.{texts};
+ghost use Rattle.mach_binds.specs.Imports.{Import};
+ghost use Rattle.mach_tries.specs.Trie as trie;
+ghost use Rattle.mach_image.specs.OpenImage.{IsImage, segments_held, trie_held, binds_held, ctx_held};
+ghost use Rattle.mach_image.specs.Subjects.{ListsImageImports, ListsImageExports};
+ghost use Rattle.goblin_mach.specs.View.{LinksImage, LinksFault, FaultHeld};
+
+use mach_image::macho::MachO;
+use std::alloc::Allocator;
+
+/// An image that was opened strictly at 0 links the lists that it holds, and a fault that stands in one
+/// of them stands in the bytes.
+pub fn links_of_image<A: Allocator>(image: &MachO<'_, A>)
+    ensures listed { (bytes : List ℕ) (list : List trie.Entry) (imports : List Import) → IsImage bytes 0 image.now
+        → ListsImageExports (trie_held image.now) (texts image.now.libs.items) list
+        → ListsImageImports (binds_held image.now) (pointer_size (ctx_held image.now).container) (texts image.now.libs.items) (segments_held image.now) imports
+        → LinksImage bytes list imports }
+    ensures refused { (bytes : List ℕ) (f : Fault) → IsImage bytes 0 image.now → FaultHeld image.now f → LinksFault bytes f }
+{}

@@ -1,0 +1,61 @@
+//! What a file is.
+
+ghost use Rattle.std.specs.Prelude.{IfOk, IfErr, IsOk};
+ghost use Rattle.mach_base.specs.Answer.{Stands, IsOkUnlessMemory};
+ghost use Rattle.mach_image.specs.Image.{Opens, LossyOpens, ImageFault, LossyFault};
+ghost use Rattle.goblin_mach.specs.File.{IsFat, MachOpens, MachFault};
+
+use crate::fat_file::multi_arch::MultiArch;
+use mach_base::{Endian, Error, Result};
+use mach_headers::fat::FAT_MAGIC;
+use mach_image::macho::MachO;
+use std::alloc::{Allocator, Global};
+
+/// What a file is.
+#[derive(Drop)]
+#[derive_where(Debug)]
+pub enum Mach<'a, A: Allocator = Global> {
+    /// Images and archives for several cpus.
+    Fat(MultiArch<'a, A>),
+    /// One image.
+    Binary(MachO<'a, A>),
+}
+
+impl<'a, A: Allocator + Clone> Mach<'a, A> {
+    ghost use Rattle.mach_image.specs.OpenImage.{IsImage, IsLossyImage};
+    ghost use Rattle.goblin_mach.specs.File.{IsMach};
+
+    /// Opens a file: a fat file where its magic says so, which takes no memory, else an image. Each refusal
+    /// but `Error::Memory` is a fault that stands in it.
+    pub fn parse(alloc: A, bytes: &'a [u8]) -> Result<Mach<'a, A>>
+        ensures opened { IfOk result (IsMach IsImage bytes.now) }
+        ensures only { MachOpens Opens bytes.now → IsOkUnlessMemory result }
+        ensures fat { IsFat bytes.now → IsOk result }
+        ensures refused { IfErr result (Stands (MachFault ImageFault bytes.now)) }
+    {
+        if bytes.len() < 4 {
+            return Err(Error::Malformed("a magic is 4 bytes"));
+        }
+        if Endian::Big.u32_at(bytes, 0) == FAT_MAGIC {
+            return Ok(Mach::Fat(MultiArch::new(alloc, bytes)?));
+        }
+        Ok(Mach::Binary(MachO::parse(alloc, bytes, 0)?))
+    }
+
+    /// Opens a file, and passes over what can't be read of its image, as `MachO::parse_lossy` does. The
+    /// images of a fat file are opened strictly all the same.
+    pub fn parse_lossy(alloc: A, bytes: &'a [u8]) -> Result<Mach<'a, A>>
+        ensures opened { IfOk result (IsMach IsLossyImage bytes.now) }
+        ensures only { MachOpens LossyOpens bytes.now → IsOkUnlessMemory result }
+        ensures fat { IsFat bytes.now → IsOk result }
+        ensures refused { IfErr result (Stands (MachFault LossyFault bytes.now)) }
+    {
+        if bytes.len() < 4 {
+            return Err(Error::Malformed("a magic is 4 bytes"));
+        }
+        if Endian::Big.u32_at(bytes, 0) == FAT_MAGIC {
+            return Ok(Mach::Fat(MultiArch::new(alloc, bytes)?));
+        }
+        Ok(Mach::Binary(MachO::parse_lossy(alloc, bytes, 0)?))
+    }
+}

@@ -1,0 +1,10 @@
+//! The low bits of a number, where a narrower field takes it.
+
+ghost use Rattle.std.specs.Prelude.{◌≡◌, ◌%◌, ◌^◌};
+
+/// The low 32 bits of a number.
+pub fn low_bits(x: u64) -> u32
+    ensures { result ≡ x % 2 ^ 32 }
+{
+    (x % (1 << 32)) as u32
+}

@@ -1,0 +1,20 @@
+pub mod Names
+pub mod BindReading
+pub mod BindListed
+pub mod BindModulus
+pub mod BindSettings
+pub mod BindSteps
+mod StreamStops
+pub mod StreamStarts
+pub mod BindLists
+pub mod BindTotal
+pub mod BindLast
+pub mod BindAddresses
+pub mod BindPlaced
+pub mod BindCut
+pub mod BindingRun
+pub mod BindingOpcodes
+pub mod BindingSet
+mod BindingReading
+pub mod BindingLaws
+pub mod BindingImports

@@ -1,0 +1,16 @@
+use Rattle.mach_binds.proofs.Names.{map, pointer_size, input_in, texts}
+use Rattle.mach_segments.specs.Segment.{segment_view}
+use Rattle.mach_binds.specs.Bindings.{bindings_in}
+use Rattle.mach_binds.specs.BindingsLeft.{binding_rules}
+use Rattle.mach_binds.specs.RowsMove.{binding_reads}
+use Rattle.mach_binds.proofs.BindingRun.{bindings_at_start}
+use Rattle.mach_binds.proofs.StreamStarts.{starts}
+use Rattle.mach_binds.proofs.imports.BindInterpreter.bindings.Goals as goal
+
+pub returns-clause-items : goal.returns-clause-items
+returns-clause-items c =
+    let b = c.args.self.now in
+    let x = input_in b (pointer_size c.args.ctx.container) (texts c.args.libs.now) (map segment_view c.args.segments.now) in
+    let s = starts binding_rules binding_reads x (bindings_in x) (bindings_at_start x) b.non_lazy b.lazy c.stream.ensures.order.0 c.stream.ensures.order.1 _ _
+    c.stream.ensures.items c.stream.ensures.reads in
+    (s.0, s.1, s.2)

@@ -1,0 +1,20 @@
+use Rattle.mach_binds.proofs.Names.{◌∙◌, refl, sym, ap, arith, input_of, lazy_of, state_of, items_of, items_left, opcodes_left}
+use Rattle.mach_binds.proofs.BindSteps.{over}
+use Rattle.mach_binds.proofs.imports.stream.Stream.go_over.Goals as goal
+
+pub returns-clause-items : goal.returns-clause-items
+unfolding items_left
+returns-clause-items g c =
+    let it = c.args.self.now in
+    let u = g.M.Makes.rules in
+    (over u g.M.Makes.reads (input_of it.source) (lazy_of it) it.more (state_of it.state) c.requires.count c.requires.on (state_of c.start-self.result)
+    c.requires.non_lazy refl c.requires.past c.start-self.ensures.state).items
+    ∙ ap (λ m. items_of u (input_of it.source) (lazy_of it) m (state_of c.start-self.result)) (sym c.first-self.ensures)
+
+pub returns-clause-reads : goal.returns-clause-reads
+unfolding opcodes_left
+returns-clause-reads g c =
+    let it = c.args.self.now in
+    let left = over g.M.Makes.rules g.M.Makes.reads (input_of it.source) (lazy_of it) it.more (state_of it.state) c.requires.count c.requires.on
+    (state_of c.start-self.result) c.requires.non_lazy refl c.requires.past c.start-self.ensures.state in
+    omega (arith, left.reads)

@@ -1,0 +1,323 @@
+//! The bindings of bind opcodes, as dyld makes them, one at a time.
+
+ghost use Rattle.std.specs.Prelude.{◌≡◌, ◌+◌, ◌<◌, List, [], ◌∷◌, Ok, Err, IsErr, MatchOption, IfSome, IfOk, length, map, nat_le, bit_and};
+ghost use Rattle.std.specs.Iterator.{YieldsFirstBy};
+ghost use Rattle.mach_base.specs.Context.{pointer_size};
+ghost use Rattle.mach_base.specs.Fault.{malformed, fault_of};
+ghost use Rattle.mach_segments.specs.Segment.{segment_view};
+ghost use Rattle.mach_binds.specs.Machine.{StopsFor, Fails, Keeps, IsMadeBy, items_left, range_of};
+ghost use Rattle.mach_binds.specs.Instructions.{byte_at};
+ghost use Rattle.mach_binds.specs.Streams.{Placed};
+ghost use Rattle.mach_binds.specs.Imports.{input_in};
+ghost use Rattle.mach_base.specs.Text.{texts};
+ghost use Rattle.mach_binds.specs.BindCursors.{IsOverBindings};
+ghost use Rattle.mach_segments.specs.Bindings.{provider_of, provider_view, binding_view, binding_read};
+ghost use Rattle.mach_binds.specs.Bindings as defined;
+ghost use Rattle.mach_binds.specs.Bindings.{spot_of, is_complete, gives_ordinal, highest_opcode, opcode_at, done_leads_to, AreBindings};
+ghost use Rattle.mach_binds.specs.BindingsLeft.{ordinal_now, given_now, special_after, first_extra, extra_after, binding_rules, bindings_left};
+
+use crate::bind_opcodes::*;
+use crate::imports::BindInterpreter;
+use crate::imports::instruction::instruction_error;
+use crate::imports::settings::Settings;
+use crate::imports::source::Source;
+use crate::imports::state::State;
+use crate::imports::stream::{Makes, Stop, Stream};
+use mach_base::{Ctx, Error, Result, ScrollError, Steps};
+use mach_segments::binding::{Binding, Provider};
+use mach_segments::segment::Segment;
+
+/// The bindings one at a time: those of the non-lazy stream, then those of the lazy one, up to the first
+/// fault; then its error; then nothing more. It takes no memory.
+#[derive(Drop)]
+pub struct OpcodeBindingIterator<'a, 'b> {
+    pub(crate) stream: Stream<'a, 'b, Extra>,
+}
+
+impl<'a> BindInterpreter<'a> {
+    /// The bindings one at a time, as dyld makes them: those of the non-lazy stream, then those of the
+    /// lazy one, up to the first fault, and its error last. `libs` are the image's libraries, by ordinal,
+    /// and `segments` its segments. It takes no memory.
+    pub fn bindings<'b>(
+        &self,
+        libs: &'b [&'a str],
+        segments: &'b [Segment<'a>],
+        ctx: Ctx,
+    ) -> OpcodeBindingIterator<'a, 'b>
+        ensures items { (ps : List Placed) × (qs : List Placed)
+            × AreBindings (input_in self.now (pointer_size ctx.container) (texts libs.now) (map segment_view segments.now))
+            self.now.non_lazy self.now.lazy ps qs (bindings_left result) }
+        ensures over { IsOverBindings (input_in self.now (pointer_size ctx.container) (texts libs.now) (map segment_view segments.now)) self.now.lazy result }
+    {
+        OpcodeBindingIterator {
+            stream: self.stream(libs, segments, ctx),
+        }
+    }
+}
+
+// Where an offset in a segment lies in the file and in memory, if a pointer there lies in the segment.
+#[tactic(auto, using(mach_segments::proofs::SegmentViews::segment_seen), unfolding(crate::specs::Bindings::spot_of))]
+#[inline(always)]
+fn spot(pointer: u8, segments: &[Segment<'_>], number: u8, offset: u64) -> Option<(u64, u64)>
+    ensures { MatchOption result (spot_of pointer (map segment_view segments.now) number offset ≡ Err malformed)
+        (λ s. spot_of pointer (map segment_view segments.now) number offset ≡ Ok s) }
+{
+    let segment = segments.get(usize::from(number))?;
+    if !holds_all(segment.vmsize, offset, pointer) {
+        return None;
+    }
+    let in_file = segment.fileoff.checked_add(offset)?;
+    let address = segment.vmaddr.checked_add(offset)?;
+    Some((in_file, address))
+}
+
+// Where it goes on behind a DONE, which is the instruction that comes next.
+#[inline(always)]
+fn behind_done(state: &State<'_>) -> usize
+    requires { state.now.place < state.now.upto }
+    ensures { result ≡ done_leads_to (range_of state.now) (state.now.place + 1) }
+{
+    if state.settings.is_lazy {
+        state.place + 1
+    } else {
+        state.upto
+    }
+}
+
+// The highest opcode of a stream.
+#[inline(always)]
+fn highest(is_lazy: bool) -> Opcode
+    ensures { result ≡ highest_opcode is_lazy }
+{
+    if is_lazy {
+        BIND_OPCODE_DO_BIND
+    } else {
+        BIND_OPCODE_DO_BIND_ULEB_TIMES_SKIPPING_ULEB
+    }
+}
+
+// Whether so many bytes from the offset on lie in a segment of that size.
+#[inline(always)]
+fn holds_all(size: u64, offset: u64, len: u8) -> bool
+    ensures { result ≡ nat_le (offset + len) size }
+{
+    match offset.checked_add(u64::from(len)) {
+        Some(end) => end <= size,
+        None => false,
+    }
+}
+
+// The ordinal that opcode 3 sets by its immediate.
+#[inline(always)]
+fn special_ordinal(imm: u8) -> i64
+    ensures { result ≡ defined.special_ordinal imm }
+{
+    if imm == 0 { 0 } else { i64::from(imm) - 16 }
+}
+
+// Whether an opcode sets an ordinal.
+#[inline(always)]
+fn sets_ordinal(opcode: Opcode) -> bool
+    ensures { result ≡ gives_ordinal opcode }
+{
+    match opcode {
+        BIND_OPCODE_SET_DYLIB_ORDINAL_IMM
+        | BIND_OPCODE_SET_DYLIB_ORDINAL_ULEB
+        | BIND_OPCODE_SET_DYLIB_SPECIAL_IMM => true,
+        _ => false,
+    }
+}
+
+// The special ordinal after an opcode with its immediate.
+#[inline(always)]
+fn next_special(special: Option<i64>, opcode: Opcode, imm: u8) -> Option<i64>
+    ensures { result ≡ special_after special opcode imm }
+{
+    match opcode {
+        BIND_OPCODE_SET_DYLIB_SPECIAL_IMM => Some(special_ordinal(imm)),
+        BIND_OPCODE_SET_DYLIB_ORDINAL_IMM | BIND_OPCODE_SET_DYLIB_ORDINAL_ULEB => None,
+        _ => special,
+    }
+}
+
+/// The settings that dyld's binds have beside those of a bind.
+#[derive(Clone, Copy)]
+pub struct Extra {
+    /// The special ordinal, where it was set after the library.
+    pub special: Option<i64>,
+    /// The type.
+    pub kind: u8,
+    /// Whether an ordinal was set, and whether a name and a segment were.
+    pub has_ordinal: bool,
+    pub has_name: bool,
+    pub has_segment: bool,
+}
+
+impl Extra {
+    // The provider by the ordinal that was set last.
+    #[inline(always)]
+    fn provider<'a>(self, libs: &[&'a str], library: u64) -> Option<Provider<'a>>
+        ensures { MatchOption result
+            (provider_of (texts libs.now) (ordinal_now self.special library) ≡ Err malformed)
+            (λ p. provider_of (texts libs.now) (ordinal_now self.special library) ≡ Ok (provider_view p)) }
+    {
+        match self.special {
+            Some(ordinal) => Provider::by_ordinal(libs, ordinal),
+            None => Provider::by_number(libs, library),
+        }
+    }
+
+    // Whether an ordinal, a name, a segment and a type were set.
+    #[inline(always)]
+    fn is_complete(self, library: u64) -> bool
+        ensures { result ≡ is_complete (given_now self library) }
+    {
+        self.has_ordinal && self.has_name && self.has_segment && 0 < self.kind && self.kind < 4
+    }
+}
+
+impl<'a> Makes<'a> for Extra {
+    type Item = Binding<'a>;
+
+    type Why = Error;
+
+    ghost use Rattle.mach_segments.specs.Bindings as parts;
+    ghost use Rattle.mach_segments.specs.Bindings.{binding_view};
+    ghost use Rattle.mach_binds.specs.BindingsLeft.{binding_rules};
+    ghost use Rattle.mach_base.specs.Fault.{fault_of};
+    ghost use Rattle.mach_binds.specs.RowsMove.{binding_reads};
+
+    ghost Seen = { parts.Binding };
+
+    ghost seen = { binding_view };
+
+    ghost fault = { fault_of };
+
+    ghost rules = { binding_rules };
+
+    ghost reads = { binding_reads };
+
+    #[inline(always)]
+    fn first(is_lazy: bool) -> Self
+        ensures { result ≡ first_extra is_lazy }
+    {
+        Extra {
+            special: None,
+            kind: if is_lazy { BIND_TYPE_POINTER } else { 0 },
+            has_ordinal: false,
+            has_name: false,
+            has_segment: false,
+        }
+    }
+
+    #[inline(always)]
+    fn set(self, byte: u8) -> Self
+        ensures { result ≡ extra_after (bit_and byte 0xf0) (bit_and byte 0x0f) self }
+    {
+        let (opcode, imm) = (byte & BIND_OPCODE_MASK, byte & BIND_IMMEDIATE_MASK);
+        Extra {
+            special: next_special(self.special, opcode, imm),
+            kind: if opcode == BIND_OPCODE_SET_TYPE_IMM {
+                imm
+            } else {
+                self.kind
+            },
+            has_ordinal: self.has_ordinal || sets_ordinal(opcode),
+            has_name: self.has_name || opcode == BIND_OPCODE_SET_SYMBOL_TRAILING_FLAGS_IMM,
+            has_segment: self.has_segment || opcode == BIND_OPCODE_SET_SEGMENT_AND_OFFSET_ULEB,
+        }
+    }
+
+    #[inline(always)]
+    fn execute(state: &mut State<'a>, bytes: &'a [u8], pointer: u8, byte: u8) -> Option<()> {
+        let (opcode, imm) = (byte & BIND_OPCODE_MASK, byte & BIND_IMMEDIATE_MASK);
+        let top = highest(state.settings.is_lazy);
+        if opcode > top {
+            return None;
+        }
+        if opcode == BIND_OPCODE_DONE {
+            let to = behind_done(state);
+            state.go_to(to);
+            return Some(());
+        }
+        let operands = state.place + 1;
+        state.execute(bytes, pointer, opcode, imm, operands)
+    }
+
+    // Why the instruction at the state's place can't be read.
+    #[tactic(auto, unfolding(crate::specs::Bindings::opcode_at, crate::specs::Instructions::byte_at))]
+    fn unreadable(state: &State<'a>, bytes: &[u8], pointer: u8, byte: u8) -> Error {
+        if state.place >= bytes.len() {
+            return Error::Scroll(ScrollError::BadOffset(state.place));
+        }
+        let (opcode, top) = (byte & BIND_OPCODE_MASK, highest(state.settings.is_lazy));
+        if opcode > top {
+            return Error::Malformed("an opcode of a stream is known");
+        }
+        instruction_error(bytes, pointer, state.place, byte)
+    }
+
+    // Why a bind has no binding.
+    fn refusal(self, source: &Source<'a, '_>, settings: &Settings<'a>) -> Error {
+        if !self.has_ordinal {
+            return Error::Malformed("a bind has an ordinal");
+        }
+        if !self.is_complete(settings.library) {
+            return Error::Malformed("a bind has a name, a segment and a type");
+        }
+        match self.provider(source.libs, settings.library) {
+            None => Error::Malformed("a bind's ordinal is one of a provider"),
+            Some(_) => Error::Malformed("a bind lies inside its segment, at places of 64 bits"),
+        }
+    }
+
+    #[tactic(auto, unfolding(crate::specs::Bindings::binding_of))]
+    #[inline(always)]
+    fn make(self, source: &Source<'a, '_>, settings: &Settings<'a>) -> Option<Binding<'a>> {
+        if !self.is_complete(settings.library) {
+            return None;
+        }
+        let provider = self.provider(source.libs, settings.library)?;
+        let (offset, address) = spot(
+            source.pointer,
+            source.segments,
+            settings.segment,
+            settings.offset,
+        )?;
+        Some(Binding {
+            name: settings.name,
+            provider,
+            offset,
+            address,
+            addend: settings.addend,
+            is_weak: settings.flags & BIND_SYMBOL_FLAGS_WEAK_IMPORT != 0,
+            is_lazy: settings.is_lazy,
+        })
+    }
+}
+
+impl<'a> Iterator for OpcodeBindingIterator<'a, '_> {
+    type Item = Result<Binding<'a>>;
+
+    ghost use Rattle.std.specs.Iterator.{item_count};
+
+    ghost next_gives = { YieldsFirstBy binding_read bindings_left };
+
+    ghost remaining = { item_count bindings_left };
+
+    #[inline(always)]
+    fn next(&mut self) -> Option<Result<Binding<'a>>> {
+        self.stream.next_item()
+    }
+}
+
+impl Default for OpcodeBindingIterator<'_, '_> {
+    ghost is_default = { λ it. bindings_left it ≡ [] };
+
+    /// No bindings.
+    fn default() -> Self {
+        OpcodeBindingIterator {
+            stream: Stream::none(<Extra as Makes<'_>>::first(true)),
+        }
+    }
+}

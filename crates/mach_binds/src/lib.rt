@@ -1,0 +1,7 @@
+//! The opcodes that bind an image's imports: imports as the Rust crate has them, and bindings as dyld makes them.
+#![tactic(auto)]
+
+pub mod bind_opcodes;
+pub mod bindings;
+pub mod imports;
+pub mod laws;

@@ -1,6 +1,0 @@
-use Rattle.mach_dyld.proofs.Names.{refl}
-use Rattle.mach_dyld.proofs.StreamStops.{behind_end}
-use Rattle.mach_dyld.proofs.imports.stream.Stream.end_at.Goals as goal
-
-pub returns-clause-fails : goal.returns-clause-fails
-returns-clause-fails g c = (c.error-error.ensures, (behind_end g.M.Makes.rules g.M.Makes.reads _ refl).0)

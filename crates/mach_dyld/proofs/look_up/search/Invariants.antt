@@ -1,9 +1,0 @@
-use Rattle.std.proofs.Common.{◌+◌, ◌*◌, length, reverse}
-use Rattle.mach_dyld.proofs.LookUpTurns.{Holds, unmarked}
-use Rattle.mach_dyld.proofs.look_up.search.Given as goal
-
-abbrev pub invariant-turns : goal.invariant-turns
-invariant-turns g l = Holds l.source l.root l.name l.top (reverse l.choices.items) l.marks l.fn.steps l.steps
-
-abbrev pub decreases-turns : goal.decreases-turns
-decreases-turns g l = 2 * unmarked l.marks + length l.choices.items

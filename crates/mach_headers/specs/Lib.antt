@@ -1,0 +1,5 @@
+pub mod Cpu
+pub mod Header
+pub mod HeaderNames
+pub mod Fat
+pub mod Magic

@@ -1,0 +1,156 @@
+-- Facts on bytes, and the image that was opened there.
+use Rattle.std.proofs.Common.{◌≡◌, ℕ, ◌+◌, List, Option, Result, Ok, refl, sym, ap, subst, ◌∙◌}
+use Rattle.std.specs.Prelude.{◌↔◌}
+use Rattle.mach_base.specs.declared.context.Ctx.{Ctx}
+use Rattle.mach_base.specs.Context.{pointer_size}
+use Rattle.mach_base.specs.Fault.{Fault}
+use Rattle.mach_base.proofs.Binds.{same_ok}
+use Rattle.mach_load.specs.Command.{Command}
+use Rattle.mach_headers.specs.Header.{header_size}
+use Rattle.mach_segments.specs.Bindings.{Binding}
+use Rattle.mach_segments.specs.Segment.{SegmentView}
+use Rattle.mach_symbols.specs.declared.symbols.nlist.Nlist.{Nlist}
+use Rattle.mach_tries.specs.Exports.{text_in}
+use Rattle.mach_base.specs.Text.{texts}
+use Rattle.mach_binds.specs.Imports.{Import}
+use Rattle.mach_tries.specs.Trie as trie
+use Rattle.mach_chained.specs.Fixups.{Fixup}
+use Rattle.mach_chained.specs.Header.{Fixups}
+use Rattle.mach_image.specs.EntryPoint.{EntryPoint, entry_point_in}
+use Rattle.mach_image.specs.ImageFacts.{Facts, facts_in, facts_held, HasFacts, OfFacts}
+use Rattle.mach_image.specs.Facts.{OfImage, HasCommands, HasSymbols, HasSegments, HasRelocations, HasName, HasLibraries, HasRunPaths, HasEntryPoint}
+use Rattle.mach_image.specs.Facts.{HasExports, HasExportsFault, HasImports, HasImportsFault, HasImportItems}
+use Rattle.mach_image.specs.Image.{LossyOpensAs}
+use Rattle.mach_image.specs.Bindings.{AreImageBindings}
+use Rattle.mach_image.specs.Facts.{HasLibrariesByKind, HasExportOf, HasChainedFixups, HasBase, HasFixups, HasBindings}
+use Rattle.mach_image.specs.Fixups.{AreImageFixups, base_held, base_of, chained_held, chained_in}
+use Rattle.mach_image.specs.Libraries.{LibraryView, libraries_in}
+use Rattle.mach_image.specs.LookUp.{StandsInImage}
+use Rattle.mach_image.specs.Subjects.{ListsImageImports, ImageImportsFault, AreImageBindItems, ListsImageExports}
+use Rattle.mach_image.specs.Subjects.{ImageExportsFault, symbols_in, symbols_held}
+use Rattle.mach_headers.specs.Magic.{cputype_at}
+use Rattle.mach_image.specs.OpenImage.{IsImage, IsLossyImage, HasFields, commands_held, segments_held, trie_held, binds_held, ctx_held, bytes_held}
+use Rattle.mach_image.specs.Relocations.{RelocatedSection, relocated_sections_in}
+use Rattle.mach_image.specs.declared.macho.MachO.{MachO}
+use Rattle.mach_image.proofs.Chains.{same_chain}
+use Rattle.mach_image.proofs.Images.{same_header}
+use Rattle.mach_image.proofs.Lossy.{same_segments}
+
+-- an image that was opened strictly is the one that opens in lossy mode
+pub strict-lossy : {A : Type 0} (bytes : List ℕ) (o : ℕ) (m : MachO A) → IsImage bytes o m → IsLossyImage bytes o m
+strict-lossy bytes o m p =
+    record {
+      ctx = p.ctx;
+      opens = p.opens.lossy;
+      fields = subst (λ (x : List SegmentView). HasFields bytes o p.ctx x m) (same_segments p.ctx bytes (commands_held m) p.opens.readable.segments) p.fields;
+    }
+
+-- equal arguments
+pub moved : {X Y : Type 0} (P : X → Y → Type 0) (x z : X) (y w : Y) → x ≡ z → y ≡ w → P x y → P z w
+moved P x z y w p q h = subst (λ (v : _). P z v) q (subst (λ (v : _). P v y) p h)
+
+-- one image opens at a place, so what holds of one holds of the same context and commands as another fact
+pub one_image : (bytes : List ℕ) (o : ℕ) (Holds : Ctx → List Command → Type 0) (ctx : Ctx) (cs : List Command) → LossyOpensAs bytes o ctx cs
+    → OfImage bytes o Holds → Holds ctx cs
+one_image bytes o Holds ctx cs opens q =
+    let same_ctx : q.ctx ≡ ctx = same_header bytes o q.ctx ctx q.opens.header opens.header in
+    let chain = (subst (λ (c : Ctx). LossyOpensAs bytes o c q.cs) same_ctx q.opens).chain in
+    let same : q.cs ≡ cs = same_chain ctx.le bytes (o + header_size ctx.container) q.cs cs chain.chain opens.chain.chain
+    (chain.count ∙ sym opens.chain.count) in
+    moved Holds q.ctx ctx q.cs cs same_ctx same q.holds
+
+-- what is said of the facts of an image holds of the bytes
+pub said : (bytes : List ℕ) (o : ℕ) (f : Facts) → HasFacts bytes o f → (Says : Facts → Type 0) → OfFacts bytes o Says ↔ Says f
+said bytes o f h Says = (
+  λ q. subst Says (sym (one_image bytes o (λ ctx cs. f ≡ facts_in ctx bytes o cs) q.ctx q.cs q.opens h)) q.holds,
+  λ s. record { ctx = h.ctx; cs = h.cs; opens = h.opens; holds = subst Says h.holds s },
+)
+
+module _ {A : Type 0} (bytes : List ℕ) (o : ℕ) (m : MachO A) (p : IsLossyImage bytes o m) where
+  -- what holds of the context and the commands of the image is a fact on the bytes
+  of_image : (Holds : Ctx → List Command → Type 0) → Holds p.ctx (commands_held m) → OfImage bytes o Holds
+  of_image Holds h = record { ctx = p.ctx; cs = commands_held m; opens = p.opens; holds = h }
+
+  -- and back
+  image_of : (Holds : Ctx → List Command → Type 0) → OfImage bytes o Holds → Holds p.ctx (commands_held m)
+  image_of Holds q = one_image bytes o Holds p.ctx (commands_held m) p.opens q
+
+  -- they are the same
+  pub same_facts : facts_held m ≡ facts_in p.ctx bytes o (commands_held m)
+  same_facts = let f = p.fields in
+      rw (f.ctx_is, f.bytes_is, f.header, f.segments, f.symbols, f.libs, f.rpaths, f.name, f.trie, f.binds) refl
+
+  -- so it has those that are held
+  pub has_facts : HasFacts bytes o (facts_held m)
+  has_facts = record { ctx = p.ctx; cs = commands_held m; opens = p.opens; holds = same_facts }
+
+  pub facts_are : (Says : Facts → Type 0) → OfFacts bytes o Says ↔ Says (facts_held m)
+  facts_are = said bytes o (facts_held m) has_facts
+
+  pub commands_are : (commands : List Command) → HasCommands bytes o commands ↔ (commands ≡ commands_held m)
+  commands_are commands = facts_are (λ f. commands ≡ f.commands)
+
+  pub symbols_are : (rows : List (Result (List ℕ × Nlist) Fault)) → HasSymbols bytes o rows ↔ (rows ≡ symbols_held m.symbols)
+  symbols_are rows = facts_are (λ f. rows ≡ symbols_in f.symbols)
+
+  pub segments_are : (segments : List SegmentView) → HasSegments bytes o segments ↔ (segments ≡ segments_held m)
+  segments_are segments = facts_are (λ f. segments ≡ f.segments)
+
+  pub relocations_are : (found : Result (List RelocatedSection) Fault)
+      → HasRelocations bytes o found ↔ (found ≡ relocated_sections_in (ctx_held m) (bytes_held m) (segments_held m))
+  relocations_are found = facts_are (λ f. found ≡ relocated_sections_in f.ctx f.bytes f.segments)
+
+  pub name_is : (name : Option (List ℕ)) → HasName bytes o name ↔ (name ≡ text_in m.name)
+  name_is name = facts_are (λ f. name ≡ f.name)
+
+  pub libraries_are : (libs : List (List ℕ)) → HasLibraries bytes o libs ↔ (libs ≡ texts m.libs.items)
+  libraries_are libs = facts_are (λ f. libs ≡ f.libs)
+
+  pub libraries_by_kind_are : (libraries : List LibraryView)
+      → HasLibrariesByKind bytes o libraries ↔ (libraries ≡ libraries_in (bytes_held m) (commands_held m))
+  libraries_by_kind_are libraries = facts_are (λ f. libraries ≡ libraries_in f.bytes f.commands)
+
+  pub run_paths_are : (paths : List (List ℕ)) → HasRunPaths bytes o paths ↔ (paths ≡ texts m.rpaths.items)
+  run_paths_are paths = facts_are (λ f. paths ≡ f.run_paths)
+
+  pub entry_point_is : (point : EntryPoint) → HasEntryPoint bytes o point ↔ (point ≡ record { address = m.entry; old_style = m.old_style_entry })
+  entry_point_is point = (
+    λ h. same_ok (sym (image_of (λ ctx cs. entry_point_in (cputype_at ctx bytes o) cs ≡ Ok point) h) ∙ p.fields.entry),
+    λ e. of_image (λ ctx cs. entry_point_in (cputype_at ctx bytes o) cs ≡ Ok point) (p.fields.entry ∙ ap Ok (sym e)),
+  )
+
+  pub exports_are : (list : List trie.Entry) → HasExports bytes o list ↔ ListsImageExports (trie_held m) (texts m.libs.items) list
+  exports_are list = facts_are (λ f. ListsImageExports f.trie f.libs list)
+
+  pub exports_fail : (fault : Fault) → HasExportsFault bytes o fault ↔ ImageExportsFault (trie_held m) (texts m.libs.items) fault
+  exports_fail fault = facts_are (λ f. ImageExportsFault f.trie f.libs fault)
+
+  pub export_is : (name : List ℕ) (found : Option trie.Info)
+      → HasExportOf bytes o name found ↔ StandsInImage (trie_held m) (texts m.libs.items) name found
+  export_is name found = facts_are (λ f. StandsInImage f.trie f.libs name found)
+
+  pub imports_are : (list : List Import)
+      → HasImports bytes o list ↔ ListsImageImports (binds_held m) (pointer_size (ctx_held m).container) (texts m.libs.items) (segments_held m) list
+  imports_are list = facts_are (λ f. ListsImageImports f.binds (pointer_size f.ctx.container) f.libs f.segments list)
+
+  pub imports_fail : (fault : Fault)
+      → HasImportsFault bytes o fault ↔ ImageImportsFault (binds_held m) (pointer_size (ctx_held m).container) (texts m.libs.items) (segments_held m) fault
+  imports_fail fault = facts_are (λ f. ImageImportsFault f.binds (pointer_size f.ctx.container) f.libs f.segments fault)
+
+  pub import_items_are : (items : List (Result Import Fault))
+      → HasImportItems bytes o items ↔ AreImageBindItems (binds_held m) (pointer_size (ctx_held m).container) (texts m.libs.items) (segments_held m) items
+  import_items_are items = facts_are (λ f. AreImageBindItems f.binds (pointer_size f.ctx.container) f.libs f.segments items)
+
+  pub chained_fixups_are : (found : Result (Option Fixups) Fault) → HasChainedFixups bytes o found ↔ (found ≡ chained_held m)
+  chained_fixups_are found = facts_are (λ f. found ≡ chained_in f.ctx f.bytes f.commands)
+
+  pub base_is : (address : ℕ) → HasBase bytes o address ↔ (address ≡ base_held m)
+  base_is address = facts_are (λ f. address ≡ base_of f.segments)
+
+  pub fixups_are : (items : List (Result Fixup Fault)) → HasFixups bytes o items ↔ AreImageFixups (chained_held m) (segments_held m) items
+  fixups_are items = facts_are (λ f. AreImageFixups (chained_in f.ctx f.bytes f.commands) f.segments items)
+
+  pub bindings_are : (items : List (Result Binding Fault)) → HasBindings bytes o items
+      ↔ AreImageBindings (binds_held m) (chained_held m) (pointer_size (ctx_held m).container) (texts m.libs.items) (segments_held m) items
+  bindings_are items =
+      facts_are (λ f. AreImageBindings f.binds (chained_in f.ctx f.bytes f.commands) (pointer_size f.ctx.container) f.libs f.segments items)

@@ -1,0 +1,24 @@
+-- What a walk of the trie of an image says: the trie of no bytes has no exports and no fault.
+use Rattle.std.proofs.Common.{◌≡◌, ℕ, List, [], Option, Some, None, refl, arith}
+use Rattle.mach_base.specs.Fault.{Fault}
+use Rattle.mach_tries.specs.Trie.{Entry}
+use Rattle.mach_tries.specs.Lists.{Lists, nothing, a_node}
+use Rattle.mach_tries.specs.TrieFault.{TrieFault, at_node, met_again}
+use Rattle.mach_tries.specs.TrieRange.{TrieRange, empty_range, trie_there, ListsExports, ExportsFault}
+use Rattle.mach_image.specs.Subjects.{ListsImageExports, ImageExportsFault, trie_or_empty}
+
+empty_list : (libs : List (List ℕ)) (list : List Entry) → Lists (trie_there empty_range libs) 0 [] list → list ≡ []
+empty_list libs _ (nothing past) = refl
+empty_list libs list (a_node node is below eq) = absurd (omega (arith, is.0))
+
+empty_fault : (libs : List (List ℕ)) (f : Fault) → TrieFault (trie_there empty_range libs) 0 f → ⊥
+empty_fault libs _ (at_node f path at leads inside e) = omega (arith, inside)
+empty_fault libs _ (met_again path other at leads also inside two) = omega (arith, inside)
+
+pub walked_list : (t : Option TrieRange) (libs : List (List ℕ)) (list : List Entry) → ListsExports (trie_or_empty t) libs list → ListsImageExports t libs list
+walked_list None libs list l = empty_list libs list l.1
+walked_list (Some t) libs list l = l
+
+pub walked_fault : (t : Option TrieRange) (libs : List (List ℕ)) (f : Fault) → ExportsFault (trie_or_empty t) libs f → ImageExportsFault t libs f
+walked_fault None libs f s = empty_fault libs f s
+walked_fault (Some t) libs f s = s

@@ -1,0 +1,17 @@
+pub mod Chain
+pub mod CommandItems
+pub mod Readings
+pub mod EntryPoint
+pub mod Subjects
+pub mod Libraries
+pub mod LookUp
+pub mod Relocations
+pub mod Image
+pub mod OpenImage
+pub mod Fixups
+pub mod FixupsLeft
+pub mod Bindings
+pub mod BindingsLeft
+pub mod Facts
+pub mod ImageFacts
+pub mod BindingLaws

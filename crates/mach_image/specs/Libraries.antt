@@ -1,0 +1,110 @@
+-- The libraries of an image, each with how the image brings it in (`mach-o/loader.h`, struct dylib_command).
+use Rattle.std.specs.Prelude.{ℕ, ◌+◌, List, [], ◌∷◌, map, Option, Some, None, option_map, Ok}
+use Rattle.std.specs.Slice.Iter.{iter_rest}
+use Rattle.mach_base.specs.Answer.{◌>>=◌}
+use Rattle.mach_base.specs.Number.{place_after}
+use Rattle.mach_base.specs.Record.{Value, number_among}
+use Rattle.mach_base.specs.Text.{text_at}
+use Rattle.mach_load.specs.Command.{Command}
+use Rattle.mach_load.specs.Commands.{Kind, load_dylib, load_upward_dylib, reexport_dylib, load_weak_dylib, lazy_load_dylib}
+use Rattle.mach_load.specs.Variants.{command_of}
+use Rattle.mach_records.specs.declared.libraries.Dylib.{Dylib}
+use Rattle.mach_image.specs.Readings.{Reading, read_of}
+use Rattle.mach_image.specs.Subjects.{name_place}
+use Rattle.mach_image.specs.declared.libraries.Library.{Library}
+use Rattle.mach_image.specs.declared.libraries.LibraryIterator.{LibraryIterator}
+use Rattle.mach_image.specs.declared.libraries.LibraryKind.{LibraryKind}
+use Rattle.mach_image.specs.declared.libraries.LibraryKind.TheVariants.{Required, Weak, Reexport, Upward, Lazy}
+
+-- how a command brings a library in, if it is one of the five that do
+abbrev pub library_kind : Kind → Option LibraryKind
+library_kind load_dylib = Some Required
+library_kind load_weak_dylib = Some Weak
+library_kind reexport_dylib = Some Reexport
+library_kind load_upward_dylib = Some Upward
+library_kind lazy_load_dylib = Some Lazy
+library_kind _ = None
+
+-- the struct dylib of such a command, which stands behind cmd and cmdsize
+abbrev pub dylib_of_values : List Value → Dylib
+dylib_of_values values =
+    record {
+      name = number_among values 2;
+      timestamp = number_among values 3;
+      current_version = number_among values 4;
+      compatibility_version = number_among values 5;
+    }
+
+-- a library as one command names it
+pub record NamedLibrary : Type 0 where
+  pub name : List ℕ
+  pub kind : LibraryKind
+  pub timestamp : ℕ
+  pub current_version : ℕ
+  pub compatibility_version : ℕ
+
+-- a library of this name and kind, with the numbers of its struct dylib
+abbrev pub named_library : LibraryKind → Dylib → List ℕ → NamedLibrary
+named_library kind d name =
+    record {
+      name = name;
+      kind = kind;
+      timestamp = d.timestamp;
+      current_version = d.current_version;
+      compatibility_version = d.compatibility_version;
+    }
+
+-- the library that a command names, or why its name can't be read
+abbrev pub named_by : List ℕ → Reading NamedLibrary
+named_by bytes c =
+    option_map (λ kind. text_at bytes (name_place c) >>= λ name. Ok (named_library kind (dylib_of_values c.values) name)) (library_kind c.kind)
+
+-- a library of an image, with its ordinal
+pub record LibraryView : Type 0 where
+  pub ordinal : ℕ
+  pub name : List ℕ
+  pub kind : LibraryKind
+  pub timestamp : ℕ
+  pub current_version : ℕ
+  pub compatibility_version : ℕ
+
+abbrev pub of_ordinal : ℕ → NamedLibrary → LibraryView
+of_ordinal n l =
+    record {
+      ordinal = n;
+      name = l.name;
+      kind = l.kind;
+      timestamp = l.timestamp;
+      current_version = l.current_version;
+      compatibility_version = l.compatibility_version;
+    }
+
+-- some libraries with their ordinals, from one on
+abbrev pub by_ordinal : ℕ → List NamedLibrary → List LibraryView
+by_ordinal n [] = []
+by_ordinal n (l ∷ ls) = of_ordinal n l ∷ by_ordinal (n + 1) ls
+
+-- the libraries of an image: those of its library commands whose name can be read, in order, with ordinals from 1
+abbrev pub libraries_in : List ℕ → List Command → List LibraryView
+libraries_in bytes cs = by_ordinal 1 (read_of (named_by bytes) cs)
+
+-- a library, as it was answered
+abbrev pub library_view : Library → LibraryView
+library_view l =
+    record {
+      ordinal = l.ordinal;
+      name = l.name.now;
+      kind = l.kind;
+      timestamp = l.timestamp;
+      current_version = l.current_version;
+      compatibility_version = l.compatibility_version;
+    }
+
+-- the same ordinals, as 64 bits count them: no further than the last number that they have
+abbrev pub counted_from : ℕ → List NamedLibrary → List LibraryView
+counted_from n [] = []
+counted_from n (l ∷ ls) = of_ordinal n l ∷ counted_from (place_after n 1) ls
+
+-- the libraries that are left
+abbrev pub libraries_left : LibraryIterator → List LibraryView
+libraries_left it = counted_from it.ordinal (read_of (named_by it.bytes.now) (map command_of (iter_rest it.commands)))

@@ -1,0 +1,20 @@
+//! The image: its header, its commands, and what they say, as slices, texts and records of the bytes.
+#![tactic(auto)]
+
+pub mod binding_laws;
+pub mod bindings;
+pub mod command_iterator;
+pub mod commands;
+pub mod entry;
+pub mod exported;
+pub mod facts;
+pub mod fields;
+pub mod fixups;
+pub mod laws;
+pub mod libraries;
+pub mod macho;
+pub mod once;
+pub mod opened;
+pub mod readings;
+pub mod relocations;
+pub mod subjects;

@@ -1,0 +1,84 @@
+//! What an image has once: the last command that speaks of it says what it is.
+
+ghost use Rattle.std.specs.Prelude.{◌≡◌, ℕ, List, None, false, IfErr, OnOk};
+ghost use Rattle.mach_base.specs.Answer.{Stands};
+ghost use Rattle.mach_load.specs.Variants.{command_of};
+ghost use Rattle.mach_image.specs.OpenImage.{TakesOnce, IsOnceRefused};
+ghost use Rattle.mach_image.specs.Readings.{IsRead};
+ghost use Rattle.mach_image.specs.Subjects.{table_by, id_by, trie_by, binds_by};
+
+use crate::readings::{put, put_readable};
+use crate::subjects::{Binds, Ids, SymbolTables, Tries};
+use mach_base::{Ctx, Result};
+use mach_binds::imports::BindInterpreter;
+use mach_load::{CommandVariant, LoadCommand};
+use mach_symbols::symbols::Symbols;
+use mach_tries::exports::ExportTrie;
+
+/// What an image has once.
+#[derive(Drop)]
+pub struct Once<'a> {
+    pub symbols: Option<Symbols<'a>>,
+    pub name: Option<&'a str>,
+    pub export_trie: Option<ExportTrie<'a>>,
+    pub bind_interpreter: Option<BindInterpreter<'a>>,
+}
+
+// Whether a command may speak of any of it.
+#[inline(always)]
+fn speaks_of_one(command: &LoadCommand) -> bool
+    ensures symbols { result ≡ false → (ctx : Ctx) (bytes : List ℕ) → table_by ctx bytes (command_of command.now) ≡ None }
+    ensures name { result ≡ false → (bytes : List ℕ) → id_by bytes (command_of command.now) ≡ None }
+    ensures trie { result ≡ false → (bytes : List ℕ) → trie_by bytes (command_of command.now) ≡ None }
+    ensures binds { result ≡ false → (bytes : List ℕ) → binds_by bytes (command_of command.now) ≡ None }
+{
+    matches!(
+        command.command,
+        CommandVariant::Symtab(_)
+            | CommandVariant::IdDylib(_)
+            | CommandVariant::DyldInfo(_)
+            | CommandVariant::DyldInfoOnly(_)
+            | CommandVariant::DyldExportsTrie(_)
+    )
+}
+
+impl<'a> Once<'a> {
+    /// Takes what one more command says, where it can be read.
+    #[inline(always)]
+    pub fn take(&mut self, bytes: &'a [u8], ctx: Ctx, command: &LoadCommand) -> Result<()>
+        ensures found { OnOk result (TakesOnce ctx bytes.now (command_of command.now) self.old self.new) }
+        ensures tables { OnOk result (IsRead (table_by ctx bytes.now (command_of command.now))) }
+        ensures ids { OnOk result (IsRead (id_by bytes.now (command_of command.now))) }
+        ensures refused { IfErr result (Stands (IsOnceRefused ctx bytes.now (command_of command.now))) }
+    {
+        if !speaks_of_one(command) {
+            return Ok(());
+        }
+        self.take_one(bytes, ctx, command)
+    }
+
+    // The same out of line: few commands speak of any of it.
+    #[inline(never)]
+    fn take_one(&mut self, bytes: &'a [u8], ctx: Ctx, command: &LoadCommand) -> Result<()>
+        ensures found { OnOk result (TakesOnce ctx bytes.now (command_of command.now) self.old self.new) }
+        ensures tables { OnOk result (IsRead (table_by ctx bytes.now (command_of command.now))) }
+        ensures ids { OnOk result (IsRead (id_by bytes.now (command_of command.now))) }
+        ensures refused { IfErr result (Stands (IsOnceRefused ctx bytes.now (command_of command.now))) }
+    {
+        put(&mut self.symbols, &SymbolTables { bytes, ctx }, command)?;
+        put(&mut self.name, &Ids { bytes }, command)?;
+        put_readable(&mut self.export_trie, &Tries { bytes }, command);
+        put_readable(&mut self.bind_interpreter, &Binds { bytes }, command);
+        Ok(())
+    }
+
+    /// Takes what can be read of it.
+    pub fn take_readable(&mut self, bytes: &'a [u8], ctx: Ctx, command: &LoadCommand)
+        ensures { TakesOnce ctx bytes.now (command_of command.now) self.old self.new }
+    {
+        put_readable(&mut self.symbols, &SymbolTables { bytes, ctx }, command);
+        put_readable(&mut self.name, &Ids { bytes }, command);
+        put_readable(&mut self.export_trie, &Tries { bytes }, command);
+        put_readable(&mut self.bind_interpreter, &Binds { bytes }, command);
+    }
+}

@@ -1,4 +1,0 @@
-pub mod Headers
-pub mod ItemLists
-pub mod AllRead
-pub mod SegmentViews

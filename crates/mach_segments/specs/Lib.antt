@@ -1,0 +1,10 @@
+pub mod Relocation
+pub mod RelocationName
+pub mod RelocationItems
+pub mod RelocationWhole
+pub mod Section
+pub mod SectionItems
+pub mod Segment
+pub mod Segments
+pub mod SegmentLending
+pub mod Bindings

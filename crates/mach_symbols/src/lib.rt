@@ -1,0 +1,5 @@
+//! The symbols of an image (`mach-o/nlist.h`).
+#![tactic(auto)]
+
+pub mod laws;
+pub mod symbols;

@@ -1,0 +1,98 @@
+-- Paths of a look-up, one behind the other: where they lead, what they spell, and the faults behind them.
+use Rattle.std.proofs.Common.{◌≡◌, ◌<◌, ◌≤◌, ◌+◌, ◌-◌, ℕ, zero, suc, List, [], ◌∷◌, ◌++◌, inl, inr, length, Some, Result, Ok, Err, refl, sym, ap, subst, ◌∙◌}
+use Rattle.std.proofs.Common.{arith, append_assoc}
+use Rattle.std.specs.Prelude.{slice_get, IfErr}
+use Rattle.std.proofs.lemmas.Bool.{cases_eq}
+use Rattle.std.proofs.lemmas.List.{append_cancel_left}
+use Rattle.mach_base.specs.Among.{IsAmong}
+use Rattle.mach_base.specs.Fault.{Fault}
+use Rattle.mach_base.specs.Answer.{Stands}
+use Rattle.mach_base.specs.declared.error.Error.{Error}
+use Rattle.mach_base.proofs.Faults.{Stands-in}
+use Rattle.mach_tries.specs.Trie.{Branch, Node, Trie}
+use Rattle.mach_tries.specs.TrieFault.{TrieFault, at_node, met_again}
+use Rattle.mach_tries.specs.Paths.{Leads, Path, StartsFrom}
+use Rattle.mach_tries.specs.TerminalPaths.{IsNameOf}
+use Rattle.mach_tries.specs.Visits.{AreApart}
+use Rattle.mach_tries.specs.LookUp.{Spells}
+use Rattle.mach_tries.proofs.TriePaths.{same_node, same_some, Leads-append}
+use Rattle.mach_tries.proofs.TrieVisits as visits
+
+module _ (t : Trie) where
+  name_append : (p q : List ℕ) (a b : ℕ) (m n : List ℕ) → Leads t p a b → IsNameOf t a p m → IsNameOf t b q n → IsNameOf t a (p ++ q) (m ++ n)
+  name_append [] q a b m n l h more =
+      subst (λ (x : List ℕ). IsNameOf t a q (x ++ n)) (sym h) (subst (λ x. IsNameOf t x q n) (sym l) more)
+  name_append (k ∷ ks) q a b m n l h more =
+      let node : l.0 ≡ h.0 = same_node l.3 h.3 in
+      let branch : l.1 ≡ h.1 = same_some (subst (λ (x : Node). slice_get x.branches k ≡ Some l.1) node l.4) h.4 in (
+        h.0,
+        h.1,
+        h.2 ++ n,
+        h.3,
+        h.4,
+        name_append ks q h.1.start b h.2 n (subst (λ (x : Branch). Leads t ks x.start b) branch l.5) h.5 more,
+        ap (λ (x : List ℕ). x ++ n) h.6 ∙ append_assoc h.1.label h.2 n,
+      )
+
+  pub spells_append : (p q : List ℕ) (a b : ℕ) (name rest others : List ℕ) → Leads t p a b → Spells t a name p rest → Spells t b rest q others
+      → Spells t a name (p ++ q) others
+  spells_append p q a b name rest others l front more = (
+    front.0 ++ more.0,
+    name_append p q a b front.0 more.0 l front.1 more.1,
+    front.2 ∙ (ap (λ (x : List ℕ). front.0 ++ x) more.2 ∙ sym (append_assoc front.0 more.0 others)),
+  )
+
+  -- by one branch more
+  pub spells_on : (p : List ℕ) (a b : ℕ) (name rest others : List ℕ) (node : Node) (k : ℕ) (branch : Branch) → Leads t p a b → Spells t a name p rest
+      → t.node b ≡ Ok node → slice_get node.branches k ≡ Some branch → rest ≡ branch.label ++ others → Spells t a name (p ++ k ∷ []) others
+  spells_on p a b name rest others node k branch l front at there e =
+      spells_append p (k ∷ []) a b name rest others l front
+      (branch.label, (node, branch, [], at, there, refl, append_nil_own branch.label), e)
+    where
+      append_nil_own : (xs : List ℕ) → xs ≡ xs ++ []
+      append_nil_own [] = refl
+      append_nil_own (x ∷ xs) = ap (λ (ys : List ℕ). x ∷ ys) (append_nil_own xs)
+
+  -- a fault behind a node is one behind what leads to it
+  pub fault_behind : (p : List ℕ) (a b : ℕ) (f : Fault) → Leads t p a b → TrieFault t b f → TrieFault t a f
+  fault_behind p a b _ l (at_node g q at more inside err) = at_node g (p ++ q) at (Leads-append t p q a b at l more) inside err
+  fault_behind p a b _ l (met_again q r at one two inside other) =
+      met_again (p ++ q) (p ++ r) at (Leads-append t p q a b at l one) (Leads-append t p r a b at l two) inside (λ e. other (append_cancel_left p q r e))
+
+  pub stands_behind : {X : Type 0} (p : List ℕ) (a b : ℕ) (r : Result X Error) → Leads t p a b → IfErr r (Stands (TrieFault t b)) → IfErr r
+      (Stands (TrieFault t a))
+  stands_behind p a b (Ok x) l h = tt
+  stands_behind p a b (Err e) l h = Stands-in (TrieFault t b) (TrieFault t a) e (λ f fault. fault_behind p a b f l fault) h
+
+  pub leads_from : (from : ℕ) → StartsFrom t from → (p : List ℕ) (a b : ℕ) → from ≤ a → Leads t p a b → from ≤ b
+  leads_from from starts [] a b low l = subst (λ x. from ≤ x) l low
+  leads_from from starts (k ∷ ks) a b low l = leads_from from starts ks l.1.start b (starts a l.0 k l.1 l.3 l.4) l.5
+
+  -- places of a range that all differ are no more than it has
+
+  abbrev numbers_below : ℕ → List ℕ
+  numbers_below zero = []
+  numbers_below (suc n) = n ∷ numbers_below n
+
+  is_below : (n k : ℕ) → k < n → IsAmong k (numbers_below n)
+  is_below zero k less = absurd (omega arith)
+  is_below (suc n) k less = elim (cases_eq k n) [ inl same ↦ inl same | inr other ↦ inr (is_below n k (omega (arith, other))) ]
+
+  many_below : (n : ℕ) → length (numbers_below n) ≡ n
+  many_below zero = refl
+  many_below (suc n) = ap suc (many_below n)
+
+  by_offset : (root from : ℕ) (ps : List (List ℕ)) → AreApart t root ps → visits.Apart (λ (p : List ℕ) (o : ℕ). Leads t p root (from + o)) ps
+  by_offset root from [] apart = tt
+  by_offset root from (p ∷ ps) apart = (λ q o i a b. apart.0 q (from + o) i a b, by_offset root from ps apart.1)
+
+  pub few_paths : (root from : ℕ) → StartsFrom t from → from ≤ root → (ps : List (List ℕ)) → AreApart t root ps
+      → ((p : List ℕ) → IsAmong p ps → Path t root p) → length ps ≤ t.upto - from
+  few_paths root from starts low ps apart leads =
+      let most = visits.no_more_than (λ (p : List ℕ) (o : ℕ). Leads t p root (from + o)) ps (numbers_below (t.upto - from)) (by_offset root from ps apart)
+      (λ p i.
+      let path = leads p i in
+      let above = leads_from from starts p root path.0 low path.1 in
+      let same : path.0 ≡ from + (path.0 - from) = omega arith in
+      (path.0 - from, is_below (t.upto - from) (path.0 - from) (omega (arith, path.2)), subst (λ x. Leads t p root x) same path.1)) in
+      let n = many_below (t.upto - from) in omega arith

@@ -1,0 +1,13 @@
+use Rattle.std.proofs.Common.{◌≡◌, ◌-◌, List}
+use Rattle.mach_tries.specs.Trie.{Branch}
+use Rattle.mach_tries.specs.Nodes.{branches_at}
+use Rattle.mach_tries.specs.LookUpViews.{Goes}
+use Rattle.mach_tries.specs.WalkViews.{source_trie}
+use Rattle.mach_tries.proofs.BranchSteps.{with_front}
+use Rattle.mach_tries.proofs.look_up.quick_way.Given as goal
+
+abbrev pub invariant-loop : goal.invariant-loop
+invariant-loop l = (front : List Branch)
+    × (with_front front (branches_at l.source.bytes.now l.source.from (l.count - l.counter) l.place)
+    ≡ branches_at l.source.bytes.now l.source.from l.count l.first)
+    × Goes (source_trie l.source) l.rest front l.way

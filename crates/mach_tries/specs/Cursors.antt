@@ -1,0 +1,77 @@
+-- What a walk of an export trie by a cursor has given, as its callers see it.
+use Rattle.std.specs.Prelude.{◌≡◌, ◌++◌, ◌⊎◌, ◌∷◌, [], ℕ, List, Option, Some, None, Result, Ok, slice_get}
+use Rattle.mach_base.specs.Answer.{◌>>=◌}
+use Rattle.mach_base.specs.Fault.{Fault}
+use Rattle.mach_base.specs.Leb128.{uleb_at}
+use Rattle.mach_base.specs.Text.{text_at}
+use Rattle.mach_tries.specs.CursorState.{HasCome, name_of}
+use Rattle.mach_tries.specs.Exports.{info_of}
+use Rattle.mach_base.specs.Text.{texts}
+use Rattle.mach_tries.specs.Lists.{ListBegins}
+use Rattle.mach_tries.specs.Nodes as Nodes
+use Rattle.mach_tries.specs.Nodes.{node_at}
+use Rattle.mach_tries.specs.Trie.{Branch, Entry, Info, entry}
+use Rattle.mach_tries.specs.TrieRange.{TrieRange, trie_there, ListsExports, ExportsFault}
+use Rattle.mach_tries.specs.declared.cursor.NextExport.{NextExport}
+use Rattle.mach_tries.specs.declared.cursor.NextExport.TheVariants.{Export, End, Refused, NameTooLong, StackTooShort}
+use Rattle.mach_tries.specs.declared.cursor.TrieCursor.{TrieCursor}
+use Rattle.mach_tries.specs.declared.walk.Open.{Open}
+use Rattle.mach_tries.specs.declared.walk.Source.{Source}
+
+-- what is read is the trie of this range, over these libraries
+pub record ReadsTrie (s : Source) (t : TrieRange) (libs : List (List ℕ)) : Type 0 where
+  pub bytes : s.bytes.now ≡ t.bytes
+  pub over : texts s.libs.now ≡ libs
+  pub from : s.from ≡ t.from
+  pub upto : s.upto ≡ t.upto
+
+-- The cursor goes over the trie of this range, with this name and these open nodes, and has given these exports: a
+-- beginning of the trie's list; or a fault stands in the trie.
+abbrev pub HasGivenTo : TrieRange → List (List ℕ) → TrieCursor → List ℕ → List Open → List Entry → Type 0
+HasGivenTo t libs c name stack found = (s : Source) → ReadsTrie s t libs → HasCome s c name stack found
+
+-- a fault stands in the trie
+abbrev pub IsFaulty : TrieRange → List (List ℕ) → Type 0
+IsFaulty t libs = (f : Fault) × ExportsFault t libs f
+
+-- the exports begin the trie's list, or it has none
+abbrev pub BeginsOrFaulty : TrieRange → List (List ℕ) → List Entry → Type 0
+BeginsOrFaulty t libs found = ListBegins (trie_there t libs) t.from [] found ⊎ IsFaulty t libs
+
+-- what comes behind these exports: one more; at the end nothing, and they are the trie's list, or it has none; an
+-- error, and it has none; or nothing yet, for want of memory
+abbrev pub NextGives : TrieRange → List (List ℕ) → List Entry → NextExport → TrieCursor → List ℕ → List Open → Type 0
+NextGives t libs found (Export info) c name stack = HasGivenTo t libs c name stack (found ++ entry (name_of c name) (info_of info) ∷ [])
+NextGives t libs found (End) c name stack = HasGivenTo t libs c name stack found × (ListsExports t libs found ⊎ IsFaulty t libs)
+NextGives t libs found (Refused e) c name stack = IsFaulty t libs
+NextGives t libs found (NameTooLong n) c name stack = HasGivenTo t libs c name stack found
+NextGives t libs found (StackTooShort) c name stack = HasGivenTo t libs c name stack found
+
+-- ---- where an export stands
+
+-- at this start stands a node whose own export is this
+abbrev pub IsOwnAt : List ℕ → List (List ℕ) → ℕ → ℕ → Info → Type 0
+IsOwnAt bytes libs from start info = (branches : List Branch) × (node_at bytes libs from start ≡ Ok (record { own = Some info; branches = branches }))
+
+-- an export that is given is that of the node at this start
+abbrev pub StandsAt : List ℕ → List (List ℕ) → ℕ → ℕ → Option NextExport → Type 0
+StandsAt bytes libs from start None = Unit {0}
+StandsAt bytes libs from start (Some (Export info)) = IsOwnAt bytes libs from start (info_of info)
+StandsAt bytes libs from start (Some (End)) = Unit {0}
+StandsAt bytes libs from start (Some (Refused e)) = Unit {0}
+StandsAt bytes libs from start (Some (NameTooLong n)) = Unit {0}
+StandsAt bytes libs from start (Some (StackTooShort)) = Unit {0}
+
+-- of a re-export of the node at this start: the ordinal, and the place behind it, behind the size of the export and its flags
+abbrev pub place_at : List ℕ → ℕ → Result (ℕ × ℕ) Fault
+place_at bytes start = do
+  size ← uleb_at bytes start
+  flags ← uleb_at bytes size.1
+  uleb_at bytes flags.1
+
+-- The library of this ordinal has this name, and the name there is the text at this place; it is empty where it is the export's
+-- own.
+abbrev pub IsReexportAt : List ℕ → List (List ℕ) → List ℕ → Option (List ℕ) → Option (ℕ × ℕ) → Type 0
+IsReexportAt bytes libs lib name None = ⊥
+IsReexportAt bytes libs lib name (Some found) =
+    (slice_get libs found.0 ≡ Some lib) × (text : List ℕ) × (text_at bytes found.1 ≡ Ok text) × (name ≡ Nodes.name_of text)

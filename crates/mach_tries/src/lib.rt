@@ -1,0 +1,12 @@
+//! The export trie of an image: all exports, an export at a time, and the export of one name.
+#![tactic(auto)]
+
+mod branches;
+mod cursor;
+pub mod exports;
+mod info;
+pub mod laws;
+mod look_up;
+mod marks;
+mod node;
+mod walk;

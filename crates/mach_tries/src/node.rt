@@ -1,0 +1,227 @@
+//! One node of an export trie, as dyld reads it. Quick readers read what most nodes hold with no call; where one
+//! of them finds nothing, the exact reader says what is there, or why nothing is.
+
+ghost use Rattle.std.specs.Prelude.{◌≡◌, ◌≤◌, ◌<◌, ◌+◌, ℕ, List, length, IfOk, IfSome, IsTrue, IsOk, IsErr, MatchOption, Ok, Err, Some, true, false};
+ghost use Rattle.mach_base.specs.Answer.{Reads};
+ghost use Rattle.mach_base.specs.Fault.{fault_of};
+ghost use Rattle.mach_base.specs.Leb128.{uleb_at};
+ghost use Rattle.mach_tries.specs.Trie.{regular};
+ghost use Rattle.mach_tries.specs.Nodes.{a_regular, info_kind, branch_at, branches_at, children_at, own_at};
+ghost use Rattle.mach_base.specs.Sums.{sum_of};
+ghost use Rattle.mach_tries.specs.Exports.{info_of};
+ghost use Rattle.mach_base.specs.Text.{texts};
+ghost use Rattle.mach_tries.specs.NodeViews.{branch_of, those_read, branches_in, AreReadable};
+
+use crate::info::{
+    EXPORT_SYMBOL_FLAGS_REEXPORT, EXPORT_SYMBOL_FLAGS_STUB_AND_RESOLVER, ExportInfo,
+};
+use mach_base::{Error, Result, quick_text, quick_uleb, read_text, uleb};
+
+/// A label, and where the child begins.
+#[derive(Clone, Copy, Debug)]
+pub struct Branch<'a> {
+    pub label: &'a str,
+    pub start: usize,
+}
+
+/// Branches that can be read: the first, how many are left behind it, and the place where these begin.
+#[derive(Clone, Copy, Debug)]
+pub struct Branches<'a> {
+    pub first: Branch<'a>,
+    pub left: usize,
+    pub place: usize,
+}
+
+// The exact reader of a number, for those that the quick one leaves.
+#[cold]
+#[inline(never)]
+fn rare_number(bytes: &[u8], place: usize) -> Result<(u64, usize)>
+    ensures { Reads (λ found. found) result (uleb_at bytes.now place) }
+{
+    uleb(bytes, place)
+}
+
+/// The number at a place, and the place after it.
+#[inline(always)]
+pub fn number(bytes: &[u8], place: usize) -> Result<(u64, usize)>
+    ensures { Reads (λ found. found) result (uleb_at bytes.now place) }
+{
+    match quick_uleb(bytes, place) {
+        Some(found) => Ok(found),
+        None => rare_number(bytes, place),
+    }
+}
+
+// The sum, where it has at most 64 bits.
+#[inline(always)]
+fn sum(place: usize, n: u64) -> Result<usize>
+    ensures { Reads (λ sum. sum) result (sum_of place n) }
+{
+    match place.checked_add(n as usize) {
+        Some(sum) => Ok(sum),
+        None => Err(Error::Malformed("a place in a trie has at most 64 bits")),
+    }
+}
+
+// A branch of a trie that begins at `from`, and the place after it.
+#[tactic(auto, unfolding(crate::specs::Nodes::branch_at))]
+fn read_branch(bytes: &[u8], from: usize, place: usize) -> Result<(Branch<'_>, usize)>
+    ensures { Reads (λ found. (branch_of found.0, found.1)) result (branch_at bytes.now from place) }
+{
+    let label = read_text(bytes, place)?;
+    let (offset, after) = uleb(bytes, place + label.len() + 1)?;
+    let start = sum(from, offset)?;
+    Ok((Branch { label, start }, after))
+}
+
+// Whether so many branches can be read, one after the other.
+#[cold]
+#[inline(never)]
+fn test_branches(bytes: &[u8], from: usize, count: usize, first: usize) -> Result<()>
+    ensures { Reads (λ _. those_read (branches_at bytes.now from count first)) result (branches_at bytes.now from count first) }
+{
+    let mut place = first;
+    for _ in 0..count {
+        let (_, after) = read_branch(bytes, from, place)?;
+        place = after;
+    }
+    Ok(())
+}
+
+// Why so many branches can't all be read.
+#[cold]
+#[inline(never)]
+pub(crate) fn branches_error(bytes: &[u8], from: usize, count: usize, first: usize) -> Error
+    requires { IsErr (branches_at bytes.now from count first) }
+    ensures { branches_at bytes.now from count first ≡ Err (fault_of result) }
+{
+    match test_branches(bytes, from, count, first) {
+        Err(e) => e,
+        Ok(()) => unreachable!(),
+    }
+}
+
+/// A branch and the place after it, wherever `read_branch` finds one.
+#[tactic(auto, unfolding(crate::specs::Nodes::branch_at))]
+#[inline(always)]
+pub(crate) fn quick_branch(bytes: &[u8], from: usize, place: usize) -> Option<(Branch<'_>, usize)>
+    ensures { MatchOption result (IsErr (branch_at bytes.now from place))
+        (λ found. branch_at bytes.now from place ≡ Ok (branch_of found.0, found.1)) }
+{
+    let label = quick_text(bytes, place)?;
+    let (offset, after) = quick_uleb(bytes, place + label.len() + 1)?;
+    match from.checked_add(offset as usize) {
+        Some(start) => Some((Branch { label, start }, after)),
+        None => None,
+    }
+}
+
+// Whether so many branches can be read, one after the other.
+#[inline(always)]
+pub(crate) fn quick_test(bytes: &[u8], from: usize, count: usize, first: usize) -> bool
+    ensures yes { result ≡ true → branches_at bytes.now from count first ≡ Ok (those_read (branches_at bytes.now from count first)) }
+    ensures no { result ≡ false → IsErr (branches_at bytes.now from count first) }
+{
+    let mut place = first;
+    for _ in 0..count {
+        match quick_branch(bytes, from, place) {
+            Some((_, after)) => place = after,
+            None => return false,
+        }
+    }
+    true
+}
+
+// So many branches, if all can be read.
+#[inline(always)]
+fn quick_branches(bytes: &[u8], from: usize, count: usize, place: usize) -> Option<Branches<'_>>
+    requires { 0 < count }
+    ensures value { MatchOption result (IsErr (branches_at bytes.now from count place))
+        (λ b. branches_at bytes.now from count place ≡ Ok (branches_in bytes.now from (Some b))) }
+    ensures readable { IfSome result (AreReadable bytes.now from) }
+    ensures count { IfSome result (λ b. b.left + 1 ≡ count) }
+{
+    let Some((first, place)) = quick_branch(bytes, from, place) else {
+        return None;
+    };
+    let left = count - 1;
+    if quick_test(bytes, from, left, place) {
+        Some(Branches { first, left, place })
+    } else {
+        None
+    }
+}
+
+/// The branches behind their count, if there are any: all of them can be read.
+#[tactic(auto, unfolding(crate::specs::Nodes::children_at))]
+#[inline(always)]
+pub fn read_branches(bytes: &[u8], from: usize, place: usize) -> Result<Option<Branches<'_>>>
+    ensures value { Reads (branches_in bytes.now from) result (children_at bytes.now from place) }
+    ensures readable { IfOk result (λ found. IfSome found (AreReadable bytes.now from)) }
+    ensures few { IfOk result (λ found. IfSome found (λ b. b.left + 1 ≤ length bytes.now)) }
+{
+    let (count, place) = number(bytes, place)?;
+    let count = count as usize;
+    if count > bytes.len() {
+        return Err(Error::BufferTooShort(count, "branches"));
+    }
+    if count == 0 {
+        return Ok(None);
+    }
+    match quick_branches(bytes, from, count, place) {
+        Some(branches) => Ok(Some(branches)),
+        None => Err(branches_error(bytes, from, count, place)),
+    }
+}
+
+/// A node's own export of so many bytes, and the place of the branches behind it.
+pub fn read_own<'a>(
+    bytes: &'a [u8],
+    libs: &[&'a str],
+    size: u64,
+    place: usize,
+) -> Result<(ExportInfo<'a>, usize)>
+    ensures { Reads (λ own. (info_of own.0, own.1)) result (own_at bytes.now (texts libs.now) size place) }
+{
+    let (flags, rest) = uleb(bytes, place)?;
+    let info = ExportInfo::parse(bytes, libs, flags, rest)?;
+    let after = sum(place, size)?;
+    Ok((info, after))
+}
+
+// Whether the flags say a regular export, whatever its kind: neither a re-export nor a stub.
+#[inline(always)]
+fn is_plain(flags: u64) -> bool
+    ensures { IsTrue result → info_kind flags ≡ a_regular }
+{
+    flags & EXPORT_SYMBOL_FLAGS_REEXPORT == 0 && flags & EXPORT_SYMBOL_FLAGS_STUB_AND_RESOLVER == 0
+}
+
+/// The same of a regular export: its address, its flags, and the place of the branches behind it.
+#[tactic(auto, unfolding(crate::specs::Nodes::info_at, crate::specs::Nodes::regular_at))]
+#[inline(always)]
+pub fn quick_own(bytes: &[u8], size: u64, place: usize) -> Option<(u64, u64, usize)>
+    ensures { IfSome result (λ own. (libs : List (List ℕ)) → own_at bytes.now libs size place ≡ Ok (regular own.0 own.1, own.2)) }
+{
+    let (flags, rest) = quick_uleb(bytes, place)?;
+    if !is_plain(flags) {
+        return None;
+    }
+    let (address, _) = quick_uleb(bytes, rest)?;
+    match place.checked_add(size as usize) {
+        Some(after) => Some((address, flags, after)),
+        None => None,
+    }
+}
+
+/// A branch that was tested, read again, and the place after it.
+#[inline(always)]
+pub fn read_again(bytes: &[u8], from: usize, place: usize) -> (Branch<'_>, usize)
+    requires { IsOk (branch_at bytes.now from place) }
+    ensures { branch_at bytes.now from place ≡ Ok (branch_of result.0, result.1) }
+{
+    match quick_branch(bytes, from, place) {
+        Some(found) => found,
+        None => unreachable!(),
+    }
+}

@@ -1,0 +1,330 @@
+//! The walk of an export trie, on a stack of open nodes: its exports, one after the other.
+
+ghost use Rattle.std.specs.Prelude.{◌≡◌, ◌≤◌, ◌<◌, ◌+◌, ◌-◌, ◌++◌, ◌∷◌, ℕ, List, [], length, reverse, IfOk, IfErr, IfSome, IfNone, OnOk, IsNone, true, false};
+ghost use Rattle.std.specs.Str.{IsUtf8};
+ghost use Rattle.mach_base.specs.Answer.{Reads, Stands};
+ghost use Rattle.mach_base.specs.Leb128.{uleb_at};
+ghost use Rattle.mach_tries.specs.Trie.{Entry, entry, own_entries};
+ghost use Rattle.mach_tries.specs.Lists.{Lists};
+ghost use Rattle.mach_tries.specs.Paths.{IsTree};
+ghost use Rattle.mach_tries.specs.Visits.{Visits};
+ghost use Rattle.mach_tries.specs.Exports.{info_of, entries};
+ghost use Rattle.mach_tries.specs.WalkViews.{source_trie, node_in, own_in, fault_in, info_in, node_of};
+ghost use Rattle.mach_tries.specs.NodeViews.{AreReadable};
+ghost use Rattle.mach_tries.specs.Lists.{ListBegins};
+ghost use Rattle.mach_tries.specs.TrieRange.{TrieRange, trie_there};
+ghost use Rattle.mach_tries.specs.Walks.{HasGiven, IsOver, IsWalk, SaysOfTrie, GoesOn};
+ghost use Rattle.mach_tries.specs.WalkState.{IsAtBranch, IsBetween, HasFound, IsRefused, StepGives, work_left};
+
+use crate::exports::Export;
+use crate::info::ExportInfo;
+use crate::marks::Marks;
+use crate::node::{Branch, Branches, number, quick_own, read_again, read_branches, read_own};
+use mach_base::{Error, Result, Steps};
+use std::alloc::{AllocError, Allocator, Global};
+
+/// What exports are read from: some bytes, the libraries of the image, and where the trie begins and ends.
+#[derive(Clone, Copy, Debug)]
+pub struct Source<'a, 'b> {
+    pub bytes: &'a [u8],
+    pub libs: &'b [&'a str],
+    pub from: usize,
+    pub upto: usize,
+}
+
+/// An open node of an export trie.
+#[derive(Clone, Copy, Debug)]
+#[repr(C)]
+pub struct Open {
+    /// How many of its branches are left.
+    pub left: usize,
+    /// Where these begin.
+    pub place: usize,
+    /// How long its name is.
+    pub name_len: usize,
+}
+
+// Reads how long the own export of the node at a start is: the one read that counts as a visit.
+// Answers that and the place behind.
+#[inline(always)]
+pub(crate) fn visit(bytes: &[u8], start: usize, steps: &mut Steps) -> Result<(u64, usize)>
+    ensures value { Reads (λ found. found) result (uleb_at bytes.now start) }
+    ensures visits { steps.new ≡ steps.old + 1 }
+{
+    steps.tick();
+    number(bytes, start)
+}
+
+// An own export of so many bytes that the quick reader leaves, and the place of the branches.
+#[cold]
+#[inline(never)]
+fn rare_own<'a>(source: &Source<'a, '_>, size: u64, place: usize) -> Result<(ExportInfo<'a>, usize)>
+    ensures { Reads (λ own. (info_of own.0, own.1)) result (own_in source.now size place) }
+{
+    read_own(source.bytes, source.libs, size, place)
+}
+
+// An own export of so many bytes, and the place of the branches.
+#[inline(always)]
+pub(crate) fn own_export<'a>(
+    source: &Source<'a, '_>,
+    size: u64,
+    place: usize,
+) -> Result<(ExportInfo<'a>, usize)>
+    ensures { Reads (λ own. (info_of own.0, own.1)) result (own_in source.now size place) }
+{
+    match quick_own(source.bytes, size, place) {
+        Some((address, flags, after)) => Ok((ExportInfo::Regular { address, flags }, after)),
+        None => rare_own(source, size, place),
+    }
+}
+
+// Reads the node at a start: its own export, if it has one, and its branches, if it has any.
+#[tactic(auto, unfolding(crate::specs::Nodes::node_at, crate::specs::Nodes::inner_at, crate::specs::Nodes::terminal_at))]
+#[inline(always)]
+fn read_node<'a>(
+    source: &Source<'a, '_>,
+    start: usize,
+    steps: &mut Steps,
+) -> Result<(Option<ExportInfo<'a>>, Option<Branches<'a>>)>
+    ensures visits { steps.new ≡ steps.old + 1 }
+    ensures node { Reads (node_of source.now) result (node_in source.now start) }
+    ensures readable { IfOk result (λ read. IfSome read.1 (AreReadable source.now.bytes.now source.now.from)) }
+    ensures few { IfOk result (λ read. IfSome read.1 (λ b. b.left + 1 ≤ length source.now.bytes.now)) }
+{
+    let (size, place) = visit(source.bytes, start, steps)?;
+    if size == 0 {
+        return Ok((None, read_branches(source.bytes, source.from, place)?));
+    }
+    let (own, place) = own_export(source, size, place)?;
+    let branches = read_branches(source.bytes, source.from, place)?;
+    Ok((Some(own), branches))
+}
+
+// Keeps an open node on the stack, if it has branches left.
+#[inline(always)]
+fn keep_below<A: Allocator>(
+    stack: &mut Vec<Open, A>,
+    top: Open,
+) -> std::result::Result<(), AllocError>
+    ensures kept { OnOk result (0 < top.left → reverse stack.new.items ≡ top ∷ reverse stack.old.items) }
+    ensures used_up { OnOk result (top.left ≡ 0 → reverse stack.new.items ≡ reverse stack.old.items) }
+{
+    if top.left != 0 {
+        stack.push(top)?;
+    }
+    Ok(())
+}
+
+/// The exports of a trie one at a time, depth first: each node's own before those of its children. It
+/// takes a bit for each byte of the trie, a stack of the nodes that are open, and one name.
+#[derive(Drop)]
+pub struct ExportWalk<'a, 'b, A: Allocator = Global> {
+    pub(crate) source: Source<'a, 'b>,
+    /// Which starts were met.
+    pub(crate) marks: Marks<A>,
+    /// The name of the node that was met last.
+    pub(crate) name: Vec<u8, A>,
+    /// The nodes below the top that have branches left.
+    pub(crate) stack: Vec<Open, A>,
+    /// The node whose branch comes next, behind that branch.
+    pub(crate) top: Open,
+    /// The branch that comes next.
+    pub(crate) next: Branch<'a>,
+    pub(crate) over: bool,
+}
+
+impl<'a, 'b, A: Allocator> ExportWalk<'a, 'b, A> {
+    /// A walk that has come nowhere yet: the root is the child of its next branch.
+    pub(crate) fn start(alloc: &A, source: &Source<'a, 'b>) -> Result<Self>
+    where
+        A: Clone,
+        ensures source { IfOk result (λ w. w.source ≡ source.now) }
+        ensures start { IfOk result (λ w. HasFound [] 0 w) }
+        ensures err { IfErr result (λ e. Stands (λ _. ⊥) e) }
+    {
+        let len = source.upto.saturating_sub(source.from);
+        Ok(ExportWalk {
+            source: *source,
+            marks: Marks::new(alloc.clone()?, len)?,
+            name: Vec::new(alloc.clone()?),
+            stack: Vec::new(alloc.clone()?),
+            top: Open {
+                left: 0,
+                place: 0,
+                name_len: 0,
+            },
+            next: Branch {
+                label: "",
+                start: source.from,
+            },
+            over: source.from >= source.upto,
+        })
+    }
+
+    /// The name of the export that came last.
+    #[inline(always)]
+    pub(crate) fn name(&self) -> &str
+        requires { IsUtf8 self.now.name.items }
+        ensures { result.now ≡ self.now.name.items }
+    {
+        unsafe { str::from_utf8_unchecked(self.name.as_slice()) }
+    }
+
+    // Goes on to the next branch that is left, if there is one.
+    #[inline(always)]
+    fn go_on(&mut self)
+        requires { (found : List Entry) × (n : ℕ) × IsBetween found n self.old }
+        ensures found { (found : List Entry) (n : ℕ) → IsBetween found n self.old → HasFound found n self.new }
+        ensures source { self.new.source ≡ self.old.source }
+        ensures name { self.new.name.items ≡ self.old.name.items }
+        ensures less { work_left self.new < work_left self.old }
+    {
+        if self.top.left == 0 {
+            match self.stack.pop() {
+                None => {
+                    self.over = true;
+                    return;
+                }
+                Some(below) => self.top = below,
+            }
+        }
+        let (next, after) = read_again(self.source.bytes, self.source.from, self.top.place);
+        self.next = next;
+        self.top.left -= 1;
+        self.top.place = after;
+    }
+
+    // Takes the branch that comes next: answers the own export of the node that it leads to, if there is one.
+    #[inline(always)]
+    fn take(&mut self, steps: &mut Steps) -> Result<Option<ExportInfo<'a>>>
+        requires { (found : List Entry) × (n : ℕ) × IsAtBranch found n self.old }
+        ensures source { OnOk result (self.new.source ≡ self.old.source) }
+        ensures found { IfOk result (λ own. (found : List Entry) (n : ℕ) → IsAtBranch found n self.old → (m : ℕ)
+            × HasFound (found ++ own_entries self.new.name.items (info_in own)) m self.new × (steps.new + n ≡ steps.old + m)) }
+        ensures refused { IfErr result (λ e. (found : List Entry) (n : ℕ) → IsAtBranch found n self.old
+            → IsRefused self.old.source n steps.old steps.new e) }
+        ensures utf8 { IfOk result (λ own. IfSome own (λ _. IsUtf8 self.new.name.items)) }
+        ensures less { OnOk result (work_left self.new < work_left self.old) }
+    {
+        let Branch { label, start } = self.next;
+        let from = self.source.from;
+        if start >= self.source.upto {
+            self.go_on();
+            return Ok(None);
+        }
+        if self.marks.is_marked(start - from) {
+            return Err(Error::Malformed("two paths lead to one node"));
+        }
+        self.marks.mark(start - from);
+        self.name.truncate(self.top.name_len);
+        self.name.extend_from_slice(label.as_bytes())?;
+        let (own, branches) = read_node(&self.source, start, steps)?;
+        let Some(branches) = branches else {
+            self.go_on();
+            return Ok(own);
+        };
+        keep_below(&mut self.stack, self.top)?;
+        let name_len = self.name.len();
+        self.top = Open {
+            left: branches.left,
+            place: branches.place,
+            name_len,
+        };
+        self.next = branches.first;
+        Ok(own)
+    }
+
+    /// The next export, whose name is then that of the walk, or the fault that ends the walk.
+    #[inline(always)]
+    pub(crate) fn step(&mut self, steps: &mut Steps) -> Option<Result<ExportInfo<'a>>>
+        requires { self.old.over ≡ false → (found : List Entry) × (n : ℕ) × HasFound found n self.old }
+        ensures found { (found : List Entry) (n : ℕ) → HasFound found n self.old
+            → StepGives found n steps.old steps.new self.old.source result self.new }
+        ensures source { IfSome result (λ item. OnOk item (self.new.source ≡ self.old.source)) }
+        ensures utf8 { IfSome result (λ item. OnOk item (IsUtf8 self.new.name.items)) }
+        ensures none { IfNone result (self.new.over ≡ true) }
+        ensures err { IfSome result (λ item. IfErr item (λ _. self.new.over ≡ true)) }
+        ensures over { self.old.over ≡ true → IsNone result }
+        ensures less { IfSome result (λ item. work_left self.new < work_left self.old) }
+    {
+        'turns: while !self.over {
+            match self.take(steps) {
+                Ok(None) => {}
+                Ok(Some(info)) => return Some(Ok(info)),
+                Err(e) => {
+                    self.over = true;
+                    return Some(Err(e));
+                }
+            }
+        }
+        None
+    }
+}
+
+// Lists an export. Its name takes one allocation, of exactly its length.
+#[inline(always)]
+fn push_export<'a, A: Allocator + Clone>(
+    alloc: &A,
+    info: ExportInfo<'a>,
+    name: &str,
+    found: &mut Vec<Export<'a, A>, A>,
+) -> std::result::Result<(), AllocError>
+    ensures { OnOk result (entries found.new.items ≡ entries found.old.items ++ entry name.now (info_of info.entry) ∷ []) }
+{
+    found.push(Export::new(String::from_str(alloc.clone()?, name)?, info))?;
+    Ok(())
+}
+
+impl<'a, 'b, A: Allocator> ExportWalk<'a, 'b, A> {
+    ghost use Rattle.std.specs.Prelude.{⊤};
+    ghost use Rattle.std.specs.Borrow.{sem};
+    ghost use Rattle.mach_tries.specs.contracts.walk.ExportWalk.{the_row};
+    ghost use mathlib.Core.Option.{none};
+    ghost use denote.Follow.{follows_so};
+    ghost use mir.Syntax.{named};
+
+    /// The next export: its name, which is lent until the next call, and what it stands for. Where the trie has no
+    /// list, an error ends the walk. Then there is nothing more.
+    #[inline(always)]
+    pub fn next(&mut self) -> Option<Result<(&str, ExportInfo<'a>)>>
+        requires { IsWalk self.old }
+        ensures says { (t : TrieRange) (libs : List (List ℕ)) (found : List Entry) → HasGiven t libs found self.old
+            → SaysOfTrie t libs found result }
+        ensures begun { (t : TrieRange) (libs : List (List ℕ)) (found : List Entry) → HasGiven t libs found self.old
+            → ListBegins (trie_there t libs) t.from [] found }
+        ensures over { IsOver self.old → IsNone result }
+        ensures* goes_on { sem 𝓛 (follows_so
+            (the_row (record { mir = named 1; lft = [] }) (record { mir = named 2; lft = [] }) A.row A.Allocator)
+            (the_row (record { mir = named 1; lft = [] }) (record { mir = named 2; lft = [] }) A.row A.Allocator)
+            self.entry.ghost_name none (λ _ _. ⊤) (GoesOn self.old result)) }
+    {
+        match self.step(&mut Steps::new()) {
+            None => None,
+            Some(Err(e)) => Some(Err(e)),
+            Some(Ok(info)) => Some(Ok((self.name(), info))),
+        }
+    }
+}
+
+/// The exports of a trie, depth first, or a fault that stands there.
+pub fn list_all<'a, A: Allocator + Clone>(
+    alloc: &A,
+    source: &Source<'a, '_>,
+    steps: &mut Steps,
+) -> Result<Vec<Export<'a, A>, A>>
+    ensures tree { OnOk result (IsTree (source_trie source.now) source.now.from) }
+    ensures listed { IfOk result (λ v. Lists (source_trie source.now) source.now.from [] (entries v.items)) }
+    ensures few_exports { IfOk result (λ v. length v.items ≤ source.now.upto - source.now.from) }
+    ensures visits { Visits (source_trie source.now) source.now.from steps.old steps.new result }
+    ensures few_visits { steps.new ≤ steps.old + (source.now.upto - source.now.from) }
+    ensures refused { IfErr result (Stands (fault_in source.now)) }
+{
+    let mut walk = ExportWalk::start(alloc, source)?;
+    let mut found = Vec::new(alloc.clone()?);
+    'exports: while let Some(item) = walk.step(steps) {
+        let info = item?;
+        push_export(alloc, info, walk.name(), &mut found)?;
+    }
+    Ok(found)
+}
