@@ -610,16 +610,20 @@ const LAZY_OF_TWO_SEGMENTS: [(&str, &[u8], &str); 7] = [
     ),
 ];
 
+// A segment of 0x1000 bytes at an address, which is its place in the file too.
+fn placed_as_in_memory(address: u64) -> Segment<'static> {
+    let mut placed = segment(address, 0x1000);
+    placed.fileoff = address;
+    placed
+}
+
 #[test]
 fn rules_in_the_second_segment(rt: HostRuntime) -> Result<(), Fail> {
     let alloc = rt.alloc();
-    let mut segments = [
-        segment(0x1_0000_0000, 0x1000),
-        segment(0x1_0000_1000, 0x1000),
+    let segments = [
+        placed_as_in_memory(0x1_0000_0000),
+        placed_as_in_memory(0x1_0000_1000),
     ];
-    for it in &mut segments {
-        it.fileoff = it.vmaddr;
-    }
     for (name, bytes, want) in TWO_SEGMENTS {
         let binds = BindInterpreter::new(bytes, &whole(bytes));
         let got = listed(alloc, &binds, &segments)?;
