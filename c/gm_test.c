@@ -430,7 +430,7 @@ static void exports_by_memory(const given *g) {
     gm_export_room none = {0}, r = room_of(64, 2);
     gm_export_batch b;
     gm_error e;
-    if (!gm_exports(OF, &zeros, &none, &b, NULL, &e) && (b.end != GM_MORE || b.count)) DIE("rows without an array");
+    if (!gm_exports(OF, &zeros, &none, &b, NULL, &e) && (b.end != GM_NO_ROOM || b.needed != 1 || b.count)) DIE("rows without an array");
     export_batch(g, &walk, &r, &b, NULL);
     for (size_t k = 1; !walk.code; k++) {
         counted c = {0, k, 0};
@@ -502,6 +502,18 @@ static void check_exports(const given *g) {
     tested++;
 }
 
+/* the numbers of an image are those of its lists */
+static void counts(const given *g) {
+    const struct { const char *list; size_t count; } rows[] = {{"commands", g->image.commands}, {"segments", g->image.segments}, {"symbols", g->image.symbols},
+                                                               {"libraries", g->image.libraries}, {"run_paths", g->image.run_paths}};
+    for (size_t i = 0; i < sizeof rows / sizeof *rows; i++) {
+        const list *l = named(rows[i].list);
+        _Alignas(16) uint8_t one[128];
+        size_t n = rows[i].count;
+        if (l->rows(g, n, one, 1) || (n && l->rows(g, n - 1, one, 1) != 1)) DIE("%s: not %zu", rows[i].list, n);
+    }
+}
+
 static void check(const uint8_t *bytes, size_t len) {
     given g = {.bytes = bytes, .len = len};
     same_in_batches(named("entries"), &g);
@@ -514,6 +526,7 @@ static void check(const uint8_t *bytes, size_t len) {
         for (char *c = all; *c; c++) count += *c == '\n';
         free(all);
         if (count != g.image.commands) DIE("%zu commands of %zu", count, g.image.commands);
+        counts(&g);
         for (int i = 0; i < 8; i++) same_in_batches(&lists[i], &g);
         check_parts(&g);
         same_in_batches(named("layout"), &g);
@@ -662,6 +675,115 @@ static void check_words(void) {
     }
 }
 
+/* a fat file whose header says so many records, of which so many bytes are there: how many entries are told, and whether the last is cut */
+static void check_cut(void) {
+    static const struct { uint32_t says; size_t there, told; bool cut; } rows[] = {
+        {0, 0, 0, false}, {0, 60, 0, false}, {1, 20, 1, false}, {1, 19, 1, true}, {2, 40, 2, false}, {2, 60, 2, false}, {2, 39, 2, true}, {2, 21, 2, true},
+        {2, 20, 2, true}, {2, 19, 1, true}, {2, 0, 1, true}, {UINT32_MAX, 56, 3, true}, {UINT32_MAX, 60, 4, true}, {UINT32_MAX, 0, 1, true}};
+    for (size_t n = 0; n < sizeof rows / sizeof *rows; n++) {
+        uint8_t *bytes = calloc(1, 8 + rows[n].there);
+        uint32_t says = rows[n].says;
+        memcpy(bytes, (uint8_t[]){0xca, 0xfe, 0xba, 0xbe, says >> 24, says >> 16, says >> 8, says}, 8);
+        gm_fat_entry e[8];
+        size_t told = gm_fat_entries(bytes, 8 + rows[n].there, 0, e, 8);
+        if (told != rows[n].told || gm_fat_entries(bytes, 8 + rows[n].there, told, e + 7, 1)) DIE("%zu entries of row %zu", told, n);
+        for (size_t i = 0; i < told; i++)
+            if ((e[i].code != GM_OK) != (rows[n].cut && i + 1 == told)) DIE("entry %zu of row %zu: code %u", i, n, e[i].code);
+        free(bytes);
+    }
+}
+
+/* an image of one symbol table, whose records and names are these */
+static uint8_t *image_of_symbols(const uint8_t *rest, size_t len, uint32_t nsyms, size_t *whole) {
+    enum { AT = 56 };
+    const uint32_t front[] = {0xfeedfacf, 0x01000007, 3, 6, 1, 24, 0, 0, 2, 24, AT, nsyms, AT + 16 * nsyms, (uint32_t)len - 16 * nsyms};
+    uint8_t *bytes = malloc(AT + len);
+    memcpy(bytes, front, AT);
+    memcpy(bytes + AT, rest, len);
+    *whole = AT + len;
+    return bytes;
+}
+
+/* what is told of a symbol whose name is no text, or is past the end */
+static void check_symbols(void) {
+    static const struct { uint8_t strx, code; size_t at, len; } rows[] = {{1, GM_OK, 1, 2}, {4, GM_SHORT, 4, 3}, {6, GM_SHORT, 6, 1}, {8, GM_OK, 8, 1}, {9, GM_SHORT, 0, 0}};
+    enum { SYMBOLS = sizeof rows / sizeof *rows, NAMES = 56 + 16 * SYMBOLS };
+    static const uint8_t names[] = {0, '_', 'a', 0, 'b', 'c', 0xff, 0, 'd'};
+    uint8_t rest[16 * SYMBOLS + sizeof names] = {0};
+    for (size_t k = 0; k < SYMBOLS; k++) memcpy(rest + 16 * k, (uint8_t[]){rows[k].strx, 0, 0, 0, 0xf, 7, 0x34, 0x12, k, 0, 0, 0, 0, 0, 0, 0x80}, 16);
+    memcpy(rest + sizeof rest - sizeof names, names, sizeof names);
+    given g = {0};
+    uint8_t *bytes = image_of_symbols(rest, sizeof rest, SYMBOLS, &g.len);
+    g.bytes = bytes;
+    if (gm_open(g.bytes, g.len, 0, GM_STRICT, NULL, &g.image, NULL)) DIE("symbols that don't open");
+    gm_symbol s[SYMBOLS];
+    if (gm_symbols(g.bytes, g.len, &g.image, 0, s, SYMBOLS) != SYMBOLS) DIE("symbols are missing");
+    for (size_t k = 0; k < SYMBOLS; k++) {
+        if (s[k].value != (UINT64_C(0x80) << 56 | k) || s[k].section != 7 || s[k].n_type != 0xf || s[k].desc != 0x1234) DIE("symbol %zu lost its record", k);
+        size_t at = rows[k].at ? NAMES + rows[k].at : 0;
+        if (s[k].code != rows[k].code || s[k].name != at || s[k].name_len != rows[k].len) DIE("symbol %zu: code %u, name %zu %zu", k, s[k].code, s[k].name, s[k].name_len);
+    }
+    free(bytes);
+}
+
+/* memory whose functions call the library themselves, out of malloc, of themselves, or of an arena */
+typedef struct { const uint8_t *bytes; size_t len, depth, calls; } calling;
+static void call_within(calling *c);
+static void *take_calling(void *self, size_t size) { call_within(self); return malloc(size); }
+static void give_calling(void *self, void *block) { call_within(self); free(block); }
+static void call_within(calling *c) {
+    static _Alignas(16) uint8_t room[1 << 16];
+    gm_arena arena = {room, sizeof room, 0, 0};
+    gm_memory of_arena = gm_arena_memory(&arena), itself = {c, take_calling, give_calling};
+    const gm_memory *const with[] = {NULL, &of_arena, c->depth < 2 ? &itself : NULL};
+    gm_image image;
+    c->depth++;
+    for (size_t i = 0; i < 3; i++)
+        if (gm_open(c->bytes, c->len, 0, GM_STRICT, with[i], &image, NULL)) DIE("a call within a call was refused");
+    c->depth--;
+    c->calls += 3;
+    if (arena.blocks) DIE("a call within a call kept a block");
+}
+static void check_within(const given *g) {
+    calling c = {g->bytes, g->len, 0, 0};
+    gm_memory m = {&c, take_calling, give_calling};
+    gm_image image;
+    size_t before_call = mallocs;
+    if (gm_open(g->bytes, g->len, 0, GM_STRICT, &m, &image, NULL) || memcmp(&image, &g->image, sizeof image)) DIE("calls within a call changed it");
+    if (!c.calls || mallocs == before_call) DIE("nothing was called within a call");
+}
+
+/* what a caller hands in wrongly, and what it may leave out */
+static void check_edges(void) {
+    given g = {0};
+    uint8_t *bytes = image_of_symbols((const uint8_t[17]){0}, 17, 1, &g.len);
+    g.bytes = bytes;
+    gm_error e;
+    for (uint32_t mode = 0; mode < 4; mode++)
+        if (gm_open(g.bytes, g.len, 0, mode == 3 ? UINT32_MAX : mode, NULL, &g.image, &e) != (mode <= GM_LOSSY ? GM_OK : GM_MALFORMED)) DIE("mode %u", mode);
+    if (gm_open(g.bytes, 31, 0, GM_STRICT, NULL, &g.image, NULL) != GM_MALFORMED) DIE("a refusal that nobody reads");
+    gm_fixup_cursor f = {0};
+    gm_bind_cursor i = {0};
+    gm_binding_cursor b = {0};
+    size_t count = 5;
+    const uint32_t codes[] = {gm_fixups(g.bytes, g.len, &g.image, &f, NULL, 0, &count, NULL, &e), gm_imports(g.bytes, g.len, &g.image, &i, NULL, 0, &count, NULL, &e),
+                              gm_bindings(g.bytes, g.len, &g.image, &b, NULL, 0, &count, NULL, NULL), gm_layout_faults(g.bytes, g.len, &g.image, 0, NULL, 0, &count, NULL, &e),
+                              gm_container_faults(g.bytes, g.len, 0, NULL, 0, &count, NULL, NULL)};
+    for (size_t n = 0; n < sizeof codes / sizeof *codes; n++)
+        if (codes[n] != GM_NO_ROWS || count != 5) DIE("call %zu with an array of no rows: %u", n, codes[n]);
+    gm_export_walk walk = {0};
+    gm_export_room room = {NULL, 0, NULL, 0, NULL, 0, NULL, 0};
+    gm_export_batch batch;
+    if (gm_exports(g.bytes, g.len, &g.image, &walk, &room, &batch, NULL, NULL) || batch.end != GM_NO_ROOM || batch.needed != 1) DIE("exports with an array of no rows");
+    gm_listed_export row;
+    char name[9];
+    room = (gm_export_room){name, sizeof name, NULL, 0, &row, 1, NULL, 0};
+    if (gm_exports(g.bytes, g.len, &g.image, &walk, &room, &batch, NULL, NULL) || batch.end != GM_NO_ROOM || batch.needed != 9) DIE("exports with no room for a name");
+    if (gm_open(g.bytes, g.len, 0, GM_STRICT, NULL, &g.image, NULL)) DIE("an image that opened");
+    check_within(&g);
+    free(bytes);
+}
+
 int main(int argc, char **argv) {
     if (gm_version() != GM_VERSION) DIE("the header is of version %d and the library of %u", GM_VERSION, gm_version());
     if (argc == 2 && !strcmp(argv[1], "names")) return print_names();
@@ -671,6 +793,9 @@ int main(int argc, char **argv) {
     if (!away) DIE("/dev/null can't be opened");
     if (!strcmp(argv[1], "deep")) return check_deep((size_t)strtol(argv[2], NULL, 10)), 0;
     check_words();
+    check_cut();
+    check_symbols();
+    check_edges();
     check(NULL, 0);
     for (int i = 2 + of_damage; i < argc; i++) {
         size_t len;

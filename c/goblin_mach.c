@@ -4,7 +4,7 @@
 #include <stdlib.h>
 #include <string.h>
 
-/* ---- memory: the library's blocks come from the allocator of the call that runs in this thread, or from malloc */
+/* ---- memory: the library's blocks come from the allocator of the innermost call that runs in this thread, or from malloc */
 
 typedef struct { bool some; void *at; } tried;
 
@@ -56,14 +56,24 @@ gm_memory gm_arena_memory(gm_arena *arena) { return (gm_memory){arena, arena_tak
 
 #define AT(p) ((p) ? (p) : (void *)&nothing)
 #define BYTES ((bytes) ? (bytes) : (const uint8_t *)&nothing)
-#define WITH_MEMORY(call) { memory_of_call = memory; uint32_t code = call; memory_of_call = NULL; return code; }
+#define TOLD ((error) ? (error) : &unread)
+
+/* A call's allocator stands while it runs, and behind it that of the call around it, whose `take` or `give` made this one. */
+#define WITH_MEMORY(call) { \
+    const gm_memory *around = memory_of_call; \
+    gm_error unread; \
+    memory_of_call = memory; \
+    uint32_t code = call; \
+    memory_of_call = around; \
+    return code; \
+}
 
 uint32_t gmr_version(void);
 uint32_t gm_version(void) { return gmr_version(); }
 
 uint32_t gmr_open(const uint8_t *, size_t, size_t, uint32_t, gm_image *, gm_error *);
 uint32_t gm_open(const uint8_t *bytes, size_t len, size_t offset, uint32_t mode, const gm_memory *memory, gm_image *image, gm_error *error)
-    WITH_MEMORY(gmr_open(BYTES, len, offset, mode, image, error))
+    WITH_MEMORY(gmr_open(BYTES, len, offset, mode, image, TOLD))
 
 size_t gmr_fat_entries(const uint8_t *, size_t, size_t, gm_fat_entry *, size_t);
 size_t gm_fat_entries(const uint8_t *bytes, size_t len, size_t first, gm_fat_entry *out, size_t cap) {
@@ -98,7 +108,7 @@ size_t gm_relocations(const uint8_t *bytes, size_t len, const gm_image *image, u
     uint32_t gmr_##name(const uint8_t *, size_t, const gm_image *, place, row *, size_t, size_t *, gm_error *); \
     uint32_t gm_##name(const uint8_t *bytes, size_t len, const gm_image *image, place from, row *out, size_t cap, size_t *count, \
                        const gm_memory *memory, gm_error *error) \
-        WITH_MEMORY(gmr_##name(BYTES, len, image, from, AT(out), cap, count, error))
+        WITH_MEMORY(gmr_##name(BYTES, len, image, from, AT(out), cap, count, TOLD))
 BEHIND(fixups, gm_fixup, gm_fixup_cursor *)
 BEHIND(imports, gm_import, gm_bind_cursor *)
 BEHIND(bindings, gm_binding, gm_binding_cursor *)
@@ -107,19 +117,19 @@ BEHIND(layout_faults, gm_layout_fault, size_t)
 uint32_t gmr_find_export(const uint8_t *, size_t, const gm_image *, const char *, size_t, gm_export *, char *, size_t, char *, size_t, gm_error *);
 uint32_t gm_find_export(const uint8_t *bytes, size_t len, const gm_image *image, const char *name, size_t name_len, gm_export *found,
                         char *library, size_t library_cap, char *target, size_t target_cap, const gm_memory *memory, gm_error *error)
-    WITH_MEMORY(gmr_find_export(BYTES, len, image, AT((char *)name), name_len, found, AT(library), library_cap, AT(target), target_cap, error))
+    WITH_MEMORY(gmr_find_export(BYTES, len, image, AT((char *)name), name_len, found, AT(library), library_cap, AT(target), target_cap, TOLD))
 
 uint32_t gmr_exports(const uint8_t *, size_t, const gm_image *, gm_export_walk *, char *, size_t, gm_open_node *, size_t, gm_listed_export *, size_t,
                      char *, size_t, gm_export_batch *, gm_error *);
 uint32_t gm_exports(const uint8_t *bytes, size_t len, const gm_image *image, gm_export_walk *walk, const gm_export_room *room,
                     gm_export_batch *batch, const gm_memory *memory, gm_error *error)
     WITH_MEMORY(gmr_exports(BYTES, len, image, walk, AT(room->name), room->name_cap, AT(room->stack), room->stack_cap, AT(room->out), room->cap,
-                            AT(room->names), room->names_cap, batch, error))
+                            AT(room->names), room->names_cap, batch, TOLD))
 
 uint32_t gmr_container_faults(const uint8_t *, size_t, size_t, gm_layout_fault *, size_t, size_t *, gm_error *);
 uint32_t gm_container_faults(const uint8_t *bytes, size_t len, size_t first, gm_layout_fault *out, size_t cap, size_t *count,
                              const gm_memory *memory, gm_error *error)
-    WITH_MEMORY(gmr_container_faults(BYTES, len, first, AT(out), cap, count, error))
+    WITH_MEMORY(gmr_container_faults(BYTES, len, first, AT(out), cap, count, TOLD))
 
 #define WORDS(name, words) words,
 static const char *const rules[] = {"none", GM_LAYOUT_RULES(WORDS)}, *const parts[] = {"none", GM_LAYOUT_PARTS(WORDS)};

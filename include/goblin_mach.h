@@ -5,10 +5,10 @@
 
    Calls with `first`, `out` and `cap` write the items of a list from number `first` on, as many as there are and fit,
    answer how many, and leave the rest of the array as it was: 0 says that there are no more. NULL may stand where a
-   length is 0. Calls that answer a code answer GM_OK, or why not, with words in *error.
+   length is 0. Calls that answer a code answer GM_OK, or why not, with words in *error; `error` may be NULL.
 
    Calls with a cursor write the items behind it, as many as there are and fit, move it behind them, and say in *count how many:
-   fewer than `cap` says that there are no more. A cursor is numbers that the calls alone read; all zero is the start; it goes
+   fewer than `cap` says that there are no more. With a `cap` of 0 they are refused with GM_NO_ROWS. A cursor is numbers that the calls alone read; all zero is the start; it goes
    with the bytes and the image, and may be copied. They open the image again, and take memory while they run. A refusal leaves
    the array, the cursor and *count as they were. */
 #ifndef GOBLIN_MACH_H
@@ -24,14 +24,14 @@ extern "C" {
 #define GM_VERSION 1
 uint32_t gm_version(void);
 
-/* malformed bytes; a magic of no image; a read past the end or of no text; too many of a thing; memory was refused */
-enum { GM_OK, GM_MALFORMED, GM_BAD_MAGIC, GM_SHORT, GM_TOO_MANY, GM_NO_MEMORY };
+/* malformed bytes; a magic of no image; a read past the end or of no text; too many of a thing; memory was refused; `cap` is 0 */
+enum { GM_OK, GM_MALFORMED, GM_BAD_MAGIC, GM_SHORT, GM_TOO_MANY, GM_NO_MEMORY, GM_NO_ROWS };
 
 /* why a call was refused; the text ends with a zero byte */
 typedef struct gm_error { uint32_t code; char text[124]; } gm_error;
 
 /* Memory for a call: `take` answers a block of `size` bytes, aligned to 16, or NULL; `give` takes one back. A call gives
-   back all that it took. Where NULL is handed in for a gm_memory, malloc and free serve. */
+   back all that it took, and both functions may call this library. Where NULL is handed in for a gm_memory, malloc and free serve. */
 typedef struct gm_memory {
     void *self;
     void *(*take)(void *self, size_t size);
@@ -43,7 +43,8 @@ typedef struct gm_arena { uint8_t *bytes; size_t size, used, blocks; } gm_arena;
 gm_memory gm_arena_memory(gm_arena *arena);
 
 /* ---- a fat file: its entries, 0 where the bytes are none. What an entry holds is bytes + offset, size of them; test
-   that they lie in the file. An entry whose code is not GM_OK can't be read. */
+   that they lie in the file. Where the header says more records than the bytes have, the last entry is the first that isn't whole in
+   them: its code is not GM_OK, and no other's is. */
 typedef struct gm_fat_entry { uint32_t cputype, cpusubtype, offset, size, align, code; } gm_fat_entry;
 size_t gm_fat_entries(const uint8_t *bytes, size_t len, size_t first, gm_fat_entry *out, size_t cap);
 
@@ -52,15 +53,15 @@ typedef struct gm_image {
     size_t offset;                                              /* where it begins in the bytes */
     uint64_t entry;                                             /* the address at which it begins to run, or 0 */
     size_t first_command, commands;                             /* where its commands begin, and how many they are */
-    size_t segments, libraries, run_paths, symbols;             /* how many; the image itself is one of its libraries */
+    size_t segments, libraries, run_paths, symbols;             /* how many of each the call of that name gives */
     size_t symbols_at, names_at;                                /* where its symbols stand, and their names */
     uint32_t magic, cputype, cpusubtype, filetype, flags;       /* of its header */
     uint32_t is_lossy, is_old_style_entry, is_little_endian, is_64; /* 0 or 1 each */
 } gm_image;
 enum { GM_STRICT, GM_LOSSY };
 
-/* Opens the image at `offset`. GM_STRICT refuses what can't be read; GM_LOSSY passes over it. It takes memory while it
-   runs, for the commands. A refusal leaves *image as it was, and GM_OK leaves *error. */
+/* Opens the image at `offset`. GM_STRICT refuses what can't be read; GM_LOSSY passes over it; another mode is refused as
+   GM_MALFORMED. It takes memory while it runs, for the commands. A refusal leaves *image as it was, and GM_OK leaves *error. */
 uint32_t gm_open(const uint8_t *bytes, size_t len, size_t offset, uint32_t mode, const gm_memory *memory, gm_image *image, gm_error *error);
 
 /* ---- its load commands: each record stands at `offset` and has `size` bytes */
@@ -90,11 +91,12 @@ size_t gm_sections(const uint8_t *bytes, size_t len, const gm_image *image, size
 typedef struct gm_relocation { int32_t address; uint32_t info, code; } gm_relocation;
 size_t gm_relocations(const uint8_t *bytes, size_t len, const gm_image *image, uint32_t reloff, uint32_t nreloc, size_t first, gm_relocation *out, size_t cap);
 
-/* ---- its symbols: the name of one is `name_len` bytes at bytes + name */
+/* ---- its symbols: the name of one is `name_len` bytes at bytes + name. Where `code` says that they are no text, or that none stand
+   there, the rest is as the record says; where the record can't be read all of it is 0. */
 typedef struct gm_symbol {
     uint64_t value;
     size_t name, name_len, section;
-    uint32_t code; /* GM_OK, or why it can't be read */
+    uint32_t code; /* GM_OK, or why it or its name can't be read */
     uint16_t desc;
     uint8_t n_type;
 } gm_symbol;
@@ -161,7 +163,7 @@ typedef struct gm_export_batch { size_t count, names_len, needed; uint32_t end, 
 enum {
     GM_MORE,        /* the array is full, or less is left of `names` than a name may need: call again */
     GM_END,         /* there are no more */
-    GM_NO_ROOM,     /* `names` is shorter than `name` */
+    GM_NO_ROOM,     /* `cap` is 0, and `needed` is 1; or `names` is shorter than `name`, and needs `needed` bytes */
     GM_NAME_SHORT,  /* the name that comes next needs `needed` bytes of `name` */
     GM_STACK_SHORT, /* the stack needs `needed` nodes */
     GM_REFUSED      /* the code says why; the rows before it stand */

@@ -7,12 +7,15 @@
                 print(hex(symbol.value), symbol.name)
 
 A file is mapped, not copied. Each list is an iterator that asks the library for 1,000 items at a time. What can't be read of a
-list is an item with an `error`; what can't be opened raises `Refused`. It needs no package beside Python 3.8.
+list is an item with an `error`; what can't be opened raises `Refused`, but for an entry of a fat file, which is an image with an `error`.
+A list may be as long as a hostile file says, up to 2^60 bindings: take of it what is wanted (`itertools.islice`). Bytes of a name
+that are no UTF-8 stand as surrogates, as `os.fsdecode` has them. It needs no package beside Python 3.8.
 """
 
 import ctypes
 import mmap
 import os
+import signal
 import sys
 from ctypes import c_char, c_int32, c_int64, c_size_t, c_uint8, c_uint16, c_uint32, c_uint64
 from dataclasses import dataclass
@@ -25,7 +28,7 @@ PROVIDERS = ("library", "itself", "program", "any", "any weak")
 MORE, END, NO_ROOM, NAME_SHORT, STACK_SHORT, REFUSED = range(6)
 EXPORTS = (None, "address", "re-export", "stub")
 KINDS = ("required", "weak", "reexport", "upward", "lazy")
-ERRORS = {1: "malformed", 2: "bad magic", 3: "out of the bytes, or no text", 4: "too many", 5: "out of memory"}
+ERRORS = {1: "malformed", 2: "bad magic", 3: "out of the bytes, or no text", 4: "too many", 5: "out of memory", 6: "no rows"}
 BATCH = 1000
 
 
@@ -178,11 +181,18 @@ _lib = _load()
 
 
 class Refused(Exception):
-    """Why an image was refused: `code` is its number, the words say where."""
+    """Why an image was refused: `code` is its number, the words say where. It can be copied and pickled."""
 
-    def __init__(self, error):
-        super().__init__(error.text.decode())
-        self.code = error.code
+    def __init__(self, code, words):
+        super().__init__(code, words)
+        self.code, self.words = code, words
+
+    def __str__(self):
+        return self.words
+
+
+def _refused(error):
+    return Refused(error.code, error.text.decode())
 
 
 @dataclass(frozen=True)
@@ -389,9 +399,10 @@ class _Room:
 
 
 class _Bytes:
-    """Some bytes, and where they lie in memory. They are not copied."""
+    """Some bytes, and where they lie in memory. They are not copied. They are those of a file, which may have been closed, or of no file."""
 
-    def __init__(self, data):
+    def __init__(self, data, file=None):
+        self.file = file
         self.view = memoryview(data).cast("B")
         self.len = len(self.view)
         buffer = _Buffer()
@@ -399,16 +410,28 @@ class _Bytes:
         self.at = ctypes.c_void_p(buffer.buf if self.len else None)
         _give_buffer(ctypes.byref(buffer))
 
+    def live(self):
+        """Itself, as long as its file is open."""
+        if self.file is not None and self.file.closed:
+            raise ValueError("the file is closed")
+        return self
+
     def text(self, place, size):
-        return str(self.view[place:place + size], "utf-8")
+        return _text(self.view[place:place + size])
 
 
-def _rows(call, row):
-    """The rows of a list, in batches: a call answers how many it wrote from a number on."""
+def _text(raw):
+    """Bytes as a text. Those that are no UTF-8 stand as surrogates."""
+    return str(raw, "utf-8", "surrogateescape")
+
+
+def _rows(held, call, row):
+    """The rows of a list in some bytes, in batches: a call answers how many it wrote from a number on."""
     first, out = 0, (row * BATCH)()
     while True:
-        count = call(c_size_t(first), out, c_size_t(BATCH))
+        count = call(held.live().at, c_size_t(held.len), c_size_t(first), out, c_size_t(BATCH))
         for item in out[:count]:
+            held.live()
             yield item
         first += count
         if count < BATCH:
@@ -423,14 +446,15 @@ def _owner(part, command, index):
     return Owner(_lib.gm_layout_part(c_uint32(part)).decode(), command, index) if part else None
 
 
-def _faults(call, *given):
-    """The faults of layout that a call writes, behind what it is handed first. Each call seeks all of them, so batches double."""
+def _faults(held, call, *given):
+    """The faults of layout in some bytes that a call writes, behind what it is handed first. Each call seeks all of them, so batches double."""
     first, cap = 0, BATCH
     while True:
         out, count, error = (_LayoutFault * cap)(), c_size_t(), _Error()
-        if call(*given, c_size_t(first), out, c_size_t(cap), ctypes.byref(count), None, ctypes.byref(error)):
-            raise Refused(error)
+        if call(held.live().at, c_size_t(held.len), *given, c_size_t(first), out, c_size_t(cap), ctypes.byref(count), None, ctypes.byref(error)):
+            raise _refused(error)
         for f in out[:count.value]:
+            held.live()
             yield LayoutFault(_lib.gm_layout_rule(c_uint32(f.rule)).decode(), _owner(f.part, f.command, f.index), f.found, f.limit,
                               _owner(f.other_part, f.other_command, f.other_index))
         if count.value < cap:
@@ -439,21 +463,40 @@ def _faults(call, *given):
 
 
 class Image:
-    """An image in some bytes, which stay as they are while it is used."""
+    """An image in some bytes, which stay as they are while it is used. `error` is None; of an entry of a fat file that can't be opened it
+    is the `Refused` that says why, its numbers are 0, and each of its lists raises it."""
+
+    error = None
 
     def __init__(self, data, offset=0, mode=STRICT):
-        self._bytes = data if isinstance(data, _Bytes) else _Bytes(data)
+        self._held = data if isinstance(data, _Bytes) else _Bytes(data)
         self._numbers, error = _Image(), _Error()
         n = self._numbers
         if _lib.gm_open(self._bytes.at, c_size_t(self._bytes.len), c_size_t(offset), c_uint32(mode), None, ctypes.byref(n), ctypes.byref(error)):
-            raise Refused(error)
+            raise _refused(error)
         self.offset, self.entry = n.offset, n.entry
         self.cputype, self.cpusubtype, self.filetype, self.flags = n.cputype, n.cpusubtype, n.filetype, n.flags
         self.is_64, self.is_little_endian = bool(n.is_64), bool(n.is_little_endian)
 
+    @classmethod
+    def _unopened(cls, error):
+        """An image that can't be opened."""
+        self = cls.__new__(cls)
+        self.error, self._held, self._numbers = error, None, _Image()
+        self.offset = self.entry = self.cputype = self.cpusubtype = self.filetype = self.flags = 0
+        self.is_64 = self.is_little_endian = False
+        return self
+
+    @property
+    def _bytes(self):
+        """Its bytes, where it was opened and its file is open."""
+        if self.error is not None:
+            raise self.error
+        return self._held.live()
+
     def _list(self, name, row, *numbers):
-        call, b = getattr(_lib, "gm_" + name), self._bytes
-        return _rows(lambda first, out, cap: call(b.at, c_size_t(b.len), ctypes.byref(self._numbers), *numbers, first, out, cap), row)
+        call = getattr(_lib, "gm_" + name)
+        return _rows(self._bytes, lambda at, len, first, out, cap: call(at, len, ctypes.byref(self._numbers), *numbers, first, out, cap), row)
 
     def commands(self) -> Iterator[Command]:
         for c in self._list("commands", _Command):
@@ -474,8 +517,9 @@ class Image:
             yield Relocation(r.address, r.info, ERRORS.get(r.code))
 
     def symbols(self) -> Iterator[Symbol]:
+        text = self._bytes.text
         for s in self._list("symbols", _Symbol):
-            yield Symbol(self._bytes.text(s.name, s.name_len), s.value, s.section, s.n_type, s.desc, ERRORS.get(s.code))
+            yield Symbol(text(s.name, s.name_len), s.value, s.section, s.n_type, s.desc, ERRORS.get(s.code))
 
     def libraries(self) -> Iterator[Library]:
         for number, l in enumerate(self._list("libraries", _Library)):
@@ -483,14 +527,14 @@ class Image:
 
     def _behind(self, name, row, cursor):
         """The rows of a list that goes on from a cursor, which begins as zeros."""
-        call, b, count, error = getattr(_lib, "gm_" + name), self._bytes, c_size_t(), _Error()
+        call, count, error = getattr(_lib, "gm_" + name), c_size_t(), _Error()
 
-        def batch(_first, out, cap):
-            if call(b.at, c_size_t(b.len), ctypes.byref(self._numbers), ctypes.byref(cursor), out, cap, ctypes.byref(count), None, ctypes.byref(error)):
-                raise Refused(error)
+        def batch(at, len, _first, out, cap):
+            if call(at, len, ctypes.byref(self._numbers), ctypes.byref(cursor), out, cap, ctypes.byref(count), None, ctypes.byref(error)):
+                raise _refused(error)
             return count.value
 
-        return _rows(batch, row)
+        return _rows(self._bytes, batch, row)
 
     def fixups(self) -> Iterator[Fixup]:
         for f in self._behind("fixups", _Fixup, _FixupCursor()):
@@ -511,37 +555,37 @@ class Image:
 
     def find_export(self, name: str) -> Optional[Export]:
         """What the image exports a name as, or None."""
-        raw, found, error, b, room = name.encode(), _Export(), _Error(), self._bytes, 256
+        raw, found, error, b, room = name.encode("utf-8", "surrogateescape"), _Export(), _Error(), self._bytes, 256
         while True:
             library, target = ctypes.create_string_buffer(room), ctypes.create_string_buffer(room)
             if _lib.gm_find_export(b.at, c_size_t(b.len), ctypes.byref(self._numbers), raw, c_size_t(len(raw)), ctypes.byref(found), library,
                                    c_size_t(room), target, c_size_t(room), None, ctypes.byref(error)):
-                raise Refused(error)
+                raise _refused(error)
             if max(found.library_len, found.target_len) <= room:
                 break
             room = max(found.library_len, found.target_len)
         if not found.kind:
             return None
         told = found.kind == 2
-        return Export(name, EXPORTS[found.kind], found.address, found.resolver, found.flags, library.raw[:found.library_len].decode() if told else None,
-                      (target.raw[:found.target_len].decode() or name) if told else None)
+        return Export(name, EXPORTS[found.kind], found.address, found.resolver, found.flags, _text(library.raw[:found.library_len]) if told else None,
+                      (_text(target.raw[:found.target_len]) or name) if told else None)
 
     def exports(self) -> Iterator[Export]:
         """All exports, in the order of the trie. A fault of the trie raises `Refused` behind those that stand before it."""
         room, error, b, libraries = _Room(), _Error(), self._bytes, []
         while True:
-            code = _lib.gm_exports(b.at, c_size_t(b.len), ctypes.byref(self._numbers), ctypes.byref(room.walk), ctypes.byref(room.numbers()),
+            code = _lib.gm_exports(b.live().at, c_size_t(b.len), ctypes.byref(self._numbers), ctypes.byref(room.walk), ctypes.byref(room.numbers()),
                                    ctypes.byref(room.batch), None, ctypes.byref(error))
             names = bytes(room.names[:room.batch.names_len])
             for row in room.out[:room.batch.count]:
-                name, what, library, target = names[row.name:row.name + row.name_len].decode(), row.what, None, None
+                name, what, library, target = _text(names[row.name:row.name + row.name_len]), row.what, None, None
                 if what.kind == 2:
                     libraries = libraries or [self.name or "self", *(l.name for l in self.libraries())]
                     library = libraries[row.library]
                     target = b.text(row.target, what.target_len) or name
                 yield Export(name, EXPORTS[what.kind], what.address, what.resolver, what.flags, library, target)
             if code:
-                raise Refused(error)
+                raise _refused(error)
             if room.batch.end == END:
                 return
             if room.batch.end != MORE:
@@ -566,59 +610,76 @@ class Image:
 
     def layout_faults(self) -> Iterator[LayoutFault]:
         """What lies where the format and its readers don't allow it, of the file that begins with the image."""
-        b = self._bytes
-        return _faults(_lib.gm_layout_faults, b.at, c_size_t(b.len), ctypes.byref(self._numbers))
+        return _faults(self._bytes, _lib.gm_layout_faults, ctypes.byref(self._numbers))
 
 
 def fat_entries(data) -> Iterator[FatEntry]:
     """The entries of a fat file; none where the bytes are no fat file."""
     held = data if isinstance(data, _Bytes) else _Bytes(data)
-    for e in _rows(lambda first, out, cap: _lib.gm_fat_entries(held.at, c_size_t(held.len), first, out, cap), _FatEntry):
+    for e in _rows(held, _lib.gm_fat_entries, _FatEntry):
         yield FatEntry(e.cputype, e.cpusubtype, e.offset, e.size, e.align, ERRORS.get(e.code))
 
 
 def container_faults(data) -> Iterator[LayoutFault]:
     """The faults of the table of a fat file; none where the bytes are no fat file."""
     held = data if isinstance(data, _Bytes) else _Bytes(data)
-    for fault in _faults(_lib.gm_container_faults, held.at, c_size_t(held.len)):
-        yield fault
+    return _faults(held, _lib.gm_container_faults)
 
 
 class File:
-    """A mapped file; it is gone over image by image, archives left out. Items may be used as long as it is open."""
+    """A mapped file; it is gone over image by image, archives left out. Its images and their lists may be used as long as it is open: behind
+    `close`, or behind the end of a `with`, each raises ValueError. Items that were given stay as they are."""
 
     def __init__(self, path, mode=STRICT):
-        self._mode = mode
+        self.closed, self._mode = False, mode
         with _open(path, "rb") as file:
             empty = os.fstat(file.fileno()).st_size == 0
             self._map = b"" if empty else mmap.mmap(file.fileno(), 0, access=mmap.ACCESS_READ)
 
+    def _whole(self):
+        return _Bytes(self._map, self).live()
+
     def __iter__(self) -> Iterator[Image]:
-        whole = memoryview(self._map)
-        entries = list(fat_entries(whole))
-        if not entries:
+        """Its image, or those of a fat file's entries in order. An entry that can't be opened is an image with an `error`."""
+        whole = self._whole()
+        is_fat = False
+        for e in fat_entries(whole):
+            is_fat = True
+            part = whole.live().view[e.offset:e.offset + e.size]
+            if bytes(part[:8]) == b"!<arch>\n":
+                continue
+            if e.error:
+                yield Image._unopened(Refused(_code(e.error), e.error))
+                continue
+            try:
+                image = Image(_Bytes(part, self), 0, self._mode)
+            except Refused as error:
+                image = Image._unopened(error)
+            yield image
+        if not is_fat:
             yield Image(whole, 0, self._mode)
-        for e in entries:
-            part = whole[e.offset:e.offset + e.size]
-            if bytes(part[:8]) != b"!<arch>\n":
-                yield Image(part, 0, self._mode)
 
     def container_faults(self) -> Iterator[LayoutFault]:
         """The faults of its table, if it is a fat file."""
-        return container_faults(memoryview(self._map))
+        return container_faults(self._whole())
+
+    def close(self):
+        """Closes it. The bytes stay mapped as long as something that was taken of them is held."""
+        self.closed, self._map = True, b""
 
     def __enter__(self):
         return self
 
     def __exit__(self, *_):
-        self._map = b""
+        self.close()
 
 
 _open = open
 
 
 def open(path, mode=STRICT) -> File:
-    """Maps a file. Its images are opened one by one as it is gone over, and each that can't be raises `Refused`."""
+    """Maps a file. Its images are opened one by one as it is gone over. What can't be opened raises `Refused`; an entry of a fat file is an image
+    with that `error`."""
     return File(path, mode)
 
 
@@ -632,13 +693,13 @@ def _lines(image, what):
             yield f"0x{c.offset:x} {c.cmd:x} size: {c.size}"
     elif what == "symbols":
         for s in image.symbols():
-            yield f"unreadable: {s.error}" if s.error else f"{s.value:0{16 if image.is_64 else 8}x} {s.n_type:x} {s.section} {s.desc:x} 0 {s.name}"
+            yield f"{s.value:0{16 if image.is_64 else 8}x} {s.n_type:x} {s.section} {s.desc:x} {_code(s.error)} {s.name}"
     elif what == "libraries":
         for l in image.libraries():
             yield f"{KINDS.index(l.kind)} {l.timestamp} {l.current_version:x} {l.compatibility_version:x} {l.name}"
     elif what == "segments":
         for s in image.segments():
-            yield (f"{s.name.decode()} {s.vmaddr:x} {s.vmsize:x} {s.fileoff:x} {s.filesize:x} {s.command} {len(s.data)} "
+            yield (f"{_text(s.name)} {s.vmaddr:x} {s.vmsize:x} {s.fileoff:x} {s.filesize:x} {s.command} {len(s.data)} "
                    f"{s.maxprot:x} {s.initprot:x} {s.nsects} {s.flags:x}")
     elif what == "fixups":
         for f in image.fixups():
@@ -667,23 +728,37 @@ def _lines(image, what):
 WORDS = ("commands", "segments", "symbols", "libraries", "run_paths", "ids", "fixups", "exports", "imports", "bindings", "layout")
 
 
+def _print(file, what):
+    """Prints the lines of a file's images, and what can't be opened: answers the status."""
+    status = 0
+    if what == "layout":
+        for fault in file.container_faults():
+            print(fault)
+    for image in file:
+        if image.error is not None:
+            print(f"goblin_mach: {image.error}", file=sys.stderr)
+            status = 1
+            continue
+        for line in _lines(image, what):
+            print(line)
+    return status
+
+
 def main(words):
     if len(words) != 2 or words[0] not in WORDS:
         print(f"usage: python3 -m goblin_mach {'|'.join(WORDS)} FILE", file=sys.stderr)
         return 2
     try:
         with open(words[1]) as file:
-            if words[0] == "layout":
-                for fault in file.container_faults():
-                    print(fault)
-            for image in file:
-                for line in _lines(image, words[0]):
-                    print(line)
+            return _print(file, words[0])
     except (OSError, Refused) as why:
         print(f"goblin_mach: {why}", file=sys.stderr)
         return 1
-    return 0
 
 
 if __name__ == "__main__":
+    # A pipe that is closed and Ctrl-C end it as they end other programs: with no words, and by their signal.
+    for number in (signal.SIGPIPE, signal.SIGINT):
+        signal.signal(number, signal.SIG_DFL)
+    sys.stdout.reconfigure(errors="surrogateescape")
     sys.exit(main(sys.argv[1:]))

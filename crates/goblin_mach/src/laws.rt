@@ -26,7 +26,7 @@ pub use mach_image::facts::{
     entry_point_of_image, exports_of_image, facts_of_image, fixups_of_image, found_export_of_image,
     import_items_of_image, imports_of_image, libraries_by_kind_of_image, libraries_of_image,
     name_of_image, relocations_of_image, run_paths_of_image, segments_of_image,
-    strict_image_is_lossy, symbols_of_image, walked_exports_of_image,
+    strict_image_is_lossy, symbol_table_of_image, symbols_of_image, walked_exports_of_image,
 };
 pub use mach_image::laws::{lossy_agrees, new_header_recognised, one_chain, strict_opens_lossily};
 pub use mach_image::libraries::{libraries_by_ordinal, libraries_in_libs};

@@ -97,3 +97,7 @@ behind_first item from (suc count) (suc k) =
 
 pub items_behind : {A : Type 0} (item : ℕ → A) (count k : ℕ) → drop k (items_from item 0 count) ≡ items_from item k (count - k)
 items_behind item count k = let same : 0 + k ≡ k = omega arith in behind_first item 0 count k ∙ rw same refl
+
+-- the first of those that are left
+pub items_next : {A : Type 0} (item : ℕ → A) (k n : ℕ) → k < n → items_from item k (n - k) ≡ item k ∷ items_from item (k + 1) (n - (k + 1))
+items_next item k n less = let more : n - k ≡ suc (n - (k + 1)) = omega (arith, less) in ap (items_from item k) more

@@ -1,6 +1,8 @@
 pub mod Filled
 pub mod CommandLists
 pub mod OpenedImage
+pub mod FatCodes
+pub mod SymbolTexts
 pub mod OpenedLists
 pub mod ListedExports
 pub mod WalkedTries

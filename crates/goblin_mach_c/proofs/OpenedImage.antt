@@ -1,5 +1,5 @@
 -- From an image that is held to its numbers as facts on the bytes.
-use Rattle.std.proofs.Common.{◌≡◌, ◌+◌, ◌∙◌, inl, inr, ℕ, List, Bool, true, false, Option, length, Ok, refl, sym, ap}
+use Rattle.std.proofs.Common.{◌≡◌, ◌+◌, ◌-◌, ◌∙◌, inl, inr, ℕ, List, Bool, true, false, Option, length, Ok, refl, sym, ap}
 use Rattle.std.proofs.Common.{subst, arith}
 use Rattle.std.specs.Prelude.{◌↔◌, ◌==◌, IsTrue, if◌then◌else◌}
 use Rattle.std.proofs.lemmas.List.{length-map}
@@ -86,7 +86,7 @@ opened_of bytes o m lossy c loose strict n =
         first_command = n.first_command ∙ ap (λ w. o + header_size w) same_width;
         commands = n.commands ∙ sym (length-map m.load_commands.items command_of);
         segments = n.segments ∙ sym (length-map (segments_in m.segments) segment_view) ∙ ap length f.segments;
-        libraries = n.libraries ∙ sym (length-map m.libs.items (λ text. text.now)) ∙ ap length f.libs;
+        libraries = n.libraries ∙ ap (λ k. k - 1) (sym (length-map m.libs.items (λ text. text.now)) ∙ ap length f.libs);
         run_paths = n.run_paths ∙ sym (length-map m.rpaths.items (λ text. text.now)) ∙ ap length f.rpaths;
         symbols = subst (λ (t : Option SymbolTable). AreTableNumbers t c.symbols_at c.symbols c.names_at) f.symbols n.symbols;
         old_style = m.old_style_entry;

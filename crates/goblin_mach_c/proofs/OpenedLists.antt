@@ -1,5 +1,5 @@
 -- What the calls answer of an image that was opened is what the bytes say of it.
-use Rattle.std.proofs.Common.{◌≡◌, ◌≤◌, ◌+◌, ◌/◌, ◌∙◌, ◌∷◌, [], ℕ, List, Option, Some, None, Result, Ok, Err, inl, inr, cond, nat_le}
+use Rattle.std.proofs.Common.{◌≡◌, ◌≤◌, ◌+◌, ◌/◌, ◌∙◌, ◌∷◌, [], ℕ, zero, suc, List, Option, Some, None, Result, Ok, Err, inl, inr, cond, nat_le}
 use Rattle.std.proofs.Common.{length, map}
 use Rattle.std.proofs.Common.{refl, sym, ap, subst, arith}
 use Rattle.std.specs.Prelude.{min, nat_lt, Bool, true, false, if◌then◌else◌}
@@ -8,6 +8,7 @@ use Rattle.mach_base.specs.declared.context.Endian.{Endian}
 use Rattle.mach_base.specs.Fault.{Fault, malformed, bad_offset}
 use Rattle.mach_base.specs.declared.context.Ctx.{Ctx}
 use Rattle.mach_base.proofs.Binds.{chosen, same_ok}
+use Rattle.mach_base.specs.Items.{items_from}
 use Rattle.mach_load.specs.Command.{Command, cmdsize_of, command_at}
 use Rattle.mach_headers.specs.Header.{header_size}
 use Rattle.mach_segments.specs.Segment.{SegmentView}
@@ -23,7 +24,9 @@ use Rattle.mach_image.specs.Readings.{Reading, keep, last_or, read_of}
 use Rattle.goblin_mach_c.specs.CommandRows.{commands_from, commands_seen, with_those_behind}
 use Rattle.goblin_mach_c.specs.Opened.{AreNumbers, AreTableNumbers, IsOpened}
 use Rattle.goblin_mach_c.specs.Seen.{ctx_seen}
-use Rattle.goblin_mach_c.specs.SymbolRows.{symbol_row, symbol_rows, table_seen}
+use Rattle.goblin_mach_c.specs.Say.{AllSay}
+use Rattle.goblin_mach_c.specs.SymbolRows.{SaysSymbol, symbol_row, symbol_rows, table_seen}
+use Rattle.goblin_mach_c.proofs.SymbolTexts.{row_says}
 use Rattle.goblin_mach_c.proofs.Filled.{no_items}
 use Rattle.goblin_mach_c.specs.PartRows.{rows_of, segment_row, segment_row_by, segment_rows, shown, with_rows}
 use Rattle.goblin_mach_c.specs.declared.images.gm_image.{gm_image}
@@ -144,15 +147,21 @@ table_is bytes c ctx t same there n =
 symbols_are : (bytes : List ℕ) (c : gm_image) (ctx : Ctx) (found : Option SymbolTable) → ctx_seen c ≡ ctx
     → ((t : SymbolTable) → found ≡ Some t → StandsThere ctx bytes t) → AreTableNumbers found c.symbols_at c.symbols c.names_at
     → symbols_of (table_seen bytes c) ≡ symbols_in found
-symbols_are bytes c ctx None same there n = no_items (symbol_at (table_seen bytes c)) 0 c.symbols n
+symbols_are bytes c ctx None same there n = no_items (symbol_at (table_seen bytes c)) 0 c.symbols n.1
 symbols_are bytes c ctx (Some t) same there n = ap symbols_of (table_is bytes c ctx t same (there t refl) n)
 
+-- rows that say their symbols, number by number
+say_all : (t : SymbolTable) (first count : ℕ) → AllSay (SaysSymbol t.strtab) (items_from (symbol_at t) first count) (items_from (symbol_row t) first count)
+say_all t first zero = tt
+say_all t first (suc count) = (row_says t first, say_all t (first + 1) count)
+
 pub symbols_of_opened : (bytes : List ℕ) (o : ℕ) (c : gm_image) → IsOpened bytes o c
-    → (rows : List (Result (List ℕ × Nlist) Fault)) × HasSymbols bytes o rows × (symbol_rows bytes c ≡ map (symbol_row c.names_at) rows)
+    → (symbols : List (Result (List ℕ × Nlist) Fault)) × HasSymbols bytes o symbols × AllSay (SaysSymbol c.names_at) symbols (symbol_rows bytes c)
 symbols_of_opened bytes o c opened =
     let found = table_in opened.ctx bytes opened.commands in (
       symbols_in found,
       record { ctx = opened.ctx; cs = opened.commands; opens = opened.opens; holds = refl },
-      ap (map (symbol_row c.names_at)) (symbols_are bytes c opened.ctx found opened.numbers.context
-          (λ t e. last_table opened.ctx bytes opened.commands None t (λ u wrong. absurd (cc)) e) opened.numbers.symbols),
+      subst (λ symbols. AllSay (SaysSymbol c.names_at) symbols (symbol_rows bytes c)) (symbols_are bytes c opened.ctx found opened.numbers.context
+          (λ t e. last_table opened.ctx bytes opened.commands None t (λ u wrong. absurd (cc)) e) opened.numbers.symbols)
+          (say_all (table_seen bytes c) 0 c.symbols),
     )

@@ -1,6 +1,6 @@
 -- Walks of an export trie, batch by batch.
 use Rattle.std.proofs.Common.{◌-◌, ◌^◌, ◌<◌, Err, length, ◌≡◌, ◌≢◌, ◌++◌, ◌⊎◌, [], ℕ, List, Bool, true, false, Option, Some, None, sym, subst, ◌∙◌, arith, inr}
-use Rattle.std.specs.Prelude.{nat_lt, if◌then◌else◌}
+use Rattle.std.specs.Prelude.{◌==◌, nat_lt, if◌then◌else◌}
 use Rattle.mach_tries.specs.CursorState.{IsFull, in_fault}
 use Rattle.mach_tries.specs.Cursors.{HasGivenTo, IsFaulty}
 use Rattle.mach_tries.specs.Trie.{Entry}
@@ -29,13 +29,15 @@ walk_begins {t} {libs} {w} {c} {name} {stack} none given h = record {
 
 -- ---- how a batch ends
 
-not_one : (b : Bool) → ◌≡◌ {A = ℕ} (if b then 2 else 0) 1 → ⊥
-not_one true e = omega (arith, e)
-not_one false e = omega (arith, e)
+not_one : (none short : Bool) → ◌≡◌ {A = ℕ} (if none then 2 else (if short then 2 else 0)) 1 → ⊥
+not_one true short e = omega (arith, e)
+not_one false true e = omega (arith, e)
+not_one false false e = omega (arith, e)
 
-not_five : (b : Bool) → ◌≡◌ {A = ℕ} (if b then 2 else 0) 5 → ⊥
-not_five true e = omega (arith, e)
-not_five false e = omega (arith, e)
+not_five : (none short : Bool) → ◌≡◌ {A = ℕ} (if none then 2 else (if short then 2 else 0)) 5 → ⊥
+not_five true short e = omega (arith, e)
+not_five false true e = omega (arith, e)
+not_five false false e = omega (arith, e)
 
 module _ (t : TrieRange) (libs : List (List ℕ)) (c : TrieCursor) (name : List ℕ) (stack : List Open) (all : List Entry) where
   stands_at : (e : Option Ending) → StopsAt t libs all e c name stack → HasGivenTo t libs c name stack all
@@ -45,35 +47,35 @@ module _ (t : TrieRange) (libs : List (List ℕ)) (c : TrieCursor) (name : List 
   stands_at (Some (NameTooLong n)) s = s
   stands_at (Some (StackTooShort)) s = s
 
-  is_whole : (room longest : ℕ) (e : Option Ending) → StopsAt t libs all e c name stack → end_number room longest e ≡ 1 → ListsExports t libs all ⊎ IsFaulty t libs
-  is_whole room longest None s is = absurd (not_one (nat_lt room longest) is)
-  is_whole room longest (Some (End)) s is = s.1
-  is_whole room longest (Some (Refused error)) s is = inr s
-  is_whole room longest (Some (NameTooLong n)) s is = absurd (omega (arith, is))
-  is_whole room longest (Some (StackTooShort)) s is = absurd (omega (arith, is))
+  is_whole : (rows room longest : ℕ) (e : Option Ending) → StopsAt t libs all e c name stack → end_number rows room longest e ≡ 1 → ListsExports t libs all ⊎ IsFaulty t libs
+  is_whole rows room longest None s is = absurd (not_one (rows == 0) (nat_lt room longest) is)
+  is_whole rows room longest (Some (End)) s is = s.1
+  is_whole rows room longest (Some (Refused error)) s is = inr s
+  is_whole rows room longest (Some (NameTooLong n)) s is = absurd (omega (arith, is))
+  is_whole rows room longest (Some (StackTooShort)) s is = absurd (omega (arith, is))
 
-  is_refused : (room longest : ℕ) (e : Option Ending) → StopsAt t libs all e c name stack → end_number room longest e ≡ 5 → IsFaulty t libs
-  is_refused room longest None s is = absurd (not_five (nat_lt room longest) is)
-  is_refused room longest (Some (End)) s is = absurd (omega (arith, is))
-  is_refused room longest (Some (Refused error)) s is = s
-  is_refused room longest (Some (NameTooLong n)) s is = absurd (omega (arith, is))
-  is_refused room longest (Some (StackTooShort)) s is = absurd (omega (arith, is))
+  is_refused : (rows room longest : ℕ) (e : Option Ending) → StopsAt t libs all e c name stack → end_number rows room longest e ≡ 5 → IsFaulty t libs
+  is_refused rows room longest None s is = absurd (not_five (rows == 0) (nat_lt room longest) is)
+  is_refused rows room longest (Some (End)) s is = absurd (omega (arith, is))
+  is_refused rows room longest (Some (Refused error)) s is = s
+  is_refused rows room longest (Some (NameTooLong n)) s is = absurd (omega (arith, is))
+  is_refused rows room longest (Some (StackTooShort)) s is = absurd (omega (arith, is))
 
 -- a batch goes along the trie
 pub goes_along : {t : TrieRange} {libs : List (List ℕ)} {w b w' : gm_export_walk} {name name' : List ℕ} {stack stack' : List Open} {given : List Entry}
-    (room longest end : ℕ) (e : Option Ending)
+    (rows room longest end : ℕ) (e : Option Ending)
     → ((found : List Entry) → HasWalkedTrie t libs w name stack found → HasWalkedTrie t libs b name stack found) → b.is_begun ≢ 0
     → ((found : List Entry) → HasGivenTo t libs b.cursor name stack found → StopsAt t libs (found ++ given) e w'.cursor name' stack')
-    → w'.is_begun ≡ b.is_begun → end ≡ end_number room longest e → (w'.code ≢ 0 → end_number room longest e ≡ 5)
+    → w'.is_begun ≡ b.is_begun → end ≡ end_number rows room longest e → (w'.code ≢ 0 → end_number rows room longest e ≡ 5)
     → GoesAlong t libs w w' name name' stack stack' given end
-goes_along {t} {libs} {w} {b} {w'} {name} {name'} {stack} {stack'} {given} room longest end e begins begun stops same is marked = record {
+goes_along {t} {libs} {w} {b} {w'} {name} {name'} {stack} {stack'} {given} rows room longest end e begins begun stops same is marked = record {
   walked = λ found h. record {
     start = λ wrong. absurd (begun (sym same ∙ wrong));
     begun = λ _. stands_at t libs w'.cursor name' stack' (found ++ given) e (stops found ((begins found h).begun begun));
-    refused = λ code. is_refused t libs w'.cursor name' stack' (found ++ given) room longest e (stops found ((begins found h).begun begun)) (marked code);
+    refused = λ code. is_refused t libs w'.cursor name' stack' (found ++ given) rows room longest e (stops found ((begins found h).begun begun)) (marked code);
   };
-  ended = λ one found h. is_whole t libs w'.cursor name' stack' (found ++ given) room longest e (stops found ((begins found h).begun begun)) (sym is ∙ one);
-  refused = λ five found h. is_refused t libs w'.cursor name' stack' (found ++ given) room longest e (stops found ((begins found h).begun begun)) (sym is ∙ five);
+  ended = λ one found h. is_whole t libs w'.cursor name' stack' (found ++ given) rows room longest e (stops found ((begins found h).begun begun)) (sym is ∙ one);
+  refused = λ five found h. is_refused t libs w'.cursor name' stack' (found ++ given) rows room longest e (stops found ((begins found h).begun begun)) (sym is ∙ five);
 }
 
 -- the name that was too long

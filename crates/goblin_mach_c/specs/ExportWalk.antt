@@ -1,5 +1,5 @@
 -- The exports of an image in batches, as C sees them.
-use Rattle.std.specs.Prelude.{◌≡◌, ◌≢◌, ◌+◌, ◌-◌, ◌^◌, ◌++◌, ◌⊎◌, ℕ, List, [], ◌∷◌, length, drop, min, Option, Some, None, Result, Ok, Err, nat_lt, slice_get, if◌then◌else◌}
+use Rattle.std.specs.Prelude.{◌≡◌, ◌≢◌, ◌==◌, ◌+◌, ◌-◌, ◌^◌, ◌++◌, ◌⊎◌, ℕ, List, [], ◌∷◌, length, drop, min, Option, Some, None, Result, Ok, Err, nat_lt, slice_get, if◌then◌else◌}
 use Rattle.mach_base.specs.Fault.{Fault}
 use Rattle.mach_base.specs.Text.{text_at}
 use Rattle.mach_tries.specs.CursorState.{IsNextLabel}
@@ -123,20 +123,20 @@ StopsAt t libs found None c name stack = HasGivenTo t libs c name stack found
 StopsAt t libs found (Some e) c name stack = NextGives t libs found (next_of (Err e)) c name stack
 
 -- why a batch ends, as C is told it
-abbrev pub end_number : ℕ → ℕ → Option Ending → ℕ
-end_number room name None = if nat_lt room name then 2 else 0
-end_number room name (Some (End)) = 1
-end_number room name (Some (Refused e)) = 5
-end_number room name (Some (NameTooLong n)) = 3
-end_number room name (Some (StackTooShort)) = 4
+abbrev pub end_number : (rows room name : ℕ) → Option Ending → ℕ
+end_number rows room name None = if rows == 0 then 2 else (if nat_lt room name then 2 else 0)
+end_number rows room name (Some (End)) = 1
+end_number rows room name (Some (Refused e)) = 5
+end_number rows room name (Some (NameTooLong n)) = 3
+end_number rows room name (Some (StackTooShort)) = 4
 
--- how many bytes or open nodes it must have to go on
-abbrev pub needed_number : ℕ → ℕ → ℕ → Option Ending → ℕ
-needed_number room name stack None = if nat_lt room name then name else 0
-needed_number room name stack (Some (End)) = 0
-needed_number room name stack (Some (Refused e)) = 0
-needed_number room name stack (Some (NameTooLong n)) = n
-needed_number room name stack (Some (StackTooShort)) = stack + 1
+-- how many rows, bytes or open nodes it must have to go on, where so many nodes are in use
+abbrev pub needed_number : (rows room name used : ℕ) → Option Ending → ℕ
+needed_number rows room name used None = if rows == 0 then 1 else (if nat_lt room name then name else 0)
+needed_number rows room name used (Some (End)) = 0
+needed_number rows room name used (Some (Refused e)) = 0
+needed_number rows room name used (Some (NameTooLong n)) = n
+needed_number rows room name used (Some (StackTooShort)) = min (used + 1) (2 ^ 64 - 1)
 
 -- the batch of a call that was refused before it gave anything
 abbrev pub no_batch : gm_export_batch

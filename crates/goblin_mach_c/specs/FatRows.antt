@@ -1,5 +1,5 @@
 -- The entries of a fat file as C sees them.
-use Rattle.std.specs.Prelude.{◌==◌, ℕ, List, Result, Ok, Err, if◌then◌else◌}
+use Rattle.std.specs.Prelude.{◌==◌, ◌+◌, ◌-◌, ◌/◌, ℕ, List, Result, Ok, Err, length, nat_lt, if◌then◌else◌}
 use Rattle.mach_base.specs.Fault.{Fault}
 use Rattle.mach_base.specs.Number.{number_at}
 use Rattle.mach_base.specs.declared.context.Endian.TheVariants.{Big}
@@ -27,6 +27,14 @@ count_behind (Err f) bytes = 0
 abbrev pub fat_count : List ℕ → ℕ
 fat_count bytes = count_behind (number_at Big 4 bytes 0) bytes
 
--- the entries of some bytes, in order
+-- how many records of 20 bytes lie whole in some bytes, behind a header of 8
+abbrev pub whole_records : List ℕ → ℕ
+whole_records bytes = (length bytes - 8) / 20
+
+-- how many of them are told: all that the header says where they lie in the bytes; else those that lie whole in them, and one more
+abbrev pub told_count : List ℕ → ℕ
+told_count bytes = if nat_lt (whole_records bytes) (fat_count bytes) then whole_records bytes + 1 else fat_count bytes
+
+-- the entries of some bytes, in order, up to the first record that isn't whole
 abbrev pub fat_rows : List ℕ → List gm_fat_entry
-fat_rows bytes = items_from (λ k. fat_row (arch_at bytes k)) 0 (fat_count bytes)
+fat_rows bytes = items_from (λ k. fat_row (arch_at bytes k)) 0 (told_count bytes)

@@ -1,7 +1,7 @@
 -- The numbers of an image that opens.
-use Rattle.std.specs.Prelude.{◌≡◌, ◌==◌, ℕ, ◌+◌, List, length, Bool, true, false, not, Option, Some, None, option_map, Ok}
+use Rattle.std.specs.Prelude.{◌≡◌, ◌==◌, ◌<◌, ◌≤◌, ◌⊎◌, ℕ, ◌+◌, ◌-◌, List, length, Bool, true, false, not, Option, Some, None, option_map, Ok}
 use Rattle.mach_base.specs.declared.context.Ctx.{Ctx}
-use Rattle.mach_base.specs.Fault.{Fault}
+use Rattle.mach_base.specs.Fault.{Fault, malformed}
 use Rattle.mach_load.specs.Command.{Command}
 use Rattle.mach_headers.specs.Header.{IsHeader, header_size}
 use Rattle.mach_symbols.specs.Symbols.{SymbolTable}
@@ -37,9 +37,9 @@ pub record AreHeaderNumbers (h : Header) (c : gm_image) : Type 0 where
   pub filetype : c.filetype ≡ h.filetype
   pub flags : c.flags ≡ h.flags
 
--- where the symbols of a table stand, how many they are, and where their names begin; no table has none
+-- where the symbols of a table stand, how many they are, and where their names begin; all 0 where there is no table
 abbrev pub AreTableNumbers : Option SymbolTable → ℕ → ℕ → ℕ → Type 0
-AreTableNumbers None start count names = count ≡ 0
+AreTableNumbers None start count names = (start ≡ 0) × (count ≡ 0) × (names ≡ 0)
 AreTableNumbers (Some t) start count names = (start ≡ t.start) × (count ≡ t.nsyms) × (names ≡ t.strtab)
 
 -- These are the numbers of the image at o that has this context and these commands.
@@ -52,7 +52,7 @@ pub record AreNumbers (bytes : List ℕ) (o : ℕ) (ctx : Ctx) (cs : List Comman
   pub first_command : c.first_command ≡ o + header_size ctx.container
   pub commands : c.commands ≡ length cs
   pub segments : c.segments ≡ length (read_of (lossy_segment_by ctx bytes) cs)
-  pub libraries : c.libraries ≡ length (libs_in bytes cs)
+  pub libraries : c.libraries ≡ length (libs_in bytes cs) - 1
   pub run_paths : c.run_paths ≡ length (read_of (run_path_by bytes) cs)
   pub symbols : AreTableNumbers (table_in ctx bytes cs) c.symbols_at c.symbols c.names_at
   pub old_style : Bool
@@ -77,6 +77,10 @@ abbrev pub FaultIn : Bool → List ℕ → ℕ → Fault → Type 0
 FaultIn true bytes o f = LossyFault bytes o f
 FaultIn false bytes o f = ImageFault bytes o f
 
+-- a fault for which it can't be opened by a number for a mode: one that stands there; or the number is of no mode
+abbrev pub OpenFault : ℕ → List ℕ → ℕ → Fault → Type 0
+OpenFault mode bytes o f = ((mode ≤ 1) × FaultIn (lossy_mode mode) bytes o f) ⊎ ((1 < mode) × (f ≡ malformed))
+
 -- ---- the same of an image that is held
 
 abbrev pub width_of : Bool → Container
@@ -93,7 +97,7 @@ pub record HoldsNumbers (m : MachO Global) (o : ℕ) (lossy : Bool) (c : gm_imag
   pub first_command : c.first_command ≡ o + header_size (width_of m.is_64)
   pub commands : c.commands ≡ length m.load_commands.items
   pub segments : c.segments ≡ length (segments_in m.segments)
-  pub libraries : c.libraries ≡ length m.libs.items
+  pub libraries : c.libraries ≡ length m.libs.items - 1
   pub run_paths : c.run_paths ≡ length m.rpaths.items
   pub symbols : AreTableNumbers (option_map table_of m.symbols) c.symbols_at c.symbols c.names_at
   pub entry : c.entry ≡ m.entry

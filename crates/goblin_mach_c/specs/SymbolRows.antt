@@ -1,21 +1,54 @@
 -- Symbols as C sees them.
-use Rattle.std.specs.Prelude.{ℕ, List, length, map, Result, Ok, Err}
+use Rattle.std.specs.Prelude.{◌≡◌, ℕ, ◌-◌, List, length, Result, Ok, Err, nat_lt, if◌then◌else◌}
 use Rattle.mach_base.specs.Fault.{Fault}
+use Rattle.mach_base.specs.Items.{items_from}
 use Rattle.mach_base.specs.Number.{place_after}
-use Rattle.mach_symbols.specs.Symbols.{SymbolTable, symbols_of}
-use Rattle.mach_symbols.specs.SymbolViews.{symbols_left}
+use Rattle.mach_base.specs.Text.{run_at, text_at}
+use Rattle.mach_symbols.specs.Symbols.{SymbolTable, nlist_at, symbol_place}
 use Rattle.mach_symbols.specs.declared.symbols.nlist.Nlist.{Nlist}
 use Rattle.goblin_mach_c.specs.Codes.{code_of_fault}
 use Rattle.goblin_mach_c.specs.Seen.{ctx_seen}
 use Rattle.goblin_mach_c.specs.declared.images.gm_image.{gm_image}
+use Rattle.goblin_mach_c.specs.declared.symbols.Table.{Table}
 use Rattle.goblin_mach_c.specs.declared.symbols.gm_symbol.{gm_symbol}
 use Rattle.goblin_mach_c.specs.declared.symbols.SymbolRows.{SymbolRows}
 
--- A symbol of a table whose names count from a place: its name stands at `name` in the bytes and has `name_len` of them. Or why
--- it can't be read.
-abbrev pub symbol_row : ℕ → Result (List ℕ × Nlist) Fault → gm_symbol
-symbol_row strtab (Ok found) =
+-- 0 of a text, and else why there is none
+abbrev pub text_code : Result (List ℕ) Fault → ℕ
+text_code (Ok text) = 0
+text_code (Err f) = code_of_fault f
+
+-- The row of a record whose name begins at a place: the bytes there up to a zero, whether or not they are a text. A place past the
+-- end has none, and 0 is told for it.
+abbrev pub named_row : List ℕ → ℕ → Nlist → gm_symbol
+named_row bytes place s =
     record {
+      value = s.n_value;
+      name = if nat_lt place (length bytes) then place else 0;
+      name_len = length (run_at bytes place);
+      section = s.n_sect;
+      code = text_code (text_at bytes place);
+      desc = s.n_desc;
+      n_type = s.n_type;
+    }
+
+-- why a record can't be read
+abbrev pub unread_row : Fault → gm_symbol
+unread_row f = record { value = 0; name = 0; name_len = 0; section = 0; code = code_of_fault f; desc = 0; n_type = 0 }
+
+-- the row of a record as it was read, whose name counts from a place
+abbrev pub read_row : List ℕ → ℕ → Result Nlist Fault → gm_symbol
+read_row bytes strtab (Ok s) = named_row bytes (place_after strtab s.n_strx) s
+read_row bytes strtab (Err f) = unread_row f
+
+-- the row of symbol k of a table
+abbrev pub symbol_row : SymbolTable → ℕ → gm_symbol
+symbol_row t k = read_row t.bytes t.strtab (nlist_at t.ctx t.bytes (symbol_place t k))
+
+-- A row says a symbol with its name, which stands at its place; or why one of them is missing.
+abbrev pub SaysSymbol : ℕ → Result (List ℕ × Nlist) Fault → gm_symbol → Type 0
+SaysSymbol strtab (Ok found) row =
+    row ≡ record {
       value = found.1.n_value;
       name = place_after strtab found.1.n_strx;
       name_len = length found.0;
@@ -24,8 +57,7 @@ symbol_row strtab (Ok found) =
       desc = found.1.n_desc;
       n_type = found.1.n_type;
     }
-symbol_row strtab (Err f) =
-    record { value = 0; name = 0; name_len = 0; section = 0; code = code_of_fault f; desc = 0; n_type = 0 }
+SaysSymbol strtab (Err f) row = row.code ≡ code_of_fault f
 
 -- the table that an image is said to have
 abbrev pub table_seen : List ℕ → gm_image → SymbolTable
@@ -33,8 +65,12 @@ table_seen bytes c = record { bytes = bytes; start = c.symbols_at; nsyms = c.sym
 
 -- all symbols of an image
 abbrev pub symbol_rows : List ℕ → gm_image → List gm_symbol
-symbol_rows bytes image = map (symbol_row image.names_at) (symbols_of (table_seen bytes image))
+symbol_rows bytes image = items_from (symbol_row (table_seen bytes image)) 0 image.symbols
 
--- those that are left
+-- ---- what is left to the rows
+
+abbrev pub table_in : Table → SymbolTable
+table_in t = record { bytes = t.bytes.now; start = t.start; nsyms = t.count; strtab = t.strtab; ctx = t.ctx }
+
 abbrev pub symbol_rows_left : SymbolRows → List gm_symbol
-symbol_rows_left it = map (symbol_row it.strtab) (symbols_left it.symbols)
+symbol_rows_left it = items_from (symbol_row (table_in it.table)) it.next (it.table.count - it.next)

@@ -23,7 +23,7 @@ ghost use Rattle.goblin_mach_c.specs.ImportsBehind.{binds_of};
 ghost use Rattle.goblin_mach_c.specs.Stage.{stage_of};
 ghost use Rattle.goblin_mach_c.specs.Opened.{FaultIn, lossy_mode};
 
-use crate::errors::{GM_OK, code_of, gm_error, refuse};
+use crate::errors::{GM_OK, code_of, gm_error, refuse, refuse_no_rows};
 use crate::fixups::{ChainWalk, FixupRows, gm_fixup_cursor};
 use crate::images::gm_image;
 use crate::imports::{gm_bind_cursor, over, place_of_name};
@@ -346,13 +346,17 @@ pub extern "C" fn gmr_bindings(
     error: &mut gm_error,
 ) -> u32
     ensures written { result ≡ 0 → WritesBindings bytes.now image.now.offset cursor.old cursor.new out.old out.new count.new }
-    ensures refused { result ≢ 0 → IsRefusal (FaultIn (lossy_mode image.now.is_lossy) bytes.now image.now.offset) result }
+    ensures refused { result ≢ 0 → 0 < length out.old → IsRefusal (FaultIn (lossy_mode image.now.is_lossy) bytes.now image.now.offset) result }
+    ensures no_rows { length out.old ≡ 0 → result ≡ 6 }
     ensures array { result ≢ 0 → out.new ≡ out.old }
     ensures count { result ≢ 0 → count.new ≡ count.old }
     ensures cursor { result ≢ 0 → cursor.new ≡ cursor.old }
     ensures told { result ≢ 0 → error.new.code ≡ result }
     ensures quiet { result ≡ 0 → error.new ≡ error.old }
 {
+    if out.is_empty() {
+        return refuse_no_rows(error);
+    }
     match open(alloc, bytes, image.offset, image.is_lossy != 0) {
         Ok(found) => {
             let mut rows = BindingRows::behind(&found, cursor);

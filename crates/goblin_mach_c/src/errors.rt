@@ -26,6 +26,9 @@ pub const GM_TOO_MANY: u32 = 4;
 /// Memory was refused.
 pub const GM_NO_MEMORY: u32 = 5;
 
+/// The array that a call is handed has room for no row.
+pub const GM_NO_ROWS: u32 = 6;
+
 /// The code of an error.
 pub fn code_of(error: &Error) -> u32
     ensures code { result ≡ code_of_fault (fault_of error.now) }
@@ -82,12 +85,28 @@ pub fn refuse(error: &Error, out: &mut gm_error) -> u32
     code
 }
 
+/// Reports that an array has room for no row.
+#[cold]
+#[inline(never)]
+pub fn refuse_no_rows(out: &mut gm_error) -> u32
+    ensures code { result ≡ 6 }
+    ensures told { out.new.code ≡ 6 }
+    ensures ended { slice_get out.new.text 123 ≡ Some 0 }
+{
+    *out = gm_error {
+        code: GM_NO_ROWS,
+        text: text_of(b"the array has room for no row"),
+    };
+    GM_NO_ROWS
+}
+
 /// Reports a refusal of before again, by its code.
 #[cold]
 #[inline(never)]
 pub fn refuse_again(code: u32, out: &mut gm_error) -> u32
     ensures code { result ≡ code }
     ensures told { out.new.code ≡ code }
+    ensures ended { slice_get out.new.text 123 ≡ Some 0 }
 {
     *out = gm_error {
         code,

@@ -1,6 +1,6 @@
 //! The exports of an image in batches, by a walk whose numbers, name and open nodes are the caller's.
 
-ghost use Rattle.std.specs.Prelude.{◌≡◌, ◌≢◌, ◌+◌, ◌++◌, ◌<◌, ◌≤◌, ◌⊎◌, ℕ, List, Option, Some, None, drop, length, take};
+ghost use Rattle.std.specs.Prelude.{◌≡◌, ◌≢◌, ◌-◌, ◌+◌, ◌^◌, ◌++◌, ◌<◌, ◌≤◌, ◌⊎◌, ℕ, List, Option, Some, None, drop, length, min, take};
 ghost use Rattle.mach_tries.specs.Cursors.{HasGivenTo, IsOwnAt};
 ghost use Rattle.mach_tries.specs.Exports.{info_of};
 ghost use Rattle.mach_base.specs.Text.{texts};
@@ -54,7 +54,7 @@ pub struct gm_export_batch {
     /// How many rows were written, and how many bytes of names.
     pub count: usize,
     pub names_len: usize,
-    /// How many bytes or open nodes there must be to go on.
+    /// How many rows, bytes or open nodes there must be to go on; 0 where no more are needed.
     pub needed: usize,
     /// One of the numbers of an end.
     pub end: u32,
@@ -67,7 +67,7 @@ const GM_MORE: u32 = 0;
 /// There are no more exports.
 const GM_END: u32 = 1;
 
-/// A name may be longer than all that is there for names.
+/// There is no room for a row, or a name may be longer than all that is there for names.
 const GM_NO_ROOM: u32 = 2;
 
 /// The name that comes next is longer than the walk's name may be.
@@ -151,7 +151,9 @@ fn write_exports<'a>(
         × ((found : List Entry) → HasGivenTo trie.now (texts libs.now) cursor.old name.old stack.old found
         → StopsAt trie.now (texts libs.now) (found ++ given) result.2 cursor.new name.new stack.new) }
     ensures full { result.2 ≡ None → (result.0 ≡ length out.old) ⊎ (length names.old < result.1 + length name.old) }
-    ensures lens { (length name.new ≡ length name.old) × (length names.new ≡ length names.old) × (length stack.new ≡ length stack.old) }
+    ensures no_rows { length out.old ≡ 0 → result.2 ≡ None }
+    ensures lens { (length name.new ≡ length name.old) × (length names.new ≡ length names.old) × (length stack.new ≡ length stack.old)
+        × (length out.new ≡ length out.old) }
     ensures name { (n : ℕ) → result.2 ≡ Some (ending.NameTooLong n) → (length name.old < n) × IsNextName trie.now cursor.new n }
     ensures stack { result.2 ≡ Some ending.StackTooShort → length stack.old ≤ cursor.new.depth }
 {
@@ -179,25 +181,33 @@ fn write_exports<'a>(
     (out.len(), used, None)
 }
 
-// Why a batch ends, and how much there must be to go on.
-fn end_of(ending: &Option<Ending>, name: &[u8], names: &[u8], stack: &[Open]) -> (u32, usize)
-    ensures end { result.0 ≡ end_number (length names.now) (length name.now) ending.now }
-    ensures needed { result.1 ≡ needed_number (length names.now) (length name.now) (length stack.now) ending.now }
+// Why a batch ends, and how much there must be to go on: room for so many rows, for so many bytes of a name and of names, and of the
+// stack so many nodes in use.
+fn end_of(
+    ending: &Option<Ending>,
+    rows: usize,
+    name: usize,
+    names: usize,
+    used: usize,
+) -> (u32, usize)
+    ensures end { result.0 ≡ end_number rows names name ending.now }
+    ensures needed { result.1 ≡ needed_number rows names name used ending.now }
 {
     match ending {
-        None if names.len() < name.len() => (GM_NO_ROOM, name.len()),
+        None if rows == 0 => (GM_NO_ROOM, 1),
+        None if names < name => (GM_NO_ROOM, name),
         None => (GM_MORE, 0),
         Some(Ending::End) => (GM_END, 0),
         Some(Ending::Refused(_)) => (GM_REFUSED, 0),
         Some(Ending::NameTooLong(needed)) => (GM_NAME_SHORT, *needed),
-        Some(Ending::StackTooShort) => (GM_STACK_SHORT, stack.len() + 1),
+        Some(Ending::StackTooShort) => (GM_STACK_SHORT, used.saturating_add(1)),
     }
 }
 
 // Tells of a refusal, if the batch ends by one.
 fn told(ending: Option<Ending>, error: &mut gm_error) -> u32
-    ensures good { (room : ℕ) (name : ℕ) → result ≡ 0 → end_number room name ending < 5 }
-    ensures refused { (room : ℕ) (name : ℕ) → result ≢ 0 → end_number room name ending ≡ 5 }
+    ensures good { (rows : ℕ) (room : ℕ) (name : ℕ) → result ≡ 0 → end_number rows room name ending < 5 }
+    ensures refused { (rows : ℕ) (room : ℕ) (name : ℕ) → result ≢ 0 → end_number rows room name ending ≡ 5 }
     ensures told { result ≢ 0 → error.new.code ≡ result }
     ensures quiet { result ≡ 0 → error.new ≡ error.old }
 {
@@ -237,9 +247,13 @@ fn go_along<'a>(
         out.old out.new names.old names.new
         × GoesAlong trie.now (texts libs.now) walk.old walk.new name.old name.new stack.old stack.new given batch.new.end }
     ensures full { batch.new.end ≡ 0 → (batch.new.count ≡ length out.old) ⊎ (length names.old < batch.new.names_len + length name.old) }
-    ensures no_room { batch.new.end ≡ 2 → (length names.old < length name.old) × (batch.new.needed ≡ length name.old) }
+    ensures more { batch.new.end ≡ 0 → 0 < batch.new.count }
+    ensures no_rows { length out.old ≡ 0 → result ≡ 0 → (batch.new.end ≡ 2) × (batch.new.needed ≡ 1) }
+    ensures no_room { batch.new.end ≡ 2 → 0 < length out.old → (length names.old < length name.old) × (batch.new.needed ≡ length name.old) }
     ensures name { batch.new.end ≡ 3 → (length name.old < batch.new.needed) × IsNextName trie.now walk.new.cursor batch.new.needed }
-    ensures stack { batch.new.end ≡ 4 → (length stack.old ≤ walk.new.cursor.depth) × (batch.new.needed ≡ length stack.old + 1) }
+    ensures stack { batch.new.end ≡ 4 → (length stack.old ≤ walk.new.cursor.depth) × (batch.new.needed ≡ min (walk.new.cursor.depth + 1) (2 ^ 64 - 1)) }
+    ensures unneeded { batch.new.end ≢ 2 → batch.new.end ≢ 3 → batch.new.end ≢ 4 → batch.new.needed ≡ 0 }
+    ensures reserved { batch.new.reserved ≡ 0 }
     ensures refused { result ≢ 0 → batch.new.end ≡ 5 }
     ensures good { result ≡ 0 → batch.new.end < 5 }
     ensures marked { walk.new.code ≡ result }
@@ -256,7 +270,13 @@ fn go_along<'a>(
         out,
         names,
     );
-    let (end, needed) = end_of(&ending, name, names, stack);
+    let (end, needed) = end_of(
+        &ending,
+        out.len(),
+        name.len(),
+        names.len(),
+        walk.cursor.depth,
+    );
     *batch = gm_export_batch {
         count,
         names_len,
@@ -319,9 +339,13 @@ pub extern "C" fn gmr_exports(
     ensures again { walk.old.code ≢ 0 → result ≡ walk.old.code }
     ensures end { (result ≡ 0 → batch.new.end < 5) × (result ≢ 0 → batch.new.end ≡ 5) }
     ensures full { batch.new.end ≡ 0 → (batch.new.count ≡ length out.old) ⊎ (length names.old < batch.new.names_len + length name.old) }
-    ensures no_room { batch.new.end ≡ 2 → (length names.old < length name.old) × (batch.new.needed ≡ length name.old) }
+    ensures more { batch.new.end ≡ 0 → 0 < batch.new.count }
+    ensures no_rows { length out.old ≡ 0 → result ≡ 0 → (batch.new.end ≡ 2) × (batch.new.needed ≡ 1) }
+    ensures no_room { batch.new.end ≡ 2 → 0 < length out.old → (length names.old < length name.old) × (batch.new.needed ≡ length name.old) }
     ensures name { batch.new.end ≡ 3 → (length name.old < batch.new.needed) × HasNextName bytes.now image.now.offset walk.new batch.new.needed }
-    ensures stack { batch.new.end ≡ 4 → (length stack.old ≤ walk.new.cursor.depth) × (batch.new.needed ≡ length stack.old + 1) }
+    ensures stack { batch.new.end ≡ 4 → (length stack.old ≤ walk.new.cursor.depth) × (batch.new.needed ≡ min (walk.new.cursor.depth + 1) (2 ^ 64 - 1)) }
+    ensures unneeded { batch.new.end ≢ 2 → batch.new.end ≢ 3 → batch.new.end ≢ 4 → batch.new.needed ≡ 0 }
+    ensures reserved { batch.new.reserved ≡ 0 }
     ensures told { result ≢ 0 → error.new.code ≡ result }
     ensures quiet { result ≡ 0 → error.new ≡ error.old }
 {

@@ -3,7 +3,7 @@
 ghost use Rattle.std.specs.Prelude.{◌≡◌, drop};
 ghost use Rattle.goblin_mach.specs.FatFile.{arch_at, arch_read};
 ghost use Rattle.goblin_mach_c.specs.Fill.{Fills};
-ghost use Rattle.goblin_mach_c.specs.FatRows.{fat_count, fat_row, fat_rows};
+ghost use Rattle.goblin_mach_c.specs.FatRows.{fat_count, fat_row, fat_rows, told_count};
 
 use crate::errors::{GM_OK, code_of};
 use crate::numbered::{Numbered, Numbers, rows_from};
@@ -79,12 +79,25 @@ fn count_of(bytes: &[u8]) -> u32
     }
 }
 
+// How many records are told: of those that the header says the ones that lie whole in the bytes, and one more where it says more.
+fn told_of(bytes: &[u8]) -> u32
+    ensures { result ≡ told_count bytes.now }
+{
+    let count = count_of(bytes);
+    let whole = bytes.len().saturating_sub(SIZEOF_FAT_HEADER) / SIZEOF_FAT_ARCH;
+    if whole < count as usize {
+        whole as u32 + 1
+    } else {
+        count
+    }
+}
+
 /// Writes the entries of a fat file from a number on, as many as there are and fit, and answers how many: none where the
-/// bytes don't begin as a fat file does.
+/// bytes don't begin as a fat file does. Where its table is cut the last one is the first that isn't whole in the bytes.
 #[unsafe(no_mangle)]
 pub extern "C" fn gmr_fat_entries(bytes: &[u8], first: usize, out: &mut [gm_fat_entry]) -> usize
     ensures { Fills (drop first (fat_rows bytes.now)) out.old out.new result }
 {
-    let mut rows = rows_from(Records { bytes }, first, count_of(bytes));
+    let mut rows = rows_from(Records { bytes }, first, told_of(bytes));
     fill(&mut rows, out)
 }

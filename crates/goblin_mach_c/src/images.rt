@@ -16,7 +16,7 @@ pub struct gm_image {
     /// Where its first command stands.
     pub first_command: usize,
     pub commands: usize,
-    /// How many segments it has, how many libraries with itself as the first, how many run paths and symbols.
+    /// How many segments it has, how many libraries it brings in, how many run paths and symbols.
     pub segments: usize,
     pub libraries: usize,
     pub run_paths: usize,

@@ -1,6 +1,6 @@
 //! Theorems: what the lists of an image that `gm_open` opened are in the bytes.
 
-ghost use Rattle.std.specs.Prelude.{◌≡◌, ◌++◌, [], ℕ, List, Result, map};
+ghost use Rattle.std.specs.Prelude.{◌≡◌, ◌<◌, ◌≤◌, ◌^◌, ◌++◌, [], ℕ, List, Result, length, map};
 ghost use Rattle.mach_base.specs.Fault.{Fault};
 ghost use Rattle.mach_symbols.specs.declared.symbols.nlist.Nlist.{Nlist};
 ghost use Rattle.mach_segments.specs.Segment.{SegmentView};
@@ -8,22 +8,31 @@ ghost use Rattle.mach_tries.specs.Trie.{Entry};
 ghost use Rattle.mach_tries.specs.declared.walk.Open.{Open};
 ghost use Rattle.mach_image.specs.Facts.{HasCommands, HasExports, HasSegments, HasSymbols};
 ghost use Rattle.mach_image.specs.Image.{LossyOpens};
+ghost use Rattle.goblin_mach.specs.FatFile.{arch_at};
 ghost use Rattle.goblin_mach_c.specs.CommandRows.{commands_seen};
 ghost use Rattle.goblin_mach_c.specs.ExportWalk.{HasWalked};
+ghost use Rattle.goblin_mach_c.specs.FatRows.{fat_row, whole_records};
 ghost use Rattle.goblin_mach_c.specs.Opened.{IsOpened};
 ghost use Rattle.goblin_mach_c.specs.PartRows.{segment_row, segment_rows};
-ghost use Rattle.goblin_mach_c.specs.SymbolRows.{symbol_row, symbol_rows};
+ghost use Rattle.goblin_mach_c.specs.Say.{AllSay};
+ghost use Rattle.goblin_mach_c.specs.SymbolRows.{SaysSymbol, symbol_rows};
 ghost use Rattle.goblin_mach_c.specs.declared.exports.gm_export_walk.{gm_export_walk};
 ghost use Rattle.goblin_mach_c.specs.declared.images.gm_image.{gm_image};
 
 /// The commands that its numbers say are the image's commands, and the segments among them its segments; and its
-/// symbols are those of the image's table.
+/// symbols are those of the image's table, each row saying its own.
 pub fn lists_of_opened()
     ensures commands { (bytes : List ℕ) (o : ℕ) (c : gm_image) → IsOpened bytes o c → HasCommands bytes o (commands_seen bytes c) }
     ensures segments { (bytes : List ℕ) (o : ℕ) (c : gm_image) → IsOpened bytes o c
         → (segments : List SegmentView) × HasSegments bytes o segments × (segment_rows bytes c ≡ map segment_row segments) }
     ensures symbols { (bytes : List ℕ) (o : ℕ) (c : gm_image) → IsOpened bytes o c
-        → (rows : List (Result (List ℕ × Nlist) Fault)) × HasSymbols bytes o rows × (symbol_rows bytes c ≡ map (symbol_row c.names_at) rows) }
+        → (symbols : List (Result (List ℕ × Nlist) Fault)) × HasSymbols bytes o symbols × AllSay (SaysSymbol c.names_at) symbols (symbol_rows bytes c) }
+{}
+
+/// The record of an entry of a fat file is told without a code where it lies whole in the bytes, and else with that of a short read.
+pub fn fat_codes()
+    ensures whole { (bytes : List ℕ) (k : ℕ) → length bytes < 2 ^ 64 → k < whole_records bytes → (fat_row (arch_at bytes k)).code ≡ 0 }
+    ensures cut { (bytes : List ℕ) (k : ℕ) → length bytes < 2 ^ 64 → 8 ≤ length bytes → whole_records bytes ≤ k → (fat_row (arch_at bytes k)).code ≡ 3 }
 {}
 
 /// A walk of exports that is all zeros has given nothing of an image that opens.

@@ -1,6 +1,6 @@
 //! The faults of the layout of an image, and of the table of a fat file.
 
-ghost use Rattle.std.specs.Prelude.{◌≡◌, ◌≢◌, ◌⊎◌, ℕ, drop, map, List, IfOk, IfErr};
+ghost use Rattle.std.specs.Prelude.{◌≡◌, ◌≢◌, ◌⊎◌, ◌<◌, ℕ, drop, length, map, List, IfOk, IfErr};
 ghost use Rattle.mach_base.specs.Answer.{Stands, IsOkUnlessMemory};
 ghost use Rattle.mach_layout.specs.Facts.{HasLayoutFaults};
 ghost use Rattle.mach_rules.specs.declared.fault.LayoutFault as declared;
@@ -11,7 +11,7 @@ ghost use Rattle.goblin_mach_c.specs.LayoutRows.{HasTableFaults, file_of, layout
 ghost use Rattle.goblin_mach_c.specs.Opened.{FaultIn, IsOpened, OpensIn, lossy_mode};
 ghost use Rattle.goblin_mach_c.specs.declared.images.gm_image as numbers;
 
-use crate::errors::{GM_OK, gm_error, refuse};
+use crate::errors::{GM_OK, gm_error, refuse, refuse_no_rows};
 use crate::images::gm_image;
 use crate::open::open;
 use crate::rows::{Rows, fill, skip};
@@ -218,8 +218,8 @@ fn image_faults(alloc: Global, bytes: &[u8], lossy: bool) -> Result<Vec<LayoutFa
     layout_faults(alloc, &image)
 }
 
-// The bytes from a place on.
-fn from(bytes: &[u8], place: usize) -> &[u8]
+/// The bytes from a place on.
+pub fn from(bytes: &[u8], place: usize) -> &[u8]
     ensures { result.now ≡ drop place bytes.now }
 {
     if place < bytes.len() {
@@ -244,13 +244,17 @@ pub extern "C" fn gmr_layout_faults(
 ) -> u32
     ensures written { result ≡ 0 → (faults : List declared.LayoutFault) × HasLayoutFaults (file_of bytes.now image.now) faults
         × Fills (drop first (map layout_row faults)) out.old out.new count.new }
-    ensures only { OpensIn (lossy_mode image.now.is_lossy) (file_of bytes.now image.now) 0 → (result ≡ 0) ⊎ (result ≡ 5) }
-    ensures refused { result ≢ 0 → IsRefusal (FaultIn (lossy_mode image.now.is_lossy) (file_of bytes.now image.now) 0) result }
+    ensures only { OpensIn (lossy_mode image.now.is_lossy) (file_of bytes.now image.now) 0 → 0 < length out.old → (result ≡ 0) ⊎ (result ≡ 5) }
+    ensures refused { result ≢ 0 → 0 < length out.old → IsRefusal (FaultIn (lossy_mode image.now.is_lossy) (file_of bytes.now image.now) 0) result }
+    ensures no_rows { length out.old ≡ 0 → result ≡ 6 }
     ensures array { result ≢ 0 → out.new ≡ out.old }
     ensures count { result ≢ 0 → count.new ≡ count.old }
     ensures told { result ≢ 0 → error.new.code ≡ result }
     ensures quiet { result ≡ 0 → error.new ≡ error.old }
 {
+    if out.is_empty() {
+        return refuse_no_rows(error);
+    }
     match image_faults(alloc, from(bytes, image.offset), image.is_lossy != 0) {
         Ok(faults) => {
             *count = write_from(faults.as_slice(), first, out);
@@ -285,12 +289,16 @@ pub extern "C" fn gmr_container_faults(
 ) -> u32
     ensures written { result ≡ 0 → (faults : List declared.LayoutFault) × HasTableFaults bytes.now faults
         × Fills (drop first (map layout_row faults)) out.old out.new count.new }
-    ensures refused { result ≢ 0 → result ≡ 5 }
+    ensures refused { result ≢ 0 → 0 < length out.old → result ≡ 5 }
+    ensures no_rows { length out.old ≡ 0 → result ≡ 6 }
     ensures array { result ≢ 0 → out.new ≡ out.old }
     ensures count { result ≢ 0 → count.new ≡ count.old }
     ensures told { result ≢ 0 → error.new.code ≡ result }
     ensures quiet { result ≡ 0 → error.new ≡ error.old }
 {
+    if out.is_empty() {
+        return refuse_no_rows(error);
+    }
     match table_faults(alloc, bytes) {
         Ok(faults) => {
             *count = write_from(faults.as_slice(), first, out);

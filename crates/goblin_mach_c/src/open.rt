@@ -1,18 +1,18 @@
 //! Opening.
 
-ghost use Rattle.std.specs.Prelude.{◌≡◌, ◌≢◌, ◌⊎◌, ◌≤◌, ◌+◌, length, IfOk, IfErr, false, option_map};
+ghost use Rattle.std.specs.Prelude.{◌≡◌, ◌≢◌, ◌⊎◌, ◌<◌, ◌≤◌, ◌+◌, length, IfOk, IfErr, false, option_map};
 ghost use Rattle.mach_base.specs.Answer.{Stands, IsOkUnlessMemory};
 ghost use Rattle.mach_headers.specs.Header.{header_size};
 ghost use Rattle.mach_symbols.specs.SymbolViews.{table_of};
 ghost use Rattle.mach_image.specs.OpenImage.{IsImage, IsLossyImage};
 ghost use Rattle.goblin_mach_c.specs.Codes.{IsRefusal};
-ghost use Rattle.goblin_mach_c.specs.Opened.{AreTableNumbers, FaultIn, HoldsNumbers, IsOpened, OpensIn, flag, lossy_mode, width_of};
+ghost use Rattle.goblin_mach_c.specs.Opened.{AreTableNumbers, FaultIn, HoldsNumbers, IsOpened, OpenFault, OpensIn, flag, lossy_mode, width_of};
 
 use crate::errors::{GM_OK, gm_error, refuse};
 use crate::images::gm_image;
 use goblin_mach::MachO;
 use goblin_mach::laws::{strict_image_is_lossy, strict_opens_lossily};
-use mach_base::{Container, Ctx, Endian, Result, SizeWith};
+use mach_base::{Container, Ctx, Endian, Error, Result, SizeWith};
 use mach_headers::header::Header;
 use mach_symbols::symbols::Symbols;
 use std::alloc::Global;
@@ -75,7 +75,7 @@ fn numbers(bytes: &[u8], image: &MachO<'_, Global>, offset: usize, lossy: bool) 
         first_command: first_command(bytes, offset, image.is_64),
         commands: image.load_commands.as_slice().len(),
         segments: image.segments.as_slice().len(),
-        libraries: image.libs.as_slice().len(),
+        libraries: image.libs.as_slice().len().saturating_sub(1),
         run_paths: image.rpaths.as_slice().len(),
         symbols,
         symbols_at,
@@ -92,7 +92,10 @@ fn numbers(bytes: &[u8], image: &MachO<'_, Global>, offset: usize, lossy: bool) 
     }
 }
 
-/// Opens the image at a place of the bytes: strictly where `mode` is 0, else in lossy mode. It takes memory for the
+// The mode that passes over what can't be read. The strict one is 0, and there is no other.
+const GM_LOSSY: u32 = 1;
+
+/// Opens the image at a place of the bytes: strictly where `mode` is 0, in lossy mode where it is 1. It takes memory for the
 /// commands while it runs. A refusal leaves the image as it was.
 #[unsafe(no_mangle)]
 pub extern "C" fn gmr_open(
@@ -105,12 +108,16 @@ pub extern "C" fn gmr_open(
 ) -> u32
     ensures opened { result ≡ 0 → IsOpened bytes.now offset image.new }
     ensures mode { result ≡ 0 → image.new.is_lossy ≡ flag (lossy_mode mode) }
-    ensures only { OpensIn (lossy_mode mode) bytes.now offset → (result ≡ 0) ⊎ (result ≡ 5) }
-    ensures refused { result ≢ 0 → IsRefusal (FaultIn (lossy_mode mode) bytes.now offset) result }
+    ensures unknown { 1 < mode → result ≡ 1 }
+    ensures only { mode ≤ 1 → OpensIn (lossy_mode mode) bytes.now offset → (result ≡ 0) ⊎ (result ≡ 5) }
+    ensures refused { result ≢ 0 → IsRefusal (OpenFault mode bytes.now offset) result }
     ensures told { result ≢ 0 → error.new.code ≡ result }
     ensures kept { result ≢ 0 → image.new ≡ image.old }
     ensures quiet { result ≡ 0 → error.new ≡ error.old }
 {
+    if mode > GM_LOSSY {
+        return refuse(&Error::Malformed("a mode is strict or lossy"), error);
+    }
     let lossy = mode != 0;
     match open(alloc, bytes, offset, lossy) {
         Ok(found) => {

@@ -1,18 +1,23 @@
 //! Symbols, read in place.
 
-ghost use Rattle.std.specs.Prelude.{◌≡◌, drop, map};
-ghost use Rattle.mach_symbols.specs.SymbolViews.{symbol_read, symbols_left};
+ghost use Rattle.std.specs.Prelude.{◌≡◌, drop, length};
+ghost use Rattle.std.specs.List.{before_first};
+ghost use Rattle.mach_base.specs.Answer.{Reads};
+ghost use Rattle.mach_base.specs.Fault.{fault_of};
+ghost use Rattle.mach_base.specs.Text.{is_zero, run_at, text_at};
+ghost use Rattle.mach_symbols.specs.Symbols.{nlist_at, symbol_place};
 ghost use Rattle.goblin_mach_c.specs.Fill.{Fills};
-ghost use Rattle.goblin_mach_c.specs.SymbolRows.{symbol_row, symbol_rows, symbol_rows_left};
+ghost use Rattle.goblin_mach_c.specs.SymbolRows.{named_row, symbol_row, symbol_rows, symbol_rows_left, table_in, text_code, unread_row};
 
 use crate::errors::{GM_OK, code_of};
 use crate::images::{ctx_of, gm_image};
+use crate::layout::from;
 use crate::rows::{Rows, fill};
-use mach_base::Result;
-use mach_symbols::symbols::{Nlist, SymbolIterator, Symbols};
+use mach_base::{Container, Ctx, Error, Record, Result, SizeWith, read_text};
+use mach_symbols::symbols::{Nlist, Nlist32, Nlist64, Symbols};
 
-/// A symbol. Its name stands at `name` in the bytes, and has `name_len` of them. Where `code` is not `GM_OK` it can't be
-/// read, and the rest is 0.
+/// A symbol. Its name stands at `name` in the bytes, and has `name_len` of them up to a zero. Where `code` is not `GM_OK` these are
+/// no text; or they begin past the end, and both numbers are 0; or the record can't be read, and all else is 0.
 #[derive(Clone, Copy)]
 #[repr(C)]
 pub struct gm_symbol {
@@ -25,37 +30,142 @@ pub struct gm_symbol {
     pub n_type: u8,
 }
 
-/// The symbols of an image as C sees them, one at a time.
-#[derive(Drop)]
-pub struct SymbolRows<'a> {
-    symbols: SymbolIterator<'a>,
+// The table that an image is said to have: how many symbols stand from a place on, and their names from another.
+#[derive(Clone, Copy)]
+struct Table<'a> {
+    bytes: &'a [u8],
+    start: usize,
+    count: usize,
     strtab: usize,
+    ctx: Ctx,
 }
 
-// A symbol of a table whose names count from a place.
-#[inline(always)]
-fn row_of(found: &Result<(&str, Nlist)>, strtab: usize) -> gm_symbol
-    ensures { result ≡ symbol_row strtab (symbol_read found.now) }
+/// The symbols of an image as C sees them, one at a time.
+#[derive(Clone, Copy)]
+pub struct SymbolRows<'a> {
+    table: Table<'a>,
+    next: usize,
+}
+
+// The record of a symbol at a place.
+fn record_at(bytes: &[u8], place: usize, ctx: Ctx) -> Result<Nlist>
+    ensures { Reads (λ symbol. symbol) result (nlist_at ctx bytes.now place) }
 {
-    match found {
-        Ok((name, symbol)) => gm_symbol {
-            value: symbol.n_value,
-            name: strtab.saturating_add(symbol.n_strx),
-            name_len: name.len(),
-            section: symbol.n_sect,
-            code: GM_OK,
-            desc: symbol.n_desc,
-            n_type: symbol.n_type,
-        },
-        Err(why) => gm_symbol {
-            value: 0,
-            name: 0,
-            name_len: 0,
-            section: 0,
-            code: code_of(why),
-            desc: 0,
-            n_type: 0,
-        },
+    match ctx.container {
+        Container::Little => Ok(Nlist::from(Nlist32::read(bytes, place, ctx.le)?)),
+        Container::Big => Ok(Nlist::from(Nlist64::read(bytes, place, ctx.le)?)),
+    }
+}
+
+// The bytes up to the first zero.
+fn before_zero(bytes: &[u8]) -> &[u8]
+    ensures { result.now ≡ before_first is_zero bytes.now }
+{
+    let len = bytes.iter().position(|b| *b == 0).unwrap_or(bytes.len());
+    &bytes[..len]
+}
+
+// How many bytes stand at a place before the first zero.
+fn run_len(bytes: &[u8], place: usize) -> usize
+    ensures { result ≡ length (run_at bytes.now place) }
+{
+    before_zero(from(bytes, place)).len()
+}
+
+// Whether a text stands at a place, or why none does.
+fn text_code(bytes: &[u8], place: usize) -> u32
+    ensures { result ≡ text_code (text_at bytes.now place) }
+{
+    match read_text(bytes, place) {
+        Ok(_) => GM_OK,
+        Err(why) => code_of(&why),
+    }
+}
+
+// Why the record of a symbol can't be read.
+fn refused_row(why: &Error) -> gm_symbol
+    ensures { result ≡ unread_row (fault_of why.now) }
+{
+    gm_symbol {
+        value: 0,
+        name: 0,
+        name_len: 0,
+        section: 0,
+        code: code_of(why),
+        desc: 0,
+        n_type: 0,
+    }
+}
+
+// A symbol whose name need not be a text, which begins at a place.
+fn row_of(bytes: &[u8], place: usize, symbol: &Nlist) -> gm_symbol
+    ensures { result ≡ named_row bytes.now place symbol.now }
+{
+    gm_symbol {
+        value: symbol.n_value,
+        name: if place < bytes.len() { place } else { 0 },
+        name_len: run_len(bytes, place),
+        section: symbol.n_sect,
+        code: text_code(bytes, place),
+        desc: symbol.n_desc,
+        n_type: symbol.n_type,
+    }
+}
+
+impl<'a> Table<'a> {
+    // Where the record of a symbol stands.
+    fn place(&self, index: usize) -> usize
+        ensures { result ≡ symbol_place (table_in self.now) index }
+    {
+        let before = index.saturating_mul(Nlist::size_with(&self.ctx));
+        self.start.saturating_add(before)
+    }
+
+    // A symbol whose name can't be read, or not even its record.
+    #[cold]
+    #[inline(never)]
+    fn unnamed_row(&self, index: usize) -> gm_symbol
+        ensures { result ≡ symbol_row (table_in self.now) index }
+    {
+        match record_at(self.bytes, self.place(index), self.ctx) {
+            Ok(symbol) => row_of(
+                self.bytes,
+                self.strtab.saturating_add(symbol.n_strx),
+                &symbol,
+            ),
+            Err(why) => refused_row(&why),
+        }
+    }
+
+    // A symbol as C sees it. The rare row is taken apart, so that no other one goes through memory.
+    #[inline(always)]
+    fn row(&self, index: usize) -> gm_symbol
+        ensures { result ≡ symbol_row (table_in self.now) index }
+    {
+        let symbols = Symbols::at(self.bytes, self.start, self.count, self.strtab, self.ctx);
+        match symbols.get(index) {
+            Ok((name, symbol)) => gm_symbol {
+                value: symbol.n_value,
+                name: self.strtab.saturating_add(symbol.n_strx),
+                name_len: name.len(),
+                section: symbol.n_sect,
+                code: GM_OK,
+                desc: symbol.n_desc,
+                n_type: symbol.n_type,
+            },
+            Err(_) => {
+                let row = self.unnamed_row(index);
+                gm_symbol {
+                    value: row.value,
+                    name: row.name,
+                    name_len: row.name_len,
+                    section: row.section,
+                    code: row.code,
+                    desc: row.desc,
+                    n_type: row.n_type,
+                }
+            }
+        }
     }
 }
 
@@ -66,8 +176,12 @@ impl<'a> Rows for SymbolRows<'a> {
 
     #[inline(always)]
     fn next(&mut self) -> Option<gm_symbol> {
-        let found = self.symbols.next()?;
-        Some(row_of(&found, self.strtab))
+        if self.next >= self.table.count {
+            return None;
+        }
+        let row = self.table.row(self.next);
+        self.next += 1;
+        Some(row)
     }
 }
 
@@ -76,18 +190,14 @@ impl<'a> Rows for SymbolRows<'a> {
 fn rows_from<'a>(bytes: &'a [u8], image: &gm_image, first: usize) -> SymbolRows<'a>
     ensures { symbol_rows_left result ≡ drop first (symbol_rows bytes.now image.now) }
 {
-    let strtab = image.names_at;
-    let symbols = Symbols::at(
+    let table = Table {
         bytes,
-        image.symbols_at,
-        image.symbols,
-        strtab,
-        ctx_of(image),
-    );
-    SymbolRows {
-        symbols: symbols.iter_from(first),
-        strtab,
-    }
+        start: image.symbols_at,
+        count: image.symbols,
+        strtab: image.names_at,
+        ctx: ctx_of(image),
+    };
+    SymbolRows { table, next: first }
 }
 
 /// Writes the symbols of an image from a number on, as many as there are and fit, and answers how many.

@@ -51,7 +51,8 @@ ExportsBegin bytes o found = OfImage bytes o (λ ctx cs.
 
 -- The image at 0 opens strictly, so that its segments have their data; its layout has no fault; the sections of all its segments, all its relocations
 -- and all its symbols can be read; its exports and its imports have lists; and all fixups of its chains are there, and all
--- that dyld binds of it.
+-- that dyld binds of it by the opcodes of the non-lazy and the lazy range and by chains. Nothing is said of rebase opcodes, of weak binds and of signatures but
+-- that their ranges lie where they may.
 pub record IsSoundImage (bytes : List ℕ) : Type 0 where
   pub opens : Opens bytes 0
   pub layout : HasLayoutFaults bytes []
@@ -63,7 +64,9 @@ pub record IsSoundImage (bytes : List ℕ) : Type 0 where
   pub fixups : (items : List (Result Fixup Fault)) × HasFixups bytes 0 items × IsTrue (are_all_ok items)
   pub bindings : (items : List (Result Binding Fault)) × HasBindings bytes 0 items × IsTrue (are_all_ok items)
 
--- A list of the image at 0 has more than so many items: one of those of its sections, its relocations, and so on.
+-- A list of the image at 0 has more than so many items: one of those of its sections, its relocations, and so on. The items of a list count with the
+-- fault that ends it. Of the exports so many at least come first, and behind them one more, or the trie's fault: no list is said here that has the fault as
+-- an item, so the bound is not strict there.
 pub data HasLongList (limit : ℕ) (bytes : List ℕ) : Type 0 where
   of_sections : (segments : List SegmentView) → HasSegments bytes 0 segments → limit < length (all_sections segments) → HasLongList limit bytes
   of_relocations : (items : List (Result RelocationInfo Fault)) → HasAllRelocations bytes 0 items → limit < length items → HasLongList limit bytes

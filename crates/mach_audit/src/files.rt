@@ -5,18 +5,19 @@ ghost use Rattle.std.specs.Prelude.{◌≡◌, ◌≤◌};
 use crate::options::Options;
 use crate::report::Failure;
 use crate::run::{Call, run, unwritten};
-use std::io::{BufRead, BufReader, Input, Write};
+use std::alloc::Allocator;
+use std::io::{BufRead, BufReader, BufWriter, Input, Write};
 use std::rt::Files;
 use std::{fs, io};
 
 /// Audits files, each of which is printed under its name where there are several, and answers the worst exit status of all: 0
 /// where each is sound; 1 where one isn't; 2 where one could not be read or audited, which `err` tells of, and where a write
 /// fails, which ends it. The name `-` stands for the names that standard input lists, one a line.
-pub fn run_files<R: Files + AllocGlobal + Input, O: Write, E: Write>(
+pub fn run_files<R: Files + AllocGlobal + Input, W: Write + Drop, B: Allocator, E: Write>(
     rt: &R,
     options: Options,
     names: &[String],
-    out: &mut O,
+    out: &mut BufWriter<W, B>,
     err: &mut E,
 ) -> u8 {
     match audit_names(rt, options, names, out, err) {
@@ -26,11 +27,11 @@ pub fn run_files<R: Files + AllocGlobal + Input, O: Write, E: Write>(
 }
 
 // The worst status of the files of these names; an error is a failed write.
-fn audit_names<R: Files + AllocGlobal + Input, O: Write, E: Write>(
+fn audit_names<R: Files + AllocGlobal + Input, W: Write + Drop, B: Allocator, E: Write>(
     rt: &R,
     options: Options,
     names: &[String],
-    out: &mut O,
+    out: &mut BufWriter<W, B>,
     err: &mut E,
 ) -> io::Result<u8> {
     let mut worst = 0u8;
@@ -53,10 +54,10 @@ fn audit_names<R: Files + AllocGlobal + Input, O: Write, E: Write>(
 }
 
 // The worst status of the files that standard input names.
-fn audit_listed<R: Files + AllocGlobal + Input, O: Write, E: Write>(
+fn audit_listed<R: Files + AllocGlobal + Input, W: Write + Drop, B: Allocator, E: Write>(
     rt: &R,
     options: Options,
-    out: &mut O,
+    out: &mut BufWriter<W, B>,
     err: &mut E,
 ) -> io::Result<u8> {
     let Ok(reader) = BufReader::new(rt.alloc(), rt.reader()) else {
@@ -79,10 +80,10 @@ fn audit_listed<R: Files + AllocGlobal + Input, O: Write, E: Write>(
 }
 
 /// The status of one file; an error is a failed write.
-pub fn audit_file<R: Files + AllocGlobal, O: Write, E: Write>(
+pub fn audit_file<R: Files + AllocGlobal, W: Write + Drop, B: Allocator, E: Write>(
     rt: &R,
     call: Call<'_>,
-    out: &mut O,
+    out: &mut BufWriter<W, B>,
     err: &mut E,
 ) -> io::Result<u8> {
     let bytes = match fs::read(rt, call.name) {

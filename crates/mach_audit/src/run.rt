@@ -1,6 +1,7 @@
 //! What the program prints, and its exit status.
 
-ghost use Rattle.std.specs.Prelude.{◌≡◌, ◌≤◌, ◌⊎◌, ◌++◌, IfOk, OnOk, codes};
+ghost use Rattle.std.specs.Prelude.{◌≡◌, ◌≤◌, ◌⊎◌, ◌++◌, [], IfOk, OnOk, codes};
+ghost use Rattle.std.specs.Io.Buffered.{writer_buffer, writer_contents};
 ghost use Rattle.std.specs.Io.KnownBytes.{Appends};
 ghost use Rattle.mach_audit.specs.Sound.{IsSound, IsLong};
 ghost use Rattle.mach_audit.specs.Verdicts.{status_of};
@@ -13,7 +14,7 @@ use crate::text::print_report;
 use crate::verdict::Verdict;
 use std::alloc::{Allocator, Global};
 use std::io;
-use std::io::Write;
+use std::io::{BufWriter, Write};
 
 /// How a file is reported.
 #[derive(Clone, Copy, Debug)]
@@ -27,17 +28,18 @@ pub struct Call<'a> {
 }
 
 /// Audits the bytes of a file, prints the report, and answers the exit status: 0 where the file is sound, 1 where it is not,
-/// or has more items than are gone over.
-pub fn run<A: Allocator + Clone, O: Write>(
+/// or has more items than are gone over. What is printed has left the buffer then.
+pub fn run<A: Allocator + Clone, W: Write + Drop, B: Allocator>(
     alloc: &A,
     json: Global,
     call: Call<'_>,
     bytes: &[u8],
-    out: &mut O,
+    out: &mut BufWriter<W, B>,
 ) -> Result<u8, Failure>
     ensures bounds { IfOk result (λ status. status ≤ 1) }
     ensures sound { IfOk result (λ status. status ≡ 0 → IsSound bytes.now) }
     ensures faulty { IfOk result (λ status. status ≡ 1 → (IsSound bytes.now → ⊥) ⊎ IsLong call.entry.options.limit bytes.now) }
+    ensures flushed { OnOk result (writer_buffer out.new ≡ []) }
 {
     let report = audit(alloc, bytes, call.options.limit)?;
     print(json, call, &report, out)?;
@@ -82,10 +84,15 @@ fn print<A: Allocator, O: Write>(
     Ok(())
 }
 
-/// Prints a line, and answers the exit status: 0; 2 where the write fails, and then `err` says so.
-pub fn run_line<O: Write, E: Write>(line: &str, out: &mut O, err: &mut E) -> u8
+/// Prints a line, and answers the exit status: 0; 2 where the write fails, and then `err` says so. At 0 it has left the buffer.
+pub fn run_line<W: Write + Drop, B: Allocator, E: Write>(
+    line: &str,
+    out: &mut BufWriter<W, B>,
+    err: &mut E,
+) -> u8
     ensures status { (result ≡ 0) ⊎ (result ≡ 2) }
-    ensures printed { result ≡ 0 → Appends (O.contents out.old) (O.contents out.new) (line.now ++ codes "\n") }
+    ensures printed { result ≡ 0 → Appends (writer_contents W.contents out.old) (writer_contents W.contents out.new) (line.now ++ codes "\n") }
+    ensures flushed { result ≡ 0 → writer_buffer out.new ≡ [] }
 {
     match print_line(line, out) {
         Ok(()) => 0,
@@ -94,8 +101,12 @@ pub fn run_line<O: Write, E: Write>(line: &str, out: &mut O, err: &mut E) -> u8
 }
 
 // Prints a line.
-fn print_line<O: Write>(line: &str, out: &mut O) -> io::Result<()>
-    ensures { OnOk result (Appends (O.contents out.old) (O.contents out.new) (line.now ++ codes "\n")) }
+fn print_line<W: Write + Drop, B: Allocator>(
+    line: &str,
+    out: &mut BufWriter<W, B>,
+) -> io::Result<()>
+    ensures printed { OnOk result (Appends (writer_contents W.contents out.old) (writer_contents W.contents out.new) (line.now ++ codes "\n")) }
+    ensures flushed { OnOk result (writer_buffer out.new ≡ []) }
 {
     writeln!(out, "{line}")?;
     out.flush()

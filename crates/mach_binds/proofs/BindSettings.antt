@@ -31,7 +31,7 @@ moved-bind pointer r back a b c e =
     ap (at_offset r back) same
 
 -- a stride counts modulo 2^64
-moved-mod : (s : ℕ) (b : Bind) → moved (s % 2 ^ 64) b ≡ moved s b
+pub moved-mod : (s : ℕ) (b : Bind) → moved (s % 2 ^ 64) b ≡ moved s b
 unfolding moved
 moved-mod s b = ap (λ n. record b { offset = n }) (mod-add_second b.offset s (2 ^ 64))
 

@@ -16,5 +16,7 @@ pub mod BindingRun
 pub mod BindingOpcodes
 pub mod BindingSet
 mod BindingReading
+mod Rings
+mod BindingTurns
 pub mod BindingLaws
 pub mod BindingImports

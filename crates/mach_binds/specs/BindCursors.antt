@@ -75,6 +75,13 @@ IsOver x lazy it = machine.IsOver x lazy it.stream
 abbrev pub IsOverBindings : Input → Range → OpcodeBindingIterator → Type 0
 IsOverBindings x lazy it = machine.IsOver x lazy it.stream
 
+-- it has ended: nothing is left, and it stays so
+abbrev pub HasEnded : BindIterator → Type 0
+HasEnded it = machine.HasEnded import_rules it.stream
+
+abbrev pub HasEndedBindings : OpcodeBindingIterator → Type 0
+HasEndedBindings it = machine.HasEnded binding_rules it.stream
+
 -- an import with its places, as it was read
 abbrev pub placed_read : Result PlacedImport Error → Result Import Fault
 placed_read (Ok p) = Ok (import_in p.import)

@@ -17,4 +17,6 @@ pub mod BindCut
 pub mod Bindings
 pub mod BindingsLeft
 pub mod RowsMove
+pub mod Turns
+pub mod BindingFaults
 pub mod BindingLaws

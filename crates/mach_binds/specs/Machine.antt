@@ -249,6 +249,11 @@ pub record IsAtEnd {M : Type 0} (it : Stream M) : Type 0 where
 abbrev pub IsMadeBy : {M A : Type 0} → Rules M A → Stream M → A → Type 0
 IsMadeBy u it i = (offset : ℕ) × (u.makes (input_of it.source) (record (bind_of it.state.settings) { offset = offset }) it.more ≡ Ok i)
 
+-- it has ended: nothing is left
+pub record HasEnded {M A : Type 0} (u : Rules M A) (it : Stream M) : Type 0 where
+  pub ended : it.state.ended ≡ true
+  pub left : items_left u it ≡ []
+
 -- it reads this, and knows where its name stands
 pub record IsOver {M : Type 0} (x : Input) (lazy : Range) (it : Stream M) : Type 0 where
   pub source : input_of it.source ≡ x

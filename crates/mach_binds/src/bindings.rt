@@ -1,6 +1,6 @@
 //! The bindings of bind opcodes, as dyld makes them, one at a time.
 
-ghost use Rattle.std.specs.Prelude.{◌≡◌, ◌+◌, ◌<◌, List, [], ◌∷◌, Ok, Err, IsErr, MatchOption, IfSome, IfOk, length, map, nat_le, bit_and};
+ghost use Rattle.std.specs.Prelude.{◌≡◌, ◌+◌, ◌<◌, List, [], ◌∷◌, Ok, Err, IsErr, MatchOption, IfOk, length, map, nat_le, bit_and};
 ghost use Rattle.std.specs.Iterator.{YieldsFirstBy};
 ghost use Rattle.mach_base.specs.Context.{pointer_size};
 ghost use Rattle.mach_base.specs.Fault.{malformed, fault_of};
@@ -15,6 +15,8 @@ ghost use Rattle.mach_segments.specs.Bindings.{provider_of, provider_view, bindi
 ghost use Rattle.mach_binds.specs.Bindings as defined;
 ghost use Rattle.mach_binds.specs.Bindings.{spot_of, is_complete, gives_ordinal, highest_opcode, opcode_at, done_leads_to, AreBindings};
 ghost use Rattle.mach_binds.specs.BindingsLeft.{ordinal_now, given_now, special_after, first_extra, extra_after, binding_rules, bindings_left};
+
+mod faults;
 
 use crate::bind_opcodes::*;
 use crate::imports::BindInterpreter;

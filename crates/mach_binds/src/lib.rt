@@ -5,3 +5,4 @@ pub mod bind_opcodes;
 pub mod bindings;
 pub mod imports;
 pub mod laws;
+mod turns;

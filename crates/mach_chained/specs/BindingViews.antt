@@ -1,5 +1,5 @@
 -- What an iterator over bindings has yet to give, and a list of them.
-use Rattle.std.specs.Prelude.{ℕ, suc, List, [], ◌∷◌, map, Result, Ok, Err, if◌then◌else◌}
+use Rattle.std.specs.Prelude.{◌≡◌, ℕ, suc, List, [], ◌∷◌, map, true, Result, Ok, Err, if◌then◌else◌}
 use Rattle.mach_base.specs.Fault.{Fault}
 use Rattle.mach_segments.specs.declared.binding.Binding as binding
 use Rattle.mach_segments.specs.Bindings.{Binding, binding_view, texts}
@@ -15,6 +15,11 @@ bindings_seen items = map binding_view items
 unfoldable pub bindings_left : ChainedBindIterator → List (Result Binding Fault)
 bindings_left it =
     if it.ended then [] else bindings_of (input_of it.fixups.source) (texts it.libs.now) (fixups_left it.fixups)
+
+-- it has ended: nothing is left, and it stays so
+pub record HasEndedBindings (it : ChainedBindIterator) : Type 0 where
+  pub ended : it.ended ≡ true
+  pub left : bindings_left it ≡ []
 
 -- how many of some items are fixups
 abbrev pub fixup_count : List (Result Fixup Fault) → ℕ

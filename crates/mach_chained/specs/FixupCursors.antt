@@ -1,10 +1,10 @@
 -- How far the walk along chains has come, as numbers.
-use Rattle.std.specs.Prelude.{◌≡◌, ◌==◌, ℕ, List, Bool, not, Some, None, Result, if◌then◌else◌}
+use Rattle.std.specs.Prelude.{◌≡◌, ◌==◌, ℕ, List, [], Bool, true, not, Some, None, Result, if◌then◌else◌}
 use Rattle.mach_base.specs.Fault.{Fault}
 use Rattle.mach_segments.specs.Bindings.{Binding}
 use Rattle.mach_chained.specs.Bindings.{bindings_of}
 use Rattle.mach_chained.specs.Fixups.{Input, Span, Fixup, no_ends, span_at}
-use Rattle.mach_chained.specs.FixupsLeft.{items_of}
+use Rattle.mach_chained.specs.FixupsLeft.{items_of, fixups_left}
 use Rattle.mach_chained.specs.Opened.{IsKnown, nothing_opened, span_or_nothing}
 use Rattle.mach_chained.specs.WalkViews.{input_of, span_view}
 use Rattle.mach_chained.specs.declared.cursor.FixupCursor.{FixupCursor}
@@ -38,6 +38,11 @@ bindings_behind x libs c = bindings_of x libs (fixups_behind x c)
 pub record IsOver (x : Input) (it : FixupIterator) : Type 0 where
   pub source : input_of it.source ≡ x
   pub known : IsKnown (input_of it.source) it.opened (span_view it.span)
+
+-- it has ended: nothing is left, and it stays so
+pub record HasEnded (it : FixupIterator) : Type 0 where
+  pub ended : it.ended ≡ true
+  pub left : fixups_left it ≡ []
 
 -- it knows its segment if it did
 abbrev pub KeepsSpan : FixupIterator → FixupIterator → Type 0

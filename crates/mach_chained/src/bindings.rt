@@ -1,6 +1,6 @@
 //! The bindings of an image whose binds stand in chains.
 
-ghost use Rattle.std.specs.Prelude.{◌≡◌, ◌+◌, ◌≤◌, ◌+ℤ◌, [], List, length, map, Option, Some, None, IfOk, IfErr, IfNone, IfSome, OnOk, MatchOption};
+ghost use Rattle.std.specs.Prelude.{◌≡◌, ◌+◌, ◌≤◌, ◌+ℤ◌, [], List, length, map, Option, Some, None, IfOk, IfErr, IfNone, IfSome, OnOk, OnErr, MatchOption};
 ghost use Rattle.std.specs.Iterator.{YieldsFirstBy};
 ghost use Rattle.mach_base.specs.Answer.{Reads, Stands, IsOkUnlessMemory};
 ghost use Rattle.mach_base.specs.Fault.{Fault};
@@ -11,7 +11,7 @@ ghost use Rattle.mach_chained.specs.WalkViews.{input_of, input_in, fixup_view};
 ghost use Rattle.mach_segments.specs.Segment.{segment_view};
 ghost use Rattle.mach_segments.specs.Bindings as declared;
 ghost use Rattle.mach_segments.specs.Bindings.{texts, binding_view, binding_read};
-ghost use Rattle.mach_chained.specs.BindingViews.{bindings_seen, bindings_left, pointers_left};
+ghost use Rattle.mach_chained.specs.BindingViews.{bindings_seen, bindings_left, pointers_left, HasEndedBindings};
 
 use crate::fixups::FixupIterator;
 use crate::header::ChainedFixups;
@@ -221,7 +221,8 @@ impl<'a> ChainedFixups<'a> {
 impl<'a> ChainedBindIterator<'a, '_> {
     // Ends.
     fn end(&mut self)
-        ensures { bindings_left self.new ≡ [] }
+        ensures items { bindings_left self.new ≡ [] }
+        ensures ended { HasEndedBindings self.new }
     {
         self.ended = true;
     }
@@ -230,6 +231,8 @@ impl<'a> ChainedBindIterator<'a, '_> {
     #[inline(always)]
     fn step(&mut self, steps: &mut Steps) -> Option<Result<Binding<'a>>>
         ensures items { YieldsFirstBy binding_read bindings_left self.old result self.new }
+        ensures end { IfNone result (HasEndedBindings self.new) }
+        ensures fault { IfSome result (λ item. OnErr item (HasEndedBindings self.new)) }
         ensures none { IfNone result (steps.new ≡ steps.old + pointers_left self.old) }
         ensures reads { IfSome result (λ item. OnOk item
             (steps.new + pointers_left self.new ≡ steps.old + pointers_left self.old)) }
@@ -241,7 +244,10 @@ impl<'a> ChainedBindIterator<'a, '_> {
         }
         'fixups: loop {
             let fixup = match self.fixups.step(steps) {
-                None => return None,
+                None => {
+                    self.end();
+                    return None;
+                }
                 Some(Ok(fixup)) => fixup,
                 Some(Err(e)) => {
                     self.end();

@@ -1,6 +1,6 @@
 -- Facts on bytes, and the image that was opened there.
 use Rattle.std.proofs.Common.{◌≡◌, ℕ, ◌+◌, List, Option, Result, Ok, refl, sym, ap, subst, ◌∙◌}
-use Rattle.std.specs.Prelude.{◌↔◌}
+use Rattle.std.specs.Prelude.{◌↔◌, option_map}
 use Rattle.mach_base.specs.declared.context.Ctx.{Ctx}
 use Rattle.mach_base.specs.Context.{pointer_size}
 use Rattle.mach_base.specs.Fault.{Fault}
@@ -9,6 +9,8 @@ use Rattle.mach_load.specs.Command.{Command}
 use Rattle.mach_headers.specs.Header.{header_size}
 use Rattle.mach_segments.specs.Bindings.{Binding}
 use Rattle.mach_segments.specs.Segment.{SegmentView}
+use Rattle.mach_symbols.specs.SymbolViews.{table_of}
+use Rattle.mach_symbols.specs.Symbols.{SymbolTable}
 use Rattle.mach_symbols.specs.declared.symbols.nlist.Nlist.{Nlist}
 use Rattle.mach_tries.specs.Exports.{text_in}
 use Rattle.mach_base.specs.Text.{texts}
@@ -22,7 +24,7 @@ use Rattle.mach_image.specs.Facts.{OfImage, HasCommands, HasSymbols, HasSegments
 use Rattle.mach_image.specs.Facts.{HasExports, HasExportsFault, HasImports, HasImportsFault, HasImportItems}
 use Rattle.mach_image.specs.Image.{LossyOpensAs}
 use Rattle.mach_image.specs.Bindings.{AreImageBindings}
-use Rattle.mach_image.specs.Facts.{HasLibrariesByKind, HasExportOf, HasChainedFixups, HasBase, HasFixups, HasBindings}
+use Rattle.mach_image.specs.Facts.{HasLibrariesByKind, HasSymbolTable, HasExportOf, HasChainedFixups, HasBase, HasFixups, HasBindings}
 use Rattle.mach_image.specs.Fixups.{AreImageFixups, base_held, base_of, chained_held, chained_in}
 use Rattle.mach_image.specs.Libraries.{LibraryView, libraries_in}
 use Rattle.mach_image.specs.LookUp.{StandsInImage}
@@ -92,6 +94,9 @@ module _ {A : Type 0} (bytes : List ℕ) (o : ℕ) (m : MachO A) (p : IsLossyIma
 
   pub symbols_are : (rows : List (Result (List ℕ × Nlist) Fault)) → HasSymbols bytes o rows ↔ (rows ≡ symbols_held m.symbols)
   symbols_are rows = facts_are (λ f. rows ≡ symbols_in f.symbols)
+
+  pub symbol_table_is : (table : Option SymbolTable) → HasSymbolTable bytes o table ↔ (table ≡ option_map table_of m.symbols)
+  symbol_table_is table = facts_are (λ f. table ≡ f.symbols)
 
   pub segments_are : (segments : List SegmentView) → HasSegments bytes o segments ↔ (segments ≡ segments_held m)
   segments_are segments = facts_are (λ f. segments ≡ f.segments)

@@ -1,10 +1,11 @@
 -- Where an image begins to run (`mach-o/loader.h`, struct entry_point_command and thread_command; dyld).
-use Rattle.std.specs.Prelude.{◌≡◌, ◌⊎◌, ℕ, ◌+◌, ◌-◌, ◌^◌, List, [], ◌∷◌, ◌++◌, codes, nat_eq, nat_le, nat_lt, Bool, true, false, ◌&&◌, Option, Some}
+use Rattle.std.specs.Prelude.{◌≡◌, ◌⊎◌, ℕ, ◌+◌, ◌-◌, ◌^◌, List, codes, nat_le, nat_lt, Bool, true, false, ◌&&◌, Option, Some}
 use Rattle.std.specs.Prelude.{None, option_map, Result, Ok, Err, if◌then◌else◌}
-use Rattle.std.specs.List.{starts_with}
+use Rattle.std.specs.Str.{bytes_eq}
 use Rattle.mach_base.specs.Answer.{◌>>=◌}
 use Rattle.mach_base.specs.Fault.{Fault, malformed}
 use Rattle.mach_base.specs.Record.{Value, number_among, bytes_among}
+use Rattle.mach_base.specs.Text.{text_at}
 use Rattle.mach_load.specs.Command.{Command}
 use Rattle.mach_load.specs.Commands.{Kind, main, segment32, segment64, unixthread}
 use Rattle.mach_load.specs.ThreadState.{pointer_in, state_words}
@@ -28,9 +29,14 @@ thread_of _ values = None
 abbrev pub pointer_by : ℕ → Reading ℕ
 pointer_by cputype c = option_map (λ words. pointer_in words cputype) (thread_of c.kind c.values)
 
--- whether a name begins with "__TEXT" and a zero byte
+-- whether a name can be read and is __TEXT
+abbrev pub is_text : Result (List ℕ) Fault → Bool
+is_text (Ok name) = bytes_eq name (codes "__TEXT")
+is_text (Err f) = false
+
+-- whether that is the name in the field of a segment: its text up to the first zero byte, all of it where there is none
 abbrev pub is_text_name : List ℕ → Bool
-is_text_name segname = starts_with nat_eq segname (codes "__TEXT" ++ 0 ∷ [])
+is_text_name segname = is_text (text_at segname 0)
 
 -- the mapping of a segment, in either width, where it is one of the program's text
 abbrev pub text_among : List Value → Option Mapping

@@ -5,6 +5,7 @@ use Rattle.mach_base.specs.Fault.{Fault}
 use Rattle.mach_base.specs.declared.context.Ctx.{Ctx}
 use Rattle.mach_load.specs.Command.{Command}
 use Rattle.mach_segments.specs.Segment.{SegmentView}
+use Rattle.mach_symbols.specs.Symbols.{SymbolTable}
 use Rattle.mach_symbols.specs.declared.symbols.nlist.Nlist.{Nlist}
 use Rattle.mach_binds.specs.Imports.{Import}
 use Rattle.mach_tries.specs.Trie as trie
@@ -37,6 +38,10 @@ HasCommands bytes o commands = OfImage bytes o (λ ctx cs. commands ≡ cs)
 -- its symbols: those of its last table, each with its name or why one of them is missing
 abbrev pub HasSymbols : List ℕ → ℕ → List (Result (List ℕ × Nlist) Fault) → Type 0
 HasSymbols bytes o rows = OfImage bytes o (λ ctx cs. rows ≡ symbols_in (table_in ctx bytes cs))
+
+-- its last table of symbols, if it has one
+abbrev pub HasSymbolTable : List ℕ → ℕ → Option SymbolTable → Type 0
+HasSymbolTable bytes o table = OfImage bytes o (λ ctx cs. table ≡ table_in ctx bytes cs)
 
 -- its segments, in the order of their commands; data that are not in the bytes are empty
 abbrev pub HasSegments : List ℕ → ℕ → List SegmentView → Type 0

@@ -1,8 +1,7 @@
 -- The chained fixups of an image: where its commands place their data (`mach-o/loader.h`, LC_DYLD_CHAINED_FIXUPS), the
 -- address that they count from (dyld), and its fixups in order (`mach-o/fixup-chains.h`).
-use Rattle.std.specs.Prelude.{◌≡◌, ℕ, List, [], ◌∷◌, ◌++◌, replicate, codes, nat_eq, Bool, filter, Option, Some, None, option_map, unwrap_or}
+use Rattle.std.specs.Prelude.{◌≡◌, ℕ, List, [], ◌∷◌, Bool, filter, Option, Some, None, option_map, unwrap_or}
 use Rattle.std.specs.Prelude.{Result, Ok, Err}
-use Rattle.std.specs.List.{starts_with}
 use Rattle.mach_base.specs.Answer.{◌>>=◌}
 use Rattle.mach_base.specs.Fault.{Fault}
 use Rattle.mach_base.specs.Record.{Value, number_among}
@@ -16,6 +15,7 @@ use Rattle.mach_chained.specs.Fixups.{Input, Fixup}
 use Rattle.mach_chained.specs.Header.{Fixups, fixups_at}
 use Rattle.mach_chained.specs.Views.{fixups_view}
 use Rattle.mach_chained.specs.declared.header.ChainedFixups.{ChainedFixups}
+use Rattle.mach_image.specs.EntryPoint.{is_text_name}
 use Rattle.mach_image.specs.Readings.{Reading, read_of, first_of, last_of}
 use Rattle.mach_image.specs.OpenImage.{bytes_held, commands_held, ctx_held, segments_held}
 use Rattle.mach_image.specs.declared.macho.MachO.{MachO}
@@ -46,9 +46,9 @@ chained_in ctx bytes cs = chained_at ctx.le bytes (chained_place_in cs)
 
 -- ---- what they count from
 
--- the name is __TEXT, with zeros behind it
+-- the name is __TEXT
 abbrev pub is_text_segment : SegmentView → Bool
-is_text_segment s = starts_with nat_eq s.command.segname (codes "__TEXT" ++ replicate 10 0)
+is_text_segment s = is_text_name s.command.segname
 
 -- the address of an image's first byte in memory: that of the first segment named __TEXT, or 0
 unfoldable pub base_of : List SegmentView → ℕ

@@ -7,7 +7,7 @@ ghost use Rattle.mach_image.specs.EntryPoint.{address_in, main_address, main_by,
 ghost use Rattle.mach_image.specs.Readings.{AllRead};
 
 use crate::readings::{Subject, first_read, first_readable};
-use mach_base::{Error, Result};
+use mach_base::{Error, Result, read_text};
 use mach_load::{CommandVariant, LoadCommand};
 
 /// Where a segment is mapped.
@@ -30,11 +30,21 @@ impl Mapping {
     }
 }
 
+/// Whether the name in the field of a segment is `__TEXT`: the text up to the first zero byte.
+pub fn is_text(segname: &[u8; 16]) -> bool
+    ensures { result ≡ is_text_name segname.now }
+{
+    match read_text(segname, 0) {
+        Ok(name) => name == "__TEXT",
+        Err(_) => false,
+    }
+}
+
 // The mapping of a segment of the program's text, if it is one.
 fn text_mapping(segname: &[u8; 16], vmaddr: u64, fileoff: u64) -> Option<Mapping>
     ensures { result ≡ (if is_text_name segname.now then Some (record { vmaddr = vmaddr; fileoff = fileoff }) else None) }
 {
-    if segname.starts_with(b"__TEXT\0") {
+    if is_text(segname) {
         Some(Mapping { vmaddr, fileoff })
     } else {
         None

@@ -2,7 +2,7 @@
 //! its fields and lists is what the bytes say, and nothing else is. An image in any memory is meant, so
 //! each law is a function of one.
 
-ghost use Rattle.std.specs.Prelude.{◌≡◌, ◌↔◌, ℕ, List, Option, Result};
+ghost use Rattle.std.specs.Prelude.{◌≡◌, ◌↔◌, ℕ, List, Option, Result, option_map};
 ghost use Rattle.mach_base.specs.Context.{pointer_size};
 ghost use Rattle.mach_base.specs.Fault.{Fault};
 ghost use Rattle.mach_load.specs.Command.{Command};
@@ -23,7 +23,9 @@ ghost use Rattle.mach_tries.specs.TrieRange.{ListsExports, ExportsFault};
 ghost use Rattle.mach_image.specs.Subjects.{ListsImageImports, ImageImportsFault, AreImageBindItems, ListsImageExports, ImageExportsFault, trie_or_empty, symbols_held};
 ghost use Rattle.mach_image.specs.OpenImage.{IsImage, IsLossyImage, commands_held, segments_held, trie_held, binds_held, ctx_held, bytes_held};
 ghost use Rattle.mach_image.specs.Relocations.{RelocatedSection, relocated_sections_in};
-ghost use Rattle.mach_image.specs.Facts.{HasLibrariesByKind, HasExportOf};
+ghost use Rattle.mach_image.specs.Facts.{HasLibrariesByKind, HasExportOf, HasSymbolTable};
+ghost use Rattle.mach_symbols.specs.Symbols.{SymbolTable};
+ghost use Rattle.mach_symbols.specs.SymbolViews.{table_of};
 ghost use Rattle.mach_image.specs.ImageFacts.{HasFacts, facts_held};
 ghost use Rattle.mach_image.specs.Libraries.{LibraryView, libraries_in};
 ghost use Rattle.mach_image.specs.LookUp.{StandsInImage};
@@ -46,6 +48,14 @@ pub fn commands_of_image<A: Allocator>(image: &MachO<'_, A>)
 pub fn symbols_of_image<A: Allocator>(image: &MachO<'_, A>)
     ensures strict { (bytes : List ℕ) (o : ℕ) → IsImage bytes o image.now → (rows : List (Result (List ℕ × Nlist) Fault)) → HasSymbols bytes o rows ↔ (rows ≡ symbols_held image.now.symbols) }
     ensures lossy { (bytes : List ℕ) (o : ℕ) → IsLossyImage bytes o image.now → (rows : List (Result (List ℕ × Nlist) Fault)) → HasSymbols bytes o rows ↔ (rows ≡ symbols_held image.now.symbols) }
+{}
+
+/// The table of symbols that an image holds is that of the bytes.
+pub fn symbol_table_of_image<A: Allocator>(image: &MachO<'_, A>)
+    ensures strict { (bytes : List ℕ) (o : ℕ) → IsImage bytes o image.now → (table : Option SymbolTable)
+        → HasSymbolTable bytes o table ↔ (table ≡ option_map table_of image.now.symbols) }
+    ensures lossy { (bytes : List ℕ) (o : ℕ) → IsLossyImage bytes o image.now → (table : Option SymbolTable)
+        → HasSymbolTable bytes o table ↔ (table ≡ option_map table_of image.now.symbols) }
 {}
 
 /// The segments that an image holds are those of the bytes.

@@ -14,6 +14,7 @@ ghost use Rattle.mach_image.specs.Fixups.{chained_place_by, chained_place_in, ch
 ghost use Rattle.mach_image.specs.FixupsLeft.{fixups_left};
 ghost use Rattle.mach_image.specs.Readings.{read_of, last_of};
 
+use crate::entry::is_text;
 use crate::readings::{Subject, put_readable};
 use mach_base::{Endian, Error, Result};
 use mach_chained::{ChainedFixups, Fixup};
@@ -82,7 +83,7 @@ pub fn base_of(segments: &[Segment<'_>]) -> u64
     ensures { result ≡ defined.base_of (map segment_view segments.now) }
 {
     for segment in segments {
-        if segment.segname.starts_with(b"__TEXT\0\0\0\0\0\0\0\0\0\0") {
+        if is_text(&segment.segname) {
             return segment.vmaddr;
         }
     }

@@ -1,10 +1,11 @@
 -- The rule of what dyld binds by opcodes (`mach-o/loader.h`, the constants BIND_OPCODE): the non-lazy stream and the lazy one, as `MachO::opcode_bindings`
 -- goes over them, have no fault; an ordinal above the libraries is one.
-use Rattle.std.specs.Prelude.{◌≡◌, List, [], ◌∷◌, Bool, true, false, Result, Ok, Err, if◌then◌else◌}
+use Rattle.std.specs.Prelude.{◌≡◌, List, [], ◌∷◌, Result, if◌then◌else◌}
 use Rattle.mach_base.specs.Context.{pointer_size}
 use Rattle.mach_base.specs.Fault.{Fault}
 use Rattle.mach_base.specs.Text.{texts}
 use Rattle.mach_segments.specs.Bindings.{Binding}
+use Rattle.mach_binds.specs.BindingFaults.{has_fault}
 use Rattle.mach_image.specs.Bindings.{AreOpcodeBindings}
 use Rattle.mach_image.specs.OpenImage.{binds_held, ctx_held, segments_held}
 use Rattle.mach_image.specs.declared.macho.MachO.{MachO}
@@ -12,12 +13,6 @@ use Rattle.mach_rules.specs.Binds.{binds_fault}
 use Rattle.mach_rules.specs.Laid.{Laid}
 use Rattle.mach_rules.specs.declared.fault.LayoutFault.{LayoutFault}
 use Rattle.mach_layout.specs.Held.{laid_held}
-
--- a fault stands among some bindings
-abbrev pub has_fault : List (Result Binding Fault) → Bool
-has_fault [] = false
-has_fault (Ok b ∷ items) = has_fault items
-has_fault (Err f ∷ items) = true
 
 -- what is told of them
 abbrev pub binds_told : Laid → List (Result Binding Fault) → List LayoutFault

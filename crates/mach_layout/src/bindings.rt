@@ -15,18 +15,6 @@ use mach_image::macho::MachO;
 use mach_rules::{Layout, LayoutFault, binds_fault};
 use std::alloc::Allocator;
 
-// Whether a fault stands among some bindings.
-fn has_fault(bindings: OpcodeBindingIterator<'_, '_>) -> bool
-    ensures { result ≡ defined.has_fault (bindings_left bindings.entry) }
-{
-    'bindings: for binding in bindings {
-        if binding.is_err() {
-            return true;
-        }
-    }
-    false
-}
-
 // What is told of some bindings.
 fn binds_told(
     layout: &Layout<'_, '_>,
@@ -34,7 +22,7 @@ fn binds_told(
 ) -> Option<LayoutFault>
     ensures { cons_option result [] ≡ defined.binds_told (laid_of layout.now) (bindings_left bindings.entry) }
 {
-    if !has_fault(bindings) {
+    if !bindings.has_fault() {
         return None;
     }
     Some(binds_fault(layout))

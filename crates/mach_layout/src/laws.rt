@@ -11,7 +11,7 @@ ghost use Rattle.mach_rules.specs.declared.claim.Claim.{Claim};
 ghost use Rattle.mach_rules.specs.declared.fault.LayoutFault.{LayoutFault};
 
 use mach_image::macho::MachO;
-pub use mach_rules::laws::one_list_of_container_faults;
+pub use mach_rules::laws::{one_list_of_container_faults, shared_are_claims, shared_are_ranges};
 use std::alloc::Allocator;
 
 /// The claims that `claims` gives are those of the bytes.

@@ -9,5 +9,6 @@ pub mod Notes
 pub mod Noting
 pub mod Pushed
 pub mod Found
+pub mod Firsts
 pub mod Printed
 pub mod Reports

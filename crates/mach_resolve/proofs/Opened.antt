@@ -1,5 +1,5 @@
 -- A program that was opened, and what it says.
-use Rattle.std.proofs.Common.{◌≡◌, ◌∙◌, ℕ, Bool, List, Option, Result, Ok, map, unwrap_or, ap}
+use Rattle.std.proofs.Common.{◌≡◌, ◌∙◌, ℕ, Bool, List, Option, Result, unwrap_or, ap}
 use Rattle.mach_base.specs.Fault.{Fault}
 use Rattle.mach_segments.specs.Bindings.{Binding}
 use Rattle.mach_image.specs.Facts.{OfImage, HasName, HasLibrariesByKind, HasBindings}
@@ -26,10 +26,10 @@ opens_as : {A : Type 0} (bytes : List ℕ) (m : MachO A) → IsImage bytes 0 m �
 opens_as bytes m is = (is.ctx, commands_held m, is.opens)
 
 -- the program whose image was opened
-pub is_program : {A : Type 0} (g : Given) (m : MachO A) (p : Program) (bindings : List Binding) (own : Option (List ℕ)) (libraries : List LibraryView)
+pub is_program : {A : Type 0} (g : Given) (m : MachO A) (p : Program) (items : List (Result Binding Fault)) (own : Option (List ℕ)) (libraries : List LibraryView)
     → IsImage g.bytes 0 m → p.name ≡ unwrap_or own g.path → HasName g.bytes 0 own → p.may_be_absent ≡ may_be_absent libraries
-    → HasLibrariesByKind g.bytes 0 libraries → HasBindings g.bytes 0 (map (λ b. Ok b) bindings) → IsProgram g p bindings
-is_program g m p bindings own libraries is name has absences are all = record {
+    → HasLibrariesByKind g.bytes 0 libraries → HasBindings g.bytes 0 items → IsProgram g p items
+is_program g m p items own libraries is name has absences are all = record {
   opens = opens_as g.bytes m is;
   name = name_said g.bytes g.path p.name own name has;
   absences = absences_said g.bytes p.may_be_absent libraries absences are;
@@ -37,8 +37,8 @@ is_program g m p bindings own libraries is name has absences are all = record {
 }
 
 -- a fault that stands where the bindings of an opened program are answered stands in the program or in a trie
-pub more_faults : {A : Type 0} (p : Given) (ls : List Given) (m : MachO A) (all : Gathered) → GathersAll p ls all
-    → ((items : List (Result Binding Fault)) → HoldsItems m items → HasBindings p.bytes 0 items) → (n : ℕ) (f : Fault) → AnswerFault all.files m n f
-    → ResolveFault p ls n f
-more_faults p ls m all gathered stand n f (of_bindings bindings rest holds) = of_bindings bindings rest (stand _ holds)
-more_faults p ls m all gathered stand n f (of_trie stands) = of_trie all gathered stands
+pub more_faults : {A : Type 0} (limit : ℕ) (p : Given) (ls : List Given) (m : MachO A) (all : Gathered) → GathersAll p ls all
+    → ((items : List (Result Binding Fault)) → HoldsItems m items → HasBindings p.bytes 0 items) → (n : ℕ) (f : Fault) → AnswerFault limit all.files m n f
+    → ResolveFault limit p ls n f
+more_faults limit p ls m all gathered stand n f (of_bindings bindings rest holds within) = of_bindings bindings rest (stand _ holds) within
+more_faults limit p ls m all gathered stand n f (of_trie stands) = of_trie all gathered stands

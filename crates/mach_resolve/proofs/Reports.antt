@@ -24,12 +24,12 @@ use Rattle.mach_resolve.proofs.Notes.{stands_more, tells_more}
 use Rattle.mach_resolve.proofs.Steps.{told}
 
 -- the outcome for a failure to resolve
-pub refused_outcome : {A : Type 0} (p : Given) (ls : List Given) (x : Failure) (r : Result (Outcome A) Failure) → IsFailure (ResolveFault p ls) x → IsRefusal x r
-    → IfOk r (λ o. IsOutcome p ls (outcome_seen o))
-refused_outcome p ls x (Ok (Refused file e)) stands is = fault file e (subst (IsFailure (ResolveFault p ls)) is stands)
-refused_outcome p ls x (Ok Archive) stands is = absurd is
-refused_outcome p ls x (Ok (Answered resolved)) stands is = absurd is
-refused_outcome p ls x (Err kept) stands is = tt
+pub refused_outcome : {A : Type 0} (n : ℕ) (p : Given) (ls : List Given) (x : Failure) (r : Result (Outcome A) Failure) → IsFailure (ResolveFault n p ls) x → IsRefusal x r
+    → IfOk r (λ o. IsOutcome n p ls (outcome_seen o))
+refused_outcome n p ls x (Ok (Refused file e)) stands is = fault file e (subst (IsFailure (ResolveFault n p ls)) is stands)
+refused_outcome n p ls x (Ok Archive) stands is = absurd is
+refused_outcome n p ls x (Ok (Answered resolved)) stands is = absurd is
+refused_outcome n p ls x (Err kept) stands is = tt
 
 number_told : (Q : Fault → Type 0) (n : ℕ) (e : Error) → Tells (NumberedFault 0 Q n) e → (n ≡ 0) × Tells Q e
 number_told Q n (Malformed msg) t = t
@@ -58,34 +58,34 @@ program_refused Q e x o same stands is =
     (subst (IsFailure (NumberedFault 0 Q)) (sym same) (told (NumberedFault 0 Q) 0 e (stands_more Q (NumberedFault 0 Q 0) e (λ f s. (refl, s)) stands))) is
 
 -- a file that doesn't open, whatever is wanted of it
-pub file_refused : (p : Given) (ls : List Given) (wanted : Option ℕ) (o : report.Outcome) → IsRefusedBy (MachFault ImageFault p.bytes) o
-    → IsReport p ls wanted (report.one o)
-file_refused p ls None o by =
-    subst (λ (x : report.Outcome). IsReport p ls None (report.one x)) (sym by.is)
+pub file_refused : (n : ℕ) (p : Given) (ls : List Given) (wanted : Option ℕ) (o : report.Outcome) → IsRefusedBy (MachFault ImageFault p.bytes) o
+    → IsReport n p ls wanted (report.one o)
+file_refused n p ls None o by =
+    subst (λ (x : report.Outcome). IsReport n p ls None (report.one x)) (sym by.is)
     (unopened by.error (tells_more (MachFault ImageFault p.bytes) (ProgramFault p.bytes) by.error (λ f s. of_file s) by.tells))
-file_refused p ls (Some c) o by =
-    subst (λ (x : report.Outcome). IsReport p ls (Some c) (report.one x)) (sym by.is)
+file_refused n p ls (Some c) o by =
+    subst (λ (x : report.Outcome). IsReport n p ls (Some c) (report.one x)) (sym by.is)
     (unfound c by.error (tells_more (MachFault ImageFault p.bytes) (ForFault p.bytes c) by.error (λ f s. cpu.of_file s) by.tells))
 
-pub table_refused : (p : Given) (ls : List Given) (o : report.Outcome) → IsRefusedBy (ProgramFault p.bytes) o → IsReport p ls None (report.one o)
-table_refused p ls o by = subst (λ (x : report.Outcome). IsReport p ls None (report.one x)) (sym by.is) (unopened by.error by.tells)
+pub table_refused : (n : ℕ) (p : Given) (ls : List Given) (o : report.Outcome) → IsRefusedBy (ProgramFault p.bytes) o → IsReport n p ls None (report.one o)
+table_refused n p ls o by = subst (λ (x : report.Outcome). IsReport n p ls None (report.one x)) (sym by.is) (unopened by.error by.tells)
 
-pub search_refused : (p : Given) (ls : List Given) (c : ℕ) (o : report.Outcome) → IsRefusedBy (ForFault p.bytes c) o → IsReport p ls (Some c) (report.one o)
-search_refused p ls c o by = subst (λ (x : report.Outcome). IsReport p ls (Some c) (report.one x)) (sym by.is) (unfound c by.error by.tells)
+pub search_refused : (n : ℕ) (p : Given) (ls : List Given) (c : ℕ) (o : report.Outcome) → IsRefusedBy (ForFault p.bytes c) o → IsReport n p ls (Some c) (report.one o)
+search_refused n p ls c o by = subst (λ (x : report.Outcome). IsReport n p ls (Some c) (report.one x)) (sym by.is) (unfound c by.error by.tells)
 
 -- an entry that is no archive
-pub entry_image : (path slice bytes : List ℕ) (ls : List Given) (o : report.Outcome) → slice ≡ bytes → begins_archive slice ≡ false
-    → IsOutcome (record { path = path; bytes = slice }) ls o → IsEntryOutcome (record { path = path; bytes = bytes }) ls o
-entry_image path slice bytes ls o same off is =
-    subst (λ (b : List ℕ). IsEntryOutcome (record { path = path; bytes = b }) ls o) same (an_image o off is)
+pub entry_image : (n : ℕ) (path slice bytes : List ℕ) (ls : List Given) (o : report.Outcome) → slice ≡ bytes → begins_archive slice ≡ false
+    → IsOutcome n (record { path = path; bytes = slice }) ls o → IsEntryOutcome n (record { path = path; bytes = bytes }) ls o
+entry_image n path slice bytes ls o same off is =
+    subst (λ (b : List ℕ). IsEntryOutcome n (record { path = path; bytes = b }) ls o) same (an_image o off is)
 
 -- one image, of all that a file has, or for its cpu
-pub one_of_all : (p : Given) (ls : List Given) (c : ℕ) (r : report.Report) → IsOfCpu p.bytes c → IsOneOf (IsOutcome p ls) r → IsReport p ls None r
-one_of_all p ls c (report.one o) cpu is = image c o cpu is
-one_of_all p ls c (report.entries os) cpu is = absurd is
-one_of_all p ls c (report.nothing other) cpu is = absurd is
+pub one_of_all : (n : ℕ) (p : Given) (ls : List Given) (c : ℕ) (r : report.Report) → IsOfCpu p.bytes c → IsOneOf (IsOutcome n p ls) r → IsReport n p ls None r
+one_of_all n p ls c (report.one o) cpu is = image c o cpu is
+one_of_all n p ls c (report.entries os) cpu is = absurd is
+one_of_all n p ls c (report.nothing other) cpu is = absurd is
 
-pub one_of_cpu : (p : Given) (ls : List Given) (c : ℕ) (r : report.Report) → IsOfCpu p.bytes c → IsOneOf (IsOutcome p ls) r → IsReport p ls (Some c) r
-one_of_cpu p ls c (report.one o) cpu is = image_of_cpu c o cpu is
-one_of_cpu p ls c (report.entries os) cpu is = absurd is
-one_of_cpu p ls c (report.nothing other) cpu is = absurd is
+pub one_of_cpu : (n : ℕ) (p : Given) (ls : List Given) (c : ℕ) (r : report.Report) → IsOfCpu p.bytes c → IsOneOf (IsOutcome n p ls) r → IsReport n p ls (Some c) r
+one_of_cpu n p ls c (report.one o) cpu is = image_of_cpu c o cpu is
+one_of_cpu n p ls c (report.entries os) cpu is = absurd is
+one_of_cpu n p ls c (report.nothing other) cpu is = absurd is

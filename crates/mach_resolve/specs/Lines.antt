@@ -1,5 +1,5 @@
 -- The lines that are printed, and what is said of libraries that do not count and of refused files.
-use Rattle.std.specs.Prelude.{◌==◌, ◌+◌, ℕ, Bool, true, false, List, [], ◌∷◌, ◌++◌, codes, if◌then◌else◌}
+use Rattle.std.specs.Prelude.{◌==◌, ◌+◌, ℕ, Option, Some, None, Bool, true, false, List, [], ◌∷◌, ◌++◌, codes, if◌then◌else◌}
 use Rattle.std.specs.Fmt.{digits, decimal}
 use Rattle.mach_base.specs.Words.{words_of}
 use Rattle.mach_base.specs.declared.error.Error.{Error}
@@ -58,6 +58,15 @@ abbrev pub lines_of : List Answer → List ℕ
 lines_of [] = []
 lines_of (a ∷ others) = answer_text a ++ codes "\n" ++ lines_of others
 
+-- that more bindings are there than so many
+abbrev pub cut_text : Option ℕ → List ℕ
+cut_text None = []
+cut_text (Some limit) = codes "limit: " ++ (decimal limit ++ codes " of them are told, and there are more\n")
+
+-- the answers of a program, and behind them that there are more bindings, if there are
+abbrev pub resolved_text : List Answer → Option ℕ → List ℕ
+resolved_text answers cut = lines_of answers ++ cut_text cut
+
 -- a file by its number
 abbrev pub file_text : ℕ → List ℕ
 file_text file = if file == 0 then codes "the program" else codes "library " ++ decimal file
@@ -87,7 +96,7 @@ said_lines (n ∷ notes) = said_line (note_text n) ++ said_lines notes
 
 -- what is printed of an entry
 abbrev pub entry_text : Outcome → List ℕ
-entry_text (answered answers notes) = lines_of answers
+entry_text (answered answers notes cut) = resolved_text answers cut
 entry_text archive = codes "archive\n"
 entry_text (refused file e) = codes "refused: " ++ refusal_text file e ++ codes "\n"
 
@@ -102,7 +111,7 @@ entries_text i (o ∷ others) = arch_line i ++ entry_text o ++ entries_text (i +
 
 -- what is printed of one program: where it is refused, nothing
 abbrev pub one_text : Outcome → List ℕ
-one_text (answered answers notes) = lines_of answers
+one_text (answered answers notes cut) = resolved_text answers cut
 one_text archive = codes "archive\n"
 one_text (refused file e) = []
 
@@ -113,7 +122,7 @@ printed (entries outcomes) = entries_text 0 outcomes
 printed (nothing cputype) = []
 
 abbrev pub notes_of : Outcome → List Note
-notes_of (answered answers notes) = notes
+notes_of (answered answers notes cut) = notes
 notes_of archive = []
 notes_of (refused file e) = []
 
@@ -129,7 +138,7 @@ notes_in (nothing cputype) = []
 
 -- why nothing is printed of one program
 abbrev pub said_refusal : Outcome → List ℕ
-said_refusal (answered answers notes) = []
+said_refusal (answered answers notes cut) = []
 said_refusal archive = []
 said_refusal (refused file e) = said_line (refusal_text file e)
 

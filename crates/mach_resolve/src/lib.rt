@@ -22,4 +22,4 @@ mod special;
 mod words;
 
 pub use crate::given::Given;
-pub use crate::words::{Asked, cputype_in, read_words};
+pub use crate::words::{Asked, DEFAULT_LIMIT, cputype_in, read_words};

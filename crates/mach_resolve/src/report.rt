@@ -39,19 +39,21 @@ pub enum Report<'a, A: Allocator> {
 }
 
 impl<'a, A: Allocator> Outcome<'a, A> {
-    // Whether all is settled, and nothing refused.
+    // Whether all is answered and settled, and nothing refused.
     fn is_whole(&self) -> bool
         ensures { result ≡ is_whole (outcome_seen self.now) }
     {
         match self {
-            Outcome::Answered(resolved) => all_settled(&resolved.answers),
+            Outcome::Answered(resolved) => {
+                all_settled(&resolved.answers) && resolved.cut.is_none()
+            }
             Outcome::Archive => true,
             Outcome::Refused { .. } => false,
         }
     }
 }
 
-// Whether all is settled in all entries, and nothing refused.
+// Whether all is answered and settled in all entries, and nothing refused.
 fn all_whole<A: Allocator>(outcomes: &[Outcome<'_, A>]) -> bool
     ensures { result ≡ list_all is_whole (map outcome_seen outcomes.now) }
 {
@@ -63,7 +65,7 @@ fn all_whole<A: Allocator>(outcomes: &[Outcome<'_, A>]) -> bool
 }
 
 impl<'a, A: Allocator> Report<'a, A> {
-    /// Whether all is settled, and nothing refused.
+    /// Whether all is answered and settled, and nothing refused.
     pub fn is_whole(&self) -> bool
         ensures { result ≡ all_whole (report_seen self.now) }
     {
@@ -88,12 +90,13 @@ fn refusal<'a, A: Allocator>(failure: Failure) -> Result<Outcome<'a, A>, Failure
 // The outcome for an image.
 fn outcome_for<'a, A: Allocator + Copy>(
     alloc: A,
+    limit: usize,
     program: Given<'a>,
     libraries: &[Given<'a>],
 ) -> Result<Outcome<'a, A>, Failure>
-    ensures { IfOk result (λ o. IsOutcome (given_seen program.entry) (map given_seen libraries.now) (outcome_seen o)) }
+    ensures { IfOk result (λ o. IsOutcome limit (given_seen program.entry) (map given_seen libraries.now) (outcome_seen o)) }
 {
-    match resolve(alloc, program, libraries) {
+    match resolve(alloc, limit, program, libraries) {
         Ok(resolved) => Ok(Outcome::Answered(resolved)),
         Err(failure) => refusal(failure),
     }
@@ -102,33 +105,35 @@ fn outcome_for<'a, A: Allocator + Copy>(
 // The outcome for an entry of a fat program, by its record.
 fn entry_outcome<'a, A: Allocator + Copy>(
     alloc: A,
+    limit: usize,
     program: Given<'a>,
     arch: &FatArch,
     libraries: &[Given<'a>],
 ) -> Result<Outcome<'a, A>, Failure>
-    ensures { IfOk result (λ o. IsEntryOutcome (entry_of (given_seen program.entry) arch.now) (map given_seen libraries.now) (outcome_seen o)) }
+    ensures { IfOk result (λ o. IsEntryOutcome limit (entry_of (given_seen program.entry) arch.now) (map given_seen libraries.now) (outcome_seen o)) }
 {
     let Given { path, bytes } = program;
     let bytes = arch.slice(bytes);
     if bytes.starts_with(b"!<arch>\n") {
         Ok(Outcome::Archive)
     } else {
-        outcome_for(alloc, Given { path, bytes }, libraries)
+        outcome_for(alloc, limit, Given { path, bytes }, libraries)
     }
 }
 
 // The outcomes for the entries of a fat program, by their records, in order.
 fn entry_outcomes<'a, A: Allocator + Copy>(
     alloc: A,
+    limit: usize,
     program: Given<'a>,
     arches: &[FatArch],
     libraries: &[Given<'a>],
 ) -> Result<Vec<Outcome<'a, A>, A>, Failure>
-    ensures { IfOk result (λ v. AreEntryOutcomes (given_seen program.entry) (map given_seen libraries.now) arches.now (map outcome_seen v.items)) }
+    ensures { IfOk result (λ v. AreEntryOutcomes limit (given_seen program.entry) (map given_seen libraries.now) arches.now (map outcome_seen v.items)) }
 {
     let mut outcomes = Vec::new(alloc);
     'arches: for arch in arches {
-        match entry_outcome(alloc, program, arch, libraries) {
+        match entry_outcome(alloc, limit, program, arch, libraries) {
             Ok(outcome) => outcomes.push(outcome)?,
             Err(failure) => return Err(failure),
         }
@@ -139,14 +144,15 @@ fn entry_outcomes<'a, A: Allocator + Copy>(
 // What is told of a fat program, of all its entries.
 fn report_all<'a, A: Allocator + Copy>(
     alloc: A,
+    limit: usize,
     program: Given<'a>,
     container: &MultiArch<'a, A>,
     libraries: &[Given<'a>],
 ) -> Result<Report<'a, A>, Failure>
-    ensures { IsFatMach program.entry.bytes.now container.now → IfOk result (λ r. IsReport (given_seen program.entry) (map given_seen libraries.now) None (report_seen r)) }
+    ensures { IsFatMach program.entry.bytes.now container.now → IfOk result (λ r. IsReport limit (given_seen program.entry) (map given_seen libraries.now) None (report_seen r)) }
 {
     match container.arches() {
-        Ok(arches) => match entry_outcomes(alloc, program, &arches, libraries) {
+        Ok(arches) => match entry_outcomes(alloc, limit, program, &arches, libraries) {
             Ok(outcomes) => Ok(Report::Entries(outcomes)),
             Err(failure) => Err(failure),
         },
@@ -161,14 +167,15 @@ fn report_all<'a, A: Allocator + Copy>(
 fn report_entry<'a, A: Allocator + Copy>(
     alloc: A,
     cputype: u32,
+    limit: usize,
     program: Given<'a>,
     container: &MultiArch<'a, A>,
     libraries: &[Given<'a>],
 ) -> Result<Report<'a, A>, Failure>
-    ensures { IsFatMach program.entry.bytes.now container.now → IfOk result (λ r. IsReport (given_seen program.entry) (map given_seen libraries.now) (Some cputype) (report_seen r)) }
+    ensures { IsFatMach program.entry.bytes.now container.now → IfOk result (λ r. IsReport limit (given_seen program.entry) (map given_seen libraries.now) (Some cputype) (report_seen r)) }
 {
     match container.find_cputype(cputype) {
-        Ok(Some(arch)) => match entry_outcome(alloc, program, &arch, libraries) {
+        Ok(Some(arch)) => match entry_outcome(alloc, limit, program, &arch, libraries) {
             Ok(outcome) => Ok(Report::One(outcome)),
             Err(failure) => Err(failure),
         },
@@ -183,12 +190,13 @@ fn report_entry<'a, A: Allocator + Copy>(
 // What is told of a program that is one image.
 fn report_one<'a, A: Allocator + Copy>(
     alloc: A,
+    limit: usize,
     program: Given<'a>,
     libraries: &[Given<'a>],
 ) -> Result<Report<'a, A>, Failure>
-    ensures { IfOk result (λ r. IsOneOf (IsOutcome (given_seen program.entry) (map given_seen libraries.now)) (report_seen r)) }
+    ensures { IfOk result (λ r. IsOneOf (IsOutcome limit (given_seen program.entry) (map given_seen libraries.now)) (report_seen r)) }
 {
-    match outcome_for(alloc, program, libraries) {
+    match outcome_for(alloc, limit, program, libraries) {
         Ok(outcome) => Ok(Report::One(outcome)),
         Err(failure) => Err(failure),
     }
@@ -199,15 +207,16 @@ fn report_image<'a, A: Allocator + Copy>(
     alloc: A,
     wanted: Option<u32>,
     cputype: u32,
+    limit: usize,
     program: Given<'a>,
     libraries: &[Given<'a>],
 ) -> Result<Report<'a, A>, Failure>
-    ensures { IsOfCpu program.entry.bytes.now cputype → IfOk result (λ r. IsReport (given_seen program.entry) (map given_seen libraries.now) wanted (report_seen r)) }
+    ensures { IsOfCpu program.entry.bytes.now cputype → IfOk result (λ r. IsReport limit (given_seen program.entry) (map given_seen libraries.now) wanted (report_seen r)) }
 {
     match wanted {
         Some(other) if other != cputype => Ok(Report::Nothing(other)),
-        Some(_) => report_one(alloc, program, libraries),
-        None => report_one(alloc, program, libraries),
+        Some(_) => report_one(alloc, limit, program, libraries),
+        None => report_one(alloc, limit, program, libraries),
     }
 }
 
@@ -215,19 +224,20 @@ fn report_image<'a, A: Allocator + Copy>(
 pub fn report_on<'a, A: Allocator + Copy>(
     alloc: A,
     wanted: Option<u32>,
+    limit: usize,
     program: Given<'a>,
     libraries: &[Given<'a>],
 ) -> Result<Report<'a, A>, Failure>
-    ensures { IfOk result (λ r. IsReport (given_seen program.entry) (map given_seen libraries.now) wanted (report_seen r)) }
+    ensures { IfOk result (λ r. IsReport limit (given_seen program.entry) (map given_seen libraries.now) wanted (report_seen r)) }
 {
     match Mach::parse(alloc, program.bytes) {
         Ok(Mach::Binary(image)) => {
             let cputype = image.header.cputype;
-            report_image(alloc, wanted, cputype, program, libraries)
+            report_image(alloc, wanted, cputype, limit, program, libraries)
         }
         Ok(Mach::Fat(container)) => match wanted {
-            Some(cputype) => report_entry(alloc, cputype, program, &container, libraries),
-            None => report_all(alloc, program, &container, libraries),
+            Some(cputype) => report_entry(alloc, cputype, limit, program, &container, libraries),
+            None => report_all(alloc, limit, program, &container, libraries),
         },
         Err(error) => match refusal(Failure::refused(0, error)) {
             Ok(outcome) => Ok(Report::One(outcome)),

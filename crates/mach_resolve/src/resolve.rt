@@ -1,12 +1,12 @@
 //! A program, resolved: the answers for its bindings.
 
-ghost use Rattle.std.specs.Prelude.{◌≡◌, ◌∷◌, List, map, IfOk, IfErr, IsTrue, IsFalse};
+ghost use Rattle.std.specs.Prelude.{◌≡◌, ◌∷◌, List, map, IfOk, IfErr};
 ghost use Rattle.mach_segments.specs.Bindings.{Binding};
 ghost use Rattle.mach_resolve.specs.Behind.{Met, IsBehindAll};
 ghost use Rattle.mach_resolve.specs.Answers as answered;
 ghost use Rattle.mach_resolve.specs.Answers.{AreAnswers};
 ghost use Rattle.mach_resolve.specs.Failures.{IsFailure};
-ghost use Rattle.mach_resolve.specs.Resolved.{HoldsBindings, IsResolved, ResolveFault, AnswerFault};
+ghost use Rattle.mach_resolve.specs.Resolved.{HoldsFirst, IsResolved, ResolveFault, AnswerFault};
 ghost use Rattle.mach_resolve.specs.Seen.{files_seen, program_seen, answer_seen, note_seen};
 ghost use Rattle.mach_resolve.specs.Opened.{given_seen};
 
@@ -19,20 +19,24 @@ use crate::note::Note;
 use goblin_mach::{MachO, laws};
 use std::alloc::Allocator;
 
-// An answer for each binding of an image, in order.
+// An answer for each of the first `limit` bindings of an image, in order; and the limit, where there are more.
 fn answer_all<'a, A: Allocator + Copy>(
     alloc: A,
+    limit: usize,
     files: &Files<'a, A>,
     all: &[usize],
     program: &Program<'a, A>,
     image: &MachO<'a, A>,
-) -> Result<Vec<Answer<'a>, A>, Failure>
+) -> Result<(Vec<Answer<'a>, A>, Option<usize>), Failure>
     ensures answered { (met : Met) → IsBehindAll (files_seen files.now) met → met.places ≡ all.now
-        → IfOk result (λ v. (bindings : List Binding) × HoldsBindings image.now bindings × AreAnswers (files_seen files.now) (program_seen program.now) bindings (map answer_seen v.items)) }
-    ensures refused { IfErr result (IsFailure (AnswerFault (files_seen files.now) image.now)) }
+        → IfOk result (λ v. (bindings : List Binding) × HoldsFirst limit image.now bindings v.1 × AreAnswers (files_seen files.now) (program_seen program.now) bindings (map answer_seen v.0.items)) }
+    ensures refused { IfErr result (IsFailure (AnswerFault limit (files_seen files.now) image.now)) }
 {
     let mut answers = Vec::new(alloc);
     'bindings: for item in image.bindings() {
+        if answers.len() >= limit {
+            return Ok((answers, Some(limit)));
+        }
         match item {
             Ok(binding) => match answer_for(alloc, files, all, program, binding) {
                 Ok(answer) => answers.push(answer)?,
@@ -41,7 +45,7 @@ fn answer_all<'a, A: Allocator + Copy>(
             Err(error) => return Err(Failure::refused(0, error)),
         }
     }
-    Ok(answers)
+    Ok((answers, None))
 }
 
 /// A program, resolved.
@@ -49,20 +53,23 @@ fn answer_all<'a, A: Allocator + Copy>(
 pub struct Resolved<'a, A: Allocator> {
     /// The answers for its bindings, in order.
     pub answers: Vec<Answer<'a>, A>,
+    /// How many bindings are answered, where there are more.
+    pub cut: Option<usize>,
     /// Notes of the libraries that count for nothing.
     pub notes: Vec<Note<'a>, A>,
 }
 
-/// The answers for the bindings of a program, in order, among the program and some libraries. Each refusal but
-/// want of memory is a fault that stands: where a file is opened, in the program's bindings, or in a trie on the
-/// way of a name that is sought.
+/// The answers for the first `limit` bindings of a program, in order, among the program and some libraries. Each
+/// refusal but want of memory is a fault that stands: where a file is opened, in one of these bindings, or in a trie on
+/// the way of a name that is sought.
 pub fn resolve<'a, A: Allocator + Copy>(
     alloc: A,
+    limit: usize,
     program: Given<'a>,
     libraries: &[Given<'a>],
 ) -> Result<Resolved<'a, A>, Failure>
-    ensures resolved { IfOk result (λ r. IsResolved (given_seen program.entry) (map given_seen libraries.now) (map answer_seen r.answers.items) (map note_seen r.notes.items)) }
-    ensures refused { IfErr result (IsFailure (ResolveFault (given_seen program.entry) (map given_seen libraries.now))) }
+    ensures resolved { IfOk result (λ r. IsResolved limit (given_seen program.entry) (map given_seen libraries.now) (map answer_seen r.answers.items) (map note_seen r.notes.items) r.cut) }
+    ensures refused { IfErr result (IsFailure (ResolveFault limit (given_seen program.entry) (map given_seen libraries.now))) }
 {
     let image = match MachO::parse(alloc, program.bytes, 0) {
         Ok(image) => image,
@@ -81,8 +88,12 @@ pub fn resolve<'a, A: Allocator + Copy>(
     laws::name_of_image(&image);
     laws::libraries_by_kind_of_image(&image);
     laws::bindings_of_image(&image);
-    match answer_all(alloc, &files, all.places.as_slice(), &known, &image) {
-        Ok(answers) => Ok(Resolved { answers, notes }),
+    match answer_all(alloc, limit, &files, all.places.as_slice(), &known, &image) {
+        Ok((answers, cut)) => Ok(Resolved {
+            answers,
+            cut,
+            notes,
+        }),
         Err(failure) => Err(failure),
     }
 }

@@ -1,8 +1,9 @@
 //! What the program prints, and its exit status.
 
-ghost use Rattle.std.specs.Prelude.{◌≡◌, ◌≢◌, ◌≤◌, ◌⊎◌, ◌++◌, map, codes, IfOk, OnOk};
+ghost use Rattle.std.specs.Prelude.{◌≡◌, ◌≢◌, ◌≤◌, ◌⊎◌, ◌++◌, [], map, codes, IfOk, OnOk};
+ghost use Rattle.std.specs.Io.Buffered.{writer_buffer, writer_contents};
 ghost use Rattle.std.specs.Io.KnownBytes.{Appends};
-ghost use Rattle.mach_resolve.specs.Lines.{lines_of, entry_text, arch_line, entries_text, one_text, printed, notes_in, all_notes, said_refusal, said_first, said_lines, said, notes_of};
+ghost use Rattle.mach_resolve.specs.Lines.{lines_of, cut_text, resolved_text, entry_text, arch_line, entries_text, one_text, printed, notes_in, all_notes, said_refusal, said_first, said_lines, said, notes_of};
 ghost use Rattle.mach_resolve.specs.Note.{all_noted};
 ghost use Rattle.mach_resolve.specs.Opened.{given_seen};
 ghost use Rattle.mach_resolve.specs.Runs.{status_by, Runs};
@@ -14,26 +15,31 @@ use crate::given::Given;
 use crate::lines::{NothingText, RefusalText};
 use crate::note::{Note, Notes, note_all};
 use crate::report::{Outcome, Report, report_on};
+use crate::resolve::Resolved;
 use indexmap::IndexSet;
 use std::alloc::{AllocFailed, Allocator};
 use std::io;
-use std::io::Write;
+use std::io::{BufWriter, Write};
 
-/// Resolves a program, or what it has for a cpu that is wanted, and answers the exit status: 0 where each binding is
-/// settled; 1 where one is not, or a file is refused; 2 for want of memory, and where a write fails. The lines of one
-/// image are written whole or not at all. Notes, and why nothing is printed, go to `err`.
-pub fn run<'a, A: Allocator + Copy, O: Write, E: Write>(
+/// Resolves a program, or what it has for a cpu that is wanted, of each image at most `limit` bindings, and answers the
+/// exit status: 0 where each binding is settled; 1 where one is not, or an image has more, or a file is refused; 2 for
+/// want of memory, and where a write fails. But for that nothing is left in the buffer. The lines of one image are written
+/// whole or not at all. Notes, and why nothing is printed, go to `err`.
+pub fn run<'a, A: Allocator + Copy, W: Write + Drop, B: Allocator, E: Write>(
     alloc: A,
     wanted: Option<u32>,
+    limit: usize,
     program: Given<'a>,
     libraries: &[Given<'a>],
-    out: &mut O,
+    out: &mut BufWriter<W, B>,
     err: &mut E,
 ) -> u8
     ensures status { result ≤ 2 }
-    ensures runs { result ≢ 2 → Runs wanted (given_seen program.entry) (map given_seen libraries.now) result (O.contents out.old) (O.contents out.new) (E.contents err.old) (E.contents err.new) }
+    ensures runs { result ≢ 2 → Runs wanted limit (given_seen program.entry) (map given_seen libraries.now) result
+        (writer_contents W.contents out.old) (writer_contents W.contents out.new) (E.contents err.old) (E.contents err.new) }
+    ensures flushed { result ≢ 2 → writer_buffer out.new ≡ [] }
 {
-    match tell(alloc, wanted, program, libraries, out, err) {
+    match tell(alloc, wanted, limit, program, libraries, out, err) {
         Ok(whole) => status(whole),
         Err(failure) => fail(&failure, err),
     }
@@ -47,17 +53,20 @@ fn status(whole: bool) -> u8
 }
 
 // Writes what is told of a program, and answers whether all is settled and nothing refused.
-fn tell<'a, A: Allocator + Copy, O: Write, E: Write>(
+fn tell<'a, A: Allocator + Copy, W: Write + Drop, B: Allocator, E: Write>(
     alloc: A,
     wanted: Option<u32>,
+    limit: usize,
     program: Given<'a>,
     libraries: &[Given<'a>],
-    out: &mut O,
+    out: &mut BufWriter<W, B>,
     err: &mut E,
 ) -> Result<bool, Failure>
-    ensures { IfOk result (λ whole. Runs wanted (given_seen program.entry) (map given_seen libraries.now) (status_by whole) (O.contents out.old) (O.contents out.new) (E.contents err.old) (E.contents err.new)) }
+    ensures runs { IfOk result (λ whole. Runs wanted limit (given_seen program.entry) (map given_seen libraries.now) (status_by whole)
+        (writer_contents W.contents out.old) (writer_contents W.contents out.new) (E.contents err.old) (E.contents err.new)) }
+    ensures flushed { OnOk result (writer_buffer out.new ≡ []) }
 {
-    let report = match report_on(alloc, wanted, program, libraries) {
+    let report = match report_on(alloc, wanted, limit, program, libraries) {
         Ok(report) => report,
         Err(failure) => return Err(failure),
     };
@@ -68,8 +77,12 @@ fn tell<'a, A: Allocator + Copy, O: Write, E: Write>(
 }
 
 // Prints what is told of a program, and sees to it that it is written.
-fn print_report<A: Allocator, O: Write>(report: &Report<'_, A>, out: &mut O) -> io::Result<()>
-    ensures { OnOk result (Appends (O.contents out.old) (O.contents out.new) (printed (report_seen report.now))) }
+fn print_report<A: Allocator, W: Write + Drop, B: Allocator>(
+    report: &Report<'_, A>,
+    out: &mut BufWriter<W, B>,
+) -> io::Result<()>
+    ensures printed { OnOk result (Appends (writer_contents W.contents out.old) (writer_contents W.contents out.new) (printed (report_seen report.now))) }
+    ensures flushed { OnOk result (writer_buffer out.new ≡ []) }
 {
     print_whole(report, out)?;
     out.flush()
@@ -91,7 +104,7 @@ fn print_one<A: Allocator, O: Write>(outcome: &Outcome<'_, A>, out: &mut O) -> i
     ensures { OnOk result (Appends (O.contents out.old) (O.contents out.new) (one_text (outcome_seen outcome.now))) }
 {
     match outcome {
-        Outcome::Answered(resolved) => print_answers(&resolved.answers, out),
+        Outcome::Answered(resolved) => print_resolved(resolved, out),
         Outcome::Archive => writeln!(out, "archive"),
         Outcome::Refused { .. } => Ok(()),
     }
@@ -124,12 +137,30 @@ fn print_outcome<A: Allocator, O: Write>(outcome: &Outcome<'_, A>, out: &mut O) 
     ensures { OnOk result (Appends (O.contents out.old) (O.contents out.new) (entry_text (outcome_seen outcome.now))) }
 {
     match outcome {
-        Outcome::Answered(resolved) => print_answers(&resolved.answers, out),
+        Outcome::Answered(resolved) => print_resolved(resolved, out),
         Outcome::Archive => writeln!(out, "archive"),
         Outcome::Refused { file, error } => {
             let refusal = RefusalText { file: *file, error };
             writeln!(out, "refused: {refusal}")
         }
+    }
+}
+
+// Prints a line for each answer, in order, and behind them that there are more bindings, if there are.
+fn print_resolved<A: Allocator, O: Write>(resolved: &Resolved<'_, A>, out: &mut O) -> io::Result<()>
+    ensures { OnOk result (Appends (O.contents out.old) (O.contents out.new) (resolved_text (map answer_seen resolved.now.answers.items) resolved.now.cut)) }
+{
+    print_answers(&resolved.answers, out)?;
+    print_cut(resolved.cut, out)
+}
+
+// Prints that there are more bindings than so many, if that is so.
+fn print_cut<O: Write>(cut: Option<usize>, out: &mut O) -> io::Result<()>
+    ensures { OnOk result (Appends (O.contents out.old) (O.contents out.new) (cut_text cut)) }
+{
+    match cut {
+        Some(limit) => writeln!(out, "limit: {limit} of them are told, and there are more"),
+        None => Ok(()),
     }
 }
 

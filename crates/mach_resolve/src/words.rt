@@ -5,33 +5,51 @@
 pub struct Asked<'b> {
     /// The cpu that is wanted, if not all are.
     pub wanted: Option<u32>,
+    /// How many bindings of one image are answered at most.
+    pub limit: usize,
     /// The program's path.
     pub program: &'b str,
     /// The paths of the libraries.
     pub libraries: &'b [String],
 }
 
-/// What some words ask for, if they do: `--cputype` and a cpu, if they begin so, then a program, then libraries.
-pub fn read_words(words: &[String]) -> Option<Asked<'_>> {
-    match words {
-        [flag, cputype, rest @ ..] if flag.as_str() == "--cputype" => {
-            asked_files(Some(cputype_in(cputype)?), rest)
-        }
-        [flag] if flag.as_str() == "--cputype" => None,
-        _ => asked_files(None, words),
-    }
-}
+/// So many bindings of one image are answered where no other limit is given.
+pub const DEFAULT_LIMIT: usize = 10_000_000;
 
-// A program, then libraries.
-fn asked_files(wanted: Option<u32>, words: &[String]) -> Option<Asked<'_>> {
-    match words {
+/// What some words ask for, if they do: options, then a program, then libraries. The options are `--cputype` and a cpu,
+/// and `--limit` and a number.
+pub fn read_words(words: &[String]) -> Option<Asked<'_>> {
+    let mut wanted = None;
+    let mut limit = DEFAULT_LIMIT;
+    let mut rest = words;
+    for _ in 0..words.len() {
+        match rest {
+            [flag, cputype, behind @ ..] if flag.as_str() == "--cputype" => {
+                wanted = Some(cputype_in(cputype)?);
+                rest = behind;
+            }
+            [flag, number, behind @ ..] if flag.as_str() == "--limit" => {
+                limit = number.parse::<usize>().ok()?;
+                rest = behind;
+            }
+            _ => break,
+        }
+    }
+    match rest {
+        [flag] if is_option(flag) => None,
         [program, libraries @ ..] => Some(Asked {
             wanted,
+            limit,
             program,
             libraries,
         }),
         [] => None,
     }
+}
+
+// Whether a word is an option, which has a word of its own behind it.
+fn is_option(word: &str) -> bool {
+    matches!(word, "--cputype" | "--limit")
 }
 
 /// The cpu of a word: `0x`, and 1 to 8 hexadecimal digits.

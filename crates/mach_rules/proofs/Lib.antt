@@ -13,3 +13,4 @@ pub mod Texts
 pub mod OneArrangement
 pub mod Slices
 pub mod OneListOfSlices
+mod Sharing

@@ -194,9 +194,9 @@ imports_told x h tell = filter_map (λ k. if_there (row_in x h k) (tell k)) (ran
 
 -- ---- all of them
 
--- the name is __TEXT, with zeros behind it
+-- whether the name is __TEXT, whatever stands behind its first zero byte
 abbrev pub is_text : PlacedSegment → Bool
-is_text s = starts_with nat_eq s.command.segname (codes "__TEXT" ++ replicate 10 0)
+is_text s = starts_with nat_eq s.command.segname (codes "__TEXT" ++ 0 ∷ [])
 
 abbrev pub address_or_zero : Option PlacedSegment → ℕ
 address_or_zero None = 0

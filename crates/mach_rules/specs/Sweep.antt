@@ -1,6 +1,6 @@
 -- Which of some ranges share a place, by one sweep over them.
-use Rattle.std.specs.Prelude.{◌≡◌, List, [], ◌∷◌, ◌++◌, nat_lt, Option, Some, None, if◌then◌else◌}
-use Rattle.std.specs.List.{cons_option}
+use Rattle.std.specs.Prelude.{◌≡◌, ◌<◌, List, [], ◌∷◌, ◌++◌, nat_lt, Option, Some, None, if◌then◌else◌}
+use Rattle.std.specs.List.{cons_option, Contains}
 use Rattle.std.specs.List.Sorted.{IsPermutation, IsSortedByKey, IsStableByKey}
 use Rattle.std.specs.Ordering.{nat_cmp}
 use Rattle.mach_base.specs.Number.{place_after}
@@ -46,3 +46,13 @@ pub record AreShared (rule : Rule) (ranges : List Claim) (told : List LayoutFaul
   pub sorted : List Claim
   pub by_start : IsByStart ranges sorted
   pub each : told ≡ shared_behind rule [] sorted
+
+-- it is told of two of these ranges, of which the second begins before the first ends
+pub record IsOfTwo (rule : Rule) (ranges : List Claim) (fault : LayoutFault) : Type 0 where
+  pub first : Claim
+  pub second : Claim
+  pub has_first : Contains ranges first
+  pub has_second : Contains ranges second
+  pub shares : second.start < end_of first
+  pub is : fault
+      ≡ record { rule = rule; owner = second.owner; other = Some first.owner; found = second.start; limit = place_after first.start first.len }

@@ -1,5 +1,5 @@
 -- Symbols (`mach-o/nlist.h`) and where they stand (`mach-o/loader.h`, struct symtab_command).
-use Rattle.std.specs.Prelude.{◌≡◌, ◌≢◌, ℕ, ◌*◌, ◌%◌, ◌^◌, List, [], ◌∷◌, length, Result, Ok, Err, nat_lt, nat_le, bit_and, codes, if◌then◌else◌}
+use Rattle.std.specs.Prelude.{◌≡◌, ◌≢◌, ℕ, ◌+◌, ◌-◌, ◌*◌, ◌/◌, ◌%◌, ◌^◌, min, List, [], ◌∷◌, length, Result, Ok, Err, nat_lt, nat_le, bit_and, codes, if◌then◌else◌}
 use Rattle.std.specs.Int.{IsBitSet}
 use Rattle.mach_base.specs.declared.context.Endian.{Endian}
 use Rattle.mach_base.specs.declared.context.Container.{Container}
@@ -160,6 +160,18 @@ symbol_at t k = do
 -- all symbols of a table
 abbrev pub symbols_of : SymbolTable → List (Result (List ℕ × Nlist) Fault)
 symbols_of t = items_from (symbol_at t) 0 t.nsyms
+
+-- The table of those whose records begin within the bytes: of no symbol behind it a byte can be read.
+abbrev pub begun_of : SymbolTable → SymbolTable
+begun_of t =
+    let size = nlist_size t.ctx.container in
+    record {
+      bytes = t.bytes;
+      start = t.start;
+      nsyms = min t.nsyms ((length t.bytes - t.start + (size - 1)) / size);
+      strtab = t.strtab;
+      ctx = t.ctx;
+    }
 
 -- the table that a command describes: its names don't stand before its records, which begin inside
 -- the bytes

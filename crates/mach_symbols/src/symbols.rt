@@ -5,7 +5,7 @@ ghost use Rattle.mach_base.specs.declared.context.Endian.TheVariants.{Little};
 ghost use Rattle.mach_base.specs.declared.context.Container.TheVariants.{Big};
 ghost use Rattle.mach_base.specs.Answer.{Reads};
 ghost use Rattle.mach_base.specs.Number.{place_after};
-ghost use Rattle.mach_symbols.specs.Symbols.{symbol_place, symbol_at, symbols_of, table_at};
+ghost use Rattle.mach_symbols.specs.Symbols.{begun_of, symbol_place, symbol_at, symbols_of, table_at};
 ghost use Rattle.mach_symbols.specs.SymbolViews.{table_of, table_view, symbol_read, symbols_left};
 
 pub mod laws;
@@ -187,6 +187,21 @@ impl<'a> Symbols<'a> {
         ensures { result ≡ (table_of self.now).ctx }
     {
         self.table.ctx
+    }
+
+    /// The front of them: those whose records begin within the bytes. Of no symbol behind these a byte can be read.
+    pub fn begun(&self) -> Symbols<'a>
+        ensures { table_of result ≡ begun_of (table_of self.now) }
+    {
+        let size = Nlist::size_with(&self.table.ctx);
+        let room = self.table.bytes.len().saturating_sub(self.table.start);
+        let begun = room.div_ceil(size);
+        Symbols {
+            table: Table {
+                nsyms: self.table.nsyms.min(begun),
+                ..self.table
+            },
+        }
     }
 
     /// Where the name of a symbol of these stands; the last place that 64 bits have where it passes them.

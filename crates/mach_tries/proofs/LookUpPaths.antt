@@ -14,8 +14,8 @@ use Rattle.mach_tries.specs.TrieFault.{TrieFault, at_node, met_again}
 use Rattle.mach_tries.specs.Paths.{Leads, Path, StartsFrom}
 use Rattle.mach_tries.specs.TerminalPaths.{IsNameOf}
 use Rattle.mach_tries.specs.Visits.{AreApart}
-use Rattle.mach_tries.specs.LookUp.{Spells}
-use Rattle.mach_tries.proofs.TriePaths.{same_node, same_some, Leads-append}
+use Rattle.mach_tries.specs.LookUp.{Spells, IsOnWay, FaultOnWay, at_node_on_way, met_on_way}
+use Rattle.mach_tries.proofs.TriePaths.{same_node, same_some, Leads-append, leads_to_one}
 use Rattle.mach_tries.proofs.TrieVisits as visits
 
 module _ (t : Trie) where
@@ -53,16 +53,40 @@ module _ (t : Trie) where
       append_nil_own [] = refl
       append_nil_own (x ∷ xs) = ap (λ (ys : List ℕ). x ∷ ys) (append_nil_own xs)
 
-  -- a fault behind a node is one behind what leads to it
-  pub fault_behind : (p : List ℕ) (a b : ℕ) (f : Fault) → Leads t p a b → TrieFault t b f → TrieFault t a f
-  fault_behind p a b _ l (at_node g q at more inside err) = at_node g (p ++ q) at (Leads-append t p q a b at l more) inside err
-  fault_behind p a b _ l (met_again q r at one two inside other) =
-      met_again (p ++ q) (p ++ r) at (Leads-append t p q a b at l one) (Leads-append t p r a b at l two) inside (λ e. other (append_cancel_left p q r e))
+  -- what is on the way behind a node on it is on the way
+  pub way_behind : (p q : List ℕ) (a b : ℕ) (name rest : List ℕ) → Leads t p a b → Spells t a name p rest → IsOnWay t b rest q → IsOnWay t a name (p ++ q)
+  way_behind p q a b name rest l spelled way = (
+    (way.0.0, Leads-append t p q a b way.0.0 l way.0.1, way.0.2),
+    way.1,
+    spells_append p q a b name rest way.1 l spelled way.2,
+  )
 
-  pub stands_behind : {X : Type 0} (p : List ℕ) (a b : ℕ) (r : Result X Error) → Leads t p a b → IfErr r (Stands (TrieFault t b)) → IfErr r
-      (Stands (TrieFault t a))
-  stands_behind p a b (Ok x) l h = tt
-  stands_behind p a b (Err e) l h = Stands-in (TrieFault t b) (TrieFault t a) e (λ f fault. fault_behind p a b f l fault) h
+  -- and so are the faults there
+  pub fault_behind : (p : List ℕ) (a b : ℕ) (name rest : List ℕ) (f : Fault) → Leads t p a b → Spells t a name p rest → FaultOnWay t b rest f
+      → FaultOnWay t a name f
+  fault_behind p a b name rest _ l spelled (at_node_on_way g q at way more err) =
+      at_node_on_way g (p ++ q) at (way_behind p q a b name rest l spelled way) (Leads-append t p q a b at l more) err
+  fault_behind p a b name rest _ l spelled (met_on_way q r at one_way two_way one two other) =
+      met_on_way (p ++ q) (p ++ r) at (way_behind p q a b name rest l spelled one_way) (way_behind p r a b name rest l spelled two_way)
+      (Leads-append t p q a b at l one) (Leads-append t p r a b at l two) (λ e. other (append_cancel_left p q r e))
+
+  pub stands_behind : {X : Type 0} (p : List ℕ) (a b : ℕ) (name rest : List ℕ) (r : Result X Error) → Leads t p a b → Spells t a name p rest
+      → IfErr r (Stands (FaultOnWay t b rest)) → IfErr r (Stands (FaultOnWay t a name))
+  stands_behind p a b name rest (Ok x) l spelled h = tt
+  stands_behind p a b name rest (Err e) l spelled h =
+      Stands-in (FaultOnWay t b rest) (FaultOnWay t a name) e (λ f fault. fault_behind p a b name rest f l spelled fault) h
+
+  -- a fault on the way of a name is a fault of the trie
+  pub fault_of_trie : (root : ℕ) (name : List ℕ) (f : Fault) → FaultOnWay t root name f → TrieFault t root f
+  fault_of_trie root name _ (at_node_on_way g path at way leads err) =
+      at_node g path at leads (subst (λ x. x < t.upto) (leads_to_one t path root way.0.0 at way.0.1 leads) way.0.2) err
+  fault_of_trie root name _ (met_on_way path other at way _ one two differ) =
+      met_again path other at one two (subst (λ x. x < t.upto) (leads_to_one t path root way.0.0 at way.0.1 one) way.0.2) differ
+
+  pub stands_in_trie : {X : Type 0} (root : ℕ) (name : List ℕ) (r : Result X Error) → IfErr r (Stands (FaultOnWay t root name))
+      → IfErr r (Stands (TrieFault t root))
+  stands_in_trie root name (Ok x) h = tt
+  stands_in_trie root name (Err e) h = Stands-in (FaultOnWay t root name) (TrieFault t root) e (λ f fault. fault_of_trie root name f fault) h
 
   pub leads_from : (from : ℕ) → StartsFrom t from → (p : List ℕ) (a b : ℕ) → from ≤ a → Leads t p a b → from ≤ b
   leads_from from starts [] a b low l = subst (λ x. from ≤ x) l low

@@ -9,13 +9,12 @@ use Rattle.std.proofs.lemmas.List.Sums.{sum_by-set}
 use Rattle.mach_base.specs.Fault.{Fault, malformed}
 use Rattle.mach_base.specs.Among.{IsAmong}
 use Rattle.mach_tries.specs.Trie.{Info, Branch, Node, Trie}
-use Rattle.mach_tries.specs.TrieFault.{TrieFault, at_node, met_again}
 use Rattle.mach_tries.specs.Paths.{Leads}
 use Rattle.mach_tries.specs.Visits.{AreApart}
 use Rattle.mach_tries.specs.Nodes.{branch_at, branches_at}
 use Rattle.mach_tries.specs.BranchViews.{branches_of, IsReadable}
 use Rattle.mach_tries.specs.Finds.{IsElsewhere, Finds, BranchesFind, here, below, none_left, behind, gone_back}
-use Rattle.mach_tries.specs.LookUp.{Spells, IsOnWay}
+use Rattle.mach_tries.specs.LookUp.{Spells, IsOnWay, FaultOnWay, at_node_on_way, met_on_way}
 use Rattle.mach_tries.specs.LookUpViews.{Settles, Stops, SearchVisits}
 use Rattle.mach_tries.specs.WalkViews.{source_trie, node_in}
 use Rattle.mach_tries.specs.declared.look_up.Choice.{Choice}
@@ -381,25 +380,11 @@ module _ (s : Source) (root : ℕ) (name : List ℕ) where
     child_leads = Leads-append (source_trie s) h.top.path (h.top.next ∷ []) root h.top.start start top_leads.0
         (h.top.node, record { label = label; start = start }, top_leads.2, h.opened.0.node, head.0, refl)
 
-    pub child_fault : (f : Fault) → node_in s start ≡ Err f → TrieFault (source_trie s) root f
-    child_fault f e = at_node f (h.top.path ++ h.top.next ∷ []) start child_leads inside e
-
     not_yet : (v : Visit) → IsAmong v h.vs → v.path ≡ h.top.path ++ h.top.next ∷ [] → ⊥
     not_yet v i e = h.opened.0.fresh h.top.next v (omega arith) i e
 
     pub within : start - s.from < length marks
     within = let size = h.visited.size in let above = low in omega arith
-
-    -- a child that is marked is met by a second path
-    pub met : {mark : Bool} → mark ≡ get_or marks (start - s.from) false → mark ≡ true → TrieFault (source_trie s) root malformed
-    met {mark} is_mark is_on =
-        let above = low in
-        let marked = sym is_mark ∙ is_on in
-        let same : s.from + (start - s.from) ≡ start = omega arith in
-        let old = h.visited.met (start - s.from) marked in
-        let there = (h.visited.leads (visit old.0 (s.from + (start - s.from))) old.1).0 in
-        met_again old.0 (h.top.path ++ h.top.next ∷ []) start (subst (λ x. Leads (source_trie s) old.0 root x) same there) child_leads inside
-        (λ e. not_yet (visit old.0 (s.from + (start - s.from))) old.1 e)
 
     rest_is : h.top.rest ≡ label ++ others
     rest_is = h.shown.rest ∙ taken.spells
@@ -407,6 +392,24 @@ module _ (s : Source) (root : ℕ) (name : List ℕ) where
     child_spelled : Spells (source_trie s) root name (h.top.path ++ h.top.next ∷ []) others
     child_spelled = spells_on (source_trie s) h.top.path root h.top.start name h.top.rest others h.top.node h.top.next
         (record { label = label; start = start }) top_leads.0 h.opened.0.spelled h.opened.0.node head.0 rest_is
+
+    child_way : IsOnWay (source_trie s) root name (h.top.path ++ h.top.next ∷ [])
+    child_way = ((start, child_leads, inside), others, child_spelled)
+
+    pub child_fault : (f : Fault) → node_in s start ≡ Err f → FaultOnWay (source_trie s) root name f
+    child_fault f e = at_node_on_way f (h.top.path ++ h.top.next ∷ []) start child_way child_leads e
+
+    -- a child that is marked is met by a second path
+    pub met : {mark : Bool} → mark ≡ get_or marks (start - s.from) false → mark ≡ true → FaultOnWay (source_trie s) root name malformed
+    met {mark} is_mark is_on =
+        let above = low in
+        let marked = sym is_mark ∙ is_on in
+        let same : s.from + (start - s.from) ≡ start = omega arith in
+        let old = h.visited.met (start - s.from) marked in
+        let there = h.visited.leads (visit old.0 (s.from + (start - s.from))) old.1 in
+        met_on_way old.0 (h.top.path ++ h.top.next ∷ []) start ((s.from + (start - s.from), there.0, there.2), there.3, there.4) child_way
+        (subst (λ x. Leads (source_trie s) old.0 root x) same there.0) child_leads
+        (λ e. not_yet (visit old.0 (s.from + (start - s.from))) old.1 e)
 
     pub is_clear : {mark : Bool} → mark ≡ get_or marks (start - s.from) false → mark ≡ false → get_or marks (start - s.from) false ≡ false
     is_clear is_mark is_off = sym is_mark ∙ is_off

@@ -43,6 +43,6 @@ pub use Rattle.mach_tries.specs.TrieRows.{kind_1_with_stub_bit, ladder_of_40}
 pub use Rattle.mach_tries.specs.Visits.{AreApart, Visits}
 pub use Rattle.mach_tries.specs.WalkState.{Visit, visit, Apart, Visited, Frame, IsOpen, AreOpen, IsLeft, IsDone, Closed, Pending, Begun, Walk, IsShown, AreShown}
 pub use Rattle.mach_tries.specs.WalkState.{none_shown, one_shown, used_up, Extends, Nested, Holds, before, Keeps, IsFresh, HasListed, IsAtBranch, IsBetween}
-pub use Rattle.mach_tries.specs.WalkState.{HasFound, IsRefused, StepGives, unmarked, branches_left, work, work_left}
+pub use Rattle.mach_tries.specs.WalkState.{HasFound, IsWalk, IsRefused, StepGives, unmarked, branches_left, work, work_ahead}
 pub use Rattle.mach_tries.specs.WalkViews.{node_in, own_in, source_trie, fault_in, info_in, node_of}
 pub use Rattle.mach_tries.specs.declared.walk.Source.{Source}

@@ -8,7 +8,7 @@ use Rattle.mach_tries.proofs.TriePaths.{same_node}
 use Rattle.mach_tries.proofs.TrieLevels.{one_list_lem}
 use Rattle.mach_tries.proofs.TrieRelation.{within}
 use Rattle.mach_tries.proofs.TreeWalk.{whole_begun}
-use Rattle.mach_tries.specs.declared.walk.ExportWalk.{ExportWalk}
+use Rattle.mach_tries.specs.declared.walk.Walker.{Walker}
 
 mutual
   pub prefix_of : (t : Trie) (s : ℕ) (p : List ℕ) (xs ys : List Entry) → ListBegins t s p xs → Lists t s p ys → (zs : List Entry) × (ys ≡ xs ++ zs)
@@ -43,7 +43,7 @@ whole_list t s p [] (nothing out) = none_yet
 whole_list t s p xs (a_node {others = others} node is all e) = node_begun node is (whole_begun t p node.branches others all) e
 
 -- what a walk has found is a beginning
-pub found_begins : {A : Type 0} {n : ℕ} (found : List Entry) (w : ExportWalk A) → HasFound found n w
+pub found_begins : {A : Type 0} {n : ℕ} (found : List Entry) (w : Walker A) → HasFound found n w
     → ListBegins (source_trie w.source) w.source.from [] found
 found_begins found w f = elim f [
   | inl at ↦ elim at.1 [

@@ -6,10 +6,10 @@ use Rattle.mach_tries.proofs.Names.{sum_by-set, sum_by-cons, Fault, malformed, B
 use Rattle.mach_tries.proofs.Names.{branches_at, source_trie, node_in, fault_in, at_node, met_again, Visits, Source}
 use Rattle.mach_tries.proofs.Names.{Visit, visit, Visited, Frame, Walk, IsShown, AreShown, none_shown, one_shown, used_up, Extends, Nested, Holds, before, Keeps}
 use Rattle.mach_tries.proofs.Names.{IsFresh, HasListed, unmarked, work}
-use Rattle.mach_tries.proofs.Names.{Error, IsRefused, IsAtBranch, HasFound, work_left, branch_of, branches_in, AreReadable, cases_eq, Option, None}
+use Rattle.mach_tries.proofs.Names.{Error, IsRefused, IsAtBranch, HasFound, work_ahead, branch_of, branches_in, AreReadable, cases_eq, Option, None}
 use Rattle.mach_tries.proofs.Names.{Some, IfSome, Info, Trie}
 use Rattle.mach_tries.specs.declared.walk.Open.{Open}
-use Rattle.mach_tries.specs.declared.walk.ExportWalk.{ExportWalk}
+use Rattle.mach_tries.specs.declared.walk.Walker.{Walker}
 use Rattle.mach_tries.specs.declared.node.Branches.{Branches}
 use Rattle.mach_tries.proofs.BranchAgain.{next_branch, first_branch, no_branch, label_utf8}
 use Rattle.mach_tries.proofs.Starts.{branch_from}
@@ -430,7 +430,7 @@ module _ {s : Source} {name : List ℕ} {marks : List Bool} {o : Open} {b : Bran
           ];
     }
 
-pub child_of : {A : Type 0} {found : List Entry} {n : ℕ} (w : ExportWalk A) → IsAtBranch found n w
+pub child_of : {A : Type 0} {found : List Entry} {n : ℕ} (w : Walker A) → IsAtBranch found n w
     → Child w.source w.name.items w.marks w.top (branch_of w.next) (reverse w.stack.items) found n
 child_of w at = elim at.1 [ inl root ↦ first_child root | inr next ↦ next_child next ]
 
@@ -458,17 +458,17 @@ less_entered over most marks marks' o child i os os' on few within clear mark ke
       | inr some ↦ rw (kept (omega arith)) less
     ])
 
-pub work_while_on : {A : Type 0} (w : ExportWalk A) → w.over ≡ false → 0 < work_left w
+pub work_while_on : {A : Type 0} (w : Walker A) → w.over ≡ false → 0 < work_ahead w
 work_while_on w on = rw on (some_work (length w.source.bytes.now) w.marks w.top (reverse w.stack.items))
 
-pub no_work : {A : Type 0} (w : ExportWalk A) → w.over ≡ true → work_left w ≡ 0
+pub no_work : {A : Type 0} (w : Walker A) → w.over ≡ true → work_ahead w ≡ 0
 no_work w off = rw off refl
 
 -- where it is not over it is at a branch, and where it is, all is listed
-pub at_branch : {A : Type 0} {found : List Entry} {n : ℕ} (w : ExportWalk A) → HasFound found n w → w.over ≡ false → IsAtBranch found n w
+pub at_branch : {A : Type 0} {found : List Entry} {n : ℕ} (w : Walker A) → HasFound found n w → w.over ≡ false → IsAtBranch found n w
 at_branch w f on = elim f [ inl at ↦ at | inr end ↦ absurd (tree.not_both end.0 on) ]
 
-pub at_end : {A : Type 0} {found : List Entry} {n : ℕ} (w : ExportWalk A) → HasFound found n w → w.over ≡ true → HasListed w.source found n
+pub at_end : {A : Type 0} {found : List Entry} {n : ℕ} (w : Walker A) → HasFound found n w → w.over ≡ true → HasListed w.source found n
 at_end w f off = elim f [ inl at ↦ absurd (tree.not_both off at.0) | inr end ↦ end.1 ]
 
 -- the visits so far, as any answer has them
@@ -482,7 +482,7 @@ module _ {t : Trie} {root m old new : ℕ} {X E : Type 0} (count : new ≡ old +
 pub no_visits : (t : Trie) (root : ℕ) → Visits {X = ℕ} {E = ℕ} t root 0 0 (Err 0)
 no_visits t root = record { paths = []; lead = λ p i. absurd i; apart = tt; count = refl; all = tt }
 
-pub visits_so_far : {A : Type 0} {found : List Entry} {n : ℕ} (w : ExportWalk A) → HasFound found n w
+pub visits_so_far : {A : Type 0} {found : List Entry} {n : ℕ} (w : Walker A) → HasFound found n w
     → Visits {X = ℕ} {E = ℕ} (source_trie w.source) w.source.from 0 n (Err 0) × (n ≤ w.source.upto - w.source.from)
 visits_so_far w f = elim f [
   | inl at ↦ ((child_of w at).visits, (child_of w at).few)
@@ -501,10 +501,10 @@ refused_from {n} {m} {old} {mid} {new} {e} same r grew =
     })
 
 -- what a list says of a walk over its source
-pub so_far : {s : Source} {old new m : ℕ} {A X E : Type 0} {found : List Entry} (w : ExportWalk A) → HasFound found m w → w.source ≡ s → new ≡ old + m
+pub so_far : {s : Source} {old new m : ℕ} {A X E : Type 0} {found : List Entry} (w : Walker A) → HasFound found m w → w.source ≡ s → new ≡ old + m
     → (e : E) → Visits {X = X} {E = E} (source_trie s) s.from old new (Err e)
 so_far {m} w f same count e = refused_visits count e
     (subst (λ (x : Source). Visits {X = ℕ} {E = ℕ} (source_trie x) x.from 0 m (Err 0)) same (visits_so_far w f).0)
 
-pub few_so_far : {s : Source} {m : ℕ} {A : Type 0} {found : List Entry} (w : ExportWalk A) → HasFound found m w → w.source ≡ s → m ≤ s.upto - s.from
+pub few_so_far : {s : Source} {m : ℕ} {A : Type 0} {found : List Entry} (w : Walker A) → HasFound found m w → w.source ≡ s → m ≤ s.upto - s.from
 few_so_far {m} w f same = subst (λ (x : Source). m ≤ x.upto - x.from) same (visits_so_far w f).1

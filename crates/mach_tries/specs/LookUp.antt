@@ -1,8 +1,9 @@
 -- The look-up of one name in the export trie (dyld's export info).
-use Rattle.std.specs.Prelude.{◌≡◌, ◌≢◌, ◌+◌, ℕ, List, [], ◌∷◌, ◌++◌, ◌⊎◌, Option, Some, None, length}
+use Rattle.std.specs.Prelude.{◌≡◌, ◌≢◌, ◌+◌, ℕ, List, [], ◌∷◌, ◌++◌, ◌⊎◌, Option, Some, None, Err, length}
 use Rattle.mach_base.specs.Among.{IsAmong}
+use Rattle.mach_base.specs.Fault.{Fault, malformed}
 use Rattle.mach_tries.specs.Trie.{Info, Trie, Entry}
-use Rattle.mach_tries.specs.Paths.{Path}
+use Rattle.mach_tries.specs.Paths.{Leads, Path}
 use Rattle.mach_tries.specs.TerminalPaths.{EndsWith, IsNameOf}
 use Rattle.mach_tries.specs.Visits.{AreApart}
 
@@ -27,6 +28,12 @@ Spells t root name path rest = (front : List ℕ) × IsNameOf t root path front 
 -- the path leads to a node on the way of the name
 abbrev pub IsOnWay : Trie → ℕ → List ℕ → List ℕ → Type 0
 IsOnWay t root name path = Path t root path × (rest : List ℕ) × Spells t root name path rest
+
+-- a fault that the name's way meets: a node on it is malformed, or two paths on it lead to one node
+pub data FaultOnWay (t : Trie) (root : ℕ) (name : List ℕ) : Fault → Type 0 where
+  at_node_on_way : (f : Fault) (path : List ℕ) (at : ℕ) → IsOnWay t root name path → Leads t path root at → t.node at ≡ Err f → FaultOnWay t root name f
+  met_on_way : (path other : List ℕ) (at : ℕ) → IsOnWay t root name path → IsOnWay t root name other → Leads t path root at → Leads t other root at
+      → path ≢ other → FaultOnWay t root name malformed
 
 -- A count has grown by the number of some paths to nodes, all on the way of the name: those that were visited at
 -- first, and those that were visited in a search. No path is in both lists, and no two of a list lead to one node.

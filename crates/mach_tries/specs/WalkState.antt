@@ -18,7 +18,7 @@ use Rattle.mach_tries.specs.WalkViews.{source_trie, fault_in}
 use Rattle.mach_tries.specs.declared.info.ExportInfo.{ExportInfo}
 use Rattle.mach_tries.specs.declared.walk.Source.{Source}
 use Rattle.mach_tries.specs.declared.walk.Open.{Open}
-use Rattle.mach_tries.specs.declared.walk.ExportWalk.{ExportWalk}
+use Rattle.mach_tries.specs.declared.walk.Walker.{Walker}
 
 -- ---- visits
 
@@ -170,16 +170,20 @@ pub record HasListed (s : Source) (found : List Entry) (n : ℕ) : Type 0 where
 
 -- ---- how far a walk has come, which has found these exports by so many visits
 
-abbrev pub IsAtBranch : {A : Type 0} → List Entry → ℕ → ExportWalk A → Type 0
+abbrev pub IsAtBranch : {A : Type 0} → List Entry → ℕ → Walker A → Type 0
 IsAtBranch found n w = (w.over ≡ false) × (IsFresh w.source w.name.items w.marks w.top (branch_of w.next) (reverse w.stack.items) found n
     ⊎ Keeps w.source w.name.items w.marks w.top (branch_of w.next) (reverse w.stack.items) found n)
 
 -- between two branches
-abbrev pub IsBetween : {A : Type 0} → List Entry → ℕ → ExportWalk A → Type 0
+abbrev pub IsBetween : {A : Type 0} → List Entry → ℕ → Walker A → Type 0
 IsBetween found n w = (w.over ≡ false) × Holds w.source w.name.items w.marks w.top (reverse w.stack.items) found n
 
-abbrev pub HasFound : {A : Type 0} → List Entry → ℕ → ExportWalk A → Type 0
+abbrev pub HasFound : {A : Type 0} → List Entry → ℕ → Walker A → Type 0
 HasFound found n w = IsAtBranch found n w ⊎ ((w.over ≡ true) × HasListed w.source found n)
+
+-- it is over, or has found some exports
+abbrev pub IsWalk : {A : Type 0} → Walker A → Type 0
+IsWalk w = w.over ≡ false → ∥ ((found : List Entry) × (n : ℕ) × HasFound found n w) ∥₁
 
 -- why a walk that had visited so many nodes is refused, and how the count of visits grew
 pub record IsRefused (s : Source) (n old new : ℕ) (e : Error) : Type 0 where
@@ -190,7 +194,7 @@ pub record IsRefused (s : Source) (n old new : ℕ) (e : Error) : Type 0 where
   pub count : new + n ≡ old + visited
 
 -- what a step of a walk gives that had found these exports by so many visits: the next export, an error, or, at the end, nothing
-abbrev pub StepGives : {A : Type 0} → List Entry → ℕ → ℕ → ℕ → Source → Option (Result ExportInfo Error) → ExportWalk A → Type 0
+abbrev pub StepGives : {A : Type 0} → List Entry → ℕ → ℕ → ℕ → Source → Option (Result ExportInfo Error) → Walker A → Type 0
 StepGives found n old new s None w = (m : ℕ) × HasListed s found m × HasFound found m w × (new + n ≡ old + m)
 StepGives found n old new s (Some (Ok info)) w = (m : ℕ) × HasFound (found ++ entry w.name.items (info_of info) ∷ []) m w × (new + n ≡ old + m)
 StepGives found n old new s (Some (Err e)) w = IsRefused s n old new e
@@ -206,5 +210,5 @@ branches_left os = sum_by (λ o. suc o.left) os
 abbrev pub work : ℕ → List Bool → List Open → ℕ
 work most marks os = (most + 2) * unmarked marks + branches_left os
 
-abbrev pub work_left : {A : Type 0} → ExportWalk A → ℕ
-work_left w = if w.over then 0 else work (length w.source.bytes.now) w.marks (w.top ∷ reverse w.stack.items)
+abbrev pub work_ahead : {A : Type 0} → Walker A → ℕ
+work_ahead w = if w.over then 0 else work (length w.source.bytes.now) w.marks (w.top ∷ reverse w.stack.items)

@@ -1,5 +1,5 @@
 -- What a walk of an export trie gives, as its callers see it.
-use Rattle.std.specs.Prelude.{◌≡◌, ◌<◌, ◌++◌, ◌∷◌, [], ℕ, true, false, List, Option, Some, None, Result, Ok, Err}
+use Rattle.std.specs.Prelude.{◌≡◌, ◌<◌, ◌++◌, ◌∷◌, [], ℕ, true, List, Option, Some, None, Result, Ok, Err}
 use Rattle.std.specs.Borrow.{Bor}
 use Rattle.mach_base.specs.Answer.{Stands}
 use Rattle.mach_base.specs.declared.error.Error.{Error}
@@ -7,21 +7,21 @@ use Rattle.mach_tries.specs.Trie.{Entry, entry}
 use Rattle.mach_tries.specs.TrieRange.{TrieRange, trie_there, ListsExports, ExportsFault}
 use Rattle.mach_tries.specs.Exports.{info_of}
 use Rattle.mach_tries.specs.WalkViews.{source_trie}
-use Rattle.mach_tries.specs.WalkState.{HasFound, work_left}
+use Rattle.mach_tries.specs.WalkState.{HasFound, work_ahead}
 use Rattle.mach_tries.specs.declared.info.ExportInfo.{ExportInfo}
-use Rattle.mach_tries.specs.declared.walk.ExportWalk.{ExportWalk}
+use Rattle.mach_tries.specs.declared.export_walk.ExportWalk.{ExportWalk}
 
 -- the walk goes over the trie of this range, and has given these exports
 abbrev pub HasGiven : {A : Type 0} → TrieRange → List (List ℕ) → List Entry → ExportWalk A → Type 0
-HasGiven t libs found w = (source_trie w.source ≡ trie_there t libs) × (w.source.from ≡ t.from) × (n : ℕ) × HasFound found n w
+HasGiven t libs found w = (source_trie w.walker.source ≡ trie_there t libs) × (w.walker.source.from ≡ t.from) × (n : ℕ) × HasFound found n w.walker
 
 -- it gives nothing more
 abbrev pub IsOver : {A : Type 0} → ExportWalk A → Type 0
-IsOver w = w.over ≡ true
+IsOver w = w.walker.over ≡ true
 
--- it is over, or goes over a trie
-abbrev pub IsWalk : {A : Type 0} → ExportWalk A → Type 0
-IsWalk w = w.over ≡ false → (found : List Entry) × (n : ℕ) × HasFound found n w
+-- what it has left to do, which each export makes less
+abbrev pub work_left : {A : Type 0} → ExportWalk A → ℕ
+work_left w = work_ahead w.walker
 
 -- what an answer says of a trie whose walk had given these exports: at the end they are its list, and an error is a fault of it
 abbrev pub SaysOfTrie : {X : Type 0} → TrieRange → List (List ℕ) → List Entry → Option (Result X Error) → Type 0
@@ -33,6 +33,6 @@ SaysOfTrie t libs found (Some (Err e)) = Stands (ExportsFault t libs) e
 abbrev pub GoesOn : {A : Type 0} → ExportWalk A → Option (Result (Bor (List ℕ) × ExportInfo) Error) → ExportWalk A → Type 0
 GoesOn old None new = IsOver new
 GoesOn old (Some (Err e)) new = IsOver new
-GoesOn old (Some (Ok given)) new = IsWalk new × (work_left new < work_left old)
+GoesOn old (Some (Ok given)) new = (work_left new < work_left old)
     × ((t : TrieRange) (libs : List (List ℕ)) (found : List Entry) → HasGiven t libs found old
     → HasGiven t libs (found ++ entry given.0.now (info_of given.1) ∷ []) new)

@@ -10,14 +10,15 @@ ghost use Rattle.mach_tries.specs.Visits.{Visits};
 ghost use Rattle.mach_tries.specs.Walks.{HasGiven};
 
 pub use crate::cursor::{NextExport, TrieCursor};
+pub use crate::export_walk::ExportWalk;
 pub use crate::info::{
     EXPORT_SYMBOL_FLAGS_KIND_ABSOLUTE, EXPORT_SYMBOL_FLAGS_KIND_MASK,
     EXPORT_SYMBOL_FLAGS_KIND_REGULAR, EXPORT_SYMBOL_FLAGS_KIND_THREAD_LOCAL,
     EXPORT_SYMBOL_FLAGS_REEXPORT, EXPORT_SYMBOL_FLAGS_STUB_AND_RESOLVER,
     EXPORT_SYMBOL_FLAGS_WEAK_DEFINITION, ExportInfo, SymbolKind,
 };
-pub use crate::walk::{ExportWalk, Open};
-use crate::walk::{Source, list_all};
+pub use crate::walk::Open;
+use crate::walk::{Source, Walker, list_all};
 use mach_base::{ByteCount, Result, Steps};
 use mach_records::{DyldInfoCommand, LinkeditDataCommand};
 use std::alloc::{Allocator, Global};
@@ -178,7 +179,8 @@ impl<'a> ExportTrie<'a> {
             from: self.from,
             upto: self.upto,
         };
-        ExportWalk::start(&alloc, &source)
+        let walker = Walker::start(&alloc, &source)?;
+        Ok(ExportWalk { walker })
     }
 
     /// The exports, depth first: each node's own before those of its children. `libs` are the image's

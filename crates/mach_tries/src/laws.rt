@@ -10,7 +10,7 @@ ghost use Rattle.mach_tries.specs.TerminalPaths.{AreInOrder, ListsPaths};
 ghost use Rattle.mach_base.specs.Among.{IsAmong};
 ghost use Rattle.mach_tries.specs.TrieRange.{TrieRange, trie_there, ListsExports, ExportsFault};
 ghost use Rattle.mach_tries.specs.Visits.{Visits};
-ghost use Rattle.mach_tries.specs.LookUp.{LookUpVisits};
+ghost use Rattle.mach_tries.specs.LookUp.{FaultOnWay, LookUpVisits};
 
 pub mod rows;
 
@@ -84,4 +84,10 @@ pub fn look_up_visits_within_nodes()
 pub fn look_up_visits_in_a_tree()
     ensures { (t : Trie) (root : ℕ) (name : List ℕ) (old new : ℕ) (nodes : List ℕ) → IsTree t root → LookUpVisits t root name old new
         → ((path : List ℕ) (at : ℕ) → Leads t path root at → at < t.upto → IsAmong at nodes) → new ≤ old + length nodes }
+{}
+
+/// A fault on the way of a name is one of the trie.
+#[tactic(auto, using(crate::proofs::LookUpPaths::fault_of_trie))]
+pub fn faults_on_way()
+    ensures { (t : Trie) (root : ℕ) (name : List ℕ) (f : Fault) → FaultOnWay t root name f → TrieFault t root f }
 {}

@@ -3,6 +3,7 @@
 
 mod branches;
 mod cursor;
+mod export_walk;
 pub mod exports;
 mod info;
 pub mod laws;

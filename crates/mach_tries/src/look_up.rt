@@ -9,15 +9,14 @@ ghost use Rattle.mach_base.specs.Answer.{Reads, Stands, FailsAs, IsOkUnlessMemor
 ghost use Rattle.mach_base.specs.Leb128.{uleb_at};
 ghost use Rattle.mach_tries.specs.Trie as trie;
 ghost use Rattle.mach_tries.specs.Trie.{Entry};
-ghost use Rattle.mach_tries.specs.TrieFault.{TrieFault};
 ghost use Rattle.mach_tries.specs.TrieRange.{trie_there, ListsExports, ExportsFault};
 ghost use Rattle.mach_tries.specs.Exports.{info_of};
 ghost use Rattle.mach_base.specs.Text.{texts};
 ghost use Rattle.mach_tries.specs.Nodes.{branch_at, branches_at, children_at, own_at};
 ghost use Rattle.mach_tries.specs.BranchViews.{branches_of, IsReadable};
-ghost use Rattle.mach_tries.specs.WalkViews.{source_trie, node_in, own_in, fault_in};
+ghost use Rattle.mach_tries.specs.WalkViews.{source_trie, node_in, own_in};
 ghost use Rattle.mach_tries.specs.Finds.{Finds};
-ghost use Rattle.mach_tries.specs.LookUp.{StandsFor, IsFirstOf, LookUpVisits};
+ghost use Rattle.mach_tries.specs.LookUp.{StandsFor, IsFirstOf, FaultOnWay, LookUpVisits};
 ghost use Rattle.mach_tries.specs.LookUpViews.{node_of, node_behind, OwnEnds, Settles, Stops, Goes, IsPassed, ComesTo, SearchVisits};
 
 use crate::branches::{BranchRun, read_parts, read_run};
@@ -312,7 +311,7 @@ fn search<'a, A: Allocator + Clone>(
     requires inside { root < source.now.upto }
     requires passed { IsPassed source.now root name.now (λ bs. branches_at source.now.bytes.now source.now.from branches.left branches.place ≡ Ok bs) }
     ensures found { IfOk result (λ o. Finds (source_trie source.now) root name.now (option_map info_of o)) }
-    ensures refused { IfErr result (Stands (TrieFault (source_trie source.now) root)) }
+    ensures refused { IfErr result (Stands (FaultOnWay (source_trie source.now) root name.now)) }
     ensures visits { SearchVisits (source_trie source.now) root name.now steps.old steps.new }
 {
     let from = source.from;
@@ -356,7 +355,7 @@ fn search<'a, A: Allocator + Clone>(
     }
 }
 
-// What the name is exported as: the first export of that name, or None, or a fault that stands in the trie.
+// What the name is exported as: the first export of that name, or None, or a fault on its way.
 fn look_up<'a, A: Allocator + Clone>(
     alloc: A,
     source: &Source<'a, '_>,
@@ -364,7 +363,7 @@ fn look_up<'a, A: Allocator + Clone>(
     steps: &mut Steps,
 ) -> Result<Option<ExportInfo<'a>>>
     ensures found { IfOk result (λ o. Finds (source_trie source.now) source.now.from name.now (option_map info_of o)) }
-    ensures refused { IfErr result (Stands (fault_in source.now)) }
+    ensures refused { IfErr result (Stands (FaultOnWay (source_trie source.now) source.now.from name.now)) }
     ensures visits { LookUpVisits (source_trie source.now) source.now.from name.now steps.old steps.new }
     ensures few_visits { steps.new ≤ steps.old + 2 * (source.now.upto - source.now.from) }
 {
@@ -389,7 +388,7 @@ fn look_up<'a, A: Allocator + Clone>(
 impl<'a> ExportTrie<'a> {
     /// What a name is exported as: the first of its exports in the list, or None. Only nodes on the way of the
     /// name are read, so it may answer where the trie has no list; what it then answers stands by the paths.
-    /// Each refusal but `Error::Memory` is a fault that stands in the trie. It takes memory only where two
+    /// Each refusal but `Error::Memory` is a fault on that way, so one that stands in the trie. It takes memory only where two
     /// branches of a node both spell a beginning of what is left of the name, or where the one that does leads
     /// to a node that doesn't stand behind its parent.
     pub fn find<A: Allocator + Clone>(
@@ -402,6 +401,7 @@ impl<'a> ExportTrie<'a> {
         ensures listed { (list : List Entry) → ListsExports self.now (texts libs.now) list → IfOk result (λ o. IsFirstOf name.now list (option_map info_of o)) }
         ensures only { (list : List Entry) → ListsExports self.now (texts libs.now) list → IsOkUnlessMemory result }
         ensures refused { IfErr result (Stands (ExportsFault self.now (texts libs.now))) }
+        ensures on_way { IfErr result (Stands (FaultOnWay (trie_there self.now (texts libs.now)) self.now.from name.now)) }
     {
         self.find_counted(alloc, libs, name, &mut Steps::new())
     }
@@ -419,6 +419,7 @@ impl<'a> ExportTrie<'a> {
         ensures listed { (list : List Entry) → ListsExports self.now (texts libs.now) list → IfOk result (λ o. IsFirstOf name.now list (option_map info_of o)) }
         ensures only { (list : List Entry) → ListsExports self.now (texts libs.now) list → IsOkUnlessMemory result }
         ensures refused { IfErr result (Stands (ExportsFault self.now (texts libs.now))) }
+        ensures on_way { IfErr result (Stands (FaultOnWay (trie_there self.now (texts libs.now)) self.now.from name.now)) }
         ensures visits { LookUpVisits (trie_there self.now (texts libs.now)) self.now.from name.now steps.old steps.new }
         ensures few_visits { steps.new ≤ steps.old + 2 * (self.now.upto - self.now.from) }
     {

@@ -11,10 +11,7 @@ ghost use Rattle.mach_tries.specs.Visits.{Visits};
 ghost use Rattle.mach_tries.specs.Exports.{info_of, entries};
 ghost use Rattle.mach_tries.specs.WalkViews.{source_trie, node_in, own_in, fault_in, info_in, node_of};
 ghost use Rattle.mach_tries.specs.NodeViews.{AreReadable};
-ghost use Rattle.mach_tries.specs.Lists.{ListBegins};
-ghost use Rattle.mach_tries.specs.TrieRange.{TrieRange, trie_there};
-ghost use Rattle.mach_tries.specs.Walks.{HasGiven, IsOver, IsWalk, SaysOfTrie, GoesOn};
-ghost use Rattle.mach_tries.specs.WalkState.{IsAtBranch, IsBetween, HasFound, IsRefused, StepGives, work_left};
+ghost use Rattle.mach_tries.specs.WalkState.{IsAtBranch, IsBetween, HasFound, IsWalk, IsRefused, StepGives, work_ahead};
 
 use crate::exports::Export;
 use crate::info::ExportInfo;
@@ -116,10 +113,10 @@ fn keep_below<A: Allocator>(
     Ok(())
 }
 
-/// The exports of a trie one at a time, depth first: each node's own before those of its children. It
-/// takes a bit for each byte of the trie, a stack of the nodes that are open, and one name.
+/// A walk of a trie, as far as it has come. It takes a bit for each byte of the trie, a stack of the nodes that
+/// are open, and one name.
 #[derive(Drop)]
-pub struct ExportWalk<'a, 'b, A: Allocator = Global> {
+pub struct Walker<'a, 'b, A: Allocator = Global> {
     pub(crate) source: Source<'a, 'b>,
     /// Which starts were met.
     pub(crate) marks: Marks<A>,
@@ -134,7 +131,7 @@ pub struct ExportWalk<'a, 'b, A: Allocator = Global> {
     pub(crate) over: bool,
 }
 
-impl<'a, 'b, A: Allocator> ExportWalk<'a, 'b, A> {
+impl<'a, 'b, A: Allocator> Walker<'a, 'b, A> {
     /// A walk that has come nowhere yet: the root is the child of its next branch.
     pub(crate) fn start(alloc: &A, source: &Source<'a, 'b>) -> Result<Self>
     where
@@ -144,7 +141,7 @@ impl<'a, 'b, A: Allocator> ExportWalk<'a, 'b, A> {
         ensures err { IfErr result (λ e. Stands (λ _. ⊥) e) }
     {
         let len = source.upto.saturating_sub(source.from);
-        Ok(ExportWalk {
+        Ok(Walker {
             source: *source,
             marks: Marks::new(alloc.clone()?, len)?,
             name: Vec::new(alloc.clone()?),
@@ -174,11 +171,12 @@ impl<'a, 'b, A: Allocator> ExportWalk<'a, 'b, A> {
     // Goes on to the next branch that is left, if there is one.
     #[inline(always)]
     fn go_on(&mut self)
-        requires { (found : List Entry) × (n : ℕ) × IsBetween found n self.old }
+        requires between { ∥ ((found : List Entry) × (n : ℕ) × IsBetween found n self.old) ∥₁ }
+        requires on { self.old.over ≡ false }
         ensures found { (found : List Entry) (n : ℕ) → IsBetween found n self.old → HasFound found n self.new }
         ensures source { self.new.source ≡ self.old.source }
         ensures name { self.new.name.items ≡ self.old.name.items }
-        ensures less { work_left self.new < work_left self.old }
+        ensures less { work_ahead self.new < work_ahead self.old }
     {
         if self.top.left == 0 {
             match self.stack.pop() {
@@ -198,14 +196,14 @@ impl<'a, 'b, A: Allocator> ExportWalk<'a, 'b, A> {
     // Takes the branch that comes next: answers the own export of the node that it leads to, if there is one.
     #[inline(always)]
     fn take(&mut self, steps: &mut Steps) -> Result<Option<ExportInfo<'a>>>
-        requires { (found : List Entry) × (n : ℕ) × IsAtBranch found n self.old }
+        requires { ∥ ((found : List Entry) × (n : ℕ) × IsAtBranch found n self.old) ∥₁ }
         ensures source { OnOk result (self.new.source ≡ self.old.source) }
         ensures found { IfOk result (λ own. (found : List Entry) (n : ℕ) → IsAtBranch found n self.old → (m : ℕ)
             × HasFound (found ++ own_entries self.new.name.items (info_in own)) m self.new × (steps.new + n ≡ steps.old + m)) }
         ensures refused { IfErr result (λ e. (found : List Entry) (n : ℕ) → IsAtBranch found n self.old
             → IsRefused self.old.source n steps.old steps.new e) }
         ensures utf8 { IfOk result (λ own. IfSome own (λ _. IsUtf8 self.new.name.items)) }
-        ensures less { OnOk result (work_left self.new < work_left self.old) }
+        ensures less { OnOk result (work_ahead self.new < work_ahead self.old) }
     {
         let Branch { label, start } = self.next;
         let from = self.source.from;
@@ -238,15 +236,16 @@ impl<'a, 'b, A: Allocator> ExportWalk<'a, 'b, A> {
     /// The next export, whose name is then that of the walk, or the fault that ends the walk.
     #[inline(always)]
     pub(crate) fn step(&mut self, steps: &mut Steps) -> Option<Result<ExportInfo<'a>>>
-        requires { self.old.over ≡ false → (found : List Entry) × (n : ℕ) × HasFound found n self.old }
+        requires { IsWalk self.old }
         ensures found { (found : List Entry) (n : ℕ) → HasFound found n self.old
             → StepGives found n steps.old steps.new self.old.source result self.new }
         ensures source { IfSome result (λ item. OnOk item (self.new.source ≡ self.old.source)) }
         ensures utf8 { IfSome result (λ item. OnOk item (IsUtf8 self.new.name.items)) }
+        ensures walk { IsWalk self.new }
         ensures none { IfNone result (self.new.over ≡ true) }
         ensures err { IfSome result (λ item. IfErr item (λ _. self.new.over ≡ true)) }
         ensures over { self.old.over ≡ true → IsNone result }
-        ensures less { IfSome result (λ item. work_left self.new < work_left self.old) }
+        ensures less { IfSome result (λ item. work_ahead self.new < work_ahead self.old) }
     {
         'turns: while !self.over {
             match self.take(steps) {
@@ -276,37 +275,6 @@ fn push_export<'a, A: Allocator + Clone>(
     Ok(())
 }
 
-impl<'a, 'b, A: Allocator> ExportWalk<'a, 'b, A> {
-    ghost use Rattle.std.specs.Prelude.{⊤};
-    ghost use Rattle.std.specs.Borrow.{sem};
-    ghost use Rattle.mach_tries.specs.contracts.walk.ExportWalk.{the_row};
-    ghost use mathlib.Core.Option.{none};
-    ghost use denote.Follow.{follows_so};
-    ghost use mir.Syntax.{named};
-
-    /// The next export: its name, which is lent until the next call, and what it stands for. Where the trie has no
-    /// list, an error ends the walk. Then there is nothing more.
-    #[inline(always)]
-    pub fn next(&mut self) -> Option<Result<(&str, ExportInfo<'a>)>>
-        requires { IsWalk self.old }
-        ensures says { (t : TrieRange) (libs : List (List ℕ)) (found : List Entry) → HasGiven t libs found self.old
-            → SaysOfTrie t libs found result }
-        ensures begun { (t : TrieRange) (libs : List (List ℕ)) (found : List Entry) → HasGiven t libs found self.old
-            → ListBegins (trie_there t libs) t.from [] found }
-        ensures over { IsOver self.old → IsNone result }
-        ensures* goes_on { sem 𝓛 (follows_so
-            (the_row (record { mir = named 1; lft = [] }) (record { mir = named 2; lft = [] }) A.row A.Allocator)
-            (the_row (record { mir = named 1; lft = [] }) (record { mir = named 2; lft = [] }) A.row A.Allocator)
-            self.entry.ghost_name none (λ _ _. ⊤) (GoesOn self.old result)) }
-    {
-        match self.step(&mut Steps::new()) {
-            None => None,
-            Some(Err(e)) => Some(Err(e)),
-            Some(Ok(info)) => Some(Ok((self.name(), info))),
-        }
-    }
-}
-
 /// The exports of a trie, depth first, or a fault that stands there.
 pub fn list_all<'a, A: Allocator + Clone>(
     alloc: &A,
@@ -320,7 +288,7 @@ pub fn list_all<'a, A: Allocator + Clone>(
     ensures few_visits { steps.new ≤ steps.old + (source.now.upto - source.now.from) }
     ensures refused { IfErr result (Stands (fault_in source.now)) }
 {
-    let mut walk = ExportWalk::start(alloc, source)?;
+    let mut walk = Walker::start(alloc, source)?;
     let mut found = Vec::new(alloc.clone()?);
     'exports: while let Some(item) = walk.step(steps) {
         let info = item?;

@@ -5,7 +5,7 @@ ghost use Rattle.mach_base.specs.Fault.{Fault};
 ghost use Rattle.goblin_mach.specs.FatEntry.{FatEntry};
 ghost use Rattle.goblin_mach.specs.View.{HasEntries};
 
-use crate::calls::{Call, Subject};
+use crate::calls::{Call, Subject, Work};
 use crate::times::{Times, per_item, shown_tenths, speed};
 use goblin_mach::{Error, describe};
 use std::alloc::{AllocError, AllocFailed, Allocator};
@@ -68,27 +68,42 @@ impl From<io::Error> for Failure {
     }
 }
 
-/// Prints the line of each call on a file, as soon as it is known.
+/// Prints the line of each call on a file, as soon as it is known, and answers whether all items were gone over; where
+/// not, a last line says so.
 pub fn bench<C: Clock, A: Allocator + Clone, O: Write>(
     clock: &C,
     alloc: A,
+    limit: usize,
     bytes: &[u8],
     out: &mut O,
-) -> Result<(), Failure>
+) -> Result<bool, Failure>
     ensures { OnOk result ((entries : List (Result FatEntry Fault)) × HasEntries bytes.now entries) }
 {
-    let subject = Subject::open(alloc.clone()?, bytes)?;
+    let subject = Subject::open(alloc.clone()?, limit, bytes)?;
+    let mut more = false;
     for call in Call::ALL {
-        match timed(clock, &alloc, &subject, call)? {
-            Some(row) => {
+        let (work, times) = timed(clock, &alloc, &subject, call)?;
+        let name = call.name();
+        match times {
+            Some(times) => {
+                let row = Row {
+                    call,
+                    items: work.items,
+                    times,
+                };
                 let line = row.line(&alloc, bytes.len() as u64)?;
                 writeln!(out, "{line}")?;
             }
-            None => writeln!(out, "{:12} nothing in this file", call.name())?,
+            None if work.more => writeln!(out, "{name:12} more than {limit} items")?,
+            None => writeln!(out, "{name:12} nothing in this file")?,
         }
         out.flush()?;
+        more |= work.more;
     }
-    Ok(())
+    if more {
+        writeln!(out, "limit: {limit} of them are told, and there are more")?;
+    }
+    Ok(!more)
 }
 
 // What is printed of a call.
@@ -99,16 +114,16 @@ struct Row {
     times: Times,
 }
 
-// Runs a call for about half a second; None where a run gives no item.
+// Runs a call for about half a second, and answers what one run does; no times where it gives no item.
 fn timed<C: Clock, A: Allocator + Clone>(
     clock: &C,
     alloc: &A,
     subject: &Subject<'_, A>,
     call: Call,
-) -> Result<Option<Row>, Failure> {
+) -> Result<(Work, Option<Times>), Failure> {
     let first = subject.run(call)?;
     if first.items == 0 {
-        return Ok(None);
+        return Ok((first, None));
     }
     let mut runs = Vec::new(alloc);
     let start = now(clock)?;
@@ -124,11 +139,7 @@ fn timed<C: Clock, A: Allocator + Clone>(
             break;
         }
     }
-    Ok(Times::of(&mut runs).map(|times| Row {
-        call,
-        items: first.items,
-        times,
-    }))
+    Ok((first, Times::of(&mut runs)))
 }
 
 // What the clock shows.

@@ -1,6 +1,6 @@
 //! The calls that are timed, and what a run of each is.
 
-ghost use Rattle.std.specs.Prelude.{◌≡◌, ◌+◌, ◌%◌, ◌^◌, length, OnOk, List, Result};
+ghost use Rattle.std.specs.Prelude.{◌≡◌, ◌≤◌, ◌+◌, ◌-◌, ◌%◌, ◌^◌, false, true, length, OnOk, List, Result};
 ghost use Rattle.mach_base.specs.Fault.{Fault};
 ghost use Rattle.goblin_mach.specs.FatEntry.{FatEntry};
 ghost use Rattle.goblin_mach.specs.View.{HasEntries};
@@ -69,13 +69,46 @@ impl Call {
 }
 
 /// What a run did: how many items it gave, and a sum over what they hold, so that no run leaves work out.
-#[derive(Clone, Copy, Debug, Default, PartialEq)]
+#[derive(Clone, Copy, Debug, PartialEq)]
 pub struct Work {
     pub items: u64,
     pub sum: u64,
+    /// Whether there are more items than may be gone over.
+    pub more: bool,
+    // How many items may be gone over yet.
+    left: usize,
 }
 
 impl Work {
+    // Nothing yet, of at most so many items.
+    fn new(limit: usize) -> Work
+        ensures { (result.items ≡ 0) × (result.left ≡ limit) × (result.more ≡ false) }
+    {
+        Work {
+            items: 0,
+            sum: 0,
+            more: false,
+            left: limit,
+        }
+    }
+
+    // Whether one item more may be gone over; where not, there are more than may be.
+    fn takes(&mut self) -> bool
+        ensures taken { result ≡ true → (self.old.left ≡ self.new.left + 1) × (self.new.more ≡ self.old.more) }
+        ensures over { result ≡ false → (self.old.left ≡ 0) × (self.new.more ≡ true) }
+    {
+        match self.left.checked_sub(1) {
+            Some(left) => {
+                self.left = left;
+                true
+            }
+            None => {
+                self.more = true;
+                false
+            }
+        }
+    }
+
     // Adds so many items, and what they hold.
     fn add(&mut self, items: usize, sum: u64)
         ensures items { self.new.items ≡ (self.old.items + items) % 2 ^ 64 }
@@ -143,7 +176,11 @@ fn add_images<'a, A: Allocator + Clone>(
 #[derive(Drop)]
 pub struct Subject<'a, A: Allocator> {
     bytes: &'a [u8],
+    // How many items a run of a call goes over at most.
+    limit: usize,
     images: Vec<MachO<'a, A>, A>,
+    // What was counted of the imports of all images.
+    imports: Work,
     // The exports of each image, whose names are looked up.
     exports: Vec<Vec<Export<'a, A>, A>, A>,
     alloc: A,
@@ -161,27 +198,41 @@ fn exports_of<'a, A: Allocator + Clone>(
     Ok(exports)
 }
 
+// Counts the imports of all images, up to the limit.
+fn count_imports<A: Allocator>(limit: usize, images: &[MachO<'_, A>]) -> Work {
+    let mut work = Work::new(limit);
+    for image in images {
+        work.count_imports(image);
+    }
+    work
+}
+
 impl<'a, A: Allocator + Clone> Subject<'a, A> {
     /// The file of these bytes, with its images and their exports. A fat file whose table does not lie in the
-    /// bytes is refused; of its entries those are left out that are no image or don't open.
-    pub fn open(alloc: A, bytes: &'a [u8]) -> Result<Subject<'a, A>>
+    /// bytes is refused; of its entries those are left out that are no image or don't open. A run of a call goes over at
+    /// most `limit` items.
+    pub fn open(alloc: A, limit: usize, bytes: &'a [u8]) -> Result<Subject<'a, A>>
         ensures { OnOk result ((entries : List (Result FatEntry Fault)) × HasEntries bytes.now entries) }
     {
         let images = images_of(alloc.clone()?, bytes)?;
         let exports = exports_of(alloc.clone()?, &images)?;
+        let imports = count_imports(limit, &images);
         Ok(Subject {
             bytes,
+            limit,
             images,
+            imports,
             exports,
             alloc,
         })
     }
 
-    /// Runs a call once.
+    /// Runs a call once. One that lists imports is not run where there are more than may be gone over.
     pub fn run(&self, call: Call) -> Result<Work> {
         match call {
             Call::Parse => self.parse(),
             Call::FindExport => self.find_exports(),
+            Call::Imports | Call::LinkView if self.imports.more => Ok(self.imports),
             Call::LinkView => self.link_view(),
             _ => self.each_image(call),
         }
@@ -189,7 +240,7 @@ impl<'a, A: Allocator + Clone> Subject<'a, A> {
 
     // Runs a call on each image.
     fn each_image(&self, call: Call) -> Result<Work> {
-        let mut work = Work::default();
+        let mut work = Work::new(self.limit);
         for image in &self.images {
             add_image(&mut work, &self.alloc, image, call)?;
         }
@@ -203,12 +254,12 @@ impl<'a, A: Allocator + Clone> Subject<'a, A> {
         };
         Ok(Work {
             items: items as u64,
-            sum: 0,
+            ..Work::new(self.limit)
         })
     }
 
     fn find_exports(&self) -> Result<Work> {
-        let mut work = Work::default();
+        let mut work = Work::new(self.limit);
         for (image, exports) in self.images.iter().zip(self.exports.iter()) {
             work.find_exports(&self.alloc, image, exports)?;
         }
@@ -216,7 +267,7 @@ impl<'a, A: Allocator + Clone> Subject<'a, A> {
     }
 
     fn link_view(&self) -> Result<Work> {
-        let mut work = Work::default();
+        let mut work = Work::new(self.limit);
         for item in &link_view(self.alloc.clone()?, self.bytes)? {
             if let Ok(LinkView::Image { exports, imports }) = item {
                 work.add_exports(exports);
@@ -268,9 +319,21 @@ impl Work {
         Ok(())
     }
 
+    // Counts the imports of an image, up to the limit.
+    fn count_imports<A: Allocator>(&mut self, image: &MachO<'_, A>) {
+        for _ in image.iter_imports() {
+            if !self.takes() {
+                return;
+            }
+        }
+    }
+
     // Goes over the imports of an image.
     fn import<A: Allocator>(&mut self, image: &MachO<'_, A>) -> Result<()> {
         for item in image.iter_imports() {
+            if !self.takes() {
+                return Ok(());
+            }
             let import = item?;
             self.add(1, import.address.wrapping_add(import.name.len() as u64));
         }
@@ -280,6 +343,9 @@ impl Work {
     // Goes over the bindings of an image.
     fn bind<A: Allocator>(&mut self, image: &MachO<'_, A>) -> Result<()> {
         for item in image.bindings() {
+            if !self.takes() {
+                return Ok(());
+            }
             let binding = item?;
             self.add(1, binding.address.wrapping_add(binding.name.len() as u64));
         }
@@ -289,6 +355,9 @@ impl Work {
     // Goes over the fixups of an image.
     fn fix<A: Allocator>(&mut self, image: &MachO<'_, A>) -> Result<()> {
         for item in image.fixups() {
+            if !self.takes() {
+                return Ok(());
+            }
             let fixup = item?;
             self.add(1, fixup.address.wrapping_add(number_of(fixup.kind)));
         }
@@ -298,6 +367,9 @@ impl Work {
     // Goes over the symbols of an image.
     fn add_symbols<A: Allocator>(&mut self, image: &MachO<'_, A>) {
         for item in image.symbols() {
+            if !self.takes() {
+                return;
+            }
             if let Ok((name, symbol)) = item {
                 self.add(1, symbol.n_value.wrapping_add(name.len() as u64));
             }
@@ -308,6 +380,9 @@ impl Work {
     fn relocate<A: Allocator + Clone>(&mut self, alloc: &A, image: &MachO<'_, A>) -> Result<()> {
         for (_, relocations, _) in image.relocations(alloc.clone()?)? {
             for item in relocations {
+                if !self.takes() {
+                    return Ok(());
+                }
                 if let Ok(relocation) = item {
                     self.add(1, u64::from(relocation.r_info));
                 }

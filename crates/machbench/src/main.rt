@@ -8,20 +8,21 @@ mod run;
 mod tests;
 mod times;
 
-use run::{run, say};
-use std::io::ErrorKind;
+use run::{DEFAULT_LIMIT, run, say};
+use std::io::{BufWriter, ErrorKind};
 use std::process::ExitCode;
 use std::{env, fs, io};
 
-const USAGE: &str = "usage: machbench FILE\n       machbench --help | --version\n";
+const USAGE: &str = "usage: machbench [--limit N] FILE\n       machbench --help | --version\n";
 
-const HELP: &str = "usage: machbench FILE
+const HELP: &str = "usage: machbench [--limit N] FILE
        machbench --help | --version
 
 Times calls of goblin_mach on a Mach-O file, or on all images of a fat one, each for about half
 a second. A line has the call, how many items a run of it gives, the nanoseconds of an item by
 the least and by the median of all runs, and the megabytes of the file that the least run goes
-over in a second.
+over in a second. Of a call at most N items are gone over, 10000000 where no limit is given; where a
+call has more, a last line says so, and the status is 1.
 ";
 
 const VERSION: &str = "machbench 0.1.0\n";
@@ -47,12 +48,17 @@ fn start(rt: &HostRuntime, args: &[String]) -> u8 {
         [_, word] if word.as_str() == "--version" => {
             say(VERSION, &mut io::writer(rt), &mut rt.stderr())
         }
-        [_, file] => time_file(rt, file),
+        [_, flag] if flag.as_str() == "--limit" => bad_usage(rt),
+        [_, file] => time_file(rt, DEFAULT_LIMIT, file),
+        [_, flag, number, file] if flag.as_str() == "--limit" => match number.parse::<usize>() {
+            Ok(limit) => time_file(rt, limit, file),
+            Err(_) => bad_usage(rt),
+        },
         _ => bad_usage(rt),
     }
 }
 
-fn time_file(rt: &HostRuntime, file: &str) -> u8 {
+fn time_file(rt: &HostRuntime, limit: usize, file: &str) -> u8 {
     let bytes = match fs::read(rt, file) {
         Ok(bytes) => bytes,
         Err(error) if error.kind() == ErrorKind::OutOfMemory => return out_of_memory(rt),
@@ -61,11 +67,15 @@ fn time_file(rt: &HostRuntime, file: &str) -> u8 {
             return 2;
         }
     };
+    let Ok(mut lines) = BufWriter::new(rt.alloc(), io::writer(rt)) else {
+        return out_of_memory(rt);
+    };
     run(
         rt,
         rt.alloc(),
+        limit,
         bytes.as_slice(),
-        &mut io::writer(rt),
+        &mut lines,
         &mut rt.stderr(),
     )
 }

@@ -1,6 +1,7 @@
 //! The program's exit status.
 
-ghost use Rattle.std.specs.Prelude.{◌≡◌, ◌≢◌, ◌≤◌, OnOk, List, Result};
+ghost use Rattle.std.specs.Prelude.{◌≡◌, ◌≢◌, ◌≤◌, [], OnOk, List, Result};
+ghost use Rattle.std.specs.Io.Buffered.{writer_buffer};
 ghost use Rattle.std.specs.Io.KnownBytes.{Appends};
 ghost use Rattle.mach_base.specs.Fault.{Fault};
 ghost use Rattle.goblin_mach.specs.FatEntry.{FatEntry};
@@ -9,25 +10,44 @@ ghost use Rattle.goblin_mach.specs.View.{HasEntries};
 use crate::bench::{Failure, bench};
 use std::alloc::Allocator;
 use std::io;
-use std::io::Write;
+use std::io::{BufWriter, Write};
 use std::time::Clock;
 
-/// Times the calls on a file, and answers the exit status: 0; 1 where the file or a call on it is refused, or
-/// memory, and then `err` has a line that says why; 2 where the clock can't be read or a write fails.
-pub fn run<C: Clock, A: Allocator + Clone, O: Write, E: Write>(
+/// How many items a run of a call goes over, where no other limit is given.
+pub const DEFAULT_LIMIT: usize = 10_000_000;
+
+/// Times the calls on a file, each of at most `limit` items, and answers the exit status: 0; 1 where a call has more, and
+/// then a last line says so, or where the file or a call on it is refused, or memory, and then `err` has a line that says
+/// why; 2 where the clock can't be read or a write fails. But for that nothing is left in the buffer.
+pub fn run<C: Clock, A: Allocator + Clone, W: Write + Drop, B: Allocator, E: Write>(
     clock: &C,
     alloc: A,
+    limit: usize,
     bytes: &[u8],
-    out: &mut O,
+    out: &mut BufWriter<W, B>,
     err: &mut E,
 ) -> u8
     ensures status { result ≤ 2 }
     ensures timed { result ≡ 0 → (entries : List (Result FatEntry Fault)) × HasEntries bytes.now entries }
+    ensures flushed { result ≢ 2 → writer_buffer out.new ≡ [] }
 {
-    match bench(clock, alloc, bytes, out) {
-        Ok(()) => 0,
-        Err(failure) => failed(&failure, err),
+    let timed = bench(clock, alloc, limit, bytes, out);
+    match out.flush() {
+        Ok(()) => match timed {
+            Ok(true) => 0,
+            Ok(false) => 1,
+            Err(failure) => failed(&failure, err),
+        },
+        Err(_) => unwritten(err),
     }
+}
+
+// The status of a failed write, which `err` tells of if it can.
+fn unwritten<E: Write>(err: &mut E) -> u8
+    ensures { result ≡ 2 }
+{
+    let _ = writeln!(err, "machbench: cannot write");
+    2
 }
 
 // The status of a failure, which `err` tells of.
@@ -49,10 +69,7 @@ pub fn say<O: Write, E: Write>(text: &str, out: &mut O, err: &mut E) -> u8
 {
     match put(text, out) {
         Ok(()) => 0,
-        Err(_) => {
-            let _ = writeln!(err, "machbench: cannot write");
-            2
-        }
+        Err(_) => unwritten(err),
     }
 }
 

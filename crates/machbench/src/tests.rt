@@ -3,7 +3,7 @@
 mod files;
 mod same;
 
-use crate::run::run;
+use crate::run::{DEFAULT_LIMIT, run};
 use crate::tests::files::{FILE_B, file_c, typed_file_c};
 use crate::tests::same::{same, same_at, same_of};
 use linked_list_allocator::LocalHeap;
@@ -105,63 +105,119 @@ imports              2 items     500.0 ns least    1000.0 ns median     440 MB/s
 iter_imports         2 items     500.0 ns least    1000.0 ns median     440 MB/s
 ";
 
+// The lines of file C with a type, where each call may go over one item.
+const CUT: &str = "parse                2 items     500.0 ns least    1000.0 ns median     440 MB/s
+exports              2 items     500.0 ns least    1000.0 ns median     440 MB/s
+find_export          2 items     500.0 ns least    1000.0 ns median     440 MB/s
+imports      more than 1 items
+iter_imports         1 items    1000.0 ns least    2000.0 ns median     440 MB/s
+bindings             1 items    1000.0 ns least    2000.0 ns median     440 MB/s
+fixups       nothing in this file
+symbols              1 items    1000.0 ns least    2000.0 ns median     440 MB/s
+relocations          1 items    1000.0 ns least    2000.0 ns median     440 MB/s
+link_view    more than 1 items
+limit: 1 of them are told, and there are more
+";
+
 const UNTYPED: &str = "machbench: malformed: a bind has a name, a segment and a type\n";
 
 // What is said of a failed write.
 const UNWRITTEN: &[u8] = b"machbench: cannot write\n";
 
-// What is asked of a run: the bytes, the status, and what is written on both outputs.
-fn shows(
-    rt: &impl Abort,
-    alloc: Global,
-    name: &str,
-    bytes: &[u8],
+// What is asked of a run: the status, and what is written on both outputs.
+#[derive(Clone, Copy)]
+struct Wanted<'a> {
+    name: &'a str,
+    limit: usize,
     status: u8,
-    out: &str,
-    err: &str,
-) {
-    let mut lines = Vec::new(alloc);
-    let mut reasons = Vec::new(alloc);
-    let answer = run(&Steps::new(), alloc, bytes, &mut lines, &mut reasons);
-    same_of(rt, name, answer, status);
-    same_of(rt, name, lines.as_slice(), out.as_bytes());
-    same_of(rt, name, reasons.as_slice(), err.as_bytes());
+    out: &'a str,
+    err: &'a str,
 }
 
-#[test]
-fn table(rt: HostRuntime) -> Result<(), Fail> {
-    shows(
-        &rt,
-        rt.alloc(),
-        "file C with a type",
-        &typed_file_c(rt.alloc())?,
-        0,
-        TABLE,
-        "",
+fn shows(rt: &impl Abort, alloc: Global, bytes: &[u8], wanted: &Wanted<'_>) -> Result<(), Fail> {
+    let mut lines = BufWriter::new(alloc, Vec::new(alloc))?;
+    let mut reasons = Vec::new(alloc);
+    let answer = run(
+        &Steps::new(),
+        alloc,
+        wanted.limit,
+        bytes,
+        &mut lines,
+        &mut reasons,
     );
-    shows(
-        &rt,
-        rt.alloc(),
-        "file C, whose first bind has no type",
-        &file_c(rt.alloc())?,
-        1,
-        FRONT,
-        UNTYPED,
+    same_of(rt, wanted.name, answer, wanted.status);
+    same_of(
+        rt,
+        wanted.name,
+        lines.get_ref().as_slice(),
+        wanted.out.as_bytes(),
     );
+    same_of(rt, wanted.name, reasons.as_slice(), wanted.err.as_bytes());
     Ok(())
 }
 
 #[test]
-fn no_clock(rt: HostRuntime) {
+fn table(rt: HostRuntime) -> Result<(), Fail> {
+    let whole = typed_file_c(rt.alloc())?;
+    let rows = [
+        Wanted {
+            name: "file C with a type",
+            limit: DEFAULT_LIMIT,
+            status: 0,
+            out: TABLE,
+            err: "",
+        },
+        Wanted {
+            name: "as many items as may be gone over",
+            limit: 2,
+            status: 0,
+            out: TABLE,
+            err: "",
+        },
+        Wanted {
+            name: "one more",
+            limit: 1,
+            status: 1,
+            out: CUT,
+            err: "",
+        },
+    ];
+    for wanted in &rows {
+        shows(&rt, rt.alloc(), &whole, wanted)?;
+    }
+    shows(
+        &rt,
+        rt.alloc(),
+        &file_c(rt.alloc())?,
+        &Wanted {
+            name: "file C, whose first bind has no type",
+            limit: DEFAULT_LIMIT,
+            status: 1,
+            out: FRONT,
+            err: UNTYPED,
+        },
+    )
+}
+
+#[test]
+fn no_clock(rt: HostRuntime) -> Result<(), Fail> {
     let alloc = rt.alloc();
     let mut reasons = Vec::new(alloc);
-    let answer = run(&Broken, alloc, &FILE_B, &mut Vec::new(alloc), &mut reasons);
+    let answer = run(
+        &Broken,
+        alloc,
+        DEFAULT_LIMIT,
+        &FILE_B,
+        &mut BufWriter::new(alloc, Vec::new(alloc))?,
+        &mut reasons,
+    );
     same(&rt, answer, 2);
     same(
         &rt,
         reasons.as_slice(),
         b"machbench: cannot read the clock\n".as_slice(),
     );
+    Ok(())
 }
 
 #[test]
@@ -171,7 +227,14 @@ fn failed_writes(rt: HostRuntime) -> Result<(), Fail> {
     for left in 0..=TABLE.len() {
         let mut out = BufWriter::new(alloc, Full { left })?;
         let mut reasons = Vec::new(alloc);
-        let answer = run(&Steps::new(), alloc, &whole, &mut out, &mut reasons);
+        let answer = run(
+            &Steps::new(),
+            alloc,
+            DEFAULT_LIMIT,
+            &whole,
+            &mut out,
+            &mut reasons,
+        );
         let said = if left < TABLE.len() { UNWRITTEN } else { b"" };
         same_at(&rt, left, answer == 2, left < TABLE.len());
         same_at(&rt, left, reasons.as_slice(), said);
@@ -186,11 +249,18 @@ fn want_of_memory(rt: HostRuntime) -> Result<(), Fail> {
     let mut timed = 0u32;
     for size in 0..400 {
         let heap = LocalHeap::new(rt.alloc(), 64 * size)?;
-        let mut lines = Vec::new(rt.alloc());
+        let mut lines = BufWriter::new(rt.alloc(), Vec::new(rt.alloc()))?;
         let mut reasons = Vec::new(rt.alloc());
-        let answer = run(&Steps::new(), &heap, &whole, &mut lines, &mut reasons);
+        let answer = run(
+            &Steps::new(),
+            &heap,
+            DEFAULT_LIMIT,
+            &whole,
+            &mut lines,
+            &mut reasons,
+        );
         if answer == 0 {
-            same(&rt, lines.as_slice(), TABLE.as_bytes());
+            same(&rt, lines.get_ref().as_slice(), TABLE.as_bytes());
             timed = timed.saturating_add(1);
         } else {
             same_at(&rt, size, (answer, timed), (1, 0));

@@ -1,5 +1,6 @@
 -- The records and the entries of a fat file, as the program's contracts speak of them.
-use Rattle.std.specs.Prelude.{◌≡◌, ◌<◌, ◌≤◌, ◌+◌, ℕ, List, Ok, length, take, drop}
+use Rattle.std.specs.Prelude.{◌≡◌, ◌<◌, ◌≤◌, ◌+◌, ℕ, List, Option, Ok, length, take, drop}
+use Rattle.std.specs.Io.KnownBytes.{Appends}
 use Rattle.mach_headers.specs.declared.fat.FatArch.{FatArch}
 use Rattle.goblin_mach.specs.FatFile.{FatFile, fat_file_in, arch_at, arches_in}
 use Rattle.goblin_mach.specs.File.{HasFatMagic}
@@ -28,3 +29,7 @@ pub record IsEntryOf (bytes : List ℕ) (i : ℕ) (entry : List ℕ) : Type 0 wh
   pub is_record : IsRecordOf bytes i arch
   pub in_file : arch.offset + arch.size ≤ length bytes
   pub slice : entry ≡ take arch.size (drop arch.offset bytes)
+
+-- A file of the system took exactly these bytes; `contents` is what a file has, where that is known.
+abbrev pub WasWritten : {F : Type 0} → (F → Option (List ℕ)) → List ℕ → Type 0
+WasWritten {F} contents entry = (old : F) × (new : F) × Appends (contents old) (contents new) entry

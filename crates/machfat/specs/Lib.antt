@@ -1,3 +1,4 @@
 pub mod Entry
 pub mod Lines
 pub mod Refusals
+pub mod Same

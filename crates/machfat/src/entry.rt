@@ -10,8 +10,8 @@ ghost use Rattle.machfat.specs.Refusals.{RefusesList, IsRefusal};
 
 use crate::refusal::{Failure, Refusal};
 use crate::text::RecordText;
-use goblin_mach::fat::FatArch;
-use goblin_mach::{Mach, MultiArch, laws};
+use goblin_mach::fat::{FatArch, SIZEOF_FAT_ARCH, SIZEOF_FAT_HEADER};
+use goblin_mach::{Mach, MultiArch};
 use std::alloc::Allocator;
 use std::io;
 use std::io::Write;
@@ -66,20 +66,20 @@ pub fn list<A: Allocator + Clone, O: Write>(
 {
     let records = records(alloc, bytes)?;
     print_records(bytes, &records, out)?;
-    out.flush()?;
     Ok(())
 }
 
-// The record of an index.
+// The record of an index, read at its own place: a table may be said to have 2^32 - 1 records.
 fn record_of<A: Allocator + Clone>(alloc: A, bytes: &[u8], index: usize) -> Result<FatArch, Refusal>
     ensures { IfOk result (IsRecordOf bytes.now index) }
 {
-    laws::fat_file_of_bytes();
-    laws::records_by_number();
-    match fat_file(alloc, bytes)?.iter_arches().nth(index) {
-        Some(arch) => Ok(arch?),
-        None => Err(Refusal::NoEntry(index)),
+    let container = fat_file(alloc, bytes)?;
+    if index >= container.narches {
+        return Err(Refusal::NoEntry(index));
     }
+    let before = index.saturating_mul(SIZEOF_FAT_ARCH);
+    let arch = FatArch::parse(bytes, before.saturating_add(SIZEOF_FAT_HEADER))?;
+    Ok(arch)
 }
 
 /// The bytes of an entry of a fat file.
@@ -96,20 +96,4 @@ pub fn entry_bytes<A: Allocator + Clone>(
         Some(entry) => Ok(entry),
         None => Err(Refusal::OutOfFile(index)),
     }
-}
-
-/// Writes an entry of a fat file: exactly the bytes that its record names.
-pub fn write_entry<A: Allocator + Clone, O: Write>(
-    alloc: A,
-    bytes: &[u8],
-    index: usize,
-    out: &mut O,
-) -> Result<(), Failure>
-    ensures { OnOk result ((entry : List ℕ) × IsEntryOf bytes.now index entry
-        × Appends (O.contents out.old) (O.contents out.new) entry) }
-{
-    let entry = entry_bytes(alloc, bytes, index)?;
-    out.write_all(entry)?;
-    out.flush()?;
-    Ok(())
 }

@@ -1,10 +1,10 @@
 //! An entry as a file of its own.
 
-ghost use Rattle.std.specs.Prelude.{ℕ, List, OnOk};
+ghost use Rattle.std.specs.Prelude.{◌≡◌, Option, OnOk};
 ghost use Rattle.std.specs.Io.KnownBytes.{Appends};
-ghost use Rattle.machfat.specs.Entry.{IsEntryOf};
+ghost use Rattle.machfat.specs.Entry.{WasWritten};
+ghost use Rattle.machfat.specs.Same.{is_one_file, is_one_node};
 
-use crate::entry::{entry_bytes, write_entry};
 use crate::refusal::Failure;
 use std::alloc::Global;
 use std::fs;
@@ -16,37 +16,66 @@ use std::rt::Files;
 // How many names are tried for a file that is not whole yet.
 const NAMES: usize = 100;
 
-/// Whether two paths lead to one file: they are one text, or the system says so.
-pub fn is_same_file<R: Files>(files: &R, one: &str, other: &str) -> bool {
-    if one == other {
-        return true;
+/// What the system knows a file by: the number of its device, and its own number there.
+#[derive(Clone, Copy)]
+pub struct Node {
+    dev: u64,
+    ino: u64,
+}
+
+/// Whether two paths lead to one file: exactly where they are one text, or the system says so.
+pub fn is_same_file<R: Files>(files: &R, one: &str, other: &str) -> bool
+    ensures { (here : Option Node) × (there : Option Node) × (result ≡ is_one_file one.now other.now here there) }
+{
+    let here = node_of(files, one);
+    let there = node_of(files, other);
+    is_one_file(one, other, here, there)
+}
+
+// What the system knows the file of a path by, if it says so.
+fn node_of<R: Files>(files: &R, path: &str) -> Option<Node> {
+    match fs::metadata(files, path) {
+        Ok(there) => Some(Node {
+            dev: there.dev(),
+            ino: there.ino(),
+        }),
+        Err(_) => None,
     }
-    match (fs::metadata(files, one), fs::metadata(files, other)) {
-        (Ok(here), Ok(there)) => here.dev() == there.dev() && here.ino() == there.ino(),
+}
+
+// Whether two paths are one text, or what they lead to is one file.
+fn is_one_file(one: &str, other: &str, here: Option<Node>, there: Option<Node>) -> bool
+    ensures { result ≡ is_one_file one.now other.now here there }
+{
+    one == other || is_one_node(here, there)
+}
+
+// Whether both are there, and are the same.
+fn is_one_node(here: Option<Node>, there: Option<Node>) -> bool
+    ensures { result ≡ is_one_node here there }
+{
+    match (here, there) {
+        (Some(here), Some(there)) => here.dev == there.dev && here.ino == there.ino,
         _ => false,
     }
 }
 
-/// Writes an entry under another name beside the target, and renames it once it is whole. Until then the
+/// Writes an entry's bytes under another name beside the target, and renames it once it is whole. Until then the
 /// target is as it was, and where a step fails it stays so and nothing is left beside it. No file is made where
-/// there is no such entry, or where something other than a plain file has the target's name.
+/// something other than a plain file has the target's name.
 pub fn place_entry<R: Files>(
     files: &R,
     alloc: Global,
-    bytes: &[u8],
-    index: usize,
+    entry: &[u8],
     target: &str,
 ) -> Result<(), Failure>
-    ensures { OnOk result ((entry : List ℕ) × IsEntryOf bytes.now index entry) }
+    ensures { OnOk result (WasWritten R.File.contents entry.now) }
 {
-    entry_bytes(alloc, bytes, index)?;
     if !is_free(files, target) {
         return Err(Failure::Unwritten);
     }
-    let (name, mut file) = new_file(files, alloc, target)?;
-    let written = fill(alloc, bytes, index, &mut file);
-    drop(file);
-    match written.and_then(|()| renamed(files, name.as_str(), target)) {
+    let (name, file) = new_file(files, alloc, target)?;
+    match complete(files, entry, file, name.as_str(), target) {
         Ok(()) => Ok(()),
         Err(failure) => {
             let _ = fs::remove_file(files, name.as_str());
@@ -77,21 +106,27 @@ fn new_file<R: Files>(files: &R, alloc: Global, path: &str) -> Result<(String, R
 }
 
 // Writes an entry to a file, down to the disk.
-fn fill<F: Write + OpenFile>(
-    alloc: Global,
-    bytes: &[u8],
-    index: usize,
-    file: &mut F,
-) -> Result<(), Failure>
-    ensures { OnOk result ((entry : List ℕ) × IsEntryOf bytes.now index entry
-        × Appends (F.contents file.old) (F.contents file.new) entry) }
+fn fill<F: Write + OpenFile>(entry: &[u8], file: &mut F) -> Result<(), Failure>
+    ensures { OnOk result (Appends (F.contents file.old) (F.contents file.new) entry.now) }
 {
-    write_entry(alloc, bytes, index, file)?;
+    file.write_all(entry)?;
+    file.flush()?;
     file.sync_all()?;
     Ok(())
 }
 
-// Gives a file another name.
-fn renamed<R: Files>(files: &R, from: &str, to: &str) -> Result<(), Failure> {
-    Ok(fs::rename(files, from, to)?)
+// Writes an entry to a new file, closes it, and gives it the name of the target.
+fn complete<R: Files>(
+    files: &R,
+    entry: &[u8],
+    mut file: R::File,
+    name: &str,
+    target: &str,
+) -> Result<(), Failure>
+    ensures { OnOk result (WasWritten R.File.contents entry.now) }
+{
+    fill(entry, &mut file)?;
+    drop(file);
+    fs::rename(files, name, target)?;
+    Ok(())
 }

@@ -1,37 +1,55 @@
 //! What the program's words do, and its exit status.
 
-ghost use Rattle.std.specs.Prelude.{◌≡◌, ◌≢◌, ◌≤◌, ℕ, List, IsOk, OnOk, Err};
+ghost use Rattle.std.specs.Prelude.{◌≡◌, ◌≢◌, ◌≤◌, [], ℕ, List, IsOk, OnOk, IfErr, Err};
+ghost use Rattle.std.specs.Io.Buffered.{writer_buffer, writer_contents};
 ghost use Rattle.std.specs.Io.KnownBytes.{Appends};
 ghost use Rattle.mach_headers.specs.declared.fat.FatArch.{FatArch};
-ghost use Rattle.machfat.specs.Entry.{HasRecords, IsEntryOf};
+ghost use Rattle.machfat.specs.Entry.{HasRecords, IsEntryOf, WasWritten};
 ghost use Rattle.machfat.specs.Lines.{lines_from};
-ghost use Rattle.machfat.specs.Refusals.{RefusesList, complaint};
+ghost use Rattle.machfat.specs.Refusals.{RefusesList, IsRefusal, complaint};
 ghost use Rattle.machfat.specs.declared.refusal.Failure.TheVariants as failures;
 ghost use Rattle.machfat.specs.declared.refusal.Refusal.{Refusal};
 
-use crate::entry::list;
+use crate::entry::{entry_bytes, list};
 use crate::place::place_entry;
 use crate::refusal::Failure;
 use std::alloc::{Allocator, Global};
 use std::io;
-use std::io::Write;
+use std::io::{BufWriter, Write};
 use std::rt::Files;
 
 /// Prints the records of a fat file, and answers the exit status: 0; 1 where the file or memory is refused, and
-/// then `err` has a line that says why and `out` nothing; 2 where a write fails.
-pub fn run_list<A: Allocator + Clone, O: Write, E: Write>(
+/// then `err` has a line that says why and `out` nothing; 2 where a write fails. At 0 nothing is left in the buffer.
+pub fn run_list<A: Allocator + Clone, W: Write + Drop, B: Allocator, E: Write>(
     alloc: A,
     bytes: &[u8],
-    out: &mut O,
+    out: &mut BufWriter<W, B>,
     err: &mut E,
 ) -> u8
     ensures status { result ≤ 2 }
     ensures listed { result ≡ 0 → (records : List FatArch) × HasRecords bytes.now records
-        × Appends (O.contents out.old) (O.contents out.new) (lines_from bytes.now 0 records) }
+        × Appends (writer_contents W.contents out.old) (writer_contents W.contents out.new) (lines_from bytes.now 0 records) }
+    ensures flushed { result ≡ 0 → writer_buffer out.new ≡ [] }
     ensures refused { result ≡ 1 → (refusal : Refusal) × RefusesList bytes.now refusal
         × Appends (E.contents err.old) (E.contents err.new) (complaint refusal) }
 {
-    status(list(alloc, bytes, out), "", err)
+    status(list_all(alloc, bytes, out), "", err)
+}
+
+// Prints the list, and hands on all that was gathered.
+fn list_all<A: Allocator + Clone, W: Write + Drop, B: Allocator>(
+    alloc: A,
+    bytes: &[u8],
+    out: &mut BufWriter<W, B>,
+) -> Result<(), Failure>
+    ensures listed { OnOk result ((records : List FatArch) × HasRecords bytes.now records
+        × Appends (writer_contents W.contents out.old) (writer_contents W.contents out.new) (lines_from bytes.now 0 records)) }
+    ensures flushed { OnOk result (writer_buffer out.new ≡ []) }
+    ensures refused { IfErr result (IsRefusal (RefusesList bytes.now)) }
+{
+    list(alloc, bytes, out)?;
+    out.flush()?;
+    Ok(())
 }
 
 /// Writes an entry to a file, and answers the exit status: 0; 1 where there is no such entry, or for want of
@@ -46,9 +64,24 @@ pub fn run_extract<R: Files, E: Write>(
     err: &mut E,
 ) -> u8
     ensures status { result ≤ 2 }
-    ensures extracted { result ≡ 0 → (entry : List ℕ) × IsEntryOf bytes.now index entry }
+    ensures extracted { result ≡ 0 → (entry : List ℕ) × IsEntryOf bytes.now index entry × WasWritten R.File.contents entry }
 {
-    status(place_entry(files, alloc, bytes, index, target), target, err)
+    status(extract(files, alloc, bytes, index, target), target, err)
+}
+
+// Writes an entry to a file. No file is made where there is no such entry.
+fn extract<R: Files>(
+    files: &R,
+    alloc: Global,
+    bytes: &[u8],
+    index: usize,
+    target: &str,
+) -> Result<(), Failure>
+    ensures { OnOk result ((entry : List ℕ) × IsEntryOf bytes.now index entry × WasWritten R.File.contents entry) }
+{
+    let entry = entry_bytes(alloc, bytes, index)?;
+    place_entry(files, alloc, entry, target)?;
+    Ok(())
 }
 
 /// The exit status of an answer, whose reason goes to `err`; of a failed write with the name of the file, if it

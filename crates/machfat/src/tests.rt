@@ -4,59 +4,21 @@ mod files;
 mod same;
 mod scarce;
 
-use crate::entry::write_entry;
-use crate::run::{run_extract, run_list, status};
+use crate::run::{run_extract, run_list};
 use crate::tests::files::{ARCHIVE, file_c};
 use crate::tests::same::{same, same_at};
 use crate::tests::scarce::Scarce;
 use linked_list_allocator::LocalHeap;
-use std::io::{BufWriter, Error, ErrorKind, Result as Written, Write};
+use std::io::BufWriter;
 use std::path::PathBuf;
 use std::test::Fail;
 use std::{env, fs, process};
-
-// A writer that takes so many bytes.
-#[derive(Drop)]
-struct Full {
-    left: usize,
-}
-
-impl Write for Full {
-    fn write(&mut self, buf: &[u8]) -> Written<usize> {
-        if self.left == 0 {
-            return Err(Error::from(ErrorKind::StorageFull));
-        }
-        let taken = buf.len().min(self.left);
-        self.left -= taken;
-        Ok(taken)
-    }
-
-    fn flush(&mut self) -> Written<()> {
-        Ok(())
-    }
-}
 
 // The lines of file C.
 const LINES: &str =
     "arch 0: cputype 0x1000007, cpusubtype 0x3, offset 48, size 376, align 2^4, image
 arch 1: cputype 0x100000c, cpusubtype 0x0, offset 424, size 16, align 2^0, archive
 ";
-
-// What is said of a failed write.
-const UNWRITTEN: &[u8] = b"machfat: cannot write\n";
-
-#[test]
-fn failed_writes_of_entries(rt: HostRuntime) -> Result<(), Fail> {
-    let whole = file_c(rt.alloc())?;
-    for left in 0..ARCHIVE.len() {
-        let mut out = BufWriter::new(rt.alloc(), Full { left })?;
-        let mut reasons = Vec::new(rt.alloc());
-        let answer = write_entry(rt.alloc(), &whole, 1, &mut out);
-        same_at(&rt, left, status(answer, "", &mut reasons), 2);
-        same_at(&rt, left, reasons.as_slice(), UNWRITTEN);
-    }
-    Ok(())
-}
 
 #[test]
 fn want_of_memory(rt: HostRuntime) -> Result<(), Fail> {
@@ -65,11 +27,11 @@ fn want_of_memory(rt: HostRuntime) -> Result<(), Fail> {
     let mut listed = 0u32;
     for size in 0..40 {
         let heap = LocalHeap::new(rt.alloc(), 64 * size)?;
-        let mut lines = Vec::new(rt.alloc());
+        let mut lines = BufWriter::new(rt.alloc(), Vec::new(rt.alloc()))?;
         let mut reasons = Vec::new(rt.alloc());
         let answer = run_list(&heap, &whole, &mut lines, &mut reasons);
         if answer == 0 {
-            same(&rt, lines.as_slice(), LINES.as_bytes());
+            same(&rt, lines.get_ref().as_slice(), LINES.as_bytes());
             listed = listed.saturating_add(1);
         } else {
             same_at(&rt, size, (answer, listed), (1, 0));
@@ -78,7 +40,7 @@ fn want_of_memory(rt: HostRuntime) -> Result<(), Fail> {
                 reasons.as_slice(),
                 b"machfat: out of memory\n".as_slice(),
             );
-            same_at(&rt, size, lines.is_empty(), true);
+            same_at(&rt, size, lines.get_ref().is_empty(), true);
             refused = refused.saturating_add(1);
         }
     }

@@ -1,3 +1,4 @@
 mod Written
+mod Limit
 mod Facts
 mod Showing

@@ -20,7 +20,7 @@ use Rattle.machfixups.specs.Held.{ArePartsOf}
 use Rattle.machfixups.specs.OpcodeBindings.{HasOpcodeBindings}
 use Rattle.machfixups.specs.Parts.{Part, parts_of}
 use Rattle.machfixups.specs.Rows.{rows_of, table_of}
-use Rattle.machfixups.specs.Lines.{AreLines, WritesLines}
+use Rattle.machfixups.specs.Lines.{AreLinesTo, WritesTold}
 use Rattle.machfixups.specs.Shown.{Shown, both, AreImageLines, arch_line, ShowsEntry, an_image, an_archive, ShowsEntries, more, first_entries}
 
 -- an entry that opened as an image, with its parts
@@ -38,12 +38,12 @@ archive_held A there bytes (archive slice) is opened = (slice, is)
 archive_held A there bytes (image slice) is opened = absurd opened
 
 -- the lines of an image, over its parts
-pub image_lines : {A : Type 0} (bytes : List ℕ) (shown parts : List Part) (m : MachO A) (whole : Bool)
+pub image_lines : {A : Type 0} (limit : ℕ) (bytes : List ℕ) (shown parts : List Part) (m : MachO A) (whole : Bool)
     (bindings : List (Result Binding Fault)) (chained : Result (Option Fixups) Fault) (fixups : List (Result Fixup Fault)) (old new : Option (List ℕ))
     → IsImage bytes 0 m → ArePartsOf bytes parts → shown ≡ parts → HasOpcodeBindings bytes 0 bindings → HasChainedFixups bytes 0 chained
-    → HasFixups bytes 0 fixups → WritesLines (rows_of shown (table_of chained) bindings fixups) whole old new
-    → (text : List ℕ) × AreImageLines bytes text whole × Appends old new text
-image_lines bytes shown parts m whole bindings chained fixups old new opened known same bound has listed lines = (
+    → HasFixups bytes 0 fixups → WritesTold limit (rows_of shown (table_of chained) bindings fixups) whole old new
+    → (text : List ℕ) × AreImageLines limit bytes text whole × Appends old new text
+image_lines limit bytes shown parts m whole bindings chained fixups old new opened known same bound has listed lines = (
   lines.text,
   record {
     opens = (opened.ctx, commands_held m, opened.opens);
@@ -55,24 +55,24 @@ image_lines bytes shown parts m whole bindings chained fixups old new opened kno
     has_chained = has;
     fixups = fixups;
     has_fixups = listed;
-    lines = subst (λ (over : List Part). AreLines (rows_of over (table_of chained) bindings fixups) lines.text whole) (same ∙ known.2) lines.lines;
+    lines = subst (λ (over : List Part). AreLinesTo limit (rows_of over (table_of chained) bindings fixups) lines.text whole) (same ∙ known.2) lines.lines;
   },
   lines.written,
 )
 
 -- an image is shown by its lines
-pub image_entry : (i : ℕ) (there : Result FatEntry Fault) (slice text : List ℕ) (whole : Bool) → there ≡ Ok (image slice) → AreImageLines slice text whole
-    → ShowsEntry i there (record { text = arch_line i ++ text; said = []; whole = whole })
-image_entry i there slice text whole is lines =
+pub image_entry : (limit i : ℕ) (there : Result FatEntry Fault) (slice text : List ℕ) (whole : Bool) → there ≡ Ok (image slice)
+    → AreImageLines limit slice text whole → ShowsEntry limit i there (record { text = arch_line i ++ text; said = []; whole = whole })
+image_entry limit i there slice text whole is lines =
     let shown : Shown = record { text = arch_line i ++ text; said = []; whole = whole } in
-    subst (λ (x : Result FatEntry Fault). ShowsEntry i x shown) (sym is) (an_image slice text whole lines)
+    subst (λ (x : Result FatEntry Fault). ShowsEntry limit i x shown) (sym is) (an_image slice text whole lines)
 
 -- an archive is shown as such
-pub archive_entry : (i : ℕ) (there : Result FatEntry Fault) (slice : List ℕ) → there ≡ Ok (archive slice)
-    → ShowsEntry i there (record { text = arch_line i ++ codes "archive\n"; said = []; whole = true })
-archive_entry i there slice is =
+pub archive_entry : (limit i : ℕ) (there : Result FatEntry Fault) (slice : List ℕ) → there ≡ Ok (archive slice)
+    → ShowsEntry limit i there (record { text = arch_line i ++ codes "archive\n"; said = []; whole = true })
+archive_entry limit i there slice is =
     let shown : Shown = record { text = arch_line i ++ codes "archive\n"; said = []; whole = true } in
-    subst (λ (x : Result FatEntry Fault). ShowsEntry i x shown) (sym is) (an_archive slice)
+    subst (λ (x : Result FatEntry Fault). ShowsEntry limit i x shown) (sym is) (an_archive slice)
 
 -- whether both are whole
 pub and_true : (first last after : Bool) → first ≡ true → last ≡ after → (first && last) ≡ after
@@ -96,12 +96,12 @@ items_from-last item first (suc count) =
     ∙ ap (λ (n : ℕ). item first ∷ (items_from item (first + 1) count ++ item n ∷ [])) same
 
 -- one more entry is shown
-pub one_more : (file : FatFile) (i : ℕ) (front last : Shown) → ShowsEntries (first_entries file i) front → ShowsEntry i (entry_at file i) last
-    → ShowsEntries (first_entries file (i + 1)) (both front last)
-one_more file i front last before one =
+pub one_more : (limit : ℕ) (file : FatFile) (i : ℕ) (front last : Shown) → ShowsEntries limit (first_entries file i) front
+    → ShowsEntry limit i (entry_at file i) last → ShowsEntries limit (first_entries file (i + 1)) (both front last)
+one_more limit file i front last before one =
     let entry = entry_at file i in
     let number : i ≡ length (first_entries file i) = sym (length-items_from (entry_at file) 0 i) in
     let at_last : 0 + i ≡ i = omega arith in
     let ends = items_from-last (entry_at file) 0 i ∙ ap (λ (n : ℕ). first_entries file i ++ entry_at file n ∷ []) at_last in
-    subst (λ (entries : List (Result FatEntry Fault)). ShowsEntries entries (both front last)) (sym ends)
-    (more (first_entries file i) entry front last before (subst (λ (n : ℕ). ShowsEntry n entry last) number one))
+    subst (λ (entries : List (Result FatEntry Fault)). ShowsEntries limit entries (both front last)) (sym ends)
+    (more (first_entries file i) entry front last before (subst (λ (n : ℕ). ShowsEntry limit n entry last) number one))

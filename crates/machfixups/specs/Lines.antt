@@ -1,7 +1,7 @@
 -- The lines that are printed of binds and fixups.
-use Rattle.std.specs.Prelude.{◌≡◌, ◌==◌, ℕ, List, [], ◌++◌, codes, map, Bool, true, false, Option, Some, None, Result, Ok, Err}
+use Rattle.std.specs.Prelude.{◌≡◌, ◌==◌, ◌&&◌, ◌-◌, ℕ, List, [], ◌++◌, codes, map, take, length, nat_lt, Bool, true, false, not, Option, Some, None, Result, Ok, Err}
 use Rattle.std.specs.Prelude.{if◌then◌else◌}
-use Rattle.std.specs.Fmt.{digits, signed_decimal}
+use Rattle.std.specs.Fmt.{digits, decimal, signed_decimal}
 use Rattle.std.specs.Io.KnownBytes.{Appends}
 use Rattle.std.specs.List.{flat_map, list_all}
 use Rattle.std.specs.Result.{is_ok}
@@ -10,6 +10,7 @@ use Rattle.mach_base.specs.Words.{words_of}
 use Rattle.mach_base.specs.declared.error.Error.{Error}
 use Rattle.mach_chained.specs.Pointers.{Auth}
 use Rattle.machfixups.specs.Rows.{Place, Bind, Action, binds, rebases, is_value, Row, row_view, row_read}
+use Rattle.machfixups.specs.declared.print.Told.{Told}
 use Rattle.machfixups.specs.declared.row.Row as declared
 
 -- a number in hexadecimal
@@ -83,3 +84,33 @@ pub record WritesLines (rows : List (Result Row Fault)) (whole : Bool) (old new 
   pub text : List ℕ
   pub lines : AreLines rows text whole
   pub written : Appends old new text
+
+-- ---- where there is a limit
+
+-- the line behind the last one that is told, where there are more
+abbrev pub limit_line : ℕ → List ℕ
+limit_line limit = codes "limit: " ++ (decimal limit ++ codes " of them are told, and there are more\n")
+
+abbrev pub line_of_more : ℕ → (more : Bool) → List ℕ
+line_of_more limit more = if more then limit_line limit else []
+
+-- The text is the lines of the first `limit` of these rows, and behind them, exactly where there are more rows than that,
+-- a line that says so. It is whole where there are no more, and none is missing.
+pub record AreLinesTo (limit : ℕ) (rows : List (Result Row Fault)) (text : List ℕ) (whole : Bool) : Type 0 where
+  pub lines : List ℕ
+  pub is_read : Bool
+  pub are_lines : AreLines (take limit rows) lines is_read
+  pub is_text : text ≡ lines ++ line_of_more limit (nat_lt limit (length rows))
+  pub is_whole : whole ≡ (is_read && not (nat_lt limit (length rows)))
+
+-- What was written is such lines.
+pub record WritesTold (limit : ℕ) (rows : List (Result Row Fault)) (whole : Bool) (old new : Option (List ℕ)) : Type 0 where
+  pub text : List ℕ
+  pub lines : AreLinesTo limit rows text whole
+  pub written : Appends old new text
+
+-- The lines of the first `limit` rows were written, and this is what is known then.
+pub record Tells (limit : ℕ) (rows : List (Result Row Fault)) (old new : Option (List ℕ)) (t : Told) : Type 0 where
+  pub lines : WritesLines (take limit rows) t.whole old new
+  pub left : t.left ≡ limit - length rows
+  pub more : t.more ≡ nat_lt limit (length rows)

@@ -18,13 +18,13 @@ use Rattle.goblin_mach.specs.FatFile.{FatFile, fat_file_in, arches_in}
 use Rattle.mach_image.specs.Image.{Opens}
 use Rattle.goblin_mach.specs.File.{HasFatMagic}
 use Rattle.goblin_mach.specs.View.{ViewFault, Tells}
-use Rattle.machfixups.specs.Lines.{AreLines}
+use Rattle.machfixups.specs.Lines.{AreLinesTo}
 use Rattle.machfixups.specs.OpcodeBindings.{HasOpcodeBindings}
 use Rattle.machfixups.specs.Parts.{parts_of}
 use Rattle.machfixups.specs.Rows.{rows_of, table_of}
 
 -- what is shown: the text on the output, what is said on the error output, and whether nothing was refused and each bind
--- and fixup can be read
+-- and fixup is there and can be read
 pub record Shown : Type 0 where
   pub text : List ℕ
   pub said : List ℕ
@@ -47,8 +47,9 @@ abbrev pub entry_complaint : ℕ → List ℕ → List ℕ
 entry_complaint i words = codes "machfixups: arch " ++ (decimal i ++ (codes ": " ++ (words ++ codes "\n")))
 
 -- The text is the lines of the image at the front of the bytes: one for each bind of its opcodes, in order, then one for
--- each fixup of its chains, over its segments. It is whole where none of them is missing.
-pub record AreImageLines (bytes : List ℕ) (text : List ℕ) (whole : Bool) : Type 0 where
+-- each fixup of its chains, over its segments; of all of them the first `limit`, and where there are more, a line that says
+-- so. It is whole where there are no more and none is missing.
+pub record AreImageLines (limit : ℕ) (bytes : List ℕ) (text : List ℕ) (whole : Bool) : Type 0 where
   pub opens : Opens bytes 0
   pub segments : List SegmentView
   pub has_segments : HasSegments bytes 0 segments
@@ -58,40 +59,40 @@ pub record AreImageLines (bytes : List ℕ) (text : List ℕ) (whole : Bool) : T
   pub has_chained : HasChainedFixups bytes 0 chained
   pub fixups : List (Result Fixup Fault)
   pub has_fixups : HasFixups bytes 0 fixups
-  pub lines : AreLines (rows_of (parts_of segments) (table_of chained) bindings fixups) text whole
+  pub lines : AreLinesTo limit (rows_of (parts_of segments) (table_of chained) bindings fixups) text whole
 
 -- the line under which an entry of a fat file stands
 abbrev pub arch_line : ℕ → List ℕ
 arch_line i = codes "arch " ++ decimal i ++ codes "\n"
 
 -- What is shown of entry i, under its line: the lines of an image, that it is an archive, or a fault that stands in it.
-pub data ShowsEntry (i : ℕ) : Result FatEntry Fault → Shown → Type 0 where
-  an_image : (slice text : List ℕ) (whole : Bool) → AreImageLines slice text whole
-      → ShowsEntry i (Ok (image slice)) (record { text = arch_line i ++ text; said = []; whole = whole })
+pub data ShowsEntry (limit i : ℕ) : Result FatEntry Fault → Shown → Type 0 where
+  an_image : (slice text : List ℕ) (whole : Bool) → AreImageLines limit slice text whole
+      → ShowsEntry limit i (Ok (image slice)) (record { text = arch_line i ++ text; said = []; whole = whole })
   an_archive : (slice : List ℕ)
-      → ShowsEntry i (Ok (archive slice)) (record { text = arch_line i ++ codes "archive\n"; said = []; whole = true })
+      → ShowsEntry limit i (Ok (archive slice)) (record { text = arch_line i ++ codes "archive\n"; said = []; whole = true })
   refused : (entry : Result FatEntry Fault) (e : Error) → Tells (FatEntryFault entry) e
-      → ShowsEntry i entry (record {
+      → ShowsEntry limit i entry (record {
         text = arch_line i ++ (codes "refused: " ++ words_of e ++ codes "\n");
         said = entry_complaint i (words_of e);
         whole = false;
       })
 
 -- what is shown of the first entries, in order
-pub data ShowsEntries : List (Result FatEntry Fault) → Shown → Type 0 where
-  none : ShowsEntries [] (record { text = []; said = []; whole = true })
+pub data ShowsEntries (limit : ℕ) : List (Result FatEntry Fault) → Shown → Type 0 where
+  none : ShowsEntries limit [] (record { text = []; said = []; whole = true })
   more : (entries : List (Result FatEntry Fault)) (entry : Result FatEntry Fault) (front last : Shown)
-      → ShowsEntries entries front → ShowsEntry (length entries) entry last → ShowsEntries (entries ++ entry ∷ []) (both front last)
+      → ShowsEntries limit entries front → ShowsEntry limit (length entries) entry last → ShowsEntries limit (entries ++ entry ∷ []) (both front last)
 
 -- the first n entries of a fat file
 abbrev pub first_entries : FatFile → ℕ → List (Result FatEntry Fault)
 first_entries file n = items_from (entry_at file) 0 n
 
 -- What is shown of a fat file: all its entries, or those before one for which memory is refused.
-pub data ShowsFat (file : FatFile) : Shown → Type 0 where
-  all_entries : (shown : Shown) → ShowsEntries (first_entries file file.narches) shown → ShowsFat file shown
-  cut_short : (i : ℕ) (shown : Shown) → i < file.narches → ShowsEntries (first_entries file i) shown
-      → ShowsFat file (record { text = shown.text; said = shown.said ++ complaint (codes "out of memory"); whole = false })
+pub data ShowsFat (limit : ℕ) (file : FatFile) : Shown → Type 0 where
+  all_entries : (shown : Shown) → ShowsEntries limit (first_entries file file.narches) shown → ShowsFat limit file shown
+  cut_short : (i : ℕ) (shown : Shown) → i < file.narches → ShowsEntries limit (first_entries file i) shown
+      → ShowsFat limit file (record { text = shown.text; said = shown.said ++ complaint (codes "out of memory"); whole = false })
 
 -- The bytes are a fat file whose table lies in them.
 pub record IsFatTable (bytes : List ℕ) (file : FatFile) : Type 0 where
@@ -100,12 +101,12 @@ pub record IsFatTable (bytes : List ℕ) (file : FatFile) : Type 0 where
   pub table : IsOk (arches_in file)
 
 -- What is shown of a file: one image, a fat file, or why it is refused: a fault that stands in it, or want of memory.
-pub data ShowsFile (bytes : List ℕ) : Shown → Type 0 where
-  one_image : (text : List ℕ) (whole : Bool) → AreImageLines bytes text whole
-      → ShowsFile bytes (record { text = text; said = []; whole = whole })
-  fat_file : (file : FatFile) (shown : Shown) → IsFatTable bytes file → ShowsFat file shown → ShowsFile bytes shown
+pub data ShowsFile (limit : ℕ) (bytes : List ℕ) : Shown → Type 0 where
+  one_image : (text : List ℕ) (whole : Bool) → AreImageLines limit bytes text whole
+      → ShowsFile limit bytes (record { text = text; said = []; whole = whole })
+  fat_file : (file : FatFile) (shown : Shown) → IsFatTable bytes file → ShowsFat limit file shown → ShowsFile limit bytes shown
   refused_file : (e : Error) → Stands (ViewFault bytes) e
-      → ShowsFile bytes (record { text = []; said = complaint (words_of e); whole = false })
+      → ShowsFile limit bytes (record { text = []; said = complaint (words_of e); whole = false })
 
 -- This was written on the two outputs.
 pub record Writes (shown : Shown) (out_old out_new err_old err_new : Option (List ℕ)) : Type 0 where

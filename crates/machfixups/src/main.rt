@@ -1,5 +1,6 @@
 //! Prints what dyld corrects of a Mach-O file, a line each: the binds of the bind opcodes in order, then the fixups of
-//! the chains in order; of a fat file those of each entry, under a line that says which.
+//! the chains in order; of a fat file those of each entry, under a line that says which. Of each image it prints at most
+//! so many as `--limit` says, and where there are more, a line that says so.
 //!
 //! A line has the address, the names of the segment and of the section, and what is asked for: `bind` with the ordinal
 //! of the library, the addend, flags and the symbol's name; `rebase` with the address that moves with the image, and
@@ -24,12 +25,13 @@ mod subject;
 mod tests;
 mod text;
 
+use print::DEFAULT_LIMIT;
 use run::{run, say};
 use std::io::{BufWriter, ErrorKind};
 use std::process::ExitCode;
 use std::{env, fs, io};
 
-const USAGE: &str = "usage: machfixups FILE\n       machfixups --help | --version\n";
+const USAGE: &str = "usage: machfixups [--limit N] FILE\n       machfixups --help | --version\n";
 
 const VERSION: &str = "machfixups 0.1.0\n";
 
@@ -54,12 +56,17 @@ fn start(rt: &HostRuntime, args: &[String]) -> u8 {
         [_, word] if word.as_str() == "--version" => {
             say(VERSION, &mut io::writer(rt), &mut rt.stderr())
         }
-        [_, file] => show_file(rt, file),
+        [_, flag] if flag.as_str() == "--limit" => bad_usage(rt),
+        [_, file] => show_file(rt, DEFAULT_LIMIT, file),
+        [_, flag, number, file] if flag.as_str() == "--limit" => match number.parse::<usize>() {
+            Ok(limit) => show_file(rt, limit, file),
+            Err(_) => bad_usage(rt),
+        },
         _ => bad_usage(rt),
     }
 }
 
-fn show_file(rt: &HostRuntime, file: &str) -> u8 {
+fn show_file(rt: &HostRuntime, limit: usize, file: &str) -> u8 {
     let bytes = match fs::read(rt, file) {
         Ok(bytes) => bytes,
         Err(error) if error.kind() == ErrorKind::OutOfMemory => return out_of_memory(rt),
@@ -71,7 +78,13 @@ fn show_file(rt: &HostRuntime, file: &str) -> u8 {
     let Ok(mut lines) = BufWriter::new(rt.alloc(), io::writer(rt)) else {
         return out_of_memory(rt);
     };
-    run(rt.alloc(), bytes.as_slice(), &mut lines, &mut rt.stderr())
+    run(
+        rt.alloc(),
+        limit,
+        bytes.as_slice(),
+        &mut lines,
+        &mut rt.stderr(),
+    )
 }
 
 fn bad_usage(rt: &impl Eprint) -> u8 {

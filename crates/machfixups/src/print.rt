@@ -1,6 +1,6 @@
 //! The lines of an image's binds and fixups.
 
-ghost use Rattle.std.specs.Prelude.{◌≡◌, ℕ, List, Option, Result, map, IfOk};
+ghost use Rattle.std.specs.Prelude.{◌≡◌, ℕ, List, Option, Result, map, false, true, IfOk, OnOk};
 ghost use Rattle.std.specs.Io.KnownBytes.{Appends};
 ghost use Rattle.std.specs.Result.{is_ok};
 ghost use Rattle.mach_base.specs.Fault.{Fault};
@@ -12,7 +12,7 @@ ghost use Rattle.mach_image.specs.Facts.{HasChainedFixups, HasFixups};
 ghost use Rattle.mach_image.specs.Fixups.{chained_held};
 ghost use Rattle.mach_image.specs.FixupsLeft.{fixups_left};
 ghost use Rattle.mach_image.specs.OpenImage.{IsImage};
-ghost use Rattle.machfixups.specs.Lines.{row_line, WritesLines};
+ghost use Rattle.machfixups.specs.Lines.{row_line, line_of_more, Tells, WritesTold};
 ghost use Rattle.machfixups.specs.Parts.{parts_seen};
 ghost use Rattle.machfixups.specs.Rows.{binding_row, fixup_row, rows_of, table_of, table_seen};
 ghost use Rattle.machfixups.specs.OpcodeBindings.{HasOpcodeBindings};
@@ -25,24 +25,76 @@ use std::alloc::Allocator;
 use std::io;
 use std::io::Write;
 
+/// How many lines of an image are printed, where no other limit is given.
+pub const DEFAULT_LIMIT: usize = 10_000_000;
+
+/// What was printed of a list that ends at a limit.
+#[derive(Clone, Copy, Drop)]
+pub struct Told {
+    /// How many lines more there may be.
+    pub left: usize,
+    /// Whether all that was printed can be read.
+    pub whole: bool,
+    /// Whether the list has more than that.
+    pub more: bool,
+}
+
+impl Told {
+    // All of a list, with so many lines left.
+    fn all(left: usize, whole: bool) -> Told
+        ensures { (result.left ≡ left) × (result.whole ≡ whole) × (result.more ≡ false) }
+    {
+        Told {
+            left,
+            whole,
+            more: false,
+        }
+    }
+
+    // As many items of a list as may be printed, where there are more.
+    fn cut(whole: bool) -> Told
+        ensures { (result.left ≡ 0) × (result.whole ≡ whole) × (result.more ≡ true) }
+    {
+        Told {
+            left: 0,
+            whole,
+            more: true,
+        }
+    }
+}
+
 /// Prints exactly a line for each bind of the opcodes that the image has in its bytes, in order, and then one for each
-/// fixup of its chains, and answers whether all of them can be read. Where one can't its line says why.
+/// fixup of its chains, and answers whether all of them can be read. Where one can't its line says why. Of all of them
+/// it prints the first `limit`, and where there are more, a line that says so; then they are not all read.
 pub fn print_fixups<A: Allocator, B: Allocator, O: Write>(
     image: &MachO<'_, A>,
     parts: &[Part<'_, B>],
+    limit: usize,
     out: &mut O,
 ) -> io::Result<bool>
     ensures { (bytes : List ℕ) (o : ℕ) → IsImage bytes o image.now
         → IfOk result (λ whole. (bindings : List (Result Binding Fault)) × HasOpcodeBindings bytes o bindings
         × (chained : Result (Option Fixups) Fault) × HasChainedFixups bytes o chained
         × (fixups : List (Result Fixup Fault)) × HasFixups bytes o fixups
-        × WritesLines (rows_of (parts_seen parts.now) (table_of chained) bindings fixups) whole (O.contents out.old) (O.contents out.new)) }
+        × WritesTold limit (rows_of (parts_seen parts.now) (table_of chained) bindings fixups) whole (O.contents out.old) (O.contents out.new)) }
 {
     laws::strict_image_is_lossy(image);
-    let binds_read = print_bindings(image.opcode_bindings(), parts, out)?;
+    let binds = print_bindings(image.opcode_bindings(), parts, limit, out)?;
     let table = table_of(image);
-    let fixups_read = print_chains(image.fixups(), parts, &table, out)?;
-    Ok(binds_read & fixups_read)
+    let chains = print_chains(image.fixups(), parts, &table, binds.left, out)?;
+    let more = binds.more | chains.more;
+    print_more(limit, more, out)?;
+    Ok(binds.whole & chains.whole & !more)
+}
+
+// Prints that there are more than the limit, where that is so.
+fn print_more<O: Write>(limit: usize, more: bool, out: &mut O) -> io::Result<()>
+    ensures { OnOk result (Appends (O.contents out.old) (O.contents out.new) (line_of_more limit more)) }
+{
+    if more {
+        writeln!(out, "limit: {limit} of them are told, and there are more")?;
+    }
+    Ok(())
 }
 
 // The chained fixups of an image, if it has any that can be read.
@@ -55,39 +107,50 @@ fn table_of<'a, A: Allocator>(image: &MachO<'a, A>) -> Option<ChainedFixups<'a>>
     }
 }
 
-// Prints a line for each bind of the opcodes, and answers whether all can be read.
+// Prints a line for each bind of the opcodes, up to the limit.
 fn print_bindings<B: Allocator, O: Write>(
     bindings: OpcodeBindingIterator<'_, '_>,
     parts: &[Part<'_, B>],
+    limit: usize,
     out: &mut O,
-) -> io::Result<bool>
-    ensures { IfOk result (λ whole. WritesLines (map (binding_row (parts_seen parts.now)) (bindings_left bindings.entry)) whole
-        (O.contents out.old) (O.contents out.new)) }
+) -> io::Result<Told>
+    ensures { IfOk result (Tells limit (map (binding_row (parts_seen parts.now)) (bindings_left bindings.entry)) (O.contents out.old) (O.contents out.new)) }
 {
+    let mut left = limit;
     let mut whole = true;
     'bindings: for binding in bindings {
+        let Some(rest) = left.checked_sub(1) else {
+            return Ok(Told::cut(whole));
+        };
+        left = rest;
         let row = binding_row(parts, binding);
         whole &= print_row(&row, out)?;
     }
-    Ok(whole)
+    Ok(Told::all(left, whole))
 }
 
-// Prints a line for each fixup of the chains, and answers whether all can be read.
+// Prints a line for each fixup of the chains, up to the limit.
 fn print_chains<B: Allocator, O: Write>(
     fixups: FixupIterator<'_, '_>,
     parts: &[Part<'_, B>],
     table: &Option<ChainedFixups<'_>>,
+    limit: usize,
     out: &mut O,
-) -> io::Result<bool>
-    ensures { IfOk result (λ whole. WritesLines (map (fixup_row (parts_seen parts.now) (table_seen table.now)) (fixups_left fixups.entry)) whole
+) -> io::Result<Told>
+    ensures { IfOk result (Tells limit (map (fixup_row (parts_seen parts.now) (table_seen table.now)) (fixups_left fixups.entry))
         (O.contents out.old) (O.contents out.new)) }
 {
+    let mut left = limit;
     let mut whole = true;
     'fixups: for fixup in fixups {
+        let Some(rest) = left.checked_sub(1) else {
+            return Ok(Told::cut(whole));
+        };
+        left = rest;
         let row = fixup_row(parts, table, fixup);
         whole &= print_row(&row, out)?;
     }
-    Ok(whole)
+    Ok(Told::all(left, whole))
 }
 
 // Prints the line of a row, and answers whether there is one.

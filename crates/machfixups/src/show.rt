@@ -16,27 +16,20 @@ use std::alloc::Allocator;
 use std::io;
 use std::io::Write;
 
-/// Shows a file, and answers whether nothing was refused.
+/// Shows a file, of each image at most so many lines, and answers whether nothing was refused and no line left out.
 pub fn show<A: Allocator + Clone, O: Write, E: Write>(
     alloc: A,
+    limit: usize,
     bytes: &[u8],
     out: &mut O,
     err: &mut E,
 ) -> io::Result<bool>
-    ensures { IfOk result (λ whole. (shown : Shown) × ShowsFile bytes.now shown × (shown.whole ≡ whole)
+    ensures { IfOk result (λ whole. (shown : Shown) × ShowsFile limit bytes.now shown × (shown.whole ≡ whole)
         × Writes shown (O.contents out.old) (O.contents out.new) (E.contents err.old) (E.contents err.new)) }
 {
     match open_file(&alloc, bytes) {
-        Ok(Subject::Image(image, parts)) => {
-            let whole = print_fixups(&image, &parts, out)?;
-            out.flush()?;
-            Ok(whole)
-        }
-        Ok(Subject::Fat(container)) => {
-            let whole = show_entries(&alloc, &container, out, err)?;
-            out.flush()?;
-            Ok(whole)
-        }
+        Ok(Subject::Image(image, parts)) => { print_fixups(&image, &parts, limit, out) }
+        Ok(Subject::Fat(container)) => show_entries(&alloc, &container, limit, out, err),
         Err(error) => {
             tell_file(&error, err)?;
             Ok(false)
@@ -49,10 +42,11 @@ pub fn show<A: Allocator + Clone, O: Write, E: Write>(
 fn show_entries<A: Allocator + Clone, O: Write, E: Write>(
     alloc: &A,
     container: &MultiArch<'_, A>,
+    limit: usize,
     out: &mut O,
     err: &mut E,
 ) -> io::Result<bool>
-    ensures { IfOk result (λ whole. (shown : Shown) × ShowsFat (file_held container.now) shown × (shown.whole ≡ whole)
+    ensures { IfOk result (λ whole. (shown : Shown) × ShowsFat limit (file_held container.now) shown × (shown.whole ≡ whole)
         × Writes shown (O.contents out.old) (O.contents out.new) (E.contents err.old) (E.contents err.new)) }
 {
     let mut whole = true;
@@ -61,7 +55,7 @@ fn show_entries<A: Allocator + Clone, O: Write, E: Write>(
             writeln!(err, "machfixups: out of memory")?;
             return Ok(false);
         };
-        let opened = show_entry(index, &entry, out, err)?;
+        let opened = show_entry(index, &entry, limit, out, err)?;
         whole = whole && opened;
     }
     Ok(whole)
@@ -71,16 +65,17 @@ fn show_entries<A: Allocator + Clone, O: Write, E: Write>(
 fn show_entry<'a, A: Allocator, O: Write, E: Write>(
     index: usize,
     entry: &Entry<'a, A>,
+    limit: usize,
     out: &mut O,
     err: &mut E,
 ) -> io::Result<bool>
     ensures { (there : Result FatEntry Fault) → HoldsEntry there entry.now
-        → IfOk result (λ opened. (shown : Shown) × ShowsEntry index there shown × (shown.whole ≡ opened)
+        → IfOk result (λ opened. (shown : Shown) × ShowsEntry limit index there shown × (shown.whole ≡ opened)
         × Writes shown (O.contents out.old) (O.contents out.new) (E.contents err.old) (E.contents err.new)) }
 {
     writeln!(out, "arch {index}")?;
     match entry {
-        Entry::Image(image, parts) => print_fixups(image, parts, out),
+        Entry::Image(image, parts) => print_fixups(image, parts, limit, out),
         Entry::Archive => {
             writeln!(out, "archive")?;
             Ok(true)

@@ -3,12 +3,14 @@
 mod files;
 mod same;
 
+use crate::print::DEFAULT_LIMIT;
 use crate::row::{Action, Bind};
 use crate::run::run;
 use crate::tests::files::fat_file;
 use crate::tests::same::{same, same_at};
 use goblin_mach::chained_fixups::PointerAuth;
 use linked_list_allocator::LocalHeap;
+use std::io::BufWriter;
 use std::test::Fail;
 
 // The lines of the fat file: of its image the binds of the opcodes, and then the fixups of the chains.
@@ -82,9 +84,10 @@ fn want_of_memory(rt: HostRuntime) -> Result<(), Fail> {
     let mut shown = 0u32;
     for size in 0..400 {
         let heap = LocalHeap::new(rt.alloc(), 64 * size)?;
-        let mut out = Vec::new(rt.alloc());
+        let mut out = BufWriter::new(rt.alloc(), Vec::new(rt.alloc()))?;
         let mut reasons = Vec::new(rt.alloc());
-        let answer = run(&heap, &fat, &mut out, &mut reasons);
+        let answer = run(&heap, DEFAULT_LIMIT, &fat, &mut out, &mut reasons);
+        let out = out.get_ref();
         if answer == 0 {
             same(&rt, out.as_slice(), LINES.as_bytes());
             shown = shown.saturating_add(1);
@@ -95,7 +98,7 @@ fn want_of_memory(rt: HostRuntime) -> Result<(), Fail> {
                 reasons.as_slice(),
                 b"machfixups: out of memory\n".as_slice(),
             );
-            same_at(&rt, size, LINES.as_bytes().starts_with(&out), true);
+            same_at(&rt, size, LINES.as_bytes().starts_with(out), true);
             refused = refused.saturating_add(1);
         }
     }

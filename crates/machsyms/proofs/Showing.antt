@@ -5,10 +5,10 @@ use Rattle.std.specs.Borrow.{Bor}
 use Rattle.std.specs.Io.KnownBytes.{Appends}
 use Rattle.mach_base.specs.Fault.{Fault}
 use Rattle.mach_base.specs.Items.{items_from}
-use Rattle.mach_symbols.specs.declared.symbols.nlist.Nlist.{Nlist}
+use Rattle.mach_symbols.specs.Symbols.{SymbolTable}
 use Rattle.mach_base.proofs.ItemLists.{length-items_from}
 use Rattle.mach_segments.specs.Segment.{SegmentView}
-use Rattle.mach_image.specs.Facts.{HasSymbols, HasSegments}
+use Rattle.mach_image.specs.Facts.{HasSymbolTable, HasSegments}
 use Rattle.goblin_mach.specs.FatEntry.{FatEntry, image, archive, entry_at, IsEntry}
 use Rattle.goblin_mach.specs.FatFile.{FatFile}
 use Rattle.mach_image.specs.OpenImage.{IsImage, commands_held}
@@ -16,7 +16,7 @@ use Rattle.goblin_mach.specs.declared.fat_file.entry.SingleArch.TheVariants as s
 use Rattle.mach_image.specs.declared.macho.MachO.{MachO}
 use Rattle.machsyms.specs.Held.{AreLettersOf}
 use Rattle.machsyms.specs.Letters.{letters_of}
-use Rattle.machsyms.specs.Lines.{AreLines, WritesLines}
+use Rattle.machsyms.specs.Lines.{AreTableLines, WritesTable}
 use Rattle.machsyms.specs.Shown.{Shown, both, AreImageLines, arch_line, ShowsEntry, an_image, an_archive, ShowsEntries, more, first_entries}
 
 -- an entry that opened as an image, with the letters of its sections
@@ -34,10 +34,10 @@ archive_held A there bytes (archive slice) is opened = (slice, is)
 archive_held A there bytes (image slice) is opened = absurd opened
 
 -- the lines of an image, over the letters of its sections
-pub image_lines : {A : Type 0} (bytes sections letters : List ℕ) (m : MachO A) (symbols : List (Result (List ℕ × Nlist) Fault)) (old new : Option (List ℕ))
-    → IsImage bytes 0 m → AreLettersOf bytes letters → sections ≡ letters → HasSymbols bytes 0 symbols → WritesLines m.is_64 sections symbols old new
-    → (text : List ℕ) × AreImageLines bytes text × Appends old new text
-image_lines bytes sections letters m symbols old new opened lettered same has lines = (
+pub image_lines : {A : Type 0} (bytes sections letters : List ℕ) (m : MachO A) (table : Option SymbolTable) (whole : Bool) (old new : Option (List ℕ))
+    → IsImage bytes 0 m → AreLettersOf bytes letters → sections ≡ letters → HasSymbolTable bytes 0 table → WritesTable m.is_64 sections table whole old new
+    → (text : List ℕ) × AreImageLines bytes text whole × Appends old new text
+image_lines bytes sections letters m table whole old new opened lettered same has lines = (
   lines.text,
   record {
     opens = (opened.ctx, commands_held m, opened.opens);
@@ -45,19 +45,19 @@ image_lines bytes sections letters m symbols old new opened lettered same has li
     has_width = record { ctx = opened.ctx; cs = commands_held m; opens = opened.opens.lossy; holds = opened.fields.is_64 };
     segments = lettered.0;
     has_segments = lettered.1;
-    symbols = symbols;
-    has_symbols = has;
-    lines = subst (λ (shown : List ℕ). AreLines m.is_64 shown symbols lines.text) (same ∙ lettered.2) lines.lines;
+    table = table;
+    has_table = has;
+    lines = subst (λ (shown : List ℕ). AreTableLines m.is_64 shown table lines.text whole) (same ∙ lettered.2) lines.lines;
   },
   lines.written,
 )
 
 -- an image is shown by its lines
-pub image_entry : (i : ℕ) (there : Result FatEntry Fault) (slice text : List ℕ) → there ≡ Ok (image slice) → AreImageLines slice text
-    → ShowsEntry i there (record { text = arch_line i ++ text; said = []; whole = true })
-image_entry i there slice text is lines =
-    let shown : Shown = record { text = arch_line i ++ text; said = []; whole = true } in
-    subst (λ (x : Result FatEntry Fault). ShowsEntry i x shown) (sym is) (an_image slice text lines)
+pub image_entry : (i : ℕ) (there : Result FatEntry Fault) (slice text : List ℕ) (whole : Bool) → there ≡ Ok (image slice) → AreImageLines slice text whole
+    → ShowsEntry i there (record { text = arch_line i ++ text; said = []; whole = whole })
+image_entry i there slice text whole is lines =
+    let shown : Shown = record { text = arch_line i ++ text; said = []; whole = whole } in
+    subst (λ (x : Result FatEntry Fault). ShowsEntry i x shown) (sym is) (an_image slice text whole lines)
 
 -- an archive is shown as such
 pub archive_entry : (i : ℕ) (there : Result FatEntry Fault) (slice : List ℕ) → there ≡ Ok (archive slice)

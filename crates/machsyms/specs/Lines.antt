@@ -1,15 +1,16 @@
 -- The lines that are printed of symbols, as `nm -a -p` prints them.
-use Rattle.std.specs.Prelude.{◌≡◌, ◌==◌, ℕ, ◌-◌, ◌^◌, List, [], ◌++◌, codes, map, bit_and, Bool, true, false, ◌&&◌, Option, Some, None, Result, Ok, Err}
+use Rattle.std.specs.Prelude.{◌≡◌, ◌==◌, ℕ, ◌-◌, ◌^◌, List, [], ◌++◌, codes, map, bit_and, Bool, true, false, ◌&&◌, Option, Some, None, option_map, Result, Ok, Err}
 use Rattle.std.specs.Prelude.{if◌then◌else◌}
 use Rattle.std.specs.Char.{encode_utf8}
-use Rattle.std.specs.Fmt.{digits, padded, padded_integral, format_spec}
+use Rattle.std.specs.Fmt.{decimal, digits, padded, padded_integral, format_spec}
 use Rattle.std.specs.Io.KnownBytes.{Appends}
 use Rattle.std.specs.List.{flat_map}
 use Rattle.std.specs.Borrow.{Bor}
 use Rattle.mach_base.specs.Fault.{Fault}
 use Rattle.mach_base.specs.declared.error.Error.{Error}
-use Rattle.mach_symbols.specs.Symbols.{type_of}
+use Rattle.mach_symbols.specs.Symbols.{SymbolTable, begun_of, type_of}
 use Rattle.mach_symbols.specs.SymbolViews.{symbol_read}
+use Rattle.mach_image.specs.Subjects.{symbols_in}
 use Rattle.mach_symbols.specs.declared.symbols.nlist.Nlist.{Nlist}
 use Rattle.machsyms.specs.Letters.{is_local, symbol_letter}
 use Rattle.machsyms.specs.Stabs.{stab_name}
@@ -75,4 +76,27 @@ pub record AreLines (is_64 : Bool) (sections : List ℕ) (symbols : List (Result
 pub record WritesLines (is_64 : Bool) (sections : List ℕ) (symbols : List (Result (List ℕ × Nlist) Fault)) (old new : Option (List ℕ)) : Type 0 where
   pub text : List ℕ
   pub lines : AreLines is_64 sections symbols text
+  pub written : Appends old new text
+
+-- how many symbols of a table have no byte of their record within the bytes
+abbrev pub past_the_end : Option SymbolTable → ℕ
+past_the_end None = 0
+past_the_end (Some t) = t.nsyms - (begun_of t).nsyms
+
+-- the line of so many of them; none of none
+abbrev pub past_line : ℕ → List ℕ
+past_line n = if n == 0 then [] else decimal n ++ codes " more symbols past the end\n"
+
+-- The text is a line for each symbol of the table whose record begins within the bytes, in order, and one for all others. It is whole where
+-- there are no others.
+pub record AreTableLines (is_64 : Bool) (sections : List ℕ) (table : Option SymbolTable) (text : List ℕ) (whole : Bool) : Type 0 where
+  pub front : List ℕ
+  pub lines : AreLines is_64 sections (symbols_in (option_map begun_of table)) front
+  pub is_text : text ≡ front ++ past_line (past_the_end table)
+  pub is_whole : whole ≡ (past_the_end table == 0)
+
+-- What was written is such lines.
+pub record WritesTable (is_64 : Bool) (sections : List ℕ) (table : Option SymbolTable) (whole : Bool) (old new : Option (List ℕ)) : Type 0 where
+  pub text : List ℕ
+  pub lines : AreTableLines is_64 sections table text whole
   pub written : Appends old new text

@@ -10,17 +10,18 @@ use Rattle.mach_base.specs.declared.context.Container.TheVariants.{Big}
 use Rattle.mach_base.specs.declared.error.Error.{Error}
 use Rattle.mach_base.specs.Items.{items_from}
 use Rattle.mach_segments.specs.Segment.{SegmentView}
-use Rattle.mach_symbols.specs.declared.symbols.nlist.Nlist.{Nlist}
-use Rattle.mach_image.specs.Facts.{OfImage, HasSegments, HasSymbols}
+use Rattle.mach_symbols.specs.Symbols.{SymbolTable}
+use Rattle.mach_image.specs.Facts.{OfImage, HasSegments, HasSymbolTable}
 use Rattle.goblin_mach.specs.FatEntry.{FatEntry, archive, image, entry_at, FatEntryFault}
 use Rattle.goblin_mach.specs.FatFile.{FatFile, fat_file_in, arches_in}
 use Rattle.mach_image.specs.Image.{Opens}
 use Rattle.goblin_mach.specs.File.{HasFatMagic}
 use Rattle.goblin_mach.specs.View.{ViewFault, Tells}
 use Rattle.machsyms.specs.Letters.{letters_of}
-use Rattle.machsyms.specs.Lines.{AreLines}
+use Rattle.machsyms.specs.Lines.{AreTableLines}
 
--- what is shown: the text on the output, what is said on the error output, and whether nothing was refused
+-- what is shown: the text on the output, what is said on the error output, and whether nothing was refused and no symbol of a table is past
+-- the end
 pub record Shown : Type 0 where
   pub text : List ℕ
   pub said : List ℕ
@@ -30,7 +31,7 @@ pub record Shown : Type 0 where
 abbrev pub both : Shown → Shown → Shown
 both first second = record { text = first.text ++ second.text; said = first.said ++ second.said; whole = first.whole && second.whole }
 
--- the exit status: 1 where something was refused
+-- the exit status: 1 where something is not whole
 abbrev pub status_by : (whole : Bool) → ℕ
 status_by whole = if whole then 0 else 1
 
@@ -46,17 +47,17 @@ entry_complaint i words = codes "machsyms: arch " ++ (decimal i ++ (codes ": " +
 abbrev pub HasWidth : List ℕ → ℕ → (is_64 : Bool) → Type 0
 HasWidth bytes o is_64 = OfImage bytes o (λ ctx cs. IsTrue is_64 ↔ (ctx.container ≡ Big))
 
--- The text is the lines of the image at the front of the bytes: one for each symbol of its table, in order, with the
--- letters of its sections.
-pub record AreImageLines (bytes : List ℕ) (text : List ℕ) : Type 0 where
+-- The text is the lines of the image at the front of the bytes: one for each symbol of its table whose record begins within the
+-- bytes, in order, with the letters of its sections, and one for all others. It is whole where there are no others.
+pub record AreImageLines (bytes : List ℕ) (text : List ℕ) (whole : Bool) : Type 0 where
   pub opens : Opens bytes 0
   pub is_64 : Bool
   pub has_width : HasWidth bytes 0 is_64
   pub segments : List SegmentView
   pub has_segments : HasSegments bytes 0 segments
-  pub symbols : List (Result (List ℕ × Nlist) Fault)
-  pub has_symbols : HasSymbols bytes 0 symbols
-  pub lines : AreLines is_64 (letters_of segments) symbols text
+  pub table : Option SymbolTable
+  pub has_table : HasSymbolTable bytes 0 table
+  pub lines : AreTableLines is_64 (letters_of segments) table text whole
 
 -- the line under which an entry of a fat file stands
 abbrev pub arch_line : ℕ → List ℕ
@@ -64,8 +65,8 @@ arch_line i = codes "arch " ++ decimal i ++ codes "\n"
 
 -- What is shown of entry i, under its line: the lines of an image, that it is an archive, or a fault that stands in it.
 pub data ShowsEntry (i : ℕ) : Result FatEntry Fault → Shown → Type 0 where
-  an_image : (slice text : List ℕ) → AreImageLines slice text
-      → ShowsEntry i (Ok (image slice)) (record { text = arch_line i ++ text; said = []; whole = true })
+  an_image : (slice text : List ℕ) (whole : Bool) → AreImageLines slice text whole
+      → ShowsEntry i (Ok (image slice)) (record { text = arch_line i ++ text; said = []; whole = whole })
   an_archive : (slice : List ℕ)
       → ShowsEntry i (Ok (archive slice)) (record { text = arch_line i ++ codes "archive\n"; said = []; whole = true })
   refused : (entry : Result FatEntry Fault) (e : Error) → Tells (FatEntryFault entry) e
@@ -99,7 +100,7 @@ pub record IsFatTable (bytes : List ℕ) (file : FatFile) : Type 0 where
 
 -- What is shown of a file: one image, a fat file, or why it is refused: a fault that stands in it, or want of memory.
 pub data ShowsFile (bytes : List ℕ) : Shown → Type 0 where
-  one_image : (text : List ℕ) → AreImageLines bytes text → ShowsFile bytes (record { text = text; said = []; whole = true })
+  one_image : (text : List ℕ) (whole : Bool) → AreImageLines bytes text whole → ShowsFile bytes (record { text = text; said = []; whole = whole })
   fat_file : (file : FatFile) (shown : Shown) → IsFatTable bytes file → ShowsFat file shown → ShowsFile bytes shown
   refused_file : (e : Error) → Stands (ViewFault bytes) e
       → ShowsFile bytes (record { text = []; said = complaint (words_of e); whole = false })

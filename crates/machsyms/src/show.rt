@@ -16,7 +16,7 @@ use std::alloc::Allocator;
 use std::io;
 use std::io::Write;
 
-/// Shows a file, and answers whether nothing was refused.
+/// Shows a file, and answers whether nothing was refused and no symbol of a table is past the end.
 pub fn show<A: Allocator + Clone, O: Write, E: Write>(
     alloc: A,
     bytes: &[u8],
@@ -27,16 +27,8 @@ pub fn show<A: Allocator + Clone, O: Write, E: Write>(
         × Writes shown (O.contents out.old) (O.contents out.new) (E.contents err.old) (E.contents err.new)) }
 {
     match open_file(&alloc, bytes) {
-        Ok(Subject::Image(image, letters)) => {
-            print_symbols(&image, &letters, out)?;
-            out.flush()?;
-            Ok(true)
-        }
-        Ok(Subject::Fat(container)) => {
-            let whole = show_entries(&alloc, &container, out, err)?;
-            out.flush()?;
-            Ok(whole)
-        }
+        Ok(Subject::Image(image, letters)) => print_symbols(&image, &letters, out),
+        Ok(Subject::Fat(container)) => show_entries(&alloc, &container, out, err),
         Err(error) => {
             tell_file(&error, err)?;
             Ok(false)
@@ -44,8 +36,7 @@ pub fn show<A: Allocator + Clone, O: Write, E: Write>(
     }
 }
 
-// Shows the entries of a fat file, up to one for which memory is refused, and answers whether none was
-// refused.
+// Shows the entries of a fat file, up to one for which memory is refused, and answers whether all of them are whole.
 fn show_entries<A: Allocator + Clone, O: Write, E: Write>(
     alloc: &A,
     container: &MultiArch<'_, A>,
@@ -67,7 +58,7 @@ fn show_entries<A: Allocator + Clone, O: Write, E: Write>(
     Ok(whole)
 }
 
-// Shows an entry under its line, and answers whether it was not refused.
+// Shows an entry under its line, and answers whether it is whole: not refused, with no symbol past the end.
 fn show_entry<'a, A: Allocator, O: Write, E: Write>(
     index: usize,
     entry: &Entry<'a, A>,
@@ -80,10 +71,7 @@ fn show_entry<'a, A: Allocator, O: Write, E: Write>(
 {
     writeln!(out, "arch {index}")?;
     match entry {
-        Entry::Image(image, letters) => {
-            print_symbols(image, letters, out)?;
-            Ok(true)
-        }
+        Entry::Image(image, letters) => print_symbols(image, letters, out),
         Entry::Archive => {
             writeln!(out, "archive")?;
             Ok(true)

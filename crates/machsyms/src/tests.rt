@@ -7,6 +7,7 @@ use crate::run::run;
 use crate::tests::files::file_c;
 use crate::tests::same::{same, same_at};
 use linked_list_allocator::LocalHeap;
+use std::io::BufWriter;
 use std::test::Fail;
 
 // The lines of file C.
@@ -19,11 +20,11 @@ fn want_of_memory(rt: HostRuntime) -> Result<(), Fail> {
     let mut shown = 0u32;
     for size in 0..400 {
         let heap = LocalHeap::new(rt.alloc(), 64 * size)?;
-        let mut lines = Vec::new(rt.alloc());
+        let mut lines = BufWriter::new(rt.alloc(), Vec::new(rt.alloc()))?;
         let mut reasons = Vec::new(rt.alloc());
         let answer = run(&heap, &whole, &mut lines, &mut reasons);
         if answer == 0 {
-            same(&rt, lines.as_slice(), LINES.as_bytes());
+            same(&rt, lines.get_ref().as_slice(), LINES.as_bytes());
             shown = shown.saturating_add(1);
         } else {
             same_at(&rt, size, (answer, shown), (1, 0));
@@ -32,7 +33,7 @@ fn want_of_memory(rt: HostRuntime) -> Result<(), Fail> {
                 reasons.as_slice(),
                 b"machsyms: out of memory\n".as_slice(),
             );
-            same_at(&rt, size, LINES.as_bytes().starts_with(&lines), true);
+            same_at(&rt, size, LINES.as_bytes().starts_with(lines.get_ref()), true);
             refused = refused.saturating_add(1);
         }
     }

@@ -9,6 +9,7 @@ use linked_list_allocator::LocalHeap;
 use mach_audit::run::{Call, run};
 use mach_audit::{Failure, Format, Options, Request, read_words};
 use std::alloc::{AllocError, Global};
+use std::io::BufWriter;
 use std::process::Abort;
 use std::test::Fail;
 
@@ -44,11 +45,12 @@ fn call_of(format: Format, limit: usize) -> Call<'static> {
 
 // The status of an audit, and what it prints.
 fn audited_as(alloc: Global, call: Call<'_>, bytes: &[u8]) -> Result<(u8, String), Fail> {
-    let mut out = Vec::new(alloc);
+    let mut out = BufWriter::new(alloc, Vec::new(alloc))?;
     let Ok(status) = run(&alloc, alloc, call, bytes, &mut out) else {
         return Err(Fail::from("an audit that was not ended"));
     };
-    Ok((status, String::from_utf8(out)?))
+    let text = std::str::from_utf8(out.get_ref().as_slice())?;
+    Ok((status, String::from_str(alloc, text)?))
 }
 
 // A sum over bytes and their places, by which an image is known to be the one that is meant.
@@ -65,7 +67,8 @@ fn failing_writes(rt: &impl Abort, alloc: Global, file: &[u8], format: Format) -
     let call = call_of(format, 1000);
     let whole = audited_as(alloc, call, file)?.1.len();
     for left in 0..=whole {
-        let unwritten = match run(&alloc, alloc, call, file, &mut Full { left }) {
+        let mut full = BufWriter::new(alloc, Full { left })?;
+        let unwritten = match run(&alloc, alloc, call, file, &mut full) {
             Err(Failure::Unwritten) => true,
             Ok(_) | Err(Failure::Memory) => false,
         };
@@ -141,13 +144,8 @@ fn refused_memory(rt: HostRuntime) -> Result<(), Fail> {
     for size in 0..400 {
         let heap = LocalHeap::new(rt.alloc(), 64 * size)?;
         let call = call_of(Format::Text, 1000);
-        match run(
-            &&heap,
-            rt.alloc(),
-            call,
-            &file,
-            &mut Full { left: usize::MAX },
-        ) {
+        let mut full = BufWriter::new(rt.alloc(), Full { left: usize::MAX })?;
+        match run(&&heap, rt.alloc(), call, &file, &mut full) {
             Ok(status) => {
                 same_at(&rt, size, status, 0);
                 sound = sound.saturating_add(1);
@@ -184,12 +182,12 @@ fn long_names(alloc: Global) -> Result<Vec<u8>, AllocError> {
 fn long_names_in_little_memory(rt: HostRuntime) -> Result<(), Fail> {
     let file = long_names(rt.alloc())?;
     let heap = LocalHeap::new(rt.alloc(), 40_000)?;
-    let mut out = Vec::new(rt.alloc());
+    let mut out = BufWriter::new(rt.alloc(), Vec::new(rt.alloc()))?;
     let call = call_of(Format::Text, 1000);
     if run(&&heap, rt.alloc(), call, &file, &mut out).is_err() {
         return Err(Fail::from("an audit that was not ended"));
     }
-    let text = String::from_utf8(out)?;
-    same(&rt, text.as_str().contains("  exports: ok\n"), true);
+    let text = std::str::from_utf8(out.get_ref().as_slice())?;
+    same(&rt, text.contains("  exports: ok\n"), true);
     Ok(())
 }

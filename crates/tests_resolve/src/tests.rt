@@ -6,8 +6,9 @@ mod same;
 use crate::tests::files::{LIBRARY_L, ONE_WEAK};
 use crate::tests::same::{same, same_at};
 use linked_list_allocator::LocalHeap;
-use mach_resolve::Given;
 use mach_resolve::run::run;
+use mach_resolve::{DEFAULT_LIMIT, Given};
+use std::io::BufWriter;
 use std::test::Fail;
 
 // For want of memory the status is 2, and nothing is printed.
@@ -25,14 +26,22 @@ fn refused_memory(rt: HostRuntime) -> Result<(), Fail> {
     let mut answered = 0u32;
     for size in 0..200 {
         let heap = LocalHeap::new(rt.alloc(), 64 * size)?;
-        let mut out = Vec::new(rt.alloc());
+        let mut out = BufWriter::new(rt.alloc(), Vec::new(rt.alloc()))?;
         let mut err = Vec::new(rt.alloc());
-        let status = run(&heap, None, program, &libraries, &mut out, &mut err);
+        let status = run(
+            &heap,
+            None,
+            DEFAULT_LIMIT,
+            program,
+            &libraries,
+            &mut out,
+            &mut err,
+        );
         if err.is_empty() {
             same(&rt, status, 0);
             answered = answered.saturating_add(1);
         } else {
-            same_at(&rt, size, (status, out.len()), (2, 0));
+            same_at(&rt, size, (status, out.get_ref().len()), (2, 0));
             same(
                 &rt,
                 err.as_slice(),

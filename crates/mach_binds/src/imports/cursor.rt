@@ -1,12 +1,13 @@
 //! How far the reading of binds has come, as numbers, and imports and bindings with the places of their names.
 
-ghost use Rattle.std.specs.Prelude.{◌≡◌, ℕ, List, map, false, IfOk, IfSome, bit_and};
+ghost use Rattle.std.specs.Prelude.{◌≡◌, ℕ, List, map, false, IfOk, IfSome, IfNone, OnErr, bit_and};
 ghost use Rattle.std.specs.Iterator.{YieldsFirstBy};
 ghost use Rattle.mach_base.specs.Context.{pointer_size};
 ghost use Rattle.mach_base.specs.Text.{text_at};
 ghost use Rattle.mach_segments.specs.Segment.{segment_view};
-ghost use Rattle.mach_binds.specs.BindCursors.{says_yes, special_in, extra_in, state_in, imports_behind, bindings_behind, IsOver, IsOverBindings, placed_read};
-ghost use Rattle.mach_binds.specs.BindCursors.{placed_binding_read, IsPlaced, Stands};
+ghost use Rattle.mach_binds.specs.BindCursors.{says_yes, special_in, extra_in, state_in, imports_behind, bindings_behind};
+ghost use Rattle.mach_binds.specs.BindCursors.{IsOver, IsOverBindings, HasEnded, HasEndedBindings};
+ghost use Rattle.mach_binds.specs.BindCursors.{placed_read, placed_binding_read, IsPlaced, Stands};
 ghost use Rattle.mach_binds.specs.BindLeft.{imports_left};
 ghost use Rattle.mach_binds.specs.Machine as machine;
 ghost use Rattle.mach_binds.specs.Machine.{items_left, items_of, start_of, state_of};
@@ -290,6 +291,8 @@ impl<'a> BindIterator<'a, '_> {
     #[inline(always)]
     pub fn next_placed(&mut self) -> Option<Result<PlacedImport<'a>>>
         ensures items { YieldsFirstBy placed_read imports_left self.old result self.new }
+        ensures end { IfNone result (HasEnded self.new) }
+        ensures fault { IfSome result (λ item. OnErr item (HasEnded self.new)) }
         ensures over { (x : Input) (lazy : Range) → IsOver x lazy self.old → IsOver x lazy self.new }
         ensures placed { (x : Input) (lazy : Range) → IsOver x lazy self.old → IfSome result (λ item. IfOk item (IsPlaced x)) }
     {
@@ -319,6 +322,8 @@ impl<'a> OpcodeBindingIterator<'a, '_> {
     #[inline(always)]
     pub fn next_placed(&mut self) -> Option<Result<PlacedBinding<'a>>>
         ensures items { YieldsFirstBy placed_binding_read bindings_left self.old result self.new }
+        ensures end { IfNone result (HasEndedBindings self.new) }
+        ensures fault { IfSome result (λ item. OnErr item (HasEndedBindings self.new)) }
         ensures over { (x : Input) (lazy : Range) → IsOverBindings x lazy self.old → IsOverBindings x lazy self.new }
         ensures placed { (x : Input) (lazy : Range) → IsOverBindings x lazy self.old
             → IfSome result (λ item. IfOk item (λ p. Stands x.bytes p.name_place p.binding.name.now)) }

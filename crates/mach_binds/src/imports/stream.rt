@@ -7,7 +7,7 @@ ghost use Rattle.mach_binds.specs.Instructions.{byte_at};
 ghost use Rattle.mach_binds.specs.NamePlaces.{NameStands};
 ghost use Rattle.mach_binds.specs.Streams.{Range};
 ghost use Rattle.mach_binds.specs.Machine.{Rules, Reads, range_of, state_of, bind_of, input_of, executed_by, items_left, opcodes_left};
-ghost use Rattle.mach_binds.specs.Machine.{StopsFor, IsUnreadable, MakesNothing, IsAtEnd, IsMadeBy, Keeps, Fails, item_read};
+ghost use Rattle.mach_binds.specs.Machine.{StopsFor, IsUnreadable, MakesNothing, IsAtEnd, IsMadeBy, Keeps, Fails, HasEnded, item_read};
 
 use crate::imports::instruction::opcode_byte;
 use crate::imports::settings::Settings;
@@ -210,6 +210,7 @@ impl<'a, 'b, M: Makes<'a>> Stream<'a, 'b, M> {
     // Ends.
     fn finish(&mut self)
         requires { IsAtEnd self.old }
+        ensures ended { self.new.state.ended ≡ true }
         ensures before { items_left M.rules self.old ≡ [] }
         ensures items { items_left M.rules self.new ≡ [] }
         ensures reads_before { opcodes_left M.rules self.old ≡ 0 }
@@ -234,6 +235,7 @@ impl<'a, 'b, M: Makes<'a>> Stream<'a, 'b, M> {
         ensures stop { IfSome result (λ item. IfErr item (λ s.
             (items_left M.rules self.old ≡ items_left M.rules self.new) × StopsFor M.rules self.new s)) }
         ensures end { IfNone result ((items_left M.rules self.old ≡ []) × (items_left M.rules self.new ≡ [])) }
+        ensures ended { IfNone result (self.new.state.ended ≡ true) }
         ensures none { IfNone result (steps.new ≡ steps.old + opcodes_left M.rules self.old) }
         ensures reads { IfSome result (λ item. OnOk item
             (steps.new + opcodes_left M.rules self.new ≡ steps.old + opcodes_left M.rules self.old)) }
@@ -279,6 +281,7 @@ impl<'a, 'b, M: Makes<'a>> Stream<'a, 'b, M> {
     pub fn end_at(&mut self, stop: Stop) -> M::Why
         requires { StopsFor M.rules self.old stop }
         ensures fails { Fails M.rules self.old self.new (M.fault result) }
+        ensures ended { self.new.state.ended ≡ true }
         ensures keeps { Keeps self.old self.new }
     {
         let error = self.error(stop);
@@ -290,6 +293,8 @@ impl<'a, 'b, M: Makes<'a>> Stream<'a, 'b, M> {
     #[inline(always)]
     pub fn next_item(&mut self) -> Option<std::result::Result<M::Item, M::Why>>
         ensures items { YieldsFirstBy (item_read M.seen M.fault) (items_left M.rules) self.old result self.new }
+        ensures end { IfNone result (HasEnded M.rules self.new) }
+        ensures fault { IfSome result (λ item. OnErr item (HasEnded M.rules self.new)) }
         ensures keeps { Keeps self.old self.new }
         ensures bound { IfSome result (λ item. IfOk item (λ i. IsMadeBy M.rules self.new (M.seen i))) }
     {

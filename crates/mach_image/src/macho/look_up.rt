@@ -4,13 +4,14 @@ ghost use Rattle.std.specs.Prelude.{◌≡◌, ℕ, List, Option, Some, None, op
 ghost use Rattle.mach_base.specs.Answer.{Stands, IsOkUnlessMemory};
 ghost use Rattle.mach_tries.specs.Exports.{info_of};
 ghost use Rattle.mach_base.specs.Text.{texts};
-ghost use Rattle.mach_tries.specs.LookUp.{IsFirstOf};
+ghost use Rattle.mach_tries.specs.LookUp.{IsFirstOf, FaultOnWay};
 ghost use Rattle.mach_tries.specs.Trie.{Info, Entry};
+ghost use Rattle.mach_tries.specs.TrieRange.{trie_there};
 ghost use Rattle.mach_image.specs.Facts.{HasExports, HasExportOf};
 ghost use Rattle.mach_image.specs.Libraries.{libraries_in, libraries_left};
 ghost use Rattle.mach_image.specs.LookUp.{StandsInImage, IsListedAs};
 ghost use Rattle.mach_image.specs.OpenImage.{trie_held, bytes_held, commands_held};
-ghost use Rattle.mach_image.specs.Subjects.{ListsImageExports, ImageExportsFault};
+ghost use Rattle.mach_image.specs.Subjects.{ListsImageExports, ImageExportsFault, trie_or_empty};
 
 use crate::libraries::LibraryIterator;
 use crate::macho::MachO;
@@ -31,7 +32,7 @@ impl<'a, A: Allocator> MachO<'a, A> {
     /// What the image exports a name as, over the libraries that it holds at the call: the first export of that name
     /// in the list that `exports` gives, or None; None where no command brings a trie. Only nodes on the way of the name
     /// are read, so it may answer where the trie has no list; what it then answers stands by the paths. Each refusal but
-    /// `Error::Memory` is a fault that stands in the trie. It takes memory only where `ExportTrie::find` does.
+    /// `Error::Memory` is a fault on that way, so one that stands in the trie. It takes memory only where `ExportTrie::find` does.
     pub fn find_export<B: Allocator + Clone>(
         &self,
         alloc: B,
@@ -42,6 +43,8 @@ impl<'a, A: Allocator> MachO<'a, A> {
             → IfOk result (λ o. IsFirstOf name.now list (option_map info_of o)) }
         ensures only { (list : List Entry) → ListsImageExports (trie_held self.now) (texts self.now.libs.items) list → IsOkUnlessMemory result }
         ensures refused { IfErr result (Stands (ImageExportsFault (trie_held self.now) (texts self.now.libs.items))) }
+        ensures on_way { IfErr result (Stands (FaultOnWay (trie_there (trie_or_empty (trie_held self.now)) (texts self.now.libs.items))
+            (trie_or_empty (trie_held self.now)).from name.now)) }
     {
         match &self.export_trie {
             Some(trie) => trie.find(alloc, self.libs.as_slice(), name),

@@ -137,14 +137,11 @@ fn starts_fault(
     segment_fault(chained, text, k, first, info, segment)
 }
 
-// Whether a segment's name is `__TEXT`.
+// Whether a segment's name is `__TEXT`, whatever stands behind its first zero byte.
 fn is_text(segment: &PlacedSegment) -> bool
     ensures { result ≡ defined.is_text segment.now }
 {
-    segment
-        .command
-        .segname
-        .starts_with(b"__TEXT\0\0\0\0\0\0\0\0\0\0")
+    segment.command.segname.starts_with(b"__TEXT\0")
 }
 
 // What offsets of segments count from: the address of the first segment named `__TEXT`.

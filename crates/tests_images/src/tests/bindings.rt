@@ -245,19 +245,21 @@ fn last_command(rt: HostRuntime) -> Result<(), Fail> {
     three_times(&rt, alloc, "last", &changed(&changes), want.as_str())
 }
 
-// The base is the address of the first segment named __TEXT, or 0.
+// The base is the address of the first segment named __TEXT, or 0. A name ends before its first zero byte.
 #[test]
 fn bases(rt: HostRuntime) -> Result<(), Fail> {
     let alloc = rt.alloc();
     let whole = format!(in alloc; "{FIXUPS}| {BY_OPCODES}{BY_CHAINS}")?;
+    let misplaced = format!(in alloc; "malformed| {BY_OPCODES}malformed")?;
     let two = changed(&[(114, b'T'), (115, b'E'), (116, b'X'), (117, b'T')]);
     three_times(&rt, alloc, "two", &two, whole.as_str())?;
-    let misplaced = format!(in alloc; "malformed| {BY_OPCODES}malformed")?;
     let other = changed(&[(40, b'-')]);
     three_times(&rt, alloc, "another name", &other, misplaced.as_str())?;
     same(&rt, MachO::parse(alloc, &other, 0)?.base(), 0);
-    let longer = changed(&[(55, 1)]);
+    let longer = changed(&[(46, b'x')]);
     same(&rt, MachO::parse(alloc, &longer, 0)?.base(), 0);
+    let behind = changed(&[(47, b'x'), (55, 1)]);
+    same(&rt, MachO::parse(alloc, &behind, 0)?.base(), 0x1_0000_0000);
     Ok(())
 }
 

@@ -296,3 +296,141 @@ fn rows_of_binds(rt: HostRuntime) -> Result<(), Fail> {
     }
     Ok(())
 }
+
+// The turns of one bind instruction, of which the library is set, the name, the type and __DATA, which has 0x1000 bytes: an
+// offset, a count and what is skipped behind each pointer; whether __DATA is made to have 2^64 - 1 bytes, of which those
+// that no address of 64 bits has are 0x1000; and whether a fault is told.
+type Turns<'r> = (&'r str, bool, &'r [u8], bool);
+
+const TURNS: [Turns<'static>; 14] = [
+    (
+        "2^60 turns at one place inside",
+        false,
+        &[
+            0x71, 0, 0xc0, 0x80, 0x80, 0x80, 0x80, 0x80, 0x80, 0x80, 0x80, 0x10, 0xf8, 0xff, 0xff,
+            0xff, 0xff, 0xff, 0xff, 0xff, 0xff, 1,
+        ],
+        false,
+    ),
+    (
+        "2^60 turns at one place half outside",
+        false,
+        &[
+            0x71, 0xfc, 0x1f, 0xc0, 0x80, 0x80, 0x80, 0x80, 0x80, 0x80, 0x80, 0x80, 0x10, 0xf8,
+            0xff, 0xff, 0xff, 0xff, 0xff, 0xff, 0xff, 0xff, 1,
+        ],
+        true,
+    ),
+    (
+        "2^60 turns by 8",
+        false,
+        &[
+            0x71, 0, 0xc0, 0x80, 0x80, 0x80, 0x80, 0x80, 0x80, 0x80, 0x80, 0x10, 0,
+        ],
+        true,
+    ),
+    (
+        "a step that wraps once, to 0",
+        false,
+        &[
+            0x71, 8, 0xc0, 2, 0xf0, 0xff, 0xff, 0xff, 0xff, 0xff, 0xff, 0xff, 0xff, 1,
+        ],
+        false,
+    ),
+    (
+        "three turns back to 0",
+        false,
+        &[
+            0x71, 16, 0xc0, 3, 0xf0, 0xff, 0xff, 0xff, 0xff, 0xff, 0xff, 0xff, 0xff, 1,
+        ],
+        false,
+    ),
+    (
+        "four turns back past 0",
+        false,
+        &[
+            0x71, 16, 0xc0, 4, 0xf0, 0xff, 0xff, 0xff, 0xff, 0xff, 0xff, 0xff, 0xff, 1,
+        ],
+        true,
+    ),
+    (
+        "512 turns that fit",
+        false,
+        &[0x71, 0, 0xc0, 0x80, 4, 0],
+        false,
+    ),
+    (
+        "the last of 513 outside",
+        false,
+        &[0x71, 0, 0xc0, 0x81, 4, 0],
+        true,
+    ),
+    (
+        "the middle one of three outside, the last inside through a wrap",
+        false,
+        &[
+            0x71, 0, 0xc0, 3, 0xf8, 0xff, 0xff, 0xff, 0xff, 0xff, 0xff, 0xff, 0x7f,
+        ],
+        true,
+    ),
+    (
+        "the first of them alone",
+        false,
+        &[
+            0x71, 0, 0xc0, 1, 0xf8, 0xff, 0xff, 0xff, 0xff, 0xff, 0xff, 0xff, 0x7f,
+        ],
+        false,
+    ),
+    ("no turn", false, &[0x71, 0xfc, 0x1f, 0xc0, 0, 0], false),
+    (
+        "2^60 turns over a vast segment that all leap what is outside",
+        true,
+        &[
+            0x71, 0, 0xc0, 0x80, 0x80, 0x80, 0x80, 0x80, 0x80, 0x80, 0x80, 0x10, 0xf8, 0xff, 3,
+        ],
+        false,
+    ),
+    (
+        "2^60 turns over it of which one is outside each round",
+        true,
+        &[
+            0x71, 0x80, 0xf0, 3, 0xc0, 0x80, 0x80, 0x80, 0x80, 0x80, 0x80, 0x80, 0x80, 0x10, 0xf8,
+            0xff, 3,
+        ],
+        true,
+    ),
+    (
+        "so few of them that the first round isn't ended",
+        true,
+        &[
+            0x71, 0x80, 0xf0, 3, 0xc0, 0x80, 0x80, 0x80, 0x80, 0x80, 0x80, 0x20, 0xf8, 0xff, 3,
+        ],
+        false,
+    ),
+];
+
+// The library with these opcodes behind its end, in a range of 40 bytes.
+fn with_turns(alloc: Global, is_vast: bool, turns: &[u8]) -> Result<Vec<u8>, AllocError> {
+    let mut bytes = library(alloc)?;
+    if is_vast {
+        put(&mut bytes, 0x128, &[0xff; 8]);
+    }
+    put(&mut bytes, 0x248, &0x20a0u32.to_le_bytes());
+    put(&mut bytes, 0x24c, &[40]);
+    bytes.extend_from_slice(&[0x11, 0x40, 0x61, 0, 0x51])?;
+    bytes.extend_from_slice(turns)?;
+    bytes.extend_from_slice(&[0; 35])?;
+    Ok(bytes)
+}
+
+#[test]
+fn rows_of_turns(rt: HostRuntime) -> Result<(), Fail> {
+    let alloc = rt.alloc();
+    for (name, is_vast, turns, is_told) in &TURNS {
+        let bytes = with_turns(alloc, *is_vast, turns)?;
+        if told(alloc, &bytes)?.is_empty() == *is_told {
+            return Err(Fail::from(*name));
+        }
+    }
+    Ok(())
+}

@@ -1,4 +1,4 @@
-use Rattle.std.proofs.Common.{refl, ap, length}
+use Rattle.std.proofs.Common.{◌-◌, ◌∙◌, refl, ap, length}
 use Rattle.goblin_mach_c.proofs.open.numbers.Goals as goal
 
 pub returns : goal.returns
@@ -11,7 +11,7 @@ returns c = record {
   first_command = c.first_command.ensures;
   commands = ap length c.as_slice.ensures.value;
   segments = ap length c.as_slice-2.ensures;
-  libraries = ap length c.as_slice-3.ensures.value;
+  libraries = c.saturating_sub.ensures ∙ ap (λ l. length l - 1) c.as_slice-3.ensures.value;
   run_paths = ap length c.as_slice-4.ensures.value;
   symbols = c.table_numbers-symbols_at.ensures;
   entry = refl;

@@ -59,7 +59,7 @@ exports-preserved g c =
     let goes = rw (c.in-Some.is ∙ ap Some c.in-Ok-export.is) at c.next.follows.holds-at-none in
     let met = c.in_ok-take-in-Ok-export.ensures.met c.args.limit (no_faults found.0) found.2 in (
       found.0 ++ one ∷ [],
-      goes.2 (trie_or_empty (trie_held image)) (texts image.libs.items) found.0 found.1,
+      goes.1 (trie_or_empty (trie_held image)) (texts image.libs.items) found.0 found.1,
       subst (λ (items : List (Option Fault)). HasMet c.args.limit items c.take-in-Ok-export.new.self) (sym (no_faults_more found.0 one)) met,
     )
 

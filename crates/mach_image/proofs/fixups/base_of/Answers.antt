@@ -2,14 +2,14 @@ use Rattle.std.proofs.Common.{◌∙◌, sym}
 use Rattle.mach_image.proofs.Bases.{base_here, base_further, base_at_end}
 use Rattle.mach_image.proofs.fixups.base_of.Goals as goal
 
-pub returns-then-starts_with : goal.returns-then-starts_with
-returns-then-starts_with c =
-    sym (base_here c.args.segments.now c.loop-segment.segment-index _ c.loop-segment-test.true (sym c.starts_with.ensures.value ∙ c.if-starts_with.true))
+pub returns-then-is_text : goal.returns-then-is_text
+returns-then-is_text c =
+    sym (base_here c.args.segments.now c.loop-segment.segment-index _ c.loop-segment-test.true (sym c.is_text.ensures ∙ c.if-is_text.true))
     ∙ c.loop-segment.invariant
 
 pub loop-segment-preserved : goal.loop-segment-preserved
 loop-segment-preserved c =
-    sym (base_further c.args.segments.now c.loop-segment.segment-index _ c.loop-segment-test.true (sym c.starts_with.ensures.value ∙ c.if-starts_with.false))
+    sym (base_further c.args.segments.now c.loop-segment.segment-index _ c.loop-segment-test.true (sym c.is_text.ensures ∙ c.if-is_text.false))
     ∙ c.loop-segment.invariant
 
 pub returns : goal.returns

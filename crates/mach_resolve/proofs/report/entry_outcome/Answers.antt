@@ -13,6 +13,6 @@ returns-then-starts_with g c = an_archive (ap begins_archive (sym c.slice-bytes.
 pub returns-else-starts_with : goal.returns-else-starts_with
 returns-else-starts_with g c =
     IfOk-weaker c.outcome_for.result _ _
-    (λ o is. entry_image c.args.program.path.now c.slice-bytes.result.now _ (map given_seen c.args.libraries.now) (outcome_seen o) c.slice-bytes.ensures
+    (λ o is. entry_image c.args.limit c.args.program.path.now c.slice-bytes.result.now _ (map given_seen c.args.libraries.now) (outcome_seen o) c.slice-bytes.ensures
     (sym c.starts_with.ensures.value ∙ c.if-starts_with.false) is)
     c.outcome_for.ensures

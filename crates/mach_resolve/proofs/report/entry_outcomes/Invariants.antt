@@ -6,4 +6,4 @@ use Rattle.mach_resolve.proofs.report.entry_outcomes.Given as goal
 
 abbrev pub invariant-arches : goal.invariant-arches
 invariant-arches g l =
-    AreEntryOutcomes (given_seen l.program) (map given_seen l.libraries) (take l.arch-index l.arches) (map outcome_seen l.outcomes.items)
+    AreEntryOutcomes l.limit (given_seen l.program) (map given_seen l.libraries) (take l.arch-index l.arches) (map outcome_seen l.outcomes.items)

@@ -5,8 +5,8 @@ use Rattle.mach_resolve.proofs.Reports.{refused_outcome}
 use Rattle.mach_resolve.proofs.report.outcome_for.Goals as goal
 
 pub returns-in-Ok : goal.returns-in-Ok
-returns-in-Ok g c = resolved _ _ c.in-Ok.ensures.resolved
+returns-in-Ok g c = resolved _ _ _ c.in-Ok.ensures.resolved
 
 pub returns-in-Err : goal.returns-in-Err
 returns-in-Err g c =
-    refused_outcome (given_seen c.args.program) (map given_seen c.args.libraries.now) c.in-Err.failure c.refusal.result c.in-Err.ensures.refused c.refusal.ensures
+    refused_outcome c.args.limit (given_seen c.args.program) (map given_seen c.args.libraries.now) c.in-Err.failure c.refusal.result c.in-Err.ensures.refused c.refusal.ensures

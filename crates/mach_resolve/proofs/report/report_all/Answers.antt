@@ -10,7 +10,7 @@ use Rattle.mach_resolve.proofs.report.report_all.Goals as goal
 pub returns-in-Ok-entry_outcomes : goal.returns-in-Ok-entry_outcomes
 returns-in-Ok-entry_outcomes g c = λ is.
     fat (file_held c.args.container.now) c.in-Ok.arches.items _ is.magic is.file c.in-Ok.ensures
-    (subst (λ xs. AreEntryOutcomes (given_seen c.args.program) (map given_seen c.args.libraries.now) xs (map outcome_seen c.in-Ok-entry_outcomes.outcomes.items))
+    (subst (λ xs. AreEntryOutcomes c.args.limit (given_seen c.args.program) (map given_seen c.args.libraries.now) xs (map outcome_seen c.in-Ok-entry_outcomes.outcomes.items))
     c.deref.ensures.value c.in-Ok-entry_outcomes.ensures)
 
 pub returns-in-Ok-refusal : goal.returns-in-Ok-refusal
@@ -18,6 +18,6 @@ returns-in-Ok-refusal g c = λ is.
     let p = given_seen c.args.program in
     let file = file_held c.args.container.now in
     let e = c.in-Err.error in
-    table_refused p (map given_seen c.args.libraries.now) (outcome_seen c.in-Ok-refusal.outcome)
+    table_refused c.args.limit p (map given_seen c.args.libraries.now) (outcome_seen c.in-Ok-refusal.outcome)
     (program_refused (ProgramFault p.bytes) e c.refused.result c.in-Ok-refusal.outcome c.refused.ensures
     (Stands-failed (ProgramFault p.bytes) e (arches_in file) (λ f bad. of_table file is.magic is.file bad) c.in-Err.ensures) c.in-Ok-refusal.ensures)

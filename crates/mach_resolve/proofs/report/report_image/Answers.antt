@@ -11,7 +11,7 @@ pub returns-in-Some : goal.returns-in-Some
 returns-in-Some g c = λ is.
     let p = given_seen c.args.program in
     let ls = map given_seen c.args.libraries.now in
-    subst (λ w. IsReport p ls w (report.nothing c.in-Some.other)) (sym c.in-Some.is)
+    subst (λ w. IsReport c.args.limit p ls w (report.nothing c.in-Some.other)) (sym c.in-Some.is)
     (other_image c.in-Some.other c.args.cputype is (λ e. c.if-other-cputype.true (sym e)))
 
 pub returns-in-Some-2 : goal.returns-in-Some-2
@@ -19,7 +19,7 @@ returns-in-Some-2 g c = λ is.
     let p = given_seen c.args.program in
     let ls = map given_seen c.args.libraries.now in
     IfOk-weaker c.report_one.result _ _
-    (λ r one. subst (λ w. IsReport p ls w (report_seen r)) (sym (c.in-Some.is ∙ ap Some c.if-other-cputype.false)) (one_of_cpu p ls c.args.cputype (report_seen r) is one))
+    (λ r one. subst (λ w. IsReport c.args.limit p ls w (report_seen r)) (sym (c.in-Some.is ∙ ap Some c.if-other-cputype.false)) (one_of_cpu c.args.limit p ls c.args.cputype (report_seen r) is one))
     c.report_one.ensures
 
 pub returns-in-None : goal.returns-in-None
@@ -27,5 +27,5 @@ returns-in-None g c = λ is.
     let p = given_seen c.args.program in
     let ls = map given_seen c.args.libraries.now in
     IfOk-weaker c.report_one-in-None.result _ _
-    (λ r one. subst (λ w. IsReport p ls w (report_seen r)) (sym c.in-None.is) (one_of_all p ls c.args.cputype (report_seen r) is one))
+    (λ r one. subst (λ w. IsReport c.args.limit p ls w (report_seen r)) (sym c.in-None.is) (one_of_all c.args.limit p ls c.args.cputype (report_seen r) is one))
     c.report_one-in-None.ensures

@@ -9,5 +9,5 @@ use Rattle.mach_resolve.proofs.report.report_on.Goals as goal
 pub returns-in-Ok : goal.returns-in-Ok
 returns-in-Ok g c =
     let p = given_seen c.args.program in
-    file_refused p (map given_seen c.args.libraries.now) c.args.wanted (outcome_seen c.in-Ok.outcome)
+    file_refused c.args.limit p (map given_seen c.args.libraries.now) c.args.wanted (outcome_seen c.in-Ok.outcome)
     (program_refused (MachFault ImageFault p.bytes) c.in-Err.error c.refused.result c.in-Ok.outcome c.refused.ensures c.in-Err.ensures.refused c.in-Ok.ensures)

@@ -1,5 +1,5 @@
-use Rattle.std.proofs.Common.{◌∙◌, ◌++◌, ◌∷◌, [], Ok, map, sym, ap, subst}
-use Rattle.std.proofs.lemmas.List.{append_assoc, map_push}
+use Rattle.std.proofs.Common.{◌∙◌, ◌++◌, ◌∷◌, [], Ok, length, map, sym, ap, subst, arith}
+use Rattle.std.proofs.lemmas.List.{append_assoc, length-append, map_push}
 use Rattle.mach_segments.specs.Bindings.{Binding, binding_view, binding_read}
 use Rattle.mach_image.specs.BindingsLeft.{bindings_left}
 use Rattle.mach_resolve.specs.Files.{TrieFaultAt}
@@ -7,6 +7,7 @@ use Rattle.mach_resolve.specs.Answers.{IsAnswer, AreAnswers}
 use Rattle.mach_resolve.specs.Failures.{IsFailure}
 use Rattle.mach_resolve.specs.Resolved.{HoldsItems, AnswerFault, of_bindings, of_trie}
 use Rattle.mach_resolve.specs.Seen.{files_seen, program_seen, answer_seen}
+use Rattle.mach_resolve.proofs.Firsts.{first_cut}
 use Rattle.mach_resolve.proofs.Found.{all_zip_push}
 use Rattle.mach_resolve.proofs.Notes.{fails_more, stands_as}
 use Rattle.mach_resolve.proofs.Steps.{told}
@@ -31,12 +32,23 @@ bindings-preserved g c =
       λ met behind same.
           subst (λ qs. AreAnswers fs p (bs ++ b ∷ []) qs) (sym (ap (map answer_seen) c.in_ok-push-in-Ok-answer_for.ensures.items ∙ map_push answer_seen answers a))
           (all_zip_push (IsAnswer fs p) bs (map answer_seen answers) b (answer_seen a) (before.4 met behind same) (c.in-Ok-answer_for.ensures.answered met behind same)),
+      omega (arith, before.5, ap length c.in_ok-push-in-Ok-answer_for.ensures.items, length-append answers (c.in-Ok-answer_for.answer ∷ []), length-append bs (b ∷ [])),
+      omega (arith, before.5, before.6, c.if-len-limit.false, c.len.ensures, length-append bs (b ∷ [])),
+    )
+
+pub returns-then-len-limit-clause-answered : goal.returns-then-len-limit-clause-answered
+returns-then-len-limit-clause-answered g c = λ met behind same.
+    let before = c.bindings.invariant in (
+      before.2,
+      first_cut c.args.limit c.args.image.now before.0 (bindings_left c.bindings.item-iterator) (bindings_left c.next.new.self) (binding_read c.in-Some.item)
+          before.2 before.1 before.3 c.in-Some.ensures.steps before.6 (omega (arith, before.5, c.if-len-limit.true, c.len.ensures)),
+      before.4 met behind same,
     )
 
 pub returns-in-Err-answer_for-clause-refused : goal.returns-in-Err-answer_for-clause-refused
 returns-in-Err-answer_for-clause-refused g c =
     let fs = files_seen c.args.files.now in
-    fails_more (TrieFaultAt fs) (AnswerFault fs c.args.image.now) c.in-Err-answer_for.failure (λ n f stands. of_trie stands) c.in-Err-answer_for.ensures.refused
+    fails_more (TrieFaultAt fs) (AnswerFault c.args.limit fs c.args.image.now) c.in-Err-answer_for.failure (λ n f stands. of_trie stands) c.in-Err-answer_for.ensures.refused
 
 pub returns-in-Err-clause-refused : goal.returns-in-Err-clause-refused
 returns-in-Err-clause-refused g c =
@@ -46,5 +58,7 @@ returns-in-Err-clause-refused g c =
     let e = c.in-Err.error in
     let left = bindings_left c.next.new.self in
     let all = before.3 ∙ ap (λ rest. map (λ (x : Binding). Ok x) before.2 ++ rest) (c.in-Some.ensures.steps ∙ ap (λ item. binding_read item ∷ left) c.in-Err.is) in
-    subst (IsFailure (AnswerFault fs m)) (sym c.refused.ensures)
-    (told (AnswerFault fs m) 0 e (stands_as (AnswerFault fs m 0) e (of_bindings before.2 left (subst (HoldsItems m) all before.1))))
+    let Faults = AnswerFault c.args.limit fs m in
+    subst (IsFailure Faults) (sym c.refused.ensures)
+    (told Faults 0 e (stands_as (Faults 0) e (of_bindings before.2 left (subst (HoldsItems m) all before.1)
+    (omega (arith, before.5, c.if-len-limit.false, c.len.ensures)))))

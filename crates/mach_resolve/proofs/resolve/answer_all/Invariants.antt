@@ -1,4 +1,4 @@
-use Rattle.std.proofs.Common.{◌≡◌, ◌++◌, List, Result, Ok, map}
+use Rattle.std.proofs.Common.{◌≡◌, ◌≤◌, ◌++◌, List, Result, Ok, length, map}
 use Rattle.mach_base.specs.Fault.{Fault}
 use Rattle.mach_segments.specs.Bindings.{Binding}
 use Rattle.mach_image.specs.BindingsLeft.{bindings_left}
@@ -13,3 +13,4 @@ invariant-bindings g l =
     (items : List (Result Binding Fault)) × HoldsItems l.image items
     × (bindings : List Binding) × (items ≡ map (λ b. Ok b) bindings ++ bindings_left l.item-iterator)
     × ((met : Met) → IsBehindAll (files_seen l.files) met → met.places ≡ l.all → AreAnswers (files_seen l.files) (program_seen l.program) bindings (map answer_seen l.answers.items))
+    × (length l.answers.items ≡ length bindings) × (length bindings ≤ l.limit)

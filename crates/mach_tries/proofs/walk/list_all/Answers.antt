@@ -13,7 +13,7 @@ exports-init g c = record {
 }
 
 pub step-requires : goal.step-requires
-step-requires g c = λ on. (entries c.exports.found.items, c.exports.invariant.visited, c.exports.invariant.found)
+step-requires g c = λ on. ∣ (entries c.exports.found.items, c.exports.invariant.visited, c.exports.invariant.found) ∣₁
 
 pub returns-in_err-info-clause-visits : goal.returns-in_err-info-clause-visits
 returns-in_err-info-clause-visits g c =

@@ -1,4 +1,4 @@
-use Rattle.mach_tries.proofs.Names.{◌≡◌, ◌+◌, ℕ, entries, HasFound, work_left}
+use Rattle.mach_tries.proofs.Names.{◌≡◌, ◌+◌, ℕ, entries, HasFound, work_ahead}
 use Rattle.mach_tries.proofs.walk.list_all.Given as goal
 
 abbrev pub invariant-exports : goal.invariant-exports
@@ -10,4 +10,4 @@ invariant-exports g l = record {
 }
 
 abbrev pub decreases-exports : goal.decreases-exports
-decreases-exports g l = work_left l.walk
+decreases-exports g l = work_ahead l.walk

@@ -13,7 +13,7 @@ exports-preserved g c =
     let export = c.in_default-export.field-0 in
     let goes = rw (c.in-Some.is ∙ ap Some c.in_default-export.is) at c.next.follows.holds-at-none in (
       found.0 ++ entry export.0.now (info_of export.1) ∷ [],
-      goes.2 (trie_or_empty (trie_held image)) (texts image.libs.items) found.0 found.1,
+      goes.1 (trie_or_empty (trie_held image)) (texts image.libs.items) found.0 found.1,
     )
 
 pub returns : goal.returns

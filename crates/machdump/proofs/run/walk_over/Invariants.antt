@@ -1,8 +1,7 @@
 use Rattle.std.proofs.Common.{List}
 use Rattle.mach_base.specs.Text.{texts}
 use Rattle.mach_tries.specs.Trie.{Entry}
-use Rattle.mach_tries.specs.WalkState.{work_left}
-use Rattle.mach_tries.specs.Walks.{HasGiven}
+use Rattle.mach_tries.specs.Walks.{HasGiven, work_left}
 use Rattle.mach_image.specs.OpenImage.{trie_held}
 use Rattle.mach_image.specs.Subjects.{trie_or_empty}
 use Rattle.machdump.proofs.run.walk_over.Given as goal

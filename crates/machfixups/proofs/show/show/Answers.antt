@@ -1,5 +1,6 @@
 use Rattle.std.proofs.Common.{[], false, refl, ap}
-use Rattle.mach_base.proofs.Written.{Appends-none, Appends-kept}
+use Rattle.std.proofs.lemmas.Result.{IfOk-weaker}
+use Rattle.mach_base.proofs.Written.{Appends-none}
 use Rattle.mach_base.specs.Words.{words_of}
 use Rattle.goblin_mach.specs.FatFile.{file_held}
 use Rattle.machfixups.specs.Parts.{parts_seen}
@@ -12,27 +13,25 @@ returns-in-Ok-Image g c =
     let bytes = c.args.bytes.now in
     let arm = c.in-Ok-Image in
     let held = rw (arm.is, arm.field-0-is) at c.open_file.ensures.held in
-    let whole = c.in_ok-whole-in-Ok-Image.whole in
-    let listed = c.in_ok-whole-in-Ok-Image.ensures bytes 0 held.0 in
+    IfOk-weaker c.print_fixups.result _ _
+    (λ whole listed.
     let lines =
-    image_lines bytes (parts_seen c.deref.result.now) (parts_seen arm.parts.items) arm.image whole listed.0 listed.2 listed.4 _ _ held.0 held.1
+    image_lines c.args.limit bytes (parts_seen c.deref.result.now) (parts_seen arm.parts.items) arm.image whole listed.0 listed.2 listed.4 _ _ held.0 held.1
     (ap parts_seen c.deref.ensures.value) listed.1 listed.3 listed.5 listed.6 in (
       record { text = lines.0; said = []; whole = whole },
       one_image lines.0 whole lines.1,
       refl,
-      record { text = Appends-kept _ _ _ lines.0 lines.2 c.flush.ensures.bytes; said = Appends-none _ },
-    )
+      record { text = lines.2; said = Appends-none _ },
+    ))
+    (c.print_fixups.ensures bytes 0 held.0)
 
 pub returns-in-Ok-Fat : goal.returns-in-Ok-Fat
 returns-in-Ok-Fat g c =
     let arm = c.in-Ok-Fat in
     let held = rw (arm.is, arm.field-0-is) at c.open_file.ensures.held in
-    let shown = c.in_ok-whole-in-Ok-Fat.ensures in (
-      shown.0,
-      fat_file (file_held arm.container) shown.0 held shown.1,
-      shown.2,
-      record { text = Appends-kept _ _ _ shown.0.text shown.3.text c.flush-in-Ok-Fat.ensures.bytes; said = shown.3.said },
-    )
+    IfOk-weaker c.show_entries.result _ _
+    (λ whole shown. (shown.0, fat_file (file_held arm.container) shown.0 held shown.1, shown.2, shown.3))
+    c.show_entries.ensures
 
 pub returns : goal.returns
 returns g c =

@@ -18,7 +18,7 @@ entries-preserved g c =
     let before = c.entries.invariant in
     let last = c.in_ok-opened.ensures (entry_at file i) c.in-Ok.ensures in (
       both before.0 last.0,
-      one_more file i before.0 last.0 before.1 last.1,
+      one_more c.args.limit file i before.0 last.0 before.1 last.1,
       elim c.if-whole.branch [
         | then-whole w ↦ and_true before.0.whole last.0.whole c.if-whole.whole (before.2 ∙ w.if-whole.true) (last.2 ∙ sym w.whole-is)
         | else-whole w ↦ and_false before.0.whole last.0.whole c.if-whole.whole (before.2 ∙ w.if-whole.false) (w.whole-is ∙ w.if-whole.false)
@@ -44,4 +44,4 @@ returns g c =
     let file = file_held c.args.container.now in
     let before = c.entries.invariant in
     let all : c.entries.index ≡ file.narches = omega (arith, c.entries-test.false, c.entries.auto.index-end) in
-    (before.0, all_entries before.0 (subst (λ (n : ℕ). ShowsEntries (first_entries file n) before.0) all before.1), before.2, before.3)
+    (before.0, all_entries before.0 (subst (λ (n : ℕ). ShowsEntries c.args.limit (first_entries file n) before.0) all before.1), before.2, before.3)

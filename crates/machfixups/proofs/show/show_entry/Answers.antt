@@ -16,10 +16,10 @@ returns-in-Image g c = λ there holds.
     IfOk-weaker c.print_fixups.result _ _
     (λ whole listed.
     let lines =
-    image_lines held.0 (parts_seen c.deref.result.now) (parts_seen c.in-Image.parts.items) c.in-Image.image whole listed.0 listed.2 listed.4 _ _ held.2 held.3
+    image_lines c.args.limit held.0 (parts_seen c.deref.result.now) (parts_seen c.in-Image.parts.items) c.in-Image.image whole listed.0 listed.2 listed.4 _ _ held.2 held.3
     (ap parts_seen c.deref.ensures.value) listed.1 listed.3 listed.5 listed.6 in (
       record { text = arch_line i ++ lines.0; said = []; whole = whole },
-      image_entry i there held.0 lines.0 whole held.1 lines.1,
+      image_entry c.args.limit i there held.0 lines.0 whole held.1 lines.1,
       refl,
       record { text = Appends-both _ _ _ _ lines.0 c.in_ok-writeln.ensures.bytes lines.2; said = Appends-none _ },
     ))
@@ -30,7 +30,7 @@ returns-in_ok-writeln-in-Archive g c = λ there holds.
     let i = c.args.index in
     let held = rw c.in-Archive.is at holds in (
       record { text = arch_line i ++ codes "archive\n"; said = []; whole = true },
-      archive_entry i there held.0 held.1,
+      archive_entry c.args.limit i there held.0 held.1,
       refl,
       record { text = Appends-both _ _ _ _ _ c.in_ok-writeln.ensures.bytes c.in_ok-writeln-in-Archive.ensures.bytes; said = Appends-none _ },
     )

@@ -1,4 +1,5 @@
 use Rattle.std.proofs.Common.{◌++◌, [], true, refl, sym}
+use Rattle.std.proofs.lemmas.Result.{IfOk-weaker}
 use Rattle.std.specs.Prelude.{codes}
 use Rattle.std.specs.Io.KnownBytes.{Appends}
 use Rattle.mach_base.proofs.Written.{Appends-none, Appends-both}
@@ -7,18 +8,20 @@ use Rattle.machsyms.specs.Shown.{arch_line, refused}
 use Rattle.machsyms.proofs.Showing.{image_lines, image_entry, archive_entry}
 use Rattle.machsyms.proofs.show.show_entry.Goals as goal
 
-pub returns-in_ok-print_symbols-in-Image : goal.returns-in_ok-print_symbols-in-Image
-returns-in_ok-print_symbols-in-Image g c = λ there holds.
+pub returns-in-Image : goal.returns-in-Image
+returns-in-Image g c = λ there holds.
     let i = c.args.index in
     let held = rw c.in-Image.is at holds in
-    let listed = c.in_ok-print_symbols-in-Image.ensures.listed held.0 0 held.2 in
+    IfOk-weaker c.print_symbols.result _ _
+    (λ whole listed.
     let lines =
-    image_lines held.0 c.deref.result.now c.in-Image.letters.items c.in-Image.image listed.0 _ _ held.2 held.3 c.deref.ensures.value listed.1 listed.2 in (
-      record { text = arch_line i ++ lines.0; said = []; whole = true },
-      image_entry i there held.0 lines.0 held.1 lines.1,
+    image_lines held.0 c.deref.result.now c.in-Image.letters.items c.in-Image.image listed.0 whole _ _ held.2 held.3 c.deref.ensures.value listed.1 listed.2 in (
+      record { text = arch_line i ++ lines.0; said = []; whole = whole },
+      image_entry i there held.0 lines.0 whole held.1 lines.1,
       refl,
       record { text = Appends-both _ _ _ _ lines.0 c.in_ok-writeln.ensures.bytes lines.2; said = Appends-none _ },
-    )
+    ))
+    (c.print_symbols.ensures.listed held.0 0 held.2)
 
 pub returns-in_ok-writeln-in-Archive : goal.returns-in_ok-writeln-in-Archive
 returns-in_ok-writeln-in-Archive g c = λ there holds.

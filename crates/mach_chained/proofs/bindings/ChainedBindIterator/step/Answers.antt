@@ -15,15 +15,22 @@ returns-then-self-clause-items c =
     let none = off_bindings it.ended it.fixups.source (texts it.libs.now) (fixups_left it.fixups) c.if-self.true in
     (none, none)
 
+pub returns-then-self-clause-end : goal.returns-then-self-clause-end
+unfolding bindings_left
+returns-then-self-clause-end c =
+    let it = c.args.self.now in record {
+      ended = c.if-self.true;
+      left = off_bindings it.ended it.fixups.source (texts it.libs.now) (fixups_left it.fixups) c.if-self.true;
+    }
+
 pub returns-in-None-clause-items : goal.returns-in-None-clause-items
 unfolding bindings_left
 returns-in-None-clause-items c =
     let it = c.fixups.self in
-    let new = c.step.new.self in
     let libs = texts it.libs.now in
     let inv = c.fixups.invariant in (
       inv.items ∙ on_bindings it.ended it.fixups.source it.fixups.source libs (fixups_left it.fixups) [] inv.on refl c.in-None.ensures.items.0,
-      on_bindings it.ended new.source new.source libs (fixups_left new) [] inv.on refl c.in-None.ensures.items.1,
+      c.end.ensures.items,
     )
 
 pub returns-in-Some-Err-clause-items : goal.returns-in-Some-Err-clause-items
@@ -37,7 +44,7 @@ returns-in-Some-Err-clause-items c =
     let there : fixups_left it.fixups ≡ Err f ∷ fixups_left new =
     c.in-Some-Err.ensures.items ∙ ap (λ r. fixup_read r ∷ fixups_left new) c.in-Some-Err.field-0-is in
     inv.items ∙ on_bindings it.ended it.fixups.source it.fixups.source libs (fixups_left it.fixups) (Err f ∷ fixups_left new) inv.on refl there
-    ∙ ap (λ r. Err f ∷ r) (sym c.end.ensures)
+    ∙ ap (λ r. Err f ∷ r) (sym c.end-in-Some-Err.ensures.items)
 
 pub returns-in-Some-Ok-binding-clause-items : goal.returns-in-Some-Ok-binding-clause-items
 unfolding bindings_left
@@ -71,7 +78,7 @@ returns-in-Some-Err-binding-clause-items c =
     let own : binding_in x libs f ≡ Some (Err g) = c.in-Some-Err-binding.ensures ∙ ap (λ r. Some (binding_read r)) c.in-Some-Err-binding.field-0-is in
     inv.items ∙ on_bindings it.ended it.fixups.source new.source libs (fixups_left it.fixups) (Ok f ∷ fixups_left new) inv.on c.step.ensures.source there
     ∙ before_others x libs f (fixups_left new) (Some (Err g)) own
-    ∙ ap (λ m. Err g ∷ m) (sym c.end-in-Some-Err-binding.ensures)
+    ∙ ap (λ m. Err g ∷ m) (sym c.end-in-Some-Err-binding.ensures.items)
 
 pub fixups-preserved : goal.fixups-preserved
 unfolding bindings_left pointers_left

@@ -15,3 +15,7 @@ returns-in-Some-clause-only g c =
 pub returns-in-Some-clause-refused : goal.returns-in-Some-clause-refused
 returns-in-Some-clause-refused g c =
     rw c.in-Some.is (rw c.as_slice.ensures.value at c.find.ensures.refused)
+
+pub returns-in-Some-clause-on_way : goal.returns-in-Some-clause-on_way
+returns-in-Some-clause-on_way g c =
+    rw c.in-Some.is (rw c.as_slice.ensures.value at c.find.ensures.on_way)

@@ -4,7 +4,9 @@ use Rattle.mach_base.specs.Answer.{Stands}
 use Rattle.mach_tries.specs.Exports.{info_of}
 use Rattle.mach_base.specs.Text.{texts}
 use Rattle.mach_tries.specs.Finds.{Finds}
-use Rattle.mach_tries.specs.TrieRange.{TrieRange, trie_there, ExportsFault}
+use Rattle.mach_tries.specs.LookUp.{FaultOnWay}
+use Rattle.mach_tries.specs.TrieRange.{TrieRange, trie_there}
+use Rattle.mach_tries.proofs.LookUpPaths.{stands_in_trie}
 use Rattle.mach_tries.proofs.LookUps.{stands_for, first_of, ok_in}
 use Rattle.mach_tries.proofs.TrieRanges.{ok_where_listed}
 use Rattle.mach_tries.proofs.exports.ExportTrie.find_counted.Goals as goal
@@ -31,8 +33,17 @@ returns-clause-listed g c = λ list exports.
     ok_in c.look_up.result _ _
     (λ o f. first_of (trie_there c.args.self.now (texts c.args.libs.now)) c.args.self.now.from [] c.args.name.now list (option_map info_of o) f exports.1) there
 
+pub returns-clause-on_way : goal.returns-clause-on_way
+returns-clause-on_way g c =
+    let there = subst (λ (t : TrieRange). IfErr c.look_up.result (Stands (FaultOnWay (trie_there t (texts c.args.libs.now)) t.from
+    c.as_bytes.result.now))) c.self.view_is c.look_up.ensures.refused in
+    subst (λ (n : List ℕ). IfErr c.look_up.result (Stands (FaultOnWay (trie_there c.args.self.now (texts c.args.libs.now)) c.args.self.now.from n)))
+    c.as_bytes.ensures.value there
+
+pub returns-clause-refused : goal.returns-clause-refused
+returns-clause-refused g c =
+    stands_in_trie (trie_there c.args.self.now (texts c.args.libs.now)) c.args.self.now.from c.args.name.now c.look_up.result (returns-clause-on_way g c)
+
 pub returns-clause-only : goal.returns-clause-only
-returns-clause-only g c =
-    let refused = subst (λ (t : TrieRange). IfErr c.look_up.result (Stands
-    (ExportsFault t (texts c.args.libs.now)))) c.self.view_is c.look_up.ensures.refused in
-    λ list exports. ok_where_listed c.look_up.result c.args.self.now (texts c.args.libs.now) list refused exports
+returns-clause-only g c = λ list exports.
+    ok_where_listed c.look_up.result c.args.self.now (texts c.args.libs.now) list (returns-clause-refused g c) exports

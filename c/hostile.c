@@ -1,0 +1,151 @@
+/* hostile CALL FILE makes a call of the library on a file as often as its list goes on, up to CALLS times or until SECONDS are over, and
+   prints how many rows it gave. Its caller holds it to a time and to memory. The status is 0, or 1 where the image is refused. */
+#define _GNU_SOURCE
+#include "goblin_mach.h"
+#include <stdio.h>
+#include <stdlib.h>
+#include <string.h>
+#include <time.h>
+
+enum { ROWS = 1000, CALLS = 1000, SECONDS = 2 };
+
+typedef struct { const uint8_t *bytes; size_t len; gm_image image; } given;
+
+static size_t calls;
+static time_t begun;
+
+/* whether another call is to be made */
+static int goes_on(void) { return calls++ < CALLS && time(NULL) - begun <= SECONDS; }
+
+/* the rows of a list that is called by number */
+#define NUMBERED(name, row, call) \
+    static size_t name(const given *g) { \
+        static row rows[ROWS]; \
+        size_t first = 0, n; \
+        while (goes_on() && (n = call) != 0) first += n; \
+        return first; \
+    }
+#define OF g->bytes, g->len, &g->image
+NUMBERED(entries, gm_fat_entry, gm_fat_entries(g->bytes, g->len, first, rows, ROWS))
+NUMBERED(commands, gm_command, gm_commands(OF, first, rows, ROWS))
+NUMBERED(segments, gm_segment, gm_segments(OF, first, rows, ROWS))
+NUMBERED(symbols, gm_symbol, gm_symbols(OF, first, rows, ROWS))
+NUMBERED(libraries, gm_library, gm_libraries(OF, first, rows, ROWS))
+NUMBERED(run_paths, gm_run_path, gm_run_paths(OF, first, rows, ROWS))
+NUMBERED(ids, gm_id, gm_ids(OF, first, rows, ROWS))
+
+/* the sections of all segments, and the relocations of all sections */
+static size_t inner(const given *g, int relocations) {
+    static gm_segment segments[ROWS];
+    static gm_section sections[ROWS];
+    static gm_relocation rows[ROWS];
+    size_t found = 0, n, m, k;
+    for (size_t first = 0; goes_on() && (n = gm_segments(OF, first, segments, ROWS)) != 0; first += n)
+        for (size_t i = 0; i < n; i++)
+            for (size_t next = 0; goes_on() && (m = gm_sections(OF, segments[i].command, segments[i].sections, next, sections, ROWS)) != 0; next += m) {
+                found += relocations ? 0 : m;
+                for (size_t j = 0; relocations && j < m; j++)
+                    for (size_t at = 0; goes_on() && (k = gm_relocations(OF, sections[j].reloff, sections[j].nreloc, at, rows, ROWS)) != 0; at += k)
+                        found += k;
+            }
+    return found;
+}
+static size_t sections(const given *g) { return inner(g, 0); }
+static size_t relocations(const given *g) { return inner(g, 1); }
+
+/* the rows of a list that is called with a cursor */
+#define BEHIND(name, row, place) \
+    static size_t name(const given *g) { \
+        static row rows[ROWS]; \
+        place at = {0}; \
+        size_t found = 0, n; \
+        gm_error e; \
+        while (goes_on() && !gm_##name(OF, &at, rows, ROWS, &n, NULL, &e)) { \
+            found += n; \
+            if (n < ROWS) break; \
+        } \
+        return found; \
+    }
+BEHIND(fixups, gm_fixup, gm_fixup_cursor)
+BEHIND(imports, gm_import, gm_bind_cursor)
+BEHIND(bindings, gm_binding, gm_binding_cursor)
+
+static size_t layout(const given *g) {
+    static gm_layout_fault rows[ROWS];
+    size_t found = 0, n;
+    gm_error e;
+    while (goes_on() && !gm_layout_faults(OF, found, rows, ROWS, &n, NULL, &e) && n) found += n;
+    return found;
+}
+static size_t container(const given *g) {
+    static gm_layout_fault rows[ROWS];
+    size_t found = 0, n;
+    gm_error e;
+    while (goes_on() && !gm_container_faults(g->bytes, g->len, found, rows, ROWS, &n, NULL, &e) && n) found += n;
+    return found;
+}
+
+static size_t exports(const given *g) {
+    static gm_listed_export rows[ROWS];
+    static gm_open_node stack[1 << 16];
+    static char name[1 << 16], names[1 << 20];
+    gm_export_walk walk = {0};
+    gm_export_room room = {name, sizeof name, stack, sizeof stack / sizeof *stack, rows, ROWS, names, sizeof names};
+    gm_export_batch batch;
+    size_t found = 0;
+    gm_error e;
+    while (goes_on() && !gm_exports(OF, &walk, &room, &batch, NULL, &e)) {
+        found += batch.count;
+        if (batch.end != GM_MORE) break;
+    }
+    return found;
+}
+
+static size_t find(const given *g) {
+    static char name[1 << 20], library[64], target[64];
+    gm_export one;
+    gm_error e;
+    size_t found = 0;
+    memset(name, 'a', sizeof name);
+    for (size_t length = 0; goes_on() && length < sizeof name; length = 2 * length + 1)
+        found += !gm_find_export(OF, name, length, &one, library, sizeof library, target, sizeof target, NULL, &e) && one.kind != GM_NO_EXPORT;
+    return found;
+}
+
+static size_t open_all(const given *g) {
+    static gm_fat_entry rows[ROWS];
+    size_t n, found = 0;
+    gm_image image;
+    gm_error e;
+    for (size_t first = 0; goes_on() && (n = gm_fat_entries(g->bytes, g->len, first, rows, ROWS)) != 0; first += n)
+        for (size_t i = 0; goes_on() && i < n; i++)
+            found += rows[i].offset <= g->len && !gm_open(g->bytes, g->len, rows[i].offset, i & 1 ? GM_LOSSY : GM_STRICT, NULL, &image, &e);
+    return found + !gm_open(g->bytes, g->len, 0, GM_LOSSY, NULL, &image, &e);
+}
+
+#define CALL(name) {#name, name}
+static const struct { const char *name; size_t (*call)(const given *); } all[] = {
+    CALL(entries), CALL(container), CALL(open_all), CALL(commands), CALL(segments), CALL(sections), CALL(relocations), CALL(symbols), CALL(libraries),
+    CALL(run_paths), CALL(ids), CALL(find), CALL(exports), CALL(fixups), CALL(imports), CALL(bindings), CALL(layout)};
+
+int main(int count, char **words) {
+    given g = {0};
+    gm_error e;
+    FILE *file = count == 3 ? fopen(words[2], "rb") : NULL;
+    if (!file) {
+        for (size_t k = 0; count < 3 && k < sizeof all / sizeof *all; k++) puts(all[k].name);
+        return count < 3 ? 0 : 2;
+    }
+    static uint8_t bytes[1 << 22];
+    g.bytes = bytes;
+    g.len = fread(bytes, 1, sizeof bytes, file);
+    fclose(file);
+    begun = time(NULL);
+    for (size_t k = 0; k < sizeof all / sizeof *all; k++) {
+        if (strcmp(words[1], all[k].name)) continue;
+        int refused = k >= 3 && gm_open(g.bytes, g.len, 0, GM_STRICT, NULL, &g.image, &e) && gm_open(g.bytes, g.len, 0, GM_LOSSY, NULL, &g.image, &e);
+        if (refused) return printf("%s\n", e.text), 1;
+        return printf("%zu\n", all[k].call(&g)), 0;
+    }
+    return 2;
+}

@@ -1,0 +1,13 @@
+use Rattle.mach_tries.proofs.Names.{◌≡◌, ◌≤◌, ◌+◌, ℕ, List, Entry, HasFound, IsWalk, work_ahead}
+use Rattle.mach_tries.proofs.walk.Walker.step.Given as goal
+
+abbrev pub invariant-turns : goal.invariant-turns
+invariant-turns g l = record {
+  found : (found : List Entry) (n : ℕ) → HasFound found n l.initial.self → (m : ℕ) × HasFound found m l.self × (l.steps + n ≡ l.initial.steps + m);
+  sound : IsWalk l.self;
+  source : l.self.source ≡ l.initial.self.source;
+  less : work_ahead l.self ≤ work_ahead l.initial.self;
+}
+
+abbrev pub decreases-turns : goal.decreases-turns
+decreases-turns g l = work_ahead l.self

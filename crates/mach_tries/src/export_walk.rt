@@ -1,0 +1,51 @@
+//! The exports of a trie one at a time, as callers walk over them.
+
+ghost use Rattle.std.specs.Prelude.{◌≡◌, ℕ, List, [], IsNone};
+ghost use Rattle.mach_tries.specs.Trie.{Entry};
+ghost use Rattle.mach_tries.specs.Lists.{ListBegins};
+ghost use Rattle.mach_tries.specs.TrieRange.{TrieRange, trie_there};
+ghost use Rattle.mach_tries.specs.WalkState.{IsWalk};
+
+use crate::info::ExportInfo;
+use crate::walk::Walker;
+use mach_base::{Result, Steps};
+use std::alloc::{Allocator, Global};
+
+/// The exports of a trie one at a time, depth first: each node's own before those of its children. It
+/// takes a bit for each byte of the trie, a stack of the nodes that are open, and one name.
+#[derive(Drop)]
+pub struct ExportWalk<'a, 'b, A: Allocator = Global> {
+    pub(crate) walker: Walker<'a, 'b, A>,
+    ghost is_walk: { IsWalk walker },
+}
+
+impl<'a, 'b, A: Allocator> ExportWalk<'a, 'b, A> {
+    ghost use Rattle.std.specs.Prelude.{⊤};
+    ghost use Rattle.std.specs.Borrow.{sem};
+    ghost use Rattle.mach_tries.specs.contracts.export_walk.ExportWalk.{the_row};
+    ghost use Rattle.mach_tries.specs.Walks.{HasGiven, IsOver, SaysOfTrie, GoesOn};
+    ghost use mathlib.Core.Option.{none};
+    ghost use denote.Follow.{follows_so};
+    ghost use mir.Syntax.{named};
+
+    /// The next export: its name, which is lent until the next call, and what it stands for. Where the trie has no
+    /// list, an error ends the walk. Then there is nothing more.
+    #[inline(always)]
+    pub fn next(&mut self) -> Option<Result<(&str, ExportInfo<'a>)>>
+        ensures says { (t : TrieRange) (libs : List (List ℕ)) (found : List Entry) → HasGiven t libs found self.old
+            → SaysOfTrie t libs found result }
+        ensures begun { (t : TrieRange) (libs : List (List ℕ)) (found : List Entry) → HasGiven t libs found self.old
+            → ListBegins (trie_there t libs) t.from [] found }
+        ensures over { IsOver self.old → IsNone result }
+        ensures* goes_on { sem 𝓛 (follows_so
+            (the_row (record { mir = named 1; lft = [] }) (record { mir = named 2; lft = [] }) A.row A.Allocator)
+            (the_row (record { mir = named 1; lft = [] }) (record { mir = named 2; lft = [] }) A.row A.Allocator)
+            self.entry.ghost_name none (λ _ _. ⊤) (GoesOn self.old result)) }
+    {
+        match self.walker.step(&mut Steps::new()) {
+            None => None,
+            Some(Err(e)) => Some(Err(e)),
+            Some(Ok(info)) => Some(Ok((self.walker.name(), info))),
+        }
+    }
+}

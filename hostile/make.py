@@ -1,0 +1,285 @@
+#!/usr/bin/env python3
+"""Writes files on which a reader may find no end, or take more than its share of time and memory.
+
+  hostile/make.py FOLDER [BYTES]
+
+The small ones have up to some hundred bytes. The large ones have up to BYTES, 100,000 where nothing is said, and are those whose cost
+may grow faster than the file. FILES, below, says of each what it is.
+"""
+import os
+import struct
+import sys
+
+MANY = 0xFFFFFFFF
+
+# Load commands, by their numbers in mach-o/loader.h.
+SEGMENT, SYMTAB, DYSYMTAB, DYLIB, ID_DYLIB, TWOLEVEL_HINTS, SEGMENT_64 = 0x1, 0x2, 0xB, 0xC, 0xD, 0x16, 0x19
+DYLD_INFO_ONLY, FUNCTION_STARTS, DATA_IN_CODE, NOTE, BUILD_VERSION = 0x80000022, 0x26, 0x29, 0x31, 0x32
+EXPORTS_TRIE, CHAINED_FIXUPS, RPATH, MAIN = 0x80000033, 0x80000034, 0x8000001C, 0x80000028
+PROGRAM, LIBRARY = 2, 6
+
+
+def words(*values):
+    return struct.pack("<%dI" % len(values), *values)
+
+
+def uleb(value, width=1):
+    """A number in LEB128, in at least so many bytes."""
+    made = b""
+    while value > 0x7F or len(made) + 1 < width:
+        made += bytes([value & 0x7F | 0x80])
+        value >>= 7
+    return made + bytes([value])
+
+
+def image(commands, tail=b"", bits=64, kind=LIBRARY, count=None):
+    """A header, these commands and what stands behind them. `count` stands in the place of their number."""
+    magic, cpu = (0xFEEDFACF, 0x01000007) if bits == 64 else (0xFEEDFACE, 7)
+    body = b"".join(commands)
+    header = words(magic, cpu, 3, kind, len(commands) if count is None else count, len(body), 0) + bytes(4 if bits == 64 else 0)
+    return header + body + tail
+
+
+def begin(commands, bits=64):
+    """Where the bytes behind the header and so many bytes of commands begin."""
+    return (32 if bits == 64 else 28) + commands
+
+
+def named(command, name):
+    """A command that names a library."""
+    size = (24 + len(name) + 8) // 8 * 8
+    return words(command, size, 24, 2, 0x10000, 0x10000) + name.ljust(size - 24, b"\0")
+
+
+def segment(name, address=0, size=0x1000, at=0, length=0, sections=0, bits=64, body=b""):
+    """A segment and the records of its sections. `sections` is the count that it states."""
+    if bits == 64:
+        front = words(SEGMENT_64, 72 + len(body)) + name.ljust(16, b"\0") + struct.pack("<4Q", address, size, at, length)
+    else:
+        front = words(SEGMENT, 56 + len(body)) + name.ljust(16, b"\0") + words(address, size, at, length)
+    return front + words(7, 3, sections, 0) + body
+
+
+def section(number, relocations=0, relocations_at=0):
+    """A section of no bytes."""
+    return b"__s".ljust(16, b"\0") + b"__DATA".ljust(16, b"\0") + struct.pack("<2Q", 0, 0) + words(0, 0, relocations_at, relocations, 0, number, 0, 0)
+
+
+def info(at, rebase=b"", bind=b"", weak=b"", lazy=b"", trie=b""):
+    """LC_DYLD_INFO_ONLY over these parts, which stand one behind the other from `at` on."""
+    made = words(DYLD_INFO_ONLY, 48)
+    for part in (rebase, bind, weak, lazy, trie):
+        made += words(at, len(part))
+        at += len(part)
+    return made
+
+
+def repeated(turns, skip, bits=64, lazy=False, offset=0):
+    """One bind instruction that binds `turns` times, `skip` bytes and a pointer on each time."""
+    opcodes = b"\x11\x51\x40_a\0\x70" + uleb(offset) + b"\xc0" + uleb(turns) + uleb(skip) + b"\0"
+    fixed = [named(ID_DYLIB, b"/me"), named(DYLIB, b"/l"), segment(b"__DATA", 0, 0x1000, bits=bits)]
+    at = begin(sum(map(len, fixed)) + 48, bits)
+    parts = {"lazy": opcodes} if lazy else {"bind": opcodes}
+    return image(fixed + [info(at, **parts)], opcodes, bits)
+
+
+def again(bits):
+    """The skip that, with a pointer, is a whole turn of the addresses: each bind is at the place of the one before."""
+    return 2**64 - bits // 8
+
+
+def symbol_table(count, tail):
+    commands = 72 + 24
+    at = begin(commands)
+    fixed = [segment(b"__LINKEDIT", 0x1000, 0x1000, at, len(tail)), words(SYMTAB, 24, at, count, at + 16, len(tail) - 16)]
+    return image(fixed, tail)
+
+
+def dynamic_symbols():
+    """Each of its tables has as many items as can be said."""
+    at = begin(24 + 80)
+    one = struct.pack("<IBBHQ", 1, 1, 0, 0, 0) + b"\0_a\0"
+    tables = words(DYSYMTAB, 80, 0, MANY, 0, MANY, 0, MANY, *[at, MANY] * 6)
+    return image([words(SYMTAB, 24, at, MANY, at + 16, 4), tables], one)
+
+
+def chains(header=None, starts=b"", imports=0, tail=b"", bits=64):
+    """A chained fixups command over one segment of data that can be read."""
+    data = struct.pack("<Q", 0)
+    commands = 72 + 16
+    at = begin(commands)
+    if header is None:
+        header = words(0, 28, 28 + len(starts), 28 + len(starts) + len(tail), imports, 1, 0)
+    blob = header + starts + tail
+    return image([segment(b"__DATA", 0x4000, 0x1000, at + len(blob), len(data)), words(CHAINED_FIXUPS, 16, at, len(blob))], blob + data)
+
+
+def chain_starts(pages, segments=1, first=0, each=0):
+    """The starts of the chains: so many segments, all of them at one record, of so many pages."""
+    page = struct.pack("<IHHQIH", 22 + 2 * len(each or [0]), 0x1000, 6, 0, 0, pages) + struct.pack("<%dH" % len(each or [0]), *(each or [first]))
+    offset = 4 + 4 * min(segments, 8)
+    return words(segments, *[offset] * min(segments, 8)) + page
+
+
+def shared_branches(size, found):
+    """A trie of many nodes that share one list of branches, which lead nowhere, or to a node."""
+    nodes, branches = size // 18, size // 8
+    first = 1 + 3 + 4 * nodes
+    shared = first + 5 * nodes
+    made = b"\0" + uleb(nodes, 3) + b"".join(b"\0" + uleb(first + 5 * i, 3) for i in range(nodes))
+    made += b"".join(uleb(shared - first - 5 * i - 3, 3) + b"\0\0" for i in range(nodes))
+    made += uleb(branches, 3) + (b"\0" + uleb(found, 3)) * branches
+    return image([words(EXPORTS_TRIE, 16, begin(16), len(made))], made)
+
+
+def deep_trie(size):
+    """A trie in which each node has one child behind it: names as long as the trie."""
+    made = b"".join(b"\0\x01a\0" + uleb(at + 7, 3) for at in range(0, size - 8, 7)) + b"\x02\0\0\0"
+    return image([words(EXPORTS_TRIE, 16, begin(16), len(made))], made)
+
+
+def ladder(levels):
+    """A trie of nodes of two branches that lead to the same next node: 2 to the power of `levels` paths."""
+    made = b""
+    for level in range(levels):
+        after = len(made) + 2 + 2 * 4
+        made += b"\0\x02" + b"a\0" + uleb(after, 2) + b"b\0" + uleb(after, 2)
+    made += b"\x02\0\0\0"
+    return image([words(EXPORTS_TRIE, 16, begin(16), len(made))], made)
+
+
+def read_again(size):
+    """A command that is a library's, of size 0, so that it is read again for each of so many commands; its name is the rest of the file."""
+    record = words(DYLIB, 0, 24, 0, 0, 0)
+    count = (size - 8) // 8
+    magic = words(0xFEEDFACF, 0x01000007, 3, LIBRARY, count, size - 8, 0, 0)
+    return magic + record + b"a" * (size - len(magic) - len(record))
+
+
+def overlaid(size):
+    """A fat file in which each entry is all that stands behind the table."""
+    count = size // 40
+    at = 8 + 20 * count
+    entry = image([], b"", 32)
+    rest = entry.ljust(size - at, b"\0")
+    return struct.pack(">2I", 0xCAFEBABE, count) + struct.pack(">5I", 7, 3, at, len(rest), 0) * count + rest
+
+
+def tables(size):
+    """Commands of symbol tables that all lie over one table."""
+    count = size // 48
+    at = begin(24 * count)
+    rows = (size - at) // 16
+    symbol = struct.pack("<IBBHQ", 1, 1, 0, 0, 0)
+    return image([words(SYMTAB, 24, at, rows, at, size - at)] * count, symbol * rows)
+
+
+def relocations(size):
+    """Sections that all have one table of relocations."""
+    count = size // 160
+    at = begin(72 + 80 * count)
+    rows = (size - at) // 8
+    body = b"".join(section(i, rows, at) for i in range(count))
+    return image([segment(b"__DATA", 0, 0x1000, 0, 0, count, 64, body)], bytes(8 * rows), kind=1)
+
+
+def segments(size):
+    """Segments that all lie over each other, in the file and in memory."""
+    count = size // 72
+    return image([segment(b"__S%d" % i, 0, 0x1000, 0, size) for i in range(count)])
+
+
+def libraries(size):
+    """Libraries that all have one name, and paths on which they are sought."""
+    each = [named(DYLIB, b"/l"), words(RPATH, 16, 12) + b"/p\0\0"]
+    return image(each * (size // 48))
+
+
+def bind_again(size):
+    """Instructions that each bind 2^60 times at one place, one behind the other."""
+    one = b"\xc0" + uleb(2**60) + uleb(again(64))
+    opcodes = b"\x11\x51\x40_a\0\x70\0" + one * (size // len(one)) + b"\0"
+    fixed = [named(DYLIB, b"/l"), segment(b"__DATA")]
+    at = begin(sum(map(len, fixed)) + 48)
+    return image(fixed + [info(at, bind=opcodes)], opcodes)
+
+
+def chain_of_imports(size):
+    """A table of imports whose names are each the rest of the file."""
+    count = size // 8
+    names = b"a" * (size // 2)
+    starts = words(1, 0)
+    header = words(0, 28, 28 + len(starts), 28 + len(starts) + 4 * count, count, 1, 0)
+    return chains(header, starts, tail=words(*[1] * count) + names)
+
+
+def pages(size):
+    """A segment of many pages whose chains all begin in its last bytes."""
+    count = min(size // 4, 65535)
+    each = [0] * count
+    return chains(starts=chain_starts(count, 1, 0, each))
+
+
+def files(size):
+    """The files: small ones, and large ones of up to so many bytes."""
+    one = struct.pack("<IBBHQ", 1, 1, 0, 0, 0) + b"\0_a\0"
+    return {
+        # One bind instruction of 2^60 turns at one place, which lies in its segment; and outside of it; and lazy.
+        "repeat_32": repeated(2**60, again(32), 32),
+        "repeat_64": repeated(2**60, again(64)),
+        "repeat_outside": repeated(2**60, again(64), offset=0x1001),
+        "repeat_lazy": repeated(2**60, again(64), lazy=True),
+        # Of turns that go on by 0, by a byte, and so far that they come round again.
+        "repeat_most": repeated(2**64 - 1, again(64)),
+        "repeat_byte": repeated(2**60, 2**64 - 7),
+        "repeat_round": repeated(2**60, 2**63 - 8),
+        # Counts of 2^32 - 1, or as many as the field holds.
+        "symbols_2_32": symbol_table(MANY, one),
+        "dynamic_2_32": dynamic_symbols(),
+        "fat_2_32": struct.pack(">2I", 0xCAFEBABE, MANY) + bytes(56),
+        "commands_2_32": image([words(MAIN, 24, 0, 0, 0, 0)], count=MANY),
+        "commands_again_2_32": image([words(MAIN, 0, 0, 0, 0, 0)], count=MANY),
+        "sections_2_32": image([segment(b"__DATA", sections=MANY)]),
+        "relocations_2_32": image([segment(b"__DATA", sections=1, body=section(0, MANY, 0))], kind=1),
+        "tools_2_32": image([words(BUILD_VERSION, 24, 1, 0, 0, MANY)]),
+        "hints_2_32": image([words(TWOLEVEL_HINTS, 16, 0, MANY)]),
+        "data_in_code_2_32": image([words(DATA_IN_CODE, 16, 0, MANY)]),
+        "trie_2_32": image([words(EXPORTS_TRIE, 16, 0, MANY)]),
+        "trie_branches_255": image([words(EXPORTS_TRIE, 16, 48, 4)], b"\0\xff\0\0"),
+        "trie_branches_2_64": image([words(EXPORTS_TRIE, 16, 48, 12)], b"\0" + b"\xff" * 9 + b"\x01\0"),
+        "chains_imports_2_32": chains(imports=MANY),
+        "chains_segments_2_32": chains(starts=chain_starts(1, MANY)),
+        "chains_pages": chains(starts=chain_starts(65535)),
+        "chains_loop": chains(starts=chain_starts(1, 1, 0x8000)),
+        "note_2_64": image([words(NOTE, 40) + b"n".ljust(16, b"\0") + struct.pack("<2Q", 2**64 - 1, 2**64 - 1)]),
+        # A trie whose paths are 2^60, over 60 nodes.
+        "trie_ladder": ladder(60),
+        # Of up to `size` bytes.
+        "trie_shared_%d" % size: shared_branches(size, 2**21 - 1),
+        "trie_deep_%d" % size: deep_trie(size),
+        "names_%d" % size: read_again(size),
+        "fat_overlaid_%d" % size: overlaid(size),
+        "tables_%d" % size: tables(size),
+        "relocations_%d" % size: relocations(size),
+        "segments_%d" % size: segments(size),
+        "libraries_%d" % size: libraries(size),
+        "binds_%d" % size: bind_again(size),
+        "imports_%d" % size: chain_of_imports(size),
+        "pages_%d" % size: pages(size),
+    }
+
+
+def main():
+    if len(sys.argv) not in (2, 3):
+        print(__doc__.split("\n\n")[1], file=sys.stderr)
+        return 2
+    folder = sys.argv[1]
+    os.makedirs(folder, exist_ok=True)
+    for name, made in files(int(sys.argv[2]) if len(sys.argv) > 2 else 100_000).items():
+        with open(os.path.join(folder, name), "wb") as file:
+            file.write(made)
+    return 0
+
+
+if __name__ == "__main__":
+    sys.exit(main())
