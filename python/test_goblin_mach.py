@@ -55,6 +55,12 @@ def with_binds(opcodes):
     return image(library, given, command(0x22, struct.pack("<10I", 0, 0, at, len(opcodes), 0, 0, 0, 0, 0, 0)), behind=opcodes)
 
 
+def with_exports():
+    """An image that exports _a at 0x10 and _b at 0x11."""
+    trie = b"\0\2_a\0\x0a_b\0\x0e" + b"\2\0\x10\0" + b"\2\0\x11\0"
+    return image(command(0x22, struct.pack("<10I", *8 * [0], 32 + 48, len(trie))), behind=trie)
+
+
 def many_binds():
     """An image whose binds have no end in a lifetime: one instruction says 2^55 of them."""
     count = bytes([0x80] * 7 + [0x40])  # 2^55, as ULEB128
@@ -150,8 +156,10 @@ class Names(Case):
         self.assertEqual((good.name, good.value, good.n_type, good.error), ("_b", 1, 0xF, None))
 
     def test_that_are_sought_and_no_text(self):
-        one = goblin_mach.Image(image())
-        self.assertIsNone(one.find_export("_b"))
+        one = goblin_mach.Image(with_exports())
+        self.assertEqual([(e.name, e.kind, e.address) for e in one.exports()], [("_a", "address", 0x10), ("_b", "address", 0x11)])
+        self.assertEqual(one.find_export("_b").address, 0x11)
+        self.assertIsNone(one.find_export("_"))
         with self.assertRaises(Refused) as met:
             one.find_export(NOT_UTF8)
         self.assertEqual(met.exception.code, 1)
@@ -166,8 +174,8 @@ class Names(Case):
 
 
 class Closed(Case):
-    def both(self):
-        return self.opened(fat(with_symbols(b"_a", b"_b"), image(segment(b"__DATA"), segment(b"__MORE"))))
+    def several(self):
+        return self.opened(fat(with_symbols(b"_a", b"_b"), image(segment(b"__DATA"), segment(b"__MORE")), with_exports()))
 
     def refuses(self, call):
         with self.assertRaises(ValueError) as met:
@@ -198,10 +206,10 @@ class Closed(Case):
         self.assertEqual((part.name, part.vmsize, one.filetype), (b"__DATA", 1 << 62, DYLIB))
 
     def test_lists_that_were_begun_end(self):
-        file = self.both()
+        file = self.several()
         images = iter(file)
-        first, second = next(images), next(images)
-        begun = [first.symbols(), second.segments(), second.commands(), second.layout_faults(), iter(file)]
+        first, second, third = next(images), next(images), next(images)
+        begun = [first.symbols(), second.segments(), second.commands(), second.layout_faults(), third.exports(), iter(file)]
         for each in begun:
             next(each)
         file.close()
@@ -326,13 +334,12 @@ class Program(Case):
     def test_ctrl_c_that_is_ignored_stays_so(self):
         program, line = self.begun(words_of(["bindings", self.path(many_binds())]), ignores_ctrl_c)
         program.send_signal(signal.SIGINT)
-        for more in itertools.islice(program.stdout, 20000):
-            self.assertEqual(more.split(b" ")[-1], line.split(b" ")[-1])
-        self.assertIsNone(program.poll())
+        more = [each.split(b" ")[-1] for each in itertools.islice(program.stdout, 20000)]  # far more than a pipe holds
+        self.assertEqual(more, 20000 * [line.split(b" ")[-1]])
 
     def test_ctrl_c_ends_a_list(self):
-        code = ("import goblin_mach, sys\nfor image in goblin_mach.open(sys.argv[1]):\n    print('begun', flush=True)\n"
-                "    try:\n        for b in image.bindings(): pass\n    except KeyboardInterrupt:\n        print('ended', flush=True)")
+        code = ("import goblin_mach, sys\ntry:\n    for image in goblin_mach.open(sys.argv[1]):\n        print('begun', flush=True)\n"
+                "        for b in image.bindings(): pass\nexcept KeyboardInterrupt:\n    print('ended', flush=True)")
         program, line = self.begun([sys.executable, "-c", code, self.path(many_binds())], answers_ctrl_c)
         self.assertEqual(line, b"begun\n")
         program.send_signal(signal.SIGINT)
