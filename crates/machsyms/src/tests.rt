@@ -33,7 +33,12 @@ fn want_of_memory(rt: HostRuntime) -> Result<(), Fail> {
                 reasons.as_slice(),
                 b"machsyms: out of memory\n".as_slice(),
             );
-            same_at(&rt, size, LINES.as_bytes().starts_with(lines.get_ref()), true);
+            same_at(
+                &rt,
+                size,
+                LINES.as_bytes().starts_with(lines.get_ref()),
+                true,
+            );
             refused = refused.saturating_add(1);
         }
     }

@@ -12,7 +12,7 @@ returns g c =
     let t = table_of c.args.table.now in
     let middle = g.O.Write.contents c.print_begun.new.out in
     let past = ap (λ (n : ℕ). n - c.len-2.result) c.len.ensures
-        ∙ ap (λ (n : ℕ). t.nsyms - n) (c.len-2.ensures ∙ ap (λ (x : SymbolTable). x.nsyms) c.begun-begun.ensures) in
+    ∙ ap (λ (n : ℕ). t.nsyms - n) (c.len-2.ensures ∙ ap (λ (x : SymbolTable). x.nsyms) c.begun-begun.ensures) in
     table_lines c.args.is_64 c.args.sections.now t _ (g.O.Write.contents c.args.out.now) middle (g.O.Write.contents c.print_past.new.out)
     (subst (λ (x : SymbolTable). WritesLines c.args.is_64 c.args.sections.now (symbols_of x) (g.O.Write.contents c.args.out.now) middle)
     c.begun-begun.ensures c.in_ok-print_begun.ensures)
