@@ -13,9 +13,11 @@ that are no UTF-8 stand as surrogates, as `os.fsdecode` has them. It needs no pa
 """
 
 import ctypes
+import errno
 import mmap
 import os
 import signal
+import stat
 import sys
 from ctypes import c_char, c_int32, c_int64, c_size_t, c_uint8, c_uint16, c_uint32, c_uint64
 from dataclasses import dataclass
@@ -30,6 +32,7 @@ EXPORTS = (None, "address", "re-export", "stub")
 KINDS = ("required", "weak", "reexport", "upward", "lazy")
 ERRORS = {1: "malformed", 2: "bad magic", 3: "out of the bytes, or no text", 4: "too many", 5: "out of memory", 6: "no rows"}
 BATCH = 1000
+FAT_MAGIC, ARCHIVE_MAGIC = b"\xca\xfe\xba\xbe", b"!<arch>\n"
 
 
 class _Error(ctypes.Structure):
@@ -431,8 +434,8 @@ def _rows(held, call, row):
     while True:
         count = call(held.live().at, c_size_t(held.len), c_size_t(first), out, c_size_t(BATCH))
         for item in out[:count]:
-            held.live()
             yield item
+            held.live()
         first += count
         if count < BATCH:
             return
@@ -454,9 +457,9 @@ def _faults(held, call, *given):
         if call(held.live().at, c_size_t(held.len), *given, c_size_t(first), out, c_size_t(cap), ctypes.byref(count), None, ctypes.byref(error)):
             raise _refused(error)
         for f in out[:count.value]:
-            held.live()
             yield LayoutFault(_lib.gm_layout_rule(c_uint32(f.rule)).decode(), _owner(f.part, f.command, f.index), f.found, f.limit,
                               _owner(f.other_part, f.other_command, f.other_index))
+            held.live()
         if count.value < cap:
             return
         first, cap = first + cap, 2 * cap
@@ -491,7 +494,7 @@ class Image:
     def _bytes(self):
         """Its bytes, where it was opened and its file is open."""
         if self.error is not None:
-            raise self.error
+            raise Refused(*self.error.args)
         return self._held.live()
 
     def _list(self, name, row, *numbers):
@@ -584,6 +587,7 @@ class Image:
                     library = libraries[row.library]
                     target = b.text(row.target, what.target_len) or name
                 yield Export(name, EXPORTS[what.kind], what.address, what.resolver, what.flags, library, target)
+                b.live()
             if code:
                 raise _refused(error)
             if room.batch.end == END:
@@ -633,8 +637,10 @@ class File:
     def __init__(self, path, mode=STRICT):
         self.closed, self._mode = False, mode
         with _open(path, "rb") as file:
-            empty = os.fstat(file.fileno()).st_size == 0
-            self._map = b"" if empty else mmap.mmap(file.fileno(), 0, access=mmap.ACCESS_READ)
+            state = os.fstat(file.fileno())
+            if not stat.S_ISREG(state.st_mode):
+                raise OSError(errno.ENODEV, "not a file that can be mapped", path)
+            self._map = mmap.mmap(file.fileno(), 0, access=mmap.ACCESS_READ) if state.st_size else b""
 
     def _whole(self):
         return _Bytes(self._map, self).live()
@@ -642,22 +648,24 @@ class File:
     def __iter__(self) -> Iterator[Image]:
         """Its image, or those of a fat file's entries in order. An entry that can't be opened is an image with an `error`."""
         whole = self._whole()
-        is_fat = False
-        for e in fat_entries(whole):
-            is_fat = True
-            part = whole.live().view[e.offset:e.offset + e.size]
-            if bytes(part[:8]) == b"!<arch>\n":
-                continue
-            if e.error:
-                yield Image._unopened(Refused(_code(e.error), e.error))
-                continue
-            try:
-                image = Image(_Bytes(part, self), 0, self._mode)
-            except Refused as error:
-                image = Image._unopened(error)
-            yield image
-        if not is_fat:
+        if whole.len < 8 or bytes(whole.view[:4]) != FAT_MAGIC:
             yield Image(whole, 0, self._mode)
+            whole.live()
+            return
+        for e in fat_entries(whole):
+            end = e.offset + e.size
+            part = whole.live().view[e.offset:end] if end <= whole.len else b""  # all of its bytes, or none
+            if len(part) < 16 or bytes(part[:8]) != ARCHIVE_MAGIC:
+                yield self._entry(e, part)
+
+    def _entry(self, e, part):
+        """The image of an entry, or the one that says why it isn't opened."""
+        if e.error:
+            return Image._unopened(Refused(_code(e.error), e.error))
+        try:
+            return Image(_Bytes(part, self), 0, self._mode)
+        except Refused as error:
+            return Image._unopened(Refused(*error.args))
 
     def container_faults(self) -> Iterator[LayoutFault]:
         """The faults of its table, if it is a fat file."""
@@ -668,6 +676,7 @@ class File:
         self.closed, self._map = True, b""
 
     def __enter__(self):
+        self._whole()
         return self
 
     def __exit__(self, *_):
@@ -735,12 +744,13 @@ def _print(file, what):
         for fault in file.container_faults():
             print(fault)
     for image in file:
-        if image.error is not None:
-            print(f"goblin_mach: {image.error}", file=sys.stderr)
+        try:
+            for line in _lines(image, what):
+                print(line)
+        except Refused as why:
+            print(f"goblin_mach: {why}", file=sys.stderr)
             status = 1
-            continue
-        for line in _lines(image, what):
-            print(line)
+    sys.stdout.flush()
     return status
 
 
@@ -753,12 +763,17 @@ def main(words):
             return _print(file, words[0])
     except (OSError, Refused) as why:
         print(f"goblin_mach: {why}", file=sys.stderr)
-        return 1
+        return 1 if isinstance(why, Refused) else 2
 
 
 if __name__ == "__main__":
-    # A pipe that is closed and Ctrl-C end it as they end other programs: with no words, and by their signal.
-    for number in (signal.SIGPIPE, signal.SIGINT):
-        signal.signal(number, signal.SIG_DFL)
-    sys.stdout.reconfigure(errors="surrogateescape")
-    sys.exit(main(sys.argv[1:]))
+    # A pipe that is closed and Ctrl-C end it as they end other programs: with no words, and by their signal. Where Ctrl-C was ignored it stays so.
+    signal.signal(signal.SIGPIPE, signal.SIG_DFL)
+    if signal.getsignal(signal.SIGINT) is signal.default_int_handler:
+        signal.signal(signal.SIGINT, signal.SIG_DFL)
+    # Names are written as the bytes that they are in the file, whatever the locale is.
+    sys.stdout.reconfigure(encoding="utf-8", errors="surrogateescape")
+    status = main(sys.argv[1:])
+    if status == 2:  # what a failed write left in the buffer would fail again, with words and a status of Python's own
+        os.dup2(os.open(os.devnull, os.O_WRONLY), sys.stdout.fileno())
+    sys.exit(status)
