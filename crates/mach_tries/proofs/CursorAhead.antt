@@ -150,7 +150,7 @@ module _ {s : Source} {c : TrieCursor} {name : List ℕ} {stack : List Open} {b 
       behind =
           let same : take rest.name_len given ≡ take rest.name_len (name_of c name) =
           take-append-le rest.name_len (take rest.name_len (name_of c name)) b.label (let front = front_len in omega arith)
-              ∙ take-take rest.name_len rest.name_len (name_of c name) (omega arith) in
+          ∙ take-take rest.name_len rest.name_len (name_of c name) (omega arith) in
           renamed s.bytes.now s.from (name_of c name) given rest (below c stack) at.left (sym same) (let l = given_len in omega arith) at.ahead
 
       abbrev branches : List Branch
@@ -248,8 +248,8 @@ root_is_ahead {s} {c} {name} {stack} {found} e (before_root phase kept len left 
       left = [];
       kept = kept;
       read = subst (λ (x : List ℕ). Unfolds (source_trie s) s.from 0 found (record { name = x; start = s.from } ∷ []))
-      (no_front ∙ sym (append-nil (take c.top.name_len (name_of c name))))
-      (subst (λ (es : List Entry). Unfolds (source_trie s) s.from 0 es (record { name = []; start = s.from } ∷ [])) (sym none_met) nothing_read);
+          (no_front ∙ sym (append-nil (take c.top.name_len (name_of c name))))
+          (subst (λ (es : List Entry). Unfolds (source_trie s) s.from 0 es (record { name = []; start = s.from } ∷ [])) (sym none_met) nothing_read);
       ahead = left;
     }
 root_is_ahead e (between n left phase kept read there_is) = absurd (omega arith)

@@ -51,8 +51,8 @@ turns-preserved c = record {
   name_len = omega (arith, c.in_default.ensures.name_len, c.turns.invariant.name_len);
   stack_len = omega (arith, c.in_default.ensures.stack_len, c.turns.invariant.stack_len);
   gives = λ found given.
-    let come = c.turns.invariant.gives found given in
-    record { unfolded = c.in_default.ensures.unfolds found come.unfolded; walked = c.in_default.ensures.gives found come.walked };
+      let come = c.turns.invariant.gives found given in
+      record { unfolded = c.in_default.ensures.unfolds found come.unfolded; walked = c.in_default.ensures.gives found come.walked };
 }
 
 pub returns-clause-gives : goal.returns-clause-gives
