@@ -222,7 +222,7 @@ static uint32_t opens(given *g, uint32_t mode) {
 
 /* ---- tests */
 
-static size_t tested, alike, others, brought;
+static size_t tested, alike, others, brought, trees;
 
 static void same_in_batches(const list *l, const given *g) {
     static const size_t batches[] = {1, 2, 7};
@@ -424,6 +424,42 @@ static char *export_lines(const given *g, size_t cap, size_t some, bool of_libra
     return text_of;
 }
 
+/* Whether the exports are a tree: then a walk gives a list and no refusal. Memory is refused at each request in turn. */
+static void exports_by_tree(const given *g, const char *lines) {
+    gm_error e = {0};
+    uint32_t code = gm_exports_are_a_tree(OF, NULL, &e);
+    if (code != e.code) DIE("a tree of another code");
+    if (!code && strstr(lines, "refused: ")) DIE("a tree of which a walk is refused");
+    if (gm_exports_are_a_tree(OF, NULL, NULL) != code) DIE("a tree without an error");
+    for (size_t k = 1;; k++) {
+        counted c = {0, k, 0};
+        gm_memory m = {&c, take, give};
+        uint32_t scarce = gm_exports_are_a_tree(OF, &m, &e);
+        if (c.held) DIE("a block was kept");
+        if (scarce == code) break;
+        if (scarce != GM_NO_MEMORY) DIE("a tree in little memory: %u", scarce);
+    }
+    trees += !code;
+}
+
+/* a root with two branches to one node: a walk gives its export twice and ends, and no tree */
+static void check_shared(void) {
+    const uint32_t header[] = {0xfeedfacf, 0x01000007, 3, 6, 1, 16, 0, 0, 0x80000033, 16, 48, 12};
+    const uint8_t trie[12] = {0, 2, 'a', 0, 8, 'b', 0, 8, 2, 0, 7, 0};
+    uint8_t bytes[60];
+    memcpy(bytes, header, 48);
+    memcpy(bytes + 48, trie, 12);
+    given held = {.bytes = bytes, .len = 60}, *g = &held;
+    gm_error e;
+    if (gm_open(g->bytes, g->len, 0, GM_STRICT, NULL, &g->image, &e)) DIE("a shared node: %s", e.text);
+    char *lines = export_lines(g, 10, 16, false);
+    if (strcmp(lines, "0x7 a\n0x7 b\n")) DIE("a shared node: %s", lines);
+    free(lines);
+    if (gm_exports_are_a_tree(OF, NULL, &e) != GM_MALFORMED || e.code != GM_MALFORMED) DIE("a shared node is a tree");
+    bytes[48 + 7] = 127;
+    if (gm_exports_are_a_tree(OF, NULL, &e) != GM_OK) DIE("a trie without a shared node is no tree");
+}
+
 /* memory is refused at each request in turn, in the middle of a walk; and a walk in buffers of no length */
 static void exports_by_memory(const given *g) {
     gm_export_walk walk = {0}, zeros = {0};
@@ -497,8 +533,9 @@ static void check_exports(const given *g) {
             if (strcmp(all, part)) DIE("exports: batches of %zu differ", batches[i]);
             free(part);
         }
-    free(all);
     exports_by_memory(g);
+    exports_by_tree(g, all);
+    free(all);
     tested++;
 }
 
@@ -796,6 +833,7 @@ int main(int argc, char **argv) {
     check_cut();
     check_symbols();
     check_edges();
+    check_shared();
     check(NULL, 0);
     for (int i = 2 + of_damage; i < argc; i++) {
         size_t len;
@@ -824,6 +862,6 @@ int main(int argc, char **argv) {
         free(bytes);
     }
     fclose(away);
-    if (!strcmp(argv[1], "check")) printf("%zu lists agree; %zu exports as they are found, %zu of them brought, and %zu others of a name\n", tested, alike, brought, others);
+    if (!strcmp(argv[1], "check")) printf("%zu lists agree, %zu of trees; %zu exports as they are found, %zu of them brought, and %zu others of a name\n", tested, trees, alike, brought, others);
     return 0;
 }

@@ -126,6 +126,10 @@ uint32_t gm_exports(const uint8_t *bytes, size_t len, const gm_image *image, gm_
     WITH_MEMORY(gmr_exports(BYTES, len, image, walk, AT(room->name), room->name_cap, AT(room->stack), room->stack_cap, AT(room->out), room->cap,
                             AT(room->names), room->names_cap, batch, TOLD))
 
+uint32_t gmr_exports_are_a_tree(const uint8_t *, size_t, const gm_image *, gm_error *);
+uint32_t gm_exports_are_a_tree(const uint8_t *bytes, size_t len, const gm_image *image, const gm_memory *memory, gm_error *error)
+    WITH_MEMORY(gmr_exports_are_a_tree(BYTES, len, image, TOLD))
+
 uint32_t gmr_container_faults(const uint8_t *, size_t, size_t, gm_layout_fault *, size_t, size_t *, gm_error *);
 uint32_t gm_container_faults(const uint8_t *bytes, size_t len, size_t first, gm_layout_fault *out, size_t cap, size_t *count,
                              const gm_memory *memory, gm_error *error)

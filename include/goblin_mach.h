@@ -162,7 +162,7 @@ typedef struct gm_export_room {
 typedef struct gm_export_batch { size_t count, names_len, needed; uint32_t end, reserved; } gm_export_batch;
 enum {
     GM_MORE,        /* the array is full, or less is left of `names` than a name may need: call again */
-    GM_END,         /* there are no more */
+    GM_END,         /* there are no more. Where two paths lead to one node it was given twice: see gm_exports_are_a_tree */
     GM_NO_ROOM,     /* `cap` is 0, and `needed` is 1; or `names` is shorter than `name`, and needs `needed` bytes */
     GM_NAME_SHORT,  /* the name that comes next needs `needed` bytes of `name` */
     GM_STACK_SHORT, /* the stack needs `needed` nodes */
@@ -174,6 +174,11 @@ enum {
    all but *batch and *error as they were, and may be called again. */
 uint32_t gm_exports(const uint8_t *bytes, size_t len, const gm_image *image, gm_export_walk *walk, const gm_export_room *room,
                     gm_export_batch *batch, const gm_memory *memory, gm_error *error);
+
+/* Whether all exports can be read, and no two paths of their trie lead to one node: GM_OK, and then a walk of gm_exports gives the
+   image's list of exports; else the code of a fault. It opens the image again, goes over all exports, and takes memory while it runs: for
+   the commands, and a bit for each byte of the trie. */
+uint32_t gm_exports_are_a_tree(const uint8_t *bytes, size_t len, const gm_image *image, const gm_memory *memory, gm_error *error);
 
 /* ---- the fixups of its chains (LC_DYLD_CHAINED_FIXUPS): a pointer at `address` in memory, `offset` bytes behind the start
    of segment number `segment` */

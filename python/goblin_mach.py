@@ -30,7 +30,8 @@ PROVIDERS = ("library", "itself", "program", "any", "any weak")
 MORE, END, NO_ROOM, NAME_SHORT, STACK_SHORT, REFUSED = range(6)
 EXPORTS = (None, "address", "re-export", "stub")
 KINDS = ("required", "weak", "reexport", "upward", "lazy")
-ERRORS = {1: "malformed", 2: "bad magic", 3: "out of the bytes, or no text", 4: "too many", 5: "out of memory", 6: "no rows"}
+NO_MEMORY = 5
+ERRORS = {1: "malformed", 2: "bad magic", 3: "out of the bytes, or no text", 4: "too many", NO_MEMORY: "out of memory", 6: "no rows"}
 BATCH = 1000
 FAT_MAGIC, ARCHIVE_MAGIC = b"\xca\xfe\xba\xbe", b"!<arch>\n"
 
@@ -171,7 +172,7 @@ def _load():
     lib.gm_version.restype = c_uint32
     if lib.gm_version() != VERSION:
         raise OSError(f"libgoblin_mach.so is of version {lib.gm_version()}, and this module of {VERSION}")
-    for name in ("open", "find_export", "exports", "fixups", "imports", "bindings"):
+    for name in ("open", "find_export", "exports", "exports_are_a_tree", "fixups", "imports", "bindings"):
         getattr(lib, "gm_" + name).restype = c_uint32
     for name in ("fat_entries", "commands", "segments", "sections", "relocations", "symbols", "libraries", "run_paths", "ids"):
         getattr(lib, "gm_" + name).restype = c_size_t
@@ -594,6 +595,14 @@ class Image:
                 return
             if room.batch.end != MORE:
                 room.grow()
+
+    def exports_are_a_tree(self) -> bool:
+        """Whether all exports can be read, and no two paths of their trie lead to one node: then `exports` gives each once."""
+        error, b = _Error(), self._bytes
+        code = _lib.gm_exports_are_a_tree(b.live().at, c_size_t(b.len), ctypes.byref(self._numbers), None, ctypes.byref(error))
+        if code == NO_MEMORY:
+            raise _refused(error)
+        return not code
 
     def run_paths(self) -> Iterator[str]:
         for p in self._list("run_paths", _RunPath):

@@ -61,6 +61,12 @@ def with_exports():
     return image(command(0x22, struct.pack("<10I", *8 * [0], 32 + 48, len(trie))), behind=trie)
 
 
+def with_shared_node():
+    """An image whose trie has two branches to one node, which exports 7."""
+    trie = b"\0\2a\0\x08b\0\x08" + b"\2\0\7\0"
+    return image(command(0x22, struct.pack("<10I", *8 * [0], 32 + 48, len(trie))), behind=trie)
+
+
 def many_binds():
     """An image whose binds have no end in a lifetime: one instruction says 2^55 of them."""
     count = bytes([0x80] * 7 + [0x40])  # 2^55, as ULEB128

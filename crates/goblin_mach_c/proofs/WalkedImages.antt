@@ -4,6 +4,8 @@ use Rattle.std.proofs.lemmas.List.{append-nil}
 use Rattle.std.specs.declared.alloc.Global.{Global}
 use Rattle.mach_base.specs.Text.{text_at}
 use Rattle.mach_base.specs.Text.{texts}
+use Rattle.mach_base.specs.Fault.{malformed}
+use Rattle.mach_tries.specs.Cursors.{AreAllMet}
 use Rattle.mach_tries.specs.Trie.{Entry}
 use Rattle.mach_tries.specs.TrieRange.{TrieRange}
 use Rattle.mach_tries.specs.declared.walk.Open.{Open}
@@ -13,7 +15,7 @@ use Rattle.mach_image.specs.Subjects.{libs_in, trie_in, trie_or_empty}
 use Rattle.mach_image.specs.declared.macho.MachO.{MachO}
 use Rattle.mach_image.proofs.ImageFacts.{exports_are, exports_fail, facts_are, libraries_are}
 use Rattle.mach_image.proofs.Walked.{walked_fault, walked_list}
-use Rattle.goblin_mach_c.specs.ExportWalk.{AreWritten, EndsWith, GoesAlong, GoesOn, HasLibrary, HasNextName, HasWalked, HasWalkedTrie, IsNextName, IsNumbered, IsRefusedWalk, no_batch}
+use Rattle.goblin_mach_c.specs.ExportWalk.{AreWritten, EndsWith, GoesAlong, GoesOn, HasLibrary, HasNextName, HasWalked, HasWalkedTrie, IsNextName, IsNumbered, no_batch}
 use Rattle.goblin_mach_c.proofs.ListedExports.{written_there}
 use Rattle.goblin_mach_c.proofs.TrieBytes.{text_there}
 use Rattle.goblin_mach_c.specs.declared.exports.gm_export_batch.{gm_export_batch}
@@ -32,12 +34,6 @@ stays bytes o w name stack found h = subst (HasWalked bytes o w name stack) (sym
 pub no_end : (b : gm_export_batch) → b ≡ no_batch → b.end ≡ 1 → ⊥
 no_end b is end = let five = ap (λ (x : gm_export_batch). x.end) is in omega (arith, five, end)
 
--- a walk that bears a code
-pub bears_code : (bytes : List ℕ) (o : ℕ) (w : gm_export_walk) (name : List ℕ) (stack : List Open) → w.code ≢ 0 → IsRefusedWalk bytes o w name stack
-bears_code bytes o w name stack code found q =
-    let fault = q.holds.refused code in
-    (fault.0, record { ctx = q.ctx; cs = q.cs; opens = q.opens; holds = walked_fault (trie_in bytes q.cs) (libs_in bytes q.cs) fault.0 fault.1 })
-
 -- a walk of zeros
 pub zeros : (bytes : List ℕ) (o : ℕ) (w : gm_export_walk) (name : List ℕ) (stack : List Open) → LossyOpens bytes o → w.is_begun ≡ 0 → w.code ≡ 0
     → HasWalked bytes o w name stack []
@@ -45,7 +41,7 @@ zeros bytes o w name stack opens start code = record {
   ctx = opens.0;
   cs = opens.1;
   opens = opens.2;
-  holds = record { start = λ _. refl; begun = λ wrong. absurd (wrong start); refused = λ wrong. absurd (wrong code) };
+  holds = record { start = λ _. refl; begun = λ wrong _. absurd (wrong start); refused = λ wrong. absurd (wrong code) };
 }
 
 -- ---- an image that is held
@@ -86,12 +82,11 @@ module _ (bytes : List ℕ) (o : ℕ) (m : MachO Global) (p : IsLossyImage bytes
     goes_on found q = there w' name' stack' (found ++ given) (g.walked found (held w name stack found q))
 
     pub ends_with : end ≡ 1 → EndsWith bytes o w name stack given
-    ends_with one found q = elim (g.ended one found (held w name stack found q)) [
-      | inl list ↦ inl ((exports_are bytes o m p (found ++ given)).1 (walked_list (trie_held m) libs (found ++ given) list))
-      | inr fault ↦ inr (fault.0, (exports_fail bytes o m p fault.0).1 (walked_fault (trie_held m) libs fault.0 fault.1))
-    ]
-
-    pub is_refused_walk : end ≡ 5 → IsRefusedWalk bytes o w name stack
-    is_refused_walk five found q =
-        let fault = g.refused five found (held w name stack found q) in
-        (fault.0, (exports_fail bytes o m p fault.0).1 (walked_fault (trie_held m) libs fault.0 fault.1))
+    ends_with one found q =
+        let h = held w name stack found q in record {
+          met = (facts_are bytes o m p (λ f. AreAllMet (trie_or_empty f.trie) f.libs (found ++ given))).1 (g.met one found h);
+          listed = elim (g.ended one found h) [
+            | inl list ↦ inl ((exports_are bytes o m p (found ++ given)).1 (walked_list (trie_held m) libs (found ++ given) list))
+            | inr fault ↦ inr ((exports_fail bytes o m p malformed).1 (walked_fault (trie_held m) libs malformed fault))
+          ];
+        }

@@ -1,21 +1,20 @@
 -- Walks of an export trie, batch by batch.
-use Rattle.std.proofs.Common.{◌-◌, ◌^◌, ◌<◌, Err, length, ◌≡◌, ◌≢◌, ◌++◌, ◌⊎◌, [], ℕ, List, Bool, true, false, Option, Some, None, sym, subst, ◌∙◌, arith, inr}
-use Rattle.std.specs.Prelude.{◌==◌, nat_lt, if◌then◌else◌}
-use Rattle.mach_tries.specs.CursorState.{IsFull, in_fault}
-use Rattle.mach_tries.specs.Cursors.{HasGivenTo, IsFaulty}
+use Rattle.std.proofs.Common.{◌-◌, ◌^◌, ◌<◌, Err, length, ◌≡◌, ◌≢◌, ◌++◌, ◌⊎◌, [], ℕ, List, Bool, true, false, Option, Some, None, sym, subst, ◌∙◌, arith}
+use Rattle.std.specs.Prelude.{◌==◌, nat_lt, if◌then◌else◌, Result, Ok, IfErr, OnOk}
+use Rattle.mach_base.proofs.Faults.{Stands-in}
+use Rattle.mach_base.specs.Answer.{Stands}
+use Rattle.mach_base.specs.declared.error.Error.{Error}
+use Rattle.mach_base.specs.Fault.{Fault, fault_of, malformed}
+use Rattle.mach_tries.specs.CursorState.{IsFull}
+use Rattle.mach_tries.specs.Cursors.{HasGivenTo, AreAllMet}
 use Rattle.mach_tries.specs.Trie.{Entry}
-use Rattle.mach_tries.specs.TrieRange.{ListsExports, TrieRange}
+use Rattle.mach_tries.specs.TrieRange.{ListsExports, ExportsFault, TrieRange}
 use Rattle.mach_tries.specs.declared.cursor.TrieCursor.{TrieCursor}
 use Rattle.mach_tries.specs.declared.walk.Open.{Open}
-use Rattle.goblin_mach_c.specs.ExportWalk.{GoesAlong, HasWalkedTrie, IsNextName, StopsAt, end_number, next_of}
+use Rattle.goblin_mach_c.specs.ExportWalk.{GoesAlong, HasWalkedTrie, IsCode, IsCutFor, IsNextName, StopsAt, end_number, next_of}
 use Rattle.goblin_mach_c.specs.declared.exports.Ending.{Ending}
 use Rattle.goblin_mach_c.specs.declared.exports.Ending.TheVariants.{End, Refused, NameTooLong, StackTooShort}
 use Rattle.goblin_mach_c.specs.declared.exports.gm_export_walk.{gm_export_walk}
-
--- where a fault stands, a cursor has given anything
-pub faulty_given : {t : TrieRange} {libs : List (List ℕ)} {c : TrieCursor} {name : List ℕ} {stack : List Open} {found : List Entry} → IsFaulty t libs
-    → HasGivenTo t libs c name stack found
-faulty_given fault s reads = in_fault fault.0 (rw (reads.bytes, reads.over, reads.from, reads.upto) fault.1)
 
 -- a cursor that has given nothing begins a walk
 pub walk_begins : {t : TrieRange} {libs : List (List ℕ)} {w : gm_export_walk} {c : TrieCursor} {name : List ℕ} {stack : List Open} {found : List Entry}
@@ -23,7 +22,7 @@ pub walk_begins : {t : TrieRange} {libs : List (List ℕ)} {w : gm_export_walk} 
     → HasWalkedTrie t libs (record { cursor = c; is_begun = 1; code = w.code }) name stack found
 walk_begins {t} {libs} {w} {c} {name} {stack} none given h = record {
   start = λ wrong. absurd (omega (arith, wrong));
-  begun = λ _. subst (HasGivenTo t libs c name stack) (sym (h.start none)) given;
+  begun = λ _ _. subst (HasGivenTo t libs c name stack) (sym (h.start none)) given;
   refused = h.refused;
 }
 
@@ -34,48 +33,49 @@ not_one true short e = omega (arith, e)
 not_one false true e = omega (arith, e)
 not_one false false e = omega (arith, e)
 
-not_five : (none short : Bool) → ◌≡◌ {A = ℕ} (if none then 2 else (if short then 2 else 0)) 5 → ⊥
-not_five true short e = omega (arith, e)
-not_five false true e = omega (arith, e)
-not_five false false e = omega (arith, e)
-
 module _ (t : TrieRange) (libs : List (List ℕ)) (c : TrieCursor) (name : List ℕ) (stack : List Open) (all : List Entry) where
-  stands_at : (e : Option Ending) → StopsAt t libs all e c name stack → HasGivenTo t libs c name stack all
-  stands_at None s = s
-  stands_at (Some (End)) s = s.0
-  stands_at (Some (Refused error)) s = faulty_given s
-  stands_at (Some (NameTooLong n)) s = s
-  stands_at (Some (StackTooShort)) s = s
+  -- where it wasn't refused, the walk goes on
+  stands_at : (e : Option Ending) (rows room longest : ℕ) → end_number rows room longest e < 5 → StopsAt t libs all e c name stack
+      → HasGivenTo t libs c name stack all
+  stands_at None rows room longest less s = s
+  stands_at (Some (End)) rows room longest less s = s.0
+  stands_at (Some (Refused error)) rows room longest less s = absurd (omega (arith, less))
+  stands_at (Some (NameTooLong n)) rows room longest less s = s
+  stands_at (Some (StackTooShort)) rows room longest less s = s
 
-  is_whole : (rows room longest : ℕ) (e : Option Ending) → StopsAt t libs all e c name stack → end_number rows room longest e ≡ 1 → ListsExports t libs all ⊎ IsFaulty t libs
+  is_cut : (e : Option Ending) (code : ℕ) → IsCode e code → code ≢ 0 → StopsAt t libs all e c name stack → IsCutFor t libs all code
+  is_cut None code is some s = absurd (some is)
+  is_cut (Some (End)) code is some s = absurd (some is)
+  is_cut (Some (Refused error)) code is some s = (fault_of error, s, is)
+  is_cut (Some (NameTooLong n)) code is some s = absurd (some is)
+  is_cut (Some (StackTooShort)) code is some s = absurd (some is)
+
+  is_whole : (rows room longest : ℕ) (e : Option Ending) → StopsAt t libs all e c name stack → end_number rows room longest e ≡ 1
+      → AreAllMet t libs all × (ListsExports t libs all ⊎ ExportsFault t libs malformed)
   is_whole rows room longest None s is = absurd (not_one (rows == 0) (nat_lt room longest) is)
-  is_whole rows room longest (Some (End)) s is = s.1
-  is_whole rows room longest (Some (Refused error)) s is = inr s
+  is_whole rows room longest (Some (End)) s is = (s.1, s.2)
+  is_whole rows room longest (Some (Refused error)) s is = absurd (omega (arith, is))
   is_whole rows room longest (Some (NameTooLong n)) s is = absurd (omega (arith, is))
   is_whole rows room longest (Some (StackTooShort)) s is = absurd (omega (arith, is))
-
-  is_refused : (rows room longest : ℕ) (e : Option Ending) → StopsAt t libs all e c name stack → end_number rows room longest e ≡ 5 → IsFaulty t libs
-  is_refused rows room longest None s is = absurd (not_five (rows == 0) (nat_lt room longest) is)
-  is_refused rows room longest (Some (End)) s is = absurd (omega (arith, is))
-  is_refused rows room longest (Some (Refused error)) s is = s
-  is_refused rows room longest (Some (NameTooLong n)) s is = absurd (omega (arith, is))
-  is_refused rows room longest (Some (StackTooShort)) s is = absurd (omega (arith, is))
 
 -- a batch goes along the trie
 pub goes_along : {t : TrieRange} {libs : List (List ℕ)} {w b w' : gm_export_walk} {name name' : List ℕ} {stack stack' : List Open} {given : List Entry}
     (rows room longest end : ℕ) (e : Option Ending)
-    → ((found : List Entry) → HasWalkedTrie t libs w name stack found → HasWalkedTrie t libs b name stack found) → b.is_begun ≢ 0
+    → ((found : List Entry) → HasWalkedTrie t libs w name stack found → HasWalkedTrie t libs b name stack found) → b.is_begun ≢ 0 → b.code ≡ 0
     → ((found : List Entry) → HasGivenTo t libs b.cursor name stack found → StopsAt t libs (found ++ given) e w'.cursor name' stack')
-    → w'.is_begun ≡ b.is_begun → end ≡ end_number rows room longest e → (w'.code ≢ 0 → end_number rows room longest e ≡ 5)
+    → w'.is_begun ≡ b.is_begun → end ≡ end_number rows room longest e → IsCode e w'.code → (w'.code ≡ 0 → end_number rows room longest e < 5)
     → GoesAlong t libs w w' name name' stack stack' given end
-goes_along {t} {libs} {w} {b} {w'} {name} {name'} {stack} {stack'} {given} rows room longest end e begins begun stops same is marked = record {
-  walked = λ found h. record {
-    start = λ wrong. absurd (begun (sym same ∙ wrong));
-    begun = λ _. stands_at t libs w'.cursor name' stack' (found ++ given) e (stops found ((begins found h).begun begun));
-    refused = λ code. is_refused t libs w'.cursor name' stack' (found ++ given) rows room longest e (stops found ((begins found h).begun begun)) (marked code);
-  };
-  ended = λ one found h. is_whole t libs w'.cursor name' stack' (found ++ given) rows room longest e (stops found ((begins found h).begun begun)) (sym is ∙ one);
-  refused = λ five found h. is_refused t libs w'.cursor name' stack' (found ++ given) rows room longest e (stops found ((begins found h).begun begun)) (sym is ∙ five);
+goes_along {t} {libs} {w} {b} {w'} {name} {name'} {stack} {stack'} {given} rows room longest end e begins begun ready stops same is marked good = record {
+  walked = λ found h.
+      let at = stops found ((begins found h).begun begun ready) in record {
+        start = λ wrong. absurd (begun (sym same ∙ wrong));
+        begun = λ _ none. stands_at t libs w'.cursor name' stack' (found ++ given) e rows room longest (good none) at;
+        refused = λ some. is_cut t libs w'.cursor name' stack' (found ++ given) e w'.code marked some at;
+      };
+  met = λ one found h.
+      (is_whole t libs w'.cursor name' stack' (found ++ given) rows room longest e (stops found ((begins found h).begun begun ready)) (sym is ∙ one)).0;
+  ended = λ one found h.
+      (is_whole t libs w'.cursor name' stack' (found ++ given) rows room longest e (stops found ((begins found h).begun begun ready)) (sym is ∙ one)).1;
 }
 
 -- the name that was too long
@@ -89,3 +89,13 @@ long_name t c name stack (NameTooLong m) n is few full =
     let same : m ≡ n = cc in
     let many = full.2 in
     let past = full.3 in (omega (arith, same, many, past, few), (full.0, full.1, sym same ∙ many))
+
+-- ---- what follows from an answer
+
+pub on_ok : {X E P Q : Type 0} (r : Result X E) → (P → Q) → OnOk r P → OnOk r Q
+on_ok (Ok x) f p = f p
+on_ok (Err e) f p = tt
+
+pub on_err : {X : Type 0} {P Q : Fault → Type 0} (r : Result X Error) → ((f : Fault) → P f → Q f) → IfErr r (Stands P) → IfErr r (Stands Q)
+on_err (Ok x) f p = tt
+on_err {X} {P} {Q} (Err e) f p = Stands-in P Q e f p

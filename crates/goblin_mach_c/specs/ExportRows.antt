@@ -38,3 +38,7 @@ IsPut text old new = let n = min (length text) (length old) in new ≡ take n te
 -- a fault for which a name can't be sought
 abbrev pub FindFault : Bool → List ℕ → ℕ → List ℕ → Fault → Type 0
 FindFault lossy bytes o name f = (FaultIn lossy bytes o f ⊎ HasExportsFault bytes o f) ⊎ ((f ≡ malformed) × ¬ IsUtf8 name)
+
+-- a fault for which its exports can't be gone over
+abbrev pub WalkFault : Bool → List ℕ → ℕ → Fault → Type 0
+WalkFault lossy bytes o f = FaultIn lossy bytes o f ⊎ HasExportsFault bytes o f

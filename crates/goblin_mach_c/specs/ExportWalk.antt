@@ -1,11 +1,11 @@
 -- The exports of an image in batches, as C sees them.
 use Rattle.std.specs.Prelude.{◌≡◌, ◌≢◌, ◌==◌, ◌+◌, ◌-◌, ◌^◌, ◌++◌, ◌⊎◌, ℕ, List, [], ◌∷◌, length, drop, min, Option, Some, None, Result, Ok, Err, nat_lt, slice_get, if◌then◌else◌}
-use Rattle.mach_base.specs.Fault.{Fault}
+use Rattle.mach_base.specs.Fault.{Fault, fault_of, malformed}
 use Rattle.mach_base.specs.Text.{text_at}
 use Rattle.mach_tries.specs.CursorState.{IsNextLabel}
-use Rattle.mach_tries.specs.Cursors.{HasGivenTo, IsFaulty, NextGives}
+use Rattle.mach_tries.specs.Cursors.{HasGivenTo, NextGives, AreAllMet, IsCutShort}
 use Rattle.mach_tries.specs.Trie.{Entry, Info, regular, reexport, stub}
-use Rattle.mach_tries.specs.TrieRange.{ListsExports, TrieRange}
+use Rattle.mach_tries.specs.TrieRange.{ListsExports, ExportsFault, TrieRange}
 use Rattle.mach_tries.specs.declared.cursor.NextExport.{NextExport}
 use Rattle.mach_tries.specs.declared.cursor.NextExport.TheVariants as next
 use Rattle.mach_tries.specs.declared.cursor.TrieCursor.{TrieCursor}
@@ -13,6 +13,7 @@ use Rattle.mach_tries.specs.declared.info.ExportInfo.{ExportInfo}
 use Rattle.mach_tries.specs.declared.walk.Open.{Open}
 use Rattle.mach_image.specs.Facts.{HasExports, HasExportsFault, HasLibraries, OfImage}
 use Rattle.mach_image.specs.Subjects.{libs_in, trie_in, trie_or_empty}
+use Rattle.goblin_mach_c.specs.Codes.{code_of_fault}
 use Rattle.goblin_mach_c.specs.ExportRows.{export_row, text_or_none}
 use Rattle.goblin_mach_c.specs.declared.exports.Ending.{Ending}
 use Rattle.goblin_mach_c.specs.declared.exports.Ending.TheVariants.{End, Refused, NameTooLong, StackTooShort}
@@ -70,33 +71,38 @@ IsNumbered libs number name = slice_get libs number ≡ Some name
 
 -- ---- walks
 
--- A walk of this trie, over these libraries, has given these exports: nothing before it has begun; what its cursor has
--- given from then on; and it bears the code of a refusal only where a fault stands in the trie.
+-- a fault of this code cuts the reading of a trie short behind these exports
+abbrev pub IsCutFor : TrieRange → List (List ℕ) → List Entry → ℕ → Type 0
+IsCutFor t libs found code = (f : Fault) × IsCutShort t libs found f × (code ≡ code_of_fault f)
+
+-- A walk of this trie, over these libraries, has given these exports: nothing before it has begun, and what its cursor has given from
+-- then on; and where it bears the code of a refusal, that is of a fault which cuts the trie short behind these exports.
 pub record HasWalkedTrie (t : TrieRange) (libs : List (List ℕ)) (w : gm_export_walk) (name : List ℕ) (stack : List Open) (found : List Entry) : Type 0 where
   pub start : w.is_begun ≡ 0 → found ≡ []
-  pub begun : w.is_begun ≢ 0 → HasGivenTo t libs w.cursor name stack found
-  pub refused : w.code ≢ 0 → IsFaulty t libs
+  pub begun : w.is_begun ≢ 0 → w.code ≡ 0 → HasGivenTo t libs w.cursor name stack found
+  pub refused : w.code ≢ 0 → IsCutFor t libs found w.code
 
 -- A walk of the exports of the image at o, with this name and these open nodes, has given these.
 abbrev pub HasWalked : List ℕ → ℕ → gm_export_walk → List ℕ → List Open → List Entry → Type 0
 HasWalked bytes o w name stack found =
     OfImage bytes o (λ ctx cs. HasWalkedTrie (trie_or_empty (trie_in bytes cs)) (libs_in bytes cs) w name stack found)
 
--- a fault stands in the trie of the image at o
-abbrev pub HasFaultyTrie : List ℕ → ℕ → Type 0
-HasFaultyTrie bytes o = (f : Fault) × HasExportsFault bytes o f
-
 -- Whatever the walk had given before, it has given that and these.
 abbrev pub GoesOn : List ℕ → ℕ → gm_export_walk → List ℕ → List Open → List Entry → gm_export_walk → List ℕ → List Open → Type 0
 GoesOn bytes o w name stack given w' name' stack' = (found : List Entry) → HasWalked bytes o w name stack found → HasWalked bytes o w' name' stack' (found ++ given)
 
--- Whatever the walk had given before, that and these are the image's exports; or a fault stands in its trie.
-abbrev pub EndsWith : List ℕ → ℕ → gm_export_walk → List ℕ → List Open → List Entry → Type 0
-EndsWith bytes o w name stack given = (found : List Entry) → HasWalked bytes o w name stack found → HasExports bytes o (found ++ given) ⊎ HasFaultyTrie bytes o
+-- all that is met in reading the trie of the image at o as if it were a tree
+abbrev pub AreAllMetIn : List ℕ → ℕ → List Entry → Type 0
+AreAllMetIn bytes o all = OfImage bytes o (λ ctx cs. AreAllMet (trie_or_empty (trie_in bytes cs)) (libs_in bytes cs) all)
 
--- Where the walk had given anything, a fault stands in the trie.
-abbrev pub IsRefusedWalk : List ℕ → ℕ → gm_export_walk → List ℕ → List Open → Type 0
-IsRefusedWalk bytes o w name stack = (found : List Entry) → HasWalked bytes o w name stack found → HasFaultyTrie bytes o
+-- Whatever the walk had given before, that and these are all that is met in the trie, and they are the image's exports, if no two paths
+-- lead to one node.
+pub record IsWholeWith (bytes : List ℕ) (o : ℕ) (all : List Entry) : Type 0 where
+  pub met : AreAllMetIn bytes o all
+  pub listed : HasExports bytes o all ⊎ HasExportsFault bytes o malformed
+
+abbrev pub EndsWith : List ℕ → ℕ → gm_export_walk → List ℕ → List Open → List Entry → Type 0
+EndsWith bytes o w name stack given = (found : List Entry) → HasWalked bytes o w name stack found → IsWholeWith bytes o (found ++ given)
 
 -- The name that comes next in a trie has so many bytes, as far as 64 bits tell: those of the node on top, and those of the label of
 -- its next branch.
@@ -122,6 +128,14 @@ abbrev pub StopsAt : TrieRange → List (List ℕ) → List Entry → Option End
 StopsAt t libs found None c name stack = HasGivenTo t libs c name stack found
 StopsAt t libs found (Some e) c name stack = NextGives t libs found (next_of (Err e)) c name stack
 
+-- the code that an ending leaves: that of a refusal, or 0
+abbrev pub IsCode : Option Ending → ℕ → Type 0
+IsCode None code = code ≡ 0
+IsCode (Some (End)) code = code ≡ 0
+IsCode (Some (Refused e)) code = code ≡ code_of_fault (fault_of e)
+IsCode (Some (NameTooLong n)) code = code ≡ 0
+IsCode (Some (StackTooShort)) code = code ≡ 0
+
 -- why a batch ends, as C is told it
 abbrev pub end_number : (rows room name : ℕ) → Option Ending → ℕ
 end_number rows room name None = if rows == 0 then 2 else (if nat_lt room name then 2 else 0)
@@ -142,10 +156,11 @@ needed_number rows room name used (Some (StackTooShort)) = min (used + 1) (2 ^ 6
 abbrev pub no_batch : gm_export_batch
 no_batch = record { count = 0; names_len = 0; needed = 0; end = 5; reserved = 0 }
 
--- Whatever a walk of this trie had given before: it has given that and these; at the end (1) they are the trie's exports, or
--- it has none; and at a refusal (5) a fault stands in it.
+-- Whatever a walk of this trie had given before: it has given that and these; and at the end (1) they are all that is met, and the trie's
+-- exports, if no two paths lead to one node.
 pub record GoesAlong (t : TrieRange) (libs : List (List ℕ)) (w w' : gm_export_walk) (name name' : List ℕ) (stack stack' : List Open) (given : List Entry)
     (end : ℕ) : Type 0 where
   pub walked : (found : List Entry) → HasWalkedTrie t libs w name stack found → HasWalkedTrie t libs w' name' stack' (found ++ given)
-  pub ended : end ≡ 1 → (found : List Entry) → HasWalkedTrie t libs w name stack found → ListsExports t libs (found ++ given) ⊎ IsFaulty t libs
-  pub refused : end ≡ 5 → (found : List Entry) → HasWalkedTrie t libs w name stack found → IsFaulty t libs
+  pub met : end ≡ 1 → (found : List Entry) → HasWalkedTrie t libs w name stack found → AreAllMet t libs (found ++ given)
+  pub ended : end ≡ 1 → (found : List Entry) → HasWalkedTrie t libs w name stack found
+      → ListsExports t libs (found ++ given) ⊎ ExportsFault t libs malformed

@@ -9,7 +9,7 @@ ghost use Rattle.mach_tries.specs.TrieRange.{empty_range};
 ghost use Rattle.mach_image.specs.OpenImage.{trie_held};
 ghost use Rattle.mach_image.specs.Subjects.{trie_or_empty};
 ghost use Rattle.goblin_mach_c.specs.Codes.{IsRefusal};
-ghost use Rattle.goblin_mach_c.specs.ExportWalk.{AreWritten, EndsWith, GoesAlong, GoesOn, HasLibrary, HasNextName, HasWalkedTrie, IsBrought, IsNextName, IsNumbered, IsRefusedWalk, StopsAt, end_number, needed_number, next_of, no_batch};
+ghost use Rattle.goblin_mach_c.specs.ExportWalk.{AreWritten, EndsWith, GoesAlong, GoesOn, HasLibrary, HasNextName, HasWalkedTrie, IsBrought, IsCode, IsNextName, IsNumbered, StopsAt, end_number, needed_number, next_of, no_batch};
 ghost use Rattle.goblin_mach_c.specs.Opened.{FaultIn, lossy_mode};
 ghost use Rattle.goblin_mach_c.specs.declared.exports.Ending.TheVariants as ending;
 
@@ -206,6 +206,7 @@ fn end_of(
 
 // Tells of a refusal, if the batch ends by one.
 fn told(ending: Option<Ending>, error: &mut gm_error) -> u32
+    ensures code { IsCode ending result }
     ensures good { (rows : ℕ) (room : ℕ) (name : ℕ) → result ≡ 0 → end_number rows room name ending < 5 }
     ensures refused { (rows : ℕ) (room : ℕ) (name : ℕ) → result ≢ 0 → end_number rows room name ending ≡ 5 }
     ensures told { result ≢ 0 → error.new.code ≡ result }
@@ -332,7 +333,7 @@ pub extern "C" fn gmr_exports(
         × GoesOn bytes.now image.now.offset walk.old name.old stack.old given walk.new name.new stack.new
         × (batch.new.end ≡ 1 → EndsWith bytes.now image.now.offset walk.old name.old stack.old given) }
     ensures refused { result ≢ 0 → IsRefusal (FaultIn (lossy_mode image.now.is_lossy) bytes.now image.now.offset) result
-        ⊎ IsRefusedWalk bytes.now image.now.offset walk.old name.old stack.old }
+        ⊎ (walk.new.code ≡ result) }
     ensures marked { result ≢ 0 → (walk.new.code ≡ result) ⊎ (walk.new.code ≡ walk.old.code) }
     ensures kept { result ≢ 0 → walk.new.code ≡ walk.old.code → (walk.new ≡ walk.old) × (name.new ≡ name.old) × (stack.new ≡ stack.old)
         × (out.new ≡ out.old) × (names.new ≡ names.old) }

@@ -26,3 +26,4 @@ mod run_paths;
 mod sections;
 mod segments;
 mod symbols;
+mod tree;

@@ -1,31 +1,25 @@
 -- What a cursor has given of the trie that it goes over.
-use Rattle.mach_tries.proofs.Names.{◌≡◌, ◌<◌, ◌≤◌, ◌-◌, length, replicate, false, Some, ℕ, Bool, List, [], ◌⊎◌, refl, sym, ap, subst, ◌∙◌, arith}
-use Rattle.mach_tries.proofs.Names.{inl, inr, append-nil, Fault, Entry, Source}
-use Rattle.mach_tries.proofs.Names.{texts, source_trie, fault_in, ListBegins, none_yet, no_further, Holds, IsFresh, HasListed, TrieRange, TrieFault, Trie}
+use Rattle.mach_tries.proofs.Names.{◌≡◌, ◌<◌, ◌≤◌, ◌-◌, length, replicate, false, Some, ℕ, Bool, List, [], ◌∷◌, ◌⊎◌, refl, sym, ap, subst, ◌∙◌, arith}
+use Rattle.mach_tries.proofs.Names.{inl, inr, Fault, malformed, Entry, Source, ExportsFault}
+use Rattle.mach_tries.proofs.Names.{texts, source_trie, fault_in, ListBegins, Holds, IsFresh, HasListed, TrieRange, TrieFault, Trie}
 use Rattle.mach_tries.proofs.Names.{ListsExports}
 use Rattle.mach_tries.proofs.Names.{trie_there}
 use Rattle.std.specs.Borrow.{Bor}
 use Rattle.mach_tries.proofs.WalkTurns.{nothing_listed}
-use Rattle.mach_tries.proofs.TrieBegins.{whole_list, listed_there, begun_there}
-use Rattle.mach_tries.specs.CursorState.{IsStopped, IsAsBefore, TurnGives, HasCome, at_root, on_the_way, at_end, in_fault}
-use Rattle.mach_tries.specs.Cursors.{ReadsTrie, HasGivenTo, BeginsOrFaulty, NextGives, IsFaulty}
+use Rattle.mach_tries.proofs.CursorAhead.{has_begun, root_ahead}
+use Rattle.mach_tries.proofs.TrieBegins.{listed_there, begun_there}
+use Rattle.mach_tries.proofs.Unfoldings.{cut_stands}
+use Rattle.mach_tries.specs.Unfolds.{Ahead, Unfolds, nothing_read, passed, IsCutBy}
+use Rattle.mach_tries.specs.CursorState.{AreAhead, IsKept, IsStopped, IsAsBefore, TurnGives, TurnUnfolds, HasCome, HasWalked, at_root, on_the_way, at_end, met_twice, name_of, below}
+use Rattle.mach_tries.specs.CursorState.{HasUnfolded, before_root, between, all_met}
+use Rattle.mach_tries.specs.Cursors.{ReadsTrie, HasGivenTo, NextGives, AreAllMet, IsCutShort}
 use Rattle.mach_tries.specs.declared.cursor.NextExport.{NextExport}
 use Rattle.mach_tries.specs.declared.cursor.NextExport.TheVariants.{Export, End, Refused, NameTooLong, StackTooShort}
 use Rattle.mach_tries.specs.declared.cursor.TrieCursor.{TrieCursor}
 use Rattle.mach_tries.specs.declared.walk.Open.{Open}
 
--- what was given is a beginning
-begins : (s : Source) (c : TrieCursor) (name : List ℕ) (stack : List Open) (found : List Entry) → HasCome s c name stack found
-    → ListBegins (source_trie s) s.from [] found ⊎ ((f : Fault) × fault_in s f)
-begins s c name stack found (at_root marks phase kept fresh) =
-    inl (subst (ListBegins (source_trie s) s.from []) (sym fresh.none_found) none_yet)
-begins s c name stack found (on_the_way marks n phase kept h) =
-    inl (subst (ListBegins (source_trie s) s.from []) (append-nil found) (h.walk.begun [] (inl no_further)))
-begins s c name stack found (at_end n phase l) = inl (whole_list (source_trie s) s.from [] found l.listed)
-begins s c name stack found (in_fault f k) = inr (f, k)
-
 -- the same of another source of the same bytes
-module _ {s r : Source} (bytes : r.bytes.now ≡ s.bytes.now) (libs : texts r.libs.now ≡ texts s.libs.now) (from : r.from ≡ s.from) (upto : r.upto ≡ s.upto) where
+module _ (s r : Source) (bytes : r.bytes.now ≡ s.bytes.now) (libs : texts r.libs.now ≡ texts s.libs.now) (from : r.from ≡ s.from) (upto : r.upto ≡ s.upto) where
   fresh_of : {name : List ℕ} {marks : List Bool} {o : Open} {os : List Open} {found : List Entry} {n : ℕ}
       → IsFresh s name marks o (record { label = []; start = s.from }) os found n → IsFresh r name marks o (record { label = []; start = r.from }) os found n
   fresh_of f = record {
@@ -64,13 +58,31 @@ module _ {s r : Source} (bytes : r.bytes.now ≡ s.bytes.now) (libs : texts r.li
     few_visits = rw (from, upto) l.few_visits;
   }
 
+  kept_of : {c : TrieCursor} {name : List ℕ} {stack : List Open} {n : ℕ} → IsKept s c name stack n → IsKept r c name stack n
+  kept_of kept = record { name_len = kept.name_len; depth = kept.depth; visits = rw (from, upto) kept.visits }
+
+  unfolds_of : (n : ℕ) (found : List Entry) (left : List Ahead) → Unfolds (source_trie s) s.from n found left → Unfolds (source_trie r) r.from n found left
+  unfolds_of n found left u = rw (bytes, libs, from, upto) u
+
+  ahead_of : (name : List ℕ) (os : List Open) (left : List Ahead) → AreAhead s.bytes.now s.from name os left → AreAhead r.bytes.now r.from name os left
+  ahead_of name os left are =
+      subst (λ (x : List ℕ). AreAhead x r.from name os left) (sym bytes) (subst (λ (x : ℕ). AreAhead s.bytes.now x name os left) (sym from) are)
+
+  unfolded_of : {c : TrieCursor} {name : List ℕ} {stack : List Open} {found : List Entry} → HasUnfolded s c name stack found → HasUnfolded r c name stack found
+  unfolded_of {c} {name} {stack} (before_root phase kept len are none) =
+      before_root phase (kept_of kept) len (ahead_of (name_of c name) (c.top ∷ below c stack) [] are) none
+  unfolded_of {c} {name} {stack} {found} (between n left phase kept read are) =
+      between n left phase (kept_of kept) (unfolds_of n found left read) (ahead_of (name_of c name) (c.top ∷ below c stack) left are)
+  unfolded_of {found = found} (all_met n phase read) = all_met n phase (unfolds_of n found [] read)
+
+  walked_of : {c : TrieCursor} {name : List ℕ} {stack : List Open} {found : List Entry} → HasWalked s c name stack found → HasWalked r c name stack found
+  walked_of (at_root marks phase kept fresh) = at_root marks phase (kept_of kept) (fresh_of fresh)
+  walked_of (on_the_way marks n phase kept h) = on_the_way marks n phase (kept_of kept) (holds_of h)
+  walked_of (at_end n phase l) = at_end n phase (listed_of l)
+  walked_of (met_twice k) = met_twice (rw (bytes, libs, from, upto) k)
+
   come_of : {c : TrieCursor} {name : List ℕ} {stack : List Open} {found : List Entry} → HasCome s c name stack found → HasCome r c name stack found
-  come_of (at_root marks phase kept fresh) =
-      at_root marks phase (record { name_len = kept.name_len; depth = kept.depth; visits = rw (from, upto) kept.visits }) (fresh_of fresh)
-  come_of (on_the_way marks n phase kept h) =
-      on_the_way marks n phase (record { name_len = kept.name_len; depth = kept.depth; visits = rw (from, upto) kept.visits }) (holds_of h)
-  come_of (at_end n phase l) = at_end n phase (listed_of l)
-  come_of (in_fault f k) = in_fault f (rw (bytes, libs, from, upto) k)
+  come_of come = record { unfolded = unfolded_of come.unfolded; walked = walked_of come.walked }
 
 -- the source of a call
 pub reads_of : (bytes : Bor (List ℕ)) {from upto : ℕ} {t : TrieRange} (libs : Bor (List (Bor (List ℕ))))
@@ -90,73 +102,94 @@ module _ {s : Source} {t : TrieRange} {libs : List (List ℕ)} (reads : ReadsTri
 
   pub given_by : {c : TrieCursor} {name : List ℕ} {stack : List Open} {found : List Entry} → HasCome s c name stack found → HasGivenTo t libs c name stack found
   given_by come r others =
-      come_of (others.bytes ∙ sym reads.bytes) (others.over ∙ sym reads.over) (others.from ∙ sym reads.from) (others.upto ∙ sym reads.upto) come
+      come_of s r (others.bytes ∙ sym reads.bytes) (others.over ∙ sym reads.over) (others.from ∙ sym reads.from) (others.upto ∙ sym reads.upto) come
 
-  pub is_faulty : (f : Fault) → fault_in s f → IsFaulty t libs
-  is_faulty f k = (f, subst (λ (x : Trie). TrieFault x t.from f) trie_is (subst (λ (r : ℕ). TrieFault (source_trie s) r f) reads.from k))
+  fault_of_trie : (f : Fault) → fault_in s f → ExportsFault t libs f
+  fault_of_trie f k = subst (λ (x : Trie). TrieFault x t.from f) trie_is (subst (λ (r : ℕ). TrieFault (source_trie s) r f) reads.from k)
 
-  pub is_list : {found : List Entry} {n : ℕ} → HasListed s found n → ListsExports t libs found
+  unfolds_there : {n : ℕ} {found : List Entry} {left : List Ahead} → Unfolds (source_trie s) s.from n found left
+      → Unfolds (trie_there t libs) t.from n found left
+  unfolds_there {n} {found} {left} u =
+      subst (λ (x : Trie). Unfolds x t.from n found left) trie_is (subst (λ (r : ℕ). Unfolds (source_trie s) r n found left) reads.from u)
+
+  is_list : {found : List Entry} {n : ℕ} → HasListed s found n → ListsExports t libs found
   is_list l = listed_there s t libs trie_is reads.from l
 
-  pub begins_there : {c : TrieCursor} {name : List ℕ} {stack : List Open} {found : List Entry} → HasCome s c name stack found → BeginsOrFaulty t libs found
-  begins_there {c} {name} {stack} {found} come = elim (begins s c name stack found come) [
-    | inl begun ↦ inl (begun_there s t libs trie_is reads.from begun)
-    | inr fault ↦ inr (is_faulty fault.0 fault.1)
-  ]
+  pub begins_there : {c : TrieCursor} {name : List ℕ} {stack : List Open} {found : List Entry} → HasCome s c name stack found
+      → ListBegins (trie_there t libs) t.from [] found
+  begins_there come = begun_there s t libs trie_is reads.from (has_begun come.unfolded)
+
+  cut_there : {found : List Entry} {f : Fault} → IsCutBy (source_trie s) s.from found f → (f ≡ malformed → fault_in s malformed) → IsCutShort t libs found f
+  cut_there {found} {f} cut again = record {
+    cut = subst (λ (x : Trie). IsCutBy x t.from found f) trie_is (subst (λ (r : ℕ). IsCutBy (source_trie s) r found f) reads.from cut);
+    stands = fault_of_trie f (cut_stands cut again);
+  }
+
+  whole_or_not : {found : List Entry} → (((n : ℕ) × HasListed s found n) ⊎ fault_in s malformed) → ListsExports t libs found ⊎ ExportsFault t libs malformed
+  whole_or_not whole = elim whole [ inl l ↦ inl (is_list l.1) | inr k ↦ inr (fault_of_trie malformed k) ]
 
   -- what a turn gives
   pub next_gives : (given : NextExport) {c d : TrieCursor} {name name' : List ℕ} {stack stack' : List Open} {found : List Entry} → HasCome s c name stack found
-      → (IsStopped (Some given) → IsAsBefore c d name name' stack stack') → TurnGives s found (Some given) d name' stack'
-      → NextGives t libs found given d name' stack'
-  next_gives (Export info) come stopped k = given_by k
-  next_gives (End) come stopped k = (
-    given_by k.0,
-    elim k.1 [ inl l ↦ inl (is_list l.1) | inr fault ↦ inr (is_faulty fault.0 fault.1) ],
-  )
-  next_gives (Refused e) come stopped k = is_faulty k.0 k.1
-  next_gives (NameTooLong n) come stopped k = let b = stopped tt in given_by (rw (b.same_cursor, b.same_name, b.same_stack) come)
-  next_gives (StackTooShort) come stopped k = let b = stopped tt in given_by (rw (b.same_cursor, b.same_name, b.same_stack) come)
+      → (IsStopped (Some given) → IsAsBefore c d name name' stack stack') → TurnUnfolds s found (Some given) d name' stack'
+      → TurnGives s found (Some given) d name' stack' → NextGives t libs found given d name' stack'
+  next_gives (Export info) come stopped u k = given_by (record { unfolded = u; walked = k })
+  next_gives (End) come stopped u k = (given_by (record { unfolded = u.0; walked = k.0 }), (u.1, unfolds_there u.2), whole_or_not k.1)
+  next_gives (Refused e) come stopped u k = cut_there u k
+  next_gives (NameTooLong n) come stopped u k = let b = stopped tt in given_by (rw (b.same_cursor, b.same_name, b.same_stack) come)
+  next_gives (StackTooShort) come stopped u k = let b = stopped tt in given_by (rw (b.same_cursor, b.same_name, b.same_stack) come)
 
   -- where it is over
+  over_met : {c : TrieCursor} {name : List ℕ} {stack : List Open} {found : List Entry} → 1 < c.phase → HasUnfolded s c name stack found → AreAllMet t libs found
+  over_met over (before_root phase kept len left none) = absurd (omega arith)
+  over_met over (between n left phase kept read are) = absurd (omega arith)
+  over_met over (all_met n phase read) = (n, unfolds_there read)
+
+  over_listed : {c : TrieCursor} {name : List ℕ} {stack : List Open} {found : List Entry} → 1 < c.phase → HasWalked s c name stack found
+      → ListsExports t libs found ⊎ ExportsFault t libs malformed
+  over_listed over (at_root marks phase kept fresh) = absurd (omega arith)
+  over_listed over (on_the_way marks n phase kept h) = absurd (omega arith)
+  over_listed over (at_end n phase l) = inl (is_list l)
+  over_listed over (met_twice k) = inr (fault_of_trie malformed k)
+
   pub over_gives : {c : TrieCursor} {name : List ℕ} {stack : List Open} {found : List Entry} → 1 < c.phase → HasCome s c name stack found
-      → ListsExports t libs found ⊎ IsFaulty t libs
-  over_gives over (at_root marks phase kept fresh) = absurd (omega arith)
-  over_gives over (on_the_way marks n phase kept h) = absurd (omega arith)
-  over_gives over (at_end n phase l) = inl (is_list l)
-  over_gives over (in_fault f k) = inr (is_faulty f k)
+      → NextGives t libs found End c name stack
+  over_gives over come = (given_by come, over_met over come.unfolded, over_listed over come.walked)
 
-  -- where it is not over the open nodes are those of the stack
-  pub too_deep : {c : TrieCursor} {name : List ℕ} {stack : List Open} {found : List Entry} → c.phase ≤ 1 → length stack < c.depth → HasCome s c name stack found
-      → IsFaulty t libs
-  too_deep on deep (at_root marks phase kept fresh) = absurd (let k = kept.depth in omega arith)
-  too_deep on deep (on_the_way marks n phase kept h) = absurd (let k = kept.depth in omega arith)
-  too_deep on deep (at_end n phase l) = absurd (omega arith)
-  too_deep on deep (in_fault f k) = is_faulty f k
+-- where it is not over the open nodes are those of the stack
+pub too_deep : {s : Source} {c : TrieCursor} {name : List ℕ} {stack : List Open} {found : List Entry} → c.phase ≤ 1 → length stack < c.depth
+    → HasUnfolded s c name stack found → ⊥
+too_deep on deep (before_root phase kept len left none) = let k = kept.depth in omega arith
+too_deep on deep (between n left phase kept read are) = let k = kept.depth in omega arith
+too_deep on deep (all_met n phase read) = omega arith
 
-  -- nor are more visits left than the range has places
-  pub too_far : {c : TrieCursor} {name : List ℕ} {stack : List Open} {found : List Entry} → c.phase ≤ 1 → s.upto - s.from < c.visits_left
-      → HasCome s c name stack found → IsFaulty t libs
-  too_far on far (at_root marks phase kept fresh) = absurd (let k = kept.visits in omega arith)
-  too_far on far (on_the_way marks n phase kept h) = absurd (let k = kept.visits in omega arith)
-  too_far on far (at_end n phase l) = absurd (omega arith)
-  too_far on far (in_fault f k) = is_faulty f k
+-- nor are more visits left than the range has places
+pub too_far : {s : Source} {c : TrieCursor} {name : List ℕ} {stack : List Open} {found : List Entry} → c.phase ≤ 1 → s.upto - s.from < c.visits_left
+    → HasUnfolded s c name stack found → ⊥
+too_far on far (before_root phase kept len left none) = let k = kept.visits in omega arith
+too_far on far (between n left phase kept read are) = let k = kept.visits in omega arith
+too_far on far (all_met n phase read) = omega arith
 
 -- a cursor that has given nothing yet
 pub starts : (s : Source) (c : TrieCursor) (name : List ℕ) (stack : List Open) → s.from < s.upto → c.phase ≡ 0 → c.visits_left ≡ s.upto - s.from
     → c.name_len ≡ 0 → c.depth ≡ 0 → c.top.left ≡ 0 → c.top.name_len ≡ 0 → HasCome s c name stack []
 starts s c name stack inside phase visits len depth left top_len =
-    at_root (replicate (s.upto - s.from) false) phase (record { name_len = omega arith; depth = omega arith; visits = omega arith }) (record {
-      inside = inside;
-      root = refl;
-      label = refl;
-      no_name = rw len refl;
-      no_marks = refl;
-      left = left;
-      name_len = top_len;
-      none_open = rw depth refl;
-      none_found = refl;
-      none_visited = refl;
-    })
+    let kept : IsKept s c name stack 0 = record { name_len = omega arith; depth = omega arith; visits = omega arith } in
+    record {
+      unfolded = before_root phase kept top_len (root_ahead s.bytes.now s.from (name_of c name) c.top (below c stack) left top_len (rw depth refl)) refl;
+      walked = at_root (replicate (s.upto - s.from) false) phase kept (record {
+        inside = inside;
+        root = refl;
+        label = refl;
+        no_name = rw len refl;
+        no_marks = refl;
+        left = left;
+        name_len = top_len;
+        none_open = rw depth refl;
+        none_found = refl;
+        none_visited = refl;
+      });
+    }
 
 pub starts_over : (s : Source) (c : TrieCursor) (name : List ℕ) (stack : List Open) → s.upto ≤ s.from → c.phase ≡ 2 → HasCome s c name stack []
-starts_over s c name stack none phase = at_end 0 (omega arith) (nothing_listed s none)
+starts_over s c name stack none phase =
+    record { unfolded = all_met 0 (omega arith) (passed nothing_read none); walked = at_end 0 (omega arith) (nothing_listed s none) }

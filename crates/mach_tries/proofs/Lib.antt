@@ -12,7 +12,9 @@ pub mod TrieVisits
 pub mod MarkBits
 pub mod TreeWalk
 pub mod WalkTurns
+pub mod Unfoldings
 pub mod CursorTurns
+pub mod CursorAhead
 pub mod CursorTries
 pub mod CursorPlaces
 pub mod TrieRelation

@@ -1,17 +1,17 @@
 -- What a walk of an export trie by a cursor has given, as its callers see it.
 use Rattle.std.specs.Prelude.{◌≡◌, ◌++◌, ◌⊎◌, ◌∷◌, [], ℕ, List, Option, Some, None, Result, Ok, slice_get}
 use Rattle.mach_base.specs.Answer.{◌>>=◌}
-use Rattle.mach_base.specs.Fault.{Fault}
+use Rattle.mach_base.specs.Fault.{Fault, malformed, fault_of}
 use Rattle.mach_base.specs.Leb128.{uleb_at}
 use Rattle.mach_base.specs.Text.{text_at}
 use Rattle.mach_tries.specs.CursorState.{HasCome, name_of}
 use Rattle.mach_tries.specs.Exports.{info_of}
 use Rattle.mach_base.specs.Text.{texts}
-use Rattle.mach_tries.specs.Lists.{ListBegins}
 use Rattle.mach_tries.specs.Nodes as Nodes
 use Rattle.mach_tries.specs.Nodes.{node_at}
 use Rattle.mach_tries.specs.Trie.{Branch, Entry, Info, entry}
 use Rattle.mach_tries.specs.TrieRange.{TrieRange, trie_there, ListsExports, ExportsFault}
+use Rattle.mach_tries.specs.Unfolds.{Unfolds, IsCutBy}
 use Rattle.mach_tries.specs.declared.cursor.NextExport.{NextExport}
 use Rattle.mach_tries.specs.declared.cursor.NextExport.TheVariants.{Export, End, Refused, NameTooLong, StackTooShort}
 use Rattle.mach_tries.specs.declared.cursor.TrieCursor.{TrieCursor}
@@ -25,25 +25,27 @@ pub record ReadsTrie (s : Source) (t : TrieRange) (libs : List (List ℕ)) : Typ
   pub from : s.from ≡ t.from
   pub upto : s.upto ≡ t.upto
 
--- The cursor goes over the trie of this range, with this name and these open nodes, and has given these exports: a
--- beginning of the trie's list; or a fault stands in the trie.
+-- The cursor goes over the trie of this range, with this name and these open nodes, and has given these exports: what is met first in
+-- reading it as if it were a tree.
 abbrev pub HasGivenTo : TrieRange → List (List ℕ) → TrieCursor → List ℕ → List Open → List Entry → Type 0
 HasGivenTo t libs c name stack found = (s : Source) → ReadsTrie s t libs → HasCome s c name stack found
 
--- a fault stands in the trie
-abbrev pub IsFaulty : TrieRange → List (List ℕ) → Type 0
-IsFaulty t libs = (f : Fault) × ExportsFault t libs f
+-- all that is met in reading the trie as if it were a tree
+abbrev pub AreAllMet : TrieRange → List (List ℕ) → List Entry → Type 0
+AreAllMet t libs found = (n : ℕ) × Unfolds (trie_there t libs) t.from n found []
 
--- the exports begin the trie's list, or it has none
-abbrev pub BeginsOrFaulty : TrieRange → List (List ℕ) → List Entry → Type 0
-BeginsOrFaulty t libs found = ListBegins (trie_there t libs) t.from [] found ⊎ IsFaulty t libs
+-- These exports are met in reading the trie as if it were a tree, and this fault, which stands in it, cuts that short.
+pub record IsCutShort (t : TrieRange) (libs : List (List ℕ)) (found : List Entry) (f : Fault) : Type 0 where
+  pub cut : IsCutBy (trie_there t libs) t.from found f
+  pub stands : ExportsFault t libs f
 
--- what comes behind these exports: one more; at the end nothing, and they are the trie's list, or it has none; an
--- error, and it has none; or nothing yet, for want of memory
+-- what comes behind these exports: one more; at the end nothing, all is met, and they are the trie's list, if no two paths lead to one
+-- node; the fault by which the reading is cut short; or nothing yet, for want of memory
 abbrev pub NextGives : TrieRange → List (List ℕ) → List Entry → NextExport → TrieCursor → List ℕ → List Open → Type 0
 NextGives t libs found (Export info) c name stack = HasGivenTo t libs c name stack (found ++ entry (name_of c name) (info_of info) ∷ [])
-NextGives t libs found (End) c name stack = HasGivenTo t libs c name stack found × (ListsExports t libs found ⊎ IsFaulty t libs)
-NextGives t libs found (Refused e) c name stack = IsFaulty t libs
+NextGives t libs found (End) c name stack =
+    HasGivenTo t libs c name stack found × AreAllMet t libs found × (ListsExports t libs found ⊎ ExportsFault t libs malformed)
+NextGives t libs found (Refused e) c name stack = IsCutShort t libs found (fault_of e)
 NextGives t libs found (NameTooLong n) c name stack = HasGivenTo t libs c name stack found
 NextGives t libs found (StackTooShort) c name stack = HasGivenTo t libs c name stack found
 

@@ -13,6 +13,7 @@ pub mod Exports
 pub mod SymbolKind
 pub mod NodeViews
 pub mod BranchViews
+pub mod Unfolds
 pub mod CursorState
 pub mod Cursors
 pub mod Visits

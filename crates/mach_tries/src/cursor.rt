@@ -7,8 +7,10 @@
 ghost use Rattle.std.specs.Prelude.{◌≡◌, ◌≤◌, ◌<◌, ◌+◌, ◌-◌, ◌^◌, ◌++◌, ◌∷◌, [], ℕ, List, length, take, min, Option, Some, IfOk, IfNone};
 ghost use Rattle.mach_base.specs.Answer.{Reads};
 ghost use Rattle.mach_tries.specs.BranchViews.{IsReadable};
-ghost use Rattle.mach_tries.specs.CursorState.{below, IsAtChild, HasCome, TurnGives, IsAsBefore, IsStopped, IsFull, work, work_of};
-ghost use Rattle.mach_tries.specs.Cursors.{HasGivenTo, NextGives, BeginsOrFaulty, IsOwnAt, IsReexportAt, StandsAt, place_at};
+ghost use Rattle.mach_tries.specs.CursorState.{below, IsAtChild, IsAtAhead, HasUnfolded, HasWalked, TurnUnfolds, TurnGives, IsAsBefore, IsStopped, IsFull, work, work_of};
+ghost use Rattle.mach_tries.specs.Cursors.{HasGivenTo, NextGives, IsOwnAt, IsReexportAt, StandsAt, place_at};
+ghost use Rattle.mach_tries.specs.Lists.{ListBegins};
+ghost use Rattle.mach_tries.specs.TrieRange.{trie_there};
 ghost use Rattle.mach_base.specs.Text.{texts};
 ghost use Rattle.mach_tries.specs.LookUpViews as look_up;
 ghost use Rattle.mach_tries.specs.NodeViews.{branch_of};
@@ -131,7 +133,9 @@ impl TrieCursor {
     fn close<'a>(&mut self, stack: &[Open]) -> Option<NextExport<'a>>
         requires on { self.old.phase ≡ 1 }
         requires none { self.old.top.left ≡ 0 }
-        ensures gives { (s : Source) (name : List ℕ) (found : List Entry) → HasCome s self.old name stack.now found
+        ensures unfolds { (s : Source) (name : List ℕ) (found : List Entry) → HasUnfolded s self.old name stack.now found
+            → TurnUnfolds s found result self.new name stack.now }
+        ensures gives { (s : Source) (name : List ℕ) (found : List Entry) → HasWalked s self.old name stack.now found
             → TurnGives s found result self.new name stack.now }
         ensures less { (most : ℕ) → IfNone result (work_of most self.new stack.now < work_of most self.old stack.now) }
         ensures depth { self.new.depth ≤ self.old.depth }
@@ -206,6 +210,8 @@ impl TrieCursor {
         rest: Open,
     ) -> Option<NextExport<'a>>
         requires kept { self.old.depth ≤ length stack.old }
+        ensures unfolds { (found : List Entry) → IsAtAhead source.now self.old name.old stack.old (branch_of branch.entry) rest found
+            → TurnUnfolds source.now found result self.new name.new stack.new }
         ensures gives { (found : List Entry) → IsAtChild source.now self.old name.old stack.old (branch_of branch.entry) rest found
             → TurnGives source.now found result self.new name.new stack.new }
         ensures stopped { IsStopped result → IsAsBefore self.old self.new name.old name.new stack.old stack.new }
@@ -259,7 +265,9 @@ impl TrieCursor {
     ) -> Option<NextExport<'a>>
         requires root { self.old.phase ≡ 0 }
         requires kept { self.old.depth ≤ length stack.old }
-        ensures gives { (found : List Entry) → HasCome source.now self.old name.old stack.old found
+        ensures unfolds { (found : List Entry) → HasUnfolded source.now self.old name.old stack.old found
+            → TurnUnfolds source.now found result self.new name.new stack.new }
+        ensures gives { (found : List Entry) → HasWalked source.now self.old name.old stack.old found
             → TurnGives source.now found result self.new name.new stack.new }
         ensures stopped { IsStopped result → IsAsBefore self.old self.new name.old name.new stack.old stack.new }
         ensures full { IsFull source.now.bytes.now source.now.from self.new name.new stack.new result }
@@ -287,7 +295,9 @@ impl TrieCursor {
     ) -> Option<NextExport<'a>>
         requires on { self.old.phase ≤ 1 }
         requires kept { self.old.depth ≤ length stack.old }
-        ensures gives { (found : List Entry) → HasCome source.now self.old name.old stack.old found
+        ensures unfolds { (found : List Entry) → HasUnfolded source.now self.old name.old stack.old found
+            → TurnUnfolds source.now found result self.new name.new stack.new }
+        ensures gives { (found : List Entry) → HasWalked source.now self.old name.old stack.old found
             → TurnGives source.now found result self.new name.new stack.new }
         ensures stopped { IsStopped result → IsAsBefore self.old self.new name.old name.new stack.old stack.new }
         ensures full { IsFull source.now.bytes.now source.now.from self.new name.new stack.new result }
@@ -352,7 +362,7 @@ impl<'a> ExportTrie<'a> {
         ensures gives { (found : List Entry) → HasGivenTo self.now (texts libs.now) cursor.old name.old stack.old found
             → NextGives self.now (texts libs.now) found result cursor.new name.new stack.new }
         ensures begun { (found : List Entry) → HasGivenTo self.now (texts libs.now) cursor.old name.old stack.old found
-            → BeginsOrFaulty self.now (texts libs.now) found }
+            → ListBegins (trie_there self.now (texts libs.now)) self.now.from [] found }
         ensures full { IsFull self.now.bytes self.now.from cursor.new name.new stack.new (Some result) }
         ensures placed { StandsAt self.now.bytes (texts libs.now) self.now.from cursor.new.node (Some result) }
         ensures name_len { length name.new ≡ length name.old }

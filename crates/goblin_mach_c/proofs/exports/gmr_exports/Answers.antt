@@ -5,7 +5,7 @@ use Rattle.mach_image.proofs.ImageFacts.{moved}
 use Rattle.goblin_mach_c.specs.ExportWalk.{AreWritten, GoesAlong, IsNextName, IsNumbered}
 use Rattle.goblin_mach_c.specs.Opened.{FaultIn, lossy_mode}
 use Rattle.goblin_mach_c.proofs.OpenedImage.{refusal_of}
-use Rattle.goblin_mach_c.proofs.WalkedImages.{bears_code, ends_with, goes_on, is_refused_walk, next_name_there, no_end, none_written, rows_there, stays}
+use Rattle.goblin_mach_c.proofs.WalkedImages.{ends_with, goes_on, next_name_there, no_end, none_written, rows_there, stays}
 use Rattle.goblin_mach_c.proofs.exports.gmr_exports.Goals as goal
 
 pub returns-then-walk-ne0-clause-written : goal.returns-then-walk-ne0-clause-written
@@ -15,10 +15,6 @@ returns-then-walk-ne0-clause-written c = (
   stays c.args.bytes.now c.args.image.now.offset c.args.walk.now c.args.name.now c.args.stack.now,
   λ end. absurd (no_end c.nothing.result c.nothing.ensures end),
 )
-
-pub returns-then-walk-ne0-clause-refused : goal.returns-then-walk-ne0-clause-refused
-returns-then-walk-ne0-clause-refused c = λ _.
-    inr (bears_code c.args.bytes.now c.args.image.now.offset c.args.walk.now c.args.name.now c.args.stack.now c.if-walk-ne0.true)
 
 pub returns-in-Ok-clause-written : goal.returns-in-Ok-clause-written
 returns-in-Ok-clause-written c =
@@ -34,15 +30,6 @@ returns-in-Ok-clause-written c =
       goes_on c.args.bytes.now c.args.image.now.offset c.in-Ok.found c.in-Ok.ensures.opened _ _ _ _ _ _ _ _ along,
       ends_with c.args.bytes.now c.args.image.now.offset c.in-Ok.found c.in-Ok.ensures.opened _ _ _ _ _ _ _ _ along,
     )
-
-pub returns-in-Ok-clause-refused : goal.returns-in-Ok-clause-refused
-returns-in-Ok-clause-refused c = λ some.
-    let wrote = c.go_along.ensures.written in
-    let new = c.go_along.new in
-    let along =
-    moved (λ t l. GoesAlong t l c.args.walk.now new.walk c.args.name.now new.name c.args.stack.now new.stack wrote.0 new.batch.end) _ _ _ _
-    c.trie_of-trie.ensures (ap texts c.as_slice.ensures.value) wrote.2 in
-    inr (is_refused_walk c.args.bytes.now c.args.image.now.offset c.in-Ok.found c.in-Ok.ensures.opened _ _ _ _ _ _ _ _ along (c.go_along.ensures.refused some))
 
 pub returns-in-Ok-clause-name : goal.returns-in-Ok-clause-name
 returns-in-Ok-clause-name c = λ three.

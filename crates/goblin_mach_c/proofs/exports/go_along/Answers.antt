@@ -16,5 +16,5 @@ returns-clause-written c =
       wrote.0,
       wrote.1,
       goes_along rows room longest c.end_of-end.result.0 e (λ found h. c.begin.ensures.same _ _ _ found h) c.begin.ensures.begun
-          wrote.2 refl is (λ code. c.told-walk.ensures.refused rows room longest code),
+          (c.begin.ensures.code ∙ c.requires.ready) wrote.2 refl is c.told-walk.ensures.code (c.told-walk.ensures.good rows room longest),
     )

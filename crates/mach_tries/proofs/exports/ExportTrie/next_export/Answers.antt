@@ -1,7 +1,7 @@
 use Rattle.std.proofs.Common.{arith, refl, subst, Some}
 use Rattle.mach_tries.specs.CursorState.{IsFull}
 use Rattle.mach_tries.specs.TrieRange.{TrieRange}
-use Rattle.mach_tries.proofs.CursorTries.{reads_of, next_gives, over_gives, too_deep, too_far, begins_there, given_by}
+use Rattle.mach_tries.proofs.CursorTries.{reads_of, next_gives, over_gives, too_deep, too_far, begins_there}
 use Rattle.mach_tries.proofs.exports.ExportTrie.next_export.Goals as goal
 use Rattle.mach_tries.proofs.exports.ExportTrie.next_export.Goals.{else-cursor-le-ON_THE_WAY-via-then-cursor-le-ON_THE_WAY+else-cursor-stack}
 use Rattle.mach_tries.proofs.exports.ExportTrie.next_export.Goals.{else-cursor-le-ON_THE_WAY-via-else-cursor-le-ON_THE_WAY}
@@ -9,7 +9,7 @@ use Rattle.mach_tries.proofs.exports.ExportTrie.next_export.Goals.{else-cursor-l
 pub returns-then-cursor-stack-clause-gives : goal.returns-then-cursor-stack-clause-gives
 returns-then-cursor-stack-clause-gives c = λ found given.
     let reads = reads_of c.self.inside.bytes c.args.libs c.self.view_is in
-    rw c.refuse.ensures.refused (too_deep reads (omega arith) (omega arith) (given _ reads))
+    absurd (too_deep (omega arith) (omega arith) (given _ reads).unfolded)
 
 pub returns-then-cursor-stack-clause-begun : goal.returns-then-cursor-stack-clause-begun
 returns-then-cursor-stack-clause-begun c = λ found given.
@@ -18,7 +18,7 @@ returns-then-cursor-stack-clause-begun c = λ found given.
 pub returns-then-cursor-self-clause-gives : goal.returns-then-cursor-self-clause-gives
 returns-then-cursor-self-clause-gives c = λ found given.
     let reads = reads_of c.self.inside.bytes c.args.libs c.self.view_is in
-    rw c.refuse-then-cursor-self.ensures.refused (too_far reads c.if-cursor-le-ON_THE_WAY-2.true c.if-cursor-self.true (given _ reads))
+    absurd (too_far c.if-cursor-le-ON_THE_WAY-2.true c.if-cursor-self.true (given _ reads).unfolded)
 
 pub returns-then-cursor-self-clause-begun : goal.returns-then-cursor-self-clause-begun
 returns-then-cursor-self-clause-begun c = λ found given.
@@ -38,7 +38,8 @@ turns-init c = record {
 pub returns-in-Some-clause-gives : goal.returns-in-Some-clause-gives
 returns-in-Some-clause-gives c = λ found given.
     let come = c.turns.invariant.gives found given in
-    next_gives (reads_of c.self.inside.bytes c.args.libs c.self.view_is) c.in-Some.given come c.in-Some.ensures.stopped (c.in-Some.ensures.gives found come)
+    next_gives (reads_of c.self.inside.bytes c.args.libs c.self.view_is) c.in-Some.given come c.in-Some.ensures.stopped (c.in-Some.ensures.unfolds found come.unfolded)
+    (c.in-Some.ensures.gives found come.walked)
 
 pub returns-in-Some-clause-begun : goal.returns-in-Some-clause-begun
 returns-in-Some-clause-begun c = λ found given.
@@ -49,14 +50,16 @@ turns-preserved c = record {
   depth = λ on. c.in_default.ensures.depth;
   name_len = omega (arith, c.in_default.ensures.name_len, c.turns.invariant.name_len);
   stack_len = omega (arith, c.in_default.ensures.stack_len, c.turns.invariant.stack_len);
-  gives = λ found given. c.in_default.ensures.gives found (c.turns.invariant.gives found given);
+  gives = λ found given.
+      let come = c.turns.invariant.gives found given in
+      record { unfolded = c.in_default.ensures.unfolds found come.unfolded; walked = c.in_default.ensures.gives found come.walked };
 }
 
 pub returns-clause-gives : goal.returns-clause-gives
 returns-clause-gives c = λ found given.
     let reads = reads_of c.self.inside.bytes c.args.libs c.self.view_is in
     let come = c.turns.invariant.gives found given in
-    (given_by reads come, over_gives reads c.turns-test.false come)
+    over_gives reads c.turns-test.false come
 
 pub returns-clause-begun : goal.returns-clause-begun
 returns-clause-begun c = λ found given.

@@ -1,0 +1,36 @@
+-- An export trie read as if it were a tree, depth first: a node to which two paths lead is met on each of them.
+use Rattle.std.specs.Prelude.{◌≡◌, ◌<◌, ◌≤◌, ◌-◌, ◌⊎◌, ℕ, suc, List, [], ◌∷◌, ◌++◌, map, Err}
+use Rattle.mach_base.specs.Fault.{Fault, malformed}
+use Rattle.mach_tries.specs.Trie.{Branch, Node, Trie, IsNode, Entry, own_entries}
+
+-- a branch that is still to be taken: the name of its child, and where the child begins
+pub record Ahead : Type 0 where
+  pub name : List ℕ
+  pub start : ℕ
+
+-- the branches of a node of this name
+abbrev pub ahead : List ℕ → List Branch → List Ahead
+ahead prefix branches = map (λ b. record { name = prefix ++ b.label; start = b.start }) branches
+
+abbrev pub to_root : ℕ → Ahead
+to_root root = record { name = []; start = root }
+
+-- So many nodes were read from the root on, these exports were met, and these branches are still to be taken, the next one first. A
+-- branch to nothing is passed. A node's own export is met before those of its children, which come before what was ahead.
+pub data Unfolds (t : Trie) (root : ℕ) : ℕ → List Entry → List Ahead → Type 0 where
+  nothing_read : Unfolds t root 0 [] (to_root root ∷ [])
+  passed : {n : ℕ} {found : List Entry} {next : Ahead} {others : List Ahead} → Unfolds t root n found (next ∷ others) → t.upto ≤ next.start
+      → Unfolds t root n found others
+  node_read : {n : ℕ} {found met : List Entry} {next : Ahead} {others left : List Ahead} (node : Node) → Unfolds t root n found (next ∷ others)
+      → IsNode t next.start node → met ≡ found ++ own_entries next.name node.own → left ≡ ahead next.name node.branches ++ others
+      → Unfolds t root (suc n) met left
+
+-- These exports were met, and the reading can't go on for this fault: the node that comes next is malformed; or it comes behind as many
+-- nodes as the trie has places, of which two are then one.
+pub record IsCutBy (t : Trie) (root : ℕ) (found : List Entry) (f : Fault) : Type 0 where
+  pub nodes : ℕ
+  pub next : Ahead
+  pub others : List Ahead
+  pub read : Unfolds t root nodes found (next ∷ others)
+  pub inside : next.start < t.upto
+  pub why : (t.node next.start ≡ Err f) ⊎ ((nodes ≡ t.upto - root) × (f ≡ malformed))
