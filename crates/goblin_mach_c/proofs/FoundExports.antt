@@ -1,5 +1,5 @@
 -- What is found of a name in an image that is held, as facts on the bytes.
-use Rattle.std.proofs.Common.{◌≡◌, ℕ, List, refl}
+use Rattle.std.proofs.Common.{◌≡◌, ℕ, List}
 use Rattle.std.specs.declared.alloc.Global.{Global}
 use Rattle.mach_base.proofs.Faults.{Stands-in}
 use Rattle.mach_base.specs.Answer.{Stands}

@@ -7,8 +7,7 @@ use Rattle.mach_binds.specs.BindViews.{import_in}
 use Rattle.mach_binds.specs.Imports.{Import, input_in}
 use Rattle.mach_binds.specs.SiteCursors.{import_sites_left, site_of}
 use Rattle.mach_binds.specs.Sites.{Site}
-use Rattle.mach_binds.specs.declared.imports.iterator.BindIterator.{BindIterator}
-use Rattle.goblin_mach_c.specs.ImportsBehind.{AreOver, imports_in, items_left, sites_in}
+use Rattle.goblin_mach_c.specs.ImportsBehind.{AreOver, items_left}
 use Rattle.goblin_mach_c.specs.Sited.{sited}
 use Rattle.goblin_mach_c.proofs.imports.ImportRowsItemRows.next.Goals as goal
 
