@@ -15,3 +15,4 @@ pub mod BoundNames
 pub mod FactsBehind
 pub mod BoundChains
 pub mod BeginsThere
+pub mod FoundExports

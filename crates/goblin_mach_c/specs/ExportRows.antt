@@ -2,8 +2,11 @@
 use Rattle.std.specs.Prelude.{◌≡◌, ◌⊎◌, ◌++◌, ℕ, List, [], length, take, drop, min, Option, Some, None, Bool}
 use Rattle.std.specs.Str.{IsUtf8}
 use Rattle.mach_base.specs.Fault.{Fault, malformed}
-use Rattle.mach_tries.specs.Trie.{Info, regular, reexport, stub}
-use Rattle.mach_image.specs.Facts.{HasExportsFault}
+use Rattle.mach_tries.specs.LookUp.{FaultOnWay, IsFirstOf}
+use Rattle.mach_tries.specs.Trie.{Entry, Info, regular, reexport, stub}
+use Rattle.mach_tries.specs.TrieRange.{TrieRange, trie_there}
+use Rattle.mach_image.specs.Facts.{HasExportOf, HasExports, HasExportsFault, OfImage}
+use Rattle.mach_image.specs.Subjects.{libs_in, trie_in, trie_or_empty}
 use Rattle.goblin_mach_c.specs.Opened.{FaultIn}
 use Rattle.goblin_mach_c.specs.declared.find.gm_export.{gm_export}
 
@@ -35,9 +38,27 @@ export_row (Some (stub at resolver flags)) =
 abbrev pub IsPut : List ℕ → List ℕ → List ℕ → Type 0
 IsPut text old new = let n = min (length text) (length old) in new ≡ take n text ++ drop n old
 
+-- What the image at o exports a name as. It stands by the paths of the trie, whatever that is; and where the trie has a list, it is
+-- what the first export of that name in the list stands for, or none where no export has the name.
+pub record IsFound (bytes : List ℕ) (o : ℕ) (name : List ℕ) (found : Option Info) : Type 0 where
+  pub by_paths : HasExportOf bytes o name found
+  pub first : (list : List Entry) → HasExports bytes o list → IsFirstOf name list found
+
+-- a fault that the way of a name meets in a trie
+abbrev pub IsOnWayIn : TrieRange → List (List ℕ) → List ℕ → Fault → Type 0
+IsOnWayIn t libs name f = FaultOnWay (trie_there t libs) t.from name f
+
+-- the same in the trie of the image at o
+abbrev pub HasFaultOnWay : List ℕ → ℕ → List ℕ → Fault → Type 0
+HasFaultOnWay bytes o name f = OfImage bytes o (λ ctx cs. IsOnWayIn (trie_or_empty (trie_in bytes cs)) (libs_in bytes cs) name f)
+
+-- a fault of its trie that the name's way meets: one for which the trie has no list
+abbrev pub HasNameFault : List ℕ → ℕ → List ℕ → Fault → Type 0
+HasNameFault bytes o name f = HasExportsFault bytes o f × HasFaultOnWay bytes o name f
+
 -- a fault for which a name can't be sought
 abbrev pub FindFault : Bool → List ℕ → ℕ → List ℕ → Fault → Type 0
-FindFault lossy bytes o name f = (FaultIn lossy bytes o f ⊎ HasExportsFault bytes o f) ⊎ ((f ≡ malformed) × ¬ IsUtf8 name)
+FindFault lossy bytes o name f = (FaultIn lossy bytes o f ⊎ HasNameFault bytes o name f) ⊎ ((f ≡ malformed) × ¬ IsUtf8 name)
 
 -- a fault for which its exports can't be gone over
 abbrev pub WalkFault : Bool → List ℕ → ℕ → Fault → Type 0

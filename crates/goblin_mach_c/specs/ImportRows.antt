@@ -3,8 +3,10 @@ use Rattle.std.specs.Prelude.{◌≡◌, ◌⊎◌, ℕ, pos, List, [], length, 
 use Rattle.mach_base.specs.Fault.{Fault}
 use Rattle.mach_base.specs.Text.{text_at}
 use Rattle.mach_binds.specs.Imports.{Import}
+use Rattle.mach_binds.specs.Sites.{Site}
 use Rattle.goblin_mach_c.specs.Codes.{code_of_fault}
 use Rattle.goblin_mach_c.specs.Opened.{flag}
+use Rattle.goblin_mach_c.specs.Sited.{told_at}
 use Rattle.goblin_mach_c.specs.declared.imports.gm_import.{gm_import}
 
 -- a name is the text at a place; one of no bytes is said to stand at 0
@@ -45,13 +47,14 @@ no_import f =
       code = code_of_fault f;
     }
 
--- The row has the numbers of the import; its name stands where the row says, and its library is the one of that ordinal.
-pub record SaysImport (bytes : List ℕ) (libs : List (List ℕ)) (i : Import) (row : gm_import) : Type 0 where
-  pub numbers : row ≡ import_row row.name row.library i
+-- The row has the numbers of the import, the place where its name was set last before its bind, and the number of a library that was
+-- set last. The name stands there, and that library has this ordinal.
+pub record SaysImport (bytes : List ℕ) (libs : List (List ℕ)) (i : Import) (s : Site) (row : gm_import) : Type 0 where
+  pub numbers : row ≡ import_row (told_at i.name s.name_place) s.library i
   pub name : IsNameAt bytes row.name i.name
   pub library : slice_get libs row.library ≡ Some i.dylib
 
--- a row says an import, or the fault that ends them
-abbrev pub IsImportRow : List ℕ → List (List ℕ) → Result Import Fault → gm_import → Type 0
-IsImportRow bytes libs (Ok i) row = SaysImport bytes libs i row
+-- a row says an import with its site, or the fault that ends them
+abbrev pub IsImportRow : List ℕ → List (List ℕ) → Result (Import × Site) Fault → gm_import → Type 0
+IsImportRow bytes libs (Ok i) row = SaysImport bytes libs i.0 i.1 row
 IsImportRow bytes libs (Err f) row = row ≡ no_import f

@@ -8,6 +8,8 @@ use Rattle.mach_segments.specs.Segment.{SegmentView}
 use Rattle.mach_binds.specs.BindCursors.{IsOver, imports_behind}
 use Rattle.mach_binds.specs.BindLeft.{imports_left}
 use Rattle.mach_binds.specs.Imports.{BindRanges, Import, input_in}
+use Rattle.mach_binds.specs.SiteCursors.{AreImportSites, import_sites_behind, import_sites_left}
+use Rattle.mach_binds.specs.Sites.{Site}
 use Rattle.mach_binds.specs.declared.imports.cursor.BindCursor.{BindCursor}
 use Rattle.mach_image.specs.Facts.{OfImage}
 use Rattle.mach_image.specs.OpenImage.{binds_held, ctx_held, segments_held}
@@ -17,6 +19,7 @@ use Rattle.mach_base.specs.Text.{texts}
 use Rattle.mach_image.specs.Subjects.{AreImageBindItems, binds_in, libs_in, lossy_segments_in}
 use Rattle.goblin_mach_c.specs.ImportRows.{IsImportRow}
 use Rattle.goblin_mach_c.specs.Say.{FillsBy}
+use Rattle.goblin_mach_c.specs.Sited.{sited}
 use Rattle.goblin_mach_c.specs.Stage.{Stage, start, under_way, over, stage_of}
 use Rattle.goblin_mach_c.specs.declared.imports.gm_bind_cursor.{gm_bind_cursor}
 use Rattle.goblin_mach_c.specs.declared.imports.gm_import.{gm_import}
@@ -54,13 +57,40 @@ AreAtStage over c x items = items ≡ []
 abbrev pub AreImportsBehind : gm_bind_cursor → Binds → List (Result Import Fault) → Type 0
 AreImportsBehind c x items = AreAtStage (stage_of c.stage) c.binds x items
 
+-- the sites of the imports behind a place of the streams
+abbrev pub sites_behind : BindCursor → Option BindRanges → Binds → List Site
+sites_behind c None x = []
+sites_behind c (Some b) x = import_sites_behind (input_in b x.pointer x.libs x.segments) b.lazy c
+
+-- those of all of them
+abbrev pub AreAllSites : Option BindRanges → Binds → List Site → Type 0
+AreAllSites None x sites = sites ≡ []
+AreAllSites (Some b) x sites = AreImportSites (input_in b x.pointer x.libs x.segments) b.non_lazy b.lazy sites
+
+-- those that come at a stage
+abbrev pub AreSitesAtStage : Stage → BindCursor → Binds → List Site → Type 0
+AreSitesAtStage start c x sites = AreAllSites x.ranges x sites
+AreSitesAtStage under_way c x sites = sites ≡ sites_behind c x.ranges x
+AreSitesAtStage over c x sites = sites ≡ []
+
+abbrev pub AreSitesBehind : gm_bind_cursor → Binds → List Site → Type 0
+AreSitesBehind c x sites = AreSitesAtStage (stage_of c.stage) c.binds x sites
+
+-- these imports come behind a cursor, each with its site
+pub record AreSitedBehind (c : gm_bind_cursor) (x : Binds) (items : List (Result (Import × Site) Fault)) : Type 0 where
+  pub imports : List (Result Import Fault)
+  pub sites : List Site
+  pub behind : AreImportsBehind c x imports
+  pub sites_behind : AreSitesBehind c x sites
+  pub are : items ≡ sited imports sites
+
 -- The rows of the imports behind a cursor were written, as many as there are and fit, and behind the new cursor come the
 -- others.
 pub record AreImportsWritten (bytes : List ℕ) (x : Binds) (before after : gm_bind_cursor) (old new : List gm_import) (n : ℕ) : Type 0 where
-  pub items : List (Result Import Fault)
-  pub behind : AreImportsBehind before x items
+  pub items : List (Result (Import × Site) Fault)
+  pub behind : AreSitedBehind before x items
   pub rows : FillsBy (IsImportRow bytes x.libs) items old new n
-  pub rest : AreImportsBehind after x (drop n items)
+  pub rest : AreSitedBehind after x (drop n items)
 
 -- the binds of the image at o, over its libraries and its segments
 abbrev pub OfBinds : List ℕ → ℕ → (Binds → Type 0) → Type 0
@@ -76,9 +106,16 @@ WritesImports bytes o before after old new n = OfBinds bytes o (λ x. AreImports
 
 -- ---- what is left to the rows
 
-abbrev pub items_left : ImportRows → List (Result Import Fault)
-items_left rows.Nothing = []
-items_left (rows.Binds it) = imports_left it
+abbrev pub imports_in : ImportRows → List (Result Import Fault)
+imports_in rows.Nothing = []
+imports_in (rows.Binds it) = imports_left it
+
+abbrev pub sites_in : ImportRows → List Site
+sites_in rows.Nothing = []
+sites_in (rows.Binds it) = import_sites_left it
+
+abbrev pub items_left : ImportRows → List (Result (Import × Site) Fault)
+items_left it = sited (imports_in it) (sites_in it)
 
 -- the rows are read from these binds, which stand in these bytes
 abbrev pub AreOver : List ℕ × Binds → ImportRows → Type 0

@@ -13,6 +13,7 @@ pub mod ExportWalk
 pub mod Say
 pub mod Stage
 pub mod FixupsBehind
+pub mod Sited
 pub mod ImportRows
 pub mod ImportsBehind
 pub mod BindingRows

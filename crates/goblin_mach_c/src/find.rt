@@ -1,13 +1,15 @@
 //! What an image exports one name as.
 
-ghost use Rattle.std.specs.Prelude.{◌≡◌, ◌≢◌, ◌⊎◌, IfOk, IfErr, Option, option_map};
-ghost use Rattle.mach_base.specs.Answer.{Stands};
+ghost use Rattle.std.specs.Prelude.{◌≡◌, ◌≢◌, ◌⊎◌, IfOk, IfErr, List, Option, option_map};
+ghost use Rattle.std.specs.Str.{IsUtf8};
+ghost use Rattle.mach_base.specs.Answer.{IsOkUnlessMemory, Stands};
 ghost use Rattle.mach_tries.specs.Exports.{info_of};
+ghost use Rattle.mach_tries.specs.LookUp.{IsFirstOf};
 ghost use Rattle.mach_tries.specs.Trie as trie;
-ghost use Rattle.mach_image.specs.Facts.{HasExportOf, HasExportsFault};
+ghost use Rattle.mach_image.specs.Facts.{HasExportOf, HasExports};
 ghost use Rattle.goblin_mach_c.specs.Codes.{IsRefusal};
-ghost use Rattle.goblin_mach_c.specs.ExportRows.{FindFault, IsPut, export_row, library_text, target_text};
-ghost use Rattle.goblin_mach_c.specs.Opened.{FaultIn, lossy_mode};
+ghost use Rattle.goblin_mach_c.specs.ExportRows.{FindFault, HasNameFault, IsFound, IsPut, export_row, library_text, target_text};
+ghost use Rattle.goblin_mach_c.specs.Opened.{FaultIn, OpensIn, lossy_mode};
 
 use crate::errors::{GM_OK, gm_error, refuse};
 use crate::images::gm_image;
@@ -41,7 +43,9 @@ fn find<'a>(
     name: &str,
 ) -> Result<Option<ExportInfo<'a>>>
     ensures found { IfOk result (λ o. HasExportOf bytes.now offset name.now (option_map info_of o)) }
-    ensures refused { IfErr result (Stands (λ f. FaultIn lossy bytes.now offset f ⊎ HasExportsFault bytes.now offset f)) }
+    ensures first { (list : List (trie.Entry)) → HasExports bytes.now offset list → IfOk result (λ o. IsFirstOf name.now list (option_map info_of o)) }
+    ensures only { OpensIn lossy bytes.now offset → (list : List (trie.Entry)) → HasExports bytes.now offset list → IsOkUnlessMemory result }
+    ensures refused { IfErr result (Stands (λ f. FaultIn lossy bytes.now offset f ⊎ HasNameFault bytes.now offset name.now f)) }
 {
     let image = open(alloc.clone()?, bytes, offset, lossy)?;
     found_export_of_image(&image);
@@ -143,7 +147,8 @@ fn put(text: &str, out: &mut [u8])
     out[..count].copy_from_slice(&text[..count]);
 }
 
-/// Seeks a name among the exports of an image, by its trie: only nodes on the way of the name are read. Of a re-export the name
+/// Seeks a name among the exports of an image, by its trie: only nodes on the way of the name are read, and the first export of
+/// that name is told. A trie that has a list is not refused. Of a re-export the name
 /// of the library is put into `library`, and the name there into `target`, as much as fits. It opens the image again, and takes
 /// memory for its commands while it runs. A refusal leaves all but the error.
 #[unsafe(no_mangle)]
@@ -157,8 +162,10 @@ pub extern "C" fn gmr_find_export(
     target: &mut [u8],
     error: &mut gm_error,
 ) -> u32
-    ensures found { result ≡ 0 → (found : Option (trie.Info)) × HasExportOf bytes.now image.now.offset name.now found × (export.new ≡ export_row found)
+    ensures found { result ≡ 0 → (found : Option (trie.Info)) × IsFound bytes.now image.now.offset name.now found × (export.new ≡ export_row found)
         × IsPut (library_text found) library.old library.new × IsPut (target_text found) target.old target.new }
+    ensures only { IsUtf8 name.now → OpensIn (lossy_mode image.now.is_lossy) bytes.now image.now.offset → (list : List (trie.Entry))
+        → HasExports bytes.now image.now.offset list → (result ≡ 0) ⊎ (result ≡ 5) }
     ensures refused { result ≢ 0 → IsRefusal (FindFault (lossy_mode image.now.is_lossy) bytes.now image.now.offset name.now) result }
     ensures kept { result ≢ 0 → export.new ≡ export.old }
     ensures library { result ≢ 0 → library.new ≡ library.old }

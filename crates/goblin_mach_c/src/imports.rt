@@ -5,12 +5,14 @@ ghost use Rattle.mach_base.specs.Fault.{Fault, fault_of};
 ghost use Rattle.mach_binds.specs.BindCursors.{Stands};
 ghost use Rattle.mach_binds.specs.BindViews.{import_in};
 ghost use Rattle.mach_binds.specs.Imports as defined;
+ghost use Rattle.mach_binds.specs.Sites.{Site};
 ghost use Rattle.mach_image.specs.OpenImage.{binds_held};
 ghost use Rattle.goblin_mach_c.specs.BindingRows.{StandsIn};
 ghost use Rattle.goblin_mach_c.specs.Codes.{IsRefusal};
 ghost use Rattle.goblin_mach_c.specs.ImportRows.{IsImportRow, IsNameAt, import_row, no_import};
-ghost use Rattle.goblin_mach_c.specs.ImportsBehind.{AreImportsBehind, AreOver, Binds, WritesImports, binds_of, items_left};
+ghost use Rattle.goblin_mach_c.specs.ImportsBehind.{AreImportsBehind, AreOver, AreSitesBehind, Binds, WritesImports, binds_of, imports_in, items_left, sites_in};
 ghost use Rattle.goblin_mach_c.specs.Opened.{FaultIn, lossy_mode};
+ghost use Rattle.goblin_mach_c.specs.Sited.{told_at};
 
 use crate::errors::{GM_OK, code_of, gm_error, refuse, refuse_no_rows};
 use crate::images::gm_image;
@@ -58,6 +60,7 @@ pub struct gm_bind_cursor {
 /// Where a name is said to stand: one of no bytes at 0.
 #[inline(always)]
 pub fn place_of_name(name: &str, place: usize) -> usize
+    ensures place { result ≡ told_at name.now place }
     ensures text { (bytes : List ℕ) → Stands bytes place name.now → IsNameAt bytes result name.now }
     ensures stands { (bytes : List ℕ) → (name.now ≡ []) ⊎ StandsIn bytes place name.now → StandsIn bytes result name.now }
 {
@@ -86,8 +89,7 @@ fn refused_row(why: &Error) -> gm_import
 // An import as C sees it.
 #[inline(always)]
 fn row_of(placed: &PlacedImport<'_>) -> gm_import
-    ensures numbers { result ≡ import_row result.name result.library (import_in placed.now.import) }
-    ensures library { result.library ≡ placed.now.library }
+    ensures numbers { result ≡ import_row (told_at placed.now.import.name.now placed.now.name_place) placed.now.library (import_in placed.now.import) }
     ensures name { (bytes : List ℕ) → Stands bytes placed.now.name_place placed.now.import.name.now → IsNameAt bytes result.name placed.now.import.name.now }
 {
     let import = &placed.import;
@@ -118,7 +120,7 @@ impl<'a, 'b> ItemRows for ImportRows<'a, 'b> {
 
     ghost Source = { List ℕ × Binds };
 
-    ghost Item = { Result defined.Import Fault };
+    ghost Item = { Result (defined.Import × Site) Fault };
 
     ghost left = { items_left };
 
@@ -141,7 +143,8 @@ impl<'a, 'b> ItemRows for ImportRows<'a, 'b> {
 impl<'a, 'b> ImportRows<'a, 'b> {
     // Those behind a cursor.
     fn behind(image: &'b MachO<'a, Global>, cursor: &gm_bind_cursor) -> Self
-        ensures items { AreImportsBehind cursor.now (binds_of image.now) (items_left result) }
+        ensures items { AreImportsBehind cursor.now (binds_of image.now) (imports_in result) }
+        ensures sites { AreSitesBehind cursor.now (binds_of image.now) (sites_in result) }
         ensures over { (bytes : List ℕ) → ((b : defined.BindRanges) → binds_held image.now ≡ Some b → b.bytes ≡ bytes)
             → AreOver (bytes, binds_of image.now) result }
     {
@@ -162,7 +165,8 @@ impl<'a, 'b> ImportRows<'a, 'b> {
 
     // A cursor of those that are left.
     fn cursor(&self) -> gm_bind_cursor
-        ensures { (x : List ℕ × Binds) → AreOver x self.now → AreImportsBehind result x.1 (items_left self.now) }
+        ensures items { (x : List ℕ × Binds) → AreOver x self.now → AreImportsBehind result x.1 (imports_in self.now) }
+        ensures sites { (x : List ℕ × Binds) → AreOver x self.now → AreSitesBehind result x.1 (sites_in self.now) }
     {
         match self {
             ImportRows::Nothing => over(),

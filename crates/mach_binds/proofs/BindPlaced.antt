@@ -1,5 +1,5 @@
 -- Where the name of a bind stands, and which library it is of.
-use Rattle.mach_binds.proofs.Names.{◌≡◌, ◌⊎◌, ◌≤◌, ℕ, List, [], Option, Some, None, Result, Ok, Err, refl, sym, ap, ◌∙◌, arith, inl, inr}
+use Rattle.mach_binds.proofs.Names.{◌≡◌, ◌⊎◌, ◌≤◌, ◌-◌, ◌^◌, ℕ, List, [], Option, Some, None, Result, Ok, Err, refl, sym, ap, ◌∙◌, arith, inl, inr}
 use Rattle.mach_binds.proofs.Names.{length, Bool, true, false, cond, malformed}
 use Rattle.mach_binds.proofs.Names.{slice_get, found_or_malformed, ◌>>=◌, bind_ok, same_ok, Fault, Input, Bind, Import, Target, target_of, import_of}
 use Rattle.mach_binds.proofs.Names.{import_with}
@@ -9,6 +9,7 @@ use Rattle.mach_segments.specs.Bindings.{Binding, Provider, provider_of}
 use Rattle.mach_binds.specs.Bindings.{Given, is_complete, binding_with}
 unfoldable use Rattle.mach_binds.specs.Bindings.{binding_of, spot_of}
 use Rattle.mach_binds.specs.NamePlaces.{IsNamed, text_or_none}
+use Rattle.mach_binds.specs.SiteCursors.{place_named}
 use Rattle.std.proofs.lemmas.Bool.{le-leb}
 
 -- outside the bytes stands no text
@@ -24,6 +25,21 @@ inside bytes s text e out = let x = rw (le-leb (length bytes) s out) at e in cc
 pub outside_named : (bytes name : List ℕ) (place : ℕ) → length bytes ≤ place → IsNamed bytes name place → text_or_none (text_at bytes (length bytes)) ≡ name
 outside_named bytes name place out (inl none) = outside bytes (length bytes) (omega arith) ∙ sym none.0
 outside_named bytes name place out (inr there) = absurd (inside bytes place name there out)
+
+pub place_outside : (bytes name : List ℕ) (place : ℕ) → length bytes ≤ place → IsNamed bytes name place
+    → place_named (text_at bytes (length bytes)) (length bytes) ≡ place
+unfolding text_at
+place_outside bytes name place out (inl none) = rw (le-leb (length bytes) (length bytes) (omega arith), none.1) refl
+place_outside bytes name place out (inr there) = absurd (inside bytes place name there out)
+
+-- a name that is read at its place again has that place
+place_read : (there : Result (List ℕ) Fault) (place : ℕ) → place ≡ 2 ^ 64 - 1 → place_named there place ≡ place
+place_read (Ok text) place e = refl
+place_read (Err f) place e = sym e
+
+pub place_inside : (bytes name : List ℕ) (place : ℕ) → IsNamed bytes name place → place_named (text_at bytes place) place ≡ place
+place_inside bytes name place (inl none) = place_read (text_at bytes place) place none.1
+place_inside bytes name place (inr there) = rw there refl
 
 -- the library of a target
 found_text : (o : Option (List ℕ)) (s : List ℕ) → found_or_malformed o ≡ Ok s → o ≡ Some s

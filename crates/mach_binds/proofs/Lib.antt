@@ -11,6 +11,7 @@ pub mod BindTotal
 pub mod BindLast
 pub mod BindAddresses
 pub mod BindPlaced
+pub mod BindSites
 pub mod BindCut
 pub mod BindingRun
 pub mod BindingOpcodes

@@ -20,3 +20,5 @@ pub mod RowsMove
 pub mod Turns
 pub mod BindingFaults
 pub mod BindingLaws
+pub mod Sites
+pub mod SiteCursors

@@ -11,6 +11,7 @@ ghost use Rattle.mach_binds.specs.Streams.{Placed};
 ghost use Rattle.mach_binds.specs.Imports.{input_in};
 ghost use Rattle.mach_base.specs.Text.{texts};
 ghost use Rattle.mach_binds.specs.BindCursors.{IsOverBindings};
+ghost use Rattle.mach_binds.specs.SiteCursors.{AreBindingSites, binding_sites_left};
 ghost use Rattle.mach_segments.specs.Bindings.{provider_of, provider_view, binding_view, binding_read};
 ghost use Rattle.mach_binds.specs.Bindings as defined;
 ghost use Rattle.mach_binds.specs.Bindings.{spot_of, is_complete, gives_ordinal, highest_opcode, opcode_at, done_leads_to, AreBindings};
@@ -50,6 +51,8 @@ impl<'a> BindInterpreter<'a> {
             × AreBindings (input_in self.now (pointer_size ctx.container) (texts libs.now) (map segment_view segments.now))
             self.now.non_lazy self.now.lazy ps qs (bindings_left result) }
         ensures over { IsOverBindings (input_in self.now (pointer_size ctx.container) (texts libs.now) (map segment_view segments.now)) self.now.lazy result }
+        ensures sites { AreBindingSites (input_in self.now (pointer_size ctx.container) (texts libs.now) (map segment_view segments.now))
+            self.now.non_lazy self.now.lazy (binding_sites_left result) }
     {
         OpcodeBindingIterator {
             stream: self.stream(libs, segments, ctx),

@@ -14,7 +14,9 @@ ghost use Rattle.mach_binds.specs.BindCursors.{IsOver};
 ghost use Rattle.mach_binds.specs.BindItems.{AreBindItems};
 ghost use Rattle.mach_binds.specs.BindLeft.{imports_left, reads_left};
 ghost use Rattle.mach_binds.specs.Machine as machine;
-ghost use Rattle.mach_binds.specs.Machine.{input_of, items_left, opcodes_left, items_of, reads_of, start_of};
+ghost use Rattle.mach_binds.specs.Machine.{input_of, items_left, opcodes_left, items_of, reader_by, reads_of, start_of};
+ghost use Rattle.mach_binds.specs.SiteCursors.{AreImportSites, import_sites_left};
+ghost use Rattle.mach_binds.specs.Sites.{no_site, sites_left, sites_of};
 
 mod cursor;
 pub(crate) mod instruction;
@@ -172,6 +174,8 @@ impl<'a> BindInterpreter<'a> {
             × AreBindItems (input_in self.now (pointer_size ctx.container) (texts libs.now) (map segment_view segments.now))
             self.now.non_lazy self.now.lazy ps qs (imports_left result) }
         ensures over { IsOver (input_in self.now (pointer_size ctx.container) (texts libs.now) (map segment_view segments.now)) self.now.lazy result }
+        ensures sites { AreImportSites (input_in self.now (pointer_size ctx.container) (texts libs.now) (map segment_view segments.now))
+            self.now.non_lazy self.now.lazy (import_sites_left result) }
     {
         self.start(libs, segments, ctx)
     }
@@ -209,6 +213,9 @@ impl<'a> BindInterpreter<'a> {
         ensures on { result.state.ended ≡ false }
         ensures order { (self.now.non_lazy.is_lazy ≡ false) × (self.now.lazy.is_lazy ≡ true) }
         ensures over { machine.IsOver (input_in self.now (pointer_size ctx.container) (texts libs.now) (map segment_view segments.now)) self.now.lazy result }
+        ensures sites { sites_left M.rules result ≡ sites_of
+            (reader_by M.rules (input_in self.now (pointer_size ctx.container) (texts libs.now) (map segment_view segments.now))) self.now.lazy
+            no_site (start_of self.now.non_lazy) }
     {
         Stream {
             source: self.source(libs, segments, ctx),
@@ -232,6 +239,8 @@ impl<'a> BindInterpreter<'a> {
             × (reads_left result ≡ length ps + length qs) }
         ensures on { result.stream.state.ended ≡ false }
         ensures over { IsOver (input_in self.now (pointer_size ctx.container) (texts libs.now) (map segment_view segments.now)) self.now.lazy result }
+        ensures sites { AreImportSites (input_in self.now (pointer_size ctx.container) (texts libs.now) (map segment_view segments.now))
+            self.now.non_lazy self.now.lazy (import_sites_left result) }
     {
         BindIterator {
             stream: self.stream(libs, segments, ctx),

@@ -1,6 +1,6 @@
 //! How far the reading of binds has come, as numbers, and imports and bindings with the places of their names.
 
-ghost use Rattle.std.specs.Prelude.{◌≡◌, ℕ, List, map, false, IfOk, IfSome, IfNone, OnErr, bit_and};
+ghost use Rattle.std.specs.Prelude.{◌≡◌, ◌∷◌, ℕ, List, map, false, IfOk, IfSome, IfNone, OnErr, bit_and};
 ghost use Rattle.std.specs.Iterator.{YieldsFirstBy};
 ghost use Rattle.mach_base.specs.Context.{pointer_size};
 ghost use Rattle.mach_base.specs.Text.{text_at};
@@ -10,11 +10,13 @@ ghost use Rattle.mach_binds.specs.BindCursors.{IsOver, IsOverBindings, HasEnded,
 ghost use Rattle.mach_binds.specs.BindCursors.{placed_read, placed_binding_read, IsPlaced, Stands};
 ghost use Rattle.mach_binds.specs.BindLeft.{imports_left};
 ghost use Rattle.mach_binds.specs.Machine as machine;
-ghost use Rattle.mach_binds.specs.Machine.{items_left, items_of, start_of, state_of};
+ghost use Rattle.mach_binds.specs.Machine.{items_left, items_of, reader_by, start_of, state_of};
 ghost use Rattle.mach_binds.specs.BindingsLeft.{bindings_left, first_extra};
 ghost use Rattle.mach_base.specs.Text.{texts};
 ghost use Rattle.mach_binds.specs.Imports.{input_in};
 ghost use Rattle.mach_binds.specs.NamePlaces.{NameStands, text_or_none, IsNamed};
+ghost use Rattle.mach_binds.specs.SiteCursors.{binding_sites_behind, binding_sites_left, import_sites_behind, import_sites_left, place_named, site_of, site_seen};
+ghost use Rattle.mach_binds.specs.Sites.{Site, site_in, sites_left, sites_of};
 ghost use Rattle.mach_binds.specs.Streams.{Input, Range};
 
 use crate::bindings::{Extra, OpcodeBindingIterator};
@@ -106,6 +108,7 @@ fn flags(first: bool, second: bool) -> u8
 fn name_at(bytes: &[u8], place: usize) -> (&str, usize)
     ensures text { result.0.now ≡ text_or_none (text_at bytes.now place) }
     ensures stands { IsNamed bytes.now result.0.now result.1 }
+    ensures place { result.1 ≡ place_named (text_at bytes.now place) place }
 {
     match read_text(bytes, place) {
         Ok(name) => (name, place),
@@ -115,7 +118,8 @@ fn name_at(bytes: &[u8], place: usize) -> (&str, usize)
 
 // The place of a name, or one outside the bytes where none was set.
 fn place_in(bytes: &[u8], place: usize) -> usize
-    ensures { (name : List ℕ) → IsNamed bytes.now name place → text_or_none (text_at bytes.now result) ≡ name }
+    ensures text { (name : List ℕ) → IsNamed bytes.now name place → text_or_none (text_at bytes.now result) ≡ name }
+    ensures place { (name : List ℕ) → IsNamed bytes.now name place → place_named (text_at bytes.now result) result ≡ place }
 {
     if place < bytes.len() {
         place
@@ -130,6 +134,7 @@ impl<'a> State<'a> {
         ensures state { NameStands bytes.now self.now.settings → state_in bytes.now result ≡ state_of self.now }
         ensures more { extra_in result ≡ more }
         ensures library { result.library ≡ self.now.settings.library }
+        ensures site { NameStands bytes.now self.now.settings → site_seen bytes.now result ≡ site_in self.now.settings }
     {
         let settings = &self.settings;
         BindCursor {
@@ -159,6 +164,7 @@ impl<'a> State<'a> {
     fn at(bytes: &'a [u8], cursor: &BindCursor) -> State<'a>
         ensures state { state_of result ≡ state_in bytes.now cursor.now }
         ensures named { NameStands bytes.now result.settings }
+        ensures site { site_in result.settings ≡ site_seen bytes.now cursor.now }
     {
         let (name, name_place) = name_at(bytes, cursor.name_place);
         State {
@@ -222,6 +228,9 @@ impl<'a> BindInterpreter<'a> {
         ensures items { items_left M.rules result ≡ items_of M.rules
             (input_in self.now (pointer_size ctx.container) (texts libs.now) (map segment_view segments.now)) self.now.lazy more (state_in self.now.bytes cursor.now) }
         ensures over { machine.IsOver (input_in self.now (pointer_size ctx.container) (texts libs.now) (map segment_view segments.now)) self.now.lazy result }
+        ensures sites { sites_left M.rules result ≡ sites_of
+            (reader_by M.rules (input_in self.now (pointer_size ctx.container) (texts libs.now) (map segment_view segments.now))) self.now.lazy
+            (site_seen self.now.bytes cursor.now) (state_in self.now.bytes cursor.now) }
     {
         Stream {
             source: self.source(libs, segments, ctx),
@@ -243,6 +252,8 @@ impl<'a> BindInterpreter<'a> {
         ensures items { imports_left result
             ≡ imports_behind (input_in self.now (pointer_size ctx.container) (texts libs.now) (map segment_view segments.now)) self.now.lazy cursor.now }
         ensures over { IsOver (input_in self.now (pointer_size ctx.container) (texts libs.now) (map segment_view segments.now)) self.now.lazy result }
+        ensures sites { import_sites_left result
+            ≡ import_sites_behind (input_in self.now (pointer_size ctx.container) (texts libs.now) (map segment_view segments.now)) self.now.lazy cursor.now }
     {
         BindIterator {
             stream: self.stream_from(libs, segments, ctx, cursor, Plain),
@@ -260,6 +271,8 @@ impl<'a> BindInterpreter<'a> {
         ensures items { bindings_left result
             ≡ bindings_behind (input_in self.now (pointer_size ctx.container) (texts libs.now) (map segment_view segments.now)) self.now.lazy cursor.now }
         ensures over { IsOverBindings (input_in self.now (pointer_size ctx.container) (texts libs.now) (map segment_view segments.now)) self.now.lazy result }
+        ensures sites { binding_sites_left result
+            ≡ binding_sites_behind (input_in self.now (pointer_size ctx.container) (texts libs.now) (map segment_view segments.now)) self.now.lazy cursor.now }
     {
         OpcodeBindingIterator {
             stream: self.stream_from(libs, segments, ctx, cursor, cursor.extra()),
@@ -282,7 +295,8 @@ impl<'a> BindInterpreter<'a> {
 impl<'a> BindIterator<'a, '_> {
     /// A cursor of the imports that are left.
     pub fn cursor(&self) -> BindCursor
-        ensures { (x : Input) (lazy : Range) → IsOver x lazy self.now → imports_behind x lazy result ≡ imports_left self.now }
+        ensures items { (x : Input) (lazy : Range) → IsOver x lazy self.now → imports_behind x lazy result ≡ imports_left self.now }
+        ensures sites { (x : Input) (lazy : Range) → IsOver x lazy self.now → import_sites_behind x lazy result ≡ import_sites_left self.now }
     {
         self.stream.state.cursor(self.stream.source.bytes, <Extra as Makes<'_>>::first(false))
     }
@@ -295,6 +309,7 @@ impl<'a> BindIterator<'a, '_> {
         ensures fault { IfSome result (λ item. OnErr item (HasEnded self.new)) }
         ensures over { (x : Input) (lazy : Range) → IsOver x lazy self.old → IsOver x lazy self.new }
         ensures placed { (x : Input) (lazy : Range) → IsOver x lazy self.old → IfSome result (λ item. IfOk item (IsPlaced x)) }
+        ensures site { IfSome result (λ item. IfOk item (λ p. import_sites_left self.old ≡ site_of p ∷ import_sites_left self.new)) }
     {
         match self.stream.next_item() {
             None => None,
@@ -311,7 +326,8 @@ impl<'a> BindIterator<'a, '_> {
 impl<'a> OpcodeBindingIterator<'a, '_> {
     /// A cursor of the bindings that are left.
     pub fn cursor(&self) -> BindCursor
-        ensures { (x : Input) (lazy : Range) → IsOverBindings x lazy self.now → bindings_behind x lazy result ≡ bindings_left self.now }
+        ensures items { (x : Input) (lazy : Range) → IsOverBindings x lazy self.now → bindings_behind x lazy result ≡ bindings_left self.now }
+        ensures sites { (x : Input) (lazy : Range) → IsOverBindings x lazy self.now → binding_sites_behind x lazy result ≡ binding_sites_left self.now }
     {
         self.stream
             .state
@@ -327,6 +343,8 @@ impl<'a> OpcodeBindingIterator<'a, '_> {
         ensures over { (x : Input) (lazy : Range) → IsOverBindings x lazy self.old → IsOverBindings x lazy self.new }
         ensures placed { (x : Input) (lazy : Range) → IsOverBindings x lazy self.old
             → IfSome result (λ item. IfOk item (λ p. Stands x.bytes p.name_place p.binding.name.now)) }
+        ensures site { IfSome result (λ item. IfOk item (λ p. (library : ℕ)
+            × (binding_sites_left self.old ≡ record { name_place = p.name_place; library = library } ∷ binding_sites_left self.new))) }
     {
         match self.stream.next_item() {
             None => None,

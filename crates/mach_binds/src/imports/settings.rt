@@ -3,6 +3,7 @@
 ghost use Rattle.std.specs.Prelude.{◌≡◌};
 ghost use Rattle.mach_binds.specs.Machine.{bind_of, fresh, moved};
 ghost use Rattle.mach_binds.specs.NamePlaces.{IsUnnamed};
+ghost use Rattle.mach_binds.specs.Sites.{no_site, site_in};
 
 /// The settings of the bind that would come now.
 #[derive(Drop)]
@@ -25,6 +26,7 @@ impl<'a> Settings<'a> {
     pub fn fresh(is_lazy: bool, sequence: u64) -> Self
         ensures fresh { bind_of result ≡ fresh is_lazy sequence }
         ensures unnamed { IsUnnamed result }
+        ensures site { site_in result ≡ no_site }
     {
         Settings {
             name: "",
@@ -45,6 +47,7 @@ impl<'a> Settings<'a> {
         ensures cleared { bind_of self.new ≡ fresh self.old.is_lazy sequence }
         ensures same { self.new.is_lazy ≡ self.old.is_lazy }
         ensures unnamed { IsUnnamed self.new }
+        ensures site { site_in self.new ≡ no_site }
     {
         *self = Settings::fresh(self.is_lazy, sequence);
     }
@@ -57,6 +60,7 @@ impl<'a> Settings<'a> {
         ensures same { self.new.is_lazy ≡ self.old.is_lazy }
         ensures name { self.new.name ≡ self.old.name }
         ensures place { self.new.name_place ≡ self.old.name_place }
+        ensures site { site_in self.new ≡ site_in self.old }
     {
         self.offset = self.offset.wrapping_add(by);
     }

@@ -1,9 +1,10 @@
 //! How far the reading of a stream has come.
 
-ghost use Rattle.std.specs.Prelude.{◌≡◌, ◌+◌, ◌≤◌, ◌%◌, ◌^◌, ℕ, length, Ok, IsErr, false, IfNone, MatchOption};
+ghost use Rattle.std.specs.Prelude.{◌≡◌, ◌+◌, ◌≤◌, ◌%◌, ◌^◌, ℕ, length, Ok, IsErr, false, IfNone, IfSome, MatchOption};
 ghost use Rattle.mach_binds.specs.Instructions.{nothing, row_at};
 ghost use Rattle.mach_binds.specs.Machine.{start_of, executed, executed_by, state_of};
 ghost use Rattle.mach_binds.specs.NamePlaces.{IsUnnamed, NameStands};
+ghost use Rattle.mach_binds.specs.Sites.{no_site, site_by, site_in};
 
 use crate::bind_opcodes::*;
 use crate::imports::instruction::rare_sleb;
@@ -30,6 +31,7 @@ impl<'a> State<'a> {
             ≡ start_of (record { from = from; upto = upto; is_lazy = is_lazy }) }
         ensures on { result.ended ≡ false }
         ensures unnamed { IsUnnamed result.settings }
+        ensures site { site_in result.settings ≡ no_site }
     {
         State {
             from,
@@ -67,6 +69,7 @@ impl<'a> State<'a> {
         ensures ended { self.new.ended ≡ self.old.ended }
         ensures is_lazy { self.new.settings.is_lazy ≡ self.old.settings.is_lazy }
         ensures named { NameStands bytes.now self.old.settings → NameStands bytes.now self.new.settings }
+        ensures site { IfSome result (λ _. site_by place (row_at pointer bytes.now opcode imm place) (site_in self.old.settings) ≡ Ok (site_in self.new.settings)) }
     {
         self.stride = 0;
         let after = match opcode {

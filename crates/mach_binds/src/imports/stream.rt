@@ -9,6 +9,8 @@ ghost use Rattle.mach_binds.specs.Streams.{Range};
 ghost use Rattle.mach_binds.specs.Machine.{Rules, Reads, range_of, state_of, bind_of, input_of, executed_by, items_left, opcodes_left};
 ghost use Rattle.mach_binds.specs.Machine.{StopsFor, IsUnreadable, MakesNothing, IsAtEnd, IsMadeBy, Keeps, Fails, HasEnded, item_read};
 
+ghost use Rattle.mach_binds.specs.Sites.{site_by, site_in, sites_left};
+
 use crate::imports::instruction::opcode_byte;
 use crate::imports::settings::Settings;
 use crate::imports::source::Source;
@@ -58,7 +60,9 @@ pub trait Makes<'a>: Copy {
         ensures from { state.new.from ≡ state.old.from }
         ensures ended { state.new.ended ≡ state.old.ended }
         ensures is_lazy { state.new.settings.is_lazy ≡ state.old.settings.is_lazy }
-        ensures named { NameStands bytes.now state.old.settings → NameStands bytes.now state.new.settings };
+        ensures named { NameStands bytes.now state.old.settings → NameStands bytes.now state.new.settings }
+        ensures site { IfSome result (λ _. site_by (state.old.place + 1) (rules.read (range_of state.old) pointer bytes.now state.old.place)
+            (site_in state.old.settings) ≡ Ok (site_in state.new.settings)) };
 
     /// What the bind with these settings makes, if anything.
     fn make(self, source: &Source<'a, '_>, settings: &Settings<'a>) -> Option<Self::Item>
@@ -129,6 +133,7 @@ impl<'a, 'b, M: Makes<'a>> Stream<'a, 'b, M> {
         ensures none { IfNone result ((items_left M.rules self.old ≡ items_left M.rules self.new) × MakesNothing M.rules self.new) }
         ensures keeps { Keeps self.old self.new }
         ensures bound { IfSome result (λ i. IsMadeBy M.rules self.new (M.seen i)) }
+        ensures site { IfSome result (λ _. sites_left M.rules self.old ≡ site_in self.new.state.settings ∷ sites_left M.rules self.new) }
     {
         let item = self.more.make(&self.source, &self.state.settings)?;
         self.state.count -= 1;
@@ -150,6 +155,7 @@ impl<'a, 'b, M: Makes<'a>> Stream<'a, 'b, M> {
         ensures reads { steps.new ≡ steps.old + 1 }
         ensures is_lazy { self.new.state.settings.is_lazy ≡ self.old.state.settings.is_lazy }
         ensures keeps { Keeps self.old self.new }
+        ensures sites { OnOk result (sites_left M.rules self.old ≡ sites_left M.rules self.new) }
     {
         let bytes = self.source.bytes;
         let Some(byte) = opcode_byte(bytes, self.state.place, steps) else {
@@ -175,6 +181,7 @@ impl<'a, 'b, M: Makes<'a>> Stream<'a, 'b, M> {
         ensures on { self.new.state.ended ≡ false }
         ensures is_lazy { self.new.state.settings.is_lazy ≡ true }
         ensures keeps { Keeps self.old self.new }
+        ensures sites { sites_left M.rules self.old ≡ sites_left M.rules self.new }
     {
         self.state = State::start(self.lazy_from, self.lazy_upto, true);
         self.more = M::first(true);
@@ -194,6 +201,7 @@ impl<'a, 'b, M: Makes<'a>> Stream<'a, 'b, M> {
         ensures end { IfOk result (λ there. there ≡ false → IsAtEnd self.new) }
         ensures err { IfErr result (IsUnreadable M.rules self.new) }
         ensures keeps { Keeps self.old self.new }
+        ensures sites { OnOk result (sites_left M.rules self.old ≡ sites_left M.rules self.new) }
     {
         'reading: while self.state.count == 0 {
             if self.state.place < self.state.upto {
@@ -244,6 +252,7 @@ impl<'a, 'b, M: Makes<'a>> Stream<'a, 'b, M> {
         ensures kept { steps.old ≤ steps.new }
         ensures keeps { Keeps self.old self.new }
         ensures bound { IfSome result (λ item. IfOk item (λ i. IsMadeBy M.rules self.new (M.seen i))) }
+        ensures site { IfSome result (λ item. OnOk item (sites_left M.rules self.old ≡ site_in self.new.state.settings ∷ sites_left M.rules self.new)) }
     {
         if self.state.ended {
             return None;
@@ -297,6 +306,7 @@ impl<'a, 'b, M: Makes<'a>> Stream<'a, 'b, M> {
         ensures fault { IfSome result (λ item. OnErr item (HasEnded M.rules self.new)) }
         ensures keeps { Keeps self.old self.new }
         ensures bound { IfSome result (λ item. IfOk item (λ i. IsMadeBy M.rules self.new (M.seen i))) }
+        ensures site { IfSome result (λ item. OnOk item (sites_left M.rules self.old ≡ site_in self.new.state.settings ∷ sites_left M.rules self.new)) }
     {
         match self.step(&mut Steps::new()) {
             None => None,

@@ -6,5 +6,5 @@ use Rattle.goblin_mach_c.proofs.bindings.opcode_cursor.Goals as goal
 pub returns-in-Some : goal.returns-in-Some
 returns-in-Some c = λ x over.
     let o = subst (AreOverOpcodes x) c.in-Some.is over in
-    ap opcodes_left c.in-Some.is ∙ sym (c.cursor.ensures (input_in o.0 x.binds.pointer x.binds.libs x.binds.segments) o.0.lazy o.3)
+    ap opcodes_left c.in-Some.is ∙ sym (c.cursor.ensures.items (input_in o.0 x.binds.pointer x.binds.libs x.binds.segments) o.0.lazy o.3)
     ∙ sym (ap (λ r. opcodes_behind c.cursor.result r x.binds) o.1)

@@ -1,8 +1,10 @@
-use Rattle.std.proofs.Common.{inl, inr, refl}
-use Rattle.mach_base.specs.Fault.{malformed}
+use Rattle.std.proofs.Common.{◌⊎◌, ℕ, List, inl, inr, refl, subst}
 use Rattle.mach_base.proofs.Faults.{Stands-in}
-use Rattle.goblin_mach_c.specs.ExportRows.{FindFault}
-use Rattle.goblin_mach_c.specs.Opened.{lossy_mode}
+use Rattle.mach_base.specs.Answer.{Stands}
+use Rattle.mach_base.specs.Fault.{Fault, malformed}
+use Rattle.goblin_mach_c.specs.ExportRows.{FindFault, HasNameFault}
+use Rattle.goblin_mach_c.specs.Opened.{FaultIn, lossy_mode}
+use Rattle.goblin_mach_c.proofs.FoundExports.{memory_code}
 use Rattle.goblin_mach_c.proofs.OpenedImage.{refusal_of}
 use Rattle.goblin_mach_c.proofs.find.gmr_find_export.Goals as goal
 
@@ -13,6 +15,15 @@ returns-in_default-clause-refused c = λ _.
 pub returns-in-Err-clause-refused : goal.returns-in-Err-clause-refused
 returns-in-Err-clause-refused c = λ _.
     let image = c.args.image.now in
-    let found = FindFault (lossy_mode image.is_lossy) c.args.bytes.now image.offset c.args.name.now in
+    let bytes = c.args.bytes.now in
+    let name = c.args.name.now in
+    let lossy = lossy_mode image.is_lossy in
+    let there : List ℕ → Fault → Type 0 = λ n f. FaultIn lossy bytes image.offset f ⊎ HasNameFault bytes image.offset n f in
+    let found = FindFault lossy bytes image.offset name in
     refusal_of found c.in-Err.why c.refuse-in-Err.result c.refuse-in-Err.ensures.code
-    (Stands-in _ found c.in-Err.why (λ f h. inl h) c.in-Err.ensures.refused)
+    (Stands-in (there name) found c.in-Err.why (λ f h. inl h)
+    (subst (λ (n : List ℕ). Stands (there n) c.in-Err.why) c.in-Ok.ensures.cases.0 c.in-Err.ensures.refused))
+
+pub returns-in-Err-clause-only : goal.returns-in-Err-clause-only
+returns-in-Err-clause-only c = λ utf8 opens list exports.
+    inr (memory_code c.in-Err.why c.refuse-in-Err.result c.refuse-in-Err.ensures.code (c.in-Err.ensures.only opens list exports))

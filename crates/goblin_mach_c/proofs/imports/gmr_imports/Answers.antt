@@ -1,8 +1,6 @@
-use Rattle.std.proofs.Common.{List, Result, subst}
-use Rattle.mach_base.specs.Fault.{Fault}
-use Rattle.mach_binds.specs.Imports.{Import}
+use Rattle.std.proofs.Common.{refl, sym}
 use Rattle.mach_image.proofs.ImageFacts.{facts_are}
-use Rattle.goblin_mach_c.specs.ImportsBehind.{AreImportsBehind, AreImportsWritten, Binds, binds_of, items_left}
+use Rattle.goblin_mach_c.specs.ImportsBehind.{AreImportsWritten, Binds, binds_of, imports_in, items_left, sites_in}
 use Rattle.goblin_mach_c.proofs.HeldBinds.{binds_stand}
 use Rattle.goblin_mach_c.proofs.FactsBehind.{binds_by}
 use Rattle.goblin_mach_c.proofs.imports.gmr_imports.Goals as goal
@@ -18,8 +16,19 @@ returns-in-Ok-clause-written c = λ _.
     (λ f. AreImportsWritten bytes (binds_by f) c.args.cursor.now c.cursor.result c.args.out.now c.fill_items.new.out n)).1
     (record {
       items = items_left c.behind-rows.result;
-      behind = c.behind-rows.ensures.items;
+      behind = record {
+        imports = imports_in c.behind-rows.result;
+        sites = sites_in c.behind-rows.result;
+        behind = c.behind-rows.ensures.items;
+        sites_behind = c.behind-rows.ensures.sites;
+        are = refl;
+      };
       rows = c.fill_items.ensures.filled (bytes, x) over;
-      rest = subst (λ (l : List (Result Import Fault)). AreImportsBehind c.cursor.result x l) (c.fill_items.ensures.rest (bytes, x) over)
-          (c.cursor.ensures (bytes, x) (c.fill_items.ensures.over (bytes, x) over));
+      rest = record {
+        imports = imports_in c.fill_items.new.rows;
+        sites = sites_in c.fill_items.new.rows;
+        behind = c.cursor.ensures.items (bytes, x) (c.fill_items.ensures.over (bytes, x) over);
+        sites_behind = c.cursor.ensures.sites (bytes, x) (c.fill_items.ensures.over (bytes, x) over);
+        are = sym (c.fill_items.ensures.rest (bytes, x) over);
+      };
     })

@@ -2,6 +2,8 @@ use Rattle.mach_binds.proofs.Names.{◌≡◌, ◌∙◌, refl, sym, ap, ℕ, tr
 use Rattle.mach_binds.specs.Instructions.{nothing}
 use Rattle.mach_binds.specs.Bindings.{highest_opcode}
 use Rattle.mach_binds.proofs.BindingReading.{unknown, at_done, as_read}
+use Rattle.mach_binds.specs.Sites.{site_in}
+use Rattle.mach_binds.specs.declared.imports.settings.Settings.{Settings}
 use Rattle.mach_binds.proofs.bindings.ExtraMakes.execute.Goals as goal
 
 pub returns-then-opcode-top-clause-value :
@@ -27,3 +29,18 @@ returns-clause-value c =
     ap (λ n. nat_lt n (bit_and c.args.byte 0xf0)) (sym c.highest-top.ensures) ∙ grind (arith, nat_tests, known) in
     rw (as_read (range_of s) c.args.pointer c.args.bytes.now s.place c.args.byte c.requires.byte test c.if-opcode-eq-BIND_OPCODE_DONE.false)
     c.execute.ensures.value
+
+pub returns-then-opcode-eq-BIND_OPCODE_DONE-clause-site : goal.returns-then-opcode-eq-BIND_OPCODE_DONE-clause-site
+returns-then-opcode-eq-BIND_OPCODE_DONE-clause-site c =
+    let s = c.args.state.now in
+    rw (at_done (range_of s) c.args.pointer c.args.bytes.now s.place c.args.byte c.requires.byte c.if-opcode-eq-BIND_OPCODE_DONE.true)
+    (ap (λ (n : Settings). Ok (site_in n)) (sym c.go_to.ensures.settings))
+
+pub returns-clause-site : goal.returns-clause-site
+returns-clause-site c =
+    let s = c.args.state.now in
+    let known = c.if-opcode-top.false in
+    let test : nat_lt (highest_opcode s.settings.is_lazy) (bit_and c.args.byte 0xf0) ≡ false =
+    ap (λ n. nat_lt n (bit_and c.args.byte 0xf0)) (sym c.highest-top.ensures) ∙ grind (arith, nat_tests, known) in
+    rw (as_read (range_of s) c.args.pointer c.args.bytes.now s.place c.args.byte c.requires.byte test c.if-opcode-eq-BIND_OPCODE_DONE.false)
+    c.execute.ensures.site

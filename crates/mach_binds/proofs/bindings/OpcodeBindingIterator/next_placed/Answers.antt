@@ -15,3 +15,6 @@ returns-in-Some-Ok-clause-placed c = λ x lazy over.
     let named = stands bytes new.state.settings.name.now new.state.settings.name_place (c.in-Some-Ok.ensures.keeps.named over.named) in
     subst (λ (i : Input). Stands i.bytes new.state.settings.name_place c.in-Some-Ok.binding.name.now) over.source
     (subst (λ (n : List ℕ). Stands bytes new.state.settings.name_place n) tells named)
+
+pub returns-in-Some-Ok-clause-site : goal.returns-in-Some-Ok-clause-site
+returns-in-Some-Ok-clause-site c = (c.next_item.new.self.state.settings.library, rw c.in-Some-Ok.field-0-is at c.in-Some-Ok.ensures.site)

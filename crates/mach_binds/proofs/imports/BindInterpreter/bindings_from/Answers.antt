@@ -9,3 +9,6 @@ returns-clause-items c =
     let b = c.args.self.now in
     let x = input_in b (pointer_size c.args.ctx.container) (texts c.args.libs.now) (map segment_view c.args.segments.now) in
     c.stream_from.ensures.items ∙ ap (λ m. items_of binding_rules x b.lazy m (state_in b.bytes c.args.cursor.now)) c.extra.ensures
+
+pub returns-clause-sites : goal.returns-clause-sites
+returns-clause-sites c = c.stream_from.ensures.sites

@@ -1,5 +1,6 @@
 use Rattle.mach_binds.proofs.Names.{◌≡◌, ◌≤◌, ◌+◌, false, cond}
 use Rattle.mach_binds.specs.Machine.{items_left, opcodes_left, Keeps}
+use Rattle.mach_binds.specs.Sites.{sites_left}
 use Rattle.mach_binds.proofs.imports.stream.Stream.arrive.Given as goal
 
 abbrev pub invariant-reading : goal.invariant-reading
@@ -9,6 +10,7 @@ invariant-reading g l = record {
   kept : l.initial.steps ≤ l.steps;
   on : l.self.state.ended ≡ false;
   keeps : Keeps l.initial.self l.self;
+  sites : sites_left g.M.Makes.rules l.initial.self ≡ sites_left g.M.Makes.rules l.self;
 }
 
 abbrev pub decreases-reading : goal.decreases-reading

@@ -1,5 +1,9 @@
 use Rattle.mach_binds.proofs.Names.{◌∙◌, refl, sym, ap, arith, input_of, lazy_of, state_of, items_of, items_left, opcodes_left}
 use Rattle.mach_binds.proofs.BindSteps.{over}
+use Rattle.mach_binds.proofs.BindSites.{site_over}
+use Rattle.mach_binds.proofs.Names.{reader_by}
+unfoldable use Rattle.mach_binds.specs.Sites.{sites_left}
+use Rattle.mach_binds.specs.Sites.{Site, site_in, sites_of}
 use Rattle.mach_binds.proofs.imports.stream.Stream.go_over.Goals as goal
 
 pub returns-clause-items : goal.returns-clause-items
@@ -18,3 +22,13 @@ returns-clause-reads g c =
     let left = over g.M.Makes.rules g.M.Makes.reads (input_of it.source) (lazy_of it) it.more (state_of it.state) c.requires.count c.requires.on
     (state_of c.start-self.result) c.requires.non_lazy refl c.requires.past c.start-self.ensures.state in
     omega (arith, left.reads)
+
+pub returns-clause-sites : goal.returns-clause-sites
+unfolding sites_left
+returns-clause-sites g c =
+    let it = c.args.self.now in
+    let reader = reader_by g.M.Makes.rules (input_of it.source) in
+    let t = state_of c.start-self.result in
+    site_over reader (lazy_of it) (site_in it.state.settings) (state_of it.state) c.requires.count c.requires.on t c.requires.non_lazy refl c.requires.past
+    c.start-self.ensures.state
+    ∙ ap (λ (n : Site). sites_of reader (lazy_of it) n t) (sym c.start-self.ensures.site)

@@ -1,5 +1,9 @@
 use Rattle.mach_binds.proofs.Names.{◌≡◌, ◌∙◌, refl, ap, sym, arith, Bool, ℕ, Range, input_of, lazy_of, range_of, state_of, items_of, items_left, opcodes_left}
 use Rattle.mach_binds.proofs.BindSteps.{after_executed, still_unreadable}
+use Rattle.mach_binds.proofs.BindSites.{site_executed}
+use Rattle.mach_binds.proofs.Names.{reader_by}
+unfoldable use Rattle.mach_binds.specs.Sites.{sites_left}
+use Rattle.mach_binds.specs.Sites.{site_in}
 use Rattle.mach_binds.proofs.imports.stream.Stream.read.Goals as goal
 
 pub returns-in_default-clause-err : goal.returns-in_default-clause-err
@@ -59,3 +63,12 @@ returns-in-None-clause-err g c =
       fault = rw (same.place, same.from, same.upto, same.is_lazy) same.value;
       opcode = λ lt. rw same.place c.in-Some.ensures.value;
     }
+
+pub returns-in-Some-execute-clause-sites : goal.returns-in-Some-execute-clause-sites
+unfolding sites_left
+returns-in-Some-execute-clause-sites g c =
+    let it = c.args.self.now in
+    let u = g.M.Makes.rules in
+    site_executed (reader_by u (input_of it.source)) (lazy_of it) (site_in it.state.settings) (state_of it.state) c.requires.count c.requires.on
+    (g.M.Makes.reads.moves (range_of it.state) it.source.pointer it.source.bytes.now) it.source.pointer (state_of c.execute.new.state)
+    (site_in c.execute.new.state.settings) c.requires.within c.in-Some-execute.ensures.value c.in-Some-execute.ensures.site
