@@ -12,8 +12,8 @@ ghost use Rattle.mach_layout.specs.Bindings.{AreBindFaults};
 ghost use Rattle.mach_rules.specs.Containers.{AreContainerFaults};
 ghost use Rattle.mach_rules.specs.Faults.{AreLayoutFaults};
 ghost use Rattle.mach_layout.specs.Held.{laid_held};
-ghost use Rattle.mach_audit.specs.Sound.{IsSound, IsSoundEntry, IsSoundFat, IsSoundImage, IsLong, IsLongEntry, IsLongFat, HasLongList, all_relocations};
-ghost use Rattle.mach_audit.specs.Told.{TellsRelocations, faults_in};
+ghost use Rattle.mach_audit.specs.Sound.{IsSound, IsSoundEntry, IsSoundFat, IsSoundImage, IsLong, IsLongEntry, IsLongFat, HasLongList};
+ghost use Rattle.mach_audit.specs.Told.{TellsRelocations, relocation_faults};
 ghost use Rattle.mach_audit.specs.Verdicts.{Judges, is_clean, verdict_of_parts, verdict_of_image, verdict_of_entry, verdict_of_fat, verdict_of_report};
 ghost use Rattle.mach_audit.specs.declared.verdict.Verdict.TheVariants as verdicts;
 
@@ -36,7 +36,7 @@ fn audit_relocated<A: Allocator + Clone>(
     sections: &Part<A>,
     limit: usize,
 ) -> Result<Option<Part<A>>, Failure>
-    ensures { IfOk result (TellsRelocations limit (faults_in (all_relocations ctx bytes.now (map segment_view segments.now))) (is_clean sections.now)) }
+    ensures { IfOk result (TellsRelocations limit (relocation_faults ctx bytes.now (map segment_view segments.now)) (is_clean sections.now)) }
 {
     if !sections.is_clean() {
         return Ok(None);

@@ -3,7 +3,7 @@ use Rattle.std.specs.Prelude.{IsOk}
 use Rattle.goblin_mach.specs.FatFile.{arches_in, file_held}
 use Rattle.mach_rules.specs.Containers.{AreContainerFaults}
 use Rattle.mach_audit.proofs.Entries.{entries_more, no_entries_judged, fat_file_judged, refused_table_judged, one_container}
-use Rattle.mach_audit.proofs.Images.{layout_judged, alike}
+use Rattle.mach_audit.proofs.Images.{layout_judged, beside}
 use Rattle.mach_audit.proofs.Verdicts.{both_judged}
 use Rattle.mach_audit.specs.Verdicts.{verdict_of_entries}
 use Rattle.mach_audit.proofs.audit.audit_fat.Goals as goal
@@ -35,4 +35,4 @@ returns g c =
     let bytes = c.args.bytes.now in
     let faults = c.in_ok-container_faults.container_faults in
     let layout = layout_judged (AreContainerFaults bytes) faults.items c.in_ok-container_faults.ensures (λ list others. one_container bytes list others) in
-    alike (both_judged _ _ layout judged)
+    beside (both_judged _ _ layout judged)
