@@ -28,7 +28,8 @@ use Rattle.mach_audit.specs.declared.tally.Tally.{Tally}
 use Rattle.mach_audit.proofs.Told.{met_rest}
 
 -- of all of a list these are left, where n were met behind some
-pub record Goes {A X : Type 0} (limit : ℕ) (place : ℕ → Place) (before : List (Option FaultAt)) (all left : List (Result X Fault)) (n : ℕ) (t : Tally A) : Type 0 where
+pub record Goes {A X : Type 0} (limit : ℕ) (place : ℕ → Place) (before : List (Option FaultAt)) (all left : List (Result X Fault)) (n : ℕ)
+    (t : Tally A) : Type 0 where
   pub done : List (Option FaultAt)
   pub same : faults_from place 0 all ≡ done ++ faults_from place n left
   pub met : HasMet limit (before ++ done) t
@@ -62,7 +63,8 @@ module _ {A X : Type 0} (limit : ℕ) (place : ℕ → Place) (before : List (Op
     count = refl;
   }
 
-  pub goes_on : (left rest : List (Result X Fault)) (n m : ℕ) (item : Result X Fault) (told : Option FaultAt) (t u : Tally A) → Goes limit place before all left n t
+  pub goes_on : (left rest : List (Result X Fault)) (n m : ℕ) (item : Result X Fault) (told : Option FaultAt) (t u : Tally A)
+      → Goes limit place before all left n t
       → left ≡ item ∷ rest → told ≡ fault_at (place n) item → Takes told t u → m ≡ n + 1 → Goes limit place before all rest m u
   goes_on left rest n m item told t u goes steps is takes next =
       let one = told ∷ [] in record {
@@ -136,7 +138,8 @@ module _ {A X : Type 0} (limit : ℕ) (part : ℕ → X → List (Option FaultAt
         count = omega (arith, goes.count, next, ap length is);
       }
 
-  pub each_over : (left : List X) (n : ℕ) (t : Tally A) → GoesEach limit part before all left n t → left ≡ [] → HasMet limit (before ++ faults_each part 0 all) t
+  pub each_over : (left : List X) (n : ℕ) (t : Tally A) → GoesEach limit part before all left n t → left ≡ []
+      → HasMet limit (before ++ faults_each part 0 all) t
   each_over left n t goes over =
       let same = goes.same ∙ ap (λ (xs : List X). goes.done ++ faults_each part n xs) over ∙ append-nil goes.done in
       subst (λ (xs : List (Option FaultAt)). HasMet limit (before ++ xs) t) (sym same) goes.met
@@ -199,8 +202,15 @@ export_more limit n found item told t u met count is takes =
 pub export_small : {A : Type 0} (limit n : ℕ) (found : List Entry) (t : Tally A) → HasMet limit (faults_from places.Export 0 (entries_ok found)) t
     → length found ≡ n → 1 ≤ t.left → n + 1 < 2 ^ 64
 export_small limit n found t met count some =
-    omega (arith, met.small, met.left, some, count, length_from places.Export 0 (entries_ok found),
-      length-map found as_item)
+    omega (
+      arith,
+      met.small,
+      met.left,
+      some,
+      count,
+      length_from places.Export 0 (entries_ok found),
+      length-map found as_item,
+    )
 
 -- where a count of them was cut, there are more
 pub export_long : {A : Type 0} (limit : ℕ) (found : List Entry) (t : Tally A) → HasMet limit (faults_from places.Export 0 (entries_ok found)) t

@@ -29,7 +29,8 @@ use Rattle.mach_audit.proofs.Goes.{as_item}
 use Rattle.mach_audit.proofs.Told.{plain, faults_in, plain_from, plain_each, cut_is, told_sound, told_faulty, told_long, told_short}
 use Rattle.mach_audit.proofs.Verdicts.{number, sound_judged, faulty_judged, part_judged, both_judged, judged_as}
 use Rattle.mach_audit.specs.Sound.{IsSoundImage, HasLongList, of_sections, of_relocations, of_symbols, of_exports, of_imports}
-use Rattle.mach_audit.specs.Sound.{HasAllRelocations, HasExportItems, AreExportItems, all_exports, up_to_fault, past_limit, are_all_ok, all_sections, all_relocations, relocations_by, of_fixups, of_bindings}
+use Rattle.mach_audit.specs.Sound.{HasAllRelocations, HasExportItems, AreExportItems, all_exports, up_to_fault, past_limit}
+use Rattle.mach_audit.specs.Sound.{are_all_ok, all_sections, all_relocations, relocations_by, of_fixups, of_bindings}
 use Rattle.mach_audit.specs.Told.{FaultAt, TellsOf, TellsOfTrie, TellsRelocations, faults_from, section_faults, relocation_faults, relocation_faults_by}
 use Rattle.mach_audit.specs.Verdicts.{Judges, verdict_of, verdict_of_read, verdict_of_parts, verdict_of_layout, is_clean}
 use Rattle.mach_layout.specs.Facts.{HasLayoutFaults}
@@ -70,7 +71,8 @@ oks_all : {X : Type 0} (list : List X) → list_all (is_ok {T = X} {E = Fault}) 
 oks_all [] = refl
 oks_all (x ∷ list) = oks_all list
 
-list_of_items : (b : Option BindRanges) (pointer : ℕ) (libs : List (List ℕ)) (segments : List SegmentView) (items : List (Result Import Fault)) (list : List Import)
+list_of_items : (b : Option BindRanges) (pointer : ℕ) (libs : List (List ℕ)) (segments : List SegmentView) (items : List (Result Import Fault))
+    (list : List Import)
     → AreImageBindItems b pointer libs segments items → items ≡ map Ok list → ListsImageImports b pointer libs segments list
 list_of_items None pointer libs segments items [] are same = refl
 list_of_items None pointer libs segments items (x ∷ list) are same = absurd (cons_nil (sym same ∙ are))
@@ -80,7 +82,8 @@ list_of_items None pointer libs segments items (x ∷ list) are same = absurd (c
 list_of_items (Some b) pointer libs segments items list are same =
     (are.0, are.1, list_from_items (input_in b pointer libs segments) b.non_lazy b.lazy are.0 are.1 items list are.2 same)
 
-items_of_list : (b : Option BindRanges) (pointer : ℕ) (libs : List (List ℕ)) (segments : List SegmentView) (items : List (Result Import Fault)) (list : List Import)
+items_of_list : (b : Option BindRanges) (pointer : ℕ) (libs : List (List ℕ)) (segments : List SegmentView) (items : List (Result Import Fault))
+    (list : List Import)
     → AreImageBindItems b pointer libs segments items → ListsImageImports b pointer libs segments list → items ≡ map Ok list
 items_of_list None pointer libs segments items list are lists = are ∙ ap (map Ok) (sym lists)
 items_of_list (Some b) pointer libs segments items list are lists =
@@ -190,7 +193,8 @@ module _ (limit : ℕ) (t : TrieRange) (libs : List (List ℕ)) where
 module _ {A : Type 0} (bytes : List ℕ) (m : MachO A) (p : IsImage bytes 0 m) (limit : ℕ) where
   sections_plain : map plain (section_faults (segments_held m)) ≡ faults_in (all_sections (segments_held m))
   sections_plain =
-      plain_each (λ n s. faults_from (places.Section n) 0 (sections_of s)) sections_of (λ n s. plain_from (places.Section n) 0 (sections_of s)) 0 (segments_held m)
+      plain_each (λ n s. faults_from (places.Section n) 0 (sections_of s)) sections_of (λ n s. plain_from (places.Section n) 0 (sections_of s)) 0
+      (segments_held m)
 
   pub sections_judged : {B : Type 0} (q : Part B) → TellsOf limit (section_faults (segments_held m)) q
       → Judges ((segments : List SegmentView) × HasSegments bytes 0 segments × IsTrue (are_all_ok (all_sections segments)))
@@ -247,15 +251,16 @@ module _ {A : Type 0} (bytes : List ℕ) (m : MachO A) (p : IsImage bytes 0 m) (
       let faults = faults_from places.Export 0 tells.items in
       part_judged q
       (λ none whole. let found = list_met limit t libs q tells.items tells.met tells.tells none whole in
-        (found.0, (is found.0).1 (walked_list (trie_held m) libs found.0 found.1)))
+      (found.0, (is found.0).1 (walked_list (trie_held m) libs found.0 found.1)))
       (λ some s. let fault = fault_met limit t libs q tells.items tells.met tells.tells some in
-        no_list (trie_held m) libs fault.0 s.0 law fault.1 ((is s.0).0 s.1))
-      (λ cut. (tells.items, (export_items_are tells.items).1 tells.met, told_long limit tells.items faults (plain_from places.Export 0 tells.items) q tells.tells cut))
+      no_list (trie_held m) libs fault.0 s.0 law fault.1 ((is s.0).0 s.1))
+      (λ cut. (tells.items, (export_items_are tells.items).1 tells.met, told_long limit tells.items faults
+      (plain_from places.Export 0 tells.items) q tells.tells cut))
       (λ none whole l. let found = list_met limit t libs q tells.items tells.met tells.tells none whole in
-        let few = items_within limit t libs found.0 l.0 law found.1 ((export_items_are l.0).0 l.1) in
-        let long = l.2 in
-        let short_list = found.2 in
-        omega (arith, few, long, short_list))
+      let few = items_within limit t libs found.0 l.0 law found.1 ((export_items_are l.0).0 l.1) in
+      let long = l.2 in
+      let short_list = found.2 in
+      omega (arith, few, long, short_list))
 
   pub imports_judged : {B : Type 0} (items : List (Result Import Fault)) (q : Part B)
       → AreImageBindItems (binds_held m) (pointer_size (ctx_held m).container) (texts m.libs.items) (segments_held m) items
@@ -275,16 +280,17 @@ module _ {A : Type 0} (bytes : List ℕ) (m : MachO A) (p : IsImage bytes 0 m) (
       part_judged q
       (λ none whole. let list = listed (told_sound limit items faults same q tells none whole) in (list.0, (is list.0).1 list.2))
       (λ some s. told_faulty limit items faults same q tells some
-        (subst (λ (xs : List (Result Import Fault)). IsTrue (are_all_ok xs)) (sym (items_of_list b pointer libs segments items s.0 are ((is s.0).0 s.1)))
-        (oks_all s.0)))
+      (subst (λ (xs : List (Result Import Fault)). IsTrue (are_all_ok xs)) (sym (items_of_list b pointer libs segments items s.0 are ((is s.0).0 s.1)))
+      (oks_all s.0)))
       (λ cut. (items, has, told_long limit items faults same q tells cut))
       (λ none whole l. let list = listed (told_sound limit items faults same q tells none whole) in
-        let one = items_of_list b pointer libs segments l.0 list.0 (held l.0 l.1) list.2 ∙ sym list.1 in
-        told_short limit items faults same q tells whole (subst (λ (xs : List (Result Import Fault)). limit < length xs) one l.2))
+      let one = items_of_list b pointer libs segments l.0 list.0 (held l.0 l.1) list.2 ∙ sym list.1 in
+      told_short limit items faults same q tells whole (subst (λ (xs : List (Result Import Fault)). limit < length xs) one l.2))
 
   -- the list that is long, by its part
   abbrev pub LongByPart : Type 0
-  LongByPart = ⊥ ⊎ ((((segments : List SegmentView) × HasSegments bytes 0 segments × (limit < length (all_sections segments))) ⊎ LongOf limit (HasAllRelocations bytes 0))
+  LongByPart = ⊥ ⊎ ((((segments : List SegmentView) × HasSegments bytes 0 segments × (limit < length (all_sections segments))) ⊎ LongOf limit
+      (HasAllRelocations bytes 0))
       ⊎ (LongOf limit (HasSymbols bytes 0) ⊎ (LongOf limit (HasExportItems limit bytes 0) ⊎ (LongOf limit (HasImportItems bytes 0)
       ⊎ (LongOf limit (HasFixups bytes 0) ⊎ LongOf limit (HasBindings bytes 0))))))
 

@@ -1,9 +1,11 @@
 -- What is told of a file: which items of its lists can't be read, by their numbers.
 use Rattle.std.specs.Prelude.{◌≡◌, ℕ, List, Result, Ok, Err, Option, Some, None, min, nat_lt}
 use Rattle.std.specs.List.{AllZip}
-use Rattle.mach_base.specs.Answer.{Stands}
+use Rattle.mach_base.specs.Answer.{Stands, FailsAs}
 use Rattle.mach_base.specs.Fault.{Fault}
 use Rattle.mach_base.specs.Items.{items_from}
+use Rattle.mach_base.specs.declared.error.Error.{Error}
+use Rattle.mach_rules.specs.Containers.{AreContainerFaults}
 use Rattle.mach_binds.specs.Imports.{Import}
 use Rattle.mach_chained.specs.Fixups.{Fixup}
 use Rattle.mach_segments.specs.Bindings.{Binding}
@@ -13,8 +15,8 @@ use Rattle.mach_layout.specs.Facts.{HasLayoutFaults}
 use Rattle.mach_image.specs.Facts.{OfImage, HasSegments, HasSymbols, HasImportItems, HasFixups, HasBindings}
 use Rattle.mach_image.specs.Image.{ImageFault}
 use Rattle.mach_image.specs.Subjects.{lossy_segments_in, libs_in, trie_in, trie_or_empty}
-use Rattle.goblin_mach.specs.FatEntry.{FatEntry, archive, image, entry_at}
-use Rattle.goblin_mach.specs.FatFile.{FatFile, fat_file_in}
+use Rattle.goblin_mach.specs.FatEntry.{FatEntry, archive, image, entry_at, EntryOpens}
+use Rattle.goblin_mach.specs.FatFile.{FatFile, fat_file_in, arches_in}
 use Rattle.goblin_mach.specs.File.{HasFatMagic, MachFault}
 use Rattle.goblin_mach.specs.View.{IsTold}
 use Rattle.mach_audit.specs.Told.{TellsOf, TellsOfTrie, TellsRelocations, faults_from, section_faults, relocation_faults}
@@ -47,24 +49,43 @@ IsImageReport limit bytes (images.Opens parts) = TellsImage limit bytes parts
 IsImageReport limit bytes (images.OpensLossily e parts) = IsTold e × Stands (MachFault ImageFault bytes) e × TellsImage limit bytes parts
 IsImageReport limit bytes (images.Refused e) = IsTold e × Stands (MachFault ImageFault bytes) e
 
--- What is told of an entry of a fat file: of an archive that it is one, and of an image that opens strictly its parts.
+-- why some bytes don't open strictly as an image, if they don't
+abbrev pub reason_of : {A : Type 0} → ImageReport A → Option Error
+reason_of (images.Opens parts) = None
+reason_of (images.OpensLossily e parts) = Some e
+reason_of (images.Refused e) = Some e
+
+-- what is told in lossy mode of some bytes
+abbrev pub TellsLossily : {A : Type 0} → ℕ → List ℕ → ImageReport A → Type 0
+TellsLossily limit bytes (images.Opens parts) = ⊥
+TellsLossily limit bytes (images.OpensLossily e parts) = TellsImage limit bytes parts
+TellsLossily limit bytes (images.Refused e) = Unit {0}
+
+-- What is told of an entry of a fat file: that it is an archive; of an image that opens strictly its parts; and that an entry doesn't open.
 abbrev pub IsEntryReport : {A : Type 0} → ℕ → Result FatEntry Fault → EntryReport A → Type 0
 IsEntryReport limit entry entries.Archive = (bytes : List ℕ) × (entry ≡ Ok (archive bytes))
 IsEntryReport limit entry (entries.Image (images.Opens parts)) = (bytes : List ℕ) × (entry ≡ Ok (image bytes)) × TellsImage limit bytes parts
-IsEntryReport limit entry (entries.Image (images.OpensLossily e parts)) = IsTold e
-IsEntryReport limit entry (entries.Image (images.Refused e)) = IsTold e
+IsEntryReport limit entry (entries.Image (images.OpensLossily e parts)) = EntryOpens entry → ⊥
+IsEntryReport limit entry (entries.Image (images.Refused e)) = EntryOpens entry → ⊥
 
--- those of a fat file whose table can be read
-pub record TellsEntries {A : Type 0} (limit : ℕ) (file : FatFile) (r : FatReport A) : Type 0 where
+-- What is told of a fat file whose table can be read: the faults of the table; each of the first `limit` entries, in order; and exactly whether there
+-- are more.
+pub record TellsEntries {A : Type 0} (limit : ℕ) (bytes : List ℕ) (file : FatFile) (r : FatReport A) : Type 0 where
+  pub container : AreContainerFaults bytes r.container.items
   pub entries : AllZip (IsEntryReport limit) (items_from (entry_at file) 0 (min limit file.narches)) r.entries.items
   pub cut : r.cut ≡ nat_lt limit file.narches
 
--- What is told of a fat file: how many entries it has, each of the first `limit` of them, in order, and exactly whether it has more; where its
--- table can't be read, of none.
-abbrev pub IsFatReport : {A : Type 0} → ℕ → FatFile → FatReport A → Type 0
-IsFatReport limit file r = (r.count ≡ file.narches) × (r.table ≡ None → TellsEntries limit file r)
+-- the same by why its table can't be read, if it can't
+abbrev pub TellsTable : {A : Type 0} → ℕ → List ℕ → FatFile → FatReport A → Option Error → Type 0
+TellsTable limit bytes file r None = TellsEntries limit bytes file r
+TellsTable limit bytes file r (Some e) = IsTold e × FailsAs e (arches_in file)
+
+-- What is told of a fat file, and how many entries its header says.
+pub record IsFatReport {A : Type 0} (limit : ℕ) (bytes : List ℕ) (file : FatFile) (r : FatReport A) : Type 0 where
+  pub count : r.count ≡ file.narches
+  pub table : TellsTable limit bytes file r r.table
 
 -- What is told of a file.
 abbrev pub IsReport : {A : Type 0} → ℕ → List ℕ → Report A → Type 0
 IsReport limit bytes (reports.Image r) = IsImageReport limit bytes r
-IsReport limit bytes (reports.Fat r) = (file : FatFile) × HasFatMagic bytes × (fat_file_in bytes ≡ Ok file) × IsFatReport limit file r
+IsReport limit bytes (reports.Fat r) = (file : FatFile) × HasFatMagic bytes × (fat_file_in bytes ≡ Ok file) × IsFatReport limit bytes file r

@@ -7,14 +7,15 @@ use Rattle.mach_image.specs.FixupsLeft.{fixups_left}
 use Rattle.mach_audit.proofs.Images.{layout_judged, read_judged, judged_one, sections_judged, relocations_judged, symbols_judged, exports_judged}
 use Rattle.mach_audit.proofs.Images.{imports_judged, parts_judged}
 use Rattle.mach_layout.specs.Facts.{HasLayoutFaults}
+use Rattle.mach_audit.proofs.Reports.{image_told}
 use Rattle.mach_audit.proofs.Told.{plain_from}
 use Rattle.mach_audit.specs.Told.{faults_from, relocation_faults}
 use Rattle.mach_audit.specs.declared.report.Place.TheVariants as places
 use Rattle.mach_audit.specs.declared.report.Parts.{Parts}
 use Rattle.mach_audit.proofs.audit.audit_parts.Goals as goal
 
-pub returns : goal.returns
-returns g c = λ bytes image.
+pub returns-clause-judged : goal.returns-clause-judged
+returns-clause-judged g c = λ bytes image.
     let m = c.args.image.now in
     let limit = c.args.limit in
     let parts : Parts g.row.B.Denot = record {
@@ -51,3 +52,30 @@ returns g c = λ bytes image.
     (layout_judged (HasLayoutFaults bytes) parts.layout.items ((c.layout_faults_of_image.ensures.strict bytes image parts.layout.items).1
     c.in_ok-layout.ensures)
     (λ list others. c.one_list_of_layout_faults.ensures bytes list others))
+
+pub returns-clause-told : goal.returns-clause-told
+returns-clause-told g c = λ bytes image.
+    let m = c.args.image.now in
+    let limit = c.args.limit in
+    let parts : Parts g.row.B.Denot = record {
+      sections = c.in_ok-sections.sections;
+      relocations = c.in_ok-relocations.relocations;
+      symbols = c.in_ok-symbols.symbols;
+      exports = c.in_ok-exports.exports;
+      imports = c.in_ok-imports.imports;
+      fixups = c.in_ok-fixups.fixups;
+      bindings = c.in_ok-bindings.bindings;
+      layout = c.in_ok-layout.layout;
+    } in
+    let items = imports_left c.iter_imports.result in
+    let fixups = fixups_left c.fixups.result in
+    let bindings = bindings_left c.bindings.result in
+    image_told limit bytes m image parts
+    (rw c.as_slice-segments.ensures at c.in_ok-sections.ensures)
+    (rw (c.bytes-bytes.ensures, c.ctx-ctx.ensures, c.as_slice-segments.ensures) at c.in_ok-relocations.ensures)
+    (rw c.symbols.ensures.items at c.in_ok-symbols.ensures)
+    c.in_ok-exports.ensures
+    (items, (c.import_items_of_image.ensures.lossy bytes 0 image items).1 c.iter_imports.ensures, c.in_ok-imports.ensures)
+    (fixups, (c.fixups_of_image.ensures.lossy bytes 0 image fixups).1 c.fixups.ensures, c.in_ok-fixups.ensures)
+    (bindings, (c.bindings_of_image.ensures.lossy bytes 0 image bindings).1 c.bindings.ensures, c.in_ok-bindings.ensures)
+    ((c.layout_faults_of_image.ensures.lossy bytes image parts.layout.items).1 c.in_ok-layout.ensures)

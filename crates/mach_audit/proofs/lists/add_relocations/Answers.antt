@@ -13,7 +13,8 @@ use Rattle.mach_audit.proofs.lists.add_relocations.Goals as goal
 pub sections-preserved : goal.sections-preserved
 sections-preserved g c = λ limit items met.
     let all = c.args.sections in
-    let part : ℕ → Result (Section × List ℕ) Fault → List (Option FaultAt) = λ k s. faults_from (places.Relocation c.args.segment k) 0 (relocations_by c.args.ctx c.args.bytes.now s) in
+    let part : ℕ → Result (Section × List ℕ) Fault → List (Option FaultAt) = λ k s. faults_from (places.Relocation c.args.segment k) 0
+    (relocations_by c.args.ctx c.args.bytes.now s) in
     let n = c.sections.section in
     let m = c.saturating_add-section.result in
     let goes = c.sections.invariant limit items met in

@@ -7,4 +7,5 @@ use Rattle.mach_audit.proofs.lists.add_relocations_of.Given as goal
 
 abbrev pub invariant-relocations : goal.invariant-relocations
 invariant-relocations g l = (limit : ℕ) (items : List (Option FaultAt)) → HasMet limit items l.fn.tally
-    → Goes limit (places.Relocation l.fn.segment l.fn.section) items (relocations_left l.fn.relocations) (relocations_left l.relocation-iterator) l.index l.tally
+    → Goes limit (places.Relocation l.fn.segment l.fn.section) items (relocations_left l.fn.relocations)
+    (relocations_left l.relocation-iterator) l.index l.tally

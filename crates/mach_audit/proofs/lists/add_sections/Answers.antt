@@ -17,7 +17,8 @@ returns-then-not-branch g c = λ limit items met.
     let places_of = places.Section c.args.segment in
     let n = c.sections.index in
     let told = ap (option_map (λ e. (places_of n, fault_of e))) c.err.ensures.value ∙ err_told section_and_bytes (places_of n) c.in-Some.section in
-    let goes = goes_on limit places_of items all (sections_left c.sections.section-iterator) (sections_left c.next.new.self) n (n + 1) (section_read c.in-Some.section)
+    let goes = goes_on limit places_of items all (sections_left c.sections.section-iterator) (sections_left c.next.new.self) n (n + 1)
+    (section_read c.in-Some.section)
     (option_map (λ e. (places_of n, fault_of e)) c.err.result) c.sections.tally c.take.new.self (c.sections.invariant limit items met)
     c.in-Some.ensures.steps told c.in_ok-take.ensures.met refl in
     goes_cut limit places_of items all (sections_left c.next.new.self) (n + 1) c.take.new.self goes (c.in_ok-take.ensures.over c.if-not-branch.true)
@@ -30,12 +31,14 @@ sections-preserved g c = λ limit items met.
     let m = c.saturating_add-index.result in
     let goes = c.sections.invariant limit items met in
     let told = ap (option_map (λ e. (places_of n, fault_of e))) c.err.ensures.value ∙ err_told section_and_bytes (places_of n) c.in-Some.section in
-    let small = goes_small limit places_of items all (sections_left c.sections.section-iterator) n c.sections.tally goes (c.in_ok-take.ensures.on c.if-not-branch.false) in
+    let small = goes_small limit places_of items all (sections_left c.sections.section-iterator) n c.sections.tally goes
+    (c.in_ok-take.ensures.on c.if-not-branch.false) in
     goes_on limit places_of items all (sections_left c.sections.section-iterator) (sections_left c.next.new.self) n m (section_read c.in-Some.section)
     (option_map (λ e. (places_of n, fault_of e)) c.err.result) c.sections.tally c.take.new.self goes c.in-Some.ensures.steps told
     c.in_ok-take.ensures.met (next_number n m small c.saturating_add-index.ensures)
 
 pub returns : goal.returns
 returns g c = λ limit items met.
-    goes_over limit (places.Section c.args.segment) items (sections_left c.args.sections) (sections_left c.sections.section-iterator) c.sections.index c.sections.tally (c.sections.invariant limit items met)
+    goes_over limit (places.Section c.args.segment) items (sections_left c.args.sections)
+    (sections_left c.sections.section-iterator) c.sections.index c.sections.tally (c.sections.invariant limit items met)
     c.in-None.ensures.steps.0

@@ -18,7 +18,8 @@ returns-then-not-branch g c =
     let n = c.bindings.index in
     let place = places.Binding n in
     let told = ap (option_map (λ e. (place, fault_of e))) c.err.ensures.value ∙ binding_told place c.in-Some.binding in
-    let goes = goes_on c.args.limit places.Binding [] all (bindings_left c.bindings.binding-iterator) (bindings_left c.next.new.self) n (n + 1) (binding_read c.in-Some.binding)
+    let goes = goes_on c.args.limit places.Binding [] all (bindings_left c.bindings.binding-iterator) (bindings_left c.next.new.self) n (n + 1)
+    (binding_read c.in-Some.binding)
     (option_map (λ e. (place, fault_of e)) c.err.result) c.bindings.tally c.take.new.self c.bindings.invariant c.in-Some.ensures.steps told
     c.in_ok-take.ensures.met refl in
     rw c.part.ensures (goes_cut c.args.limit places.Binding [] all (bindings_left c.next.new.self) (n + 1) c.take.new.self goes
@@ -39,5 +40,6 @@ bindings-preserved g c =
 
 pub returns : goal.returns
 returns g c =
-    rw c.part-2.ensures (goes_over c.args.limit places.Binding [] (bindings_left c.args.bindings) (bindings_left c.bindings.binding-iterator) c.bindings.index c.bindings.tally
+    rw c.part-2.ensures (goes_over c.args.limit places.Binding [] (bindings_left c.args.bindings)
+    (bindings_left c.bindings.binding-iterator) c.bindings.index c.bindings.tally
     c.bindings.invariant c.in-None.ensures.steps.0).tells

@@ -47,11 +47,12 @@ returns-then-not-branch g c =
     let tally = c.take-in-Ok-export.new.self in
     let one_more = export_more c.args.limit c.exports.index found.0 (Ok one) None c.exports.tally tally found.2 found.3 refl
     c.in_ok-take-in-Ok-export.ensures.met in
-    let met = subst (λ (items : List (Result Entry Fault)). HasMet c.args.limit (faults_from places.Export 0 items) tally) (sym (ok_more found.0 one)) one_more in
+    let met = subst (λ (items : List (Result Entry Fault)). HasMet c.args.limit (faults_from places.Export 0 items) tally)
+    (sym (ok_more found.0 one)) one_more in
     rw c.part-then-not-branch.ensures (record {
       items = entries_ok all;
       met = past_limit all (given_begins t libs all c.next.follows.lender-at-none (goes.1 t libs found.0 found.1))
-      (export_long c.args.limit all tally met (c.in_ok-take-in-Ok-export.ensures.over c.if-not-branch.true));
+          (export_long c.args.limit all tally met (c.in_ok-take-in-Ok-export.ensures.over c.if-not-branch.true));
       tells = met.tells;
     })
 

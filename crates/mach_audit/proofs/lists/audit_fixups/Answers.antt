@@ -18,7 +18,8 @@ returns-then-not-branch g c =
     let n = c.fixups.index in
     let place = places.Fixup n in
     let told = ap (option_map (λ e. (place, fault_of e))) c.err.ensures.value ∙ err_told fixup_view place c.in-Some.fixup in
-    let goes = goes_on c.args.limit places.Fixup [] all (fixups_left c.fixups.fixup-iterator) (fixups_left c.next.new.self) n (n + 1) (fixup_read c.in-Some.fixup)
+    let goes = goes_on c.args.limit places.Fixup [] all (fixups_left c.fixups.fixup-iterator) (fixups_left c.next.new.self) n (n + 1)
+    (fixup_read c.in-Some.fixup)
     (option_map (λ e. (place, fault_of e)) c.err.result) c.fixups.tally c.take.new.self c.fixups.invariant c.in-Some.ensures.steps told
     c.in_ok-take.ensures.met refl in
     rw c.part.ensures (goes_cut c.args.limit places.Fixup [] all (fixups_left c.next.new.self) (n + 1) c.take.new.self goes

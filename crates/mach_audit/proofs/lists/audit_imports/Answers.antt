@@ -17,7 +17,8 @@ returns-then-not-branch g c =
     let n = c.imports.index in
     let place = places.Import n in
     let told = ap (option_map (λ e. (place, fault_of e))) c.err.ensures.value ∙ import_told place c.in-Some.import in
-    let goes = goes_on c.args.limit places.Import [] all (imports_left c.imports.import-iterator) (imports_left c.next.new.self) n (n + 1) (import_read c.in-Some.import)
+    let goes = goes_on c.args.limit places.Import [] all (imports_left c.imports.import-iterator) (imports_left c.next.new.self) n (n + 1)
+    (import_read c.in-Some.import)
     (option_map (λ e. (place, fault_of e)) c.err.result) c.imports.tally c.take.new.self c.imports.invariant c.in-Some.ensures.steps told
     c.in_ok-take.ensures.met refl in
     rw c.part.ensures (goes_cut c.args.limit places.Import [] all (imports_left c.next.new.self) (n + 1) c.take.new.self goes
@@ -38,5 +39,6 @@ imports-preserved g c =
 
 pub returns : goal.returns
 returns g c =
-    rw c.part-2.ensures (goes_over c.args.limit places.Import [] (imports_left c.args.imports) (imports_left c.imports.import-iterator) c.imports.index c.imports.tally
+    rw c.part-2.ensures (goes_over c.args.limit places.Import [] (imports_left c.args.imports)
+    (imports_left c.imports.import-iterator) c.imports.index c.imports.tally
     c.imports.invariant c.in-None.ensures.steps.0).tells

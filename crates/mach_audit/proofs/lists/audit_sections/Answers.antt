@@ -14,6 +14,7 @@ loop-segment-preserved g c =
     let added = c.in_ok-add_sections.ensures c.args.limit (section_faults (map segment_view (take i segments))) before.0 in
     let here = rw (c.into_iter.ensures.into_iter_gives, before.1) at added in (
       subst (λ (xs : List (Option FaultAt)). HasMet c.args.limit xs c.add_sections.new.tally)
-      (sym (one_part_more segment_view part segments i _ c.loop-segment-test.true)) here,
-      rw before.1 at (next_number c.loop-segment.number c.saturating_add-number.result (omega (arith, before.1, c.loop-segment-test.true)) c.saturating_add-number.ensures),
+          (sym (one_part_more segment_view part segments i _ c.loop-segment-test.true)) here,
+      rw before.1 at (next_number c.loop-segment.number c.saturating_add-number.result
+      (omega (arith, before.1, c.loop-segment-test.true)) c.saturating_add-number.ensures),
     )

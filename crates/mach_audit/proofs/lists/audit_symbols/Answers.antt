@@ -17,7 +17,8 @@ returns-then-not-branch g c =
     let n = c.symbols.index in
     let place = places.Symbol n in
     let told = ap (option_map (λ e. (place, fault_of e))) c.err.ensures.value ∙ err_told (λ found. (found.0.now, found.1)) place c.in-Some.symbol in
-    let goes = goes_on c.args.limit places.Symbol [] all (symbols_left c.symbols.symbol-iterator) (symbols_left c.next.new.self) n (n + 1) (symbol_read c.in-Some.symbol)
+    let goes = goes_on c.args.limit places.Symbol [] all (symbols_left c.symbols.symbol-iterator) (symbols_left c.next.new.self) n (n + 1)
+    (symbol_read c.in-Some.symbol)
     (option_map (λ e. (place, fault_of e)) c.err.result) c.symbols.tally c.take.new.self c.symbols.invariant c.in-Some.ensures.steps told
     c.in_ok-take.ensures.met refl in
     rw c.part.ensures (goes_cut c.args.limit places.Symbol [] all (symbols_left c.next.new.self) (n + 1) c.take.new.self goes
@@ -38,5 +39,6 @@ symbols-preserved g c =
 
 pub returns : goal.returns
 returns g c =
-    rw c.part-2.ensures (goes_over c.args.limit places.Symbol [] (symbols_left c.args.symbols) (symbols_left c.symbols.symbol-iterator) c.symbols.index c.symbols.tally
+    rw c.part-2.ensures (goes_over c.args.limit places.Symbol [] (symbols_left c.args.symbols)
+    (symbols_left c.symbols.symbol-iterator) c.symbols.index c.symbols.tally
     c.symbols.invariant c.in-None.ensures.steps.0).tells
