@@ -1,5 +1,5 @@
 -- Files that are sound, and what opens of them.
-use Rattle.std.proofs.Common.{◌++◌, below_more, min, nat_lt, ◌≡◌, ◌<◌, ◌+◌, ◌∙◌, ◌∷◌, [], ℕ, zero, suc, Bool, true, false, List}
+use Rattle.std.proofs.Common.{◌++◌, below_more, min, nat_lt, ◌≡◌, ◌<◌, ◌≤◌, ◌+◌, ◌∙◌, ◌∷◌, [], ℕ, zero, suc, Bool, true, false, List}
 use Rattle.std.proofs.Common.{Result, Ok, Err, refl, sym, ap, subst, arith, inl, inr}
 use Rattle.std.proofs.Math.Dec.{eqb-suc-zero}
 use Rattle.std.proofs.lemmas.Bool.{ltb-true, ltb-false}
@@ -22,7 +22,7 @@ use Rattle.mach_rules.specs.Containers.{AreContainerFaults}
 use Rattle.mach_rules.specs.declared.fault.LayoutFault.{LayoutFault}
 use Rattle.mach_rules.specs.declared.fault.Rule.TheVariants as rule
 use Rattle.goblin_mach.specs.FatFile.{FatFile, fat_file_in, arches_in}
-use Rattle.mach_image.specs.Image.{Opens, ImageFault}
+use Rattle.mach_image.specs.Image.{Opens, LossyOpens, ImageFault}
 use Rattle.goblin_mach.specs.File.{HasFatMagic, MachFault}
 use Rattle.goblin_mach.specs.View.{HasEntries, fat_table, of_file, IsTold}
 use Rattle.mach_audit.proofs.Goes.{stands_of}
@@ -53,17 +53,35 @@ refused_judged limit bytes e stands told = faulty_judged (λ s.
 -- the file of one image
 pub image_judged : (limit : ℕ) (bytes : List ℕ) (v : Verdict) → Opens bytes 0 → Judges (IsSoundImage bytes) (HasLongList limit bytes) v
     → Judges (IsSound bytes) (IsLong limit bytes) v
-image_judged limit bytes v opens j = judged_as v (λ s. sound.one_image s) back (λ l. sound.of_image l) j
+image_judged limit bytes v opens j = judged_as v (λ s. sound.one_image s) back (λ l. sound.of_image l) shorter j
   where
+    shorter : IsLong limit bytes → HasLongList limit bytes
+    shorter (sound.of_image l) = l
+    shorter (sound.of_fat file fat is l) = absurd (no_fat bytes opens fat)
+
     back : IsSound bytes → IsSoundImage bytes
     back (sound.one_image s) = s
     back (sound.fat_file file fat is table s) = absurd (no_fat bytes opens fat)
 
+-- a long list is one of an image that opens
+long_opens : (limit : ℕ) (bytes : List ℕ) → HasLongList limit bytes → LossyOpens bytes 0
+long_opens limit bytes (sound.of_sections items has l) = (has.ctx, has.cs, has.opens)
+long_opens limit bytes (sound.of_relocations items has l) = (has.ctx, has.cs, has.opens)
+long_opens limit bytes (sound.of_symbols items has l) = (has.ctx, has.cs, has.opens)
+long_opens limit bytes (sound.of_exports items has l) = (has.ctx, has.cs, has.opens)
+long_opens limit bytes (sound.of_imports items has l) = (has.ctx, has.cs, has.opens)
+long_opens limit bytes (sound.of_fixups items has l) = (has.ctx, has.cs, has.opens)
+long_opens limit bytes (sound.of_bindings items has l) = (has.ctx, has.cs, has.opens)
+
 -- a fat file
 pub fat_judged : (limit : ℕ) (bytes : List ℕ) (file : FatFile) (v : Verdict) → HasFatMagic bytes → fat_file_in bytes ≡ Ok file
     → Judges (AreContainerFaults bytes [] × IsSoundFat file) (IsLongFat limit file) v → Judges (IsSound bytes) (IsLong limit bytes) v
-fat_judged limit bytes file v fat is j = judged_as v (λ s. sound.fat_file file fat is s.0 s.1) back (λ l. sound.of_fat file fat is l) j
+fat_judged limit bytes file v fat is j = judged_as v (λ s. sound.fat_file file fat is s.0 s.1) back (λ l. sound.of_fat file fat is l) shorter j
   where
+    shorter : IsLong limit bytes → IsLongFat limit file
+    shorter (sound.of_image l) = absurd (fat-excludes_image bytes fat (long_opens limit bytes l))
+    shorter (sound.of_fat other f other_is l) = subst (λ (x : FatFile). IsLongFat limit x) (same_ok (sym other_is ∙ is)) l
+
     back : IsSound bytes → AreContainerFaults bytes [] × IsSoundFat file
     back (sound.one_image s) = absurd (no_fat bytes s.opens fat)
     back (sound.fat_file other f other_is none s) = (none, subst (λ (x : FatFile). IsSoundFat x) (same_ok (sym other_is ∙ is)) s)
@@ -79,7 +97,7 @@ SomeLong limit file n = (k : ℕ) × (k < n) × IsLongEntry limit (entry_at file
 
 pub archive_judged : (A : Type 0) (limit : ℕ) (entry : Result FatEntry Fault) (e : FatEntry) (bytes : Bor (List ℕ)) → entry ≡ Ok e
     → IsEntry {A = A} e (arches.Archive bytes) → Judges (IsSoundEntry entry) (IsLongEntry limit entry) Sound
-archive_judged A limit entry (archive slice) bytes is entry_is = sound_judged (rw is tt)
+archive_judged A limit entry (archive slice) bytes is entry_is = sound_judged (rw is tt) (λ l. subst (λ (x : Result FatEntry Fault). IsLongEntry limit x) is l)
 archive_judged A limit entry (image slice) bytes is entry_is = absurd entry_is
 
 pub entry_judged : {A : Type 0} (limit : ℕ) (entry : Result FatEntry Fault) (e : FatEntry) (m : MachO A) (v : Verdict) → entry ≡ Ok e
@@ -107,7 +125,7 @@ verdict_push (x ∷ es) e =
     ap (both (verdict_of_entry x)) (verdict_push es e) ∙ sym (both_assoc (verdict_of_entry x) (verdict_of_entries es) (verdict_of_entry e))
 
 pub no_entries_judged : (limit : ℕ) (file : FatFile) → Judges (AllSound file 0) (SomeLong limit file 0) Sound
-no_entries_judged limit file = sound_judged (λ k less. absurd (omega (arith, less)))
+no_entries_judged limit file = sound_judged (λ k less. absurd (omega (arith, less))) (λ l. let less = l.1 in omega (arith, less))
 
 pub entries_more : {A : Type 0} (limit : ℕ) (file : FatFile) (n : ℕ) (es : List (EntryReport A)) (e : EntryReport A)
     → Judges (AllSound file n) (SomeLong limit file n) (verdict_of_entries es)
@@ -116,8 +134,15 @@ pub entries_more : {A : Type 0} (limit : ℕ) (file : FatFile) (n : ℕ) (es : L
 entries_more limit file n es e before here =
     subst (λ (v : Verdict). Judges (AllSound file (n + 1)) (SomeLong limit file (n + 1)) v) (sym (verdict_push es e))
     (judged_as (both (verdict_of_entries es) (verdict_of_entry e)) (λ s. below_more _ _ s.0 s.1)
-    (λ s. ((λ k less. s k (omega (arith, less))), s n (omega arith))) longer (both_judged _ _ before here))
+    (λ s. ((λ k less. s k (omega (arith, less))), s n (omega arith))) longer (λ l. nearer l (nat_lt l.0 n) refl) (both_judged _ _ before here))
   where
+    nearer : (l : SomeLong limit file (n + 1)) (b : Bool) → nat_lt l.0 n ≡ b → SomeLong limit file n ⊎ IsLongEntry limit (entry_at file n)
+    nearer l true e = inl (l.0, ltb-true l.0 n e, l.2)
+    nearer l false e =
+        let less = l.1 in
+        let last : l.0 ≡ n = omega (arith, less, ltb-false l.0 n e) in
+        inr (subst (λ (k : ℕ). IsLongEntry limit (entry_at file k)) last l.2)
+
     longer : SomeLong limit file n ⊎ IsLongEntry limit (entry_at file n) → SomeLong limit file (n + 1)
     longer (inl l) = let less = l.1 in (l.0, omega (arith, less), l.2)
     longer (inr l) = (n, omega arith, l)
@@ -130,6 +155,10 @@ fat_file_judged limit file n cut v table is cut_is judged = by_count file.narche
   where
     long_of : SomeLong limit file n → IsLongFat limit file
     long_of l = let less = l.1 in sound.of_entry l.0 (omega (arith, less, is)) l.2
+
+    shorter : file.narches ≤ limit → IsLongFat limit file → SomeLong limit file n
+    shorter short (sound.of_entries less) = absurd (omega (arith, less, short))
+    shorter short (sound.of_entry k less l) = (k, omega (arith, less, is, short), l)
 
     fewer : IsSoundFat file → AllSound file n
     fewer s k less = s.entries k (omega (arith, less, is))
@@ -146,7 +175,7 @@ fat_file_judged limit file n cut v table is cut_is judged = by_count file.narche
     by_count (suc k) false e f =
         let short = ltb-false limit file.narches (sym cut_is ∙ f) in
         rw (eqb-suc-zero k) (judged_as v (λ s. record { some = omega (arith, e); table = table; entries = λ j less. s j (omega (arith, less, is, short)) })
-        fewer long_of judged)
+        fewer long_of (shorter short) judged)
 
 -- a fat file whose table can't be read
 pub no_table_judged : {L : Type 0} (file : FatFile) (e : Error) → FailsAs e (arches_in file) → IsTold e → Judges (IsSoundFat file) L Faulty

@@ -1,12 +1,12 @@
 -- When a file is sound: everything in it opens and can be read.
-use Rattle.std.specs.Prelude.{◌≡◌, ◌<◌, ◌≤◌, ℕ, Bool, IsTrue, is_ok, List, [], length, Result, Ok, Err, IsOk}
+use Rattle.std.specs.Prelude.{◌≡◌, ◌<◌, ◌++◌, ◌∷◌, ℕ, Bool, IsTrue, is_ok, List, [], map, length, Result, Ok, Err, IsOk}
 use Rattle.std.specs.List.{list_all, flat_map}
 use Rattle.mach_base.specs.Fault.{Fault}
 use Rattle.mach_base.specs.declared.context.Ctx.{Ctx}
 use Rattle.mach_binds.specs.Imports.{Import}
 use Rattle.mach_tries.specs.Lists.{ListBegins}
 use Rattle.mach_tries.specs.Trie as trie
-use Rattle.mach_tries.specs.TrieRange.{trie_there}
+use Rattle.mach_tries.specs.TrieRange.{TrieRange, trie_there, ListsExports, ExportsFault}
 use Rattle.mach_chained.specs.Fixups.{Fixup}
 use Rattle.mach_segments.specs.Bindings.{Binding}
 use Rattle.mach_segments.specs.Relocation.{relocations_at}
@@ -44,10 +44,18 @@ all_relocations ctx bytes segments = flat_map (λ s. flat_map (relocations_by ct
 abbrev pub HasAllRelocations : List ℕ → ℕ → List (Result RelocationInfo Fault) → Type 0
 HasAllRelocations bytes o items = OfImage bytes o (λ ctx cs. items ≡ all_relocations ctx bytes (lossy_segments_in ctx bytes cs))
 
--- the exports of an image begin with these
-abbrev pub ExportsBegin : List ℕ → ℕ → List trie.Entry → Type 0
-ExportsBegin bytes o found = OfImage bytes o (λ ctx cs.
-    ListBegins (trie_there (trie_or_empty (trie_in bytes cs)) (libs_in bytes cs)) (trie_or_empty (trie_in bytes cs)).from [] found)
+-- What is met of the exports of a trie, up to one item more than `limit`: all of them; or those before a fault, and the fault; or so many that
+-- there are more than `limit`.
+pub data AreExportItems (limit : ℕ) (t : TrieRange) (libs : List (List ℕ)) : List (Result trie.Entry Fault) → Type 0 where
+  all_exports : (list : List trie.Entry) → ListsExports t libs list → AreExportItems limit t libs (map Ok list)
+  up_to_fault : (found : List trie.Entry) (f : Fault) → ListBegins (trie_there t libs) t.from [] found → ExportsFault t libs f
+      → AreExportItems limit t libs (map Ok found ++ Err f ∷ [])
+  past_limit : (found : List trie.Entry) → ListBegins (trie_there t libs) t.from [] found → limit < length found
+      → AreExportItems limit t libs (map Ok found)
+
+-- the same of an image
+abbrev pub HasExportItems : ℕ → List ℕ → ℕ → List (Result trie.Entry Fault) → Type 0
+HasExportItems limit bytes o items = OfImage bytes o (λ ctx cs. AreExportItems limit (trie_or_empty (trie_in bytes cs)) (libs_in bytes cs) items)
 
 -- The image at 0 opens strictly, so that its segments have their data; its layout has no fault; the sections of all its segments, all its relocations
 -- and all its symbols can be read; its exports and its imports have lists; and all fixups of its chains are there, and all
@@ -65,13 +73,12 @@ pub record IsSoundImage (bytes : List ℕ) : Type 0 where
   pub bindings : (items : List (Result Binding Fault)) × HasBindings bytes 0 items × IsTrue (are_all_ok items)
 
 -- A list of the image at 0 has more than so many items: one of those of its sections, its relocations, and so on. The items of a list count with the
--- fault that ends it. Of the exports so many at least come first, and behind them one more, or the trie's fault: no list is said here that has the fault as
--- an item, so the bound is not strict there.
+-- fault that ends it.
 pub data HasLongList (limit : ℕ) (bytes : List ℕ) : Type 0 where
   of_sections : (segments : List SegmentView) → HasSegments bytes 0 segments → limit < length (all_sections segments) → HasLongList limit bytes
   of_relocations : (items : List (Result RelocationInfo Fault)) → HasAllRelocations bytes 0 items → limit < length items → HasLongList limit bytes
   of_symbols : (rows : List (Result (List ℕ × Nlist) Fault)) → HasSymbols bytes 0 rows → limit < length rows → HasLongList limit bytes
-  of_exports : (found : List trie.Entry) → ExportsBegin bytes 0 found → limit ≤ length found → HasLongList limit bytes
+  of_exports : (items : List (Result trie.Entry Fault)) → HasExportItems limit bytes 0 items → limit < length items → HasLongList limit bytes
   of_imports : (items : List (Result Import Fault)) → HasImportItems bytes 0 items → limit < length items → HasLongList limit bytes
   of_fixups : (items : List (Result Fixup Fault)) → HasFixups bytes 0 items → limit < length items → HasLongList limit bytes
   of_bindings : (items : List (Result Binding Fault)) → HasBindings bytes 0 items → limit < length items → HasLongList limit bytes

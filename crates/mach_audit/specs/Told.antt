@@ -1,54 +1,81 @@
--- What is told of a list: of its first items those that can't be read.
-use Rattle.std.specs.Prelude.{◌≡◌, ◌<◌, ◌≤◌, ◌-◌, ◌^◌, ℕ, Bool, false, IsTrue, List, [], map, take, length, Option, Some, None, Result, Ok, Err, nat_lt}
+-- What is told of a list: of its first items those that can't be read, each by its place.
+use Rattle.std.specs.Prelude.{◌≡◌, ◌<◌, ◌+◌, ◌-◌, ◌^◌, ◌++◌, ◌∷◌, ℕ, Bool, false, List, [], map, take, length, Option, Some, None, Result, Ok, Err, nat_lt}
 use Rattle.std.specs.List.{filter_map}
 use Rattle.mach_base.specs.Fault.{Fault, fault_of}
-use Rattle.mach_tries.specs.Lists.{ListBegins}
+use Rattle.mach_base.specs.declared.context.Ctx.{Ctx}
+use Rattle.mach_segments.specs.declared.relocation.RelocationInfo.{RelocationInfo}
+use Rattle.mach_segments.specs.Segment.{SegmentView, sections_of}
+use Rattle.mach_tries.specs.TrieRange.{TrieRange}
 use Rattle.mach_tries.specs.Trie as trie
-use Rattle.mach_tries.specs.TrieRange.{TrieRange, trie_there, ListsExports, ExportsFault}
+use Rattle.mach_audit.specs.Sound.{relocations_by, AreExportItems}
 use Rattle.mach_audit.specs.declared.report.Finding.{Finding}
 use Rattle.mach_audit.specs.declared.report.Part.{Part}
+use Rattle.mach_audit.specs.declared.report.Place.{Place}
+use Rattle.mach_audit.specs.declared.report.Place.TheVariants as places
 use Rattle.mach_audit.specs.declared.tally.Tally.{Tally}
 
--- why an item can't be read, if it can't
-abbrev pub fault_in : {X : Type 0} → Result X Fault → Option Fault
-fault_in (Ok x) = None
-fault_in (Err f) = Some f
+-- where an item stands that can't be read, and why it can't
+abbrev pub FaultAt : Type 0
+FaultAt = Place × Fault
 
--- that of each item
-abbrev pub faults_in : {X : Type 0} → List (Result X Fault) → List (Option Fault)
-faults_in items = map fault_in items
+-- that of an item at a place, if it can't be read
+abbrev pub fault_at : {X : Type 0} → Place → Result X Fault → Option FaultAt
+fault_at place (Ok x) = None
+fault_at place (Err f) = Some (place, f)
+
+-- that of each item, where the first has this number
+abbrev pub faults_from : {X : Type 0} → (ℕ → Place) → ℕ → List (Result X Fault) → List (Option FaultAt)
+faults_from place n [] = []
+faults_from place n (item ∷ items) = fault_at (place n) item ∷ faults_from place (n + 1) items
+
+-- those of several lists, where the first has this number
+abbrev pub faults_each : {X : Type 0} → (ℕ → X → List (Option FaultAt)) → ℕ → List X → List (Option FaultAt)
+faults_each part n [] = []
+faults_each part n (x ∷ xs) = part n x ++ faults_each part (n + 1) xs
+
+-- those of the sections of all segments
+abbrev pub section_faults : List SegmentView → List (Option FaultAt)
+section_faults segments = faults_each (λ n s. faults_from (places.Section n) 0 (sections_of s)) 0 segments
+
+-- those of the relocations of the sections of a segment
+abbrev pub relocation_faults_by : {S : Type 0} → (S → List (Result RelocationInfo Fault)) → ℕ → List S → List (Option FaultAt)
+relocation_faults_by relocations n sections = faults_each (λ k s. faults_from (places.Relocation n k) 0 (relocations s)) 0 sections
+
+-- and of all segments
+abbrev pub relocation_faults : Ctx → List ℕ → List SegmentView → List (Option FaultAt)
+relocation_faults ctx bytes segments = faults_each (λ n s. relocation_faults_by (relocations_by ctx bytes) n (sections_of s)) 0 segments
 
 -- the faults that stand, in order
-abbrev pub faults_of : List (Option Fault) → List Fault
+abbrev pub faults_of : List (Option FaultAt) → List FaultAt
 faults_of items = filter_map (λ item. item) items
 
 -- the fault that is told
-abbrev pub fault_told : Finding → Fault
-fault_told finding = fault_of finding.error
+abbrev pub fault_told : Finding → FaultAt
+fault_told finding = (finding.place, fault_of finding.error)
 
 -- A part tells the first ten of these faults, and how many they are.
-pub record Tells {A : Type 0} (faults : List Fault) (p : Part A) : Type 0 where
+pub record Tells {A : Type 0} (faults : List FaultAt) (p : Part A) : Type 0 where
   pub told : map fault_told p.told.items ≡ take 10 faults
   pub count : p.faults ≡ length faults
 
 -- A part tells what can't be read among the first `limit` items, and whether there are more items than that.
-pub record TellsOf {A : Type 0} (limit : ℕ) (items : List (Option Fault)) (p : Part A) : Type 0 where
+pub record TellsOf {A : Type 0} (limit : ℕ) (items : List (Option FaultAt)) (p : Part A) : Type 0 where
   pub faults : Tells (faults_of (take limit items)) p
   pub cut : p.cut ≡ nat_lt limit (length items)
 
 -- A count has met these items, of which at most `limit` are gone over.
-pub record HasMet {A : Type 0} (limit : ℕ) (items : List (Option Fault)) (t : Tally A) : Type 0 where
+pub record HasMet {A : Type 0} (limit : ℕ) (items : List (Option FaultAt)) (t : Tally A) : Type 0 where
   pub small : limit < 2 ^ 64
   pub left : t.left ≡ limit - length items
   pub tells : TellsOf limit items t.part
 
--- A part tells of a trie: a fault only where one stands, and its end only where it has a list; or that it has `limit` exports at least.
+-- A part tells of the exports of a trie: of those that were met before it had more than `limit`.
 pub record TellsOfTrie {A : Type 0} (limit : ℕ) (t : TrieRange) (libs : List (List ℕ)) (p : Part A) : Type 0 where
-  pub faulty : 0 < p.faults → (f : Fault) × ExportsFault t libs f
-  pub listed : p.faults ≡ 0 → p.cut ≡ false → (list : List trie.Entry) × ListsExports t libs list
-  pub cut : IsTrue p.cut → (found : List trie.Entry) × ListBegins (trie_there t libs) t.from [] found × (limit ≤ length found)
+  pub items : List (Result trie.Entry Fault)
+  pub met : AreExportItems limit t libs items
+  pub tells : TellsOf limit (faults_from places.Export 0 items) p
 
 -- What is told of the relocations: that they were not read, only where the sections have a fault or too many items; else the relocations.
-abbrev pub TellsRelocations : {A : Type 0} → ℕ → List (Option Fault) → (clean : Bool) → Option (Part A) → Type 0
+abbrev pub TellsRelocations : {A : Type 0} → ℕ → List (Option FaultAt) → (clean : Bool) → Option (Part A) → Type 0
 TellsRelocations limit items clean None = clean ≡ false
 TellsRelocations limit items clean (Some p) = TellsOf limit items p

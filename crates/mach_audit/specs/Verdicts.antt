@@ -82,9 +82,10 @@ status_of Sound = 0
 status_of Unended = 1
 status_of Faulty = 1
 
--- A verdict on something that is sound or not, and in which a list is too long to be gone over or not: sound only where it is,
--- faulty only where it isn't, unended only where there is such a list.
+-- A verdict on something that is sound or not, and in which a list is too long to be gone over or not: sound exactly where it is, and no list
+-- is so long; else faulty only where it isn't, and unended only where there is such a list.
 pub record Judges (IsSound IsLong : Type 0) (v : Verdict) : Type 0 where
   pub sound : v ≡ Sound → IsSound
+  pub whole : v ≡ Sound → IsLong → ⊥
   pub faulty : v ≡ Faulty → IsSound → ⊥
   pub unended : v ≡ Unended → IsLong

@@ -1,19 +1,20 @@
 //! What is wrong with a file, image by image and part by part.
 
-ghost use Rattle.std.specs.Prelude.{◌≡◌, ◌<◌, ℕ, List, [], map, Result, Option, IfOk};
+ghost use Rattle.std.specs.Prelude.{◌≡◌, ◌<◌, ℕ, List, [], map, Result, Option, Some, IfOk};
 ghost use Rattle.mach_base.specs.Answer.{Stands};
 ghost use Rattle.mach_base.specs.Fault.{Fault};
 ghost use Rattle.mach_segments.specs.Segment.{segment_view};
 ghost use Rattle.goblin_mach.specs.FatEntry.{entry_at};
 ghost use Rattle.goblin_mach.specs.FatFile.{file_held};
-ghost use Rattle.mach_image.specs.OpenImage.{IsImage};
+ghost use Rattle.mach_image.specs.OpenImage.{IsImage, IsLossyImage};
 ghost use Rattle.goblin_mach.specs.View.{IsTold};
 ghost use Rattle.mach_layout.specs.Bindings.{AreBindFaults};
 ghost use Rattle.mach_rules.specs.Containers.{AreContainerFaults};
 ghost use Rattle.mach_rules.specs.Faults.{AreLayoutFaults};
 ghost use Rattle.mach_layout.specs.Held.{laid_held};
-ghost use Rattle.mach_audit.specs.Sound.{IsSound, IsSoundEntry, IsSoundFat, IsSoundImage, IsLong, IsLongEntry, IsLongFat, HasLongList, all_relocations};
-ghost use Rattle.mach_audit.specs.Told.{TellsRelocations, faults_in};
+ghost use Rattle.mach_audit.specs.Report.{IsReport, IsEntryReport, IsFatReport, TellsImage, TellsLossily, reason_of};
+ghost use Rattle.mach_audit.specs.Sound.{IsSound, IsSoundEntry, IsSoundFat, IsSoundImage, IsLong, IsLongEntry, IsLongFat, HasLongList};
+ghost use Rattle.mach_audit.specs.Told.{TellsRelocations, relocation_faults};
 ghost use Rattle.mach_audit.specs.Verdicts.{Judges, is_clean, verdict_of_parts, verdict_of_image, verdict_of_entry, verdict_of_fat, verdict_of_report};
 ghost use Rattle.mach_audit.specs.declared.verdict.Verdict.TheVariants as verdicts;
 
@@ -36,7 +37,7 @@ fn audit_relocated<A: Allocator + Clone>(
     sections: &Part<A>,
     limit: usize,
 ) -> Result<Option<Part<A>>, Failure>
-    ensures { IfOk result (TellsRelocations limit (faults_in (all_relocations ctx bytes.now (map segment_view segments.now))) (is_clean sections.now)) }
+    ensures { IfOk result (TellsRelocations limit (relocation_faults ctx bytes.now (map segment_view segments.now)) (is_clean sections.now)) }
 {
     if !sections.is_clean() {
         return Ok(None);
@@ -77,7 +78,8 @@ fn audit_parts<A: Allocator, B: Allocator + Clone>(
     image: &MachO<'_, A>,
     limit: usize,
 ) -> Result<Parts<B>, Failure>
-    ensures { (bytes : List ℕ) → IsImage bytes 0 image.now
+    ensures told { (bytes : List ℕ) → IsLossyImage bytes 0 image.now → IfOk result (TellsImage limit bytes) }
+    ensures judged { (bytes : List ℕ) → IsImage bytes 0 image.now
         → IfOk result (λ p. Judges (IsSoundImage bytes) (HasLongList limit bytes) (verdict_of_parts p)) }
 {
     let segments = image.segments.as_slice();
@@ -118,7 +120,8 @@ fn audit_refused<A: Allocator + Clone>(
     error: Error,
     limit: usize,
 ) -> Result<ImageReport<A>, Failure>
-    ensures { IfOk result (λ r. (verdict_of_image r ≡ verdicts.Faulty) × IsTold error) }
+    ensures reason { IfOk result (λ r. (reason_of r ≡ Some error) × IsTold error) }
+    ensures told { IfOk result (TellsLossily limit bytes.now) }
 {
     let error = no_memory(error)?;
     match Mach::parse_lossy(alloc.clone()?, bytes) {
@@ -139,7 +142,9 @@ fn audit_entry<A: Allocator + Clone>(
     bytes: &[u8],
     limit: usize,
 ) -> Result<EntryReport<A>, Failure>
-    ensures { IfOk result (λ r. Judges (IsSoundEntry (entry_at (file_held container.now) index)) (IsLongEntry limit (entry_at (file_held container.now) index))
+    ensures told { IfOk result (IsEntryReport limit (entry_at (file_held container.now) index)) }
+    ensures judged { IfOk result (λ r. Judges (IsSoundEntry (entry_at (file_held container.now) index))
+        (IsLongEntry limit (entry_at (file_held container.now) index))
         (verdict_of_entry r)) }
 {
     match container.get(index) {
@@ -162,7 +167,8 @@ fn audit_fat<A: Allocator + Clone>(
     bytes: &[u8],
     limit: usize,
 ) -> Result<FatReport<A>, Failure>
-    ensures { IfOk result (λ r. Judges (AreContainerFaults bytes.now [] × IsSoundFat (file_held container.now))
+    ensures told { IfOk result (IsFatReport limit bytes.now (file_held container.now)) }
+    ensures judged { IfOk result (λ r. Judges (AreContainerFaults bytes.now [] × IsSoundFat (file_held container.now))
         (IsLongFat limit (file_held container.now)) (verdict_of_fat r)) }
 {
     let count = container.narches;
@@ -199,7 +205,8 @@ pub fn audit<A: Allocator + Clone>(
     bytes: &[u8],
     limit: usize,
 ) -> Result<Report<A>, Failure>
-    ensures { IfOk result (λ r. Judges (IsSound bytes.now) (IsLong limit bytes.now) (verdict_of_report r)) }
+    ensures told { IfOk result (IsReport limit bytes.now) }
+    ensures judged { IfOk result (λ r. Judges (IsSound bytes.now) (IsLong limit bytes.now) (verdict_of_report r)) }
 {
     match Mach::parse(alloc.clone()?, bytes) {
         Ok(Mach::Binary(image)) => {

@@ -1,20 +1,19 @@
 //! The lists of an image, one item at a time. None is kept.
 
-ghost use Rattle.std.specs.Prelude.{◌≡◌, ◌++◌, ℕ, List, Option, IfOk, OnOk, map};
-ghost use Rattle.std.specs.List.{flat_map};
-ghost use Rattle.mach_base.specs.Fault.{Fault};
+ghost use Rattle.std.specs.Prelude.{◌++◌, ℕ, List, Option, IfOk, OnOk, map};
 ghost use Rattle.mach_binds.specs.BindLeft.{imports_left};
 ghost use Rattle.mach_base.specs.Text.{texts};
 ghost use Rattle.mach_segments.specs.RelocationItems.{relocations_left};
 ghost use Rattle.mach_segments.specs.SectionItems.{sections_left, section_read};
-ghost use Rattle.mach_segments.specs.Segment.{segment_view, sections_of};
+ghost use Rattle.mach_segments.specs.Segment.{segment_view};
 ghost use Rattle.mach_symbols.specs.SymbolViews.{symbols_left};
 ghost use Rattle.mach_image.specs.BindingsLeft.{bindings_left};
 ghost use Rattle.mach_image.specs.FixupsLeft.{fixups_left};
 ghost use Rattle.mach_image.specs.OpenImage.{trie_held};
 ghost use Rattle.mach_image.specs.Subjects.{trie_or_empty};
-ghost use Rattle.mach_audit.specs.Sound.{all_sections, all_relocations, relocations_by};
-ghost use Rattle.mach_audit.specs.Told.{HasMet, TellsOf, TellsOfTrie, faults_in};
+ghost use Rattle.mach_audit.specs.Sound.{relocations_by};
+ghost use Rattle.mach_audit.specs.Told.{FaultAt, HasMet, TellsOf, TellsOfTrie, faults_from, section_faults, relocation_faults, relocation_faults_by};
+ghost use Rattle.mach_audit.specs.declared.report.Place.TheVariants as places;
 
 use crate::report::{Failure, Part, Place, no_memory};
 use crate::tally::Tally;
@@ -30,7 +29,7 @@ pub fn audit_sections<A: Allocator>(
     segments: &[Segment<'_>],
     limit: usize,
 ) -> Result<Part<A>, Failure>
-    ensures { IfOk result (TellsOf limit (faults_in (all_sections (map segment_view segments.now)))) }
+    ensures { IfOk result (TellsOf limit (section_faults (map segment_view segments.now))) }
 {
     let mut tally = Tally::new(alloc, limit);
     let mut number = 0usize;
@@ -47,8 +46,8 @@ fn add_sections<A: Allocator>(
     sections: SectionIterator<'_>,
     tally: &mut Tally<A>,
 ) -> Result<(), Failure>
-    ensures { OnOk result ((limit : ℕ) (items : List (Option Fault)) → HasMet limit items tally.old
-        → HasMet limit (items ++ faults_in (sections_left sections.entry)) tally.new) }
+    ensures { OnOk result ((limit : ℕ) (items : List (Option FaultAt)) → HasMet limit items tally.old
+        → HasMet limit (items ++ faults_from (places.Section segment) 0 (sections_left sections.entry)) tally.new) }
 {
     let mut index = 0usize;
     'sections: for section in sections {
@@ -68,7 +67,7 @@ pub fn audit_relocations<A: Allocator>(
     segments: &[Segment<'_>],
     limit: usize,
 ) -> Result<Part<A>, Failure>
-    ensures { IfOk result (TellsOf limit (faults_in (all_relocations ctx bytes.now (map segment_view segments.now)))) }
+    ensures { IfOk result (TellsOf limit (relocation_faults ctx bytes.now (map segment_view segments.now))) }
 {
     let mut tally = Tally::new(alloc, limit);
     let mut number = 0usize;
@@ -87,8 +86,8 @@ fn add_relocations<A: Allocator>(
     sections: SectionIterator<'_>,
     tally: &mut Tally<A>,
 ) -> Result<(), Failure>
-    ensures { OnOk result ((limit : ℕ) (items : List (Option Fault)) → HasMet limit items tally.old
-        → HasMet limit (items ++ faults_in (flat_map (relocations_by ctx bytes.now) (sections_left sections.entry))) tally.new) }
+    ensures { OnOk result ((limit : ℕ) (items : List (Option FaultAt)) → HasMet limit items tally.old
+        → HasMet limit (items ++ relocation_faults_by (relocations_by ctx bytes.now) segment (sections_left sections.entry)) tally.new) }
 {
     let mut section = 0usize;
     'sections: for item in sections {
@@ -106,8 +105,8 @@ fn add_relocations_by<A: Allocator>(
     item: &goblin_mach::Result<(Section, SectionData<'_>)>,
     tally: &mut Tally<A>,
 ) -> Result<(), Failure>
-    ensures { OnOk result ((limit : ℕ) (items : List (Option Fault)) → HasMet limit items tally.old
-        → HasMet limit (items ++ faults_in (relocations_by ctx bytes.now (section_read item.now))) tally.new) }
+    ensures { OnOk result ((limit : ℕ) (items : List (Option FaultAt)) → HasMet limit items tally.old
+        → HasMet limit (items ++ faults_from (places.Relocation numbers.0 numbers.1) 0 (relocations_by ctx bytes.now (section_read item.now))) tally.new) }
 {
     let Ok((section, _)) = item else {
         return Ok(());
@@ -123,8 +122,8 @@ fn add_relocations_of<A: Allocator>(
     relocations: RelocationIterator<'_>,
     tally: &mut Tally<A>,
 ) -> Result<(), Failure>
-    ensures { OnOk result ((limit : ℕ) (items : List (Option Fault)) → HasMet limit items tally.old
-        → HasMet limit (items ++ faults_in (relocations_left relocations.entry)) tally.new) }
+    ensures { OnOk result ((limit : ℕ) (items : List (Option FaultAt)) → HasMet limit items tally.old
+        → HasMet limit (items ++ faults_from (places.Relocation segment section) 0 (relocations_left relocations.entry)) tally.new) }
 {
     let mut index = 0usize;
     'relocations: for relocation in relocations {
@@ -178,7 +177,7 @@ pub fn audit_symbols<A: Allocator>(
     symbols: SymbolIterator<'_>,
     limit: usize,
 ) -> Result<Part<A>, Failure>
-    ensures { IfOk result (TellsOf limit (faults_in (symbols_left symbols.entry))) }
+    ensures { IfOk result (TellsOf limit (faults_from places.Symbol 0 (symbols_left symbols.entry))) }
 {
     let mut tally = Tally::new(alloc, limit);
     let mut index = 0usize;
@@ -197,7 +196,7 @@ pub fn audit_imports<A: Allocator>(
     imports: BindIterator<'_, '_>,
     limit: usize,
 ) -> Result<Part<A>, Failure>
-    ensures { IfOk result (TellsOf limit (faults_in (imports_left imports.entry))) }
+    ensures { IfOk result (TellsOf limit (faults_from places.Import 0 (imports_left imports.entry))) }
 {
     let mut tally = Tally::new(alloc, limit);
     let mut index = 0usize;
@@ -216,7 +215,7 @@ pub fn audit_fixups<A: Allocator>(
     fixups: FixupIterator<'_, '_>,
     limit: usize,
 ) -> Result<Part<A>, Failure>
-    ensures { IfOk result (TellsOf limit (faults_in (fixups_left fixups.entry))) }
+    ensures { IfOk result (TellsOf limit (faults_from places.Fixup 0 (fixups_left fixups.entry))) }
 {
     let mut tally = Tally::new(alloc, limit);
     let mut index = 0usize;
@@ -235,7 +234,7 @@ pub fn audit_bindings<A: Allocator>(
     bindings: BindingIterator<'_, '_>,
     limit: usize,
 ) -> Result<Part<A>, Failure>
-    ensures { IfOk result (TellsOf limit (faults_in (bindings_left bindings.entry))) }
+    ensures { IfOk result (TellsOf limit (faults_from places.Binding 0 (bindings_left bindings.entry))) }
 {
     let mut tally = Tally::new(alloc, limit);
     let mut index = 0usize;

@@ -27,8 +27,8 @@ pub struct Call<'a> {
     pub heading: bool,
 }
 
-/// Audits the bytes of a file, prints the report, and answers the exit status: 0 where the file is sound, 1 where it is not,
-/// or has more items than are gone over. What is printed has left the buffer then.
+/// Audits the bytes of a file, prints the report, and answers the exit status: 0 where the file is sound, and none of its lists
+/// is longer than the limit; 1 where it is not, or one is. What is printed has left the buffer then.
 pub fn run<A: Allocator + Clone, W: Write + Drop, B: Allocator>(
     alloc: &A,
     json: Global,
@@ -38,6 +38,7 @@ pub fn run<A: Allocator + Clone, W: Write + Drop, B: Allocator>(
 ) -> Result<u8, Failure>
     ensures bounds { IfOk result (λ status. status ≤ 1) }
     ensures sound { IfOk result (λ status. status ≡ 0 → IsSound bytes.now) }
+    ensures whole { IfOk result (λ status. status ≡ 0 → IsLong call.entry.options.limit bytes.now → ⊥) }
     ensures faulty { IfOk result (λ status. status ≡ 1 → (IsSound bytes.now → ⊥) ⊎ IsLong call.entry.options.limit bytes.now) }
     ensures flushed { OnOk result (writer_buffer out.new ≡ []) }
 {

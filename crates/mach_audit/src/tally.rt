@@ -1,8 +1,8 @@
 //! A count of the items of a list that can't be read.
 
-ghost use Rattle.std.specs.Prelude.{◌≡◌, ◌<◌, ◌+◌, ◌^◌, ◌++◌, ◌∷◌, ℕ, List, [], length, IsTrue, false, IfOk, OnOk, Option, option_map};
-ghost use Rattle.mach_base.specs.Fault.{Fault, fault_of};
-ghost use Rattle.mach_audit.specs.Told.{Tells, TellsOf, HasMet};
+ghost use Rattle.std.specs.Prelude.{◌≡◌, ◌<◌, ◌≤◌, ◌+◌, ◌^◌, ◌++◌, ◌∷◌, ℕ, List, [], length, IsTrue, false, true, IfOk, OnOk, Option, option_map};
+ghost use Rattle.mach_base.specs.Fault.{fault_of};
+ghost use Rattle.mach_audit.specs.Told.{FaultAt, Tells, TellsOf, HasMet};
 
 use crate::report::{Failure, Finding, Part, Place};
 use goblin_mach::Error;
@@ -36,9 +36,10 @@ impl<A: Allocator> Tally<A> {
     /// Takes one item more, by why it can't be read, if it can't, and answers whether to go on: not where this is one more
     /// than the limit. Want of memory is no fault of an item.
     pub fn take(&mut self, place: Place, error: Option<Error>) -> Result<bool, Failure>
-        ensures met { OnOk result ((limit : ℕ) (items : List (Option Fault)) → HasMet limit items self.old
-            → HasMet limit (items ++ option_map fault_of error ∷ []) self.new) }
+        ensures met { OnOk result ((limit : ℕ) (items : List (Option FaultAt)) → HasMet limit items self.old
+            → HasMet limit (items ++ option_map (λ e. (place, fault_of e)) error ∷ []) self.new) }
         ensures over { IfOk result (λ more. more ≡ false → IsTrue self.new.part.cut) }
+        ensures on { IfOk result (λ more. more ≡ true → 1 ≤ self.old.left) }
     {
         let Some(left) = self.left.checked_sub(1) else {
             self.part.cut = true;
@@ -61,8 +62,8 @@ impl<A: Allocator> Tally<A> {
 
 // Notes a fault: tells it, where it is one of the first.
 fn note<A: Allocator>(part: &mut Part<A>, place: Place, error: Error) -> Result<(), Failure>
-    ensures told { OnOk result ((faults : List Fault) → length faults + 1 < 2 ^ 64 → Tells faults part.old
-        → Tells (faults ++ fault_of error ∷ []) part.new) }
+    ensures told { OnOk result ((faults : List FaultAt) → length faults + 1 < 2 ^ 64 → Tells faults part.old
+        → Tells (faults ++ (place, fault_of error) ∷ []) part.new) }
     ensures kept { OnOk result (part.new.cut ≡ part.old.cut) }
 {
     if let Error::Memory(_) = error {

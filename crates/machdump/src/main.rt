@@ -5,6 +5,7 @@
 mod run;
 
 use run::{Word, run};
+use std::io::BufWriter;
 use std::process::ExitCode;
 use std::{env, fs, io};
 
@@ -28,11 +29,15 @@ fn main(rt: HostRuntime) -> ExitCode {
         let _ = rt.eprintln(format_args!("machdump: cannot read {file}"));
         return ExitCode::from(2);
     };
+    let Ok(mut lines) = BufWriter::new(alloc, io::writer(&rt)) else {
+        let _ = rt.eprintln("machdump: out of memory");
+        return ExitCode::from(1);
+    };
     let status = run(
         alloc,
         word,
         bytes.as_slice(),
-        &mut io::writer(&rt),
+        &mut lines,
         &mut rt.stderr(),
     );
     ExitCode::from(status)

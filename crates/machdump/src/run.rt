@@ -1,6 +1,7 @@
 //! What the program prints of some bytes, and its exit status.
 
-ghost use Rattle.std.specs.Prelude.{◌≡◌, ◌≤◌, ◌↔◌, List, OnOk, codes};
+ghost use Rattle.std.specs.Prelude.{◌≡◌, ◌≢◌, ◌≤◌, ◌↔◌, [], List, OnOk, codes};
+ghost use Rattle.std.specs.Io.Buffered.{writer_buffer};
 ghost use Rattle.mach_tries.specs.Exports.{info_of};
 ghost use Rattle.mach_base.specs.Text.{texts};
 ghost use Rattle.mach_tries.specs.Trie.{Entry, offset_of};
@@ -47,22 +48,38 @@ impl Word {
 
 /// Prints what the word asks of the bytes, and answers the exit status: 0; 1 where the file is refused,
 /// and then `err` has the reason and `out` nothing, or where an entry of a fat file is; 2 where a write
-/// fails. That memory is refused may be told behind some lines of exports, since no list of them is kept.
-pub fn run<A: Allocator + Clone, O: Write, E: Write>(
+/// fails. That memory is refused may be told behind some lines of exports, since no list of them is kept. Where
+/// the status isn't 2, nothing is left in the buffer.
+pub fn run<A: Allocator + Clone, W: Write + Drop, B: Allocator, E: Write>(
     alloc: A,
     word: Word,
     bytes: &[u8],
-    out: &mut O,
+    out: &mut BufWriter<W, B>,
     err: &mut E,
 ) -> u8
     ensures status { result ≤ 2 }
     ensures printed { result ≡ 0 → MachOpens Opens bytes.now }
+    ensures flushed { result ≢ 2 → writer_buffer out.new ≡ [] }
 {
-    match print(alloc, word, bytes, out) {
-        Ok(true) => 0,
-        Ok(false) => 1,
-        Err(Failure::Unwritten) => 2,
-        Err(Failure::Refused(reason)) => match writeln!(err, "machdump: {reason}") {
+    let printed = print(alloc, word, bytes, out);
+    match out.flush() {
+        Ok(()) => match printed {
+            Ok(true) => 0,
+            Ok(false) => 1,
+            Err(failure) => failed(failure, err),
+        },
+        Err(_) => 2,
+    }
+}
+
+// The status of a failure; where it is a refusal, `err` tells of it.
+fn failed<E: Write>(failure: Failure, err: &mut E) -> u8
+    ensures few { result ≤ 2 }
+    ensures none { result ≢ 0 }
+{
+    match failure {
+        Failure::Unwritten => 2,
+        Failure::Refused(reason) => match writeln!(err, "machdump: {reason}") {
             Ok(()) => 1,
             Err(_) => 2,
         },
@@ -137,17 +154,12 @@ fn print<A: Allocator + Clone, O: Write>(
 {
     match Mach::parse(alloc.clone()?, bytes)? {
         Mach::Binary(image) => {
-            let mut lines = buffered(alloc.clone()?, out)?;
-            print_image(&alloc, word, &image, &mut lines)?;
-            lines.flush()?;
+            print_image(&alloc, word, &image, out)?;
             Ok(true)
         }
         Mach::Fat(container) => {
             container.arches()?;
-            let mut lines = buffered(alloc.clone()?, out)?;
-            let whole = print_entries(&alloc, word, &container, &mut lines)?;
-            lines.flush()?;
-            Ok(whole)
+            print_entries(&alloc, word, &container, out)
         }
     }
 }
@@ -203,14 +215,6 @@ fn print_image<A: Allocator + Clone, O: Write>(
         Word::Imports => print_imports(out, &image.imports(alloc.clone()?)?)?,
     }
     Ok(())
-}
-
-// A writer that gathers lines.
-fn buffered<A: Allocator, O: Write>(
-    alloc: A,
-    out: &mut O,
-) -> Result<BufWriter<&mut O, A>, Failure> {
-    BufWriter::new(alloc, out).map_err(|_| Failure::from(AllocError))
 }
 
 fn print_commands<O: Write>(out: &mut O, commands: &[LoadCommand]) -> io::Result<()> {

@@ -1,18 +1,32 @@
 use Rattle.goblin_mach.specs.FatFile.{file_held}
 use Rattle.mach_image.specs.OpenImage.{commands_held}
-use Rattle.mach_audit.proofs.Entries.{image_judged, fat_judged}
+use Rattle.mach_image.proofs.ImageFacts.{strict-lossy}
+use Rattle.mach_audit.proofs.Entries.{image_judged, fat_judged, refused_judged}
+use Rattle.mach_audit.proofs.Reports.{refused_faulty}
 use Rattle.mach_audit.specs.Verdicts.{verdict_of_parts, verdict_of_fat}
 use Rattle.mach_audit.proofs.audit.audit.Goals as goal
 
-pub returns-in_ok-parts-in-Ok-Binary : goal.returns-in_ok-parts-in-Ok-Binary
-returns-in_ok-parts-in-Ok-Binary g c =
+pub returns-in_ok-parts-in-Ok-Binary-clause-judged : goal.returns-in_ok-parts-in-Ok-Binary-clause-judged
+returns-in_ok-parts-in-Ok-Binary-clause-judged g c =
     let bytes = c.args.bytes.now in
     let opened = rw c.in-Ok-Binary.field-0-is at c.in-Ok-Binary.ensures.opened in
-    let judged = rw c.in_ok-parts-in-Ok-Binary.was at (c.audit_parts.ensures bytes opened) in
+    let judged = rw c.in_ok-parts-in-Ok-Binary.was at (c.audit_parts.ensures.judged bytes opened) in
     image_judged c.args.limit bytes (verdict_of_parts c.in_ok-parts-in-Ok-Binary.parts) (opened.ctx, commands_held c.in-Ok-Binary.image, opened.opens) judged
 
-pub returns-in_ok-fat-in-Ok-Fat : goal.returns-in_ok-fat-in-Ok-Fat
-returns-in_ok-fat-in-Ok-Fat g c =
+pub returns-in_ok-fat-in-Ok-Fat-clause-judged : goal.returns-in_ok-fat-in-Ok-Fat-clause-judged
+returns-in_ok-fat-in-Ok-Fat-clause-judged g c =
     let opened = rw c.in-Ok-Fat.field-0-is at c.in-Ok-Fat.ensures.opened in
     fat_judged c.args.limit c.args.bytes.now (file_held c.in-Ok-Fat.container) (verdict_of_fat c.in_ok-fat-in-Ok-Fat.fat) opened.magic opened.file
-    c.in_ok-fat-in-Ok-Fat.ensures
+    c.in_ok-fat-in-Ok-Fat.ensures.judged
+
+pub returns-in_ok-parts-in-Ok-Binary-clause-told : goal.returns-in_ok-parts-in-Ok-Binary-clause-told
+returns-in_ok-parts-in-Ok-Binary-clause-told g c =
+    let bytes = c.args.bytes.now in
+    let opened = rw c.in-Ok-Binary.field-0-is at c.in-Ok-Binary.ensures.opened in
+    rw c.in_ok-parts-in-Ok-Binary.was at (c.audit_parts.ensures.told bytes (strict-lossy bytes 0 c.in-Ok-Binary.image opened))
+
+pub returns-in_ok-image-in-Err-clause-judged : goal.returns-in_ok-image-in-Err-clause-judged
+returns-in_ok-image-in-Err-clause-judged g c =
+    let reason = c.in_ok-image-in-Err.ensures.reason in
+    rw (refused_faulty c.in-Err.error c.in_ok-image-in-Err.image reason.0)
+    (refused_judged c.args.limit c.args.bytes.now c.in-Err.error c.in-Err.ensures.refused reason.1)

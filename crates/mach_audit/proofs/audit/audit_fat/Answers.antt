@@ -1,38 +1,64 @@
 use Rattle.std.proofs.Common.{◌≡◌, min, nat_lt, refl, arith}
 use Rattle.std.specs.Prelude.{IsOk}
+use Rattle.goblin_mach.specs.FatEntry.{entry_at}
 use Rattle.goblin_mach.specs.FatFile.{arches_in, file_held}
 use Rattle.mach_rules.specs.Containers.{AreContainerFaults}
 use Rattle.mach_audit.proofs.Entries.{entries_more, no_entries_judged, fat_file_judged, refused_table_judged, one_container}
-use Rattle.mach_audit.proofs.Images.{layout_judged, alike}
+use Rattle.mach_audit.proofs.Images.{layout_judged, beside}
+use Rattle.mach_audit.proofs.Reports.{one_entry_more}
 use Rattle.mach_audit.proofs.Verdicts.{both_judged}
+use Rattle.mach_audit.specs.Report.{IsEntryReport}
 use Rattle.mach_audit.specs.Verdicts.{verdict_of_entries}
 use Rattle.mach_audit.proofs.audit.audit_fat.Goals as goal
 
-pub returns-in-Err : goal.returns-in-Err
-returns-in-Err g c =
+pub returns-in-Err-clause-judged : goal.returns-in-Err-clause-judged
+returns-in-Err-clause-judged g c =
     let told = c.in_ok-no_memory-in-Err.ensures in
     refused_table_judged _ (file_held c.args.container.now) c.in-Err.error c.in-Err.ensures (rw told.0 at told.1)
 
 pub loop-index-init : goal.loop-index-init
-loop-index-init g c = rw c.new-entries.ensures.items (no_entries_judged c.args.limit (file_held c.args.container.now))
+loop-index-init g c = rw c.new-entries.ensures.items (tt, no_entries_judged c.args.limit (file_held c.args.container.now))
 
 pub loop-index-preserved : goal.loop-index-preserved
 loop-index-preserved g c =
     let file = file_held c.args.container.now in
-    rw c.in_ok-push.ensures.items
-    (entries_more c.args.limit file c.loop-index.index c.loop-index.entries.items c.in_ok-audit_entry.field-0 c.loop-index.invariant
-    c.in_ok-audit_entry.ensures)
+    rw c.in_ok-push.ensures.items (
+      one_entry_more (IsEntryReport c.args.limit) (entry_at file) c.loop-index.index c.loop-index.entries.items c.in_ok-audit_entry.field-0
+          c.loop-index.invariant.0 c.in_ok-audit_entry.ensures.told,
+      entries_more c.args.limit file c.loop-index.index c.loop-index.entries.items c.in_ok-audit_entry.field-0 c.loop-index.invariant.1
+          c.in_ok-audit_entry.ensures.judged,
+    )
 
-pub returns : goal.returns
-returns g c =
+pub returns-clause-judged : goal.returns-clause-judged
+returns-clause-judged g c =
     let file = file_held c.args.container.now in
     let limit = c.args.limit in
     let all : c.loop-index.index ≡ min file.narches limit =
     omega (arith, c.loop-index.auto.index-end, c.loop-index-test.false, c.min-index-end.ensures) in
     let table : IsOk (arches_in file) = rw c.in-Ok.ensures refl in
     let judged = fat_file_judged limit file c.loop-index.index (nat_lt limit file.narches) (verdict_of_entries c.loop-index.entries.items) table all
-    refl c.loop-index.invariant in
+    refl c.loop-index.invariant.1 in
     let bytes = c.args.bytes.now in
     let faults = c.in_ok-container_faults.container_faults in
     let layout = layout_judged (AreContainerFaults bytes) faults.items c.in_ok-container_faults.ensures (λ list others. one_container bytes list others) in
-    alike (both_judged _ _ layout judged)
+    beside (both_judged _ _ layout judged)
+
+pub returns-clause-told : goal.returns-clause-told
+returns-clause-told g c =
+    let file = file_held c.args.container.now in
+    let limit = c.args.limit in
+    let all : c.loop-index.index ≡ min limit file.narches =
+    omega (arith, c.loop-index.auto.index-end, c.loop-index-test.false, c.min-index-end.ensures) in
+    record {
+      count = refl;
+      table = record {
+        container = c.in_ok-container_faults.ensures;
+        entries = rw all at c.loop-index.invariant.0;
+        cut = refl;
+      };
+    }
+
+pub returns-in-Err-clause-told : goal.returns-in-Err-clause-told
+returns-in-Err-clause-told g c =
+    let told = c.in_ok-no_memory-in-Err.ensures in
+    record { count = refl; table = rw told.0 (rw told.0 at told.1, c.in-Err.ensures) }

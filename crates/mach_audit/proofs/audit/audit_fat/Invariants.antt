@@ -1,3 +1,7 @@
+use Rattle.std.specs.List.{AllZip}
+use Rattle.mach_base.specs.Items.{items_from}
+use Rattle.goblin_mach.specs.FatEntry.{entry_at}
+use Rattle.mach_audit.specs.Report.{IsEntryReport}
 use Rattle.goblin_mach.specs.FatFile.{file_held}
 use Rattle.mach_audit.proofs.Entries.{AllSound, SomeLong}
 use Rattle.mach_audit.specs.Verdicts.{Judges, verdict_of_entries}
@@ -5,4 +9,5 @@ use Rattle.mach_audit.proofs.audit.audit_fat.Given as goal
 
 abbrev pub invariant-loop-index : goal.invariant-loop-index
 invariant-loop-index g l =
-    Judges (AllSound (file_held l.container) l.index) (SomeLong l.limit (file_held l.container) l.index) (verdict_of_entries l.entries.items)
+    AllZip (IsEntryReport l.limit) (items_from (entry_at (file_held l.container)) 0 l.index) l.entries.items
+    × Judges (AllSound (file_held l.container) l.index) (SomeLong l.limit (file_held l.container) l.index) (verdict_of_entries l.entries.items)

@@ -1,19 +1,20 @@
-use Rattle.std.specs.Prelude.{IsTrue}
-use Rattle.std.proofs.Common.{◌≤◌, length, ◌∙◌, ◌++◌, ◌∷◌, [], List, Option, Some, None, ap, arith, subst, sym}
-use Rattle.std.proofs.lemmas.Bool.{false≢true}
+use Rattle.std.proofs.Common.{◌∙◌, ◌+◌, ◌++◌, ◌∷◌, [], List, Option, Result, Some, None, Ok, Err, ap, arith, length, refl, subst, sym}
+use Rattle.std.proofs.lemmas.List.{length-append}
 use Rattle.mach_base.specs.Fault.{Fault, fault_of}
-use Rattle.mach_tries.specs.Exports.{info_of}
 use Rattle.mach_base.specs.Text.{texts}
-use Rattle.mach_tries.specs.Trie.{entry}
+use Rattle.mach_tries.specs.Exports.{info_of}
+use Rattle.mach_tries.specs.Trie.{Entry, entry}
 use Rattle.mach_tries.specs.TrieRange.{ExportsFault}
 use Rattle.mach_image.specs.OpenImage.{trie_held}
 use Rattle.mach_image.specs.Subjects.{trie_or_empty}
-use Rattle.mach_audit.proofs.Goes.{no_faults, no_faults_more, none_counted, more_found, fault_or_cut, cut_behind, stands_of}
-use Rattle.mach_audit.specs.Told.{HasMet}
+use Rattle.mach_audit.proofs.Goes.{entries_ok, ok_more, export_more, export_small, export_long, given_begins, next_number, stands_of}
+use Rattle.mach_audit.specs.Sound.{all_exports, up_to_fault, past_limit}
+use Rattle.mach_audit.specs.Told.{HasMet, faults_from}
+use Rattle.mach_audit.specs.declared.report.Place.TheVariants as places
 use Rattle.mach_audit.proofs.lists.audit_exports.Goals as goal
 
 pub exports-init : goal.exports-init
-exports-init g c = ([], c.in-Ok.ensures.given, c.new-tally.ensures)
+exports-init g c = ([], c.in-Ok.ensures.given, c.new-tally.ensures, refl)
 
 pub returns-in-Err : goal.returns-in-Err
 returns-in-Err g c =
@@ -25,11 +26,12 @@ returns-in-Err g c =
     let f = fault_of c.in-Err.error in
     let says = rw (c.in-Some.is ∙ ap Some c.in-Err.is) at (c.next.ensures.says t libs found.0 found.1) in
     let stands = stands_of (ExportsFault t libs) c.in-Err.error (rw told.0 at told.1) says in
-    let met = rw told.0 at (c.in_ok-take-in-Err.ensures.met c.args.limit (no_faults found.0) found.2) in
+    let met = export_more c.args.limit c.exports.index found.0 (Err f) (Some (places.Export c.exports.index, f)) c.exports.tally c.take.new.self
+    found.2 found.3 refl (rw told.0 at c.in_ok-take-in-Err.ensures.met) in
     rw c.part.ensures (record {
-      faulty = λ some. (f, stands);
-      listed = λ none whole. absurd (fault_or_cut c.args.limit found.0 f c.take.new.self met none whole);
-      cut = λ cut. (found.0, c.next.ensures.begun t libs found.0 found.1, cut_behind c.args.limit found.0 (Some f) c.take.new.self met cut);
+      items = entries_ok found.0 ++ Err f ∷ [];
+      met = up_to_fault found.0 f (c.next.ensures.begun t libs found.0 found.1) stands;
+      tells = met.tells;
     })
 
 pub returns-then-not-branch : goal.returns-then-not-branch
@@ -38,16 +40,20 @@ returns-then-not-branch g c =
     let t = trie_or_empty (trie_held image) in
     let libs = texts image.libs.items in
     let found = c.exports.invariant in
-    let met = c.in_ok-take-in-Ok-export.ensures.met c.args.limit (no_faults found.0) found.2 in
+    let export = c.in-Ok-export.field-0 in
+    let one = entry export.0.now (info_of export.1) in
+    let all = found.0 ++ one ∷ [] in
+    let goes = rw (c.in-Some.is ∙ ap Some c.in-Ok-export.is) at c.next.follows.holds-at-none in
     let tally = c.take-in-Ok-export.new.self in
-    let more = subst (λ (items : List (Option Fault)). HasMet c.args.limit items tally) (sym (no_faults_more found.0 (entry
-    c.in-Ok-export.field-0.0.now (info_of c.in-Ok-export.field-0.1)))) met in
-    let none = none_counted c.args.limit (found.0 ++ entry c.in-Ok-export.field-0.0.now (info_of c.in-Ok-export.field-0.1) ∷ []) tally more in
-    let over = c.in_ok-take-in-Ok-export.ensures.over c.if-not-branch.true in
+    let one_more = export_more c.args.limit c.exports.index found.0 (Ok one) None c.exports.tally tally found.2 found.3 refl
+    c.in_ok-take-in-Ok-export.ensures.met in
+    let met = subst (λ (items : List (Result Entry Fault)). HasMet c.args.limit (faults_from places.Export 0 items) tally)
+    (sym (ok_more found.0 one)) one_more in
     rw c.part-then-not-branch.ensures (record {
-      faulty = λ some. absurd (omega (arith, some, none));
-      listed = λ zero whole. absurd (false≢true (sym whole ∙ over));
-      cut = λ cut. (found.0, c.next.ensures.begun t libs found.0 found.1, cut_behind c.args.limit found.0 None tally met cut);
+      items = entries_ok all;
+      met = past_limit all (given_begins t libs all c.next.follows.lender-at-none (goes.1 t libs found.0 found.1))
+          (export_long c.args.limit all tally met (c.in_ok-take-in-Ok-export.ensures.over c.if-not-branch.true));
+      tells = met.tells;
     })
 
 pub exports-preserved : goal.exports-preserved
@@ -56,24 +62,24 @@ exports-preserved g c =
     let found = c.exports.invariant in
     let export = c.in-Ok-export.field-0 in
     let one = entry export.0.now (info_of export.1) in
+    let n = c.exports.index in
+    let tally = c.take-in-Ok-export.new.self in
     let goes = rw (c.in-Some.is ∙ ap Some c.in-Ok-export.is) at c.next.follows.holds-at-none in
-    let met = c.in_ok-take-in-Ok-export.ensures.met c.args.limit (no_faults found.0) found.2 in (
+    let met = export_more c.args.limit n found.0 (Ok one) None c.exports.tally tally found.2 found.3 refl c.in_ok-take-in-Ok-export.ensures.met in
+    let small = export_small c.args.limit n found.0 c.exports.tally found.2 found.3 (c.in_ok-take-in-Ok-export.ensures.on c.if-not-branch.false) in
+    let next = next_number n c.saturating_add-index.result small c.saturating_add-index.ensures in (
       found.0 ++ one ∷ [],
       goes.1 (trie_or_empty (trie_held image)) (texts image.libs.items) found.0 found.1,
-      subst (λ (items : List (Option Fault)). HasMet c.args.limit items c.take-in-Ok-export.new.self) (sym (no_faults_more found.0 one)) met,
+      subst (λ (items : List (Result Entry Fault)). HasMet c.args.limit (faults_from places.Export 0 items) tally) (sym (ok_more found.0 one)) met,
+      omega (arith, next, found.3, length-append found.0 (one ∷ [])),
     )
 
 pub returns : goal.returns
 returns g c =
     let image = c.args.image.now in
-    let t = trie_or_empty (trie_held image) in
-    let libs = texts image.libs.items in
     let found = c.exports.invariant in
-    let none = none_counted c.args.limit found.0 c.exports.tally found.2 in
-    let few : IsTrue c.exports.tally.part.cut → c.args.limit ≤ length found.0 = λ cut. let more = more_found c.args.limit found.0 c.exports.tally
-    found.2 cut in omega (arith, more) in
     rw c.part-2.ensures (record {
-      faulty = λ some. absurd (omega (arith, some, none));
-      listed = λ zero whole. (found.0, c.in_default-next.ensures.says t libs found.0 found.1);
-      cut = λ cut. (found.0, c.next.ensures.begun t libs found.0 found.1, few cut);
+      items = entries_ok found.0;
+      met = all_exports found.0 (c.in_default-next.ensures.says (trie_or_empty (trie_held image)) (texts image.libs.items) found.0 found.1);
+      tells = found.2.tells;
     })

@@ -1,4 +1,4 @@
-use Rattle.mach_audit.proofs.Verdicts.{status_bound, status_sound, status_faulty}
+use Rattle.mach_audit.proofs.Verdicts.{status_bound, status_sound, status_whole, status_faulty}
 use Rattle.mach_audit.specs.Verdicts.{verdict_of_report}
 use Rattle.mach_audit.proofs.run.run.Goals as goal
 
@@ -7,8 +7,12 @@ returns-clause-bounds g c = rw (c.status.ensures, c.verdict.ensures) (status_bou
 
 pub returns-clause-sound : goal.returns-clause-sound
 returns-clause-sound g c = λ zero.
-    status_sound (verdict_of_report c.in_ok-report.report) c.in_ok-report.ensures (rw (c.status.ensures, c.verdict.ensures) at zero)
+    status_sound (verdict_of_report c.in_ok-report.report) c.in_ok-report.ensures.judged (rw (c.status.ensures, c.verdict.ensures) at zero)
+
+pub returns-clause-whole : goal.returns-clause-whole
+returns-clause-whole g c = λ zero.
+    status_whole (verdict_of_report c.in_ok-report.report) c.in_ok-report.ensures.judged (rw (c.status.ensures, c.verdict.ensures) at zero)
 
 pub returns-clause-faulty : goal.returns-clause-faulty
 returns-clause-faulty g c = λ one.
-    status_faulty (verdict_of_report c.in_ok-report.report) c.in_ok-report.ensures (rw (c.status.ensures, c.verdict.ensures) at one)
+    status_faulty (verdict_of_report c.in_ok-report.report) c.in_ok-report.ensures.judged (rw (c.status.ensures, c.verdict.ensures) at one)

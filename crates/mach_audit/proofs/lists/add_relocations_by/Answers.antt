@@ -1,0 +1,5 @@
+use Rattle.std.proofs.Common.{◌≡◌, ◌∙◌, ap, sym}
+use Rattle.mach_audit.proofs.lists.add_relocations_by.Goals as goal
+
+pub returns : goal.returns
+returns g c = rw c.in-Ok.is (rw c.iter_relocations-relocations.ensures at c.add_relocations_of.ensures)

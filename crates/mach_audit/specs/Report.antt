@@ -1,0 +1,91 @@
+-- What is told of a file: which items of its lists can't be read, by their numbers.
+use Rattle.std.specs.Prelude.{◌≡◌, ℕ, List, Result, Ok, Err, Option, Some, None, min, nat_lt}
+use Rattle.std.specs.List.{AllZip}
+use Rattle.mach_base.specs.Answer.{Stands, FailsAs}
+use Rattle.mach_base.specs.Fault.{Fault}
+use Rattle.mach_base.specs.Items.{items_from}
+use Rattle.mach_base.specs.declared.error.Error.{Error}
+use Rattle.mach_rules.specs.Containers.{AreContainerFaults}
+use Rattle.mach_binds.specs.Imports.{Import}
+use Rattle.mach_chained.specs.Fixups.{Fixup}
+use Rattle.mach_segments.specs.Bindings.{Binding}
+use Rattle.mach_segments.specs.Segment.{SegmentView}
+use Rattle.mach_symbols.specs.declared.symbols.nlist.Nlist.{Nlist}
+use Rattle.mach_layout.specs.Facts.{HasLayoutFaults}
+use Rattle.mach_image.specs.Facts.{OfImage, HasSegments, HasSymbols, HasImportItems, HasFixups, HasBindings}
+use Rattle.mach_image.specs.Image.{ImageFault}
+use Rattle.mach_image.specs.Subjects.{lossy_segments_in, libs_in, trie_in, trie_or_empty}
+use Rattle.goblin_mach.specs.FatEntry.{FatEntry, archive, image, entry_at, EntryOpens}
+use Rattle.goblin_mach.specs.FatFile.{FatFile, fat_file_in, arches_in}
+use Rattle.goblin_mach.specs.File.{HasFatMagic, MachFault}
+use Rattle.goblin_mach.specs.View.{IsTold}
+use Rattle.mach_audit.specs.Told.{TellsOf, TellsOfTrie, TellsRelocations, faults_from, section_faults, relocation_faults}
+use Rattle.mach_audit.specs.Verdicts.{is_clean}
+use Rattle.mach_audit.specs.declared.report.EntryReport.TheVariants as entries
+use Rattle.mach_audit.specs.declared.report.EntryReport.{EntryReport}
+use Rattle.mach_audit.specs.declared.report.FatReport.{FatReport}
+use Rattle.mach_audit.specs.declared.report.ImageReport.TheVariants as images
+use Rattle.mach_audit.specs.declared.report.ImageReport.{ImageReport}
+use Rattle.mach_audit.specs.declared.report.Parts.{Parts}
+use Rattle.mach_audit.specs.declared.report.Place.TheVariants as places
+use Rattle.mach_audit.specs.declared.report.Report.TheVariants as reports
+use Rattle.mach_audit.specs.declared.report.Report.{Report}
+
+-- Each part tells what can't be read of the first `limit` items of its list, and exactly whether the list has more.
+pub record TellsImage {A : Type 0} (limit : ℕ) (bytes : List ℕ) (p : Parts A) : Type 0 where
+  pub sections : (segments : List SegmentView) × HasSegments bytes 0 segments × TellsOf limit (section_faults segments) p.sections
+  pub relocations : OfImage bytes 0 (λ ctx cs.
+      TellsRelocations limit (relocation_faults ctx bytes (lossy_segments_in ctx bytes cs)) (is_clean p.sections) p.relocations)
+  pub symbols : (rows : List (Result (List ℕ × Nlist) Fault)) × HasSymbols bytes 0 rows × TellsOf limit (faults_from places.Symbol 0 rows) p.symbols
+  pub exports : OfImage bytes 0 (λ ctx cs. TellsOfTrie limit (trie_or_empty (trie_in bytes cs)) (libs_in bytes cs) p.exports)
+  pub imports : (items : List (Result Import Fault)) × HasImportItems bytes 0 items × TellsOf limit (faults_from places.Import 0 items) p.imports
+  pub fixups : (items : List (Result Fixup Fault)) × HasFixups bytes 0 items × TellsOf limit (faults_from places.Fixup 0 items) p.fixups
+  pub bindings : (items : List (Result Binding Fault)) × HasBindings bytes 0 items × TellsOf limit (faults_from places.Binding 0 items) p.bindings
+  pub layout : HasLayoutFaults bytes p.layout.items
+
+-- What is told of some bytes as an image: of what opens, its parts; of what doesn't open strictly, a fault that stands.
+abbrev pub IsImageReport : {A : Type 0} → ℕ → List ℕ → ImageReport A → Type 0
+IsImageReport limit bytes (images.Opens parts) = TellsImage limit bytes parts
+IsImageReport limit bytes (images.OpensLossily e parts) = IsTold e × Stands (MachFault ImageFault bytes) e × TellsImage limit bytes parts
+IsImageReport limit bytes (images.Refused e) = IsTold e × Stands (MachFault ImageFault bytes) e
+
+-- why some bytes don't open strictly as an image, if they don't
+abbrev pub reason_of : {A : Type 0} → ImageReport A → Option Error
+reason_of (images.Opens parts) = None
+reason_of (images.OpensLossily e parts) = Some e
+reason_of (images.Refused e) = Some e
+
+-- what is told in lossy mode of some bytes
+abbrev pub TellsLossily : {A : Type 0} → ℕ → List ℕ → ImageReport A → Type 0
+TellsLossily limit bytes (images.Opens parts) = ⊥
+TellsLossily limit bytes (images.OpensLossily e parts) = TellsImage limit bytes parts
+TellsLossily limit bytes (images.Refused e) = Unit {0}
+
+-- What is told of an entry of a fat file: that it is an archive; of an image that opens strictly its parts; and that an entry doesn't open.
+abbrev pub IsEntryReport : {A : Type 0} → ℕ → Result FatEntry Fault → EntryReport A → Type 0
+IsEntryReport limit entry entries.Archive = (bytes : List ℕ) × (entry ≡ Ok (archive bytes))
+IsEntryReport limit entry (entries.Image (images.Opens parts)) = (bytes : List ℕ) × (entry ≡ Ok (image bytes)) × TellsImage limit bytes parts
+IsEntryReport limit entry (entries.Image (images.OpensLossily e parts)) = EntryOpens entry → ⊥
+IsEntryReport limit entry (entries.Image (images.Refused e)) = EntryOpens entry → ⊥
+
+-- What is told of a fat file whose table can be read: the faults of the table; each of the first `limit` entries, in order; and exactly whether there
+-- are more.
+pub record TellsEntries {A : Type 0} (limit : ℕ) (bytes : List ℕ) (file : FatFile) (r : FatReport A) : Type 0 where
+  pub container : AreContainerFaults bytes r.container.items
+  pub entries : AllZip (IsEntryReport limit) (items_from (entry_at file) 0 (min limit file.narches)) r.entries.items
+  pub cut : r.cut ≡ nat_lt limit file.narches
+
+-- the same by why its table can't be read, if it can't
+abbrev pub TellsTable : {A : Type 0} → ℕ → List ℕ → FatFile → FatReport A → Option Error → Type 0
+TellsTable limit bytes file r None = TellsEntries limit bytes file r
+TellsTable limit bytes file r (Some e) = IsTold e × FailsAs e (arches_in file)
+
+-- What is told of a fat file, and how many entries its header says.
+pub record IsFatReport {A : Type 0} (limit : ℕ) (bytes : List ℕ) (file : FatFile) (r : FatReport A) : Type 0 where
+  pub count : r.count ≡ file.narches
+  pub table : TellsTable limit bytes file r r.table
+
+-- What is told of a file.
+abbrev pub IsReport : {A : Type 0} → ℕ → List ℕ → Report A → Type 0
+IsReport limit bytes (reports.Image r) = IsImageReport limit bytes r
+IsReport limit bytes (reports.Fat r) = (file : FatFile) × HasFatMagic bytes × (fat_file_in bytes ≡ Ok file) × IsFatReport limit bytes file r
