@@ -33,13 +33,7 @@ fn main(rt: HostRuntime) -> ExitCode {
         let _ = rt.eprintln("machdump: out of memory");
         return ExitCode::from(1);
     };
-    let status = run(
-        alloc,
-        word,
-        bytes.as_slice(),
-        &mut lines,
-        &mut rt.stderr(),
-    );
+    let status = run(alloc, word, bytes.as_slice(), &mut lines, &mut rt.stderr());
     ExitCode::from(status)
 }
 

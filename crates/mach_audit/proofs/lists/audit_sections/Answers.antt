@@ -16,5 +16,5 @@ loop-segment-preserved g c =
       subst (λ (xs : List (Option FaultAt)). HasMet c.args.limit xs c.add_sections.new.tally)
           (sym (one_part_more segment_view part segments i _ c.loop-segment-test.true)) here,
       rw before.1 at (next_number c.loop-segment.number c.saturating_add-number.result
-      (omega (arith, before.1, c.loop-segment-test.true)) c.saturating_add-number.ensures),
+          (omega (arith, before.1, c.loop-segment-test.true)) c.saturating_add-number.ensures),
     )
