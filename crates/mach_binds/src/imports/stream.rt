@@ -8,7 +8,6 @@ ghost use Rattle.mach_binds.specs.NamePlaces.{NameStands};
 ghost use Rattle.mach_binds.specs.Streams.{Range};
 ghost use Rattle.mach_binds.specs.Machine.{Rules, Reads, range_of, state_of, bind_of, input_of, executed_by, items_left, opcodes_left};
 ghost use Rattle.mach_binds.specs.Machine.{StopsFor, IsUnreadable, MakesNothing, IsAtEnd, IsMadeBy, Keeps, Fails, HasEnded, item_read};
-
 ghost use Rattle.mach_binds.specs.Sites.{site_by, site_in, sites_left};
 
 use crate::imports::instruction::opcode_byte;
