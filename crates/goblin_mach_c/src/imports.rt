@@ -10,7 +10,8 @@ ghost use Rattle.mach_image.specs.OpenImage.{binds_held};
 ghost use Rattle.goblin_mach_c.specs.BindingRows.{StandsIn};
 ghost use Rattle.goblin_mach_c.specs.Codes.{IsRefusal};
 ghost use Rattle.goblin_mach_c.specs.ImportRows.{IsImportRow, IsNameAt, import_row, no_import};
-ghost use Rattle.goblin_mach_c.specs.ImportsBehind.{AreImportsBehind, AreOver, AreSitesBehind, Binds, WritesImports, binds_of, imports_in, items_left, sites_in};
+ghost use Rattle.goblin_mach_c.specs.ImportsBehind.{AreImportsBehind, AreOver, AreSitesBehind, Binds, WritesImports, binds_of};
+ghost use Rattle.goblin_mach_c.specs.ImportsBehind.{imports_in, items_left, sites_in};
 ghost use Rattle.goblin_mach_c.specs.Opened.{FaultIn, lossy_mode};
 ghost use Rattle.goblin_mach_c.specs.Sited.{told_at};
 

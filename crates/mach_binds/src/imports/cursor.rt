@@ -15,7 +15,8 @@ ghost use Rattle.mach_binds.specs.BindingsLeft.{bindings_left, first_extra};
 ghost use Rattle.mach_base.specs.Text.{texts};
 ghost use Rattle.mach_binds.specs.Imports.{input_in};
 ghost use Rattle.mach_binds.specs.NamePlaces.{NameStands, text_or_none, IsNamed};
-ghost use Rattle.mach_binds.specs.SiteCursors.{binding_sites_behind, binding_sites_left, import_sites_behind, import_sites_left, place_named, site_of, site_seen};
+ghost use Rattle.mach_binds.specs.SiteCursors.{binding_sites_behind, binding_sites_left, import_sites_behind, import_sites_left};
+ghost use Rattle.mach_binds.specs.SiteCursors.{place_named, site_of, site_seen};
 ghost use Rattle.mach_binds.specs.Sites.{Site, site_in, sites_left, sites_of};
 ghost use Rattle.mach_binds.specs.Streams.{Input, Range};
 

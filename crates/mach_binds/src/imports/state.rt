@@ -69,7 +69,8 @@ impl<'a> State<'a> {
         ensures ended { self.new.ended ≡ self.old.ended }
         ensures is_lazy { self.new.settings.is_lazy ≡ self.old.settings.is_lazy }
         ensures named { NameStands bytes.now self.old.settings → NameStands bytes.now self.new.settings }
-        ensures site { IfSome result (λ _. site_by place (row_at pointer bytes.now opcode imm place) (site_in self.old.settings) ≡ Ok (site_in self.new.settings)) }
+        ensures site { IfSome result (λ _. site_by place (row_at pointer bytes.now opcode imm place) (site_in self.old.settings)
+            ≡ Ok (site_in self.new.settings)) }
     {
         self.stride = 0;
         let after = match opcode {
