@@ -254,8 +254,12 @@ module _ {A : Type 0} (bytes : List ℕ) (m : MachO A) (p : IsImage bytes 0 m) (
       (found.0, (is found.0).1 (walked_list (trie_held m) libs found.0 found.1)))
       (λ some s. let fault = fault_met limit t libs q tells.items tells.met tells.tells some in
       no_list (trie_held m) libs fault.0 s.0 law fault.1 ((is s.0).0 s.1))
-      (λ cut. (tells.items, (export_items_are tells.items).1 tells.met, told_long limit tells.items faults
-      (plain_from places.Export 0 tells.items) q tells.tells cut))
+      (λ cut. (
+        tells.items,
+        (export_items_are tells.items).1 tells.met,
+        told_long limit tells.items faults
+            (plain_from places.Export 0 tells.items) q tells.tells cut,
+      ))
       (λ none whole l. let found = list_met limit t libs q tells.items tells.met tells.tells none whole in
       let few = items_within limit t libs found.0 l.0 law found.1 ((export_items_are l.0).0 l.1) in
       let long = l.2 in

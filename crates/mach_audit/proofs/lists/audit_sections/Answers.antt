@@ -1,4 +1,4 @@
-use Rattle.std.proofs.Common.{ℕ, ◌≡◌, ◌<◌, ◌+◌, ◌∙◌, ◌^◌, List, Option, arith, map, subst, sym, take}
+use Rattle.std.proofs.Common.{ℕ, List, Option, arith, map, subst, sym, take}
 use Rattle.mach_segments.specs.Segment.{SegmentView, segment_view, sections_of}
 use Rattle.mach_audit.proofs.Goes.{one_part_more, next_number}
 use Rattle.mach_audit.specs.Told.{FaultAt, HasMet, faults_from, section_faults}
@@ -16,5 +16,5 @@ loop-segment-preserved g c =
       subst (λ (xs : List (Option FaultAt)). HasMet c.args.limit xs c.add_sections.new.tally)
           (sym (one_part_more segment_view part segments i _ c.loop-segment-test.true)) here,
       rw before.1 at (next_number c.loop-segment.number c.saturating_add-number.result
-      (omega (arith, before.1, c.loop-segment-test.true)) c.saturating_add-number.ensures),
+          (omega (arith, before.1, c.loop-segment-test.true)) c.saturating_add-number.ensures),
     )
