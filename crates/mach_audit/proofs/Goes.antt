@@ -1,6 +1,6 @@
 -- A count that goes over a list, item by item.
-use Rattle.std.proofs.Common.{◌≡◌, ◌<◌, ◌≤◌, ◌+◌, ◌-◌, ◌^◌, zero, suc, false, arith, min, take, length, get_or, ◌++◌, ◌∷◌, [], ◌∙◌, ℕ, List, map, refl, sym, ap}
-use Rattle.std.proofs.Common.{subst, Option, Some, None, Result, Ok, Err}
+use Rattle.std.proofs.Common.{◌≡◌, ◌<◌, ◌≤◌, ◌+◌, ◌-◌, ◌^◌, arith, min, take, length, get_or, ◌++◌, ◌∷◌, [], ◌∙◌, ℕ, List, map, refl, sym, ap}
+use Rattle.std.proofs.Common.{subst, Option, Result, Ok, Err}
 use Rattle.std.specs.Prelude.{IsTrue, option_map}
 use Rattle.std.specs.Result.{result_err}
 use Rattle.std.proofs.lemmas.Bool.{ltb-true}

@@ -7,7 +7,7 @@ use Rattle.std.proofs.lemmas.Bool.{false≢true, le-ltb, lt-ltb, ltb-true, ltb-f
 use Rattle.std.proofs.lemmas.List.{take-append-le, take_all, length-append, length-map, map-append}
 use Rattle.std.proofs.lemmas.List.Elements.{filter_map-append}
 use Rattle.mach_base.specs.Fault.{Fault}
-use Rattle.mach_audit.specs.Told.{FaultAt, fault_at, faults_from, faults_each, Tells, TellsOf, HasMet, faults_of}
+use Rattle.mach_audit.specs.Told.{FaultAt, faults_from, faults_each, Tells, TellsOf, HasMet, faults_of}
 use Rattle.mach_audit.specs.declared.report.Part.{Part}
 use Rattle.mach_audit.specs.declared.report.Place.{Place}
 use Rattle.mach_audit.specs.declared.tally.Tally.{Tally}

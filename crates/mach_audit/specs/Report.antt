@@ -1,5 +1,5 @@
 -- What is told of a file: which items of its lists can't be read, by their numbers.
-use Rattle.std.specs.Prelude.{◌≡◌, ℕ, List, Result, Ok, Err, Option, Some, None, min, nat_lt}
+use Rattle.std.specs.Prelude.{◌≡◌, ℕ, List, Result, Ok, Option, Some, None, min, nat_lt}
 use Rattle.std.specs.List.{AllZip}
 use Rattle.mach_base.specs.Answer.{Stands, FailsAs}
 use Rattle.mach_base.specs.Fault.{Fault}

@@ -1,10 +1,10 @@
-use Rattle.std.proofs.Common.{ℕ, List, Option, Result, ◌≡◌, ◌<◌, ◌+◌, ◌-◌, ◌^◌, ap, arith, length}
+use Rattle.std.proofs.Common.{ℕ, List, Option, Result, ◌<◌, ◌+◌, ◌-◌, ◌^◌, ap, arith, length}
 use Rattle.mach_base.proofs.ItemLists.{length-items_from}
 use Rattle.mach_base.specs.Fault.{Fault}
 use Rattle.mach_segments.specs.declared.segment.section.Section.{Section}
 use Rattle.mach_segments.specs.Section.{section_item}
 use Rattle.mach_segments.specs.SectionItems.{sections_left, section_read}
-use Rattle.mach_audit.proofs.Goes.{each_init, each_on, each_over, next_number}
+use Rattle.mach_audit.proofs.Goes.{each_on, next_number}
 use Rattle.mach_audit.specs.Sound.{relocations_by}
 use Rattle.mach_audit.specs.Told.{FaultAt, faults_from}
 use Rattle.mach_audit.specs.declared.report.Place.TheVariants as places

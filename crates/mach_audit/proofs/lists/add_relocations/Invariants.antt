@@ -1,7 +1,7 @@
-use Rattle.std.proofs.Common.{◌≡◌, ◌+◌, ◌++◌, ℕ, List, Option, length}
+use Rattle.std.proofs.Common.{ℕ, List, Option}
 use Rattle.mach_segments.specs.SectionItems.{sections_left}
 use Rattle.mach_audit.specs.Sound.{relocations_by}
-use Rattle.mach_audit.specs.Told.{FaultAt, HasMet, faults_from, faults_each}
+use Rattle.mach_audit.specs.Told.{FaultAt, HasMet, faults_from}
 use Rattle.mach_audit.specs.declared.report.Place.TheVariants as places
 use Rattle.mach_audit.proofs.Goes.{GoesEach}
 use Rattle.mach_audit.proofs.lists.add_relocations.Given as goal

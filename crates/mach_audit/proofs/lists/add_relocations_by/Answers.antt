@@ -1,4 +1,3 @@
-use Rattle.std.proofs.Common.{◌≡◌, ◌∙◌, ap, sym}
 use Rattle.mach_audit.proofs.lists.add_relocations_by.Goals as goal
 
 pub returns : goal.returns

@@ -1,4 +1,4 @@
-use Rattle.std.proofs.Common.{◌≡◌, List, Ok, map, length}
+use Rattle.std.proofs.Common.{◌≡◌, List, length}
 use Rattle.mach_base.specs.Text.{texts}
 use Rattle.mach_tries.specs.Trie.{Entry}
 use Rattle.mach_tries.specs.Walks.{HasGiven, work_left}

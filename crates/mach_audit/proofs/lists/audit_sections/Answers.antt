@@ -1,4 +1,4 @@
-use Rattle.std.proofs.Common.{ℕ, ◌≡◌, ◌<◌, ◌+◌, ◌∙◌, ◌^◌, List, Option, arith, map, subst, sym, take}
+use Rattle.std.proofs.Common.{ℕ, List, Option, arith, map, subst, sym, take}
 use Rattle.mach_segments.specs.Segment.{SegmentView, segment_view, sections_of}
 use Rattle.mach_audit.proofs.Goes.{one_part_more, next_number}
 use Rattle.mach_audit.specs.Told.{FaultAt, HasMet, faults_from, section_faults}
