@@ -599,7 +599,7 @@ class Image:
     def exports_are_a_tree(self) -> bool:
         """Whether all exports can be read, and no two paths of their trie lead to one node: then `exports` gives each once."""
         error, b = _Error(), self._bytes
-        code = _lib.gm_exports_are_a_tree(b.live().at, c_size_t(b.len), ctypes.byref(self._numbers), None, ctypes.byref(error))
+        code = _lib.gm_exports_are_a_tree(b.at, c_size_t(b.len), ctypes.byref(self._numbers), None, ctypes.byref(error))
         if code == NO_MEMORY:
             raise _refused(error)
         return not code

@@ -161,6 +161,12 @@ class Names(Case):
         self.assertEqual((past.name, past.value, past.n_type, past.error), ("", 0, 0xF, goblin_mach.ERRORS[3]))
         self.assertEqual((good.name, good.value, good.n_type, good.error), ("_b", 1, 0xF, None))
 
+    def test_of_a_node_that_is_shared(self):
+        one = goblin_mach.Image(with_shared_node())
+        self.assertEqual([(e.name, e.address) for e in one.exports()], [("a", 7), ("b", 7)])
+        self.assertFalse(one.exports_are_a_tree())
+        self.assertTrue(goblin_mach.Image(with_exports()).exports_are_a_tree())
+
     def test_that_are_sought_and_no_text(self):
         one = goblin_mach.Image(with_exports())
         self.assertEqual([(e.name, e.kind, e.address) for e in one.exports()], [("_a", "address", 0x10), ("_b", "address", 0x11)])
@@ -196,7 +202,8 @@ class Closed(Case):
         calls = {
             "commands": one.commands, "segments": one.segments, "symbols": one.symbols, "libraries": one.libraries, "fixups": one.fixups,
             "imports": one.imports, "bindings": one.bindings, "exports": one.exports, "run_paths": one.run_paths, "ids": one.ids,
-            "layout_faults": one.layout_faults, "find_export": lambda: [one.find_export("_a")], "name": lambda: [one.name],
+            "layout_faults": one.layout_faults, "find_export": lambda: [one.find_export("_a")],
+            "exports_are_a_tree": lambda: [one.exports_are_a_tree()], "name": lambda: [one.name],
             "sections": lambda: one.sections(part), "relocations": lambda: one.relocations(section),
         }
         public = {name for name in dir(goblin_mach.Image) if name[0] != "_"} - {"error"}
