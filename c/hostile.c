@@ -101,6 +101,11 @@ static size_t exports(const given *g) {
     return found;
 }
 
+static size_t tree(const given *g) {
+    gm_error e;
+    return !gm_exports_are_a_tree(OF, NULL, &e);
+}
+
 static size_t find(const given *g) {
     static char name[1 << 20], library[64], target[64];
     gm_export one;
@@ -126,7 +131,7 @@ static size_t open_all(const given *g) {
 #define CALL(name) {#name, name}
 static const struct { const char *name; size_t (*call)(const given *); } all[] = {
     CALL(entries), CALL(container), CALL(open_all), CALL(commands), CALL(segments), CALL(sections), CALL(relocations), CALL(symbols), CALL(libraries),
-    CALL(run_paths), CALL(ids), CALL(find), CALL(exports), CALL(fixups), CALL(imports), CALL(bindings), CALL(layout)};
+    CALL(run_paths), CALL(ids), CALL(find), CALL(exports), CALL(tree), CALL(fixups), CALL(imports), CALL(bindings), CALL(layout)};
 
 int main(int count, char **words) {
     given g = {0};
