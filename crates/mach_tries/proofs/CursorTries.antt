@@ -10,7 +10,7 @@ use Rattle.mach_tries.proofs.CursorAhead.{has_begun, root_ahead}
 use Rattle.mach_tries.proofs.TrieBegins.{listed_there, begun_there}
 use Rattle.mach_tries.proofs.Unfoldings.{cut_stands}
 use Rattle.mach_tries.specs.Unfolds.{Ahead, Unfolds, nothing_read, passed, IsCutBy}
-use Rattle.mach_tries.specs.CursorState.{AreAhead, IsKept, IsStopped, IsAsBefore, TurnGives, TurnUnfolds, HasCome, HasWalked, at_root, on_the_way, at_end, met_twice, name_of, below}
+use Rattle.mach_tries.specs.CursorState.{AreAhead, IsKept, IsStopped, IsAsBefore, TurnGives, TurnUnfolds, HasCome, HasMetOnce, at_root, on_the_way, at_end, met_twice, name_of, below}
 use Rattle.mach_tries.specs.CursorState.{HasUnfolded, before_root, between, all_met}
 use Rattle.mach_tries.specs.Cursors.{ReadsTrie, HasGivenTo, NextGives, AreAllMet, IsCutShort}
 use Rattle.mach_tries.specs.declared.cursor.NextExport.{NextExport}
@@ -75,7 +75,7 @@ module _ (s r : Source) (bytes : r.bytes.now ≡ s.bytes.now) (libs : texts r.li
       between n left phase (kept_of kept) (unfolds_of n found left read) (ahead_of (name_of c name) (c.top ∷ below c stack) left are)
   unfolded_of {found = found} (all_met n phase read) = all_met n phase (unfolds_of n found [] read)
 
-  walked_of : {c : TrieCursor} {name : List ℕ} {stack : List Open} {found : List Entry} → HasWalked s c name stack found → HasWalked r c name stack found
+  walked_of : {c : TrieCursor} {name : List ℕ} {stack : List Open} {found : List Entry} → HasMetOnce s c name stack found → HasMetOnce r c name stack found
   walked_of (at_root marks phase kept fresh) = at_root marks phase (kept_of kept) (fresh_of fresh)
   walked_of (on_the_way marks n phase kept h) = on_the_way marks n phase (kept_of kept) (holds_of h)
   walked_of (at_end n phase l) = at_end n phase (listed_of l)
@@ -144,7 +144,7 @@ module _ {s : Source} {t : TrieRange} {libs : List (List ℕ)} (reads : ReadsTri
   over_met over (between n left phase kept read are) = absurd (omega arith)
   over_met over (all_met n phase read) = (n, unfolds_there read)
 
-  over_listed : {c : TrieCursor} {name : List ℕ} {stack : List Open} {found : List Entry} → 1 < c.phase → HasWalked s c name stack found
+  over_listed : {c : TrieCursor} {name : List ℕ} {stack : List Open} {found : List Entry} → 1 < c.phase → HasMetOnce s c name stack found
       → ListsExports t libs found ⊎ ExportsFault t libs malformed
   over_listed over (at_root marks phase kept fresh) = absurd (omega arith)
   over_listed over (on_the_way marks n phase kept h) = absurd (omega arith)

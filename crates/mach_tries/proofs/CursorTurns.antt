@@ -10,7 +10,7 @@ use Rattle.std.proofs.lemmas.List.{take-take, take_more}
 use Rattle.std.proofs.lemmas.Option.{get_or_from_slice_get, slice_get_within}
 use Rattle.mach_tries.specs.BranchViews.{branches_of, IsReadable}
 use Rattle.mach_tries.specs.NodeViews.{those_read}
-use Rattle.mach_tries.specs.CursorState.{below, name_of, root, HasWalked, at_root, on_the_way, at_end, met_twice, IsAtChild, TurnGives, IsAsBefore}
+use Rattle.mach_tries.specs.CursorState.{below, name_of, root, HasMetOnce, at_root, on_the_way, at_end, met_twice, IsAtChild, TurnGives, IsAsBefore}
 use Rattle.mach_tries.specs.CursorState.{IsStopped, IsFull, IsNextLabel}
 use Rattle.mach_tries.specs.declared.branches.BranchRun.{BranchRun}
 use Rattle.mach_tries.specs.declared.cursor.NextExport.{NextExport}
@@ -63,7 +63,7 @@ module _ {s : Source} {c : TrieCursor} {name : List ℕ} {stack : List Open} {b 
 
   -- a branch to nothing is passed
   pub passes : s.upto ≤ b.start → (d : TrieCursor) → d.phase ≡ 1 → d.visits_left ≡ c.visits_left → d.name_len ≡ c.name_len → d.depth ≡ c.depth
-      → d.top ≡ rest → HasWalked s d name stack found
+      → d.top ≡ rest → HasMetOnce s d name stack found
   passes out d phase visits len depth top =
       let kept = at.2 in
       let a = kept.name_len in let b' = kept.depth in let e = kept.visits in
@@ -123,7 +123,7 @@ module _ {s : Source} {c : TrieCursor} {name : List ℕ} {stack : List Open} {b 
         ]
       ]
 
-      pub enters : HasWalked s d name' stack' (found ++ own_entries (name_of d name') own)
+      pub enters : HasMetOnce s d name' stack' (found ++ own_entries (name_of d name') own)
       enters = elim (on_or_off (get_or at.0 (b.start - s.from) false)) [
         | inl on ↦ met_twice (child.marked on inside)
         | inr off ↦ on_the_way (set at.0 (b.start - s.from) true) (suc at.1) phase
@@ -134,7 +134,7 @@ module _ {s : Source} {c : TrieCursor} {name : List ℕ} {stack : List Open} {b 
 -- between two branches
 module _ {s : Source} {c : TrieCursor} {name : List ℕ} {stack : List Open} {found : List Entry} (on : c.phase ≡ 1) where
   -- no open node is left
-  pub ends : c.top.left ≡ 0 → c.depth ≡ 0 → (d : TrieCursor) → d.phase ≡ 2 → HasWalked s c name stack found → TurnGives s found (Some (End)) d name stack
+  pub ends : c.top.left ≡ 0 → c.depth ≡ 0 → (d : TrieCursor) → d.phase ≡ 2 → HasMetOnce s c name stack found → TurnGives s found (Some (End)) d name stack
   ends none bottom d over (at_root marks root_phase kept fresh) = absurd (omega arith)
   ends none bottom d over (on_the_way marks n phase kept h) =
       let all = turn.all_listed (turn.moved refl refl refl (sym (ap (λ (k : ℕ). reverse (take k stack)) bottom)) refl refl h) none in
@@ -144,7 +144,7 @@ module _ {s : Source} {c : TrieCursor} {name : List ℕ} {stack : List Open} {fo
 
   -- the one below is on top
   pub falls : c.top.left ≡ 0 → (e : ℕ) (x : Open) → c.depth ≡ e + 1 → slice_get stack e ≡ Some x → (d : TrieCursor) → d.phase ≡ 1
-      → d.visits_left ≡ c.visits_left → d.name_len ≡ c.name_len → d.depth ≡ e → d.top ≡ x → HasWalked s c name stack found → HasWalked s d name stack found
+      → d.visits_left ≡ c.visits_left → d.name_len ≡ c.name_len → d.depth ≡ e → d.top ≡ x → HasMetOnce s c name stack found → HasMetOnce s d name stack found
   falls none e x deep there d phase' visits len depth top (at_root marks root_phase kept fresh) = absurd (omega arith)
   falls none e x deep there d phase' visits len depth top (on_the_way marks n phase kept h) =
       let below_is : below c stack ≡ x ∷ reverse (take e stack) = ap (λ (k : ℕ). reverse (take k stack)) deep ∙ one_below stack e x there in
@@ -156,7 +156,7 @@ module _ {s : Source} {c : TrieCursor} {name : List ℕ} {stack : List Open} {fo
   falls none e x deep there d phase' visits len depth top (met_twice k) = met_twice k
 
   -- the branch that comes next
-  pub at_next : (some : 0 < c.top.left) {b : Branch} {after : ℕ} → branch_at s.bytes.now s.from c.top.place ≡ Ok (b, after) → HasWalked s c name stack found
+  pub at_next : (some : 0 < c.top.left) {b : Branch} {after : ℕ} → branch_at s.bytes.now s.from c.top.place ≡ Ok (b, after) → HasMetOnce s c name stack found
       → IsAtChild s c name stack b (record { left = c.top.left - 1; place = after; name_len = c.top.name_len }) found ⊎ fault_in s malformed
   at_next some read (at_root marks root_phase kept fresh) = absurd (omega arith)
   at_next some read (on_the_way marks n phase kept h) = inl (marks, n, kept, inr (turn.keeps h some read))
@@ -164,14 +164,14 @@ module _ {s : Source} {c : TrieCursor} {name : List ℕ} {stack : List Open} {fo
   at_next some read (met_twice k) = inr k
 
   -- it can be read
-  pub unreadable : (some : 0 < c.top.left) → IsErr (branch_at s.bytes.now s.from c.top.place) → HasWalked s c name stack found → fault_in s malformed
+  pub unreadable : (some : 0 < c.top.left) → IsErr (branch_at s.bytes.now s.from c.top.place) → HasMetOnce s c name stack found → fault_in s malformed
   unreadable some err (at_root marks root_phase kept fresh) = absurd (omega arith)
   unreadable some err (on_the_way marks n phase kept h) = let read = turn.is_readable h some in absurd (let e = rw read.1 at err in cc)
   unreadable some err (at_end n phase l) = absurd (omega arith)
   unreadable some err (met_twice k) = k
 
 -- at the root
-pub at_the_root : {s : Source} {c : TrieCursor} {name : List ℕ} {stack : List Open} {found : List Entry} → c.phase ≡ 0 → HasWalked s c name stack found
+pub at_the_root : {s : Source} {c : TrieCursor} {name : List ℕ} {stack : List Open} {found : List Entry} → c.phase ≡ 0 → HasMetOnce s c name stack found
     → IsAtChild s c name stack (root s) c.top found ⊎ fault_in s malformed
 at_the_root e (at_root marks phase kept fresh) = inl (marks, 0, kept, inl fresh)
 at_the_root e (on_the_way marks n phase kept h) = absurd (omega arith)

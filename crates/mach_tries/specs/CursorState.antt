@@ -57,13 +57,13 @@ pub record IsAtAhead (s : Source) (c : TrieCursor) (name : List ℕ) (stack : Li
   pub ahead : AreAhead s.bytes.now s.from (name_of c name) (rest ∷ below c stack) left
 
 -- The same in a trie of which no node was met twice, of which each start is marked, though the marks aren't kept; or a node is met twice.
-pub data HasWalked (s : Source) (c : TrieCursor) (name : List ℕ) (stack : List Open) (found : List Entry) : Type 0 where
+pub data HasMetOnce (s : Source) (c : TrieCursor) (name : List ℕ) (stack : List Open) (found : List Entry) : Type 0 where
   at_root : (marks : List Bool) → c.phase ≡ 0 → IsKept s c name stack 0
-      → IsFresh s (name_of c name) marks c.top (root s) (below c stack) found 0 → HasWalked s c name stack found
+      → IsFresh s (name_of c name) marks c.top (root s) (below c stack) found 0 → HasMetOnce s c name stack found
   on_the_way : (marks : List Bool) (n : ℕ) → c.phase ≡ 1 → IsKept s c name stack n
-      → Holds s (name_of c name) marks c.top (below c stack) found n → HasWalked s c name stack found
-  at_end : (n : ℕ) → 1 < c.phase → HasListed s found n → HasWalked s c name stack found
-  met_twice : fault_in s malformed → HasWalked s c name stack found
+      → Holds s (name_of c name) marks c.top (below c stack) found n → HasMetOnce s c name stack found
+  at_end : (n : ℕ) → 1 < c.phase → HasListed s found n → HasMetOnce s c name stack found
+  met_twice : fault_in s malformed → HasMetOnce s c name stack found
 
 abbrev pub IsAtChild : Source → TrieCursor → List ℕ → List Open → trie.Branch → Open → List Entry → Type 0
 IsAtChild s c name stack b rest found =
@@ -73,7 +73,7 @@ IsAtChild s c name stack b rest found =
 -- The cursor has given these exports: in reading the trie as if it were a tree, which it is unless a node is met twice.
 pub record HasCome (s : Source) (c : TrieCursor) (name : List ℕ) (stack : List Open) (found : List Entry) : Type 0 where
   pub unfolded : HasUnfolded s c name stack found
-  pub walked : HasWalked s c name stack found
+  pub walked : HasMetOnce s c name stack found
 
 -- ---- what a turn gives behind these exports
 
@@ -88,9 +88,9 @@ TurnUnfolds s found (Some (StackTooShort)) c name stack = Unit {0}
 
 -- the same where no node is met twice; and where the count of visits is used up, one is
 abbrev pub TurnGives : Source → List Entry → Option NextExport → TrieCursor → List ℕ → List Open → Type 0
-TurnGives s found None c name stack = HasWalked s c name stack found
-TurnGives s found (Some (Export info)) c name stack = HasWalked s c name stack (found ++ entry (name_of c name) (info_of info) ∷ [])
-TurnGives s found (Some (End)) c name stack = HasWalked s c name stack found × (((n : ℕ) × HasListed s found n) ⊎ fault_in s malformed)
+TurnGives s found None c name stack = HasMetOnce s c name stack found
+TurnGives s found (Some (Export info)) c name stack = HasMetOnce s c name stack (found ++ entry (name_of c name) (info_of info) ∷ [])
+TurnGives s found (Some (End)) c name stack = HasMetOnce s c name stack found × (((n : ℕ) × HasListed s found n) ⊎ fault_in s malformed)
 TurnGives s found (Some (Refused e)) c name stack = fault_of e ≡ malformed → fault_in s malformed
 TurnGives s found (Some (NameTooLong n)) c name stack = Unit {0}
 TurnGives s found (Some (StackTooShort)) c name stack = Unit {0}

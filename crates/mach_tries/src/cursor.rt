@@ -7,7 +7,7 @@
 ghost use Rattle.std.specs.Prelude.{◌≡◌, ◌≤◌, ◌<◌, ◌+◌, ◌-◌, ◌^◌, ◌++◌, ◌∷◌, [], ℕ, List, length, take, min, Option, Some, IfOk, IfNone};
 ghost use Rattle.mach_base.specs.Answer.{Reads};
 ghost use Rattle.mach_tries.specs.BranchViews.{IsReadable};
-ghost use Rattle.mach_tries.specs.CursorState.{below, IsAtChild, IsAtAhead, HasUnfolded, HasWalked, TurnUnfolds, TurnGives, IsAsBefore, IsStopped, IsFull, work, work_of};
+ghost use Rattle.mach_tries.specs.CursorState.{below, IsAtChild, IsAtAhead, HasUnfolded, HasMetOnce, TurnUnfolds, TurnGives, IsAsBefore, IsStopped, IsFull, work, work_of};
 ghost use Rattle.mach_tries.specs.Cursors.{HasGivenTo, NextGives, IsOwnAt, IsReexportAt, StandsAt, place_at};
 ghost use Rattle.mach_tries.specs.Lists.{ListBegins};
 ghost use Rattle.mach_tries.specs.TrieRange.{trie_there};
@@ -135,7 +135,7 @@ impl TrieCursor {
         requires none { self.old.top.left ≡ 0 }
         ensures unfolds { (s : Source) (name : List ℕ) (found : List Entry) → HasUnfolded s self.old name stack.now found
             → TurnUnfolds s found result self.new name stack.now }
-        ensures gives { (s : Source) (name : List ℕ) (found : List Entry) → HasWalked s self.old name stack.now found
+        ensures gives { (s : Source) (name : List ℕ) (found : List Entry) → HasMetOnce s self.old name stack.now found
             → TurnGives s found result self.new name stack.now }
         ensures less { (most : ℕ) → IfNone result (work_of most self.new stack.now < work_of most self.old stack.now) }
         ensures depth { self.new.depth ≤ self.old.depth }
@@ -267,7 +267,7 @@ impl TrieCursor {
         requires kept { self.old.depth ≤ length stack.old }
         ensures unfolds { (found : List Entry) → HasUnfolded source.now self.old name.old stack.old found
             → TurnUnfolds source.now found result self.new name.new stack.new }
-        ensures gives { (found : List Entry) → HasWalked source.now self.old name.old stack.old found
+        ensures gives { (found : List Entry) → HasMetOnce source.now self.old name.old stack.old found
             → TurnGives source.now found result self.new name.new stack.new }
         ensures stopped { IsStopped result → IsAsBefore self.old self.new name.old name.new stack.old stack.new }
         ensures full { IsFull source.now.bytes.now source.now.from self.new name.new stack.new result }
@@ -297,7 +297,7 @@ impl TrieCursor {
         requires kept { self.old.depth ≤ length stack.old }
         ensures unfolds { (found : List Entry) → HasUnfolded source.now self.old name.old stack.old found
             → TurnUnfolds source.now found result self.new name.new stack.new }
-        ensures gives { (found : List Entry) → HasWalked source.now self.old name.old stack.old found
+        ensures gives { (found : List Entry) → HasMetOnce source.now self.old name.old stack.old found
             → TurnGives source.now found result self.new name.new stack.new }
         ensures stopped { IsStopped result → IsAsBefore self.old self.new name.old name.new stack.old stack.new }
         ensures full { IsFull source.now.bytes.now source.now.from self.new name.new stack.new result }

@@ -3,7 +3,7 @@ use Rattle.mach_base.specs.Fault.{malformed, fault_of}
 use Rattle.mach_tries.proofs.Names.{append-nil, subst, ℕ, List, Entry, Ok, Err, Option, info_in, node_at, texts}
 use Rattle.mach_tries.specs.BranchViews.{branches_of}
 use Rattle.mach_tries.specs.declared.info.ExportInfo.{ExportInfo}
-use Rattle.mach_tries.specs.CursorState.{HasUnfolded, HasWalked}
+use Rattle.mach_tries.specs.CursorState.{HasUnfolded, HasMetOnce}
 use Rattle.mach_tries.proofs.CursorAhead.{passes_ahead, cut_by_count, cut_by_node, enters_ahead}
 use Rattle.mach_tries.proofs.CursorTurns.{passes, too_many, faulty, enters}
 use Rattle.mach_tries.proofs.cursor.TrieCursor.visit.Goals as goal
@@ -29,7 +29,7 @@ returns-in-Some-clause-gives c = λ found at.
 pub returns-in-None-clause-gives : goal.returns-in-None-clause-gives
 returns-in-None-clause-gives c = λ found at.
     let e = c.enter.ensures in
-    subst (λ (es : List Entry). HasWalked c.args.source.now c.enter.new.self c.put_label.new.name c.enter.new.stack es) (append-nil found)
+    subst (λ (es : List Entry). HasMetOnce c.args.source.now c.enter.new.self c.put_label.new.name c.enter.new.stack es) (append-nil found)
     (rw (c.in-None.is) at (enters at (omega arith) c.enter.new.self c.put_label.new.name c.enter.new.stack (info_in c.in-Ok.node.0) c.in-Ok.node.1
     c.in-Ok.ensures.node c.in-Ok.ensures.readable (omega arith)
     c.put_label.ensures.len (rw c.as_bytes.ensures.value at c.put_label.ensures.text) e.way e.visits (omega arith) e.kept e.leaf (omega arith) e.over
