@@ -1,10 +1,7 @@
 -- Walks of an export trie, batch by batch.
 use Rattle.std.proofs.Common.{◌-◌, ◌^◌, ◌<◌, Err, length, ◌≡◌, ◌≢◌, ◌++◌, ◌⊎◌, [], ℕ, List, Bool, true, false, Option, Some, None, sym, subst, ◌∙◌, arith}
-use Rattle.std.specs.Prelude.{◌==◌, nat_lt, if◌then◌else◌, Result, Ok, IfErr, OnOk}
-use Rattle.mach_base.proofs.Faults.{Stands-in}
-use Rattle.mach_base.specs.Answer.{Stands}
-use Rattle.mach_base.specs.declared.error.Error.{Error}
-use Rattle.mach_base.specs.Fault.{Fault, fault_of, malformed}
+use Rattle.std.specs.Prelude.{◌==◌, nat_lt, if◌then◌else◌}
+use Rattle.mach_base.specs.Fault.{fault_of, malformed}
 use Rattle.mach_tries.specs.CursorState.{IsFull}
 use Rattle.mach_tries.specs.Cursors.{HasGivenTo, AreAllMet}
 use Rattle.mach_tries.specs.Trie.{Entry}
@@ -89,13 +86,3 @@ long_name t c name stack (NameTooLong m) n is few full =
     let same : m ≡ n = cc in
     let many = full.2 in
     let past = full.3 in (omega (arith, same, many, past, few), (full.0, full.1, sym same ∙ many))
-
--- ---- what follows from an answer
-
-pub on_ok : {X E P Q : Type 0} (r : Result X E) → (P → Q) → OnOk r P → OnOk r Q
-on_ok (Ok x) f p = f p
-on_ok (Err e) f p = tt
-
-pub on_err : {X : Type 0} {P Q : Fault → Type 0} (r : Result X Error) → ((f : Fault) → P f → Q f) → IfErr r (Stands P) → IfErr r (Stands Q)
-on_err (Ok x) f p = tt
-on_err {X} {P} {Q} (Err e) f p = Stands-in P Q e f p
