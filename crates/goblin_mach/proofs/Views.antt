@@ -21,7 +21,7 @@ use Rattle.mach_image.specs.OpenImage.{IsImage, commands_held, trie_held, binds_
 use Rattle.goblin_mach.specs.View.{LinksImage, LinksFault, ItemFault, of_links, FaultHeld, IsTold, Tells, IsViewItem, AreViewItems}
 use Rattle.goblin_mach.specs.declared.view.LinkView.{LinkView}
 use Rattle.mach_image.specs.declared.macho.MachO.{MachO}
-use Rattle.mach_image.proofs.ImageFacts.{strict-lossy, exports_are, exports_fail, imports_are, imports_fail}
+use Rattle.mach_image.proofs.ImageFacts.{exports_are, exports_fail, imports_are, imports_fail}
 
 -- an error that stands is told
 pub tells : (P Q : Fault → Type 0) (e : Error) → IsTold e → ((f : Fault) → P f → Q f) → Stands P e → Tells Q e
@@ -37,20 +37,18 @@ pub image-links : {A : Type 0} (bytes : List ℕ) (m : MachO A) (list : List tri
     → ListsImageImports (binds_held m) (pointer_size (ctx_held m).container) (texts m.libs.items) (segments_held m) imports
     → LinksImage bytes list imports
 image-links bytes m list imports p exported imported =
-    let q = strict-lossy bytes 0 m p in
     record {
       opens = (p.ctx, commands_held m, p.opens);
-      exports_are = (exports_are bytes 0 m q list).1 exported;
-      imports_are = (imports_are bytes 0 m q imports).1 imported;
+      exports_are = ((exports_are m).strict bytes 0 p list).1 exported;
+      imports_are = ((imports_are m).strict bytes 0 p imports).1 imported;
     }
 
 -- a fault in one of them stands in the bytes
 pub image-fails : {A : Type 0} (bytes : List ℕ) (m : MachO A) (f : Fault) → IsImage bytes 0 m → FaultHeld m f → LinksFault bytes f
 image-fails bytes m f p fault =
-    let q = strict-lossy bytes 0 m p in
     record {
       opens = (p.ctx, commands_held m, p.opens);
-      fault = elim fault [ inl e ↦ inl ((exports_fail bytes 0 m q f).1 e) | inr i ↦ inr ((imports_fail bytes 0 m q f).1 i) ];
+      fault = elim fault [ inl e ↦ inl (((exports_fail m).strict bytes 0 p f).1 e) | inr i ↦ inr (((imports_fail m).strict bytes 0 p f).1 i) ];
     }
 
 pub item_fault : {A : Type 0} (bytes : List ℕ) (m : MachO A) (f : Fault) → IsImage bytes 0 m → FaultHeld m f → ItemFault (Ok (image bytes)) f

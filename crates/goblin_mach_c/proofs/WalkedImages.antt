@@ -70,7 +70,7 @@ module _ (bytes : List ℕ) (o : ℕ) (m : MachO Global) (p : IsLossyImage bytes
       written_there trie.bytes bytes (IsNumbered libs) (HasLibrary bytes o)
       (λ place text e. text_there bytes (commands_held m) place text
       (subst (λ (t : Option TrieRange). text_at (trie_or_empty t).bytes place ≡ Ok text) p.fields.trie e))
-      (λ number name e. (libs, (libraries_are bytes o m p libs).1 refl, e)) w
+      (λ number name e. (libs, ((libraries_are m).lossy bytes o p libs).1 refl, e)) w
 
   -- the name that comes next
   pub next_name_there : (w : gm_export_walk) (n : ℕ) → IsNextName trie w.cursor n → HasNextName bytes o w n
@@ -86,7 +86,7 @@ module _ (bytes : List ℕ) (o : ℕ) (m : MachO Global) (p : IsLossyImage bytes
         let h = held w name stack found q in record {
           met = (facts_are bytes o m p (λ f. AreAllMet (trie_or_empty f.trie) f.libs (found ++ given))).1 (g.met one found h);
           listed = elim (g.ended one found h) [
-            | inl list ↦ inl ((exports_are bytes o m p (found ++ given)).1 (walked_list (trie_held m) libs (found ++ given) list))
-            | inr fault ↦ inr ((exports_fail bytes o m p malformed).1 (walked_fault (trie_held m) libs malformed fault))
+            | inl list ↦ inl (((exports_are m).lossy bytes o p (found ++ given)).1 (walked_list (trie_held m) libs (found ++ given) list))
+            | inr fault ↦ inr (((exports_fail m).lossy bytes o p malformed).1 (walked_fault (trie_held m) libs malformed fault))
           ];
         }

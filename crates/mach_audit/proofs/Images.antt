@@ -200,7 +200,7 @@ module _ {A : Type 0} (bytes : List ℕ) (m : MachO A) (p : IsImage bytes 0 m) (
       → Judges ((segments : List SegmentView) × HasSegments bytes 0 segments × IsTrue (are_all_ok (all_sections segments)))
       ((segments : List SegmentView) × HasSegments bytes 0 segments × (limit < length (all_sections segments))) (verdict_of q)
   sections_judged q tells =
-      let is = segments_are bytes 0 m (strict-lossy bytes 0 m p) in
+      let is = (segments_are m).strict bytes 0 p in
       judged_as (verdict_of q) (λ ok. (segments_held m, (is (segments_held m)).1 refl, ok))
       (λ s. subst (λ (xs : List SegmentView). IsTrue (are_all_ok (all_sections xs))) ((is s.0).0 s.1) s.2)
       (λ long. (segments_held m, (is (segments_held m)).1 refl, long))
@@ -232,7 +232,7 @@ module _ {A : Type 0} (bytes : List ℕ) (m : MachO A) (p : IsImage bytes 0 m) (
       → Judges ((rows : List (Result (List ℕ × Nlist) Fault)) × HasSymbols bytes 0 rows × IsTrue (are_all_ok rows)) (LongOf limit (HasSymbols bytes 0))
       (verdict_of q)
   symbols_judged q tells =
-      let is = symbols_are bytes 0 m (strict-lossy bytes 0 m p) in
+      let is = (symbols_are m).strict bytes 0 p in
       let rows = symbols_held m.symbols in
       judged_one limit (HasSymbols bytes 0) rows (faults_from places.Symbol 0 rows) q ((is rows).1 refl) (λ others h. (is others).0 h)
       (plain_from places.Symbol 0 rows) tells
@@ -245,7 +245,7 @@ module _ {A : Type 0} (bytes : List ℕ) (m : MachO A) (p : IsImage bytes 0 m) (
   pub exports_judged : {B : Type 0} (q : Part B) → TellsOfTrie limit (trie_or_empty (trie_held m)) (texts m.libs.items) q → FaultyHasNoList
       → Judges ((list : List trie.Entry) × HasExports bytes 0 list) (LongOf limit (HasExportItems limit bytes 0)) (verdict_of q)
   exports_judged q tells law =
-      let is = exports_are bytes 0 m (strict-lossy bytes 0 m p) in
+      let is = (exports_are m).strict bytes 0 p in
       let t = trie_or_empty (trie_held m) in
       let libs = texts m.libs.items in
       let faults = faults_from places.Export 0 tells.items in
@@ -273,7 +273,7 @@ module _ {A : Type 0} (bytes : List ℕ) (m : MachO A) (p : IsImage bytes 0 m) (
       → AreImageBindItems (binds_held m) (pointer_size (ctx_held m).container) (texts m.libs.items) (segments_held m) others)
       → Judges ((list : List Import) × HasImports bytes 0 list) (LongOf limit (HasImportItems bytes 0)) (verdict_of q)
   imports_judged items q are tells has held =
-      let is = imports_are bytes 0 m (strict-lossy bytes 0 m p) in
+      let is = (imports_are m).strict bytes 0 p in
       let b = binds_held m in
       let pointer = pointer_size (ctx_held m).container in
       let libs = texts m.libs.items in

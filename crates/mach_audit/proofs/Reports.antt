@@ -43,10 +43,10 @@ pub image_told : {A B : Type 0} (limit : ℕ) (bytes : List ℕ) (m : MachO A) �
     → (items : List (Result Binding Fault)) × HasBindings bytes 0 items × TellsOf limit (faults_from places.Binding 0 items) q.bindings
     → HasLayoutFaults bytes q.layout.items → TellsImage limit bytes q
 image_told limit bytes m p q sections relocations symbols exports imports fixups bindings layout = record {
-  sections = (segments_held m, (segments_are bytes 0 m p (segments_held m)).1 refl, sections);
+  sections = (segments_held m, ((segments_are m).lossy bytes 0 p (segments_held m)).1 refl, sections);
   relocations =
       (facts_are bytes 0 m p (λ f. TellsRelocations limit (relocation_faults f.ctx f.bytes f.segments) (is_clean q.sections) q.relocations)).1 relocations;
-  symbols = (symbols_held m.symbols, (symbols_are bytes 0 m p (symbols_held m.symbols)).1 refl, symbols);
+  symbols = (symbols_held m.symbols, ((symbols_are m).lossy bytes 0 p (symbols_held m.symbols)).1 refl, symbols);
   exports = (facts_are bytes 0 m p (λ f. TellsOfTrie limit (trie_or_empty f.trie) f.libs q.exports)).1 exports;
   imports = imports;
   fixups = fixups;

@@ -31,6 +31,7 @@ use Rattle.mach_image.specs.LookUp.{StandsInImage}
 use Rattle.mach_image.specs.Subjects.{ListsImageImports, ImageImportsFault, AreImageBindItems, ListsImageExports}
 use Rattle.mach_image.specs.Subjects.{ImageExportsFault, symbols_in, symbols_held}
 use Rattle.mach_headers.specs.Magic.{cputype_at}
+use Rattle.mach_image.specs.Modes.{InBothModes, Agrees, HoldsAs}
 use Rattle.mach_image.specs.OpenImage.{IsImage, IsLossyImage, HasFields, commands_held, segments_held, trie_held, binds_held, ctx_held, bytes_held}
 use Rattle.mach_image.specs.Relocations.{RelocatedSection, relocated_sections_in}
 use Rattle.mach_image.specs.declared.macho.MachO.{MachO}
@@ -46,6 +47,11 @@ strict-lossy bytes o m p =
       opens = p.opens.lossy;
       fields = subst (λ (x : List SegmentView). HasFields bytes o p.ctx x m) (same_segments p.ctx bytes (commands_held m) p.opens.readable.segments) p.fields;
     }
+
+-- what is so in lossy mode is so in both
+pub both_modes : {A : Type 0} (m : MachO A) (Says : List ℕ → ℕ → Type 0) → ((bytes : List ℕ) (o : ℕ) → IsLossyImage bytes o m → Says bytes o)
+    → InBothModes m Says
+both_modes m Says is = record { strict = λ bytes o p. is bytes o (strict-lossy bytes o m p); lossy = is }
 
 -- equal arguments
 pub moved : {X Y : Type 0} (P : X → Y → Type 0) (x z : X) (y w : Y) → x ≡ z → y ≡ w → P x y → P z w
@@ -89,73 +95,76 @@ module _ {A : Type 0} (bytes : List ℕ) (o : ℕ) (m : MachO A) (p : IsLossyIma
   pub facts_are : (Says : Facts → Type 0) → OfFacts bytes o Says ↔ Says (facts_held m)
   facts_are = said bytes o (facts_held m) has_facts
 
-  pub commands_are : (commands : List Command) → HasCommands bytes o commands ↔ (commands ≡ commands_held m)
-  commands_are commands = facts_are (λ f. commands ≡ f.commands)
+-- so in both modes: what is said of the facts on the bytes holds of those that are held
+pub said_of : {A B : Type 0} (m : MachO A) (Says : B → Facts → Type 0) → Agrees m (λ bytes o x. OfFacts bytes o (Says x)) (λ x. Says x (facts_held m))
+said_of m Says = both_modes m _ (λ bytes o p x. facts_are bytes o m p (Says x))
 
-  pub symbols_are : (rows : List (Result (List ℕ × Nlist) Fault)) → HasSymbols bytes o rows ↔ (rows ≡ symbols_held m.symbols)
-  symbols_are rows = facts_are (λ f. rows ≡ symbols_in f.symbols)
+module _ {A : Type 0} (m : MachO A) where
+  pub facts_are_held : InBothModes m (λ bytes o. HasFacts bytes o (facts_held m))
+  facts_are_held = both_modes m _ (λ bytes o p. has_facts bytes o m p)
 
-  pub symbol_table_is : (table : Option SymbolTable) → HasSymbolTable bytes o table ↔ (table ≡ option_map table_of m.symbols)
-  symbol_table_is table = facts_are (λ f. table ≡ f.symbols)
+  pub commands_are : HoldsAs m HasCommands (commands_held m)
+  commands_are = said_of m (λ commands f. commands ≡ f.commands)
 
-  pub segments_are : (segments : List SegmentView) → HasSegments bytes o segments ↔ (segments ≡ segments_held m)
-  segments_are segments = facts_are (λ f. segments ≡ f.segments)
+  pub symbols_are : HoldsAs m HasSymbols (symbols_held m.symbols)
+  symbols_are = said_of m (λ rows f. rows ≡ symbols_in f.symbols)
 
-  pub relocations_are : (found : Result (List RelocatedSection) Fault)
-      → HasRelocations bytes o found ↔ (found ≡ relocated_sections_in (ctx_held m) (bytes_held m) (segments_held m))
-  relocations_are found = facts_are (λ f. found ≡ relocated_sections_in f.ctx f.bytes f.segments)
+  pub symbol_table_is : HoldsAs m HasSymbolTable (option_map table_of m.symbols)
+  symbol_table_is = said_of m (λ table f. table ≡ f.symbols)
 
-  pub name_is : (name : Option (List ℕ)) → HasName bytes o name ↔ (name ≡ text_in m.name)
-  name_is name = facts_are (λ f. name ≡ f.name)
+  pub segments_are : HoldsAs m HasSegments (segments_held m)
+  segments_are = said_of m (λ segments f. segments ≡ f.segments)
 
-  pub libraries_are : (libs : List (List ℕ)) → HasLibraries bytes o libs ↔ (libs ≡ texts m.libs.items)
-  libraries_are libs = facts_are (λ f. libs ≡ f.libs)
+  pub relocations_are : HoldsAs m HasRelocations (relocated_sections_in (ctx_held m) (bytes_held m) (segments_held m))
+  relocations_are = said_of m (λ found f. found ≡ relocated_sections_in f.ctx f.bytes f.segments)
 
-  pub libraries_by_kind_are : (libraries : List LibraryView)
-      → HasLibrariesByKind bytes o libraries ↔ (libraries ≡ libraries_in (bytes_held m) (commands_held m))
-  libraries_by_kind_are libraries = facts_are (λ f. libraries ≡ libraries_in f.bytes f.commands)
+  pub name_is : HoldsAs m HasName (text_in m.name)
+  name_is = said_of m (λ name f. name ≡ f.name)
 
-  pub run_paths_are : (paths : List (List ℕ)) → HasRunPaths bytes o paths ↔ (paths ≡ texts m.rpaths.items)
-  run_paths_are paths = facts_are (λ f. paths ≡ f.run_paths)
+  pub libraries_are : HoldsAs m HasLibraries (texts m.libs.items)
+  libraries_are = said_of m (λ libs f. libs ≡ f.libs)
 
-  pub entry_point_is : (point : EntryPoint) → HasEntryPoint bytes o point ↔ (point ≡ record { address = m.entry; old_style = m.old_style_entry })
-  entry_point_is point = (
-    λ h. same_ok (sym (image_of (λ ctx cs. entry_point_in (cputype_at ctx bytes o) cs ≡ Ok point) h) ∙ p.fields.entry),
-    λ e. of_image (λ ctx cs. entry_point_in (cputype_at ctx bytes o) cs ≡ Ok point) (p.fields.entry ∙ ap Ok (sym e)),
-  )
+  pub libraries_by_kind_are : HoldsAs m HasLibrariesByKind (libraries_in (bytes_held m) (commands_held m))
+  libraries_by_kind_are = said_of m (λ libraries f. libraries ≡ libraries_in f.bytes f.commands)
 
-  pub exports_are : (list : List trie.Entry) → HasExports bytes o list ↔ ListsImageExports (trie_held m) (texts m.libs.items) list
-  exports_are list = facts_are (λ f. ListsImageExports f.trie f.libs list)
+  pub run_paths_are : HoldsAs m HasRunPaths (texts m.rpaths.items)
+  run_paths_are = said_of m (λ paths f. paths ≡ f.run_paths)
 
-  pub exports_fail : (fault : Fault) → HasExportsFault bytes o fault ↔ ImageExportsFault (trie_held m) (texts m.libs.items) fault
-  exports_fail fault = facts_are (λ f. ImageExportsFault f.trie f.libs fault)
+  pub entry_point_is : HoldsAs m HasEntryPoint (record { address = m.entry; old_style = m.old_style_entry })
+  entry_point_is = both_modes m _ (λ bytes o p point. (
+    λ h. same_ok (sym (image_of bytes o m p (λ ctx cs. entry_point_in (cputype_at ctx bytes o) cs ≡ Ok point) h) ∙ p.fields.entry),
+    λ e. of_image bytes o m p (λ ctx cs. entry_point_in (cputype_at ctx bytes o) cs ≡ Ok point) (p.fields.entry ∙ ap Ok (sym e)),
+  ))
 
-  pub export_is : (name : List ℕ) (found : Option trie.Info)
-      → HasExportOf bytes o name found ↔ StandsInImage (trie_held m) (texts m.libs.items) name found
-  export_is name found = facts_are (λ f. StandsInImage f.trie f.libs name found)
+  pub exports_are : Agrees m HasExports (ListsImageExports (trie_held m) (texts m.libs.items))
+  exports_are = said_of m (λ list f. ListsImageExports f.trie f.libs list)
 
-  pub imports_are : (list : List Import)
-      → HasImports bytes o list ↔ ListsImageImports (binds_held m) (pointer_size (ctx_held m).container) (texts m.libs.items) (segments_held m) list
-  imports_are list = facts_are (λ f. ListsImageImports f.binds (pointer_size f.ctx.container) f.libs f.segments list)
+  pub exports_fail : Agrees m HasExportsFault (ImageExportsFault (trie_held m) (texts m.libs.items))
+  exports_fail = said_of m (λ fault f. ImageExportsFault f.trie f.libs fault)
 
-  pub imports_fail : (fault : Fault)
-      → HasImportsFault bytes o fault ↔ ImageImportsFault (binds_held m) (pointer_size (ctx_held m).container) (texts m.libs.items) (segments_held m) fault
-  imports_fail fault = facts_are (λ f. ImageImportsFault f.binds (pointer_size f.ctx.container) f.libs f.segments fault)
+  pub export_is : (name : List ℕ) → Agrees m (λ bytes o. HasExportOf bytes o name) (StandsInImage (trie_held m) (texts m.libs.items) name)
+  export_is name = said_of m (λ found f. StandsInImage f.trie f.libs name found)
 
-  pub import_items_are : (items : List (Result Import Fault))
-      → HasImportItems bytes o items ↔ AreImageBindItems (binds_held m) (pointer_size (ctx_held m).container) (texts m.libs.items) (segments_held m) items
-  import_items_are items = facts_are (λ f. AreImageBindItems f.binds (pointer_size f.ctx.container) f.libs f.segments items)
+  pub imports_are : Agrees m HasImports (ListsImageImports (binds_held m) (pointer_size (ctx_held m).container) (texts m.libs.items) (segments_held m))
+  imports_are = said_of m (λ list f. ListsImageImports f.binds (pointer_size f.ctx.container) f.libs f.segments list)
 
-  pub chained_fixups_are : (found : Result (Option Fixups) Fault) → HasChainedFixups bytes o found ↔ (found ≡ chained_held m)
-  chained_fixups_are found = facts_are (λ f. found ≡ chained_in f.ctx f.bytes f.commands)
+  pub imports_fail : Agrees m HasImportsFault (ImageImportsFault (binds_held m) (pointer_size (ctx_held m).container) (texts m.libs.items) (segments_held m))
+  imports_fail = said_of m (λ fault f. ImageImportsFault f.binds (pointer_size f.ctx.container) f.libs f.segments fault)
 
-  pub base_is : (address : ℕ) → HasBase bytes o address ↔ (address ≡ base_held m)
-  base_is address = facts_are (λ f. address ≡ base_of f.segments)
+  pub import_items_are : Agrees m HasImportItems
+      (AreImageBindItems (binds_held m) (pointer_size (ctx_held m).container) (texts m.libs.items) (segments_held m))
+  import_items_are = said_of m (λ items f. AreImageBindItems f.binds (pointer_size f.ctx.container) f.libs f.segments items)
 
-  pub fixups_are : (items : List (Result Fixup Fault)) → HasFixups bytes o items ↔ AreImageFixups (chained_held m) (segments_held m) items
-  fixups_are items = facts_are (λ f. AreImageFixups (chained_in f.ctx f.bytes f.commands) f.segments items)
+  pub chained_fixups_are : HoldsAs m HasChainedFixups (chained_held m)
+  chained_fixups_are = said_of m (λ found f. found ≡ chained_in f.ctx f.bytes f.commands)
 
-  pub bindings_are : (items : List (Result Binding Fault)) → HasBindings bytes o items
-      ↔ AreImageBindings (binds_held m) (chained_held m) (pointer_size (ctx_held m).container) (texts m.libs.items) (segments_held m) items
-  bindings_are items =
-      facts_are (λ f. AreImageBindings f.binds (chained_in f.ctx f.bytes f.commands) (pointer_size f.ctx.container) f.libs f.segments items)
+  pub base_is : HoldsAs m HasBase (base_held m)
+  base_is = said_of m (λ address f. address ≡ base_of f.segments)
+
+  pub fixups_are : Agrees m HasFixups (AreImageFixups (chained_held m) (segments_held m))
+  fixups_are = said_of m (λ items f. AreImageFixups (chained_in f.ctx f.bytes f.commands) f.segments items)
+
+  pub bindings_are : Agrees m HasBindings
+      (AreImageBindings (binds_held m) (chained_held m) (pointer_size (ctx_held m).container) (texts m.libs.items) (segments_held m))
+  bindings_are =
+      said_of m (λ items f. AreImageBindings f.binds (chained_in f.ctx f.bytes f.commands) (pointer_size f.ctx.container) f.libs f.segments items)

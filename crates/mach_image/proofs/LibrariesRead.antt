@@ -9,7 +9,9 @@ use Rattle.mach_load.specs.Commands as kind
 use Rattle.mach_records.specs.declared.libraries.Dylib.{Dylib}
 use Rattle.mach_image.specs.declared.libraries.LibraryKind.{LibraryKind}
 use Rattle.mach_image.specs.declared.macho.MachO.{MachO}
-use Rattle.mach_image.specs.OpenImage.{IsLossyImage, commands_held, bytes_held}
+use Rattle.mach_image.proofs.ImageFacts.{both_modes}
+use Rattle.mach_image.specs.Modes.{InBothModes}
+use Rattle.mach_image.specs.OpenImage.{commands_held, bytes_held}
 use Rattle.mach_base.specs.Text.{texts}
 use Rattle.std.specs.Option.{is_some}
 use Rattle.std.proofs.lemmas.Option.{slice_get-map}
@@ -152,9 +154,9 @@ in_libs bytes cs k l e =
     ∙ slice_get-map (λ (v : LibraryView). v.name) (libraries_in bytes cs) k
     ∙ ap (option_map (λ (v : LibraryView). v.name)) e
 
-pub in_held_libs : {A : Type 0} (bytes : List ℕ) (o : ℕ) (m : MachO A) → IsLossyImage bytes o m → (k : ℕ) (l : LibraryView)
-    → slice_get (libraries_in (bytes_held m) (commands_held m)) k ≡ Some l → slice_get (texts m.libs.items) l.ordinal ≡ Some l.name
-in_held_libs bytes o m p k l e =
+pub in_held_libs : {A : Type 0} (m : MachO A) → InBothModes m (λ bytes o. (k : ℕ) (l : LibraryView)
+    → slice_get (libraries_in (bytes_held m) (commands_held m)) k ≡ Some l → slice_get (texts m.libs.items) l.ordinal ≡ Some l.name)
+in_held_libs m = both_modes m _ (λ bytes o p k l e.
     ap (λ (xs : List (List ℕ)). slice_get xs l.ordinal)
     (p.fields.libs ∙ ap (λ (bs : List ℕ). libs_in bs (commands_held m)) (sym p.fields.bytes_is))
-    ∙ in_libs (bytes_held m) (commands_held m) k l e
+    ∙ in_libs (bytes_held m) (commands_held m) k l e)

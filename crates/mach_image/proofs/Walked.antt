@@ -5,7 +5,13 @@ use Rattle.mach_tries.specs.Trie.{Entry}
 use Rattle.mach_tries.specs.Lists.{Lists, nothing, a_node}
 use Rattle.mach_tries.specs.TrieFault.{TrieFault, at_node, met_again}
 use Rattle.mach_tries.specs.TrieRange.{TrieRange, empty_range, trie_there, ListsExports, ExportsFault}
+use Rattle.mach_base.specs.Text.{texts}
+use Rattle.mach_image.specs.Facts.{HasExports, HasExportsFault}
+use Rattle.mach_image.specs.Modes.{InBothModes}
+use Rattle.mach_image.specs.OpenImage.{trie_held}
 use Rattle.mach_image.specs.Subjects.{ListsImageExports, ImageExportsFault, trie_or_empty}
+use Rattle.mach_image.specs.declared.macho.MachO.{MachO}
+use Rattle.mach_image.proofs.ImageFacts.{both_modes, exports_are, exports_fail}
 
 empty_list : (libs : List (List ℕ)) (list : List Entry) → Lists (trie_there empty_range libs) 0 [] list → list ≡ []
 empty_list libs _ (nothing past) = refl
@@ -22,3 +28,14 @@ walked_list (Some t) libs list l = l
 pub walked_fault : (t : Option TrieRange) (libs : List (List ℕ)) (f : Fault) → ExportsFault (trie_or_empty t) libs f → ImageExportsFault t libs f
 walked_fault None libs f s = empty_fault libs f s
 walked_fault (Some t) libs f s = s
+
+-- so of the bytes
+pub walked_exports : {A : Type 0} (m : MachO A)
+    → InBothModes m (λ bytes o. (list : List Entry) → ListsExports (trie_or_empty (trie_held m)) (texts m.libs.items) list → HasExports bytes o list)
+walked_exports m =
+    both_modes m _ (λ bytes o p list l. ((exports_are m).lossy bytes o p list).1 (walked_list (trie_held m) (texts m.libs.items) list l))
+
+pub walked_to_fault : {A : Type 0} (m : MachO A)
+    → InBothModes m (λ bytes o. (f : Fault) → ExportsFault (trie_or_empty (trie_held m)) (texts m.libs.items) f → HasExportsFault bytes o f)
+walked_to_fault m =
+    both_modes m _ (λ bytes o p f s. ((exports_fail m).lossy bytes o p f).1 (walked_fault (trie_held m) (texts m.libs.items) f s))

@@ -8,6 +8,7 @@ pub mod LookUp
 pub mod Relocations
 pub mod Image
 pub mod OpenImage
+pub mod Modes
 pub mod Fixups
 pub mod FixupsLeft
 pub mod Bindings

@@ -5,7 +5,8 @@ ghost use Rattle.mach_base.specs.Text.{texts};
 ghost use Rattle.mach_load.specs.Command.{Command};
 ghost use Rattle.mach_load.specs.Variants.{command_of};
 ghost use Rattle.mach_image.specs.Libraries.{LibraryView, library_kind, dylib_of_values, named_by, of_ordinal, library_view, libraries_in, libraries_left};
-ghost use Rattle.mach_image.specs.OpenImage.{IsImage, IsLossyImage, bytes_held, commands_held};
+ghost use Rattle.mach_image.specs.Modes.{InBothModes};
+ghost use Rattle.mach_image.specs.OpenImage.{bytes_held, commands_held};
 ghost use Rattle.mach_image.specs.Readings.{said, first_of};
 ghost use Rattle.mach_image.specs.Subjects.{libs_in, own_name_in};
 
@@ -165,8 +166,7 @@ pub fn libraries_by_ordinal()
 
 /// What an image that was opened holds in `libs` at the ordinal of a library is that library's name.
 pub fn libraries_in_libs<A: Allocator>(image: &MachO<'_, A>)
-    ensures strict { (bytes : List ℕ) (o : ℕ) → IsImage bytes o image.now → (k : ℕ) (l : LibraryView)
-        → slice_get (libraries_in (bytes_held image.now) (commands_held image.now)) k ≡ Some l → slice_get (texts image.now.libs.items) l.ordinal ≡ Some l.name }
-    ensures lossy { (bytes : List ℕ) (o : ℕ) → IsLossyImage bytes o image.now → (k : ℕ) (l : LibraryView)
-        → slice_get (libraries_in (bytes_held image.now) (commands_held image.now)) k ≡ Some l → slice_get (texts image.now.libs.items) l.ordinal ≡ Some l.name }
+    ensures { InBothModes image.now (λ bytes o. (k : ℕ) (l : LibraryView)
+        → slice_get (libraries_in (bytes_held image.now) (commands_held image.now)) k ≡ Some l
+        → slice_get (texts image.now.libs.items) l.ordinal ≡ Some l.name) }
 {}

@@ -20,7 +20,7 @@ module _ {A : Type 0} (bytes : List ℕ) (o : ℕ) (m : MachO A) (p : IsLossyIma
   has_opcode_bindings items = (facts_are bytes o m p (λ f. AreOpcodeBindings f.binds (pointer_size f.ctx.container) f.libs f.segments items)).1
 
   pub has_chained_fixups : HasChainedFixups bytes o (chained_held m)
-  has_chained_fixups = (chained_fixups_are bytes o m p (chained_held m)).1 refl
+  has_chained_fixups = ((chained_fixups_are m).lossy bytes o p (chained_held m)).1 refl
 
   pub has_fixups : (items : List (Result Fixup Fault)) → AreImageFixups (chained_held m) (segments_held m) items → HasFixups bytes o items
-  has_fixups items = (fixups_are bytes o m p items).1
+  has_fixups items = ((fixups_are m).lossy bytes o p items).1

@@ -7,12 +7,12 @@ use Rattle.goblin_mach_c.proofs.tree.go_over_exports.Goals as goal
 
 pub returns-clause-whole : goal.returns-clause-whole
 returns-clause-whole c =
-    on_ok_weaker c.go_over.result (λ l. (l.0, c.walked_exports_of_image.ensures.lossy _ _ c.in_ok-image.ensures.opened l.0 l.1))
+    on_ok_weaker c.go_over.result (λ l. (l.0, c.walked_exports_of_image.ensures.listed.lossy _ _ c.in_ok-image.ensures.opened l.0 l.1))
     (c.go_over.ensures.whole _ _ c.in_ok-walk.ensures.given)
 
 pub returns-clause-refused : goal.returns-clause-refused
 returns-clause-refused c =
     let found = WalkFault c.args.lossy c.args.bytes.now c.args.offset in
     IfErr-weaker c.go_over.result _ (Stands found)
-    (λ e. Stands-in _ found e (λ f h. inr (c.walked_exports_of_image.ensures.lossy_faults _ _ c.in_ok-image.ensures.opened f h)))
+    (λ e. Stands-in _ found e (λ f h. inr (c.walked_exports_of_image.ensures.faults.lossy _ _ c.in_ok-image.ensures.opened f h)))
     (c.go_over.ensures.refused _ _ c.in_ok-walk.ensures.given)

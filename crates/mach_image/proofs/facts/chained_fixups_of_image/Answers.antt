@@ -1,9 +1,5 @@
-use Rattle.mach_image.proofs.ImageFacts.{strict-lossy, chained_fixups_are}
+use Rattle.mach_image.proofs.ImageFacts.{chained_fixups_are}
 use Rattle.mach_image.proofs.facts.chained_fixups_of_image.Goals as goal
 
 pub returns : goal.returns
-returns g c =
-    let m = c.args.image.now in record {
-      strict = λ bytes o p. chained_fixups_are bytes o m (strict-lossy bytes o m p);
-      lossy = λ bytes o p. chained_fixups_are bytes o m p;
-    }
+returns g c = chained_fixups_are c.args.image.now

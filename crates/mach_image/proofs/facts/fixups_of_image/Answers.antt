@@ -1,9 +1,5 @@
-use Rattle.mach_image.proofs.ImageFacts.{strict-lossy, fixups_are}
+use Rattle.mach_image.proofs.ImageFacts.{fixups_are}
 use Rattle.mach_image.proofs.facts.fixups_of_image.Goals as goal
 
 pub returns : goal.returns
-returns g c =
-    let m = c.args.image.now in record {
-      strict = λ bytes o p. fixups_are bytes o m (strict-lossy bytes o m p);
-      lossy = λ bytes o p. fixups_are bytes o m p;
-    }
+returns g c = fixups_are c.args.image.now

@@ -1,11 +1,8 @@
-use Rattle.mach_image.proofs.ImageFacts.{strict-lossy, imports_are, imports_fail}
+use Rattle.mach_image.proofs.ImageFacts.{imports_are, imports_fail}
 use Rattle.mach_image.proofs.facts.imports_of_image.Goals as goal
 
-pub returns : goal.returns
-returns g c =
-    let m = c.args.image.now in record {
-      strict = λ bytes o p. imports_are bytes o m (strict-lossy bytes o m p);
-      lossy = λ bytes o p. imports_are bytes o m p;
-      strict_faults = λ bytes o p. imports_fail bytes o m (strict-lossy bytes o m p);
-      lossy_faults = λ bytes o p. imports_fail bytes o m p;
-    }
+pub returns-clause-listed : goal.returns-clause-listed
+returns-clause-listed g c = imports_are c.args.image.now
+
+pub returns-clause-faults : goal.returns-clause-faults
+returns-clause-faults g c = imports_fail c.args.image.now

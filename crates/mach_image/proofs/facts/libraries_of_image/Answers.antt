@@ -1,9 +1,5 @@
-use Rattle.mach_image.proofs.ImageFacts.{strict-lossy, libraries_are}
+use Rattle.mach_image.proofs.ImageFacts.{libraries_are}
 use Rattle.mach_image.proofs.facts.libraries_of_image.Goals as goal
 
 pub returns : goal.returns
-returns g c =
-    let m = c.args.image.now in record {
-      strict = λ bytes o p. libraries_are bytes o m (strict-lossy bytes o m p);
-      lossy = λ bytes o p. libraries_are bytes o m p;
-    }
+returns g c = libraries_are c.args.image.now

@@ -1,6 +1,5 @@
-use Rattle.mach_image.proofs.ImageFacts.{strict-lossy, name_is}
+use Rattle.mach_image.proofs.ImageFacts.{name_is}
 use Rattle.mach_image.proofs.facts.name_of_image.Goals as goal
 
 pub returns : goal.returns
-returns g c =
-    let m = c.args.image.now in record { strict = λ bytes o p. name_is bytes o m (strict-lossy bytes o m p); lossy = λ bytes o p. name_is bytes o m p }
+returns g c = name_is c.args.image.now

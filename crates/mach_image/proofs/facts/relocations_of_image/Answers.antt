@@ -1,9 +1,5 @@
-use Rattle.mach_image.proofs.ImageFacts.{strict-lossy, relocations_are}
+use Rattle.mach_image.proofs.ImageFacts.{relocations_are}
 use Rattle.mach_image.proofs.facts.relocations_of_image.Goals as goal
 
 pub returns : goal.returns
-returns g c =
-    let m = c.args.image.now in record {
-      strict = λ bytes o p. relocations_are bytes o m (strict-lossy bytes o m p);
-      lossy = λ bytes o p. relocations_are bytes o m p;
-    }
+returns g c = relocations_are c.args.image.now

@@ -1,6 +1,0 @@
-use Rattle.mach_image.proofs.ImageFacts.{strict-lossy, symbols_are}
-use Rattle.mach_image.proofs.facts.symbols_of_image.Goals as goal
-
-pub returns : goal.returns
-returns g c =
-    let m = c.args.image.now in record { strict = λ bytes o p. symbols_are bytes o m (strict-lossy bytes o m p); lossy = λ bytes o p. symbols_are bytes o m p }
