@@ -5,11 +5,13 @@ ghost use Rattle.mach_binds.specs.BindingLaws.{FindsLastOrdinal, AddsBindings, H
 
 /// The ordinal of a bind is the one that was set last before it, by opcode 1, 2 or 3, or 0; no instruction that
 /// bindings read is a DONE.
+#[tactic(auto, using(crate::proofs::BindingLaws::finds_last_ordinal_lem))]
 pub fn finds_last_ordinal()
     ensures { FindsLastOrdinal }
 {}
 
 /// An instruction adds the bindings that are found by looking back over those before it.
+#[tactic(auto, using(crate::proofs::BindingLaws::adds_bindings_lem))]
 pub fn adds_bindings()
     ensures { AddsBindings }
 {}
@@ -21,6 +23,7 @@ pub fn one_list_of_bindings()
 
 /// The address of a bind's binding is at least the `vmaddr` of the bind's segment, and below that plus
 /// its `vmsize`.
+#[tactic(auto, using(crate::proofs::BindingLaws::binding_lies))]
 pub fn binding_lies_in_its_segment()
     ensures { BindingLiesIn }
 {}

@@ -16,6 +16,7 @@ pub fn looks_back()
 {}
 
 /// An instruction adds the binds that are found by looking back over those before it.
+#[tactic(auto, using(crate::proofs::BindLast::adds_binds_lem))]
 pub fn adds_binds()
     ensures { AddsBinds }
 {}
@@ -35,6 +36,7 @@ pub fn faulty_binds_have_no_list()
 {}
 
 /// All others have one.
+#[tactic(auto, using(crate::proofs::BindTotal::others_have_one))]
 pub fn other_binds_have_a_list()
     ensures { (b : BindRanges) (pointer : ℕ) (libs : List (List ℕ)) (segments : List SegmentView)
         → ((f : Fault) → BindFault b pointer libs segments f → ⊥)
@@ -43,6 +45,7 @@ pub fn other_binds_have_a_list()
 
 /// The address of a bind's import is at least the `vmaddr` of the bind's segment, and below that plus
 /// its `vmsize`.
+#[tactic(auto, using(crate::proofs::BindAddresses::bind_lies))]
 pub fn import_lies_in_its_segment()
     ensures { BindLiesIn }
 {}
