@@ -5,8 +5,7 @@ use Rattle.mach_tries.proofs.Names.{no_further, one_begun, one_whole, source_tri
 use Rattle.mach_tries.proofs.Names.{Source, TrieRange, trie_there, ListsExports, ExportsFault, HasListed, IsTree, TrieFault, Error, Stands, Stands-in, fault_in}
 use Rattle.mach_tries.proofs.Names.{Bool, true, false, ◌⊎◌}
 use Rattle.mach_tries.proofs.TriePaths.{same_node}
-use Rattle.mach_tries.proofs.TrieLevels.{one_list_lem}
-use Rattle.mach_tries.proofs.TrieRelation.{within}
+use Rattle.mach_tries.proofs.TrieRelation.{one_list}
 use Rattle.mach_tries.proofs.TreeWalk.{whole_begun}
 use Rattle.mach_tries.specs.declared.walk.Walker.{Walker}
 
@@ -30,8 +29,7 @@ mutual
       let here = prefix_of t b.start (p ++ b.label) xs first part one in
       (here.0 ++ others, e ∙ (ap (λ (x : List Entry). x ++ others) here.1 ∙ append_assoc xs here.0 others))
   branches_prefix t p (b ∷ bs) xs ys (one_whole {first = first} {others = some} whole part e) (one_more {first = first'} {others = others} one rest e') =
-      let same : first' ≡ first = one_list_lem t b.start (p ++ b.label) first' first (within t b.start (p ++ b.label) first' one)
-      (within t b.start (p ++ b.label) first whole) in
+      let same : first' ≡ first = one_list t b.start (p ++ b.label) first' first one whole in
       let more = branches_prefix t p bs some others part rest in (
         more.0,
         e' ∙ (ap (λ (x : List Entry). x ++ others) same ∙ (ap (λ (x : List Entry). first ++ x) more.1
