@@ -3,16 +3,16 @@ use Rattle.std.proofs.Common.{◌≡◌, ◌<◌, ◌≤◌, ◌-◌, ℕ, suc, 
 use Rattle.mach_base.specs.Fault.{Fault}
 use Rattle.mach_tries.specs.Trie.{Info, Branch}
 use Rattle.mach_tries.specs.Nodes.{branch_at, branches_at}
-use Rattle.mach_tries.specs.NodeViews.{those_read}
-use Rattle.mach_tries.specs.BranchViews.{branches_of, IsReadable}
+use Rattle.mach_tries.specs.Views.{those_read}
+use Rattle.mach_tries.specs.Views.{branches_of, IsReadable}
 use Rattle.mach_tries.specs.Finds.{BranchesFind, at_nothing, passed, gone_back}
-use Rattle.mach_tries.specs.LookUpViews.{Settles, Stops}
-use Rattle.mach_tries.specs.WalkViews.{source_trie}
-use Rattle.mach_tries.specs.declared.branches.BranchRun.{BranchRun}
+use Rattle.mach_tries.specs.LookUpState.{Settles, Stops}
+use Rattle.mach_tries.specs.Views.{source_trie}
+use Rattle.mach_tries.specs.declared.node.BranchRun.{BranchRun}
 use Rattle.mach_tries.specs.declared.walk.Source.{Source}
 use Rattle.mach_tries.proofs.Beginnings.{begins_or_not}
 use Rattle.mach_tries.proofs.BranchAgain.{first_branch, no_branch}
-use Rattle.mach_tries.proofs.LookUpBranches.{next_left}
+use Rattle.mach_tries.proofs.BranchAgain.{next_left}
 use Rattle.mach_tries.proofs.TriePaths.{drop_head}
 
 pub readable_as : (r : Result (List Branch) Fault) (bs : List Branch) → r ≡ Ok bs → (r ≡ Ok (those_read r)) × (those_read r ≡ bs)

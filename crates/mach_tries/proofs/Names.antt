@@ -30,7 +30,6 @@ pub use Rattle.mach_base.specs.Text.{texts}
 pub use Rattle.mach_tries.specs.Lists.{nothing, Lists, BranchesList, a_node, no_more, one_more, lists_of, node_list, ListsWithin}
 unfoldable pub use Rattle.mach_tries.specs.Lists.{list_within}
 pub use Rattle.mach_tries.specs.Lists.{ListBegins, BranchesBegin, none_yet, node_begun, no_further, one_begun, one_whole}
-pub use Rattle.mach_tries.specs.NodeViews.{branches_in, AreReadable, branch_of}
 pub use Rattle.mach_tries.specs.Nodes.{own_at, trie_of}
 unfoldable pub use Rattle.mach_tries.specs.Nodes.{branch_at, branches_at, children_at, terminal_at, inner_at, node_at}
 pub use Rattle.mach_tries.specs.Paths.{StartsFrom, Leads, Before, Path, IsTree}
@@ -41,8 +40,11 @@ pub use Rattle.mach_tries.specs.TrieRange.{TrieRange, trie_there, ListsExports, 
 pub use Rattle.mach_tries.specs.TrieRows.{back_to_root, shared_node, children_at_the_end, exports_vector, terminal_with_child, a_stub, kind_3_with_reexport_bit}
 pub use Rattle.mach_tries.specs.TrieRows.{kind_1_with_stub_bit, ladder_of_40}
 pub use Rattle.mach_tries.specs.Visits.{AreApart, Visits}
-pub use Rattle.mach_tries.specs.WalkState.{Visit, visit, Apart, Visited, Frame, IsOpen, AreOpen, IsLeft, IsDone, Closed, Pending, Begun, Walk, IsShown, AreShown}
-pub use Rattle.mach_tries.specs.WalkState.{none_shown, one_shown, used_up, Extends, Nested, Holds, before, Keeps, IsFresh, HasListed, IsAtBranch, IsBetween}
-pub use Rattle.mach_tries.specs.WalkState.{HasFound, IsWalk, IsRefused, StepGives, unmarked, branches_left, work, work_ahead}
-pub use Rattle.mach_tries.specs.WalkViews.{node_in, own_in, source_trie, fault_in, info_in, node_of}
+pub use Rattle.mach_tries.specs.Unfolds.{Ahead, ahead, to_root, Unfolds, nothing_read, passed, node_read, IsCutBy}
+pub use Rattle.mach_tries.specs.Reading.{AreLed, IsBeside, AreBeside, AreLastFirst, IsBehind, HasRead, AreMarked, AreAhead, IsRead, branches_left}
+pub use Rattle.mach_tries.specs.WalkState.{Holds, HaveMore, HasListed, next_of, IsAtBranch, IsBetween, HasFound, IsWalk, IsRefused, StepGives, unmarked, work}
+pub use Rattle.mach_tries.specs.WalkState.{work_ahead}
+pub use Rattle.mach_tries.specs.Views.{branch_of, those_read, branches_of, IsReadable, branches_in, info_in, node_of, node_with_first, range_of, source_trie}
+pub use Rattle.mach_tries.specs.Views.{node_in, node_behind, own_in, fault_in}
+pub use Rattle.mach_tries.specs.declared.walk.Open.{Open}
 pub use Rattle.mach_tries.specs.declared.walk.Source.{Source}

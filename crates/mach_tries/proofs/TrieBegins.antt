@@ -6,7 +6,8 @@ use Rattle.mach_tries.proofs.Names.{Source, TrieRange, trie_there, ListsExports,
 use Rattle.mach_tries.proofs.Names.{Bool, true, false, ◌⊎◌}
 use Rattle.mach_tries.proofs.TriePaths.{same_node}
 use Rattle.mach_tries.proofs.TrieRelation.{one_list}
-use Rattle.mach_tries.proofs.TreeWalk.{whole_begun}
+use Rattle.mach_tries.proofs.Unfoldings.{met_begins}
+pub use Rattle.mach_tries.proofs.Unfoldings.{whole_list}
 use Rattle.mach_tries.specs.declared.walk.Walker.{Walker}
 
 mutual
@@ -36,18 +37,11 @@ mutual
             ∙ (sym (append_assoc first some more.0) ∙ ap (λ (x : List Entry). x ++ more.0) (sym e)))),
       )
 
-pub whole_list : (t : Trie) (s : ℕ) (p : List ℕ) (xs : List Entry) → Lists t s p xs → ListBegins t s p xs
-whole_list t s p [] (nothing out) = none_yet
-whole_list t s p xs (a_node {others = others} node is all e) = node_begun node is (whole_begun t p node.branches others all) e
-
 -- what a walk has found is a beginning
 pub found_begins : {A : Type 0} {n : ℕ} (found : List Entry) (w : Walker A) → HasFound found n w
     → ListBegins (source_trie w.source) w.source.from [] found
 found_begins found w f = elim f [
-  | inl at ↦ elim at.1 [
-    | inl fresh ↦ subst (ListBegins (source_trie w.source) w.source.from []) (sym fresh.none_found) none_yet
-    | inr next ↦ subst (ListBegins (source_trie w.source) w.source.from []) (append-nil found) (next.holds.walk.begun [] (inl no_further))
-  ]
+  | inl at ↦ met_begins at.1.is_read.read
   | inr end ↦ whole_list (source_trie w.source) w.source.from [] found end.1.listed
 ]
 
@@ -66,7 +60,3 @@ module _ (s : Source) (t : TrieRange) (libs : List (List ℕ)) (same : source_tr
   pub begun_there : {found : List Entry} → ListBegins (source_trie s) s.from [] found → ListBegins (trie_there t libs) t.from [] found
   begun_there {found} b =
       subst (λ (x : Trie). ListBegins x t.from [] found) same (subst (λ (r : ℕ). ListBegins (source_trie s) r [] found) from b)
-
-pub on_or_off : (b : Bool) → (b ≡ true) ⊎ (b ≡ false)
-on_or_off true = inl refl
-on_or_off false = inr refl
