@@ -41,7 +41,6 @@ pub fn blocked_root_has_no_list()
 {}
 
 /// Elsewhere it has one, within as many levels as the range has places.
-#[tactic(auto, using(crate::proofs::TrieFaults::list_without_fault))]
 pub fn other_roots_have_lists()
     ensures { (t : Trie) (root from : ℕ) (prefix : List ℕ) → StartsFrom t from → from ≤ root → ((f : Fault) → TrieFault t root f → ⊥)
         → IsTree t root × (xs : List Entry) × (list_within t (t.upto - from) root prefix ≡ Some xs) }
@@ -69,7 +68,6 @@ pub fn other_tries_have_a_list()
 {}
 
 /// A walk, refused or not, visits no more nodes than are in any list that holds all to which paths lead.
-#[tactic(auto, using(crate::proofs::TrieVisits::within_nodes))]
 pub fn visits_within_nodes<X, E>()
     ensures { (t : Trie) (root old new : ℕ) (answer : Result X E) (nodes : List ℕ) → Visits t root old new answer
         → ((path : List ℕ) (at : ℕ) → Leads t path root at → at < t.upto → IsAmong at nodes) → new ≤ old + length nodes }
@@ -77,7 +75,6 @@ pub fn visits_within_nodes<X, E>()
 
 /// A walk whose answer is Ok visits as many nodes as there are paths to nodes, by any list that holds each
 /// of these paths once.
-#[tactic(auto, using(crate::proofs::TrieVisits::of_paths))]
 pub fn visits_of_paths<X, E>()
     ensures { (t : Trie) (root old new : ℕ) (x : X) (paths : List (List ℕ)) → Visits {E = E} t root old new (Ok x)
         → AreInOrder paths → ((p : List ℕ) → IsAmong p paths ↔ Path t root p) → new ≡ old + length paths }
@@ -85,14 +82,12 @@ pub fn visits_of_paths<X, E>()
 
 /// A look-up, refused or not, visits no more nodes than twice those in any list that holds all to which paths
 /// lead.
-#[tactic(auto, using(crate::proofs::LookUpFollows::within_nodes))]
 pub fn look_up_visits_within_nodes()
     ensures { (t : Trie) (root : ℕ) (name : List ℕ) (old new : ℕ) (nodes : List ℕ) → LookUpVisits t root name old new
         → ((path : List ℕ) (at : ℕ) → Leads t path root at → at < t.upto → IsAmong at nodes) → new ≤ old + 2 * length nodes }
 {}
 
 /// Where no two paths lead to one node, it visits no more nodes than are in such a list.
-#[tactic(auto, using(crate::proofs::LookUpFollows::within_tree))]
 pub fn look_up_visits_in_a_tree()
     ensures { (t : Trie) (root : ℕ) (name : List ℕ) (old new : ℕ) (nodes : List ℕ) → IsTree t root → LookUpVisits t root name old new
         → ((path : List ℕ) (at : ℕ) → Leads t path root at → at < t.upto → IsAmong at nodes) → new ≤ old + length nodes }

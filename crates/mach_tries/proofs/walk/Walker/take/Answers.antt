@@ -1,4 +1,4 @@
-use Rattle.mach_tries.proofs.Names.{◌≡◌, ◌+◌, ◌-◌, ◌++◌, ◌∙◌, refl, sym, ap, subst, arith, ℕ, suc, List, length, reverse, take, inl, inr, append-nil}
+use Rattle.mach_tries.proofs.Names.{◌≡◌, ◌+◌, ◌-◌, ◌++◌, ◌∙◌, refl, sym, ap, subst, arith, ℕ, suc, List, length, reverse, take, inl, append-nil}
 use Rattle.mach_tries.proofs.Names.{err_from_is_err_and, IsUtf8, Stands-reported, Entry, own_entries, fault_in, info_in, fault_of, HasFound, node_in, node_with_first}
 use Rattle.std.proofs.Math.Logic.{∥∥₁_elim, ∥∥₁_map}
 use Rattle.std.proofs.Math.Bridge.{le_prop}
