@@ -1,6 +1,6 @@
 -- A branch that was read, read again.
 use Rattle.mach_tries.proofs.Names.{◌≡◌, ◌<◌, ◌+◌, ◌-◌, ◌^◌, ℕ, suc, zero, cond, List, [], ◌∷◌, inl, inr, length, ltb, nat_le, Result, Ok, Err, refl, sym}
-use Rattle.mach_tries.proofs.Names.{ap, subst, ◌∙◌, arith, is_utf8, IsUtf8, IsUtf8-from_is_utf8, leb-false, lt-ltb, ltb-true, ◌>>=◌, Fault, malformed}
+use Rattle.mach_tries.proofs.Names.{subst, arith, is_utf8, IsUtf8, IsUtf8-from_is_utf8, leb-false, lt-ltb, ltb-true, ◌>>=◌, Fault, malformed}
 use Rattle.mach_tries.proofs.Names.{IsOk, bad_offset, bad_input, uleb_at, run_at, text_at, Branch, branch_at, branches_at, sum_of, bind_ok, chosen, same_ok}
 
 record TextRead (bytes : List ℕ) (s : ℕ) (text : List ℕ) : Type 0 where

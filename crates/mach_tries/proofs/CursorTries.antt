@@ -1,12 +1,12 @@
 -- What a cursor has given of the trie that it goes over.
-use Rattle.mach_tries.proofs.Names.{◌≡◌, ◌<◌, ◌≤◌, ◌-◌, length, Some, ℕ, List, [], ◌⊎◌, refl, arith, inl, inr, malformed, fault_of, Entry, ExportsFault}
+use Rattle.mach_tries.proofs.Names.{◌≡◌, ◌<◌, ◌≤◌, ◌-◌, length, Some, ℕ, List, [], ◌⊎◌, refl, arith, inl, inr, malformed, Entry, ExportsFault}
 use Rattle.mach_tries.proofs.Names.{ListBegins, TrieRange, ListsExports, trie_there, Unfolds, nothing_read, passed, Open}
 use Rattle.mach_tries.proofs.Starts.{starts_from}
 use Rattle.mach_tries.proofs.Readings.{reading, tree_or_twice, cut_stands}
 use Rattle.mach_tries.proofs.OpenNodes as nodes
 use Rattle.mach_tries.proofs.Unfoldings as met
 use Rattle.mach_tries.specs.CursorState.{below, name_of, IsStopped, IsAsBefore, TurnGives, HasCome, at_root, between, all_met}
-use Rattle.mach_tries.specs.Cursors.{HasGivenTo, NextGives, AreAllMet}
+use Rattle.mach_tries.specs.Cursors.{HasGivenTo, NextGives}
 use Rattle.mach_tries.specs.declared.cursor.NextExport.{NextExport}
 use Rattle.mach_tries.specs.declared.cursor.NextExport.TheVariants.{Export, End, Refused, NameTooLong, StackTooShort}
 use Rattle.mach_tries.specs.declared.cursor.TrieCursor.{TrieCursor}

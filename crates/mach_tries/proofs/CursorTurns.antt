@@ -1,11 +1,11 @@
 -- The walk by a cursor, turn by turn.
-use Rattle.mach_tries.proofs.Names.{◌≡◌, ◌<◌, ◌≤◌, ◌+◌, ◌-◌, ◌^◌, ℕ, suc, List, [], ◌∷◌, ◌++◌, length, take, reverse, reverse-append, ◌⊎◌, inl, inr, refl, sym, ap, subst, ◌∙◌}
+use Rattle.mach_tries.proofs.Names.{◌≡◌, ◌<◌, ◌≤◌, ◌+◌, ◌-◌, ◌^◌, ℕ, suc, List, [], ◌∷◌, ◌++◌, length, take, reverse, reverse-append, ◌⊎◌, inl, inr, refl, sym, ap, ◌∙◌}
 use Rattle.mach_tries.proofs.Names.{arith, cases_eq, length-take, slice_get, Ok, Err, IsErr, Option, None, Some, Info, Branch, Node, Entry, own_entries, Fault}
 use Rattle.mach_tries.proofs.Names.{malformed, branch_at, node_at, branches_of, IsReadable, TrieRange, trie_there, Ahead, IsRead, IsCutBy, Open}
 use Rattle.std.proofs.Common.{min}
 use Rattle.std.proofs.lemmas.List.{take-take, take_more}
 use Rattle.std.proofs.lemmas.Option.{get_or_from_slice_get, slice_get_within}
-use Rattle.mach_tries.specs.CursorState.{below, name_of, root, IsKept, IsAtChild, HasCome, at_root, between, all_met, TurnGives, IsAsBefore, IsStopped, IsFull}
+use Rattle.mach_tries.specs.CursorState.{below, name_of, root, IsAtChild, HasCome, at_root, between, all_met, TurnGives, IsAsBefore, IsStopped, IsFull}
 use Rattle.mach_tries.specs.CursorState.{IsNextLabel}
 use Rattle.mach_tries.specs.declared.node.BranchRun.{BranchRun}
 use Rattle.mach_tries.specs.declared.cursor.NextExport.{NextExport}

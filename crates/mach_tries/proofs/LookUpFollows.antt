@@ -1,10 +1,10 @@
 -- The state of a look-up before it searches: the nodes on the way so far, each behind the one before.
-use Rattle.std.proofs.Common.{◌≡◌, ◌<◌, ◌≤◌, ◌+◌, ◌-◌, ◌*◌, ℕ, List, [], ◌∷◌, ◌++◌, ◌⊎◌, inl, inr, length, drop, map, Option, Some, None, refl, sym, ap}
+use Rattle.std.proofs.Common.{◌≡◌, ◌<◌, ◌≤◌, ◌+◌, ◌-◌, ◌*◌, ℕ, List, [], ◌∷◌, ◌++◌, inl, inr, length, drop, map, Option, None, refl, sym, ap}
 use Rattle.std.proofs.Common.{subst, ◌∙◌, arith, length-append}
-use Rattle.std.specs.Prelude.{slice_get}
+use Rattle.std.proofs.Math.Seq.{drop-append_seam}
 use Rattle.std.proofs.lemmas.List.{length-map}
 use Rattle.mach_base.specs.Among.{IsAmong}
-use Rattle.mach_tries.specs.Trie.{Info, Branch, Node, Trie}
+use Rattle.mach_tries.specs.Trie.{Info, Trie}
 use Rattle.mach_tries.specs.Paths.{Leads, Path, IsTree}
 use Rattle.mach_tries.specs.Visits.{AreApart}
 use Rattle.mach_base.specs.Text.{texts}
@@ -17,10 +17,6 @@ use Rattle.mach_tries.proofs.Starts.{starts_from}
 use Rattle.mach_tries.proofs.TriePaths.{Leads-append, leads_to_one, leads_behind, among_append}
 use Rattle.mach_tries.proofs.TrieVisits.{no_more_paths, few_paths}
 use Rattle.mach_tries.proofs.LookUpPaths.{spells_on, way_behind}
-
-drop_own : (xs ys : List ℕ) → drop (length xs) (xs ++ ys) ≡ ys
-drop_own [] ys = refl
-drop_own (x ∷ xs) ys = drop_own xs ys
 
 abbrev behind_path : List ℕ → List (List ℕ) → List (List ℕ)
 behind_path p qs = map (λ q. p ++ q) qs
@@ -126,7 +122,7 @@ module _ (s : Source) (name : List ℕ) where
       on = turn.1.3
 
       rest_behind : on.others ≡ drop len rest
-      rest_behind = sym (drop_own on.branch.label on.others) ∙ (ap (λ n. drop n (on.branch.label ++ on.others)) on.len_is ∙ ap (drop len) (sym on.spells))
+      rest_behind = sym (drop-append_seam on.branch.label on.others) ∙ (ap (λ n. drop n (on.branch.label ++ on.others)) on.len_is ∙ ap (drop len) (sym on.spells))
 
       pub len_within : len ≤ length rest
       len_within = let a = ap (λ (x : List ℕ). length x) on.spells in let b = length-append on.branch.label on.others in let c = on.len_is in omega arith

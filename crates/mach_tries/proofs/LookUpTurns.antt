@@ -2,16 +2,17 @@
 use Rattle.mach_tries.proofs.Names.{◌≡◌, ◌<◌, ◌≤◌, ◌+◌, ◌-◌, ℕ, zero, suc, Bool, true, false, List, [], ◌∷◌, ◌++◌, ◌⊎◌, inl, inr, length, drop, set, get_or}
 use Rattle.mach_tries.proofs.Names.{replicate, Option, Some, None, Ok, Err, refl, sym, ap, subst, ◌∙◌, arith, length-append, length-drop, slice_get}
 use Rattle.mach_tries.proofs.Names.{Fault, malformed, IsAmong, Info, Branch, Node, Trie, Leads, Before, branch_at, branches_at, IsBeside, AreMarked}
-use Rattle.mach_tries.proofs.Names.{branches_of, IsReadable, source_trie, node_in, Source, texts}
+use Rattle.mach_tries.proofs.Names.{branches_of, IsReadable, source_trie, node_in, Source}
+use Rattle.std.proofs.Math.Seq.{drop-append_seam}
 use Rattle.mach_tries.specs.Finds.{IsElsewhere, Finds, BranchesFind, here, below, none_left, behind, gone_back}
 use Rattle.mach_tries.specs.LookUp.{Spells, IsOnWay, FaultOnWay, at_node_on_way, met_on_way}
 use Rattle.mach_tries.specs.LookUpState.{Settles, Stops, SearchVisits}
 use Rattle.mach_tries.specs.declared.look_up.Choice.{Choice}
 use Rattle.mach_tries.specs.declared.node.BranchRun.{BranchRun}
 use Rattle.mach_tries.proofs.BranchAgain.{no_branch, next_left}
-use Rattle.mach_tries.proofs.TriePaths.{Leads-append, drop_head, leads_from, not_before_itself}
+use Rattle.mach_tries.proofs.TriePaths.{Leads-append, drop_head, not_before_itself}
 use Rattle.mach_tries.proofs.LookUpPaths.{spells_on}
-use Rattle.mach_tries.proofs.Starts.{starts_from, branch_from}
+use Rattle.mach_tries.proofs.Starts.{branch_from}
 use Rattle.mach_tries.proofs.LookUpSettles.{readable_as, stopped_there}
 use Rattle.mach_tries.proofs.Marking as mark
 use Rattle.mach_tries.proofs.Readings.{before_deeper, before_child, beside_before, beside_deeper, beside_sibling}
@@ -499,14 +500,10 @@ module _ (s : Source) (root : ℕ) (name : List ℕ) where
       settled_below c e (record { branches = b; at = e.at }) cs (branches_of s.bytes.now s.from b) h refl readable
       (settles_at e rest (branches_of s.bytes.now s.from b) same st)
 
-  drop_own : (xs ys : List ℕ) → drop (length xs) (xs ++ ys) ≡ ys
-  drop_own [] ys = refl
-  drop_own (x ∷ xs) ys = drop_own xs ys
-
   pub deeper : (at : ℕ) (label others : List ℕ) → at ≤ length name → drop at name ≡ label ++ others
       → (others ≡ drop (at + length label) name) × (at + length label ≤ length name)
   deeper at label others within spells = (
-    sym (drop_own label others) ∙ (ap (λ (x : List ℕ). drop (length label) x) (sym spells) ∙ drop_more at (length label) name),
+    sym (drop-append_seam label others) ∙ (ap (λ (x : List ℕ). drop (length label) x) (sym spells) ∙ drop_more at (length label) name),
     let a = length-drop at name in let b = ap (λ (x : List ℕ). length x) spells in let d = length-append label others in omega arith,
   )
 

@@ -1,7 +1,7 @@
 -- What is ahead in open nodes, turn by turn: the same for a walk and for a cursor.
 use Rattle.mach_tries.proofs.Names.{◌≡◌, ◌<◌, ◌≤◌, ◌+◌, ◌-◌, ℕ, suc, List, [], ◌∷◌, ◌++◌, Ok, refl, sym, ap, subst, ◌∙◌, inl, inr, arith, length, take, cases_eq, map-append, append_assoc}
 use Rattle.mach_tries.proofs.Names.{length-append, length-take, slice_get, Some, Branch, Node, Entry, own_entries, branch_at, branches_at}
-use Rattle.mach_tries.proofs.Names.{node_at, trie_of, TrieRange, trie_there, IsNode, IsUtf8, IsUtf8-append}
+use Rattle.mach_tries.proofs.Names.{trie_of, TrieRange, trie_there, IsNode, IsUtf8, IsUtf8-append}
 use Rattle.mach_tries.proofs.Names.{Ahead, ahead, Unfolds, nothing_read, passed, node_read, AreAhead, IsRead, Open}
 use Rattle.std.proofs.lemmas.List.{take-take, take_all, take-append-le}
 use Rattle.mach_tries.proofs.BranchAgain.{first_branch, next_left, no_branch}

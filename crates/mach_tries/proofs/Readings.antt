@@ -1,5 +1,5 @@
 -- The paths of a reading, turn by turn: to the nodes that were read, and to what is ahead.
-use Rattle.mach_tries.proofs.Names.{◌≡◌, ◌<◌, ◌≤◌, ◌+◌, ◌-◌, ℕ, zero, suc, List, [], ◌∷◌, ◌++◌, ◌⊎◌, inl, inr, length, drop, Some, Ok, refl, sym, ap, subst, ◌∙◌}
+use Rattle.mach_tries.proofs.Names.{◌≡◌, ◌<◌, ◌≤◌, ◌+◌, ◌-◌, ℕ, zero, suc, List, [], ◌∷◌, ◌++◌, ◌⊎◌, inl, inr, length, drop, Some, refl, sym, ap, subst, ◌∙◌}
 use Rattle.mach_tries.proofs.Names.{arith, append_assoc, append-nil, length-append, slice_get, cases_eq, Fault, malformed, Info, Option, None, Branch, Node, Trie}
 use Rattle.mach_tries.proofs.Names.{IsNode, Entry, own_entries, Leads, Path, Before, IsTree, StartsFrom, IsAmong, AreApart, TrieFault, at_node, met_again}
 use Rattle.mach_tries.proofs.Names.{Ahead, ahead, to_root, Unfolds, nothing_read, passed, node_read, IsCutBy}
@@ -75,10 +75,10 @@ children_beside q k (b ∷ bs) qs first more = (
 -- ---- turns
 
 module _ {t : Trie} {root : ℕ} where
-  pub begins : HasRead t root [] ([] ∷ []) (to_root root ∷ [])
-  begins = record {
+  pub begins : (x : Ahead) → root ≡ x.start → HasRead t root [] ([] ∷ []) (x ∷ [])
+  begins x e = record {
     lead = λ p i. absurd i;
-    led = (refl, tt);
+    led = (e, tt);
     before = λ p q i j. absurd i;
     beside = (λ r i. absurd i, tt);
     last_first = tt;
@@ -178,7 +178,7 @@ pub record Reading (t : Trie) (root n : ℕ) (left : List Ahead) : Type 0 where
   pub met : HasRead t root paths others left
 
 pub reading : {t : Trie} {root n : ℕ} {found : List Entry} {left : List Ahead} → Unfolds t root n found left → Reading t root n left
-reading nothing_read = record { paths = []; others = [] ∷ []; count = refl; met = begins }
+reading nothing_read = record { paths = []; others = [] ∷ []; count = refl; met = begins (to_root _) refl }
 reading (passed before out) =
     let r = reading before in let p = passes r.others r.met out in record { paths = r.paths; others = p.0; count = r.count; met = p.1 }
 reading {t} {root} (node_read node before is met_is left_is) =

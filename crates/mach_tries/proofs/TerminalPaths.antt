@@ -1,5 +1,5 @@
 -- A list of exports has the terminal paths of its start, each once, in order, and the exports that belong to them.
-use Rattle.mach_tries.proofs.Names.{◌≡◌, ◌<◌, ◌≤◌, ℕ, suc, List, [], ◌∷◌, ◌++◌, ◌⊎◌, inl, inr, map, drop, Option, Some, None, Ok, refl, sym, ap, subst, ◌∙◌}
+use Rattle.mach_tries.proofs.Names.{◌≡◌, ◌<◌, ◌≤◌, ℕ, suc, List, [], ◌∷◌, ◌++◌, inl, inr, map, drop, Option, Some, None, Ok, refl, sym, ap, subst, ◌∙◌}
 use Rattle.mach_tries.proofs.Names.{append_assoc, arith, slice_get, cases_eq, append-nil, IsAmong, Info, Branch, Node, Trie, IsNode, Entry, entry, own_entries}
 use Rattle.mach_tries.proofs.Names.{Lists, BranchesList, nothing, a_node, no_more, one_more, Leads, Before, EndsWith, IsTerminal, BelongsTo, EachBelongs}
 use Rattle.mach_tries.proofs.Names.{AreInOrder, ListsPaths}

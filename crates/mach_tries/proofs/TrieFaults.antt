@@ -1,5 +1,5 @@
 -- The root has a list of exports exactly where no fault stands, and then within as many levels as the range has places.
-use Rattle.mach_tries.proofs.Names.{◌≡◌, ◌≢◌, ◌<◌, ◌≤◌, ◌+◌, ◌-◌, ℕ, zero, suc, List, [], ◌∷◌, ◌++◌, ◌⊎◌, inl, inr, length, length-append, Option, Some, None}
+use Rattle.mach_tries.proofs.Names.{◌≡◌, ◌≢◌, ◌<◌, ◌≤◌, ◌-◌, ℕ, zero, suc, List, [], ◌∷◌, ◌++◌, ◌⊎◌, inl, inr, length, length-append, Option, Some, None}
 use Rattle.mach_tries.proofs.Names.{Ok, Err, refl, sym, ap, subst, ◌∙◌, arith, slice_get, range_with_len, cases_lt, cases_eq, IsAmong, Fault, malformed, Info}
 use Rattle.mach_tries.proofs.Names.{Branch, Node, Trie, Entry, own_entries, Lists, BranchesList, nothing, a_node, one_more, lists_of, node_list, list_within}
 use Rattle.mach_tries.proofs.Names.{Leads, IsTree, StartsFrom, TrieFault, at_node, met_again}

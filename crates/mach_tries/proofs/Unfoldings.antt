@@ -1,6 +1,6 @@
 -- What a reading of a trie has met is a beginning of its list, and all of it where nothing is ahead.
-use Rattle.mach_tries.proofs.Names.{◌≡◌, ◌<◌, ◌≤◌, ◌-◌, ℕ, zero, suc, List, [], ◌∷◌, ◌++◌, map, ◌⊎◌, inl, inr, refl, sym, ap, subst, ◌∙◌, append_assoc, append-nil}
-use Rattle.mach_tries.proofs.Names.{Some, Branch, Node, Trie, Entry, IsNode, own_entries, Lists, BranchesList, a_node, nothing}
+use Rattle.mach_tries.proofs.Names.{◌≡◌, ℕ, List, [], ◌∷◌, ◌++◌, ◌⊎◌, inl, inr, refl, sym, ap, subst, ◌∙◌, append_assoc, append-nil}
+use Rattle.mach_tries.proofs.Names.{Branch, Trie, Entry, own_entries, Lists, BranchesList, a_node, nothing}
 use Rattle.mach_tries.proofs.Names.{no_more, one_more, ListBegins, BranchesBegin, none_yet, node_begun, no_further, one_begun, one_whole}
 use Rattle.mach_tries.proofs.Names.{Ahead, ahead, Unfolds, nothing_read, passed, node_read}
 

@@ -1,10 +1,10 @@
 -- The state of a walk, turn by turn.
 use Rattle.mach_tries.proofs.Names.{◌≡◌, ◌<◌, ◌≤◌, ◌+◌, ◌-◌, ◌*◌, ℕ, suc, Bool, true, false, cond, List, [], ◌∷◌, ◌++◌, inl, inr, length, take, set, get_or}
-use Rattle.mach_tries.proofs.Names.{refl, sym, ap, subst, ◌∙◌, arith, replicate, reverse, reverse-append, sum_by-cons, cases_eq, Result, Ok, Err, Option, Some}
-use Rattle.mach_tries.proofs.Names.{None, IfSome, Error, Fault, malformed, Info, Node, Trie, TrieRange, Branch, Entry, own_entries, nothing, IsUtf8, texts}
-use Rattle.mach_tries.proofs.Names.{Leads, Path, IsAmong, branch_at, branches_at, source_trie, node_in, fault_in, range_of, at_node, met_again, AreApart, Visits}
-use Rattle.mach_tries.proofs.Names.{Ahead, ahead, Unfolds, HasRead, AreMarked, IsRead, Holds, HasListed, IsRefused, IsAtBranch, HasFound, unmarked, work}
-use Rattle.mach_tries.proofs.Names.{work_ahead, branch_of, branches_of, branches_in, IsReadable, Source, Open}
+use Rattle.mach_tries.proofs.Names.{refl, sym, ap, subst, ◌∙◌, arith, replicate, reverse, reverse-append, sum_by-cons, cases_eq, Ok, Err, Option, Some}
+use Rattle.mach_tries.proofs.Names.{None, IfSome, Error, Fault, malformed, Info, Node, Trie, Branch, Entry, own_entries, nothing, IsUtf8, texts}
+use Rattle.mach_tries.proofs.Names.{Leads, Path, IsAmong, branch_at, source_trie, node_in, fault_in, range_of, at_node, met_again, AreApart, Visits}
+use Rattle.mach_tries.proofs.Names.{Ahead, ahead, HasRead, AreMarked, Holds, HasListed, IsRefused, IsAtBranch, HasFound, unmarked, work}
+use Rattle.mach_tries.proofs.Names.{branch_of, branches_of, branches_in, IsReadable, Source, Open}
 use Rattle.std.proofs.lemmas.List.{take_all}
 use Rattle.mach_tries.specs.declared.walk.Walker.{Walker}
 use Rattle.mach_tries.specs.declared.node.Branches.{Branches}
@@ -92,14 +92,7 @@ starts s inside name marks o os none left len bottom = rw (none, bottom) (record
   paths = [];
   others = [] ∷ [];
   count = refl;
-  met = record {
-    lead = λ p i. absurd i;
-    led = (refl, tt);
-    before = λ p q i j. absurd i;
-    beside = (λ r i. absurd i, tt);
-    last_first = tt;
-    all = λ p path. inr ([], p, inl refl, refl);
-  };
+  met = reading.begins _ refl;
   marked = mark.none_marked (source_trie s) s.from s.from;
   more = tt;
 })
