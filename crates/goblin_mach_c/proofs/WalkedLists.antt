@@ -1,13 +1,9 @@
 -- What a walk of an image's exports has given begins the image's list.
-use Rattle.std.proofs.Common.{◌≡◌, ◌++◌, ◌∷◌, [], ℕ, zero, suc, List, map, Option, Some, None, refl, sym, ap, subst, ◌∙◌, arith}
-use Rattle.std.specs.Borrow.{Bor}
-use Rattle.mach_tries.specs.Cursors.{ReadsTrie}
-use Rattle.mach_base.specs.Text.{texts}
+use Rattle.std.proofs.Common.{◌≡◌, ◌++◌, ◌∷◌, [], ℕ, zero, suc, List, Option, Some, None, refl, sym, ap, subst, ◌∙◌, arith}
 use Rattle.mach_tries.specs.Lists.{ListBegins, Lists, nothing}
 use Rattle.mach_tries.specs.Trie.{Entry}
 use Rattle.mach_tries.specs.TrieRange.{TrieRange, trie_there}
 use Rattle.mach_tries.specs.declared.walk.Open.{Open}
-use Rattle.mach_tries.specs.declared.walk.Source.{Source}
 use Rattle.mach_tries.proofs.CursorTries.{begins_there}
 use Rattle.mach_tries.proofs.TrieBegins.{prefix_of}
 use Rattle.mach_tries.proofs.Unfoldings.{met_begins}
@@ -16,28 +12,6 @@ use Rattle.mach_image.specs.Subjects.{ListsImageExports, libs_in, trie_in, trie_
 use Rattle.mach_image.proofs.ImageFacts.{one_image}
 use Rattle.goblin_mach_c.specs.ExportWalk.{HasWalked, HasWalkedTrie}
 use Rattle.goblin_mach_c.specs.declared.exports.gm_export_walk.{gm_export_walk}
-
--- references to some texts
-borrowed : List (List ℕ) → List (Bor (List ℕ))
-borrowed libs = map (λ (l : List ℕ). record { ref_ptr = (0, 0); now = l }) libs
-
-texts_are : (libs : List (List ℕ)) → texts (borrowed libs) ≡ libs
-unfolding borrowed
-texts_are [] = refl
-texts_are (l ∷ libs) = ap (λ (ls : List (List ℕ)). l ∷ ls) (texts_are libs)
-
--- a source from which a trie is read
-source : TrieRange → List (List ℕ) → Source
-source t libs = record {
-  bytes = record { ref_ptr = (0, 0); now = t.bytes };
-  libs = record { ref_ptr = (0, 0); now = borrowed libs };
-  from = t.from;
-  upto = t.upto;
-}
-
-reads : (t : TrieRange) (libs : List (List ℕ)) → ReadsTrie (source t libs) t libs
-unfolding source
-reads t libs = record { bytes = refl; over = texts_are libs; from = refl; upto = refl }
 
 -- what a list has behind its beginning
 abbrev Begins : List Entry → List Entry → Type 0
@@ -60,7 +34,7 @@ module _ (t : Option TrieRange) (libs : List (List ℕ)) (w : gm_export_walk) (n
   walk_begins_list : (n code : ℕ) → w.is_begun ≡ n → w.code ≡ code → Begins found list
   walk_begins_list zero code is bears = (list, ap (λ (es : List Entry). es ++ list) (sym (h.start is)))
   walk_begins_list (suc n) zero is bears =
-      begun_list (begins_there (reads r libs) (h.begun (λ wrong. absurd (let two = sym is ∙ wrong in omega (arith, two))) bears (source r libs) (reads r libs)))
+      begun_list (begins_there (h.begun (λ wrong. absurd (let two = sym is ∙ wrong in omega (arith, two))) bears))
   walk_begins_list (suc n) (suc m) is bears =
       let cut = h.refused (λ wrong. absurd (let two = sym bears ∙ wrong in omega (arith, two))) in begun_list (met_begins cut.1.cut.read)
 

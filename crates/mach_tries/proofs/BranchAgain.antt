@@ -1,7 +1,7 @@
 -- A branch that was read, read again.
 use Rattle.mach_tries.proofs.Names.{◌≡◌, ◌<◌, ◌+◌, ◌-◌, ◌^◌, ℕ, suc, zero, cond, List, [], ◌∷◌, inl, inr, length, ltb, nat_le, Result, Ok, Err, refl, sym}
-use Rattle.mach_tries.proofs.Names.{ap, subst, ◌∙◌, arith, is_utf8, IsUtf8, IsUtf8-from_is_utf8, leb-false, lt-ltb, ltb-true, ◌>>=◌, Fault, malformed}
-use Rattle.mach_tries.proofs.Names.{bad_offset, bad_input, uleb_at, run_at, text_at, Branch, branch_at, branches_at, sum_of, bind_ok, chosen, same_ok}
+use Rattle.mach_tries.proofs.Names.{subst, arith, is_utf8, IsUtf8, IsUtf8-from_is_utf8, leb-false, lt-ltb, ltb-true, ◌>>=◌, Fault, malformed}
+use Rattle.mach_tries.proofs.Names.{IsOk, bad_offset, bad_input, uleb_at, run_at, text_at, Branch, branch_at, branches_at, sum_of, bind_ok, chosen, same_ok}
 
 record TextRead (bytes : List ℕ) (s : ℕ) (text : List ℕ) : Type 0 where
   inside : s < length bytes
@@ -65,30 +65,26 @@ again bytes from place found e =
       start = sym sum.1;
     })
 
-pub same_read : {x y : ℕ × ℕ} {r : Result (ℕ × ℕ) Fault} → r ≡ Ok x → r ≡ Ok y → (x.0 ≡ y.0) × (x.1 ≡ y.1)
-same_read {x} {y} a b = let same : x ≡ y = same_ok (sym a ∙ b) in (ap (λ (z : ℕ × ℕ). z.0) same, ap (λ (z : ℕ × ℕ). z.1) same)
-
--- the label is the text there, and the offset the number behind it
-pub offset_again : (bytes : List ℕ) (from place : ℕ) (found : Branch × ℕ) (label : List ℕ) (offset after : ℕ) → branch_at bytes from place ≡ Ok found
-    → text_at bytes place ≡ Ok label → uleb_at bytes (place + length label + 1) ≡ Ok (offset, after) → from + offset < 2 ^ 64
-offset_again bytes from place found label offset after e text number =
-    let read = again bytes from place found e in
-    let same : found.0.label ≡ label = same_ok (sym read.text ∙ text) in
-    let there = subst (λ (l : List ℕ). uleb_at bytes (place + length l + 1) ≡ Ok (read.offset, found.1)) same read.offset_there in
-    let number_is = (same_read there number).0 in
-    let fits = read.fits in omega arith
-
 pub label_utf8 : (bytes : List ℕ) (from place : ℕ) (b : Branch) (after : ℕ) → branch_at bytes from place ≡ Ok (b, after) → IsUtf8 b.label
 label_utf8 bytes from place b after e = (again bytes from place (b, after) e).utf8
 
 -- the branches behind the first
-pub next_branch : (bytes : List ℕ) (from n place : ℕ) (bs : List Branch) (b : Branch) (after : ℕ) → branches_at bytes from (suc n) place ≡ Ok bs
+next_branch : (bytes : List ℕ) (from n place : ℕ) (bs : List Branch) (b : Branch) (after : ℕ) → branches_at bytes from (suc n) place ≡ Ok bs
     → branch_at bytes from place ≡ Ok (b, after) → (others : List Branch) × (bs ≡ b ∷ others) × (branches_at bytes from n after ≡ Ok others)
 unfolding branches_at
 next_branch bytes from n place bs b after e first =
     let all : (branches_at bytes from n after >>= λ (others : List Branch). Ok (b ∷ others)) ≡ Ok bs = rw first at e in
     let rest = bind_ok (branches_at bytes from n after) (λ (others : List Branch). Ok (b ∷ others)) bs all in
     (rest.0, sym (same_ok rest.2), rest.1)
+
+pub next_left : (bytes : List ℕ) (from left place : ℕ) (bs : List Branch) (b : Branch) (after : ℕ) → 0 < left → branches_at bytes from left place ≡ Ok bs
+    → branch_at bytes from place ≡ Ok (b, after)
+    → (others : List Branch) × (bs ≡ b ∷ others) × (branches_at bytes from (left - 1) after ≡ Ok others)
+next_left bytes from zero place bs b after some e first = absurd (omega arith)
+next_left bytes from (suc n) place bs b after some e first =
+    let next = next_branch bytes from n place bs b after e first in
+    let less : suc n - 1 ≡ n = omega arith in
+    (next.0, next.1, subst (λ m. branches_at bytes from m after ≡ Ok next.0) (sym less) next.2)
 
 -- where a branch is left, there is one
 pub first_branch : (bytes : List ℕ) (from left place : ℕ) (bs : List Branch) → 0 < left → branches_at bytes from left place ≡ Ok bs → (found : Branch × ℕ)
@@ -103,3 +99,6 @@ pub no_branch : (bytes : List ℕ) (from left place : ℕ) (bs : List Branch) �
 unfolding branches_at
 no_branch bytes from zero place bs none e = sym (same_ok e)
 no_branch bytes from (suc n) place bs none e = absurd (omega arith)
+
+pub is_ok : {X : Type 0} {r : Result X Fault} {x : X} → r ≡ Ok x → IsOk r
+is_ok e = rw e refl

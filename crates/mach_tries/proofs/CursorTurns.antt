@@ -1,182 +1,140 @@
 -- The walk by a cursor, turn by turn.
-use Rattle.mach_tries.proofs.Names.{◌≡◌, ◌<◌, ◌≤◌, ◌+◌, ◌-◌, ℕ, zero, suc, true, false, List, [], ◌∷◌, ◌++◌, length, take, set, get_or, reverse}
-use Rattle.mach_tries.proofs.Names.{reverse-append}
-use Rattle.std.proofs.Common.{◌^◌, min}
-use Rattle.mach_tries.proofs.Names.{◌⊎◌, Ok, Err, IsErr, branch_at, refl, sym, ap, ◌∙◌, arith, inl, inr, Fault, malformed, Branch, Node, Entry}
-use Rattle.mach_tries.proofs.Names.{own_entries, Info, Option, None, Some}
-use Rattle.mach_tries.proofs.Names.{branches_at, node_in, fault_in, Source, Holds, length-take, length-append, cases_eq}
-use Rattle.mach_tries.proofs.Names.{slice_get}
+use Rattle.mach_tries.proofs.Names.{◌≡◌, ◌<◌, ◌≤◌, ◌+◌, ◌-◌, ◌^◌, ℕ, suc, List, [], ◌∷◌, ◌++◌, length, take, reverse, reverse-append, ◌⊎◌, inl, inr, refl, sym, ap, ◌∙◌}
+use Rattle.mach_tries.proofs.Names.{arith, cases_eq, length-take, slice_get, Ok, Err, IsErr, Option, None, Some, Info, Branch, Node, Entry, own_entries, Fault}
+use Rattle.mach_tries.proofs.Names.{malformed, branch_at, node_at, branches_of, IsReadable, TrieRange, trie_there, Ahead, IsRead, IsCutBy, Open}
+use Rattle.std.proofs.Common.{min}
 use Rattle.std.proofs.lemmas.List.{take-take, take_more}
 use Rattle.std.proofs.lemmas.Option.{get_or_from_slice_get, slice_get_within}
-use Rattle.mach_tries.specs.BranchViews.{branches_of, IsReadable}
-use Rattle.mach_tries.specs.NodeViews.{those_read}
-use Rattle.mach_tries.specs.CursorState.{below, name_of, root, HasMetOnce, at_root, on_the_way, at_end, met_twice, IsAtChild, TurnGives, IsAsBefore}
-use Rattle.mach_tries.specs.CursorState.{IsStopped, IsFull, IsNextLabel}
-use Rattle.mach_tries.specs.declared.branches.BranchRun.{BranchRun}
+use Rattle.mach_tries.specs.CursorState.{below, name_of, root, IsAtChild, HasCome, at_root, between, all_met, TurnGives, IsAsBefore, IsStopped, IsFull}
+use Rattle.mach_tries.specs.CursorState.{IsNextLabel}
+use Rattle.mach_tries.specs.declared.node.BranchRun.{BranchRun}
 use Rattle.mach_tries.specs.declared.cursor.NextExport.{NextExport}
 use Rattle.mach_tries.specs.declared.cursor.NextExport.TheVariants.{Export, End, Refused, NameTooLong, StackTooShort}
 use Rattle.mach_tries.specs.declared.cursor.TrieCursor.{TrieCursor}
-use Rattle.mach_tries.specs.declared.walk.Open.{Open}
-use Rattle.mach_tries.proofs.TrieBegins.{on_or_off}
-use Rattle.mach_tries.proofs.WalkTurns as turn
-use Rattle.mach_tries.proofs.WalkTurns.{Child}
-
--- where a node is met twice, anything goes on so
-pub faulty_gives : (s : Source) (found : List Entry) (given : Option NextExport) (c : TrieCursor) (name : List ℕ) (stack : List Open)
-    → fault_in s malformed → TurnGives s found given c name stack
-faulty_gives s found None c name stack k = met_twice k
-faulty_gives s found (Some (Export info)) c name stack k = met_twice k
-faulty_gives s found (Some (End)) c name stack k = (met_twice k, inr k)
-faulty_gives s found (Some (Refused e)) c name stack k = λ _. k
-faulty_gives s found (Some (NameTooLong n)) c name stack k = tt
-faulty_gives s found (Some (StackTooShort)) c name stack k = tt
+use Rattle.mach_tries.proofs.BranchAgain.{no_branch}
+use Rattle.mach_tries.proofs.OpenNodes as nodes
 
 -- the node below the top
-pub one_below : (stack : List Open) (d : ℕ) (x : Open) → slice_get stack d ≡ Some x → reverse (take (d + 1) stack) ≡ x ∷ reverse (take d stack)
+one_below : (stack : List Open) (d : ℕ) (x : Open) → slice_get stack d ≡ Some x → reverse (take (d + 1) stack) ≡ x ∷ reverse (take d stack)
 one_below stack d x there =
     ap reverse (take_more stack d x (slice_get_within stack d x there) ∙ ap (λ (y : Open). take d stack ++ y ∷ []) (get_or_from_slice_get stack d x x there))
     ∙ reverse-append (take d stack) (x ∷ [])
 
--- no branches
-no_branches : (bytes : List ℕ) (from n place : ℕ) → n ≡ 0 → those_read (branches_at bytes from n place) ≡ []
-unfolding branches_at
-no_branches bytes from zero place e = refl
-no_branches bytes from (suc n) place e = absurd (omega arith)
+module _ {t : TrieRange} {libs : List (List ℕ)} where
+  -- the same reading under equal parts
+  moved : {name name' : List ℕ} {next : List Ahead} {os os' : List Open} {found : List Entry} {n : ℕ} → name' ≡ name → os' ≡ os
+      → IsRead t libs name next os found n → IsRead t libs name' next os' found n
+  moved a b k = rw (a, b) k
 
--- at a branch
-module _ {s : Source} {c : TrieCursor} {name : List ℕ} {stack : List Open} {b : Branch} {rest : Open} {found : List Entry}
-    (at : IsAtChild s c name stack b rest found) where
-  child : Child s (name_of c name) at.0 rest b (below c stack) found at.1
-  child = elim at.3 [ inl fresh ↦ turn.first_child fresh | inr next ↦ turn.next_child next ]
+  -- at a branch
+  module _ {c : TrieCursor} {name : List ℕ} {stack : List Open} {b : Branch} {rest : Open} {found : List Entry}
+      (at : IsAtChild t libs c name stack b rest found) where
+    short : rest.name_len ≤ c.name_len
+    short = let fits = at.is_read.ahead.3 in let cut = length-take c.name_len name in omega arith
 
-  -- a name goes on from that of the node that was met last
-  short : rest.name_len ≤ c.name_len
-  short = elim at.3 [
-    | inl fresh ↦ (let none = fresh.name_len in omega arith)
-    | inr next ↦ (
-        let h = next.holds in
-        let whole : length (name_of c name) ≡ length h.top.prefix + length h.named.0 =
-        ap (λ (x : List ℕ). length x) h.named.1 ∙ length-append h.top.prefix h.named.0 in
-        let len = h.shown.name_len in
-        let cut = length-take c.name_len name in omega arith)
-  ]
+    -- a branch to nothing is passed
+    pub passes : t.upto ≤ b.start → (d : TrieCursor) → d.phase ≡ 1 → d.visits_left ≡ c.visits_left → d.name_len ≡ c.name_len → d.depth ≡ c.depth
+        → d.top ≡ rest → HasCome t libs d name stack found
+    passes out d phase visits len depth top =
+        let k = at.kept.name_len in let m = at.kept.depth in let v = at.kept.visits in
+        between at.nodes phase (record { name_len = omega arith; depth = omega arith; visits = omega arith })
+        (moved (ap (λ (k : ℕ). take k name) len) (rw (top, depth) refl) (nodes.passes at.is_read out))
 
-  -- a branch to nothing is passed
-  pub passes : s.upto ≤ b.start → (d : TrieCursor) → d.phase ≡ 1 → d.visits_left ≡ c.visits_left → d.name_len ≡ c.name_len → d.depth ≡ c.depth
-      → d.top ≡ rest → HasMetOnce s d name stack found
-  passes out d phase visits len depth top =
-      let kept = at.2 in
-      let a = kept.name_len in let b' = kept.depth in let e = kept.visits in
-      on_the_way at.0 at.1 phase (record { name_len = omega arith; depth = omega arith; visits = omega arith })
-      (turn.moved (ap (λ (k : ℕ). take k name) len) refl top (ap (λ (k : ℕ). reverse (take k stack)) depth) refl refl (child.passed out))
+    module _ (inside : b.start < t.upto) where
+      cut : (f : Fault) → (node_at t.bytes libs t.from b.start ≡ Err f) ⊎ ((at.nodes ≡ t.upto - t.from) × (f ≡ malformed))
+          → IsCutBy (trie_there t libs) t.from found f
+      cut f why = record {
+        nodes = at.nodes;
+        next = record { name = take rest.name_len (name_of c name) ++ b.label; start = b.start };
+        others = at.is_read.left;
+        read = at.is_read.read;
+        inside = inside;
+        why = why;
+      }
 
-  module _ (inside : b.start < s.upto) where
-    -- where no visit is left, a node is met again
-    pub too_many : c.visits_left ≡ 0 → fault_in s malformed
-    too_many none = elim (on_or_off (get_or at.0 (b.start - s.from) false)) [
-      | inl on ↦ child.marked on inside
-      | inr off ↦ absurd (let few = turn.few_with_child child inside off {m = suc at.1} refl in let kept = at.2.visits in omega arith)
-    ]
+      pub cut_by_count : c.visits_left ≡ 0 → IsCutBy (trie_there t libs) t.from found malformed
+      cut_by_count none = let v = at.kept.visits in cut malformed (inr (omega arith, refl))
 
-    -- a node that can't be read is a fault
-    pub faulty : (f : Fault) → node_in s b.start ≡ Err f → fault_in s f
-    faulty f e = turn.child_fault child inside f e
+      pub cut_by_node : (f : Fault) → node_at t.bytes libs t.from b.start ≡ Err f → IsCutBy (trie_there t libs) t.from found f
+      cut_by_node f bad = cut f (inl bad)
 
-    -- the node is entered
-    module _ (d : TrieCursor) (name' : List ℕ) (stack' : List Open) (own : Option Info) (run : BranchRun)
-        (there : node_in s b.start ≡ Ok (record { own = own; branches = branches_of s.bytes.now s.from run }))
-        (readable : IsReadable s.bytes.now s.from run)
-        (fits : rest.name_len + length b.label ≤ length name) (long : length name' ≡ length name)
-        (text : take (rest.name_len + length b.label) name' ≡ take rest.name_len name ++ b.label)
-        (phase : d.phase ≡ 1) (visits : d.visits_left + 1 ≡ c.visits_left) (len : d.name_len ≡ rest.name_len + length b.label)
-        (depth : d.depth ≤ length stack')
-        (leaf : run.left ≡ 0 → (d.top ≡ rest) × (below d stack' ≡ below c stack))
-        (opened : 0 < run.left → d.top ≡ record { left = run.left; place = run.place; name_len = rest.name_len + length b.label })
-        (over : 0 < run.left → 0 < rest.left → below d stack' ≡ rest ∷ below c stack)
-        (in_place : 0 < run.left → rest.left ≡ 0 → below d stack' ≡ below c stack) where
-      named : name_of d name' ≡ take rest.name_len (name_of c name) ++ b.label
-      named = ap (λ (k : ℕ). take k name') len ∙ text
-          ∙ ap (λ (x : List ℕ). x ++ b.label) (sym (take-take rest.name_len c.name_len name short))
+      -- the node is entered
+      module _ (d : TrieCursor) (name' : List ℕ) (stack' : List Open) (own : Option Info) (run : BranchRun)
+          (there : node_at t.bytes libs t.from b.start ≡ Ok (record { own = own; branches = branches_of t.bytes t.from run }))
+          (readable : IsReadable t.bytes t.from run)
+          (fits : rest.name_len + length b.label ≤ length name) (long : length name' ≡ length name)
+          (text : take (rest.name_len + length b.label) name' ≡ take rest.name_len name ++ b.label)
+          (phase : d.phase ≡ 1) (visits : d.visits_left + 1 ≡ c.visits_left) (len : d.name_len ≡ rest.name_len + length b.label)
+          (depth : d.depth ≤ length stack')
+          (leaf : run.left ≡ 0 → (d.top ≡ rest) × (below d stack' ≡ below c stack))
+          (opened : 0 < run.left → d.top ≡ record { left = run.left; place = run.place; name_len = rest.name_len + length b.label })
+          (over : 0 < run.left → 0 < rest.left → below d stack' ≡ rest ∷ below c stack)
+          (in_place : 0 < run.left → rest.left ≡ 0 → below d stack' ≡ below c stack) where
+        named : name_of d name' ≡ take rest.name_len (name_of c name) ++ b.label
+        named = ap (λ (k : ℕ). take k name') len ∙ text
+            ∙ ap (λ (x : List ℕ). x ++ b.label) (sym (take-take rest.name_len c.name_len name short))
 
-      abbrev node : Node
-      node = record { own = own; branches = branches_of s.bytes.now s.from run }
+        abbrev node : Node
+        node = record { own = own; branches = branches_of t.bytes t.from run }
 
-      len_is : rest.name_len + length b.label ≡ length (take rest.name_len (name_of c name) ++ b.label)
-      len_is =
-          let whole = length-append (take rest.name_len (name_of c name)) b.label in
-          let cut = length-take rest.name_len (name_of c name) in
-          let all = length-take c.name_len name in
-          let low = short in
-          let kept = at.2.name_len in omega arith
-
-      held : get_or at.0 (b.start - s.from) false ≡ false → Holds s (take rest.name_len (name_of c name) ++ b.label) (set at.0 (b.start - s.from) true)
-          d.top (below d stack') (found ++ own_entries (take rest.name_len (name_of c name) ++ b.label) own) (suc at.1)
-      held off = elim (cases_eq run.left 0) [
-        | inl none ↦ (
-            let l = leaf none in
-            turn.moved refl refl l.0 l.1 refl refl (child.leaf inside off node there (no_branches s.bytes.now s.from run.left run.place none)))
-        | inr some ↦ elim (cases_eq rest.left 0) [
-          | inl last ↦ turn.moved refl refl (opened (omega arith)) (in_place (omega arith) last) refl refl
-              (child.in_place inside off node there last _ readable len_is)
-          | inr more ↦ turn.moved refl refl (opened (omega arith)) (over (omega arith) (omega arith)) refl refl
-              (child.over inside off node there (omega arith) _ readable len_is)
+        read : IsRead t libs (take rest.name_len (name_of c name) ++ b.label) [] (d.top ∷ below d stack')
+            (found ++ own_entries (take rest.name_len (name_of c name) ++ b.label) own) (suc at.nodes)
+        read = elim (cases_eq run.left 0) [
+          | inl none ↦ (
+              let l = leaf none in
+              rw (l.0, l.1) (nodes.enters_leaf at.is_read b.label refl node (inside, there) (no_branch t.bytes t.from run.left run.place node.branches none readable)))
+          | inr some ↦ rw (opened (omega arith)) (nodes.enters at.is_read b.label refl node (inside, there) [] node.branches refl
+              (record { left = run.left; place = run.place; name_len = rest.name_len + length b.label }) (below d stack')
+              (sym (nodes.given_len t.bytes t.from (name_of c name) rest (below c stack) at.is_read.left b.label _ refl at.is_read.ahead)) readable (over (omega arith))
+              (in_place (omega arith)))
         ]
-      ]
 
-      pub enters : HasMetOnce s d name' stack' (found ++ own_entries (name_of d name') own)
-      enters = elim (on_or_off (get_or at.0 (b.start - s.from) false)) [
-        | inl on ↦ met_twice (child.marked on inside)
-        | inr off ↦ on_the_way (set at.0 (b.start - s.from) true) (suc at.1) phase
-            (record { name_len = omega (arith, len, long, fits); depth = depth; visits = let kept = at.2.visits in omega arith })
-            (rw named (held off))
-      ]
+        pub enters : HasCome t libs d name' stack' (found ++ own_entries (name_of d name') own)
+        enters =
+            between (suc at.nodes) phase
+            (record { name_len = omega (arith, len, long, fits); depth = depth; visits = let v = at.kept.visits in omega arith })
+            (rw named read)
 
--- between two branches
-module _ {s : Source} {c : TrieCursor} {name : List ℕ} {stack : List Open} {found : List Entry} (on : c.phase ≡ 1) where
-  -- no open node is left
-  pub ends : c.top.left ≡ 0 → c.depth ≡ 0 → (d : TrieCursor) → d.phase ≡ 2 → HasMetOnce s c name stack found → TurnGives s found (Some (End)) d name stack
-  ends none bottom d over (at_root marks root_phase kept fresh) = absurd (omega arith)
-  ends none bottom d over (on_the_way marks n phase kept h) =
-      let all = turn.all_listed (turn.moved refl refl refl (sym (ap (λ (k : ℕ). reverse (take k stack)) bottom)) refl refl h) none in
-      (at_end n (omega arith) all, inl (n, all))
-  ends none bottom d over (at_end n phase l) = absurd (omega arith)
-  ends none bottom d over (met_twice k) = (met_twice k, inr k)
+  -- between two branches
+  module _ {c : TrieCursor} {name : List ℕ} {stack : List Open} {found : List Entry} (on : c.phase ≡ 1) where
+    -- no open node is left
+    pub ends : c.top.left ≡ 0 → c.depth ≡ 0 → (d : TrieCursor) → d.phase ≡ 2 → HasCome t libs c name stack found → TurnGives t libs found (Some (End)) d name stack
+    ends none bottom d over (at_root phase at) = absurd (omega arith)
+    ends none bottom d over (between n phase kept k) =
+        let all = nodes.all_read k none (ap (λ (k : ℕ). reverse (take k stack)) bottom) in
+        (all_met n (omega arith) all, n, all)
+    ends none bottom d over (all_met n phase read) = absurd (omega arith)
 
-  -- the one below is on top
-  pub falls : c.top.left ≡ 0 → (e : ℕ) (x : Open) → c.depth ≡ e + 1 → slice_get stack e ≡ Some x → (d : TrieCursor) → d.phase ≡ 1
-      → d.visits_left ≡ c.visits_left → d.name_len ≡ c.name_len → d.depth ≡ e → d.top ≡ x → HasMetOnce s c name stack found → HasMetOnce s d name stack found
-  falls none e x deep there d phase' visits len depth top (at_root marks root_phase kept fresh) = absurd (omega arith)
-  falls none e x deep there d phase' visits len depth top (on_the_way marks n phase kept h) =
-      let below_is : below c stack ≡ x ∷ reverse (take e stack) = ap (λ (k : ℕ). reverse (take k stack)) deep ∙ one_below stack e x there in
-      let closed = turn.closed (turn.moved refl refl refl (sym below_is) refl refl h) none in
-      let a = kept.name_len in let b = kept.depth in let v = kept.visits in
-      on_the_way marks n phase' (record { name_len = omega arith; depth = omega arith; visits = omega arith })
-      (turn.moved (ap (λ (k : ℕ). take k name) len) refl top (ap (λ (k : ℕ). reverse (take k stack)) depth) refl refl closed.0)
-  falls none e x deep there d phase' visits len depth top (at_end n phase l) = absurd (omega arith)
-  falls none e x deep there d phase' visits len depth top (met_twice k) = met_twice k
+    -- the one below is on top
+    pub falls : c.top.left ≡ 0 → (e : ℕ) (x : Open) → c.depth ≡ e + 1 → slice_get stack e ≡ Some x → (d : TrieCursor) → d.phase ≡ 1
+        → d.visits_left ≡ c.visits_left → d.name_len ≡ c.name_len → d.depth ≡ e → d.top ≡ x → HasCome t libs c name stack found → HasCome t libs d name stack found
+    falls none e x deep there d phase' visits len depth top (at_root phase at) = absurd (omega arith)
+    falls none e x deep there d phase' visits len depth top (between n phase kept k) =
+        let below_is : below c stack ≡ x ∷ reverse (take e stack) = ap (λ (k : ℕ). reverse (take k stack)) deep ∙ one_below stack e x there in
+        let a = kept.name_len in let m = kept.depth in let v = kept.visits in
+        between n phase' (record { name_len = omega arith; depth = omega arith; visits = omega arith })
+        (moved (ap (λ (k : ℕ). take k name) len) (rw (top, depth) (sym below_is)) (nodes.closes k none))
+    falls none e x deep there d phase' visits len depth top (all_met n phase read) = absurd (omega arith)
 
-  -- the branch that comes next
-  pub at_next : (some : 0 < c.top.left) {b : Branch} {after : ℕ} → branch_at s.bytes.now s.from c.top.place ≡ Ok (b, after) → HasMetOnce s c name stack found
-      → IsAtChild s c name stack b (record { left = c.top.left - 1; place = after; name_len = c.top.name_len }) found ⊎ fault_in s malformed
-  at_next some read (at_root marks root_phase kept fresh) = absurd (omega arith)
-  at_next some read (on_the_way marks n phase kept h) = inl (marks, n, kept, inr (turn.keeps h some read))
-  at_next some read (at_end n phase l) = absurd (omega arith)
-  at_next some read (met_twice k) = inr k
+    -- the branch that comes next
+    pub at_next : (some : 0 < c.top.left) {b : Branch} {after : ℕ} → branch_at t.bytes t.from c.top.place ≡ Ok (b, after) → HasCome t libs c name stack found
+        → IsAtChild t libs c name stack b (record { left = c.top.left - 1; place = after; name_len = c.top.name_len }) found
+    at_next some first (at_root phase at) = absurd (omega arith)
+    at_next some first (between n phase kept k) = record { nodes = n; kept = kept; is_read = nodes.goes_on k some first }
+    at_next some first (all_met n phase read) = absurd (omega arith)
 
-  -- it can be read
-  pub unreadable : (some : 0 < c.top.left) → IsErr (branch_at s.bytes.now s.from c.top.place) → HasMetOnce s c name stack found → fault_in s malformed
-  unreadable some err (at_root marks root_phase kept fresh) = absurd (omega arith)
-  unreadable some err (on_the_way marks n phase kept h) = let read = turn.is_readable h some in absurd (let e = rw read.1 at err in cc)
-  unreadable some err (at_end n phase l) = absurd (omega arith)
-  unreadable some err (met_twice k) = k
+    -- it can be read
+    pub unreadable : (some : 0 < c.top.left) → IsErr (branch_at t.bytes t.from c.top.place) → HasCome t libs c name stack found → ⊥
+    unreadable some err (at_root phase at) = omega arith
+    unreadable some err (between n phase kept k) = let first = nodes.is_readable k some in let e = rw first.1 at err in cc
+    unreadable some err (all_met n phase read) = omega arith
 
--- at the root
-pub at_the_root : {s : Source} {c : TrieCursor} {name : List ℕ} {stack : List Open} {found : List Entry} → c.phase ≡ 0 → HasMetOnce s c name stack found
-    → IsAtChild s c name stack (root s) c.top found ⊎ fault_in s malformed
-at_the_root e (at_root marks phase kept fresh) = inl (marks, 0, kept, inl fresh)
-at_the_root e (on_the_way marks n phase kept h) = absurd (omega arith)
-at_the_root e (at_end n phase l) = absurd (omega arith)
-at_the_root e (met_twice k) = inr k
+  -- at the root
+  pub at_the_root : {c : TrieCursor} {name : List ℕ} {stack : List Open} {found : List Entry} → c.phase ≡ 0 → HasCome t libs c name stack found
+      → IsAtChild t libs c name stack (root t) c.top found
+  at_the_root e (at_root phase at) = at
+  at_the_root e (between n phase kept k) = absurd (omega arith)
+  at_the_root e (all_met n phase read) = absurd (omega arith)
 
 -- what comes of a memory that is too short
 module _ (bytes : List ℕ) (from : ℕ) where

@@ -9,8 +9,9 @@ use Rattle.mach_base.specs.Leb128.{uleb_at}
 use Rattle.mach_base.specs.declared.error.Error.{Error}
 use Rattle.mach_base.proofs.Faults.{FailsAs-read}
 use Rattle.mach_tries.specs.Trie.{Info, Branch, Node}
-use Rattle.mach_tries.specs.LookUpViews.{OwnEnds, node_behind, IsPassed}
-use Rattle.mach_tries.specs.WalkViews.{node_in, own_in}
+use Rattle.mach_tries.specs.Views.{node_behind}
+use Rattle.mach_tries.specs.LookUpState.{OwnEnds, IsPassed}
+use Rattle.mach_tries.specs.Views.{node_in, own_in}
 unfoldable use Rattle.mach_tries.specs.Nodes.{children_at, terminal_at, inner_at, node_at}
 use Rattle.mach_tries.specs.declared.walk.Source.{Source}
 use Rattle.mach_base.specs.declared.error.Error.TheVariants as errors

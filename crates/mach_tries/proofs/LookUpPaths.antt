@@ -1,22 +1,18 @@
 -- Paths of a look-up, one behind the other: where they lead, what they spell, and the faults behind them.
-use Rattle.std.proofs.Common.{◌≡◌, ◌<◌, ◌≤◌, ◌+◌, ◌-◌, ℕ, zero, suc, List, [], ◌∷◌, ◌++◌, inl, inr, length, Some, Result, Ok, Err, refl, sym, ap, subst, ◌∙◌}
-use Rattle.std.proofs.Common.{arith, append_assoc}
+use Rattle.std.proofs.Common.{◌≡◌, ◌<◌, ℕ, List, [], ◌∷◌, ◌++◌, Some, Result, Ok, Err, refl, sym, ap, subst, ◌∙◌}
+use Rattle.std.proofs.Common.{append_assoc}
 use Rattle.std.specs.Prelude.{slice_get, IfErr}
-use Rattle.std.proofs.lemmas.Bool.{cases_eq}
 use Rattle.std.proofs.lemmas.List.{append_cancel_left}
-use Rattle.mach_base.specs.Among.{IsAmong}
 use Rattle.mach_base.specs.Fault.{Fault}
 use Rattle.mach_base.specs.Answer.{Stands}
 use Rattle.mach_base.specs.declared.error.Error.{Error}
 use Rattle.mach_base.proofs.Faults.{Stands-in}
 use Rattle.mach_tries.specs.Trie.{Branch, Node, Trie}
 use Rattle.mach_tries.specs.TrieFault.{TrieFault, at_node, met_again}
-use Rattle.mach_tries.specs.Paths.{Leads, Path, StartsFrom}
+use Rattle.mach_tries.specs.Paths.{Leads}
 use Rattle.mach_tries.specs.TerminalPaths.{IsNameOf}
-use Rattle.mach_tries.specs.Visits.{AreApart}
 use Rattle.mach_tries.specs.LookUp.{Spells, IsOnWay, FaultOnWay, at_node_on_way, met_on_way}
 use Rattle.mach_tries.proofs.TriePaths.{same_node, same_some, Leads-append, leads_to_one}
-use Rattle.mach_tries.proofs.TrieVisits as visits
 
 module _ (t : Trie) where
   name_append : (p q : List ℕ) (a b : ℕ) (m n : List ℕ) → Leads t p a b → IsNameOf t a p m → IsNameOf t b q n → IsNameOf t a (p ++ q) (m ++ n)
@@ -87,36 +83,3 @@ module _ (t : Trie) where
       → IfErr r (Stands (TrieFault t root))
   stands_in_trie root name (Ok x) h = tt
   stands_in_trie root name (Err e) h = Stands-in (FaultOnWay t root name) (TrieFault t root) e (λ f fault. fault_of_trie root name f fault) h
-
-  pub leads_from : (from : ℕ) → StartsFrom t from → (p : List ℕ) (a b : ℕ) → from ≤ a → Leads t p a b → from ≤ b
-  leads_from from starts [] a b low l = subst (λ x. from ≤ x) l low
-  leads_from from starts (k ∷ ks) a b low l = leads_from from starts ks l.1.start b (starts a l.0 k l.1 l.3 l.4) l.5
-
-  -- places of a range that all differ are no more than it has
-
-  abbrev numbers_below : ℕ → List ℕ
-  numbers_below zero = []
-  numbers_below (suc n) = n ∷ numbers_below n
-
-  is_below : (n k : ℕ) → k < n → IsAmong k (numbers_below n)
-  is_below zero k less = absurd (omega arith)
-  is_below (suc n) k less = elim (cases_eq k n) [ inl same ↦ inl same | inr other ↦ inr (is_below n k (omega (arith, other))) ]
-
-  many_below : (n : ℕ) → length (numbers_below n) ≡ n
-  many_below zero = refl
-  many_below (suc n) = ap suc (many_below n)
-
-  by_offset : (root from : ℕ) (ps : List (List ℕ)) → AreApart t root ps → visits.Apart (λ (p : List ℕ) (o : ℕ). Leads t p root (from + o)) ps
-  by_offset root from [] apart = tt
-  by_offset root from (p ∷ ps) apart = (λ q o i a b. apart.0 q (from + o) i a b, by_offset root from ps apart.1)
-
-  pub few_paths : (root from : ℕ) → StartsFrom t from → from ≤ root → (ps : List (List ℕ)) → AreApart t root ps
-      → ((p : List ℕ) → IsAmong p ps → Path t root p) → length ps ≤ t.upto - from
-  few_paths root from starts low ps apart leads =
-      let most = visits.no_more_than (λ (p : List ℕ) (o : ℕ). Leads t p root (from + o)) ps (numbers_below (t.upto - from)) (by_offset root from ps apart)
-      (λ p i.
-      let path = leads p i in
-      let above = leads_from from starts p root path.0 low path.1 in
-      let same : path.0 ≡ from + (path.0 - from) = omega arith in
-      (path.0 - from, is_below (t.upto - from) (path.0 - from) (omega (arith, path.2)), subst (λ x. Leads t p root x) same path.1)) in
-      let n = many_below (t.upto - from) in omega arith

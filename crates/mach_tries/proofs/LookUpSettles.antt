@@ -1,18 +1,18 @@
 -- Branches that are passed, one after the other.
-use Rattle.std.proofs.Common.{◌≡◌, ◌<◌, ◌≤◌, ◌-◌, ℕ, suc, List, ◌∷◌, ◌++◌, ◌⊎◌, inl, inr, Option, Result, Ok, refl, sym, ap, subst, ◌∙◌}
+use Rattle.std.proofs.Common.{◌≡◌, ◌<◌, ◌≤◌, ◌-◌, ℕ, suc, List, ◌∷◌, ◌++◌, ◌⊎◌, Result, Ok, sym, ap, subst, ◌∙◌}
 use Rattle.mach_base.specs.Fault.{Fault}
-use Rattle.mach_tries.specs.Trie.{Info, Branch}
+use Rattle.mach_tries.specs.Trie.{Branch}
 use Rattle.mach_tries.specs.Nodes.{branch_at, branches_at}
-use Rattle.mach_tries.specs.NodeViews.{those_read}
-use Rattle.mach_tries.specs.BranchViews.{branches_of, IsReadable}
-use Rattle.mach_tries.specs.Finds.{BranchesFind, at_nothing, passed, gone_back}
-use Rattle.mach_tries.specs.LookUpViews.{Settles, Stops}
-use Rattle.mach_tries.specs.WalkViews.{source_trie}
-use Rattle.mach_tries.specs.declared.branches.BranchRun.{BranchRun}
+use Rattle.mach_tries.specs.Views.{those_read}
+use Rattle.mach_tries.specs.Views.{branches_of, IsReadable}
+use Rattle.mach_tries.specs.Finds.{BranchesFind}
+use Rattle.mach_tries.specs.LookUpState.{Settles, Stops}
+use Rattle.mach_tries.specs.Views.{source_trie}
+use Rattle.mach_tries.specs.declared.node.BranchRun.{BranchRun}
 use Rattle.mach_tries.specs.declared.walk.Source.{Source}
-use Rattle.mach_tries.proofs.Beginnings.{begins_or_not}
+use Rattle.mach_tries.proofs.LookUpWays.{one_passed}
 use Rattle.mach_tries.proofs.BranchAgain.{first_branch, no_branch}
-use Rattle.mach_tries.proofs.LookUpBranches.{next_left}
+use Rattle.mach_tries.proofs.BranchAgain.{next_left}
 use Rattle.mach_tries.proofs.TriePaths.{drop_head}
 
 pub readable_as : (r : Result (List Branch) Fault) (bs : List Branch) → r ≡ Ok bs → (r ≡ Ok (those_read r)) × (those_read r ≡ bs)
@@ -45,16 +45,6 @@ module _ (s : Source) (rest : List ℕ) (o : BranchRun) (readable : IsReadable s
     next_is : branches_of s.bytes.now s.from (record { left = o.left - 1; place = after }) ≡ next.0
     next_is = (readable_as (branches_at s.bytes.now s.from (o.left - 1) after) next.0 next.2).1
 
-    passes : (s.upto ≤ start) ⊎ ((others : List ℕ) → rest ≡ label ++ others → ⊥) → (found : Option Info)
-        → BranchesFind (source_trie s) rest next.0 found → BranchesFind (source_trie s) rest (record { label = label; start = start } ∷ next.0) found
-    passes h found finds = elim (begins_or_not label rest) [
-      | inr other ↦ passed other finds
-      | inl spells ↦ elim h [
-        | inl out ↦ gone_back spells.0 spells.1 (at_nothing out refl) finds
-        | inr other ↦ absurd (other spells.0 spells.1)
-      ]
-    ]
-
     pub settles_on : (all : List Branch) → Settles (source_trie s) rest all (branches_of s.bytes.now s.from o) → (s.upto ≤ start) ⊎
         ((others : List ℕ) → rest ≡ label ++ others → ⊥)
         → Settles (source_trie s) rest all (branches_of s.bytes.now s.from (record { left = o.left - 1; place = after }))
@@ -64,5 +54,5 @@ module _ (s : Source) (rest : List ℕ) (o : BranchRun) (readable : IsReadable s
           number = suc st.number;
           dropped = next_is ∙ one.1;
           finds = λ found x. st.finds found (subst (λ (bs : List Branch). BranchesFind (source_trie s) rest bs found) (sym next.1)
-              (passes h found (subst (λ (bs : List Branch). BranchesFind (source_trie s) rest bs found) next_is x)));
+              (one_passed (source_trie s) rest (record { label = label; start = start }) found next.0 h (subst (λ (bs : List Branch). BranchesFind (source_trie s) rest bs found) next_is x)));
         }

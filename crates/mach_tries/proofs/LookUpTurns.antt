@@ -1,84 +1,21 @@
 -- The state of a search, turn by turn: the choices that are kept, the nodes that were visited and are marked, and what is still found.
-use Rattle.std.proofs.Common.{◌≡◌, ◌<◌, ◌≤◌, ◌+◌, ◌-◌, ℕ, zero, suc, Bool, true, false, cond, List, [], ◌∷◌, ◌++◌, ◌⊎◌, inl, inr, length}
-use Rattle.std.proofs.Common.{drop, map, set, get_or, replicate, sum_by, Option, Some, None, Ok, Err, refl, sym, ap, subst, ◌∙◌, arith}
-use Rattle.std.proofs.Common.{length-append, length-set, reverse}
-use Rattle.std.specs.Prelude.{slice_get}
-use Rattle.std.proofs.lemmas.Bool.{cases_eq}
-use Rattle.std.proofs.lemmas.List.{length-drop, length-map, length-replicate, reverse-append, get_or-set_same, get_or-set_other}
-use Rattle.std.proofs.lemmas.List.Sums.{sum_by-set}
-use Rattle.mach_base.specs.Fault.{Fault, malformed}
-use Rattle.mach_base.specs.Among.{IsAmong}
-use Rattle.mach_tries.specs.Trie.{Info, Branch, Node, Trie}
-use Rattle.mach_tries.specs.Paths.{Leads}
-use Rattle.mach_tries.specs.Visits.{AreApart}
-use Rattle.mach_tries.specs.Nodes.{branch_at, branches_at}
-use Rattle.mach_tries.specs.BranchViews.{branches_of, IsReadable}
+use Rattle.mach_tries.proofs.Names.{◌≡◌, ◌<◌, ◌≤◌, ◌+◌, ◌-◌, ℕ, zero, suc, Bool, true, false, List, [], ◌∷◌, ◌++◌, ◌⊎◌, inl, inr, length, drop, set, get_or}
+use Rattle.mach_tries.proofs.Names.{replicate, Option, Some, None, Ok, Err, refl, sym, ap, subst, ◌∙◌, arith, length-append, length-drop, slice_get}
+use Rattle.mach_tries.proofs.Names.{Fault, malformed, IsAmong, Info, Branch, Node, Trie, Leads, Before, branch_at, branches_at, IsBeside, AreMarked}
+use Rattle.mach_tries.proofs.Names.{branches_of, IsReadable, source_trie, node_in, Source}
+use Rattle.std.proofs.Math.Seq.{drop-append_seam}
 use Rattle.mach_tries.specs.Finds.{IsElsewhere, Finds, BranchesFind, here, below, none_left, behind, gone_back}
 use Rattle.mach_tries.specs.LookUp.{Spells, IsOnWay, FaultOnWay, at_node_on_way, met_on_way}
-use Rattle.mach_tries.specs.LookUpViews.{Settles, Stops, SearchVisits}
-use Rattle.mach_tries.specs.WalkViews.{source_trie, node_in}
+use Rattle.mach_tries.specs.LookUpState.{Settles, Stops, SearchVisits}
 use Rattle.mach_tries.specs.declared.look_up.Choice.{Choice}
-use Rattle.mach_tries.specs.declared.branches.BranchRun.{BranchRun}
-use Rattle.mach_tries.specs.declared.walk.Source.{Source}
-use Rattle.mach_tries.proofs.BranchAgain.{no_branch}
-use Rattle.mach_tries.proofs.LookUpBranches.{next_left}
-use Rattle.mach_tries.proofs.TriePaths.{Leads-append, drop_head, leads_to_one}
+use Rattle.mach_tries.specs.declared.node.BranchRun.{BranchRun}
+use Rattle.mach_tries.proofs.BranchAgain.{no_branch, next_left}
+use Rattle.mach_tries.proofs.TriePaths.{Leads-append, drop_head, not_before_itself}
 use Rattle.mach_tries.proofs.LookUpPaths.{spells_on}
 use Rattle.mach_tries.proofs.Starts.{branch_from}
 use Rattle.mach_tries.proofs.LookUpSettles.{readable_as, stopped_there}
-
--- a node that was visited, and the path on which it was met
-pub record Visit : Type 0 where
-  pub path : List ℕ
-  pub at : ℕ
-
-abbrev pub visit : List ℕ → ℕ → Visit
-visit path at = record { path = path; at = at }
-
-abbrev pub Apart : List Visit → Type 0
-Apart [] = Unit {0}
-Apart (v ∷ vs) = ((w : Visit) → IsAmong w vs → w.at ≡ v.at → ⊥) × Apart vs
-
-abbrev pub paths_in : List Visit → List (List ℕ)
-paths_in vs = map (λ v. v.path) vs
-
-pub in_paths : (p : List ℕ) (vs : List Visit) → IsAmong p (paths_in vs) → (v : Visit) × IsAmong v vs × (p ≡ v.path)
-in_paths p [] i = absurd i
-in_paths p (v ∷ vs) i = elim i [ inl e ↦ (v, inl refl, e) | inr more ↦ (let rest = in_paths p vs more in (rest.0, inr rest.1, rest.2)) ]
-
-pub paths_apart : (t : Trie) (root : ℕ) (vs : List Visit) → ((v : Visit) → IsAmong v vs → Leads t v.path root v.at) → Apart vs → AreApart t root (paths_in vs)
-paths_apart t root [] leads apart = tt
-paths_apart t root (v ∷ vs) leads apart = (
-  λ q at i x y.
-      let w = in_paths q vs i in
-      let here = leads_to_one t v.path root v.at at (leads v (inl refl)) x in
-      let there = leads_to_one t q root w.0.at at (subst (λ z. Leads t z root w.0.at) (sym w.2) (leads w.0 (inr w.1))) y in
-      apart.0 w.0 w.1 (there ∙ sym here),
-  paths_apart t root vs (λ w i. leads w (inr i)) apart.1,
-)
-
-not_both : {b : Bool} → b ≡ true → b ≡ false → ⊥
-not_both a b = cc
-
-all_clear : (n o : ℕ) → get_or (replicate n false) o false ≡ false
-all_clear zero o = refl
-all_clear (suc n) zero = refl
-all_clear (suc n) (suc o) = all_clear n o
-
-keeps_mark : (marks : List Bool) (o i : ℕ) → o < length marks → get_or marks i false ≡ true → get_or (set marks o true) i false ≡ true
-keeps_mark marks o i within e = elim (cases_eq i o) [
-  | inl same_place ↦ subst (λ x. get_or (set marks o true) x false ≡ true) (sym same_place) (get_or-set_same marks o true false within)
-  | inr other ↦ get_or-set_other marks o i true false other ∙ e
-]
-
--- how many marks are still to be set
-abbrev pub unmarked : List Bool → ℕ
-unmarked marks = sum_by (λ b. cond b 0 1) marks
-
-pub one_less : (marks : List Bool) (i : ℕ) → i < length marks → get_or marks i false ≡ false → unmarked marks ≡ suc (unmarked (set marks i true))
-one_less marks i within clear =
-    let sums = sum_by-set (λ (b : Bool). cond b 0 1) marks i true false within in
-    let was : ◌≡◌ {A = ℕ} (cond (get_or marks i false) 0 1) 1 = rw clear refl in omega arith
+use Rattle.mach_tries.proofs.Marking as mark
+use Rattle.mach_tries.proofs.Readings.{before_deeper, before_child, beside_before, beside_deeper, beside_sibling}
 
 -- a node whose branches are being tried: the path to it, what is left of the name there, and the number of its next branch
 pub record Frame : Type 0 where
@@ -109,57 +46,55 @@ drop_more zero n xs = let z : n ≡ 0 + n = omega arith in ap (λ k. drop k xs) 
 drop_more (suc m) n [] = drop_nil n ∙ sym (drop_nil (suc m + n))
 drop_more (suc m) n (x ∷ xs) = let z : suc (m + n) ≡ suc m + n = omega arith in drop_more m n xs ∙ ap (λ k. drop k (x ∷ xs)) z
 
-not_nil : (p : List ℕ) (k : ℕ) → [] ≡ p ++ k ∷ [] → ⊥
-not_nil [] k e = cc
-not_nil (x ∷ p) k e = cc
+-- ---- the order of paths
 
-same_front : (p q : List ℕ) (j k : ℕ) → p ++ j ∷ [] ≡ q ++ k ∷ [] → p ≡ q
-same_front [] [] j k e = refl
-same_front [] (y ∷ q) j k e = absurd (let tail : [] ≡ q ++ k ∷ [] = cc in not_nil q k tail)
-same_front (x ∷ p) [] j k e = absurd (let tail : [] ≡ p ++ j ∷ [] = cc in not_nil p j tail)
-same_front (x ∷ p) (y ∷ q) j k e = let tail : p ++ j ∷ [] ≡ q ++ k ∷ [] = cc in let rest = same_front p q j k tail in let head : x ≡ y = cc in cc
+before_later : (p q : List ℕ) (j k : ℕ) → j ≤ k → Before p (q ++ j ∷ []) → Before p (q ++ k ∷ [])
+before_later [] [] j k le b = tt
+before_later [] (y ∷ q) j k le b = tt
+before_later (x ∷ p) [] j k le b = elim b [ inl less ↦ inl (omega arith) | inr same ↦ absurd same.1 ]
+before_later (x ∷ p) (y ∷ q) j k le b = elim b [ inl less ↦ inl less | inr same ↦ inr (same.0, before_later p q j k le same.1) ]
 
-suffix_longer : (p q : List ℕ) (k j : ℕ) → length q < length p → p ++ k ∷ [] ≡ q ++ j ∷ [] → ⊥
-suffix_longer p q k j less e = let same = ap (λ (x : List ℕ). length x) (same_front p q k j e) in omega (arith)
+beside_later : (p q : List ℕ) (j k : ℕ) → j ≤ k → IsBeside p (q ++ j ∷ []) → IsBeside p (q ++ k ∷ [])
+beside_later [] q j k le b = absurd b
+beside_later (x ∷ p) [] j k le b = elim b [ inl less ↦ inl (omega arith) | inr same ↦ absurd (nothing_beside p same.1) ]
+  where
+    nothing_beside : (p : List ℕ) → IsBeside p [] → ⊥
+    nothing_beside [] b = b
+    nothing_beside (x ∷ p) b = b
+beside_later (x ∷ p) (y ∷ q) j k le b = elim b [ inl less ↦ inl less | inr same ↦ inr (same.0, beside_later p q j k le same.1) ]
 
-longer_by_one : (p : List ℕ) (k : ℕ) → length (p ++ k ∷ []) ≡ length p + 1
-longer_by_one p k = length-append p (k ∷ [])
+-- the path comes before the next branch of each frame
+abbrev pub IsBeforeAll : List ℕ → List Frame → Type 0
+IsBeforeAll p [] = Unit {0}
+IsBeforeAll p (f ∷ fs) = Before p (f.path ++ f.next ∷ []) × IsBeforeAll p fs
 
-not_longer : (p : List ℕ) (k : ℕ) → p ≡ p ++ k ∷ [] → ⊥
-not_longer p k e = let more = longer_by_one p k in let same = ap (λ (x : List ℕ). length x) e in omega arith
+-- it leaves each of them by an earlier branch
+abbrev pub IsBesideAll : List ℕ → List Frame → Type 0
+IsBesideAll p [] = Unit {0}
+IsBesideAll p (f ∷ fs) = IsBeside p (f.path ++ f.next ∷ []) × IsBesideAll p fs
 
-last_same : (p : List ℕ) (j k : ℕ) → p ++ j ∷ [] ≡ p ++ k ∷ [] → j ≡ k
-last_same [] j k e = cc
-last_same (x ∷ p) j k e = let tail : p ++ j ∷ [] ≡ p ++ k ∷ [] = cc in last_same p j k tail
+abbrev pub AreInTurn : List Frame → Type 0
+AreInTurn [] = Unit {0}
+AreInTurn (f ∷ fs) = IsBesideAll f.path fs × AreInTurn fs
+
+all_before : (p : List ℕ) (fs : List Frame) → IsBesideAll p fs → IsBeforeAll p fs
+all_before p [] b = tt
+all_before p (f ∷ fs) b = (beside_before p (f.path ++ f.next ∷ []) b.0, all_before p fs b.1)
+
+all_deeper : (p r : List ℕ) (fs : List Frame) → IsBesideAll p fs → IsBesideAll (p ++ r) fs
+all_deeper p r [] b = tt
+all_deeper p r (f ∷ fs) b = (beside_deeper p r (f.path ++ f.next ∷ []) b.0, all_deeper p r fs b.1)
 
 module _ (s : Source) (root : ℕ) (name : List ℕ) where
-  -- the nodes that were visited, each on its own path, are those that are marked
-  pub record Visited (marks : List Bool) (vs : List Visit) : Type 0 where
-    pub size : length marks ≡ s.upto - s.from
-    pub leads : (v : Visit) → IsAmong v vs → Leads (source_trie s) v.path root v.at × (s.from ≤ v.at) × (v.at < s.upto)
-        × (rest : List ℕ) × Spells (source_trie s) root name v.path rest
-    pub marked : (v : Visit) → IsAmong v vs → get_or marks (v.at - s.from) false ≡ true
-    pub met : (o : ℕ) → get_or marks o false ≡ true → (p : List ℕ) × IsAmong (visit p (s.from + o)) vs
-    pub parents : (v : Visit) (p : List ℕ) (k : ℕ) → IsAmong v vs → v.path ≡ p ++ k ∷ [] → (a : ℕ) × IsAmong (visit p a) vs
-    pub apart : Apart vs
-
-  pub record IsOpen (vs : List Visit) (f : Frame) : Type 0 where
-    pub known : IsAmong (visit f.path f.start) vs
+  pub record IsOpen (f : Frame) : Type 0 where
+    pub leads : Leads (source_trie s) f.path root f.start
+    pub inside : f.start < s.upto
     pub node : node_in s f.start ≡ Ok f.node
     pub spelled : Spells (source_trie s) root name f.path f.rest
-    pub fresh : (k : ℕ) (w : Visit) → f.next ≤ k → IsAmong w vs → w.path ≡ f.path ++ k ∷ [] → ⊥
 
-  abbrev pub AreOpen : List Visit → List Frame → Type 0
-  AreOpen vs [] = Unit {0}
-  AreOpen vs (f ∷ fs) = IsOpen vs f × AreOpen vs fs
-
-  abbrev pub AreShorter : ℕ → List Frame → Type 0
-  AreShorter n [] = Unit {0}
-  AreShorter n (g ∷ gs) = (length g.path < n) × AreShorter n gs
-
-  abbrev pub Nested : List Frame → Type 0
-  Nested [] = Unit {0}
-  Nested (f ∷ fs) = AreShorter (length f.path) fs × Nested fs
+  abbrev pub AreOpen : List Frame → Type 0
+  AreOpen [] = Unit {0}
+  AreOpen (f ∷ fs) = IsOpen f × AreOpen fs
 
   pub record IsShown (c : Choice) (f : Frame) : Type 0 where
     pub branches : branches_at s.bytes.now s.from c.branches.left c.branches.place ≡ Ok (left_of f)
@@ -174,41 +109,26 @@ module _ (s : Source) (root : ℕ) (name : List ℕ) where
   pub record Holds (c : Choice) (cs : List Choice) (marks : List Bool) (first steps : ℕ) : Type 0 where
     pub top : Frame
     pub below : List Frame
-    pub vs : List Visit
-    pub visited : Visited marks vs
-    pub opened : AreOpen vs (top ∷ below)
-    pub nested : Nested (top ∷ below)
+    pub paths : List (List ℕ)
+    pub marked : AreMarked (source_trie s) root s.from marks paths
+    pub on_way : (p : List ℕ) → IsAmong p paths → IsOnWay (source_trie s) root name p
+    pub before : (p : List ℕ) → IsAmong p paths → IsBeforeAll p (top ∷ below)
+    pub in_turn : AreInTurn (top ∷ below)
+    pub opened : AreOpen (top ∷ below)
     pub shown : IsShown c top
     pub shown_below : AreShown cs below
-    pub count : suc steps ≡ first + length vs
+    pub count : suc steps ≡ first + length paths
     pub finds : (found : Option Info) → Resolves (source_trie s) (top ∷ below) found → Finds (source_trie s) root name found
 
   -- the root was visited
-  pub root_visited : s.from ≤ root → root < s.upto → Visited (set (replicate (s.upto - s.from) false) (root - s.from) true) (visit [] root ∷ [])
-  root_visited low inside =
-      let n = s.upto - s.from in
-      let size : length (replicate n false) ≡ n = length-replicate n false in
-      let within : root - s.from < length (replicate n false) = omega arith in
-      record {
-        size = length-set (replicate n false) (root - s.from) true ∙ size;
-        leads = λ v i. elim i [
-          | inl e ↦ subst (λ (x : Visit). Leads (source_trie s) x.path root x.at × (s.from ≤ x.at) × (x.at < s.upto)
-              × (rest : List ℕ) × Spells (source_trie s) root name x.path rest) (sym e) (refl, low, inside, name, ([], refl, refl))
-          | inr none ↦ absurd none
-        ];
-        marked = λ v i. elim i [
-          | inl e ↦ (let at : v.at - s.from ≡ root - s.from = ap (λ (x : Visit). x.at - s.from) e in
-              subst (λ x. get_or (set (replicate n false) (root - s.from) true) x false ≡ true) (sym at)
-              (get_or-set_same (replicate n false) (root - s.from) true false within))
-          | inr none ↦ absurd none
-        ];
-        met = λ o is. elim (cases_eq o (root - s.from)) [
-          | inl same_place ↦ ([], inl (let same : s.from + o ≡ root = omega arith in ap (visit []) same))
-          | inr other ↦ absurd (not_both is (get_or-set_other (replicate n false) (root - s.from) o true false other ∙ all_clear n o))
-        ];
-        parents = λ v p k i e. elim i [ inl same ↦ absurd (not_nil p k (sym (ap (λ (x : Visit). x.path) same) ∙ e)) | inr none ↦ absurd none ];
-        apart = (λ w i e. absurd i, tt);
-      }
+  root_marked : s.from ≤ root → root < s.upto → AreMarked (source_trie s) root s.from (set (replicate (s.upto - s.from) false) (root - s.from) true) ([] ∷ [])
+  root_marked low inside = mark.one_marked (mark.none_marked (source_trie s) root s.from) [] refl low inside (mark.all_clear (s.upto - s.from) (root - s.from))
+
+  root_way : root < s.upto → (p : List ℕ) → IsAmong p ([] ∷ []) → IsOnWay (source_trie s) root name p
+  root_way inside p i = elim i [
+    | inl e ↦ subst (IsOnWay (source_trie s) root name) (sym e) ((root, refl, inside), name, ([], refl, refl))
+    | inr none ↦ absurd none
+  ]
 
   pub begins : (c : Choice) (node : Node) (first : ℕ) → s.from ≤ root → root < s.upto → node_in s root ≡ Ok node → IsElsewhere name node.own
       → branches_at s.bytes.now s.from c.branches.left c.branches.place ≡ Ok node.branches → c.at ≡ 0
@@ -216,18 +136,12 @@ module _ (s : Source) (root : ℕ) (name : List ℕ) where
   begins c node first low inside at other branches zero_at = record {
     top = record { path = []; start = root; rest = name; node = node; next = 0 };
     below = [];
-    vs = visit [] root ∷ [];
-    visited = root_visited low inside;
-    opened = (
-      record {
-        known = inl refl;
-        node = at;
-        spelled = ([], refl, refl);
-        fresh = λ k w le i e. elim i [ inl same ↦ not_nil [] k (sym (ap (λ (x : Visit). x.path) same) ∙ e) | inr none ↦ absurd none ];
-      },
-      tt,
-    );
-    nested = (tt, tt);
+    paths = [] ∷ [];
+    marked = root_marked low inside;
+    on_way = root_way inside;
+    before = λ p i. (elim i [ inl e ↦ subst (λ z. Before z (0 ∷ [])) (sym e) tt | inr none ↦ absurd none ], tt);
+    in_turn = (tt, tt);
+    opened = (record { leads = refl; inside = inside; node = at; spelled = ([], refl, refl) }, tt);
     shown = record { branches = branches; rest = ap (λ n. drop n name) (sym zero_at); within = omega arith };
     shown_below = tt;
     count = omega arith;
@@ -238,24 +152,17 @@ module _ (s : Source) (root : ℕ) (name : List ℕ) where
   }
 
   -- the visits so far
-  visits_of : (marks : List Bool) (vs : List Visit) (first steps : ℕ) → Visited marks vs → suc steps ≡ first + length vs
+  visits_of : {marks : List Bool} {paths : List (List ℕ)} {first steps : ℕ} → AreMarked (source_trie s) root s.from marks paths
+      → ((p : List ℕ) → IsAmong p paths → IsOnWay (source_trie s) root name p) → suc steps ≡ first + length paths
       → SearchVisits (source_trie s) root name first steps
-  visits_of marks vs first steps v count = record {
-    paths = paths_in vs;
-    on_way = λ p i.
-        let w = in_paths p vs i in
-        let l = v.leads w.0 w.1 in
-        subst (IsOnWay (source_trie s) root name) (sym w.2) ((w.0.at, l.0, l.2), l.3, l.4);
-    apart = paths_apart (source_trie s) root vs (λ w i. (v.leads w i).0) v.apart;
-    count = count ∙ ap (λ n. first + n) (sym (length-map vs (λ v. v.path)));
-  }
+  visits_of {paths = paths} marked on_way count = record { paths = paths; on_way = on_way; apart = marked.apart; count = count }
 
   pub root_visits : (first : ℕ) → s.from ≤ root → root < s.upto → SearchVisits (source_trie s) root name first first
-  root_visits first low inside = visits_of _ _ first first (root_visited low inside) (omega arith)
+  root_visits first low inside = visits_of (root_marked low inside) (root_way inside) (omega arith)
 
   pub visits_so_far : (c : Choice) (cs : List Choice) (marks : List Bool) (first steps : ℕ) → Holds c cs marks first steps
       → SearchVisits (source_trie s) root name first steps
-  visits_so_far c cs marks first steps h = visits_of marks h.vs first steps h.visited h.count
+  visits_so_far c cs marks first steps h = visits_of h.marked h.on_way h.count
 
   -- the branches of the top that find nothing are passed
   pub settled : (c d : Choice) (cs : List Choice) {marks : List Bool} {first steps : ℕ} (bs : List Branch) → Holds c cs marks first steps → d.at ≡ c.at
@@ -265,14 +172,15 @@ module _ (s : Source) (root : ℕ) (name : List ℕ) where
   settled c d cs bs h same_at branches settles =
       let st = settles (left_of h.top) h.shown.branches in
       let is : bs ≡ left_of (later h.top st.number) = st.dropped ∙ drop_more h.top.next st.number h.top.node.branches in
-      let o = h.opened.0 in
       record {
         top = later h.top st.number;
         below = h.below;
-        vs = h.vs;
-        visited = h.visited;
-        opened = (record { known = o.known; node = o.node; spelled = o.spelled; fresh = λ k w le i e. o.fresh k w (omega arith) i e }, h.opened.1);
-        nested = (h.nested.0, h.nested.1);
+        paths = h.paths;
+        marked = h.marked;
+        on_way = h.on_way;
+        before = λ p i. (before_later p h.top.path h.top.next (h.top.next + st.number) (omega arith) (h.before p i).0, (h.before p i).1);
+        in_turn = (h.in_turn.0, h.in_turn.1);
+        opened = (record { leads = h.opened.0.leads; inside = h.opened.0.inside; node = h.opened.0.node; spelled = h.opened.0.spelled }, h.opened.1);
         shown = record {
           branches = branches ∙ ap Ok is;
           rest = h.shown.rest ∙ ap (λ n. drop n name)
@@ -316,18 +224,20 @@ module _ (s : Source) (root : ℕ) (name : List ℕ) where
   -- back to an earlier choice
   pub gone : (c p : Choice) (ps : List Choice) {marks : List Bool} {first steps : ℕ} → Holds c (p ∷ ps) marks first steps → c.branches.left ≡ 0
       → Holds p ps marks first steps
-  gone c p ps {marks} {first} {steps} h over = back h.below h.shown_below h.opened.1 h.nested.1 h.finds
+  gone c p ps {marks} {first} {steps} h over = back h.below h.shown_below h.opened.1 h.in_turn.1 (λ q i. (h.before q i).1) h.finds
     where
-      back : (fs : List Frame) → AreShown (p ∷ ps) fs → AreOpen h.vs fs → Nested fs
+      back : (fs : List Frame) → AreShown (p ∷ ps) fs → AreOpen fs → AreInTurn fs → ((q : List ℕ) → IsAmong q h.paths → IsBeforeAll q fs)
           → ((found : Option Info) → Resolves (source_trie s) (h.top ∷ fs) found → Finds (source_trie s) root name found) → Holds p ps marks first steps
-      back [] shown opened nested finds = absurd shown
-      back (f ∷ fs) shown opened nested finds = record {
+      back [] shown opened in_turn before finds = absurd shown
+      back (f ∷ fs) shown opened in_turn before finds = record {
         top = f;
         below = fs;
-        vs = h.vs;
-        visited = h.visited;
+        paths = h.paths;
+        marked = h.marked;
+        on_way = h.on_way;
+        before = before;
+        in_turn = in_turn;
         opened = opened;
-        nested = nested;
         shown = shown.0;
         shown_below = shown.1;
         count = h.count;
@@ -369,29 +279,22 @@ module _ (s : Source) (root : ℕ) (name : List ℕ) where
     head : (slice_get h.top.node.branches h.top.next ≡ Some (record { label = label; start = start })) × (rest_of.0 ≡ drop (suc h.top.next) h.top.node.branches)
     head = drop_head h.top.node.branches h.top.next (record { label = label; start = start }) rest_of.0 rest_of.1
 
-    path : List ℕ
+    abbrev path : List ℕ
     path = h.top.path ++ h.top.next ∷ []
 
-    top_leads : Leads (source_trie s) h.top.path root h.top.start × (s.from ≤ h.top.start) × (h.top.start < s.upto)
-        × (rest : List ℕ) × Spells (source_trie s) root name h.top.path rest
-    top_leads = h.visited.leads (visit h.top.path h.top.start) h.opened.0.known
-
     pub child_leads : Leads (source_trie s) (h.top.path ++ h.top.next ∷ []) root start
-    child_leads = Leads-append (source_trie s) h.top.path (h.top.next ∷ []) root h.top.start start top_leads.0
-        (h.top.node, record { label = label; start = start }, top_leads.2, h.opened.0.node, head.0, refl)
-
-    not_yet : (v : Visit) → IsAmong v h.vs → v.path ≡ h.top.path ++ h.top.next ∷ [] → ⊥
-    not_yet v i e = h.opened.0.fresh h.top.next v (omega arith) i e
+    child_leads = Leads-append (source_trie s) h.top.path (h.top.next ∷ []) root h.top.start start h.opened.0.leads
+        (h.top.node, record { label = label; start = start }, h.opened.0.inside, h.opened.0.node, head.0, refl)
 
     pub within : start - s.from < length marks
-    within = let size = h.visited.size in let above = low in omega arith
+    within = mark.within h.marked path child_leads low inside
 
     rest_is : h.top.rest ≡ label ++ others
     rest_is = h.shown.rest ∙ taken.spells
 
     child_spelled : Spells (source_trie s) root name (h.top.path ++ h.top.next ∷ []) others
     child_spelled = spells_on (source_trie s) h.top.path root h.top.start name h.top.rest others h.top.node h.top.next
-        (record { label = label; start = start }) top_leads.0 h.opened.0.spelled h.opened.0.node head.0 rest_is
+        (record { label = label; start = start }) h.opened.0.leads h.opened.0.spelled h.opened.0.node head.0 rest_is
 
     child_way : IsOnWay (source_trie s) root name (h.top.path ++ h.top.next ∷ [])
     child_way = ((start, child_leads, inside), others, child_spelled)
@@ -400,85 +303,27 @@ module _ (s : Source) (root : ℕ) (name : List ℕ) where
     child_fault f e = at_node_on_way f (h.top.path ++ h.top.next ∷ []) start child_way child_leads e
 
     -- a child that is marked is met by a second path
-    pub met : {mark : Bool} → mark ≡ get_or marks (start - s.from) false → mark ≡ true → FaultOnWay (source_trie s) root name malformed
-    met {mark} is_mark is_on =
-        let above = low in
-        let marked = sym is_mark ∙ is_on in
-        let same : s.from + (start - s.from) ≡ start = omega arith in
-        let old = h.visited.met (start - s.from) marked in
-        let there = h.visited.leads (visit old.0 (s.from + (start - s.from))) old.1 in
-        met_on_way old.0 (h.top.path ++ h.top.next ∷ []) start ((s.from + (start - s.from), there.0, there.2), there.3, there.4) child_way
-        (subst (λ x. Leads (source_trie s) old.0 root x) same there.0) child_leads
-        (λ e. not_yet (visit old.0 (s.from + (start - s.from))) old.1 e)
+    pub met : {marked : Bool} → marked ≡ get_or marks (start - s.from) false → marked ≡ true → FaultOnWay (source_trie s) root name malformed
+    met is_mark is_on =
+        let old = mark.met h.marked path child_leads low (sym is_mark ∙ is_on) in
+        met_on_way old.0 path start (h.on_way old.0 old.1) child_way old.2 child_leads
+        (λ e. not_before_itself path (subst (λ z. Before z path) e (h.before old.0 old.1).0))
 
-    pub is_clear : {mark : Bool} → mark ≡ get_or marks (start - s.from) false → mark ≡ false → get_or marks (start - s.from) false ≡ false
+    pub is_clear : {marked : Bool} → marked ≡ get_or marks (start - s.from) false → marked ≡ false → get_or marks (start - s.from) false ≡ false
     is_clear is_mark is_off = sym is_mark ∙ is_off
 
     pub label_within : length label ≤ length (drop c.at name)
     label_within = let a = ap (λ (x : List ℕ). length x) taken.spells in let b = length-append label others in omega arith
 
     module _ (clear : get_or marks (start - s.from) false ≡ false) where
-      visited_now : Visited (set marks (start - s.from) true) (visit (h.top.path ++ h.top.next ∷ []) start ∷ h.vs)
-      visited_now = record {
-        size = length-set marks (start - s.from) true ∙ h.visited.size;
-        leads = λ v i. elim i [
-          | inl e ↦ subst (λ (x : Visit). Leads (source_trie s) x.path root x.at × (s.from ≤ x.at) × (x.at < s.upto)
-              × (rest : List ℕ) × Spells (source_trie s) root name x.path rest) (sym e) (child_leads, low, inside, others, child_spelled)
-          | inr old ↦ h.visited.leads v old
-        ];
-        marked = λ v i. elim i [
-          | inl e ↦ (let at : v.at - s.from ≡ start - s.from = ap (λ (x : Visit). x.at - s.from) e in
-              subst (λ x. get_or (set marks (start - s.from) true) x false ≡ true) (sym at) (get_or-set_same marks (start - s.from) true false within))
-          | inr old ↦ keeps_mark marks (start - s.from) (v.at - s.from) within (h.visited.marked v old)
-        ];
-        met = λ o is. elim (cases_eq o (start - s.from)) [
-          | inl same_place ↦ (
-            h.top.path ++ h.top.next ∷ [],
-            inl (let above = low in let same : s.from + o ≡ start = omega arith in ap
-                (visit (h.top.path ++ h.top.next ∷ [])) same),
-          )
-          | inr other ↦ (let old = h.visited.met o (sym (get_or-set_other marks (start - s.from) o true false other) ∙ is) in (old.0, inr old.1))
-        ];
-        parents = λ v q j i e. elim i [
-          | inl same ↦ (let front = same_front h.top.path q h.top.next j (sym (ap (λ (x : Visit). x.path) same) ∙ e) in
-              (h.top.start, inr (subst (λ x. IsAmong (visit x h.top.start) h.vs) front h.opened.0.known)))
-          | inr old ↦ (let up = h.visited.parents v q j old e in (up.0, inr up.1))
-        ];
-        apart = (λ w i e. not_both (h.visited.marked w i) (ap (λ x. get_or marks (x - s.from) false) e ∙ clear), h.visited.apart);
-      }
+      marked_now : AreMarked (source_trie s) root s.from (set marks (start - s.from) true) (path ∷ h.paths)
+      marked_now = mark.one_marked h.marked path child_leads low inside clear
+
+      way_now : (p : List ℕ) → IsAmong p (path ∷ h.paths) → IsOnWay (source_trie s) root name p
+      way_now p i = elim i [ inl e ↦ subst (IsOnWay (source_trie s) root name) (sym e) child_way | inr old ↦ h.on_way p old ]
 
       pub child_visits : {now : ℕ} → now ≡ steps + 1 → SearchVisits (source_trie s) root name first now
-      child_visits {now} more_one = visits_of _ _ first now visited_now (let count = h.count in omega arith)
-
-      still_open : (gs : List Frame) → AreShorter (length h.top.path) gs → AreOpen h.vs gs → AreOpen (visit (h.top.path ++ h.top.next ∷ []) start ∷ h.vs) gs
-      still_open [] shorter opened = tt
-      still_open (g ∷ gs) shorter opened = (
-        record {
-          known = inr opened.0.known;
-          spelled = opened.0.spelled;
-          node = opened.0.node;
-          fresh = λ k w le i e. elim i [
-            | inl same ↦ suffix_longer h.top.path g.path h.top.next k shorter.0 (sym (ap (λ (x : Visit). x.path) same) ∙ e)
-            | inr old ↦ opened.0.fresh k w le old e
-          ];
-        },
-        still_open gs shorter.1 opened.1,
-      )
-
-      top_open : IsOpen (visit (h.top.path ++ h.top.next ∷ []) start ∷ h.vs) (later h.top 1)
-      top_open = record {
-        known = inr h.opened.0.known;
-        spelled = h.opened.0.spelled;
-        node = h.opened.0.node;
-        fresh = λ k w le i e. elim i [
-          | inl same ↦ (let number = last_same h.top.path h.top.next k (sym (ap (λ (x : Visit). x.path) same) ∙ e) in omega arith)
-          | inr old ↦ h.opened.0.fresh k w (omega arith) old e
-        ];
-      }
-
-      shorter_still : (n m : ℕ) → n ≤ m → (gs : List Frame) → AreShorter n gs → AreShorter m gs
-      shorter_still n m le [] shorter = tt
-      shorter_still n m le (g ∷ gs) shorter = (omega (arith, shorter.0), shorter_still n m le gs shorter.1)
+      child_visits more_one = visits_of marked_now way_now (let count = h.count in omega arith)
 
       left_now : left_of (later h.top 1) ≡ rest_of.0
       left_now = let one : h.top.next + 1 ≡ suc h.top.next = omega arith in ap (λ n. drop n h.top.node.branches) one ∙ sym head.1
@@ -515,28 +360,27 @@ module _ (s : Source) (root : ℕ) (name : List ℕ) where
       child_opened d e node more at other branches d_at e_at e_left e_place others_are within = record {
         top = record { path = h.top.path ++ h.top.next ∷ []; start = start; rest = others; node = node; next = 0 };
         below = later h.top 1 ∷ h.below;
-        vs = visit (h.top.path ++ h.top.next ∷ []) start ∷ h.vs;
-        visited = visited_now;
-        opened = (
-          record {
-            known = inl refl;
-            spelled = child_spelled;
-            node = at;
-            fresh = λ k w le i e. elim i [
-              | inl same ↦ not_longer (h.top.path ++ h.top.next ∷ []) k (sym (ap (λ (x : Visit). x.path) same) ∙ e)
-              | inr old ↦ (let up = h.visited.parents w (h.top.path ++ h.top.next ∷ []) k old e in not_yet
-                  (visit (h.top.path ++ h.top.next ∷ []) up.0) up.1 refl)
-            ];
-          },
-          (top_open, still_open h.below h.nested.0 h.opened.1),
+        paths = path ∷ h.paths;
+        marked = marked_now;
+        on_way = way_now;
+        before = λ p i. elim i [
+          | inl e ↦ subst (λ z. IsBeforeAll z (record { path = path; start = start; rest = others; node = node; next = 0 } ∷ later h.top 1 ∷ h.below)) (sym e) (
+            before_child path 0,
+            (
+              beside_before path (h.top.path ++ (h.top.next + 1) ∷ []) (beside_sibling h.top.path h.top.next (h.top.next + 1) (omega arith)),
+              all_before path h.below (all_deeper h.top.path (h.top.next ∷ []) h.below h.in_turn.0),
+            ),
+          )
+          | inr old ↦ (let b = h.before p old in
+              (before_deeper p path (0 ∷ []) b.0, (before_later p h.top.path h.top.next (h.top.next + 1) (omega arith) b.0, b.1)))
+        ];
+        in_turn = (
+          (beside_sibling h.top.path h.top.next (h.top.next + 1) (omega arith), all_deeper h.top.path (h.top.next ∷ []) h.below h.in_turn.0),
+          (h.in_turn.0, h.in_turn.1),
         );
-        nested = (
-          let more_one = longer_by_one h.top.path h.top.next in (
-            omega arith,
-            shorter_still (length h.top.path) (length (h.top.path ++ h.top.next ∷ []))
-                (omega arith) h.below h.nested.0,
-          ),
-          (h.nested.0, h.nested.1),
+        opened = (
+          record { leads = child_leads; inside = inside; node = at; spelled = child_spelled },
+          (record { leads = h.opened.0.leads; inside = h.opened.0.inside; node = h.opened.0.node; spelled = h.opened.0.spelled }, h.opened.1),
         );
         shown = record { branches = branches; rest = others_are; within = within };
         shown_below = (shown_now e e_at e_left e_place, h.shown_below);
@@ -556,15 +400,14 @@ module _ (s : Source) (root : ℕ) (name : List ℕ) where
       → branches_at s.bytes.now s.from d.branches.left d.branches.place ≡ Ok bs
       → ((old : List Branch) → branches_at s.bytes.now s.from e.branches.left e.branches.place ≡ Ok old → Settles (source_trie s) (drop e.at name) old bs)
       → Holds c (d ∷ cs) marks first steps
-  settled_below c e d cs {marks} {first} {steps} bs h same_at branches settles = go h.below h.shown_below h.opened.1 h.nested h.finds
+  settled_below c e d cs {marks} {first} {steps} bs h same_at branches settles = go h.below h.shown_below h.opened.1 h.in_turn h.before h.finds
     where
-      go : (fs : List Frame) → AreShown (e ∷ cs) fs → AreOpen h.vs fs → Nested (h.top ∷ fs)
+      go : (fs : List Frame) → AreShown (e ∷ cs) fs → AreOpen fs → AreInTurn (h.top ∷ fs) → ((q : List ℕ) → IsAmong q h.paths → IsBeforeAll q (h.top ∷ fs))
           → ((found : Option Info) → Resolves (source_trie s) (h.top ∷ fs) found → Finds (source_trie s) root name found) → Holds c (d ∷ cs) marks first steps
-      go [] shown opened nested finds = absurd shown
-      go (f ∷ fs) shown opened nested finds =
+      go [] shown opened in_turn before finds = absurd shown
+      go (f ∷ fs) shown opened in_turn before finds =
           let st = settles (left_of f) shown.0.branches in
           let is : bs ≡ left_of (later f st.number) = st.dropped ∙ drop_more f.next st.number f.node.branches in
-          let o = opened.0 in
           let back : (found : Option Info) → BranchesFind (source_trie s) f.rest (left_of (later f st.number)) found → BranchesFind (source_trie s) f.rest
           (left_of f) found = λ found x.
           subst (λ (y : List ℕ). BranchesFind (source_trie s) y (left_of f) found) (sym shown.0.rest)
@@ -573,22 +416,18 @@ module _ (s : Source) (root : ℕ) (name : List ℕ) where
           record {
             top = h.top;
             below = later f st.number ∷ fs;
-            vs = h.vs;
-            visited = h.visited;
+            paths = h.paths;
+            marked = h.marked;
+            on_way = h.on_way;
+            before = λ q i. let b = before q i in (b.0, (before_later q f.path f.next (f.next + st.number) (omega arith) b.1.0, b.1.1));
+            in_turn = (
+              (beside_later h.top.path f.path f.next (f.next + st.number) (omega arith) in_turn.0.0, in_turn.0.1),
+              (in_turn.1.0, in_turn.1.1),
+            );
             opened = (
               h.opened.0,
-              (
-                record {
-                  known = o.known;
-                  node = o.node;
-                  spelled = o.spelled;
-                  fresh = λ k w le i q. o.fresh k w
-                      (omega arith) i q;
-                },
-                opened.1,
-              ),
+              (record { leads = opened.0.leads; inside = opened.0.inside; node = opened.0.node; spelled = opened.0.spelled }, opened.1),
             );
-            nested = ((nested.0.0, nested.0.1), (nested.1.0, nested.1.1));
             shown = h.shown;
             shown_below = (
               record {
@@ -614,18 +453,20 @@ module _ (s : Source) (root : ℕ) (name : List ℕ) where
 
   pub left_out : (c d : Choice) (cs : List Choice) {marks : List Bool} {first steps : ℕ} → Holds c (d ∷ cs) marks first steps → d.branches.left ≡ 0
       → Holds c cs marks first steps
-  left_out c d cs {marks} {first} {steps} h over = go h.below h.shown_below h.opened.1 h.nested h.finds
+  left_out c d cs {marks} {first} {steps} h over = go h.below h.shown_below h.opened.1 h.in_turn h.before h.finds
     where
-      go : (fs : List Frame) → AreShown (d ∷ cs) fs → AreOpen h.vs fs → Nested (h.top ∷ fs)
+      go : (fs : List Frame) → AreShown (d ∷ cs) fs → AreOpen fs → AreInTurn (h.top ∷ fs) → ((q : List ℕ) → IsAmong q h.paths → IsBeforeAll q (h.top ∷ fs))
           → ((found : Option Info) → Resolves (source_trie s) (h.top ∷ fs) found → Finds (source_trie s) root name found) → Holds c cs marks first steps
-      go [] shown opened nested finds = absurd shown
-      go (f ∷ fs) shown opened nested finds = record {
+      go [] shown opened in_turn before finds = absurd shown
+      go (f ∷ fs) shown opened in_turn before finds = record {
         top = h.top;
         below = fs;
-        vs = h.vs;
-        visited = h.visited;
+        paths = h.paths;
+        marked = h.marked;
+        on_way = h.on_way;
+        before = λ q i. let b = before q i in (b.0, b.1.1);
+        in_turn = (in_turn.0.1, in_turn.1.1);
         opened = (h.opened.0, opened.1);
-        nested = (nested.0.1, nested.1.1);
         shown = h.shown;
         shown_below = shown.1;
         count = h.count;
@@ -659,14 +500,10 @@ module _ (s : Source) (root : ℕ) (name : List ℕ) where
       settled_below c e (record { branches = b; at = e.at }) cs (branches_of s.bytes.now s.from b) h refl readable
       (settles_at e rest (branches_of s.bytes.now s.from b) same st)
 
-  drop_own : (xs ys : List ℕ) → drop (length xs) (xs ++ ys) ≡ ys
-  drop_own [] ys = refl
-  drop_own (x ∷ xs) ys = drop_own xs ys
-
   pub deeper : (at : ℕ) (label others : List ℕ) → at ≤ length name → drop at name ≡ label ++ others
       → (others ≡ drop (at + length label) name) × (at + length label ≤ length name)
   deeper at label others within spells = (
-    sym (drop_own label others) ∙ (ap (λ (x : List ℕ). drop (length label) x) (sym spells) ∙ drop_more at (length label) name),
+    sym (drop-append_seam label others) ∙ (ap (λ (x : List ℕ). drop (length label) x) (sym spells) ∙ drop_more at (length label) name),
     let a = length-drop at name in let b = ap (λ (x : List ℕ). length x) spells in let d = length-append label others in omega arith,
   )
 
@@ -687,10 +524,3 @@ module _ (s : Source) (root : ℕ) (name : List ℕ) where
         others = stop.1;
         spells = sym same ∙ stop.2;
       }
-
-pub popped : (xs ys : List Choice) (x : Choice) → xs ≡ ys ++ x ∷ [] → reverse xs ≡ x ∷ reverse ys
-popped xs ys x e = ap reverse e ∙ reverse-append ys (x ∷ [])
-
-pub emptied : (xs : List Choice) → length xs ≡ 0 → reverse xs ≡ []
-emptied [] e = refl
-emptied (x ∷ xs) e = absurd (omega arith)

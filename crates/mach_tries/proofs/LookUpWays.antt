@@ -3,7 +3,7 @@ use Rattle.std.proofs.Common.{◌≡◌, ◌<◌, ◌≤◌, ℕ, zero, suc, Lis
 use Rattle.std.specs.Prelude.{slice_get}
 use Rattle.mach_tries.specs.Trie.{Info, Branch, Trie}
 use Rattle.mach_tries.specs.Finds.{Finds, BranchesFind, at_nothing, none_left, passed, behind, gone_back}
-use Rattle.mach_tries.specs.LookUpViews.{Goes}
+use Rattle.mach_tries.specs.LookUpState.{Goes}
 use Rattle.mach_tries.specs.declared.look_up.Way.{Way}
 use Rattle.mach_tries.specs.declared.look_up.Way.TheVariants.{Nowhere, One, Several}
 use Rattle.mach_tries.proofs.Beginnings.{begins_or_not}

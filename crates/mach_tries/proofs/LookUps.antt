@@ -3,18 +3,12 @@ use Rattle.std.proofs.Common.{◌≡◌, ℕ, zero, suc, List, [], ◌∷◌, �
 use Rattle.std.proofs.Common.{append_assoc}
 use Rattle.std.specs.Prelude.{slice_get, IfOk}
 use Rattle.std.proofs.lemmas.List.{append-nil, append_cancel_left}
-use Rattle.mach_base.specs.Fault.{Fault}
+use Rattle.mach_tries.proofs.TriePaths.{same_node, same_some}
 use Rattle.mach_tries.specs.Trie.{Info, Branch, Node, Trie, Entry, own_entries}
 use Rattle.mach_tries.specs.Lists.{Lists, BranchesList, nothing, a_node, no_more, one_more}
 use Rattle.mach_tries.specs.TerminalPaths.{EndsWith, IsNameOf}
 use Rattle.mach_tries.specs.LookUp.{IsFirstOf, IsExportOf, StandsFor}
 use Rattle.mach_tries.specs.Finds.{IsElsewhere, Finds, BranchesFind, at_nothing, here, below, none_left, passed, behind, gone_back}
-
-same_node : {x y : Node} {r : Result Node Fault} → r ≡ Ok x → r ≡ Ok y → x ≡ y
-same_node a b = cc
-
-same_branch : {x y : Branch} {o : Option Branch} → o ≡ Some x → o ≡ Some y → x ≡ y
-same_branch a b = cc
 
 -- lists behind one another
 
@@ -151,7 +145,7 @@ mutual
       let same2 : named.0 ≡ node = same_node named.3 is.1 in
       let at : slice_get node.branches k ≡ Some ends.leads.1 = subst (λ (n : Node). slice_get n.branches k ≡ Some ends.leads.1) same ends.leads.4 in
       let at2 : slice_get node.branches k ≡ Some named.1 = subst (λ (n : Node). slice_get n.branches k ≡ Some named.1) same2 named.4 in
-      let one : named.1 ≡ ends.leads.1 = same_branch at2 at in
+      let one : named.1 ≡ ends.leads.1 = same_some at2 at in
       none_behind t rest node.branches found finds none k ends.leads.1 ks info at
       (record { at = ends.at; leads = ends.leads.5; node = ends.node; is_node = ends.is_node; own = ends.own })
       named.2 (subst (λ (b : Branch). IsNameOf t b.start ks named.2) one named.5) (subst (λ (b : Branch). rest ≡ b.label ++ named.2) one named.6)

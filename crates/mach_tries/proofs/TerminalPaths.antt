@@ -1,23 +1,11 @@
 -- A list of exports has the terminal paths of its start, each once, in order, and the exports that belong to them.
-use Rattle.mach_tries.proofs.Names.{◌≡◌, ◌<◌, ◌≤◌, ℕ, suc, List, [], ◌∷◌, ◌++◌, ◌⊎◌, inl, inr, map, drop, Option, Some, None, Ok, refl, sym, ap, subst, ◌∙◌}
+use Rattle.mach_tries.proofs.Names.{◌≡◌, ◌<◌, ◌≤◌, ℕ, suc, List, [], ◌∷◌, ◌++◌, inl, inr, map, drop, Option, Some, None, Ok, refl, sym, ap, subst, ◌∙◌}
 use Rattle.mach_tries.proofs.Names.{append_assoc, arith, slice_get, cases_eq, append-nil, IsAmong, Info, Branch, Node, Trie, IsNode, Entry, entry, own_entries}
 use Rattle.mach_tries.proofs.Names.{Lists, BranchesList, nothing, a_node, no_more, one_more, Leads, Before, EndsWith, IsTerminal, BelongsTo, EachBelongs}
 use Rattle.mach_tries.proofs.Names.{AreInOrder, ListsPaths}
-use Rattle.mach_tries.proofs.TriePaths.{same_node, same_some, leads_inside, drop_head, nothing_there}
+use Rattle.mach_tries.proofs.TriePaths.{same_node, same_some, leads_inside, drop_head, nothing_there, among_left, among_right, among_append}
 
 -- membership
-
-among_left : (p : List ℕ) (xs ys : List (List ℕ)) → IsAmong p xs → IsAmong p (xs ++ ys)
-among_left p [] ys h = absurd h
-among_left p (x ∷ xs) ys h = elim h [ inl e ↦ inl e | inr more ↦ inr (among_left p xs ys more) ]
-
-among_right : (p : List ℕ) (xs ys : List (List ℕ)) → IsAmong p ys → IsAmong p (xs ++ ys)
-among_right p [] ys h = h
-among_right p (x ∷ xs) ys h = inr (among_right p xs ys h)
-
-among_append : (p : List ℕ) (xs ys : List (List ℕ)) → IsAmong p (xs ++ ys) → IsAmong p xs ⊎ IsAmong p ys
-among_append p [] ys h = inr h
-among_append p (x ∷ xs) ys h = elim h [ inl e ↦ inl (inl e) | inr more ↦ elim (among_append p xs ys more) [ inl a ↦ inl (inr a) | inr b ↦ inr b ] ]
 
 among_map : (k : ℕ) (p : List ℕ) (ps : List (List ℕ)) → IsAmong p ps → IsAmong (k ∷ p) (map (λ q. k ∷ q) ps)
 among_map k p [] h = absurd h

@@ -1,13 +1,12 @@
 -- A beginning of a list of exports is one of the list, where there is one.
-use Rattle.mach_tries.proofs.Names.{◌≡◌, ℕ, List, [], ◌∷◌, ◌++◌, refl, sym, ap, subst, ◌∙◌, arith, append_assoc, append-nil, inl, inr, Branch, Node, Trie, Entry}
+use Rattle.mach_tries.proofs.Names.{◌≡◌, ℕ, List, [], ◌∷◌, ◌++◌, refl, sym, ap, subst, ◌∙◌, arith, append_assoc, inl, inr, Branch, Node, Trie, Entry}
 use Rattle.mach_tries.proofs.Names.{own_entries, Lists, BranchesList, nothing, a_node, one_more, ListBegins, BranchesBegin, none_yet, node_begun}
 use Rattle.mach_tries.proofs.Names.{no_further, one_begun, one_whole, source_trie, HasFound}
 use Rattle.mach_tries.proofs.Names.{Source, TrieRange, trie_there, ListsExports, ExportsFault, HasListed, IsTree, TrieFault, Error, Stands, Stands-in, fault_in}
-use Rattle.mach_tries.proofs.Names.{Bool, true, false, ◌⊎◌}
 use Rattle.mach_tries.proofs.TriePaths.{same_node}
-use Rattle.mach_tries.proofs.TrieLevels.{one_list_lem}
-use Rattle.mach_tries.proofs.TrieRelation.{within}
-use Rattle.mach_tries.proofs.TreeWalk.{whole_begun}
+use Rattle.mach_tries.proofs.TrieRelation.{one_list}
+use Rattle.mach_tries.proofs.Unfoldings.{met_begins}
+pub use Rattle.mach_tries.proofs.Unfoldings.{whole_list}
 use Rattle.mach_tries.specs.declared.walk.Walker.{Walker}
 
 mutual
@@ -30,26 +29,18 @@ mutual
       let here = prefix_of t b.start (p ++ b.label) xs first part one in
       (here.0 ++ others, e ∙ (ap (λ (x : List Entry). x ++ others) here.1 ∙ append_assoc xs here.0 others))
   branches_prefix t p (b ∷ bs) xs ys (one_whole {first = first} {others = some} whole part e) (one_more {first = first'} {others = others} one rest e') =
-      let same : first' ≡ first = one_list_lem t b.start (p ++ b.label) first' first (within t b.start (p ++ b.label) first' one)
-      (within t b.start (p ++ b.label) first whole) in
+      let same : first' ≡ first = one_list t b.start (p ++ b.label) first' first one whole in
       let more = branches_prefix t p bs some others part rest in (
         more.0,
         e' ∙ (ap (λ (x : List Entry). x ++ others) same ∙ (ap (λ (x : List Entry). first ++ x) more.1
             ∙ (sym (append_assoc first some more.0) ∙ ap (λ (x : List Entry). x ++ more.0) (sym e)))),
       )
 
-pub whole_list : (t : Trie) (s : ℕ) (p : List ℕ) (xs : List Entry) → Lists t s p xs → ListBegins t s p xs
-whole_list t s p [] (nothing out) = none_yet
-whole_list t s p xs (a_node {others = others} node is all e) = node_begun node is (whole_begun t p node.branches others all) e
-
 -- what a walk has found is a beginning
 pub found_begins : {A : Type 0} {n : ℕ} (found : List Entry) (w : Walker A) → HasFound found n w
     → ListBegins (source_trie w.source) w.source.from [] found
 found_begins found w f = elim f [
-  | inl at ↦ elim at.1 [
-    | inl fresh ↦ subst (ListBegins (source_trie w.source) w.source.from []) (sym fresh.none_found) none_yet
-    | inr next ↦ subst (ListBegins (source_trie w.source) w.source.from []) (append-nil found) (next.holds.walk.begun [] (inl no_further))
-  ]
+  | inl at ↦ met_begins at.1.is_read.read
   | inr end ↦ whole_list (source_trie w.source) w.source.from [] found end.1.listed
 ]
 
@@ -68,7 +59,3 @@ module _ (s : Source) (t : TrieRange) (libs : List (List ℕ)) (same : source_tr
   pub begun_there : {found : List Entry} → ListBegins (source_trie s) s.from [] found → ListBegins (trie_there t libs) t.from [] found
   begun_there {found} b =
       subst (λ (x : Trie). ListBegins x t.from [] found) same (subst (λ (r : ℕ). ListBegins (source_trie s) r [] found) from b)
-
-pub on_or_off : (b : Bool) → (b ≡ true) ⊎ (b ≡ false)
-on_or_off true = inl refl
-on_or_off false = inr refl

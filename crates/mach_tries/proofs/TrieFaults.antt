@@ -1,12 +1,12 @@
 -- The root has a list of exports exactly where no fault stands, and then within as many levels as the range has places.
-use Rattle.mach_tries.proofs.Names.{◌≡◌, ◌≢◌, ◌<◌, ◌≤◌, ◌+◌, ◌-◌, ℕ, zero, suc, List, [], ◌∷◌, ◌++◌, ◌⊎◌, inl, inr, length, length-append, Option, Some, None}
+use Rattle.mach_tries.proofs.Names.{◌≡◌, ◌≢◌, ◌<◌, ◌≤◌, ◌-◌, ℕ, zero, suc, List, [], ◌∷◌, ◌++◌, ◌⊎◌, inl, inr, length, length-append, Option, Some, None}
 use Rattle.mach_tries.proofs.Names.{Ok, Err, refl, sym, ap, subst, ◌∙◌, arith, slice_get, range_with_len, cases_lt, cases_eq, IsAmong, Fault, malformed, Info}
 use Rattle.mach_tries.proofs.Names.{Branch, Node, Trie, Entry, own_entries, Lists, BranchesList, nothing, a_node, one_more, lists_of, node_list, list_within}
 use Rattle.mach_tries.proofs.Names.{Leads, IsTree, StartsFrom, TrieFault, at_node, met_again}
 use Rattle.std.proofs.lemmas.List.FromFn.{length-range_with_len}
 use Rattle.mach_tries.specs.Lists.{◌>>=◌}
 use Rattle.mach_tries.proofs.TriePaths.{same_node, Leads-append}
-use Rattle.mach_tries.proofs.TrieVisits.{Apart, no_more_than}
+use Rattle.mach_tries.proofs.TrieVisits.{Apart, no_more_than, in_range}
 use Rattle.mach_tries.proofs.TrieLevels as levels
 use Rattle.mach_tries.proofs.TrieLevels.{cases_Result, at_nothing}
 
@@ -54,10 +54,6 @@ no_shorter front (k ∷ ks) p i = elim i [
   | inl same ↦ (let long : length p ≡ length front = ap (λ (x : List ℕ). length x) same in omega arith)
   | inr more ↦ (let longer = no_shorter (front ++ k ∷ []) ks p more in let sum = length-append front (k ∷ []) in omega arith)
 ]
-
-in_range : (a n x : ℕ) → a ≤ x → x < a + n → IsAmong x (range_with_len a n)
-in_range a zero x low high = absurd (omega arith)
-in_range a (suc n) x low high = elim (cases_eq x a) [ inl here ↦ inl here | inr other ↦ inr (in_range (a + 1) n x (omega arith) (omega arith)) ]
 
 abbrev LeadsInside : Trie → ℕ → List ℕ → ℕ → Type 0
 LeadsInside t root p at = Leads t p root at × (at < t.upto)

@@ -1,7 +1,7 @@
--- More levels keep a list, so a start has at most one list for a prefix.
+-- More levels keep a list.
 use Rattle.mach_tries.proofs.Names.{◌-◌, ◌⊎◌, zero-add, inl, inr, ◌≡◌, ◌<◌, ◌≤◌, ◌+◌, ℕ, zero, suc, true, false, List, [], ◌∷◌, ◌++◌, Option, Some, None, Result}
 use Rattle.mach_tries.proofs.Names.{Ok, Err, refl, sym, ◌∙◌, arith, nat_le, nat_tests, cases_lt, Fault, Branch, Node, Trie, Entry, own_entries, lists_of}
-use Rattle.mach_tries.proofs.Names.{node_list, list_within, ListsWithin}
+use Rattle.mach_tries.proofs.Names.{node_list, list_within}
 use Rattle.mach_tries.specs.Lists.{◌>>=◌}
 
 pub cases_Result : (r : Result Node Fault) → ((node : Node) × (r ≡ Ok node)) ⊎ ((f : Fault) × (r ≡ Err f))
@@ -67,9 +67,3 @@ grows_by t n (suc k) start prefix es e = let s : suc k + n ≡ suc (k + n) = ome
 
 pub grows_to : (t : Trie) (n m : ℕ) → n ≤ m → Keeps (list_within t n) (list_within t m)
 grows_to t n m h start prefix es e = let s : m ≡ (m - n) + n = omega arith in rw s (grows_by t n (m - n) start prefix es e)
-
-pub one_list_lem : (t : Trie) (start : ℕ) (prefix : List ℕ) (xs ys : List Entry) → ListsWithin t start prefix xs → ListsWithin t start prefix ys → xs ≡ ys
-one_list_lem t start prefix xs ys a b =
-    let x = grows_to t a.0 (a.0 + b.0) (omega arith) start prefix xs a.1 in
-    let y = grows_to t b.0 (a.0 + b.0) (omega arith) start prefix ys b.1 in
-    cc

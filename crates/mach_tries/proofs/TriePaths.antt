@@ -1,6 +1,6 @@
 -- Where paths of the trie lead.
 use Rattle.mach_tries.proofs.Names.{◌≡◌, ◌<◌, ◌≤◌, ℕ, zero, suc, List, [], ◌∷◌, ◌++◌, drop, Option, Some, Ok, sym, subst, ◌∙◌, arith, slice_get, Result, Branch}
-use Rattle.mach_tries.proofs.Names.{Node, Trie, Leads}
+use Rattle.mach_tries.proofs.Names.{Node, Trie, Leads, IsAmong, StartsFrom, Before, ◌⊎◌, inl, inr}
 
 pub same_node : {X E : Type 0} {x y : X} {r : Result X E} → r ≡ Ok x → r ≡ Ok y → x ≡ y
 same_node a b = cc
@@ -23,6 +23,36 @@ leads_inside t (k ∷ ks) s at l inside = l.2
 pub Leads-append : (t : Trie) (p q : List ℕ) (a b c : ℕ) → Leads t p a b → Leads t q b c → Leads t (p ++ q) a c
 Leads-append t [] q a b c e h = subst (λ x. Leads t q x c) (sym e) h
 Leads-append t (k ∷ ks) q a b c l h = (l.0, l.1, l.2, l.3, l.4, Leads-append t ks q l.1.start b c l.5 h)
+
+-- the second part of a path
+pub leads_behind : (t : Trie) (p q : List ℕ) (a b c : ℕ) → Leads t p a b → Leads t (p ++ q) a c → Leads t q b c
+leads_behind t [] q a b c l all = subst (λ x. Leads t q x c) l all
+leads_behind t (k ∷ ks) q a b c l all =
+    let node : all.0 ≡ l.0 = same_node all.3 l.3 in
+    let branch : all.1 ≡ l.1 = same_some (subst (λ (x : Node). slice_get x.branches k ≡ Some all.1) node all.4) l.4 in
+    leads_behind t ks q l.1.start b c l.5 (subst (λ (x : Branch). Leads t (ks ++ q) x.start c) branch all.5)
+
+pub leads_from : (t : Trie) (from : ℕ) → StartsFrom t from → (p : List ℕ) (a b : ℕ) → from ≤ a → Leads t p a b → from ≤ b
+leads_from t from starts [] a b low l = subst (λ x. from ≤ x) l low
+leads_from t from starts (k ∷ ks) a b low l = leads_from t from starts ks l.1.start b (starts a l.0 k l.1 l.3 l.4) l.5
+
+pub not_before_itself : (p : List ℕ) → Before p p → ⊥
+not_before_itself [] b = b
+not_before_itself (x ∷ p) b = elim b [ inl less ↦ omega arith | inr same ↦ not_before_itself p same.1 ]
+
+-- paths in one list or another
+
+pub among_left : (p : List ℕ) (xs ys : List (List ℕ)) → IsAmong p xs → IsAmong p (xs ++ ys)
+among_left p [] ys h = absurd h
+among_left p (x ∷ xs) ys h = elim h [ inl e ↦ inl e | inr more ↦ inr (among_left p xs ys more) ]
+
+pub among_right : (p : List ℕ) (xs ys : List (List ℕ)) → IsAmong p ys → IsAmong p (xs ++ ys)
+among_right p [] ys h = h
+among_right p (x ∷ xs) ys h = inr (among_right p xs ys h)
+
+pub among_append : (p : List ℕ) (xs ys : List (List ℕ)) → IsAmong p (xs ++ ys) → IsAmong p xs ⊎ IsAmong p ys
+among_append p [] ys h = inr h
+among_append p (x ∷ xs) ys h = elim h [ inl e ↦ inl (inl e) | inr more ↦ elim (among_append p xs ys more) [ inl a ↦ inl (inr a) | inr b ↦ inr b ] ]
 
 -- the branches from a number on
 

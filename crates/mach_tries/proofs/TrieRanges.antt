@@ -5,13 +5,13 @@ use Rattle.mach_tries.proofs.TrieFaults.{no_list, list_without_fault}
 use Rattle.mach_tries.proofs.TrieRelation.{listed}
 use Rattle.mach_tries.proofs.Starts.{starts_from}
 
-pub fault-excludes_list : (t : TrieRange) (libs : List (List ℕ)) (f : Fault) (list : List Entry) → ExportsFault t libs f → ListsExports t libs list → ⊥
-fault-excludes_list t libs f list fault exports = no_list (trie_there t libs) t.from f [] list fault exports.0 exports.1
+pub fault_excludes_list : (t : TrieRange) (libs : List (List ℕ)) (f : Fault) (list : List Entry) → ExportsFault t libs f → ListsExports t libs list → ⊥
+fault_excludes_list t libs f list fault exports = no_list (trie_there t libs) t.from f [] list fault exports.0 exports.1
 
 pub ok_where_listed : {X : Type 0} (r : Result X Error) (t : TrieRange) (libs : List (List ℕ)) (list : List Entry) → IfErr r (Stands (ExportsFault t libs))
     → ListsExports t libs list → IsOkUnlessMemory r
 ok_where_listed (Ok x) t libs list h exports = tt
-ok_where_listed (Err e) t libs list h exports = Stands-in (ExportsFault t libs) (λ _. ⊥) e (λ f k. fault-excludes_list t libs f list k exports) h
+ok_where_listed (Err e) t libs list h exports = Stands-in (ExportsFault t libs) (λ _. ⊥) e (λ f k. fault_excludes_list t libs f list k exports) h
 
 -- where no fault stands there is a list
 pub exports_without_fault : (t : TrieRange) (libs : List (List ℕ)) → ((f : Fault) → ExportsFault t libs f → ⊥)

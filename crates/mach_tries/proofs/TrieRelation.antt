@@ -1,7 +1,7 @@
 -- The least relation holds exactly where there is a list within some number of levels.
 use Rattle.mach_tries.proofs.Names.{◌≡◌, ◌≤◌, ◌+◌, ℕ, zero, suc, List, [], ◌∷◌, ◌++◌, inl, inr, Option, Some, Ok, Err, refl, sym, ap, subst, ◌∙◌, arith}
 use Rattle.mach_tries.proofs.Names.{cases_lt, Branch, Trie, Entry, own_entries, Lists, BranchesList, nothing, a_node, no_more, one_more, lists_of, node_list}
-use Rattle.mach_tries.proofs.Names.{list_within, ListsWithin}
+use Rattle.mach_tries.proofs.Names.{list_within, ListsWithin, ◌↔◌}
 use Rattle.mach_tries.specs.Lists.{◌>>=◌}
 use Rattle.mach_tries.proofs.TrieLevels.{cases_Result, bind_some, at_nothing, at_zero, at_node, grows_to, lists_of-keeps}
 
@@ -54,3 +54,14 @@ listed t (suc n) s p xs e = elim (cases_lt s t.upto) [
         a_node good.0 (inside, good.1) (listed_of t n (listed t n) p good.0.branches others.0 others.1) cc)
   ]
 ]
+
+pub within_levels : (t : Trie) (start : ℕ) (prefix : List ℕ) (xs : List Entry) → Lists t start prefix xs ↔ ListsWithin t start prefix xs
+within_levels t start prefix xs = (within t start prefix xs, λ w. listed t w.0 start prefix xs w.1)
+
+pub one_list : (t : Trie) (start : ℕ) (prefix : List ℕ) (xs ys : List Entry) → Lists t start prefix xs → Lists t start prefix ys → xs ≡ ys
+one_list t start prefix xs ys a b =
+    let one = within t start prefix xs a in
+    let two = within t start prefix ys b in
+    let x = grows_to t one.0 (one.0 + two.0) (omega arith) start prefix xs one.1 in
+    let y = grows_to t two.0 (one.0 + two.0) (omega arith) start prefix ys two.1 in
+    cc

@@ -2,7 +2,9 @@
 use Rattle.mach_tries.proofs.Names.{◌≡◌, ◌≤◌, ◌<◌, ◌+◌, ◌↔◌, ℕ, zero, suc, Bool, true, false, cond, eqb, nat_le, List, [], ◌∷◌, ◌⊎◌, inl, inr, length, Some}
 use Rattle.mach_tries.proofs.Names.{Result, Ok, Err, refl, sym, ap, subst, ◌∙◌, arith, slice_get, cases_Bool, eqb-true, leb-true, Fault, Branch, Node, Trie}
 use Rattle.mach_tries.proofs.Names.{Leads, Path, Before, AreInOrder, IsAmong, AreApart, Visits}
-use Rattle.mach_tries.proofs.TriePaths.{leads_inside}
+use Rattle.mach_tries.proofs.Names.{range_with_len, cases_eq, StartsFrom, ◌-◌}
+use Rattle.std.proofs.lemmas.List.FromFn.{length-range_with_len}
+use Rattle.mach_tries.proofs.TriePaths.{leads_inside, leads_from, not_before_itself}
 
 -- the others in a list, with one left out
 leave_out : {X : Type 0} (x : X) (xs : List X) → IsAmong x xs → (rest : List X) × (length xs ≡ suc (length rest))
@@ -42,16 +44,29 @@ apart_by_place : (t : Trie) (root : ℕ) (ps : List (List ℕ)) → AreApart t r
 apart_by_place t root [] apart = tt
 apart_by_place t root (p ∷ ps) apart = (λ q at i a b. apart.0 q at i a b, apart_by_place t root ps apart.1)
 
+-- paths of which no two lead to one place are no more than the places of a list that holds all of these
+pub no_more_paths : (t : Trie) (root : ℕ) (nodes : List ℕ) → ((path : List ℕ) (at : ℕ) → Leads t path root at → at < t.upto → IsAmong at nodes)
+    → (ps : List (List ℕ)) → AreApart t root ps → ((p : List ℕ) → IsAmong p ps → Path t root p) → length ps ≤ length nodes
+no_more_paths t root nodes all ps apart leads = no_more_than (λ p at. Leads t p root at) ps nodes (apart_by_place t root ps apart)
+    (λ p i. let path = leads p i in (path.0, all p path.0 path.1 path.2, path.1))
+
 pub within_nodes : {X E : Type 0} (t : Trie) (root old new : ℕ) (answer : Result X E) (nodes : List ℕ) → Visits t root old new answer
     → ((path : List ℕ) (at : ℕ) → Leads t path root at → at < t.upto → IsAmong at nodes) → new ≤ old + length nodes
 within_nodes t root old new answer nodes visits all =
-    let few = no_more_than (λ p at. Leads t p root at) visits.paths nodes (apart_by_place t root visits.paths visits.apart)
-    (λ p i. let path = visits.lead p i in (path.0, all p path.0 path.1 path.2, path.1)) in
+    let few = no_more_paths t root nodes all visits.paths visits.apart visits.lead in
     let count = visits.count in omega arith
 
-not_before_itself : (p : List ℕ) → Before p p → ⊥
-not_before_itself [] b = b
-not_before_itself (x ∷ p) b = elim b [ inl less ↦ omega arith | inr same ↦ not_before_itself p same.1 ]
+pub in_range : (a n x : ℕ) → a ≤ x → x < a + n → IsAmong x (range_with_len a n)
+in_range a zero x low high = absurd (omega arith)
+in_range a (suc n) x low high = elim (cases_eq x a) [ inl here ↦ inl here | inr other ↦ inr (in_range (a + 1) n x (omega arith) (omega arith)) ]
+
+-- nor more than the range has places
+pub few_paths : (t : Trie) (root from : ℕ) → StartsFrom t from → from ≤ root → (ps : List (List ℕ)) → AreApart t root ps
+    → ((p : List ℕ) → IsAmong p ps → Path t root p) → length ps ≤ t.upto - from
+few_paths t root from starts low ps apart leads =
+    let most = no_more_paths t root (range_with_len from (t.upto - from))
+    (λ path at l inside. let above = leads_from t from starts path root at low l in in_range from (t.upto - from) at above (omega arith)) ps apart leads in
+    let places = length-range_with_len from (t.upto - from) in omega arith
 
 apart_in_order : (ps : List (List ℕ)) → AreInOrder ps → Apart (λ (p q : List ℕ). p ≡ q) ps
 apart_in_order [] order = tt

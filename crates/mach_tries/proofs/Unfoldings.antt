@@ -1,11 +1,8 @@
 -- What a reading of a trie has met is a beginning of its list, and all of it where nothing is ahead.
-use Rattle.mach_tries.proofs.Names.{◌≡◌, ◌<◌, ◌≤◌, ◌-◌, ℕ, zero, suc, List, [], ◌∷◌, ◌++◌, map, ◌⊎◌, inl, inr, refl, sym, ap, subst, ◌∙◌, append_assoc, append-nil}
-use Rattle.mach_tries.proofs.Names.{Some, slice_get, length, Fault, malformed, Branch, Node, Trie, Entry, IsNode, own_entries, Lists, BranchesList, a_node, nothing}
-use Rattle.mach_tries.proofs.Names.{no_more, one_more, ListBegins, BranchesBegin, none_yet, node_begun, no_further, one_begun, one_whole, Leads, TrieFault, at_node}
-use Rattle.mach_tries.proofs.Names.{drop}
-use Rattle.mach_tries.proofs.TrieBegins.{whole_list}
-use Rattle.mach_tries.proofs.TriePaths.{Leads-append, drop_head}
-use Rattle.mach_tries.specs.Unfolds.{Ahead, ahead, to_root, Unfolds, nothing_read, passed, node_read, IsCutBy}
+use Rattle.mach_tries.proofs.Names.{◌≡◌, ℕ, List, [], ◌∷◌, ◌++◌, ◌⊎◌, inl, inr, refl, sym, ap, subst, ◌∙◌, append_assoc, append-nil}
+use Rattle.mach_tries.proofs.Names.{Branch, Trie, Entry, own_entries, Lists, BranchesList, a_node, nothing}
+use Rattle.mach_tries.proofs.Names.{no_more, one_more, ListBegins, BranchesBegin, none_yet, node_begun, no_further, one_begun, one_whole}
+use Rattle.mach_tries.proofs.Names.{Ahead, ahead, Unfolds, nothing_read, passed, node_read}
 
 -- ---- lists
 
@@ -45,6 +42,15 @@ pub all_met : {t : Trie} {root n : ℕ} {found : List Entry} → Unfolds t root 
 all_met {t} {root} {n} {found} u = subst (λ (x : List Entry). Lists t root [] x) (append-nil found) (lists_ahead u [] refl)
 
 -- ---- beginnings
+
+-- a list is a beginning of itself
+whole_branches : (t : Trie) (prefix : List ℕ) (bs : List Branch) (es : List Entry) → BranchesList t prefix bs es → BranchesBegin t prefix bs es
+whole_branches t prefix [] es no_more = no_further
+whole_branches t prefix (b ∷ bs) es (one_more {others = others} one rest e) = one_whole one (whole_branches t prefix bs others rest) e
+
+pub whole_list : (t : Trie) (s : ℕ) (p : List ℕ) (xs : List Entry) → Lists t s p xs → ListBegins t s p xs
+whole_list t s p [] (nothing out) = none_yet
+whole_list t s p xs (a_node {others = others} node is all e) = node_begun node is (whole_branches t p node.branches others all) e
 
 -- a beginning of the lists of what is ahead
 abbrev pub BegunAhead : Trie → List Ahead → List Entry → Type 0
@@ -95,35 +101,3 @@ none_begun t (a ∷ others) = inl none_yet
 pub met_begins : {t : Trie} {root n : ℕ} {found : List Entry} {left : List Ahead} → Unfolds t root n found left → ListBegins t root [] found
 met_begins {t} {root} {n} {found} {left} u =
     subst (λ (x : List Entry). ListBegins t root [] x) (append-nil found) (begun_ahead u [] (none_begun t left))
-
--- ---- paths
-
--- paths lead to all that is ahead
-abbrev pub AreLed : Trie → ℕ → List Ahead → Type 0
-AreLed t root [] = Unit {0}
-AreLed t root (a ∷ others) = ((path : List ℕ) × Leads t path root a.start) × AreLed t root others
-
-branches_led : (t : Trie) (root start : ℕ) (path prefix : List ℕ) (node : Node) → Leads t path root start → IsNode t start node
-    → (k : ℕ) (bs : List Branch) (others : List Ahead) → bs ≡ drop k node.branches → AreLed t root others → AreLed t root (ahead prefix bs ++ others)
-branches_led t root start path prefix node leads is k [] others e led = led
-branches_led t root start path prefix node leads is k (b ∷ bs) others e led =
-    let head = drop_head node.branches k b bs (sym e) in (
-      (path ++ k ∷ [], Leads-append t path (k ∷ []) root start b.start leads (node, b, is.0, is.1, head.0, refl)),
-      branches_led t root start path prefix node leads is (suc k) bs others head.1 led,
-    )
-
-are_led : {t : Trie} {root n : ℕ} {found : List Entry} {left : List Ahead} → Unfolds t root n found left → AreLed t root left
-are_led nothing_read = (([], refl), tt)
-are_led (passed before out) = (are_led before).1
-are_led {t} {root} (node_read {next = next} {others = others} node before is met_is left_is) =
-    let led = are_led before in
-    subst (λ (x : List Ahead). AreLed t root x) (sym left_is)
-    (branches_led t root next.start led.0.0 next.name node led.0.1 is 0 node.branches others refl led.1)
-
--- what cuts a reading short is a fault of the trie
-pub cut_stands : {t : Trie} {root : ℕ} {found : List Entry} {f : Fault} → IsCutBy t root found f → (f ≡ malformed → TrieFault t root malformed)
-    → TrieFault t root f
-cut_stands {t} {root} {found} {f} cut again = elim cut.why [
-  | inl bad ↦ (let led = (are_led cut.read).0 in at_node f led.0 cut.next.start led.1 cut.inside bad)
-  | inr many ↦ subst (λ (x : Fault). TrieFault t root x) (sym many.1) (again many.1)
-]

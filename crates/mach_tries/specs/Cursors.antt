@@ -6,7 +6,6 @@ use Rattle.mach_base.specs.Leb128.{uleb_at}
 use Rattle.mach_base.specs.Text.{text_at}
 use Rattle.mach_tries.specs.CursorState.{HasCome, name_of}
 use Rattle.mach_tries.specs.Exports.{info_of}
-use Rattle.mach_base.specs.Text.{texts}
 use Rattle.mach_tries.specs.Nodes as Nodes
 use Rattle.mach_tries.specs.Nodes.{node_at}
 use Rattle.mach_tries.specs.Trie.{Branch, Entry, Info, entry}
@@ -16,19 +15,11 @@ use Rattle.mach_tries.specs.declared.cursor.NextExport.{NextExport}
 use Rattle.mach_tries.specs.declared.cursor.NextExport.TheVariants.{Export, End, Refused, NameTooLong, StackTooShort}
 use Rattle.mach_tries.specs.declared.cursor.TrieCursor.{TrieCursor}
 use Rattle.mach_tries.specs.declared.walk.Open.{Open}
-use Rattle.mach_tries.specs.declared.walk.Source.{Source}
-
--- what is read is the trie of this range, over these libraries
-pub record ReadsTrie (s : Source) (t : TrieRange) (libs : List (List ℕ)) : Type 0 where
-  pub bytes : s.bytes.now ≡ t.bytes
-  pub over : texts s.libs.now ≡ libs
-  pub from : s.from ≡ t.from
-  pub upto : s.upto ≡ t.upto
 
 -- The cursor goes over the trie of this range, with this name and these open nodes, and has given these exports: what is met first in
 -- reading it as if it were a tree.
 abbrev pub HasGivenTo : TrieRange → List (List ℕ) → TrieCursor → List ℕ → List Open → List Entry → Type 0
-HasGivenTo t libs c name stack found = (s : Source) → ReadsTrie s t libs → HasCome s c name stack found
+HasGivenTo t libs c name stack found = HasCome t libs c name stack found
 
 -- all that is met in reading the trie as if it were a tree
 abbrev pub AreAllMet : TrieRange → List (List ℕ) → List Entry → Type 0

@@ -6,7 +6,7 @@ use Rattle.mach_base.specs.declared.error.Error.{Error}
 use Rattle.mach_tries.specs.Trie.{Entry, entry}
 use Rattle.mach_tries.specs.TrieRange.{TrieRange, trie_there, ListsExports, ExportsFault}
 use Rattle.mach_tries.specs.Exports.{info_of}
-use Rattle.mach_tries.specs.WalkViews.{source_trie}
+use Rattle.mach_tries.specs.Views.{source_trie}
 use Rattle.mach_tries.specs.WalkState.{HasFound, work_ahead}
 use Rattle.mach_tries.specs.declared.info.ExportInfo.{ExportInfo}
 use Rattle.mach_tries.specs.declared.export_walk.ExportWalk.{ExportWalk}

@@ -6,23 +6,19 @@
 
 ghost use Rattle.std.specs.Prelude.{◌≡◌, ◌≤◌, ◌<◌, ◌+◌, ◌-◌, ◌^◌, ◌++◌, ◌∷◌, [], ℕ, List, length, take, min, Option, Some, IfOk, IfNone};
 ghost use Rattle.mach_base.specs.Answer.{Reads};
-ghost use Rattle.mach_tries.specs.BranchViews.{IsReadable};
-ghost use Rattle.mach_tries.specs.CursorState.{below, IsAtChild, IsAtAhead, HasUnfolded, HasMetOnce, TurnUnfolds, TurnGives, IsAsBefore, IsStopped, IsFull, work, work_of};
+ghost use Rattle.mach_tries.specs.CursorState.{below, IsAtChild, HasCome, TurnGives, IsAsBefore, IsStopped, IsFull, work, work_of};
 ghost use Rattle.mach_tries.specs.Cursors.{HasGivenTo, NextGives, IsOwnAt, IsReexportAt, StandsAt, place_at};
 ghost use Rattle.mach_tries.specs.Lists.{ListBegins};
-ghost use Rattle.mach_tries.specs.TrieRange.{trie_there};
+ghost use Rattle.mach_tries.specs.TrieRange.{TrieRange, trie_there};
 ghost use Rattle.mach_base.specs.Text.{texts};
-ghost use Rattle.mach_tries.specs.LookUpViews as look_up;
-ghost use Rattle.mach_tries.specs.NodeViews.{branch_of};
+ghost use Rattle.mach_tries.specs.Views.{branch_of, node_in, node_of, range_of, IsReadable};
 ghost use Rattle.mach_tries.specs.Trie.{Entry, reexport};
-ghost use Rattle.mach_tries.specs.WalkViews.{node_in};
 ghost use Rattle.mach_tries.specs.declared.cursor.NextExport.TheVariants as next;
 
-use crate::branches::{BranchRun, read_run};
 use crate::exports::ExportTrie;
 use crate::info::ExportInfo;
-use crate::node::{Branch, number, quick_branch};
-use crate::walk::{Open, Source, own_export};
+use crate::node::{Branch, BranchRun, number, quick_branch, read_behind};
+use crate::walk::{Open, Source};
 use mach_base::{Error, Result};
 
 // The phases of a cursor.
@@ -67,23 +63,18 @@ pub enum NextExport<'a> {
 }
 
 // Reads the node at a start: its own export, if it has one, and its branches.
-#[tactic(auto, unfolding(crate::specs::Nodes::node_at, crate::specs::Nodes::inner_at, crate::specs::Nodes::terminal_at))]
+#[tactic(auto, unfolding(crate::specs::Nodes::node_at))]
 #[inline(always)]
 fn read_node<'a>(
     source: &Source<'a, '_>,
     start: usize,
 ) -> Result<(Option<ExportInfo<'a>>, BranchRun)>
-    ensures node { Reads (look_up.node_of source.now.bytes.now source.now.from) result (node_in source.now start) }
+    ensures node { Reads (node_of source.now.bytes.now source.now.from) result (node_in source.now start) }
     ensures readable { IfOk result (λ read. IsReadable source.now.bytes.now source.now.from read.1) }
     ensures few { IfOk result (λ read. read.1.left ≤ length source.now.bytes.now) }
 {
     let (size, place) = number(source.bytes, start)?;
-    if size == 0 {
-        return Ok((None, read_run(source.bytes, source.from, place)?));
-    }
-    let (own, place) = own_export(source, size, place)?;
-    let branches = read_run(source.bytes, source.from, place)?;
-    Ok((Some(own), branches))
+    read_behind(source, size, place)
 }
 
 // Of a re-export of the node at a start: the ordinal, and the place behind it.
@@ -133,10 +124,8 @@ impl TrieCursor {
     fn close<'a>(&mut self, stack: &[Open]) -> Option<NextExport<'a>>
         requires on { self.old.phase ≡ 1 }
         requires none { self.old.top.left ≡ 0 }
-        ensures unfolds { (s : Source) (name : List ℕ) (found : List Entry) → HasUnfolded s self.old name stack.now found
-            → TurnUnfolds s found result self.new name stack.now }
-        ensures gives { (s : Source) (name : List ℕ) (found : List Entry) → HasMetOnce s self.old name stack.now found
-            → TurnGives s found result self.new name stack.now }
+        ensures gives { (t : TrieRange) (libs : List (List ℕ)) (name : List ℕ) (found : List Entry) → HasCome t libs self.old name stack.now found
+            → TurnGives t libs found result self.new name stack.now }
         ensures less { (most : ℕ) → IfNone result (work_of most self.new stack.now < work_of most self.old stack.now) }
         ensures depth { self.new.depth ≤ self.old.depth }
         ensures stopped { IsStopped result → ⊥ }
@@ -210,10 +199,9 @@ impl TrieCursor {
         rest: Open,
     ) -> Option<NextExport<'a>>
         requires kept { self.old.depth ≤ length stack.old }
-        ensures unfolds { (found : List Entry) → IsAtAhead source.now self.old name.old stack.old (branch_of branch.entry) rest found
-            → TurnUnfolds source.now found result self.new name.new stack.new }
-        ensures gives { (found : List Entry) → IsAtChild source.now self.old name.old stack.old (branch_of branch.entry) rest found
-            → TurnGives source.now found result self.new name.new stack.new }
+        ensures gives { (found : List Entry)
+            → IsAtChild (range_of source.now) (texts source.now.libs.now) self.old name.old stack.old (branch_of branch.entry) rest found
+            → TurnGives (range_of source.now) (texts source.now.libs.now) found result self.new name.new stack.new }
         ensures stopped { IsStopped result → IsAsBefore self.old self.new name.old name.new stack.old stack.new }
         ensures long { (n : ℕ) → result ≡ Some (next.NameTooLong n) → (n ≡ min (rest.name_len + length (branch_of branch.entry).label) (2 ^ 64 - 1))
             × (length name.old < rest.name_len + length (branch_of branch.entry).label) }
@@ -265,10 +253,8 @@ impl TrieCursor {
     ) -> Option<NextExport<'a>>
         requires root { self.old.phase ≡ 0 }
         requires kept { self.old.depth ≤ length stack.old }
-        ensures unfolds { (found : List Entry) → HasUnfolded source.now self.old name.old stack.old found
-            → TurnUnfolds source.now found result self.new name.new stack.new }
-        ensures gives { (found : List Entry) → HasMetOnce source.now self.old name.old stack.old found
-            → TurnGives source.now found result self.new name.new stack.new }
+        ensures gives { (found : List Entry) → HasCome (range_of source.now) (texts source.now.libs.now) self.old name.old stack.old found
+            → TurnGives (range_of source.now) (texts source.now.libs.now) found result self.new name.new stack.new }
         ensures stopped { IsStopped result → IsAsBefore self.old self.new name.old name.new stack.old stack.new }
         ensures full { IsFull source.now.bytes.now source.now.from self.new name.new stack.new result }
         ensures placed { StandsAt source.now.bytes.now (texts source.now.libs.now) source.now.from self.new.node result }
@@ -295,10 +281,8 @@ impl TrieCursor {
     ) -> Option<NextExport<'a>>
         requires on { self.old.phase ≤ 1 }
         requires kept { self.old.depth ≤ length stack.old }
-        ensures unfolds { (found : List Entry) → HasUnfolded source.now self.old name.old stack.old found
-            → TurnUnfolds source.now found result self.new name.new stack.new }
-        ensures gives { (found : List Entry) → HasMetOnce source.now self.old name.old stack.old found
-            → TurnGives source.now found result self.new name.new stack.new }
+        ensures gives { (found : List Entry) → HasCome (range_of source.now) (texts source.now.libs.now) self.old name.old stack.old found
+            → TurnGives (range_of source.now) (texts source.now.libs.now) found result self.new name.new stack.new }
         ensures stopped { IsStopped result → IsAsBefore self.old self.new name.old name.new stack.old stack.new }
         ensures full { IsFull source.now.bytes.now source.now.from self.new name.new stack.new result }
         ensures placed { StandsAt source.now.bytes.now (texts source.now.libs.now) source.now.from self.new.node result }

@@ -15,22 +15,26 @@ ghost use Rattle.mach_tries.specs.LookUp.{FaultOnWay, LookUpVisits};
 pub mod rows;
 
 /// A start has at most one list for a prefix.
+#[tactic(auto, using(crate::proofs::TrieRelation::one_list))]
 pub fn one_list()
     ensures { (t : Trie) (start : ℕ) (prefix : List ℕ) (xs ys : List Entry) → Lists t start prefix xs → Lists t start prefix ys → xs ≡ ys }
 {}
 
 /// A beginning of the list of a start is one of the list itself, where it has one.
+#[tactic(auto, using(crate::proofs::TrieBegins::prefix_of))]
 pub fn beginning_of_the_list()
     ensures { (t : Trie) (start : ℕ) (prefix : List ℕ) (xs ys : List Entry) → ListBegins t start prefix xs → Lists t start prefix ys
         → (zs : List Entry) × (ys ≡ xs ++ zs) }
 {}
 
 /// The least relation holds exactly where there is a list within some number of levels.
+#[tactic(auto, using(crate::proofs::TrieRelation::within_levels))]
 pub fn lists_within_levels()
     ensures { (t : Trie) (start : ℕ) (prefix : List ℕ) (xs : List Entry) → Lists t start prefix xs ↔ ListsWithin t start prefix xs }
 {}
 
 /// Where a path leads to a malformed node, or two lead to one node, the root has no list of exports.
+#[tactic(auto, using(crate::proofs::TrieFaults::no_list))]
 pub fn blocked_root_has_no_list()
     ensures { (t : Trie) (root : ℕ) (f : Fault) (prefix : List ℕ) (xs : List Entry) → TrieFault t root f → IsTree t root
         → Lists t root prefix xs → ⊥ }
@@ -44,17 +48,20 @@ pub fn other_roots_have_lists()
 
 /// The list of a root has an export for each terminal path, in the order of paths, and nothing else: each
 /// has the name of its path, behind the prefix, and the own export of the node that the path leads to.
+#[tactic(auto, using(crate::proofs::TerminalPaths::lists_paths))]
 pub fn exports_of_terminal_paths()
     ensures { (t : Trie) (root : ℕ) (prefix : List ℕ) (xs : List Entry) → Lists t root prefix xs
         → (paths : List (List ℕ)) × ListsPaths t root prefix paths xs }
 {}
 
 /// Where a fault stands in the trie of a range, it has no list of exports.
+#[tactic(auto, using(crate::proofs::TrieRanges::fault_excludes_list))]
 pub fn faulty_tries_have_no_list()
     ensures { (t : TrieRange) (libs : List (List ℕ)) (f : Fault) (list : List Entry) → ExportsFault t libs f → ListsExports t libs list → ⊥ }
 {}
 
 /// Where no fault stands it has one, within as many levels as the range has bytes.
+#[tactic(auto, using(crate::proofs::TrieRanges::exports_without_fault))]
 pub fn other_tries_have_a_list()
     ensures { (t : TrieRange) (libs : List (List ℕ)) → ((f : Fault) → ExportsFault t libs f → ⊥)
         → (list : List Entry) × ListsExports t libs list × (list_within (trie_there t libs) (t.upto - t.from) t.from [] ≡ Some list) }

@@ -1,7 +1,6 @@
 //! The export trie of an image: all exports, an export at a time, and the export of one name.
 #![tactic(auto)]
 
-mod branches;
 mod cursor;
 mod export_walk;
 pub mod exports;

@@ -12,19 +12,19 @@ ghost use Rattle.mach_tries.specs.Trie.{Entry};
 ghost use Rattle.mach_tries.specs.TrieRange.{trie_there, ListsExports, ExportsFault};
 ghost use Rattle.mach_tries.specs.Exports.{info_of};
 ghost use Rattle.mach_base.specs.Text.{texts};
-ghost use Rattle.mach_tries.specs.Nodes.{branch_at, branches_at, children_at, own_at};
-ghost use Rattle.mach_tries.specs.BranchViews.{branches_of, IsReadable};
-ghost use Rattle.mach_tries.specs.WalkViews.{source_trie, node_in, own_in};
+ghost use Rattle.mach_tries.specs.Nodes.{branches_at, children_at};
+ghost use Rattle.mach_tries.specs.Views.{branch_of, branches_of, IsReadable, source_trie, node_in, own_in, node_of, node_behind};
 ghost use Rattle.mach_tries.specs.Finds.{Finds};
 ghost use Rattle.mach_tries.specs.LookUp.{StandsFor, IsFirstOf, FaultOnWay, LookUpVisits};
-ghost use Rattle.mach_tries.specs.LookUpViews.{node_of, node_behind, OwnEnds, Settles, Stops, Goes, IsPassed, ComesTo, SearchVisits};
+ghost use Rattle.mach_tries.specs.LookUpState.{OwnEnds, Settles, Stops, Goes, IsPassed, ComesTo, SearchVisits};
 
-use crate::branches::{BranchRun, read_parts, read_run};
 use crate::exports::{ExportInfo, ExportTrie};
 use crate::marks::Marks;
-use crate::node::{quick_own, read_own};
+use crate::node::{
+    Branch, BranchRun, quick_branch, quick_own, read_again, read_behind, read_own, read_run,
+};
 use crate::walk::{Source, visit};
-use mach_base::{Error, Result, Steps, quick_text, quick_uleb, rest_at};
+use mach_base::{Error, Result, Steps, quick_uleb, rest_at};
 use std::alloc::{AllocError, Allocator};
 
 /// Where the branches of a node go on with what is left of a name.
@@ -67,23 +67,11 @@ fn behind<'n>(rest: &'n [u8], label: &[u8]) -> Option<&'n [u8]>
 
 // Whether the rest begins with the label and the child lies in the range.
 #[inline(always)]
-fn leads(source: &Source<'_, '_>, rest: &[u8], label: &[u8], start: usize) -> bool
-    ensures yes { IsTrue result → (start < source.now.upto) × (others : List ℕ) × (rest.now ≡ label.now ++ others) }
-    ensures no { IsFalse result → (source.now.upto ≤ start) ⊎ ((others : List ℕ) → rest.now ≡ label.now ++ others → ⊥) }
+fn leads(source: &Source<'_, '_>, rest: &[u8], branch: Branch<'_>) -> bool
+    ensures yes { IsTrue result → (branch.entry.start < source.now.upto) × (others : List ℕ) × (rest.now ≡ branch.entry.label.now ++ others) }
+    ensures no { IsFalse result → (source.now.upto ≤ branch.entry.start) ⊎ ((others : List ℕ) → rest.now ≡ branch.entry.label.now ++ others → ⊥) }
 {
-    start < source.upto && behind(rest, label).is_some()
-}
-
-// A branch, where it can be read: its label, where the child begins, and the place after it.
-#[tactic(auto, unfolding(crate::specs::Nodes::branch_at))]
-#[inline(always)]
-fn quick_branch(bytes: &[u8], from: usize, place: usize) -> Option<(&[u8], usize, usize)>
-    ensures { IfSome result (λ found. branch_at bytes.now from place ≡ Ok (record { label = found.0.now; start = found.1 }, found.2)) }
-{
-    let label = quick_text(bytes, place)?.as_bytes();
-    let (offset, after) = quick_uleb(bytes, place + label.len() + 1)?;
-    let start = from.checked_add(offset as usize)?;
-    Some((label, start, after))
+    branch.start < source.upto && behind(rest, branch.label.as_bytes()).is_some()
 }
 
 // Where so many branches go on, if all of them can be read.
@@ -94,11 +82,14 @@ fn quick_way(source: &Source<'_, '_>, rest: &[u8], count: usize, first: usize) -
     let mut way = Way::Nowhere;
     let mut place = first;
     for _ in 0..count {
-        let (label, start, after) = quick_branch(source.bytes, source.from, place)?;
-        if leads(source, rest, label, start) {
-            let len = label.len();
+        let (branch, after) = quick_branch(source.bytes, source.from, place)?;
+        if leads(source, rest, branch) {
+            let len = branch.label.len();
             way = match way {
-                Way::Nowhere => Way::One { start, len },
+                Way::Nowhere => Way::One {
+                    start: branch.start,
+                    len,
+                },
                 _ => Way::Several,
             };
         }
@@ -174,33 +165,17 @@ fn place_behind(source: &Source<'_, '_>, size: u64, place: usize) -> Result<usiz
     }
 }
 
-// A node's own export, and the place behind it.
-#[inline(always)]
-fn own<'a>(source: &Source<'a, '_>, size: u64, place: usize) -> Result<(ExportInfo<'a>, usize)>
-    ensures { Reads (λ own. (info_of own.0, own.1)) result (own_at source.now.bytes.now (texts source.now.libs.now) size place) }
-{
-    match quick_own(source.bytes, size, place) {
-        Some((address, flags, after)) => Ok((ExportInfo::Regular { address, flags }, after)),
-        None => read_own(source.bytes, source.libs, size, place),
-    }
-}
-
-// A node behind its size: its own export, if it has one, and its branches.
-fn read_behind<'a>(
+// A node behind its size, out of line: few nodes of a look-up are read whole.
+#[inline(never)]
+fn whole_node<'a>(
     source: &Source<'a, '_>,
     size: u64,
     place: usize,
 ) -> Result<(Option<ExportInfo<'a>>, BranchRun)>
-    ensures value { Reads (node_of source.now.bytes.now source.now.from) result (node_behind source.now size place) }
-    ensures readable { IfOk result (λ node. IsReadable source.now.bytes.now source.now.from node.1) }
+    ensures node { Reads (node_of source.now.bytes.now source.now.from) result (node_behind source.now size place) }
+    ensures readable { IfOk result (λ read. IsReadable source.now.bytes.now source.now.from read.1) }
 {
-    if size == 0 {
-        let branches = read_run(source.bytes, source.from, place)?;
-        return Ok((None, branches));
-    }
-    let (info, after) = own(source, size, place)?;
-    let branches = read_run(source.bytes, source.from, after)?;
-    Ok((Some(info), branches))
+    read_behind(source, size, place)
 }
 
 // Visits the node at a start, where so much is left of a name.
@@ -217,7 +192,7 @@ fn turn<'a>(
 {
     let (size, place) = visit(source.bytes, start, steps)?;
     if size > 0 && rest.is_empty() {
-        let (own, branches) = read_behind(source, size, place)?;
+        let (own, branches) = whole_node(source, size, place)?;
         return Ok(match own {
             Some(info) => Outcome::Found(info),
             None => Outcome::Open(branches),
@@ -246,8 +221,8 @@ fn settle(source: &Source<'_, '_>, rest: &[u8], branches: BranchRun) -> BranchRu
 {
     let mut left = branches;
     for _ in 0..branches.left {
-        let (label, start, after) = read_parts(source.bytes, source.from, left.place);
-        if leads(source, rest, label, start) {
+        let (branch, after) = read_again(source.bytes, source.from, left.place);
+        if leads(source, rest, branch) {
             return left;
         }
         left = BranchRun {
@@ -259,6 +234,7 @@ fn settle(source: &Source<'_, '_>, rest: &[u8], branches: BranchRun) -> BranchRu
 }
 
 // Visits the node at a start: its own export, if it has one, and its branches.
+#[tactic(auto, unfolding(crate::specs::Nodes::node_at))]
 fn read_node<'a>(
     source: &Source<'a, '_>,
     start: usize,
@@ -269,7 +245,7 @@ fn read_node<'a>(
     ensures readable { IfOk result (λ node. IsReadable source.now.bytes.now source.now.from node.1) }
 {
     let (size, place) = visit(source.bytes, start, steps)?;
-    read_behind(source, size, place)
+    whole_node(source, size, place)
 }
 
 // The own export, where nothing is left of the name.
@@ -328,7 +304,7 @@ fn search<'a, A: Allocator + Clone>(
                 Some(below) => top = below,
             }
         } else {
-            let (label, start, after) = read_parts(source.bytes, from, branches.place);
+            let (Branch { label, start }, after) = read_again(source.bytes, from, branches.place);
             if marks.is_marked(start - from) {
                 return Err(Error::Malformed("two paths lead to one node"));
             }

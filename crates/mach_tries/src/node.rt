@@ -10,11 +10,12 @@ ghost use Rattle.mach_tries.specs.Nodes.{a_regular, info_kind, branch_at, branch
 ghost use Rattle.mach_base.specs.Sums.{sum_of};
 ghost use Rattle.mach_tries.specs.Exports.{info_of};
 ghost use Rattle.mach_base.specs.Text.{texts};
-ghost use Rattle.mach_tries.specs.NodeViews.{branch_of, those_read, branches_in, AreReadable};
+ghost use Rattle.mach_tries.specs.Views.{branch_of, those_read, branches_of, IsReadable, branches_in, own_in, node_of, node_behind};
 
 use crate::info::{
     EXPORT_SYMBOL_FLAGS_REEXPORT, EXPORT_SYMBOL_FLAGS_STUB_AND_RESOLVER, ExportInfo,
 };
+use crate::walk::Source;
 use mach_base::{Error, Result, quick_text, quick_uleb, read_text, uleb};
 
 /// A label, and where the child begins.
@@ -24,12 +25,19 @@ pub struct Branch<'a> {
     pub start: usize,
 }
 
-/// Branches that can be read: the first, how many are left behind it, and the place where these begin.
+/// Branches that can be read, one after the other: how many, and the place of the first.
+#[derive(Clone, Copy, Debug)]
+pub struct BranchRun {
+    pub left: usize,
+    pub place: usize,
+}
+
+/// Branches that can be read, of which the first is kept. A walk takes that one at once: so its label is read but once,
+/// and this is why a walk has a reader of its own, beside `read_behind` of cursor and look-up.
 #[derive(Clone, Copy, Debug)]
 pub struct Branches<'a> {
     pub first: Branch<'a>,
-    pub left: usize,
-    pub place: usize,
+    pub behind: BranchRun,
 }
 
 // The exact reader of a number, for those that the quick one leaves.
@@ -138,15 +146,16 @@ fn quick_branches(bytes: &[u8], from: usize, count: usize, place: usize) -> Opti
     requires { 0 < count }
     ensures value { MatchOption result (IsErr (branches_at bytes.now from count place))
         (λ b. branches_at bytes.now from count place ≡ Ok (branches_in bytes.now from (Some b))) }
-    ensures readable { IfSome result (AreReadable bytes.now from) }
-    ensures count { IfSome result (λ b. b.left + 1 ≡ count) }
+    ensures readable { IfSome result (λ b. IsReadable bytes.now from b.behind) }
+    ensures count { IfSome result (λ b. b.behind.left + 1 ≡ count) }
 {
     let Some((first, place)) = quick_branch(bytes, from, place) else {
         return None;
     };
     let left = count - 1;
     if quick_test(bytes, from, left, place) {
-        Some(Branches { first, left, place })
+        let behind = BranchRun { left, place };
+        Some(Branches { first, behind })
     } else {
         None
     }
@@ -157,8 +166,8 @@ fn quick_branches(bytes: &[u8], from: usize, count: usize, place: usize) -> Opti
 #[inline(always)]
 pub fn read_branches(bytes: &[u8], from: usize, place: usize) -> Result<Option<Branches<'_>>>
     ensures value { Reads (branches_in bytes.now from) result (children_at bytes.now from place) }
-    ensures readable { IfOk result (λ found. IfSome found (AreReadable bytes.now from)) }
-    ensures few { IfOk result (λ found. IfSome found (λ b. b.left + 1 ≤ length bytes.now)) }
+    ensures readable { IfOk result (λ found. IfSome found (λ b. IsReadable bytes.now from b.behind)) }
+    ensures few { IfOk result (λ found. IfSome found (λ b. b.behind.left + 1 ≤ length bytes.now)) }
 {
     let (count, place) = number(bytes, place)?;
     let count = count as usize;
@@ -172,6 +181,25 @@ pub fn read_branches(bytes: &[u8], from: usize, place: usize) -> Result<Option<B
         Some(branches) => Ok(Some(branches)),
         None => Err(branches_error(bytes, from, count, place)),
     }
+}
+
+/// The same, where none is kept.
+#[tactic(auto, unfolding(crate::specs::Nodes::children_at))]
+#[inline(always)]
+pub fn read_run(bytes: &[u8], from: usize, place: usize) -> Result<BranchRun>
+    ensures value { Reads (branches_of bytes.now from) result (children_at bytes.now from place) }
+    ensures readable { IfOk result (IsReadable bytes.now from) }
+    ensures few { IfOk result (λ b. b.left ≤ length bytes.now) }
+{
+    let (count, place) = number(bytes, place)?;
+    let left = count as usize;
+    if left > bytes.len() {
+        return Err(Error::BufferTooShort(left, "branches"));
+    }
+    if !quick_test(bytes, from, left, place) {
+        return Err(branches_error(bytes, from, left, place));
+    }
+    Ok(BranchRun { left, place })
 }
 
 /// A node's own export of so many bytes, and the place of the branches behind it.
@@ -212,6 +240,50 @@ pub fn quick_own(bytes: &[u8], size: u64, place: usize) -> Option<(u64, u64, usi
         Some(after) => Some((address, flags, after)),
         None => None,
     }
+}
+
+// An own export of so many bytes that the quick reader leaves, and the place of the branches.
+#[cold]
+#[inline(never)]
+fn rare_own<'a>(source: &Source<'a, '_>, size: u64, place: usize) -> Result<(ExportInfo<'a>, usize)>
+    ensures { Reads (λ own. (info_of own.0, own.1)) result (own_in source.now size place) }
+{
+    read_own(source.bytes, source.libs, size, place)
+}
+
+/// An own export of so many bytes, and the place of the branches.
+#[inline(always)]
+pub fn own_export<'a>(
+    source: &Source<'a, '_>,
+    size: u64,
+    place: usize,
+) -> Result<(ExportInfo<'a>, usize)>
+    ensures { Reads (λ own. (info_of own.0, own.1)) result (own_in source.now size place) }
+{
+    match quick_own(source.bytes, size, place) {
+        Some((address, flags, after)) => Ok((ExportInfo::Regular { address, flags }, after)),
+        None => rare_own(source, size, place),
+    }
+}
+
+/// A node behind its size: its own export, if it has one, and its branches.
+#[tactic(auto, unfolding(crate::specs::Nodes::inner_at, crate::specs::Nodes::terminal_at))]
+#[inline(always)]
+pub fn read_behind<'a>(
+    source: &Source<'a, '_>,
+    size: u64,
+    place: usize,
+) -> Result<(Option<ExportInfo<'a>>, BranchRun)>
+    ensures node { Reads (node_of source.now.bytes.now source.now.from) result (node_behind source.now size place) }
+    ensures readable { IfOk result (λ read. IsReadable source.now.bytes.now source.now.from read.1) }
+    ensures few { IfOk result (λ read. read.1.left ≤ length source.now.bytes.now) }
+{
+    if size == 0 {
+        return Ok((None, read_run(source.bytes, source.from, place)?));
+    }
+    let (own, place) = own_export(source, size, place)?;
+    let branches = read_run(source.bytes, source.from, place)?;
+    Ok((Some(own), branches))
 }
 
 /// A branch that was tested, read again, and the place after it.

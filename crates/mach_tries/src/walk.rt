@@ -9,14 +9,13 @@ ghost use Rattle.mach_tries.specs.Lists.{Lists};
 ghost use Rattle.mach_tries.specs.Paths.{IsTree};
 ghost use Rattle.mach_tries.specs.Visits.{Visits};
 ghost use Rattle.mach_tries.specs.Exports.{info_of, entries};
-ghost use Rattle.mach_tries.specs.WalkViews.{source_trie, node_in, own_in, fault_in, info_in, node_of};
-ghost use Rattle.mach_tries.specs.NodeViews.{AreReadable};
+ghost use Rattle.mach_tries.specs.Views.{source_trie, node_in, fault_in, info_in, node_with_first, IsReadable};
 ghost use Rattle.mach_tries.specs.WalkState.{IsAtBranch, IsBetween, HasFound, IsWalk, IsRefused, StepGives, work_ahead};
 
 use crate::exports::Export;
 use crate::info::ExportInfo;
 use crate::marks::Marks;
-use crate::node::{Branch, Branches, number, quick_own, read_again, read_branches, read_own};
+use crate::node::{Branch, Branches, number, own_export, read_again, read_branches};
 use mach_base::{Error, Result, Steps};
 use std::alloc::{AllocError, Allocator, Global};
 
@@ -52,30 +51,6 @@ pub(crate) fn visit(bytes: &[u8], start: usize, steps: &mut Steps) -> Result<(u6
     number(bytes, start)
 }
 
-// An own export of so many bytes that the quick reader leaves, and the place of the branches.
-#[cold]
-#[inline(never)]
-fn rare_own<'a>(source: &Source<'a, '_>, size: u64, place: usize) -> Result<(ExportInfo<'a>, usize)>
-    ensures { Reads (λ own. (info_of own.0, own.1)) result (own_in source.now size place) }
-{
-    read_own(source.bytes, source.libs, size, place)
-}
-
-// An own export of so many bytes, and the place of the branches.
-#[inline(always)]
-pub(crate) fn own_export<'a>(
-    source: &Source<'a, '_>,
-    size: u64,
-    place: usize,
-) -> Result<(ExportInfo<'a>, usize)>
-    ensures { Reads (λ own. (info_of own.0, own.1)) result (own_in source.now size place) }
-{
-    match quick_own(source.bytes, size, place) {
-        Some((address, flags, after)) => Ok((ExportInfo::Regular { address, flags }, after)),
-        None => rare_own(source, size, place),
-    }
-}
-
 // Reads the node at a start: its own export, if it has one, and its branches, if it has any.
 #[tactic(auto, unfolding(crate::specs::Nodes::node_at, crate::specs::Nodes::inner_at, crate::specs::Nodes::terminal_at))]
 #[inline(always)]
@@ -85,9 +60,9 @@ fn read_node<'a>(
     steps: &mut Steps,
 ) -> Result<(Option<ExportInfo<'a>>, Option<Branches<'a>>)>
     ensures visits { steps.new ≡ steps.old + 1 }
-    ensures node { Reads (node_of source.now) result (node_in source.now start) }
-    ensures readable { IfOk result (λ read. IfSome read.1 (AreReadable source.now.bytes.now source.now.from)) }
-    ensures few { IfOk result (λ read. IfSome read.1 (λ b. b.left + 1 ≤ length source.now.bytes.now)) }
+    ensures node { Reads (node_with_first source.now.bytes.now source.now.from) result (node_in source.now start) }
+    ensures readable { IfOk result (λ read. IfSome read.1 (λ b. IsReadable source.now.bytes.now source.now.from b.behind)) }
+    ensures few { IfOk result (λ read. IfSome read.1 (λ b. b.behind.left + 1 ≤ length source.now.bytes.now)) }
 {
     let (size, place) = visit(source.bytes, start, steps)?;
     if size == 0 {
@@ -225,8 +200,8 @@ impl<'a, 'b, A: Allocator> Walker<'a, 'b, A> {
         keep_below(&mut self.stack, self.top)?;
         let name_len = self.name.len();
         self.top = Open {
-            left: branches.left,
-            place: branches.place,
+            left: branches.behind.left,
+            place: branches.behind.place,
             name_len,
         };
         self.next = branches.first;

@@ -5,8 +5,8 @@ use Rattle.mach_base.proofs.Faults.{Stands-failed}
 use Rattle.mach_tries.specs.LookUp.{FaultOnWay, at_node_on_way}
 use Rattle.mach_tries.specs.Exports.{info_of}
 use Rattle.mach_tries.specs.Finds.{here, below}
-use Rattle.mach_tries.specs.LookUpViews.{ComesTo}
-use Rattle.mach_tries.specs.WalkViews.{source_trie, node_in}
+use Rattle.mach_tries.specs.LookUpState.{ComesTo}
+use Rattle.mach_tries.specs.Views.{source_trie, node_in}
 use Rattle.mach_tries.proofs.LookUps.{ok_in}
 use Rattle.mach_tries.proofs.LookUpFollows as follow
 use Rattle.mach_tries.proofs.LookUpPaths.{stands_behind}

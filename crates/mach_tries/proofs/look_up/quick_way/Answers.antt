@@ -1,8 +1,8 @@
 use Rattle.std.proofs.Common.{◌≡◌, ◌-◌, ◌++◌, ◌∷◌, [], subst, sym, arith}
 use Rattle.mach_tries.specs.Trie.{Branch}
 use Rattle.mach_tries.specs.Nodes.{branches_at}
-use Rattle.mach_tries.specs.LookUpViews.{Goes}
-use Rattle.mach_tries.specs.WalkViews.{source_trie}
+use Rattle.mach_tries.specs.LookUpState.{Goes}
+use Rattle.mach_tries.specs.Views.{branch_of, source_trie}
 use Rattle.mach_tries.proofs.BranchSteps as step
 use Rattle.mach_tries.proofs.LookUpWays.{begins, stays, takes}
 use Rattle.mach_tries.proofs.look_up.quick_way.Goals as goal
@@ -19,10 +19,10 @@ loop-init c =
 pub loop-preserved : goal.loop-preserved
 loop-preserved c =
     let front = c.loop.invariant.0 in
-    let b : Branch = record { label = c.in_ok-label.label.now; start = c.in_ok-label.start } in
+    let b : Branch = branch_of c.in_ok-branch.branch in
     let goes = c.loop.invariant.2 in (
       front ++ b ∷ [],
-      step.goes_on _ _ _ _ _ _ _ c.loop.invariant.1 b c.in_ok-label.after c.loop-test.true c.in_ok-label.ensures,
+      step.goes_on _ _ _ _ _ _ _ c.loop.invariant.1 b c.in_ok-branch.after c.loop-test.true c.in_ok-branch.ensures,
       elim c.if-leads.branch [
         | then-leads+in-Nowhere w ↦ subst (Goes (source_trie c.args.source.now) c.args.rest.now (front ++ b ∷ [])) (sym w.way'-is)
             (takes (source_trie c.args.source.now) c.args.rest.now front b

@@ -1,8 +1,8 @@
 use Rattle.std.proofs.Common.{◌≡◌, ◌-◌, List}
 use Rattle.mach_tries.specs.Trie.{Branch}
 use Rattle.mach_tries.specs.Nodes.{branches_at}
-use Rattle.mach_tries.specs.LookUpViews.{Goes}
-use Rattle.mach_tries.specs.WalkViews.{source_trie}
+use Rattle.mach_tries.specs.LookUpState.{Goes}
+use Rattle.mach_tries.specs.Views.{source_trie}
 use Rattle.mach_tries.proofs.BranchSteps.{with_front}
 use Rattle.mach_tries.proofs.look_up.quick_way.Given as goal
 

@@ -6,12 +6,16 @@ use Rattle.std.proofs.lemmas.Result.{err_from_is_err_and}
 use Rattle.mach_base.proofs.Faults.{Stands-failed, FailsAs-read}
 use Rattle.mach_tries.specs.LookUp.{FaultOnWay}
 use Rattle.mach_tries.specs.Exports.{info_of}
-use Rattle.mach_tries.specs.LookUpViews.{node_of}
-use Rattle.mach_tries.specs.WalkViews.{source_trie, node_in}
+use Rattle.mach_tries.specs.Views.{node_of}
+use Rattle.mach_tries.specs.Views.{source_trie, node_in}
 use Rattle.mach_tries.specs.declared.look_up.Choice.{Choice}
 use Rattle.mach_tries.proofs.LookUpSettles.{is_first, readable_next}
 use Rattle.mach_tries.proofs.LookUpTurns as turn
-use Rattle.mach_tries.proofs.LookUpTurns.{Holds, unmarked}
+use Rattle.mach_tries.proofs.LookUpTurns.{Holds}
+use Rattle.mach_tries.proofs.Names.{unmarked}
+use Rattle.mach_tries.proofs.Marking.{one_less}
+use Rattle.mach_tries.proofs.BranchAgain.{is_ok}
+use Rattle.mach_tries.proofs.WalkTurns.{popped, emptied}
 use Rattle.mach_tries.proofs.look_up.search.Goals as goal
 
 pub returns-in_err-clone-clause-visits : goal.returns-in_err-clone-clause-visits
@@ -43,7 +47,7 @@ returns-in-None-clause-found g c =
     turn.ended c.args.source.now c.args.root c.args.name.now (record { branches = c.settle-branches.result; at = c.turns.top.at })
     (subst (λ os. Holds c.args.source.now c.args.root c.args.name.now
     (record { branches = c.settle-branches.result; at = c.turns.top.at }) os c.turns.marks c.args.steps.now c.turns.steps)
-    (turn.emptied c.turns.choices.items zero) held) c.if-branches-eq0.true
+    (emptied c.turns.choices.items zero) held) c.if-branches-eq0.true
 
 pub returns-in-None-clause-visits : goal.returns-in-None-clause-visits
 returns-in-None-clause-visits g c =
@@ -51,7 +55,7 @@ returns-in-None-clause-visits g c =
 
 pub turns-preserved-in-Some : goal.turns-preserved-in-Some
 turns-preserved-in-Some g c =
-    let pop = turn.popped c.turns.choices.items c.pop.new.self.items c.in-Some.below c.in-Some.ensures.items in
+    let pop = popped c.turns.choices.items c.pop.new.self.items c.in-Some.below c.in-Some.ensures.items in
     let held = turn.settled_now c.args.source.now c.args.root c.args.name.now c.turns.top c.settle-branches.result (reverse c.turns.choices.items)
     c.rest_at-rest.result.now c.rest_at-rest.ensures c.turns.invariant c.settle-branches.ensures.readable c.settle-branches.ensures.settles in
     turn.gone c.args.source.now c.args.root c.args.name.now (record { branches = c.settle-branches.result; at = c.turns.top.at }) c.in-Some.below
@@ -59,25 +63,25 @@ turns-preserved-in-Some g c =
     (subst (λ os. Holds c.args.source.now c.args.root c.args.name.now (record { branches = c.settle-branches.result; at = c.turns.top.at })
     os c.turns.marks c.args.steps.now c.turns.steps) pop held) c.if-branches-eq0.true
 
-pub read_parts-start-requires : goal.read_parts-start-requires
-read_parts-start-requires g c =
+pub read_again-start-requires : goal.read_again-start-requires
+read_again-start-requires g c =
     let some : 0 < c.settle-branches.result.left = omega (arith, c.if-branches-eq0.false) in
-    is_first c.args.source.now c.rest_at-rest.result.now c.settle-branches.result c.settle-branches.ensures.readable some
+    is_ok (is_first c.args.source.now c.rest_at-rest.result.now c.settle-branches.result c.settle-branches.ensures.readable some).1
 
 pub overflow_sub-start : goal.overflow_sub-start
 overflow_sub-start g c =
     turn.low _ _ _ (turn.takes _ _ _ c.rest_at-rest.ensures c.turns.invariant c.settle-branches.ensures.readable c.settle-branches.ensures.settles
-    c.settle-branches.ensures.stops (omega (arith, c.if-branches-eq0.false)) c.read_parts-start.ensures)
+    c.settle-branches.ensures.stops (omega (arith, c.if-branches-eq0.false)) c.read_again-start.ensures)
 
 pub is_marked-requires : goal.is_marked-requires
 is_marked-requires g c =
     turn.within _ _ _ (turn.takes _ _ _ c.rest_at-rest.ensures c.turns.invariant c.settle-branches.ensures.readable c.settle-branches.ensures.settles
-    c.settle-branches.ensures.stops (omega (arith, c.if-branches-eq0.false)) c.read_parts-start.ensures)
+    c.settle-branches.ensures.stops (omega (arith, c.if-branches-eq0.false)) c.read_again-start.ensures)
 
 pub returns-then-is_marked-clause-refused : goal.returns-then-is_marked-clause-refused
 returns-then-is_marked-clause-refused g c =
     turn.met _ _ _ (turn.takes _ _ _ c.rest_at-rest.ensures c.turns.invariant c.settle-branches.ensures.readable c.settle-branches.ensures.settles
-    c.settle-branches.ensures.stops (omega (arith, c.if-branches-eq0.false)) c.read_parts-start.ensures)
+    c.settle-branches.ensures.stops (omega (arith, c.if-branches-eq0.false)) c.read_again-start.ensures)
     c.is_marked.ensures c.if-is_marked.true
 
 pub returns-then-is_marked-clause-visits : goal.returns-then-is_marked-clause-visits
@@ -87,71 +91,71 @@ returns-then-is_marked-clause-visits g c =
 pub overflow_sub-start-else-branches-eq0 : goal.overflow_sub-start-else-branches-eq0
 overflow_sub-start-else-branches-eq0 g c =
     turn.low _ _ _ (turn.takes _ _ _ c.rest_at-rest.ensures c.turns.invariant c.settle-branches.ensures.readable c.settle-branches.ensures.settles
-    c.settle-branches.ensures.stops (omega (arith, c.if-branches-eq0.false)) c.read_parts-start.ensures)
+    c.settle-branches.ensures.stops (omega (arith, c.if-branches-eq0.false)) c.read_again-start.ensures)
 
 pub mark-requires-else-branches-eq0 : goal.mark-requires-else-branches-eq0
 mark-requires-else-branches-eq0 g c =
     turn.within _ _ _ (turn.takes _ _ _ c.rest_at-rest.ensures c.turns.invariant c.settle-branches.ensures.readable c.settle-branches.ensures.settles
-    c.settle-branches.ensures.stops (omega (arith, c.if-branches-eq0.false)) c.read_parts-start.ensures)
+    c.settle-branches.ensures.stops (omega (arith, c.if-branches-eq0.false)) c.read_again-start.ensures)
 
 pub settle-others-requires : goal.settle-others-requires
 settle-others-requires g c =
     let some : 0 < c.settle-branches.result.left = omega (arith, c.if-branches-eq0.false) in
     readable_next c.args.source.now c.rest_at-rest.result.now c.settle-branches.result c.settle-branches.ensures.readable some
-    c.read_parts-start.result.0.now c.read_parts-start.result.1 c.read_parts-start.result.2 c.read_parts-start.ensures
+    c.read_again-start.result.0.label.now c.read_again-start.result.0.start c.read_again-start.result.1 c.read_again-start.ensures
 
 pub returns-in_err-own-clause-refused : goal.returns-in_err-own-clause-refused
 returns-in_err-own-clause-refused g c =
     let p = err_from_is_err_and c.from_residual-in_err-own.result c.from_residual-in_err-own.ensures.1 in
     rw (p.1, p.2) (Stands-failed (FaultOnWay (source_trie c.args.source.now) c.args.root c.args.name.now) c.in_err-own.field-0.0
-    (node_in c.args.source.now c.read_parts-start.result.1)
+    (node_in c.args.source.now c.read_again-start.result.0.start)
     (λ f e. turn.child_fault _ _ _
     (turn.takes _ _ _ c.rest_at-rest.ensures c.turns.invariant c.settle-branches.ensures.readable c.settle-branches.ensures.settles
-    c.settle-branches.ensures.stops (omega (arith, c.if-branches-eq0.false)) c.read_parts-start.ensures) f e)
-    (FailsAs-read c.in_err-own.field-0.0 (node_in c.args.source.now c.read_parts-start.result.1) c.in_err-own.ensures.value))
+    c.settle-branches.ensures.stops (omega (arith, c.if-branches-eq0.false)) c.read_again-start.ensures) f e)
+    (FailsAs-read c.in_err-own.field-0.0 (node_in c.args.source.now c.read_again-start.result.0.start) c.in_err-own.ensures.value))
 
 pub returns-in_err-own-clause-visits : goal.returns-in_err-own-clause-visits
 returns-in_err-own-clause-visits g c =
     turn.child_visits _ _ _ (turn.takes _ _ _ c.rest_at-rest.ensures c.turns.invariant c.settle-branches.ensures.readable c.settle-branches.ensures.settles
-    c.settle-branches.ensures.stops (omega (arith, c.if-branches-eq0.false)) c.read_parts-start.ensures)
+    c.settle-branches.ensures.stops (omega (arith, c.if-branches-eq0.false)) c.read_again-start.ensures)
     (turn.is_clear _ _ _ (turn.takes _ _ _ c.rest_at-rest.ensures c.turns.invariant c.settle-branches.ensures.readable c.settle-branches.ensures.settles
     c.settle-branches.ensures.stops (omega (arith, c.if-branches-eq0.false))
-    c.read_parts-start.ensures) c.is_marked.ensures c.if-is_marked.false) c.in_err-own.ensures.visits
+    c.read_again-start.ensures) c.is_marked.ensures c.if-is_marked.false) c.in_err-own.ensures.visits
 
 pub overflow_sub-rest : goal.overflow_sub-rest
 overflow_sub-rest g c =
     rw c.rest_at-rest.ensures (turn.label_within _ _ _
     (turn.takes _ _ _ c.rest_at-rest.ensures c.turns.invariant c.settle-branches.ensures.readable c.settle-branches.ensures.settles
-    c.settle-branches.ensures.stops (omega (arith, c.if-branches-eq0.false)) c.read_parts-start.ensures))
+    c.settle-branches.ensures.stops (omega (arith, c.if-branches-eq0.false)) c.read_again-start.ensures))
 
 pub returns-in-Some-here-clause-found : goal.returns-in-Some-here-clause-found
 returns-in-Some-here-clause-found g c =
     let taken = (turn.takes _ _ _ c.rest_at-rest.ensures c.turns.invariant c.settle-branches.ensures.readable c.settle-branches.ensures.settles
-    c.settle-branches.ensures.stops (omega (arith, c.if-branches-eq0.false)) c.read_parts-start.ensures) in
+    c.settle-branches.ensures.stops (omega (arith, c.if-branches-eq0.false)) c.read_again-start.ensures) in
     let a = ap (λ (x : List ℕ). length x) taken.spells in let r = ap (λ (x : List ℕ). length x) c.rest_at-rest.ensures in
-    let b = length-append c.read_parts-start.result.0.now taken.others in
+    let b = length-append c.read_again-start.result.0.label.now taken.others in
     let none : length taken.others ≡ 0 = omega (arith, c.in-Some-here.ensures.some.0) in
     turn.child_found _ _ _ taken
     (turn.is_clear _ _ _ (turn.takes _ _ _ c.rest_at-rest.ensures c.turns.invariant c.settle-branches.ensures.readable c.settle-branches.ensures.settles
-    c.settle-branches.ensures.stops (omega (arith, c.if-branches-eq0.false)) c.read_parts-start.ensures) c.is_marked.ensures c.if-is_marked.false)
+    c.settle-branches.ensures.stops (omega (arith, c.if-branches-eq0.false)) c.read_again-start.ensures) c.is_marked.ensures c.if-is_marked.false)
     (node_of c.args.source.now.bytes.now c.args.source.now.from (c.in_ok-own.own, c.in_ok-own.child)) (info_of c.in-Some-here.info)
     c.in_ok-own.ensures.value c.in-Some-here.ensures.some.1 (nil_from_length taken.others none)
 
 pub returns-in-Some-here-clause-visits : goal.returns-in-Some-here-clause-visits
 returns-in-Some-here-clause-visits g c =
     turn.child_visits _ _ _ (turn.takes _ _ _ c.rest_at-rest.ensures c.turns.invariant c.settle-branches.ensures.readable c.settle-branches.ensures.settles
-    c.settle-branches.ensures.stops (omega (arith, c.if-branches-eq0.false)) c.read_parts-start.ensures)
+    c.settle-branches.ensures.stops (omega (arith, c.if-branches-eq0.false)) c.read_again-start.ensures)
     (turn.is_clear _ _ _ (turn.takes _ _ _ c.rest_at-rest.ensures c.turns.invariant c.settle-branches.ensures.readable c.settle-branches.ensures.settles
     c.settle-branches.ensures.stops (omega (arith, c.if-branches-eq0.false))
-    c.read_parts-start.ensures) c.is_marked.ensures c.if-is_marked.false) c.in_ok-own.ensures.visits
+    c.read_again-start.ensures) c.is_marked.ensures c.if-is_marked.false) c.in_ok-own.ensures.visits
 
 pub returns-in_err-keep-clause-visits : goal.returns-in_err-keep-clause-visits
 returns-in_err-keep-clause-visits g c =
     turn.child_visits _ _ _ (turn.takes _ _ _ c.rest_at-rest.ensures c.turns.invariant c.settle-branches.ensures.readable c.settle-branches.ensures.settles
-    c.settle-branches.ensures.stops (omega (arith, c.if-branches-eq0.false)) c.read_parts-start.ensures)
+    c.settle-branches.ensures.stops (omega (arith, c.if-branches-eq0.false)) c.read_again-start.ensures)
     (turn.is_clear _ _ _ (turn.takes _ _ _ c.rest_at-rest.ensures c.turns.invariant c.settle-branches.ensures.readable c.settle-branches.ensures.settles
     c.settle-branches.ensures.stops (omega (arith, c.if-branches-eq0.false))
-    c.read_parts-start.ensures) c.is_marked.ensures c.if-is_marked.false) c.in_ok-own.ensures.visits
+    c.read_again-start.ensures) c.is_marked.ensures c.if-is_marked.false) c.in_ok-own.ensures.visits
 
 pub turns-smaller : goal.turns-smaller
 turns-smaller g c =
@@ -160,50 +164,50 @@ turns-smaller g c =
       | inr some ↦ (let same = ap (λ (x : List Choice). length x) (c.in_ok-keep.ensures.some some)
           ∙ length-append c.turns.choices.items (record { branches = c.settle-others.result; at = c.turns.top.at } ∷ []) in omega arith)
     ] in
-    let less = turn.one_less c.turns.marks (c.read_parts-start.result.1 - c.args.source.now.from)
+    let less = one_less c.turns.marks (c.read_again-start.result.0.start - c.args.source.now.from)
     (turn.within _ _ _ (turn.takes _ _ _ c.rest_at-rest.ensures c.turns.invariant c.settle-branches.ensures.readable c.settle-branches.ensures.settles
-    c.settle-branches.ensures.stops (omega (arith, c.if-branches-eq0.false)) c.read_parts-start.ensures))
+    c.settle-branches.ensures.stops (omega (arith, c.if-branches-eq0.false)) c.read_again-start.ensures))
     (turn.is_clear _ _ _ (turn.takes _ _ _ c.rest_at-rest.ensures c.turns.invariant c.settle-branches.ensures.readable c.settle-branches.ensures.settles
-    c.settle-branches.ensures.stops (omega (arith, c.if-branches-eq0.false)) c.read_parts-start.ensures) c.is_marked.ensures c.if-is_marked.false) in
+    c.settle-branches.ensures.stops (omega (arith, c.if-branches-eq0.false)) c.read_again-start.ensures) c.is_marked.ensures c.if-is_marked.false) in
     let now = ap unmarked c.mark-else-branches-eq0.ensures in
     omega (arith, less, now)
 
 pub turns-preserved : goal.turns-preserved
 turns-preserved g c =
     let taken = (turn.takes _ _ _ c.rest_at-rest.ensures c.turns.invariant c.settle-branches.ensures.readable c.settle-branches.ensures.settles
-    c.settle-branches.ensures.stops (omega (arith, c.if-branches-eq0.false)) c.read_parts-start.ensures) in
+    c.settle-branches.ensures.stops (omega (arith, c.if-branches-eq0.false)) c.read_again-start.ensures) in
     let a = ap (λ (x : List ℕ). length x) taken.spells in let r = ap (λ (x : List ℕ). length x) c.rest_at-rest.ensures in
-    let b = length-append c.read_parts-start.result.0.now taken.others in
-    let deep = turn.deeper c.args.source.now c.args.root c.args.name.now c.turns.top.at c.read_parts-start.result.0.now taken.others
+    let b = length-append c.read_again-start.result.0.label.now taken.others in
+    let deep = turn.deeper c.args.source.now c.args.root c.args.name.now c.turns.top.at c.read_again-start.result.0.label.now taken.others
     taken.held.shown.within taken.spells in
     let opened = turn.child_opened _ _ _ taken
     (turn.is_clear _ _ _ (turn.takes _ _ _ c.rest_at-rest.ensures c.turns.invariant c.settle-branches.ensures.readable c.settle-branches.ensures.settles
-    c.settle-branches.ensures.stops (omega (arith, c.if-branches-eq0.false)) c.read_parts-start.ensures) c.is_marked.ensures c.if-is_marked.false)
-    (record { branches = c.in_ok-own.child; at = c.turns.top.at + length c.read_parts-start.result.0.now })
-    (record { branches = record { left = c.settle-branches.result.left - 1; place = c.read_parts-start.result.2 }; at = c.turns.top.at })
+    c.settle-branches.ensures.stops (omega (arith, c.if-branches-eq0.false)) c.read_again-start.ensures) c.is_marked.ensures c.if-is_marked.false)
+    (record { branches = c.in_ok-own.child; at = c.turns.top.at + length c.read_again-start.result.0.label.now })
+    (record { branches = record { left = c.settle-branches.result.left - 1; place = c.read_again-start.result.1 }; at = c.turns.top.at })
     (node_of c.args.source.now.bytes.now c.args.source.now.from (c.in_ok-own.own, c.in_ok-own.child)) c.in_ok-own.ensures.visits c.in_ok-own.ensures.value
     (turn.elsewhere c.args.source.now c.args.root c.args.name.now taken.others _ (λ z. c.in_default.ensures.none (omega arith)))
     c.in_ok-own.ensures.readable refl refl refl refl deep.0 deep.1 in
     let both = subst (λ (ms : List Bool). Holds c.args.source.now c.args.root c.args.name.now
-    (record { branches = c.in_ok-own.child; at = c.turns.top.at + length c.read_parts-start.result.0.now })
+    (record { branches = c.in_ok-own.child; at = c.turns.top.at + length c.read_again-start.result.0.label.now })
     (record { branches = c.settle-others.result; at = c.turns.top.at } ∷ reverse c.turns.choices.items) ms c.args.steps.now c.read_node.new.steps)
     (sym c.mark-else-branches-eq0.ensures)
     (turn.settled_below_now c.args.source.now c.args.root c.args.name.now
-    (record { branches = c.in_ok-own.child; at = c.turns.top.at + length c.read_parts-start.result.0.now })
-    (record { branches = record { left = c.settle-branches.result.left - 1; place = c.read_parts-start.result.2 }; at = c.turns.top.at })
+    (record { branches = c.in_ok-own.child; at = c.turns.top.at + length c.read_again-start.result.0.label.now })
+    (record { branches = record { left = c.settle-branches.result.left - 1; place = c.read_again-start.result.1 }; at = c.turns.top.at })
     c.settle-others.result (reverse c.turns.choices.items) c.rest_at-rest.result.now c.rest_at-rest.ensures opened
     c.settle-others.ensures.readable c.settle-others.ensures.settles) in
     elim (cases_eq c.settle-others.result.left 0) [
       | inl none ↦ subst (λ os. Holds c.args.source.now c.args.root c.args.name.now
-          (record { branches = c.in_ok-own.child; at = c.turns.top.at + length c.read_parts-start.result.0.now }) os
+          (record { branches = c.in_ok-own.child; at = c.turns.top.at + length c.read_again-start.result.0.label.now }) os
           c.mark-else-branches-eq0.new.self c.args.steps.now c.read_node.new.steps)
           (sym (ap reverse (c.in_ok-keep.ensures.none none)))
           (turn.left_out c.args.source.now c.args.root c.args.name.now
-          (record { branches = c.in_ok-own.child; at = c.turns.top.at + length c.read_parts-start.result.0.now })
+          (record { branches = c.in_ok-own.child; at = c.turns.top.at + length c.read_again-start.result.0.label.now })
           (record { branches = c.settle-others.result; at = c.turns.top.at }) (reverse c.turns.choices.items) both none)
       | inr more ↦ subst (λ os. Holds c.args.source.now c.args.root c.args.name.now
-          (record { branches = c.in_ok-own.child; at = c.turns.top.at + length c.read_parts-start.result.0.now }) os
+          (record { branches = c.in_ok-own.child; at = c.turns.top.at + length c.read_again-start.result.0.label.now }) os
           c.mark-else-branches-eq0.new.self c.args.steps.now c.read_node.new.steps)
-          (sym (turn.popped c.keep.new.choices.items c.turns.choices.items (record { branches = c.settle-others.result; at = c.turns.top.at })
+          (sym (popped c.keep.new.choices.items c.turns.choices.items (record { branches = c.settle-others.result; at = c.turns.top.at })
           (c.in_ok-keep.ensures.some more))) both
     ]

@@ -1,5 +1,6 @@
 use Rattle.std.proofs.Common.{◌+◌, ◌*◌, length, reverse}
-use Rattle.mach_tries.proofs.LookUpTurns.{Holds, unmarked}
+use Rattle.mach_tries.proofs.LookUpTurns.{Holds}
+use Rattle.mach_tries.proofs.Names.{unmarked}
 use Rattle.mach_tries.proofs.look_up.search.Given as goal
 
 abbrev pub invariant-turns : goal.invariant-turns

@@ -1,7 +1,7 @@
 use Rattle.std.proofs.Common.{◌≡◌, ◌+◌}
-use Rattle.mach_tries.specs.BranchViews.{branches_of, IsReadable}
-use Rattle.mach_tries.specs.WalkViews.{source_trie}
-use Rattle.mach_tries.specs.LookUpViews.{Settles}
+use Rattle.mach_tries.specs.Views.{branches_of, IsReadable}
+use Rattle.mach_tries.specs.Views.{source_trie}
+use Rattle.mach_tries.specs.LookUpState.{Settles}
 use Rattle.mach_tries.proofs.look_up.settle.Given as goal
 
 abbrev pub invariant-loop : goal.invariant-loop

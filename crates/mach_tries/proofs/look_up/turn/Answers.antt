@@ -6,9 +6,10 @@ use Rattle.mach_tries.specs.Exports.{info_of}
 use Rattle.mach_tries.specs.declared.info.ExportInfo.{ExportInfo}
 use Rattle.mach_tries.specs.Finds.{BranchesFind}
 use Rattle.mach_tries.specs.Nodes.{branches_at}
-use Rattle.mach_tries.specs.BranchViews.{branches_of}
-use Rattle.mach_tries.specs.WalkViews.{source_trie, node_in}
-use Rattle.mach_tries.specs.LookUpViews.{node_of, LeadsOn, Goes, ComesTo}
+use Rattle.mach_tries.specs.Views.{branches_of}
+use Rattle.mach_tries.specs.Views.{source_trie, node_in}
+use Rattle.mach_tries.specs.Views.{node_of}
+use Rattle.mach_tries.specs.LookUpState.{LeadsOn, Goes, ComesTo}
 use Rattle.mach_tries.proofs.LookUpNodes.{size_fails, behind_size, own_fails, branches_fail, passed_by, none_left_of, some_left_of}
 use Rattle.mach_tries.proofs.look_up.turn.Goals as goal
 use Rattle.mach_tries.proofs.look_up.turn.Goals.{in-Some, in-None, else-size-gt0-via-then-size-gt0+else-is_empty, else-size-gt0-via-else-size-gt0}
@@ -23,11 +24,11 @@ pub returns-in_err-own-clause-err : goal.returns-in_err-own-clause-err
 returns-in_err-own-clause-err c =
     let p = err_from_is_err_and c.from_residual-in_err-own.result c.from_residual-in_err-own.ensures.1 in
     rw (p.1, p.2) (FailsAs-read c.in_err-own.field-0.0 (node_in c.args.source.now c.args.start)
-    (behind_size c.args.source.now c.args.start c.in_ok-size.size c.in_ok-size.place c.in_ok-size.ensures.value ∙ c.in_err-own.ensures.value))
+    (behind_size c.args.source.now c.args.start c.in_ok-size.size c.in_ok-size.place c.in_ok-size.ensures.value ∙ c.in_err-own.ensures.node))
 
 pub returns-then-is_empty-clause-ok : goal.returns-then-is_empty-clause-ok
 returns-then-is_empty-clause-ok c =
-    let there = behind_size c.args.source.now c.args.start c.in_ok-size.size c.in_ok-size.place c.in_ok-size.ensures.value ∙ c.in_ok-own.ensures.value in
+    let there = behind_size c.args.source.now c.args.start c.in_ok-size.size c.in_ok-size.place c.in_ok-size.ensures.value ∙ c.in_ok-own.ensures.node in
     elim c.match-own.branch [
       | in-Some w ↦ subst (ComesTo c.args.source.now c.args.start c.args.rest.now) (sym w.result-is) (
         node_of c.args.source.now.bytes.now c.args.source.now.from (c.in_ok-own.own, c.in_ok-own.branches),

@@ -1,4 +1,4 @@
-use Rattle.mach_tries.proofs.Names.{◌≡◌, ◌-◌, arith, suc, branch_of}
+use Rattle.mach_tries.proofs.Names.{branch_of}
 use Rattle.mach_tries.proofs.BranchSteps.{first_bad, rest_bad, all_good}
 use Rattle.mach_tries.proofs.node.quick_branches.Goals as goal
 
@@ -10,14 +10,7 @@ returns-then-quick_test-clause-value c =
     all_good _ _ _ _ (branch_of c.in-Some.first) _ _ c.requires c.in-Some.ensures (c.quick_test.ensures.yes c.if-quick_test.true)
 
 pub returns-then-quick_test-clause-readable : goal.returns-then-quick_test-clause-readable
-returns-then-quick_test-clause-readable c = record {
-  at = c.args.place;
-  first = c.in-Some.ensures;
-  all =
-      let all = all_good _ _ _ _ (branch_of c.in-Some.first) _ _ c.requires c.in-Some.ensures (c.quick_test.ensures.yes c.if-quick_test.true) in
-      let one : suc (c.args.count - 1) ≡ c.args.count = omega arith in
-      rw one all;
-}
+returns-then-quick_test-clause-readable c = c.quick_test.ensures.yes c.if-quick_test.true
 
 pub returns-else-quick_test-clause-value : goal.returns-else-quick_test-clause-value
 returns-else-quick_test-clause-value c =

@@ -1,23 +1,13 @@
 use Rattle.std.proofs.Common.{◌-◌, length, arith, refl}
 use Rattle.std.proofs.lemmas.Option.{slice_get_read}
-use Rattle.mach_tries.proofs.CursorAhead.{ends_ahead, falls_ahead}
 use Rattle.mach_tries.proofs.CursorTurns.{ends, falls}
 use Rattle.mach_tries.proofs.cursor.TrieCursor.close.Goals as goal
 
 pub returns-then-self-eq0-clause-gives : goal.returns-then-self-eq0-clause-gives
-returns-then-self-eq0-clause-gives c = λ s name found come. ends c.requires.on c.requires.none (omega arith) _ refl come
+returns-then-self-eq0-clause-gives c = λ t libs name found come. ends c.requires.on c.requires.none (omega arith) _ refl come
 
 pub returns-in-Some-clause-gives : goal.returns-in-Some-clause-gives
-returns-in-Some-clause-gives c = λ s name found come.
+returns-in-Some-clause-gives c = λ t libs name found come.
     falls c.requires.on c.requires.none (c.args.self.now.depth - 1) c.in-Some.below.now (omega arith) (slice_get_read c.args.stack.now
-    (length c.args.stack.now) (c.args.self.now.depth - 1) c.in-Some.below.now refl c.in-Some.ensures.lookup.3.0 c.in-Some.ensures.lookup.1)
-    _ c.requires.on refl refl refl refl come
-
-pub returns-then-self-eq0-clause-unfolds : goal.returns-then-self-eq0-clause-unfolds
-returns-then-self-eq0-clause-unfolds c = λ s name found come. ends_ahead c.requires.on c.requires.none (omega arith) _ refl come
-
-pub returns-in-Some-clause-unfolds : goal.returns-in-Some-clause-unfolds
-returns-in-Some-clause-unfolds c = λ s name found come.
-    falls_ahead c.requires.on c.requires.none (c.args.self.now.depth - 1) c.in-Some.below.now (omega arith) (slice_get_read c.args.stack.now
     (length c.args.stack.now) (c.args.self.now.depth - 1) c.in-Some.below.now refl c.in-Some.ensures.lookup.3.0 c.in-Some.ensures.lookup.1)
     _ c.requires.on refl refl refl refl come

@@ -1,19 +1,15 @@
-use Rattle.std.proofs.Common.{inl, inr, arith}
-use Rattle.mach_tries.proofs.CursorAhead.{next_ahead, readable_ahead}
-use Rattle.mach_tries.proofs.CursorTurns.{at_next, unreadable, faulty_gives, full_by, not_full}
+use Rattle.std.proofs.Common.{inr, arith}
+use Rattle.mach_tries.proofs.CursorTurns.{at_next, unreadable, full_by, not_full}
 use Rattle.mach_tries.proofs.cursor.TrieCursor.turn.Goals as goal
 
 pub returns-then-self-eq0-clause-gives : goal.returns-then-self-eq0-clause-gives
-returns-then-self-eq0-clause-gives c = λ found come. c.close.ensures.gives c.args.source.now c.args.name.now found come
+returns-then-self-eq0-clause-gives c = λ found come. c.close.ensures.gives _ _ c.args.name.now found come
 
 pub returns-in_default-clause-gives : goal.returns-in_default-clause-gives
-returns-in_default-clause-gives c = λ found come. rw c.refuse.ensures.refused (λ _. unreadable (omega arith) (omega arith) c.in_default.ensures come)
+returns-in_default-clause-gives c = λ found come. absurd (unreadable (omega arith) (omega arith) c.in_default.ensures come)
 
 pub returns-clause-gives : goal.returns-clause-gives
-returns-clause-gives c = λ found come. elim (at_next (omega arith) (omega arith) c.in-Some.ensures come) [
-  | inl at ↦ c.visit.ensures.gives found at
-  | inr fault ↦ faulty_gives c.args.source.now found c.visit.result c.visit.new.self c.visit.new.name c.visit.new.stack fault
-]
+returns-clause-gives c = λ found come. c.visit.ensures.gives found (at_next (omega arith) (omega arith) c.in-Some.ensures come)
 
 pub returns-then-self-eq0-clause-full : goal.returns-then-self-eq0-clause-full
 returns-then-self-eq0-clause-full c =
@@ -27,12 +23,3 @@ returns-clause-full c =
 
 pub returns-then-self-eq0-clause-placed : goal.returns-then-self-eq0-clause-placed
 returns-then-self-eq0-clause-placed c = c.close.ensures.placed _ _ _
-
-pub returns-then-self-eq0-clause-unfolds : goal.returns-then-self-eq0-clause-unfolds
-returns-then-self-eq0-clause-unfolds c = λ found come. c.close.ensures.unfolds c.args.source.now c.args.name.now found come
-
-pub returns-in_default-clause-unfolds : goal.returns-in_default-clause-unfolds
-returns-in_default-clause-unfolds c = λ found come. absurd (readable_ahead (omega arith) (omega arith) c.in_default.ensures come)
-
-pub returns-clause-unfolds : goal.returns-clause-unfolds
-returns-clause-unfolds c = λ found come. c.visit.ensures.unfolds found (next_ahead (omega arith) (omega arith) c.in-Some.ensures come)

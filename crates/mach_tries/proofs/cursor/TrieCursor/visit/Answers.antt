@@ -1,22 +1,19 @@
 use Rattle.std.proofs.Common.{arith, refl, ◌∙◌, ap}
-use Rattle.mach_base.specs.Fault.{malformed, fault_of}
-use Rattle.mach_tries.proofs.Names.{append-nil, subst, ℕ, List, Entry, Ok, Err, Option, info_in, node_at, texts}
-use Rattle.mach_tries.specs.BranchViews.{branches_of}
+use Rattle.mach_tries.proofs.Names.{append-nil, subst, ℕ, List, Entry, Ok, Option, info_in, node_at, texts, fault_of, branches_of, range_of}
 use Rattle.mach_tries.specs.declared.info.ExportInfo.{ExportInfo}
-use Rattle.mach_tries.specs.CursorState.{HasUnfolded, HasMetOnce}
-use Rattle.mach_tries.proofs.CursorAhead.{passes_ahead, cut_by_count, cut_by_node, enters_ahead}
-use Rattle.mach_tries.proofs.CursorTurns.{passes, too_many, faulty, enters}
+use Rattle.mach_tries.specs.CursorState.{HasCome}
+use Rattle.mach_tries.proofs.CursorTurns.{passes, cut_by_count, cut_by_node, enters}
 use Rattle.mach_tries.proofs.cursor.TrieCursor.visit.Goals as goal
 
 pub returns-then-start-source-clause-gives : goal.returns-then-start-source-clause-gives
 returns-then-start-source-clause-gives c = λ found at. passes at (omega arith) _ refl refl refl refl refl
 
 pub returns-then-self-eq0-clause-gives : goal.returns-then-self-eq0-clause-gives
-returns-then-self-eq0-clause-gives c = λ found at. rw c.refuse.ensures.refused (λ _. too_many at (omega arith) c.if-self-eq0.true)
+returns-then-self-eq0-clause-gives c = λ found at. rw c.refuse.ensures.refused (cut_by_count at (omega arith) c.if-self-eq0.true)
 
 pub returns-in-Err-clause-gives : goal.returns-in-Err-clause-gives
 returns-in-Err-clause-gives c = λ found at.
-    rw c.refuse-in-Err.ensures.refused (λ same. faulty at (omega arith) malformed (c.in-Err.ensures.node ∙ ap Err same))
+    rw c.refuse-in-Err.ensures.refused (cut_by_node at (omega arith) (fault_of c.in-Err.e) c.in-Err.ensures.node)
 
 pub returns-in-Some-clause-gives : goal.returns-in-Some-clause-gives
 returns-in-Some-clause-gives c = λ found at.
@@ -29,35 +26,9 @@ returns-in-Some-clause-gives c = λ found at.
 pub returns-in-None-clause-gives : goal.returns-in-None-clause-gives
 returns-in-None-clause-gives c = λ found at.
     let e = c.enter.ensures in
-    subst (λ (es : List Entry). HasMetOnce c.args.source.now c.enter.new.self c.put_label.new.name c.enter.new.stack es) (append-nil found)
+    subst (λ (es : List Entry). HasCome (range_of c.args.source.now) (texts c.args.source.now.libs.now) c.enter.new.self c.put_label.new.name
+    c.enter.new.stack es) (append-nil found)
     (rw (c.in-None.is) at (enters at (omega arith) c.enter.new.self c.put_label.new.name c.enter.new.stack (info_in c.in-Ok.node.0) c.in-Ok.node.1
-    c.in-Ok.ensures.node c.in-Ok.ensures.readable (omega arith)
-    c.put_label.ensures.len (rw c.as_bytes.ensures.value at c.put_label.ensures.text) e.way e.visits (omega arith) e.kept e.leaf (omega arith) e.over
-    e.in_place))
-
-pub returns-then-start-source-clause-unfolds : goal.returns-then-start-source-clause-unfolds
-returns-then-start-source-clause-unfolds c = λ found at. passes_ahead at (omega arith) _ refl refl refl refl refl
-
-pub returns-then-self-eq0-clause-unfolds : goal.returns-then-self-eq0-clause-unfolds
-returns-then-self-eq0-clause-unfolds c = λ found at. rw c.refuse.ensures.refused (cut_by_count at (omega arith) c.if-self-eq0.true)
-
-pub returns-in-Err-clause-unfolds : goal.returns-in-Err-clause-unfolds
-returns-in-Err-clause-unfolds c = λ found at.
-    rw c.refuse-in-Err.ensures.refused (cut_by_node at (omega arith) (fault_of c.in-Err.e) c.in-Err.ensures.node)
-
-pub returns-in-Some-clause-unfolds : goal.returns-in-Some-clause-unfolds
-returns-in-Some-clause-unfolds c = λ found at.
-    let e = c.enter.ensures in
-    rw (c.in-Some.is) at (enters_ahead at (omega arith) c.enter.new.self c.put_label.new.name c.enter.new.stack (info_in c.in-Ok.node.0) c.in-Ok.node.1
-    c.in-Ok.ensures.node c.in-Ok.ensures.readable (omega arith)
-    c.put_label.ensures.len (rw c.as_bytes.ensures.value at c.put_label.ensures.text) e.way e.visits (omega arith) e.kept e.leaf (omega arith)
-    e.over e.in_place)
-
-pub returns-in-None-clause-unfolds : goal.returns-in-None-clause-unfolds
-returns-in-None-clause-unfolds c = λ found at.
-    let e = c.enter.ensures in
-    subst (λ (es : List Entry). HasUnfolded c.args.source.now c.enter.new.self c.put_label.new.name c.enter.new.stack es) (append-nil found)
-    (rw (c.in-None.is) at (enters_ahead at (omega arith) c.enter.new.self c.put_label.new.name c.enter.new.stack (info_in c.in-Ok.node.0) c.in-Ok.node.1
     c.in-Ok.ensures.node c.in-Ok.ensures.readable (omega arith)
     c.put_label.ensures.len (rw c.as_bytes.ensures.value at c.put_label.ensures.text) e.way e.visits (omega arith) e.kept e.leaf (omega arith) e.over
     e.in_place))

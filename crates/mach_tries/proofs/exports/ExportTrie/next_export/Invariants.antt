@@ -1,5 +1,5 @@
 use Rattle.mach_tries.proofs.Names.{◌≡◌, ◌≤◌, List, Entry, length, texts}
-use Rattle.mach_tries.specs.CursorState.{HasCome, work_of}
+use Rattle.mach_tries.specs.CursorState.{work_of}
 use Rattle.mach_tries.specs.Cursors.{HasGivenTo}
 use Rattle.mach_tries.proofs.exports.ExportTrie.next_export.Given as goal
 
@@ -8,7 +8,8 @@ invariant-turns l = record {
   depth : l.cursor.phase ≤ 1 → l.cursor.depth ≤ length l.stack;
   name_len : length l.name ≡ length l.fn.name;
   stack_len : length l.stack ≡ length l.fn.stack;
-  gives : (found : List Entry) → HasGivenTo l.self (texts l.libs) l.fn.cursor l.fn.name l.fn.stack found → HasCome l.source l.cursor l.name l.stack found;
+  gives : (found : List Entry) → HasGivenTo l.self (texts l.libs) l.fn.cursor l.fn.name l.fn.stack found
+      → HasGivenTo l.self (texts l.libs) l.cursor l.name l.stack found;
 }
 
 abbrev pub decreases-turns : goal.decreases-turns

@@ -1,6 +1,6 @@
 use Rattle.mach_tries.proofs.Names.{refl, [], ◌∷◌, None, lit<, malformed, Branch, Node, trie_of, Leads, met_again, range_in, back_to_root}
 use Rattle.mach_tries.proofs.Computing.{computing}
-use Rattle.mach_tries.proofs.TrieRanges.{fault-excludes_list}
+use Rattle.mach_tries.proofs.TrieRanges.{fault_excludes_list}
 use Rattle.mach_tries.proofs.laws.rows.fault_of_back_to_root.Goals as goal
 
 -- the root's only branch leads back to it
@@ -16,4 +16,4 @@ returns-clause-fault c = met_again [] (0 ∷ []) 0 refl back (lit< tt) (λ e. cc
 
 pub returns-clause-no_list : goal.returns-clause-no_list
 returns-clause-no_list c =
-    λ list exports. fault-excludes_list (range_in back_to_root 0 5) [] malformed list (met_again [] (0 ∷ []) 0 refl back (lit< tt) (λ e. cc)) exports
+    λ list exports. fault_excludes_list (range_in back_to_root 0 5) [] malformed list (met_again [] (0 ∷ []) 0 refl back (lit< tt) (λ e. cc)) exports

@@ -1,6 +1,6 @@
 use Rattle.mach_tries.proofs.Names.{refl, [], ◌∷◌, None, lit<, malformed, Branch, Node, trie_of, Leads, met_again, range_in, shared_node}
 use Rattle.mach_tries.proofs.Computing.{computing}
-use Rattle.mach_tries.proofs.TrieRanges.{fault-excludes_list}
+use Rattle.mach_tries.proofs.TrieRanges.{fault_excludes_list}
 use Rattle.mach_tries.proofs.laws.rows.fault_of_shared_node.Goals as goal
 
 one : Leads (trie_of shared_node [] 0 12) (0 ∷ []) 0 8
@@ -24,4 +24,4 @@ returns-clause-fault c = met_again (0 ∷ []) (1 ∷ []) 8 one other (lit< tt) (
 
 pub returns-clause-no_list : goal.returns-clause-no_list
 returns-clause-no_list c =
-    λ list exports. fault-excludes_list (range_in shared_node 0 12) [] malformed list (met_again (0 ∷ []) (1 ∷ []) 8 one other (lit< tt) (λ e. cc)) exports
+    λ list exports. fault_excludes_list (range_in shared_node 0 12) [] malformed list (met_again (0 ∷ []) (1 ∷ []) 8 one other (lit< tt) (λ e. cc)) exports

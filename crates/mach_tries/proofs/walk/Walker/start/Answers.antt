@@ -1,6 +1,6 @@
 use Rattle.mach_tries.proofs.Names.{◌∙◌, refl, ap, replicate, reverse, false, inl, inr, cases_lt}
 use Rattle.std.proofs.lemmas.Bool.{lt-leb, le-leb}
-use Rattle.mach_tries.proofs.WalkTurns.{nothing_listed}
+use Rattle.mach_tries.proofs.WalkTurns.{starts, nothing_listed}
 use Rattle.mach_tries.proofs.walk.Walker.start.Goals as goal
 
 pub returns-clause-start : goal.returns-clause-start
@@ -9,19 +9,7 @@ returns-clause-start g c =
     elim (cases_lt s.from s.upto) [
       | inl inside ↦ inl (
         lt-leb s.upto s.from inside,
-        inl
-            (record {
-              inside = inside;
-              root = refl;
-              label = refl;
-              no_name = c.new-2.ensures.items;
-              no_marks = c.in_ok-new.ensures ∙ ap (λ n. replicate n false) c.saturating_sub-len.ensures;
-              left = refl;
-              name_len = refl;
-              none_open = ap reverse c.new-3.ensures.items;
-              none_found = refl;
-              none_visited = refl;
-            }),
+        starts s inside _ _ _ _ (c.in_ok-new.ensures ∙ ap (λ n. replicate n false) c.saturating_sub-len.ensures) refl refl (ap reverse c.new-3.ensures.items),
       )
       | inr out ↦ inr (le-leb s.upto s.from out, nothing_listed s out)
     ]

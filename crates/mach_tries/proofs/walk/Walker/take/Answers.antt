@@ -1,46 +1,46 @@
-use Rattle.mach_tries.proofs.Names.{◌≡◌, ◌+◌, ◌-◌, ◌++◌, ◌∙◌, refl, sym, ap, subst, arith, ℕ, suc, List, length, reverse, take, inl, inr, append-nil}
-use Rattle.mach_tries.proofs.Names.{err_from_is_err_and, IsUtf8, Stands-reported, Entry, own_entries, fault_in, info_in, fault_of, HasFound, node_in, node_of}
+use Rattle.mach_tries.proofs.Names.{◌≡◌, ◌+◌, ◌-◌, ◌++◌, ◌∙◌, refl, sym, ap, subst, arith, ℕ, suc, List, length, reverse, take, inl, append-nil}
+use Rattle.mach_tries.proofs.Names.{err_from_is_err_and, IsUtf8, Stands-reported, Entry, own_entries, fault_in, info_in, fault_of, HasFound, node_in, node_with_first}
 use Rattle.std.proofs.Math.Logic.{∥∥₁_elim, ∥∥₁_map}
 use Rattle.std.proofs.Math.Bridge.{le_prop}
 use Rattle.std.proofs.Props.{props}
-use Rattle.mach_tries.proofs.Names.{Option, Ok, IfSome, AreReadable, ◌≤◌}
+use Rattle.mach_tries.proofs.Names.{Option, Ok, IfSome, IsReadable, ◌≤◌}
 use Rattle.mach_tries.specs.declared.node.Branches.{Branches}
 use Rattle.mach_tries.proofs.WalkTurns as turn
-use Rattle.mach_tries.proofs.WalkTurns.{child_of, if_some, less_passed, less_entered}
+use Rattle.mach_tries.proofs.WalkTurns.{if_some, less_passed, less_entered}
 use Rattle.mach_tries.proofs.walk.Walker.take.Goals as goal
 
 pub go_on-requires-clause-on : goal.go_on-requires-clause-on
 go_on-requires-clause-on g c = ∥∥₁_elim c.requires (search props) (λ r. r.2.0)
 
 pub go_on-requires-clause-between : goal.go_on-requires-clause-between
-go_on-requires-clause-between g c = ∥∥₁_map c.requires (λ r. (r.0, r.1, (r.2.0, (child_of c.args.self.now r.2).passed (omega arith))))
+go_on-requires-clause-between g c = ∥∥₁_map c.requires (λ r. (r.0, r.1, (r.2.0, turn.passed r.2.1 (omega arith))))
 
 pub returns-then-start-self-clause-found : goal.returns-then-start-self-clause-found
 returns-then-start-self-clause-found g c = λ found n at. (
   n,
   subst (λ (es : List Entry). HasFound es n c.go_on.new.self) (sym (append-nil found))
-      (c.go_on.ensures.found found n (at.0, (child_of c.args.self.now at).passed (omega arith))),
+      (c.go_on.ensures.found found n (at.0, turn.passed at.1 (omega arith))),
   refl,
 )
 
 pub is_marked-requires : goal.is_marked-requires
-is_marked-requires g c = ∥∥₁_elim c.requires le_prop (λ r. turn.within (child_of c.args.self.now r.2) (omega arith))
+is_marked-requires g c = ∥∥₁_elim c.requires le_prop (λ r. turn.within r.2.1 (omega arith))
 
 pub mark-requires : goal.mark-requires
-mark-requires g c = ∥∥₁_elim c.requires le_prop (λ r. turn.within (child_of c.args.self.now r.2) (omega arith))
+mark-requires g c = ∥∥₁_elim c.requires le_prop (λ r. turn.within r.2.1 (omega arith))
 
 pub overflow_sub-start : goal.overflow_sub-start
-overflow_sub-start g c = ∥∥₁_elim c.requires le_prop (λ r. (child_of c.args.self.now r.2).low)
+overflow_sub-start g c = ∥∥₁_elim c.requires le_prop (λ r. turn.low r.2.1)
 
 pub overflow_sub-start-2 : goal.overflow_sub-start-2
-overflow_sub-start-2 g c = ∥∥₁_elim c.requires le_prop (λ r. (child_of c.args.self.now r.2).low)
+overflow_sub-start-2 g c = ∥∥₁_elim c.requires le_prop (λ r. turn.low r.2.1)
 
 pub returns-then-is_marked-clause-refused : goal.returns-then-is_marked-clause-refused
 returns-then-is_marked-clause-refused g c = λ found n at. record {
-  fault = turn.met (child_of c.args.self.now at) (omega arith) c.is_marked.ensures c.if-is_marked.true;
+  fault = turn.met at.1 (omega arith) c.is_marked.ensures c.if-is_marked.true;
   visited = n;
-  visits = (child_of c.args.self.now at).visits;
-  few_visits = (child_of c.args.self.now at).few;
+  visits = turn.visits at.1;
+  few_visits = turn.few at.1;
   count = refl;
 }
 
@@ -50,8 +50,8 @@ returns-in_err-extend_from_slice-clause-refused g c =
     rw (p.1, p.2) (λ found n at. record {
       fault = tt;
       visited = n;
-      visits = (child_of c.args.self.now at).visits;
-      few_visits = (child_of c.args.self.now at).few;
+      visits = turn.visits at.1;
+      few_visits = turn.few at.1;
       count = refl;
     })
 
@@ -59,13 +59,13 @@ pub returns-in_err-own-clause-refused : goal.returns-in_err-own-clause-refused
 returns-in_err-own-clause-refused g c =
     let p = err_from_is_err_and c.from_residual-in_err-own.result c.from_residual-in_err-own.ensures.1 in
     rw (p.1, p.2) (λ found n at.
-    let off = turn.clear (child_of c.args.self.now at) (omega arith) c.is_marked.ensures c.if-is_marked.false in
+    let off = turn.clear at.1 (omega arith) c.is_marked.ensures c.if-is_marked.false in
     record {
       fault = Stands-reported (fault_in c.args.self.now.source) c.in_err-own.field-0.0
-          (turn.child_fault (child_of c.args.self.now at) (omega arith) (fault_of c.in_err-own.field-0.0) c.in_err-own.ensures.node);
+          (turn.child_fault at.1 (omega arith) (fault_of c.in_err-own.field-0.0) c.in_err-own.ensures.node);
       visited = suc n;
-      visits = turn.child_visits (child_of c.args.self.now at) (omega arith) off refl;
-      few_visits = turn.few_with_child (child_of c.args.self.now at) (omega arith) off refl;
+      visits = turn.child_visits at.1 (omega arith) off refl;
+      few_visits = turn.few_with_child at.1 (omega arith) off refl;
       count = omega (arith, c.in_err-own.ensures.visits);
     })
 
@@ -77,13 +77,13 @@ go_on-requires-in_default-clause-between g c =
     let cut = c.in_ok-extend_from_slice.ensures.items ∙ ap (λ (x : List ℕ). x ++ c.as_bytes.result.now) c.truncate.ensures.items
     ∙ ap (λ (x : List ℕ). take c.args.self.now.top.name_len c.args.self.now.name.items ++ x) c.as_bytes.ensures.value in
     ∥∥₁_map c.requires (λ r.
-    let off = turn.clear (child_of c.args.self.now r.2) (omega arith) c.is_marked.ensures c.if-is_marked.false in (
+    let off = turn.clear r.2.1 (omega arith) c.is_marked.ensures c.if-is_marked.false in (
       r.0 ++ own_entries c.extend_from_slice.new.self.items (info_in c.in_ok-own.own),
       suc r.1,
       (
         r.2.0,
-        turn.passed_by (child_of c.args.self.now r.2) (omega arith) off cut c.mark.ensures
-            (info_in c.in_ok-own.own) _ c.in_ok-own.ensures.node (rw c.in_default.is refl),
+        turn.passed_by r.2.1 (omega arith) off cut c.mark.ensures
+            (info_in c.in_ok-own.own) _ refl _ c.in_ok-own.ensures.node (rw c.in_default.is refl),
       ),
     ))
 
@@ -91,13 +91,13 @@ pub returns-in_default-clause-found : goal.returns-in_default-clause-found
 returns-in_default-clause-found g c = λ found n at.
     let cut = c.in_ok-extend_from_slice.ensures.items ∙ ap (λ (x : List ℕ). x ++ c.as_bytes.result.now) c.truncate.ensures.items
     ∙ ap (λ (x : List ℕ). take c.args.self.now.top.name_len c.args.self.now.name.items ++ x) c.as_bytes.ensures.value in
-    let off = turn.clear (child_of c.args.self.now at) (omega arith) c.is_marked.ensures c.if-is_marked.false in (
+    let off = turn.clear at.1 (omega arith) c.is_marked.ensures c.if-is_marked.false in (
       suc n,
       subst (λ (x : List ℕ). HasFound (found ++ own_entries x (info_in c.in_ok-own.own)) (suc n) c.go_on-in_default.new.self)
           (sym c.go_on-in_default.ensures.name)
           (c.go_on-in_default.ensures.found (found ++ own_entries c.extend_from_slice.new.self.items (info_in c.in_ok-own.own)) (suc n) (
             at.0,
-            turn.passed_by (child_of c.args.self.now at) (omega arith) off cut c.mark.ensures (info_in c.in_ok-own.own) _ c.in_ok-own.ensures.node
+            turn.passed_by at.1 (omega arith) off cut c.mark.ensures (info_in c.in_ok-own.own) _ refl _ c.in_ok-own.ensures.node
                 (rw c.in_default.is refl),
           )),
       omega (arith, c.in_ok-own.ensures.visits),
@@ -108,26 +108,26 @@ returns-in_default-clause-utf8 g c =
     let cut = c.in_ok-extend_from_slice.ensures.items ∙ ap (λ (x : List ℕ). x ++ c.as_bytes.result.now) c.truncate.ensures.items
     ∙ ap (λ (x : List ℕ). take c.args.self.now.top.name_len c.args.self.now.name.items ++ x) c.as_bytes.ensures.value in
     if_some c.in_ok-own.own (∥∥₁_elim c.requires (search props)
-    (λ r. subst IsUtf8 (sym (c.go_on-in_default.ensures.name ∙ cut)) (child_of c.args.self.now r.2).utf8))
+    (λ r. subst IsUtf8 (sym (c.go_on-in_default.ensures.name ∙ cut)) (turn.utf8 r.2.1)))
 
 pub returns-in_default-clause-less : goal.returns-in_default-clause-less
 returns-in_default-clause-less g c =
     ∥∥₁_elim c.requires le_prop (λ r.
-    let off = turn.clear (child_of c.args.self.now r.2) (omega arith) c.is_marked.ensures c.if-is_marked.false in
+    let off = turn.clear r.2.1 (omega arith) c.is_marked.ensures c.if-is_marked.false in
     let w = c.args.self.now in
     less_passed w.over (length w.source.bytes.now) w.marks c.mark.new.self w.top (w.next.start - w.source.from) (reverse w.stack.items)
-    (turn.within (child_of c.args.self.now r.2) (omega arith)) off c.mark.ensures c.go_on-in_default.ensures.less)
+    (turn.within r.2.1 (omega arith)) off c.mark.ensures c.go_on-in_default.ensures.less)
 
 pub returns-in_err-keep_below-clause-refused : goal.returns-in_err-keep_below-clause-refused
 returns-in_err-keep_below-clause-refused g c =
     let p = err_from_is_err_and c.from_residual-in_err-keep_below.result c.from_residual-in_err-keep_below.ensures.1 in
     rw (p.1, p.2) (λ found n at.
-    let off = turn.clear (child_of c.args.self.now at) (omega arith) c.is_marked.ensures c.if-is_marked.false in
+    let off = turn.clear at.1 (omega arith) c.is_marked.ensures c.if-is_marked.false in
     record {
       fault = tt;
       visited = suc n;
-      visits = turn.child_visits (child_of c.args.self.now at) (omega arith) off refl;
-      few_visits = turn.few_with_child (child_of c.args.self.now at) (omega arith) off refl;
+      visits = turn.child_visits at.1 (omega arith) off refl;
+      few_visits = turn.few_with_child at.1 (omega arith) off refl;
       count = omega (arith, c.in_ok-own.ensures.visits);
     })
 
@@ -135,16 +135,15 @@ pub returns-clause-found : goal.returns-clause-found
 returns-clause-found g c = λ found n at.
     let cut = c.in_ok-extend_from_slice.ensures.items ∙ ap (λ (x : List ℕ). x ++ c.as_bytes.result.now) c.truncate.ensures.items
     ∙ ap (λ (x : List ℕ). take c.args.self.now.top.name_len c.args.self.now.name.items ++ x) c.as_bytes.ensures.value in
-    let off = turn.clear (child_of c.args.self.now at) (omega arith) c.is_marked.ensures c.if-is_marked.false in
+    let off = turn.clear at.1 (omega arith) c.is_marked.ensures c.if-is_marked.false in
     let s = c.args.self.now.source in
-    let node = subst (λ (bs : Option Branches). node_in s c.args.self.now.next.start ≡ Ok (node_of s
-    (c.in_ok-own.own, bs))) c.in-Some.is c.in_ok-own.ensures.node in
-    let readable = subst (λ (bs : Option Branches). IfSome bs (AreReadable s.bytes.now s.from)) c.in-Some.is c.in_ok-own.ensures.readable in (
+    let node = subst (λ (bs : Option Branches). node_in s c.args.self.now.next.start ≡ Ok
+    (node_with_first s.bytes.now s.from (c.in_ok-own.own, bs))) c.in-Some.is c.in_ok-own.ensures.node in
+    let readable = subst (λ (bs : Option Branches). IfSome bs (λ b. IsReadable s.bytes.now s.from b.behind)) c.in-Some.is c.in_ok-own.ensures.readable in (
       suc n,
       inl (
         at.0,
-        inr
-            (turn.entered (child_of c.args.self.now at) (omega arith) off cut c.mark.ensures (info_in c.in_ok-own.own) c.in-Some.branches node readable
+        (turn.entered at.1 (omega arith) off cut c.mark.ensures (info_in c.in_ok-own.own) _ refl c.in-Some.branches node readable
             c.len-name_len.result
             (omega (arith, c.extend_from_slice.new.self.ok.0, c.len-name_len.ensures)) (reverse c.keep_below.new.stack.items)
             c.in_ok-keep_below.ensures.kept c.in_ok-keep_below.ensures.used_up),
@@ -156,16 +155,16 @@ pub returns-clause-utf8 : goal.returns-clause-utf8
 returns-clause-utf8 g c =
     let cut = c.in_ok-extend_from_slice.ensures.items ∙ ap (λ (x : List ℕ). x ++ c.as_bytes.result.now) c.truncate.ensures.items
     ∙ ap (λ (x : List ℕ). take c.args.self.now.top.name_len c.args.self.now.name.items ++ x) c.as_bytes.ensures.value in
-    if_some c.in_ok-own.own (∥∥₁_elim c.requires (search props) (λ r. subst IsUtf8 (sym cut) (child_of c.args.self.now r.2).utf8))
+    if_some c.in_ok-own.own (∥∥₁_elim c.requires (search props) (λ r. subst IsUtf8 (sym cut) (turn.utf8 r.2.1)))
 
 pub returns-clause-less : goal.returns-clause-less
 returns-clause-less g c =
     ∥∥₁_elim c.requires le_prop (λ r.
-    let off = turn.clear (child_of c.args.self.now r.2) (omega arith) c.is_marked.ensures c.if-is_marked.false in
-    let few = subst (λ (bs : Option Branches). IfSome bs (λ b. b.left + 1 ≤ length c.args.self.now.source.bytes.now)) c.in-Some.is c.in_ok-own.ensures.few in
+    let off = turn.clear r.2.1 (omega arith) c.is_marked.ensures c.if-is_marked.false in
+    let few = subst (λ (bs : Option Branches). IfSome bs (λ b. b.behind.left + 1 ≤ length c.args.self.now.source.bytes.now)) c.in-Some.is c.in_ok-own.ensures.few in
     let w = c.args.self.now in
     less_entered w.over (length w.source.bytes.now) w.marks c.mark.new.self w.top
-    (record { left = c.in-Some.branches.left; place = c.in-Some.branches.place; name_len = c.len-name_len.result })
+    (record { left = c.in-Some.branches.behind.left; place = c.in-Some.branches.behind.place; name_len = c.len-name_len.result })
     (w.next.start - w.source.from) (reverse w.stack.items) (reverse c.keep_below.new.stack.items) r.2.0 (omega (arith, few)) (turn.within
-    (child_of c.args.self.now r.2) (omega arith)) off c.mark.ensures
+    r.2.1 (omega arith)) off c.mark.ensures
     c.in_ok-keep_below.ensures.kept c.in_ok-keep_below.ensures.used_up)

@@ -1,38 +1,25 @@
--- What is seen of a look-up in the export trie.
-use Rattle.std.specs.Prelude.{◌≡◌, ◌≢◌, ◌<◌, ◌+◌, ◌++◌, ◌==◌, if◌then◌else◌, [], ◌∷◌, ℕ, suc, List, length, drop, Option, Some, None, option_map, slice_get}
-use Rattle.std.specs.Prelude.{Result, Ok}
+-- How far a look-up in the export trie has come.
+use Rattle.std.specs.Prelude.{◌≡◌, ◌≢◌, ◌<◌, ◌+◌, ◌++◌, [], ◌∷◌, ℕ, suc, List, length, drop, Option, Some, None, slice_get}
+use Rattle.std.specs.Prelude.{Ok}
 use Rattle.mach_base.specs.Among.{IsAmong}
-use Rattle.mach_base.specs.Fault.{Fault}
 use Rattle.mach_tries.specs.Trie as trie
 use Rattle.mach_tries.specs.Trie.{Info, Node, Trie}
 use Rattle.mach_tries.specs.Visits.{AreApart}
 use Rattle.mach_tries.specs.Finds.{Finds, BranchesFind, IsElsewhere}
 use Rattle.mach_tries.specs.LookUp.{IsOnWay}
-use Rattle.mach_tries.specs.Nodes.{branches_at, inner_at, terminal_at}
+use Rattle.mach_tries.specs.Nodes.{branches_at}
 use Rattle.mach_tries.specs.Exports.{info_of}
-use Rattle.mach_base.specs.Text.{texts}
-use Rattle.mach_tries.specs.BranchViews.{branches_of}
-use Rattle.mach_tries.specs.WalkViews.{source_trie, node_in, own_in}
-use Rattle.mach_tries.specs.declared.branches.BranchRun.{BranchRun}
-use Rattle.mach_tries.specs.declared.info.ExportInfo.{ExportInfo}
+use Rattle.mach_tries.specs.Views.{source_trie, node_in, own_in}
 use Rattle.mach_tries.specs.declared.walk.Source.{Source}
 use Rattle.mach_tries.specs.declared.look_up.Way.{Way}
 use Rattle.mach_tries.specs.declared.look_up.Way.TheVariants.{Nowhere, One, Several}
 use Rattle.mach_tries.specs.declared.look_up.Outcome.{Outcome}
 use Rattle.mach_tries.specs.declared.look_up.Outcome.TheVariants.{Found, Ends, Child, Open}
 
--- a node as it was read
-abbrev pub node_of : List ℕ → ℕ → Option ExportInfo × BranchRun → Node
-node_of bytes from read = record { own = option_map info_of read.0; branches = branches_of bytes from read.1 }
-
 -- the own export of so many bytes, if there is one, and the place behind it
 abbrev pub OwnEnds : Source → ℕ → ℕ → Option Info → ℕ → Type 0
 OwnEnds s size place None after = (size ≡ 0) × (after ≡ place)
 OwnEnds s size place (Some info) after = (size ≢ 0) × (own_in s size place ≡ Ok (info, after))
-
--- the node behind its size
-abbrev pub node_behind : Source → ℕ → ℕ → Result Node Fault
-node_behind s size place = if size == 0 then inner_at s.bytes.now s.from place else terminal_at s.bytes.now (texts s.libs.now) s.from size place
 
 -- of some branches those from a number on, behind branches through which nothing is found
 pub record Settles (t : Trie) (rest : List ℕ) (bs cs : List trie.Branch) : Type 0 where
