@@ -146,7 +146,7 @@ one_more {t} {libs} {c} {c'} {d} {name} {name'} {m} {stack} {stack'} {q} {old} {
     gives long put is is_node brought =
     let e = entry (name_of d m) (info_of info) in
     let row : gm_listed_export = record { name = used; name_len = length e.name; library = library; target = target; what = what } in
-    let more = written_more e row so.written less 
+    let more = written_more e row so.written less
     (record { name = refl; name_len = refl; what = is; node = node; is_node = is_node; brought = brought }) in
     record {
       given = so.given ++ e ∷ [];

@@ -11,7 +11,6 @@ use Rattle.mach_chained.specs.Bindings.{binding_by}
 use Rattle.mach_chained.specs.Fixups.{Fixup, Input}
 use Rattle.mach_chained.specs.Header.{Fixups}
 use Rattle.mach_chained.specs.Pointers.{Kind, rebase, bind, value}
-use Rattle.mach_chained.specs.Views.{fixups_view}
 use Rattle.mach_segments.specs.Bindings.{Binding, binding_view}
 use Rattle.mach_segments.specs.Segment.{segment_view}
 use Rattle.mach_segments.specs.declared.segment.Segment.{Segment}

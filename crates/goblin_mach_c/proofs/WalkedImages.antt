@@ -1,5 +1,5 @@
 -- Walks of an image's exports, by its bytes and as the image is held.
-use Rattle.std.proofs.Common.{◌≡◌, ◌≢◌, ◌++◌, [], ℕ, List, Option, Ok, inl, inr, refl, sym, ap, subst, arith}
+use Rattle.std.proofs.Common.{◌≡◌, ◌++◌, [], ℕ, List, Option, Ok, inl, inr, refl, sym, ap, subst, arith}
 use Rattle.std.proofs.lemmas.List.{append-nil}
 use Rattle.std.specs.declared.alloc.Global.{Global}
 use Rattle.mach_base.specs.Text.{text_at}
@@ -11,7 +11,7 @@ use Rattle.mach_tries.specs.TrieRange.{TrieRange}
 use Rattle.mach_tries.specs.declared.walk.Open.{Open}
 use Rattle.mach_image.specs.Image.{LossyOpens}
 use Rattle.mach_image.specs.OpenImage.{IsLossyImage, commands_held, trie_held}
-use Rattle.mach_image.specs.Subjects.{libs_in, trie_in, trie_or_empty}
+use Rattle.mach_image.specs.Subjects.{trie_or_empty}
 use Rattle.mach_image.specs.declared.macho.MachO.{MachO}
 use Rattle.mach_image.proofs.ImageFacts.{exports_are, exports_fail, facts_are, libraries_are}
 use Rattle.mach_image.proofs.Walked.{walked_fault, walked_list}

@@ -1,4 +1,4 @@
-use Rattle.std.proofs.Common.{◌≡◌, ◌+◌, ◌∙◌, ◌∷◌, ℕ, List, Result, sym, ap, subst, arith}
+use Rattle.std.proofs.Common.{◌≡◌, ◌+◌, ◌∙◌, ◌∷◌, ℕ, Result, sym, ap, subst, arith}
 use Rattle.std.proofs.Math.Nat.{min-eq_left}
 use Rattle.mach_base.specs.Fault.{Fault}
 use Rattle.mach_chained.specs.Pointers.{Kind, bind}

@@ -1,4 +1,4 @@
-use Rattle.std.proofs.Common.{[], ap, subst, inl, inr}
+use Rattle.std.proofs.Common.{[], ap, subst, inl}
 use Rattle.mach_base.specs.Text.{texts}
 use Rattle.mach_tries.specs.TrieRange.{TrieRange}
 use Rattle.mach_image.proofs.ImageFacts.{moved}
