@@ -115,7 +115,8 @@ put_behind done old text after used is e =
     ap (λ l. (l ++ text) ++ drop (used + n) after) front ∙ ap (λ l. (done ++ text) ++ l) rear
 
 -- one more row and one more name
-written_more : {bytes : List ℕ} {IsLibrary : ℕ → List ℕ → Type 0} {IsNode : ℕ → Info → Type 0} {given : List Entry} {k used : ℕ} {old new : List gm_listed_export} {text text' : List ℕ}
+written_more : {bytes : List ℕ} {IsLibrary : ℕ → List ℕ → Type 0} {IsNode : ℕ → Info → Type 0} {given : List Entry} {k used : ℕ}
+    {old new : List gm_listed_export} {text text' : List ℕ}
     (e : Entry) (row : gm_listed_export) → AreWritten bytes IsLibrary IsNode given k used old new text text' → k < length old
     → IsListed bytes IsLibrary IsNode used e row
     → AreWritten bytes IsLibrary IsNode (given ++ e ∷ []) (k + 1) (used + length e.name) old (set new k row) text
@@ -142,8 +143,8 @@ pub one_more : {t : TrieRange} {libs : List (List ℕ)} {c c' d : TrieCursor} {n
     → IsNodeOf t libs node (info_of info) → IsBrought t.bytes (IsNumbered libs) node (info_of info) library target
     → SoFar t libs c d name m stack q old (set new k (record { name = used; name_len = len; library = library; target = target; what = what })) text after
     (k + 1) (used + len)
-one_more {t} {libs} {c} {c'} {d} {name} {name'} {m} {stack} {stack'} {q} {old} {new} {text} {text'} {after} {k} {used} {len} {what} info library target node so less
-    gives long put is is_node brought =
+one_more {t} {libs} {c} {c'} {d} {name} {name'} {m} {stack} {stack'} {q} {old} {new} {text} {text'} {after} {k} {used} {len} {what} info library target node
+    so less gives long put is is_node brought =
     let e = entry (name_of d m) (info_of info) in
     let row : gm_listed_export = record { name = used; name_len = length e.name; library = library; target = target; what = what } in
     let more = written_more e row so.written less

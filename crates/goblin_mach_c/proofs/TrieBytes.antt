@@ -1,5 +1,6 @@
 -- The trie of an image lies in the bytes of the image.
-use Rattle.std.proofs.Common.{◌≡◌, ◌+◌, ◌-◌, ◌∷◌, [], ℕ, List, Bool, true, false, Option, Some, None, Result, Ok, Err, inl, inr, cond, drop, length, refl, sym, arith}
+use Rattle.std.proofs.Common.{◌≡◌, ◌+◌, ◌-◌, ◌∷◌, [], ℕ, List, Bool, true, false, Option, Some, None, Result, Ok, Err, inl, inr, cond}
+use Rattle.std.proofs.Common.{drop, length, refl, sym, arith}
 use Rattle.std.proofs.lemmas.Bool.{leb-false}
 use Rattle.std.specs.Prelude.{nat_le, option_map}
 use Rattle.std.specs.Str.{is_utf8}

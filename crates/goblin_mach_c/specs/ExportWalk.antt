@@ -32,7 +32,8 @@ IsBrought bytes IsLibrary node (reexport lib name flags) library target =
 IsBrought bytes IsLibrary node (stub at resolver flags) library target = (library ≡ 0) × (target ≡ 0)
 
 -- the row of an export whose name stands at a place among the names, and which is that of a node
-pub record IsListed (bytes : List ℕ) (IsLibrary : ℕ → List ℕ → Type 0) (IsNode : ℕ → Info → Type 0) (place : ℕ) (e : Entry) (row : gm_listed_export) : Type 0 where
+pub record IsListed (bytes : List ℕ) (IsLibrary : ℕ → List ℕ → Type 0) (IsNode : ℕ → Info → Type 0) (place : ℕ) (e : Entry)
+    (row : gm_listed_export) : Type 0 where
   pub name : row.name ≡ place
   pub name_len : row.name_len ≡ length e.name
   pub what : row.what ≡ export_row (Some e.info)

@@ -19,5 +19,6 @@ pub returns-in-None : goal.returns-in-None
 returns-in-None c = λ libs.
     let t = c.args.trie.now in
     let info = c.in-Reexport in
-    subst (λ (i : ExportInfo). IsOwnAt t.bytes libs t.from c.args.cursor.now.node (info_of i) → IsBrought t.bytes (IsNumbered libs) c.args.cursor.now.node (info_of i) 0 0)
+    subst (λ (i : ExportInfo). IsOwnAt t.bytes libs t.from c.args.cursor.now.node (info_of i)
+    → IsBrought t.bytes (IsNumbered libs) c.args.cursor.now.node (info_of i) 0 0)
     (sym info.is) (λ own. absurd (c.in-None.ensures.told libs info.lib.now (text_in info.lib_symbol_name) info.flags own))

@@ -41,7 +41,8 @@ loop-k-preserved c =
     let cut = length-take c.next_export.new.cursor.name_len c.next_export.new.name in
     let at = length-set c.loop-k.out c.loop-k.k (record { name = c.loop-k.used; name_len = c.put_name-len.result; library = c.brought_from-library.result.0; target = c.brought_from-library.result.1; what = c.row_of.result }) in
     record {
-      so_far = one_more c.in-Ok.info c.brought_from-library.result.0 c.brought_from-library.result.1 c.next_export.new.cursor.node c.loop-k.invariant.so_far (omega arith)
+      so_far = one_more c.in-Ok.info c.brought_from-library.result.0 c.brought_from-library.result.1 c.next_export.new.cursor.node
+          c.loop-k.invariant.so_far (omega arith)
           (λ found h. subst (λ (x : NextExport). NextGives c.args.trie.now (texts c.args.libs.now) found x c.next_export.new.cursor c.next_export.new.name
           c.next_export.new.stack) (sym c.in-Ok.ensures) (c.next_export.ensures.gives found h))
           c.put_name-len.ensures.count c.put_name-len.ensures.written c.row_of.ensures own
@@ -62,7 +63,8 @@ returns-clause-written c =
     let end = c.loop-k.auto.k-end in
     let all : c.loop-k.k ≡ length c.loop-k.out = omega (arith, out_len, past, end) in (
       so.given,
-      subst (λ (n : ℕ). AreWritten c.args.trie.now.bytes (IsNumbered (texts c.args.libs.now)) (IsNodeOf c.args.trie.now (texts c.args.libs.now)) so.given n c.loop-k.used c.args.out.now c.loop-k.out c.args.names.now c.loop-k.names) all so.written,
+      subst (λ (n : ℕ). AreWritten c.args.trie.now.bytes (IsNumbered (texts c.args.libs.now)) (IsNodeOf c.args.trie.now (texts c.args.libs.now))
+          so.given n c.loop-k.used c.args.out.now c.loop-k.out c.args.names.now c.loop-k.names) all so.written,
       so.walked,
     )
 

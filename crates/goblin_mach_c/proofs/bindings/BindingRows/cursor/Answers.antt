@@ -23,5 +23,7 @@ returns-clause-items c = λ x over.
 
 pub returns-clause-placed : goal.returns-clause-placed
 returns-clause-placed c = λ x over.
-    whole x _ c.args.self.now.opcodes c.args.self.now.fixups _ _ _ _ over.fixups over.libs over.segments over.base over.chains_at (c.opcode_cursor.ensures.items x over.opcodes)
-    (c.opcode_cursor.ensures.sites x over.opcodes) (c.cursor.ensures (record { chained = x.chained; segments = x.binds.segments }) over.fixups)
+    let it = c.args.self.now in
+    let chains = c.cursor.ensures (record { chained = x.chained; segments = x.binds.segments }) over.fixups in
+    whole x _ it.opcodes it.fixups _ _ _ _ over.fixups over.libs over.segments over.base over.chains_at (c.opcode_cursor.ensures.items x over.opcodes)
+    (c.opcode_cursor.ensures.sites x over.opcodes) chains
