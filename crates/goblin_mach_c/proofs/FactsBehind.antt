@@ -3,8 +3,10 @@ use Rattle.std.proofs.Common.{Option, Result}
 use Rattle.mach_base.specs.Context.{pointer_size}
 use Rattle.mach_base.specs.Fault.{Fault}
 use Rattle.mach_chained.specs.Header.{Fixups}
-use Rattle.mach_image.specs.Fixups.{chained_in}
+use Rattle.mach_image.specs.Fixups.{chained_in, chained_place_in}
 use Rattle.mach_image.specs.ImageFacts.{Facts}
+use Rattle.goblin_mach_c.specs.BindingPlaces.{data_place}
+use Rattle.goblin_mach_c.specs.BindingsBehind.{BindingSource}
 use Rattle.goblin_mach_c.specs.ImportsBehind.{Binds}
 
 abbrev pub binds_by : Facts → Binds
@@ -12,3 +14,6 @@ binds_by f = record { ranges = f.binds; pointer = pointer_size f.ctx.container; 
 
 abbrev pub chains_by : Facts → Result (Option Fixups) Fault
 chains_by f = chained_in f.ctx f.bytes f.commands
+
+abbrev pub source_by : Facts → BindingSource
+source_by f = record { bytes = f.bytes; binds = binds_by f; chained = chains_by f; chains_at = data_place (chained_place_in f.commands) }

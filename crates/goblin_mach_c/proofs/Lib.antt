@@ -14,5 +14,6 @@ pub mod HeldBinds
 pub mod BoundNames
 pub mod FactsBehind
 pub mod BoundChains
+pub mod PlacedBindings
 pub mod BeginsThere
 pub mod FoundExports

@@ -5,7 +5,7 @@ use Rattle.std.proofs.lemmas.List.{append-nil, append_assoc, length-append, drop
 use Rattle.std.proofs.Math.Seq.{take-append_seam, drop-append-add}
 use Rattle.mach_base.specs.Text.{text_at}
 use Rattle.mach_tries.specs.CursorState.{name_of}
-use Rattle.mach_tries.specs.Cursors.{HasGivenTo, IsReexportAt, NextGives}
+use Rattle.mach_tries.specs.Cursors.{HasGivenTo, IsReexportAt, NextGives, place_at}
 use Rattle.mach_tries.specs.Exports.{info_of}
 use Rattle.mach_tries.specs.Nodes as Nodes
 use Rattle.mach_tries.specs.Trie.{Entry, Info, entry, regular, reexport, stub}
@@ -15,7 +15,7 @@ use Rattle.mach_tries.specs.declared.cursor.TrieCursor.{TrieCursor}
 use Rattle.mach_tries.specs.declared.info.ExportInfo.{ExportInfo}
 use Rattle.mach_tries.specs.declared.walk.Open.{Open}
 use Rattle.goblin_mach_c.specs.ExportRows.{export_row, text_or_none}
-use Rattle.goblin_mach_c.specs.ExportWalk.{AreListed, AreWritten, IsBrought, IsListed, IsNumbered, names_of}
+use Rattle.goblin_mach_c.specs.ExportWalk.{AreListed, AreWritten, IsBrought, IsListed, IsNodeOf, IsNumbered, names_of}
 use Rattle.goblin_mach_c.specs.declared.exports.gm_listed_export.{gm_listed_export}
 use Rattle.goblin_mach_c.specs.declared.find.gm_export.{gm_export}
 use Rattle.goblin_mach_c.proofs.Filled.{set_behind}
@@ -26,48 +26,60 @@ names_more : (es : List Entry) (e : Entry) → names_of (es ++ e ∷ []) ≡ nam
 names_more [] e = append-nil e.name
 names_more (x ∷ es) e = ap (λ l. x.name ++ l) (names_more es e) ∙ sym (append_assoc x.name (names_of es) e.name)
 
-module _ (bytes : List ℕ) (IsLibrary : ℕ → List ℕ → Type 0) where
+module _ (bytes : List ℕ) (IsLibrary : ℕ → List ℕ → Type 0) (IsNode : ℕ → Info → Type 0) where
   listed_more : (place : ℕ) (es : List Entry) (rows : List gm_listed_export) (e : Entry) (row : gm_listed_export)
-      → AreListed bytes IsLibrary place es rows → IsListed bytes IsLibrary (place + length (names_of es)) e row
-      → AreListed bytes IsLibrary place (es ++ e ∷ []) (rows ++ row ∷ [])
+      → AreListed bytes IsLibrary IsNode place es rows → IsListed bytes IsLibrary IsNode (place + length (names_of es)) e row
+      → AreListed bytes IsLibrary IsNode place (es ++ e ∷ []) (rows ++ row ∷ [])
   listed_more place [] [] e row are more =
-      let same : place + 0 ≡ place = omega arith in (subst (λ (n : ℕ). IsListed bytes IsLibrary n e row) same more, tt)
+      let same : place + 0 ≡ place = omega arith in (subst (λ (n : ℕ). IsListed bytes IsLibrary IsNode n e row) same more, tt)
   listed_more place [] (r ∷ rows) e row are more = absurd are
   listed_more place (x ∷ es) [] e row are more = absurd are
   listed_more place (x ∷ es) (r ∷ rows) e row are more =
       let long = length-append x.name (names_of es) in
       let same : place + length (x.name ++ names_of es) ≡ (place + length x.name) + length (names_of es) = omega (arith, long) in (
         are.0,
-        listed_more (place + length x.name) es rows e row are.1 (subst (λ (n : ℕ). IsListed bytes IsLibrary n e row) same more),
+        listed_more (place + length x.name) es rows e row are.1 (subst (λ (n : ℕ). IsListed bytes IsLibrary IsNode n e row) same more),
       )
 
-  listed_length : (place : ℕ) (es : List Entry) (rows : List gm_listed_export) → AreListed bytes IsLibrary place es rows → length rows ≡ length es
+  listed_length : (place : ℕ) (es : List Entry) (rows : List gm_listed_export) → AreListed bytes IsLibrary IsNode place es rows → length rows ≡ length es
   listed_length place [] [] are = refl
   listed_length place [] (r ∷ rows) are = absurd are
   listed_length place (x ∷ es) [] are = absurd are
   listed_length place (x ∷ es) (r ∷ rows) are = ap suc (listed_length (place + length x.name) es rows are.1)
 
--- what is said of other bytes and other libraries
-module _ (bytes bytes' : List ℕ) (IsLibrary IsLibrary' : ℕ → List ℕ → Type 0)
+-- what is said of other bytes, other libraries and other nodes
+module _ (bytes bytes' : List ℕ) (IsLibrary IsLibrary' : ℕ → List ℕ → Type 0) (IsNode IsNode' : ℕ → Info → Type 0)
     (text : (place : ℕ) (text : List ℕ) → text_at bytes place ≡ Ok text → text_at bytes' place ≡ Ok text)
-    (library : (number : ℕ) (name : List ℕ) → IsLibrary number name → IsLibrary' number name) where
-  brought_there : (info : Info) (number place : ℕ) → IsBrought bytes IsLibrary info number place → IsBrought bytes' IsLibrary' info number place
-  brought_there (regular address flags) number place b = b
-  brought_there (reexport lib name flags) number place b = (library number lib b.0, text place (text_or_none name) b.1)
-  brought_there (stub at resolver flags) number place b = b
+    (number_place : (node : ℕ) (found : ℕ × ℕ) → place_at bytes node ≡ Ok found → place_at bytes' node ≡ Ok found)
+    (library : (number : ℕ) (name : List ℕ) → IsLibrary number name → IsLibrary' number name)
+    (is_node : (node : ℕ) (info : Info) → IsNode node info → IsNode' node info) where
+  brought_there : (node : ℕ) (info : Info) (number place : ℕ) → IsBrought bytes IsLibrary node info number place
+      → IsBrought bytes' IsLibrary' node info number place
+  brought_there node (regular address flags) number place b = b
+  brought_there node (reexport lib name flags) number place b =
+      (number_place node (number, place) b.0, library number lib b.1, text place (text_or_none name) b.2)
+  brought_there node (stub at resolver flags) number place b = b
 
-  listed_there : (place : ℕ) (es : List Entry) (rows : List gm_listed_export) → AreListed bytes IsLibrary place es rows → AreListed bytes' IsLibrary' place es rows
+  listed_there : (place : ℕ) (es : List Entry) (rows : List gm_listed_export) → AreListed bytes IsLibrary IsNode place es rows
+      → AreListed bytes' IsLibrary' IsNode' place es rows
   listed_there place [] [] are = tt
   listed_there place [] (r ∷ rows) are = absurd are
   listed_there place (x ∷ es) [] are = absurd are
   listed_there place (x ∷ es) (r ∷ rows) are =
       let l = are.0 in (
-        record { name = l.name; name_len = l.name_len; what = l.what; brought = brought_there x.info r.library r.target l.brought },
+        record {
+          name = l.name;
+          name_len = l.name_len;
+          what = l.what;
+          node = l.node;
+          is_node = is_node l.node x.info l.is_node;
+          brought = brought_there l.node x.info r.library r.target l.brought;
+        },
         listed_there (place + length x.name) es rows are.1,
       )
 
   pub written_there : {given : List Entry} {count used : ℕ} {old new : List gm_listed_export} {names names' : List ℕ}
-      → AreWritten bytes IsLibrary given count used old new names names' → AreWritten bytes' IsLibrary' given count used old new names names'
+      → AreWritten bytes IsLibrary IsNode given count used old new names names' → AreWritten bytes' IsLibrary' IsNode' given count used old new names names'
   written_there {given} w = record {
     is_count = w.is_count;
     is_used = w.is_used;
@@ -81,7 +93,7 @@ module _ (bytes bytes' : List ℕ) (IsLibrary IsLibrary' : ℕ → List ℕ → 
 pub record SoFar (t : TrieRange) (libs : List (List ℕ)) (c c' : TrieCursor) (name name' : List ℕ) (stack stack' : List Open)
     (old new : List gm_listed_export) (text text' : List ℕ) (k used : ℕ) : Type 0 where
   pub given : List Entry
-  pub written : AreWritten t.bytes (IsNumbered libs) given k used old new text text'
+  pub written : AreWritten t.bytes (IsNumbered libs) (IsNodeOf t libs) given k used old new text text'
   pub walked : (found : List Entry) → HasGivenTo t libs c name stack found → HasGivenTo t libs c' name' stack' (found ++ given)
 
 pub none_so_far : {t : TrieRange} {libs : List (List ℕ)} {c : TrieCursor} {name : List ℕ} {stack : List Open} {old : List gm_listed_export} {text : List ℕ}
@@ -103,38 +115,40 @@ put_behind done old text after used is e =
     ap (λ l. (l ++ text) ++ drop (used + n) after) front ∙ ap (λ l. (done ++ text) ++ l) rear
 
 -- one more row and one more name
-written_more : {bytes : List ℕ} {IsLibrary : ℕ → List ℕ → Type 0} {given : List Entry} {k used : ℕ} {old new : List gm_listed_export} {text text' : List ℕ}
-    (e : Entry) (row : gm_listed_export) → AreWritten bytes IsLibrary given k used old new text text' → k < length old
-    → IsListed bytes IsLibrary used e row
-    → AreWritten bytes IsLibrary (given ++ e ∷ []) (k + 1) (used + length e.name) old (set new k row) text
+written_more : {bytes : List ℕ} {IsLibrary : ℕ → List ℕ → Type 0} {IsNode : ℕ → Info → Type 0} {given : List Entry} {k used : ℕ}
+    {old new : List gm_listed_export} {text text' : List ℕ}
+    (e : Entry) (row : gm_listed_export) → AreWritten bytes IsLibrary IsNode given k used old new text text' → k < length old
+    → IsListed bytes IsLibrary IsNode used e row
+    → AreWritten bytes IsLibrary IsNode (given ++ e ∷ []) (k + 1) (used + length e.name) old (set new k row) text
     (take used text' ++ e.name ++ drop (used + length e.name) text')
-written_more {bytes} {IsLibrary} {given} {k} {used} {old} {new} {text} {text'} e row w less is_row =
-    let many = listed_length bytes IsLibrary 0 given w.listed w.are ∙ sym w.is_count in
+written_more {bytes} {IsLibrary} {IsNode} {given} {k} {used} {old} {new} {text} {text'} e row w less is_row =
+    let many = listed_length bytes IsLibrary IsNode 0 given w.listed w.are ∙ sym w.is_count in
     let is = w.is_used in
     let place : used ≡ 0 + length (names_of given) = omega (arith, is) in
     record {
       is_count = ap (λ n. n + 1) w.is_count ∙ sym (length-append given (e ∷ []));
       is_used = ap (λ n. n + length e.name) w.is_used ∙ sym (length-append (names_of given) e.name) ∙ ap length (sym (names_more given e));
       listed = w.listed ++ row ∷ [];
-      are = listed_more bytes IsLibrary 0 given w.listed e row w.are (subst (λ (n : ℕ). IsListed bytes IsLibrary n e row) place is_row);
+      are = listed_more bytes IsLibrary IsNode 0 given w.listed e row w.are (subst (λ (n : ℕ). IsListed bytes IsLibrary IsNode n e row) place is_row);
       rows = ap (λ l. set l k row) w.rows ∙ set_behind w.listed old k row many less ∙ sym (append_assoc w.listed (row ∷ []) (drop (k + 1) old));
       names = put_behind (names_of given) text e.name text' used w.is_used w.names ∙ ap (λ l. l ++ drop (used + length e.name) text) (sym (names_more given e));
     }
 
 -- an export more
 pub one_more : {t : TrieRange} {libs : List (List ℕ)} {c c' d : TrieCursor} {name name' m : List ℕ} {stack stack' q : List Open}
-    {old new : List gm_listed_export} {text text' after : List ℕ} {k used len : ℕ} {what : gm_export} (info : ExportInfo) (library target : ℕ)
+    {old new : List gm_listed_export} {text text' after : List ℕ} {k used len : ℕ} {what : gm_export} (info : ExportInfo) (library target node : ℕ)
     → SoFar t libs c c' name name' stack stack' old new text text' k used → k < length old
     → ((found : List Entry) → HasGivenTo t libs c' name' stack' found → NextGives t libs found (Export info) d m q)
     → len ≡ length (name_of d m) → after ≡ take used text' ++ name_of d m ++ drop (used + len) text' → what ≡ export_row (Some (info_of info))
-    → IsBrought t.bytes (IsNumbered libs) (info_of info) library target
+    → IsNodeOf t libs node (info_of info) → IsBrought t.bytes (IsNumbered libs) node (info_of info) library target
     → SoFar t libs c d name m stack q old (set new k (record { name = used; name_len = len; library = library; target = target; what = what })) text after
     (k + 1) (used + len)
-one_more {t} {libs} {c} {c'} {d} {name} {name'} {m} {stack} {stack'} {q} {old} {new} {text} {text'} {after} {k} {used} {len} {what} info library target so less
-    gives long put is brought =
+one_more {t} {libs} {c} {c'} {d} {name} {name'} {m} {stack} {stack'} {q} {old} {new} {text} {text'} {after} {k} {used} {len} {what} info library target node
+    so less gives long put is is_node brought =
     let e = entry (name_of d m) (info_of info) in
     let row : gm_listed_export = record { name = used; name_len = length e.name; library = library; target = target; what = what } in
-    let more = written_more e row so.written less (record { name = refl; name_len = refl; what = is; brought = brought }) in
+    let more = written_more e row so.written less
+    (record { name = refl; name_len = refl; what = is; node = node; is_node = is_node; brought = brought }) in
     record {
       given = so.given ++ e ∷ [];
       written = rw (put, long) more;
@@ -147,6 +161,7 @@ text_is : (text : List ℕ) (name : Option (List ℕ)) → name ≡ Nodes.name_o
 text_is [] name e = rw e refl
 text_is (x ∷ xs) name e = rw e refl
 
-pub brought_by : (bytes : List ℕ) (libs : List (List ℕ)) (lib : List ℕ) (name : Option (List ℕ)) (flags : ℕ) (found : ℕ × ℕ)
-    → IsReexportAt bytes libs lib name (Some found) → IsBrought bytes (IsNumbered libs) (reexport lib name flags) found.0 found.1
-brought_by bytes libs lib name flags found at = (at.0, at.2 ∙ ap Ok (text_is at.1 name at.3))
+pub brought_by : (bytes : List ℕ) (libs : List (List ℕ)) (node : ℕ) (lib : List ℕ) (name : Option (List ℕ)) (flags : ℕ) (found : ℕ × ℕ)
+    → place_at bytes node ≡ Ok found → IsReexportAt bytes libs lib name (Some found)
+    → IsBrought bytes (IsNumbered libs) node (reexport lib name flags) found.0 found.1
+brought_by bytes libs node lib name flags found there at = (there, at.0, at.2 ∙ ap Ok (text_is at.1 name at.3))

@@ -1,23 +1,24 @@
 -- Walks of an image's exports, by its bytes and as the image is held.
-use Rattle.std.proofs.Common.{◌≡◌, ◌≢◌, ◌++◌, [], ℕ, List, Option, Ok, inl, inr, refl, sym, ap, subst, arith}
+use Rattle.std.proofs.Common.{◌≡◌, ◌++◌, [], ℕ, List, Option, Ok, inl, inr, refl, sym, ap, subst, arith}
 use Rattle.std.proofs.lemmas.List.{append-nil}
 use Rattle.std.specs.declared.alloc.Global.{Global}
 use Rattle.mach_base.specs.Text.{text_at}
 use Rattle.mach_base.specs.Text.{texts}
 use Rattle.mach_base.specs.Fault.{malformed}
-use Rattle.mach_tries.specs.Cursors.{AreAllMet}
+use Rattle.mach_tries.specs.Cursors.{AreAllMet, place_at}
 use Rattle.mach_tries.specs.Trie.{Entry}
 use Rattle.mach_tries.specs.TrieRange.{TrieRange}
 use Rattle.mach_tries.specs.declared.walk.Open.{Open}
 use Rattle.mach_image.specs.Image.{LossyOpens}
 use Rattle.mach_image.specs.OpenImage.{IsLossyImage, commands_held, trie_held}
-use Rattle.mach_image.specs.Subjects.{libs_in, trie_in, trie_or_empty}
+use Rattle.mach_image.specs.Subjects.{trie_or_empty}
 use Rattle.mach_image.specs.declared.macho.MachO.{MachO}
 use Rattle.mach_image.proofs.ImageFacts.{exports_are, exports_fail, facts_are, libraries_are}
 use Rattle.mach_image.proofs.Walked.{walked_fault, walked_list}
-use Rattle.goblin_mach_c.specs.ExportWalk.{AreWritten, EndsWith, GoesAlong, GoesOn, HasLibrary, HasNextName, HasWalked, HasWalkedTrie, IsNextName, IsNumbered, no_batch}
+use Rattle.goblin_mach_c.specs.ExportWalk.{AreWritten, EndsWith, GoesAlong, GoesOn, HasLibrary, HasNextName, HasNodeOf, HasWalked, HasWalkedTrie}
+use Rattle.goblin_mach_c.specs.ExportWalk.{IsNextName, IsNodeOf, IsNumbered, no_batch}
 use Rattle.goblin_mach_c.proofs.ListedExports.{written_there}
-use Rattle.goblin_mach_c.proofs.TrieBytes.{text_there}
+use Rattle.goblin_mach_c.proofs.TrieBytes.{place_there, text_there}
 use Rattle.goblin_mach_c.specs.declared.exports.gm_export_batch.{gm_export_batch}
 use Rattle.goblin_mach_c.specs.declared.exports.gm_export_walk.{gm_export_walk}
 use Rattle.goblin_mach_c.specs.declared.exports.gm_listed_export.{gm_listed_export}
@@ -25,7 +26,7 @@ use Rattle.goblin_mach_c.specs.declared.exports.gm_listed_export.{gm_listed_expo
 -- ---- a call that gives nothing
 
 pub none_written : (bytes : List ℕ) (o : ℕ) (b : gm_export_batch) (out : List gm_listed_export) (text : List ℕ) → b ≡ no_batch
-    → AreWritten bytes (HasLibrary bytes o) [] b.count b.names_len out out text text
+    → AreWritten bytes (HasLibrary bytes o) (HasNodeOf bytes o) [] b.count b.names_len out out text text
 none_written bytes o b out text is = rw is (record { is_count = refl; is_used = refl; listed = []; are = tt; rows = refl; names = refl })
 
 pub stays : (bytes : List ℕ) (o : ℕ) (w : gm_export_walk) (name : List ℕ) (stack : List Open) → GoesOn bytes o w name stack [] w name stack
@@ -64,13 +65,16 @@ module _ (bytes : List ℕ) (o : ℕ) (m : MachO Global) (p : IsLossyImage bytes
 
   -- its rows
   pub rows_there : (given : List Entry) (count used : ℕ) (old new : List gm_listed_export) (names names' : List ℕ)
-      → AreWritten trie.bytes (IsNumbered libs) given count used old new names names'
-      → AreWritten bytes (HasLibrary bytes o) given count used old new names names'
+      → AreWritten trie.bytes (IsNumbered libs) (IsNodeOf trie libs) given count used old new names names'
+      → AreWritten bytes (HasLibrary bytes o) (HasNodeOf bytes o) given count used old new names names'
   rows_there given count used old new names names' w =
-      written_there trie.bytes bytes (IsNumbered libs) (HasLibrary bytes o)
+      written_there trie.bytes bytes (IsNumbered libs) (HasLibrary bytes o) (IsNodeOf trie libs) (HasNodeOf bytes o)
       (λ place text e. text_there bytes (commands_held m) place text
       (subst (λ (t : Option TrieRange). text_at (trie_or_empty t).bytes place ≡ Ok text) p.fields.trie e))
-      (λ number name e. (libs, ((libraries_are m).lossy bytes o p libs).1 refl, e)) w
+      (λ node found e. place_there bytes (commands_held m) node found
+      (subst (λ (t : Option TrieRange). place_at (trie_or_empty t).bytes node ≡ Ok found) p.fields.trie e))
+      (λ number name e. (libs, ((libraries_are m).lossy bytes o p libs).1 refl, e))
+      (λ node info own. (facts_are bytes o m p (λ f. IsNodeOf (trie_or_empty f.trie) f.libs node info)).1 own) w
 
   -- the name that comes next
   pub next_name_there : (w : gm_export_walk) (n : ℕ) → IsNextName trie w.cursor n → HasNextName bytes o w n

@@ -4,6 +4,7 @@ use Rattle.mach_base.specs.Fault.{Fault}
 use Rattle.mach_segments.specs.Bindings.{Binding, Provider, of_library, itself, main_executable, flat, weak_lookup}
 use Rattle.goblin_mach_c.specs.Codes.{code_of_fault}
 use Rattle.goblin_mach_c.specs.Opened.{flag}
+use Rattle.goblin_mach_c.specs.Sited.{told_at}
 use Rattle.goblin_mach_c.specs.declared.bindings.gm_binding.{gm_binding}
 
 -- the number of a provider
@@ -59,12 +60,12 @@ pub record StandsIn (bytes : List ℕ) (place : ℕ) (name : List ℕ) : Type 0 
   pub within : place + length name ≤ length bytes
   pub there : take (length name) (drop place bytes) ≡ name
 
--- The row has the numbers of the binding, and its name stands where the row says.
-pub record SaysBinding (bytes : List ℕ) (b : Binding) (row : gm_binding) : Type 0 where
-  pub numbers : row ≡ binding_row row.name b
+-- The row has the numbers of the binding and the place of its name, and the name stands there.
+pub record SaysBinding (bytes : List ℕ) (b : Binding) (place : ℕ) (row : gm_binding) : Type 0 where
+  pub numbers : row ≡ binding_row (told_at b.name place) b
   pub name : StandsIn bytes row.name b.name
 
--- a row says a binding, or the fault that ends them
-abbrev pub IsBindingRow : List ℕ → Result Binding Fault → gm_binding → Type 0
-IsBindingRow bytes (Ok b) row = SaysBinding bytes b row
+-- a row says a binding with the place of its name, or the fault that ends them
+abbrev pub IsBindingRow : List ℕ → Result (Binding × ℕ) Fault → gm_binding → Type 0
+IsBindingRow bytes (Ok b) row = SaysBinding bytes b.0 b.1 row
 IsBindingRow bytes (Err f) row = row ≡ no_binding f

@@ -2,7 +2,9 @@
 use Rattle.std.specs.Prelude.{◌≡◌, ◌<◌, ◌^◌, ◌⊎◌, ◌++◌, ℕ, List, [], ◌∷◌, Option, Some, None, Result, Ok, Err, map, length, drop}
 use Rattle.mach_base.specs.Fault.{Fault, fault_of}
 use Rattle.mach_base.specs.Number.{slice_at}
+use Rattle.mach_base.specs.declared.context.Ctx.{Ctx}
 use Rattle.mach_base.specs.declared.error.Error.{Error}
+use Rattle.mach_load.specs.Command.{Command}
 use Rattle.mach_segments.specs.Bindings.{Binding, binding_view, texts}
 use Rattle.mach_segments.specs.Segment.{segment_view}
 use Rattle.mach_segments.specs.declared.segment.Segment.{Segment}
@@ -10,22 +12,30 @@ use Rattle.mach_chained.specs.Bindings.{bindings_of}
 use Rattle.mach_chained.specs.Fixups.{Fixup}
 use Rattle.mach_chained.specs.FixupsLeft as walk
 use Rattle.mach_chained.specs.Header.{Fixups}
+use Rattle.mach_chained.specs.Views.{fixups_view}
 use Rattle.mach_chained.specs.WalkViews.{input_in}
 use Rattle.mach_binds.specs.BindCursors.{IsOverBindings, bindings_behind}
 use Rattle.mach_binds.specs.Bindings.{upto_fault}
 use Rattle.mach_binds.specs.BindingsLeft as opcodes
 use Rattle.mach_binds.specs.Imports.{BindRanges, input_in as bind_input}
+use Rattle.mach_binds.specs.SiteCursors.{binding_sites_left}
+use Rattle.mach_binds.specs.Sites.{Site}
 use Rattle.mach_binds.specs.declared.imports.cursor.BindCursor.{BindCursor}
 use Rattle.mach_binds.specs.declared.imports.cursor.PlacedBinding.{PlacedBinding}
 use Rattle.mach_binds.specs.declared.bindings.OpcodeBindingIterator.{OpcodeBindingIterator}
 use Rattle.mach_image.specs.Bindings.{AreOpcodeBindings}
 use Rattle.mach_image.specs.Facts.{OfImage}
-use Rattle.mach_image.specs.Fixups.{base_of, chained_in, input_over}
+use Rattle.mach_image.specs.Fixups.{base_of, chained_held, chained_in, chained_place_in, input_over}
 use Rattle.mach_image.specs.FixupsLeft.{told_first}
+use Rattle.mach_image.specs.OpenImage.{bytes_held, commands_held}
+use Rattle.mach_image.specs.declared.macho.MachO.{MachO}
+use Rattle.std.specs.declared.alloc.Global.{Global}
+use Rattle.goblin_mach_c.specs.BindingPlaces.{AreSitesAtStage, data_place, places_by, places_in, places_of}
 use Rattle.goblin_mach_c.specs.BindingRows.{IsBindingRow, StandsIn}
 use Rattle.goblin_mach_c.specs.FixupsBehind.{AreFixupsBehind, AreOver as AreOverFixups}
-use Rattle.goblin_mach_c.specs.ImportsBehind.{Binds, binds_there}
+use Rattle.goblin_mach_c.specs.ImportsBehind.{Binds, binds_of, binds_there}
 use Rattle.goblin_mach_c.specs.Say.{FillsBy}
+use Rattle.goblin_mach_c.specs.Sited.{placed}
 use Rattle.goblin_mach_c.specs.Stage.{Stage, start, under_way, over, stage_of}
 use Rattle.goblin_mach_c.specs.declared.bindings.gm_binding.{gm_binding}
 use Rattle.goblin_mach_c.specs.declared.bindings.gm_binding_cursor.{gm_binding_cursor}
@@ -61,14 +71,56 @@ pub record AreBindingsBehind (c : gm_binding_cursor) (x : Binds) (chained : Resu
   pub chains : AreFixupsBehind c.chains chained x.segments fixups
   pub are : items ≡ upto_fault (by_opcodes ++ bindings_by chained x fixups)
 
+-- what bindings are read from: the bytes, the binds, the chains, and where the data of these begin
+pub record BindingSource : Type 0 where
+  pub bytes : List ℕ
+  pub binds : Binds
+  pub chained : Result (Option Fixups) Fault
+  pub chains_at : ℕ
+
+-- that of an image that is held
+abbrev pub source_of : MachO Global → BindingSource
+source_of m = record {
+  bytes = bytes_held m;
+  binds = binds_of m;
+  chained = chained_held m;
+  chains_at = data_place (chained_place_in (commands_held m));
+}
+
+-- that of the commands of some bytes
+abbrev pub source_there : Ctx → List ℕ → List Command → BindingSource
+source_there ctx bytes cs = record {
+  bytes = bytes;
+  binds = binds_there ctx bytes cs;
+  chained = chained_in ctx bytes cs;
+  chains_at = data_place (chained_place_in cs);
+}
+
+-- a binding without the place of its name
+abbrev pub unplaced : Result (Binding × ℕ) Fault → Result Binding Fault
+unplaced (Ok b) = Ok b.0
+unplaced (Err f) = Err f
+
+-- These bindings come behind a cursor, each with the place of its own name: those of the opcodes with their sites, and then those of the
+-- fixups behind its two parts with the places of their binds, up to the first fault.
+pub record ArePlacedBehind (c : gm_binding_cursor) (x : BindingSource) (items : List (Result (Binding × ℕ) Fault)) : Type 0 where
+  pub by_opcodes : List (Result Binding Fault)
+  pub sites : List Site
+  pub fixups : List (Result Fixup Fault)
+  pub opcodes : AreAtStage (stage_of c.opcodes.stage) c.opcodes.binds x.binds by_opcodes
+  pub opcode_sites : AreSitesAtStage (stage_of c.opcodes.stage) c.opcodes.binds x.binds sites
+  pub chains : AreFixupsBehind c.chains x.chained x.binds.segments fixups
+  pub are : items
+      ≡ upto_fault (placed by_opcodes (places_of sites) ++ placed (bindings_by x.chained x.binds fixups) (places_by x.chains_at x.chained fixups))
+  pub bindings : AreBindingsBehind c x.binds x.chained (map unplaced items)
+
 -- The rows of the bindings behind a cursor were written, as many as there are and fit, and behind the new cursor come the
 -- others.
-pub record AreBindingsWritten (bytes : List ℕ) (x : Binds) (chained : Result (Option Fixups) Fault) (before after : gm_binding_cursor)
-    (old new : List gm_binding) (n : ℕ) : Type 0 where
-  pub items : List (Result Binding Fault)
-  pub behind : AreBindingsBehind before x chained items
-  pub rows : FillsBy (IsBindingRow bytes) items old new n
-  pub rest : AreBindingsBehind after x chained (drop n items)
+pub record AreBindingsWritten (x : BindingSource) (before after : gm_binding_cursor) (old new : List gm_binding) (n : ℕ) : Type 0 where
+  pub items : List (Result (Binding × ℕ) Fault)
+  pub behind : ArePlacedBehind before x items
+  pub rows : FillsBy (IsBindingRow x.bytes) items old new n
+  pub rest : ArePlacedBehind after x (drop n items)
 
 -- the binds and the chains of the image at o, over its libraries and its segments
 abbrev pub OfBindings : List ℕ → ℕ → (Binds → Result (Option Fixups) Fault → Type 0) → Type 0
@@ -80,7 +132,7 @@ HasBindingsBehind bytes o c items = OfBindings bytes o (λ x chained. AreBinding
 
 -- the rows of the bindings of the image at o were written
 abbrev pub WritesBindings : List ℕ → ℕ → (before after : gm_binding_cursor) → (old new : List gm_binding) → ℕ → Type 0
-WritesBindings bytes o before after old new n = OfBindings bytes o (λ x chained. AreBindingsWritten bytes x chained before after old new n)
+WritesBindings bytes o before after old new n = OfImage bytes o (λ ctx cs. AreBindingsWritten (source_there ctx bytes cs) before after old new n)
 
 -- ---- what is left to the rows
 
@@ -106,11 +158,29 @@ all_left it = opcodes_left it.opcodes ++ chains_left it
 abbrev pub items_left : BindingRows → List (Result Binding Fault)
 items_left it = upto_fault (all_left it)
 
--- what rows are read from: the bytes, the binds and the chains
-pub record BindingSource : Type 0 where
-  pub bytes : List ℕ
-  pub binds : Binds
-  pub chained : Result (Option Fixups) Fault
+-- the same with places: of the opcodes the sites that are left, of the chains the places of the binds that are left
+abbrev pub sites_left : Option OpcodeBindingIterator → List Site
+sites_left None = []
+sites_left (Some it) = binding_sites_left it
+
+abbrev pub bound_places : ChainWalk → ℕ → List ℕ
+bound_places it at = places_in at (fixups_view it.chained) (walk.fixups_left it.fixups)
+
+abbrev pub chain_places : FixupRows → ℕ → List ℕ
+chain_places (rows.Unread why) at = []
+chain_places (rows.Chains it) at = bound_places it at
+
+abbrev pub opcodes_placed : Option OpcodeBindingIterator → List (Result (Binding × ℕ) Fault)
+opcodes_placed it = placed (opcodes_left it) (places_of (sites_left it))
+
+abbrev pub chains_placed : BindingRows → List (Result (Binding × ℕ) Fault)
+chains_placed it = placed (chains_left it) (chain_places it.fixups it.chains_at)
+
+abbrev pub all_placed : BindingRows → List (Result (Binding × ℕ) Fault)
+all_placed it = opcodes_placed it.opcodes ++ chains_placed it
+
+abbrev pub placed_left : BindingRows → List (Result (Binding × ℕ) Fault)
+placed_left it = upto_fault (all_placed it)
 
 abbrev pub AreOverOpcodes : BindingSource → Option OpcodeBindingIterator → Type 0
 AreOverOpcodes x None = Unit {0}
@@ -130,6 +200,7 @@ pub record AreOver (x : BindingSource) (it : BindingRows) : Type 0 where
   pub segments : map segment_view it.segments.now ≡ x.binds.segments
   pub base : it.base ≡ base_of x.binds.segments
   pub chains : StandAt x it.chains_at
+  pub chains_at : it.chains_at ≡ x.chains_at
   pub short : length x.bytes < 2 ^ 64
 
 -- what comes first, and what is left behind it; behind an error nothing matters
@@ -137,6 +208,18 @@ abbrev pub ComesFirst : List (Result Binding Fault) → Option (Result PlacedBin
 ComesFirst before None after = (before ≡ []) × (after ≡ [])
 ComesFirst before (Some (Ok p)) after = before ≡ Ok (binding_view p.binding) ∷ after
 ComesFirst before (Some (Err e)) after = (rest : List (Result Binding Fault)) × (before ≡ Err (fault_of e) ∷ rest)
+
+-- the same with places: the binding comes first with its own
+abbrev pub PlacedFirst : List (Result (Binding × ℕ) Fault) → Option (Result PlacedBinding Error) → List (Result (Binding × ℕ) Fault) → Type 0
+PlacedFirst before None after = (before ≡ []) × (after ≡ [])
+PlacedFirst before (Some (Ok p)) after = before ≡ Ok (binding_view p.binding, p.name_place) ∷ after
+PlacedFirst before (Some (Err e)) after = (rest : List (Result (Binding × ℕ) Fault)) × (before ≡ Err (fault_of e) ∷ rest)
+
+-- a binding's place comes first among these, and behind it come those
+abbrev pub PlaceFirst : List ℕ → Option (Result PlacedBinding Error) → List ℕ → Type 0
+PlaceFirst before None after = Unit {0}
+PlaceFirst before (Some (Ok p)) after = before ≡ p.name_place ∷ after
+PlaceFirst before (Some (Err e)) after = Unit {0}
 
 -- the name of a binding stands at its place, unless it has no bytes
 abbrev pub IsPlaced : List ℕ → PlacedBinding → Type 0

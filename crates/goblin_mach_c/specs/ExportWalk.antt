@@ -3,7 +3,7 @@ use Rattle.std.specs.Prelude.{◌≡◌, ◌≢◌, ◌==◌, ◌+◌, ◌-◌, 
 use Rattle.mach_base.specs.Fault.{Fault, fault_of, malformed}
 use Rattle.mach_base.specs.Text.{text_at}
 use Rattle.mach_tries.specs.CursorState.{IsNextLabel}
-use Rattle.mach_tries.specs.Cursors.{HasGivenTo, NextGives, AreAllMet, IsCutShort}
+use Rattle.mach_tries.specs.Cursors.{HasGivenTo, NextGives, AreAllMet, IsCutShort, IsOwnAt, place_at}
 use Rattle.mach_tries.specs.Trie.{Entry, Info, regular, reexport, stub}
 use Rattle.mach_tries.specs.TrieRange.{ListsExports, ExportsFault, TrieRange}
 use Rattle.mach_tries.specs.declared.cursor.NextExport.{NextExport}
@@ -23,19 +23,23 @@ use Rattle.goblin_mach_c.specs.declared.exports.gm_listed_export.{gm_listed_expo
 
 -- ---- rows
 
--- Of a re-export the library is the one of this number, and its name there is the text at this place, empty where it is the
--- same name. Of another export both are 0.
-abbrev pub IsBrought : List ℕ → (ℕ → List ℕ → Type 0) → Info → ℕ → ℕ → Type 0
-IsBrought bytes IsLibrary (regular address flags) library target = (library ≡ 0) × (target ≡ 0)
-IsBrought bytes IsLibrary (reexport lib name flags) library target = IsLibrary library lib × (text_at bytes target ≡ Ok (text_or_none name))
-IsBrought bytes IsLibrary (stub at resolver flags) library target = (library ≡ 0) × (target ≡ 0)
+-- Of a re-export of the node that begins here the library has the number that the node says, and the name there is the text behind
+-- that number, empty where it is the same name. Of another export both are 0.
+abbrev pub IsBrought : List ℕ → (ℕ → List ℕ → Type 0) → ℕ → Info → ℕ → ℕ → Type 0
+IsBrought bytes IsLibrary node (regular address flags) library target = (library ≡ 0) × (target ≡ 0)
+IsBrought bytes IsLibrary node (reexport lib name flags) library target =
+    (place_at bytes node ≡ Ok (library, target)) × IsLibrary library lib × (text_at bytes target ≡ Ok (text_or_none name))
+IsBrought bytes IsLibrary node (stub at resolver flags) library target = (library ≡ 0) × (target ≡ 0)
 
--- the row of an export whose name stands at a place among the names
-pub record IsListed (bytes : List ℕ) (IsLibrary : ℕ → List ℕ → Type 0) (place : ℕ) (e : Entry) (row : gm_listed_export) : Type 0 where
+-- the row of an export whose name stands at a place among the names, and which is that of a node
+pub record IsListed (bytes : List ℕ) (IsLibrary : ℕ → List ℕ → Type 0) (IsNode : ℕ → Info → Type 0) (place : ℕ) (e : Entry)
+    (row : gm_listed_export) : Type 0 where
   pub name : row.name ≡ place
   pub name_len : row.name_len ≡ length e.name
   pub what : row.what ≡ export_row (Some e.info)
-  pub brought : IsBrought bytes IsLibrary e.info row.library row.target
+  pub node : ℕ
+  pub is_node : IsNode node e.info
+  pub brought : IsBrought bytes IsLibrary node e.info row.library row.target
 
 -- some names, one behind the other
 abbrev pub names_of : List Entry → List ℕ
@@ -43,21 +47,21 @@ names_of [] = []
 names_of (e ∷ es) = e.name ++ names_of es
 
 -- the rows of exports whose names stand so, from a place among the names on
-abbrev pub AreListed : List ℕ → (ℕ → List ℕ → Type 0) → ℕ → List Entry → List gm_listed_export → Type 0
-AreListed bytes IsLibrary place [] [] = Unit {0}
-AreListed bytes IsLibrary place [] (row ∷ rows) = ⊥
-AreListed bytes IsLibrary place (e ∷ es) [] = ⊥
-AreListed bytes IsLibrary place (e ∷ es) (row ∷ rows) =
-    IsListed bytes IsLibrary place e row × AreListed bytes IsLibrary (place + length e.name) es rows
+abbrev pub AreListed : List ℕ → (ℕ → List ℕ → Type 0) → (ℕ → Info → Type 0) → ℕ → List Entry → List gm_listed_export → Type 0
+AreListed bytes IsLibrary IsNode place [] [] = Unit {0}
+AreListed bytes IsLibrary IsNode place [] (row ∷ rows) = ⊥
+AreListed bytes IsLibrary IsNode place (e ∷ es) [] = ⊥
+AreListed bytes IsLibrary IsNode place (e ∷ es) (row ∷ rows) =
+    IsListed bytes IsLibrary IsNode place e row × AreListed bytes IsLibrary IsNode (place + length e.name) es rows
 
 -- These exports were written: so many rows in front of an array, and so many bytes of names in front of a text. What is
 -- behind them is as it was.
-pub record AreWritten (bytes : List ℕ) (IsLibrary : ℕ → List ℕ → Type 0) (given : List Entry) (count used : ℕ) (old new : List gm_listed_export)
-    (text text' : List ℕ) : Type 0 where
+pub record AreWritten (bytes : List ℕ) (IsLibrary : ℕ → List ℕ → Type 0) (IsNode : ℕ → Info → Type 0) (given : List Entry) (count used : ℕ)
+    (old new : List gm_listed_export) (text text' : List ℕ) : Type 0 where
   pub is_count : count ≡ length given
   pub is_used : used ≡ length (names_of given)
   pub listed : List gm_listed_export
-  pub are : AreListed bytes IsLibrary 0 given listed
+  pub are : AreListed bytes IsLibrary IsNode 0 given listed
   pub rows : new ≡ listed ++ drop count old
   pub names : text' ≡ names_of given ++ drop used text
 
@@ -68,6 +72,14 @@ HasLibrary bytes o number name = (libs : List (List ℕ)) × HasLibraries bytes 
 -- the same of a list of libraries
 abbrev pub IsNumbered : List (List ℕ) → ℕ → List ℕ → Type 0
 IsNumbered libs number name = slice_get libs number ≡ Some name
+
+-- this is the own export of the node of a trie that begins here
+abbrev pub IsNodeOf : TrieRange → List (List ℕ) → ℕ → Info → Type 0
+IsNodeOf t libs node info = IsOwnAt t.bytes libs t.from node info
+
+-- the same of the trie of the image at o
+abbrev pub HasNodeOf : List ℕ → ℕ → ℕ → Info → Type 0
+HasNodeOf bytes o node info = OfImage bytes o (λ ctx cs. IsNodeOf (trie_or_empty (trie_in bytes cs)) (libs_in bytes cs) node info)
 
 -- ---- walks
 

@@ -17,5 +17,6 @@ pub mod Sited
 pub mod ImportRows
 pub mod ImportsBehind
 pub mod BindingRows
+pub mod BindingPlaces
 pub mod BindingsBehind
 pub mod LayoutRows

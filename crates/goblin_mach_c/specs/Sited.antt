@@ -3,12 +3,20 @@ use Rattle.std.specs.Prelude.{ℕ, List, [], ◌∷◌, Result, Ok, Err}
 use Rattle.mach_base.specs.Fault.{Fault}
 use Rattle.mach_binds.specs.Sites.{Site, no_site}
 
--- each with its own, up to the first fault: where there were fewer, none was set
+-- each with its own, up to the first fault: this one where there were fewer
+abbrev pub each_with : {A S : Type 0} → S → List (Result A Fault) → List S → List (Result (A × S) Fault)
+each_with none [] own = []
+each_with none (Err f ∷ items) own = Err f ∷ []
+each_with none (Ok i ∷ items) [] = Ok (i, none) ∷ each_with none items []
+each_with none (Ok i ∷ items) (s ∷ own) = Ok (i, s) ∷ each_with none items own
+
+-- with its site: where there were fewer, none was set
 abbrev pub sited : {A : Type 0} → List (Result A Fault) → List Site → List (Result (A × Site) Fault)
-sited [] sites = []
-sited (Err f ∷ items) sites = Err f ∷ []
-sited (Ok i ∷ items) [] = Ok (i, no_site) ∷ sited items []
-sited (Ok i ∷ items) (s ∷ sites) = Ok (i, s) ∷ sited items sites
+sited items sites = each_with no_site items sites
+
+-- with its place
+abbrev pub placed : {A : Type 0} → List (Result A Fault) → List ℕ → List (Result (A × ℕ) Fault)
+placed items places = each_with 0 items places
 
 -- where a name is told to stand: one of no bytes at 0
 abbrev pub told_at : List ℕ → ℕ → ℕ

@@ -1,6 +1,6 @@
 //! What dyld binds of an image: by its opcodes, and then by its chains.
 
-ghost use Rattle.std.specs.Prelude.{◌≡◌, ◌≢◌, ◌<◌, ◌^◌, ◌⊎◌, ℕ, List, [], length, Ok, Err, Some, Result, IfOk, IfSome, Option};
+ghost use Rattle.std.specs.Prelude.{◌≡◌, ◌≢◌, ◌<◌, ◌^◌, ◌⊎◌, ◌∷◌, ℕ, List, [], length, Ok, Err, Some, Result, IfOk, IfSome, Option};
 ghost use Rattle.mach_base.specs.Fault.{Fault, fault_of};
 ghost use Rattle.mach_base.specs.Number.{slice_at};
 ghost use Rattle.mach_chained.specs.Bindings.{binding_in, bindings_of};
@@ -17,9 +17,15 @@ ghost use Rattle.mach_segments.specs.declared.segment.Segment as declared_segmen
 ghost use Rattle.mach_image.specs.Fixups.{chained_held};
 ghost use Rattle.mach_image.specs.OpenImage.{binds_held, bytes_held};
 ghost use Rattle.goblin_mach_c.specs.BindingRows.{IsBindingRow, StandsIn, binding_row, no_binding, ordinal_number, provider_number};
-ghost use Rattle.goblin_mach_c.specs.BindingsBehind.{AreAtStage, AreBindingsBehind, AreOver, AreOverOpcodes, BindingSource, ComesFirst, IsPlaced, StandAt, WritesBindings, all_left, bound_left, chains_left, items_left, opcodes_left};
+ghost use Rattle.goblin_mach_c.specs.BindingPlaces.{AreSitesAtStage, place_by};
+ghost use Rattle.goblin_mach_c.specs.BindingsBehind.{AreAtStage, AreBindingsBehind, AreOver, AreOverOpcodes, BindingSource, ComesFirst, IsPlaced};
+ghost use Rattle.goblin_mach_c.specs.BindingsBehind.{StandAt, WritesBindings};
+ghost use Rattle.goblin_mach_c.specs.BindingsBehind.{all_left, bound_left, chains_left, items_left, opcodes_left, source_of};
+ghost use Rattle.goblin_mach_c.specs.BindingsBehind.{ArePlacedBehind, PlaceFirst, PlacedFirst, all_placed, bound_places, chains_placed};
+ghost use Rattle.goblin_mach_c.specs.BindingsBehind.{placed_left, sites_left};
 ghost use Rattle.goblin_mach_c.specs.Codes.{IsRefusal};
 ghost use Rattle.goblin_mach_c.specs.ImportsBehind.{binds_of};
+ghost use Rattle.goblin_mach_c.specs.Sited.{told_at};
 ghost use Rattle.goblin_mach_c.specs.Stage.{stage_of};
 ghost use Rattle.goblin_mach_c.specs.Opened.{FaultIn, lossy_mode};
 
@@ -104,7 +110,7 @@ fn refused_row(why: &Error) -> gm_binding
 // A binding as C sees it.
 #[inline(always)]
 fn row_of(placed: &PlacedBinding<'_>) -> gm_binding
-    ensures numbers { result ≡ binding_row result.name (binding_view placed.now.binding) }
+    ensures numbers { result ≡ binding_row (told_at placed.now.binding.name.now placed.now.name_place) (binding_view placed.now.binding) }
     ensures name { (bytes : List ℕ) → IsPlaced bytes placed.now → StandsIn bytes result.name placed.now.binding.name.now }
 {
     let binding = &placed.binding;
@@ -126,9 +132,13 @@ fn row_of(placed: &PlacedBinding<'_>) -> gm_binding
 // Where the name of a bind of the chains stands, whose data begin at a place.
 #[inline(always)]
 fn name_place(chained: &ChainedFixups<'_>, chains_at: usize, fixup: &Fixup) -> usize
-    ensures { (bytes : List ℕ) (size : ℕ) → length bytes < 2 ^ 64 → slice_at size bytes chains_at ≡ Ok (fixups_view chained.now).payload
+    ensures stands { (bytes : List ℕ) (size : ℕ) → length bytes < 2 ^ 64 → slice_at size bytes chains_at ≡ Ok (fixups_view chained.now).payload
         → (segments : List (declared_segment.Segment)) (base : ℕ) (libs : List (List ℕ)) (b : defined.Binding)
         → binding_in (input_in chained.now segments base) libs (fixup_view fixup.now) ≡ Some (Ok b) → StandsIn bytes result b.name }
+    ensures own { (bytes : List ℕ) (size : ℕ) → length bytes < 2 ^ 64 → slice_at size bytes chains_at ≡ Ok (fixups_view chained.now).payload
+        → (segments : List (declared_segment.Segment)) (base : ℕ) (libs : List (List ℕ)) (b : defined.Binding)
+        → binding_in (input_in chained.now segments base) libs (fixup_view fixup.now) ≡ Some (Ok b)
+        → (rest : List ℕ) → place_by chains_at (fixups_view chained.now) (fixup_view fixup.now).kind rest ≡ result ∷ rest }
 {
     let FixupKind::Bind { import, addend: _ } = fixup.kind else {
         return 0;
@@ -152,6 +162,8 @@ fn next_bound<'a>(
     ensures chained { walk.new.chained ≡ walk.old.chained }
     ensures placed { (bytes : List ℕ) (size : ℕ) → length bytes < 2 ^ 64 → slice_at size bytes chains_at ≡ Ok (fixups_view walk.old.chained).payload
         → IfSome result (λ item. IfOk item (IsPlaced bytes)) }
+    ensures own { (bytes : List ℕ) (size : ℕ) → length bytes < 2 ^ 64 → slice_at size bytes chains_at ≡ Ok (fixups_view walk.old.chained).payload
+        → PlaceFirst (bound_places walk.old chains_at) result (bound_places walk.new chains_at) }
 {
     'fixups: loop {
         let fixup = match walk.fixups.next_counted(&mut Steps::new()) {
@@ -191,6 +203,7 @@ impl<'a, 'b> BindingRows<'a, 'b> {
         ensures opcodes { self.new.opcodes ≡ self.old.opcodes }
         ensures over { (x : BindingSource) → AreOver x self.old → AreOver x self.new }
         ensures placed { (x : BindingSource) → AreOver x self.old → IfSome result (λ item. IfOk item (IsPlaced x.bytes)) }
+        ensures own { (x : BindingSource) → AreOver x self.old → PlacedFirst (chains_placed self.old) result (chains_placed self.new) }
     {
         let (libs, segments, base, chains_at) = (
             self.libs,
@@ -213,6 +226,7 @@ impl<'a, 'b> BindingRows<'a, 'b> {
         ensures items { ComesFirst (all_left self.old) result (all_left self.new) }
         ensures over { (x : BindingSource) → AreOver x self.old → AreOver x self.new }
         ensures placed { (x : BindingSource) → AreOver x self.old → IfSome result (λ item. IfOk item (IsPlaced x.bytes)) }
+        ensures own { (x : BindingSource) → AreOver x self.old → PlacedFirst (all_placed self.old) result (all_placed self.new) }
     {
         if let Some(opcodes) = &mut self.opcodes {
             if let Some(item) = opcodes.next_placed() {
@@ -226,6 +240,7 @@ impl<'a, 'b> BindingRows<'a, 'b> {
     // Leaves nothing.
     fn end(&mut self)
         ensures left { items_left self.new ≡ [] }
+        ensures placed { placed_left self.new ≡ [] }
         ensures over { (x : BindingSource) → AreOver x self.old → AreOver x self.new }
     {
         self.opcodes = None;
@@ -238,9 +253,9 @@ impl<'a, 'b> ItemRows for BindingRows<'a, 'b> {
 
     ghost Source = { BindingSource };
 
-    ghost Item = { Result defined.Binding Fault };
+    ghost Item = { Result (defined.Binding × ℕ) Fault };
 
-    ghost left = { items_left };
+    ghost left = { placed_left };
 
     ghost IsOver = { AreOver };
 
@@ -264,8 +279,9 @@ fn opcodes_behind<'a, 'b>(
     cursor: &gm_bind_cursor,
 ) -> Option<OpcodeBindingIterator<'a, 'b>>
     ensures items { AreAtStage (stage_of cursor.now.stage) cursor.now.binds (binds_of image.now) (opcodes_left result) }
-    ensures over { (bytes : List ℕ) (chained : Result (Option Fixups) Fault) → ((b : BindRanges) → binds_held image.now ≡ Some b → b.bytes ≡ bytes)
-        → AreOverOpcodes (record { bytes = bytes; binds = binds_of image.now; chained = chained }) result }
+    ensures sites { AreSitesAtStage (stage_of cursor.now.stage) cursor.now.binds (binds_of image.now) (sites_left result) }
+    ensures over { (x : BindingSource) → x.binds ≡ binds_of image.now → ((b : BindRanges) → binds_held image.now ≡ Some b → b.bytes ≡ x.bytes)
+        → AreOverOpcodes x result }
 {
     let binds = image.binds()?;
     let (libs, segments, ctx) = (
@@ -282,8 +298,10 @@ fn opcodes_behind<'a, 'b>(
 
 // A cursor of those that are left.
 fn opcode_cursor(opcodes: &Option<OpcodeBindingIterator<'_, '_>>) -> gm_bind_cursor
-    ensures { (x : BindingSource) → AreOverOpcodes x opcodes.now
+    ensures items { (x : BindingSource) → AreOverOpcodes x opcodes.now
         → AreAtStage (stage_of result.stage) result.binds x.binds (opcodes_left opcodes.now) }
+    ensures sites { (x : BindingSource) → AreOverOpcodes x opcodes.now
+        → AreSitesAtStage (stage_of result.stage) result.binds x.binds (sites_left opcodes.now) }
 {
     match opcodes {
         None => over(),
@@ -296,7 +314,8 @@ fn opcode_cursor(opcodes: &Option<OpcodeBindingIterator<'_, '_>>) -> gm_bind_cur
 
 // Where the data of an image's chains begin.
 fn chains_at(image: &MachO<'_, Global>) -> usize
-    ensures { StandAt (record { bytes = bytes_held image.now; binds = binds_of image.now; chained = chained_held image.now }) result }
+    ensures stand { StandAt (source_of image.now) result }
+    ensures place { result ≡ (source_of image.now).chains_at }
 {
     match image.chained_place() {
         Some((place, _)) => place as usize,
@@ -308,8 +327,9 @@ impl<'a, 'b> BindingRows<'a, 'b> {
     // Those behind a cursor.
     fn behind(image: &'b MachO<'a, Global>, cursor: &gm_binding_cursor) -> Self
         ensures items { AreBindingsBehind cursor.now (binds_of image.now) (chained_held image.now) (items_left result) }
-        ensures over { (bytes : List ℕ) → ((b : BindRanges) → binds_held image.now ≡ Some b → b.bytes ≡ bytes) → bytes_held image.now ≡ bytes
-            → length bytes < 2 ^ 64 → AreOver (record { bytes = bytes; binds = binds_of image.now; chained = chained_held image.now }) result }
+        ensures placed { ArePlacedBehind cursor.now (source_of image.now) (placed_left result) }
+        ensures over { ((b : BindRanges) → binds_held image.now ≡ Some b → b.bytes ≡ bytes_held image.now) → length (bytes_held image.now) < 2 ^ 64
+            → AreOver (source_of image.now) result }
     {
         BindingRows {
             opcodes: opcodes_behind(image, &cursor.opcodes),
@@ -323,7 +343,8 @@ impl<'a, 'b> BindingRows<'a, 'b> {
 
     // A cursor of those that are left.
     fn cursor(&self) -> gm_binding_cursor
-        ensures { (x : BindingSource) → AreOver x self.now → AreBindingsBehind result x.binds x.chained (items_left self.now) }
+        ensures items { (x : BindingSource) → AreOver x self.now → AreBindingsBehind result x.binds x.chained (items_left self.now) }
+        ensures placed { (x : BindingSource) → AreOver x self.now → ArePlacedBehind result x (placed_left self.now) }
     {
         gm_binding_cursor {
             opcodes: opcode_cursor(&self.opcodes),

@@ -9,7 +9,8 @@ ghost use Rattle.mach_tries.specs.TrieRange.{empty_range};
 ghost use Rattle.mach_image.specs.OpenImage.{trie_held};
 ghost use Rattle.mach_image.specs.Subjects.{trie_or_empty};
 ghost use Rattle.goblin_mach_c.specs.Codes.{IsRefusal};
-ghost use Rattle.goblin_mach_c.specs.ExportWalk.{AreWritten, EndsWith, GoesAlong, GoesOn, HasLibrary, HasNextName, HasWalkedTrie, IsBrought, IsCode, IsNextName, IsNumbered, StopsAt, end_number, needed_number, next_of, no_batch};
+ghost use Rattle.goblin_mach_c.specs.ExportWalk.{AreWritten, EndsWith, GoesAlong, GoesOn, HasLibrary, HasNextName, HasNodeOf, HasWalkedTrie};
+ghost use Rattle.goblin_mach_c.specs.ExportWalk.{IsBrought, IsCode, IsNextName, IsNodeOf, IsNumbered, StopsAt, end_number, needed_number, next_of, no_batch};
 ghost use Rattle.goblin_mach_c.specs.Opened.{FaultIn, lossy_mode};
 ghost use Rattle.goblin_mach_c.specs.declared.exports.Ending.TheVariants as ending;
 
@@ -124,7 +125,7 @@ fn put_name(name: &[u8], count: usize, names: &mut [u8], at: usize) -> usize
 #[inline(always)]
 fn brought_from(trie: &ExportTrie<'_>, cursor: &TrieCursor, info: &ExportInfo<'_>) -> (usize, usize)
     ensures { (libs : List (List ℕ)) → IsOwnAt trie.now.bytes libs trie.now.from cursor.now.node (info_of info.now)
-        → IsBrought trie.now.bytes (IsNumbered libs) (info_of info.now) result.0 result.1 }
+        → IsBrought trie.now.bytes (IsNumbered libs) cursor.now.node (info_of info.now) result.0 result.1 }
 {
     match info {
         ExportInfo::Reexport { .. } => match trie.reexport_place(cursor) {
@@ -147,7 +148,8 @@ fn write_exports<'a>(
     out: &mut [gm_listed_export],
     names: &mut [u8],
 ) -> (usize, usize, Option<Ending>)
-    ensures written { (given : List Entry) × AreWritten trie.now.bytes (IsNumbered (texts libs.now)) given result.0 result.1 out.old out.new names.old names.new
+    ensures written { (given : List Entry) × AreWritten trie.now.bytes (IsNumbered (texts libs.now)) (IsNodeOf trie.now (texts libs.now)) given
+        result.0 result.1 out.old out.new names.old names.new
         × ((found : List Entry) → HasGivenTo trie.now (texts libs.now) cursor.old name.old stack.old found
         → StopsAt trie.now (texts libs.now) (found ++ given) result.2 cursor.new name.new stack.new) }
     ensures full { result.2 ≡ None → (result.0 ≡ length out.old) ⊎ (length names.old < result.1 + length name.old) }
@@ -244,8 +246,8 @@ fn go_along<'a>(
     error: &mut gm_error,
 ) -> u32
     requires ready { walk.old.code ≡ 0 }
-    ensures written { (given : List Entry) × AreWritten trie.now.bytes (IsNumbered (texts libs.now)) given batch.new.count batch.new.names_len
-        out.old out.new names.old names.new
+    ensures written { (given : List Entry) × AreWritten trie.now.bytes (IsNumbered (texts libs.now)) (IsNodeOf trie.now (texts libs.now)) given
+        batch.new.count batch.new.names_len out.old out.new names.old names.new
         × GoesAlong trie.now (texts libs.now) walk.old walk.new name.old name.new stack.old stack.new given batch.new.end }
     ensures full { batch.new.end ≡ 0 → (batch.new.count ≡ length out.old) ⊎ (length names.old < batch.new.names_len + length name.old) }
     ensures more { batch.new.end ≡ 0 → 0 < batch.new.count }
@@ -328,8 +330,8 @@ pub extern "C" fn gmr_exports(
     batch: &mut gm_export_batch,
     error: &mut gm_error,
 ) -> u32
-    ensures written { (given : List Entry) × AreWritten bytes.now (HasLibrary bytes.now image.now.offset) given batch.new.count batch.new.names_len
-        out.old out.new names.old names.new
+    ensures written { (given : List Entry) × AreWritten bytes.now (HasLibrary bytes.now image.now.offset) (HasNodeOf bytes.now image.now.offset) given
+        batch.new.count batch.new.names_len out.old out.new names.old names.new
         × GoesOn bytes.now image.now.offset walk.old name.old stack.old given walk.new name.new stack.new
         × (batch.new.end ≡ 1 → EndsWith bytes.now image.now.offset walk.old name.old stack.old given) }
     ensures refused { result ≢ 0 → IsRefusal (FaultIn (lossy_mode image.now.is_lossy) bytes.now image.now.offset) result

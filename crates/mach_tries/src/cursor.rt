@@ -4,7 +4,7 @@
 //! It keeps no marks. A tree has no more nodes than its range has places, so a count of visits ends a walk that
 //! comes to nodes again and again.
 
-ghost use Rattle.std.specs.Prelude.{◌≡◌, ◌≤◌, ◌<◌, ◌+◌, ◌-◌, ◌^◌, ◌++◌, ◌∷◌, [], ℕ, List, length, take, min, Option, Some, IfOk, IfNone};
+ghost use Rattle.std.specs.Prelude.{◌≡◌, ◌≤◌, ◌<◌, ◌+◌, ◌-◌, ◌^◌, ◌++◌, ◌∷◌, [], ℕ, List, length, take, min, Option, Ok, Some, IfOk, IfNone, IfSome};
 ghost use Rattle.mach_base.specs.Answer.{Reads};
 ghost use Rattle.mach_tries.specs.CursorState.{below, IsAtChild, HasCome, TurnGives, IsAsBefore, IsStopped, IsFull, work, work_of};
 ghost use Rattle.mach_tries.specs.Cursors.{HasGivenTo, NextGives, IsOwnAt, IsReexportAt, StandsAt, place_at};
@@ -373,8 +373,9 @@ impl<'a> ExportTrie<'a> {
     }
     /// Of a re-export that a cursor gave last: the ordinal of its library, and where its name there stands in the bytes.
     pub fn reexport_place(&self, cursor: &TrieCursor) -> Option<(u64, usize)>
-        ensures { (libs : List (List ℕ)) (lib : List ℕ) (name : Option (List ℕ)) (flags : ℕ)
+        ensures told { (libs : List (List ℕ)) (lib : List ℕ) (name : Option (List ℕ)) (flags : ℕ)
             → IsOwnAt self.now.bytes libs self.now.from cursor.now.node (reexport lib name flags) → IsReexportAt self.now.bytes libs lib name result }
+        ensures node { IfSome result (λ found. place_at self.now.bytes cursor.now.node ≡ Ok found) }
     {
         match read_place(self.bytes, cursor.node) {
             Ok(found) => Some(found),

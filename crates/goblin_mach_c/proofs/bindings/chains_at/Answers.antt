@@ -4,8 +4,8 @@ use Rattle.mach_image.specs.OpenImage.{bytes_held, ctx_held}
 use Rattle.goblin_mach_c.proofs.BoundChains.{chained_lie}
 use Rattle.goblin_mach_c.proofs.bindings.chains_at.Goals as goal
 
-pub returns-in-Some : goal.returns-in-Some
-returns-in-Some c = λ chained is.
+pub returns-in-Some-clause-stand : goal.returns-in-Some-clause-stand
+returns-in-Some-clause-stand c = λ chained is.
     let m = c.args.image.now in
     let size = c.in-Some.field-0-1 in (
       size,

@@ -1,8 +1,8 @@
-use Rattle.std.proofs.Common.{[], ap, subst, inl, inr}
+use Rattle.std.proofs.Common.{[], ap, subst, inl}
 use Rattle.mach_base.specs.Text.{texts}
 use Rattle.mach_tries.specs.TrieRange.{TrieRange}
 use Rattle.mach_image.proofs.ImageFacts.{moved}
-use Rattle.goblin_mach_c.specs.ExportWalk.{AreWritten, GoesAlong, IsNextName, IsNumbered}
+use Rattle.goblin_mach_c.specs.ExportWalk.{AreWritten, GoesAlong, IsNextName, IsNodeOf, IsNumbered}
 use Rattle.goblin_mach_c.specs.Opened.{FaultIn, lossy_mode}
 use Rattle.goblin_mach_c.proofs.OpenedImage.{refusal_of}
 use Rattle.goblin_mach_c.proofs.WalkedImages.{ends_with, goes_on, next_name_there, no_end, none_written, rows_there, stays}
@@ -25,7 +25,8 @@ returns-in-Ok-clause-written c =
     c.trie_of-trie.ensures (ap texts c.as_slice.ensures.value) wrote.2 in (
       wrote.0,
       rows_there c.args.bytes.now c.args.image.now.offset c.in-Ok.found c.in-Ok.ensures.opened wrote.0 _ _ _ _ _ _
-          (moved (λ (t : TrieRange) l. AreWritten t.bytes (IsNumbered l) wrote.0 new.batch.count new.batch.names_len c.args.out.now new.out c.args.names.now new.names)
+          (moved (λ (t : TrieRange) l. AreWritten t.bytes (IsNumbered l) (IsNodeOf t l) wrote.0 new.batch.count new.batch.names_len
+          c.args.out.now new.out c.args.names.now new.names)
           _ _ _ _ c.trie_of-trie.ensures (ap texts c.as_slice.ensures.value) wrote.1),
       goes_on c.args.bytes.now c.args.image.now.offset c.in-Ok.found c.in-Ok.ensures.opened _ _ _ _ _ _ _ _ along,
       ends_with c.args.bytes.now c.args.image.now.offset c.in-Ok.found c.in-Ok.ensures.opened _ _ _ _ _ _ _ _ along,

@@ -3,7 +3,7 @@ use Rattle.mach_tries.specs.CursorState.{IsFull}
 use Rattle.mach_tries.specs.Cursors.{NextGives, StandsAt}
 use Rattle.mach_base.specs.Text.{texts}
 use Rattle.mach_tries.specs.declared.cursor.NextExport.{NextExport}
-use Rattle.goblin_mach_c.specs.ExportWalk.{AreWritten, IsNumbered}
+use Rattle.goblin_mach_c.specs.ExportWalk.{AreWritten, IsNodeOf, IsNumbered}
 use Rattle.goblin_mach_c.proofs.ListedExports.{none_so_far, one_more}
 use Rattle.goblin_mach_c.proofs.WalkedTries.{long_name}
 use Rattle.goblin_mach_c.proofs.exports.write_exports.Goals as goal
@@ -33,18 +33,20 @@ loop-k-preserved c =
     let room = c.if-names-used.false in
     let fits = inv.fits in
     let put = c.put_name-len.ensures in
+    let own =
+    subst (λ (x : NextExport). StandsAt c.args.trie.now.bytes (texts c.args.libs.now) c.args.trie.now.from c.next_export.new.cursor.node (Some x))
+    (sym c.in-Ok.ensures) c.next_export.ensures.placed in
     let count = put.count in
     let len = put.len in
     let cut = length-take c.next_export.new.cursor.name_len c.next_export.new.name in
     let at = length-set c.loop-k.out c.loop-k.k (record { name = c.loop-k.used; name_len = c.put_name-len.result; library = c.brought_from-library.result.0; target = c.brought_from-library.result.1; what = c.row_of.result }) in
     record {
-      so_far = one_more c.in-Ok.info c.brought_from-library.result.0 c.brought_from-library.result.1 c.loop-k.invariant.so_far (omega arith)
+      so_far = one_more c.in-Ok.info c.brought_from-library.result.0 c.brought_from-library.result.1 c.next_export.new.cursor.node
+          c.loop-k.invariant.so_far (omega arith)
           (λ found h. subst (λ (x : NextExport). NextGives c.args.trie.now (texts c.args.libs.now) found x c.next_export.new.cursor c.next_export.new.name
           c.next_export.new.stack) (sym c.in-Ok.ensures) (c.next_export.ensures.gives found h))
-          c.put_name-len.ensures.count c.put_name-len.ensures.written c.row_of.ensures
-          (c.brought_from-library.ensures (texts c.args.libs.now)
-          (subst (λ (x : NextExport). StandsAt c.args.trie.now.bytes (texts c.args.libs.now) c.args.trie.now.from c.next_export.new.cursor.node (Some x))
-          (sym c.in-Ok.ensures) c.next_export.ensures.placed));
+          c.put_name-len.ensures.count c.put_name-len.ensures.written c.row_of.ensures own
+          (c.brought_from-library.ensures (texts c.args.libs.now) own);
       fits = omega arith;
       name_len = same_name ∙ name_len;
       names_len = len ∙ names_len;
@@ -61,7 +63,8 @@ returns-clause-written c =
     let end = c.loop-k.auto.k-end in
     let all : c.loop-k.k ≡ length c.loop-k.out = omega (arith, out_len, past, end) in (
       so.given,
-      subst (λ (n : ℕ). AreWritten c.args.trie.now.bytes (IsNumbered (texts c.args.libs.now)) so.given n c.loop-k.used c.args.out.now c.loop-k.out c.args.names.now c.loop-k.names) all so.written,
+      subst (λ (n : ℕ). AreWritten c.args.trie.now.bytes (IsNumbered (texts c.args.libs.now)) (IsNodeOf c.args.trie.now (texts c.args.libs.now))
+          so.given n c.loop-k.used c.args.out.now c.loop-k.out c.args.names.now c.loop-k.names) all so.written,
       so.walked,
     )
 

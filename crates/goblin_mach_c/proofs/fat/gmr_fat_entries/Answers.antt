@@ -1,4 +1,4 @@
-use Rattle.std.proofs.Common.{◌∙◌, ℕ, List, drop, ap, subst, sym}
+use Rattle.std.proofs.Common.{◌∙◌, ℕ, List, drop, ap, subst}
 use Rattle.mach_base.specs.Items.{items_from}
 use Rattle.goblin_mach.specs.FatFile.{arch_at}
 use Rattle.goblin_mach_c.specs.FatRows.{fat_row}

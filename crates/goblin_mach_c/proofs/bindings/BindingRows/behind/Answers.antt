@@ -1,19 +1,24 @@
-use Rattle.std.proofs.Common.{◌≡◌, ℕ, List, Ok, map, ap, subst}
-use Rattle.mach_base.specs.Number.{slice_at}
+use Rattle.std.proofs.Common.{map, refl, ap}
 use Rattle.mach_segments.specs.Bindings.{texts}
 use Rattle.mach_segments.specs.Segment.{segment_view}
-use Rattle.mach_image.specs.Fixups.{chained_held}
+use Rattle.goblin_mach_c.specs.BindingsBehind.{source_of}
+use Rattle.goblin_mach_c.proofs.PlacedBindings.{whole}
 use Rattle.goblin_mach_c.proofs.bindings.BindingRows.behind.Goals as goal
 
+pub returns-clause-placed : goal.returns-clause-placed
+returns-clause-placed c =
+    whole (source_of c.args.image.now) c.args.cursor.now _ _ _ _ _ _ c.behind.ensures.over (ap texts c.as_slice.ensures.value)
+    (ap (map segment_view) c.as_slice-2.ensures) c.base.ensures c.chains_at.ensures.place c.opcodes_behind.ensures.items c.opcodes_behind.ensures.sites
+    c.behind.ensures.items
+
 pub returns-clause-over : goal.returns-clause-over
-returns-clause-over c = λ bytes stand same short. record {
-  opcodes = c.opcodes_behind.ensures.over bytes (chained_held c.args.image.now) stand;
+returns-clause-over c = λ stand short. record {
+  opcodes = c.opcodes_behind.ensures.over (source_of c.args.image.now) refl stand;
   fixups = c.behind.ensures.over;
   libs = ap texts c.as_slice.ensures.value;
   segments = ap (map segment_view) c.as_slice-2.ensures;
   base = c.base.ensures;
-  chains = λ chained is.
-      let there = c.chains_at.ensures chained is in
-      (there.0, subst (λ (b : List ℕ). slice_at there.0 b c.chains_at.result ≡ Ok chained.payload) same there.1);
+  chains = c.chains_at.ensures.stand;
+  chains_at = c.chains_at.ensures.place;
   short = short;
 }
