@@ -1,7 +1,8 @@
 -- Rules of symbols (`mach-o/nlist.h`; `mach-o/loader.h`, struct symtab_command and dysymtab_command). The symbols and the indirect symbols of
 -- an image are those of its last command of each kind; that there is one of each is a rule of commands.
 use Rattle.std.specs.Prelude.{◌==◌, ℕ, zero, suc, ◌+◌, ◌-◌, ◌*◌, ◌/◌, ◌%◌, ◌^◌, ◌&&◌, ◌||◌, not, min, bit_and, Bool, true, false, List, [], ◌∷◌, ◌++◌}
-use Rattle.std.specs.Prelude.{length, take, drop, nat_lt, nat_le, filter_map, option_to_list, count_by, sum_by, Option, Some, None, Result, Ok, Err, if◌then◌else◌}
+use Rattle.std.specs.Prelude.{length, take, drop, nat_lt, nat_le, filter_map, option_to_list, count_by, sum_by}
+use Rattle.std.specs.Prelude.{Option, Some, None, Result, Ok, Err, if◌then◌else◌}
 use Rattle.std.specs.List.{range_with_len, last_or, suffix_len}
 use Rattle.mach_base.specs.Context.{pointer_size}
 use Rattle.mach_base.specs.Fault.{Fault}
