@@ -12,16 +12,16 @@ use Rattle.mach_image.specs.Bindings.{AreOpcodeBindings}
 use Rattle.mach_image.specs.Subjects.{binds_in, libs_in, lossy_segments_in}
 use Rattle.mach_image.proofs.ImageFacts.{one_image}
 use Rattle.mach_layout.specs.Bindings.{binds_told}
-use Rattle.mach_rules.specs.Commands.{command_faults}
+use Rattle.mach_rules.specs.Commands.{command_faults, text_faults}
 use Rattle.mach_rules.specs.Entry.{entry_faults}
 use Rattle.mach_layout.specs.Facts.{AreBindsOf, HasLayoutFaults}
 use Rattle.mach_rules.specs.Faults.{AddsSegments, AddsSections, AddsSymbols, AreLayoutFaults}
 use Rattle.mach_rules.specs.Fixups.{fixup_faults}
+use Rattle.mach_rules.specs.Header.{segment_order_faults}
 use Rattle.mach_rules.specs.Laid.{Laid, laid_in}
-use Rattle.mach_rules.specs.Libraries.{text_faults}
-use Rattle.mach_rules.specs.Ranges.{out_of_file_faults, header_faults, linkedit_faults}
+use Rattle.mach_rules.specs.Ranges.{out_of_file_faults, claim_faults}
 use Rattle.mach_rules.specs.Sections.{section_faults}
-use Rattle.mach_rules.specs.Segments.{segment_faults, segment_order_faults, encrypted_faults}
+use Rattle.mach_rules.specs.Segments.{segment_faults, encrypted_faults}
 use Rattle.mach_rules.specs.Sweep.{AreShared}
 use Rattle.mach_rules.specs.Symbols.{symbol_faults}
 use Rattle.mach_rules.specs.declared.claim.Claim.{Claim}
@@ -46,7 +46,7 @@ module _ (one_shared : OneShared) (laid : Laid) where
   sections_alike : (old before list others : List LayoutFault) → old ≡ before → AddsSections laid old list → AddsSections laid before others → list ≡ others
   sections_alike old before list others same h k =
       let behind : List LayoutFault → List LayoutFault → List LayoutFault → List LayoutFault = λ first sections claims.
-      first ++ section_faults laid ++ sections ++ claims ++ header_faults laid ++ linkedit_faults laid ++ encrypted_faults laid in
+      first ++ section_faults laid ++ sections ++ claims ++ claim_faults laid ++ encrypted_faults laid in
       h.joined
       ∙ ap (λ (first : List LayoutFault). behind first h.sections h.claims) same
       ∙ ap (λ (sections : List LayoutFault). behind before sections h.claims) (one_shared _ _ h.sections k.sections h.sections_shared k.sections_shared)

@@ -13,17 +13,19 @@ pub told_as : (old : List LayoutFault) {one : List LayoutFault} {told is : Optio
     → one ≡ old ++ option_to_list is
 told_as old first is = first ∙ ap (λ (o : Option LayoutFault). old ++ option_to_list o) is
 
--- four lists of faults, and ten
+-- three lists of faults, and up to six
+pub three_told : (a b c f0 f1 f2 : List LayoutFault) {all : List LayoutFault} → f1 ≡ f0 ++ a → f2 ≡ f1 ++ b → all ≡ f2 ++ c → all ≡ f0 ++ (a ++ b ++ c)
+three_told a b c f0 f1 f2 e1 e2 e3 = then_others f0 (a ++ b) c (then_others f0 a b e1 e2) e3
+
 pub four_told : (a b c d f0 f1 f2 f3 : List LayoutFault) {all : List LayoutFault} → f1 ≡ f0 ++ a → f2 ≡ f1 ++ b → f3 ≡ f2 ++ c → all ≡ f3 ++ d
     → all ≡ f0 ++ (a ++ b ++ c ++ d)
 four_told a b c d f0 f1 f2 f3 e1 e2 e3 e4 = then_others f0 (a ++ b ++ c) d (then_others f0 (a ++ b) c (then_others f0 a b e1 e2) e3) e4
 
-pub ten_told : (a b c d e f g h i j f0 f1 f2 f3 f4 f5 f6 f7 f8 f9 : List LayoutFault) {all : List LayoutFault} → f1 ≡ f0 ++ a → f2 ≡ f1 ++ b → f3 ≡ f2 ++ c
-    → f4 ≡ f3 ++ d → f5 ≡ f4 ++ e → f6 ≡ f5 ++ f → f7 ≡ f6 ++ g → f8 ≡ f7 ++ h → f9 ≡ f8 ++ i → all ≡ f9 ++ j
-    → all ≡ f0 ++ (a ++ b ++ c ++ d ++ e ++ f ++ g ++ h ++ i ++ j)
-ten_told a b c d e f g h i j f0 f1 f2 f3 f4 f5 f6 f7 f8 f9 e1 e2 e3 e4 e5 e6 e7 e8 e9 e10 =
-    let four = four_told a b c d f0 f1 f2 f3 e1 e2 e3 e4 in
-    let front = a ++ b ++ c ++ d ++ e ++ f in
-    let six = then_others f0 (a ++ b ++ c ++ d ++ e) f (then_others f0 (a ++ b ++ c ++ d) e four e5) e6 in
-    let eight = then_others f0 (front ++ g) h (then_others f0 front g six e7) e8 in
-    then_others f0 (front ++ g ++ h ++ i) j (then_others f0 (front ++ g ++ h) i eight e9) e10
+pub five_told : (a b c d e f0 f1 f2 f3 f4 : List LayoutFault) {all : List LayoutFault} → f1 ≡ f0 ++ a → f2 ≡ f1 ++ b → f3 ≡ f2 ++ c → f4 ≡ f3 ++ d
+    → all ≡ f4 ++ e → all ≡ f0 ++ (a ++ b ++ c ++ d ++ e)
+five_told a b c d e f0 f1 f2 f3 f4 e1 e2 e3 e4 e5 = then_others f0 (a ++ b ++ c ++ d) e (four_told a b c d f0 f1 f2 f3 e1 e2 e3 e4) e5
+
+pub six_told : (a b c d e f f0 f1 f2 f3 f4 f5 : List LayoutFault) {all : List LayoutFault} → f1 ≡ f0 ++ a → f2 ≡ f1 ++ b → f3 ≡ f2 ++ c → f4 ≡ f3 ++ d
+    → f5 ≡ f4 ++ e → all ≡ f5 ++ f → all ≡ f0 ++ (a ++ b ++ c ++ d ++ e ++ f)
+six_told a b c d e f f0 f1 f2 f3 f4 f5 e1 e2 e3 e4 e5 e6 =
+    then_others f0 (a ++ b ++ c ++ d ++ e) f (five_told a b c d e f0 f1 f2 f3 f4 e1 e2 e3 e4 e5) e6

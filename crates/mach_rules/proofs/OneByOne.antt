@@ -33,19 +33,6 @@ pub onto : (o : Option LayoutFault) (xs ys : List LayoutFault) → (xs ++ option
 onto None xs ys = append_assoc xs [] ys
 onto (Some x) xs ys = append_assoc xs (x ∷ []) ys
 
--- what is told of the next one stands in front of what is told of those behind it
-pub told_next : (rule : Command → Option LayoutFault) (told : Option LayoutFault) (old new : List LayoutFault) (xs : List LoadCommand) (i : ℕ) (d : LoadCommand)
-    → i < length xs → told ≡ rule (command_of (get_or xs i d)) → new ≡ old ++ option_to_list told
-    → new ++ filter_map rule (map command_of (drop (i + 1) xs)) ≡ old ++ filter_map rule (map command_of (drop i xs))
-told_next rule told old new xs i d lt is added =
-    let behind = filter_map rule (map command_of (drop (i + 1) xs)) in
-    ap (λ (fs : List LayoutFault). fs ++ behind) added ∙ onto told old behind ∙ ap (λ (o : Option LayoutFault). old ++ cons_option o behind) is
-    ∙ ap (λ (cs : List Command). old ++ filter_map rule cs) (sym (from_here xs i d lt))
-
-pub told_all : (rule : Command → Option LayoutFault) (fs : List LayoutFault) (xs : List LoadCommand) (i : ℕ) → length xs ≤ i
-    → fs ≡ fs ++ filter_map rule (map command_of (drop i xs))
-told_all rule fs xs i past = sym (ap (λ (cs : List Command). fs ++ filter_map rule cs) (none_left xs i past) ∙ append-nil fs)
-
 -- a test of the next one settles whether one of those from it on passes, or leaves it to those behind
 pub any_here : (p : Command → Bool) (xs : List LoadCommand) (i : ℕ) (d : LoadCommand) → i < length xs → p (command_of (get_or xs i d)) ≡ true
     → list_any p (map command_of (drop i xs)) ≡ true

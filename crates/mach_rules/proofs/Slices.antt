@@ -6,12 +6,14 @@ use Rattle.std.proofs.Math.Seq.{drop-cons}
 use Rattle.std.specs.Prelude.{filter_map, option_to_list}
 use Rattle.std.specs.List.{cons_option}
 use Rattle.mach_base.specs.Fault.{Fault}
-use Rattle.mach_rules.specs.Containers.{AreContainerFaults, slice_at, before_fault, slices_from, slices_of, records_out_of_file, slice_out_of_file}
-use Rattle.mach_rules.specs.Containers.{slice_in_records, slice_alignment, slice_unaligned, slice_of_other_cpu, slice_range}
+use Rattle.mach_rules.specs.Containers.{AreContainerFaults, slice_at, before_fault, slices_from, slices_of, records_out_of_file, slice_owner, slice_sees}
+use Rattle.mach_rules.specs.Containers.{slice_range}
+use Rattle.mach_rules.specs.Rules.{told_over}
 use Rattle.mach_rules.specs.Sweep.{AreShared}
 use Rattle.mach_rules.specs.declared.containers.RangeOf.TheVariants.{Cpu, Bytes}
 use Rattle.mach_rules.specs.declared.containers.PlacedSlice.{PlacedSlice}
 use Rattle.mach_rules.specs.declared.fault.LayoutFault.{LayoutFault}
+use Rattle.mach_rules.specs.declared.fault.Rule.{Rule}
 use Rattle.mach_rules.specs.declared.fault.Rule.TheVariants as rule
 
 onto : {Y : Type 0} (o : Option Y) (xs ys : List Y) → (xs ++ option_to_list o) ++ ys ≡ xs ++ cons_option o ys
@@ -54,30 +56,31 @@ slices_done bytes k count found past =
 pub and_more : {X : Type 0} (more : List X) {f g x : List X} → f ≡ x → g ≡ f ++ more → g ≡ x ++ more
 and_more {X} more e then = then ∙ ap (λ (l : List X). l ++ more) e
 
+-- what some rules tell of some slices
+abbrev pub told_by : List ℕ → List Rule → List PlacedSlice → List LayoutFault
+told_by bytes rules slices = told_over rules (λ r. slice_owner) (slice_sees bytes) slices
+
+abbrev pub alone : List Rule
+alone = rule.SliceOutOfFile ∷ rule.SliceInRecords ∷ rule.SliceAlignment ∷ rule.SliceUnaligned ∷ []
+
 -- the faults of all rules are those of the table
-pub table_told : (bytes : List ℕ) (slices : List PlacedSlice) (told : Option LayoutFault) (f0 f1 f2 f3 f4 f5 f6 f7 f8 : List LayoutFault)
-    → slices ≡ slices_of bytes → told ≡ records_out_of_file bytes → f0 ≡ [] → f1 ≡ f0 ++ option_to_list told
-    → f2 ≡ f1 ++ filter_map (slice_out_of_file bytes) slices → f3 ≡ f2 ++ filter_map (slice_in_records bytes) slices
-    → f4 ≡ f3 ++ filter_map slice_alignment slices → f5 ≡ f4 ++ filter_map slice_unaligned slices
-    → ((again : List LayoutFault) × AreShared rule.SliceAgain (filter_map (slice_range Cpu) slices) again × (f6 ≡ f5 ++ again))
-    → f7 ≡ f6 ++ filter_map (slice_of_other_cpu bytes) slices
-    → ((sharing : List LayoutFault) × AreShared rule.SlicesShare (filter_map (slice_range Bytes) slices) sharing × (f8 ≡ f7 ++ sharing))
-    → AreContainerFaults bytes f8
-table_told bytes slices told f0 f1 f2 f3 f4 f5 f6 f7 f8 is was e0 e1 e2 e3 e4 e5 e6 e7 e8 =
-    let of_slices = λ (f : PlacedSlice → Option LayoutFault). ap (filter_map f) is in
-    let first : f1 ≡ option_to_list (records_out_of_file bytes) = e1 ∙ ap (λ (l : List LayoutFault). l ++ option_to_list told) e0 ∙ ap option_to_list was in
-    let more = λ (f : PlacedSlice → Option LayoutFault) (old new front : List LayoutFault) (so_far : old ≡ front) (e : new ≡ old ++ filter_map f slices).
-    and_more (filter_map f (slices_of bytes)) so_far (e ∙ ap (λ (l : List LayoutFault). old ++ l) (of_slices f))
+pub table_told : (bytes : List ℕ) (slices : List PlacedSlice) (f0 f1 f2 f3 f4 f5 : List LayoutFault) → slices ≡ slices_of bytes → f0 ≡ []
+    → f1 ≡ f0 ++ option_to_list (records_out_of_file bytes) → f2 ≡ f1 ++ told_by bytes alone slices
+    → ((again : List LayoutFault) × AreShared rule.SliceAgain (filter_map (slice_range Cpu) slices) again × (f3 ≡ f2 ++ again))
+    → f4 ≡ f3 ++ told_by bytes (rule.SliceOfOtherCpu ∷ []) slices
+    → ((sharing : List LayoutFault) × AreShared rule.SlicesShare (filter_map (slice_range Bytes) slices) sharing × (f5 ≡ f4 ++ sharing))
+    → AreContainerFaults bytes f5
+table_told bytes slices f0 f1 f2 f3 f4 f5 is e0 e1 e2 e3 e4 e5 =
+    let first : f1 ≡ option_to_list (records_out_of_file bytes) = e1 ∙ ap (λ (l : List LayoutFault). l ++ option_to_list (records_out_of_file bytes)) e0 in
+    let more = λ (rules : List Rule) (old new front : List LayoutFault) (so_far : old ≡ front) (e : new ≡ old ++ told_by bytes rules slices).
+    and_more (told_by bytes rules (slices_of bytes)) so_far (e ∙ ap (λ (ss : List PlacedSlice). old ++ told_by bytes rules ss) is)
     in
-    let second = more (slice_out_of_file bytes) f1 f2 _ first e2 in
-    let third = more (slice_in_records bytes) f2 f3 _ second e3 in
-    let fourth = more slice_alignment f3 f4 _ third e4 in
-    let fifth = more slice_unaligned f4 f5 _ fourth e5 in
-    let sixth = and_more e6.0 fifth e6.2 in
-    let seventh = more (slice_of_other_cpu bytes) f6 f7 _ sixth e7 in record {
-      again = e6.0;
-      sharing = e8.0;
-      slices_again = subst (λ (ss : List PlacedSlice). AreShared rule.SliceAgain (filter_map (slice_range Cpu) ss) e6.0) is e6.1;
-      slices_share = subst (λ (ss : List PlacedSlice). AreShared rule.SlicesShare (filter_map (slice_range Bytes) ss) e8.0) is e8.1;
-      joined = and_more e8.0 seventh e8.2;
+    let second = more alone f1 f2 _ first e2 in
+    let third = and_more e3.0 second e3.2 in
+    let fourth = more (rule.SliceOfOtherCpu ∷ []) f3 f4 _ third e4 in record {
+      again = e3.0;
+      sharing = e5.0;
+      slices_again = subst (λ (ss : List PlacedSlice). AreShared rule.SliceAgain (filter_map (slice_range Cpu) ss) e3.0) is e3.1;
+      slices_share = subst (λ (ss : List PlacedSlice). AreShared rule.SlicesShare (filter_map (slice_range Bytes) ss) e5.0) is e5.1;
+      joined = and_more e5.0 fourth e5.2;
     }

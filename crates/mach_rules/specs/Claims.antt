@@ -11,6 +11,7 @@ use Rattle.mach_load.specs.Commands.{encryption_info64, note, twolevel_hints, sy
 use Rattle.mach_segments.specs.Section.{is_zero_fill}
 use Rattle.mach_symbols.specs.Symbols.{nlist_size}
 use Rattle.mach_rules.specs.Laid.{Laid, is_stub, is_dsym, used_end, segment_of, sections_by}
+use Rattle.mach_rules.specs.Rules.{owner_at}
 use Rattle.mach_rules.specs.declared.claim.Claim.{Claim}
 use Rattle.mach_rules.specs.declared.fault.Part.{Part}
 use Rattle.mach_rules.specs.declared.fault.Part.TheVariants as part
@@ -19,7 +20,7 @@ use Rattle.mach_rules.specs.declared.parts.PlacedSegment.{PlacedSegment}
 
 -- so many bytes from a start on, claimed by a part of the command at a place
 abbrev pub claim : Part → ℕ → ℕ → ℕ → Claim
-claim p place start len = record { owner = record { part = p; command = place; index = 0 }; start = start; len = len }
+claim p place start len = record { owner = owner_at p place 0; start = start; len = len }
 
 -- ---- tables
 
@@ -104,8 +105,7 @@ has_bytes laid s =
 
 -- so many bytes from a start on, claimed by a part of a section
 abbrev pub section_claim : Part → PlacedSection → ℕ → ℕ → Claim
-section_claim p s start len =
-    record { owner = record { part = p; command = s.segment.place; index = s.number }; start = start; len = len }
+section_claim p s start len = record { owner = owner_at p s.segment.place s.number; start = start; len = len }
 
 -- the bytes of a section, none where it has none
 abbrev pub bytes_claim : Laid → PlacedSection → Claim

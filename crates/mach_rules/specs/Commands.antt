@@ -1,7 +1,7 @@
 -- Rules of load commands (`mach-o/loader.h`, struct load_command and the struct of each command). dyld or LLVM refuse an
 -- image that breaks one, but for the end before `sizeofcmds`.
-use Rattle.std.specs.Prelude.{◌==◌, ◌&&◌, ℕ, zero, suc, ◌+◌, ◌-◌, ◌*◌, ◌%◌, Bool, false, if◌then◌else◌, nat_lt, nat_le, length, take, drop}
-use Rattle.std.specs.Prelude.{List, [], ◌∷◌, ◌++◌, Option, Some, None, option_map, option_and_then, option_to_list, filter_map, find}
+use Rattle.std.specs.Prelude.{◌==◌, ◌&&◌, ℕ, zero, suc, ◌+◌, ◌-◌, ◌*◌, ◌%◌, Bool, false, not, ◌||◌, if◌then◌else◌, nat_le, length, take, drop}
+use Rattle.std.specs.Prelude.{List, [], ◌∷◌, ◌++◌, Option, Some, None, option_map, option_and_then, find}
 use Rattle.std.specs.List.{cons_option, list_any}
 use Rattle.mach_base.specs.Context.{pointer_size}
 use Rattle.mach_base.specs.Number.{number, place_after}
@@ -24,47 +24,19 @@ use Rattle.mach_records.specs.Segments.{section32_fields, section64_fields, segm
 use Rattle.mach_records.specs.SymbolTables.{dysymtab_command_fields, symseg_command_fields, symtab_command_fields, twolevel_hints_command_fields}
 use Rattle.mach_records.specs.Umbrellas.{sub_client_command_fields, sub_framework_command_fields, sub_library_command_fields, sub_umbrella_command_fields}
 use Rattle.mach_records.specs.Versions.{build_tool_version_fields, build_version_command_fields, source_version_command_fields, version_min_command_fields}
-use Rattle.mach_rules.specs.Laid.{Laid, file_size, declared_end, chain_end, is_judged}
+use Rattle.mach_rules.specs.Header.{header_told}
+use Rattle.mach_rules.specs.Laid.{Laid, declared_end}
+use Rattle.mach_rules.specs.Libraries.{text_of, place_sees, text_sees, is_library_file, says_id}
+use Rattle.mach_rules.specs.Rules.{measured, sound, sees_there, owner_at, told_over}
 use Rattle.mach_rules.specs.declared.commands.sizes.StructSize.{StructSize}
 use Rattle.mach_rules.specs.declared.commands.sizes.StructSize.TheVariants.{Exactly, AtLeast}
 use Rattle.mach_rules.specs.declared.fault.LayoutFault.{LayoutFault}
 use Rattle.mach_rules.specs.declared.fault.Owner.{Owner}
+use Rattle.mach_rules.specs.declared.fault.Part.{Part}
 use Rattle.mach_rules.specs.declared.fault.Part.TheVariants as part
 use Rattle.mach_rules.specs.declared.fault.Rule.{Rule}
 use Rattle.mach_rules.specs.declared.fault.Rule.TheVariants as rule
-
--- ---- whose a fault is
-
--- the header as the owner of a fault
-abbrev pub header_owner : Owner
-header_owner = record { part = part.Header; command = 0; index = 0 }
-
--- the command as the owner of a fault
-abbrev pub command_owner : Command → Owner
-command_owner c = record { part = part.Command; command = c.offset; index = 0 }
-
--- what is told of the header, and of a command, that break a rule
-abbrev pub of_header : Rule → (found limit : ℕ) → LayoutFault
-of_header rule found limit = record { rule = rule; owner = header_owner; other = None; found = found; limit = limit }
-
-abbrev pub of_command : Rule → Command → (found limit : ℕ) → LayoutFault
-of_command rule c found limit = record { rule = rule; owner = command_owner c; other = None; found = found; limit = limit }
-
--- ---- the header
-
--- the kind of file is none that the rules judge
-abbrev pub file_kind : Laid → Option LayoutFault
-file_kind laid = if is_judged laid then None else Some (of_header rule.FileKind laid.header.filetype 0)
-
--- the commands pass the end of the file, as the header says
-abbrev pub commands_out_of_file : Laid → Option LayoutFault
-commands_out_of_file laid =
-    if nat_lt (file_size laid) (declared_end laid) then Some (of_header rule.CommandsOutOfFile (declared_end laid) (file_size laid)) else None
-
--- the commands end before the header says
-abbrev pub commands_end_early : Laid → Option LayoutFault
-commands_end_early laid =
-    if nat_lt (chain_end laid) (declared_end laid) then Some (of_header rule.CommandsEndEarly (chain_end laid) (declared_end laid)) else None
+use Rattle.mach_rules.specs.declared.rules.Seen.{Seen}
 
 -- ---- the size of a command
 
@@ -123,28 +95,15 @@ struct_size kind.dyld_chained_fixups = Exactly (size linkedit_data_command_field
 struct_size kind.fileset_entry = AtLeast (size fileset_entry_command_fields)
 struct_size _ = AtLeast (size header_fields)
 
--- the size is smaller than the struct, or another one where nothing may follow it
-abbrev pub size_against : Command → StructSize → Option LayoutFault
-size_against c (Exactly n) = if cmdsize_of c == n then None else Some (of_command rule.CommandSize c (cmdsize_of c) n)
-size_against c (AtLeast n) = if nat_lt (cmdsize_of c) n then Some (of_command rule.CommandSize c (cmdsize_of c) n) else None
-
-abbrev pub command_size : Command → Option LayoutFault
-command_size c = size_against c (struct_size c.kind)
+-- the size is that of the struct, or more where something may follow it
+abbrev pub size_sees : ℕ → StructSize → Seen
+size_sees size (Exactly n) = measured (size == n) size n
+size_sees size (AtLeast n) = measured (nat_le n size) size n
 
 -- The size of a command is a multiple of 8 in an image of 64 bits, of 4 in one of 32 bits (struct load_command).
 -- The thread of a core file of 64 bits needs a multiple of 4 alone.
 abbrev pub unit_of : Laid → Command → ℕ
 unit_of laid c = if laid.header.filetype == 4 && cmd_of c == 4 then 4 else pointer_size laid.ctx.container
-
-abbrev pub command_unaligned : Laid → Command → Option LayoutFault
-command_unaligned laid c =
-    if cmdsize_of c % unit_of laid c == 0 then None else Some (of_command rule.CommandUnaligned c (cmdsize_of c) (unit_of laid c))
-
--- the command passes the end of the commands, as the header says
-abbrev pub command_out_of_commands : Laid → Command → Option LayoutFault
-command_out_of_commands laid c =
-    if nat_lt (declared_end laid) (c.offset + cmdsize_of c)
-    then Some (of_command rule.CommandOutOfCommands c (place_after c.offset (cmdsize_of c)) (declared_end laid)) else None
 
 -- the bytes of a command behind its cmd and cmdsize
 abbrev pub behind_header : List ℕ → Command → List ℕ
@@ -173,13 +132,6 @@ counted_size laid c kind.thread = Some (thread_size laid c)
 counted_size laid c kind.unixthread = Some (thread_size laid c)
 counted_size laid c _ = None
 
--- the size isn't the one with what it counts
-abbrev pub count_against : Command → ℕ → Option LayoutFault
-count_against c n = if cmdsize_of c == n then None else Some (of_command rule.CommandCount c (cmdsize_of c) n)
-
-abbrev pub command_count : Laid → Command → Option LayoutFault
-command_count laid c = option_and_then (count_against c) (counted_size laid c c.kind)
-
 -- ---- what a command is
 
 -- the number of the segments of an image of a width (LC_SEGMENT_64, LC_SEGMENT), where the command is one of the other width
@@ -187,9 +139,6 @@ abbrev pub other_width : Container → Kind → Option ℕ
 other_width Big kind.segment32 = Some 0x19
 other_width Little kind.segment64 = Some 0x1
 other_width container kind = None
-
-abbrev pub segment_width : Laid → Command → Option LayoutFault
-segment_width laid c = option_map (of_command rule.SegmentWidth c (cmd_of c)) (other_width laid.ctx.container c.kind)
 
 -- The sets of commands of which an image has one at most, by number: the commands of a set stand for each other.
 abbrev pub set_of : Kind → Option ℕ
@@ -231,6 +180,10 @@ is_number n (Some m) = m == n
 abbrev pub is_of_set : ℕ → Command → Bool
 is_of_set set c = is_number set (set_of c.kind)
 
+-- the command as the owner of a fault
+abbrev pub command_owner : Command → Owner
+command_owner c = owner_at part.Command c.offset 0
+
 -- a command of a set whose first one is another
 abbrev pub once_more : Command → Owner → LayoutFault
 once_more c first = record { rule = rule.CommandAgain; owner = command_owner c; other = Some first; found = cmd_of c; limit = 1 }
@@ -251,26 +204,62 @@ commands_again before (c ∷ cs) = cons_option (command_again before c) (command
 abbrev pub is_symbols : Command → Bool
 is_symbols c = is_of_set 0 c
 
--- the symbols that the dynamic linker needs (LC_DYSYMTAB)
-abbrev pub dynamic_symbols : Command → Option LayoutFault
-dynamic_symbols c = if is_of_set 1 c then Some (of_command rule.DynamicSymbolsAlone c (cmd_of c) 2) else None
+-- ---- each command alone
 
--- each command of these, in an image without symbols (LC_SYMTAB)
-abbrev pub dynamic_symbols_alone : List Command → List LayoutFault
-dynamic_symbols_alone cs = if list_any is_symbols cs then [] else filter_map dynamic_symbols cs
+-- the text of a command, and any other of its faults, is its own
+abbrev pub command_part : Rule → Part
+command_part rule.TextMisplaced = part.Text
+command_part rule.TextEmpty = part.Text
+command_part _ = part.Command
+
+abbrev pub owner_by : Rule → Command → Owner
+owner_by r c = owner_at (command_part r) c.offset 0
+
+-- what each rule of one command sees
+abbrev pub command_sees : Laid → Rule → Command → Seen
+-- a command has the size of its struct
+command_sees laid rule.CommandSize c = size_sees (cmdsize_of c) (struct_size c.kind)
+-- and a multiple of its unit
+command_sees laid rule.CommandUnaligned c = measured (cmdsize_of c % unit_of laid c == 0) (cmdsize_of c) (unit_of laid c)
+-- it ends with the commands or before, as the header says
+command_sees laid rule.CommandOutOfCommands c =
+    measured (nat_le (c.offset + cmdsize_of c) (declared_end laid)) (place_after c.offset (cmdsize_of c)) (declared_end laid)
+-- its size is the one with what it counts
+command_sees laid rule.CommandCount c = sees_there (counted_size laid c c.kind) (λ n. measured (cmdsize_of c == n) (cmdsize_of c) n)
+-- a segment's command is of the image's width
+command_sees laid rule.SegmentWidth c = sees_there (other_width laid.ctx.container c.kind) (λ n. measured false (cmd_of c) n)
+-- the symbols that the dynamic linker needs (LC_DYSYMTAB), where there are no symbols (LC_SYMTAB)
+command_sees laid rule.DynamicSymbolsAlone c = measured (not (is_of_set 1 c)) (cmd_of c) 2
+-- a text lies in its command, behind the struct
+command_sees laid rule.TextMisplaced c = sees_there (text_of c.kind c.values) (place_sees laid.bytes c)
+-- and isn't empty, where it is read
+command_sees laid rule.TextEmpty c = sees_there (text_of c.kind c.values) (text_sees laid.bytes c)
+-- what is no library says no name as one
+command_sees laid rule.IdUnexpected c = measured (not (says_id c) || is_library_file laid) laid.header.filetype 0
+command_sees laid _ c = sound
+
+-- what some of these rules tell of the commands
+abbrev pub commands_told : Laid → List Rule → List LayoutFault
+commands_told laid rules = told_over rules owner_by (command_sees laid) laid.commands
+
+-- the symbols for the dynamic linker are judged where there are no others
+abbrev pub dynamic_symbols_alone : Laid → List LayoutFault
+dynamic_symbols_alone laid = if list_any is_symbols laid.commands then [] else commands_told laid (rule.DynamicSymbolsAlone ∷ [])
 
 -- ---- all of them
 
 -- the faults of the header and of the commands
 abbrev pub command_faults : Laid → List LayoutFault
 command_faults laid =
-    option_to_list (file_kind laid)
-    ++ option_to_list (commands_out_of_file laid)
-    ++ filter_map command_size laid.commands
-    ++ filter_map (command_unaligned laid) laid.commands
-    ++ filter_map (command_out_of_commands laid) laid.commands
-    ++ filter_map (command_count laid) laid.commands
-    ++ filter_map (segment_width laid) laid.commands
-    ++ option_to_list (commands_end_early laid)
+    header_told laid (rule.FileKind ∷ rule.CommandsOutOfFile ∷ [])
+    ++ commands_told laid (rule.CommandSize ∷ rule.CommandUnaligned ∷ rule.CommandOutOfCommands ∷ rule.CommandCount ∷ rule.SegmentWidth ∷ [])
+    ++ header_told laid (rule.CommandsEndEarly ∷ [])
     ++ commands_again [] laid.commands
-    ++ dynamic_symbols_alone laid.commands
+    ++ dynamic_symbols_alone laid
+
+-- the faults of texts and names
+abbrev pub text_faults : Laid → List LayoutFault
+text_faults laid =
+    commands_told laid (rule.TextMisplaced ∷ rule.TextEmpty ∷ [])
+    ++ header_told laid (rule.IdMissing ∷ [])
+    ++ commands_told laid (rule.IdUnexpected ∷ [])

@@ -1,6 +1,6 @@
 -- The faults of the table of a fat file (`mach-o/fat.h`, struct fat_header and fat_arch; LLVM refuses a file that has one).
-use Rattle.std.specs.Prelude.{◌==◌, ◌≡◌, ◌||◌, ℕ, zero, suc, ◌+◌, ◌*◌, ◌%◌, ◌^◌, List, [], ◌∷◌, ◌++◌, length, filter_map, nat_lt}
-use Rattle.std.specs.Prelude.{Option, Some, None, option_and_then, option_to_list, Result, Ok, Err, if◌then◌else◌}
+use Rattle.std.specs.Prelude.{◌==◌, ◌≡◌, ◌&&◌, not, ℕ, zero, suc, ◌+◌, ◌*◌, ◌%◌, ◌^◌, List, [], ◌∷◌, ◌++◌, length, filter_map, nat_lt, nat_le}
+use Rattle.std.specs.Prelude.{Option, Some, None, option_to_list, Result, Ok, Err, if◌then◌else◌}
 use Rattle.mach_base.specs.Answer.{◌>>=◌}
 use Rattle.mach_base.specs.Fault.{Fault}
 use Rattle.mach_base.specs.Number.{number_at}
@@ -9,19 +9,19 @@ use Rattle.mach_base.specs.declared.context.Ctx.{Ctx}
 use Rattle.mach_base.specs.declared.context.Endian.TheVariants.{Big}
 use Rattle.mach_headers.specs.Fat.{fat_arch_fields, fat_arch_of_values}
 use Rattle.mach_headers.specs.Magic.{magic_at}
-use Rattle.mach_rules.specs.Commands.{of_header}
+use Rattle.mach_rules.specs.Header.{header_owner}
+use Rattle.mach_rules.specs.Rules.{measured, sound, sees_there, owner_at, told, told_over}
 use Rattle.mach_rules.specs.Sweep.{AreShared}
 use Rattle.mach_rules.specs.declared.claim.Claim.{Claim}
 use Rattle.mach_rules.specs.declared.containers.PlacedSlice.{PlacedSlice}
 use Rattle.mach_rules.specs.declared.containers.RangeOf.{RangeOf}
 use Rattle.mach_rules.specs.declared.containers.RangeOf.TheVariants.{Cpu, Bytes}
-use Rattle.mach_rules.specs.declared.containers.SliceRule.{SliceRule}
-use Rattle.mach_rules.specs.declared.containers.SliceRule.TheVariants.{InFile, BehindRecords, Power, Place, OwnCpu}
 use Rattle.mach_rules.specs.declared.fault.LayoutFault.{LayoutFault}
 use Rattle.mach_rules.specs.declared.fault.Owner.{Owner}
 use Rattle.mach_rules.specs.declared.fault.Part.TheVariants as part
 use Rattle.mach_rules.specs.declared.fault.Rule.{Rule}
 use Rattle.mach_rules.specs.declared.fault.Rule.TheVariants as rule
+use Rattle.mach_rules.specs.declared.rules.Seen.{Seen}
 
 -- ---- the records
 
@@ -56,31 +56,7 @@ slices_of bytes = slices_from bytes 0 (slice_count bytes)
 -- ---- the rules of one slice
 
 abbrev pub slice_owner : PlacedSlice → Owner
-slice_owner s = record { part = part.Slice; command = 8 + 20 * s.number; index = s.number }
-
-abbrev pub of_slice : Rule → PlacedSlice → (found limit : ℕ) → LayoutFault
-of_slice rule s found limit = record { rule = rule; owner = slice_owner s; other = None; found = found; limit = limit }
-
--- it has no bytes, or passes the end of the file
-abbrev pub slice_out_of_file : List ℕ → PlacedSlice → Option LayoutFault
-slice_out_of_file bytes s =
-    if s.arch.size == 0 || nat_lt (length bytes) (s.arch.offset + s.arch.size)
-    then Some (of_slice rule.SliceOutOfFile s (s.arch.offset + s.arch.size) (length bytes)) else None
-
--- it begins within the header and the records
-abbrev pub slice_in_records : List ℕ → PlacedSlice → Option LayoutFault
-slice_in_records bytes s =
-    if nat_lt s.arch.offset (records_end bytes) then Some (of_slice rule.SliceInRecords s s.arch.offset (records_end bytes)) else None
-
--- its alignment is more than 2 to the power of 15
-abbrev pub slice_alignment : PlacedSlice → Option LayoutFault
-slice_alignment s = if nat_lt 15 s.arch.align then Some (of_slice rule.SliceAlignment s s.arch.align 15) else None
-
--- it doesn't begin at a multiple of its alignment, which is no more than that
-abbrev pub slice_unaligned : PlacedSlice → Option LayoutFault
-slice_unaligned s =
-    if nat_lt 15 s.arch.align || s.arch.offset % 2 ^ s.arch.align == 0 then None
-    else Some (of_slice rule.SliceUnaligned s s.arch.offset (2 ^ s.arch.align))
+slice_owner s = owner_at part.Slice (8 + 20 * s.number) s.number
 
 abbrev pub if_ok : Result ℕ Fault → Option ℕ
 if_ok (Ok n) = Some n
@@ -98,26 +74,33 @@ cpu_by bytes o (Err f) = None
 abbrev pub image_cpu : List ℕ → ℕ → Option ℕ
 image_cpu bytes o = cpu_by bytes o (magic_at bytes o)
 
--- its image is of another cpu
-abbrev pub cpu_against : PlacedSlice → ℕ → Option LayoutFault
-cpu_against s cpu = if s.arch.cputype == cpu then None else Some (of_slice rule.SliceOfOtherCpu s s.arch.cputype cpu)
+-- what each rule of one slice sees
+abbrev pub slice_sees : List ℕ → Rule → PlacedSlice → Seen
+-- it has bytes, and they lie in the file
+slice_sees bytes rule.SliceOutOfFile s =
+    let end = s.arch.offset + s.arch.size in measured (not (s.arch.size == 0) && nat_le end (length bytes)) end (length bytes)
+-- it begins behind the header and the records
+slice_sees bytes rule.SliceInRecords s = measured (nat_le (records_end bytes) s.arch.offset) s.arch.offset (records_end bytes)
+-- its alignment is at most 2 to the power of 15
+slice_sees bytes rule.SliceAlignment s = measured (nat_le s.arch.align 15) s.arch.align 15
+-- it begins at a multiple of its alignment, where this is no more than that
+slice_sees bytes rule.SliceUnaligned s =
+    if nat_lt 15 s.arch.align then sound else measured (s.arch.offset % 2 ^ s.arch.align == 0) s.arch.offset (2 ^ s.arch.align)
+-- its image is of its cpu
+slice_sees bytes rule.SliceOfOtherCpu s =
+    sees_there (image_cpu bytes s.arch.offset) (λ cpu. measured (s.arch.cputype == cpu) s.arch.cputype cpu)
+slice_sees bytes _ s = sound
 
-abbrev pub slice_of_other_cpu : List ℕ → PlacedSlice → Option LayoutFault
-slice_of_other_cpu bytes s = option_and_then (cpu_against s) (image_cpu bytes s.arch.offset)
-
-abbrev pub slice_fault : SliceRule → List ℕ → PlacedSlice → Option LayoutFault
-slice_fault InFile bytes s = slice_out_of_file bytes s
-slice_fault BehindRecords bytes s = slice_in_records bytes s
-slice_fault Power bytes s = slice_alignment s
-slice_fault Place bytes s = slice_unaligned s
-slice_fault OwnCpu bytes s = slice_of_other_cpu bytes s
+-- what some of these rules tell of the slices
+abbrev pub slices_told : List ℕ → List Rule → List LayoutFault
+slices_told bytes rules = told_over rules (λ rule. slice_owner) (slice_sees bytes) (slices_of bytes)
 
 -- ---- all of them
 
--- the records pass the end of the file
+-- the records lie in the file
 abbrev pub records_out_of_file : List ℕ → Option LayoutFault
 records_out_of_file bytes =
-    if nat_lt (length bytes) (records_end bytes) then Some (of_header rule.RecordsOutOfFile (records_end bytes) (length bytes)) else None
+    told rule.RecordsOutOfFile header_owner (measured (nat_le (records_end bytes) (length bytes)) (records_end bytes) (length bytes))
 
 -- The bytes of a slice, if it has any; or one number of its own for each cpu and kind (the low 24 bits of cpusubtype): two
 -- slices of one cpu and kind share it.
@@ -132,6 +115,6 @@ pub record AreContainerFaults (bytes : List ℕ) (list : List LayoutFault) : Typ
   pub slices_again : AreShared rule.SliceAgain (filter_map (slice_range Cpu) (slices_of bytes)) again
   pub slices_share : AreShared rule.SlicesShare (filter_map (slice_range Bytes) (slices_of bytes)) sharing
   pub joined : list
-      ≡ option_to_list (records_out_of_file bytes) ++ filter_map (slice_out_of_file bytes) (slices_of bytes)
-      ++ filter_map (slice_in_records bytes) (slices_of bytes) ++ filter_map slice_alignment (slices_of bytes)
-      ++ filter_map slice_unaligned (slices_of bytes) ++ again ++ filter_map (slice_of_other_cpu bytes) (slices_of bytes) ++ sharing
+      ≡ option_to_list (records_out_of_file bytes)
+      ++ slices_told bytes (rule.SliceOutOfFile ∷ rule.SliceInRecords ∷ rule.SliceAlignment ∷ rule.SliceUnaligned ∷ []) ++ again
+      ++ slices_told bytes (rule.SliceOfOtherCpu ∷ []) ++ sharing

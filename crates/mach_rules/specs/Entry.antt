@@ -1,6 +1,6 @@
 -- Rules of where an executable begins to run (`mach-o/loader.h`, struct entry_point_command and thread_command; dyld and the
 -- kernel refuse an image that breaks one).
-use Rattle.std.specs.Prelude.{◌==◌, ◌&&◌, not, ℕ, ◌+◌, Bool, true, if◌then◌else◌, nat_lt, nat_le, bit_and, List, []}
+use Rattle.std.specs.Prelude.{◌==◌, ◌&&◌, not, ℕ, ◌+◌, Bool, true, false, if◌then◌else◌, nat_lt, nat_le, bit_and, List, []}
 use Rattle.std.specs.Prelude.{Option, Some, None, option_to_list, find, Result, Ok, Err}
 use Rattle.std.specs.List.{list_any}
 use Rattle.mach_base.specs.Fault.{Fault}
@@ -9,14 +9,17 @@ use Rattle.mach_load.specs.Command.{Command}
 use Rattle.mach_load.specs.Commands.{Kind}
 use Rattle.mach_load.specs.Commands as kind
 use Rattle.mach_load.specs.ThreadState.{pointer_in, state_words}
-use Rattle.mach_rules.specs.Commands.{of_header, is_of_set}
+use Rattle.mach_rules.specs.Commands.{is_of_set}
+use Rattle.mach_rules.specs.Header.{header_owner}
 use Rattle.mach_rules.specs.Laid.{Laid, used_end, segments_of}
+use Rattle.mach_rules.specs.Rules.{measured, sees_there, owner_at, told}
 use Rattle.mach_rules.specs.declared.entry.EntryPlace.{EntryPlace}
 use Rattle.mach_rules.specs.declared.entry.EntryPlace.TheVariants.{InFile, InMemory}
 use Rattle.mach_rules.specs.declared.fault.LayoutFault.{LayoutFault}
 use Rattle.mach_rules.specs.declared.fault.Part.TheVariants as part
 use Rattle.mach_rules.specs.declared.fault.Rule.TheVariants as rule
 use Rattle.mach_rules.specs.declared.parts.PlacedSegment.{PlacedSegment}
+use Rattle.mach_rules.specs.declared.rules.Seen.{Seen}
 
 -- whether a command says where the image begins (LC_MAIN, LC_UNIXTHREAD)
 abbrev pub is_entry : Command → Bool
@@ -55,27 +58,16 @@ abbrev pub number_of_place : EntryPlace → ℕ
 number_of_place (InFile place) = place
 number_of_place (InMemory address) = address
 
--- what is told of the command that says where the image begins
-abbrev pub of_entry : Laid → Command → EntryPlace → LayoutFault
-of_entry laid c place =
-    record {
-      rule = rule.EntryOutOfCode;
-      owner = record { part = part.Entry; command = c.offset; index = 0 };
-      other = None;
-      found = number_of_place place;
-      limit = used_end laid;
-    }
-
--- the place isn't in a segment that may be executed, behind the commands
-abbrev pub entry_out_of_code : Laid → Command → Option EntryPlace → Option LayoutFault
-entry_out_of_code laid c None = None
-entry_out_of_code laid c (Some place) =
-    if is_behind_commands laid place && list_any (is_code_at place) (segments_of laid) then None else Some (of_entry laid c place)
+-- the place is in a segment that may be executed, behind the commands
+abbrev pub entry_sees : Laid → EntryPlace → Seen
+entry_sees laid place =
+    measured (is_behind_commands laid place && list_any (is_code_at place) (segments_of laid)) (number_of_place place) (used_end laid)
 
 -- The first command that says where an executable begins is judged, and there is one. A second one is told as one too many.
 abbrev pub entry_fault : Laid → Option Command → Option LayoutFault
-entry_fault laid None = Some (of_header rule.NoEntry 0 0)
-entry_fault laid (Some c) = entry_out_of_code laid c (entry_place laid.header.cputype c.kind c.values)
+entry_fault laid None = told rule.NoEntry header_owner (measured false 0 0)
+entry_fault laid (Some c) =
+    told rule.EntryOutOfCode (owner_at part.Entry c.offset 0) (sees_there (entry_place laid.header.cputype c.kind c.values) (entry_sees laid))
 
 -- the faults of the entry of an executable (MH_EXECUTE)
 abbrev pub entry_faults : Laid → List LayoutFault

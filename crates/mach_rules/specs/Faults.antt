@@ -1,13 +1,13 @@
 -- The faults of the layout of an image: those of each rule, in order.
 use Rattle.std.specs.Prelude.{◌≡◌, ◌++◌, List, []}
-use Rattle.mach_rules.specs.Commands.{command_faults}
+use Rattle.mach_rules.specs.Commands.{command_faults, text_faults}
 use Rattle.mach_rules.specs.Entry.{entry_faults}
 use Rattle.mach_rules.specs.Fixups.{fixup_faults}
+use Rattle.mach_rules.specs.Header.{segment_order_faults}
 use Rattle.mach_rules.specs.Laid.{Laid}
-use Rattle.mach_rules.specs.Libraries.{text_faults}
-use Rattle.mach_rules.specs.Ranges.{out_of_file_faults, memory_ranges, file_ranges, section_ranges, lone_claims, header_faults, linkedit_faults}
+use Rattle.mach_rules.specs.Ranges.{out_of_file_faults, memory_ranges, file_ranges, section_ranges, lone_claims, claim_faults}
 use Rattle.mach_rules.specs.Sections.{section_faults}
-use Rattle.mach_rules.specs.Segments.{segment_faults, segment_order_faults, encrypted_faults}
+use Rattle.mach_rules.specs.Segments.{segment_faults, encrypted_faults}
 use Rattle.mach_rules.specs.Sweep.{AreShared}
 use Rattle.mach_rules.specs.Symbols.{symbol_faults}
 use Rattle.mach_rules.specs.declared.fault.LayoutFault.{LayoutFault}
@@ -29,7 +29,7 @@ pub record AddsSections (laid : Laid) (old new : List LayoutFault) : Type 0 wher
   pub sections_shared : AreShared rule.SectionsShareMemory (section_ranges laid) sections
   pub claims_shared : AreShared rule.ClaimsShare (lone_claims laid) claims
   pub joined : new
-      ≡ old ++ section_faults laid ++ sections ++ claims ++ header_faults laid ++ linkedit_faults laid ++ encrypted_faults laid
+      ≡ old ++ section_faults laid ++ sections ++ claims ++ claim_faults laid ++ encrypted_faults laid
 
 -- behind some faults those of the symbols, of the entry, of texts, of what dyld binds, which are these, and of fixups
 pub record AddsSymbols (laid : Laid) (AreBinds : List LayoutFault → Type 0) (old new : List LayoutFault) : Type 0 where

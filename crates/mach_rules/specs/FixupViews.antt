@@ -1,23 +1,19 @@
--- What contracts see of chained fixups that are judged, and of the rules that their imports are asked.
-use Rattle.std.specs.Prelude.{ℕ, Option}
-use Rattle.mach_chained.specs.declared.header.ChainedFixupsHeader.{ChainedFixupsHeader}
-use Rattle.mach_rules.specs.Fixups.{Data, import_library, import_name, row_in}
-use Rattle.mach_rules.specs.Symbols.{if_there}
-use Rattle.mach_rules.specs.declared.fault.LayoutFault.{LayoutFault}
+-- What contracts see of chained fixups that are judged.
+use Rattle.std.specs.Prelude.{ℕ}
+use Rattle.mach_rules.specs.Fixups.{Data, import_owner, import_sees, row_in}
+use Rattle.mach_rules.specs.Rules.{sees_there}
+use Rattle.mach_rules.specs.declared.fault.Owner.{Owner}
+use Rattle.mach_rules.specs.declared.fault.Rule.{Rule}
 use Rattle.mach_rules.specs.declared.fixups.FixupData.{FixupData}
-use Rattle.mach_rules.specs.declared.fixups.imports.ImportRow.{ImportRow}
-use Rattle.mach_rules.specs.declared.fixups.imports.ImportRule.{ImportRule}
-use Rattle.mach_rules.specs.declared.fixups.imports.ImportRule.TheVariants.{Library, Name}
-use Rattle.mach_rules.specs.declared.fixups.imports.ImportsAsked.{ImportsAsked}
+use Rattle.mach_rules.specs.declared.fixups.imports.Imports.{Imports}
+use Rattle.mach_rules.specs.declared.rules.Seen.{Seen}
 
 abbrev pub data_view : FixupData → Data
 data_view d = record { place = d.place; payload = d.payload.now; le = d.le }
 
--- what a rule tells of an import
-abbrev pub rule_of_imports : ImportRule → Data → ChainedFixupsHeader → ℕ → ImportRow → Option LayoutFault
-rule_of_imports (Library count) x h = import_library x h count
-rule_of_imports (Name upto) x h = import_name x h upto
+-- import k
+abbrev pub imports_owner : Imports → Rule → ℕ → Owner
+imports_owner j rule = import_owner (data_view j.chained)
 
--- what is told of import k
-abbrev pub imports_asked : ImportsAsked → ℕ → Option LayoutFault
-imports_asked a k = if_there (row_in (data_view a.chained) a.header k) (rule_of_imports a.rule (data_view a.chained) a.header k)
+abbrev pub imports_judged : Imports → Rule → ℕ → Seen
+imports_judged j rule k = sees_there (row_in (data_view j.chained) j.header k) (import_sees (data_view j.chained) j.header j.libraries j.names_end rule)

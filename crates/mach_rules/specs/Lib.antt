@@ -4,9 +4,10 @@ pub mod Claim
 pub mod Claims
 pub mod ClaimsLeft
 pub mod Sweep
+pub mod Rules
+pub mod Header
 pub mod Commands
 pub mod Libraries
-pub mod ByCommand
 pub mod Entry
 pub mod Segments
 pub mod NamesMet

@@ -1,7 +1,7 @@
 -- Rules of the texts of commands and of the names of libraries (`mach-o/loader.h`, union lc_str and struct dylib_command;
 -- dyld and LLVM refuse an image that breaks one).
-use Rattle.std.specs.Prelude.{◌==◌, ◌&&◌, ◌||◌, not, ℕ, ◌+◌, ◌-◌, Bool, true, false, if◌then◌else◌, nat_lt, nat_le, take, drop, List, []}
-use Rattle.std.specs.Prelude.{◌∷◌, ◌++◌, Option, Some, None, option_and_then, option_to_list, filter_map}
+use Rattle.std.specs.Prelude.{◌==◌, ◌&&◌, ◌||◌, not, ℕ, ◌+◌, ◌-◌, Bool, true, false, nat_lt, nat_le, take, drop, List, []}
+use Rattle.std.specs.Prelude.{◌∷◌, Option, Some, None}
 use Rattle.std.specs.List.{list_any}
 use Rattle.mach_base.specs.Record.{Value, number_among, size}
 use Rattle.mach_base.specs.Text.{is_zero}
@@ -12,13 +12,10 @@ use Rattle.mach_records.specs.Contents.{fileset_entry_command_fields}
 use Rattle.mach_records.specs.Libraries.{dylib_command_fields, dylinker_command_fields, fvmfile_command_fields, fvmlib_command_fields}
 use Rattle.mach_records.specs.Libraries.{prebound_dylib_command_fields, rpath_command_fields}
 use Rattle.mach_records.specs.Umbrellas.{sub_client_command_fields, sub_framework_command_fields, sub_library_command_fields, sub_umbrella_command_fields}
-use Rattle.mach_rules.specs.Commands.{of_header, of_command}
 use Rattle.mach_rules.specs.Laid.{Laid}
-use Rattle.mach_rules.specs.declared.fault.LayoutFault.{LayoutFault}
-use Rattle.mach_rules.specs.declared.fault.Part.TheVariants as part
-use Rattle.mach_rules.specs.declared.fault.Rule.{Rule}
-use Rattle.mach_rules.specs.declared.fault.Rule.TheVariants as rule
+use Rattle.mach_rules.specs.Rules.{measured}
 use Rattle.mach_rules.specs.declared.libraries.CommandText.{CommandText}
+use Rattle.mach_rules.specs.declared.rules.Seen.{Seen}
 
 -- ---- the texts of commands
 
@@ -69,25 +66,16 @@ abbrev pub begins_with_zero : List ℕ → Bool
 begins_with_zero [] = false
 begins_with_zero (b ∷ bs) = is_zero b
 
--- what is told of the text of a command
-abbrev pub of_text : Rule → Command → CommandText → LayoutFault
-of_text rule c t =
-    record { rule = rule; owner = record { part = part.Text; command = c.offset; index = 0 }; other = None; found = t.offset; limit = cmdsize_of c }
-
--- the text doesn't lie in its command, behind the struct
-abbrev pub misplaced_at : List ℕ → Command → CommandText → Option LayoutFault
-misplaced_at bytes c t = if lies_inside bytes c t then None else Some (of_text rule.TextMisplaced c t)
-
-abbrev pub text_misplaced : Laid → Command → Option LayoutFault
-text_misplaced laid c = option_and_then (misplaced_at laid.bytes c) (text_of c.kind c.values)
-
 -- the text lies there, is read, and is empty
-abbrev pub empty_at : List ℕ → Command → CommandText → Option LayoutFault
-empty_at bytes c t =
-    if lies_inside bytes c t && (t.is_read && begins_with_zero (bytes_from_text bytes c t)) then Some (of_text rule.TextEmpty c t) else None
+abbrev pub is_empty_text : List ℕ → Command → CommandText → Bool
+is_empty_text bytes c t = lies_inside bytes c t && (t.is_read && begins_with_zero (bytes_from_text bytes c t))
 
-abbrev pub text_empty : Laid → Command → Option LayoutFault
-text_empty laid c = option_and_then (empty_at laid.bytes c) (text_of c.kind c.values)
+-- what is seen of the place of a text, and of whether it is empty: the text lies in its command, and isn't empty
+abbrev pub place_sees : List ℕ → Command → CommandText → Seen
+place_sees bytes c t = measured (lies_inside bytes c t) t.offset (cmdsize_of c)
+
+abbrev pub text_sees : List ℕ → Command → CommandText → Seen
+text_sees bytes c t = measured (not (is_empty_text bytes c t)) t.offset (cmdsize_of c)
 
 -- ---- the names of libraries
 
@@ -102,22 +90,3 @@ is_id _ = false
 
 abbrev pub says_id : Command → Bool
 says_id c = is_id c.kind
-
--- a library doesn't say its name
-abbrev pub id_missing : Laid → Option LayoutFault
-id_missing laid =
-    if is_library_file laid && not (list_any says_id laid.commands) then Some (of_header rule.IdMissing laid.header.filetype 0)
-    else None
-
--- what is no library says its name as one
-abbrev pub id_unexpected : Laid → Command → Option LayoutFault
-id_unexpected laid c =
-    if says_id c && not (is_library_file laid) then Some (of_command rule.IdUnexpected c laid.header.filetype 0) else None
-
--- the faults of texts and names
-abbrev pub text_faults : Laid → List LayoutFault
-text_faults laid =
-    filter_map (text_misplaced laid) laid.commands
-    ++ filter_map (text_empty laid) laid.commands
-    ++ option_to_list (id_missing laid)
-    ++ filter_map (id_unexpected laid) laid.commands

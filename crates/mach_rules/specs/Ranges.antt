@@ -7,6 +7,7 @@ use Rattle.std.specs.List.{starts_with}
 use Rattle.mach_base.specs.Number.{place_after}
 use Rattle.mach_rules.specs.Claims.{claims_of, segment_claim}
 use Rattle.mach_rules.specs.Laid.{Laid, is_final, is_judged, used_end, file_size, segments_of, sections_of, ends_past}
+use Rattle.mach_rules.specs.Rules.{measured, sound, owner_at, told_over}
 use Rattle.mach_rules.specs.declared.claim.Claim.{Claim}
 use Rattle.mach_rules.specs.declared.fault.LayoutFault.{LayoutFault}
 use Rattle.mach_rules.specs.declared.fault.Part.{Part}
@@ -15,29 +16,15 @@ use Rattle.mach_rules.specs.declared.fault.Rule.{Rule}
 use Rattle.mach_rules.specs.declared.fault.Rule.TheVariants as rule
 use Rattle.mach_rules.specs.declared.parts.PlacedSection.{PlacedSection}
 use Rattle.mach_rules.specs.declared.parts.PlacedSegment.{PlacedSegment}
+use Rattle.mach_rules.specs.declared.rules.Seen.{Seen}
 
 -- the claim's bytes lie in the file
 abbrev pub lies_in_file : Laid → Claim → Bool
 lies_in_file laid c = not (ends_past (file_size laid) c.start c.len)
 
--- what is told of a claim
-abbrev pub of_claim : Rule → Claim → ℕ → ℕ → LayoutFault
-of_claim r c found limit = record { rule = r; owner = c.owner; other = None; found = found; limit = limit }
-
--- ---- out of the file
-
 abbrev pub is_header : Part → Bool
 is_header part.Header = true
 is_header _ = false
-
--- What is claimed lies in the file, wherever what has no bytes begins. That the commands do is a rule of theirs.
-abbrev pub out_of_file : Laid → Claim → Option LayoutFault
-out_of_file laid c =
-    if is_header c.owner.part || c.len == 0 || lies_in_file laid c then None
-    else Some (of_claim rule.OutOfFile c (place_after c.start c.len) (file_size laid))
-
-abbrev pub out_of_file_faults : Laid → List LayoutFault
-out_of_file_faults laid = filter_map (out_of_file laid) (claims_of laid)
 
 -- ---- what shares an address or a byte
 
@@ -45,11 +32,7 @@ out_of_file_faults laid = filter_map (out_of_file laid) (claims_of laid)
 abbrev pub segment_memory : Laid → PlacedSegment → Option Claim
 segment_memory laid s =
     if not (is_judged laid) || s.command.vmsize == 0 then None
-    else Some (record {
-      owner = record { part = part.Segment; command = s.place; index = 0 };
-      start = s.command.vmaddr;
-      len = s.command.vmsize;
-    })
+    else Some (record { owner = owner_at part.Segment s.place 0; start = s.command.vmaddr; len = s.command.vmsize })
 
 -- the bytes of such a segment in the file, if it has any
 abbrev pub segment_bytes : Laid → PlacedSegment → Option Claim
@@ -59,11 +42,7 @@ segment_bytes laid s = if not (is_judged laid) || s.command.filesize == 0 then N
 abbrev pub section_memory : PlacedSection → Option Claim
 section_memory s =
     if s.section.size == 0 then None
-    else Some (record {
-      owner = record { part = part.Section; command = s.segment.place; index = s.number };
-      start = s.section.addr;
-      len = s.section.size;
-    })
+    else Some (record { owner = owner_at part.Section s.segment.place s.number; start = s.section.addr; len = s.section.size })
 
 -- The segments hold the sections and the tables, and an encrypted range names a part of a segment.
 abbrev pub is_alone : Part → Bool
@@ -99,13 +78,6 @@ begins_in_header laid part.Segment start = nat_lt 0 start && nat_lt start (used_
 begins_in_header laid part.Encrypted start = nat_lt start (used_end laid)
 begins_in_header laid _ start = false
 
-abbrev pub header_shared : Laid → Claim → Option LayoutFault
-header_shared laid c =
-    if not (c.len == 0) && begins_in_header laid c.owner.part c.start then Some (of_claim rule.HeaderShared c c.start (used_end laid)) else None
-
-abbrev pub header_faults : Laid → List LayoutFault
-header_faults laid = filter_map (header_shared laid) (claims_of laid)
-
 -- ---- tables out of __LINKEDIT
 
 -- the tables that stand in __LINKEDIT
@@ -136,11 +108,27 @@ abbrev pub end_of_segment : Option PlacedSegment → ℕ
 end_of_segment None = 0
 end_of_segment (Some s) = place_after s.command.fileoff s.command.filesize
 
--- a table that is in the file is in __LINKEDIT, in a file that dyld or the kernel maps
-abbrev pub out_of_linkedit : Laid → Option PlacedSegment → Claim → Option LayoutFault
-out_of_linkedit laid s c =
-    if is_final laid && is_linkedit c.owner.part && not (c.len == 0) && lies_in_file laid c && not (lies_in s c)
-    then Some (of_claim rule.OutOfLinkedit c (place_after c.start c.len) (end_of_segment s)) else None
+-- ---- each claim alone
 
-abbrev pub linkedit_faults : Laid → List LayoutFault
-linkedit_faults laid = filter_map (out_of_linkedit laid (linkedit_of laid)) (claims_of laid)
+-- what each rule of one claim sees, where this is the segment __LINKEDIT
+abbrev pub claim_sees : Laid → Option PlacedSegment → Rule → Claim → Seen
+-- What is claimed lies in the file, wherever what has no bytes begins. That the commands do is a rule of theirs.
+claim_sees laid s rule.OutOfFile c = measured (is_header c.owner.part || c.len == 0 || lies_in_file laid c) (place_after c.start c.len) (file_size laid)
+-- it has no bytes of the header or of the commands
+claim_sees laid s rule.HeaderShared c = measured (c.len == 0 || not (begins_in_header laid c.owner.part c.start)) c.start (used_end laid)
+-- a table that is in the file is in __LINKEDIT, in a file that dyld or the kernel maps
+claim_sees laid s rule.OutOfLinkedit c =
+    let judged = is_final laid && is_linkedit c.owner.part && not (c.len == 0) && lies_in_file laid c in
+    measured (not judged || lies_in s c) (place_after c.start c.len) (end_of_segment s)
+claim_sees laid s _ c = sound
+
+-- what some of them tell of the claims
+abbrev pub claims_told : Laid → List Rule → List LayoutFault
+claims_told laid rules = told_over rules (λ rule c. c.owner) (claim_sees laid (linkedit_of laid)) (claims_of laid)
+
+abbrev pub out_of_file_faults : Laid → List LayoutFault
+out_of_file_faults laid = claims_told laid (rule.OutOfFile ∷ [])
+
+-- those of what has bytes of the header, and of what is out of __LINKEDIT
+abbrev pub claim_faults : Laid → List LayoutFault
+claim_faults laid = claims_told laid (rule.HeaderShared ∷ rule.OutOfLinkedit ∷ [])

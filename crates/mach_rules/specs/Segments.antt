@@ -2,7 +2,7 @@
 use Rattle.std.specs.Prelude.{◌==◌, ℕ, ◌+◌, ◌%◌, ◌^◌, ◌-◌, min, ◌&&◌, ◌||◌, not, nat_le, bit_and}
 use Rattle.std.specs.Prelude.{Bool, true, false, List, [], ◌∷◌, ◌++◌, filter_map, slice_get, Option, Some, None, option_map}
 use Rattle.std.specs.Prelude.{if◌then◌else◌}
-use Rattle.std.specs.List.{before_first, cons_option, find, list_any}
+use Rattle.std.specs.List.{before_first, find, list_any}
 use Rattle.std.specs.Option.{option_to_list}
 use Rattle.std.specs.Str.{bytes_eq}
 use Rattle.mach_base.specs.Number.{place_after}
@@ -13,16 +13,19 @@ use Rattle.mach_base.specs.Record.{number_among}
 use Rattle.mach_load.specs.Command.{Command}
 use Rattle.mach_load.specs.Commands.{Kind, encryption_info32, encryption_info64}
 use Rattle.mach_rules.specs.Laid.{Laid, used_end, is_final, page_of, segments_of}
+use Rattle.mach_rules.specs.Rules.{measured, sound, owner_at, told, told_over}
 use Rattle.mach_rules.specs.declared.fault.LayoutFault.{LayoutFault}
 use Rattle.mach_rules.specs.declared.fault.Owner.{Owner}
 use Rattle.mach_rules.specs.declared.fault.Part.TheVariants as part
+use Rattle.mach_rules.specs.declared.fault.Rule.{Rule}
 use Rattle.mach_rules.specs.declared.fault.Rule.TheVariants as rule
 use Rattle.mach_rules.specs.declared.parts.PlacedSegment.{PlacedSegment}
+use Rattle.mach_rules.specs.declared.rules.Seen.{Seen}
 use Rattle.mach_rules.specs.declared.segments.EncryptedRange.{EncryptedRange}
 
 -- the segment as the owner of a fault
 abbrev pub segment_owner : PlacedSegment → Owner
-segment_owner s = record { part = part.Segment; command = s.place; index = 0 }
+segment_owner s = owner_at part.Segment s.place 0
 
 -- so many bytes or addresses from a start on hold so many others
 abbrev pub range_holds : ℕ → ℕ → ℕ → ℕ → Bool
@@ -35,54 +38,31 @@ abbrev pub address_count : Container → ℕ
 address_count Little = 2 ^ 32
 address_count Big = 2 ^ 64
 
+-- what each rule of one segment sees
+abbrev pub segment_sees : Laid → Rule → PlacedSegment → Seen
 -- A segment ends at the last address or before it (dyld, the kernel).
-abbrev pub segment_beyond_addresses : Laid → PlacedSegment → Option LayoutFault
-segment_beyond_addresses laid s =
+segment_sees laid rule.SegmentBeyondAddresses s =
     let count = address_count laid.ctx.container in
-    if nat_le (s.command.vmaddr + s.command.vmsize) count then None
-    else Some (record {
-      rule = rule.SegmentBeyondAddresses;
-      owner = segment_owner s;
-      other = None;
-      found = place_after s.command.vmaddr s.command.vmsize;
-      limit = min count (2 ^ 64 - 1);
-    })
-
+    let c = s.command in
+    measured (nat_le (c.vmaddr + c.vmsize) count) (place_after c.vmaddr c.vmsize) (min count (2 ^ 64 - 1))
 -- A segment that has memory has no more bytes in the file (`mach-o/loader.h`, filesize and vmsize).
-abbrev pub segment_file_larger : PlacedSegment → Option LayoutFault
-segment_file_larger s =
-    if s.command.vmsize == 0 || nat_le s.command.filesize s.command.vmsize then None
-    else Some (record {
-      rule = rule.SegmentFileLarger;
-      owner = segment_owner s;
-      other = None;
-      found = s.command.filesize;
-      limit = s.command.vmsize;
-    })
-
+segment_sees laid rule.SegmentFileLarger s =
+    measured (s.command.vmsize == 0 || nat_le s.command.filesize s.command.vmsize) s.command.filesize s.command.vmsize
 -- What is mapped begins with a page (dyld, the kernel): in memory, where a segment has memory,
-abbrev pub segment_address_unaligned : Laid → PlacedSegment → Option LayoutFault
-segment_address_unaligned laid s =
-    if not (is_final laid) || (s.command.vmsize == 0 || s.command.vmaddr % page_of laid == 0) then None
-    else Some (record {
-      rule = rule.SegmentAddressUnaligned;
-      owner = segment_owner s;
-      other = None;
-      found = s.command.vmaddr;
-      limit = page_of laid;
-    })
-
+segment_sees laid rule.SegmentAddressUnaligned s =
+    measured (not (is_final laid) || (s.command.vmsize == 0 || s.command.vmaddr % page_of laid == 0)) s.command.vmaddr (page_of laid)
 -- and in the file, where it has bytes there.
-abbrev pub segment_place_unaligned : Laid → PlacedSegment → Option LayoutFault
-segment_place_unaligned laid s =
-    if not (is_final laid) || (s.command.filesize == 0 || s.command.fileoff % page_of laid == 0) then None
-    else Some (record {
-      rule = rule.SegmentPlaceUnaligned;
-      owner = segment_owner s;
-      other = None;
-      found = s.command.fileoff;
-      limit = page_of laid;
-    })
+segment_sees laid rule.SegmentPlaceUnaligned s =
+    measured (not (is_final laid) || (s.command.filesize == 0 || s.command.fileoff % page_of laid == 0)) s.command.fileoff (page_of laid)
+-- What is allowed at first may be allowed: reading, writing and execution (`mach-o/loader.h`, initprot and maxprot).
+segment_sees laid rule.SegmentRights s =
+    let c = s.command in
+    measured (not (is_final laid) || bit_and (bit_and c.initprot c.maxprot) 7 == bit_and c.initprot 7) c.initprot c.maxprot
+segment_sees laid _ s = sound
+
+-- what some of these rules tell of the segments
+abbrev pub segments_told : Laid → List Rule → List LayoutFault
+segments_told laid rules = told_over rules (λ rule. segment_owner) (segment_sees laid) (segments_of laid)
 
 -- ---- names
 
@@ -104,8 +84,8 @@ abbrev pub same_name : ℕ → ℕ → LayoutFault
 same_name place earlier =
     record {
       rule = rule.SegmentNameAgain;
-      owner = record { part = part.Segment; command = place; index = 0 };
-      other = Some (record { part = part.Segment; command = earlier; index = 0 });
+      owner = owner_at part.Segment place 0;
+      other = Some (owner_at part.Segment earlier 0);
       found = 0;
       limit = 0;
     }
@@ -122,36 +102,14 @@ names_again earlier segments = filter_map segment_name_again (with_earlier earli
 abbrev pub segment_names_again : Laid → List LayoutFault
 segment_names_again laid = if is_final laid then names_again [] (segments_of laid) else []
 
--- ---- rights
-
--- What is allowed at first may be allowed: reading, writing and execution (`mach-o/loader.h`, initprot and maxprot).
-abbrev pub segment_rights : Laid → PlacedSegment → Option LayoutFault
-segment_rights laid s =
-    if not (is_final laid) || bit_and (bit_and s.command.initprot s.command.maxprot) 7 == bit_and s.command.initprot 7 then None
-    else Some (record {
-      rule = rule.SegmentRights;
-      owner = segment_owner s;
-      other = None;
-      found = s.command.initprot;
-      limit = s.command.maxprot;
-    })
-
 -- ---- the segment of the header
 
 abbrev pub holds_header : Laid → PlacedSegment → Bool
 holds_header laid s = s.command.fileoff == 0 && nat_le (used_end laid) s.command.filesize
 
--- Some segment begins at the first byte of the file and holds the header and the commands (dyld, the kernel).
-abbrev pub no_segment_of_header : Laid → Option LayoutFault
-no_segment_of_header laid =
-    if not (is_final laid) || list_any (holds_header laid) (segments_of laid) then None
-    else Some (record {
-      rule = rule.NoSegmentOfHeader;
-      owner = record { part = part.Header; command = 0; index = 0 };
-      other = None;
-      found = 0;
-      limit = used_end laid;
-    })
+-- some segment begins at the first byte of the file and holds the header and the commands
+abbrev pub has_segment_of_header : Laid → Bool
+has_segment_of_header laid = list_any (holds_header laid) (segments_of laid)
 
 -- ---- what is encrypted
 
@@ -169,16 +127,12 @@ abbrev pub holds_code : EncryptedRange → PlacedSegment → Bool
 holds_code range s = not (bit_and s.command.initprot 4 == 0) && range_holds s.command.fileoff s.command.filesize range.start range.len
 
 -- What is encrypted lies in one segment that may be executed (the kernel).
+abbrev pub encrypted_sees : Laid → EncryptedRange → Seen
+encrypted_sees laid range =
+    measured (not (is_final laid) || (range.len == 0 || list_any (holds_code range) (segments_of laid))) (place_after range.start range.len) 0
+
 abbrev pub encrypted_not_executable : Laid → EncryptedRange → Option LayoutFault
-encrypted_not_executable laid range =
-    if not (is_final laid) || (range.len == 0 || list_any (holds_code range) (segments_of laid)) then None
-    else Some (record {
-      rule = rule.EncryptedNotExecutable;
-      owner = record { part = part.Encrypted; command = range.place; index = 0 };
-      other = None;
-      found = place_after range.start range.len;
-      limit = 0;
-    })
+encrypted_not_executable laid range = told rule.EncryptedNotExecutable (owner_at part.Encrypted range.place 0) (encrypted_sees laid range)
 
 -- the fault of the first command that says so (a second one is a fault of its own)
 abbrev pub first_encrypted : Laid → Option EncryptedRange
@@ -189,18 +143,9 @@ encrypted_faults laid = filter_map (encrypted_not_executable laid) (option_to_li
 
 -- ---- the faults of the segments
 
--- those of each segment alone
-abbrev pub each_segment_faults : Laid → List LayoutFault
-each_segment_faults laid =
-    filter_map (segment_beyond_addresses laid) (segments_of laid)
-    ++ filter_map segment_file_larger (segments_of laid)
-    ++ filter_map (segment_address_unaligned laid) (segments_of laid)
-    ++ filter_map (segment_place_unaligned laid) (segments_of laid)
-
--- those of each segment, of their names and of their rights
+-- those of each segment alone, of their names and of their rights
 abbrev pub segment_faults : Laid → List LayoutFault
-segment_faults laid = each_segment_faults laid ++ segment_names_again laid ++ filter_map (segment_rights laid) (segments_of laid)
-
--- those of all segments together
-abbrev pub segment_order_faults : Laid → List LayoutFault
-segment_order_faults laid = cons_option (no_segment_of_header laid) []
+segment_faults laid =
+    segments_told laid (rule.SegmentBeyondAddresses ∷ rule.SegmentFileLarger ∷ rule.SegmentAddressUnaligned ∷ rule.SegmentPlaceUnaligned ∷ [])
+    ++ segment_names_again laid
+    ++ segments_told laid (rule.SegmentRights ∷ [])

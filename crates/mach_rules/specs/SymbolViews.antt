@@ -1,24 +1,35 @@
--- What contracts see of the rules that symbols are asked.
-use Rattle.std.specs.Prelude.{ℕ, Option}
-use Rattle.mach_symbols.specs.declared.symbols.nlist.Nlist.{Nlist}
-use Rattle.mach_rules.specs.Symbols.{if_there, symbol_in, symbol_section, symbol_name, symbol_library, indirect_in, indirect_symbol}
-use Rattle.mach_rules.specs.declared.fault.LayoutFault.{LayoutFault}
-use Rattle.mach_rules.specs.declared.symbols.PlacedSymtab.{PlacedSymtab}
-use Rattle.mach_rules.specs.declared.symbols.SymbolRule.{SymbolRule}
-use Rattle.mach_rules.specs.declared.symbols.SymbolRule.TheVariants.{Section, Name, Library}
-use Rattle.mach_rules.specs.declared.symbols.SymbolsAsked.{SymbolsAsked}
-use Rattle.mach_rules.specs.declared.symbols.indirect.IndirectAsked.{IndirectAsked}
+-- What contracts see of what symbols are judged by.
+use Rattle.std.specs.Prelude.{ℕ}
+use Rattle.mach_rules.specs.Rules.{owner_at}
+use Rattle.mach_rules.specs.Symbols.{symbol_sees_at, range_sees, indirect_sees, indirect_section_sees}
+use Rattle.mach_rules.specs.Symbols as defined
+use Rattle.mach_rules.specs.declared.fault.Owner.{Owner}
+use Rattle.mach_rules.specs.declared.fault.Part.TheVariants as part
+use Rattle.mach_rules.specs.declared.fault.Rule.{Rule}
+use Rattle.mach_rules.specs.declared.parts.PlacedSection.{PlacedSection}
+use Rattle.mach_rules.specs.declared.rules.Seen.{Seen}
+use Rattle.mach_rules.specs.declared.symbols.SymbolRange.{SymbolRange}
+use Rattle.mach_rules.specs.declared.symbols.SymbolsJudged.{SymbolsJudged}
+use Rattle.mach_rules.specs.declared.symbols.indirect.Indirect.{Indirect}
+use Rattle.mach_rules.specs.declared.symbols.indirect.Ranges.{Ranges}
 
--- what a rule tells of a symbol of a table
-abbrev pub by_rule : SymbolRule → PlacedSymtab → ℕ → Nlist → Option LayoutFault
-by_rule (Section count) t = symbol_section count t
-by_rule (Name upto) t = symbol_name upto t
-by_rule (Library count) t = symbol_library count t
+-- a symbol of a table
+abbrev pub symbols_judged : SymbolsJudged → Rule → ℕ → Seen
+symbols_judged j = symbol_sees_at j.ctx j.bytes.now j.table j.bounds
 
--- what is told of symbol k
-abbrev pub symbols_asked : SymbolsAsked → ℕ → Option LayoutFault
-symbols_asked a k = if_there (symbol_in a.ctx a.bytes.now a.table k) (by_rule a.rule a.table k)
+-- a range of symbols
+abbrev pub range_owner : Ranges → Rule → SymbolRange → Owner
+range_owner j rule r = owner_at part.SymbolRanges j.place r.number
 
--- what is told of indirect symbol k
-abbrev pub indirect_asked : IndirectAsked → ℕ → Option LayoutFault
-indirect_asked a k = if_there (indirect_in a.le a.bytes.now a.table k) (indirect_symbol a.nsyms a.table k)
+abbrev pub ranges_judged : Ranges → Rule → SymbolRange → Seen
+ranges_judged j rule = range_sees j.nsyms
+
+-- an indirect symbol, and a section that has some
+abbrev pub indirect_owner : Indirect → Rule → ℕ → Owner
+indirect_owner j rule = defined.indirect_owner j.table
+
+abbrev pub indirect_judged : Indirect → Rule → ℕ → Seen
+indirect_judged j rule = indirect_sees j.ctx.le j.bytes.now j.table j.nsyms
+
+abbrev pub indirect_sections_judged : Indirect → Rule → PlacedSection → Seen
+indirect_sections_judged j rule = indirect_section_sees j.ctx.container j.table

@@ -1,12 +1,14 @@
 -- Rules of symbols (`mach-o/nlist.h`; `mach-o/loader.h`, struct symtab_command and dysymtab_command). The symbols and the indirect symbols of
 -- an image are those of its last command of each kind; that there is one of each is a rule of commands.
 use Rattle.std.specs.Prelude.{◌==◌, ℕ, zero, suc, ◌+◌, ◌-◌, ◌*◌, ◌/◌, ◌%◌, ◌^◌, ◌&&◌, ◌||◌, not, min, bit_and, Bool, true, false, List, [], ◌∷◌, ◌++◌}
-use Rattle.std.specs.Prelude.{length, take, drop, nat_lt, nat_le, filter_map, count_by, sum_by, Option, Some, None, Result, Ok, Err, if◌then◌else◌}
-use Rattle.std.specs.List.{cons_option, range_with_len, last_or, suffix_len}
+use Rattle.std.specs.Prelude.{length, take, drop, nat_lt, nat_le, filter_map, option_to_list, count_by, sum_by}
+use Rattle.std.specs.Prelude.{Option, Some, None, Result, Ok, Err, if◌then◌else◌}
+use Rattle.std.specs.List.{range_with_len, last_or, suffix_len}
 use Rattle.mach_base.specs.Context.{pointer_size}
 use Rattle.mach_base.specs.Fault.{Fault}
 use Rattle.mach_base.specs.Number.{number_at, place_after}
 use Rattle.mach_base.specs.Record.{Value, number_among}
+use Rattle.mach_base.specs.declared.context.Container.{Container}
 use Rattle.mach_base.specs.declared.context.Ctx.{Ctx}
 use Rattle.mach_base.specs.declared.context.Endian.{Endian}
 use Rattle.mach_load.specs.Command.{Command}
@@ -17,23 +19,27 @@ use Rattle.mach_symbols.specs.declared.symbols.nlist.Nlist.{Nlist}
 use Rattle.mach_records.specs.SymbolTables.{symtab_command_of_values}
 use Rattle.mach_records.specs.declared.symbol_tables.DysymtabCommand.{DysymtabCommand}
 use Rattle.mach_rules.specs.Laid.{Laid, file_size, is_final, segment_of, sections_of, ends_past}
+use Rattle.mach_rules.specs.Rules.{measured, sound, sees_there, then_seen, owner_at, told, told_over}
+use Rattle.mach_rules.specs.Sections.{section_owner}
 use Rattle.mach_rules.specs.declared.fault.LayoutFault.{LayoutFault}
+use Rattle.mach_rules.specs.declared.fault.Owner.{Owner}
 use Rattle.mach_rules.specs.declared.fault.Part.{Part}
 use Rattle.mach_rules.specs.declared.fault.Part.TheVariants as part
 use Rattle.mach_rules.specs.declared.fault.Rule.{Rule}
 use Rattle.mach_rules.specs.declared.fault.Rule.TheVariants as rule
 use Rattle.mach_rules.specs.declared.parts.PlacedSection.{PlacedSection}
 use Rattle.mach_rules.specs.declared.parts.PlacedSegment.{PlacedSegment}
+use Rattle.mach_rules.specs.declared.rules.Seen.{Seen}
 use Rattle.mach_rules.specs.declared.symbols.PlacedDysymtab.{PlacedDysymtab}
 use Rattle.mach_rules.specs.declared.symbols.PlacedSymtab.{PlacedSymtab}
+use Rattle.mach_rules.specs.declared.symbols.SymbolBounds.{SymbolBounds}
 use Rattle.mach_rules.specs.declared.symbols.SymbolRange.{SymbolRange}
 
 -- ---- what the rules share
 
 -- what is broken, with no other owner
 abbrev pub fault_at : Rule → Part → ℕ → ℕ → ℕ → ℕ → LayoutFault
-fault_at r p command index found limit =
-    record { rule = r; owner = record { part = p; command = command; index = index }; other = None; found = found; limit = limit }
+fault_at r p command index found limit = record { rule = r; owner = owner_at p command index; other = None; found = found; limit = limit }
 
 -- what is told of something, if it is there
 abbrev pub if_there : {A B : Type 0} → Option A → (A → Option B) → Option B
@@ -131,10 +137,6 @@ symbols_there laid t = whole_records laid.bytes t.command.symoff (nlist_size lai
 abbrev pub symbol_numbers : Laid → PlacedSymtab → List ℕ
 symbol_numbers laid t = range_with_len 0 (symbols_there laid t)
 
--- what a rule tells of the symbols of a table, in order
-abbrev pub symbols_told : Laid → PlacedSymtab → (ℕ → Nlist → Option LayoutFault) → List LayoutFault
-symbols_told laid t tell = filter_map (λ k. if_there (symbol_in laid.ctx laid.bytes t k) (tell k)) (symbol_numbers laid t)
-
 -- an entry for a debugger (N_STAB)
 abbrev pub is_stab : Nlist → Bool
 is_stab s = not (bit_and s.n_type 0xe0 == 0)
@@ -157,10 +159,6 @@ is_section_wrong sections s =
     else (if is_stab s then false
     else (if type_of s.n_type == 0xe then s.n_sect == 0 else not (s.n_sect == 0)))
 
-abbrev pub symbol_section : ℕ → PlacedSymtab → ℕ → Nlist → Option LayoutFault
-symbol_section sections t k s =
-    if is_section_wrong sections s then Some (fault_at rule.SymbolSection part.Symbols t.place k s.n_sect sections) else None
-
 -- ---- the name of a symbol
 
 -- where the names in the strings of a table end: with the last text, where the strings lie in the file
@@ -168,15 +166,6 @@ abbrev pub names_end : Laid → PlacedSymtab → ℕ
 names_end laid t =
     if ends_past (file_size laid) t.command.stroff t.command.strsize then t.command.strsize
     else texts_end (take t.command.strsize (drop t.command.stroff laid.bytes))
-
--- A symbol's name begins in front of the end of a text of the strings; 0 is no name. An indirect symbol (N_INDR) has the place of another name
--- for its value.
-abbrev pub symbol_name : ℕ → PlacedSymtab → ℕ → Nlist → Option LayoutFault
-symbol_name upto t k s =
-    if not (s.n_strx == 0) && nat_le upto s.n_strx then Some (fault_at rule.SymbolName part.Symbols t.place k s.n_strx t.command.strsize)
-    else (if bit_and s.n_type 0xee == 0xa && nat_le t.command.strsize s.n_value
-    then Some (fault_at rule.SymbolName part.Symbols t.place k s.n_value t.command.strsize)
-    else None)
 
 -- ---- the library of a symbol
 
@@ -192,17 +181,43 @@ library_count laid = count_by brings_library laid.commands
 abbrev pub is_imported : Nlist → Bool
 is_imported s = not (bit_and s.n_type 0x1 == 0) && ((type_of s.n_type == 0 && s.n_value == 0) || type_of s.n_type == 0xc)
 
--- In a file that dyld maps, with the flag MH_TWOLEVEL, a symbol that another image defines names the library by its number in the high 8 bits of
--- n_desc (GET_LIBRARY_ORDINAL); 0xfe and 0xff are special.
-abbrev pub symbol_library : ℕ → PlacedSymtab → ℕ → Nlist → Option LayoutFault
-symbol_library libraries t k s =
-    if not (is_stab s) && (is_imported s && (nat_lt libraries (s.n_desc / 256) && nat_lt (s.n_desc / 256) 0xfe))
-    then Some (fault_at rule.SymbolLibrary part.Symbols t.place k (s.n_desc / 256) libraries)
-    else None
-
 -- the libraries of symbols are judged of files that dyld maps, in two levels of names (MH_TWOLEVEL)
 abbrev pub has_libraries : Laid → Bool
 has_libraries laid = is_final laid && not (bit_and laid.header.flags 0x80 == 0)
+
+-- ---- each symbol alone
+
+-- what the symbols of a table are judged by: how many sections there are, where the names end, and how many libraries there are
+abbrev pub bounds_of : Laid → PlacedSymtab → SymbolBounds
+bounds_of laid t = record { sections = section_count laid; names_end = names_end laid t; libraries = library_count laid }
+
+-- what each rule of one symbol sees
+abbrev pub symbol_sees : PlacedSymtab → SymbolBounds → Rule → Nlist → Seen
+-- its section is one of the image, or none
+symbol_sees t b rule.SymbolSection s = measured (not (is_section_wrong b.sections s)) s.n_sect b.sections
+-- A symbol's name begins in front of the end of a text of the strings; 0 is no name. An indirect symbol (N_INDR) has the place of another name
+-- for its value.
+symbol_sees t b rule.SymbolName s =
+    then_seen (measured (s.n_strx == 0 || nat_lt s.n_strx b.names_end) s.n_strx t.command.strsize)
+    (measured (not (bit_and s.n_type 0xee == 0xa) || nat_lt s.n_value t.command.strsize) s.n_value t.command.strsize)
+-- In a file that dyld maps, with the flag MH_TWOLEVEL, a symbol that another image defines names the library by its number in the high 8 bits of
+-- n_desc (GET_LIBRARY_ORDINAL); 0xfe and 0xff are special.
+symbol_sees t b rule.SymbolLibrary s =
+    let library = s.n_desc / 256 in
+    measured (is_stab s || (not (is_imported s) || (nat_le library b.libraries || nat_le 0xfe library))) library b.libraries
+symbol_sees t b _ s = sound
+
+-- symbol k of a table as the owner of a fault, and what a rule sees in it, if its record lies in the bytes
+abbrev pub symbol_owner : PlacedSymtab → ℕ → Owner
+symbol_owner t k = owner_at part.Symbols t.place k
+
+abbrev pub symbol_sees_at : Ctx → List ℕ → PlacedSymtab → SymbolBounds → Rule → ℕ → Seen
+symbol_sees_at ctx bytes t b rule k = sees_there (symbol_in ctx bytes t k) (symbol_sees t b rule)
+
+-- what some of these rules tell of the symbols of a table, if there is one
+abbrev pub symbols_told : Laid → Option PlacedSymtab → List Rule → List LayoutFault
+symbols_told laid table rules =
+    all_there table (λ t. told_over rules (λ rule. symbol_owner t) (symbol_sees_at laid.ctx laid.bytes t (bounds_of laid t)) (symbol_numbers laid t))
 
 -- ---- the ranges of symbols
 
@@ -217,9 +232,9 @@ ranges_of d =
 abbrev pub is_range_out : ℕ → SymbolRange → Bool
 is_range_out nsyms r = nat_lt 0 r.count && nat_lt nsyms (r.first + r.count)
 
-abbrev pub symbol_range : ℕ → PlacedDysymtab → SymbolRange → Option LayoutFault
-symbol_range nsyms d r =
-    if is_range_out nsyms r then Some (fault_at rule.SymbolRange part.SymbolRanges d.place r.number (r.first + r.count) nsyms) else None
+-- what the rule of ranges sees in one, in a table of so many symbols
+abbrev pub range_sees : ℕ → SymbolRange → Seen
+range_sees nsyms r = measured (not (is_range_out nsyms r)) (r.first + r.count) nsyms
 
 -- ---- the symbols of a range
 
@@ -240,7 +255,7 @@ is_of_range number s =
     else is_external s && (not (is_stab s) && is_of_other s))
 
 abbrev pub symbol_kind : PlacedSymtab → ℕ → ℕ → Nlist → Option LayoutFault
-symbol_kind t number k s = if is_of_range number s then None else Some (fault_at rule.SymbolRangeKind part.Symbols t.place k s.n_type 0)
+symbol_kind t number k s = told rule.SymbolRangeKind (symbol_owner t k) (measured (is_of_range number s) s.n_type 0)
 
 -- what is told of the first of so many items, from a number on, of which something is told
 abbrev pub first_told : (ℕ → Option LayoutFault) → ℕ → ℕ → Option LayoutFault
@@ -276,15 +291,9 @@ range_order nsyms d = if any_range_out nsyms (ranges_of d.command) then None els
 
 -- ---- indirect symbols
 
--- the numbers of the indirect symbols, where their table lies in the file
-abbrev pub indirect_numbers : Laid → PlacedDysymtab → List ℕ
-indirect_numbers laid d =
-    if ends_past (file_size laid) d.command.indirectsymoff (4 * d.command.nindirectsyms) then [] else range_with_len 0 d.command.nindirectsyms
-
--- An indirect symbol is the number of a symbol, unless it says that it is local or absolute (INDIRECT_SYMBOL_LOCAL, INDIRECT_SYMBOL_ABS).
-abbrev pub indirect_symbol : ℕ → PlacedDysymtab → ℕ → ℕ → Option LayoutFault
-indirect_symbol nsyms d k n =
-    if bit_and n 0xc000_0000 == 0 && nat_le nsyms n then Some (fault_at rule.IndirectSymbol part.IndirectSymbols d.place k n nsyms) else None
+-- how many indirect symbols there are, where their table lies in the file
+abbrev pub indirect_count : Laid → PlacedDysymtab → ℕ
+indirect_count laid d = if ends_past (file_size laid) d.command.indirectsymoff (4 * d.command.nindirectsyms) then 0 else d.command.nindirectsyms
 
 -- indirect symbol k
 abbrev pub indirect_in : Endian → List ℕ → PlacedDysymtab → ℕ → Option ℕ
@@ -296,59 +305,59 @@ abbrev pub has_indirect : ℕ → Bool
 has_indirect flags = let kind = bit_and flags 0xff in kind == 0x6 || (kind == 0x7 || (kind == 0x8 || (kind == 0x10 || kind == 0x14)))
 
 -- how many bytes each has: those of a stub are in reserved2
-abbrev pub entry_size : Laid → PlacedSection → ℕ
-entry_size laid s = if bit_and s.section.flags 0xff == 0x8 then s.section.reserved2 else pointer_size laid.ctx.container
+abbrev pub entry_size : Container → PlacedSection → ℕ
+entry_size width s = if bit_and s.section.flags 0xff == 0x8 then s.section.reserved2 else pointer_size width
+
+-- An indirect symbol is the number of a symbol, unless it says that it is local or absolute (INDIRECT_SYMBOL_LOCAL, INDIRECT_SYMBOL_ABS).
+abbrev pub indirect_sees : Endian → List ℕ → PlacedDysymtab → (nsyms k : ℕ) → Seen
+indirect_sees le bytes d nsyms k =
+    sees_there (indirect_in le bytes d k) (λ n. measured (not (bit_and n 0xc000_0000 == 0) || nat_lt n nsyms) n nsyms)
+
+abbrev pub indirect_owner : PlacedDysymtab → ℕ → Owner
+indirect_owner d k = owner_at part.IndirectSymbols d.place k
 
 -- Such a section, if it isn't empty, is a whole number of entries, and as many indirect symbols are in the table from that of reserved1 on.
-abbrev pub indirect_section : Laid → PlacedDysymtab → PlacedSection → Option LayoutFault
-indirect_section laid d s =
+abbrev pub indirect_section_sees : Container → PlacedDysymtab → PlacedSection → Seen
+indirect_section_sees width d s =
     let size = s.section.size in
-    let unit = entry_size laid s in
-    if not (has_indirect s.section.flags) || size == 0 then None
-    else (if unit == 0 || not (size % unit == 0) then Some (fault_at rule.IndirectSection part.Section s.segment.place s.number size unit)
-    else (if ends_past d.command.nindirectsyms s.section.reserved1 (size / unit)
-    then Some (fault_at rule.IndirectSection part.Section s.segment.place s.number (place_after s.section.reserved1 (size / unit)) d.command.nindirectsyms)
-    else None))
+    let unit = entry_size width s in
+    let count = size / unit in
+    if not (has_indirect s.section.flags) || size == 0 then sound
+    else (if unit == 0 || not (size % unit == 0) then measured false size unit
+    else measured (not (ends_past d.command.nindirectsyms s.section.reserved1 count)) (place_after s.section.reserved1 count) d.command.nindirectsyms)
 
 -- ---- all of them
 
-abbrev pub symbol_section_faults : Laid → List LayoutFault
-symbol_section_faults laid = all_there (last_symtab laid) (λ t. symbols_told laid t (symbol_section (section_count laid) t))
-
-abbrev pub symbol_name_faults : Laid → List LayoutFault
-symbol_name_faults laid = all_there (last_symtab laid) (λ t. symbols_told laid t (symbol_name (names_end laid t) t))
-
-abbrev pub symbol_library_faults : Laid → List LayoutFault
-symbol_library_faults laid =
-    if has_libraries laid then all_there (last_symtab laid) (λ t. symbols_told laid t (symbol_library (library_count laid) t)) else []
-
 -- where there are no symbols, a rule of commands tells it
-abbrev pub symbol_range_faults : Laid → List LayoutFault
-symbol_range_faults laid =
-    all_there (last_symtab laid) (λ t. all_there (last_dysymtab laid) (λ d. filter_map (symbol_range t.command.nsyms d) (ranges_of d.command)))
+abbrev pub symbol_range_faults : Option PlacedSymtab → Option PlacedDysymtab → List LayoutFault
+symbol_range_faults table dynamic =
+    all_there table (λ t. all_there dynamic (λ d.
+    told_over (rule.SymbolRange ∷ []) (λ rule r. owner_at part.SymbolRanges d.place r.number) (λ rule. range_sees t.command.nsyms) (ranges_of d.command)))
 
 -- of each range the first symbol that isn't of it
-abbrev pub symbol_kind_faults : Laid → List LayoutFault
-symbol_kind_faults laid =
-    all_there (last_symtab laid) (λ t. all_there (last_dysymtab laid) (λ d. filter_map (range_kind laid t) (ranges_of d.command)))
+abbrev pub symbol_kind_faults : Laid → Option PlacedSymtab → Option PlacedDysymtab → List LayoutFault
+symbol_kind_faults laid table dynamic = all_there table (λ t. all_there dynamic (λ d. filter_map (range_kind laid t) (ranges_of d.command)))
 
-abbrev pub symbol_order_faults : Laid → List LayoutFault
-symbol_order_faults laid =
-    all_there (last_symtab laid) (λ t. all_there (last_dysymtab laid) (λ d. cons_option (range_order t.command.nsyms d) []))
+abbrev pub symbol_order_faults : Option PlacedSymtab → Option PlacedDysymtab → List LayoutFault
+symbol_order_faults table dynamic = all_there table (λ t. all_there dynamic (λ d. option_to_list (range_order t.command.nsyms d)))
 
-abbrev pub indirect_symbol_faults : Laid → List LayoutFault
-indirect_symbol_faults laid =
-    all_there (last_dysymtab laid) (λ d.
-    filter_map (λ k. if_there (indirect_in laid.ctx.le laid.bytes d k) (indirect_symbol (symbol_count (last_symtab laid)) d k)) (indirect_numbers laid d))
+abbrev pub symbol_library_faults : Laid → Option PlacedSymtab → List LayoutFault
+symbol_library_faults laid table = if has_libraries laid then symbols_told laid table (rule.SymbolLibrary ∷ []) else []
 
-abbrev pub indirect_section_faults : Laid → List LayoutFault
-indirect_section_faults laid = all_there (last_dysymtab laid) (λ d. filter_map (indirect_section laid d) (sections_of laid))
+-- those of indirect symbols, and of the sections that have some
+abbrev pub indirect_faults : Laid → Option PlacedSymtab → Option PlacedDysymtab → List LayoutFault
+indirect_faults laid table dynamic =
+    all_there dynamic (λ d.
+    told_over (rule.IndirectSymbol ∷ []) (λ rule. indirect_owner d) (λ rule. indirect_sees laid.ctx.le laid.bytes d (symbol_count table))
+    (range_with_len 0 (indirect_count laid d))
+    ++ told_over (rule.IndirectSection ∷ []) (λ rule. section_owner) (λ rule. indirect_section_sees laid.ctx.container d) (sections_of laid))
 
--- those of the symbols and of their ranges
-abbrev pub symbol_table_faults : Laid → List LayoutFault
-symbol_table_faults laid = symbol_section_faults laid ++ symbol_name_faults laid ++ symbol_range_faults laid ++ symbol_kind_faults laid
+-- those of a table of symbols, and of what the dynamic linker needs of it
+abbrev pub table_faults : Laid → Option PlacedSymtab → Option PlacedDysymtab → List LayoutFault
+table_faults laid table dynamic =
+    symbols_told laid table (rule.SymbolSection ∷ rule.SymbolName ∷ []) ++ symbol_range_faults table dynamic ++ symbol_kind_faults laid table dynamic
+    ++ symbol_library_faults laid table ++ indirect_faults laid table dynamic ++ symbol_order_faults table dynamic
 
 -- the faults of symbols
 abbrev pub symbol_faults : Laid → List LayoutFault
-symbol_faults laid =
-    symbol_table_faults laid ++ symbol_library_faults laid ++ indirect_symbol_faults laid ++ indirect_section_faults laid ++ symbol_order_faults laid
+symbol_faults laid = table_faults laid (last_symtab laid) (last_dysymtab laid)

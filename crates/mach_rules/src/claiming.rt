@@ -10,9 +10,10 @@ ghost use Rattle.mach_rules.specs.Claims as defined;
 ghost use Rattle.mach_rules.specs.ClaimsLeft.{open_left, claims_left, TakesClaim};
 
 use crate::claim::Claim;
-use crate::fault::{Owner, Part};
+use crate::fault::Part;
 use crate::layout::Layout;
 use crate::parts::{PlacedSection, PlacedSegment, segment_of, take_section};
+use crate::rules::{Items, owner_at};
 use mach_base::Container;
 use mach_load::{CommandVariant, LoadCommand};
 use mach_records::constants::{S_GB_ZEROFILL, S_THREAD_LOCAL_ZEROFILL, S_ZEROFILL, SECTION_TYPE};
@@ -24,11 +25,7 @@ use std::slice::Iter;
 fn claim(part: Part, place: usize, start: u64, len: u64) -> Claim
     ensures { result ≡ defined.claim part place start len }
 {
-    let owner = Owner {
-        part,
-        command: place as u64,
-        index: 0,
-    };
+    let owner = owner_at(part, place, 0);
     Claim { owner, start, len }
 }
 
@@ -227,13 +224,8 @@ fn is_of_zeros(flags: u32) -> bool
 fn section_claim(part: Part, placed: &PlacedSection, start: u32, len: u64) -> Claim
     ensures { result ≡ defined.section_claim part placed.now start len }
 {
-    let owner = Owner {
-        part,
-        command: placed.segment.place as u64,
-        index: placed.number,
-    };
     Claim {
-        owner,
+        owner: owner_at(part, placed.segment.place, placed.number),
         start: u64::from(start),
         len,
     }
@@ -376,5 +368,23 @@ impl<'a, 'b> Iterator for ClaimIterator<'a, 'b> {
                 Some(command) => self.open = Open::command(&self.layout, command),
             }
         }
+    }
+}
+
+impl<'a, 'b> Items for ClaimIterator<'a, 'b> {
+    type Item = Claim;
+
+    ghost left = { claims_left };
+
+    fn again(&self) -> ClaimIterator<'a, 'b> {
+        ClaimIterator {
+            layout: self.layout,
+            commands: self.commands.as_slice().iter(),
+            open: self.open,
+        }
+    }
+
+    fn take_next(&mut self) -> Option<Claim> {
+        self.next()
     }
 }

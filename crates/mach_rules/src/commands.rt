@@ -4,18 +4,21 @@ ghost use Rattle.std.specs.Prelude.{◌≡◌, ◌++◌, ◌+◌, ◌*◌, ◌<�
 ghost use Rattle.std.specs.List.{list_any};
 ghost use Rattle.mach_base.specs.Answer.{IsOkUnlessMemory};
 ghost use Rattle.mach_load.specs.Command.{cmd_of, cmdsize_of};
-ghost use Rattle.mach_load.specs.Variants.{command_of};
+ghost use Rattle.mach_load.specs.Variants.{command_of, kind_in};
 ghost use Rattle.mach_rules.specs.Laid.{laid_of};
 ghost use Rattle.mach_rules.specs.Commands as defined;
+ghost use Rattle.mach_rules.specs.declared.fault.Rule.TheVariants as rules_named;
 
 mod firsts;
 mod sizes;
 
-use crate::by_command::{CommandRule, tell, tell_by_command};
 use crate::commands::firsts::tell_again;
 use crate::commands::sizes::{StructSize, struct_size};
 use crate::fault::{LayoutFault, Owner, Part, Rule};
+use crate::header::tell_header;
 use crate::layout::{Layout, ends_past, range_end};
+use crate::libraries::{is_id, is_library_file, place_seen, text_seen};
+use crate::rules::{Judges, Seen, measured, owner_at, sound, tell_each};
 use mach_base::{Container, Endian, Record, Result};
 use mach_load::{CommandVariant, LoadCommand};
 use mach_records::{
@@ -30,41 +33,7 @@ const MH_CORE: u32 = 4;
 pub fn command_owner(command: &LoadCommand) -> Owner
     ensures { result ≡ defined.command_owner (command_of command.now) }
 {
-    Owner {
-        part: Part::Command,
-        command: command.offset as u64,
-        index: 0,
-    }
-}
-
-/// What is told of the header where it breaks a rule.
-pub fn of_header(rule: Rule, found: u64, limit: u64) -> LayoutFault
-    ensures { result ≡ defined.of_header rule found limit }
-{
-    LayoutFault {
-        rule,
-        owner: Owner {
-            part: Part::Header,
-            command: 0,
-            index: 0,
-        },
-        other: None,
-        found,
-        limit,
-    }
-}
-
-/// What is told of a command that breaks a rule.
-pub fn of_command(rule: Rule, command: &LoadCommand, found: u64, limit: u64) -> LayoutFault
-    ensures { result ≡ defined.of_command rule (command_of command.now) found limit }
-{
-    LayoutFault {
-        rule,
-        owner: command_owner(command),
-        other: None,
-        found,
-        limit,
-    }
+    owner_at(Part::Command, command.offset, 0)
 }
 
 // The size of a command.
@@ -81,54 +50,14 @@ pub fn number_of(command: &LoadCommand) -> u64
     u64::from(command.command.cmd())
 }
 
-// The kind of file is none that the rules judge.
-fn file_kind(layout: &Layout<'_, '_>) -> Option<LayoutFault>
-    ensures { result ≡ defined.file_kind (laid_of layout.now) }
+// What is seen of the size of a command against its struct.
+fn size_seen(size: u64, expected: StructSize) -> Seen
+    ensures { result ≡ defined.size_sees size expected }
 {
-    if layout.is_judged() {
-        return None;
+    match expected {
+        StructSize::Exactly(n) => measured(size == n as u64, size, n as u64),
+        StructSize::AtLeast(n) => measured(size >= n as u64, size, n as u64),
     }
-    let kind = u64::from(layout.header.filetype);
-    Some(of_header(Rule::FileKind, kind, 0))
-}
-
-// The commands pass the end of the file.
-fn commands_out_of_file(layout: &Layout<'_, '_>) -> Option<LayoutFault>
-    ensures { result ≡ defined.commands_out_of_file (laid_of layout.now) }
-{
-    let end = layout.declared_end();
-    let size = layout.size();
-    if size < end {
-        return Some(of_header(Rule::CommandsOutOfFile, end, size));
-    }
-    None
-}
-
-// The commands end before the header says.
-fn commands_end_early(layout: &Layout<'_, '_>) -> Option<LayoutFault>
-    ensures { result ≡ defined.commands_end_early (laid_of layout.now) }
-{
-    let found = layout.chain_end();
-    let end = layout.declared_end();
-    if found < end {
-        return Some(of_header(Rule::CommandsEndEarly, found, end));
-    }
-    None
-}
-
-/// A command's size isn't that of its struct.
-pub fn command_size(command: &LoadCommand) -> Option<LayoutFault>
-    ensures { result ≡ defined.command_size (command_of command.now) }
-{
-    let size = size_of(command);
-    let (limit, is_right) = match struct_size(&command.command) {
-        StructSize::Exactly(n) => (n as u64, size == n as u64),
-        StructSize::AtLeast(n) => (n as u64, size >= n as u64),
-    };
-    if is_right {
-        return None;
-    }
-    Some(of_command(Rule::CommandSize, command, size, limit))
 }
 
 // What the size of a command is to be a multiple of.
@@ -141,35 +70,6 @@ fn unit_of(layout: &Layout<'_, '_>, command: &LoadCommand) -> u64
     } else {
         layout.ctx.size() as u64
     }
-}
-
-/// The size of a command is no multiple of its unit.
-pub fn command_unaligned(layout: &Layout<'_, '_>, command: &LoadCommand) -> Option<LayoutFault>
-    ensures { result ≡ defined.command_unaligned (laid_of layout.now) (command_of command.now) }
-{
-    let size = size_of(command);
-    let unit = unit_of(layout, command);
-    if size % unit == 0 {
-        return None;
-    }
-    Some(of_command(Rule::CommandUnaligned, command, size, unit))
-}
-
-/// A command passes the end of the commands.
-pub fn command_out_of_commands(
-    layout: &Layout<'_, '_>,
-    command: &LoadCommand,
-) -> Option<LayoutFault>
-    ensures { result ≡ defined.command_out_of_commands (laid_of layout.now) (command_of command.now) }
-{
-    let start = command.offset as u64;
-    let size = size_of(command);
-    let end = layout.declared_end();
-    if !ends_past(end, start, size) {
-        return None;
-    }
-    let found = range_end(start, size);
-    Some(of_command(Rule::CommandOutOfCommands, command, found, end))
 }
 
 /// So many bytes at a place, or those that there are.
@@ -244,46 +144,13 @@ fn counted_size(layout: &Layout<'_, '_>, command: &LoadCommand) -> Option<u64>
     }
 }
 
-/// A command hasn't the size with what it counts.
-pub fn command_count(layout: &Layout<'_, '_>, command: &LoadCommand) -> Option<LayoutFault>
-    ensures { result ≡ defined.command_count (laid_of layout.now) (command_of command.now) }
+// The number of a segment's command of the image's width, where the command is one of the other width.
+fn other_width(width: Container, command: &CommandVariant) -> Option<u32>
+    ensures { result ≡ defined.other_width width (kind_in command.now) }
 {
-    let size = size_of(command);
-    let counted = counted_size(layout, command)?;
-    if size == counted {
-        return None;
-    }
-    Some(of_command(Rule::CommandCount, command, size, counted))
-}
-
-/// A segment's command is that of the other width.
-pub fn segment_width(layout: &Layout<'_, '_>, command: &LoadCommand) -> Option<LayoutFault>
-    ensures { result ≡ defined.segment_width (laid_of layout.now) (command_of command.now) }
-{
-    let number = match (layout.ctx.container, &command.command) {
-        (Container::Big, CommandVariant::Segment32(_)) => LC_SEGMENT_64,
-        (Container::Little, CommandVariant::Segment64(_)) => LC_SEGMENT,
-        _ => return None,
-    };
-    Some(of_command(
-        Rule::SegmentWidth,
-        command,
-        number_of(command),
-        u64::from(number),
-    ))
-}
-
-/// A command of the symbols that the dynamic linker needs, in an image without symbols.
-pub fn dynamic_symbols(command: &LoadCommand) -> Option<LayoutFault>
-    ensures { result ≡ defined.dynamic_symbols (command_of command.now) }
-{
-    match &command.command {
-        CommandVariant::Dysymtab(_) => Some(of_command(
-            Rule::DynamicSymbolsAlone,
-            command,
-            number_of(command),
-            u64::from(LC_SYMTAB),
-        )),
+    match (width, command) {
+        (Container::Big, CommandVariant::Segment32(_)) => Some(LC_SEGMENT_64),
+        (Container::Little, CommandVariant::Segment64(_)) => Some(LC_SEGMENT),
         _ => None,
     }
 }
@@ -295,7 +162,14 @@ fn is_symbols(command: &LoadCommand) -> bool
     matches!(&command.command, CommandVariant::Symtab(_))
 }
 
-// Whether one of some commands does.
+// Whether a command describes those that the dynamic linker needs.
+fn is_dynamic(command: &LoadCommand) -> bool
+    ensures { result ≡ defined.is_of_set 1 (command_of command.now) }
+{
+    matches!(&command.command, CommandVariant::Dysymtab(_))
+}
+
+// Whether one of some commands describes symbols.
 fn has_symbols(commands: &[LoadCommand]) -> bool
     ensures { result ≡ list_any defined.is_symbols (map command_of commands.now) }
 {
@@ -307,18 +181,102 @@ fn has_symbols(commands: &[LoadCommand]) -> bool
     false
 }
 
+// What is seen of the place where a command ends.
+fn end_seen(layout: &Layout<'_, '_>, command: &LoadCommand) -> Seen
+    ensures { result ≡ defined.command_sees (laid_of layout.now) rules_named.CommandOutOfCommands (command_of command.now) }
+{
+    let (start, size) = (command.offset as u64, size_of(command));
+    let end = layout.declared_end();
+    measured(!ends_past(end, start, size), range_end(start, size), end)
+}
+
+// What is seen of the size with what a command counts.
+fn count_seen(layout: &Layout<'_, '_>, command: &LoadCommand) -> Seen
+    ensures { result ≡ defined.command_sees (laid_of layout.now) rules_named.CommandCount (command_of command.now) }
+{
+    let size = size_of(command);
+    match counted_size(layout, command) {
+        Some(counted) => measured(size == counted, size, counted),
+        None => sound(),
+    }
+}
+
+// What is seen of the width of a segment's command.
+fn width_seen(layout: &Layout<'_, '_>, command: &LoadCommand) -> Seen
+    ensures { result ≡ defined.command_sees (laid_of layout.now) rules_named.SegmentWidth (command_of command.now) }
+{
+    match other_width(layout.ctx.container, &command.command) {
+        Some(number) => measured(false, number_of(command), u64::from(number)),
+        None => sound(),
+    }
+}
+
+impl Judges<LoadCommand> for Layout<'_, '_> {
+    ghost use Rattle.mach_rules.specs.Commands.{owner_by, command_sees};
+
+    ghost owner = { λ layout rule c. owner_by rule (command_of c) };
+
+    ghost sees = { λ layout rule c. command_sees (laid_of layout) rule (command_of c) };
+
+    fn owner(&self, rule: Rule, command: &LoadCommand) -> Owner {
+        let part = match rule {
+            Rule::TextMisplaced | Rule::TextEmpty => Part::Text,
+            _ => Part::Command,
+        };
+        owner_at(part, command.offset, 0)
+    }
+
+    fn see(&self, rule: Rule, command: &LoadCommand) -> Seen {
+        let size = size_of(command);
+        match rule {
+            Rule::CommandSize => size_seen(size, struct_size(&command.command)),
+            Rule::CommandUnaligned => {
+                let unit = unit_of(self, command);
+                measured(size % unit == 0, size, unit)
+            }
+            Rule::CommandOutOfCommands => end_seen(self, command),
+            Rule::CommandCount => count_seen(self, command),
+            Rule::SegmentWidth => width_seen(self, command),
+            Rule::DynamicSymbolsAlone => {
+                let number = number_of(command);
+                measured(!is_dynamic(command), number, u64::from(LC_SYMTAB))
+            }
+            Rule::TextMisplaced => place_seen(self.bytes, command),
+            Rule::TextEmpty => text_seen(self.bytes, command),
+            Rule::IdUnexpected => {
+                let kind = u64::from(self.header.filetype);
+                measured(!is_id(command) || is_library_file(self), kind, 0)
+            }
+            _ => sound(),
+        }
+    }
+}
+
+/// Adds what some of these rules tell of the commands.
+pub fn tell_commands<A: Allocator>(
+    faults: &mut Vec<LayoutFault, A>,
+    layout: &Layout<'_, '_>,
+    rules: &[Rule],
+) -> Result<()>
+    ensures told { OnOk result (faults.new.items ≡ faults.old.items ++ defined.commands_told (laid_of layout.now) rules.now) }
+    ensures only { IsOkUnlessMemory result }
+{
+    tell_each(faults, layout, rules, layout.commands)?;
+    Ok(())
+}
+
 // Adds a fault for each command of the symbols that the dynamic linker needs, in an image without symbols.
 fn tell_dynamic_symbols<A: Allocator>(
     faults: &mut Vec<LayoutFault, A>,
     layout: &Layout<'_, '_>,
 ) -> Result<()>
-    ensures told { let laid = laid_of layout.now in OnOk result (faults.new.items ≡ faults.old.items ++ defined.dynamic_symbols_alone laid.commands) }
+    ensures told { OnOk result (faults.new.items ≡ faults.old.items ++ defined.dynamic_symbols_alone (laid_of layout.now)) }
     ensures only { IsOkUnlessMemory result }
 {
     if has_symbols(layout.commands) {
         return Ok(());
     }
-    tell_by_command(faults, layout, CommandRule::DynamicSymbols)
+    tell_commands(faults, layout, &[Rule::DynamicSymbolsAlone])
 }
 
 /// Adds the faults of the header and of the commands.
@@ -329,15 +287,29 @@ pub fn command_faults<A: Allocator>(
     ensures told { OnOk result (faults.new.items ≡ faults.old.items ++ defined.command_faults (laid_of layout.now)) }
     ensures only { IsOkUnlessMemory result }
 {
-    tell(faults, file_kind(layout))?;
-    tell(faults, commands_out_of_file(layout))?;
-    tell_by_command(faults, layout, CommandRule::Size)?;
-    tell_by_command(faults, layout, CommandRule::Alignment)?;
-    tell_by_command(faults, layout, CommandRule::End)?;
-    tell_by_command(faults, layout, CommandRule::Count)?;
-    tell_by_command(faults, layout, CommandRule::Width)?;
-    tell(faults, commands_end_early(layout))?;
+    let rules = [
+        Rule::CommandSize,
+        Rule::CommandUnaligned,
+        Rule::CommandOutOfCommands,
+        Rule::CommandCount,
+        Rule::SegmentWidth,
+    ];
+    tell_header(faults, layout, &[Rule::FileKind, Rule::CommandsOutOfFile])?;
+    tell_commands(faults, layout, &rules)?;
+    tell_header(faults, layout, &[Rule::CommandsEndEarly])?;
     tell_again(faults, layout.commands)?;
-    tell_dynamic_symbols(faults, layout)?;
-    Ok(())
+    tell_dynamic_symbols(faults, layout)
+}
+
+/// Adds the faults of texts and names.
+pub fn text_faults<A: Allocator>(
+    faults: &mut Vec<LayoutFault, A>,
+    layout: &Layout<'_, '_>,
+) -> Result<()>
+    ensures told { OnOk result (faults.new.items ≡ faults.old.items ++ defined.text_faults (laid_of layout.now)) }
+    ensures only { IsOkUnlessMemory result }
+{
+    tell_commands(faults, layout, &[Rule::TextMisplaced, Rule::TextEmpty])?;
+    tell_header(faults, layout, &[Rule::IdMissing])?;
+    tell_commands(faults, layout, &[Rule::IdUnexpected])
 }

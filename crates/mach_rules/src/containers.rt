@@ -7,10 +7,10 @@ ghost use Rattle.mach_rules.specs.Containers.{AreContainerFaults};
 ghost use Rattle.mach_rules.specs.Sweep.{AreShared};
 ghost use Rattle.mach_rules.specs.declared.fault.LayoutFault as declared;
 
-use crate::by_command::tell;
 use crate::claim::Claim;
-use crate::commands::of_header;
 use crate::fault::{LayoutFault, Owner, Part, Rule};
+use crate::header::header_owner;
+use crate::rules::{Judges, Seen, measured, owner_at, sound, tell, tell_each};
 use crate::sweep::tell_ranges;
 use mach_base::{Endian, Result, read_u32};
 use mach_headers::fat::FatArch;
@@ -22,21 +22,6 @@ use std::alloc::Allocator;
 pub struct PlacedSlice {
     pub number: u32,
     pub arch: FatArch,
-}
-
-/// A rule of one slice.
-#[derive(Clone, Copy)]
-pub enum SliceRule {
-    /// Its bytes lie in the file.
-    InFile,
-    /// It begins behind the records.
-    BehindRecords,
-    /// The power of its alignment.
-    Power,
-    /// It begins at a multiple of it.
-    Place,
-    /// Its image is of its cpu.
-    OwnCpu,
 }
 
 /// Which range of a slice is looked at.
@@ -92,59 +77,11 @@ fn slices_of<A: Allocator>(alloc: A, bytes: &[u8]) -> Result<Vec<PlacedSlice, A>
 fn slice_owner(slice: &PlacedSlice) -> Owner
     ensures { result ≡ defined.slice_owner slice.now }
 {
-    Owner {
-        part: Part::Slice,
-        command: 8 + 20 * u64::from(slice.number),
-        index: u64::from(slice.number),
-    }
-}
-
-// What is told of a slice that breaks a rule.
-fn of_slice(rule: Rule, slice: &PlacedSlice, found: u64, limit: u64) -> LayoutFault
-    ensures { result ≡ defined.of_slice rule slice.now found limit }
-{
-    LayoutFault {
-        rule,
-        owner: slice_owner(slice),
-        other: None,
-        found,
-        limit,
-    }
-}
-
-// A slice has no bytes, or passes the end of the file.
-fn slice_out_of_file(bytes: &[u8], slice: &PlacedSlice) -> Option<LayoutFault>
-    ensures { result ≡ defined.slice_out_of_file bytes.now slice.now }
-{
-    let end = u64::from(slice.arch.offset) + u64::from(slice.arch.size);
-    let limit = bytes.len() as u64;
-    if slice.arch.size == 0 || limit < end {
-        return Some(of_slice(Rule::SliceOutOfFile, slice, end, limit));
-    }
-    None
-}
-
-// A slice begins within the header and the records.
-fn slice_in_records(bytes: &[u8], slice: &PlacedSlice) -> Option<LayoutFault>
-    ensures { result ≡ defined.slice_in_records bytes.now slice.now }
-{
-    let start = u64::from(slice.arch.offset);
-    let limit = records_end(bytes);
-    if start < limit {
-        return Some(of_slice(Rule::SliceInRecords, slice, start, limit));
-    }
-    None
-}
-
-// The alignment of a slice is more than linkers know.
-fn slice_alignment(slice: &PlacedSlice) -> Option<LayoutFault>
-    ensures { result ≡ defined.slice_alignment slice.now }
-{
-    if 15 < slice.arch.align {
-        let power = u64::from(slice.arch.align);
-        return Some(of_slice(Rule::SliceAlignment, slice, power, 15));
-    }
-    None
+    owner_at(
+        Part::Slice,
+        8 + 20 * slice.number as usize,
+        u64::from(slice.number),
+    )
 }
 
 // So many bytes as a power of 2 says.
@@ -153,21 +90,6 @@ fn power_of_two(power: u32) -> u64
     ensures { result ≡ 2 ^ power }
 {
     1 << power
-}
-
-// A slice doesn't begin at a multiple of its alignment.
-fn slice_unaligned(slice: &PlacedSlice) -> Option<LayoutFault>
-    ensures { result ≡ defined.slice_unaligned slice.now }
-{
-    if 15 < slice.arch.align {
-        return None;
-    }
-    let start = u64::from(slice.arch.offset);
-    let unit = power_of_two(slice.arch.align);
-    if start % unit == 0 {
-        return None;
-    }
-    Some(of_slice(Rule::SliceUnaligned, slice, start, unit))
 }
 
 // The cpu of the image at a place, if one begins there.
@@ -183,52 +105,52 @@ fn image_cpu(bytes: &[u8], place: u32) -> Option<u32>
     }
 }
 
-// The image of a slice is of another cpu.
-fn slice_of_other_cpu(bytes: &[u8], slice: &PlacedSlice) -> Option<LayoutFault>
-    ensures { result ≡ defined.slice_of_other_cpu bytes.now slice.now }
-{
-    let cpu = image_cpu(bytes, slice.arch.offset)?;
-    let said = slice.arch.cputype;
-    if said == cpu {
-        return None;
-    }
-    Some(of_slice(
-        Rule::SliceOfOtherCpu,
-        slice,
-        u64::from(said),
-        u64::from(cpu),
-    ))
+// What the slices of a fat file are judged by: its bytes.
+#[derive(Clone, Copy)]
+struct Slices<'a> {
+    bytes: &'a [u8],
 }
 
-impl SliceRule {
-    // What the rule tells of a slice.
-    fn fault(self, bytes: &[u8], slice: &PlacedSlice) -> Option<LayoutFault>
-        ensures { result ≡ defined.slice_fault self bytes.now slice.now }
-    {
-        match self {
-            SliceRule::InFile => slice_out_of_file(bytes, slice),
-            SliceRule::BehindRecords => slice_in_records(bytes, slice),
-            SliceRule::Power => slice_alignment(slice),
-            SliceRule::Place => slice_unaligned(slice),
-            SliceRule::OwnCpu => slice_of_other_cpu(bytes, slice),
+impl Judges<PlacedSlice> for Slices<'_> {
+    ghost use Rattle.mach_rules.specs.Containers.{slice_owner, slice_sees};
+
+    ghost owner = { λ judge rule. slice_owner };
+
+    ghost sees = { λ judge. slice_sees judge.bytes.now };
+
+    fn owner(&self, _rule: Rule, slice: &PlacedSlice) -> Owner {
+        slice_owner(slice)
+    }
+
+    fn see(&self, rule: Rule, slice: &PlacedSlice) -> Seen {
+        let arch = &slice.arch;
+        let start = u64::from(arch.offset);
+        match rule {
+            Rule::SliceOutOfFile => {
+                let end = start + u64::from(arch.size);
+                let limit = self.bytes.len() as u64;
+                measured(arch.size != 0 && end <= limit, end, limit)
+            }
+            Rule::SliceInRecords => {
+                let limit = records_end(self.bytes);
+                measured(limit <= start, start, limit)
+            }
+            Rule::SliceAlignment => measured(arch.align <= 15, u64::from(arch.align), 15),
+            Rule::SliceUnaligned if 15 < arch.align => sound(),
+            Rule::SliceUnaligned => {
+                let unit = power_of_two(arch.align);
+                measured(start % unit == 0, start, unit)
+            }
+            Rule::SliceOfOtherCpu => match image_cpu(self.bytes, arch.offset) {
+                Some(cpu) => {
+                    let said = arch.cputype;
+                    measured(said == cpu, u64::from(said), u64::from(cpu))
+                }
+                None => sound(),
+            },
+            _ => sound(),
         }
     }
-}
-
-// Adds what a rule tells of each slice.
-fn tell_by_slice<A: Allocator>(
-    faults: &mut Vec<LayoutFault, A>,
-    bytes: &[u8],
-    slices: &[PlacedSlice],
-    rule: SliceRule,
-) -> Result<()>
-    ensures told { OnOk result (faults.new.items ≡ faults.old.items ++ filter_map (defined.slice_fault rule bytes.now) slices.now) }
-    ensures only { IsOkUnlessMemory result }
-{
-    for slice in slices {
-        tell(faults, rule.fault(bytes, slice))?;
-    }
-    Ok(())
 }
 
 // A number of its own for each cpu and kind.
@@ -302,16 +224,16 @@ fn tell_slices_sharing<A: Allocator>(
     tell_ranges(faults, rule, &mut ranges)
 }
 
-// The records pass the end of the file.
-fn records_out_of_file(bytes: &[u8]) -> Option<LayoutFault>
-    ensures { result ≡ defined.records_out_of_file bytes.now }
+// Adds the fault of records that pass the end of the file.
+fn tell_records<A: Allocator>(faults: &mut Vec<LayoutFault, A>, bytes: &[u8]) -> Result<()>
+    ensures told { OnOk result (faults.new.items ≡ faults.old.items ++ option_to_list (defined.records_out_of_file bytes.now)) }
+    ensures only { IsOkUnlessMemory result }
 {
     let end = records_end(bytes);
     let limit = bytes.len() as u64;
-    if limit < end {
-        return Some(of_header(Rule::RecordsOutOfFile, end, limit));
-    }
-    None
+    let seen = measured(end <= limit, end, limit);
+    tell(faults, Rule::RecordsOutOfFile, header_owner(), seen)?;
+    Ok(())
 }
 
 /// The faults of the table of the fat file that these bytes are: all and no others, rule by rule, and of each rule in the
@@ -322,12 +244,16 @@ pub fn container_faults<A: Allocator + Clone>(alloc: A, bytes: &[u8]) -> Result<
 {
     let found = slices_of(alloc.clone()?, bytes)?;
     let slices = found.as_slice();
+    let judge = Slices { bytes };
+    let rules = [
+        Rule::SliceOutOfFile,
+        Rule::SliceInRecords,
+        Rule::SliceAlignment,
+        Rule::SliceUnaligned,
+    ];
     let mut faults = Vec::new(alloc.clone()?);
-    tell(&mut faults, records_out_of_file(bytes))?;
-    tell_by_slice(&mut faults, bytes, slices, SliceRule::InFile)?;
-    tell_by_slice(&mut faults, bytes, slices, SliceRule::BehindRecords)?;
-    tell_by_slice(&mut faults, bytes, slices, SliceRule::Power)?;
-    tell_by_slice(&mut faults, bytes, slices, SliceRule::Place)?;
+    tell_records(&mut faults, bytes)?;
+    tell_each(&mut faults, &judge, &rules, slices)?;
     tell_slices_sharing(
         &mut faults,
         alloc.clone()?,
@@ -335,7 +261,7 @@ pub fn container_faults<A: Allocator + Clone>(alloc: A, bytes: &[u8]) -> Result<
         RangeOf::Cpu,
         Rule::SliceAgain,
     )?;
-    tell_by_slice(&mut faults, bytes, slices, SliceRule::OwnCpu)?;
+    tell_each(&mut faults, &judge, &[Rule::SliceOfOtherCpu], slices)?;
     tell_slices_sharing(
         &mut faults,
         alloc,

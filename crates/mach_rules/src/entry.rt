@@ -1,17 +1,17 @@
 //! Rules of where an executable begins to run.
 
-ghost use Rattle.std.specs.Prelude.{◌≡◌, ◌++◌, OnOk, find, map, option_map};
+ghost use Rattle.std.specs.Prelude.{◌≡◌, ◌++◌, OnOk, find, map, option_map, option_to_list};
 ghost use Rattle.std.specs.List.{list_any};
 ghost use Rattle.mach_base.specs.Answer.{IsOkUnlessMemory};
 ghost use Rattle.mach_load.specs.Variants.{command_of, kind_in, variant_values};
 ghost use Rattle.mach_rules.specs.Entry as defined;
 ghost use Rattle.mach_rules.specs.Laid.{laid_of, segments_of};
 
-use crate::by_command::tell;
-use crate::commands::of_header;
-use crate::fault::{LayoutFault, Owner, Part, Rule};
+use crate::fault::{LayoutFault, Part, Rule};
+use crate::header::header_owner;
 use crate::layout::Layout;
 use crate::parts::PlacedSegment;
+use crate::rules::{Seen, measured, owner_at, sound, tell};
 use mach_base::Result;
 use mach_headers::header::MH_EXECUTE;
 use mach_load::{CommandVariant, LoadCommand};
@@ -113,36 +113,32 @@ fn is_behind_commands(layout: &Layout<'_, '_>, place: EntryPlace) -> bool
     }
 }
 
-// What is told of the command that says where the image begins.
-fn of_entry(layout: &Layout<'_, '_>, command: &LoadCommand, place: EntryPlace) -> LayoutFault
-    ensures { result ≡ defined.of_entry (laid_of layout.now) (command_of command.now) place }
+// What the rule of the entry sees.
+fn entry_seen(layout: &Layout<'_, '_>, place: EntryPlace) -> Seen
+    ensures { result ≡ defined.entry_sees (laid_of layout.now) place }
 {
     let (EntryPlace::InFile(found) | EntryPlace::InMemory(found)) = place;
-    LayoutFault {
-        rule: Rule::EntryOutOfCode,
-        owner: Owner {
-            part: Part::Entry,
-            command: command.offset as u64,
-            index: 0,
-        },
-        other: None,
-        found,
-        limit: layout.used_end(),
-    }
+    let holds = is_behind_commands(layout, place) && is_in_code(layout, place);
+    measured(holds, found, layout.used_end())
 }
 
-// The fault of the entry of an executable.
-fn entry_fault(layout: &Layout<'_, '_>) -> Option<LayoutFault>
-    ensures { let laid = laid_of layout.now in result ≡ defined.entry_fault laid (find defined.is_entry laid.commands) }
+// Adds the fault of the first command that says where the image begins, or that there is none.
+fn tell_entry<A: Allocator>(faults: &mut Vec<LayoutFault, A>, layout: &Layout<'_, '_>) -> Result<()>
+    ensures told { let laid = laid_of layout.now in OnOk result (faults.new.items
+        ≡ faults.old.items ++ option_to_list (defined.entry_fault laid (find defined.is_entry laid.commands))) }
+    ensures only { IsOkUnlessMemory result }
 {
     let Some(command) = first_entry(layout.commands) else {
-        return Some(of_header(Rule::NoEntry, 0, 0));
+        tell(faults, Rule::NoEntry, header_owner(), measured(false, 0, 0))?;
+        return Ok(());
     };
-    let place = entry_place(layout.header.cputype, &command.command)?;
-    if is_behind_commands(layout, place) && is_in_code(layout, place) {
-        return None;
-    }
-    Some(of_entry(layout, command, place))
+    let seen = match entry_place(layout.header.cputype, &command.command) {
+        Some(place) => entry_seen(layout, place),
+        None => sound(),
+    };
+    let owner = owner_at(Part::Entry, command.offset, 0);
+    tell(faults, Rule::EntryOutOfCode, owner, seen)?;
+    Ok(())
 }
 
 /// Adds the faults of the entry.
@@ -153,8 +149,8 @@ pub fn entry_faults<A: Allocator>(
     ensures told { OnOk result (faults.new.items ≡ faults.old.items ++ defined.entry_faults (laid_of layout.now)) }
     ensures only { IsOkUnlessMemory result }
 {
-    if layout.header.filetype == MH_EXECUTE {
-        tell(faults, entry_fault(layout))?;
+    if layout.header.filetype != MH_EXECUTE {
+        return Ok(());
     }
-    Ok(())
+    tell_entry(faults, layout)
 }

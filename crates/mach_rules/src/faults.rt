@@ -5,20 +5,17 @@ ghost use Rattle.mach_base.specs.Answer.{IsOkUnlessMemory};
 ghost use Rattle.mach_rules.specs.Entry as entry;
 ghost use Rattle.mach_rules.specs.Faults.{AddsSegments, AddsSections};
 ghost use Rattle.mach_rules.specs.Laid.{laid_of};
-ghost use Rattle.mach_rules.specs.Libraries as texts;
+ghost use Rattle.mach_rules.specs.Commands as texts;
 ghost use Rattle.mach_rules.specs.Symbols as symbols;
 
-use crate::commands::command_faults;
+use crate::commands::{command_faults, text_faults};
 use crate::entry::entry_faults;
-use crate::fault::LayoutFault;
+use crate::fault::{LayoutFault, Rule};
+use crate::header::tell_header;
 use crate::layout::Layout;
-use crate::libraries::text_faults;
-use crate::ranges::{
-    claims_shared, files_shared, header_faults, linkedit_faults, memory_shared, out_of_file_faults,
-    sections_shared,
-};
+use crate::ranges::{claims_shared, files_shared, memory_shared, sections_shared, tell_claims};
 use crate::sections::section_faults;
-use crate::segments::{encrypted_faults, segment_faults, segment_order_faults};
+use crate::segments::{encrypted_faults, segment_faults};
 use crate::symbols::symbol_faults;
 use mach_base::Result;
 use std::alloc::Allocator;
@@ -33,11 +30,11 @@ pub fn add_segments<B: Allocator + Clone>(
     ensures only { IsOkUnlessMemory result }
 {
     command_faults(faults, layout)?;
-    out_of_file_faults(faults, layout)?;
+    tell_claims(faults, layout, &[Rule::OutOfFile])?;
     segment_faults(alloc.clone()?, faults, layout)?;
     memory_shared(faults, alloc.clone()?, layout)?;
     files_shared(faults, alloc.clone()?, layout)?;
-    segment_order_faults(faults, layout)?;
+    tell_header(faults, layout, &[Rule::NoSegmentOfHeader])?;
     Ok(())
 }
 
@@ -53,8 +50,7 @@ pub fn add_sections<B: Allocator + Clone>(
     section_faults(faults, layout)?;
     sections_shared(faults, alloc.clone()?, layout)?;
     claims_shared(faults, alloc.clone()?, layout)?;
-    header_faults(faults, layout)?;
-    linkedit_faults(faults, layout)?;
+    tell_claims(faults, layout, &[Rule::HeaderShared, Rule::OutOfLinkedit])?;
     encrypted_faults(faults, layout)?;
     Ok(())
 }

@@ -11,11 +11,11 @@ mod imports;
 mod starts;
 
 use crate::asked::{Wanted, last_wanted};
-use crate::fault::{LayoutFault, Part, Rule};
-use crate::fixups::imports::{import_library_faults, import_name_faults};
+use crate::fault::{LayoutFault, Owner, Part, Rule};
+use crate::fixups::imports::import_faults;
 use crate::fixups::starts::starts_faults;
 use crate::layout::{Layout, ends_past};
-use crate::symbols::fault_at;
+use crate::rules::{Seen, measured, owner_at, tell};
 use mach_base::{Endian, Record, Result, read_u32};
 use mach_chained::ChainedFixupsHeader;
 use mach_load::{CommandVariant, LoadCommand};
@@ -66,12 +66,11 @@ pub struct Front {
 }
 
 impl FixupData<'_> {
-    /// What doesn't hold of the front, or of the starts of segment k.
-    pub fn fault(&self, k: u32, found: u64, limit: u64) -> LayoutFault
-        ensures { result ≡ defined.data_fault (data_view self.now) k found limit }
+    /// Whose a fault of the front is, or of the starts of segment k.
+    pub fn owner(&self, k: u32) -> Owner
+        ensures { result ≡ defined.data_owner (data_view self.now) k }
     {
-        let (rule, part) = (Rule::ChainedFixups, Part::ChainedFixups);
-        fault_at(rule, part, self.place, u64::from(k), found, limit)
+        owner_at(Part::ChainedFixups, self.place, u64::from(k))
     }
 
     /// How many bytes there are.
@@ -116,20 +115,18 @@ pub fn import_bytes(format: u32) -> u64
     }
 }
 
-// The fault of the version or the formats of a front.
-fn format_fault(chained: &FixupData<'_>, header: &ChainedFixupsHeader) -> Option<LayoutFault>
-    ensures { result ≡ defined.format_fault (data_view chained.now) header.now }
+// What is seen of the version and the formats of a front.
+fn format_seen(header: &ChainedFixupsHeader) -> Seen
+    ensures { result ≡ defined.format_sees header.now }
 {
-    if header.fixups_version != 0 {
-        return Some(chained.fault(0, u64::from(header.fixups_version), 0));
-    }
-    if header.imports_format == 0 || header.imports_format > 3 {
-        return Some(chained.fault(0, u64::from(header.imports_format), 3));
-    }
-    if header.symbols_format > 1 {
-        return Some(chained.fault(0, u64::from(header.symbols_format), 1));
-    }
-    None
+    let (version, imports, symbols) = (
+        u64::from(header.fixups_version),
+        u64::from(header.imports_format),
+        u64::from(header.symbols_format),
+    );
+    measured(version == 0, version, 0)
+        .then(measured(imports != 0 && imports <= 3, imports, 3))
+        .then(measured(symbols <= 1, symbols, 1))
 }
 
 // Where the imports end.
@@ -140,57 +137,48 @@ fn imports_end(header: &ChainedFixupsHeader) -> u64
     u64::from(header.imports_offset) + size
 }
 
-// The fault of the places of imports and names.
-fn places_fault(chained: &FixupData<'_>, header: &ChainedFixupsHeader) -> Option<LayoutFault>
-    ensures { result ≡ defined.places_fault (data_view chained.now) header.now }
+// What is seen of the places of imports and names.
+fn places_seen(chained: &FixupData<'_>, header: &ChainedFixupsHeader) -> Seen
+    ensures { result ≡ defined.places_sees (data_view chained.now) header.now }
 {
     let (size, end) = (chained.size(), imports_end(header));
     let names = u64::from(header.symbols_offset);
-    if end > size {
-        return Some(chained.fault(0, end, size));
-    }
-    if names > size {
-        return Some(chained.fault(0, names, size));
-    }
-    if names < end {
-        return Some(chained.fault(0, names, end));
-    }
-    None
+    measured(end <= size, end, size)
+        .then(measured(names <= size, names, size))
+        .then(measured(end <= names, names, end))
 }
 
 // The front with its count of starts, where so many stand behind it.
-fn front_or_fault(
+fn front_or_seen(
     chained: &FixupData<'_>,
     header: ChainedFixupsHeader,
-) -> std::result::Result<Front, LayoutFault>
-    ensures { result ≡ defined.front_or_fault (data_view chained.now) header (number_at chained.now.le 4 chained.now.payload.now header.starts_offset) }
+) -> std::result::Result<Front, Seen>
+    ensures { result ≡ defined.front_or_seen (data_view chained.now) header (number_at chained.now.le 4 chained.now.payload.now header.starts_offset) }
 {
     let size = chained.size();
     let first = u64::from(header.starts_offset) + 4;
     let Ok(count) = read_u32(chained.payload, header.starts_offset as usize, chained.le) else {
-        return Err(chained.fault(0, first, size));
+        return Err(measured(false, first, size));
     };
     let end = first + 4 * u64::from(count);
     if end > size {
-        return Err(chained.fault(0, end, size));
+        return Err(measured(false, end, size));
     }
     Ok(Front { header, count })
 }
 
-// The front of the data, or the fault of its first part that doesn't hold.
-fn front_of(chained: &FixupData<'_>) -> std::result::Result<Front, LayoutFault>
+// The front of the data, or what is seen of its first part that doesn't hold.
+fn front_of(chained: &FixupData<'_>) -> std::result::Result<Front, Seen>
     ensures { result ≡ defined.front_of (data_view chained.now) }
 {
     let Ok(header) = ChainedFixupsHeader::read(chained.payload, 0, chained.le) else {
-        return Err(chained.fault(0, chained.size(), 28));
+        return Err(measured(false, chained.size(), 28));
     };
-    if let Some(fault) = format_fault(chained, &header) {
-        return Err(fault);
+    let seen = format_seen(&header).then(places_seen(chained, &header));
+    if !seen.holds {
+        return Err(seen);
     }
-    if let Some(fault) = places_fault(chained, &header) {
-        return Err(fault);
-    }
-    front_or_fault(chained, header)
+    front_or_seen(chained, header)
 }
 
 /// Adds the faults of chained fixups.
@@ -207,11 +195,10 @@ pub fn fixup_faults<A: Allocator>(
     match front_of(&chained) {
         Ok(front) => {
             starts_faults(faults, layout, &chained, &front)?;
-            import_library_faults(faults, layout, &chained, &front)?;
-            import_name_faults(faults, &chained, &front)
+            import_faults(faults, layout, &chained, &front)
         }
-        Err(fault) => {
-            faults.push(fault)?;
+        Err(seen) => {
+            tell(faults, Rule::ChainedFixups, chained.owner(0), seen)?;
             Ok(())
         }
     }

@@ -5,7 +5,6 @@
 
 mod asked;
 mod binds;
-mod by_command;
 mod claim;
 mod claiming;
 mod commands;
@@ -14,11 +13,13 @@ mod entry;
 mod fault;
 mod faults;
 mod fixups;
+mod header;
 pub mod laws;
 mod layout;
 mod libraries;
 mod parts;
 mod ranges;
+mod rules;
 mod sections;
 mod segments;
 mod sweep;

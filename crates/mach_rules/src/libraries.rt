@@ -1,17 +1,16 @@
-//! Rules of the texts of commands and of the names of libraries.
+//! What the rules of the texts of commands and of the names of libraries ask.
 
-ghost use Rattle.std.specs.Prelude.{◌≡◌, ◌++◌, OnOk, Some, true, map};
+ghost use Rattle.std.specs.Prelude.{◌≡◌, Some, true, map};
 ghost use Rattle.std.specs.List.{list_any};
-ghost use Rattle.mach_base.specs.Answer.{IsOkUnlessMemory};
 ghost use Rattle.mach_load.specs.Variants.{command_of, kind_in, variant_values};
 ghost use Rattle.mach_rules.specs.Laid.{laid_of};
 ghost use Rattle.mach_rules.specs.Libraries as defined;
+ghost use Rattle.mach_rules.specs.Rules.{sees_there};
 
-use crate::by_command::{CommandRule, tell, tell_by_command};
-use crate::commands::{bytes_from, of_command, of_header};
-use crate::fault::{LayoutFault, Owner, Part, Rule};
+use crate::commands::bytes_from;
 use crate::layout::Layout;
-use mach_base::{Record, Result};
+use crate::rules::{Seen, measured, sound};
+use mach_base::Record;
 use mach_headers::header::{MH_DYLIB, MH_DYLIB_STUB};
 use mach_load::{CommandVariant, LoadCommand};
 use mach_records::{
@@ -19,7 +18,6 @@ use mach_records::{
     PreboundDylibCommand, RpathCommand, SubClientCommand, SubFrameworkCommand, SubLibraryCommand,
     SubUmbrellaCommand,
 };
-use std::alloc::Allocator;
 
 /// The text of a command.
 #[derive(Clone, Copy)]
@@ -100,63 +98,59 @@ fn begins_with_zero(bytes: &[u8]) -> bool
     bytes.first() == Some(&0)
 }
 
-// What is told of the text of a command.
-fn of_text(rule: Rule, command: &LoadCommand, text: CommandText) -> LayoutFault
-    ensures { result ≡ defined.of_text rule (command_of command.now) text }
+// Whether the text lies there, is read, and is empty.
+fn is_empty_text(bytes: &[u8], command: &LoadCommand, text: CommandText) -> bool
+    ensures { result ≡ defined.is_empty_text bytes.now (command_of command.now) text }
 {
-    LayoutFault {
-        rule,
-        owner: Owner {
-            part: Part::Text,
-            command: command.offset as u64,
-            index: 0,
-        },
-        other: None,
-        found: text.offset as u64,
-        limit: command.command.cmdsize() as u64,
+    let is_empty = begins_with_zero(bytes_from_text(bytes, command, text));
+    lies_inside(bytes, command, text) && text.is_read && is_empty
+}
+
+/// What is seen of the place of a command's text.
+pub fn place_seen(bytes: &[u8], command: &LoadCommand) -> Seen
+    ensures { let c = command_of command.now in
+        result ≡ sees_there (defined.text_of c.kind c.values) (λ t. defined.place_sees bytes.now c t) }
+{
+    match text_of(&command.command) {
+        None => sound(),
+        Some(text) => {
+            let holds = lies_inside(bytes, command, text);
+            measured(holds, text.offset as u64, command.command.cmdsize() as u64)
+        }
     }
 }
 
-/// The text of a command doesn't lie in it.
-pub fn text_misplaced(layout: &Layout<'_, '_>, command: &LoadCommand) -> Option<LayoutFault>
-    ensures { result ≡ defined.text_misplaced (laid_of layout.now) (command_of command.now) }
+/// What is seen of whether it is empty.
+pub fn text_seen(bytes: &[u8], command: &LoadCommand) -> Seen
+    ensures { let c = command_of command.now in
+        result ≡ sees_there (defined.text_of c.kind c.values) (λ t. defined.text_sees bytes.now c t) }
 {
-    let text = text_of(&command.command)?;
-    if lies_inside(layout.bytes, command, text) {
-        return None;
+    match text_of(&command.command) {
+        None => sound(),
+        Some(text) => {
+            let holds = !is_empty_text(bytes, command, text);
+            measured(holds, text.offset as u64, command.command.cmdsize() as u64)
+        }
     }
-    Some(of_text(Rule::TextMisplaced, command, text))
 }
 
-/// The text of a command is empty.
-pub fn text_empty(layout: &Layout<'_, '_>, command: &LoadCommand) -> Option<LayoutFault>
-    ensures { result ≡ defined.text_empty (laid_of layout.now) (command_of command.now) }
-{
-    let text = text_of(&command.command)?;
-    let is_empty = begins_with_zero(bytes_from_text(layout.bytes, command, text));
-    if lies_inside(layout.bytes, command, text) && text.is_read && is_empty {
-        return Some(of_text(Rule::TextEmpty, command, text));
-    }
-    None
-}
-
-// Whether the file is a library, or one without contents.
-fn is_library_file(layout: &Layout<'_, '_>) -> bool
+/// Whether the file is a library, or one without contents.
+pub fn is_library_file(layout: &Layout<'_, '_>) -> bool
     ensures { result ≡ defined.is_library_file (laid_of layout.now) }
 {
     let kind = layout.header.filetype;
     kind == MH_DYLIB || kind == MH_DYLIB_STUB
 }
 
-// Whether a command says the name of a library.
-fn is_id(command: &LoadCommand) -> bool
+/// Whether a command says the name of a library.
+pub fn is_id(command: &LoadCommand) -> bool
     ensures { result ≡ defined.says_id (command_of command.now) }
 {
     matches!(&command.command, CommandVariant::IdDylib(_))
 }
 
-// Whether one of some commands does.
-fn has_id(commands: &[LoadCommand]) -> bool
+/// Whether one of some commands does.
+pub fn has_id(commands: &[LoadCommand]) -> bool
     ensures { result ≡ list_any defined.says_id (map command_of commands.now) }
 {
     for command in commands {
@@ -165,40 +159,4 @@ fn has_id(commands: &[LoadCommand]) -> bool
         }
     }
     false
-}
-
-// A library doesn't say its name.
-fn id_missing(layout: &Layout<'_, '_>) -> Option<LayoutFault>
-    ensures { result ≡ defined.id_missing (laid_of layout.now) }
-{
-    if is_library_file(layout) && !has_id(layout.commands) {
-        return Some(of_header(Rule::IdMissing, u64::from(layout.header.filetype), 0));
-    }
-    None
-}
-
-/// What is no library says its name as one.
-pub fn id_unexpected(layout: &Layout<'_, '_>, command: &LoadCommand) -> Option<LayoutFault>
-    ensures { result ≡ defined.id_unexpected (laid_of layout.now) (command_of command.now) }
-{
-    if is_id(command) && !is_library_file(layout) {
-        let kind = u64::from(layout.header.filetype);
-        return Some(of_command(Rule::IdUnexpected, command, kind, 0));
-    }
-    None
-}
-
-/// Adds the faults of texts and names.
-pub fn text_faults<A: Allocator>(
-    faults: &mut Vec<LayoutFault, A>,
-    layout: &Layout<'_, '_>,
-) -> Result<()>
-    ensures told { OnOk result (faults.new.items ≡ faults.old.items ++ defined.text_faults (laid_of layout.now)) }
-    ensures only { IsOkUnlessMemory result }
-{
-    tell_by_command(faults, layout, CommandRule::TextPlace)?;
-    tell_by_command(faults, layout, CommandRule::TextLength)?;
-    tell(faults, id_missing(layout))?;
-    tell_by_command(faults, layout, CommandRule::Id)?;
-    Ok(())
 }

@@ -8,6 +8,7 @@ ghost use Rattle.mach_segments.specs.Segment.{widened};
 ghost use Rattle.mach_rules.specs.Laid as defined;
 ghost use Rattle.mach_rules.specs.PartsLeft.{segments_left, sections_left, TakesSection};
 
+use crate::rules::Items;
 use mach_base::{Container, Ctx, Record, Result};
 use mach_load::{CommandVariant, LoadCommand};
 use mach_records::{Section32, Section64, SegmentCommand32, SegmentCommand64};
@@ -99,6 +100,22 @@ impl<'b> Iterator for SegmentIterator<'b> {
                 }
             }
         }
+    }
+}
+
+impl<'b> Items for SegmentIterator<'b> {
+    type Item = PlacedSegment;
+
+    ghost left = { segments_left };
+
+    fn again(&self) -> SegmentIterator<'b> {
+        SegmentIterator {
+            commands: self.commands.as_slice().iter(),
+        }
+    }
+
+    fn take_next(&mut self) -> Option<PlacedSegment> {
+        self.next()
     }
 }
 
@@ -227,5 +244,25 @@ impl<'a, 'b> Iterator for SectionIterator<'a, 'b> {
                 }
             }
         }
+    }
+}
+
+impl<'a, 'b> Items for SectionIterator<'a, 'b> {
+    type Item = PlacedSection;
+
+    ghost left = { sections_left };
+
+    fn again(&self) -> SectionIterator<'a, 'b> {
+        SectionIterator {
+            bytes: self.bytes,
+            ctx: self.ctx,
+            commands: self.commands.as_slice().iter(),
+            segment: self.segment,
+            taken: self.taken,
+        }
+    }
+
+    fn take_next(&mut self) -> Option<PlacedSection> {
+        self.next()
     }
 }

@@ -6,7 +6,6 @@ ghost use Rattle.mach_rules.specs.Laid.{laid_of};
 ghost use Rattle.mach_rules.specs.Ranges as defined;
 ghost use Rattle.mach_rules.specs.Sweep.{AreShared};
 ghost use Rattle.mach_rules.specs.declared.fault.LayoutFault as declared;
-ghost use Rattle.mach_rules.specs.declared.fault.Part.TheVariants as parts_named;
 ghost use Rattle.mach_rules.specs.declared.fault.Rule.TheVariants as rules_named;
 
 use crate::claim::Claim;
@@ -14,6 +13,9 @@ use crate::claiming::segment_claim;
 use crate::fault::{LayoutFault, Owner, Part, Rule};
 use crate::layout::{Layout, ends_past, range_end};
 use crate::parts::{PlacedSection, PlacedSegment};
+use crate::rules::{Judges, Seen, measured, sound, tell_over};
+use crate::sections::section_owner;
+use crate::segments::segment_owner;
 use crate::sweep::tell_ranges;
 use mach_base::Result;
 use std::alloc::Allocator;
@@ -23,45 +25,6 @@ fn lies_in_file(layout: &Layout<'_, '_>, claim: &Claim) -> bool
     ensures { result ≡ defined.lies_in_file (laid_of layout.now) claim.now }
 {
     !ends_past(layout.size(), claim.start, claim.len)
-}
-
-// What is told of a claim.
-fn of_claim(rule: Rule, claim: &Claim, found: u64, limit: u64) -> LayoutFault
-    ensures { result ≡ defined.of_claim rule claim.now found limit }
-{
-    LayoutFault {
-        rule,
-        owner: claim.owner,
-        other: None,
-        found,
-        limit,
-    }
-}
-
-// The fault of a claim that passes the end of the file.
-fn out_of_file(layout: &Layout<'_, '_>, claim: &Claim) -> Option<LayoutFault>
-    ensures { result ≡ defined.out_of_file (laid_of layout.now) claim.now }
-{
-    if matches!(claim.owner.part, Part::Header) || claim.len == 0 || lies_in_file(layout, claim) {
-        return None;
-    }
-    let end = range_end(claim.start, claim.len);
-    Some(of_claim(Rule::OutOfFile, claim, end, layout.size()))
-}
-
-/// Adds the faults of the claims that pass the end of the file.
-pub fn out_of_file_faults<A: Allocator>(
-    faults: &mut Vec<LayoutFault, A>,
-    layout: &Layout<'_, '_>,
-) -> Result<()>
-    ensures told { OnOk result (faults.new.items ≡ faults.old.items ++ defined.out_of_file_faults (laid_of layout.now)) }
-    ensures only { IsOkUnlessMemory result }
-{
-    let told = layout
-        .claims()
-        .filter_map(|claim| out_of_file(layout, &claim));
-    faults.extend(told)?;
-    Ok(())
 }
 
 // The addresses of a segment, if it has any.
@@ -77,17 +40,6 @@ fn segment_memory(layout: &Layout<'_, '_>, segment: &PlacedSegment) -> Option<Cl
         start: c.vmaddr,
         len: c.vmsize,
     })
-}
-
-// The segment as the owner of a range.
-fn segment_owner(segment: &PlacedSegment) -> Owner
-    ensures { result ≡ record { part = parts_named.Segment; command = segment.now.place; index = 0 } }
-{
-    Owner {
-        part: Part::Segment,
-        command: segment.place as u64,
-        index: 0,
-    }
 }
 
 // The bytes of a segment in the file, if it has any.
@@ -108,11 +60,7 @@ fn section_memory(placed: &PlacedSection) -> Option<Claim>
         return None;
     }
     Some(Claim {
-        owner: Owner {
-            part: Part::Section,
-            command: placed.segment.place as u64,
-            index: placed.number,
-        },
+        owner: section_owner(placed),
         start: placed.section.addr,
         len: placed.section.size,
     })
@@ -242,31 +190,6 @@ fn begins_in_header(layout: &Layout<'_, '_>, part: Part, start: u64) -> bool
     }
 }
 
-// The fault of a segment or an encrypted range that has bytes of the header or of the commands.
-fn header_shared(layout: &Layout<'_, '_>, claim: &Claim) -> Option<LayoutFault>
-    ensures { result ≡ defined.header_shared (laid_of layout.now) claim.now }
-{
-    if claim.len != 0 && begins_in_header(layout, claim.owner.part, claim.start) {
-        return Some(of_claim(Rule::HeaderShared, claim, claim.start, layout.used_end()));
-    }
-    None
-}
-
-/// Adds the faults of segments and encrypted ranges that have bytes of the header or of the commands.
-pub fn header_faults<A: Allocator>(
-    faults: &mut Vec<LayoutFault, A>,
-    layout: &Layout<'_, '_>,
-) -> Result<()>
-    ensures told { OnOk result (faults.new.items ≡ faults.old.items ++ defined.header_faults (laid_of layout.now)) }
-    ensures only { IsOkUnlessMemory result }
-{
-    let told = layout
-        .claims()
-        .filter_map(|claim| header_shared(layout, &claim));
-    faults.extend(told)?;
-    Ok(())
-}
-
 // Whether a part is a table that stands in `__LINKEDIT`.
 fn is_linkedit(part: Part) -> bool
     ensures { result ≡ defined.is_linkedit part }
@@ -321,39 +244,63 @@ fn end_of_segment(segment: Option<PlacedSegment>) -> u64
     }
 }
 
-// The fault of a table that is in the file and out of `__LINKEDIT`.
-fn out_of_linkedit(
-    layout: &Layout<'_, '_>,
+// What the claims of an image are judged by: the image, and the segment `__LINKEDIT`, if it has one.
+#[derive(Clone, Copy)]
+struct Claimed<'l, 'a, 'b> {
+    layout: &'l Layout<'a, 'b>,
     linkedit: Option<PlacedSegment>,
-    claim: &Claim,
-) -> Option<LayoutFault>
-    ensures { result ≡ defined.out_of_linkedit (laid_of layout.now) linkedit claim.now }
-{
-    if layout.is_final()
-        && is_linkedit(claim.owner.part)
-        && claim.len != 0
-        && lies_in_file(layout, claim)
-        && !lies_in(linkedit, claim)
-    {
-        let end = range_end(claim.start, claim.len);
-        let limit = end_of_segment(linkedit);
-        return Some(of_claim(Rule::OutOfLinkedit, claim, end, limit));
-    }
-    None
 }
 
-/// Adds the faults of tables that are out of `__LINKEDIT`.
-pub fn linkedit_faults<A: Allocator>(
+impl Judges<Claim> for Claimed<'_, '_, '_> {
+    ghost use Rattle.mach_rules.specs.Ranges.{claim_sees};
+
+    ghost owner = { λ judge rule c. c.owner };
+
+    ghost sees = { λ judge. claim_sees (laid_of judge.layout.now) judge.linkedit };
+
+    fn owner(&self, _rule: Rule, claim: &Claim) -> Owner {
+        claim.owner
+    }
+
+    fn see(&self, rule: Rule, claim: &Claim) -> Seen {
+        let layout = self.layout;
+        let (part, start, len) = (claim.owner.part, claim.start, claim.len);
+        match rule {
+            Rule::OutOfFile => {
+                let holds = matches!(part, Part::Header) || len == 0 || lies_in_file(layout, claim);
+                measured(holds, range_end(start, len), layout.size())
+            }
+            Rule::HeaderShared => {
+                let holds = len == 0 || !begins_in_header(layout, part, start);
+                measured(holds, start, layout.used_end())
+            }
+            Rule::OutOfLinkedit => {
+                let judged = layout.is_final()
+                    && is_linkedit(part)
+                    && len != 0
+                    && lies_in_file(layout, claim);
+                let limit = end_of_segment(self.linkedit);
+                let holds = !judged || lies_in(self.linkedit, claim);
+                measured(holds, range_end(start, len), limit)
+            }
+            _ => sound(),
+        }
+    }
+}
+
+/// Adds what some rules tell of the claims.
+pub fn tell_claims<A: Allocator>(
     faults: &mut Vec<LayoutFault, A>,
     layout: &Layout<'_, '_>,
+    rules: &[Rule],
 ) -> Result<()>
-    ensures told { OnOk result (faults.new.items ≡ faults.old.items ++ defined.linkedit_faults (laid_of layout.now)) }
+    ensures told { OnOk result (faults.new.items ≡ faults.old.items ++ defined.claims_told (laid_of layout.now) rules.now) }
     ensures only { IsOkUnlessMemory result }
 {
-    let linkedit = linkedit_of(layout);
-    let told = layout
-        .claims()
-        .filter_map(|claim| out_of_linkedit(layout, linkedit, &claim));
-    faults.extend(told)?;
+    let judge = Claimed {
+        layout,
+        linkedit: linkedit_of(layout),
+    };
+    tell_over(faults, &judge, rules, &layout.claims())?;
     Ok(())
 }

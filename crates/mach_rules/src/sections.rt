@@ -8,11 +8,13 @@ ghost use Rattle.mach_base.specs.Text.{is_zero};
 ghost use Rattle.mach_rules.specs.Laid.{laid_of};
 ghost use Rattle.mach_rules.specs.Segments.{segment_name};
 ghost use Rattle.mach_rules.specs.Sections as defined;
+ghost use Rattle.mach_rules.specs.declared.fault.Rule.TheVariants as rules_named;
 
 use crate::claiming::has_bytes;
 use crate::fault::{LayoutFault, Owner, Part, Rule};
 use crate::layout::{Layout, ends_past, range_end};
 use crate::parts::PlacedSection;
+use crate::rules::{Judges, Seen, measured, owner_at, sound, tell_over};
 use crate::segments::{before_zero, range_holds, segment_owner};
 use mach_base::Result;
 use std::alloc::Allocator;
@@ -24,11 +26,7 @@ const MAX_ALIGN: u32 = 15;
 pub fn section_owner(section: &PlacedSection) -> Owner
     ensures { result ≡ defined.section_owner section.now }
 {
-    Owner {
-        part: Part::Section,
-        command: section.segment.place as u64,
-        index: section.number,
-    }
+    owner_at(Part::Section, section.segment.place, section.number)
 }
 
 // Whether a section has bytes that are in the file.
@@ -62,104 +60,6 @@ fn in_bytes_of_segment(placed: &PlacedSection) -> bool
     )
 }
 
-// The fault of a section whose addresses are out of its segment.
-fn section_out_of_memory(placed: &PlacedSection) -> Option<LayoutFault>
-    ensures { result ≡ defined.section_out_of_memory placed.now }
-{
-    let command = &placed.segment.command;
-    let section = &placed.section;
-    if section.size == 0 || in_memory_of_segment(placed) {
-        return None;
-    }
-    Some(LayoutFault {
-        rule: Rule::SectionOutOfMemory,
-        owner: section_owner(placed),
-        other: Some(segment_owner(&placed.segment)),
-        found: range_end(section.addr, section.size),
-        limit: range_end(command.vmaddr, command.vmsize),
-    })
-}
-
-// The fault of a section whose bytes are out of those of its segment.
-fn section_out_of_bytes(layout: &Layout<'_, '_>, placed: &PlacedSection) -> Option<LayoutFault>
-    ensures { result ≡ defined.section_out_of_bytes (laid_of layout.now) placed.now }
-{
-    let command = &placed.segment.command;
-    let section = &placed.section;
-    if !has_bytes_there(layout, placed) || in_bytes_of_segment(placed) {
-        return None;
-    }
-    Some(LayoutFault {
-        rule: Rule::SectionOutOfBytes,
-        owner: section_owner(placed),
-        other: Some(segment_owner(&placed.segment)),
-        found: range_end(u64::from(section.offset), section.size),
-        limit: range_end(command.fileoff, command.filesize),
-    })
-}
-
-// The fault of a section whose bytes aren't where its address says.
-fn section_elsewhere(layout: &Layout<'_, '_>, placed: &PlacedSection) -> Option<LayoutFault>
-    ensures { result ≡ defined.section_elsewhere (laid_of layout.now) placed.now }
-{
-    let command = &placed.segment.command;
-    let section = &placed.section;
-    let bytes_behind = u64::from(section.offset).saturating_sub(command.fileoff);
-    let memory_behind = section.addr.saturating_sub(command.vmaddr);
-    let judged = layout.is_final()
-        && has_bytes_there(layout, placed)
-        && in_memory_of_segment(placed)
-        && in_bytes_of_segment(placed);
-    if !judged || bytes_behind == memory_behind {
-        return None;
-    }
-    Some(LayoutFault {
-        rule: Rule::SectionElsewhere,
-        owner: section_owner(placed),
-        other: Some(segment_owner(&placed.segment)),
-        found: bytes_behind,
-        limit: memory_behind,
-    })
-}
-
-// The fault of a section whose alignment linkers don't know.
-fn section_alignment(placed: &PlacedSection) -> Option<LayoutFault>
-    ensures { result ≡ defined.section_alignment placed.now }
-{
-    let align = placed.section.align;
-    if align <= MAX_ALIGN {
-        return None;
-    }
-    Some(LayoutFault {
-        rule: Rule::SectionAlignment,
-        owner: section_owner(placed),
-        other: None,
-        found: u64::from(align),
-        limit: u64::from(MAX_ALIGN),
-    })
-}
-
-// The fault of a section that isn't aligned as it says.
-fn section_unaligned(placed: &PlacedSection) -> Option<LayoutFault>
-    ensures { result ≡ defined.section_unaligned placed.now }
-{
-    let section = &placed.section;
-    if section.size == 0 || !in_memory_of_segment(placed) || section.align > MAX_ALIGN {
-        return None;
-    }
-    let unit = 1 << section.align;
-    if section.addr % unit == 0 {
-        return None;
-    }
-    Some(LayoutFault {
-        rule: Rule::SectionUnaligned,
-        owner: section_owner(placed),
-        other: None,
-        found: section.addr,
-        limit: unit,
-    })
-}
-
 // Whether a section says the name of the segment that it is in.
 fn names_its_segment(placed: &PlacedSection) -> bool
     ensures { result ≡ bytes_eq (before_first is_zero placed.now.section.segname) (segment_name placed.now.segment) }
@@ -167,20 +67,75 @@ fn names_its_segment(placed: &PlacedSection) -> bool
     before_zero(&placed.section.segname) == before_zero(&placed.segment.command.segname)
 }
 
-// The fault of a section that says that it is in another segment.
-fn section_of_other(layout: &Layout<'_, '_>, placed: &PlacedSection) -> Option<LayoutFault>
-    ensures { result ≡ defined.section_of_other (laid_of layout.now) placed.now }
+// What is seen of where the bytes of a section are.
+fn place_seen(layout: &Layout<'_, '_>, placed: &PlacedSection) -> Seen
+    ensures { result ≡ defined.section_sees (laid_of layout.now) rules_named.SectionElsewhere placed.now }
 {
-    if layout.is_object() || names_its_segment(placed) {
-        return None;
+    let (command, section) = (&placed.segment.command, &placed.section);
+    let bytes_behind = u64::from(section.offset).saturating_sub(command.fileoff);
+    let memory_behind = section.addr.saturating_sub(command.vmaddr);
+    let judged = layout.is_final()
+        && has_bytes_there(layout, placed)
+        && in_memory_of_segment(placed)
+        && in_bytes_of_segment(placed);
+    measured(
+        !judged || bytes_behind == memory_behind,
+        bytes_behind,
+        memory_behind,
+    )
+    .against(segment_owner(&placed.segment))
+}
+
+// What is seen of the address of a section.
+fn address_seen(layout: &Layout<'_, '_>, placed: &PlacedSection) -> Seen
+    ensures { result ≡ defined.section_sees (laid_of layout.now) rules_named.SectionUnaligned placed.now }
+{
+    let section = &placed.section;
+    if section.size == 0 || !in_memory_of_segment(placed) || section.align > MAX_ALIGN {
+        return sound();
     }
-    Some(LayoutFault {
-        rule: Rule::SectionOfOther,
-        owner: section_owner(placed),
-        other: Some(segment_owner(&placed.segment)),
-        found: 0,
-        limit: 0,
-    })
+    let unit = 1 << section.align;
+    measured(section.addr % unit == 0, section.addr, unit)
+}
+
+impl Judges<PlacedSection> for Layout<'_, '_> {
+    ghost use Rattle.mach_rules.specs.Sections.{section_owner, section_sees};
+
+    ghost owner = { λ layout rule. section_owner };
+
+    ghost sees = { λ layout. section_sees (laid_of layout) };
+
+    fn owner(&self, _rule: Rule, placed: &PlacedSection) -> Owner {
+        section_owner(placed)
+    }
+
+    fn see(&self, rule: Rule, placed: &PlacedSection) -> Seen {
+        let (command, section) = (&placed.segment.command, &placed.section);
+        let segment = segment_owner(&placed.segment);
+        match rule {
+            Rule::SectionOutOfMemory => {
+                let holds = section.size == 0 || in_memory_of_segment(placed);
+                let limit = range_end(command.vmaddr, command.vmsize);
+                measured(holds, range_end(section.addr, section.size), limit).against(segment)
+            }
+            Rule::SectionOutOfBytes => {
+                let holds = !has_bytes_there(self, placed) || in_bytes_of_segment(placed);
+                let end = range_end(u64::from(section.offset), section.size);
+                let limit = range_end(command.fileoff, command.filesize);
+                measured(holds, end, limit).against(segment)
+            }
+            Rule::SectionElsewhere => place_seen(self, placed),
+            Rule::SectionAlignment => {
+                let align = section.align;
+                measured(align <= MAX_ALIGN, u64::from(align), u64::from(MAX_ALIGN))
+            }
+            Rule::SectionUnaligned => address_seen(self, placed),
+            Rule::SectionOfOther => {
+                measured(self.is_object() || names_its_segment(placed), 0, 0).against(segment)
+            }
+            _ => sound(),
+        }
+    }
 }
 
 /// Adds the faults of the sections.
@@ -191,23 +146,14 @@ pub fn section_faults<A: Allocator>(
     ensures told { OnOk result (faults.new.items ≡ faults.old.items ++ defined.section_faults (laid_of layout.now)) }
     ensures only { IsOkUnlessMemory result }
 {
-    let memory = layout.sections().filter_map(|s| section_out_of_memory(&s));
-    faults.extend(memory)?;
-    let bytes = layout
-        .sections()
-        .filter_map(|s| section_out_of_bytes(layout, &s));
-    faults.extend(bytes)?;
-    let elsewhere = layout
-        .sections()
-        .filter_map(|s| section_elsewhere(layout, &s));
-    faults.extend(elsewhere)?;
-    let alignments = layout.sections().filter_map(|s| section_alignment(&s));
-    faults.extend(alignments)?;
-    let unaligned = layout.sections().filter_map(|s| section_unaligned(&s));
-    faults.extend(unaligned)?;
-    let others = layout
-        .sections()
-        .filter_map(|s| section_of_other(layout, &s));
-    faults.extend(others)?;
+    let rules = [
+        Rule::SectionOutOfMemory,
+        Rule::SectionOutOfBytes,
+        Rule::SectionElsewhere,
+        Rule::SectionAlignment,
+        Rule::SectionUnaligned,
+        Rule::SectionOfOther,
+    ];
+    tell_over(faults, layout, &rules, &layout.sections())?;
     Ok(())
 }

@@ -1,17 +1,19 @@
 //! Rules of segments.
 
-ghost use Rattle.std.specs.Prelude.{◌≡◌, ◌++◌, ℕ, List, OnOk, option_map};
-ghost use Rattle.std.specs.List.{before_first, filter_map, list_any};
+ghost use Rattle.std.specs.Prelude.{◌≡◌, ◌++◌, ◌==◌, ℕ, List, OnOk, option_map, bit_and};
+ghost use Rattle.std.specs.List.{before_first, list_any};
 ghost use Rattle.mach_base.specs.Answer.{IsOkUnlessMemory};
 ghost use Rattle.mach_base.specs.Text.{is_zero};
 ghost use Rattle.mach_load.specs.Variants.{command_of};
 ghost use Rattle.mach_rules.specs.Laid.{laid_of, segment_of, segments_of};
 ghost use Rattle.mach_rules.specs.NamesMet.{place_met, first_place, name_again, seen_name, name_and_place};
 ghost use Rattle.mach_rules.specs.Segments as defined;
+ghost use Rattle.mach_rules.specs.declared.fault.Rule.TheVariants as rules_named;
 
 use crate::fault::{LayoutFault, Owner, Part, Rule};
 use crate::layout::{Layout, range_end};
 use crate::parts::PlacedSegment;
+use crate::rules::{Judges, Seen, measured, owner_at, sound, tell, tell_over};
 use mach_base::{Container, Result};
 use mach_load::{CommandVariant, LoadCommand};
 use std::alloc::Allocator;
@@ -27,11 +29,7 @@ const VM_PROT_ALL: u32 = 7;
 pub fn segment_owner(segment: &PlacedSegment) -> Owner
     ensures { result ≡ defined.segment_owner segment.now }
 {
-    Owner {
-        part: Part::Segment,
-        command: segment.place as u64,
-        index: 0,
-    }
+    owner_at(Part::Segment, segment.place, 0)
 }
 
 /// Whether `len` bytes or addresses from `start` on hold `inner_len` others from `inner` on.
@@ -53,78 +51,67 @@ fn address_count(width: Container) -> u128
     }
 }
 
-// The fault of a segment that passes the last address.
-fn segment_beyond_addresses(layout: &Layout<'_, '_>, segment: &PlacedSegment) -> Option<LayoutFault>
-    ensures { result ≡ defined.segment_beyond_addresses (laid_of layout.now) segment.now }
+// Whether no more is allowed at first than may be allowed.
+fn is_allowed(segment: &PlacedSegment) -> bool
+    ensures { let c = segment.now.command in result ≡ (bit_and (bit_and c.initprot c.maxprot) 7 == bit_and c.initprot 7) }
+{
+    let (initprot, maxprot) = (segment.command.initprot, segment.command.maxprot);
+    initprot & maxprot & VM_PROT_ALL == initprot & VM_PROT_ALL
+}
+
+// Whether a segment ends at the last address or before it.
+fn ends_in_memory(layout: &Layout<'_, '_>, segment: &PlacedSegment) -> Seen
+    ensures { result ≡ defined.segment_sees (laid_of layout.now) rules_named.SegmentBeyondAddresses segment.now }
 {
     let command = &segment.command;
     let count = address_count(layout.ctx.container);
-    if u128::from(command.vmaddr) + u128::from(command.vmsize) <= count {
-        return None;
-    }
-    Some(LayoutFault {
-        rule: Rule::SegmentBeyondAddresses,
-        owner: segment_owner(segment),
-        other: None,
-        found: range_end(command.vmaddr, command.vmsize),
-        limit: count.min(u128::from(u64::MAX)) as u64,
-    })
+    let end = u128::from(command.vmaddr) + u128::from(command.vmsize);
+    let limit = count.min(u128::from(u64::MAX)) as u64;
+    measured(
+        end <= count,
+        range_end(command.vmaddr, command.vmsize),
+        limit,
+    )
 }
 
-// The fault of a segment that has more bytes in the file than in memory.
-fn segment_file_larger(segment: &PlacedSegment) -> Option<LayoutFault>
-    ensures { result ≡ defined.segment_file_larger segment.now }
-{
-    let command = &segment.command;
-    if command.vmsize == 0 || command.filesize <= command.vmsize {
-        return None;
-    }
-    Some(LayoutFault {
-        rule: Rule::SegmentFileLarger,
-        owner: segment_owner(segment),
-        other: None,
-        found: command.filesize,
-        limit: command.vmsize,
-    })
-}
+impl Judges<PlacedSegment> for Layout<'_, '_> {
+    ghost use Rattle.mach_rules.specs.Segments.{segment_owner, segment_sees};
 
-// The fault of a segment whose memory doesn't begin with a page.
-fn segment_address_unaligned(
-    layout: &Layout<'_, '_>,
-    segment: &PlacedSegment,
-) -> Option<LayoutFault>
-    ensures { result ≡ defined.segment_address_unaligned (laid_of layout.now) segment.now }
-{
-    let command = &segment.command;
-    let page = layout.page();
-    if !layout.is_final() || command.vmsize == 0 || command.vmaddr % page == 0 {
-        return None;
-    }
-    Some(LayoutFault {
-        rule: Rule::SegmentAddressUnaligned,
-        owner: segment_owner(segment),
-        other: None,
-        found: command.vmaddr,
-        limit: page,
-    })
-}
+    ghost owner = { λ layout rule. segment_owner };
 
-// The fault of a segment whose bytes don't begin with a page of the file.
-fn segment_place_unaligned(layout: &Layout<'_, '_>, segment: &PlacedSegment) -> Option<LayoutFault>
-    ensures { result ≡ defined.segment_place_unaligned (laid_of layout.now) segment.now }
-{
-    let command = &segment.command;
-    let page = layout.page();
-    if !layout.is_final() || command.filesize == 0 || command.fileoff % page == 0 {
-        return None;
+    ghost sees = { λ layout. segment_sees (laid_of layout) };
+
+    fn owner(&self, _rule: Rule, segment: &PlacedSegment) -> Owner {
+        segment_owner(segment)
     }
-    Some(LayoutFault {
-        rule: Rule::SegmentPlaceUnaligned,
-        owner: segment_owner(segment),
-        other: None,
-        found: command.fileoff,
-        limit: page,
-    })
+
+    fn see(&self, rule: Rule, segment: &PlacedSegment) -> Seen {
+        let c = &segment.command;
+        let page = self.page();
+        match rule {
+            Rule::SegmentBeyondAddresses => ends_in_memory(self, segment),
+            Rule::SegmentFileLarger => {
+                measured(
+                    c.vmsize == 0 || c.filesize <= c.vmsize,
+                    c.filesize,
+                    c.vmsize,
+                )
+            }
+            Rule::SegmentAddressUnaligned => {
+                let holds = !self.is_final() || c.vmsize == 0 || c.vmaddr % page == 0;
+                measured(holds, c.vmaddr, page)
+            }
+            Rule::SegmentPlaceUnaligned => {
+                let holds = !self.is_final() || c.filesize == 0 || c.fileoff % page == 0;
+                measured(holds, c.fileoff, page)
+            }
+            Rule::SegmentRights => {
+                let holds = !self.is_final() || is_allowed(segment);
+                measured(holds, u64::from(c.initprot), u64::from(c.maxprot))
+            }
+            _ => sound(),
+        }
+    }
 }
 
 // Whether this segment holds the header and the commands.
@@ -134,31 +121,11 @@ fn holds_header(layout: &Layout<'_, '_>, segment: &PlacedSegment) -> bool
     segment.command.fileoff == 0 && layout.used_end() <= segment.command.filesize
 }
 
-// Whether some segment holds the header and the commands.
-fn has_segment_of_header(layout: &Layout<'_, '_>) -> bool
-    ensures { result ≡ list_any (defined.holds_header (laid_of layout.now)) (segments_of (laid_of layout.now)) }
+/// Whether some segment holds the header and the commands.
+pub fn has_segment_of_header(layout: &Layout<'_, '_>) -> bool
+    ensures { result ≡ defined.has_segment_of_header (laid_of layout.now) }
 {
     layout.segments().any(|s| holds_header(layout, &s))
-}
-
-// The fault of an image that has no segment which holds the header and the commands.
-fn no_segment_of_header(layout: &Layout<'_, '_>) -> Option<LayoutFault>
-    ensures { result ≡ defined.no_segment_of_header (laid_of layout.now) }
-{
-    if !layout.is_final() || has_segment_of_header(layout) {
-        return None;
-    }
-    Some(LayoutFault {
-        rule: Rule::NoSegmentOfHeader,
-        owner: Owner {
-            part: Part::Header,
-            command: 0,
-            index: 0,
-        },
-        other: None,
-        found: 0,
-        limit: layout.used_end(),
-    })
 }
 
 /// A range of the file that a command says is encrypted.
@@ -217,24 +184,16 @@ fn is_in_code(layout: &Layout<'_, '_>, range: &EncryptedRange) -> bool
     layout.segments().any(|s| holds_code(range, &s))
 }
 
-// The fault of an encrypted range that is in no segment which may be executed.
-fn encrypted_not_executable(layout: &Layout<'_, '_>, range: &EncryptedRange) -> Option<LayoutFault>
-    ensures { result ≡ defined.encrypted_not_executable (laid_of layout.now) range.now }
+// What the rule of an encrypted range sees.
+fn encrypted_seen(layout: &Layout<'_, '_>, range: &EncryptedRange) -> Seen
+    ensures { result ≡ defined.encrypted_sees (laid_of layout.now) range.now }
 {
-    if !layout.is_final() || range.len == 0 || is_in_code(layout, range) {
-        return None;
-    }
-    Some(LayoutFault {
-        rule: Rule::EncryptedNotExecutable,
-        owner: Owner {
-            part: Part::Encrypted,
-            command: range.place as u64,
-            index: 0,
-        },
-        other: None,
-        found: range_end(u64::from(range.start), u64::from(range.len)),
-        limit: 0,
-    })
+    let holds = !layout.is_final() || range.len == 0 || is_in_code(layout, range);
+    measured(
+        holds,
+        range_end(u64::from(range.start), u64::from(range.len)),
+        0,
+    )
 }
 
 /// Adds the fault of what is encrypted.
@@ -248,48 +207,9 @@ pub fn encrypted_faults<A: Allocator>(
     let Some(range) = first_encrypted(layout) else {
         return Ok(());
     };
-    if let Some(fault) = encrypted_not_executable(layout, &range) {
-        faults.push(fault)?;
-    }
-    Ok(())
-}
-
-/// Adds the faults of all segments together.
-pub fn segment_order_faults<A: Allocator>(
-    faults: &mut Vec<LayoutFault, A>,
-    layout: &Layout<'_, '_>,
-) -> Result<()>
-    ensures told { OnOk result (faults.new.items ≡ faults.old.items ++ defined.segment_order_faults (laid_of layout.now)) }
-    ensures only { IsOkUnlessMemory result }
-{
-    if let Some(fault) = no_segment_of_header(layout) {
-        faults.push(fault)?;
-    }
-    Ok(())
-}
-
-// Adds the faults of each segment alone.
-fn each_segment_faults<A: Allocator>(
-    faults: &mut Vec<LayoutFault, A>,
-    layout: &Layout<'_, '_>,
-) -> Result<()>
-    ensures told { OnOk result (faults.new.items ≡ faults.old.items ++ defined.each_segment_faults (laid_of layout.now)) }
-    ensures only { IsOkUnlessMemory result }
-{
-    let beyond = layout
-        .segments()
-        .filter_map(|s| segment_beyond_addresses(layout, &s));
-    faults.extend(beyond)?;
-    let larger = layout.segments().filter_map(|s| segment_file_larger(&s));
-    faults.extend(larger)?;
-    let addresses = layout
-        .segments()
-        .filter_map(|s| segment_address_unaligned(layout, &s));
-    faults.extend(addresses)?;
-    let places = layout
-        .segments()
-        .filter_map(|s| segment_place_unaligned(layout, &s));
-    faults.extend(places)?;
+    let owner = owner_at(Part::Encrypted, range.place, 0);
+    let seen = encrypted_seen(layout, &range);
+    tell(faults, Rule::EncryptedNotExecutable, owner, seen)?;
     Ok(())
 }
 
@@ -318,16 +238,8 @@ fn same_name(place: usize, earlier: usize) -> LayoutFault
 {
     LayoutFault {
         rule: Rule::SegmentNameAgain,
-        owner: Owner {
-            part: Part::Segment,
-            command: place as u64,
-            index: 0,
-        },
-        other: Some(Owner {
-            part: Part::Segment,
-            command: earlier as u64,
-            index: 0,
-        }),
+        owner: owner_at(Part::Segment, place, 0),
+        other: Some(owner_at(Part::Segment, earlier, 0)),
         found: 0,
         limit: 0,
     }
@@ -375,37 +287,6 @@ fn name_faults<A: Allocator, B: Allocator + Clone>(
     Ok(())
 }
 
-// The fault of a segment to which more is allowed at first than may be allowed.
-fn segment_rights(layout: &Layout<'_, '_>, segment: &PlacedSegment) -> Option<LayoutFault>
-    ensures { result ≡ defined.segment_rights (laid_of layout.now) segment.now }
-{
-    let (initprot, maxprot) = (segment.command.initprot, segment.command.maxprot);
-    if !layout.is_final() || initprot & maxprot & VM_PROT_ALL == initprot & VM_PROT_ALL {
-        return None;
-    }
-    Some(LayoutFault {
-        rule: Rule::SegmentRights,
-        owner: segment_owner(segment),
-        other: None,
-        found: u64::from(initprot),
-        limit: u64::from(maxprot),
-    })
-}
-
-// Adds the faults of the segments to which too much is allowed at first.
-fn rights_faults<A: Allocator>(
-    faults: &mut Vec<LayoutFault, A>,
-    layout: &Layout<'_, '_>,
-) -> Result<()>
-    ensures told { OnOk result (faults.new.items
-        ≡ faults.old.items ++ filter_map (defined.segment_rights (laid_of layout.now)) (segments_of (laid_of layout.now))) }
-    ensures only { IsOkUnlessMemory result }
-{
-    let rights = layout.segments().filter_map(|s| segment_rights(layout, &s));
-    faults.extend(rights)?;
-    Ok(())
-}
-
 /// Adds the faults of each segment, of their names and of their rights.
 pub fn segment_faults<A: Allocator, B: Allocator + Clone>(
     alloc: B,
@@ -415,7 +296,14 @@ pub fn segment_faults<A: Allocator, B: Allocator + Clone>(
     ensures told { OnOk result (faults.new.items ≡ faults.old.items ++ defined.segment_faults (laid_of layout.now)) }
     ensures only { IsOkUnlessMemory result }
 {
-    each_segment_faults(faults, layout)?;
+    let rules = [
+        Rule::SegmentBeyondAddresses,
+        Rule::SegmentFileLarger,
+        Rule::SegmentAddressUnaligned,
+        Rule::SegmentPlaceUnaligned,
+    ];
+    tell_over(faults, layout, &rules, &layout.segments())?;
     name_faults(alloc, faults, layout)?;
-    rights_faults(faults, layout)
+    tell_over(faults, layout, &[Rule::SegmentRights], &layout.segments())?;
+    Ok(())
 }

@@ -6,9 +6,9 @@ ghost use Rattle.mach_rules.specs.Sweep as defined;
 ghost use Rattle.mach_rules.specs.Sweep.{AreShared, IsByStart};
 ghost use Rattle.mach_rules.specs.declared.fault.LayoutFault as declared;
 
-use crate::by_command::tell;
 use crate::claim::Claim;
 use crate::fault::{LayoutFault, Rule};
+use crate::rules::add;
 use mach_base::Result;
 use std::alloc::Allocator;
 
@@ -50,7 +50,7 @@ fn tell_shared<A: Allocator>(
 {
     let mut furthest = None;
     for range in sorted {
-        tell(faults, shared(rule, furthest, range))?;
+        add(faults, shared(rule, furthest, range))?;
         furthest = Some(further(furthest, *range));
     }
     Ok(())

@@ -5,20 +5,19 @@ ghost use Rattle.mach_base.specs.Answer.{IsOkUnlessMemory, Reads};
 ghost use Rattle.mach_symbols.specs.Symbols.{nlist_at};
 ghost use Rattle.mach_rules.specs.Laid.{laid_of};
 ghost use Rattle.mach_rules.specs.Symbols as defined;
-ghost use Rattle.mach_rules.specs.SymbolViews.{by_rule};
+ghost use Rattle.mach_rules.specs.declared.fault.Rule.TheVariants as rules_named;
 
 mod counts;
 mod indirect;
 mod ranges;
 
-use crate::asked::{Asked, Wanted, last_wanted, tell_each};
+use crate::asked::{Wanted, last_wanted};
 use crate::fault::{LayoutFault, Owner, Part, Rule};
 use crate::layout::{Layout, ends_past};
+use crate::rules::{Judges, Numbers, Seen, measured, owner_at, sound, tell_over};
 use crate::symbols::counts::{section_count, whole_records};
 pub use crate::symbols::counts::{library_count, texts_end};
-use crate::symbols::indirect::{
-    indirect_section_faults, indirect_symbol_faults, symbol_range_faults,
-};
+use crate::symbols::indirect::{indirect_faults, symbol_range_faults};
 use crate::symbols::ranges::{symbol_kind_faults, symbol_order_faults};
 use mach_base::{Container, Ctx, Record, Result, SizeWith};
 use mach_headers::header::MH_TWOLEVEL;
@@ -90,14 +89,9 @@ pub fn fault_at(
 ) -> LayoutFault
     ensures { result ≡ defined.fault_at rule part command index found limit }
 {
-    let command = command as u64;
     LayoutFault {
         rule,
-        owner: Owner {
-            part,
-            command,
-            index,
-        },
+        owner: owner_at(part, command, index),
         other: None,
         found,
         limit,
@@ -159,23 +153,6 @@ fn is_section_wrong(sections: u64, symbol: &Nlist) -> bool
     }
 }
 
-// The fault of a symbol's section.
-fn symbol_section(
-    sections: u64,
-    table: &PlacedSymtab,
-    k: u32,
-    symbol: &Nlist,
-) -> Option<LayoutFault>
-    ensures { result ≡ defined.symbol_section sections table.now k symbol.now }
-{
-    if !is_section_wrong(sections, symbol) {
-        return None;
-    }
-    let (number, found) = (u64::from(k), symbol.n_sect as u64);
-    let (rule, part) = (Rule::SymbolSection, Part::Symbols);
-    Some(fault_at(rule, part, table.place, number, found, sections))
-}
-
 // Where the names in the strings of a table end.
 fn names_end(layout: &Layout<'_, '_>, table: &PlacedSymtab) -> u64
     ensures { result ≡ defined.names_end (laid_of layout.now) table.now }
@@ -188,22 +165,6 @@ fn names_end(layout: &Layout<'_, '_>, table: &PlacedSymtab) -> u64
     texts_end(strings) as u64
 }
 
-// The fault of a symbol's name.
-fn symbol_name(upto: u64, table: &PlacedSymtab, k: u32, symbol: &Nlist) -> Option<LayoutFault>
-    ensures { result ≡ defined.symbol_name upto table.now k symbol.now }
-{
-    let (rule, part) = (Rule::SymbolName, Part::Symbols);
-    let (number, size) = (u64::from(k), u64::from(table.command.strsize));
-    let name = symbol.n_strx as u64;
-    if name != 0 && name >= upto {
-        return Some(fault_at(rule, part, table.place, number, name, size));
-    }
-    if symbol.n_type & (N_STAB | N_TYPE) == N_INDR && symbol.n_value >= size {
-        return Some(fault_at(rule, part, table.place, number, symbol.n_value, size));
-    }
-    None
-}
-
 // Whether another image defines a symbol.
 fn is_imported(symbol: &Nlist) -> bool
     ensures { result ≡ defined.is_imported symbol.now }
@@ -212,112 +173,115 @@ fn is_imported(symbol: &Nlist) -> bool
     symbol.n_type & N_EXT != 0 && (kind == N_UNDF && symbol.n_value == 0 || kind == N_PBUD)
 }
 
-// The fault of a symbol's library.
-fn symbol_library(
-    libraries: u64,
-    table: &PlacedSymtab,
-    k: u32,
-    symbol: &Nlist,
-) -> Option<LayoutFault>
-    ensures { result ≡ defined.symbol_library libraries table.now k symbol.now }
-{
-    let library = u64::from(symbol.n_desc / 256);
-    if is_stab(symbol)
-        || !is_imported(symbol)
-        || library <= libraries
-        || library >= DYNAMIC_LOOKUP_ORDINAL
-    {
-        return None;
-    }
-    let (rule, part) = (Rule::SymbolLibrary, Part::Symbols);
-    Some(fault_at(rule, part, table.place, u64::from(k), library, libraries))
-}
-
 // The number of a symbol's library from which on it is special.
 const DYNAMIC_LOOKUP_ORDINAL: u64 = 0xfe;
 
-// A rule of symbols, with what it judges them by.
+/// What the symbols of a table are judged by.
 #[derive(Clone, Copy)]
-enum SymbolRule {
-    // By how many sections there are.
-    Section(u64),
-    // By where the names end.
-    Name(u64),
-    // By how many libraries there are.
-    Library(u64),
+pub struct SymbolBounds {
+    /// How many sections there are.
+    pub sections: u64,
+    /// Where the names end.
+    pub names_end: u64,
+    /// How many libraries there are.
+    pub libraries: u64,
 }
 
-// A rule that the symbols of a table are asked.
-#[derive(Clone, Copy)]
-struct SymbolsAsked<'a> {
-    bytes: &'a [u8],
-    ctx: Ctx,
-    table: PlacedSymtab,
-    rule: SymbolRule,
+// What is seen of a symbol's name.
+fn name_seen(table: &PlacedSymtab, bounds: &SymbolBounds, symbol: &Nlist) -> Seen
+    ensures { result ≡ defined.symbol_sees table.now bounds.now rules_named.SymbolName symbol.now }
+{
+    let size = u64::from(table.command.strsize);
+    let name = symbol.n_strx as u64;
+    let is_other = symbol.n_type & (N_STAB | N_TYPE) == N_INDR;
+    let other = measured(!is_other || symbol.n_value < size, symbol.n_value, size);
+    measured(name == 0 || name < bounds.names_end, name, size).then(other)
 }
 
-impl<'a> Asked for SymbolsAsked<'a> {
-    ghost use Rattle.mach_rules.specs.SymbolViews.{symbols_asked};
+// What a rule sees in a symbol.
+fn symbol_seen(rule: Rule, table: &PlacedSymtab, bounds: &SymbolBounds, symbol: &Nlist) -> Seen
+    ensures { result ≡ defined.symbol_sees table.now bounds.now rule symbol.now }
+{
+    match rule {
+        Rule::SymbolSection => {
+            let holds = !is_section_wrong(bounds.sections, symbol);
+            measured(holds, symbol.n_sect as u64, bounds.sections)
+        }
+        Rule::SymbolName => name_seen(table, bounds, symbol),
+        Rule::SymbolLibrary => {
+            let library = u64::from(symbol.n_desc / 256);
+            let holds = is_stab(symbol)
+                || !is_imported(symbol)
+                || library <= bounds.libraries
+                || library >= DYNAMIC_LOOKUP_ORDINAL;
+            measured(holds, library, bounds.libraries)
+        }
+        _ => sound(),
+    }
+}
 
-    ghost answers = { symbols_asked };
+/// The symbols of a table, by their numbers.
+#[derive(Clone, Copy)]
+pub struct SymbolsJudged<'a> {
+    pub bytes: &'a [u8],
+    pub ctx: Ctx,
+    pub table: PlacedSymtab,
+    pub bounds: SymbolBounds,
+}
 
-    fn ask(&self, number: u32) -> Option<LayoutFault> {
-        let symbol = symbol_in(self.bytes, self.ctx, &self.table, number)?;
-        match self.rule {
-            SymbolRule::Section(count) => symbol_section(count, &self.table, number, &symbol),
-            SymbolRule::Name(upto) => symbol_name(upto, &self.table, number, &symbol),
-            SymbolRule::Library(count) => symbol_library(count, &self.table, number, &symbol),
+impl Judges<u32> for SymbolsJudged<'_> {
+    ghost use Rattle.mach_rules.specs.Symbols.{symbol_owner};
+    ghost use Rattle.mach_rules.specs.SymbolViews.{symbols_judged};
+
+    ghost owner = { λ judge rule. symbol_owner judge.table };
+
+    ghost sees = { symbols_judged };
+
+    fn owner(&self, _rule: Rule, k: &u32) -> Owner {
+        owner_at(Part::Symbols, self.table.place, u64::from(*k))
+    }
+
+    fn see(&self, rule: Rule, k: &u32) -> Seen {
+        match symbol_in(self.bytes, self.ctx, &self.table, *k) {
+            Some(symbol) => symbol_seen(rule, &self.table, &self.bounds, &symbol),
+            None => sound(),
         }
     }
 }
 
-// Adds what a rule tells of the symbols of a table.
+// What the symbols of a table are judged by.
+fn bounds_of(layout: &Layout<'_, '_>, table: &PlacedSymtab) -> SymbolBounds
+    ensures { result ≡ defined.bounds_of (laid_of layout.now) table.now }
+{
+    SymbolBounds {
+        sections: section_count(layout),
+        names_end: names_end(layout, table),
+        libraries: library_count(layout),
+    }
+}
+
+// Adds what some rules tell of the symbols of a table, if there is one.
 fn tell_symbols<A: Allocator>(
     faults: &mut Vec<LayoutFault, A>,
     layout: &Layout<'_, '_>,
-    table: PlacedSymtab,
-    rule: SymbolRule,
+    table: Option<PlacedSymtab>,
+    rules: &[Rule],
 ) -> Result<()>
-    ensures told { OnOk result (faults.new.items ≡ faults.old.items ++ defined.symbols_told (laid_of layout.now) table (by_rule rule table)) }
+    ensures told { OnOk result (faults.new.items ≡ faults.old.items ++ defined.symbols_told (laid_of layout.now) table rules.now) }
     ensures only { IsOkUnlessMemory result }
 {
-    let asked = SymbolsAsked {
+    let Some(table) = table else {
+        return Ok(());
+    };
+    let judge = SymbolsJudged {
         bytes: layout.bytes,
         ctx: layout.ctx,
         table,
-        rule,
+        bounds: bounds_of(layout, &table),
     };
-    tell_each(faults, &asked, symbols_there(layout, &table))
-}
-
-// Adds the faults of the sections of symbols.
-fn symbol_section_faults<A: Allocator>(
-    faults: &mut Vec<LayoutFault, A>,
-    layout: &Layout<'_, '_>,
-) -> Result<()>
-    ensures told { OnOk result (faults.new.items ≡ faults.old.items ++ defined.symbol_section_faults (laid_of layout.now)) }
-    ensures only { IsOkUnlessMemory result }
-{
-    let Some(table) = last_wanted::<PlacedSymtab>(layout.commands) else {
-        return Ok(());
-    };
-    let rule = SymbolRule::Section(section_count(layout));
-    tell_symbols(faults, layout, table, rule)
-}
-
-// Adds the faults of the names of symbols.
-fn symbol_name_faults<A: Allocator>(
-    faults: &mut Vec<LayoutFault, A>,
-    layout: &Layout<'_, '_>,
-) -> Result<()>
-    ensures told { OnOk result (faults.new.items ≡ faults.old.items ++ defined.symbol_name_faults (laid_of layout.now)) }
-    ensures only { IsOkUnlessMemory result }
-{
-    let Some(table) = last_wanted::<PlacedSymtab>(layout.commands) else {
-        return Ok(());
-    };
-    let rule = SymbolRule::Name(names_end(layout, &table));
-    tell_symbols(faults, layout, table, rule)
+    let numbers = Numbers::of(symbols_there(layout, &table));
+    tell_over(faults, &judge, rules, &numbers)?;
+    Ok(())
 }
 
 // Whether the libraries of symbols are judged.
@@ -331,32 +295,34 @@ fn has_libraries(layout: &Layout<'_, '_>) -> bool
 fn symbol_library_faults<A: Allocator>(
     faults: &mut Vec<LayoutFault, A>,
     layout: &Layout<'_, '_>,
+    table: Option<PlacedSymtab>,
 ) -> Result<()>
-    ensures told { OnOk result (faults.new.items ≡ faults.old.items ++ defined.symbol_library_faults (laid_of layout.now)) }
+    ensures told { OnOk result (faults.new.items ≡ faults.old.items ++ defined.symbol_library_faults (laid_of layout.now) table) }
     ensures only { IsOkUnlessMemory result }
 {
     if !has_libraries(layout) {
         return Ok(());
     }
-    let Some(table) = last_wanted::<PlacedSymtab>(layout.commands) else {
-        return Ok(());
-    };
-    let rule = SymbolRule::Library(library_count(layout));
-    tell_symbols(faults, layout, table, rule)
+    tell_symbols(faults, layout, table, &[Rule::SymbolLibrary])
 }
 
-// Adds the faults of symbols and of their ranges.
-fn symbol_table_faults<A: Allocator>(
+// Adds the faults of a table of symbols, and of what the dynamic linker needs of it.
+fn table_faults<A: Allocator>(
     faults: &mut Vec<LayoutFault, A>,
     layout: &Layout<'_, '_>,
+    table: Option<PlacedSymtab>,
+    dynamic: Option<PlacedDysymtab>,
 ) -> Result<()>
-    ensures told { OnOk result (faults.new.items ≡ faults.old.items ++ defined.symbol_table_faults (laid_of layout.now)) }
+    ensures told { OnOk result (faults.new.items ≡ faults.old.items ++ defined.table_faults (laid_of layout.now) table dynamic) }
     ensures only { IsOkUnlessMemory result }
 {
-    symbol_section_faults(faults, layout)?;
-    symbol_name_faults(faults, layout)?;
-    symbol_range_faults(faults, layout)?;
-    symbol_kind_faults(faults, layout)
+    let rules = [Rule::SymbolSection, Rule::SymbolName];
+    tell_symbols(faults, layout, table, &rules)?;
+    symbol_range_faults(faults, table, dynamic)?;
+    symbol_kind_faults(faults, layout, table, dynamic)?;
+    symbol_library_faults(faults, layout, table)?;
+    indirect_faults(faults, layout, table, dynamic)?;
+    symbol_order_faults(faults, table, dynamic)
 }
 
 /// Adds the faults of symbols and of indirect symbols.
@@ -367,9 +333,7 @@ pub fn symbol_faults<A: Allocator>(
     ensures told { OnOk result (faults.new.items ≡ faults.old.items ++ defined.symbol_faults (laid_of layout.now)) }
     ensures only { IsOkUnlessMemory result }
 {
-    symbol_table_faults(faults, layout)?;
-    symbol_library_faults(faults, layout)?;
-    indirect_symbol_faults(faults, layout)?;
-    indirect_section_faults(faults, layout)?;
-    symbol_order_faults(faults, layout)
+    let table = last_wanted::<PlacedSymtab>(layout.commands);
+    let dynamic = last_wanted::<PlacedDysymtab>(layout.commands);
+    table_faults(faults, layout, table, dynamic)
 }

@@ -5,13 +5,13 @@ ghost use Rattle.mach_base.specs.Answer.{IsOkUnlessMemory, Reads};
 ghost use Rattle.mach_base.specs.Number.{number_at};
 ghost use Rattle.mach_rules.specs.Laid.{laid_of};
 ghost use Rattle.mach_rules.specs.Fixups as defined;
-ghost use Rattle.mach_rules.specs.FixupViews.{data_view, rule_of_imports};
+ghost use Rattle.mach_rules.specs.FixupViews.{data_view};
 
-use crate::asked::{Asked, tell_each};
-use crate::fault::{LayoutFault, Part, Rule};
+use crate::fault::{LayoutFault, Owner, Part, Rule};
 use crate::fixups::{FixupData, Front, import_bytes};
 use crate::layout::Layout;
-use crate::symbols::{fault_at, library_count, texts_end};
+use crate::rules::{Judges, Numbers, Seen, measured, owner_at, sound, tell_over};
+use crate::symbols::{library_count, texts_end};
 use mach_base::{Endian, Result, bytes_at, read_u32};
 use mach_chained::ChainedFixupsHeader;
 use std::alloc::Allocator;
@@ -87,24 +87,6 @@ fn is_ordinal_wrong(libraries: u64, format: u32, ordinal: u64) -> bool
     }
 }
 
-// The fault of an import's library.
-fn import_library(
-    chained: &FixupData<'_>,
-    header: &ChainedFixupsHeader,
-    libraries: u64,
-    k: u32,
-    row: &ImportRow,
-) -> Option<LayoutFault>
-    ensures { result ≡ defined.import_library (data_view chained.now) header.now libraries k row.now }
-{
-    if !is_ordinal_wrong(libraries, header.imports_format, row.library) {
-        return None;
-    }
-    let (rule, part) = (Rule::ImportLibrary, Part::Imports);
-    let number = u64::from(k);
-    Some(fault_at(rule, part, chained.place, number, row.library, libraries))
-}
-
 // Where the names of imports end.
 fn import_names_end(chained: &FixupData<'_>, header: &ChainedFixupsHeader) -> u64
     ensures { result ≡ defined.import_names_end (data_view chained.now) header.now }
@@ -116,110 +98,66 @@ fn import_names_end(chained: &FixupData<'_>, header: &ChainedFixupsHeader) -> u6
     }
 }
 
-// The fault of an import's name.
-fn import_name(
-    chained: &FixupData<'_>,
-    header: &ChainedFixupsHeader,
-    upto: u64,
-    k: u32,
-    row: &ImportRow,
-) -> Option<LayoutFault>
-    ensures { result ≡ defined.import_name (data_view chained.now) header.now upto k row.now }
-{
-    let place = u64::from(header.symbols_offset) + u64::from(row.name);
-    if place < upto {
-        return None;
+/// What the imports of chained fixups are judged by.
+#[derive(Clone, Copy)]
+pub struct Imports<'a> {
+    pub chained: FixupData<'a>,
+    pub header: ChainedFixupsHeader,
+    /// How many libraries there are.
+    pub libraries: u64,
+    /// Where the names end.
+    pub names_end: u64,
+}
+
+impl Judges<u32> for Imports<'_> {
+    ghost use Rattle.mach_rules.specs.FixupViews.{imports_owner, imports_judged};
+
+    ghost owner = { imports_owner };
+
+    ghost sees = { imports_judged };
+
+    fn owner(&self, _rule: Rule, k: &u32) -> Owner {
+        owner_at(Part::Imports, self.chained.place, u64::from(*k))
     }
-    let (rule, part) = (Rule::ImportName, Part::Imports);
-    Some(fault_at(
-        rule,
-        part,
-        chained.place,
-        u64::from(k),
-        place,
-        chained.size(),
-    ))
-}
 
-// A rule of imports, with what it judges them by.
-#[derive(Clone, Copy)]
-enum ImportRule {
-    // By how many libraries there are.
-    Library(u64),
-    // By where the names end.
-    Name(u64),
-}
-
-// A rule that the imports are asked.
-#[derive(Clone, Copy)]
-struct ImportsAsked<'a> {
-    chained: FixupData<'a>,
-    header: ChainedFixupsHeader,
-    rule: ImportRule,
-}
-
-impl<'a> Asked for ImportsAsked<'a> {
-    ghost use Rattle.mach_rules.specs.FixupViews.{imports_asked};
-
-    ghost answers = { imports_asked };
-
-    fn ask(&self, number: u32) -> Option<LayoutFault> {
-        let row = row_in(&self.chained, &self.header, number)?;
-        match self.rule {
-            ImportRule::Library(count) => {
-                import_library(&self.chained, &self.header, count, number, &row)
+    fn see(&self, rule: Rule, k: &u32) -> Seen {
+        let Some(row) = row_in(&self.chained, &self.header, *k) else {
+            return sound();
+        };
+        match rule {
+            Rule::ImportLibrary => {
+                let format = self.header.imports_format;
+                let holds = !is_ordinal_wrong(self.libraries, format, row.library);
+                measured(holds, row.library, self.libraries)
             }
-            ImportRule::Name(upto) => import_name(&self.chained, &self.header, upto, number, &row),
+            Rule::ImportName => {
+                let place = u64::from(self.header.symbols_offset) + u64::from(row.name);
+                measured(place < self.names_end, place, self.chained.size())
+            }
+            _ => sound(),
         }
     }
 }
 
-// Adds what a rule tells of the imports.
-fn tell_imports<A: Allocator>(
-    faults: &mut Vec<LayoutFault, A>,
-    chained: &FixupData<'_>,
-    front: &Front,
-    rule: ImportRule,
-) -> Result<()>
-    ensures told { OnOk result (faults.new.items ≡ faults.old.items
-        ++ defined.imports_told (data_view chained.now) front.now.header (rule_of_imports rule (data_view chained.now) front.now.header)) }
-    ensures only { IsOkUnlessMemory result }
-{
-    let asked = ImportsAsked {
-        chained: *chained,
-        header: front.header,
-        rule,
-    };
-    tell_each(faults, &asked, front.header.imports_count)
-}
-
-/// Adds the faults of the libraries of imports.
-pub fn import_library_faults<A: Allocator>(
+/// Adds the faults of imports.
+pub fn import_faults<A: Allocator>(
     faults: &mut Vec<LayoutFault, A>,
     layout: &Layout<'_, '_>,
     chained: &FixupData<'_>,
     front: &Front,
 ) -> Result<()>
-    ensures told { OnOk result (faults.new.items ≡ faults.old.items ++ defined.import_library_faults (laid_of layout.now) (data_view chained.now) front.now) }
+    ensures told { OnOk result (faults.new.items ≡ faults.old.items ++ defined.import_faults (laid_of layout.now) (data_view chained.now) front.now) }
     ensures only { IsOkUnlessMemory result }
 {
-    tell_imports(
-        faults,
-        chained,
-        front,
-        ImportRule::Library(library_count(layout)),
-    )
-}
-
-/// Adds the faults of the names of imports.
-pub fn import_name_faults<A: Allocator>(
-    faults: &mut Vec<LayoutFault, A>,
-    chained: &FixupData<'_>,
-    front: &Front,
-) -> Result<()>
-    ensures told { OnOk result (faults.new.items ≡ faults.old.items ++ defined.import_name_faults (data_view chained.now) front.now) }
-    ensures only { IsOkUnlessMemory result }
-{
-    let upto = import_names_end(chained, &front.header);
-    tell_imports(faults, chained, front, ImportRule::Name(upto))
+    let header = front.header;
+    let judge = Imports {
+        chained: *chained,
+        header,
+        libraries: library_count(layout),
+        names_end: import_names_end(chained, &header),
+    };
+    let rules = [Rule::ImportLibrary, Rule::ImportName];
+    let numbers = Numbers::of(header.imports_count);
+    tell_over(faults, &judge, &rules, &numbers)?;
+    Ok(())
 }

@@ -8,35 +8,26 @@ ghost use Rattle.mach_rules.specs.Laid.{laid_of};
 ghost use Rattle.mach_rules.specs.Fixups as defined;
 ghost use Rattle.mach_rules.specs.FixupViews.{data_view};
 
-use crate::fault::LayoutFault;
+use crate::fault::{LayoutFault, Rule};
 use crate::fixups::{FixupData, Front};
 use crate::layout::Layout;
 use crate::parts::PlacedSegment;
+use crate::rules::{Seen, measured, sound, told};
 use mach_base::{Record, Result, read_u32};
 use mach_chained::ChainedStartsInSegment;
 use std::alloc::Allocator;
 
-// The fault of the pages or the pointers of some starts.
-fn page_fault(
-    chained: &FixupData<'_>,
-    k: u32,
-    place: u64,
-    starts: &ChainedStartsInSegment,
-) -> Option<LayoutFault>
+// What is seen of the pages and the pointers of some starts.
+fn page_seen(chained: &FixupData<'_>, place: u64, starts: &ChainedStartsInSegment) -> Seen
     requires { place < 2 ^ 33 }
-    ensures { result ≡ defined.page_fault (data_view chained.now) k place starts.now }
+    ensures { result ≡ defined.page_sees (data_view chained.now) place starts.now }
 {
-    if starts.page_size != 0x1000 && starts.page_size != 0x4000 {
-        return Some(chained.fault(k, u64::from(starts.page_size), 0x4000));
-    }
-    if starts.pointer_format == 0 || starts.pointer_format > 13 {
-        return Some(chained.fault(k, u64::from(starts.pointer_format), 13));
-    }
+    let (page, format) = (starts.page_size, starts.pointer_format);
     let end = place + 22 + 2 * u64::from(starts.page_count);
-    if end > chained.size() {
-        return Some(chained.fault(k, end, chained.size()));
-    }
-    None
+    let is_known = format != 0 && format <= 13;
+    measured(page == 0x1000 || page == 0x4000, u64::from(page), 0x4000)
+        .then(measured(is_known, u64::from(format), 13))
+        .then(measured(end <= chained.size(), end, chained.size()))
 }
 
 // Whether two numbers make a third.
@@ -56,65 +47,70 @@ fn last_page(starts: &ChainedStartsInSegment) -> u64
     u64::from(starts.page_count.saturating_sub(1)) * u64::from(starts.page_size)
 }
 
-// The fault of where a segment begins, or of how many pages there are.
-fn extent_fault(
-    chained: &FixupData<'_>,
-    text: u64,
-    k: u32,
-    segment: &PlacedSegment,
-    starts: &ChainedStartsInSegment,
-) -> Option<LayoutFault>
-    ensures { result ≡ defined.extent_fault (data_view chained.now) text k segment.now starts.now }
+// What is seen of where a segment begins, and of how many pages there are.
+fn extent_seen(text: u64, segment: &PlacedSegment, starts: &ChainedStartsInSegment) -> Seen
+    ensures { result ≡ defined.extent_sees text segment.now starts.now }
 {
     let (address, size) = (segment.command.vmaddr, segment.command.vmsize);
-    if !adds_up(starts.segment_offset, text, address) {
-        return Some(chained.fault(k, starts.segment_offset, address.saturating_sub(text)));
-    }
-    if starts.page_count > 0 && size <= last_page(starts) {
-        return Some(chained.fault(k, last_page(starts), size));
-    }
-    None
+    let offset = starts.segment_offset;
+    let last = last_page(starts);
+    let pages = measured(starts.page_count == 0 || last < size, last, size);
+    measured(
+        adds_up(offset, text, address),
+        offset,
+        address.saturating_sub(text),
+    )
+    .then(pages)
 }
 
-// The fault of the starts at a place, which are those of a segment.
-fn record_fault(
-    chained: &FixupData<'_>,
-    text: u64,
-    k: u32,
-    place: u64,
-    segment: &PlacedSegment,
-) -> Option<LayoutFault>
+// What is seen of the starts at a place, which are those of a segment.
+fn record_seen(chained: &FixupData<'_>, text: u64, place: u64, segment: &PlacedSegment) -> Seen
     requires { place < 2 ^ 33 }
-    ensures { result ≡ defined.record_fault (data_view chained.now) text k place segment.now
+    ensures { result ≡ defined.record_sees (data_view chained.now) text place segment.now
         (record_at chained.now.le starts_fields chained.now.payload.now place) }
 {
-    let Ok(starts) = ChainedStartsInSegment::read(chained.payload, place as usize, chained.le)
-    else {
-        return Some(chained.fault(k, place + 22, chained.size()));
-    };
-    if let Some(fault) = page_fault(chained, k, place, &starts) {
-        return Some(fault);
+    match ChainedStartsInSegment::read(chained.payload, place as usize, chained.le) {
+        Ok(starts) => {
+            page_seen(chained, place, &starts).then(extent_seen(text, segment, &starts))
+        }
+        Err(_) => measured(false, place + 22, chained.size()),
     }
-    extent_fault(chained, text, k, segment, &starts)
 }
 
-// The fault of the starts of a segment, if the image has it.
-fn segment_fault(
+// What is seen of the starts of a segment, if the image has it.
+fn segment_seen(
     chained: &FixupData<'_>,
     text: u64,
-    k: u32,
     starts: u32,
     info: u32,
     segment: Option<PlacedSegment>,
-) -> Option<LayoutFault>
-    ensures { result ≡ defined.segment_fault (data_view chained.now) text k starts info segment }
+) -> Seen
+    ensures { result ≡ defined.segment_sees (data_view chained.now) text starts info segment }
 {
     match segment {
         Some(segment) => {
             let place = u64::from(starts) + u64::from(info);
-            record_fault(chained, text, k, place, &segment)
+            record_seen(chained, text, place, &segment)
         }
-        None => Some(chained.fault(k, u64::from(info), 0)),
+        None => measured(false, u64::from(info), 0),
+    }
+}
+
+// What is seen of starts k.
+fn starts_seen(
+    chained: &FixupData<'_>,
+    front: &Front,
+    text: u64,
+    k: u32,
+    segment: Option<PlacedSegment>,
+) -> Seen
+    ensures { result ≡ defined.starts_sees (data_view chained.now) front.now text k segment }
+{
+    let first = front.header.starts_offset;
+    let place = first as usize + 4 + k as usize * 4;
+    match read_u32(chained.payload, place, chained.le) {
+        Ok(0) | Err(_) => sound(),
+        Ok(info) => segment_seen(chained, text, first, info, segment),
     }
 }
 
@@ -128,13 +124,8 @@ fn starts_fault(
 ) -> Option<LayoutFault>
     ensures { result ≡ defined.starts_fault (data_view chained.now) front.now text k segment }
 {
-    let first = front.header.starts_offset;
-    let place = first as usize + 4 + k as usize * 4;
-    let info = read_u32(chained.payload, place, chained.le).ok()?;
-    if info == 0 {
-        return None;
-    }
-    segment_fault(chained, text, k, first, info, segment)
+    let seen = starts_seen(chained, front, text, k, segment);
+    told(Rule::ChainedFixups, chained.owner(k), seen)
 }
 
 // Whether a segment's name is `__TEXT`, whatever stands behind its first zero byte.

@@ -5,12 +5,13 @@ ghost use Rattle.mach_base.specs.Answer.{IsOkUnlessMemory};
 ghost use Rattle.mach_rules.specs.Laid.{laid_of};
 ghost use Rattle.mach_rules.specs.Symbols as defined;
 
-use crate::asked::{Asked, last_wanted, tell_each};
-use crate::fault::{LayoutFault, Part, Rule};
+use crate::fault::{LayoutFault, Owner, Part, Rule};
 use crate::layout::{Layout, ends_past, range_end};
 use crate::parts::PlacedSection;
-use crate::symbols::{PlacedDysymtab, PlacedSymtab, SymbolRange, fault_at};
-use mach_base::{Endian, Result, read_u32};
+use crate::rules::{Judges, Numbers, Seen, measured, owner_at, sound, tell_each, tell_over};
+use crate::sections::section_owner;
+use crate::symbols::{PlacedDysymtab, PlacedSymtab, SymbolRange};
+use mach_base::{Container, Ctx, Result, read_u32};
 use mach_records::DysymtabCommand;
 use mach_records::constants::SECTION_TYPE;
 use std::alloc::Allocator;
@@ -59,73 +60,50 @@ pub fn is_range_out(nsyms: u32, range: &SymbolRange) -> bool
     range.count > 0 && end > u64::from(nsyms)
 }
 
-// The fault of a range of symbols.
-fn symbol_range(nsyms: u32, table: &PlacedDysymtab, range: &SymbolRange) -> Option<LayoutFault>
-    ensures { result ≡ defined.symbol_range nsyms table.now range.now }
-{
-    if !is_range_out(nsyms, range) {
-        return None;
+// The ranges of a table of so many symbols.
+#[derive(Clone, Copy)]
+struct Ranges {
+    place: usize,
+    nsyms: u32,
+}
+
+impl Judges<SymbolRange> for Ranges {
+    ghost use Rattle.mach_rules.specs.SymbolViews.{range_owner, ranges_judged};
+
+    ghost owner = { range_owner };
+
+    ghost sees = { ranges_judged };
+
+    fn owner(&self, _rule: Rule, range: &SymbolRange) -> Owner {
+        owner_at(Part::SymbolRanges, self.place, range.number)
     }
-    let end = u64::from(range.first) + u64::from(range.count);
-    let nsyms = u64::from(nsyms);
-    let (rule, part) = (Rule::SymbolRange, Part::SymbolRanges);
-    Some(fault_at(rule, part, table.place, range.number, end, nsyms))
+
+    fn see(&self, _rule: Rule, range: &SymbolRange) -> Seen {
+        let end = u64::from(range.first) + u64::from(range.count);
+        let holds = !is_range_out(self.nsyms, range);
+        measured(holds, end, u64::from(self.nsyms))
+    }
 }
 
 /// Adds the faults of the ranges of symbols.
 pub fn symbol_range_faults<A: Allocator>(
     faults: &mut Vec<LayoutFault, A>,
-    layout: &Layout<'_, '_>,
+    table: Option<PlacedSymtab>,
+    dynamic: Option<PlacedDysymtab>,
 ) -> Result<()>
-    ensures told { OnOk result (faults.new.items ≡ faults.old.items ++ defined.symbol_range_faults (laid_of layout.now)) }
+    ensures told { OnOk result (faults.new.items ≡ faults.old.items ++ defined.symbol_range_faults table dynamic) }
     ensures only { IsOkUnlessMemory result }
 {
-    let Some(symbols) = last_wanted::<PlacedSymtab>(layout.commands) else {
+    let (Some(symbols), Some(table)) = (table, dynamic) else {
         return Ok(());
     };
-    let Some(table) = last_wanted::<PlacedDysymtab>(layout.commands) else {
-        return Ok(());
+    let judge = Ranges {
+        place: table.place,
+        nsyms: symbols.command.nsyms,
     };
     let ranges = ranges_of(&table.command);
-    'each: for range in &ranges {
-        if let Some(fault) = symbol_range(symbols.command.nsyms, &table, range) {
-            faults.push(fault)?;
-        }
-    }
+    tell_each(faults, &judge, &[Rule::SymbolRange], &ranges)?;
     Ok(())
-}
-
-// The fault of an indirect symbol.
-fn indirect_symbol(nsyms: u32, table: &PlacedDysymtab, k: u32, entry: u32) -> Option<LayoutFault>
-    ensures { result ≡ defined.indirect_symbol nsyms table.now k entry }
-{
-    if entry & INDIRECT_SYMBOL_LOCAL_OR_ABS != 0 || entry < nsyms {
-        return None;
-    }
-    let (rule, part) = (Rule::IndirectSymbol, Part::IndirectSymbols);
-    let (found, limit) = (u64::from(entry), u64::from(nsyms));
-    Some(fault_at(rule, part, table.place, u64::from(k), found, limit))
-}
-
-// The rule of indirect symbols, which their table is asked.
-#[derive(Clone, Copy)]
-struct IndirectAsked<'a> {
-    bytes: &'a [u8],
-    le: Endian,
-    table: PlacedDysymtab,
-    nsyms: u32,
-}
-
-impl<'a> Asked for IndirectAsked<'a> {
-    ghost use Rattle.mach_rules.specs.SymbolViews.{indirect_asked};
-
-    ghost answers = { indirect_asked };
-
-    fn ask(&self, number: u32) -> Option<LayoutFault> {
-        let place = self.table.command.indirectsymoff as usize + number as usize * 4;
-        let entry = read_u32(self.bytes, place, self.le).ok()?;
-        indirect_symbol(self.nsyms, &self.table, number, entry)
-    }
 }
 
 // How many symbols a table is said to have.
@@ -138,32 +116,17 @@ fn symbol_count(table: Option<PlacedSymtab>) -> u32
     }
 }
 
-/// Adds the faults of indirect symbols.
-pub fn indirect_symbol_faults<A: Allocator>(
-    faults: &mut Vec<LayoutFault, A>,
-    layout: &Layout<'_, '_>,
-) -> Result<()>
-    ensures told { OnOk result (faults.new.items ≡ faults.old.items ++ defined.indirect_symbol_faults (laid_of layout.now)) }
-    ensures only { IsOkUnlessMemory result }
+// How many indirect symbols there are, where their table lies in the file.
+fn indirect_count(layout: &Layout<'_, '_>, table: &PlacedDysymtab) -> u32
+    ensures { result ≡ defined.indirect_count (laid_of layout.now) table.now }
 {
-    let Some(table) = last_wanted::<PlacedDysymtab>(layout.commands) else {
-        return Ok(());
-    };
     let count = table.command.nindirectsyms;
-    let (start, len) = (
-        u64::from(table.command.indirectsymoff),
-        4 * u64::from(count),
-    );
-    if ends_past(layout.size(), start, len) {
-        return Ok(());
+    let start = u64::from(table.command.indirectsymoff);
+    if ends_past(layout.size(), start, 4 * u64::from(count)) {
+        0
+    } else {
+        count
     }
-    let asked = IndirectAsked {
-        bytes: layout.bytes,
-        le: layout.ctx.le,
-        table,
-        nsyms: symbol_count(last_wanted::<PlacedSymtab>(layout.commands)),
-    };
-    tell_each(faults, &asked, count)
 }
 
 // Whether a section with these flags is of pointers or stubs that have indirect symbols.
@@ -179,58 +142,110 @@ fn has_indirect(flags: u32) -> bool
 }
 
 // How many bytes each entry of such a section has.
-fn entry_size(layout: &Layout<'_, '_>, section: &PlacedSection) -> u64
-    ensures { result ≡ defined.entry_size (laid_of layout.now) section.now }
+fn entry_size(width: Container, section: &PlacedSection) -> u64
+    ensures { result ≡ defined.entry_size width section.now }
 {
     if section.section.flags & SECTION_TYPE == S_SYMBOL_STUBS {
         u64::from(section.section.reserved2)
     } else {
-        layout.ctx.size() as u64
+        match width {
+            Container::Little => 4,
+            Container::Big => 8,
+        }
     }
 }
 
-// The fault of a section that has indirect symbols.
-fn indirect_section(
-    layout: &Layout<'_, '_>,
-    table: &PlacedDysymtab,
-    section: &PlacedSection,
-) -> Option<LayoutFault>
-    ensures { result ≡ defined.indirect_section (laid_of layout.now) table.now section.now }
+// What the rule of a section that has indirect symbols sees.
+fn section_seen(width: Container, table: &PlacedDysymtab, section: &PlacedSection) -> Seen
+    ensures { result ≡ defined.indirect_section_sees width table.now section.now }
 {
     let size = section.section.size;
     if !has_indirect(section.section.flags) || size == 0 {
-        return None;
+        return sound();
     }
-    let (rule, part) = (Rule::IndirectSection, Part::Section);
-    let (place, number) = (section.segment.place, section.number);
-    let unit = entry_size(layout, section);
+    let unit = entry_size(width, section);
     if unit == 0 || size % unit != 0 {
-        return Some(fault_at(rule, part, place, number, size, unit));
+        return measured(false, size, unit);
     }
     let (first, count) = (u64::from(section.section.reserved1), size / unit);
     let there = u64::from(table.command.nindirectsyms);
-    if !ends_past(there, first, count) {
-        return None;
-    }
-    let end = range_end(first, count);
-    Some(fault_at(rule, part, place, number, end, there))
+    measured(
+        !ends_past(there, first, count),
+        range_end(first, count),
+        there,
+    )
 }
 
-/// Adds the faults of the sections that have indirect symbols.
-pub fn indirect_section_faults<A: Allocator>(
-    faults: &mut Vec<LayoutFault, A>,
-    layout: &Layout<'_, '_>,
-) -> Result<()>
-    ensures told { OnOk result (faults.new.items ≡ faults.old.items ++ defined.indirect_section_faults (laid_of layout.now)) }
-    ensures only { IsOkUnlessMemory result }
-{
-    let Some(table) = last_wanted::<PlacedDysymtab>(layout.commands) else {
-        return Ok(());
-    };
-    'sections: for section in layout.sections() {
-        if let Some(fault) = indirect_section(layout, &table, &section) {
-            faults.push(fault)?;
+// The indirect symbols of an image with so many symbols, by their numbers, and the sections that have some.
+#[derive(Clone, Copy)]
+struct Indirect<'a> {
+    bytes: &'a [u8],
+    ctx: Ctx,
+    table: PlacedDysymtab,
+    nsyms: u32,
+}
+
+impl Judges<u32> for Indirect<'_> {
+    ghost use Rattle.mach_rules.specs.SymbolViews.{indirect_owner, indirect_judged};
+
+    ghost owner = { indirect_owner };
+
+    ghost sees = { indirect_judged };
+
+    fn owner(&self, _rule: Rule, k: &u32) -> Owner {
+        owner_at(Part::IndirectSymbols, self.table.place, u64::from(*k))
+    }
+
+    fn see(&self, _rule: Rule, k: &u32) -> Seen {
+        let place = self.table.command.indirectsymoff as usize + *k as usize * 4;
+        match read_u32(self.bytes, place, self.ctx.le) {
+            Ok(entry) => {
+                let holds = entry & INDIRECT_SYMBOL_LOCAL_OR_ABS != 0 || entry < self.nsyms;
+                measured(holds, u64::from(entry), u64::from(self.nsyms))
+            }
+            Err(_) => sound(),
         }
     }
+}
+
+impl Judges<PlacedSection> for Indirect<'_> {
+    ghost use Rattle.mach_rules.specs.Sections.{section_owner};
+    ghost use Rattle.mach_rules.specs.SymbolViews.{indirect_sections_judged};
+
+    ghost owner = { λ judge rule. section_owner };
+
+    ghost sees = { indirect_sections_judged };
+
+    fn owner(&self, _rule: Rule, section: &PlacedSection) -> Owner {
+        section_owner(section)
+    }
+
+    fn see(&self, _rule: Rule, section: &PlacedSection) -> Seen {
+        section_seen(self.ctx.container, &self.table, section)
+    }
+}
+
+/// Adds the faults of indirect symbols, and of the sections that have some.
+pub fn indirect_faults<A: Allocator>(
+    faults: &mut Vec<LayoutFault, A>,
+    layout: &Layout<'_, '_>,
+    symbols: Option<PlacedSymtab>,
+    dynamic: Option<PlacedDysymtab>,
+) -> Result<()>
+    ensures told { OnOk result (faults.new.items ≡ faults.old.items ++ defined.indirect_faults (laid_of layout.now) symbols dynamic) }
+    ensures only { IsOkUnlessMemory result }
+{
+    let Some(table) = dynamic else {
+        return Ok(());
+    };
+    let judge = Indirect {
+        bytes: layout.bytes,
+        ctx: layout.ctx,
+        table,
+        nsyms: symbol_count(symbols),
+    };
+    let numbers = Numbers::of(indirect_count(layout, &table));
+    tell_over(faults, &judge, &[Rule::IndirectSymbol], &numbers)?;
+    tell_over(faults, &judge, &[Rule::IndirectSection], &layout.sections())?;
     Ok(())
 }

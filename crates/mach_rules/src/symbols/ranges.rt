@@ -5,9 +5,9 @@ ghost use Rattle.mach_base.specs.Answer.{IsOkUnlessMemory};
 ghost use Rattle.mach_rules.specs.Laid.{laid_of};
 ghost use Rattle.mach_rules.specs.Symbols as defined;
 
-use crate::asked::last_wanted;
 use crate::fault::{LayoutFault, Part, Rule};
 use crate::layout::Layout;
+use crate::rules::{add, measured, owner_at, told};
 use crate::symbols::indirect::{is_range_out, ranges_of};
 use crate::symbols::{
     PlacedDysymtab, PlacedSymtab, SymbolRange, fault_at, is_stab, symbol_in, symbols_there,
@@ -52,12 +52,9 @@ fn symbol_kind(
     ensures { result ≡ defined.if_there (defined.symbol_in layout.now.ctx layout.now.bytes.now table.now k) (defined.symbol_kind table.now number k) }
 {
     let symbol = symbol_in(layout.bytes, layout.ctx, table, k)?;
-    if is_of_range(number, &symbol) {
-        return None;
-    }
-    let (rule, part) = (Rule::SymbolRangeKind, Part::Symbols);
-    let found = symbol.n_type as u64;
-    Some(fault_at(rule, part, table.place, u64::from(k), found, 0))
+    let owner = owner_at(Part::Symbols, table.place, u64::from(k));
+    let seen = measured(is_of_range(number, &symbol), symbol.n_type as u64, 0);
+    told(Rule::SymbolRangeKind, owner, seen)
 }
 
 // The fault of the first symbol of a range that isn't of it.
@@ -82,14 +79,13 @@ fn range_kind(
 pub fn symbol_kind_faults<A: Allocator>(
     faults: &mut Vec<LayoutFault, A>,
     layout: &Layout<'_, '_>,
+    table: Option<PlacedSymtab>,
+    dynamic: Option<PlacedDysymtab>,
 ) -> Result<()>
-    ensures told { OnOk result (faults.new.items ≡ faults.old.items ++ defined.symbol_kind_faults (laid_of layout.now)) }
+    ensures told { OnOk result (faults.new.items ≡ faults.old.items ++ defined.symbol_kind_faults (laid_of layout.now) table dynamic) }
     ensures only { IsOkUnlessMemory result }
 {
-    let Some(symbols) = last_wanted::<PlacedSymtab>(layout.commands) else {
-        return Ok(());
-    };
-    let Some(table) = last_wanted::<PlacedDysymtab>(layout.commands) else {
+    let (Some(symbols), Some(table)) = (table, dynamic) else {
         return Ok(());
     };
     let ranges = ranges_of(&table.command);
@@ -148,19 +144,15 @@ fn range_order(nsyms: u32, table: &PlacedDysymtab) -> Option<LayoutFault>
 /// Adds the fault of the order of the ranges of symbols.
 pub fn symbol_order_faults<A: Allocator>(
     faults: &mut Vec<LayoutFault, A>,
-    layout: &Layout<'_, '_>,
+    table: Option<PlacedSymtab>,
+    dynamic: Option<PlacedDysymtab>,
 ) -> Result<()>
-    ensures told { OnOk result (faults.new.items ≡ faults.old.items ++ defined.symbol_order_faults (laid_of layout.now)) }
+    ensures told { OnOk result (faults.new.items ≡ faults.old.items ++ defined.symbol_order_faults table dynamic) }
     ensures only { IsOkUnlessMemory result }
 {
-    let Some(symbols) = last_wanted::<PlacedSymtab>(layout.commands) else {
+    let (Some(symbols), Some(table)) = (table, dynamic) else {
         return Ok(());
     };
-    let Some(table) = last_wanted::<PlacedDysymtab>(layout.commands) else {
-        return Ok(());
-    };
-    if let Some(fault) = range_order(symbols.command.nsyms, &table) {
-        faults.push(fault)?;
-    }
+    add(faults, range_order(symbols.command.nsyms, &table))?;
     Ok(())
 }

@@ -1,6 +1,6 @@
 use Rattle.std.proofs.Common.{◌++◌, ap, ◌∙◌}
 use Rattle.mach_rules.specs.Laid.{laid_of}
-use Rattle.mach_rules.specs.Ranges.{header_faults, linkedit_faults}
+use Rattle.mach_rules.specs.Ranges.{claim_faults}
 use Rattle.mach_rules.specs.Segments.{encrypted_faults}
 use Rattle.mach_rules.proofs.faults.add_sections.Goals as goal
 
@@ -16,9 +16,8 @@ returns-clause-told g c =
       claims_shared = claims.1;
       joined =
           c.in_ok-encrypted_faults.ensures.told
-          ∙ ap (λ fs. fs ++ encrypted_faults laid) (c.in_ok-linkedit_faults.ensures.told
-          ∙ ap (λ fs. fs ++ linkedit_faults laid) (c.in_ok-header_faults.ensures.told
-          ∙ ap (λ fs. fs ++ header_faults laid) (claims.2
+          ∙ ap (λ fs. fs ++ encrypted_faults laid) (c.in_ok-tell_claims.ensures.told
+          ∙ ap (λ fs. fs ++ claim_faults laid) (claims.2
           ∙ ap (λ fs. fs ++ claims.0) (sections.2
-          ∙ ap (λ fs. fs ++ sections.0) c.in_ok-section_faults.ensures.told))));
+          ∙ ap (λ fs. fs ++ sections.0) c.in_ok-section_faults.ensures.told)));
     }

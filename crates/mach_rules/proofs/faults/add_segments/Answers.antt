@@ -1,7 +1,8 @@
 use Rattle.std.proofs.Common.{◌++◌, ap, ◌∙◌}
+use Rattle.mach_rules.specs.Header.{segment_order_faults}
 use Rattle.mach_rules.specs.Laid.{laid_of}
 use Rattle.mach_rules.specs.Ranges.{out_of_file_faults}
-use Rattle.mach_rules.specs.Segments.{segment_faults, segment_order_faults}
+use Rattle.mach_rules.specs.Segments.{segment_faults}
 use Rattle.mach_rules.proofs.faults.add_segments.Goals as goal
 
 pub returns-clause-told : goal.returns-clause-told
@@ -15,10 +16,10 @@ returns-clause-told g c =
       memory_shared = memory.1;
       files_shared = files.1;
       joined =
-          c.in_ok-segment_order_faults.ensures.told
+          c.in_ok-tell_header.ensures.told
           ∙ ap (λ fs. fs ++ segment_order_faults laid) (files.2
           ∙ ap (λ fs. fs ++ files.0) (memory.2
           ∙ ap (λ fs. fs ++ memory.0) (c.in_ok-segment_faults.ensures.told
-          ∙ ap (λ fs. fs ++ segment_faults laid) (c.in_ok-out_of_file_faults.ensures.told
+          ∙ ap (λ fs. fs ++ segment_faults laid) (c.in_ok-tell_claims.ensures.told
           ∙ ap (λ fs. fs ++ out_of_file_faults laid) c.in_ok-command_faults.ensures.told))));
     }

@@ -1,7 +1,7 @@
 use Rattle.std.proofs.Common.{◌++◌, ap, ◌∙◌}
+use Rattle.mach_rules.specs.Commands.{text_faults}
 use Rattle.mach_rules.specs.Entry.{entry_faults}
 use Rattle.mach_rules.specs.Laid.{laid_of}
-use Rattle.mach_rules.specs.Libraries.{text_faults}
 use Rattle.mach_rules.proofs.faults.add_symbols.Goals as goal
 
 pub returns-clause-told : goal.returns-clause-told

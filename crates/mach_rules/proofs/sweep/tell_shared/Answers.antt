@@ -9,6 +9,6 @@ loop-range-preserved g c =
     record {
       furthest_is = furthest_here sorted k _ c.loop-range.furthest c.further.result c.loop-range-test.true c.loop-range.invariant.furthest_is c.further.ensures;
       told =
-          rw (c.in_ok-tell.ensures.told, c.shared.ensures, c.loop-range.invariant.furthest_is)
+          rw (c.in_ok-add.ensures.told, c.shared.ensures, c.loop-range.invariant.furthest_is)
           (told_next c.args.rule c.loop-range.faults.items sorted k _ c.loop-range-test.true ∙ c.loop-range.invariant.told);
     }
