@@ -1,4 +1,3 @@
 mod Written
 mod Limit
 mod Facts
-mod Showing

@@ -2,5 +2,4 @@ pub mod Parts
 pub mod Rows
 pub mod Lines
 pub mod OpcodeBindings
-pub mod Shown
-pub mod Held
+pub mod ImageLines

@@ -19,80 +19,54 @@ mod parts;
 mod print;
 mod row;
 mod run;
-mod show;
-mod subject;
 #[cfg(test)]
 mod tests;
 mod text;
 
+use mach_show::Program;
 use print::DEFAULT_LIMIT;
-use run::{run, say};
-use std::io::{BufWriter, ErrorKind};
+use run::{NAME, run};
+use std::io;
+use std::io::BufWriter;
 use std::process::ExitCode;
-use std::{env, fs, io};
 
-const USAGE: &str = "usage: machfixups [--limit N] FILE\n       machfixups --help | --version\n";
-
-const VERSION: &str = "machfixups 0.1.0\n";
+const PROGRAM: Program = Program {
+    name: NAME,
+    usage: "usage: machfixups [--limit N] FILE\n       machfixups --help | --version\n",
+    version: "machfixups 0.1.0\n",
+};
 
 fn main(rt: HostRuntime) -> ExitCode {
-    let status = match env::args(&rt) {
-        Ok(args) => match args.collect::<Vec<String>>(rt.alloc()) {
-            Ok(args) => start(&rt, args.as_slice()),
-            Err(_) => out_of_memory(&rt),
-        },
-        Err(error) if error.kind() == ErrorKind::OutOfMemory => out_of_memory(&rt),
-        Err(_) => bad_usage(&rt),
-    };
-    ExitCode::from(status)
+    ExitCode::from(match start(&rt) {
+        Ok(status) | Err(status) => status,
+    })
 }
 
-// Does what the arguments ask for; the first is the program's name.
-fn start(rt: &HostRuntime, args: &[String]) -> u8 {
-    match args {
-        [_, word] if word.as_str() == "--help" => {
-            say(USAGE, &mut io::writer(rt), &mut rt.stderr())
-        }
-        [_, word] if word.as_str() == "--version" => {
-            say(VERSION, &mut io::writer(rt), &mut rt.stderr())
-        }
-        [_, flag] if flag.as_str() == "--limit" => bad_usage(rt),
+// Does what the words ask for.
+fn start(rt: &HostRuntime) -> Result<u8, u8> {
+    let words = PROGRAM.words(rt)?;
+    match words.as_slice() {
+        [_, flag] if flag.as_str() == "--limit" => Err(PROGRAM.bad_usage(rt)),
         [_, file] => show_file(rt, DEFAULT_LIMIT, file),
         [_, flag, number, file] if flag.as_str() == "--limit" => match number.parse::<usize>() {
             Ok(limit) => show_file(rt, limit, file),
-            Err(_) => bad_usage(rt),
+            Err(_) => Err(PROGRAM.bad_usage(rt)),
         },
-        _ => bad_usage(rt),
+        _ => Err(PROGRAM.bad_usage(rt)),
     }
 }
 
-fn show_file(rt: &HostRuntime, limit: usize, file: &str) -> u8 {
-    let bytes = match fs::read(rt, file) {
-        Ok(bytes) => bytes,
-        Err(error) if error.kind() == ErrorKind::OutOfMemory => return out_of_memory(rt),
-        Err(_) => {
-            let _ = rt.eprintln(format_args!("machfixups: cannot read {file}"));
-            return 2;
-        }
-    };
+// Shows a file, of each image so many lines at most.
+fn show_file(rt: &HostRuntime, limit: usize, file: &str) -> Result<u8, u8> {
+    let bytes = PROGRAM.read(rt, file)?;
     let Ok(mut lines) = BufWriter::new(rt.alloc(), io::writer(rt)) else {
-        return out_of_memory(rt);
+        return Err(PROGRAM.out_of_memory(rt));
     };
-    run(
+    Ok(run(
         rt.alloc(),
         limit,
         bytes.as_slice(),
         &mut lines,
         &mut rt.stderr(),
-    )
-}
-
-fn bad_usage(rt: &impl Eprint) -> u8 {
-    let _ = rt.eprint(USAGE);
-    2
-}
-
-fn out_of_memory(rt: &impl Eprint) -> u8 {
-    let _ = rt.eprintln("machfixups: out of memory");
-    1
+    ))
 }

@@ -1,5 +1,4 @@
 pub mod Letters
 pub mod Stabs
 pub mod Lines
-pub mod Shown
-pub mod Held
+pub mod ImageLines

@@ -1,0 +1,50 @@
+use Rattle.std.proofs.Common.{◌≡◌, ◌++◌, ◌∙◌, ℕ, false, refl, sym, ap, subst, arith}
+use Rattle.std.proofs.lemmas.Result.{IfOk-weaker}
+use Rattle.std.specs.Prelude.{◌&&◌, codes}
+use Rattle.mach_base.proofs.Written.{Appends-none, Appends-both}
+use Rattle.goblin_mach.specs.FatFile.{file_held}
+use Rattle.mach_show.specs.Shown.{both, complaint, nothing, none, ShowsEntries, first_entries, all_entries, cut_short}
+use Rattle.mach_show.proofs.Showing.{Appends-nothing, one_more}
+use Rattle.mach_show.proofs.show.show_entries.Goals as goal
+
+pub entries-init : goal.entries-init
+entries-init g c = (nothing, none, refl, record { text = Appends-none _; said = Appends-none _ })
+
+pub entries-preserved : goal.entries-preserved
+entries-preserved g c =
+    let file = file_held c.args.container.now in
+    let before = c.entries.invariant in
+    let last = c.in-Ok.ensures.shown in (
+      both before.0 last.0,
+      one_more g.S.Shows.name (g.S.Shows.lines c.args.shows.now) file c.entries.index before.0 last.0 before.1 last.1,
+      ap (λ first. first && last.0.whole) before.2 ∙ ap (λ second. c.entries.whole && second) last.2,
+      record {
+        text = Appends-both _ _ _ before.0.text last.0.text before.3.text last.3.text;
+        said = Appends-both _ _ _ before.0.said last.0.said before.3.said last.3.said;
+      },
+    )
+
+pub returns-in-Err-Memory : goal.returns-in-Err-Memory
+returns-in-Err-Memory g c =
+    let before = c.entries.invariant in
+    let reason = complaint g.S.Shows.name (codes "out of memory") in
+    let kept = rw (c.in-Err-Memory.is, c.in-Err-Memory.field-0-is) at c.show_entry.ensures.memory in
+    IfOk-weaker c.refuse_file.result _ _
+    (λ whole told. (
+      record { text = before.0.text; said = before.0.said ++ reason; whole = false },
+      cut_short c.entries.index before.0 c.entries-test.true before.1,
+      sym told.0,
+      record {
+        text = Appends-nothing _ _ _ before.0.text before.3.text kept.text;
+        said = Appends-both _ _ _ before.0.said reason (Appends-nothing _ _ _ before.0.said before.3.said kept.said) told.1;
+      },
+    ))
+    c.refuse_file.ensures
+
+pub returns : goal.returns
+returns g c =
+    let file = file_held c.args.container.now in
+    let before = c.entries.invariant in
+    let all : c.entries.index ≡ file.narches = omega (arith, c.entries-test.false, c.entries.auto.index-end) in
+    let shown = λ (n : ℕ). ShowsEntries g.S.Shows.name (g.S.Shows.lines c.args.shows.now) (first_entries file n) before.0 in
+    (before.0, all_entries before.0 (subst shown all before.1), before.2, before.3)

@@ -1,0 +1,28 @@
+use Rattle.std.proofs.Common.{[], false, refl, sym}
+use Rattle.std.proofs.lemmas.Result.{IfOk-weaker}
+use Rattle.std.specs.Prelude.{alloc_error, codes}
+use Rattle.mach_base.proofs.Written.{Appends-none}
+use Rattle.mach_base.specs.declared.error.Error.TheVariants as errors
+use Rattle.mach_show.specs.Shown.{complaint, one_image, refused_file}
+use Rattle.mach_show.proofs.show.show_image.Goals as goal
+
+pub returns-in-Ok : goal.returns-in-Ok
+returns-in-Ok g c = λ bytes opened.
+    let told = c.in-Ok.ensures.shown bytes opened in (
+      record { text = told.0; said = []; whole = c.in-Ok.whole },
+      one_image told.0 c.in-Ok.whole told.1,
+      refl,
+      record { text = told.2; said = Appends-none _ },
+    )
+
+pub returns-in-Err-Memory : goal.returns-in-Err-Memory
+returns-in-Err-Memory g c = λ bytes opened.
+    let kept = rw (c.in-Err-Memory.is, c.in-Err-Memory.field-0-is) at c.show.ensures.memory in
+    IfOk-weaker c.refuse_file.result _ _
+    (λ whole told. (
+      record { text = []; said = complaint g.S.Shows.name (codes "out of memory"); whole = false },
+      refused_file (errors.Memory alloc_error) tt,
+      sym told.0,
+      record { text = kept; said = told.1 },
+    ))
+    c.refuse_file.ensures

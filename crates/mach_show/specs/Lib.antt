@@ -1,0 +1,4 @@
+pub mod Failures
+pub mod Headings
+pub mod Held
+pub mod Shown

@@ -1,0 +1,159 @@
+//! What is written of a file, on the output and on the error output.
+
+ghost use Rattle.std.specs.Prelude.{◌≡◌, ◌++◌, ℕ, List, codes, false, IfOk, IfErr, OnOk};
+ghost use Rattle.std.specs.Io.KnownBytes.{Appends};
+ghost use Rattle.mach_base.specs.Answer.{Stands};
+ghost use Rattle.mach_base.specs.Words.{words_of};
+ghost use Rattle.mach_image.specs.OpenImage.{IsImage};
+ghost use Rattle.goblin_mach.specs.FatEntry.{entry_at};
+ghost use Rattle.goblin_mach.specs.FatFile.{file_held};
+ghost use Rattle.goblin_mach.specs.View.{ViewFault, IsTold};
+ghost use Rattle.mach_show.specs.Failures.{IfMemory};
+ghost use Rattle.mach_show.specs.Headings.{arch_line};
+ghost use Rattle.mach_show.specs.Held.{IsSubject};
+ghost use Rattle.mach_show.specs.Shown.{Shown, ShowsEntry, ShowsFat, ShowsFile, Writes, complaint, entry_complaint, nothing};
+
+use crate::failure::Failure;
+use crate::heading::Heading;
+use crate::shows::Shows;
+use goblin_mach::{Error, Mach, MachO, MultiArch, Result, SingleArch, describe};
+use std::alloc::{AllocError, Allocator};
+use std::io;
+use std::io::Write;
+
+/// Shows a file, and answers whether nothing was refused and each image is whole.
+pub fn show<S: Shows, A: Allocator + Clone, O: Write, E: Write>(
+    shows: &S,
+    alloc: &A,
+    bytes: &[u8],
+    out: &mut O,
+    err: &mut E,
+) -> io::Result<bool>
+    ensures { IfOk result (λ whole. (shown : Shown) × ShowsFile S.name (S.lines shows.now) bytes.now shown × (shown.whole ≡ whole)
+        × Writes shown (O.contents out.old) (O.contents out.new) (E.contents err.old) (E.contents err.new)) }
+{
+    match open(alloc, bytes) {
+        Ok(Mach::Binary(image)) => show_image(shows, alloc, &image, out, err),
+        Ok(Mach::Fat(container)) => show_entries(shows, alloc, &container, out, err),
+        Err(error) => refuse_file(shows, &error, err),
+    }
+}
+
+// Opens a file, a fat one with its table.
+fn open<'a, A: Allocator + Clone>(alloc: &A, bytes: &'a [u8]) -> Result<Mach<'a, A>>
+    ensures held { IfOk result (IsSubject bytes.now) }
+    ensures refused { IfErr result (Stands (ViewFault bytes.now)) }
+{
+    let file = Mach::parse(alloc.clone()?, bytes)?;
+    if let Mach::Fat(container) = &file {
+        container.arches()?;
+    }
+    Ok(file)
+}
+
+// Shows the one image of a file.
+fn show_image<S: Shows, A: Allocator + Clone, O: Write, E: Write>(
+    shows: &S,
+    alloc: &A,
+    image: &MachO<'_, A>,
+    out: &mut O,
+    err: &mut E,
+) -> io::Result<bool>
+    ensures { (bytes : List ℕ) → IsImage bytes 0 image.now
+        → IfOk result (λ whole. (shown : Shown) × ShowsFile S.name (S.lines shows.now) bytes shown × (shown.whole ≡ whole)
+        × Writes shown (O.contents out.old) (O.contents out.new) (E.contents err.old) (E.contents err.new)) }
+{
+    match shows.show(alloc, image, Heading::None, out) {
+        Ok(whole) => Ok(whole),
+        Err(Failure::Memory) => refuse_file(shows, &Error::Memory(AllocError), err),
+        Err(Failure::Unwritten(error)) => Err(error),
+    }
+}
+
+// Shows the entries of a fat file, up to one for which memory is refused, and answers whether all of them are whole.
+fn show_entries<S: Shows, A: Allocator + Clone, O: Write, E: Write>(
+    shows: &S,
+    alloc: &A,
+    container: &MultiArch<'_, A>,
+    out: &mut O,
+    err: &mut E,
+) -> io::Result<bool>
+    ensures { IfOk result (λ whole. (shown : Shown) × ShowsFat S.name (S.lines shows.now) (file_held container.now) shown × (shown.whole ≡ whole)
+        × Writes shown (O.contents out.old) (O.contents out.new) (E.contents err.old) (E.contents err.new)) }
+{
+    let mut whole = true;
+    'entries: for index in 0..container.narches {
+        match show_entry(shows, alloc, container, index, out, err) {
+            Ok(shown) => whole &= shown,
+            Err(Failure::Memory) => return refuse_file(shows, &Error::Memory(AllocError), err),
+            Err(Failure::Unwritten(error)) => return Err(error),
+        }
+    }
+    Ok(whole)
+}
+
+// Shows an entry under its line, and answers whether it is whole.
+fn show_entry<S: Shows, A: Allocator + Clone, O: Write, E: Write>(
+    shows: &S,
+    alloc: &A,
+    container: &MultiArch<'_, A>,
+    index: usize,
+    out: &mut O,
+    err: &mut E,
+) -> std::result::Result<bool, Failure>
+    ensures shown { IfOk result (λ whole. (shown : Shown)
+        × ShowsEntry S.name (S.lines shows.now) index (entry_at (file_held container.now) index) shown × (shown.whole ≡ whole)
+        × Writes shown (O.contents out.old) (O.contents out.new) (E.contents err.old) (E.contents err.new)) }
+    ensures memory { IfErr result (IfMemory (Writes nothing (O.contents out.old) (O.contents out.new) (E.contents err.old) (E.contents err.new))) }
+{
+    match container.get(index) {
+        Ok(SingleArch::MachO(image)) => shows.show(alloc, &image, Heading::Arch(index), out),
+        Ok(SingleArch::Archive(_)) => {
+            writeln!(out, "arch {index}")?;
+            writeln!(out, "archive")?;
+            Ok(true)
+        }
+        Err(error) => {
+            let error = told(error)?;
+            refuse_entry(shows, index, &error, out, err)?;
+            Ok(false)
+        }
+    }
+}
+
+// An error that tells of a fault; want of memory is answered as such.
+fn told(error: Error) -> std::result::Result<Error, AllocError>
+    ensures { IfOk result (λ e. (e ≡ error) × IsTold e) }
+{
+    match error {
+        Error::Memory(refused) => Err(refused),
+        other => Ok(other),
+    }
+}
+
+// Says why an entry is refused, under its line and on the error output.
+fn refuse_entry<S: Shows, O: Write, E: Write>(
+    shows: &S,
+    index: usize,
+    error: &Error,
+    out: &mut O,
+    err: &mut E,
+) -> io::Result<()>
+    ensures text { OnOk result (Appends (O.contents out.old) (O.contents out.new)
+        (arch_line index ++ (codes "refused: " ++ words_of error.now ++ codes "\n"))) }
+    ensures said { OnOk result (Appends (E.contents err.old) (E.contents err.new) (entry_complaint S.name index (words_of error.now))) }
+{
+    let (name, words) = (shows.name(), describe(error));
+    writeln!(out, "arch {index}")?;
+    writeln!(out, "refused: {words}")?;
+    writeln!(err, "{name}: arch {index}: {words}")
+}
+
+// Says why a file is refused, or what comes behind in it; so it is not whole.
+fn refuse_file<S: Shows, E: Write>(shows: &S, error: &Error, err: &mut E) -> io::Result<bool>
+    ensures { IfOk result (λ whole. (whole ≡ false) × Appends (E.contents err.old) (E.contents err.new) (complaint S.name (words_of error.now))) }
+{
+    let (name, words) = (shows.name(), describe(error));
+    writeln!(err, "{name}: {words}")?;
+    Ok(false)
+}

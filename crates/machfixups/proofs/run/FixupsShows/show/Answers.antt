@@ -1,0 +1,31 @@
+use Rattle.std.proofs.Common.{◌∙◌, List, ap, subst}
+use Rattle.mach_base.proofs.Written.{Appends-both}
+use Rattle.mach_image.specs.OpenImage.{commands_held}
+use Rattle.machfixups.specs.Lines.{AreLinesTo}
+use Rattle.machfixups.specs.Parts.{Part, parts_seen}
+use Rattle.machfixups.specs.Rows.{rows_of, table_of}
+use Rattle.machfixups.proofs.run.FixupsShows.show.Goals as goal
+
+pub returns-clause-shown : goal.returns-clause-shown
+returns-clause-shown g c = λ bytes opened.
+    let limit = c.args.self.now.limit in
+    let whole = c.in_ok-print_fixups.field-0 in
+    let known = c.in_ok-parts.ensures bytes 0 opened in
+    let listed = c.in_ok-print_fixups.ensures bytes 0 opened in
+    let lines = listed.6 in
+    let over = λ (parts : List Part). AreLinesTo limit (rows_of parts (table_of listed.2) listed.0 listed.4) lines.text whole in (
+      lines.text,
+      record {
+        opens = (opened.ctx, commands_held c.args.image.now, opened.opens);
+        segments = known.0;
+        has_segments = known.1;
+        bindings = listed.0;
+        has_bindings = listed.1;
+        chained = listed.2;
+        has_chained = listed.3;
+        fixups = listed.4;
+        has_fixups = listed.5;
+        lines = subst over (ap parts_seen c.deref.ensures.value ∙ known.2) lines.lines;
+      },
+      Appends-both _ _ _ _ lines.text c.in_ok-write.ensures.bytes lines.written,
+    )

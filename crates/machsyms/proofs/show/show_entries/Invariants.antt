@@ -1,9 +1,0 @@
-use Rattle.std.proofs.Common.{◌≡◌}
-use Rattle.goblin_mach.specs.FatFile.{file_held}
-use Rattle.machsyms.specs.Shown.{Shown, ShowsEntries, Writes, first_entries}
-use Rattle.machsyms.proofs.show.show_entries.Given as goal
-
-abbrev pub invariant-entries : goal.invariant-entries
-invariant-entries g l =
-    (shown : Shown) × ShowsEntries (first_entries (file_held l.container) l.index) shown × (shown.whole ≡ l.whole)
-    × Writes shown (g.O.Write.contents l.fn.out) (g.O.Write.contents l.out) (g.E.Write.contents l.fn.err) (g.E.Write.contents l.err)
