@@ -67,7 +67,7 @@ pub refused_told : {A : Type 0} (limit : ℕ) (bytes : List ℕ) (e : Error) (r 
     → Stands (MachFault ImageFault bytes) e → TellsLossily limit bytes r → IsImageReport limit bytes r
 refused_told limit bytes e (images.Opens parts) is told stands tells = absurd tells
 refused_told limit bytes e (images.OpensLossily x parts) is told stands tells = let same = same_some is in rw same (told, stands, tells)
-refused_told limit bytes e (images.Refused x) is told stands tells = let same = same_some is in rw same (told, stands)
+refused_told limit bytes e (images.Refused x) is told stands tells = let same = same_some is in rw same (told, stands, tells)
 
 pub entry_refused : {A : Type 0} (limit : ℕ) (bytes : List ℕ) (entry : Result FatEntry Fault) (e : Error) (r : ImageReport A) → reason_of r ≡ Some e → IsTold e
     → (EntryOpens entry → Stands (λ _. ⊥) e) → TellsLossily limit bytes r → IsEntryReport limit entry (entries.Image r)

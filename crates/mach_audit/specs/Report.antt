@@ -13,11 +13,11 @@ use Rattle.mach_segments.specs.Segment.{SegmentView}
 use Rattle.mach_symbols.specs.declared.symbols.nlist.Nlist.{Nlist}
 use Rattle.mach_layout.specs.Facts.{HasLayoutFaults}
 use Rattle.mach_image.specs.Facts.{OfImage, HasSegments, HasSymbols, HasImportItems, HasFixups, HasBindings}
-use Rattle.mach_image.specs.Image.{ImageFault}
+use Rattle.mach_image.specs.Image.{ImageFault, LossyOpens}
 use Rattle.mach_image.specs.Subjects.{lossy_segments_in, libs_in, trie_in, trie_or_empty}
 use Rattle.goblin_mach.specs.FatEntry.{FatEntry, archive, image, entry_at, EntryOpens}
 use Rattle.goblin_mach.specs.FatFile.{FatFile, fat_file_in, arches_in}
-use Rattle.goblin_mach.specs.File.{HasFatMagic, MachFault}
+use Rattle.goblin_mach.specs.File.{HasFatMagic, MachFault, MachOpens}
 use Rattle.goblin_mach.specs.View.{IsTold}
 use Rattle.mach_audit.specs.Told.{TellsOf, TellsOfTrie, TellsRelocations, faults_from, section_faults, relocation_faults}
 use Rattle.mach_audit.specs.Verdicts.{is_clean}
@@ -43,11 +43,12 @@ pub record TellsImage {A : Type 0} (limit : ℕ) (bytes : List ℕ) (p : Parts A
   pub bindings : (items : List (Result Binding Fault)) × HasBindings bytes 0 items × TellsOf limit (faults_from places.Binding 0 items) p.bindings
   pub layout : HasLayoutFaults bytes p.layout.items
 
--- What is told of some bytes as an image: of what opens, its parts; of what doesn't open strictly, a fault that stands.
+-- What is told of some bytes as an image: of what opens, its parts; of what doesn't open strictly, a fault that stands; and that lossy mode opens it,
+-- exactly where it does.
 abbrev pub IsImageReport : {A : Type 0} → ℕ → List ℕ → ImageReport A → Type 0
 IsImageReport limit bytes (images.Opens parts) = TellsImage limit bytes parts
 IsImageReport limit bytes (images.OpensLossily e parts) = IsTold e × Stands (MachFault ImageFault bytes) e × TellsImage limit bytes parts
-IsImageReport limit bytes (images.Refused e) = IsTold e × Stands (MachFault ImageFault bytes) e
+IsImageReport limit bytes (images.Refused e) = IsTold e × Stands (MachFault ImageFault bytes) e × (MachOpens LossyOpens bytes → HasFatMagic bytes)
 
 -- why some bytes don't open strictly as an image, if they don't
 abbrev pub reason_of : {A : Type 0} → ImageReport A → Option Error
@@ -55,11 +56,11 @@ reason_of (images.Opens parts) = None
 reason_of (images.OpensLossily e parts) = Some e
 reason_of (images.Refused e) = Some e
 
--- what is told in lossy mode of some bytes
+-- what is told of some bytes by lossy mode: where they open as an image, its parts
 abbrev pub TellsLossily : {A : Type 0} → ℕ → List ℕ → ImageReport A → Type 0
 TellsLossily limit bytes (images.Opens parts) = ⊥
 TellsLossily limit bytes (images.OpensLossily e parts) = TellsImage limit bytes parts
-TellsLossily limit bytes (images.Refused e) = Unit {0}
+TellsLossily limit bytes (images.Refused e) = MachOpens LossyOpens bytes → HasFatMagic bytes
 
 -- What is told of an entry of a fat file: that it is an archive; of an image that opens strictly its parts; and that an entry doesn't open.
 abbrev pub IsEntryReport : {A : Type 0} → ℕ → Result FatEntry Fault → EntryReport A → Type 0

@@ -1,6 +1,6 @@
 //! What is wrong with a file, image by image and part by part.
 
-ghost use Rattle.std.specs.Prelude.{◌≡◌, ◌<◌, ℕ, List, [], map, Result, Option, Some, IfOk};
+ghost use Rattle.std.specs.Prelude.{◌≡◌, ◌<◌, ℕ, List, [], map, Result, Option, Some, IfOk, IfErr};
 ghost use Rattle.mach_base.specs.Answer.{Stands};
 ghost use Rattle.mach_base.specs.Fault.{Fault};
 ghost use Rattle.mach_segments.specs.Segment.{segment_view};
@@ -16,7 +16,7 @@ ghost use Rattle.mach_audit.specs.Report.{IsReport, IsEntryReport, IsFatReport, 
 ghost use Rattle.mach_audit.specs.Sound.{IsSound, IsSoundEntry, IsSoundFat, IsSoundImage, IsLong, IsLongEntry, IsLongFat, HasLongList};
 ghost use Rattle.mach_audit.specs.Told.{TellsRelocations, relocation_faults};
 ghost use Rattle.mach_audit.specs.Verdicts.{Judges, is_clean, verdict_of_parts, verdict_of_image, verdict_of_entry, verdict_of_fat, verdict_of_report};
-ghost use Rattle.mach_audit.specs.declared.verdict.Verdict.TheVariants as verdicts;
+ghost use Rattle.mach_audit.specs.declared.report.Failure.TheVariants as failures;
 
 use crate::lists::{
     audit_bindings, audit_exports, audit_fixups, audit_imports, audit_relocations, audit_sections,
@@ -37,7 +37,8 @@ fn audit_relocated<A: Allocator + Clone>(
     sections: &Part<A>,
     limit: usize,
 ) -> Result<Option<Part<A>>, Failure>
-    ensures { IfOk result (TellsRelocations limit (relocation_faults ctx bytes.now (map segment_view segments.now)) (is_clean sections.now)) }
+    ensures told { IfOk result (TellsRelocations limit (relocation_faults ctx bytes.now (map segment_view segments.now)) (is_clean sections.now)) }
+    ensures memory { IfErr result (λ failure. failure ≡ failures.Memory) }
 {
     if !sections.is_clean() {
         return Ok(None);
@@ -51,7 +52,8 @@ fn audit_layout<A: Allocator, B: Allocator + Clone>(
     alloc: B,
     image: &MachO<'_, A>,
 ) -> Result<Vec<LayoutFault, B>, Failure>
-    ensures { IfOk result (λ v. AreLayoutFaults (laid_held image.now) (AreBindFaults image.now) v.items) }
+    ensures told { IfOk result (λ v. AreLayoutFaults (laid_held image.now) (AreBindFaults image.now) v.items) }
+    ensures memory { IfErr result (λ failure. failure ≡ failures.Memory) }
 {
     match layout_faults(alloc, image) {
         Ok(faults) => Ok(faults),
@@ -64,7 +66,8 @@ fn audit_container<A: Allocator + Clone>(
     alloc: A,
     bytes: &[u8],
 ) -> Result<Vec<LayoutFault, A>, Failure>
-    ensures { IfOk result (λ v. AreContainerFaults bytes.now v.items) }
+    ensures told { IfOk result (λ v. AreContainerFaults bytes.now v.items) }
+    ensures memory { IfErr result (λ failure. failure ≡ failures.Memory) }
 {
     match container_faults(alloc, bytes) {
         Ok(faults) => Ok(faults),
@@ -81,6 +84,7 @@ fn audit_parts<A: Allocator, B: Allocator + Clone>(
     ensures told { (bytes : List ℕ) → IsLossyImage bytes 0 image.now → IfOk result (TellsImage limit bytes) }
     ensures judged { (bytes : List ℕ) → IsImage bytes 0 image.now
         → IfOk result (λ p. Judges (IsSoundImage bytes) (HasLongList limit bytes) (verdict_of_parts p)) }
+    ensures memory { IfErr result (λ failure. failure ≡ failures.Memory) }
 {
     let segments = image.segments.as_slice();
     let (bytes, ctx) = (image.bytes(), image.ctx());
@@ -122,6 +126,7 @@ fn audit_refused<A: Allocator + Clone>(
 ) -> Result<ImageReport<A>, Failure>
     ensures reason { IfOk result (λ r. (reason_of r ≡ Some error) × IsTold error) }
     ensures told { IfOk result (TellsLossily limit bytes.now) }
+    ensures memory { IfErr result (λ failure. failure ≡ failures.Memory) }
 {
     let error = no_memory(error)?;
     match Mach::parse_lossy(alloc.clone()?, bytes) {
@@ -146,6 +151,7 @@ fn audit_entry<A: Allocator + Clone>(
     ensures judged { IfOk result (λ r. Judges (IsSoundEntry (entry_at (file_held container.now) index))
         (IsLongEntry limit (entry_at (file_held container.now) index))
         (verdict_of_entry r)) }
+    ensures memory { IfErr result (λ failure. failure ≡ failures.Memory) }
 {
     match container.get(index) {
         Ok(SingleArch::Archive(_)) => Ok(EntryReport::Archive),
@@ -170,6 +176,7 @@ fn audit_fat<A: Allocator + Clone>(
     ensures told { IfOk result (IsFatReport limit bytes.now (file_held container.now)) }
     ensures judged { IfOk result (λ r. Judges (AreContainerFaults bytes.now [] × IsSoundFat (file_held container.now))
         (IsLongFat limit (file_held container.now)) (verdict_of_fat r)) }
+    ensures memory { IfErr result (λ failure. failure ≡ failures.Memory) }
 {
     let count = container.narches;
     let mut entries = Vec::new(alloc.clone()?);
@@ -207,6 +214,7 @@ pub fn audit<A: Allocator + Clone>(
 ) -> Result<Report<A>, Failure>
     ensures told { IfOk result (IsReport limit bytes.now) }
     ensures judged { IfOk result (λ r. Judges (IsSound bytes.now) (IsLong limit bytes.now) (verdict_of_report r)) }
+    ensures memory { IfErr result (λ failure. failure ≡ failures.Memory) }
 {
     match Mach::parse(alloc.clone()?, bytes) {
         Ok(Mach::Binary(image)) => {

@@ -1,6 +1,6 @@
 //! The files of a call, one after the other. The memory of each is given back before the next is read.
 
-ghost use Rattle.std.specs.Prelude.{◌≡◌, ◌≤◌};
+ghost use Rattle.std.specs.Prelude.{◌≡◌, ◌≤◌, IfOk};
 
 use crate::options::Options;
 use crate::report::Failure;
@@ -19,7 +19,9 @@ pub fn run_files<R: Files + AllocGlobal + Input, W: Write + Drop, B: Allocator, 
     names: &[String],
     out: &mut BufWriter<W, B>,
     err: &mut E,
-) -> u8 {
+) -> u8
+    ensures status { result ≤ 2 }
+{
     match audit_names(rt, options, names, out, err) {
         Ok(status) => status,
         Err(_) => unwritten(err),
@@ -33,7 +35,9 @@ fn audit_names<R: Files + AllocGlobal + Input, W: Write + Drop, B: Allocator, E:
     names: &[String],
     out: &mut BufWriter<W, B>,
     err: &mut E,
-) -> io::Result<u8> {
+) -> io::Result<u8>
+    ensures status { IfOk result (λ status. status ≤ 2) }
+{
     let mut worst = 0u8;
     'names: for name in names {
         let heading = names.len() > 1;
@@ -59,7 +63,9 @@ fn audit_listed<R: Files + AllocGlobal + Input, W: Write + Drop, B: Allocator, E
     options: Options,
     out: &mut BufWriter<W, B>,
     err: &mut E,
-) -> io::Result<u8> {
+) -> io::Result<u8>
+    ensures status { IfOk result (λ status. status ≤ 2) }
+{
     let Ok(reader) = BufReader::new(rt.alloc(), rt.reader()) else {
         return Ok(complain("out of memory", "-", err));
     };
@@ -85,7 +91,9 @@ pub fn audit_file<R: Files + AllocGlobal, W: Write + Drop, B: Allocator, E: Writ
     call: Call<'_>,
     out: &mut BufWriter<W, B>,
     err: &mut E,
-) -> io::Result<u8> {
+) -> io::Result<u8>
+    ensures status { IfOk result (λ status. status ≤ 2) }
+{
     let bytes = match fs::read(rt, call.name) {
         Ok(bytes) => bytes,
         Err(error) if error.kind() == io::ErrorKind::OutOfMemory => {
@@ -101,7 +109,9 @@ pub fn audit_file<R: Files + AllocGlobal, W: Write + Drop, B: Allocator, E: Writ
 }
 
 // Says why a file was not audited, and answers the exit status.
-fn complain<E: Write>(what: &str, name: &str, err: &mut E) -> u8 {
+fn complain<E: Write>(what: &str, name: &str, err: &mut E) -> u8
+    ensures { result ≡ 2 }
+{
     let _ = writeln!(err, "machaudit: {what}: {name}");
     2
 }

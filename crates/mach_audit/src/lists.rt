@@ -1,6 +1,6 @@
 //! The lists of an image, one item at a time. None is kept.
 
-ghost use Rattle.std.specs.Prelude.{◌++◌, ℕ, List, Option, IfOk, OnOk, map};
+ghost use Rattle.std.specs.Prelude.{◌++◌, ℕ, List, Option, IfOk, IfErr, OnOk, map, ◌≡◌};
 ghost use Rattle.mach_binds.specs.BindLeft.{imports_left};
 ghost use Rattle.mach_base.specs.Text.{texts};
 ghost use Rattle.mach_segments.specs.RelocationItems.{relocations_left};
@@ -13,6 +13,7 @@ ghost use Rattle.mach_image.specs.OpenImage.{trie_held};
 ghost use Rattle.mach_image.specs.Subjects.{trie_or_empty};
 ghost use Rattle.mach_audit.specs.Sound.{relocations_by};
 ghost use Rattle.mach_audit.specs.Told.{FaultAt, HasMet, TellsOf, TellsOfTrie, faults_from, section_faults, relocation_faults, relocation_faults_by};
+ghost use Rattle.mach_audit.specs.declared.report.Failure.TheVariants as failures;
 ghost use Rattle.mach_audit.specs.declared.report.Place.TheVariants as places;
 
 use crate::report::{Failure, Part, Place, no_memory};
@@ -29,7 +30,8 @@ pub fn audit_sections<A: Allocator>(
     segments: &[Segment<'_>],
     limit: usize,
 ) -> Result<Part<A>, Failure>
-    ensures { IfOk result (TellsOf limit (section_faults (map segment_view segments.now))) }
+    ensures told { IfOk result (TellsOf limit (section_faults (map segment_view segments.now))) }
+    ensures memory { IfErr result (λ failure. failure ≡ failures.Memory) }
 {
     let mut tally = Tally::new(alloc, limit);
     let mut number = 0usize;
@@ -46,8 +48,9 @@ fn add_sections<A: Allocator>(
     sections: SectionIterator<'_>,
     tally: &mut Tally<A>,
 ) -> Result<(), Failure>
-    ensures { OnOk result ((limit : ℕ) (items : List (Option FaultAt)) → HasMet limit items tally.old
+    ensures told { OnOk result ((limit : ℕ) (items : List (Option FaultAt)) → HasMet limit items tally.old
         → HasMet limit (items ++ faults_from (places.Section segment) 0 (sections_left sections.entry)) tally.new) }
+    ensures memory { IfErr result (λ failure. failure ≡ failures.Memory) }
 {
     let mut index = 0usize;
     'sections: for section in sections {
@@ -67,7 +70,8 @@ pub fn audit_relocations<A: Allocator>(
     segments: &[Segment<'_>],
     limit: usize,
 ) -> Result<Part<A>, Failure>
-    ensures { IfOk result (TellsOf limit (relocation_faults ctx bytes.now (map segment_view segments.now))) }
+    ensures told { IfOk result (TellsOf limit (relocation_faults ctx bytes.now (map segment_view segments.now))) }
+    ensures memory { IfErr result (λ failure. failure ≡ failures.Memory) }
 {
     let mut tally = Tally::new(alloc, limit);
     let mut number = 0usize;
@@ -86,8 +90,9 @@ fn add_relocations<A: Allocator>(
     sections: SectionIterator<'_>,
     tally: &mut Tally<A>,
 ) -> Result<(), Failure>
-    ensures { OnOk result ((limit : ℕ) (items : List (Option FaultAt)) → HasMet limit items tally.old
+    ensures told { OnOk result ((limit : ℕ) (items : List (Option FaultAt)) → HasMet limit items tally.old
         → HasMet limit (items ++ relocation_faults_by (relocations_by ctx bytes.now) segment (sections_left sections.entry)) tally.new) }
+    ensures memory { IfErr result (λ failure. failure ≡ failures.Memory) }
 {
     let mut section = 0usize;
     'sections: for item in sections {
@@ -105,8 +110,9 @@ fn add_relocations_by<A: Allocator>(
     item: &goblin_mach::Result<(Section, SectionData<'_>)>,
     tally: &mut Tally<A>,
 ) -> Result<(), Failure>
-    ensures { OnOk result ((limit : ℕ) (items : List (Option FaultAt)) → HasMet limit items tally.old
+    ensures told { OnOk result ((limit : ℕ) (items : List (Option FaultAt)) → HasMet limit items tally.old
         → HasMet limit (items ++ faults_from (places.Relocation numbers.0 numbers.1) 0 (relocations_by ctx bytes.now (section_read item.now))) tally.new) }
+    ensures memory { IfErr result (λ failure. failure ≡ failures.Memory) }
 {
     let Ok((section, _)) = item else {
         return Ok(());
@@ -122,8 +128,9 @@ fn add_relocations_of<A: Allocator>(
     relocations: RelocationIterator<'_>,
     tally: &mut Tally<A>,
 ) -> Result<(), Failure>
-    ensures { OnOk result ((limit : ℕ) (items : List (Option FaultAt)) → HasMet limit items tally.old
+    ensures told { OnOk result ((limit : ℕ) (items : List (Option FaultAt)) → HasMet limit items tally.old
         → HasMet limit (items ++ faults_from (places.Relocation segment section) 0 (relocations_left relocations.entry)) tally.new) }
+    ensures memory { IfErr result (λ failure. failure ≡ failures.Memory) }
 {
     let mut index = 0usize;
     'relocations: for relocation in relocations {
@@ -146,7 +153,8 @@ pub fn audit_exports<A: Allocator, B: Allocator + Clone>(
     image: &MachO<'_, A>,
     limit: usize,
 ) -> Result<Part<B>, Failure>
-    ensures { IfOk result (TellsOfTrie limit (trie_or_empty (trie_held image.now)) (texts image.now.libs.items)) }
+    ensures told { IfOk result (TellsOfTrie limit (trie_or_empty (trie_held image.now)) (texts image.now.libs.items)) }
+    ensures memory { IfErr result (λ failure. failure ≡ failures.Memory) }
 {
     let mut tally = Tally::new(alloc.clone()?, limit);
     let Ok(mut walk) = image.walk_exports(alloc) else {
@@ -177,7 +185,8 @@ pub fn audit_symbols<A: Allocator>(
     symbols: SymbolIterator<'_>,
     limit: usize,
 ) -> Result<Part<A>, Failure>
-    ensures { IfOk result (TellsOf limit (faults_from places.Symbol 0 (symbols_left symbols.entry))) }
+    ensures told { IfOk result (TellsOf limit (faults_from places.Symbol 0 (symbols_left symbols.entry))) }
+    ensures memory { IfErr result (λ failure. failure ≡ failures.Memory) }
 {
     let mut tally = Tally::new(alloc, limit);
     let mut index = 0usize;
@@ -196,7 +205,8 @@ pub fn audit_imports<A: Allocator>(
     imports: BindIterator<'_, '_>,
     limit: usize,
 ) -> Result<Part<A>, Failure>
-    ensures { IfOk result (TellsOf limit (faults_from places.Import 0 (imports_left imports.entry))) }
+    ensures told { IfOk result (TellsOf limit (faults_from places.Import 0 (imports_left imports.entry))) }
+    ensures memory { IfErr result (λ failure. failure ≡ failures.Memory) }
 {
     let mut tally = Tally::new(alloc, limit);
     let mut index = 0usize;
@@ -215,7 +225,8 @@ pub fn audit_fixups<A: Allocator>(
     fixups: FixupIterator<'_, '_>,
     limit: usize,
 ) -> Result<Part<A>, Failure>
-    ensures { IfOk result (TellsOf limit (faults_from places.Fixup 0 (fixups_left fixups.entry))) }
+    ensures told { IfOk result (TellsOf limit (faults_from places.Fixup 0 (fixups_left fixups.entry))) }
+    ensures memory { IfErr result (λ failure. failure ≡ failures.Memory) }
 {
     let mut tally = Tally::new(alloc, limit);
     let mut index = 0usize;
@@ -234,7 +245,8 @@ pub fn audit_bindings<A: Allocator>(
     bindings: BindingIterator<'_, '_>,
     limit: usize,
 ) -> Result<Part<A>, Failure>
-    ensures { IfOk result (TellsOf limit (faults_from places.Binding 0 (bindings_left bindings.entry))) }
+    ensures told { IfOk result (TellsOf limit (faults_from places.Binding 0 (bindings_left bindings.entry))) }
+    ensures memory { IfErr result (λ failure. failure ≡ failures.Memory) }
 {
     let mut tally = Tally::new(alloc, limit);
     let mut index = 0usize;

@@ -1,6 +1,7 @@
 //! What an audit says of a file.
 
-ghost use Rattle.std.specs.Prelude.{◌≡◌, IfOk};
+ghost use Rattle.std.specs.Prelude.{◌≡◌, IfOk, IfErr, IsOk};
+ghost use Rattle.mach_audit.specs.declared.report.Failure.TheVariants as failures;
 ghost use Rattle.goblin_mach.specs.View.{IsTold};
 
 use goblin_mach::Error;
@@ -27,18 +28,24 @@ impl fmt::Display for Failure {
 }
 
 impl From<AllocError> for Failure {
+    ghost from_gives = { λ _ failure. failure ≡ failures.Memory };
+
     fn from(_error: AllocError) -> Failure {
         Failure::Memory
     }
 }
 
 impl<T: Drop> From<AllocFailed<T>> for Failure {
+    ghost from_gives = { λ _ failure. failure ≡ failures.Memory };
+
     fn from(_error: AllocFailed<T>) -> Failure {
         Failure::Memory
     }
 }
 
 impl From<io::Error> for Failure {
+    ghost from_gives = { λ _ failure. failure ≡ failures.Unwritten };
+
     fn from(_error: io::Error) -> Failure {
         Failure::Unwritten
     }
@@ -46,7 +53,9 @@ impl From<io::Error> for Failure {
 
 /// An error that is no want of memory.
 pub fn no_memory(error: Error) -> Result<Error, Failure>
-    ensures { IfOk result (λ e. (e ≡ error) × IsTold e) }
+    ensures told { IfOk result (λ e. (e ≡ error) × IsTold e) }
+    ensures memory { IfErr result (λ failure. failure ≡ failures.Memory) }
+    ensures only { IsTold error → IsOk result }
 {
     match error {
         Error::Memory(_) => Err(Failure::Memory),

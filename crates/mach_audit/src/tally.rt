@@ -1,7 +1,8 @@
 //! A count of the items of a list that can't be read.
 
-ghost use Rattle.std.specs.Prelude.{◌≡◌, ◌<◌, ◌≤◌, ◌+◌, ◌^◌, ◌++◌, ◌∷◌, ℕ, List, [], length, IsTrue, false, true, IfOk, OnOk, Option, option_map};
+ghost use Rattle.std.specs.Prelude.{◌≡◌, ◌<◌, ◌≤◌, ◌+◌, ◌^◌, ◌++◌, ◌∷◌, ℕ, List, [], length, IsTrue, false, true, IfOk, IfErr, OnOk, Option, option_map};
 ghost use Rattle.mach_base.specs.Fault.{fault_of};
+ghost use Rattle.mach_audit.specs.declared.report.Failure.TheVariants as failures;
 ghost use Rattle.mach_audit.specs.Told.{FaultAt, Tells, TellsOf, HasMet};
 
 use crate::report::{Failure, Finding, Part, Place};
@@ -39,6 +40,7 @@ impl<A: Allocator> Tally<A> {
         ensures met { OnOk result ((limit : ℕ) (items : List (Option FaultAt)) → HasMet limit items self.old
             → HasMet limit (items ++ option_map (λ e. (place, fault_of e)) error ∷ []) self.new) }
         ensures over { IfOk result (λ more. more ≡ false → IsTrue self.new.part.cut) }
+        ensures memory { IfErr result (λ failure. failure ≡ failures.Memory) }
         ensures on { IfOk result (λ more. more ≡ true → 1 ≤ self.old.left) }
     {
         let Some(left) = self.left.checked_sub(1) else {
@@ -64,6 +66,7 @@ impl<A: Allocator> Tally<A> {
 fn note<A: Allocator>(part: &mut Part<A>, place: Place, error: Error) -> Result<(), Failure>
     ensures told { OnOk result ((faults : List FaultAt) → length faults + 1 < 2 ^ 64 → Tells faults part.old
         → Tells (faults ++ (place, fault_of error) ∷ []) part.new) }
+    ensures memory { IfErr result (λ failure. failure ≡ failures.Memory) }
     ensures kept { OnOk result (part.new.cut ≡ part.old.cut) }
 {
     if let Error::Memory(_) = error {

@@ -1,9 +1,10 @@
 //! The lines that are printed, and the runs behind them.
 
-ghost use Rattle.std.specs.Prelude.{OnOk, List, Result};
+ghost use Rattle.std.specs.Prelude.{◌≡◌, ◌≤◌, true, OnOk, IfOk, List, Result};
 ghost use Rattle.mach_base.specs.Fault.{Fault};
 ghost use Rattle.goblin_mach.specs.FatEntry.{FatEntry};
 ghost use Rattle.goblin_mach.specs.View.{HasEntries};
+ghost use Rattle.machbench.specs.Limit.{ends_at_limit};
 
 use crate::calls::{Call, Subject, Work};
 use crate::times::{Times, per_item, shown_tenths, speed};
@@ -120,7 +121,9 @@ fn timed<C: Clock, A: Allocator + Clone>(
     alloc: &A,
     subject: &Subject<'_, A>,
     call: Call,
-) -> Result<(Work, Option<Times>), Failure> {
+) -> Result<(Work, Option<Times>), Failure>
+    ensures { ends_at_limit call ≡ true → IfOk result (λ found. found.0.items ≤ subject.now.limit) }
+{
     let first = subject.run(call)?;
     if first.items == 0 {
         return Ok((first, None));

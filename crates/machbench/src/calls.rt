@@ -1,6 +1,7 @@
 //! The calls that are timed, and what a run of each is.
 
-ghost use Rattle.std.specs.Prelude.{◌≡◌, ◌≤◌, ◌+◌, ◌-◌, ◌%◌, ◌^◌, false, true, length, OnOk, List, Result};
+ghost use Rattle.std.specs.Prelude.{◌≡◌, ◌≤◌, ◌+◌, ◌-◌, ◌%◌, ◌^◌, false, true, length, ℕ, OnOk, IfOk, List, Result};
+ghost use Rattle.machbench.specs.Limit.{ends_at_limit, IsWithin};
 ghost use Rattle.mach_base.specs.Fault.{Fault};
 ghost use Rattle.goblin_mach.specs.FatEntry.{FatEntry};
 ghost use Rattle.goblin_mach.specs.View.{HasEntries};
@@ -95,7 +96,8 @@ impl Work {
     // Whether one item more may be gone over; where not, there are more than may be.
     fn takes(&mut self) -> bool
         ensures taken { result ≡ true → (self.old.left ≡ self.new.left + 1) × (self.new.more ≡ self.old.more) }
-        ensures over { result ≡ false → (self.old.left ≡ 0) × (self.new.more ≡ true) }
+        ensures over { result ≡ false → (self.old.left ≡ 0) × (self.new.left ≡ 0) × (self.new.more ≡ true) }
+        ensures kept { (self.new.items ≡ self.old.items) × (self.new.sum ≡ self.old.sum) }
     {
         match self.left.checked_sub(1) {
             Some(left) => {
@@ -113,6 +115,7 @@ impl Work {
     fn add(&mut self, items: usize, sum: u64)
         ensures items { self.new.items ≡ (self.old.items + items) % 2 ^ 64 }
         ensures sum { self.new.sum ≡ (self.old.sum + sum) % 2 ^ 64 }
+        ensures kept { (self.new.left ≡ self.old.left) × (self.new.more ≡ self.old.more) }
     {
         self.items = self.items.wrapping_add(items as u64);
         self.sum = self.sum.wrapping_add(sum);
@@ -176,8 +179,8 @@ fn add_images<'a, A: Allocator + Clone>(
 #[derive(Drop)]
 pub struct Subject<'a, A: Allocator> {
     bytes: &'a [u8],
-    // How many items a run of a call goes over at most.
-    limit: usize,
+    /// How many items a run of a call goes over at most.
+    pub limit: usize,
     images: Vec<MachO<'a, A>, A>,
     // What was counted of the imports of all images.
     imports: Work,
@@ -212,7 +215,8 @@ impl<'a, A: Allocator + Clone> Subject<'a, A> {
     /// bytes is refused; of its entries those are left out that are no image or don't open. A run of a call goes over at
     /// most `limit` items.
     pub fn open(alloc: A, limit: usize, bytes: &'a [u8]) -> Result<Subject<'a, A>>
-        ensures { OnOk result ((entries : List (Result FatEntry Fault)) × HasEntries bytes.now entries) }
+        ensures opens { OnOk result ((entries : List (Result FatEntry Fault)) × HasEntries bytes.now entries) }
+        ensures limit { IfOk result (λ subject. subject.limit ≡ limit) }
     {
         let images = images_of(alloc.clone()?, bytes)?;
         let exports = exports_of(alloc.clone()?, &images)?;
@@ -228,7 +232,9 @@ impl<'a, A: Allocator + Clone> Subject<'a, A> {
     }
 
     /// Runs a call once. One that lists imports is not run where there are more than may be gone over.
-    pub fn run(&self, call: Call) -> Result<Work> {
+    pub fn run(&self, call: Call) -> Result<Work>
+        ensures few { ends_at_limit call ≡ true → IfOk result (λ work. work.items ≤ self.now.limit) }
+    {
         match call {
             Call::Parse => self.parse(),
             Call::FindExport => self.find_exports(),
@@ -239,9 +245,11 @@ impl<'a, A: Allocator + Clone> Subject<'a, A> {
     }
 
     // Runs a call on each image.
-    fn each_image(&self, call: Call) -> Result<Work> {
+    fn each_image(&self, call: Call) -> Result<Work>
+        ensures { ends_at_limit call ≡ true → IfOk result (IsWithin self.now.limit) }
+    {
         let mut work = Work::new(self.limit);
-        for image in &self.images {
+        'images: for image in &self.images {
             add_image(&mut work, &self.alloc, image, call)?;
         }
         Ok(work)
@@ -284,7 +292,9 @@ fn add_image<A: Allocator + Clone>(
     alloc: &A,
     image: &MachO<'_, A>,
     call: Call,
-) -> Result<()> {
+) -> Result<()>
+    ensures { ends_at_limit call ≡ true → OnOk result ((limit : ℕ) → IsWithin limit work.old → IsWithin limit work.new) }
+{
     match call {
         Call::Exports => work.list_exports(alloc, image)?,
         Call::Imports => work.list_imports(alloc, image)?,
@@ -329,8 +339,10 @@ impl Work {
     }
 
     // Goes over the imports of an image.
-    fn import<A: Allocator>(&mut self, image: &MachO<'_, A>) -> Result<()> {
-        for item in image.iter_imports() {
+    fn import<A: Allocator>(&mut self, image: &MachO<'_, A>) -> Result<()>
+        ensures { OnOk result ((limit : ℕ) → IsWithin limit self.old → IsWithin limit self.new) }
+    {
+        'imports: for item in image.iter_imports() {
             if !self.takes() {
                 return Ok(());
             }
@@ -341,8 +353,10 @@ impl Work {
     }
 
     // Goes over the bindings of an image.
-    fn bind<A: Allocator>(&mut self, image: &MachO<'_, A>) -> Result<()> {
-        for item in image.bindings() {
+    fn bind<A: Allocator>(&mut self, image: &MachO<'_, A>) -> Result<()>
+        ensures { OnOk result ((limit : ℕ) → IsWithin limit self.old → IsWithin limit self.new) }
+    {
+        'bindings: for item in image.bindings() {
             if !self.takes() {
                 return Ok(());
             }
@@ -353,8 +367,10 @@ impl Work {
     }
 
     // Goes over the fixups of an image.
-    fn fix<A: Allocator>(&mut self, image: &MachO<'_, A>) -> Result<()> {
-        for item in image.fixups() {
+    fn fix<A: Allocator>(&mut self, image: &MachO<'_, A>) -> Result<()>
+        ensures { OnOk result ((limit : ℕ) → IsWithin limit self.old → IsWithin limit self.new) }
+    {
+        'fixups: for item in image.fixups() {
             if !self.takes() {
                 return Ok(());
             }
@@ -365,8 +381,10 @@ impl Work {
     }
 
     // Goes over the symbols of an image.
-    fn add_symbols<A: Allocator>(&mut self, image: &MachO<'_, A>) {
-        for item in image.symbols() {
+    fn add_symbols<A: Allocator>(&mut self, image: &MachO<'_, A>)
+        ensures { (limit : ℕ) → IsWithin limit self.old → IsWithin limit self.new }
+    {
+        'symbols: for item in image.symbols() {
             if !self.takes() {
                 return;
             }
@@ -377,9 +395,11 @@ impl Work {
     }
 
     // Goes over the relocations of an image.
-    fn relocate<A: Allocator + Clone>(&mut self, alloc: &A, image: &MachO<'_, A>) -> Result<()> {
-        for (_, relocations, _) in image.relocations(alloc.clone()?)? {
-            for item in relocations {
+    fn relocate<A: Allocator + Clone>(&mut self, alloc: &A, image: &MachO<'_, A>) -> Result<()>
+        ensures { OnOk result ((limit : ℕ) → IsWithin limit self.old → IsWithin limit self.new) }
+    {
+        'sections: for (_, relocations, _) in image.relocations(alloc.clone()?)? {
+            'relocations: for item in relocations {
                 if !self.takes() {
                     return Ok(());
                 }

@@ -13,7 +13,7 @@ use Rattle.mach_audit.proofs.audit.audit_fat.Goals as goal
 
 pub returns-in-Err-clause-judged : goal.returns-in-Err-clause-judged
 returns-in-Err-clause-judged g c =
-    let told = c.in_ok-no_memory-in-Err.ensures in
+    let told = c.in_ok-no_memory-in-Err.ensures.told in
     refused_table_judged _ (file_held c.args.container.now) c.in-Err.error c.in-Err.ensures (rw told.0 at told.1)
 
 pub loop-index-init : goal.loop-index-init
@@ -40,7 +40,7 @@ returns-clause-judged g c =
     refl c.loop-index.invariant.1 in
     let bytes = c.args.bytes.now in
     let faults = c.in_ok-container_faults.container_faults in
-    let layout = layout_judged (AreContainerFaults bytes) faults.items c.in_ok-container_faults.ensures (λ list others. one_container bytes list others) in
+    let layout = layout_judged (AreContainerFaults bytes) faults.items c.in_ok-container_faults.ensures.told (λ list others. one_container bytes list others) in
     beside (both_judged _ _ layout judged)
 
 pub returns-clause-told : goal.returns-clause-told
@@ -52,7 +52,7 @@ returns-clause-told g c =
     record {
       count = refl;
       table = record {
-        container = c.in_ok-container_faults.ensures;
+        container = c.in_ok-container_faults.ensures.told;
         entries = rw all at c.loop-index.invariant.0;
         cut = refl;
       };
@@ -60,5 +60,5 @@ returns-clause-told g c =
 
 pub returns-in-Err-clause-told : goal.returns-in-Err-clause-told
 returns-in-Err-clause-told g c =
-    let told = c.in_ok-no_memory-in-Err.ensures in
+    let told = c.in_ok-no_memory-in-Err.ensures.told in
     record { count = refl; table = rw told.0 (rw told.0 at told.1, c.in-Err.ensures) }

@@ -28,12 +28,12 @@ returns-clause-judged g c = λ bytes image.
       bindings = c.in_ok-bindings.bindings;
       layout = c.in_ok-layout.layout;
     } in
-    let sections = rw c.as_slice-segments.ensures at c.in_ok-sections.ensures in
-    let relocations = rw (c.bytes-bytes.ensures, c.ctx-ctx.ensures, c.as_slice-segments.ensures) at c.in_ok-relocations.ensures in
+    let sections = rw c.as_slice-segments.ensures at c.in_ok-sections.ensures.told in
+    let relocations = rw (c.bytes-bytes.ensures, c.ctx-ctx.ensures, c.as_slice-segments.ensures) at c.in_ok-relocations.ensures.told in
     let faults = relocation_faults m.ctx m.bytes.now (map segment_view m.segments.segments.items) in
     let read = read_judged limit faults parts.sections parts.relocations relocations (sections_judged bytes m image limit parts.sections sections)
     (λ q tells. relocations_judged bytes m image limit q tells) in
-    let symbols = rw c.symbols.ensures.items at c.in_ok-symbols.ensures in
+    let symbols = rw c.symbols.ensures.items at c.in_ok-symbols.ensures.told in
     let items = imports_left c.iter_imports.result in
     let are_items = c.import_items_of_image.ensures.strict bytes 0 image in
     let fixups = fixups_left c.fixups.result in
@@ -42,15 +42,16 @@ returns-clause-judged g c = λ bytes image.
     let has_bindings = (c.bindings_of_image.ensures.strict bytes 0 image bindings).1 c.bindings.ensures in
     parts_judged bytes m image limit parts read
     (symbols_judged bytes m image limit parts.symbols symbols)
-    (exports_judged bytes m image limit parts.exports c.in_ok-exports.ensures c.faulty_tries_have_no_list.ensures)
-    (imports_judged bytes m image limit items parts.imports c.iter_imports.ensures c.in_ok-imports.ensures ((are_items items).1 c.iter_imports.ensures)
+    (exports_judged bytes m image limit parts.exports c.in_ok-exports.ensures.told c.faulty_tries_have_no_list.ensures)
+    (imports_judged bytes m image limit items parts.imports c.iter_imports.ensures c.in_ok-imports.ensures.told ((are_items items).1 c.iter_imports.ensures)
     (λ others h. (are_items others).0 h))
     (judged_one limit (HasFixups bytes 0) fixups (faults_from places.Fixup 0 fixups) parts.fixups has_fixups
-    (λ others h. c.one_list_of_image_fixups.ensures bytes 0 others fixups h has_fixups) (plain_from places.Fixup 0 fixups) c.in_ok-fixups.ensures)
+    (λ others h. c.one_list_of_image_fixups.ensures bytes 0 others fixups h has_fixups) (plain_from places.Fixup 0 fixups) c.in_ok-fixups.ensures.told)
     (judged_one limit (HasBindings bytes 0) bindings (faults_from places.Binding 0 bindings) parts.bindings has_bindings
-    (λ others h. c.one_list_of_image_bindings.ensures bytes 0 others bindings h has_bindings) (plain_from places.Binding 0 bindings) c.in_ok-bindings.ensures)
+    (λ others h. c.one_list_of_image_bindings.ensures bytes 0 others bindings h has_bindings) (plain_from places.Binding 0 bindings)
+    c.in_ok-bindings.ensures.told)
     (layout_judged (HasLayoutFaults bytes) parts.layout.items ((c.layout_faults_of_image.ensures.strict bytes image parts.layout.items).1
-    c.in_ok-layout.ensures)
+    c.in_ok-layout.ensures.told)
     (λ list others. c.one_list_of_layout_faults.ensures bytes list others))
 
 pub returns-clause-told : goal.returns-clause-told
@@ -71,11 +72,11 @@ returns-clause-told g c = λ bytes image.
     let fixups = fixups_left c.fixups.result in
     let bindings = bindings_left c.bindings.result in
     image_told limit bytes m image parts
-    (rw c.as_slice-segments.ensures at c.in_ok-sections.ensures)
-    (rw (c.bytes-bytes.ensures, c.ctx-ctx.ensures, c.as_slice-segments.ensures) at c.in_ok-relocations.ensures)
-    (rw c.symbols.ensures.items at c.in_ok-symbols.ensures)
-    c.in_ok-exports.ensures
-    (items, (c.import_items_of_image.ensures.lossy bytes 0 image items).1 c.iter_imports.ensures, c.in_ok-imports.ensures)
-    (fixups, (c.fixups_of_image.ensures.lossy bytes 0 image fixups).1 c.fixups.ensures, c.in_ok-fixups.ensures)
-    (bindings, (c.bindings_of_image.ensures.lossy bytes 0 image bindings).1 c.bindings.ensures, c.in_ok-bindings.ensures)
-    ((c.layout_faults_of_image.ensures.lossy bytes image parts.layout.items).1 c.in_ok-layout.ensures)
+    (rw c.as_slice-segments.ensures at c.in_ok-sections.ensures.told)
+    (rw (c.bytes-bytes.ensures, c.ctx-ctx.ensures, c.as_slice-segments.ensures) at c.in_ok-relocations.ensures.told)
+    (rw c.symbols.ensures.items at c.in_ok-symbols.ensures.told)
+    c.in_ok-exports.ensures.told
+    (items, (c.import_items_of_image.ensures.lossy bytes 0 image items).1 c.iter_imports.ensures, c.in_ok-imports.ensures.told)
+    (fixups, (c.fixups_of_image.ensures.lossy bytes 0 image fixups).1 c.fixups.ensures, c.in_ok-fixups.ensures.told)
+    (bindings, (c.bindings_of_image.ensures.lossy bytes 0 image bindings).1 c.bindings.ensures, c.in_ok-bindings.ensures.told)
+    ((c.layout_faults_of_image.ensures.lossy bytes image parts.layout.items).1 c.in_ok-layout.ensures.told)

@@ -21,5 +21,5 @@ sections-preserved g c = λ limit items met.
     let many = length-items_from (section_item all.ctx all.bytes.now all.offset) all.next_item (all.count - all.next_item) in
     let small : n + 1 < 2 ^ 64 = omega (arith, goes.count, ap length c.in-Some.ensures.steps, many) in
     each_on limit part items (sections_left all) (sections_left c.sections.item-iterator) (sections_left c.next.new.self) n m
-    (section_read c.in-Some.item) c.sections.tally c.add_relocations_by.new.tally goes c.in-Some.ensures.steps c.in_ok-add_relocations_by.ensures
+    (section_read c.in-Some.item) c.sections.tally c.add_relocations_by.new.tally goes c.in-Some.ensures.steps c.in_ok-add_relocations_by.ensures.told
     (next_number n m small c.saturating_add-section.ensures)

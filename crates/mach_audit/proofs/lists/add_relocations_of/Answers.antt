@@ -12,8 +12,8 @@ relocations-init g c = λ limit items met.
     (relocations_left c.into_iter-relocation-iterator.result) c.args.tally.now
     (ap relocations_left c.into_iter-relocation-iterator.ensures.into_iter_gives) met
 
-pub returns-then-not-branch : goal.returns-then-not-branch
-returns-then-not-branch g c = λ limit items met.
+pub returns-then-not-branch-clause-told : goal.returns-then-not-branch-clause-told
+returns-then-not-branch-clause-told g c = λ limit items met.
     let all = relocations_left c.args.relocations in
     let places_of = places.Relocation c.args.segment c.args.section in
     let n = c.relocations.index in
@@ -39,8 +39,8 @@ relocations-preserved g c = λ limit items met.
     (option_map (λ e. (places_of n, fault_of e)) c.err.result) c.relocations.tally c.take.new.self goes c.in-Some.ensures.steps told
     c.in_ok-take.ensures.met (next_number n m small c.saturating_add-index.ensures)
 
-pub returns : goal.returns
-returns g c = λ limit items met.
+pub returns-clause-told : goal.returns-clause-told
+returns-clause-told g c = λ limit items met.
     goes_over limit (places.Relocation c.args.segment c.args.section) items (relocations_left c.args.relocations)
     (relocations_left c.relocations.relocation-iterator) c.relocations.index c.relocations.tally (c.relocations.invariant limit items met)
     c.in-None.ensures.steps.0

@@ -11,8 +11,8 @@ sections-init g c = λ limit items met.
     goes_init limit (places.Section c.args.segment) items (sections_left c.args.sections) (sections_left c.into_iter-section-iterator.result) c.args.tally.now
     (ap sections_left c.into_iter-section-iterator.ensures.into_iter_gives) met
 
-pub returns-then-not-branch : goal.returns-then-not-branch
-returns-then-not-branch g c = λ limit items met.
+pub returns-then-not-branch-clause-told : goal.returns-then-not-branch-clause-told
+returns-then-not-branch-clause-told g c = λ limit items met.
     let all = sections_left c.args.sections in
     let places_of = places.Section c.args.segment in
     let n = c.sections.index in
@@ -37,8 +37,8 @@ sections-preserved g c = λ limit items met.
     (option_map (λ e. (places_of n, fault_of e)) c.err.result) c.sections.tally c.take.new.self goes c.in-Some.ensures.steps told
     c.in_ok-take.ensures.met (next_number n m small c.saturating_add-index.ensures)
 
-pub returns : goal.returns
-returns g c = λ limit items met.
+pub returns-clause-told : goal.returns-clause-told
+returns-clause-told g c = λ limit items met.
     goes_over limit (places.Section c.args.segment) items (sections_left c.args.sections)
     (sections_left c.sections.section-iterator) c.sections.index c.sections.tally (c.sections.invariant limit items met)
     c.in-None.ensures.steps.0

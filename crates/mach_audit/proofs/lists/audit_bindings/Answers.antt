@@ -12,8 +12,8 @@ bindings-init g c =
     goes_init c.args.limit places.Binding [] (bindings_left c.args.bindings) (bindings_left c.into_iter-binding-iterator.result) c.new-tally.result
     (ap bindings_left c.into_iter-binding-iterator.ensures.into_iter_gives) c.new-tally.ensures
 
-pub returns-then-not-branch : goal.returns-then-not-branch
-returns-then-not-branch g c =
+pub returns-then-not-branch-clause-told : goal.returns-then-not-branch-clause-told
+returns-then-not-branch-clause-told g c =
     let all = bindings_left c.args.bindings in
     let n = c.bindings.index in
     let place = places.Binding n in
@@ -38,8 +38,8 @@ bindings-preserved g c =
     (option_map (λ e. (place, fault_of e)) c.err.result) c.bindings.tally c.take.new.self c.bindings.invariant c.in-Some.ensures.steps told
     c.in_ok-take.ensures.met (next_number n m small c.saturating_add-index.ensures)
 
-pub returns : goal.returns
-returns g c =
+pub returns-clause-told : goal.returns-clause-told
+returns-clause-told g c =
     rw c.part-2.ensures (goes_over c.args.limit places.Binding [] (bindings_left c.args.bindings)
     (bindings_left c.bindings.binding-iterator) c.bindings.index c.bindings.tally
     c.bindings.invariant c.in-None.ensures.steps.0).tells

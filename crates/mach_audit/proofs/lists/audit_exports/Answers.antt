@@ -16,13 +16,13 @@ use Rattle.mach_audit.proofs.lists.audit_exports.Goals as goal
 pub exports-init : goal.exports-init
 exports-init g c = ([], c.in-Ok.ensures.given, c.new-tally.ensures, refl)
 
-pub returns-in-Err : goal.returns-in-Err
-returns-in-Err g c =
+pub returns-in-Err-clause-told : goal.returns-in-Err-clause-told
+returns-in-Err-clause-told g c =
     let image = c.args.image.now in
     let t = trie_or_empty (trie_held image) in
     let libs = texts image.libs.items in
     let found = c.exports.invariant in
-    let told = c.in_ok-no_memory-in-Err.ensures in
+    let told = c.in_ok-no_memory-in-Err.ensures.told in
     let f = fault_of c.in-Err.error in
     let says = rw (c.in-Some.is ∙ ap Some c.in-Err.is) at (c.next.ensures.says t libs found.0 found.1) in
     let stands = stands_of (ExportsFault t libs) c.in-Err.error (rw told.0 at told.1) says in
@@ -34,8 +34,8 @@ returns-in-Err g c =
       tells = met.tells;
     })
 
-pub returns-then-not-branch : goal.returns-then-not-branch
-returns-then-not-branch g c =
+pub returns-then-not-branch-clause-told : goal.returns-then-not-branch-clause-told
+returns-then-not-branch-clause-told g c =
     let image = c.args.image.now in
     let t = trie_or_empty (trie_held image) in
     let libs = texts image.libs.items in
@@ -74,8 +74,8 @@ exports-preserved g c =
       omega (arith, next, found.3, length-append found.0 (one ∷ [])),
     )
 
-pub returns : goal.returns
-returns g c =
+pub returns-clause-told : goal.returns-clause-told
+returns-clause-told g c =
     let image = c.args.image.now in
     let found = c.exports.invariant in
     rw c.part-2.ensures (record {

@@ -12,8 +12,8 @@ fixups-init g c =
     goes_init c.args.limit places.Fixup [] (fixups_left c.args.fixups) (fixups_left c.into_iter-fixup-iterator.result) c.new-tally.result
     (ap fixups_left c.into_iter-fixup-iterator.ensures.into_iter_gives) c.new-tally.ensures
 
-pub returns-then-not-branch : goal.returns-then-not-branch
-returns-then-not-branch g c =
+pub returns-then-not-branch-clause-told : goal.returns-then-not-branch-clause-told
+returns-then-not-branch-clause-told g c =
     let all = fixups_left c.args.fixups in
     let n = c.fixups.index in
     let place = places.Fixup n in
@@ -38,7 +38,7 @@ fixups-preserved g c =
     (option_map (λ e. (place, fault_of e)) c.err.result) c.fixups.tally c.take.new.self c.fixups.invariant c.in-Some.ensures.steps told
     c.in_ok-take.ensures.met (next_number n m small c.saturating_add-index.ensures)
 
-pub returns : goal.returns
-returns g c =
+pub returns-clause-told : goal.returns-clause-told
+returns-clause-told g c =
     rw c.part-2.ensures (goes_over c.args.limit places.Fixup [] (fixups_left c.args.fixups) (fixups_left c.fixups.fixup-iterator) c.fixups.index c.fixups.tally
     c.fixups.invariant c.in-None.ensures.steps.0).tells

@@ -11,8 +11,8 @@ imports-init g c =
     goes_init c.args.limit places.Import [] (imports_left c.args.imports) (imports_left c.into_iter-import-iterator.result) c.new-tally.result
     (ap imports_left c.into_iter-import-iterator.ensures.into_iter_gives) c.new-tally.ensures
 
-pub returns-then-not-branch : goal.returns-then-not-branch
-returns-then-not-branch g c =
+pub returns-then-not-branch-clause-told : goal.returns-then-not-branch-clause-told
+returns-then-not-branch-clause-told g c =
     let all = imports_left c.args.imports in
     let n = c.imports.index in
     let place = places.Import n in
@@ -37,8 +37,8 @@ imports-preserved g c =
     (option_map (λ e. (place, fault_of e)) c.err.result) c.imports.tally c.take.new.self c.imports.invariant c.in-Some.ensures.steps told
     c.in_ok-take.ensures.met (next_number n m small c.saturating_add-index.ensures)
 
-pub returns : goal.returns
-returns g c =
+pub returns-clause-told : goal.returns-clause-told
+returns-clause-told g c =
     rw c.part-2.ensures (goes_over c.args.limit places.Import [] (imports_left c.args.imports)
     (imports_left c.imports.import-iterator) c.imports.index c.imports.tally
     c.imports.invariant c.in-None.ensures.steps.0).tells

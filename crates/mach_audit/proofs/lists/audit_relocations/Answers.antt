@@ -11,7 +11,8 @@ loop-segment-preserved g c =
     let i = c.loop-segment.segment-index in
     let before = c.loop-segment.invariant in
     let part : ℕ → SegmentView → List (Option FaultAt) = λ n s. relocation_faults_by (relocations_by c.args.ctx c.args.bytes.now) n (sections_of s) in
-    let added = c.in_ok-add_relocations.ensures c.args.limit (relocation_faults c.args.ctx c.args.bytes.now (map segment_view (take i segments))) before.0 in
+    let met = relocation_faults c.args.ctx c.args.bytes.now (map segment_view (take i segments)) in
+    let added = c.in_ok-add_relocations.ensures.told c.args.limit met before.0 in
     let here = rw (c.into_iter.ensures.into_iter_gives, before.1) at added in (
       subst (λ (xs : List (Option FaultAt)). HasMet c.args.limit xs c.add_relocations.new.tally)
           (sym (one_part_more segment_view part segments i _ c.loop-segment-test.true)) here,

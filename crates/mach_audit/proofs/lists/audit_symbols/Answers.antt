@@ -11,8 +11,8 @@ symbols-init g c =
     goes_init c.args.limit places.Symbol [] (symbols_left c.args.symbols) (symbols_left c.into_iter-symbol-iterator.result) c.new-tally.result
     (ap symbols_left c.into_iter-symbol-iterator.ensures.into_iter_gives) c.new-tally.ensures
 
-pub returns-then-not-branch : goal.returns-then-not-branch
-returns-then-not-branch g c =
+pub returns-then-not-branch-clause-told : goal.returns-then-not-branch-clause-told
+returns-then-not-branch-clause-told g c =
     let all = symbols_left c.args.symbols in
     let n = c.symbols.index in
     let place = places.Symbol n in
@@ -37,8 +37,8 @@ symbols-preserved g c =
     (option_map (λ e. (place, fault_of e)) c.err.result) c.symbols.tally c.take.new.self c.symbols.invariant c.in-Some.ensures.steps told
     c.in_ok-take.ensures.met (next_number n m small c.saturating_add-index.ensures)
 
-pub returns : goal.returns
-returns g c =
+pub returns-clause-told : goal.returns-clause-told
+returns-clause-told g c =
     rw c.part-2.ensures (goes_over c.args.limit places.Symbol [] (symbols_left c.args.symbols)
     (symbols_left c.symbols.symbol-iterator) c.symbols.index c.symbols.tally
     c.symbols.invariant c.in-None.ensures.steps.0).tells

@@ -1,0 +1,22 @@
+-- How many items a run of a call goes over.
+use Rattle.std.specs.Prelude.{◌≤◌, ◌+◌, ℕ, Bool, true, false}
+use Rattle.machbench.specs.declared.calls.Call.{Call}
+use Rattle.machbench.specs.declared.calls.Call.TheVariants as calls
+use Rattle.machbench.specs.declared.calls.Work.{Work}
+
+-- a call that goes over items one at a time, and ends at the limit
+abbrev pub ends_at_limit : Call → Bool
+ends_at_limit calls.Parse = false
+ends_at_limit calls.Exports = false
+ends_at_limit calls.FindExport = false
+ends_at_limit calls.Imports = false
+ends_at_limit calls.ImportsOneByOne = true
+ends_at_limit calls.Bindings = true
+ends_at_limit calls.Fixups = true
+ends_at_limit calls.Symbols = true
+ends_at_limit calls.Relocations = true
+ends_at_limit calls.LinkView = false
+
+-- the items that were counted, and those that may be gone over yet, are within a limit
+abbrev pub IsWithin : ℕ → Work → Type 0
+IsWithin limit work = work.items + work.left ≤ limit
