@@ -1,24 +1,17 @@
 -- Facts on bytes, and the image that was opened there.
-use Rattle.std.proofs.Common.{◌≡◌, ℕ, ◌+◌, List, Option, Result, Ok, refl, sym, ap, subst, ◌∙◌}
+use Rattle.std.proofs.Common.{◌≡◌, ℕ, ◌+◌, List, Ok, refl, sym, ap, subst, ◌∙◌}
 use Rattle.std.specs.Prelude.{◌↔◌, option_map}
 use Rattle.mach_base.specs.declared.context.Ctx.{Ctx}
 use Rattle.mach_base.specs.Context.{pointer_size}
-use Rattle.mach_base.specs.Fault.{Fault}
 use Rattle.mach_base.proofs.Binds.{same_ok}
 use Rattle.mach_load.specs.Command.{Command}
 use Rattle.mach_headers.specs.Header.{header_size}
-use Rattle.mach_segments.specs.Bindings.{Binding}
 use Rattle.mach_segments.specs.Segment.{SegmentView}
 use Rattle.mach_symbols.specs.SymbolViews.{table_of}
-use Rattle.mach_symbols.specs.Symbols.{SymbolTable}
-use Rattle.mach_symbols.specs.declared.symbols.nlist.Nlist.{Nlist}
 use Rattle.mach_tries.specs.Exports.{text_in}
 use Rattle.mach_base.specs.Text.{texts}
-use Rattle.mach_binds.specs.Imports.{Import}
 use Rattle.mach_tries.specs.Trie as trie
-use Rattle.mach_chained.specs.Fixups.{Fixup}
-use Rattle.mach_chained.specs.Header.{Fixups}
-use Rattle.mach_image.specs.EntryPoint.{EntryPoint, entry_point_in}
+use Rattle.mach_image.specs.EntryPoint.{entry_point_in}
 use Rattle.mach_image.specs.ImageFacts.{Facts, facts_in, facts_held, HasFacts, OfFacts}
 use Rattle.mach_image.specs.Facts.{OfImage, HasCommands, HasSymbols, HasSegments, HasRelocations, HasName, HasLibraries, HasRunPaths, HasEntryPoint}
 use Rattle.mach_image.specs.Facts.{HasExports, HasExportsFault, HasImports, HasImportsFault, HasImportItems}
@@ -26,14 +19,14 @@ use Rattle.mach_image.specs.Image.{LossyOpensAs}
 use Rattle.mach_image.specs.Bindings.{AreImageBindings}
 use Rattle.mach_image.specs.Facts.{HasLibrariesByKind, HasSymbolTable, HasExportOf, HasChainedFixups, HasBase, HasFixups, HasBindings}
 use Rattle.mach_image.specs.Fixups.{AreImageFixups, base_held, base_of, chained_held, chained_in}
-use Rattle.mach_image.specs.Libraries.{LibraryView, libraries_in}
+use Rattle.mach_image.specs.Libraries.{libraries_in}
 use Rattle.mach_image.specs.LookUp.{StandsInImage}
 use Rattle.mach_image.specs.Subjects.{ListsImageImports, ImageImportsFault, AreImageBindItems, ListsImageExports}
 use Rattle.mach_image.specs.Subjects.{ImageExportsFault, symbols_in, symbols_held}
 use Rattle.mach_headers.specs.Magic.{cputype_at}
 use Rattle.mach_image.specs.Modes.{InBothModes, Agrees, HoldsAs}
 use Rattle.mach_image.specs.OpenImage.{IsImage, IsLossyImage, HasFields, commands_held, segments_held, trie_held, binds_held, ctx_held, bytes_held}
-use Rattle.mach_image.specs.Relocations.{RelocatedSection, relocated_sections_in}
+use Rattle.mach_image.specs.Relocations.{relocated_sections_in}
 use Rattle.mach_image.specs.declared.macho.MachO.{MachO}
 use Rattle.mach_image.proofs.Chains.{same_chain}
 use Rattle.mach_image.proofs.Images.{same_header}

@@ -1,5 +1,5 @@
 -- What rules tell of items that are seen as others, and of numbers; and faults that are told one after the other.
-use Rattle.std.proofs.Common.{◌≡◌, ◌<◌, ◌≤◌, ℕ, suc, ◌+◌, ◌-◌, List, [], ◌∷◌, ◌++◌, map, Option, refl, ap, ◌∙◌, append_assoc, arith}
+use Rattle.std.proofs.Common.{◌≡◌, ◌<◌, ◌≤◌, ℕ, suc, ◌+◌, ◌-◌, List, [], ◌∷◌, ◌++◌, map, Option, refl, ap, ◌∙◌, arith}
 use Rattle.std.specs.Prelude.{filter_map}
 use Rattle.std.specs.List.{cons_option, range_with_len}
 use Rattle.mach_rules.specs.Rules.{told, told_over}

@@ -1,6 +1,6 @@
 -- Rules of chained fixups (`mach-o/fixup-chains.h`, struct dyld_chained_fixups_header and those behind it, as dyld tests them). The chained
 -- fixups of an image are those of its last command; they are judged where their data lie in the file.
-use Rattle.std.specs.Prelude.{◌==◌, ℕ, ◌+◌, ◌-◌, ◌*◌, ◌/◌, ◌%◌, ◌^◌, ◌&&◌, ◌||◌, not, Bool, List, [], ◌∷◌, ◌++◌, replicate, codes, nat_eq, length, take, drop}
+use Rattle.std.specs.Prelude.{◌==◌, ℕ, ◌+◌, ◌-◌, ◌*◌, ◌/◌, ◌%◌, ◌^◌, ◌&&◌, ◌||◌, not, Bool, List, [], ◌∷◌, ◌++◌, codes, nat_eq, length, take, drop}
 use Rattle.std.specs.Prelude.{false, nat_lt, nat_le, filter_map, option_to_list, find, slice_get, Option, Some, None, Result, Ok, Err, if◌then◌else◌}
 use Rattle.std.specs.List.{range_with_len, last_or, starts_with}
 use Rattle.mach_base.specs.Fault.{Fault}

@@ -1,5 +1,5 @@
 -- Rules of an image as a whole, which are told of its header.
-use Rattle.std.specs.Prelude.{◌==◌, ◌||◌, ◌^◌, ◌-◌, not, min, nat_le, ℕ, Bool, List, [], ◌∷◌}
+use Rattle.std.specs.Prelude.{◌||◌, ◌^◌, ◌-◌, not, min, nat_le, List, [], ◌∷◌}
 use Rattle.std.specs.List.{list_any}
 use Rattle.mach_headers.specs.declared.header.Header.{Header}
 use Rattle.mach_rules.specs.Laid.{Laid, file_size, declared_end, chain_end, used_end, is_final, is_judged}

@@ -1,5 +1,5 @@
 -- The rules of layout as one table: what a rule sees in an item, and what is told of it. Each kind of item has its table, `.._sees`, with a line a rule.
-use Rattle.std.specs.Prelude.{ℕ, ◌-◌, Bool, true, List, [], Option, Some, None, flat_map, filter_map, if◌then◌else◌}
+use Rattle.std.specs.Prelude.{ℕ, ◌-◌, Bool, true, List, Option, Some, None, flat_map, filter_map, if◌then◌else◌}
 use Rattle.std.specs.List.{range_with_len}
 use Rattle.mach_rules.specs.declared.fault.LayoutFault.{LayoutFault}
 use Rattle.mach_rules.specs.declared.fault.Owner.{Owner}

@@ -1,5 +1,4 @@
 use Rattle.std.proofs.Common.{◌++◌, ◌∷◌, [], ℕ, List, ap, ◌∙◌}
-use Rattle.std.specs.List.{range_with_len}
 use Rattle.mach_rules.specs.Fixups.{import_owner, import_sees, import_names_end, row_in}
 use Rattle.mach_rules.specs.FixupViews.{data_view}
 use Rattle.mach_rules.specs.Laid.{laid_of}

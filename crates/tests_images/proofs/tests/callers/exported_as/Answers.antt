@@ -1,4 +1,3 @@
-use Rattle.std.proofs.Common.{rules}
 use Rattle.tests_images.proofs.tests.callers.exported_as.Goals as goal
 
 -- the trie's list is that of the bytes
