@@ -1,12 +1,13 @@
 //! What is told of a program: of one image, or of each entry of a fat one.
 
-ghost use Rattle.std.specs.Prelude.{◌≡◌, map, Some, None, IfOk};
+ghost use Rattle.std.specs.Prelude.{◌≡◌, map, Some, None, IfOk, IfErr};
 ghost use Rattle.std.specs.List.{list_all};
 ghost use Rattle.goblin_mach.specs.File.{IsFatMach};
 ghost use Rattle.mach_resolve.specs.Cpu.{IsOfCpu};
 ghost use Rattle.mach_resolve.specs.Opened.{given_seen};
 ghost use Rattle.mach_resolve.specs.Report.{entry_of, IsOneOf, IsOutcome, IsEntryOutcome, AreEntryOutcomes, IsReport, is_whole, all_whole};
 ghost use Rattle.mach_resolve.specs.Seen.{outcome_seen, report_seen, IsRefusal};
+ghost use Rattle.mach_resolve.specs.declared.failure.Failure.TheVariants as failures;
 
 use crate::answers::all_settled;
 use crate::failure::Failure;
@@ -94,7 +95,8 @@ fn outcome_for<'a, A: Allocator + Copy>(
     program: Given<'a>,
     libraries: &[Given<'a>],
 ) -> Result<Outcome<'a, A>, Failure>
-    ensures { IfOk result (λ o. IsOutcome limit (given_seen program.entry) (map given_seen libraries.now) (outcome_seen o)) }
+    ensures told { IfOk result (λ o. IsOutcome limit (given_seen program.entry) (map given_seen libraries.now) (outcome_seen o)) }
+    ensures memory { IfErr result (λ failure. failure ≡ failures.Memory) }
 {
     match resolve(alloc, limit, program, libraries) {
         Ok(resolved) => Ok(Outcome::Answered(resolved)),
@@ -110,7 +112,8 @@ fn entry_outcome<'a, A: Allocator + Copy>(
     arch: &FatArch,
     libraries: &[Given<'a>],
 ) -> Result<Outcome<'a, A>, Failure>
-    ensures { IfOk result (λ o. IsEntryOutcome limit (entry_of (given_seen program.entry) arch.now) (map given_seen libraries.now) (outcome_seen o)) }
+    ensures told { IfOk result (λ o. IsEntryOutcome limit (entry_of (given_seen program.entry) arch.now) (map given_seen libraries.now) (outcome_seen o)) }
+    ensures memory { IfErr result (λ failure. failure ≡ failures.Memory) }
 {
     let Given { path, bytes } = program;
     let bytes = arch.slice(bytes);
@@ -129,7 +132,8 @@ fn entry_outcomes<'a, A: Allocator + Copy>(
     arches: &[FatArch],
     libraries: &[Given<'a>],
 ) -> Result<Vec<Outcome<'a, A>, A>, Failure>
-    ensures { IfOk result (λ v. AreEntryOutcomes limit (given_seen program.entry) (map given_seen libraries.now) arches.now (map outcome_seen v.items)) }
+    ensures told { IfOk result (λ v. AreEntryOutcomes limit (given_seen program.entry) (map given_seen libraries.now) arches.now (map outcome_seen v.items)) }
+    ensures memory { IfErr result (λ failure. failure ≡ failures.Memory) }
 {
     let mut outcomes = Vec::new(alloc);
     'arches: for arch in arches {
@@ -149,7 +153,8 @@ fn report_all<'a, A: Allocator + Copy>(
     container: &MultiArch<'a, A>,
     libraries: &[Given<'a>],
 ) -> Result<Report<'a, A>, Failure>
-    ensures { IsFatMach program.entry.bytes.now container.now → IfOk result (λ r. IsReport limit (given_seen program.entry) (map given_seen libraries.now) None (report_seen r)) }
+    ensures told { IsFatMach program.entry.bytes.now container.now → IfOk result (λ r. IsReport limit (given_seen program.entry) (map given_seen libraries.now) None (report_seen r)) }
+    ensures memory { IfErr result (λ failure. failure ≡ failures.Memory) }
 {
     match container.arches() {
         Ok(arches) => match entry_outcomes(alloc, limit, program, &arches, libraries) {
@@ -172,7 +177,8 @@ fn report_entry<'a, A: Allocator + Copy>(
     container: &MultiArch<'a, A>,
     libraries: &[Given<'a>],
 ) -> Result<Report<'a, A>, Failure>
-    ensures { IsFatMach program.entry.bytes.now container.now → IfOk result (λ r. IsReport limit (given_seen program.entry) (map given_seen libraries.now) (Some cputype) (report_seen r)) }
+    ensures told { IsFatMach program.entry.bytes.now container.now → IfOk result (λ r. IsReport limit (given_seen program.entry) (map given_seen libraries.now) (Some cputype) (report_seen r)) }
+    ensures memory { IfErr result (λ failure. failure ≡ failures.Memory) }
 {
     match container.find_cputype(cputype) {
         Ok(Some(arch)) => match entry_outcome(alloc, limit, program, &arch, libraries) {
@@ -194,7 +200,8 @@ fn report_one<'a, A: Allocator + Copy>(
     program: Given<'a>,
     libraries: &[Given<'a>],
 ) -> Result<Report<'a, A>, Failure>
-    ensures { IfOk result (λ r. IsOneOf (IsOutcome limit (given_seen program.entry) (map given_seen libraries.now)) (report_seen r)) }
+    ensures told { IfOk result (λ r. IsOneOf (IsOutcome limit (given_seen program.entry) (map given_seen libraries.now)) (report_seen r)) }
+    ensures memory { IfErr result (λ failure. failure ≡ failures.Memory) }
 {
     match outcome_for(alloc, limit, program, libraries) {
         Ok(outcome) => Ok(Report::One(outcome)),
@@ -211,7 +218,8 @@ fn report_image<'a, A: Allocator + Copy>(
     program: Given<'a>,
     libraries: &[Given<'a>],
 ) -> Result<Report<'a, A>, Failure>
-    ensures { IsOfCpu program.entry.bytes.now cputype → IfOk result (λ r. IsReport limit (given_seen program.entry) (map given_seen libraries.now) wanted (report_seen r)) }
+    ensures told { IsOfCpu program.entry.bytes.now cputype → IfOk result (λ r. IsReport limit (given_seen program.entry) (map given_seen libraries.now) wanted (report_seen r)) }
+    ensures memory { IfErr result (λ failure. failure ≡ failures.Memory) }
 {
     match wanted {
         Some(other) if other != cputype => Ok(Report::Nothing(other)),
@@ -228,7 +236,8 @@ pub fn report_on<'a, A: Allocator + Copy>(
     program: Given<'a>,
     libraries: &[Given<'a>],
 ) -> Result<Report<'a, A>, Failure>
-    ensures { IfOk result (λ r. IsReport limit (given_seen program.entry) (map given_seen libraries.now) wanted (report_seen r)) }
+    ensures told { IfOk result (λ r. IsReport limit (given_seen program.entry) (map given_seen libraries.now) wanted (report_seen r)) }
+    ensures memory { IfErr result (λ failure. failure ≡ failures.Memory) }
 {
     match Mach::parse(alloc, program.bytes) {
         Ok(Mach::Binary(image)) => {

@@ -16,4 +16,4 @@ arches-preserved g c =
     let o = c.in-Ok.outcome in
     subst (AreEntryOutcomes c.args.limit p ls (take (i + 1) arches)) (sym (ap (map outcome_seen) c.in_ok-push-in-Ok.ensures.items ∙ map_push outcome_seen os o))
     (subst (λ xs. AreEntryOutcomes c.args.limit p ls xs (map outcome_seen os ++ outcome_seen o ∷ [])) (sym (take_more arches i _ c.arches-test.true))
-    (all_zip_push (λ arch x. IsEntryOutcome c.args.limit (entry_of p arch) ls x) (take i arches) (map outcome_seen os) _ (outcome_seen o) c.arches.invariant c.in-Ok.ensures))
+    (all_zip_push (λ arch x. IsEntryOutcome c.args.limit (entry_of p arch) ls x) (take i arches) (map outcome_seen os) _ (outcome_seen o) c.arches.invariant c.in-Ok.ensures.told))

@@ -7,14 +7,14 @@ use Rattle.mach_resolve.specs.Seen.{outcome_seen}
 use Rattle.mach_resolve.proofs.Reports.{program_refused, table_refused}
 use Rattle.mach_resolve.proofs.report.report_all.Goals as goal
 
-pub returns-in-Ok-entry_outcomes : goal.returns-in-Ok-entry_outcomes
-returns-in-Ok-entry_outcomes g c = λ is.
+pub returns-in-Ok-entry_outcomes-clause-told : goal.returns-in-Ok-entry_outcomes-clause-told
+returns-in-Ok-entry_outcomes-clause-told g c = λ is.
     fat (file_held c.args.container.now) c.in-Ok.arches.items _ is.magic is.file c.in-Ok.ensures
     (subst (λ xs. AreEntryOutcomes c.args.limit (given_seen c.args.program) (map given_seen c.args.libraries.now) xs (map outcome_seen c.in-Ok-entry_outcomes.outcomes.items))
-    c.deref.ensures.value c.in-Ok-entry_outcomes.ensures)
+    c.deref.ensures.value c.in-Ok-entry_outcomes.ensures.told)
 
-pub returns-in-Ok-refusal : goal.returns-in-Ok-refusal
-returns-in-Ok-refusal g c = λ is.
+pub returns-in-Ok-refusal-clause-told : goal.returns-in-Ok-refusal-clause-told
+returns-in-Ok-refusal-clause-told g c = λ is.
     let p = given_seen c.args.program in
     let file = file_held c.args.container.now in
     let e = c.in-Err.error in

@@ -9,21 +9,21 @@ use Rattle.mach_resolve.proofs.Notes.{stands_as}
 use Rattle.mach_resolve.proofs.Reports.{program_refused, search_refused}
 use Rattle.mach_resolve.proofs.report.report_entry.Goals as goal
 
-pub returns-in-Ok : goal.returns-in-Ok
-returns-in-Ok g c = λ is.
+pub returns-in-Ok-clause-told : goal.returns-in-Ok-clause-told
+returns-in-Ok-clause-told g c = λ is.
     let p = given_seen c.args.program in
     let arm = c.in-Ok-Some in
     entry c.args.cputype arm.arch (outcome_seen c.in-Ok.outcome)
-    (finds p.bytes c.args.container.now c.args.cputype _ is (rw (arm.is, arm.field-0-is) at c.find_cputype.ensures)) c.in-Ok.ensures
+    (finds p.bytes c.args.container.now c.args.cputype _ is (rw (arm.is, arm.field-0-is) at c.find_cputype.ensures)) c.in-Ok.ensures.told
 
-pub returns-in-Ok-None : goal.returns-in-Ok-None
-returns-in-Ok-None g c = λ is.
+pub returns-in-Ok-None-clause-told : goal.returns-in-Ok-None-clause-told
+returns-in-Ok-None-clause-told g c = λ is.
     let p = given_seen c.args.program in
     let arm = c.in-Ok-None in
     no_entry c.args.cputype (finds p.bytes c.args.container.now c.args.cputype _ is (rw (arm.is, arm.field-0-is) at c.find_cputype.ensures))
 
-pub returns-in-Ok-refusal : goal.returns-in-Ok-refusal
-returns-in-Ok-refusal g c = λ is.
+pub returns-in-Ok-refusal-clause-told : goal.returns-in-Ok-refusal-clause-told
+returns-in-Ok-refusal-clause-told g c = λ is.
     let p = given_seen c.args.program in
     let file = file_held c.args.container.now in
     let e = c.in-Err.error in
