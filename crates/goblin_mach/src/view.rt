@@ -144,7 +144,8 @@ fn file_items<'a, A: Allocator + Clone, B: Allocator + Clone>(
     alloc: B,
     file: &Mach<'a, A>,
 ) -> Result<Vec<Result<LinkView<'a, B>>, B>>
-    ensures viewed { (bytes : List ℕ) → IsMach IsImage bytes file.now → IfOk result (λ v. (entries : List (Result FatEntry Fault)) × HasEntries bytes entries × AreViewItems entries v.items) }
+    ensures viewed { (bytes : List ℕ) → IsMach IsImage bytes file.now
+        → IfOk result (λ v. (entries : List (Result FatEntry Fault)) × HasEntries bytes entries × AreViewItems entries v.items) }
     ensures refused { (bytes : List ℕ) → IsMach IsImage bytes file.now → IfErr result (Stands (ViewFault bytes)) }
 {
     match file {

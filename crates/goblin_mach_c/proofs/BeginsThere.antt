@@ -33,8 +33,8 @@ pub whole_list : (c : gm_binding_cursor) (x : Binds) (chained : Result (Option F
 whole_list c x chained items p q b = record {
   by_opcodes = b.by_opcodes;
   by_chains = bindings_by chained x b.fixups;
-  opcodes = subst (λ (n : ℕ). behind.AreAtStage (stage_of n) c.opcodes.binds x b.by_opcodes) p b.opcodes;
-  chains = by_fixups chained x b.fixups (subst (λ (n : ℕ). fixups.AreAtStage (stage_of n) c.chains.chains chained x.segments b.fixups) q b.chains);
+  opcodes = subst (λ (n : ℕ). behind.AreBindingsAtStage (stage_of n) c.opcodes.binds x b.by_opcodes) p b.opcodes;
+  chains = by_fixups chained x b.fixups (subst (λ (n : ℕ). fixups.AreFixupsAtStage (stage_of n) c.chains.chains chained x.segments b.fixups) q b.chains);
   are = b.are;
 }
 
@@ -45,7 +45,7 @@ behind_start c x chained items p q b =
     record {
       by_opcodes = b.by_opcodes;
       fixups = found.0;
-      opcodes = subst (λ (n : ℕ). behind.AreAtStage (stage_of n) c.opcodes.binds x b.by_opcodes) (sym p) b.opcodes;
-      chains = subst (λ (n : ℕ). fixups.AreAtStage (stage_of n) c.chains.chains chained x.segments found.0) (sym q) found.1;
+      opcodes = subst (λ (n : ℕ). behind.AreBindingsAtStage (stage_of n) c.opcodes.binds x b.by_opcodes) (sym p) b.opcodes;
+      chains = subst (λ (n : ℕ). fixups.AreFixupsAtStage (stage_of n) c.chains.chains chained x.segments found.0) (sym q) found.1;
       are = b.are ∙ ap (λ (l : List (Result Binding Fault)). upto_fault (b.by_opcodes ++ l)) found.2;
     }

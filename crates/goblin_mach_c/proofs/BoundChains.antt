@@ -9,7 +9,7 @@ use Rattle.mach_base.proofs.Binds.{same_ok}
 use Rattle.mach_chained.specs.Bindings.{bindings_of}
 use Rattle.mach_chained.specs.FixupsLeft as walk
 use Rattle.mach_chained.specs.Formats.{import_format_of}
-use Rattle.mach_chained.specs.Header.{Fixups, fixups_at, header_at, readable}
+use Rattle.mach_chained.specs.Header.{Fixups, fixups_at, header_at, readable_header}
 use Rattle.mach_chained.specs.Views.{fixups_view}
 use Rattle.mach_chained.specs.declared.format.ImportFormat.{ImportFormat}
 use Rattle.mach_chained.specs.declared.header.ChainedFixupsHeader.{ChainedFixupsHeader}
@@ -17,7 +17,7 @@ use Rattle.mach_segments.specs.Segment.{SegmentView, segment_view}
 use Rattle.mach_segments.specs.declared.segment.Segment.{Segment}
 use Rattle.mach_image.specs.Fixups.{base_of, chained_at}
 use Rattle.goblin_mach_c.specs.BindingsBehind.{bindings_by, chains_by}
-use Rattle.goblin_mach_c.specs.FixupsBehind.{AreOver, items_left}
+use Rattle.goblin_mach_c.specs.FixupsBehind.{AreFixupRowsOver, fixup_rows_left}
 use Rattle.goblin_mach_c.specs.ImportsBehind.{Binds}
 use Rattle.goblin_mach_c.specs.declared.fixups.FixupRows.{FixupRows}
 use Rattle.goblin_mach_c.specs.declared.fixups.FixupRows.TheVariants as rows
@@ -51,19 +51,19 @@ by_header le payload (Err f) c e = absurd (cc)
 
 by_front : (le : Endian) (payload : List ℕ) (front : Result ChainedFixupsHeader Fault) (c : Fixups)
     → (front
-    >>= λ t. readable t
+    >>= λ t. readable_header t
     >>= λ h. found_or_malformed (import_format_of h.imports_format)
     >>= λ m. number_at le 4 payload h.starts_offset
     >>= λ n. Ok (record { payload = payload; header = h; format = m; segment_count = n; le = le }))
     ≡ Ok c
     → payload ≡ c.payload
-by_front le payload (Ok t) c e = by_header le payload (readable t) c e
+by_front le payload (Ok t) c e = by_header le payload (readable_header t) c e
 by_front le payload (Err f) c e = absurd (cc)
 
 by_payload : (le : Endian) (payload : Result (List ℕ) Fault) (c : Fixups)
     → (payload
     >>= λ p. header_at le p
-    >>= λ t. readable t
+    >>= λ t. readable_header t
     >>= λ h. found_or_malformed (import_format_of h.imports_format)
     >>= λ m. number_at le 4 p h.starts_offset
     >>= λ n. Ok (record { payload = p; header = h; format = m; segment_count = n; le = le }))
@@ -96,10 +96,12 @@ none_by (Ok None) x = refl
 none_by (Ok (Some c)) x = refl
 
 pub same_chains : (chained : Result (Option Fixups) Fault) (x : Binds) (it : FixupRows) (segments : List Segment) (base : ℕ) (libs : List (List ℕ))
-    → AreOver (record { chained = chained; segments = x.segments }) it → libs ≡ x.libs → map segment_view segments ≡ x.segments → base ≡ base_of x.segments
-    → chains_by it segments base libs ≡ bindings_by chained x (items_left it)
+    → AreFixupRowsOver (record { chained = chained; segments = x.segments }) it → libs ≡ x.libs → map segment_view segments ≡ x.segments
+    → base ≡ base_of x.segments
+    → chains_by it segments base libs ≡ bindings_by chained x (fixup_rows_left it)
 same_chains chained x (rows.Unread None) segments base libs over l s b = none_by chained x
-same_chains chained x (rows.Unread (Some e)) segments base libs over l s b = sym (ap (λ (r : Result (Option Fixups) Fault). bindings_by r x (Err (fault_of e) ∷ [])) over)
+same_chains chained x (rows.Unread (Some e)) segments base libs over l s b =
+    sym (ap (λ (r : Result (Option Fixups) Fault). bindings_by r x (Err (fault_of e) ∷ [])) over)
 same_chains chained x (rows.Chains it) segments base libs over l s b =
     let left = walk.fixups_left it.fixups in
     let front = fixups_view it.chained in

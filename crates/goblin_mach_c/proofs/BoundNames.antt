@@ -11,16 +11,16 @@ use Rattle.mach_base.specs.Fault.{Fault, bad_input, bad_offset, too_big}
 use Rattle.mach_base.specs.Number.{slice_at}
 use Rattle.mach_base.specs.Text.{is_zero, run_at, text_at}
 use Rattle.mach_base.proofs.Binds.{chosen, same_ok}
-use Rattle.mach_chained.specs.Bindings.{binding_by, binding_in, binding_of, place_in_file, signed_or_malformed}
-use Rattle.mach_chained.specs.Fixups.{Fixup, Input}
-use Rattle.mach_chained.specs.Imports.{Import, import_at}
-use Rattle.mach_chained.specs.Pointers.{Kind, bind}
+use Rattle.mach_chained.specs.Bindings.{binding_by, binding_in, chained_binding_of, place_in_file, signed_or_malformed}
+use Rattle.mach_chained.specs.Fixups.{Fixup, FixupInput}
+use Rattle.mach_chained.specs.Imports.{FixupImport, import_at}
+use Rattle.mach_chained.specs.Pointers.{KindOfFixup, bind}
 use Rattle.mach_segments.specs.Bindings.{Binding, Provider, provider_of}
 use Rattle.mach_base.specs.declared.error.Error.{Error}
-use Rattle.mach_binds.specs.BindCursors.{Stands}
+use Rattle.mach_binds.specs.BindCursors.{TextStands}
 use Rattle.mach_binds.specs.declared.imports.cursor.PlacedBinding.{PlacedBinding}
-use Rattle.goblin_mach_c.specs.BindingRows.{StandsIn}
-use Rattle.goblin_mach_c.specs.BindingsBehind.{IsPlaced}
+use Rattle.goblin_mach_c.specs.BindingRows.{NameStandsAt}
+use Rattle.goblin_mach_c.specs.BindingsBehind.{HasPlacedName}
 
 -- the front of a list, by its own length
 front_again : (n : ℕ) (xs : List ℕ) → take (length (take n xs)) xs ≡ take n xs
@@ -33,7 +33,7 @@ front_short zero xs = omega arith
 front_short (suc n) [] = omega arith
 front_short (suc n) (x ∷ xs) = let rest = front_short n xs in omega (arith, rest)
 
-run_there : (bytes : List ℕ) (s : ℕ) → s < length bytes → StandsIn bytes s (run_at bytes s)
+run_there : (bytes : List ℕ) (s : ℕ) → s < length bytes → NameStandsAt bytes s (run_at bytes s)
 run_there bytes s inside =
     let n = position_or_len is_zero (drop s bytes) in
     let short = front_short n (drop s bytes) in
@@ -41,14 +41,14 @@ run_there bytes s inside =
     record { within = omega (arith, inside, short, long); there = front_again n (drop s bytes) }
 
 -- a text that is read at a place stands there
-pub text_stands : (bytes : List ℕ) (s : ℕ) (text : List ℕ) → text_at bytes s ≡ Ok text → StandsIn bytes s text
+pub text_stands : (bytes : List ℕ) (s : ℕ) (text : List ℕ) → text_at bytes s ≡ Ok text → NameStandsAt bytes s text
 unfolding text_at
 text_stands bytes s text e =
     let run = run_at bytes s in
     elim (chosen (nat_le (length bytes) s) (Err (bad_offset s)) (cond (is_utf8 run) (Ok run) (Err (bad_input (length bytes - s)))) (Ok text) e) [
       | inl wrong ↦ absurd (let x = wrong.1 in cc)
       | inr inner ↦ elim (chosen (is_utf8 run) (Ok run) (Err (bad_input (length bytes - s))) (Ok text) inner.1) [
-        | inl good ↦ subst (StandsIn bytes s) (same_ok good.1) (run_there bytes s (leb-false (length bytes) s inner.0))
+        | inl good ↦ subst (NameStandsAt bytes s) (same_ok good.1) (run_there bytes s (leb-false (length bytes) s inner.0))
         | inr wrong ↦ absurd (let x = wrong.1 in cc)
       ]
     ]
@@ -71,8 +71,8 @@ part_lies size bytes from part e =
     ]
 
 -- what stands in a part of the bytes stands in the bytes
-pub part_stands : (size : ℕ) (bytes : List ℕ) (from : ℕ) (part : List ℕ) (s : ℕ) (text : List ℕ) → slice_at size bytes from ≡ Ok part → StandsIn part s text
-    → StandsIn bytes (from + s) text
+pub part_stands : (size : ℕ) (bytes : List ℕ) (from : ℕ) (part : List ℕ) (s : ℕ) (text : List ℕ) → slice_at size bytes from ≡ Ok part → NameStandsAt part s text
+    → NameStandsAt bytes (from + s) text
 part_stands size bytes from part s text e there =
     let lies = part_lies size bytes from part e in
     let within = lies.within in
@@ -94,20 +94,30 @@ part_stands size bytes from part s text e there =
     }
 
 -- a binding that is made of these has the import's name
-by_addend : (i : Import) (provider : Provider) (offset address : ℕ) (addend : Result ℤ Fault) (b : Binding)
-    → (addend >>= λ a. Ok (record { name = i.name; provider = provider; offset = offset; address = address; addend = a; is_weak = i.is_weak; is_lazy = false })) ≡ Ok b
+by_addend : (i : FixupImport) (provider : Provider) (offset address : ℕ) (addend : Result ℤ Fault) (b : Binding)
+    → (addend >>= λ a. Ok (record {
+      name = i.name;
+      provider = provider;
+      offset = offset;
+      address = address;
+      addend = a;
+      is_weak = i.is_weak;
+      is_lazy =
+          false;
+    })) ≡ Ok b
     → b.name ≡ i.name
 by_addend i provider offset address (Ok a) b e = ap (λ (v : Binding). v.name) (sym (same_ok e))
 by_addend i provider offset address (Err f) b e = absurd (cc)
 
-by_offset : (i : Import) (provider : Provider) (offset : Result ℕ Fault) (address : ℕ) (addend : Result ℤ Fault) (b : Binding)
-    → (offset >>= λ o. addend >>= λ a. Ok (record { name = i.name; provider = provider; offset = o; address = address; addend = a; is_weak = i.is_weak; is_lazy = false }))
+by_offset : (i : FixupImport) (provider : Provider) (offset : Result ℕ Fault) (address : ℕ) (addend : Result ℤ Fault) (b : Binding)
+    → (offset >>= λ o. addend >>= λ a. Ok
+    (record { name = i.name; provider = provider; offset = o; address = address; addend = a; is_weak = i.is_weak; is_lazy = false }))
     ≡ Ok b
     → b.name ≡ i.name
 by_offset i provider (Ok o) address addend b e = by_addend i provider o address addend b e
 by_offset i provider (Err f) address addend b e = absurd (cc)
 
-by_provider : (i : Import) (provider : Result Provider Fault) (offset : Result ℕ Fault) (address : ℕ) (addend : Result ℤ Fault) (b : Binding)
+by_provider : (i : FixupImport) (provider : Result Provider Fault) (offset : Result ℕ Fault) (address : ℕ) (addend : Result ℤ Fault) (b : Binding)
     → (provider
     >>= λ p. offset
     >>= λ o. addend
@@ -117,14 +127,14 @@ by_provider : (i : Import) (provider : Result Provider Fault) (offset : Result �
 by_provider i (Ok p) offset address addend b e = by_offset i p offset address addend b e
 by_provider i (Err f) offset address addend b e = absurd (cc)
 
-by_import : (x : Input) (libs : List (List ℕ)) (f : Fixup) (inline : ℤ) (found : Result Import Fault) (b : Binding)
+by_import : (x : FixupInput) (libs : List (List ℕ)) (f : Fixup) (inline : ℤ) (found : Result FixupImport Fault) (b : Binding)
     → (found
     >>= λ i. provider_of libs i.library
     >>= λ p. place_in_file x.segments f.segment f.offset
     >>= λ o. signed_or_malformed (i.addend +ℤ inline)
     >>= λ a. Ok (record { name = i.name; provider = p; offset = o; address = f.address; addend = a; is_weak = i.is_weak; is_lazy = false }))
     ≡ Ok b
-    → (i : Import) × (found ≡ Ok i) × (b.name ≡ i.name)
+    → (i : FixupImport) × (found ≡ Ok i) × (b.name ≡ i.name)
 by_import x libs f inline (Ok i) b e =
     (i, refl, by_provider i (provider_of libs i.library) (place_in_file x.segments f.segment f.offset) f.address (signed_or_malformed (i.addend +ℤ inline)) b e)
 by_import x libs f inline (Err g) b e = absurd (cc)
@@ -133,19 +143,19 @@ some_same : (u v : Result Binding Fault) → Some u ≡ Some v → u ≡ v
 some_same u v e = cc
 
 -- the name of a bind's binding is that of its import
-pub bound_name : (x : Input) (libs : List (List ℕ)) (f : Fixup) (import : ℕ) (inline : ℤ) (b : Binding) → f.kind ≡ bind import inline
-    → binding_in x libs f ≡ Some (Ok b) → (i : Import) × (import_at x.fixups import ≡ Ok i) × (b.name ≡ i.name)
-unfolding binding_of
+pub bound_name : (x : FixupInput) (libs : List (List ℕ)) (f : Fixup) (import : ℕ) (inline : ℤ) (b : Binding) → f.kind ≡ bind import inline
+    → binding_in x libs f ≡ Some (Ok b) → (i : FixupImport) × (import_at x.fixups import ≡ Ok i) × (b.name ≡ i.name)
+unfolding chained_binding_of
 bound_name x libs f import inline b kind is =
-    let whole = ap (λ (k : Kind). binding_by x libs f k) (sym kind) ∙ is in
-    by_import x libs f inline (import_at x.fixups import) b (some_same (binding_of x libs f import inline) (Ok b) whole)
+    let whole = ap (λ (k : KindOfFixup). binding_by x libs f k) (sym kind) ∙ is in
+    by_import x libs f inline (import_at x.fixups import) b (some_same (chained_binding_of x libs f import inline) (Ok b) whole)
 
 -- ---- those of the opcodes
 
-as_placed : (bytes : List ℕ) (p : PlacedBinding) → Stands bytes p.name_place p.binding.name.now → IsPlaced bytes p
+as_placed : (bytes : List ℕ) (p : PlacedBinding) → TextStands bytes p.name_place p.binding.name.now → HasPlacedName bytes p
 as_placed bytes p stands = elim stands [ inl none ↦ inl none | inr text ↦ inr (text_stands bytes p.name_place p.binding.name.now text) ]
 
 pub opcode_placed : (bytes others : List ℕ) → bytes ≡ others → (item : Result PlacedBinding Error)
-    → IfOk item (λ p. Stands bytes p.name_place p.binding.name.now) → IfOk item (IsPlaced others)
-opcode_placed bytes others same (Ok p) stands = subst (λ (b : List ℕ). IsPlaced b p) same (as_placed bytes p stands)
+    → IfOk item (λ p. TextStands bytes p.name_place p.binding.name.now) → IfOk item (HasPlacedName others)
+opcode_placed bytes others same (Ok p) stands = subst (λ (b : List ℕ). HasPlacedName b p) same (as_placed bytes p stands)
 opcode_placed bytes others same (Err e) stands = tt

@@ -8,7 +8,7 @@ use Rattle.mach_base.specs.Fault.{bad_offset, too_big}
 use Rattle.mach_base.specs.Record.{Value}
 use Rattle.mach_headers.specs.Fat.{fat_arch_of_values}
 use Rattle.goblin_mach.specs.FatFile.{arch_at, arch_place}
-use Rattle.goblin_mach_c.specs.FatRows.{fat_row, whole_records}
+use Rattle.goblin_mach_c.specs.FatRows.{fat_row, whole_fat_records}
 
 -- the code of a record that is read so: it isn't behind the end, and is whole
 abbrev code_by : (behind whole : Bool) (s left : ℕ) → List Value → ℕ
@@ -19,10 +19,10 @@ cut_by : (behind whole : Bool) (s left : ℕ) (values : List Value) → whole �
 cut_by true whole s left values e = refl
 cut_by false whole s left values e = rw e refl
 
-place_is : (bytes : List ℕ) (k : ℕ) → length bytes < 2 ^ 64 → k < whole_records bytes → arch_place k ≡ 8 + 20 * k
+place_is : (bytes : List ℕ) (k : ℕ) → length bytes < 2 ^ 64 → k < whole_fat_records bytes → arch_place k ≡ 8 + 20 * k
 place_is bytes k short less = min-eq_left (omega (arith, short, less))
 
-pub whole_codes : (bytes : List ℕ) (k : ℕ) → length bytes < 2 ^ 64 → k < whole_records bytes → (fat_row (arch_at bytes k)).code ≡ 0
+pub whole_codes : (bytes : List ℕ) (k : ℕ) → length bytes < 2 ^ 64 → k < whole_fat_records bytes → (fat_row (arch_at bytes k)).code ≡ 0
 whole_codes bytes k short less =
     let at = place_is bytes k short less in
     let one : nat_le (length bytes) (arch_place k) ≡ false = lt-leb (length bytes) (arch_place k) (omega (arith, at, less)) in
@@ -35,7 +35,7 @@ far a b n p q = elim (cases_lt a b) [
   | inr more ↦ (let m : min a b ≡ b = min-eq_right more in omega (arith, m, q))
 ]
 
-pub cut_codes : (bytes : List ℕ) (k : ℕ) → length bytes < 2 ^ 64 → 8 ≤ length bytes → whole_records bytes ≤ k → (fat_row (arch_at bytes k)).code ≡ 3
+pub cut_codes : (bytes : List ℕ) (k : ℕ) → length bytes < 2 ^ 64 → 8 ≤ length bytes → whole_fat_records bytes ≤ k → (fat_row (arch_at bytes k)).code ≡ 3
 cut_codes bytes k short header more =
     let away : length bytes < arch_place k + 20 = far (8 + 20 * k) (2 ^ 64 - 1) (length bytes) (omega (arith, header, more)) (omega (arith, short)) in
     cut_by (nat_le (length bytes) (arch_place k)) (nat_le (arch_place k + 20) (length bytes)) (arch_place k) (length bytes - arch_place k) _

@@ -4,7 +4,7 @@ use Rattle.std.proofs.Common.{arith}
 use Rattle.std.proofs.lemmas.List.{append-nil, append_assoc, length-append, drop-drop}
 use Rattle.std.proofs.Math.Seq.{take-append_seam, drop-append-add}
 use Rattle.mach_base.specs.Text.{text_at}
-use Rattle.mach_tries.specs.CursorState.{name_of}
+use Rattle.mach_tries.specs.CursorState.{name_met_last}
 use Rattle.mach_tries.specs.Cursors.{HasGivenTo, IsReexportAt, NextGives, place_at}
 use Rattle.mach_tries.specs.Exports.{info_of}
 use Rattle.mach_tries.specs.Nodes as Nodes
@@ -14,7 +14,7 @@ use Rattle.mach_tries.specs.declared.cursor.NextExport.TheVariants.{Export}
 use Rattle.mach_tries.specs.declared.cursor.TrieCursor.{TrieCursor}
 use Rattle.mach_tries.specs.declared.info.ExportInfo.{ExportInfo}
 use Rattle.mach_tries.specs.declared.walk.Open.{Open}
-use Rattle.goblin_mach_c.specs.ExportRows.{export_row, text_or_none}
+use Rattle.goblin_mach_c.specs.ExportRows.{export_row, text_or_empty}
 use Rattle.goblin_mach_c.specs.ExportWalk.{AreListed, AreWritten, IsBrought, IsListed, IsNodeOf, IsNumbered, names_of}
 use Rattle.goblin_mach_c.specs.declared.exports.gm_listed_export.{gm_listed_export}
 use Rattle.goblin_mach_c.specs.declared.find.gm_export.{gm_export}
@@ -57,7 +57,7 @@ module _ (bytes bytes' : List ℕ) (IsLibrary IsLibrary' : ℕ → List ℕ → 
       → IsBrought bytes' IsLibrary' node info number place
   brought_there node (regular address flags) number place b = b
   brought_there node (reexport lib name flags) number place b =
-      (number_place node (number, place) b.0, library number lib b.1, text place (text_or_none name) b.2)
+      (number_place node (number, place) b.0, library number lib b.1, text place (text_or_empty name) b.2)
   brought_there node (stub at resolver flags) number place b = b
 
   listed_there : (place : ℕ) (es : List Entry) (rows : List gm_listed_export) → AreListed bytes IsLibrary IsNode place es rows
@@ -139,13 +139,13 @@ pub one_more : {t : TrieRange} {libs : List (List ℕ)} {c c' d : TrieCursor} {n
     {old new : List gm_listed_export} {text text' after : List ℕ} {k used len : ℕ} {what : gm_export} (info : ExportInfo) (library target node : ℕ)
     → SoFar t libs c c' name name' stack stack' old new text text' k used → k < length old
     → ((found : List Entry) → HasGivenTo t libs c' name' stack' found → NextGives t libs found (Export info) d m q)
-    → len ≡ length (name_of d m) → after ≡ take used text' ++ name_of d m ++ drop (used + len) text' → what ≡ export_row (Some (info_of info))
+    → len ≡ length (name_met_last d m) → after ≡ take used text' ++ name_met_last d m ++ drop (used + len) text' → what ≡ export_row (Some (info_of info))
     → IsNodeOf t libs node (info_of info) → IsBrought t.bytes (IsNumbered libs) node (info_of info) library target
     → SoFar t libs c d name m stack q old (set new k (record { name = used; name_len = len; library = library; target = target; what = what })) text after
     (k + 1) (used + len)
 one_more {t} {libs} {c} {c'} {d} {name} {name'} {m} {stack} {stack'} {q} {old} {new} {text} {text'} {after} {k} {used} {len} {what} info library target node
     so less gives long put is is_node brought =
-    let e = entry (name_of d m) (info_of info) in
+    let e = entry (name_met_last d m) (info_of info) in
     let row : gm_listed_export = record { name = used; name_len = length e.name; library = library; target = target; what = what } in
     let more = written_more e row so.written less
     (record { name = refl; name_len = refl; what = is; node = node; is_node = is_node; brought = brought }) in
@@ -157,7 +157,7 @@ one_more {t} {libs} {c} {c'} {d} {name} {name'} {m} {stack} {stack'} {q} {old} {
 
 -- ---- where a re-export is brought from
 
-text_is : (text : List ℕ) (name : Option (List ℕ)) → name ≡ Nodes.name_of text → text ≡ text_or_none name
+text_is : (text : List ℕ) (name : Option (List ℕ)) → name ≡ Nodes.name_of text → text ≡ text_or_empty name
 text_is [] name e = rw e refl
 text_is (x ∷ xs) name e = rw e refl
 

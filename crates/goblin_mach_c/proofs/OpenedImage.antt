@@ -21,13 +21,13 @@ use Rattle.mach_load.specs.Variants.{command_of}
 use Rattle.mach_image.specs.Image.{AllReadable}
 use Rattle.mach_image.specs.OpenImage.{IsImage, IsLossyImage, commands_held}
 use Rattle.mach_image.specs.declared.macho.MachO.{MachO}
-use Rattle.goblin_mach_c.specs.Codes.{IsRefusal, code_of_fault}
+use Rattle.goblin_mach_c.specs.Codes.{IsRefusalCode, code_of_fault}
 use Rattle.goblin_mach_c.specs.Opened.{AreTableNumbers, HoldsNumbers, IsOpened, flag, width_of}
 use Rattle.goblin_mach_c.specs.Seen.{ctx_seen}
 use Rattle.goblin_mach_c.specs.declared.images.gm_image.{gm_image}
 
 -- an error that reports a fault, or want of memory, has its code
-pub refusal_of : (IsFault : Fault → Type 0) (e : Error) (code : ℕ) → code ≡ code_of_fault (fault_of e) → Stands IsFault e → IsRefusal IsFault code
+pub refusal_of : (IsFault : Fault → Type 0) (e : Error) (code : ℕ) → code ≡ code_of_fault (fault_of e) → Stands IsFault e → IsRefusalCode IsFault code
 refusal_of IsFault (errors.Malformed msg) code is stands = record { fault = fault_of (errors.Malformed msg); is_code = is; stands = inr stands }
 refusal_of IsFault (errors.BadMagic magic) code is stands = record { fault = fault_of (errors.BadMagic magic); is_code = is; stands = inr stands }
 refusal_of IsFault (errors.Scroll e) code is stands = record { fault = fault_of (errors.Scroll e); is_code = is; stands = inr stands }

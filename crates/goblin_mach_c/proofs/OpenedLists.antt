@@ -21,7 +21,7 @@ use Rattle.mach_image.specs.Facts.{HasCommands, HasSegments, HasSymbols}
 use Rattle.mach_image.specs.Image.{LossyOpensAs}
 use Rattle.mach_image.specs.Subjects.{is_symtab, lossy_segment_by, symbols_in, table_by, table_in}
 use Rattle.mach_image.specs.Readings.{Reading, keep, last_or, read_of}
-use Rattle.goblin_mach_c.specs.CommandRows.{commands_from, commands_seen, with_those_behind}
+use Rattle.goblin_mach_c.specs.CommandRows.{readable_commands_from, commands_seen, with_those_behind}
 use Rattle.goblin_mach_c.specs.Opened.{AreNumbers, AreTableNumbers, IsOpened}
 use Rattle.goblin_mach_c.specs.Seen.{ctx_seen}
 use Rattle.goblin_mach_c.specs.Say.{AllSay}
@@ -33,13 +33,14 @@ use Rattle.goblin_mach_c.specs.declared.images.gm_image.{gm_image}
 
 -- commands that stand one behind the other are those that are read one behind the other
 pub chain_is : (le : Endian) (bytes : List ℕ) (s : ℕ) (cs : List Command) → AllThere le bytes cs → BeginsAt s cs → IsLinked cs
-    → commands_from le bytes s (length cs) ≡ cs
-unfolding commands_from
+    → readable_commands_from le bytes s (length cs) ≡ cs
+unfolding readable_commands_from
 chain_is le bytes s [] there begins linked = refl
 chain_is le bytes s (c ∷ []) there begins linked =
     ap (λ found. with_those_behind found (λ d. [])) (ap (command_at le bytes) (sym begins) ∙ there.0)
 chain_is le bytes s (c ∷ d ∷ cs) there begins linked =
-    ap (λ found. with_those_behind found (λ e. commands_from le bytes (s + cmdsize_of e) (length (d ∷ cs)))) (ap (command_at le bytes) (sym begins) ∙ there.0)
+    ap (λ found. with_those_behind found (λ e. readable_commands_from le bytes (s + cmdsize_of e) (length (d ∷ cs))))
+    (ap (command_at le bytes) (sym begins) ∙ there.0)
     ∙ ap (λ tail. c ∷ tail) (chain_is le bytes (s + cmdsize_of c) (d ∷ cs) there.1 (linked.0 ∙ ap (λ n. n + cmdsize_of c) begins) linked.1)
 
 shown_keep : {V R : Type 0} (show : V → R) (found : Option (Result V Fault)) (rows : List R) (vs : List V) → rows ≡ map show vs
@@ -64,9 +65,9 @@ commands_are bytes o ctx cs c opens n =
     let room = opens.counts.sizeofcmds in
     let few : length cs ≤ length bytes / 8 = omega (arith, many, fit, room) in
     let count : min c.commands (length bytes / 8) ≡ length cs = ap (λ k. min k (length bytes / 8)) n.commands ∙ min-eq_left few in
-    ap (λ x. commands_from x.le bytes c.first_command (min c.commands (length bytes / 8))) n.context
-    ∙ ap (λ s. commands_from ctx.le bytes s (min c.commands (length bytes / 8))) n.first_command
-    ∙ ap (λ k. commands_from ctx.le bytes (o + header_size ctx.container) k) count
+    ap (λ x. readable_commands_from x.le bytes c.first_command (min c.commands (length bytes / 8))) n.context
+    ∙ ap (λ s. readable_commands_from ctx.le bytes s (min c.commands (length bytes / 8))) n.first_command
+    ∙ ap (λ k. readable_commands_from ctx.le bytes (o + header_size ctx.container) k) count
     ∙ chain_is ctx.le bytes (o + header_size ctx.container) cs opens.chain.chain.there opens.chain.chain.begins opens.chain.chain.linked
 
 pub commands_of_opened : (bytes : List ℕ) (o : ℕ) (c : gm_image) → IsOpened bytes o c → HasCommands bytes o (commands_seen bytes c)

@@ -8,17 +8,18 @@ use Rattle.mach_binds.specs.Sites.{Site}
 use Rattle.mach_binds.specs.declared.bindings.OpcodeBindingIterator.{OpcodeBindingIterator}
 use Rattle.mach_binds.specs.declared.imports.cursor.PlacedBinding.{PlacedBinding}
 use Rattle.mach_chained.specs.Bindings.{binding_by}
-use Rattle.mach_chained.specs.Fixups.{Fixup, Input}
+use Rattle.mach_chained.specs.Fixups.{Fixup, FixupInput}
 use Rattle.mach_chained.specs.Header.{Fixups}
-use Rattle.mach_chained.specs.Pointers.{Kind, rebase, bind, value}
+use Rattle.mach_chained.specs.Pointers.{KindOfFixup, rebase, bind, value}
 use Rattle.mach_segments.specs.Bindings.{Binding, binding_view}
 use Rattle.mach_segments.specs.Segment.{segment_view}
 use Rattle.mach_segments.specs.declared.segment.Segment.{Segment}
 use Rattle.mach_image.specs.Fixups.{base_of}
-use Rattle.goblin_mach_c.specs.BindingPlaces.{AreSitesAtStage, place_by, places_by, places_of}
-use Rattle.goblin_mach_c.specs.BindingsBehind.{AreAtStage, ArePlacedBehind, BindingSource, ComesFirst, PlaceFirst, PlacedFirst}
-use Rattle.goblin_mach_c.specs.BindingsBehind.{AreOver as AreOverRows, bindings_by, chain_places, chains_by, opcodes_left, opcodes_placed, sites_left, unplaced}
-use Rattle.goblin_mach_c.specs.FixupsBehind.{AreFixupsBehind, AreOver, items_left}
+use Rattle.goblin_mach_c.specs.BindingPlaces.{AreBindingSitesAtStage, with_name_place, places_by, places_of}
+use Rattle.goblin_mach_c.specs.BindingsBehind.{AreBindingsAtStage, ArePlacedBehind, BindingSource, ComesFirst, PlaceFirst, PlacedFirst}
+use Rattle.goblin_mach_c.specs.BindingsBehind.{AreBindingRowsOver, bindings_by, chain_places, chains_by, opcode_rows_left, opcodes_placed}
+use Rattle.goblin_mach_c.specs.BindingsBehind.{opcode_sites_left, unplaced}
+use Rattle.goblin_mach_c.specs.FixupsBehind.{AreFixupsBehind, AreFixupRowsOver, fixup_rows_left}
 use Rattle.goblin_mach_c.specs.ImportsBehind.{Binds}
 use Rattle.goblin_mach_c.specs.Sited.{placed}
 use Rattle.goblin_mach_c.specs.Stage.{stage_of}
@@ -73,8 +74,9 @@ first_of_both (Err e) before after others first = (first.0 ++ others, ap (λ (l 
 -- ---- of the chains
 
 -- a fixup that is no bind has no place
-pub no_place : (x : Input) (libs : List (List ℕ)) (f : Fixup) (kind : Kind) (at : ℕ) (chained : Fixups) (others : List ℕ) → binding_by x libs f kind ≡ None
-    → place_by at chained kind others ≡ others
+pub no_place : (x : FixupInput) (libs : List (List ℕ)) (f : Fixup) (kind : KindOfFixup) (at : ℕ) (chained : Fixups) (others : List ℕ)
+    → binding_by x libs f kind ≡ None
+    → with_name_place at chained kind others ≡ others
 no_place x libs f (rebase target) at chained others none = refl
 no_place x libs f (bind import addend) at chained others none = absurd (cc)
 no_place x libs f (value number) at chained others none = refl
@@ -86,31 +88,31 @@ none_by at (Ok (Some c)) = refl
 
 -- the places that are left are those of the fixups that are left
 pub same_places : (chained : Result (Option Fixups) Fault) (x : Binds) (it : FixupRows) (at : ℕ)
-    → AreOver (record { chained = chained; segments = x.segments }) it → chain_places it at ≡ places_by at chained (items_left it)
+    → AreFixupRowsOver (record { chained = chained; segments = x.segments }) it → chain_places it at ≡ places_by at chained (fixup_rows_left it)
 same_places chained x (variant.Unread None) at over = none_by at chained
 same_places chained x (variant.Unread (Some e)) at over =
     sym (ap (λ (r : Result (Option Fixups) Fault). places_by at r (Err (fault_of e) ∷ [])) over)
 same_places chained x (variant.Chains it) at over =
-    sym (ap (λ (r : Result (Option Fixups) Fault). places_by at r (items_left (variant.Chains it))) over.0)
+    sym (ap (λ (r : Result (Option Fixups) Fault). places_by at r (fixup_rows_left (variant.Chains it))) over.0)
 
 -- ---- what is left to the rows comes behind a cursor
 
 pub whole : (x : BindingSource) (c : gm_binding_cursor) (opcodes : Option OpcodeBindingIterator) (rows : FixupRows) (segments : List Segment) (base : ℕ)
     (libs : List (List ℕ)) (at : ℕ)
-    → AreOver (record { chained = x.chained; segments = x.binds.segments }) rows → libs ≡ x.binds.libs → map segment_view segments ≡ x.binds.segments
-    → base ≡ base_of x.binds.segments → at ≡ x.chains_at → AreAtStage (stage_of c.opcodes.stage) c.opcodes.binds x.binds (opcodes_left opcodes)
-    → AreSitesAtStage (stage_of c.opcodes.stage) c.opcodes.binds x.binds (sites_left opcodes)
-    → AreFixupsBehind c.chains x.chained x.binds.segments (items_left rows)
+    → AreFixupRowsOver (record { chained = x.chained; segments = x.binds.segments }) rows → libs ≡ x.binds.libs → map segment_view segments ≡ x.binds.segments
+    → base ≡ base_of x.binds.segments → at ≡ x.chains_at → AreBindingsAtStage (stage_of c.opcodes.stage) c.opcodes.binds x.binds (opcode_rows_left opcodes)
+    → AreBindingSitesAtStage (stage_of c.opcodes.stage) c.opcodes.binds x.binds (opcode_sites_left opcodes)
+    → AreFixupsBehind c.chains x.chained x.binds.segments (fixup_rows_left rows)
     → ArePlacedBehind c x (upto_fault (opcodes_placed opcodes ++ placed (chains_by rows segments base libs) (chain_places rows at)))
 whole x c opcodes rows segments base libs at over libs_are segments_are base_is at_is items sites chains =
-    let by_opcodes = opcodes_left opcodes in
-    let opcode_places = places_of (sites_left opcodes) in
-    let fixups = items_left rows in
+    let by_opcodes = opcode_rows_left opcodes in
+    let opcode_places = places_of (opcode_sites_left opcodes) in
+    let fixups = fixup_rows_left rows in
     let bound = same_chains x.chained x.binds rows segments base libs over libs_are segments_are base_is in
     let places = ap (chain_places rows) at_is ∙ same_places x.chained x.binds rows x.chains_at over in
     record {
       by_opcodes = by_opcodes;
-      sites = sites_left opcodes;
+      sites = opcode_sites_left opcodes;
       fixups = fixups;
       opcodes = items;
       opcode_sites = sites;
@@ -128,7 +130,7 @@ whole x c opcodes rows segments base libs at over libs_are segments_are base_is 
     }
 
 -- also where nothing is left of the opcodes
-pub over_chains : (x : BindingSource) (it : BindingRows) → AreOverRows x it → AreOverRows x (record it { opcodes = None })
+pub over_chains : (x : BindingSource) (it : BindingRows) → AreBindingRowsOver x it → AreBindingRowsOver x (record it { opcodes = None })
 over_chains x it over = record {
   opcodes = tt;
   fixups = over.fixups;

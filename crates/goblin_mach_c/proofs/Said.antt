@@ -48,7 +48,8 @@ said_more Says items left old out k i row rest p e one less = record {
       ∙ sym (append_assoc p.rows (row ∷ []) (drop (k + 1) old));
 }
 
-first_are : {I R : Type 0} (Says : I → R → Type 0) (items left : List I) (old out : List R) (k : ℕ) (p : SaidPartly Says items left old out k) → p.done ≡ take k items
+first_are : {I R : Type 0} (Says : I → R → Type 0) (items left : List I) (old out : List R) (k : ℕ) (p : SaidPartly Says items left old out k)
+    → p.done ≡ take k items
 first_are Says items left old out k p = sym (take-append_seam p.done left) ∙ ap (λ n. take n (p.done ++ left)) p.many ∙ ap (take k) (sym p.are)
 
 -- where nothing is left, or the array is full, all that fit are said
@@ -70,7 +71,8 @@ all_said Says items left old out k p less end =
       are = p.written;
     }
 
-pub rest_said : {I R : Type 0} (Says : I → R → Type 0) (items left : List I) (old out : List R) (k : ℕ) → SaidPartly Says items left old out k → left ≡ drop k items
+pub rest_said : {I R : Type 0} (Says : I → R → Type 0) (items left : List I) (old out : List R) (k : ℕ) → SaidPartly Says items left old out k
+    → left ≡ drop k items
 rest_said Says items left old out k p =
     sym (drop-append_seam p.done left) ∙ ap (λ n. drop n (p.done ++ left)) p.many ∙ ap (drop k) (sym p.are)
 

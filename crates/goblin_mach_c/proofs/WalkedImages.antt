@@ -15,7 +15,7 @@ use Rattle.mach_image.specs.Subjects.{trie_or_empty}
 use Rattle.mach_image.specs.declared.macho.MachO.{MachO}
 use Rattle.mach_image.proofs.ImageFacts.{exports_are, exports_fail, facts_are, libraries_are}
 use Rattle.mach_image.proofs.Walked.{walked_fault, walked_list}
-use Rattle.goblin_mach_c.specs.ExportWalk.{AreWritten, EndsWith, GoesAlong, GoesOn, HasLibrary, HasNextName, HasNodeOf, HasWalked, HasWalkedTrie}
+use Rattle.goblin_mach_c.specs.ExportWalk.{AreWritten, EndsWholeWith, GoesAlong, GivesFurther, HasLibrary, HasNextName, HasNodeOf, HasWalked, HasWalkedTrie}
 use Rattle.goblin_mach_c.specs.ExportWalk.{IsNextName, IsNodeOf, IsNumbered, no_batch}
 use Rattle.goblin_mach_c.proofs.ListedExports.{written_there}
 use Rattle.goblin_mach_c.proofs.TrieBytes.{place_there, text_there}
@@ -29,7 +29,7 @@ pub none_written : (bytes : List ℕ) (o : ℕ) (b : gm_export_batch) (out : Lis
     → AreWritten bytes (HasLibrary bytes o) (HasNodeOf bytes o) [] b.count b.names_len out out text text
 none_written bytes o b out text is = rw is (record { is_count = refl; is_used = refl; listed = []; are = tt; rows = refl; names = refl })
 
-pub stays : (bytes : List ℕ) (o : ℕ) (w : gm_export_walk) (name : List ℕ) (stack : List Open) → GoesOn bytes o w name stack [] w name stack
+pub stays : (bytes : List ℕ) (o : ℕ) (w : gm_export_walk) (name : List ℕ) (stack : List Open) → GivesFurther bytes o w name stack [] w name stack
 stays bytes o w name stack found h = subst (HasWalked bytes o w name stack) (sym (append-nil found)) h
 
 pub no_end : (b : gm_export_batch) → b ≡ no_batch → b.end ≡ 1 → ⊥
@@ -82,10 +82,10 @@ module _ (bytes : List ℕ) (o : ℕ) (m : MachO Global) (p : IsLossyImage bytes
 
   module _ (w w' : gm_export_walk) (name name' : List ℕ) (stack stack' : List Open) (given : List Entry) (end : ℕ)
       (g : GoesAlong trie libs w w' name name' stack stack' given end) where
-    pub goes_on : GoesOn bytes o w name stack given w' name' stack'
+    pub goes_on : GivesFurther bytes o w name stack given w' name' stack'
     goes_on found q = there w' name' stack' (found ++ given) (g.walked found (held w name stack found q))
 
-    pub ends_with : end ≡ 1 → EndsWith bytes o w name stack given
+    pub ends_with : end ≡ 1 → EndsWholeWith bytes o w name stack given
     ends_with one found q =
         let h = held w name stack found q in record {
           met = (facts_are bytes o m p (λ f. AreAllMet (trie_or_empty f.trie) f.libs (found ++ given))).1 (g.met one found h);

@@ -42,4 +42,5 @@ pub given_begins_list : (bytes : List ℕ) (o : ℕ) (w : gm_export_walk) (name 
     → HasWalked bytes o w name stack found → HasExports bytes o list → (rest : List Entry) × (list ≡ found ++ rest)
 given_begins_list bytes o w name stack found list walked exports =
     walk_begins_list (trie_in bytes walked.cs) (libs_in bytes walked.cs) w name stack found list walked.holds
-    (one_image bytes o (λ ctx cs. ListsImageExports (trie_in bytes cs) (libs_in bytes cs) list) walked.ctx walked.cs walked.opens exports) w.is_begun w.code refl refl
+    (one_image bytes o (λ ctx cs. ListsImageExports (trie_in bytes cs) (libs_in bytes cs) list) walked.ctx walked.cs walked.opens exports) w.is_begun
+    w.code refl refl

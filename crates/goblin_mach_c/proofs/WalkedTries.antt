@@ -8,7 +8,7 @@ use Rattle.mach_tries.specs.Trie.{Entry}
 use Rattle.mach_tries.specs.TrieRange.{ListsExports, ExportsFault, TrieRange}
 use Rattle.mach_tries.specs.declared.cursor.TrieCursor.{TrieCursor}
 use Rattle.mach_tries.specs.declared.walk.Open.{Open}
-use Rattle.goblin_mach_c.specs.ExportWalk.{GoesAlong, HasWalkedTrie, IsCode, IsCutFor, IsNextName, StopsAt, end_number, next_of}
+use Rattle.goblin_mach_c.specs.ExportWalk.{GoesAlong, HasWalkedTrie, IsCode, IsCutFor, IsNextName, StopsAt, end_number, next_export_of}
 use Rattle.goblin_mach_c.specs.declared.exports.Ending.{Ending}
 use Rattle.goblin_mach_c.specs.declared.exports.Ending.TheVariants.{End, Refused, NameTooLong, StackTooShort}
 use Rattle.goblin_mach_c.specs.declared.exports.gm_export_walk.{gm_export_walk}
@@ -77,7 +77,7 @@ goes_along {t} {libs} {w} {b} {w'} {name} {name'} {stack} {stack'} {given} rows 
 
 -- the name that was too long
 pub long_name : (t : TrieRange) (c : TrieCursor) (name : List ℕ) (stack : List Open) (e : Ending) (n : ℕ)
-    → ◌≡◌ {A = Option Ending} (Some e) (Some (NameTooLong n)) → length name < 2 ^ 64 - 1 → IsFull t.bytes t.from c name stack (Some (next_of (Err e)))
+    → ◌≡◌ {A = Option Ending} (Some e) (Some (NameTooLong n)) → length name < 2 ^ 64 - 1 → IsFull t.bytes t.from c name stack (Some (next_export_of (Err e)))
     → (length name < n) × IsNextName t c n
 long_name t c name stack (End) n is few full = absurd (cc)
 long_name t c name stack (Refused error) n is few full = absurd (cc)

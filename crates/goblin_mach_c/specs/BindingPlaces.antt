@@ -9,27 +9,27 @@ use Rattle.mach_binds.specs.declared.imports.cursor.BindCursor.{BindCursor}
 use Rattle.mach_chained.specs.Fixups.{Fixup}
 use Rattle.mach_chained.specs.Header.{Fixups}
 use Rattle.mach_chained.specs.Imports.{name_place_at}
-use Rattle.mach_chained.specs.Pointers.{Kind, rebase, bind, value}
+use Rattle.mach_chained.specs.Pointers.{KindOfFixup, rebase, bind, value}
 use Rattle.goblin_mach_c.specs.ImportsBehind.{Binds}
 use Rattle.goblin_mach_c.specs.Stage.{Stage, start, under_way, over}
 
 -- ---- of the opcodes
 
 -- the sites of all bindings
-abbrev pub AreAllSites : Option BindRanges → Binds → List Site → Type 0
-AreAllSites None x sites = sites ≡ []
-AreAllSites (Some b) x sites = AreBindingSites (input_in b x.pointer x.libs x.segments) b.non_lazy b.lazy sites
+abbrev pub AreAllBindingSites : Option BindRanges → Binds → List Site → Type 0
+AreAllBindingSites None x sites = sites ≡ []
+AreAllBindingSites (Some b) x sites = AreBindingSites (input_in b x.pointer x.libs x.segments) b.non_lazy b.lazy sites
 
 -- those of the bindings behind a place of the streams
-abbrev pub sites_behind : BindCursor → Option BindRanges → Binds → List Site
-sites_behind c None x = []
-sites_behind c (Some b) x = binding_sites_behind (input_in b x.pointer x.libs x.segments) b.lazy c
+abbrev pub opcode_sites_behind : BindCursor → Option BindRanges → Binds → List Site
+opcode_sites_behind c None x = []
+opcode_sites_behind c (Some b) x = binding_sites_behind (input_in b x.pointer x.libs x.segments) b.lazy c
 
 -- those that come at a stage
-abbrev pub AreSitesAtStage : Stage → BindCursor → Binds → List Site → Type 0
-AreSitesAtStage start c x sites = AreAllSites x.ranges x sites
-AreSitesAtStage under_way c x sites = sites ≡ sites_behind c x.ranges x
-AreSitesAtStage over c x sites = sites ≡ []
+abbrev pub AreBindingSitesAtStage : Stage → BindCursor → Binds → List Site → Type 0
+AreBindingSitesAtStage start c x sites = AreAllBindingSites x.ranges x sites
+AreBindingSitesAtStage under_way c x sites = sites ≡ opcode_sites_behind c x.ranges x
+AreBindingSitesAtStage over c x sites = sites ≡ []
 
 abbrev pub places_of : List Site → List ℕ
 places_of sites = map (λ (s : Site). s.name_place) sites
@@ -42,21 +42,21 @@ data_place None = 0
 data_place (Some found) = found.0
 
 -- a place of the data; where there is none no name is read
-abbrev pub place_behind : ℕ → Result ℕ Fault → ℕ
-place_behind at (Ok place) = at + place
-place_behind at (Err f) = 0
+abbrev pub place_in_data : ℕ → Result ℕ Fault → ℕ
+place_in_data at (Ok place) = at + place
+place_in_data at (Err f) = 0
 
 -- the place of a bind's name, before those of others
-abbrev pub place_by : ℕ → Fixups → Kind → List ℕ → List ℕ
-place_by at chained (bind import addend) rest = place_behind at (name_place_at chained import) ∷ rest
-place_by at chained (rebase target) rest = rest
-place_by at chained (value number) rest = rest
+abbrev pub with_name_place : ℕ → Fixups → KindOfFixup → List ℕ → List ℕ
+with_name_place at chained (bind import addend) rest = place_in_data at (name_place_at chained import) ∷ rest
+with_name_place at chained (rebase target) rest = rest
+with_name_place at chained (value number) rest = rest
 
 -- those of the binds among some fixups, in order
 abbrev pub places_in : ℕ → Fixups → List (Result Fixup Fault) → List ℕ
 places_in at chained [] = []
 places_in at chained (Err f ∷ fixups) = []
-places_in at chained (Ok f ∷ fixups) = place_by at chained f.kind (places_in at chained fixups)
+places_in at chained (Ok f ∷ fixups) = with_name_place at chained f.kind (places_in at chained fixups)
 
 -- none where the front of the chains can't be read
 abbrev pub places_by : ℕ → Result (Option Fixups) Fault → List (Result Fixup Fault) → List ℕ

@@ -56,14 +56,14 @@ no_binding f =
     }
 
 -- the bytes of a name stand at a place
-pub record StandsIn (bytes : List ℕ) (place : ℕ) (name : List ℕ) : Type 0 where
+pub record NameStandsAt (bytes : List ℕ) (place : ℕ) (name : List ℕ) : Type 0 where
   pub within : place + length name ≤ length bytes
   pub there : take (length name) (drop place bytes) ≡ name
 
 -- The row has the numbers of the binding and the place of its name, and the name stands there.
 pub record SaysBinding (bytes : List ℕ) (b : Binding) (place : ℕ) (row : gm_binding) : Type 0 where
   pub numbers : row ≡ binding_row (told_at b.name place) b
-  pub name : StandsIn bytes row.name b.name
+  pub name : NameStandsAt bytes row.name b.name
 
 -- a row says a binding with the place of its name, or the fault that ends them
 abbrev pub IsBindingRow : List ℕ → Result (Binding × ℕ) Fault → gm_binding → Type 0

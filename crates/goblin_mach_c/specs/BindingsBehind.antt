@@ -5,7 +5,8 @@ use Rattle.mach_base.specs.Number.{slice_at}
 use Rattle.mach_base.specs.declared.context.Ctx.{Ctx}
 use Rattle.mach_base.specs.declared.error.Error.{Error}
 use Rattle.mach_load.specs.Command.{Command}
-use Rattle.mach_segments.specs.Bindings.{Binding, binding_view, texts}
+use Rattle.mach_segments.specs.Bindings.{Binding, binding_view}
+use Rattle.mach_base.specs.Text.{texts}
 use Rattle.mach_segments.specs.Segment.{segment_view}
 use Rattle.mach_segments.specs.declared.segment.Segment.{Segment}
 use Rattle.mach_chained.specs.Bindings.{bindings_of}
@@ -13,11 +14,11 @@ use Rattle.mach_chained.specs.Fixups.{Fixup}
 use Rattle.mach_chained.specs.FixupsLeft as walk
 use Rattle.mach_chained.specs.Header.{Fixups}
 use Rattle.mach_chained.specs.Views.{fixups_view}
-use Rattle.mach_chained.specs.WalkViews.{input_in}
-use Rattle.mach_binds.specs.BindCursors.{IsOverBindings, bindings_behind}
+use Rattle.mach_chained.specs.WalkViews.{fixup_input_in}
+use Rattle.mach_binds.specs.BindCursors.{IsOverBindings, opcode_bindings_behind}
 use Rattle.mach_binds.specs.Bindings.{upto_fault}
 use Rattle.mach_binds.specs.BindingsLeft as opcodes
-use Rattle.mach_binds.specs.Imports.{BindRanges, input_in as bind_input}
+use Rattle.mach_binds.specs.Imports.{BindRanges, input_in}
 use Rattle.mach_binds.specs.SiteCursors.{binding_sites_left}
 use Rattle.mach_binds.specs.Sites.{Site}
 use Rattle.mach_binds.specs.declared.imports.cursor.BindCursor.{BindCursor}
@@ -30,10 +31,10 @@ use Rattle.mach_image.specs.FixupsLeft.{told_first}
 use Rattle.mach_image.specs.OpenImage.{bytes_held, commands_held}
 use Rattle.mach_image.specs.declared.macho.MachO.{MachO}
 use Rattle.std.specs.declared.alloc.Global.{Global}
-use Rattle.goblin_mach_c.specs.BindingPlaces.{AreSitesAtStage, data_place, places_by, places_in, places_of}
-use Rattle.goblin_mach_c.specs.BindingRows.{IsBindingRow, StandsIn}
-use Rattle.goblin_mach_c.specs.FixupsBehind.{AreFixupsBehind, AreOver as AreOverFixups}
-use Rattle.goblin_mach_c.specs.ImportsBehind.{Binds, binds_of, binds_there}
+use Rattle.goblin_mach_c.specs.BindingPlaces.{AreBindingSitesAtStage, data_place, places_by, places_in, places_of}
+use Rattle.goblin_mach_c.specs.BindingRows.{IsBindingRow, NameStandsAt}
+use Rattle.goblin_mach_c.specs.FixupsBehind.{AreFixupsBehind, AreFixupRowsOver}
+use Rattle.goblin_mach_c.specs.ImportsBehind.{Binds, binds_of_image, binds_there}
 use Rattle.goblin_mach_c.specs.Say.{FillsBy}
 use Rattle.goblin_mach_c.specs.Sited.{placed}
 use Rattle.goblin_mach_c.specs.Stage.{Stage, start, under_way, over, stage_of}
@@ -47,13 +48,13 @@ use Rattle.goblin_mach_c.specs.declared.fixups.FixupRows.TheVariants as rows
 -- the bindings behind a place of the opcodes; none where there are no binds
 abbrev pub opcodes_behind : BindCursor → Option BindRanges → Binds → List (Result Binding Fault)
 opcodes_behind c None x = []
-opcodes_behind c (Some b) x = bindings_behind (bind_input b x.pointer x.libs x.segments) b.lazy c
+opcodes_behind c (Some b) x = opcode_bindings_behind (input_in b x.pointer x.libs x.segments) b.lazy c
 
 -- these bindings of the opcodes come at a stage: at the start all of them
-abbrev pub AreAtStage : Stage → BindCursor → Binds → List (Result Binding Fault) → Type 0
-AreAtStage start c x items = AreOpcodeBindings x.ranges x.pointer x.libs x.segments items
-AreAtStage under_way c x items = items ≡ opcodes_behind c x.ranges x
-AreAtStage over c x items = items ≡ []
+abbrev pub AreBindingsAtStage : Stage → BindCursor → Binds → List (Result Binding Fault) → Type 0
+AreBindingsAtStage start c x items = AreOpcodeBindings x.ranges x.pointer x.libs x.segments items
+AreBindingsAtStage under_way c x items = items ≡ opcodes_behind c x.ranges x
+AreBindingsAtStage over c x items = items ≡ []
 
 -- the bindings of some fixups; where the front of the chains can't be read its fault, as long as that was not told
 abbrev pub bindings_by : Result (Option Fixups) Fault → Binds → List (Result Fixup Fault) → List (Result Binding Fault)
@@ -67,7 +68,7 @@ bindings_by (Ok (Some chained)) x fixups = bindings_of (input_over chained x.seg
 pub record AreBindingsBehind (c : gm_binding_cursor) (x : Binds) (chained : Result (Option Fixups) Fault) (items : List (Result Binding Fault)) : Type 0 where
   pub by_opcodes : List (Result Binding Fault)
   pub fixups : List (Result Fixup Fault)
-  pub opcodes : AreAtStage (stage_of c.opcodes.stage) c.opcodes.binds x by_opcodes
+  pub opcodes : AreBindingsAtStage (stage_of c.opcodes.stage) c.opcodes.binds x by_opcodes
   pub chains : AreFixupsBehind c.chains chained x.segments fixups
   pub are : items ≡ upto_fault (by_opcodes ++ bindings_by chained x fixups)
 
@@ -82,7 +83,7 @@ pub record BindingSource : Type 0 where
 abbrev pub source_of : MachO Global → BindingSource
 source_of m = record {
   bytes = bytes_held m;
-  binds = binds_of m;
+  binds = binds_of_image m;
   chained = chained_held m;
   chains_at = data_place (chained_place_in (commands_held m));
 }
@@ -107,8 +108,8 @@ pub record ArePlacedBehind (c : gm_binding_cursor) (x : BindingSource) (items : 
   pub by_opcodes : List (Result Binding Fault)
   pub sites : List Site
   pub fixups : List (Result Fixup Fault)
-  pub opcodes : AreAtStage (stage_of c.opcodes.stage) c.opcodes.binds x.binds by_opcodes
-  pub opcode_sites : AreSitesAtStage (stage_of c.opcodes.stage) c.opcodes.binds x.binds sites
+  pub opcodes : AreBindingsAtStage (stage_of c.opcodes.stage) c.opcodes.binds x.binds by_opcodes
+  pub opcode_sites : AreBindingSitesAtStage (stage_of c.opcodes.stage) c.opcodes.binds x.binds sites
   pub chains : AreFixupsBehind c.chains x.chained x.binds.segments fixups
   pub are : items
       ≡ upto_fault (placed by_opcodes (places_of sites) ++ placed (bindings_by x.chained x.binds fixups) (places_by x.chains_at x.chained fixups))
@@ -136,13 +137,13 @@ WritesBindings bytes o before after old new n = OfImage bytes o (λ ctx cs. AreB
 
 -- ---- what is left to the rows
 
-abbrev pub opcodes_left : Option OpcodeBindingIterator → List (Result Binding Fault)
-opcodes_left None = []
-opcodes_left (Some it) = opcodes.bindings_left it
+abbrev pub opcode_rows_left : Option OpcodeBindingIterator → List (Result Binding Fault)
+opcode_rows_left None = []
+opcode_rows_left (Some it) = opcodes.opcode_bindings_left it
 
 -- those of a walk along the chains, over these segments and libraries
 abbrev pub bound_left : ChainWalk → List Segment → ℕ → List (List ℕ) → List (Result Binding Fault)
-bound_left it segments base libs = bindings_of (input_in it.chained segments base) libs (walk.fixups_left it.fixups)
+bound_left it segments base libs = bindings_of (fixup_input_in it.chained segments base) libs (walk.fixups_left it.fixups)
 
 abbrev pub chains_by : FixupRows → List Segment → ℕ → List (List ℕ) → List (Result Binding Fault)
 chains_by (rows.Unread why) segments base libs = told_first why
@@ -152,16 +153,16 @@ abbrev pub chains_left : BindingRows → List (Result Binding Fault)
 chains_left it = chains_by it.fixups it.segments.now it.base (texts it.libs.now)
 
 -- all of them, whether or not a fault stands among them
-abbrev pub all_left : BindingRows → List (Result Binding Fault)
-all_left it = opcodes_left it.opcodes ++ chains_left it
+abbrev pub all_binding_rows_left : BindingRows → List (Result Binding Fault)
+all_binding_rows_left it = opcode_rows_left it.opcodes ++ chains_left it
 
-abbrev pub items_left : BindingRows → List (Result Binding Fault)
-items_left it = upto_fault (all_left it)
+abbrev pub binding_rows_left : BindingRows → List (Result Binding Fault)
+binding_rows_left it = upto_fault (all_binding_rows_left it)
 
 -- the same with places: of the opcodes the sites that are left, of the chains the places of the binds that are left
-abbrev pub sites_left : Option OpcodeBindingIterator → List Site
-sites_left None = []
-sites_left (Some it) = binding_sites_left it
+abbrev pub opcode_sites_left : Option OpcodeBindingIterator → List Site
+opcode_sites_left None = []
+opcode_sites_left (Some it) = binding_sites_left it
 
 abbrev pub bound_places : ChainWalk → ℕ → List ℕ
 bound_places it at = places_in at (fixups_view it.chained) (walk.fixups_left it.fixups)
@@ -171,7 +172,7 @@ chain_places (rows.Unread why) at = []
 chain_places (rows.Chains it) at = bound_places it at
 
 abbrev pub opcodes_placed : Option OpcodeBindingIterator → List (Result (Binding × ℕ) Fault)
-opcodes_placed it = placed (opcodes_left it) (places_of (sites_left it))
+opcodes_placed it = placed (opcode_rows_left it) (places_of (opcode_sites_left it))
 
 abbrev pub chains_placed : BindingRows → List (Result (Binding × ℕ) Fault)
 chains_placed it = placed (chains_left it) (chain_places it.fixups it.chains_at)
@@ -186,16 +187,16 @@ abbrev pub AreOverOpcodes : BindingSource → Option OpcodeBindingIterator → T
 AreOverOpcodes x None = Unit {0}
 AreOverOpcodes x (Some it) =
     (b : BindRanges) × (x.binds.ranges ≡ Some b) × (b.bytes ≡ x.bytes)
-    × IsOverBindings (bind_input b x.binds.pointer x.binds.libs x.binds.segments) b.lazy it
+    × IsOverBindings (input_in b x.binds.pointer x.binds.libs x.binds.segments) b.lazy it
 
 -- the data of the chains begin at a place of the bytes
 abbrev pub StandAt : BindingSource → ℕ → Type 0
 StandAt x place = (chained : Fixups) → x.chained ≡ Ok (Some chained) → (size : ℕ) × (slice_at size x.bytes place ≡ Ok chained.payload)
 
 -- the rows are read from this
-pub record AreOver (x : BindingSource) (it : BindingRows) : Type 0 where
+pub record AreBindingRowsOver (x : BindingSource) (it : BindingRows) : Type 0 where
   pub opcodes : AreOverOpcodes x it.opcodes
-  pub fixups : AreOverFixups (record { chained = x.chained; segments = x.binds.segments }) it.fixups
+  pub fixups : AreFixupRowsOver (record { chained = x.chained; segments = x.binds.segments }) it.fixups
   pub libs : texts it.libs.now ≡ x.binds.libs
   pub segments : map segment_view it.segments.now ≡ x.binds.segments
   pub base : it.base ≡ base_of x.binds.segments
@@ -222,5 +223,5 @@ PlaceFirst before (Some (Ok p)) after = before ≡ p.name_place ∷ after
 PlaceFirst before (Some (Err e)) after = Unit {0}
 
 -- the name of a binding stands at its place, unless it has no bytes
-abbrev pub IsPlaced : List ℕ → PlacedBinding → Type 0
-IsPlaced bytes p = (p.binding.name.now ≡ []) ⊎ StandsIn bytes p.name_place p.binding.name.now
+abbrev pub HasPlacedName : List ℕ → PlacedBinding → Type 0
+HasPlacedName bytes p = (p.binding.name.now ≡ []) ⊎ NameStandsAt bytes p.name_place p.binding.name.now

@@ -12,7 +12,7 @@ code_of_fault (too_short count what) = 4
 code_of_fault no_memory = 5
 
 -- a call that answers this code was refused for a fault that stands, or for want of memory
-pub record IsRefusal (IsFault : Fault → Type 0) (code : ℕ) : Type 0 where
+pub record IsRefusalCode (IsFault : Fault → Type 0) (code : ℕ) : Type 0 where
   pub fault : Fault
   pub is_code : code ≡ code_of_fault fault
   pub stands : (fault ≡ no_memory) ⊎ IsFault fault

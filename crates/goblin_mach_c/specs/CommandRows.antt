@@ -14,21 +14,22 @@ with_those_behind (Ok c) behind = c ∷ behind c
 with_those_behind (Err f) behind = []
 
 -- the commands from a place on, one behind the other: so many, or those before the first that can't be read
-unfoldable pub commands_from : Endian → List ℕ → ℕ → ℕ → List Command
-commands_from le bytes place zero = []
-commands_from le bytes place (suc count) = with_those_behind (command_at le bytes place) (λ c. commands_from le bytes (place + cmdsize_of c) count)
+unfoldable pub readable_commands_from : Endian → List ℕ → ℕ → ℕ → List Command
+readable_commands_from le bytes place zero = []
+readable_commands_from le bytes place (suc count) =
+    with_those_behind (command_at le bytes place) (λ c. readable_commands_from le bytes (place + cmdsize_of c) count)
 
 -- the commands that an image is said to have: no more than could lie in the bytes, since each has 8 of them or more
 abbrev pub commands_seen : List ℕ → gm_image → List Command
-commands_seen bytes image = commands_from (ctx_seen image).le bytes image.first_command (min image.commands (length bytes / 8))
+commands_seen bytes image = readable_commands_from (ctx_seen image).le bytes image.first_command (min image.commands (length bytes / 8))
 
 -- the commands that are left
-abbrev pub commands_left : Commands → List Command
-commands_left it = commands_from it.le it.bytes.now it.place it.count
+abbrev pub readable_commands_left : Commands → List Command
+readable_commands_left it = readable_commands_from it.le it.bytes.now it.place it.count
 
 -- a command as C sees it
 abbrev pub command_row : Command → gm_command
 command_row c = record { offset = c.offset; size = cmdsize_of c; cmd = cmd_of c }
 
-abbrev pub command_rows : List ℕ → gm_image → List gm_command
-command_rows bytes image = map command_row (commands_seen bytes image)
+abbrev pub command_rows_seen : List ℕ → gm_image → List gm_command
+command_rows_seen bytes image = map command_row (commands_seen bytes image)

@@ -15,13 +15,13 @@ abbrev pub library_text : Option Info → List ℕ
 library_text (Some (reexport lib name flags)) = lib
 library_text _ = []
 
-abbrev pub text_or_none : Option (List ℕ) → List ℕ
-text_or_none None = []
-text_or_none (Some text) = text
+abbrev pub text_or_empty : Option (List ℕ) → List ℕ
+text_or_empty None = []
+text_or_empty (Some text) = text
 
 -- the name that a re-export has there, if it is another one
 abbrev pub target_text : Option Info → List ℕ
-target_text (Some (reexport lib name flags)) = text_or_none name
+target_text (Some (reexport lib name flags)) = text_or_empty name
 target_text _ = []
 
 -- an answer: 0 none, 1 an address, 2 a re-export, 3 a stub with its resolver
@@ -30,7 +30,7 @@ export_row None = record { address = 0; resolver = 0; flags = 0; library_len = 0
 export_row (Some (regular address flags)) =
     record { address = address; resolver = 0; flags = flags; library_len = 0; target_len = 0; kind = 1; reserved = 0 }
 export_row (Some (reexport lib name flags)) =
-    record { address = 0; resolver = 0; flags = flags; library_len = length lib; target_len = length (text_or_none name); kind = 2; reserved = 0 }
+    record { address = 0; resolver = 0; flags = flags; library_len = length lib; target_len = length (text_or_empty name); kind = 2; reserved = 0 }
 export_row (Some (stub at resolver flags)) =
     record { address = at.number; resolver = resolver.number; flags = flags; library_len = 0; target_len = 0; kind = 3; reserved = 0 }
 

@@ -1,5 +1,6 @@
 -- The exports of an image in batches, as C sees them.
-use Rattle.std.specs.Prelude.{◌≡◌, ◌≢◌, ◌==◌, ◌+◌, ◌-◌, ◌^◌, ◌++◌, ◌⊎◌, ℕ, List, [], ◌∷◌, length, drop, min, Option, Some, None, Result, Ok, Err, nat_lt, slice_get, if◌then◌else◌}
+use Rattle.std.specs.Prelude.{◌≡◌, ◌≢◌, ◌==◌, ◌+◌, ◌-◌, ◌^◌, ◌++◌, ◌⊎◌, ℕ, List, [], ◌∷◌, length, drop, min, Option, Some, None, Result, Ok, Err, nat_lt}
+use Rattle.std.specs.Prelude.{slice_get, if◌then◌else◌}
 use Rattle.mach_base.specs.Fault.{Fault, fault_of, malformed}
 use Rattle.mach_base.specs.Text.{text_at}
 use Rattle.mach_tries.specs.CursorState.{IsNextLabel}
@@ -14,7 +15,7 @@ use Rattle.mach_tries.specs.declared.walk.Open.{Open}
 use Rattle.mach_image.specs.Facts.{HasExports, HasExportsFault, HasLibraries, OfImage}
 use Rattle.mach_image.specs.Subjects.{libs_in, trie_in, trie_or_empty}
 use Rattle.goblin_mach_c.specs.Codes.{code_of_fault}
-use Rattle.goblin_mach_c.specs.ExportRows.{export_row, text_or_none}
+use Rattle.goblin_mach_c.specs.ExportRows.{export_row, text_or_empty}
 use Rattle.goblin_mach_c.specs.declared.exports.Ending.{Ending}
 use Rattle.goblin_mach_c.specs.declared.exports.Ending.TheVariants.{End, Refused, NameTooLong, StackTooShort}
 use Rattle.goblin_mach_c.specs.declared.exports.gm_export_batch.{gm_export_batch}
@@ -28,7 +29,7 @@ use Rattle.goblin_mach_c.specs.declared.exports.gm_listed_export.{gm_listed_expo
 abbrev pub IsBrought : List ℕ → (ℕ → List ℕ → Type 0) → ℕ → Info → ℕ → ℕ → Type 0
 IsBrought bytes IsLibrary node (regular address flags) library target = (library ≡ 0) × (target ≡ 0)
 IsBrought bytes IsLibrary node (reexport lib name flags) library target =
-    (place_at bytes node ≡ Ok (library, target)) × IsLibrary library lib × (text_at bytes target ≡ Ok (text_or_none name))
+    (place_at bytes node ≡ Ok (library, target)) × IsLibrary library lib × (text_at bytes target ≡ Ok (text_or_empty name))
 IsBrought bytes IsLibrary node (stub at resolver flags) library target = (library ≡ 0) × (target ≡ 0)
 
 -- the row of an export whose name stands at a place among the names, and which is that of a node
@@ -100,8 +101,9 @@ HasWalked bytes o w name stack found =
     OfImage bytes o (λ ctx cs. HasWalkedTrie (trie_or_empty (trie_in bytes cs)) (libs_in bytes cs) w name stack found)
 
 -- Whatever the walk had given before, it has given that and these.
-abbrev pub GoesOn : List ℕ → ℕ → gm_export_walk → List ℕ → List Open → List Entry → gm_export_walk → List ℕ → List Open → Type 0
-GoesOn bytes o w name stack given w' name' stack' = (found : List Entry) → HasWalked bytes o w name stack found → HasWalked bytes o w' name' stack' (found ++ given)
+abbrev pub GivesFurther : List ℕ → ℕ → gm_export_walk → List ℕ → List Open → List Entry → gm_export_walk → List ℕ → List Open → Type 0
+GivesFurther bytes o w name stack given w' name' stack' = (found : List Entry) → HasWalked bytes o w name stack found
+    → HasWalked bytes o w' name' stack' (found ++ given)
 
 -- all that is met in reading the trie of the image at o as if it were a tree
 abbrev pub AreAllMetIn : List ℕ → ℕ → List Entry → Type 0
@@ -113,8 +115,8 @@ pub record IsWholeWith (bytes : List ℕ) (o : ℕ) (all : List Entry) : Type 0 
   pub met : AreAllMetIn bytes o all
   pub listed : HasExports bytes o all ⊎ HasExportsFault bytes o malformed
 
-abbrev pub EndsWith : List ℕ → ℕ → gm_export_walk → List ℕ → List Open → List Entry → Type 0
-EndsWith bytes o w name stack given = (found : List Entry) → HasWalked bytes o w name stack found → IsWholeWith bytes o (found ++ given)
+abbrev pub EndsWholeWith : List ℕ → ℕ → gm_export_walk → List ℕ → List Open → List Entry → Type 0
+EndsWholeWith bytes o w name stack given = (found : List Entry) → HasWalked bytes o w name stack found → IsWholeWith bytes o (found ++ given)
 
 -- The name that comes next in a trie has so many bytes, as far as 64 bits tell: those of the node on top, and those of the label of
 -- its next branch.
@@ -128,17 +130,17 @@ HasNextName bytes o w n = OfImage bytes o (λ ctx cs. IsNextName (trie_or_empty 
 -- ---- the same of a trie
 
 -- what a cursor gives next, as an export or as what comes in its place
-abbrev pub next_of : Result ExportInfo Ending → NextExport
-next_of (Ok info) = next.Export info
-next_of (Err (End)) = next.End
-next_of (Err (Refused e)) = next.Refused e
-next_of (Err (NameTooLong n)) = next.NameTooLong n
-next_of (Err (StackTooShort)) = next.StackTooShort
+abbrev pub next_export_of : Result ExportInfo Ending → NextExport
+next_export_of (Ok info) = next.Export info
+next_export_of (Err (End)) = next.End
+next_export_of (Err (Refused e)) = next.Refused e
+next_export_of (Err (NameTooLong n)) = next.NameTooLong n
+next_export_of (Err (StackTooShort)) = next.StackTooShort
 
 -- the cursor has given these exports, and then comes this ending, if any
 abbrev pub StopsAt : TrieRange → List (List ℕ) → List Entry → Option Ending → TrieCursor → List ℕ → List Open → Type 0
 StopsAt t libs found None c name stack = HasGivenTo t libs c name stack found
-StopsAt t libs found (Some e) c name stack = NextGives t libs found (next_of (Err e)) c name stack
+StopsAt t libs found (Some e) c name stack = NextGives t libs found (next_export_of (Err e)) c name stack
 
 -- the code that an ending leaves: that of a refusal, or 0
 abbrev pub IsCode : Option Ending → ℕ → Type 0

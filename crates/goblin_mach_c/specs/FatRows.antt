@@ -15,12 +15,12 @@ fat_row (Ok a) = record { cputype = a.cputype; cpusubtype = a.cpusubtype; offset
 fat_row (Err f) = record { cputype = 0; cpusubtype = 0; offset = 0; size = 0; align = 0; code = code_of_fault f }
 
 -- how many entries a file has whose front can be read
-abbrev pub count_in : Result FatFile Fault → ℕ
-count_in (Ok file) = file.narches
-count_in (Err f) = 0
+abbrev pub entry_count_in : Result FatFile Fault → ℕ
+entry_count_in (Ok file) = file.narches
+entry_count_in (Err f) = 0
 
 abbrev pub count_behind : Result ℕ Fault → List ℕ → ℕ
-count_behind (Ok magic) bytes = if magic == 0xcafe_babe then count_in (fat_file_in bytes) else 0
+count_behind (Ok magic) bytes = if magic == 0xcafe_babe then entry_count_in (fat_file_in bytes) else 0
 count_behind (Err f) bytes = 0
 
 -- how many entries some bytes have: none where they don't begin with the magic of a fat file, or its header is short
@@ -28,12 +28,12 @@ abbrev pub fat_count : List ℕ → ℕ
 fat_count bytes = count_behind (number_at Big 4 bytes 0) bytes
 
 -- how many records of 20 bytes lie whole in some bytes, behind a header of 8
-abbrev pub whole_records : List ℕ → ℕ
-whole_records bytes = (length bytes - 8) / 20
+abbrev pub whole_fat_records : List ℕ → ℕ
+whole_fat_records bytes = (length bytes - 8) / 20
 
 -- how many of them are told: all that the header says where they lie in the bytes; else those that lie whole in them, and one more
 abbrev pub told_count : List ℕ → ℕ
-told_count bytes = if nat_lt (whole_records bytes) (fat_count bytes) then whole_records bytes + 1 else fat_count bytes
+told_count bytes = if nat_lt (whole_fat_records bytes) (fat_count bytes) then whole_fat_records bytes + 1 else fat_count bytes
 
 -- the entries of some bytes, in order, up to the first record that isn't whole
 abbrev pub fat_rows : List ℕ → List gm_fat_entry

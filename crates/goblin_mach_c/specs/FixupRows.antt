@@ -2,32 +2,32 @@
 use Rattle.std.specs.Prelude.{ℕ, ℤ, pos, Option, Some, None, Result, Ok, Err}
 use Rattle.mach_base.specs.Fault.{Fault}
 use Rattle.mach_chained.specs.Fixups.{Fixup}
-use Rattle.mach_chained.specs.Pointers.{Auth, Kind, bind, rebase, value}
+use Rattle.mach_chained.specs.Pointers.{Auth, KindOfFixup, bind, rebase, value}
 use Rattle.goblin_mach_c.specs.Codes.{code_of_fault}
 use Rattle.goblin_mach_c.specs.Opened.{flag}
 use Rattle.goblin_mach_c.specs.declared.fixups.gm_fixup.{gm_fixup}
 
 -- 0 a rebase, 1 a bind, 2 a number
-abbrev pub kind_number : Kind → ℕ
-kind_number (rebase target) = 0
-kind_number (bind import addend) = 1
-kind_number (value number) = 2
+abbrev pub fixup_kind_number : KindOfFixup → ℕ
+fixup_kind_number (rebase target) = 0
+fixup_kind_number (bind import addend) = 1
+fixup_kind_number (value number) = 2
 
 -- the address of a rebase, or the number
-abbrev pub target_of : Kind → ℕ
-target_of (rebase target) = target
-target_of (bind import addend) = 0
-target_of (value number) = number
+abbrev pub target_of_kind : KindOfFixup → ℕ
+target_of_kind (rebase target) = target
+target_of_kind (bind import addend) = 0
+target_of_kind (value number) = number
 
-abbrev pub import_of : Kind → ℕ
-import_of (rebase target) = 0
-import_of (bind import addend) = import
-import_of (value number) = 0
+abbrev pub import_of_kind : KindOfFixup → ℕ
+import_of_kind (rebase target) = 0
+import_of_kind (bind import addend) = import
+import_of_kind (value number) = 0
 
-abbrev pub addend_of : Kind → ℤ
-addend_of (rebase target) = pos 0
-addend_of (bind import addend) = addend
-addend_of (value number) = pos 0
+abbrev pub addend_of_kind : KindOfFixup → ℤ
+addend_of_kind (rebase target) = pos 0
+addend_of_kind (bind import addend) = addend
+addend_of_kind (value number) = pos 0
 
 abbrev pub is_signed : Option Auth → ℕ
 is_signed None = 0
@@ -51,11 +51,11 @@ fixup_row (Ok f) =
     record {
       address = f.address;
       offset = f.offset;
-      target = target_of f.kind;
+      target = target_of_kind f.kind;
       segment = f.segment;
-      kind = kind_number f.kind;
-      import = import_of f.kind;
-      addend = addend_of f.kind;
+      kind = fixup_kind_number f.kind;
+      import = import_of_kind f.kind;
+      addend = addend_of_kind f.kind;
       is_signed = is_signed f.auth;
       key = key_of f.auth;
       diversity = diversity_of f.auth;

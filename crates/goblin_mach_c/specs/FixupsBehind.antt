@@ -2,7 +2,7 @@
 use Rattle.std.specs.Prelude.{◌≡◌, ℕ, List, [], Option, Some, None, Result, Ok, Err, map, drop}
 use Rattle.mach_base.specs.Fault.{Fault, fault_of}
 use Rattle.mach_segments.specs.Segment.{SegmentView}
-use Rattle.mach_chained.specs.FixupCursors.{IsOver, fixups_behind}
+use Rattle.mach_chained.specs.FixupCursors.{IsOverFixups, fixups_behind}
 use Rattle.mach_chained.specs.FixupsLeft as walk
 use Rattle.mach_chained.specs.Fixups.{Fixup}
 use Rattle.mach_chained.specs.Header.{Fixups}
@@ -27,14 +27,14 @@ chains_behind c (Ok None) segments = []
 chains_behind c (Ok (Some fixups)) segments = fixups_behind (input_over fixups segments) c
 
 -- these fixups come at a stage, of these chains over these segments: at the start all of them
-abbrev pub AreAtStage : Stage → FixupCursor → Result (Option Fixups) Fault → List SegmentView → List (Result Fixup Fault) → Type 0
-AreAtStage start c chained segments items = AreImageFixups chained segments items
-AreAtStage under_way c chained segments items = items ≡ chains_behind c chained segments
-AreAtStage over c chained segments items = items ≡ []
+abbrev pub AreFixupsAtStage : Stage → FixupCursor → Result (Option Fixups) Fault → List SegmentView → List (Result Fixup Fault) → Type 0
+AreFixupsAtStage start c chained segments items = AreImageFixups chained segments items
+AreFixupsAtStage under_way c chained segments items = items ≡ chains_behind c chained segments
+AreFixupsAtStage over c chained segments items = items ≡ []
 
 -- these come behind a cursor
 abbrev pub AreFixupsBehind : gm_fixup_cursor → Result (Option Fixups) Fault → List SegmentView → List (Result Fixup Fault) → Type 0
-AreFixupsBehind c chained segments items = AreAtStage (stage_of c.stage) c.chains chained segments items
+AreFixupsBehind c chained segments items = AreFixupsAtStage (stage_of c.stage) c.chains chained segments items
 
 -- The rows of the fixups behind a cursor were written, as many as there are and fit, and behind the new cursor come the
 -- others.
@@ -59,18 +59,18 @@ WritesFixups bytes o before after old new n = OfChains bytes o (λ chained segme
 
 -- ---- what is left to the rows
 
-abbrev pub items_left : FixupRows → List (Result Fixup Fault)
-items_left (rows.Unread why) = told_first why
-items_left (rows.Chains it) = walk.fixups_left it.fixups
+abbrev pub fixup_rows_left : FixupRows → List (Result Fixup Fault)
+fixup_rows_left (rows.Unread why) = told_first why
+fixup_rows_left (rows.Chains it) = walk.fixups_left it.fixups
 
 -- chains, and the segments that they go over
-pub record Chains : Type 0 where
+pub record FixupSource : Type 0 where
   pub chained : Result (Option Fixups) Fault
   pub segments : List SegmentView
 
 -- the rows are read from these
-abbrev pub AreOver : Chains → FixupRows → Type 0
-AreOver x (rows.Unread None) = Unit {0}
-AreOver x (rows.Unread (Some e)) = x.chained ≡ Err (fault_of e)
-AreOver x (rows.Chains it) =
-    (x.chained ≡ Ok (Some (fixups_view it.chained))) × IsOver (input_over (fixups_view it.chained) x.segments) it.fixups
+abbrev pub AreFixupRowsOver : FixupSource → FixupRows → Type 0
+AreFixupRowsOver x (rows.Unread None) = Unit {0}
+AreFixupRowsOver x (rows.Unread (Some e)) = x.chained ≡ Err (fault_of e)
+AreFixupRowsOver x (rows.Chains it) =
+    (x.chained ≡ Ok (Some (fixups_view it.chained))) × IsOverFixups (input_over (fixups_view it.chained) x.segments) it.fixups

@@ -5,7 +5,7 @@ use Rattle.mach_base.specs.Fault.{Fault}
 use Rattle.mach_base.specs.declared.context.Ctx.{Ctx}
 use Rattle.mach_load.specs.Command.{Command}
 use Rattle.mach_segments.specs.Segment.{SegmentView}
-use Rattle.mach_binds.specs.BindCursors.{IsOver, imports_behind}
+use Rattle.mach_binds.specs.BindCursors.{IsOverImports, imports_behind}
 use Rattle.mach_binds.specs.BindLeft.{imports_left}
 use Rattle.mach_binds.specs.Imports.{BindRanges, Import, input_in}
 use Rattle.mach_binds.specs.SiteCursors.{AreImportSites, import_sites_behind, import_sites_left}
@@ -34,8 +34,8 @@ pub record Binds : Type 0 where
   pub segments : List SegmentView
 
 -- those of an image that is held
-abbrev pub binds_of : MachO Global → Binds
-binds_of m = record { ranges = binds_held m; pointer = pointer_size (ctx_held m).container; libs = texts m.libs.items; segments = segments_held m }
+abbrev pub binds_of_image : MachO Global → Binds
+binds_of_image m = record { ranges = binds_held m; pointer = pointer_size (ctx_held m).container; libs = texts m.libs.items; segments = segments_held m }
 
 -- those of the commands of some bytes
 abbrev pub binds_there : Ctx → List ℕ → List Command → Binds
@@ -48,33 +48,33 @@ streams_behind c None x = []
 streams_behind c (Some b) x = imports_behind (input_in b x.pointer x.libs x.segments) b.lazy c
 
 -- these imports come at a stage: at the start all of them
-abbrev pub AreAtStage : Stage → BindCursor → Binds → List (Result Import Fault) → Type 0
-AreAtStage start c x items = AreImageBindItems x.ranges x.pointer x.libs x.segments items
-AreAtStage under_way c x items = items ≡ streams_behind c x.ranges x
-AreAtStage over c x items = items ≡ []
+abbrev pub AreImportsAtStage : Stage → BindCursor → Binds → List (Result Import Fault) → Type 0
+AreImportsAtStage start c x items = AreImageBindItems x.ranges x.pointer x.libs x.segments items
+AreImportsAtStage under_way c x items = items ≡ streams_behind c x.ranges x
+AreImportsAtStage over c x items = items ≡ []
 
 -- these come behind a cursor
 abbrev pub AreImportsBehind : gm_bind_cursor → Binds → List (Result Import Fault) → Type 0
-AreImportsBehind c x items = AreAtStage (stage_of c.stage) c.binds x items
+AreImportsBehind c x items = AreImportsAtStage (stage_of c.stage) c.binds x items
 
 -- the sites of the imports behind a place of the streams
-abbrev pub sites_behind : BindCursor → Option BindRanges → Binds → List Site
-sites_behind c None x = []
-sites_behind c (Some b) x = import_sites_behind (input_in b x.pointer x.libs x.segments) b.lazy c
+abbrev pub stream_sites_behind : BindCursor → Option BindRanges → Binds → List Site
+stream_sites_behind c None x = []
+stream_sites_behind c (Some b) x = import_sites_behind (input_in b x.pointer x.libs x.segments) b.lazy c
 
 -- those of all of them
-abbrev pub AreAllSites : Option BindRanges → Binds → List Site → Type 0
-AreAllSites None x sites = sites ≡ []
-AreAllSites (Some b) x sites = AreImportSites (input_in b x.pointer x.libs x.segments) b.non_lazy b.lazy sites
+abbrev pub AreAllImportSites : Option BindRanges → Binds → List Site → Type 0
+AreAllImportSites None x sites = sites ≡ []
+AreAllImportSites (Some b) x sites = AreImportSites (input_in b x.pointer x.libs x.segments) b.non_lazy b.lazy sites
 
 -- those that come at a stage
-abbrev pub AreSitesAtStage : Stage → BindCursor → Binds → List Site → Type 0
-AreSitesAtStage start c x sites = AreAllSites x.ranges x sites
-AreSitesAtStage under_way c x sites = sites ≡ sites_behind c x.ranges x
-AreSitesAtStage over c x sites = sites ≡ []
+abbrev pub AreImportSitesAtStage : Stage → BindCursor → Binds → List Site → Type 0
+AreImportSitesAtStage start c x sites = AreAllImportSites x.ranges x sites
+AreImportSitesAtStage under_way c x sites = sites ≡ stream_sites_behind c x.ranges x
+AreImportSitesAtStage over c x sites = sites ≡ []
 
 abbrev pub AreSitesBehind : gm_bind_cursor → Binds → List Site → Type 0
-AreSitesBehind c x sites = AreSitesAtStage (stage_of c.stage) c.binds x sites
+AreSitesBehind c x sites = AreImportSitesAtStage (stage_of c.stage) c.binds x sites
 
 -- these imports come behind a cursor, each with its site
 pub record AreSitedBehind (c : gm_bind_cursor) (x : Binds) (items : List (Result (Import × Site) Fault)) : Type 0 where
@@ -106,19 +106,19 @@ WritesImports bytes o before after old new n = OfBinds bytes o (λ x. AreImports
 
 -- ---- what is left to the rows
 
-abbrev pub imports_in : ImportRows → List (Result Import Fault)
-imports_in rows.Nothing = []
-imports_in (rows.Binds it) = imports_left it
+abbrev pub imports_in_rows : ImportRows → List (Result Import Fault)
+imports_in_rows rows.Nothing = []
+imports_in_rows (rows.Binds it) = imports_left it
 
-abbrev pub sites_in : ImportRows → List Site
-sites_in rows.Nothing = []
-sites_in (rows.Binds it) = import_sites_left it
+abbrev pub sites_in_rows : ImportRows → List Site
+sites_in_rows rows.Nothing = []
+sites_in_rows (rows.Binds it) = import_sites_left it
 
-abbrev pub items_left : ImportRows → List (Result (Import × Site) Fault)
-items_left it = sited (imports_in it) (sites_in it)
+abbrev pub import_rows_left : ImportRows → List (Result (Import × Site) Fault)
+import_rows_left it = sited (imports_in_rows it) (sites_in_rows it)
 
 -- the rows are read from these binds, which stand in these bytes
-abbrev pub AreOver : List ℕ × Binds → ImportRows → Type 0
-AreOver x rows.Nothing = Unit {0}
-AreOver x (rows.Binds it) =
-    (b : BindRanges) × (x.1.ranges ≡ Some b) × (b.bytes ≡ x.0) × IsOver (input_in b x.1.pointer x.1.libs x.1.segments) b.lazy it
+abbrev pub AreImportRowsOver : List ℕ × Binds → ImportRows → Type 0
+AreImportRowsOver x rows.Nothing = Unit {0}
+AreImportRowsOver x (rows.Binds it) =
+    (b : BindRanges) × (x.1.ranges ≡ Some b) × (b.bytes ≡ x.0) × IsOverImports (input_in b x.1.pointer x.1.libs x.1.segments) b.lazy it

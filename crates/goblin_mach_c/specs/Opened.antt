@@ -78,8 +78,8 @@ FaultIn true bytes o f = LossyFault bytes o f
 FaultIn false bytes o f = ImageFault bytes o f
 
 -- a fault for which it can't be opened by a number for a mode: one that stands there; or the number is of no mode
-abbrev pub OpenFault : ℕ → List ℕ → ℕ → Fault → Type 0
-OpenFault mode bytes o f = ((mode ≤ 1) × FaultIn (lossy_mode mode) bytes o f) ⊎ ((1 < mode) × (f ≡ malformed))
+abbrev pub FaultByMode : ℕ → List ℕ → ℕ → Fault → Type 0
+FaultByMode mode bytes o f = ((mode ≤ 1) × FaultIn (lossy_mode mode) bytes o f) ⊎ ((1 < mode) × (f ≡ malformed))
 
 -- ---- the same of an image that is held
 

@@ -57,12 +57,12 @@ abbrev pub segment_rows : List ℕ → gm_image → List gm_segment
 segment_rows bytes image = rows_of (segment_row_by bytes image) (commands_seen bytes image)
 
 -- the number of a kind of library
-abbrev pub kind_number : LibraryKind → ℕ
-kind_number Required = 0
-kind_number Weak = 1
-kind_number Reexport = 2
-kind_number Upward = 3
-kind_number Lazy = 4
+abbrev pub library_kind_number : LibraryKind → ℕ
+library_kind_number Required = 0
+library_kind_number Weak = 1
+library_kind_number Reexport = 2
+library_kind_number Upward = 3
+library_kind_number Lazy = 4
 
 -- A library: its name stands at `name`, and has `name_len` bytes.
 abbrev pub library_row : Command → NamedLibrary → gm_library
@@ -70,7 +70,7 @@ library_row c l =
     record {
       name = name_place c;
       name_len = length l.name;
-      kind = kind_number l.kind;
+      kind = library_kind_number l.kind;
       timestamp = l.timestamp;
       current_version = l.current_version;
       compatibility_version = l.compatibility_version;

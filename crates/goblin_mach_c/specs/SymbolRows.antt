@@ -69,8 +69,8 @@ symbol_rows bytes image = items_from (symbol_row (table_seen bytes image)) 0 ima
 
 -- ---- what is left to the rows
 
-abbrev pub table_in : Table → SymbolTable
-table_in t = record { bytes = t.bytes.now; start = t.start; nsyms = t.count; strtab = t.strtab; ctx = t.ctx }
+abbrev pub symbol_table_in : Table → SymbolTable
+symbol_table_in t = record { bytes = t.bytes.now; start = t.start; nsyms = t.count; strtab = t.strtab; ctx = t.ctx }
 
 abbrev pub symbol_rows_left : SymbolRows → List gm_symbol
-symbol_rows_left it = items_from (symbol_row (table_in it.table)) it.next (it.table.count - it.next)
+symbol_rows_left it = items_from (symbol_row (symbol_table_in it.table)) it.next (it.table.count - it.next)

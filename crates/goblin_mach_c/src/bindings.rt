@@ -4,27 +4,29 @@ ghost use Rattle.std.specs.Prelude.{◌≡◌, ◌≢◌, ◌<◌, ◌^◌, ◌�
 ghost use Rattle.mach_base.specs.Fault.{Fault, fault_of};
 ghost use Rattle.mach_base.specs.Number.{slice_at};
 ghost use Rattle.mach_chained.specs.Bindings.{binding_in, bindings_of};
-ghost use Rattle.mach_chained.specs.FixupCursors.{IsOver};
+ghost use Rattle.mach_chained.specs.FixupCursors.{IsOverFixups};
 ghost use Rattle.mach_chained.specs.Fixups as fixups;
 ghost use Rattle.mach_chained.specs.FixupsLeft.{fixups_left};
 ghost use Rattle.mach_chained.specs.Header.{Fixups};
 ghost use Rattle.mach_chained.specs.Views.{fixups_view};
-ghost use Rattle.mach_chained.specs.WalkViews.{fixup_view, input_in};
+ghost use Rattle.mach_chained.specs.WalkViews.{fixup_view, fixup_input_in};
 ghost use Rattle.mach_binds.specs.Imports.{BindRanges};
 ghost use Rattle.mach_segments.specs.Bindings as defined;
-ghost use Rattle.mach_segments.specs.Bindings.{binding_view, provider_view, texts};
+ghost use Rattle.mach_segments.specs.Bindings.{binding_view, provider_view};
+ghost use Rattle.mach_base.specs.Text.{texts};
 ghost use Rattle.mach_segments.specs.declared.segment.Segment as declared_segment;
 ghost use Rattle.mach_image.specs.Fixups.{chained_held};
 ghost use Rattle.mach_image.specs.OpenImage.{binds_held, bytes_held};
-ghost use Rattle.goblin_mach_c.specs.BindingRows.{IsBindingRow, StandsIn, binding_row, no_binding, ordinal_number, provider_number};
-ghost use Rattle.goblin_mach_c.specs.BindingPlaces.{AreSitesAtStage, place_by};
-ghost use Rattle.goblin_mach_c.specs.BindingsBehind.{AreAtStage, AreBindingsBehind, AreOver, AreOverOpcodes, BindingSource, ComesFirst, IsPlaced};
+ghost use Rattle.goblin_mach_c.specs.BindingRows.{IsBindingRow, NameStandsAt, binding_row, no_binding, ordinal_number, provider_number};
+ghost use Rattle.goblin_mach_c.specs.BindingPlaces.{AreBindingSitesAtStage, with_name_place};
+ghost use Rattle.goblin_mach_c.specs.BindingsBehind.{AreBindingsAtStage, AreBindingsBehind, AreBindingRowsOver, AreOverOpcodes, BindingSource, ComesFirst};
+ghost use Rattle.goblin_mach_c.specs.BindingsBehind.{HasPlacedName};
 ghost use Rattle.goblin_mach_c.specs.BindingsBehind.{StandAt, WritesBindings};
-ghost use Rattle.goblin_mach_c.specs.BindingsBehind.{all_left, bound_left, chains_left, items_left, opcodes_left, source_of};
+ghost use Rattle.goblin_mach_c.specs.BindingsBehind.{all_binding_rows_left, bound_left, chains_left, binding_rows_left, opcode_rows_left, source_of};
 ghost use Rattle.goblin_mach_c.specs.BindingsBehind.{ArePlacedBehind, PlaceFirst, PlacedFirst, all_placed, bound_places, chains_placed};
-ghost use Rattle.goblin_mach_c.specs.BindingsBehind.{placed_left, sites_left};
-ghost use Rattle.goblin_mach_c.specs.Codes.{IsRefusal};
-ghost use Rattle.goblin_mach_c.specs.ImportsBehind.{binds_of};
+ghost use Rattle.goblin_mach_c.specs.BindingsBehind.{placed_left, opcode_sites_left};
+ghost use Rattle.goblin_mach_c.specs.Codes.{IsRefusalCode};
+ghost use Rattle.goblin_mach_c.specs.ImportsBehind.{binds_of_image};
 ghost use Rattle.goblin_mach_c.specs.Sited.{told_at};
 ghost use Rattle.goblin_mach_c.specs.Stage.{stage_of};
 ghost use Rattle.goblin_mach_c.specs.Opened.{FaultIn, lossy_mode};
@@ -111,7 +113,7 @@ fn refused_row(why: &Error) -> gm_binding
 #[inline(always)]
 fn row_of(placed: &PlacedBinding<'_>) -> gm_binding
     ensures numbers { result ≡ binding_row (told_at placed.now.binding.name.now placed.now.name_place) (binding_view placed.now.binding) }
-    ensures name { (bytes : List ℕ) → IsPlaced bytes placed.now → StandsIn bytes result.name placed.now.binding.name.now }
+    ensures name { (bytes : List ℕ) → HasPlacedName bytes placed.now → NameStandsAt bytes result.name placed.now.binding.name.now }
 {
     let binding = &placed.binding;
     let (provider, library) = numbers_of(binding.provider);
@@ -134,11 +136,11 @@ fn row_of(placed: &PlacedBinding<'_>) -> gm_binding
 fn name_place(chained: &ChainedFixups<'_>, chains_at: usize, fixup: &Fixup) -> usize
     ensures stands { (bytes : List ℕ) (size : ℕ) → length bytes < 2 ^ 64 → slice_at size bytes chains_at ≡ Ok (fixups_view chained.now).payload
         → (segments : List (declared_segment.Segment)) (base : ℕ) (libs : List (List ℕ)) (b : defined.Binding)
-        → binding_in (input_in chained.now segments base) libs (fixup_view fixup.now) ≡ Some (Ok b) → StandsIn bytes result b.name }
+        → binding_in (fixup_input_in chained.now segments base) libs (fixup_view fixup.now) ≡ Some (Ok b) → NameStandsAt bytes result b.name }
     ensures own { (bytes : List ℕ) (size : ℕ) → length bytes < 2 ^ 64 → slice_at size bytes chains_at ≡ Ok (fixups_view chained.now).payload
         → (segments : List (declared_segment.Segment)) (base : ℕ) (libs : List (List ℕ)) (b : defined.Binding)
-        → binding_in (input_in chained.now segments base) libs (fixup_view fixup.now) ≡ Some (Ok b)
-        → (rest : List ℕ) → place_by chains_at (fixups_view chained.now) (fixup_view fixup.now).kind rest ≡ result ∷ rest }
+        → binding_in (fixup_input_in chained.now segments base) libs (fixup_view fixup.now) ≡ Some (Ok b)
+        → (rest : List ℕ) → with_name_place chains_at (fixups_view chained.now) (fixup_view fixup.now).kind rest ≡ result ∷ rest }
 {
     let FixupKind::Bind { import, addend: _ } = fixup.kind else {
         return 0;
@@ -158,10 +160,10 @@ fn next_bound<'a>(
     chains_at: usize,
 ) -> Option<Result<PlacedBinding<'a>>>
     ensures items { ComesFirst (bound_left walk.old segments.now base (texts libs.now)) result (bound_left walk.new segments.now base (texts libs.now)) }
-    ensures over { (x : fixups.Input) → IsOver x walk.old.fixups → IsOver x walk.new.fixups }
+    ensures over { (x : fixups.FixupInput) → IsOverFixups x walk.old.fixups → IsOverFixups x walk.new.fixups }
     ensures chained { walk.new.chained ≡ walk.old.chained }
     ensures placed { (bytes : List ℕ) (size : ℕ) → length bytes < 2 ^ 64 → slice_at size bytes chains_at ≡ Ok (fixups_view walk.old.chained).payload
-        → IfSome result (λ item. IfOk item (IsPlaced bytes)) }
+        → IfSome result (λ item. IfOk item (HasPlacedName bytes)) }
     ensures own { (bytes : List ℕ) (size : ℕ) → length bytes < 2 ^ 64 → slice_at size bytes chains_at ≡ Ok (fixups_view walk.old.chained).payload
         → PlaceFirst (bound_places walk.old chains_at) result (bound_places walk.new chains_at) }
 {
@@ -201,9 +203,9 @@ impl<'a, 'b> BindingRows<'a, 'b> {
     fn next_of_chains(&mut self) -> Option<Result<PlacedBinding<'a>>>
         ensures items { ComesFirst (chains_left self.old) result (chains_left self.new) }
         ensures opcodes { self.new.opcodes ≡ self.old.opcodes }
-        ensures over { (x : BindingSource) → AreOver x self.old → AreOver x self.new }
-        ensures placed { (x : BindingSource) → AreOver x self.old → IfSome result (λ item. IfOk item (IsPlaced x.bytes)) }
-        ensures own { (x : BindingSource) → AreOver x self.old → PlacedFirst (chains_placed self.old) result (chains_placed self.new) }
+        ensures over { (x : BindingSource) → AreBindingRowsOver x self.old → AreBindingRowsOver x self.new }
+        ensures placed { (x : BindingSource) → AreBindingRowsOver x self.old → IfSome result (λ item. IfOk item (HasPlacedName x.bytes)) }
+        ensures own { (x : BindingSource) → AreBindingRowsOver x self.old → PlacedFirst (chains_placed self.old) result (chains_placed self.new) }
     {
         let (libs, segments, base, chains_at) = (
             self.libs,
@@ -223,10 +225,10 @@ impl<'a, 'b> BindingRows<'a, 'b> {
     // The next binding, or the next fault.
     #[inline(always)]
     fn step(&mut self) -> Option<Result<PlacedBinding<'a>>>
-        ensures items { ComesFirst (all_left self.old) result (all_left self.new) }
-        ensures over { (x : BindingSource) → AreOver x self.old → AreOver x self.new }
-        ensures placed { (x : BindingSource) → AreOver x self.old → IfSome result (λ item. IfOk item (IsPlaced x.bytes)) }
-        ensures own { (x : BindingSource) → AreOver x self.old → PlacedFirst (all_placed self.old) result (all_placed self.new) }
+        ensures items { ComesFirst (all_binding_rows_left self.old) result (all_binding_rows_left self.new) }
+        ensures over { (x : BindingSource) → AreBindingRowsOver x self.old → AreBindingRowsOver x self.new }
+        ensures placed { (x : BindingSource) → AreBindingRowsOver x self.old → IfSome result (λ item. IfOk item (HasPlacedName x.bytes)) }
+        ensures own { (x : BindingSource) → AreBindingRowsOver x self.old → PlacedFirst (all_placed self.old) result (all_placed self.new) }
     {
         if let Some(opcodes) = &mut self.opcodes {
             if let Some(item) = opcodes.next_placed() {
@@ -239,9 +241,9 @@ impl<'a, 'b> BindingRows<'a, 'b> {
 
     // Leaves nothing.
     fn end(&mut self)
-        ensures left { items_left self.new ≡ [] }
+        ensures left { binding_rows_left self.new ≡ [] }
         ensures placed { placed_left self.new ≡ [] }
-        ensures over { (x : BindingSource) → AreOver x self.old → AreOver x self.new }
+        ensures over { (x : BindingSource) → AreBindingRowsOver x self.old → AreBindingRowsOver x self.new }
     {
         self.opcodes = None;
         self.fixups = FixupRows::Unread(None);
@@ -257,7 +259,7 @@ impl<'a, 'b> ItemRows for BindingRows<'a, 'b> {
 
     ghost left = { placed_left };
 
-    ghost IsOver = { AreOver };
+    ghost IsOver = { AreBindingRowsOver };
 
     ghost Says = { λ x item row. IsBindingRow x.bytes item row };
 
@@ -278,9 +280,9 @@ fn opcodes_behind<'a, 'b>(
     image: &'b MachO<'a, Global>,
     cursor: &gm_bind_cursor,
 ) -> Option<OpcodeBindingIterator<'a, 'b>>
-    ensures items { AreAtStage (stage_of cursor.now.stage) cursor.now.binds (binds_of image.now) (opcodes_left result) }
-    ensures sites { AreSitesAtStage (stage_of cursor.now.stage) cursor.now.binds (binds_of image.now) (sites_left result) }
-    ensures over { (x : BindingSource) → x.binds ≡ binds_of image.now → ((b : BindRanges) → binds_held image.now ≡ Some b → b.bytes ≡ x.bytes)
+    ensures items { AreBindingsAtStage (stage_of cursor.now.stage) cursor.now.binds (binds_of_image image.now) (opcode_rows_left result) }
+    ensures sites { AreBindingSitesAtStage (stage_of cursor.now.stage) cursor.now.binds (binds_of_image image.now) (opcode_sites_left result) }
+    ensures over { (x : BindingSource) → x.binds ≡ binds_of_image image.now → ((b : BindRanges) → binds_held image.now ≡ Some b → b.bytes ≡ x.bytes)
         → AreOverOpcodes x result }
 {
     let binds = image.binds()?;
@@ -299,9 +301,9 @@ fn opcodes_behind<'a, 'b>(
 // A cursor of those that are left.
 fn opcode_cursor(opcodes: &Option<OpcodeBindingIterator<'_, '_>>) -> gm_bind_cursor
     ensures items { (x : BindingSource) → AreOverOpcodes x opcodes.now
-        → AreAtStage (stage_of result.stage) result.binds x.binds (opcodes_left opcodes.now) }
+        → AreBindingsAtStage (stage_of result.stage) result.binds x.binds (opcode_rows_left opcodes.now) }
     ensures sites { (x : BindingSource) → AreOverOpcodes x opcodes.now
-        → AreSitesAtStage (stage_of result.stage) result.binds x.binds (sites_left opcodes.now) }
+        → AreBindingSitesAtStage (stage_of result.stage) result.binds x.binds (opcode_sites_left opcodes.now) }
 {
     match opcodes {
         None => over(),
@@ -326,10 +328,10 @@ fn chains_at(image: &MachO<'_, Global>) -> usize
 impl<'a, 'b> BindingRows<'a, 'b> {
     // Those behind a cursor.
     fn behind(image: &'b MachO<'a, Global>, cursor: &gm_binding_cursor) -> Self
-        ensures items { AreBindingsBehind cursor.now (binds_of image.now) (chained_held image.now) (items_left result) }
+        ensures items { AreBindingsBehind cursor.now (binds_of_image image.now) (chained_held image.now) (binding_rows_left result) }
         ensures placed { ArePlacedBehind cursor.now (source_of image.now) (placed_left result) }
         ensures over { ((b : BindRanges) → binds_held image.now ≡ Some b → b.bytes ≡ bytes_held image.now) → length (bytes_held image.now) < 2 ^ 64
-            → AreOver (source_of image.now) result }
+            → AreBindingRowsOver (source_of image.now) result }
     {
         BindingRows {
             opcodes: opcodes_behind(image, &cursor.opcodes),
@@ -343,8 +345,8 @@ impl<'a, 'b> BindingRows<'a, 'b> {
 
     // A cursor of those that are left.
     fn cursor(&self) -> gm_binding_cursor
-        ensures items { (x : BindingSource) → AreOver x self.now → AreBindingsBehind result x.binds x.chained (items_left self.now) }
-        ensures placed { (x : BindingSource) → AreOver x self.now → ArePlacedBehind result x (placed_left self.now) }
+        ensures items { (x : BindingSource) → AreBindingRowsOver x self.now → AreBindingsBehind result x.binds x.chained (binding_rows_left self.now) }
+        ensures placed { (x : BindingSource) → AreBindingRowsOver x self.now → ArePlacedBehind result x (placed_left self.now) }
     {
         gm_binding_cursor {
             opcodes: opcode_cursor(&self.opcodes),
@@ -367,7 +369,7 @@ pub extern "C" fn gmr_bindings(
     error: &mut gm_error,
 ) -> u32
     ensures written { result ≡ 0 → WritesBindings bytes.now image.now.offset cursor.old cursor.new out.old out.new count.new }
-    ensures refused { result ≢ 0 → 0 < length out.old → IsRefusal (FaultIn (lossy_mode image.now.is_lossy) bytes.now image.now.offset) result }
+    ensures refused { result ≢ 0 → 0 < length out.old → IsRefusalCode (FaultIn (lossy_mode image.now.is_lossy) bytes.now image.now.offset) result }
     ensures no_rows { length out.old ≡ 0 → result ≡ 6 }
     ensures array { result ≢ 0 → out.new ≡ out.old }
     ensures count { result ≢ 0 → count.new ≡ count.old }

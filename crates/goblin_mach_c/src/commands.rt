@@ -3,7 +3,7 @@
 ghost use Rattle.std.specs.Prelude.{◌≡◌, drop, map, min};
 ghost use Rattle.std.specs.Iterator.{YieldsFirst, YieldsFirstBy};
 ghost use Rattle.mach_load.specs.Variants.{command_of};
-ghost use Rattle.goblin_mach_c.specs.CommandRows.{command_row, command_rows, commands_left, commands_seen};
+ghost use Rattle.goblin_mach_c.specs.CommandRows.{command_row, command_rows_seen, readable_commands_left, commands_seen};
 ghost use Rattle.goblin_mach_c.specs.Fill.{Fills};
 
 use crate::images::{ctx_of, gm_image};
@@ -30,7 +30,7 @@ fn no_more_than(count: usize, most: usize) -> usize
 impl<'a> Commands<'a> {
     /// Those of an image: no more than could lie in the bytes.
     pub fn of(bytes: &'a [u8], image: &gm_image) -> Self
-        ensures { commands_left result ≡ commands_seen bytes.now image.now }
+        ensures { readable_commands_left result ≡ commands_seen bytes.now image.now }
     {
         Commands {
             bytes,
@@ -43,7 +43,7 @@ impl<'a> Commands<'a> {
     /// The next command.
     #[inline(always)]
     pub fn next_command(&mut self) -> Option<LoadCommand>
-        ensures { YieldsFirstBy command_of commands_left self.old result self.new }
+        ensures { YieldsFirstBy command_of readable_commands_left self.old result self.new }
     {
         if self.count == 0 {
             return None;
@@ -63,7 +63,7 @@ impl<'a> Commands<'a> {
     /// The same, for those who look at its fields: most commands are read in place.
     #[inline(always)]
     pub fn next_in_place(&mut self) -> Option<LoadCommand>
-        ensures { YieldsFirstBy command_of commands_left self.old result self.new }
+        ensures { YieldsFirstBy command_of readable_commands_left self.old result self.new }
     {
         if self.count == 0 {
             return None;
@@ -90,7 +90,7 @@ pub struct gm_command {
 impl<'a> Rows for Commands<'a> {
     type Row = gm_command;
 
-    ghost left = { λ it. map command_row (commands_left it) };
+    ghost left = { λ it. map command_row (readable_commands_left it) };
 
     fn next(&mut self) -> Option<gm_command> {
         let command = self.next_command()?;
@@ -111,7 +111,7 @@ pub extern "C" fn gmr_commands(
     first: usize,
     out: &mut [gm_command],
 ) -> usize
-    ensures { Fills (drop first (command_rows bytes.now image.now)) out.old out.new result }
+    ensures { Fills (drop first (command_rows_seen bytes.now image.now)) out.old out.new result }
 {
     let mut commands = Commands::of(bytes, image);
     skip(&mut commands, first);

@@ -8,9 +8,10 @@ ghost use Rattle.mach_tries.specs.Trie.{Entry};
 ghost use Rattle.mach_tries.specs.TrieRange.{empty_range};
 ghost use Rattle.mach_image.specs.OpenImage.{trie_held};
 ghost use Rattle.mach_image.specs.Subjects.{trie_or_empty};
-ghost use Rattle.goblin_mach_c.specs.Codes.{IsRefusal};
-ghost use Rattle.goblin_mach_c.specs.ExportWalk.{AreWritten, EndsWith, GoesAlong, GoesOn, HasLibrary, HasNextName, HasNodeOf, HasWalkedTrie};
-ghost use Rattle.goblin_mach_c.specs.ExportWalk.{IsBrought, IsCode, IsNextName, IsNodeOf, IsNumbered, StopsAt, end_number, needed_number, next_of, no_batch};
+ghost use Rattle.goblin_mach_c.specs.Codes.{IsRefusalCode};
+ghost use Rattle.goblin_mach_c.specs.ExportWalk.{AreWritten, EndsWholeWith, GoesAlong, GivesFurther, HasLibrary, HasNextName, HasNodeOf, HasWalkedTrie};
+ghost use Rattle.goblin_mach_c.specs.ExportWalk.{IsBrought, IsCode, IsNextName, IsNodeOf, IsNumbered, StopsAt, end_number, needed_number, next_export_of};
+ghost use Rattle.goblin_mach_c.specs.ExportWalk.{no_batch};
 ghost use Rattle.goblin_mach_c.specs.Opened.{FaultIn, lossy_mode};
 ghost use Rattle.goblin_mach_c.specs.declared.exports.Ending.TheVariants as ending;
 
@@ -92,7 +93,7 @@ enum Ending {
 // The export that comes next, or what comes in its place.
 #[inline(always)]
 fn export_or_ending(next: NextExport<'_>) -> Result<ExportInfo<'_>, Ending>
-    ensures { next_of result ≡ next.entry }
+    ensures { next_export_of result ≡ next.entry }
 {
     match next {
         NextExport::Export(info) => Ok(info),
@@ -332,9 +333,9 @@ pub extern "C" fn gmr_exports(
 ) -> u32
     ensures written { (given : List Entry) × AreWritten bytes.now (HasLibrary bytes.now image.now.offset) (HasNodeOf bytes.now image.now.offset) given
         batch.new.count batch.new.names_len out.old out.new names.old names.new
-        × GoesOn bytes.now image.now.offset walk.old name.old stack.old given walk.new name.new stack.new
-        × (batch.new.end ≡ 1 → EndsWith bytes.now image.now.offset walk.old name.old stack.old given) }
-    ensures refused { result ≢ 0 → IsRefusal (FaultIn (lossy_mode image.now.is_lossy) bytes.now image.now.offset) result
+        × GivesFurther bytes.now image.now.offset walk.old name.old stack.old given walk.new name.new stack.new
+        × (batch.new.end ≡ 1 → EndsWholeWith bytes.now image.now.offset walk.old name.old stack.old given) }
+    ensures refused { result ≢ 0 → IsRefusalCode (FaultIn (lossy_mode image.now.is_lossy) bytes.now image.now.offset) result
         ⊎ (walk.new.code ≡ result) }
     ensures marked { result ≢ 0 → (walk.new.code ≡ result) ⊎ (walk.new.code ≡ walk.old.code) }
     ensures kept { result ≢ 0 → walk.new.code ≡ walk.old.code → (walk.new ≡ walk.old) × (name.new ≡ name.old) × (stack.new ≡ stack.old)

@@ -7,7 +7,7 @@ ghost use Rattle.mach_tries.specs.Exports.{info_of};
 ghost use Rattle.mach_tries.specs.LookUp.{IsFirstOf};
 ghost use Rattle.mach_tries.specs.Trie as trie;
 ghost use Rattle.mach_image.specs.Facts.{HasExportOf, HasExports};
-ghost use Rattle.goblin_mach_c.specs.Codes.{IsRefusal};
+ghost use Rattle.goblin_mach_c.specs.Codes.{IsRefusalCode};
 ghost use Rattle.goblin_mach_c.specs.ExportRows.{FindFault, HasNameFault, IsFound, IsPut, export_row, library_text, target_text};
 ghost use Rattle.goblin_mach_c.specs.Opened.{FaultIn, OpensIn, lossy_mode};
 
@@ -166,7 +166,7 @@ pub extern "C" fn gmr_find_export(
         × IsPut (library_text found) library.old library.new × IsPut (target_text found) target.old target.new }
     ensures only { IsUtf8 name.now → OpensIn (lossy_mode image.now.is_lossy) bytes.now image.now.offset → (list : List (trie.Entry))
         → HasExports bytes.now image.now.offset list → (result ≡ 0) ⊎ (result ≡ 5) }
-    ensures refused { result ≢ 0 → IsRefusal (FindFault (lossy_mode image.now.is_lossy) bytes.now image.now.offset name.now) result }
+    ensures refused { result ≢ 0 → IsRefusalCode (FindFault (lossy_mode image.now.is_lossy) bytes.now image.now.offset name.now) result }
     ensures kept { result ≢ 0 → export.new ≡ export.old }
     ensures library { result ≢ 0 → library.new ≡ library.old }
     ensures target { result ≢ 0 → target.new ≡ target.old }

@@ -7,10 +7,10 @@ ghost use Rattle.mach_chained.specs.PointerViews.{auth_seen, kind_view};
 ghost use Rattle.mach_chained.specs.WalkViews.{fixup_read};
 ghost use Rattle.mach_image.specs.Fixups.{chained_held};
 ghost use Rattle.mach_image.specs.OpenImage.{segments_held};
-ghost use Rattle.goblin_mach_c.specs.Codes.{IsRefusal};
+ghost use Rattle.goblin_mach_c.specs.Codes.{IsRefusalCode};
 ghost use Rattle.goblin_mach_c.specs.FixupRows as rows;
 ghost use Rattle.goblin_mach_c.specs.FixupRows.{fixup_row};
-ghost use Rattle.goblin_mach_c.specs.FixupsBehind.{AreFixupsBehind, AreOver, Chains, WritesFixups, items_left};
+ghost use Rattle.goblin_mach_c.specs.FixupsBehind.{AreFixupsBehind, AreFixupRowsOver, FixupSource, WritesFixups, fixup_rows_left};
 ghost use Rattle.goblin_mach_c.specs.Opened.{FaultIn, lossy_mode};
 
 use crate::errors::{GM_OK, code_of, gm_error, refuse, refuse_no_rows};
@@ -69,10 +69,10 @@ fn signing(auth: Option<PointerAuth>) -> (u32, u32, u32, u32)
 // The four numbers of what a fixup asks for: its kind, the target, the import and the addend.
 #[inline(always)]
 fn asked(kind: FixupKind) -> (u32, u64, u32, i32)
-    ensures kind { result.0 ≡ rows.kind_number (kind_view kind) }
-    ensures target { result.1 ≡ rows.target_of (kind_view kind) }
-    ensures import { result.2 ≡ rows.import_of (kind_view kind) }
-    ensures addend { result.3 ≡ rows.addend_of (kind_view kind) }
+    ensures kind { result.0 ≡ rows.fixup_kind_number (kind_view kind) }
+    ensures target { result.1 ≡ rows.target_of_kind (kind_view kind) }
+    ensures import { result.2 ≡ rows.import_of_kind (kind_view kind) }
+    ensures addend { result.3 ≡ rows.addend_of_kind (kind_view kind) }
 {
     match kind {
         FixupKind::Rebase { target } => (0, target, 0, 0),
@@ -158,13 +158,13 @@ pub enum FixupRows<'a, 'b> {
 impl<'a, 'b> ItemRows for FixupRows<'a, 'b> {
     type Row = gm_fixup;
 
-    ghost Source = { Chains };
+    ghost Source = { FixupSource };
 
     ghost Item = { Result defined.Fixup Fault };
 
-    ghost left = { items_left };
+    ghost left = { fixup_rows_left };
 
-    ghost IsOver = { AreOver };
+    ghost IsOver = { AreFixupRowsOver };
 
     ghost Says = { λ _ item row. row ≡ fixup_row item };
 
@@ -205,8 +205,8 @@ fn at_stage(stage: u32) -> gm_fixup_cursor
 impl<'a, 'b> FixupRows<'a, 'b> {
     /// Those behind a cursor.
     pub fn behind(image: &'b MachO<'a, Global>, cursor: &gm_fixup_cursor) -> Self
-        ensures items { AreFixupsBehind cursor.now (chained_held image.now) (segments_held image.now) (items_left result) }
-        ensures over { AreOver (record { chained = chained_held image.now; segments = segments_held image.now }) result }
+        ensures items { AreFixupsBehind cursor.now (chained_held image.now) (segments_held image.now) (fixup_rows_left result) }
+        ensures over { AreFixupRowsOver (record { chained = chained_held image.now; segments = segments_held image.now }) result }
     {
         let (segments, base) = (image.segments.as_slice(), image.base());
         match (cursor.stage, image.chained_fixups()) {
@@ -225,7 +225,7 @@ impl<'a, 'b> FixupRows<'a, 'b> {
 
     /// A cursor of those that are left.
     pub fn cursor(&self) -> gm_fixup_cursor
-        ensures { (x : Chains) → AreOver x self.now → AreFixupsBehind result x.chained x.segments (items_left self.now) }
+        ensures { (x : FixupSource) → AreFixupRowsOver x self.now → AreFixupsBehind result x.chained x.segments (fixup_rows_left self.now) }
     {
         match self {
             FixupRows::Unread(None) => at_stage(2),
@@ -252,7 +252,7 @@ pub extern "C" fn gmr_fixups(
     error: &mut gm_error,
 ) -> u32
     ensures written { result ≡ 0 → WritesFixups bytes.now image.now.offset cursor.old cursor.new out.old out.new count.new }
-    ensures refused { result ≢ 0 → 0 < length out.old → IsRefusal (FaultIn (lossy_mode image.now.is_lossy) bytes.now image.now.offset) result }
+    ensures refused { result ≢ 0 → 0 < length out.old → IsRefusalCode (FaultIn (lossy_mode image.now.is_lossy) bytes.now image.now.offset) result }
     ensures no_rows { length out.old ≡ 0 → result ≡ 6 }
     ensures array { result ≢ 0 → out.new ≡ out.old }
     ensures count { result ≢ 0 → count.new ≡ count.old }

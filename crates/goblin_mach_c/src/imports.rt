@@ -2,16 +2,16 @@
 
 ghost use Rattle.std.specs.Prelude.{◌≡◌, ◌≢◌, ◌<◌, ℕ, List, [], length, Result, Some, ◌⊎◌};
 ghost use Rattle.mach_base.specs.Fault.{Fault, fault_of};
-ghost use Rattle.mach_binds.specs.BindCursors.{Stands};
-ghost use Rattle.mach_binds.specs.BindViews.{import_in};
+ghost use Rattle.mach_binds.specs.BindCursors.{TextStands};
+ghost use Rattle.mach_binds.specs.BindViews.{import_seen};
 ghost use Rattle.mach_binds.specs.Imports as defined;
 ghost use Rattle.mach_binds.specs.Sites.{Site};
 ghost use Rattle.mach_image.specs.OpenImage.{binds_held};
-ghost use Rattle.goblin_mach_c.specs.BindingRows.{StandsIn};
-ghost use Rattle.goblin_mach_c.specs.Codes.{IsRefusal};
+ghost use Rattle.goblin_mach_c.specs.BindingRows.{NameStandsAt};
+ghost use Rattle.goblin_mach_c.specs.Codes.{IsRefusalCode};
 ghost use Rattle.goblin_mach_c.specs.ImportRows.{IsImportRow, IsNameAt, import_row, no_import};
-ghost use Rattle.goblin_mach_c.specs.ImportsBehind.{AreImportsBehind, AreOver, AreSitesBehind, Binds, WritesImports, binds_of};
-ghost use Rattle.goblin_mach_c.specs.ImportsBehind.{imports_in, items_left, sites_in};
+ghost use Rattle.goblin_mach_c.specs.ImportsBehind.{AreImportsBehind, AreImportRowsOver, AreSitesBehind, Binds, WritesImports, binds_of_image};
+ghost use Rattle.goblin_mach_c.specs.ImportsBehind.{imports_in_rows, import_rows_left, sites_in_rows};
 ghost use Rattle.goblin_mach_c.specs.Opened.{FaultIn, lossy_mode};
 ghost use Rattle.goblin_mach_c.specs.Sited.{told_at};
 
@@ -62,8 +62,8 @@ pub struct gm_bind_cursor {
 #[inline(always)]
 pub fn place_of_name(name: &str, place: usize) -> usize
     ensures place { result ≡ told_at name.now place }
-    ensures text { (bytes : List ℕ) → Stands bytes place name.now → IsNameAt bytes result name.now }
-    ensures stands { (bytes : List ℕ) → (name.now ≡ []) ⊎ StandsIn bytes place name.now → StandsIn bytes result name.now }
+    ensures text { (bytes : List ℕ) → TextStands bytes place name.now → IsNameAt bytes result name.now }
+    ensures stands { (bytes : List ℕ) → (name.now ≡ []) ⊎ NameStandsAt bytes place name.now → NameStandsAt bytes result name.now }
 {
     if name.is_empty() { 0 } else { place }
 }
@@ -90,8 +90,9 @@ fn refused_row(why: &Error) -> gm_import
 // An import as C sees it.
 #[inline(always)]
 fn row_of(placed: &PlacedImport<'_>) -> gm_import
-    ensures numbers { result ≡ import_row (told_at placed.now.import.name.now placed.now.name_place) placed.now.library (import_in placed.now.import) }
-    ensures name { (bytes : List ℕ) → Stands bytes placed.now.name_place placed.now.import.name.now → IsNameAt bytes result.name placed.now.import.name.now }
+    ensures numbers { result ≡ import_row (told_at placed.now.import.name.now placed.now.name_place) placed.now.library (import_seen placed.now.import) }
+    ensures name { (bytes : List ℕ) → TextStands bytes placed.now.name_place placed.now.import.name.now
+        → IsNameAt bytes result.name placed.now.import.name.now }
 {
     let import = &placed.import;
     gm_import {
@@ -123,9 +124,9 @@ impl<'a, 'b> ItemRows for ImportRows<'a, 'b> {
 
     ghost Item = { Result (defined.Import × Site) Fault };
 
-    ghost left = { items_left };
+    ghost left = { import_rows_left };
 
-    ghost IsOver = { AreOver };
+    ghost IsOver = { AreImportRowsOver };
 
     ghost Says = { λ x item row. IsImportRow x.0 x.1.libs item row };
 
@@ -144,10 +145,10 @@ impl<'a, 'b> ItemRows for ImportRows<'a, 'b> {
 impl<'a, 'b> ImportRows<'a, 'b> {
     // Those behind a cursor.
     fn behind(image: &'b MachO<'a, Global>, cursor: &gm_bind_cursor) -> Self
-        ensures items { AreImportsBehind cursor.now (binds_of image.now) (imports_in result) }
-        ensures sites { AreSitesBehind cursor.now (binds_of image.now) (sites_in result) }
+        ensures items { AreImportsBehind cursor.now (binds_of_image image.now) (imports_in_rows result) }
+        ensures sites { AreSitesBehind cursor.now (binds_of_image image.now) (sites_in_rows result) }
         ensures over { (bytes : List ℕ) → ((b : defined.BindRanges) → binds_held image.now ≡ Some b → b.bytes ≡ bytes)
-            → AreOver (bytes, binds_of image.now) result }
+            → AreImportRowsOver (bytes, binds_of_image image.now) result }
     {
         let Some(binds) = image.binds() else {
             return ImportRows::Nothing;
@@ -166,8 +167,8 @@ impl<'a, 'b> ImportRows<'a, 'b> {
 
     // A cursor of those that are left.
     fn cursor(&self) -> gm_bind_cursor
-        ensures items { (x : List ℕ × Binds) → AreOver x self.now → AreImportsBehind result x.1 (imports_in self.now) }
-        ensures sites { (x : List ℕ × Binds) → AreOver x self.now → AreSitesBehind result x.1 (sites_in self.now) }
+        ensures items { (x : List ℕ × Binds) → AreImportRowsOver x self.now → AreImportsBehind result x.1 (imports_in_rows self.now) }
+        ensures sites { (x : List ℕ × Binds) → AreImportRowsOver x self.now → AreSitesBehind result x.1 (sites_in_rows self.now) }
     {
         match self {
             ImportRows::Nothing => over(),
@@ -221,7 +222,7 @@ pub extern "C" fn gmr_imports(
     error: &mut gm_error,
 ) -> u32
     ensures written { result ≡ 0 → WritesImports bytes.now image.now.offset cursor.old cursor.new out.old out.new count.new }
-    ensures refused { result ≢ 0 → 0 < length out.old → IsRefusal (FaultIn (lossy_mode image.now.is_lossy) bytes.now image.now.offset) result }
+    ensures refused { result ≢ 0 → 0 < length out.old → IsRefusalCode (FaultIn (lossy_mode image.now.is_lossy) bytes.now image.now.offset) result }
     ensures no_rows { length out.old ≡ 0 → result ≡ 6 }
     ensures array { result ≢ 0 → out.new ≡ out.old }
     ensures count { result ≢ 0 → count.new ≡ count.old }

@@ -11,7 +11,7 @@ ghost use Rattle.mach_image.specs.Image.{LossyOpens};
 ghost use Rattle.goblin_mach.specs.FatFile.{arch_at};
 ghost use Rattle.goblin_mach_c.specs.CommandRows.{commands_seen};
 ghost use Rattle.goblin_mach_c.specs.ExportWalk.{HasWalked};
-ghost use Rattle.goblin_mach_c.specs.FatRows.{fat_row, whole_records};
+ghost use Rattle.goblin_mach_c.specs.FatRows.{fat_row, whole_fat_records};
 ghost use Rattle.goblin_mach_c.specs.Opened.{IsOpened};
 ghost use Rattle.goblin_mach_c.specs.PartRows.{segment_row, segment_rows};
 ghost use Rattle.goblin_mach_c.specs.Say.{AllSay};
@@ -31,8 +31,8 @@ pub fn lists_of_opened()
 
 /// The record of an entry of a fat file is told without a code where it lies whole in the bytes, and else with that of a short read.
 pub fn fat_codes()
-    ensures whole { (bytes : List ℕ) (k : ℕ) → length bytes < 2 ^ 64 → k < whole_records bytes → (fat_row (arch_at bytes k)).code ≡ 0 }
-    ensures cut { (bytes : List ℕ) (k : ℕ) → length bytes < 2 ^ 64 → 8 ≤ length bytes → whole_records bytes ≤ k → (fat_row (arch_at bytes k)).code ≡ 3 }
+    ensures whole { (bytes : List ℕ) (k : ℕ) → length bytes < 2 ^ 64 → k < whole_fat_records bytes → (fat_row (arch_at bytes k)).code ≡ 0 }
+    ensures cut { (bytes : List ℕ) (k : ℕ) → length bytes < 2 ^ 64 → 8 ≤ length bytes → whole_fat_records bytes ≤ k → (fat_row (arch_at bytes k)).code ≡ 3 }
 {}
 
 /// A walk of exports that is all zeros has given nothing of an image that opens.

@@ -4,7 +4,7 @@ ghost use Rattle.std.specs.Prelude.{◌≡◌, ◌≢◌, ◌⊎◌, ◌<◌, �
 ghost use Rattle.mach_base.specs.Answer.{Stands, IsOkUnlessMemory};
 ghost use Rattle.mach_layout.specs.Facts.{HasLayoutFaults};
 ghost use Rattle.mach_rules.specs.declared.fault.LayoutFault as declared;
-ghost use Rattle.goblin_mach_c.specs.Codes.{IsRefusal};
+ghost use Rattle.goblin_mach_c.specs.Codes.{IsRefusalCode};
 ghost use Rattle.goblin_mach_c.specs.Fill.{Fills};
 ghost use Rattle.goblin_mach_c.specs.LayoutRows as rows;
 ghost use Rattle.goblin_mach_c.specs.LayoutRows.{HasTableFaults, file_of, layout_row};
@@ -245,7 +245,7 @@ pub extern "C" fn gmr_layout_faults(
     ensures written { result ≡ 0 → (faults : List declared.LayoutFault) × HasLayoutFaults (file_of bytes.now image.now) faults
         × Fills (drop first (map layout_row faults)) out.old out.new count.new }
     ensures only { OpensIn (lossy_mode image.now.is_lossy) (file_of bytes.now image.now) 0 → 0 < length out.old → (result ≡ 0) ⊎ (result ≡ 5) }
-    ensures refused { result ≢ 0 → 0 < length out.old → IsRefusal (FaultIn (lossy_mode image.now.is_lossy) (file_of bytes.now image.now) 0) result }
+    ensures refused { result ≢ 0 → 0 < length out.old → IsRefusalCode (FaultIn (lossy_mode image.now.is_lossy) (file_of bytes.now image.now) 0) result }
     ensures no_rows { length out.old ≡ 0 → result ≡ 6 }
     ensures array { result ≢ 0 → out.new ≡ out.old }
     ensures count { result ≢ 0 → count.new ≡ count.old }

@@ -4,7 +4,7 @@ ghost use Rattle.std.specs.Prelude.{◌≡◌, drop, option_map};
 ghost use Rattle.mach_load.specs.Variants.{command_of};
 ghost use Rattle.mach_image.specs.Libraries.{dylib_of_values, library_kind};
 ghost use Rattle.goblin_mach_c.specs.Fill.{Fills};
-ghost use Rattle.goblin_mach_c.specs.PartRows.{kind_number, library_row_by, library_rows};
+ghost use Rattle.goblin_mach_c.specs.PartRows.{library_kind_number, library_row_by, library_rows};
 
 use crate::commands::Commands;
 use crate::images::gm_image;
@@ -45,7 +45,7 @@ pub struct gm_library {
 // The number of the kind of the library that a command brings in, and its struct dylib, if it brings one in.
 #[inline(always)]
 fn brought(command: &LoadCommand) -> Option<(u32, Dylib)>
-    ensures { let c = command_of command.now in result ≡ option_map (λ kind. (kind_number kind, dylib_of_values c.values)) (library_kind c.kind) }
+    ensures { let c = command_of command.now in result ≡ option_map (λ kind. (library_kind_number kind, dylib_of_values c.values)) (library_kind c.kind) }
 {
     match &command.command {
         CommandVariant::LoadDylib(c) => Some((GM_REQUIRED, c.dylib)),

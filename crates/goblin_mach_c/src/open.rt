@@ -5,8 +5,8 @@ ghost use Rattle.mach_base.specs.Answer.{Stands, IsOkUnlessMemory};
 ghost use Rattle.mach_headers.specs.Header.{header_size};
 ghost use Rattle.mach_symbols.specs.SymbolViews.{table_of};
 ghost use Rattle.mach_image.specs.OpenImage.{IsImage, IsLossyImage};
-ghost use Rattle.goblin_mach_c.specs.Codes.{IsRefusal};
-ghost use Rattle.goblin_mach_c.specs.Opened.{AreTableNumbers, FaultIn, HoldsNumbers, IsOpened, OpenFault, OpensIn, flag, lossy_mode, width_of};
+ghost use Rattle.goblin_mach_c.specs.Codes.{IsRefusalCode};
+ghost use Rattle.goblin_mach_c.specs.Opened.{AreTableNumbers, FaultIn, HoldsNumbers, IsOpened, FaultByMode, OpensIn, flag, lossy_mode, width_of};
 
 use crate::errors::{GM_OK, gm_error, refuse};
 use crate::images::gm_image;
@@ -110,7 +110,7 @@ pub extern "C" fn gmr_open(
     ensures mode { result ≡ 0 → image.new.is_lossy ≡ flag (lossy_mode mode) }
     ensures unknown { 1 < mode → result ≡ 1 }
     ensures only { mode ≤ 1 → OpensIn (lossy_mode mode) bytes.now offset → (result ≡ 0) ⊎ (result ≡ 5) }
-    ensures refused { result ≢ 0 → IsRefusal (OpenFault mode bytes.now offset) result }
+    ensures refused { result ≢ 0 → IsRefusalCode (FaultByMode mode bytes.now offset) result }
     ensures told { result ≢ 0 → error.new.code ≡ result }
     ensures kept { result ≢ 0 → image.new ≡ image.old }
     ensures quiet { result ≡ 0 → error.new ≡ error.old }

@@ -3,7 +3,7 @@
 ghost use Rattle.std.specs.Prelude.{◌≡◌, Option};
 ghost use Rattle.mach_load.specs.Command.{Command};
 ghost use Rattle.mach_load.specs.Variants.{command_of};
-ghost use Rattle.goblin_mach_c.specs.CommandRows.{commands_left};
+ghost use Rattle.goblin_mach_c.specs.CommandRows.{readable_commands_left};
 ghost use Rattle.goblin_mach_c.specs.PartRows.{rows_of};
 
 use crate::commands::Commands;
@@ -32,7 +32,7 @@ pub struct Picked<'a, P: Pick + Drop> {
 impl<'a, P: Pick + Drop> Rows for Picked<'a, P> {
     type Row = P::Row;
 
-    ghost left = { λ it. rows_of (P.picked it.what) (commands_left it.commands) };
+    ghost left = { λ it. rows_of (P.picked it.what) (readable_commands_left it.commands) };
 
     fn next(&mut self) -> Option<P::Row> {
         'commands: loop {

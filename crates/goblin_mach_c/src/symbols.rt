@@ -7,7 +7,7 @@ ghost use Rattle.mach_base.specs.Fault.{fault_of};
 ghost use Rattle.mach_base.specs.Text.{is_zero, run_at, text_at};
 ghost use Rattle.mach_symbols.specs.Symbols.{nlist_at, symbol_place};
 ghost use Rattle.goblin_mach_c.specs.Fill.{Fills};
-ghost use Rattle.goblin_mach_c.specs.SymbolRows.{named_row, symbol_row, symbol_rows, symbol_rows_left, table_in, text_code, unread_row};
+ghost use Rattle.goblin_mach_c.specs.SymbolRows.{named_row, symbol_row, symbol_rows, symbol_rows_left, symbol_table_in, text_code, unread_row};
 
 use crate::errors::{GM_OK, code_of};
 use crate::images::{ctx_of, gm_image};
@@ -115,7 +115,7 @@ fn row_of(bytes: &[u8], place: usize, symbol: &Nlist) -> gm_symbol
 impl<'a> Table<'a> {
     // Where the record of a symbol stands.
     fn place(&self, index: usize) -> usize
-        ensures { result ≡ symbol_place (table_in self.now) index }
+        ensures { result ≡ symbol_place (symbol_table_in self.now) index }
     {
         let before = index.saturating_mul(Nlist::size_with(&self.ctx));
         self.start.saturating_add(before)
@@ -125,7 +125,7 @@ impl<'a> Table<'a> {
     #[cold]
     #[inline(never)]
     fn unnamed_row(&self, index: usize) -> gm_symbol
-        ensures { result ≡ symbol_row (table_in self.now) index }
+        ensures { result ≡ symbol_row (symbol_table_in self.now) index }
     {
         match record_at(self.bytes, self.place(index), self.ctx) {
             Ok(symbol) => row_of(
@@ -140,7 +140,7 @@ impl<'a> Table<'a> {
     // A symbol as C sees it. The rare row is taken apart, so that no other one goes through memory.
     #[inline(always)]
     fn row(&self, index: usize) -> gm_symbol
-        ensures { result ≡ symbol_row (table_in self.now) index }
+        ensures { result ≡ symbol_row (symbol_table_in self.now) index }
     {
         let symbols = Symbols::at(self.bytes, self.start, self.count, self.strtab, self.ctx);
         match symbols.get(index) {

@@ -6,7 +6,7 @@ ghost use Rattle.mach_tries.specs.Trie.{Entry};
 ghost use Rattle.mach_tries.specs.TrieRange.{TrieRange, ListsExports, ExportsFault};
 ghost use Rattle.mach_tries.specs.Walks.{HasGiven};
 ghost use Rattle.mach_image.specs.Facts.{HasExports, HasExportsFault};
-ghost use Rattle.goblin_mach_c.specs.Codes.{IsRefusal};
+ghost use Rattle.goblin_mach_c.specs.Codes.{IsRefusalCode};
 ghost use Rattle.goblin_mach_c.specs.ExportRows.{WalkFault};
 ghost use Rattle.goblin_mach_c.specs.Opened.{lossy_mode};
 
@@ -52,7 +52,7 @@ pub extern "C" fn gmr_exports_are_a_tree(
     error: &mut gm_error,
 ) -> u32
     ensures whole { result ≡ 0 → (list : List Entry) × HasExports bytes.now image.now.offset list }
-    ensures refused { result ≢ 0 → IsRefusal (WalkFault (lossy_mode image.now.is_lossy) bytes.now image.now.offset) result }
+    ensures refused { result ≢ 0 → IsRefusalCode (WalkFault (lossy_mode image.now.is_lossy) bytes.now image.now.offset) result }
     ensures told { result ≢ 0 → error.new.code ≡ result }
     ensures quiet { result ≡ 0 → error.new ≡ error.old }
 {

@@ -29,7 +29,7 @@ use Rattle.mach_audit.proofs.Goes.{stands_of}
 use Rattle.mach_audit.proofs.Verdicts.{sound_judged, unended_judged, faulty_judged, both_judged, both_faulty, both_assoc, both_sound, judged_as}
 use Rattle.mach_audit.specs.Sound as sound
 use Rattle.mach_audit.specs.Sound.{IsSound, IsSoundImage, IsSoundFat, IsSoundEntry, IsLongEntry, IsLong, IsLongFat, HasLongList}
-use Rattle.mach_audit.specs.Verdicts.{Judges, both, verdict_of_entry, verdict_of_entries}
+use Rattle.mach_audit.specs.Verdicts.{Judges, verdict_of_both, verdict_of_entry, verdict_of_entries}
 use Rattle.mach_audit.specs.declared.report.EntryReport.{EntryReport}
 use Rattle.mach_audit.specs.declared.verdict.Verdict.TheVariants.{Sound, Unended, Faulty}
 use Rattle.mach_audit.specs.declared.verdict.Verdict.{Verdict}
@@ -119,10 +119,10 @@ no_entry_judged entry e only told = faulty_judged (λ s. stands_of (λ _. ⊥) e
 -- ---- all entries
 
 pub verdict_push : {A : Type 0} (es : List (EntryReport A)) (e : EntryReport A)
-    → verdict_of_entries (es ++ e ∷ []) ≡ both (verdict_of_entries es) (verdict_of_entry e)
+    → verdict_of_entries (es ++ e ∷ []) ≡ verdict_of_both (verdict_of_entries es) (verdict_of_entry e)
 verdict_push [] e = both_sound (verdict_of_entry e)
 verdict_push (x ∷ es) e =
-    ap (both (verdict_of_entry x)) (verdict_push es e) ∙ sym (both_assoc (verdict_of_entry x) (verdict_of_entries es) (verdict_of_entry e))
+    ap (verdict_of_both (verdict_of_entry x)) (verdict_push es e) ∙ sym (both_assoc (verdict_of_entry x) (verdict_of_entries es) (verdict_of_entry e))
 
 pub no_entries_judged : (limit : ℕ) (file : FatFile) → Judges (AllSound file 0) (SomeLong limit file 0) Sound
 no_entries_judged limit file = sound_judged (λ k less. absurd (omega (arith, less))) (λ l. let less = l.1 in omega (arith, less))
@@ -133,7 +133,7 @@ pub entries_more : {A : Type 0} (limit : ℕ) (file : FatFile) (n : ℕ) (es : L
     → Judges (AllSound file (n + 1)) (SomeLong limit file (n + 1)) (verdict_of_entries (es ++ e ∷ []))
 entries_more limit file n es e before here =
     subst (λ (v : Verdict). Judges (AllSound file (n + 1)) (SomeLong limit file (n + 1)) v) (sym (verdict_push es e))
-    (judged_as (both (verdict_of_entries es) (verdict_of_entry e)) (λ s. below_more _ _ s.0 s.1)
+    (judged_as (verdict_of_both (verdict_of_entries es) (verdict_of_entry e)) (λ s. below_more _ _ s.0 s.1)
     (λ s. ((λ k less. s k (omega (arith, less))), s n (omega arith))) longer (λ l. nearer l (nat_lt l.0 n) refl) (both_judged _ _ before here))
   where
     nearer : (l : SomeLong limit file (n + 1)) (b : Bool) → nat_lt l.0 n ≡ b → SomeLong limit file n ⊎ IsLongEntry limit (entry_at file n)
@@ -150,7 +150,7 @@ entries_more limit file n es e before here =
 -- a fat file whose table can be read, of which so many entries were gone over
 pub fat_file_judged : (limit : ℕ) (file : FatFile) (n : ℕ) (cut : Bool) (v : Verdict) → IsOk (arches_in file) → n ≡ min file.narches limit
     → cut ≡ nat_lt limit file.narches → Judges (AllSound file n) (SomeLong limit file n) v
-    → Judges (IsSoundFat file) (IsLongFat limit file) (if file.narches == 0 then Faulty else both (if cut then Unended else Sound) v)
+    → Judges (IsSoundFat file) (IsLongFat limit file) (if file.narches == 0 then Faulty else verdict_of_both (if cut then Unended else Sound) v)
 fat_file_judged limit file n cut v table is cut_is judged = by_count file.narches cut refl refl
   where
     long_of : SomeLong limit file n → IsLongFat limit file
@@ -163,13 +163,13 @@ fat_file_judged limit file n cut v table is cut_is judged = by_count file.narche
     fewer : IsSoundFat file → AllSound file n
     fewer s k less = s.entries k (omega (arith, less, is))
 
-    cut_judged : IsTrue cut → (w : Verdict) → v ≡ w → Judges (IsSoundFat file) (IsLongFat limit file) (both Unended w)
+    cut_judged : IsTrue cut → (w : Verdict) → v ≡ w → Judges (IsSoundFat file) (IsLongFat limit file) (verdict_of_both Unended w)
     cut_judged on Faulty e = faulty_judged (λ s. judged.faulty e (fewer s))
     cut_judged on Unended e = unended_judged (sound.of_entries (ltb-true limit file.narches (sym cut_is ∙ on)))
     cut_judged on Sound e = unended_judged (sound.of_entries (ltb-true limit file.narches (sym cut_is ∙ on)))
 
     by_count : (count : ℕ) (c : Bool) → file.narches ≡ count → cut ≡ c
-        → Judges (IsSoundFat file) (IsLongFat limit file) (if count == 0 then Faulty else both (if c then Unended else Sound) v)
+        → Judges (IsSoundFat file) (IsLongFat limit file) (if count == 0 then Faulty else verdict_of_both (if c then Unended else Sound) v)
     by_count zero c e f = faulty_judged (λ s. let some = s.some in omega (arith, some, e))
     by_count (suc k) true e f = rw (eqb-suc-zero k) (cut_judged f v refl)
     by_count (suc k) false e f =
@@ -201,7 +201,7 @@ one_container bytes list others p q =
 
 -- the same beside the faults of its table
 pub refused_table_judged : {S L : Type 0} (v : Verdict) (file : FatFile) (e : Error) → FailsAs e (arches_in file) → IsTold e
-    → Judges (S × IsSoundFat file) L (both v Faulty)
+    → Judges (S × IsSoundFat file) L (verdict_of_both v Faulty)
 refused_table_judged {S = S} {L = L} v file e fails told =
     subst (λ (w : Verdict). Judges (S × IsSoundFat file) L w) (sym (both_faulty v))
     (faulty_judged (λ s. (no_table_judged {L = L} file e fails told).faulty refl s.1))

@@ -21,7 +21,7 @@ use Rattle.mach_tries.specs.Walks.{HasGiven}
 use Rattle.mach_tries.specs.declared.export_walk.ExportWalk.{ExportWalk}
 use Rattle.mach_tries.proofs.TrieBegins.{found_begins, begun_there}
 use Rattle.goblin_mach.specs.View.{IsTold}
-use Rattle.mach_audit.specs.Told.{FaultAt, HasMet, fault_at, faults_from, faults_each}
+use Rattle.mach_audit.specs.Told.{FaultAt, HasMet, fault_read_at, faults_from, faults_each}
 use Rattle.mach_audit.specs.declared.report.Place.{Place}
 use Rattle.mach_audit.specs.declared.report.Place.TheVariants as places
 use Rattle.mach_audit.specs.declared.tally.Tally.{Tally}
@@ -41,16 +41,18 @@ Takes item old new = (limit : ℕ) (items : List (Option FaultAt)) → HasMet li
 
 -- what an answer tells is what its item is told by
 pub err_told : {X Y : Type 0} (view : X → Y) (place : Place) (item : Result X Error)
-    → option_map (λ e. (place, fault_of e)) (result_err item) ≡ fault_at place (read_as view item)
+    → option_map (λ e. (place, fault_of e)) (result_err item) ≡ fault_read_at place (read_as view item)
 err_told view place (Ok x) = refl
 err_told view place (Err e) = refl
 
 -- the same of an import and of a binding
-pub import_told : (place : Place) (item : Result Import Error) → option_map (λ e. (place, fault_of e)) (result_err item) ≡ fault_at place (import_read item)
+pub import_told : (place : Place) (item : Result Import Error)
+    → option_map (λ e. (place, fault_of e)) (result_err item) ≡ fault_read_at place (import_read item)
 import_told place (Ok x) = refl
 import_told place (Err e) = refl
 
-pub binding_told : (place : Place) (item : Result Binding Error) → option_map (λ e. (place, fault_of e)) (result_err item) ≡ fault_at place (binding_read item)
+pub binding_told : (place : Place) (item : Result Binding Error)
+    → option_map (λ e. (place, fault_of e)) (result_err item) ≡ fault_read_at place (binding_read item)
 binding_told place (Ok x) = refl
 binding_told place (Err e) = refl
 
@@ -65,7 +67,7 @@ module _ {A X : Type 0} (limit : ℕ) (place : ℕ → Place) (before : List (Op
 
   pub goes_on : (left rest : List (Result X Fault)) (n m : ℕ) (item : Result X Fault) (told : Option FaultAt) (t u : Tally A)
       → Goes limit place before all left n t
-      → left ≡ item ∷ rest → told ≡ fault_at (place n) item → Takes told t u → m ≡ n + 1 → Goes limit place before all rest m u
+      → left ≡ item ∷ rest → told ≡ fault_read_at (place n) item → Takes told t u → m ≡ n + 1 → Goes limit place before all rest m u
   goes_on left rest n m item told t u goes steps is takes next =
       let one = told ∷ [] in record {
         done = goes.done ++ one;
@@ -168,15 +170,15 @@ from_append place n [] ys =
     ap (λ (m : ℕ). faults_from place m ys) same
 from_append place n (x ∷ xs) ys =
     let same : n + 1 + length xs ≡ n + length (x ∷ xs) = omega arith in
-    ap (λ rest. fault_at (place n) x ∷ rest) (from_append place (n + 1) xs ys
+    ap (λ rest. fault_read_at (place n) x ∷ rest) (from_append place (n + 1) xs ys
     ∙ ap (λ (m : ℕ). faults_from place (n + 1) xs ++ faults_from place m ys) same)
 
 -- one item more of an end of a list
 pub from_more : {X : Type 0} (place : ℕ → Place) (n : ℕ) (xs : List (Result X Fault)) (x : Result X Fault) → length xs ≡ n
-    → faults_from place 0 (xs ++ x ∷ []) ≡ faults_from place 0 xs ++ fault_at (place n) x ∷ []
+    → faults_from place 0 (xs ++ x ∷ []) ≡ faults_from place 0 xs ++ fault_read_at (place n) x ∷ []
 from_more place n xs x count =
     let same : 0 + length xs ≡ n = omega (arith, count) in
-    from_append place 0 xs (x ∷ []) ∙ ap (λ (m : ℕ). faults_from place 0 xs ++ fault_at (place m) x ∷ []) same
+    from_append place 0 xs (x ∷ []) ∙ ap (λ (m : ℕ). faults_from place 0 xs ++ fault_read_at (place m) x ∷ []) same
 
 -- ---- exports, of which each that is given is there
 
@@ -191,7 +193,7 @@ ok_more found x = map-append as_item found (x ∷ [])
 
 -- a count of exports, and one item more
 pub export_more : {A : Type 0} (limit n : ℕ) (found : List Entry) (item : Result Entry Fault) (told : Option FaultAt) (t u : Tally A)
-    → HasMet limit (faults_from places.Export 0 (entries_ok found)) t → length found ≡ n → told ≡ fault_at (places.Export n) item → Takes told t u
+    → HasMet limit (faults_from places.Export 0 (entries_ok found)) t → length found ≡ n → told ≡ fault_read_at (places.Export n) item → Takes told t u
     → HasMet limit (faults_from places.Export 0 (entries_ok found ++ item ∷ [])) u
 export_more limit n found item told t u met count is takes =
     let same : length (entries_ok found) ≡ n = length-map found as_item ∙ count in

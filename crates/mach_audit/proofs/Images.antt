@@ -31,7 +31,7 @@ use Rattle.mach_audit.proofs.Verdicts.{number, sound_judged, faulty_judged, part
 use Rattle.mach_audit.specs.Sound.{IsSoundImage, HasLongList, of_sections, of_relocations, of_symbols, of_exports, of_imports}
 use Rattle.mach_audit.specs.Sound.{HasAllRelocations, HasExportItems, AreExportItems, all_exports, up_to_fault, past_limit}
 use Rattle.mach_audit.specs.Sound.{are_all_ok, all_sections, all_relocations, relocations_by, of_fixups, of_bindings}
-use Rattle.mach_audit.specs.Told.{FaultAt, TellsOf, TellsOfTrie, TellsRelocations, faults_from, section_faults, relocation_faults, relocation_faults_by}
+use Rattle.mach_audit.specs.Told.{FaultAt, TellsOf, TellsOfTrie, TellsRelocations, faults_from, section_faults_told, relocation_faults, relocation_faults_by}
 use Rattle.mach_audit.specs.Verdicts.{Judges, verdict_of, verdict_of_read, verdict_of_parts, verdict_of_layout, is_clean}
 use Rattle.mach_layout.specs.Facts.{HasLayoutFaults}
 use Rattle.mach_rules.specs.declared.fault.LayoutFault.{LayoutFault}
@@ -191,12 +191,12 @@ module _ (limit : ℕ) (t : TrieRange) (libs : List (List ℕ)) where
         absurd (told_faulty limit items (faults_from places.Export 0 items) (plain_from places.Export 0 items) q tells some (oks_all found))
 
 module _ {A : Type 0} (bytes : List ℕ) (m : MachO A) (p : IsImage bytes 0 m) (limit : ℕ) where
-  sections_plain : map plain (section_faults (segments_held m)) ≡ faults_in (all_sections (segments_held m))
+  sections_plain : map plain (section_faults_told (segments_held m)) ≡ faults_in (all_sections (segments_held m))
   sections_plain =
       plain_each (λ n s. faults_from (places.Section n) 0 (sections_of s)) sections_of (λ n s. plain_from (places.Section n) 0 (sections_of s)) 0
       (segments_held m)
 
-  pub sections_judged : {B : Type 0} (q : Part B) → TellsOf limit (section_faults (segments_held m)) q
+  pub sections_judged : {B : Type 0} (q : Part B) → TellsOf limit (section_faults_told (segments_held m)) q
       → Judges ((segments : List SegmentView) × HasSegments bytes 0 segments × IsTrue (are_all_ok (all_sections segments)))
       ((segments : List SegmentView) × HasSegments bytes 0 segments × (limit < length (all_sections segments))) (verdict_of q)
   sections_judged q tells =
@@ -205,7 +205,7 @@ module _ {A : Type 0} (bytes : List ℕ) (m : MachO A) (p : IsImage bytes 0 m) (
       (λ s. subst (λ (xs : List SegmentView). IsTrue (are_all_ok (all_sections xs))) ((is s.0).0 s.1) s.2)
       (λ long. (segments_held m, (is (segments_held m)).1 refl, long))
       (λ l. subst (λ (xs : List SegmentView). limit < length (all_sections xs)) ((is l.0).0 l.1) l.2)
-      (judged_list limit (all_sections (segments_held m)) (section_faults (segments_held m)) q sections_plain tells)
+      (judged_list limit (all_sections (segments_held m)) (section_faults_told (segments_held m)) q sections_plain tells)
 
   pub relocations_are : (items : List (Result RelocationInfo Fault)) → HasAllRelocations bytes 0 items
       ↔ (items ≡ all_relocations (ctx_held m) (bytes_held m) (segments_held m))

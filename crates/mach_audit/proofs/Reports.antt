@@ -23,7 +23,7 @@ use Rattle.goblin_mach.specs.File.{MachFault}
 use Rattle.goblin_mach.specs.View.{IsTold}
 use Rattle.mach_audit.proofs.Goes.{stands_of}
 use Rattle.mach_audit.specs.Report.{TellsImage, TellsLossily, IsImageReport, IsEntryReport, reason_of}
-use Rattle.mach_audit.specs.Told.{TellsOf, TellsOfTrie, TellsRelocations, faults_from, section_faults, relocation_faults}
+use Rattle.mach_audit.specs.Told.{TellsOf, TellsOfTrie, TellsRelocations, faults_from, section_faults_told, relocation_faults}
 use Rattle.mach_audit.specs.Verdicts.{is_clean, verdict_of_image}
 use Rattle.mach_audit.specs.declared.report.EntryReport.TheVariants as entries
 use Rattle.mach_audit.specs.declared.report.ImageReport.TheVariants as images
@@ -34,7 +34,7 @@ use Rattle.mach_audit.specs.declared.verdict.Verdict.TheVariants.{Faulty}
 
 -- the parts of an image
 pub image_told : {A B : Type 0} (limit : ℕ) (bytes : List ℕ) (m : MachO A) → IsLossyImage bytes 0 m → (q : Parts B)
-    → TellsOf limit (section_faults (segments_held m)) q.sections
+    → TellsOf limit (section_faults_told (segments_held m)) q.sections
     → TellsRelocations limit (relocation_faults (ctx_held m) (bytes_held m) (segments_held m)) (is_clean q.sections) q.relocations
     → TellsOf limit (faults_from places.Symbol 0 (symbols_held m.symbols)) q.symbols
     → TellsOfTrie limit (trie_or_empty (trie_held m)) (texts m.libs.items) q.exports

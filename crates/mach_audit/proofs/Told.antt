@@ -7,7 +7,7 @@ use Rattle.std.proofs.lemmas.Bool.{false≢true, le-ltb, lt-ltb, ltb-true, ltb-f
 use Rattle.std.proofs.lemmas.List.{take-append-le, take_all, length-append, length-map, map-append}
 use Rattle.std.proofs.lemmas.List.Elements.{filter_map-append}
 use Rattle.mach_base.specs.Fault.{Fault}
-use Rattle.mach_audit.specs.Told.{FaultAt, faults_from, faults_each, Tells, TellsOf, HasMet, faults_of}
+use Rattle.mach_audit.specs.Told.{FaultAt, faults_from, faults_each, TellsFirstFaults, TellsOf, HasMet, faults_of}
 use Rattle.mach_audit.specs.declared.report.Part.{Part}
 use Rattle.mach_audit.specs.declared.report.Place.{Place}
 use Rattle.mach_audit.specs.declared.tally.Tally.{Tally}
@@ -52,14 +52,14 @@ not_cut limit items item less =
     ∙ sym (le-ltb limit (length (items ++ item ∷ [])) (omega (arith, less, length-append items (item ∷ []))))
 
 pub met_one_more : {A : Type 0} (limit : ℕ) (items : List (Option FaultAt)) (item : Option FaultAt) (t : Tally A) (p : Part A) → HasMet limit items t
-    → 1 ≤ t.left → Tells (faults_of (take limit items) ++ faults_of (item ∷ [])) p → p.cut ≡ t.part.cut
+    → 1 ≤ t.left → TellsFirstFaults (faults_of (take limit items) ++ faults_of (item ∷ [])) p → p.cut ≡ t.part.cut
     → HasMet limit (items ++ item ∷ []) (record { part = p; left = t.left - 1 })
 met_one_more limit items item t p met some tells same =
     let less = within limit items t met some in record {
       small = met.small;
       left = omega (arith, met.left, length-append items (item ∷ []), some);
       tells = record {
-        faults = subst (λ (fs : List FaultAt). Tells fs p) (sym (faults_one_more limit items item less)) tells;
+        faults = subst (λ (fs : List FaultAt). TellsFirstFaults fs p) (sym (faults_one_more limit items item less)) tells;
         cut = same ∙ met.tells.cut ∙ not_cut limit items item less;
       };
     }
@@ -72,7 +72,7 @@ met_rest limit items rest t met cut =
       small = met.small;
       left = omega (arith, met.left, length-append items rest, long);
       tells = record {
-        faults = subst (λ (xs : List (Option FaultAt)). Tells (faults_of xs) t.part) (sym (take-append-le limit items rest (omega (arith, long))))
+        faults = subst (λ (xs : List (Option FaultAt)). TellsFirstFaults (faults_of xs) t.part) (sym (take-append-le limit items rest (omega (arith, long))))
             met.tells.faults;
         cut = met.tells.cut ∙ lt-ltb limit (length items) long ∙ sym (lt-ltb limit (length (items ++ rest)) (omega (arith, long, length-append items rest)));
       };

@@ -2,7 +2,7 @@
 use Rattle.std.proofs.Common.{◌≡◌, ◌<◌, ◌≤◌, ℕ, zero, suc, Bool, true, false, refl, ap, arith, inl, inr}
 use Rattle.std.proofs.Math.Dec.{eqb-suc-zero}
 use Rattle.std.specs.Prelude.{◌⊎◌, IsTrue, ◌==◌, if◌then◌else◌}
-use Rattle.mach_audit.specs.Verdicts.{Judges, both, status_of, verdict_of}
+use Rattle.mach_audit.specs.Verdicts.{Judges, verdict_of_both, status_of, verdict_of}
 use Rattle.mach_audit.specs.declared.report.Part.{Part}
 use Rattle.mach_audit.specs.declared.verdict.Verdict.TheVariants.{Sound, Unended, Faulty}
 use Rattle.mach_audit.specs.declared.verdict.Verdict.{Verdict}
@@ -53,7 +53,7 @@ neither p q (inl l) = p l
 neither p q (inr m) = q m
 
 -- the verdict on two parts together
-pub both_judged : {S T L M : Type 0} (v w : Verdict) → Judges S L v → Judges T M w → Judges (S × T) (L ⊎ M) (both v w)
+pub both_judged : {S T L M : Type 0} (v w : Verdict) → Judges S L v → Judges T M w → Judges (S × T) (L ⊎ M) (verdict_of_both v w)
 both_judged Faulty w p q = faulty_judged (λ s. p.faulty refl s.0)
 both_judged Unended Faulty p q = faulty_judged (λ s. q.faulty refl s.1)
 both_judged Unended Unended p q = unended_judged (inl (p.unended refl))
@@ -71,7 +71,7 @@ judged_as v to from longer shorter p = record {
   unended = λ e. longer (p.unended e);
 }
 
-pub both_assoc : (u v w : Verdict) → both (both u v) w ≡ both u (both v w)
+pub both_assoc : (u v w : Verdict) → verdict_of_both (verdict_of_both u v) w ≡ verdict_of_both u (verdict_of_both v w)
 both_assoc Faulty v w = refl
 both_assoc Unended Faulty w = refl
 both_assoc Unended Unended Faulty = refl
@@ -80,7 +80,7 @@ both_assoc Unended Unended Sound = refl
 both_assoc Unended Sound w = refl
 both_assoc Sound v w = refl
 
-pub both_sound : (v : Verdict) → both v Sound ≡ v
+pub both_sound : (v : Verdict) → verdict_of_both v Sound ≡ v
 both_sound Faulty = refl
 both_sound Unended = refl
 both_sound Sound = refl
@@ -106,7 +106,7 @@ status_faulty Sound j e = absurd (omega (arith, e))
 status_faulty Unended j e = inr (j.unended refl)
 status_faulty Faulty j e = inl (j.faulty refl)
 
-pub both_faulty : (v : Verdict) → both v Faulty ≡ Faulty
+pub both_faulty : (v : Verdict) → verdict_of_both v Faulty ≡ Faulty
 both_faulty Faulty = refl
 both_faulty Unended = refl
 both_faulty Sound = refl

@@ -19,7 +19,7 @@ use Rattle.goblin_mach.specs.FatEntry.{FatEntry, archive, image, entry_at, Entry
 use Rattle.goblin_mach.specs.FatFile.{FatFile, fat_file_in, arches_in}
 use Rattle.goblin_mach.specs.File.{HasFatMagic, MachFault, MachOpens}
 use Rattle.goblin_mach.specs.View.{IsTold}
-use Rattle.mach_audit.specs.Told.{TellsOf, TellsOfTrie, TellsRelocations, faults_from, section_faults, relocation_faults}
+use Rattle.mach_audit.specs.Told.{TellsOf, TellsOfTrie, TellsRelocations, faults_from, section_faults_told, relocation_faults}
 use Rattle.mach_audit.specs.Verdicts.{is_clean}
 use Rattle.mach_audit.specs.declared.report.EntryReport.TheVariants as entries
 use Rattle.mach_audit.specs.declared.report.EntryReport.{EntryReport}
@@ -33,7 +33,7 @@ use Rattle.mach_audit.specs.declared.report.Report.{Report}
 
 -- Each part tells what can't be read of the first `limit` items of its list, and exactly whether the list has more.
 pub record TellsImage {A : Type 0} (limit : ℕ) (bytes : List ℕ) (p : Parts A) : Type 0 where
-  pub sections : (segments : List SegmentView) × HasSegments bytes 0 segments × TellsOf limit (section_faults segments) p.sections
+  pub sections : (segments : List SegmentView) × HasSegments bytes 0 segments × TellsOf limit (section_faults_told segments) p.sections
   pub relocations : OfImage bytes 0 (λ ctx cs.
       TellsRelocations limit (relocation_faults ctx bytes (lossy_segments_in ctx bytes cs)) (is_clean p.sections) p.relocations)
   pub symbols : (rows : List (Result (List ℕ × Nlist) Fault)) × HasSymbols bytes 0 rows × TellsOf limit (faults_from places.Symbol 0 rows) p.symbols
@@ -87,6 +87,6 @@ pub record IsFatReport {A : Type 0} (limit : ℕ) (bytes : List ℕ) (file : Fat
   pub table : TellsTable limit bytes file r r.table
 
 -- What is told of a file.
-abbrev pub IsReport : {A : Type 0} → ℕ → List ℕ → Report A → Type 0
-IsReport limit bytes (reports.Image r) = IsImageReport limit bytes r
-IsReport limit bytes (reports.Fat r) = (file : FatFile) × HasFatMagic bytes × (fat_file_in bytes ≡ Ok file) × IsFatReport limit bytes file r
+abbrev pub IsFileReport : {A : Type 0} → ℕ → List ℕ → Report A → Type 0
+IsFileReport limit bytes (reports.Image r) = IsImageReport limit bytes r
+IsFileReport limit bytes (reports.Fat r) = (file : FatFile) × HasFatMagic bytes × (fat_file_in bytes ≡ Ok file) × IsFatReport limit bytes file r

@@ -19,14 +19,14 @@ abbrev pub FaultAt : Type 0
 FaultAt = Place × Fault
 
 -- that of an item at a place, if it can't be read
-abbrev pub fault_at : {X : Type 0} → Place → Result X Fault → Option FaultAt
-fault_at place (Ok x) = None
-fault_at place (Err f) = Some (place, f)
+abbrev pub fault_read_at : {X : Type 0} → Place → Result X Fault → Option FaultAt
+fault_read_at place (Ok x) = None
+fault_read_at place (Err f) = Some (place, f)
 
 -- that of each item, where the first has this number
 abbrev pub faults_from : {X : Type 0} → (ℕ → Place) → ℕ → List (Result X Fault) → List (Option FaultAt)
 faults_from place n [] = []
-faults_from place n (item ∷ items) = fault_at (place n) item ∷ faults_from place (n + 1) items
+faults_from place n (item ∷ items) = fault_read_at (place n) item ∷ faults_from place (n + 1) items
 
 -- those of several lists, where the first has this number
 abbrev pub faults_each : {X : Type 0} → (ℕ → X → List (Option FaultAt)) → ℕ → List X → List (Option FaultAt)
@@ -34,8 +34,8 @@ faults_each part n [] = []
 faults_each part n (x ∷ xs) = part n x ++ faults_each part (n + 1) xs
 
 -- those of the sections of all segments
-abbrev pub section_faults : List SegmentView → List (Option FaultAt)
-section_faults segments = faults_each (λ n s. faults_from (places.Section n) 0 (sections_of s)) 0 segments
+abbrev pub section_faults_told : List SegmentView → List (Option FaultAt)
+section_faults_told segments = faults_each (λ n s. faults_from (places.Section n) 0 (sections_of s)) 0 segments
 
 -- those of the relocations of the sections of a segment
 abbrev pub relocation_faults_by : {S : Type 0} → (S → List (Result RelocationInfo Fault)) → ℕ → List S → List (Option FaultAt)
@@ -54,13 +54,13 @@ abbrev pub fault_told : Finding → FaultAt
 fault_told finding = (finding.place, fault_of finding.error)
 
 -- A part tells the first ten of these faults, and how many they are.
-pub record Tells {A : Type 0} (faults : List FaultAt) (p : Part A) : Type 0 where
+pub record TellsFirstFaults {A : Type 0} (faults : List FaultAt) (p : Part A) : Type 0 where
   pub told : map fault_told p.told.items ≡ take 10 faults
   pub count : p.faults ≡ length faults
 
 -- A part tells what can't be read among the first `limit` items, and whether there are more items than that.
 pub record TellsOf {A : Type 0} (limit : ℕ) (items : List (Option FaultAt)) (p : Part A) : Type 0 where
-  pub faults : Tells (faults_of (take limit items)) p
+  pub faults : TellsFirstFaults (faults_of (take limit items)) p
   pub cut : p.cut ≡ nat_lt limit (length items)
 
 -- A count has met these items, of which at most `limit` are gone over.

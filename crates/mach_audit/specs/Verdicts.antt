@@ -14,12 +14,12 @@ use Rattle.mach_audit.specs.declared.verdict.Verdict.TheVariants.{Sound, Unended
 use Rattle.mach_audit.specs.declared.verdict.Verdict.{Verdict}
 
 -- that of two parts together: a fault counts before a limit, and a limit before soundness
-abbrev pub both : Verdict → Verdict → Verdict
-both Faulty w = Faulty
-both Unended Faulty = Faulty
-both Unended Unended = Unended
-both Unended Sound = Unended
-both Sound w = w
+abbrev pub verdict_of_both : Verdict → Verdict → Verdict
+verdict_of_both Faulty w = Faulty
+verdict_of_both Unended Faulty = Faulty
+verdict_of_both Unended Unended = Unended
+verdict_of_both Unended Sound = Unended
+verdict_of_both Sound w = w
 
 -- all items of a part were gone over, and each can be read
 abbrev pub is_clean : {A : Type 0} → Part A → Bool
@@ -32,7 +32,7 @@ verdict_of p = if p.faults == 0 then (if p.cut then Unended else Sound) else Fau
 -- that of the sections and the relocations, which are not read where a section can't be
 abbrev pub verdict_of_read : {A : Type 0} → Part A → Option (Part A) → Verdict
 verdict_of_read sections None = verdict_of sections
-verdict_of_read sections (Some relocations) = both (verdict_of sections) (verdict_of relocations)
+verdict_of_read sections (Some relocations) = verdict_of_both (verdict_of sections) (verdict_of relocations)
 
 -- that of faults of layout
 abbrev pub verdict_of_layout : List LayoutFault → Verdict
@@ -42,8 +42,8 @@ verdict_of_layout (f ∷ fs) = Faulty
 -- that of all parts
 abbrev pub verdict_of_parts : {A : Type 0} → Parts A → Verdict
 verdict_of_parts p =
-    both (verdict_of_layout p.layout.items) (both (verdict_of_read p.sections p.relocations) (both (verdict_of p.symbols)
-    (both (verdict_of p.exports) (both (verdict_of p.imports) (both (verdict_of p.fixups) (verdict_of p.bindings))))))
+    verdict_of_both (verdict_of_layout p.layout.items) (verdict_of_both (verdict_of_read p.sections p.relocations) (verdict_of_both (verdict_of p.symbols)
+    (verdict_of_both (verdict_of p.exports) (verdict_of_both (verdict_of p.imports) (verdict_of_both (verdict_of p.fixups) (verdict_of p.bindings))))))
 
 -- that of an image: one that doesn't open strictly is faulty
 abbrev pub verdict_of_image : {A : Type 0} → ImageReport A → Verdict
@@ -59,17 +59,17 @@ verdict_of_entry (entries.Image image) = verdict_of_image image
 -- that of entries together
 abbrev pub verdict_of_entries : {A : Type 0} → List (EntryReport A) → Verdict
 verdict_of_entries [] = Sound
-verdict_of_entries (e ∷ es) = both (verdict_of_entry e) (verdict_of_entries es)
+verdict_of_entries (e ∷ es) = verdict_of_both (verdict_of_entry e) (verdict_of_entries es)
 
 -- that of the entries of a fat file: one whose table can't be read is faulty, and one without entries
 abbrev pub verdict_of_table : {A : Type 0} → FatReport A → Verdict
 verdict_of_table f =
     if is_some f.table || (f.count == 0) then Faulty
-    else both (if f.cut then Unended else Sound) (verdict_of_entries f.entries.items)
+    else verdict_of_both (if f.cut then Unended else Sound) (verdict_of_entries f.entries.items)
 
 -- that of a fat file
 abbrev pub verdict_of_fat : {A : Type 0} → FatReport A → Verdict
-verdict_of_fat f = both (verdict_of_layout f.container.items) (verdict_of_table f)
+verdict_of_fat f = verdict_of_both (verdict_of_layout f.container.items) (verdict_of_table f)
 
 -- that of a file
 abbrev pub verdict_of_report : {A : Type 0} → Report A → Verdict

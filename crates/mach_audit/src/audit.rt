@@ -12,7 +12,7 @@ ghost use Rattle.mach_layout.specs.Bindings.{AreBindFaults};
 ghost use Rattle.mach_rules.specs.Containers.{AreContainerFaults};
 ghost use Rattle.mach_rules.specs.Faults.{AreLayoutFaults};
 ghost use Rattle.mach_layout.specs.Held.{laid_held};
-ghost use Rattle.mach_audit.specs.Report.{IsReport, IsEntryReport, IsFatReport, TellsImage, TellsLossily, reason_of};
+ghost use Rattle.mach_audit.specs.Report.{IsFileReport, IsEntryReport, IsFatReport, TellsImage, TellsLossily, reason_of};
 ghost use Rattle.mach_audit.specs.Sound.{IsSound, IsSoundEntry, IsSoundFat, IsSoundImage, IsLong, IsLongEntry, IsLongFat, HasLongList};
 ghost use Rattle.mach_audit.specs.Told.{TellsRelocations, relocation_faults};
 ghost use Rattle.mach_audit.specs.Verdicts.{Judges, is_clean, verdict_of_parts, verdict_of_image, verdict_of_entry, verdict_of_fat, verdict_of_report};
@@ -212,7 +212,7 @@ pub fn audit<A: Allocator + Clone>(
     bytes: &[u8],
     limit: usize,
 ) -> Result<Report<A>, Failure>
-    ensures told { IfOk result (IsReport limit bytes.now) }
+    ensures told { IfOk result (IsFileReport limit bytes.now) }
     ensures judged { IfOk result (λ r. Judges (IsSound bytes.now) (IsLong limit bytes.now) (verdict_of_report r)) }
     ensures memory { IfErr result (λ failure. failure ≡ failures.Memory) }
 {

@@ -8,11 +8,11 @@ ghost use Rattle.mach_segments.specs.SectionItems.{sections_left, section_read};
 ghost use Rattle.mach_segments.specs.Segment.{segment_view};
 ghost use Rattle.mach_symbols.specs.SymbolViews.{symbols_left};
 ghost use Rattle.mach_image.specs.BindingsLeft.{bindings_left};
-ghost use Rattle.mach_image.specs.FixupsLeft.{fixups_left};
+ghost use Rattle.mach_image.specs.FixupsLeft.{image_fixups_left};
 ghost use Rattle.mach_image.specs.OpenImage.{trie_held};
 ghost use Rattle.mach_image.specs.Subjects.{trie_or_empty};
 ghost use Rattle.mach_audit.specs.Sound.{relocations_by};
-ghost use Rattle.mach_audit.specs.Told.{FaultAt, HasMet, TellsOf, TellsOfTrie, faults_from, section_faults, relocation_faults, relocation_faults_by};
+ghost use Rattle.mach_audit.specs.Told.{FaultAt, HasMet, TellsOf, TellsOfTrie, faults_from, section_faults_told, relocation_faults, relocation_faults_by};
 ghost use Rattle.mach_audit.specs.declared.report.Failure.TheVariants as failures;
 ghost use Rattle.mach_audit.specs.declared.report.Place.TheVariants as places;
 
@@ -30,7 +30,7 @@ pub fn audit_sections<A: Allocator>(
     segments: &[Segment<'_>],
     limit: usize,
 ) -> Result<Part<A>, Failure>
-    ensures told { IfOk result (TellsOf limit (section_faults (map segment_view segments.now))) }
+    ensures told { IfOk result (TellsOf limit (section_faults_told (map segment_view segments.now))) }
     ensures memory { IfErr result (λ failure. failure ≡ failures.Memory) }
 {
     let mut tally = Tally::new(alloc, limit);
@@ -225,7 +225,7 @@ pub fn audit_fixups<A: Allocator>(
     fixups: FixupIterator<'_, '_>,
     limit: usize,
 ) -> Result<Part<A>, Failure>
-    ensures told { IfOk result (TellsOf limit (faults_from places.Fixup 0 (fixups_left fixups.entry))) }
+    ensures told { IfOk result (TellsOf limit (faults_from places.Fixup 0 (image_fixups_left fixups.entry))) }
     ensures memory { IfErr result (λ failure. failure ≡ failures.Memory) }
 {
     let mut tally = Tally::new(alloc, limit);

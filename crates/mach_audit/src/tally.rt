@@ -3,7 +3,7 @@
 ghost use Rattle.std.specs.Prelude.{◌≡◌, ◌<◌, ◌≤◌, ◌+◌, ◌^◌, ◌++◌, ◌∷◌, ℕ, List, [], length, IsTrue, false, true, IfOk, IfErr, OnOk, Option, option_map};
 ghost use Rattle.mach_base.specs.Fault.{fault_of};
 ghost use Rattle.mach_audit.specs.declared.report.Failure.TheVariants as failures;
-ghost use Rattle.mach_audit.specs.Told.{FaultAt, Tells, TellsOf, HasMet};
+ghost use Rattle.mach_audit.specs.Told.{FaultAt, TellsFirstFaults, TellsOf, HasMet};
 
 use crate::report::{Failure, Finding, Part, Place};
 use goblin_mach::Error;
@@ -64,8 +64,8 @@ impl<A: Allocator> Tally<A> {
 
 // Notes a fault: tells it, where it is one of the first.
 fn note<A: Allocator>(part: &mut Part<A>, place: Place, error: Error) -> Result<(), Failure>
-    ensures told { OnOk result ((faults : List FaultAt) → length faults + 1 < 2 ^ 64 → Tells faults part.old
-        → Tells (faults ++ (place, fault_of error) ∷ []) part.new) }
+    ensures told { OnOk result ((faults : List FaultAt) → length faults + 1 < 2 ^ 64 → TellsFirstFaults faults part.old
+        → TellsFirstFaults (faults ++ (place, fault_of error) ∷ []) part.new) }
     ensures memory { IfErr result (λ failure. failure ≡ failures.Memory) }
     ensures kept { OnOk result (part.new.cut ≡ part.old.cut) }
 {

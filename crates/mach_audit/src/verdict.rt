@@ -1,7 +1,7 @@
 //! Whether a file is sound by what is said of it.
 
 ghost use Rattle.std.specs.Prelude.{◌≡◌};
-ghost use Rattle.mach_audit.specs.Verdicts.{both, verdict_of, verdict_of_read, verdict_of_entries, is_clean, verdict_of_parts, verdict_of_image};
+ghost use Rattle.mach_audit.specs.Verdicts.{verdict_of_both, verdict_of, verdict_of_read, verdict_of_entries, is_clean, verdict_of_parts, verdict_of_image};
 ghost use Rattle.mach_audit.specs.Verdicts.{verdict_of_entry, verdict_of_fat, verdict_of_table, verdict_of_layout, verdict_of_report};
 
 use crate::report::{EntryReport, FatReport, ImageReport, Part, Parts, Report};
@@ -22,7 +22,7 @@ pub enum Verdict {
 impl Verdict {
     // That of two parts together: a fault counts before a limit.
     fn and(self, other: Verdict) -> Verdict
-        ensures { result ≡ both self other }
+        ensures { result ≡ verdict_of_both self other }
     {
         match (self, other) {
             (Verdict::Faulty, _) | (_, Verdict::Faulty) => Verdict::Faulty,

@@ -1,5 +1,5 @@
 -- What is wrong with some bytes: the kind of an error with its numbers, its wording left out.
-use Rattle.std.specs.Prelude.{ℕ, List}
+use Rattle.std.specs.Prelude.{ℕ, List, [], ◌∷◌, Option, Some, None, Result, Err}
 use Rattle.mach_base.specs.declared.error.ScrollError.{ScrollError}
 use Rattle.mach_base.specs.declared.error.ScrollError.TheVariants as scroll
 use Rattle.mach_base.specs.declared.error.Error.{Error}
@@ -26,3 +26,8 @@ fault_of (errors.BadMagic magic) = bad_magic magic
 fault_of (errors.Scroll e) = fault_of_scroll e
 fault_of (errors.BufferTooShort count what) = too_short count what.now
 fault_of (errors.Memory e) = no_memory
+
+-- a fault as an item, where there is one
+abbrev pub fault_item : {A : Type 0} → Option Fault → List (Result A Fault)
+fault_item None = []
+fault_item (Some f) = Err f ∷ []

@@ -1,6 +1,6 @@
 -- Numbers of some bytes in either byte order, and the bounded read (`mach-o/loader.h`: every field is
 -- such a number).
-use Rattle.std.specs.Prelude.{ℕ, ◌+◌, ◌-◌, ◌^◌, min, List, length, take, drop, Result, Ok, Err, nat_le, if◌then◌else◌}
+use Rattle.std.specs.Prelude.{ℕ, ◌+◌, ◌-◌, ◌^◌, min, List, length, take, drop, Result, Ok, Err, nat_le, if◌then◌else◌, ◌==◌, Bool, not}
 use Rattle.byteorder.specs.Endian.{little_number, big_number, little_bytes, big_bytes}
 use Rattle.mach_base.specs.declared.context.Endian.{Endian}
 use Rattle.mach_base.specs.declared.context.Endian.TheVariants.{Little, Big}
@@ -43,3 +43,7 @@ room_at n bytes s = bounded n bytes s n
 -- read there fails as it would at the sum
 abbrev pub place_after : ℕ → ℕ → ℕ
 place_after s n = min (s + n) (2 ^ 64 - 1)
+
+-- a number that isn't 0 says yes
+abbrev pub says_yes : ℕ → Bool
+says_yes n = not (n == 0)

@@ -43,7 +43,8 @@ fn ascii_text(bytes: &[u8]) -> &str
 #[cold]
 #[inline(never)]
 fn utf8_at_front(bytes: &[u8]) -> Option<&str>
-    ensures text { MatchOption result (¬ (IsUtf8 (before_first is_zero bytes.now))) (λ text. (text.now ≡ before_first is_zero bytes.now) × IsUtf8 (before_first is_zero bytes.now)) }
+    ensures text { MatchOption result (¬ (IsUtf8 (before_first is_zero bytes.now)))
+        (λ text. (text.now ≡ before_first is_zero bytes.now) × IsUtf8 (before_first is_zero bytes.now)) }
     ensures within { IfSome result (λ text. length text.now ≤ length bytes.now) }
 {
     match str::from_utf8(run_at_front(bytes)) {
@@ -93,7 +94,8 @@ fn plain_len(bytes: &[u8]) -> usize
 // The text at the front, if it is UTF-8. Most are ASCII, and for those one search does.
 #[inline(always)]
 fn text_at_front(bytes: &[u8]) -> Option<&str>
-    ensures text { MatchOption result (¬ (IsUtf8 (before_first is_zero bytes.now))) (λ text. (text.now ≡ before_first is_zero bytes.now) × IsUtf8 (before_first is_zero bytes.now)) }
+    ensures text { MatchOption result (¬ (IsUtf8 (before_first is_zero bytes.now)))
+        (λ text. (text.now ≡ before_first is_zero bytes.now) × IsUtf8 (before_first is_zero bytes.now)) }
     ensures within { IfSome result (λ text. length text.now ≤ length bytes.now) }
 {
     let len = plain_len(bytes);

@@ -1,7 +1,9 @@
 -- The import of a bind lies in the bind's segment.
-use Rattle.mach_binds.proofs.Names.{◌≡◌, ℕ, ◌+◌, ◌<◌, ◌^◌, List, [], ◌∷◌, map, Bool, true, false, Option, Some, None, Result, Ok, Err, refl, sym, ap, subst, ◌∙◌}
+use Rattle.mach_binds.proofs.Names.{◌≡◌, ℕ, ◌+◌, ◌<◌, ◌^◌, List, [], ◌∷◌, map, Bool, true, false, Option, Some, None, Result, Ok, Err, refl, sym, ap, subst}
+use Rattle.mach_binds.proofs.Names.{◌∙◌}
 use Rattle.mach_binds.proofs.Names.{arith, nat_lt, cond, All, slice_get, ltb-true, ◌>>=◌, Fault, malformed, bind_ok, same_ok, SegmentView, Input, Range}
-use Rattle.mach_binds.proofs.Names.{Placed, Bind, binds_of, Import, Target, holding, target_of, import_of, import_with, imports_in, input_in, found_or_malformed}
+use Rattle.mach_binds.proofs.Names.{Placed, Bind, binds_of, Import, Target, holding, target_of, import_of, import_with, imports_in, input_in}
+use Rattle.mach_binds.proofs.Names.{found_or_malformed}
 use Rattle.mach_binds.proofs.Names.{sum_of}
 use Rattle.mach_binds.proofs.StreamStarts.{OfItem, each_of, of_both}
 use Rattle.std.proofs.lemmas.List.Elements.{All-nil, All-cons, All-head, All-tail, All-append}
@@ -28,7 +30,8 @@ held offset s h e = by_test (nat_lt offset s.command.vmsize) refl e
     by_test false lt e = absurd (cc)
 
 -- a segment that holds an offset, and the sums there, of which something is made
-pub record Spot {T : Type 0} (hold : SegmentView → Result SegmentView Fault) (make : ℕ → ℕ → T) (segments : List SegmentView) (k offset : ℕ) (t : T) : Type 0 where
+pub record Spot {T : Type 0} (hold : SegmentView → Result SegmentView Fault) (make : ℕ → ℕ → T) (segments : List SegmentView) (k offset : ℕ)
+    (t : T) : Type 0 where
   pub segment : SegmentView
   pub in_file : ℕ
   pub address : ℕ

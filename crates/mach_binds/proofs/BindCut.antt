@@ -2,7 +2,8 @@
 use Rattle.mach_binds.proofs.Names.{◌≡◌, ℕ, ◌+◌, ◌-◌, ◌*◌, ◌%◌, ◌^◌, ◌<◌, ◌≤◌, List, [], ◌∷◌, ◌++◌, map, Bool, true, false, Some, None, Result, Ok, Err, refl}
 use Rattle.mach_binds.proofs.Names.{sym, ap, subst, ◌∙◌, arith, zero-add, pos, filter_map, range_with_len, cons_option, AllByRecursion, cond, map-append, ◌>>=◌}
 use Rattle.mach_binds.proofs.Names.{Fault, SegmentView, Input, Range, Placed, Follow, StandsIn, AllStand, stream_end, IsBeginning, IsStream, Bind, is_done}
-use Rattle.mach_binds.proofs.Names.{sets_segment, nearer_than, nearest_or, done_after, bind_after, binds_at, binds_from, all_from, stride_in, count_in, library_in}
+use Rattle.mach_binds.proofs.Names.{sets_segment, nearer_than, nearest_or, done_after, bind_after, binds_at, binds_from, all_from, stride_in, count_in}
+use Rattle.mach_binds.proofs.Names.{library_in}
 use Rattle.mach_binds.proofs.Names.{flags_in, symbol_name_in, addend_in, segment_in, offset_in, advances, Import, Target, import_of, imports_in, import_with}
 use Rattle.mach_binds.proofs.Names.{target_of, BindRanges, input_in, ListsImports}
 use Rattle.mach_binds.specs.BindCut.{HasList, ListsByStream, raised, front_range, rest_range, CutsBehindDone}

@@ -1,5 +1,6 @@
 -- Looking back finds the last one of the instructions in order.
-use Rattle.mach_binds.proofs.Names.{◌≡◌, ℕ, ◌+◌, ◌-◌, ◌%◌, ◌^◌, arith, List, [], ◌∷◌, ◌++◌, reverse, Bool, true, false, Option, Some, None, refl, sym, ap, subst}
+use Rattle.mach_binds.proofs.Names.{◌≡◌, ℕ, ◌+◌, ◌-◌, ◌%◌, ◌^◌, arith, List, [], ◌∷◌, ◌++◌, reverse, Bool, true, false, Option, Some, None, refl, sym, ap}
+use Rattle.mach_binds.proofs.Names.{subst}
 use Rattle.mach_binds.proofs.Names.{◌∙◌, cond, append_assoc, pos, filter_map, cons_option, AllByRecursion, append-nil, reverse-append, reverse-reverse}
 use Rattle.mach_binds.proofs.Names.{Instruction, done, library, symbol, addend, segment, advance, binds, Placed, is_done, nearer_than, nearest_or, last_setting}
 use Rattle.mach_binds.proofs.Names.{library_in, flags_in, symbol_name_in, addend_in, segment_in, offset_in, sets_segment, advances, advance_in, sequence_of}

@@ -1,5 +1,6 @@
 -- What a list of imports that ends at an error says, and one that ends with both streams.
-use Rattle.mach_binds.proofs.Names.{◌≡◌, ◌∙◌, ℕ, List, [], ◌∷◌, ◌++◌, Result, Err, sym, ap, Stands, Fault, fault_of, Error, Stands-reported, SegmentView, Placed}
+use Rattle.mach_binds.proofs.Names.{◌≡◌, ◌∙◌, ℕ, List, [], ◌∷◌, ◌++◌, Result, Err, sym, ap, Stands, Fault, fault_of, Error, Stands-reported, SegmentView}
+use Rattle.mach_binds.proofs.Names.{Placed}
 use Rattle.mach_binds.proofs.Names.{Import, BindRanges, input_in, ListsImports, BindFault, AreBindItems}
 use Rattle.mach_binds.proofs.BindLists.{oks, stands_from_items, items_from_list, no_error}
 

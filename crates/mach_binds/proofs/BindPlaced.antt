@@ -6,7 +6,7 @@ use Rattle.mach_binds.proofs.Names.{import_with}
 use Rattle.mach_binds.proofs.Names.{text_at}
 use Rattle.mach_binds.proofs.BindAddresses.{target_spot}
 use Rattle.mach_segments.specs.Bindings.{Binding, Provider, provider_of}
-use Rattle.mach_binds.specs.Bindings.{Given, is_complete, binding_with}
+use Rattle.mach_binds.specs.Bindings.{SetBefore, is_complete, binding_with}
 unfoldable use Rattle.mach_binds.specs.Bindings.{binding_of, spot_of}
 use Rattle.mach_binds.specs.NamePlaces.{IsNamed, text_or_none}
 use Rattle.mach_binds.specs.SiteCursors.{place_named}
@@ -58,12 +58,12 @@ import_tells x b i e =
     let same : import_with b t.0 ≡ i = same_ok t.2 in
     (ap (λ (j : Import). j.name) same, target_library x b.library b.segment b.offset t.0 t.1 ∙ ap (λ (j : Import). Some j.dylib) same)
 
-abbrev made_with : Input → Given → Bind → Result Binding Fault
+abbrev made_with : Input → SetBefore → Bind → Result Binding Fault
 made_with x g b =
     provider_of x.libs g.ordinal >>= λ (p : Provider). spot_of x.pointer x.segments b.segment b.offset >>= λ (s : ℕ × ℕ). Ok (binding_with b p s)
 
 -- a binding is complete, and has a provider and a spot
-pub made_of : (x : Input) (g : Given) (b : Bind) (i : Binding) → binding_of x g b ≡ Ok i
+pub made_of : (x : Input) (g : SetBefore) (b : Bind) (i : Binding) → binding_of x g b ≡ Ok i
     → (p : Provider) × (s : ℕ × ℕ) × (is_complete g ≡ true) × (provider_of x.libs g.ordinal ≡ Ok p)
     × (spot_of x.pointer x.segments b.segment b.offset ≡ Ok s) × (binding_with b p s ≡ i)
 unfolding binding_of
@@ -80,7 +80,7 @@ made_of x g b i e = by_test (is_complete g) refl e
     by_test false t e = absurd (cc)
 
 -- the name of a binding
-pub binding_tells : (x : Input) (g : Given) (b : Bind) (i : Binding) → binding_of x g b ≡ Ok i → b.name ≡ i.name
+pub binding_tells : (x : Input) (g : SetBefore) (b : Bind) (i : Binding) → binding_of x g b ≡ Ok i → b.name ≡ i.name
 binding_tells x g b i e = let made = made_of x g b i e in ap (λ (j : Binding). j.name) made.5
 
 -- a name that is known stands there

@@ -30,7 +30,8 @@ same_goes x mv place (Ok i) f g at_place h =
     ap (λ q. record { read = record { place = place; instruction = i.0; after = i.1 } ∷ q.read; stop = q.stop })
     (h i.1 (mv place i at_place))
 
-enough : (n m : ℕ) (x : Reader) → Moves x → (upto place : ℕ) → upto ≤ n + place → upto ≤ m + place → reading_within n x upto place ≡ reading_within m x upto place
+enough : (n m : ℕ) (x : Reader) → Moves x → (upto place : ℕ) → upto ≤ n + place → upto ≤ m + place
+    → reading_within n x upto place ≡ reading_within m x upto place
 unfolding reading_within
 enough zero m x mv upto place h k = sym (nothing_left m x upto place (omega arith))
 enough (suc n) zero x mv upto place h k = nothing_left (suc n) x upto place (omega arith)
@@ -114,7 +115,8 @@ no_more x upto place (Some f) p a e d =
     subst (λ (n : ℕ). x n ≡ Ok (p.instruction, p.after)) e d.read in
     let h = a.1 in cc
 
-only_one : (x : Reader) (upto place : ℕ) (ps qs : List Placed) (s t : Option Fault) → AllStandBy x upto ps → Follow place ps → StopsBy x upto (stream_end place ps) s
+only_one : (x : Reader) (upto place : ℕ) (ps qs : List Placed) (s t : Option Fault) → AllStandBy x upto ps → Follow place ps
+    → StopsBy x upto (stream_end place ps) s
     → AllStandBy x upto qs → Follow place qs → StopsBy x upto (stream_end place qs) t → (ps ≡ qs) × (s ≡ t)
 only_one x upto place [] [] s t a b c d e f = (refl, ends_once x upto place s t c f)
 only_one x upto place [] (q ∷ qs) s t a b c d e f = absurd (no_more x upto place s q c e.0 d.0)

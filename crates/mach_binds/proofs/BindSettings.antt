@@ -2,7 +2,8 @@
 use Rattle.mach_binds.proofs.Names.{◌≡◌, ℕ, zero, suc, ◌+◌, ◌-◌, ◌*◌, ◌%◌, ◌^◌, List, [], ◌∷◌, ◌++◌, map, refl, ap, ◌∙◌, arith, zero-add, add-zero, pos}
 use Rattle.mach_binds.proofs.Names.{range_with_len, Instruction, done, library, symbol, addend, segment, advance, binds, Placed, Range, Bind, bind_after}
 use Rattle.mach_binds.proofs.Names.{binds_at, count_in, stride_in, reached, last_setting, library_in, flags_in, symbol_name_in, addend_in}
-use Rattle.mach_binds.proofs.Names.{segment_in, sequence_of, offset_in, advances, nearer_than, sets_segment, is_done, moved, set_by, strides, after_strides, run}
+use Rattle.mach_binds.proofs.Names.{segment_in, sequence_of, offset_in, advances, nearer_than, sets_segment, is_done, moved, set_by, strides, after_strides}
+use Rattle.mach_binds.proofs.Names.{run}
 use Rattle.mach_binds.proofs.Names.{fresh, sym, Input, import_of, imports_in, import_rules, set_after, byte_at, map-append, all_from, Rules, Result, Fault}
 use Rattle.mach_binds.proofs.Names.{StandsBy, AllStandBy, reader_by}
 use Rattle.mach_binds.specs.Instructions.{nothing}
@@ -107,7 +108,8 @@ one_binds place count skip after = record { place = place; instruction = binds c
 
 -- what comes of a bind by settings that run forward beside its own, where these are tied to what looking back finds
 module _ {M A : Type 0} (u : Rules M A) (x : Input) (r : Range) (made : List Placed → Bind → Result A Fault) (Tied : M → List Placed → Type 0)
-    (next : (m : M) (back : List Placed) (p : Placed) → StandsBy (reader_by u x r) r.upto p → Tied m back → Tied (set_after u (byte_at x.bytes p.place) m) (p ∷ back))
+    (next : (m : M) (back : List Placed) (p : Placed) → StandsBy (reader_by u x r) r.upto p → Tied m back
+    → Tied (set_after u (byte_at x.bytes p.place) m) (p ∷ back))
     (same : (m : M) (back : List Placed) (place count skip after own : ℕ) → Tied m (one_binds place count skip after ∷ back)
     → u.makes x (bind_after x.pointer r back own) m ≡ made (one_binds place count skip after ∷ back) (bind_after x.pointer r back own)) where
   abbrev made_at : List Placed → Placed → List (Result A Fault)
@@ -143,7 +145,8 @@ module _ {M A : Type 0} (u : Rules M A) (x : Input) (r : Range) (made : List Pla
       ∙ ap (λ items. made_at back p ++ items) (tied n (p ∷ back) ps stand.1 now)
 
   -- at a range's start
-  pub tied_at_start : (m : M) (ps : List Placed) → AllStandBy (reader_by u x r) r.upto ps → Tied m [] → run u x r (fresh r.is_lazy 0) m ps ≡ all_from made_at [] ps
+  pub tied_at_start : (m : M) (ps : List Placed) → AllStandBy (reader_by u x r) r.upto ps → Tied m []
+      → run u x r (fresh r.is_lazy 0) m ps ≡ all_from made_at [] ps
   unfolding bind_after
   tied_at_start m ps stand t = tied m [] ps stand t
 
@@ -152,7 +155,8 @@ pub all-map : {B C : Type 0} (f : B → C) (at : List Placed → Placed → List
     → all_from (λ back p. map f (at back p)) back ps ≡ map f (all_from at back ps)
 unfolding all_from
 all-map {B} {C} f at back [] = refl
-all-map {B} {C} f at back (p ∷ ps) = ap (λ cs. map f (at back p) ++ cs) (all-map f at (p ∷ back) ps) ∙ sym (map-append f (at back p) (all_from at (p ∷ back) ps))
+all-map {B} {C} f at back (p ∷ ps) = ap (λ cs. map f (at back p) ++ cs) (all-map f at (p ∷ back) ps)
+    ∙ sym (map-append f (at back p) (all_from at (p ∷ back) ps))
 
 pub imports_at_start : (x : Input) (r : Range) (ps : List Placed) → AllStandBy (reader_by import_rules x r) r.upto ps
     → run import_rules x r (fresh r.is_lazy 0) (import_rules.first r.is_lazy) ps ≡ imports_in x r ps

@@ -1,12 +1,13 @@
 -- What one step of an iterator over two streams leaves: its items, and how many instructions are to be read.
 use Rattle.mach_binds.proofs.Names.{◌≡◌, ℕ, suc, ◌+◌, ◌-◌, ◌<◌, ◌≤◌, List, [], ◌∷◌, ◌++◌, Bool, true, false, Ok, Err, refl, sym, ap, subst, ◌∙◌, arith, cond}
 use Rattle.mach_binds.proofs.Names.{append-nil, append_assoc, IsErr, Result, bit_and, Fault, bind_ok, same_ok, Instruction, byte_at, row_at, instruction_at}
-use Rattle.mach_binds.proofs.Names.{Input, Range, upto_fault, moved, strides, after_strides, run, State, executed, executed_by, start_of, rest_of, items_of, reads_of}
-use Rattle.mach_binds.proofs.Names.{Rules, Reads, reader_by, set_after}
+use Rattle.mach_binds.proofs.Names.{Input, Range, upto_fault, moved, strides, after_strides, run, State, executed, executed_by, start_of, rest_of, items_of}
+use Rattle.mach_binds.proofs.Names.{reads_of}
+use Rattle.mach_binds.proofs.Names.{Rules, ReadsForward, reader_by, set_after}
 use Rattle.mach_binds.proofs.BindReading.{reads_next, reads_fault, nothing_left}
 use Rattle.mach_binds.proofs.BindSettings.{strides-mod, after_strides-mod}
 
-module _ {M A : Type 0} (u : Rules M A) (laws : Reads u) (x : Input) (lazy : Range) where
+module _ {M A : Type 0} (u : Rules M A) (laws : ReadsForward u) (x : Input) (lazy : Range) where
   -- nothing is left
   abbrev pub NothingLeft : M → State → Type 0
   NothingLeft m s = (items_of u x lazy m s ≡ []) × (reads_of u x lazy s ≡ 0)

@@ -1,7 +1,10 @@
 -- Binds have one list of imports where no fault stands in them, and else none.
-use Rattle.mach_binds.proofs.Names.{◌≡◌, ℕ, ◌≤◌, List, [], ◌∷◌, ◌++◌, map, Some, None, Result, Ok, Err, refl, sym, ap, subst, ◌∙◌, arith, append_assoc, inl, inr}
-use Rattle.mach_binds.proofs.Names.{map-append, Fault, SegmentView, Input, Range, Placed, Follow, AllStand, stream_end, IsStream, binds_at, binds_from, all_from}
-use Rattle.mach_binds.proofs.Names.{Import, import_of, imports_in, BindRanges, input_in, ListsImports, StreamFault, unreadable, no_import, BindFault, fault_item}
+use Rattle.mach_binds.proofs.Names.{◌≡◌, ℕ, ◌≤◌, List, [], ◌∷◌, ◌++◌, map, Some, None, Result, Ok, Err, refl, sym, ap, subst, ◌∙◌, arith, append_assoc, inl}
+use Rattle.mach_binds.proofs.Names.{inr}
+use Rattle.mach_binds.proofs.Names.{map-append, Fault, SegmentView, Input, Range, Placed, Follow, AllStand, stream_end, IsStream, binds_at, binds_from}
+use Rattle.mach_binds.proofs.Names.{all_from}
+use Rattle.mach_binds.proofs.Names.{Import, import_of, imports_in, BindRanges, input_in, ListsImports, StreamFault, unreadable, no_import, BindFault}
+use Rattle.mach_binds.proofs.Names.{fault_item}
 use Rattle.mach_binds.proofs.Names.{upto_fault, AreBindItems, reading_from}
 use Rattle.mach_binds.proofs.BindReading.{place_is, reading_longest, one_longest, import_moves}
 use Rattle.mach_binds.specs.Streams.{reader_of}
@@ -29,7 +32,8 @@ all_items x r lazy =
     imports_in x r a.read ++ fault_item a.stop ++ imports_in x lazy b.read ++ fault_item b.stop
 
 are_items : (x : Input) (r lazy : Range)
-    → AreBindItems x r lazy (reading_from (reader_of x) r.upto r.from).read (reading_from (reader_of x) lazy.upto lazy.from).read (upto_fault (all_items x r lazy))
+    → AreBindItems x r lazy (reading_from (reader_of x) r.upto r.from).read (reading_from (reader_of x) lazy.upto lazy.from).read
+    (upto_fault (all_items x r lazy))
 are_items x r lazy = record {
   stop = (reading_from (reader_of x) r.upto r.from).stop;
   lazy_stop = (reading_from (reader_of x) lazy.upto lazy.from).stop;
@@ -94,8 +98,11 @@ all_from-append {B} at back (p ∷ ps) qs =
 imports-append : (x : Input) (r : Range) (ps qs : List Placed) → (others : List Item) × (imports_in x r (ps ++ qs) ≡ imports_in x r ps ++ others)
 unfolding imports_in
 imports-append x r ps qs =
-    let others = binds_from x.pointer r (onto ps []) qs in
-    (map (import_of x) others, ap (map (import_of x)) (all_from-append (binds_at x.pointer r) [] ps qs) ∙ map-append (import_of x) (binds_from x.pointer r [] ps) others)
+    let others = binds_from x.pointer r (onto ps []) qs in (
+      map (import_of x) others,
+      ap (map (import_of x)) (all_from-append (binds_at x.pointer r) [] ps qs)
+          ∙ map-append (import_of x) (binds_from x.pointer r [] ps) others,
+    )
 
 has_in_front : (f : Fault) (a b : List Item) → Has f a → Has f (a ++ b)
 has_in_front f a b h = (h.0, h.1 ++ b, ap (λ m. m ++ b) h.2 ∙ append_assoc h.0 (Err f ∷ h.1) b)

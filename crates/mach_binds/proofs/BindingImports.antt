@@ -14,10 +14,12 @@ use Rattle.mach_binds.specs.Instructions.{nothing}
 use Rattle.mach_segments.specs.Bindings.{Provider, of_library}
 unfoldable use Rattle.mach_segments.specs.Bindings.{provider_of}
 use Rattle.mach_segments.specs.Bindings.{Binding}
-use Rattle.mach_binds.specs.Bindings.{Given, binding_with, holding_all, ordinal_in, ordinal_by, special_by, last_ordinal, last_given, bindings_at, bindings_in}
+use Rattle.mach_binds.specs.Bindings.{SetBefore, binding_with, holding_all, ordinal_in, ordinal_by, special_by, last_ordinal, last_given, bindings_at}
+use Rattle.mach_binds.specs.Bindings.{bindings_in}
 use Rattle.mach_binds.specs.Bindings.{highest_opcode, done_leads_to}
 unfoldable use Rattle.mach_binds.specs.Bindings.{spot_of, binding_of, opcode_at, bindings_row}
-use Rattle.mach_binds.specs.BindingLaws.{IsPlain, told, told_by_import, told_by_binding, library_name, EachTells, IsSetAnew, AreSetAnew, AreReadAlike, TellTheSame}
+use Rattle.mach_binds.specs.BindingLaws.{IsPlain, told_item, told_by_import, told_by_binding, library_name, EachTells, IsSetAnew, AreSetAnew, AreReadAlike}
+use Rattle.mach_binds.specs.BindingLaws.{StreamsTellTheSame}
 use Rattle.mach_binds.specs.BindItems.{AreBindItems}
 use Rattle.mach_binds.specs.Bindings.{AreBindings}
 use Rattle.mach_binds.proofs.BindPlaced.{made_of}
@@ -271,7 +273,8 @@ module _ (pointer : ℕ) (r : Range) (back : List Placed) (own : ℕ) where
       (last_setting 0 segment_in back') (reached pointer back')) name
       ∙ ap (λ q. parts (last_setting 0 library_in back) (last_setting 0 flags_in back) (last_setting [] symbol_name_in back) q
       (last_setting 0 segment_in back') (reached pointer back')) a
-      ∙ ap (λ q. parts (last_setting 0 library_in back) (last_setting 0 flags_in back) (last_setting [] symbol_name_in back) (last_setting (pos 0) addend_in back)
+      ∙ ap (λ q. parts (last_setting 0 library_in back) (last_setting 0 flags_in back) (last_setting [] symbol_name_in back)
+      (last_setting (pos 0) addend_in back)
       q (reached pointer back')) s
       ∙ ap (parts (last_setting 0 library_in back) (last_setting 0 flags_in back) (last_setting [] symbol_name_in back) (last_setting (pos 0) addend_in back)
       (last_setting 0 segment_in back)) (anew_reached h.segment)
@@ -293,7 +296,8 @@ same_before_done pointer r back own h = rw (undone-all back h) refl
 abbrev Bound : Result Target Fault → Bind → Result Import Fault
 Bound t b = t >>= λ y. Ok (import_with b y)
 
-told_sequence : (t : Result Target Fault) (b : Bind) (n : ℕ) → told told_by_import (Bound t b) ≡ told told_by_import (Bound t (record b { sequence = n }))
+told_sequence : (t : Result Target Fault) (b : Bind) (n : ℕ)
+    → told_item told_by_import (Bound t b) ≡ told_item told_by_import (Bound t (record b { sequence = n }))
 told_sequence (Ok t) b n = refl
 told_sequence (Err f) b n = refl
 
@@ -323,9 +327,9 @@ module _ (x : Input) (first : List ℕ) (others : List (List ℕ)) (libs : x.lib
   named (suc n) p h = named_by n (slice_get x.libs (suc n)) p refl h
 
   abbrev Tells : Result Import Fault → Result Binding Fault → Type 0
-  Tells i b = IfOk b (λ found. told told_by_import i ≡ Ok (told_by_binding first found))
+  Tells i b = IfOk b (λ found. told_item told_by_import i ≡ Ok (told_by_binding first found))
 
-  bind_tells : (g : Given) (b : Bind) (item : Result Binding Fault) → g.ordinal ≡ pos b.library → binding_of x g b ≡ item → Tells (import_of x b) item
+  bind_tells : (g : SetBefore) (b : Bind) (item : Result Binding Fault) → g.ordinal ≡ pos b.library → binding_of x g b ≡ item → Tells (import_of x b) item
   unfolding import_of target_of
   bind_tells g b (Err f) o e = tt
   bind_tells g b (Ok found) o e =
@@ -334,7 +338,7 @@ module _ (x : Input) (first : List ℕ) (others : List (List ℕ)) (libs : x.lib
       let s = spot_parts x.pointer x.segments b.segment b.offset made.1 made.4 in
       let holds = still_held x.pointer b.offset s.segment more s.holds in
       let same : binding_with b made.0 (spot_at s.in_file s.address) ≡ found = ap (binding_with b made.0) s.made ∙ made.5 in
-      let here : told told_by_import (import_of x b) ≡ Ok (told_by_binding first (binding_with b made.0 (spot_at s.in_file s.address))) =
+      let here : told_item told_by_import (import_of x b) ≡ Ok (told_by_binding first (binding_with b made.0 (spot_at s.in_file s.address))) =
       rw (lib.1, s.there, holds, s.in_file_is, s.address_is, lib.2) refl in
       here ∙ ap (λ (q : Binding). Ok (told_by_binding first q)) same
 
@@ -347,24 +351,25 @@ module _ (x : Input) (first : List ℕ) (others : List (List ℕ)) (libs : x.lib
   one_tells i (Err f) is bs h k = tt
 
   -- the bind that comes of what bindings read tells what that of imports does
-  bind_alike : (r : Range) (back : List Placed) (g : Given) (own : ℕ) → IsSameBind x.pointer r back own → g.ordinal ≡ pos (last_setting 0 library_in (map undone back))
+  bind_alike : (r : Range) (back : List Placed) (g : SetBefore) (own : ℕ) → IsSameBind x.pointer r back own
+      → g.ordinal ≡ pos (last_setting 0 library_in (map undone back))
       → Tells (import_of x (bind_after x.pointer r back own)) (binding_of x g (bind_after x.pointer r (map undone back) own))
   unfolding import_of bind_after
   bind_alike r back g own same o =
       let b = bind_after x.pointer r back own in
       let c = bind_after x.pointer r (map undone back) own in
       let t = target_of x b.library b.segment b.offset in
-      let both : told told_by_import (import_of x b) ≡ told told_by_import (import_of x c) =
-      told_sequence t b (sequence_of r.from (map undone back)) ∙ ap (λ d. told told_by_import (import_of x d)) (sym same) in
+      let both : told_item told_by_import (import_of x b) ≡ told_item told_by_import (import_of x c) =
+      told_sequence t b (sequence_of r.from (map undone back)) ∙ ap (λ d. told_item told_by_import (import_of x d)) (sym same) in
       tells_by (import_of x b) (import_of x c) both (binding_of x g c) (bind_tells g c (binding_of x g c) o refl)
     where
-      tells_by : (i j : Item) → told told_by_import i ≡ told told_by_import j → (item : Result Binding Fault) → Tells j item → Tells i item
+      tells_by : (i j : Item) → told_item told_by_import i ≡ told_item told_by_import j → (item : Result Binding Fault) → Tells j item → Tells i item
       tells_by i j e (Ok found) h = e ∙ h
       tells_by i j e (Err f) h = tt
 
   -- ---- instructions
 
-  strides_tell : (r : Range) (back : List Placed) (g : Given) (s : ℕ) (js : List ℕ) (is : List Item) (bs : List (Result Binding Fault))
+  strides_tell : (r : Range) (back : List Placed) (g : SetBefore) (s : ℕ) (js : List ℕ) (is : List Item) (bs : List (Result Binding Fault))
       → ((own : ℕ) → IsSameBind x.pointer r back own) → g.ordinal ≡ pos (last_setting 0 library_in (map undone back)) → EachTells first is bs
       → EachTells first (map (import_of x) (map (λ j. bind_after x.pointer r back (j * s)) js) ++ is)
       (map (binding_of x g) (map (λ j. bind_after x.pointer r (map undone back) (j * s)) js) ++ bs)
@@ -382,7 +387,8 @@ module _ (x : Input) (first : List ℕ) (others : List (List ℕ)) (libs : x.lib
   -- what comes of one instruction of both
   here_tells : (r : Range) (back : List Placed) (place after : ℕ) (i : Instruction) (is : List Item) (bs : List (Result Binding Fault))
       → (0 < count_of i → (own : ℕ) → IsSameBind x.pointer r back own)
-      → last_ordinal x.bytes (undone (placed place i after) ∷ map undone back) ≡ pos (last_setting 0 library_in (undone (placed place i after) ∷ map undone back))
+      → last_ordinal x.bytes (undone (placed place i after) ∷ map undone back)
+      ≡ pos (last_setting 0 library_in (undone (placed place i after) ∷ map undone back))
       → EachTells first is bs
       → EachTells first (imports_at r back (placed place i after) ++ is) (bindings_at x r (map undone back) (undone (placed place i after)) ++ bs)
   here_tells r back place after (binds zero skip) is bs same o e = e
@@ -503,7 +509,8 @@ module _ (x : Input) (first : List ℕ) (others : List (List ℕ)) (libs : x.lib
 
     abbrev AllSame : List Placed → List Placed → Type 0
     AllSame back ps =
-        (front : List Placed) (p : Placed) (behind : List Placed) → ps ≡ front ++ p ∷ behind → 0 < count_in p → (own : ℕ) → IsSameBind x.pointer r (onto front back) own
+        (front : List Placed) (p : Placed) (behind : List Placed) → ps ≡ front ++ p ∷ behind → 0 < count_in p → (own : ℕ)
+        → IsSameBind x.pointer r (onto front back) own
 
     abbrev from_binds : List Placed → List Placed → List Item
     from_binds back ps = all_from (imports_at r) back ps
@@ -592,7 +599,8 @@ each_tells : (x : Input) (non_lazy lazy : Range) (first : List ℕ) (others : Li
 each_tells x non_lazy lazy first others ps qs ps' qs' imports bindings libs more second h i b =
     let stop : i.stop ≡ None = (one_longest (reader_of x) non_lazy ps ps i.stop None i.longest (longest_stream x non_lazy ps h.whole)).1 in
     let ended = h.ends in
-    let ends : Ends x first others libs more non_lazy ps = subst (Ends x first others libs more non_lazy) (sym ended.2) (ends_by x first others libs more non_lazy ended.0 ended.1 ended.3 ended.4) in
+    let ends : Ends x first others libs more non_lazy ps = subst (Ends x first others libs more non_lazy) (sym ended.2)
+    (ends_by x first others libs more non_lazy ended.0 ended.1 ended.3 ended.4) in
     let lazy_tells = both_tell x first others libs more lazy lazy.from [] qs qs' i.lazy_stop b.lazy_stop [] [] i.lazy_longest.beginning.stand
     i.lazy_longest.beginning.follow i.lazy_longest.stops b.lazy_longest.beginning.stand b.lazy_longest.beginning.follow b.lazy_longest.stops tt h.lazy_plain
     (λ front p behind e c own. same_anew x.pointer lazy (onto front []) own
@@ -611,13 +619,13 @@ each_tells x non_lazy lazy first others ps qs ps' qs' imports bindings libs more
     subst (λ m. EachTells first m bindings) (sym is) (subst (EachTells first _) (sym bs) (each_upto first _ _ tells))
 
 one_for_one : (first : List ℕ) (imports : List (Result Import Fault)) (list : List Binding) → EachTells first imports (map Ok list)
-    → map (told told_by_import) imports ≡ map (λ b. Ok (told_by_binding first b)) list
-one_for_one first imports [] e = ap (map (told told_by_import)) e
+    → map (told_item told_by_import) imports ≡ map (λ b. Ok (told_by_binding first b)) list
+one_for_one first imports [] e = ap (map (told_item told_by_import)) e
 one_for_one first [] (b ∷ list) e = absurd e
 one_for_one first (i ∷ imports) (b ∷ list) e =
-    ap (λ t. t ∷ map (told told_by_import) imports) e.0 ∙ ap (λ ts. Ok (told_by_binding first b) ∷ ts) (one_for_one first imports list e.1)
+    ap (λ t. t ∷ map (told_item told_by_import) imports) e.0 ∙ ap (λ ts. Ok (told_by_binding first b) ∷ ts) (one_for_one first imports list e.1)
 
-pub tell_the_same : TellTheSame
+pub tell_the_same : StreamsTellTheSame
 tell_the_same x non_lazy lazy first others ps qs ps' qs' us vs imports bindings libs more second h i b =
     let front = (one_longest (reader_of x) non_lazy ps ps' None i.stop (longest_stream x non_lazy ps h.whole) i.longest).0 in
     let back = (one_longest (reader_of x) lazy qs qs' h.lazy_stop i.lazy_stop h.lazy_longest i.lazy_longest).0 in

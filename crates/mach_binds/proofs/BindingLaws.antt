@@ -6,9 +6,9 @@ use Rattle.std.proofs.lemmas.List.Elements.{All-nil, All-append}
 use Rattle.mach_binds.specs.BindAddresses.{LiesWhole, LiesWholeInSome}
 unfoldable use Rattle.mach_segments.specs.Bindings.{provider_of}
 use Rattle.mach_segments.specs.Bindings.{Binding}
-use Rattle.mach_binds.specs.Bindings.{Given, ordinal_in, last_given, holding_all, opcode_at, bindings_at, bindings_in}
+use Rattle.mach_binds.specs.Bindings.{SetBefore, ordinal_in, last_given, holding_all, opcode_at, bindings_at, bindings_in}
 unfoldable use Rattle.mach_binds.specs.Bindings.{spot_of, binding_of}
-use Rattle.mach_binds.specs.BindingLaws.{FindsLastOrdinal, AddsBindings, HasOneListOfBindings, BindingLiesIn, BindingsLieIn}
+use Rattle.mach_binds.specs.BindingLaws.{FindsLastOrdinal, AddsBindings, StreamsHaveOneListOfBindings, BindingLiesIn, BindingsLieIn}
 use Rattle.mach_binds.proofs.BindLast.{is_last, adds_lem}
 use Rattle.mach_binds.proofs.StreamStarts.{one_list_of, OfItem, each_of, of_both}
 use Rattle.mach_binds.proofs.BindAddresses.{summed, Spot, spot_by}
@@ -28,7 +28,7 @@ adds_bindings_lem x r ps p = adds_lem (bindings_at x r) ps p
 
 -- ---- one list
 
-pub one_list_lem : HasOneListOfBindings
+pub one_list_lem : StreamsHaveOneListOfBindings
 one_list_lem x non_lazy lazy ps qs ps' qs' items others a b =
     one_list_of (λ r. opcode_at r x.pointer x.bytes) (bindings_in x) non_lazy lazy ps qs ps' qs' items others a b
 
@@ -68,7 +68,7 @@ binding_lies x g b found e =
 abbrev Lies : Input → Binding → Type 0
 Lies x b = LiesWholeInSome x.segments b.address x.pointer
 
-item_lies : (x : Input) (g : Given) (b : Bind) (item : Item) → binding_of x g b ≡ item → OfItem (Lies x) item
+item_lies : (x : Input) (g : SetBefore) (b : Bind) (item : Item) → binding_of x g b ≡ item → OfItem (Lies x) item
 item_lies x g b (Ok i) e = (b.segment, binding_lies x g b i e)
 item_lies x g b (Err f) e = tt
 

@@ -5,7 +5,7 @@ use Rattle.mach_binds.proofs.Names.{Instruction, done, byte_at, Placed, Range, I
 use Rattle.mach_binds.proofs.Names.{is_done, fresh, set_by, run, set_after, library_in, last_setting, moved, StandsBy, AllStandBy, reader_by}
 use Rattle.mach_binds.specs.Instructions.{nothing}
 use Rattle.mach_binds.specs.Binds.{done_is}
-use Rattle.mach_binds.specs.Bindings.{Given, last_given, ordinal_in, kind_in, sets_in, first_kind, gives_ordinal, gives_name, gives_segment}
+use Rattle.mach_binds.specs.Bindings.{SetBefore, last_given, ordinal_in, kind_set_by, sets_in, first_kind, gives_ordinal, gives_name, gives_segment}
 use Rattle.mach_binds.specs.Bindings.{highest_opcode, bindings_in}
 unfoldable use Rattle.mach_binds.specs.Bindings.{binding_of, opcode_at, bindings_row}
 use Rattle.mach_binds.specs.BindingsLeft.{binding_rules, given_now, first_extra, extra_after, ordinal_now, special_after}
@@ -27,10 +27,10 @@ unfolding set_by bind_after moved
 library_by pointer r back done place after = refl
 library_by pointer r back _ place after = refl
 
-abbrev given_by : ℤ → ℕ → Bool → Bool → Bool → Given
+abbrev given_by : ℤ → ℕ → Bool → Bool → Bool → SetBefore
 given_by o k h n s = record { ordinal = o; kind = k; has_ordinal = h; has_name = n; has_segment = s }
 
-given_is : (a b : Given) → a.ordinal ≡ b.ordinal → a.kind ≡ b.kind → a.has_ordinal ≡ b.has_ordinal → a.has_name ≡ b.has_name
+given_is : (a b : SetBefore) → a.ordinal ≡ b.ordinal → a.kind ≡ b.kind → a.has_ordinal ≡ b.has_ordinal → a.has_name ≡ b.has_name
     → a.has_segment ≡ b.has_segment → a ≡ b
 given_is a b o k h n s =
     ap (λ q. given_by q a.kind a.has_ordinal a.has_name a.has_segment) o ∙ ap (λ q. given_by b.ordinal q a.has_ordinal a.has_name a.has_segment) k
@@ -64,11 +64,11 @@ module _ (x : Input) (r : Range) (back : List Placed) (p : Placed) (m : Extra) (
   tied_by none o =
       given_is _ _
       (ap (ordinal_now (special_after m.special opcode imm)) (sym (library_by x.pointer r back p.instruction p.place p.after)) ∙ sym o
-      ∙ ap (ordinal_after x.bytes p) (ap (λ (g : Given). g.ordinal) tied) ∙ sym (setting-step (pos 0) (ordinal_in x.bytes) back p))
-      (setting (opcode == 0x50) (first_kind r.is_lazy) imm (kind_in x.bytes) none (rw there refl) (ap (λ (g : Given). g.kind) tied))
-      (setting (gives_ordinal opcode) false true (sets_in x.bytes gives_ordinal) none (rw there refl) (ap (λ (g : Given). g.has_ordinal) tied))
-      (setting (gives_name opcode) false true (sets_in x.bytes gives_name) none (rw there refl) (ap (λ (g : Given). g.has_name) tied))
-      (setting (gives_segment opcode) false true (sets_in x.bytes gives_segment) none (rw there refl) (ap (λ (g : Given). g.has_segment) tied))
+      ∙ ap (ordinal_after x.bytes p) (ap (λ (g : SetBefore). g.ordinal) tied) ∙ sym (setting-step (pos 0) (ordinal_in x.bytes) back p))
+      (setting (opcode == 0x50) (first_kind r.is_lazy) imm (kind_set_by x.bytes) none (rw there refl) (ap (λ (g : SetBefore). g.kind) tied))
+      (setting (gives_ordinal opcode) false true (sets_in x.bytes gives_ordinal) none (rw there refl) (ap (λ (g : SetBefore). g.has_ordinal) tied))
+      (setting (gives_name opcode) false true (sets_in x.bytes gives_name) none (rw there refl) (ap (λ (g : SetBefore). g.has_name) tied))
+      (setting (gives_segment opcode) false true (sets_in x.bytes gives_segment) none (rw there refl) (ap (λ (g : SetBefore). g.has_segment) tied))
 
   -- by the table
   by_table : bindings_row r x.pointer x.bytes opcode imm (p.place + 1) ≡ Ok (p.instruction, p.after) → Tied x r (extra_after opcode imm m) (p ∷ back)
@@ -95,7 +95,7 @@ next_given x r m back p stands tied =
     rw b.1 (by_table x r back p m b.0 b.1 tied b.2)
 
 -- a bind's library is that of the instructions before it
-same_library : (x : Input) (r : Range) (m : Extra) (back : List Placed) (g : Given) (own : ℕ) → given_now m (last_setting 0 library_in back) ≡ g
+same_library : (x : Input) (r : Range) (m : Extra) (back : List Placed) (g : SetBefore) (own : ℕ) → given_now m (last_setting 0 library_in back) ≡ g
     → binding_of x (given_now m (bind_after x.pointer r back own).library) (bind_after x.pointer r back own) ≡ binding_of x g (bind_after x.pointer r back own)
 unfolding bind_after
 same_library x r m back g own t = ap (λ q. binding_of x q (bind_after x.pointer r back own)) t
@@ -105,4 +105,5 @@ pub bindings_at_start : (x : Input) (r : Range) (ps : List Placed) → AllStandB
     → run binding_rules x r (fresh r.is_lazy 0) (first_extra r.is_lazy) ps ≡ bindings_in x r ps
 bindings_at_start x r ps stand =
     tied_at_start binding_rules x r (λ back. binding_of x (last_given x.bytes r.is_lazy back)) (Tied x r) (next_given x r)
-    (λ m back place count skip after own t. same_library x r m back (last_given x.bytes r.is_lazy (one_binds place count skip after ∷ back)) own t) (first_extra r.is_lazy) ps stand refl
+    (λ m back place count skip after own t. same_library x r m back (last_given x.bytes r.is_lazy (one_binds place count skip after ∷ back)) own t)
+    (first_extra r.is_lazy) ps stand refl

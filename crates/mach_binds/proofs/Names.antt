@@ -18,7 +18,7 @@ pub use Rattle.mach_base.proofs.Faults.{Stands-reported, FailsAs-read, Stands-in
 pub use Rattle.mach_base.specs.Among.{IsAmong}
 pub use Rattle.mach_base.specs.Answer.{◌>>=◌, Stands, FailsAs, IsOkUnlessMemory}
 pub use Rattle.mach_base.specs.Context.{pointer_size}
-pub use Rattle.mach_base.specs.Fault.{Fault, malformed, fault_of, bad_offset, bad_input, too_short}
+pub use Rattle.mach_base.specs.Fault.{Fault, malformed, fault_of, bad_offset, bad_input, too_short, fault_item}
 pub use Rattle.mach_base.specs.Leb128.{leb_at, spelled_at, first_groups, is_short, is_short_signed, groups_value, signed_value}
 unfoldable pub use Rattle.mach_base.specs.Leb128.{uleb_at, sleb_at}
 pub use Rattle.mach_base.specs.Sums.{found_or_malformed, sum_of}
@@ -30,12 +30,12 @@ pub use Rattle.mach_segments.specs.Segment.{SegmentView}
 pub use Rattle.mach_binds.specs.BindFault.{BindFault, StreamFault, unreadable, no_import}
 pub use Rattle.mach_binds.specs.BindItems.{AreBindItems}
 pub use Rattle.mach_binds.specs.BindLeft.{imports_left, reads_left, import_rules}
-pub use Rattle.mach_binds.specs.Faults.{fault_item, upto_fault, AreItems}
+pub use Rattle.mach_binds.specs.Faults.{upto_fault, AreItems}
 pub use Rattle.mach_binds.specs.Machine.{input_of, lazy_of, state_of, range_of, IsAtEnd, reading_from, State, start_of, ReadAhead, goes_on, fresh, executed_by}
-pub use Rattle.mach_binds.specs.Machine.{bind_of, Rules, Reads, Moves, reader_by, set_after}
+pub use Rattle.mach_binds.specs.Machine.{bind_of, Rules, ReadsForward, Moves, reader_by, set_after}
 unfoldable pub use Rattle.mach_binds.specs.Machine.{items_left, opcodes_left, rest_of, items_of, reads_of, strides, after_strides, reading_within, moved}
 unfoldable pub use Rattle.mach_binds.specs.Machine.{set_by, run, executed}
-pub use Rattle.mach_binds.specs.BindViews.{imports_seen, import_in}
+pub use Rattle.mach_binds.specs.BindViews.{imports_seen, import_seen}
 pub use Rattle.mach_binds.specs.Binds.{Bind, binds_of, is_done, sets_segment, nearer_than, nearest_or, done_after, binds_at, stride_in, count_in, library_in}
 pub use Rattle.mach_binds.specs.Binds.{flags_in, symbol_name_in, addend_in, segment_in, offset_in, advances, last_setting, advance_in, sequence_of, reached}
 pub use Rattle.mach_binds.specs.Binds.{binds_from}

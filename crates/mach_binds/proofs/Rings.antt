@@ -1,26 +1,27 @@
 -- Places on a ring, by the shorter way round, and those behind each start of a new round.
 use Rattle.std.proofs.Common.{◌≡◌, ◌≢◌, ℕ, zero, suc, ◌+◌, ◌-◌, ◌*◌, ◌/◌, ◌%◌, ◌<◌, ◌≤◌, ◌⊎◌, inl, inr, refl, sym, ap, subst, ◌∙◌, arith, zero-add}
 use Rattle.std.specs.Prelude.{◌↔◌}
-use Rattle.std.proofs.Math.Nat.{add-mul-mod_self_right, mod-add-div', mod-eq_of_lt, mod-lt, lt_of_mul-lt-mul_right, mul-le-mul, mul-le-mul_right, le-div_iff_mul-le, div-lt_iff_lt-mul, div-mul-le_self}
+use Rattle.std.proofs.Math.Nat.{add-mul-mod_self_right, mod-add-div', mod-eq_of_lt, mod-lt, lt_of_mul-lt-mul_right, mul-le-mul, mul-le-mul_right}
+use Rattle.std.proofs.Math.Nat.{le-div_iff_mul-le, div-lt_iff_lt-mul, div-mul-le_self}
 use Rattle.std.proofs.lemmas.Bool.{cases_lt}
 use Rattle.std.proofs.lemmas.Nat.{mod-mul-add, le-div}
 use Rattle.mach_binds.proofs.BindModulus.{mod-add_first}
-use Rattle.mach_binds.specs.Turns.{place_of, AnyBelow, last_of, IsRing}
+use Rattle.mach_binds.specs.Turns.{turn_place, AnyBelow, last_turn_place, IsRing}
 use Rattle.mach_binds.specs.declared.turns.Turns.{Turns}
 
 -- ---- the shorter way round
 
 abbrev turned : Turns → Turns
-turned t = record { count = t.count; first = last_of t % t.size; step = t.size - t.step; size = t.size }
+turned t = record { count = t.count; first = last_turn_place t % t.size; step = t.size - t.step; size = t.size }
 
 -- place j of the way back is place n of the way there, where both numbers make the last one
-turned_place : (t : Turns) (j n : ℕ) → t.step < t.size → j + n + 1 ≡ t.count → place_of (turned t) j ≡ place_of t n
+turned_place : (t : Turns) (j n : ℕ) → t.step < t.size → j + n + 1 ≡ t.count → turn_place (turned t) j ≡ turn_place t n
 turned_place t j n small same =
     let e : ℕ = t.size - t.step in
     let size : t.size ≡ e + t.step = omega (arith, small) in
     let count : t.count - 1 ≡ j + n = omega (arith, same) in
     let all : (t.first + (j + n) * t.step) + j * e ≡ (t.first + n * t.step) + j * (e + t.step) = omega arith in
-    mod-add_first (last_of t) (j * e) t.size
+    mod-add_first (last_turn_place t) (j * e) t.size
     ∙ ap (λ k. (t.first + k * t.step + j * e) % t.size) count
     ∙ ap (λ k. k % t.size) (all ∙ ap (λ s. t.first + n * t.step + j * s) (sym size))
     ∙ add-mul-mod_self_right (t.first + n * t.step) j t.size
@@ -55,7 +56,7 @@ abbrev back_of : Turns → ℕ
 back_of t = t.step - t.size % t.step
 
 abbrev behind : Turns → Turns
-behind t = record { count = last_of t / t.size; first = (t.first + back_of t) % t.step; step = back_of t % t.step; size = t.step }
+behind t = record { count = last_turn_place t / t.size; first = (t.first + back_of t) % t.step; step = back_of t % t.step; size = t.step }
 
 -- a whole ring and so much back are whole steps
 whole_steps : (t : Turns) → 0 < t.step → t.size + back_of t ≡ (t.size / t.step + 1) * t.step
@@ -72,7 +73,7 @@ mod-mul_second a k b m =
     sym (add-mul-mod_self_right (a + k * (b % m)) (k * q) m) ∙ ap (λ n. n % m) (whole ∙ ap (λ c. a + k * c) (sym parts))
 
 -- place k behind the starts
-behind_place : (t : Turns) (k : ℕ) → place_of (behind t) k ≡ (t.first + (k + 1) * back_of t) % t.step
+behind_place : (t : Turns) (k : ℕ) → turn_place (behind t) k ≡ (t.first + (k + 1) * back_of t) % t.step
 behind_place t k =
     let back : ℕ = back_of t in
     let all : t.first + back + k * back ≡ t.first + (k + 1) * back = omega arith in
@@ -106,15 +107,15 @@ module _ (t : Turns) (limit : ℕ) (ring : IsRing t) (some : 0 < t.count) (step 
       let next : k + 1 ≡ w = omega (arith, first) in
       let upto : j ≤ t.count - 1 = omega (arith, lt) in
       let steps : j * t.step ≤ (t.count - 1) * t.step = mul-le-mul_right t.step upto in
-      let full : w * t.size ≤ last_of t = omega (arith, parts, steps) in
+      let full : w * t.size ≤ last_turn_place t = omega (arith, parts, steps) in
       let first_small = ring.first in
-      let counted : w ≤ last_of t / t.size = le-div w (last_of t) t.size (omega (arith, first_small)) full in
+      let counted : w ≤ last_turn_place t / t.size = le-div w (last_turn_place t) t.size (omega (arith, first_small)) full in
       let whole = rounds w in
       let sum : (t.first + w * back) + j * t.step ≡ v + w * q * t.step = omega (arith, parts, whole) in
       let there : (t.first + w * back) % t.step ≡ v =
       sym (add-mul-mod_self_right (t.first + w * back) j t.step) ∙ ap (λ n. n % t.step) sum
       ∙ add-mul-mod_self_right v (w * q) t.step ∙ mod-eq_of_lt (omega (arith, below, short)) in
-      let place : place_of (behind t) k ≡ v = behind_place t k ∙ ap (λ n. (t.first + n * back) % t.step) next ∙ there in
+      let place : turn_place (behind t) k ≡ v = behind_place t k ∙ ap (λ n. (t.first + n * back) % t.step) next ∙ there in
       (k, omega (arith, counted, next), subst (λ n. n < limit) (sym place) below)
 
   from_here : AnyBelow limit (behind t) → AnyBelow limit t
@@ -134,9 +135,9 @@ module _ (t : Turns) (limit : ℕ) (ring : IsRing t) (some : 0 < t.count) (step 
       let made : j + p ≡ w * q = omega (arith, fits) in
       let products : j * t.step + p * t.step ≡ w * q * t.step = sym (add-mul j p t.step) ∙ ap (λ n. n * t.step) made in
       let at : w * t.size + v ≡ t.first + j * t.step = omega (arith, sum, products) in
-      let counted : w ≤ last_of t / t.size = omega (arith, lt) in
-      let most : w * t.size ≤ last_of t / t.size * t.size = mul-le-mul_right t.size counted in
-      let laid : last_of t / t.size * t.size ≤ last_of t = div-mul-le_self (last_of t) t.size in
+      let counted : w ≤ last_turn_place t / t.size = omega (arith, lt) in
+      let most : w * t.size ≤ last_turn_place t / t.size * t.size = mul-le-mul_right t.size counted in
+      let laid : last_turn_place t / t.size * t.size ≤ last_turn_place t = div-mul-le_self (last_turn_place t) t.size in
       let last : t.count * t.step ≡ (t.count - 1) * t.step + t.step = by_one t.count t.step some in
       let steps : j * t.step < t.count * t.step = omega (arith, at, most, laid, last, below, short) in (
         j,
@@ -166,7 +167,7 @@ module _ (t : Turns) (limit : ℕ) (ring : IsRing t) (some : 0 < t.count) (above
     | inr there ↦ let found = crossing n there in let upto = found.1 in (found.0, omega (arith, upto), found.2, found.3)
   ]
 
-  over_end : t.size ≤ last_of t → AnyBelow limit t
+  over_end : t.size ≤ last_turn_place t → AnyBelow limit t
   over_end past =
       let found = crossing (t.count - 1) past in
       let j : ℕ = found.0 in
@@ -177,26 +178,26 @@ module _ (t : Turns) (limit : ℕ) (ring : IsRing t) (some : 0 < t.count) (above
       let r : ℕ = t.first + j * t.step - t.size in
       let at : 1 * t.size + r ≡ t.first + j * t.step = omega (arith, behind) in
       let below : r < limit = omega (arith, near, short, behind) in
-      let here : place_of t j ≡ r = ap (λ n. n % t.size) (sym at) ∙ mod-mul-add 1 t.size r (omega (arith, near, small, behind)) in
+      let here : turn_place t j ≡ r = ap (λ n. n % t.size) (sym at) ∙ mod-mul-add 1 t.size r (omega (arith, near, small, behind)) in
       (j, omega (arith, upto, some), subst (λ n. n < limit) (sym here) below)
 
-  has_end : AnyBelow limit t → t.size ≤ last_of t
-  has_end (j, lt, below) = elim (cases_lt (last_of t) t.size) [
+  has_end : AnyBelow limit t → t.size ≤ last_turn_place t
+  has_end (j, lt, below) = elim (cases_lt (last_turn_place t) t.size) [
     | inl before ↦
         let upto : j ≤ t.count - 1 = omega (arith, lt) in
         let steps : j * t.step ≤ (t.count - 1) * t.step = mul-le-mul_right t.step upto in
-        let here : place_of t j ≡ t.first + j * t.step = mod-eq_of_lt (omega (arith, steps, before)) in
+        let here : turn_place t j ≡ t.first + j * t.step = mod-eq_of_lt (omega (arith, steps, before)) in
         let same : t.first + j * t.step < limit = subst (λ n. n < limit) here below in
         absurd (omega (arith, same, above))
     | inr past ↦ past
   ]
 
-  pub one_round : t.size ≤ last_of t ↔ AnyBelow limit t
+  pub one_round : t.size ≤ last_turn_place t ↔ AnyBelow limit t
   one_round = (over_end, has_end)
 
 -- the first place
 pub at_first : (t : Turns) (limit : ℕ) → IsRing t → 0 < t.count → t.first < limit → AnyBelow limit t
 at_first t limit ring some below =
     let none : t.first + 0 * t.step ≡ t.first = omega arith in
-    let here : place_of t 0 ≡ t.first = ap (λ n. n % t.size) none ∙ mod-eq_of_lt ring.first in
+    let here : turn_place t 0 ≡ t.first = ap (λ n. n % t.size) none ∙ mod-eq_of_lt ring.first in
     (0, some, subst (λ n. n < limit) (sym here) below)

@@ -1,7 +1,9 @@
 -- What is left of two streams at their start, and what holds of all their items.
 use Rattle.mach_binds.proofs.Names.{◌≡◌, ℕ, ◌+◌, length, List, [], ◌∷◌, ◌++◌, map, All, Bool, true, false, Option, Some, None, Result, Ok, Err, IfOk, refl}
-use Rattle.mach_binds.proofs.Names.{sym, ap, subst, ◌∙◌, append_assoc, cond, Fault, fault_item, upto_fault, AreItems, Input, Range, Placed, Reader, AllStandBy, IsLongestBy}
-use Rattle.mach_binds.proofs.Names.{Rules, Reads, reader_by, ReadAhead, reading_from, fresh, start_of, strides, after_strides, run, rest_of, items_of, reads_of}
+use Rattle.mach_binds.proofs.Names.{sym, ap, subst, ◌∙◌, append_assoc, cond, Fault, fault_item, upto_fault, AreItems, Input, Range, Placed, Reader}
+use Rattle.mach_binds.proofs.Names.{AllStandBy, IsLongestBy}
+use Rattle.mach_binds.proofs.Names.{Rules, ReadsForward, reader_by, ReadAhead, reading_from, fresh, start_of, strides, after_strides, run, rest_of}
+use Rattle.mach_binds.proofs.Names.{items_of, reads_of}
 use Rattle.std.proofs.lemmas.List.Elements.{All-nil, All-cons, All-head, All-tail, All-append}
 use Rattle.mach_binds.proofs.BindReading.{reading_longest, one_longest}
 
@@ -10,7 +12,8 @@ use Rattle.mach_binds.proofs.BindReading.{reading_longest, one_longest}
 abbrev ComesTo : {M A : Type 0} → Rules M A → Input → (Range → List Placed → List (Result A Fault)) → Type 0
 ComesTo u x made = (r : Range) (ps : List Placed) → AllStandBy (reader_by u x r) r.upto ps → run u x r (fresh r.is_lazy 0) (u.first r.is_lazy) ps ≡ made r ps
 
-module _ {M A : Type 0} (u : Rules M A) (laws : Reads u) (x : Input) (made : Range → List Placed → List (Result A Fault)) (comes : ComesTo u x made) where
+module _ {M A : Type 0} (u : Rules M A) (laws : ReadsForward u) (x : Input) (made : Range → List Placed → List (Result A Fault))
+    (comes : ComesTo u x made) where
   abbrev ahead : Range → ReadAhead
   ahead r = reading_from (reader_by u x r) r.upto r.from
 

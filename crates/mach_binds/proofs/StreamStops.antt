@@ -1,12 +1,13 @@
 -- What is left where no item comes.
-use Rattle.mach_binds.proofs.Names.{◌≡◌, ◌-◌, ℕ, suc, [], ◌∷◌, true, Err, arith, Fault, malformed, input_of, lazy_of, state_of, items_left, opcodes_left, Rules, Reads}
-use Rattle.mach_binds.specs.Machine.{IsUnreadable, MakesNothing, IsAtEnd, next_read}
+use Rattle.mach_binds.proofs.Names.{◌≡◌, ◌-◌, ℕ, suc, [], ◌∷◌, true, Err, arith, Fault, malformed, input_of, lazy_of, state_of, items_left, opcodes_left}
+use Rattle.mach_binds.proofs.Names.{Rules, ReadsForward}
+use Rattle.mach_binds.specs.Machine.{IsNextUnreadable, MakesNothing, IsAtEnd, next_read}
 use Rattle.mach_binds.specs.declared.imports.stream.Stream.{Stream}
 use Rattle.mach_binds.proofs.BindSteps.{at_end, after_fault, after_refusal, after_range}
 
-module _ {M A : Type 0} (u : Rules M A) (laws : Reads u) (it : Stream M) where
+module _ {M A : Type 0} (u : Rules M A) (laws : ReadsForward u) (it : Stream M) where
   -- the fault of the instruction
-  pub at_instruction : (byte : ℕ) (f : Fault) → IsUnreadable u it byte → next_read u it ≡ Err f → items_left u it ≡ Err f ∷ []
+  pub at_instruction : (byte : ℕ) (f : Fault) → IsNextUnreadable u it byte → next_read u it ≡ Err f → items_left u it ≡ Err f ∷ []
   unfolding items_left
   at_instruction byte f a e = after_fault u laws (input_of it.source) (lazy_of it) it.more (state_of it.state) a.count a.on f a.within e
 

@@ -1,5 +1,5 @@
 -- How far the reading of binds has come, as numbers.
-use Rattle.std.specs.Prelude.{◌≡◌, ◌⊎◌, ◌==◌, ℕ, ℤ, List, [], Bool, true, false, Option, Some, None, Result, Ok, Err, if◌then◌else◌, slice_get, bit_and}
+use Rattle.std.specs.Prelude.{◌≡◌, ◌⊎◌, ℕ, ℤ, List, [], Option, Some, None, Result, Ok, Err, if◌then◌else◌, slice_get, bit_and}
 use Rattle.mach_base.specs.Fault.{Fault, fault_of}
 use Rattle.mach_base.specs.Text.{text_at}
 use Rattle.mach_base.specs.declared.error.Error.{Error}
@@ -7,7 +7,7 @@ use Rattle.mach_segments.specs.Bindings.{Binding, binding_view}
 use Rattle.mach_binds.specs.BindLeft.{import_rules}
 use Rattle.mach_binds.specs.Machine as machine
 use Rattle.mach_binds.specs.Machine.{State, items_of}
-use Rattle.mach_binds.specs.BindViews.{import_in}
+use Rattle.mach_binds.specs.BindViews.{import_seen}
 use Rattle.mach_binds.specs.BindingsLeft.{binding_rules}
 use Rattle.mach_binds.specs.declared.bindings.Extra.{Extra}
 use Rattle.mach_binds.specs.Binds.{Bind}
@@ -19,10 +19,7 @@ use Rattle.mach_binds.specs.declared.imports.cursor.BindCursor.{BindCursor}
 use Rattle.mach_binds.specs.declared.imports.cursor.PlacedImport.{PlacedImport}
 use Rattle.mach_binds.specs.declared.imports.cursor.PlacedBinding.{PlacedBinding}
 use Rattle.mach_binds.specs.declared.imports.iterator.BindIterator.{BindIterator}
-
--- a number that isn't 0 says yes
-abbrev pub says_yes : ℕ → Bool
-says_yes n = if n == 0 then false else true
+use Rattle.mach_base.specs.Number.{says_yes}
 
 -- the settings and the state that the numbers of a cursor say, over some bytes: the name is the text at its place, if there is one
 abbrev pub bind_in : List ℕ → BindCursor → Bind
@@ -65,26 +62,26 @@ abbrev pub imports_behind : Input → Range → BindCursor → List (Result Impo
 imports_behind x lazy c = items_of import_rules x lazy (record {}) (state_in x.bytes c)
 
 -- the bindings that come behind it
-abbrev pub bindings_behind : Input → Range → BindCursor → List (Result Binding Fault)
-bindings_behind x lazy c = items_of binding_rules x lazy (extra_in c) (state_in x.bytes c)
+abbrev pub opcode_bindings_behind : Input → Range → BindCursor → List (Result Binding Fault)
+opcode_bindings_behind x lazy c = items_of binding_rules x lazy (extra_in c) (state_in x.bytes c)
 
 -- the iterator reads this, and knows where its name stands
-abbrev pub IsOver : Input → Range → BindIterator → Type 0
-IsOver x lazy it = machine.IsOver x lazy it.stream
+abbrev pub IsOverImports : Input → Range → BindIterator → Type 0
+IsOverImports x lazy it = machine.IsOver x lazy it.stream
 
 abbrev pub IsOverBindings : Input → Range → OpcodeBindingIterator → Type 0
 IsOverBindings x lazy it = machine.IsOver x lazy it.stream
 
 -- it has ended: nothing is left, and it stays so
-abbrev pub HasEnded : BindIterator → Type 0
-HasEnded it = machine.HasEnded import_rules it.stream
+abbrev pub HasEndedImports : BindIterator → Type 0
+HasEndedImports it = machine.HasEnded import_rules it.stream
 
-abbrev pub HasEndedBindings : OpcodeBindingIterator → Type 0
-HasEndedBindings it = machine.HasEnded binding_rules it.stream
+abbrev pub HasEndedOpcodeBindings : OpcodeBindingIterator → Type 0
+HasEndedOpcodeBindings it = machine.HasEnded binding_rules it.stream
 
 -- an import with its places, as it was read
 abbrev pub placed_read : Result PlacedImport Error → Result Import Fault
-placed_read (Ok p) = Ok (import_in p.import)
+placed_read (Ok p) = Ok (import_seen p.import)
 placed_read (Err e) = Err (fault_of e)
 
 abbrev pub placed_binding_read : Result PlacedBinding Error → Result Binding Fault
@@ -92,10 +89,10 @@ placed_binding_read (Ok p) = Ok (binding_view p.binding)
 placed_binding_read (Err e) = Err (fault_of e)
 
 -- a text stands at a place; one of no bytes may stand nowhere
-abbrev pub Stands : List ℕ → ℕ → List ℕ → Type 0
-Stands bytes place text = (text ≡ []) ⊎ (text_at bytes place ≡ Ok text)
+abbrev pub TextStands : List ℕ → ℕ → List ℕ → Type 0
+TextStands bytes place text = (text ≡ []) ⊎ (text_at bytes place ≡ Ok text)
 
 -- its name stands at its place, and its library is that of its number
 pub record IsPlaced (x : Input) (p : PlacedImport) : Type 0 where
-  pub name : Stands x.bytes p.name_place p.import.name.now
+  pub name : TextStands x.bytes p.name_place p.import.name.now
   pub library_is : slice_get x.libs p.library ≡ Some p.import.dylib.now

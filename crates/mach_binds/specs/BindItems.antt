@@ -4,7 +4,8 @@ use Rattle.mach_base.specs.Fault.{Fault}
 use Rattle.mach_binds.specs.Faults.{AreItems}
 use Rattle.mach_binds.specs.Streams.{Input, Range, Placed, reader_of}
 use Rattle.mach_binds.specs.Imports.{Import, imports_in}
-pub use Rattle.mach_binds.specs.Faults.{fault_item, upto_fault}
+pub use Rattle.mach_binds.specs.Faults.{upto_fault}
+pub use Rattle.mach_base.specs.Fault.{fault_item}
 
 -- these are the imports of both streams
 abbrev pub AreBindItems : Input → Range → Range → List Placed → List Placed → List (Result Import Fault) → Type 0

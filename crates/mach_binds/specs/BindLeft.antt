@@ -6,7 +6,7 @@ use Rattle.mach_base.specs.declared.error.Error.{Error}
 use Rattle.mach_binds.specs.Instructions.{instruction_at}
 use Rattle.mach_binds.specs.Imports.{Target, import_of}
 use Rattle.mach_binds.specs.Imports as imports
-use Rattle.mach_binds.specs.BindViews.{import_in}
+use Rattle.mach_binds.specs.BindViews.{import_seen}
 use Rattle.mach_binds.specs.Machine.{Rules, items_left, opcodes_left, item_read}
 pub use Rattle.mach_binds.specs.Machine.{State, fresh, moved, start_of, input_of, bind_of, state_of, items_of, executed, executed_by, set_by}
 use Rattle.mach_binds.specs.declared.imports.source.Place.{Place}
@@ -27,7 +27,7 @@ abbrev pub target_in : Place → Target
 target_in t = record { dylib = t.dylib.now; offset = t.offset; address = t.address }
 
 abbrev pub import_read : Result Import Error → Result imports.Import Fault
-import_read = item_read import_in fault_of
+import_read = item_read import_seen fault_of
 
 -- the imports that are left, up to the first fault
 abbrev pub imports_left : BindIterator → List (Result imports.Import Fault)

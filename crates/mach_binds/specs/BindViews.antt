@@ -4,8 +4,8 @@ use Rattle.mach_binds.specs.Imports as imports
 use Rattle.mach_binds.specs.declared.imports.Import.{Import}
 use Rattle.mach_binds.specs.declared.imports.BindPlaces.{BindPlaces}
 
-abbrev pub import_in : Import → imports.Import
-import_in i = record {
+abbrev pub import_seen : Import → imports.Import
+import_seen i = record {
   name = i.name.now;
   dylib = i.dylib.now;
   is_lazy = i.is_lazy;
@@ -18,7 +18,7 @@ import_in i = record {
 }
 
 abbrev pub imports_seen : List Import → List imports.Import
-imports_seen items = map import_in items
+imports_seen items = map import_seen items
 
 -- the streams at some places
 abbrev pub ranges_at : List ℕ → BindPlaces → imports.BindRanges

@@ -13,7 +13,7 @@ use Rattle.mach_binds.specs.BindLast.{IsLast}
 use Rattle.mach_binds.specs.BindAddresses.{LiesWhole, LiesWholeInSome}
 use Rattle.mach_segments.specs.Bindings.{Provider, of_library, itself, main_executable, flat, weak_lookup}
 use Rattle.mach_segments.specs.Bindings.{Binding}
-use Rattle.mach_binds.specs.Bindings.{Given, binding_of, ordinal_in, last_ordinal, bindings_at, bindings_in, AreBindings}
+use Rattle.mach_binds.specs.Bindings.{SetBefore, binding_of, ordinal_in, last_ordinal, bindings_at, bindings_in, AreBindings}
 
 -- the ordinal of a bind is the one that was set last after the last DONE before it, or 0
 abbrev pub FindsLastOrdinal : Type 0
@@ -25,13 +25,13 @@ AddsBindings = (x : Input) (r : Range) (ps : List Placed) (p : Placed)
     → bindings_in x r (ps ++ p ∷ []) ≡ bindings_in x r ps ++ bindings_at x r (reverse ps) p
 
 -- two streams have one list of items
-abbrev pub HasOneListOfBindings : Type 0
-HasOneListOfBindings = (x : Input) (non_lazy lazy : Range) (ps qs ps' qs' : List Placed) (items others : List (Result Binding Fault))
+abbrev pub StreamsHaveOneListOfBindings : Type 0
+StreamsHaveOneListOfBindings = (x : Input) (non_lazy lazy : Range) (ps qs ps' qs' : List Placed) (items others : List (Result Binding Fault))
     → AreBindings x non_lazy lazy ps qs items → AreBindings x non_lazy lazy ps' qs' others → items ≡ others
 
 -- the pointer of a bind's binding is in the bind's segment
 abbrev pub BindingLiesIn : Type 0
-BindingLiesIn = (x : Input) (g : Given) (b : Bind) (found : Binding) → binding_of x g b ≡ Ok found
+BindingLiesIn = (x : Input) (g : SetBefore) (b : Bind) (found : Binding) → binding_of x g b ≡ Ok found
     → LiesWhole x.segments b.segment found.address x.pointer
 
 -- that of each binding is in one of the segments
@@ -85,16 +85,16 @@ told_by_binding first b = record {
   is_lazy = b.is_lazy;
 }
 
-abbrev pub told : {A : Type 0} → (A → Told) → Result A Fault → Result Told Fault
-told tell (Ok i) = Ok (tell i)
-told tell (Err f) = Err f
+abbrev pub told_item : {A : Type 0} → (A → Told) → Result A Fault → Result Told Fault
+told_item tell (Ok i) = Ok (tell i)
+told_item tell (Err f) = Err f
 
 -- each binding tells what the import at its place tells, and the bindings end where the imports do, or at a fault
 abbrev pub EachTells : List ℕ → List (Result Import Fault) → List (Result Binding Fault) → Type 0
 EachTells first imports [] = imports ≡ []
 EachTells first imports (Err f ∷ bindings) = Unit {0}
 EachTells first [] (Ok b ∷ bindings) = ⊥
-EachTells first (i ∷ imports) (Ok b ∷ bindings) = (told told_by_import i ≡ Ok (told_by_binding first b)) × EachTells first imports bindings
+EachTells first (i ∷ imports) (Ok b ∷ bindings) = (told_item told_by_import i ≡ Ok (told_by_binding first b)) × EachTells first imports bindings
 
 -- behind the last DONE stands an instruction that has the operand: the list has the nearest first
 abbrev pub IsSetAnew : {A : Type 0} → (Placed → Option A) → List Placed → Type 0
@@ -131,11 +131,11 @@ pub record AreReadAlike (x : Input) (non_lazy lazy : Range) (ps qs : List Placed
 -- where bindings have no fault, both tell one for one, so that they are as many
 abbrev pub TellOneForOne : List ℕ → List (Result Import Fault) → List (Result Binding Fault) → Type 0
 TellOneForOne first imports bindings =
-    (list : List Binding) → bindings ≡ map Ok list → map (told told_by_import) imports ≡ map (λ b. Ok (told_by_binding first b)) list
+    (list : List Binding) → bindings ≡ map Ok list → map (told_item told_by_import) imports ≡ map (λ b. Ok (told_by_binding first b)) list
 
 -- so do bindings and imports of streams that are read alike, over a list of libraries that has a first
-abbrev pub TellTheSame : Type 0
-TellTheSame = (x : Input) (non_lazy lazy : Range) (first : List ℕ) (others : List (List ℕ)) (ps qs ps' qs' us vs : List Placed)
+abbrev pub StreamsTellTheSame : Type 0
+StreamsTellTheSame = (x : Input) (non_lazy lazy : Range) (first : List ℕ) (others : List (List ℕ)) (ps qs ps' qs' us vs : List Placed)
     (imports : List (Result Import Fault)) (bindings : List (Result Binding Fault)) → x.libs ≡ first ∷ others → 0 < x.pointer → lazy.is_lazy ≡ true
     → AreReadAlike x non_lazy lazy ps qs → AreBindItems x non_lazy lazy ps' qs' imports → AreBindings x non_lazy lazy us vs bindings
     → EachTells first imports bindings × TellOneForOne first imports bindings

@@ -6,7 +6,8 @@ use Rattle.mach_base.specs.Fault.{Fault, malformed}
 use Rattle.mach_base.specs.Sums.{found_or_malformed, sum_of}
 use Rattle.mach_segments.specs.Segment.{SegmentView}
 use Rattle.mach_binds.specs.Faults.{AreItems}
-pub use Rattle.mach_binds.specs.Faults.{fault_item, upto_fault}
+pub use Rattle.mach_binds.specs.Faults.{upto_fault}
+pub use Rattle.mach_base.specs.Fault.{fault_item}
 use Rattle.mach_binds.specs.Instructions.{Instruction, library, nothing, byte_at, row_at}
 use Rattle.mach_binds.specs.Streams.{Input, Range, Placed, Reader}
 use Rattle.mach_binds.specs.Binds.{Bind, binds_at, last_setting, all_from}
@@ -36,8 +37,8 @@ kind_by (Err f) = None
 kind_by (Ok byte) = if bit_and byte 0xf0 == 0x50 then Some (bit_and byte 0x0f) else None
 
 -- the type that an instruction sets: opcode 5's immediate
-abbrev pub kind_in : List ℕ → Placed → Option ℕ
-kind_in bytes p = kind_by (byte_at bytes p.place)
+abbrev pub kind_set_by : List ℕ → Placed → Option ℕ
+kind_set_by bytes p = kind_by (byte_at bytes p.place)
 
 -- whether an opcode sets an ordinal, a name, a segment
 abbrev pub gives_ordinal : ℕ → Bool
@@ -107,7 +108,7 @@ binding_with b provider spot = record {
 
 -- what was set before a bind beside its settings: the ordinal and the type, and whether an ordinal, a name and a segment
 -- were
-pub record Given : Type 0 where
+pub record SetBefore : Type 0 where
   pub ordinal : ℤ
   pub kind : ℕ
   pub has_ordinal : Bool
@@ -115,13 +116,13 @@ pub record Given : Type 0 where
   pub has_segment : Bool
 
 -- an ordinal, a name, a segment and a type of 1, 2 or 3
-abbrev pub is_complete : Given → Bool
+abbrev pub is_complete : SetBefore → Bool
 is_complete g =
     if g.has_ordinal then (if g.has_name then (if g.has_segment then (if nat_lt 0 g.kind then nat_lt g.kind 4 else false) else false) else false)
     else false
 
 -- the binding of a bind by what was set, if it has one
-unfoldable pub binding_of : Input → Given → Bind → Result Binding Fault
+unfoldable pub binding_of : Input → SetBefore → Bind → Result Binding Fault
 binding_of x g b = if is_complete g then (do
   provider ← provider_of x.libs g.ordinal
   spot ← spot_of x.pointer x.segments b.segment b.offset
@@ -136,10 +137,10 @@ abbrev pub first_kind : Bool → ℕ
 first_kind is_lazy = if is_lazy then 1 else 0
 
 -- what was set last
-abbrev pub last_given : List ℕ → Bool → List Placed → Given
+abbrev pub last_given : List ℕ → Bool → List Placed → SetBefore
 last_given bytes is_lazy back = record {
   ordinal = last_ordinal bytes back;
-  kind = last_setting (first_kind is_lazy) (kind_in bytes) back;
+  kind = last_setting (first_kind is_lazy) (kind_set_by bytes) back;
   has_ordinal = last_setting false (sets_in bytes gives_ordinal) back;
   has_name = last_setting false (sets_in bytes gives_name) back;
   has_segment = last_setting false (sets_in bytes gives_segment) back;

@@ -3,7 +3,7 @@
 use Rattle.std.specs.Prelude.{◌==◌, ℕ, ℤ, pos, List, Bool, true, false, Option, Some, None, Result, if◌then◌else◌, bit_and}
 use Rattle.mach_base.specs.Fault.{Fault}
 use Rattle.mach_segments.specs.Bindings.{Binding}
-use Rattle.mach_binds.specs.Bindings.{Given, special_ordinal, first_kind, gives_ordinal, gives_name, gives_segment, binding_of, opcode_at}
+use Rattle.mach_binds.specs.Bindings.{SetBefore, special_ordinal, first_kind, gives_ordinal, gives_name, gives_segment, binding_of, opcode_at}
 use Rattle.mach_binds.specs.Machine.{Rules, items_left}
 use Rattle.mach_binds.specs.declared.bindings.OpcodeBindingIterator.{OpcodeBindingIterator}
 use Rattle.mach_binds.specs.declared.bindings.Extra.{Extra}
@@ -13,7 +13,7 @@ abbrev pub ordinal_now : Option ℤ → ℕ → ℤ
 ordinal_now None library = pos library
 ordinal_now (Some special) library = special
 
-abbrev pub given_now : Extra → ℕ → Given
+abbrev pub given_now : Extra → ℕ → SetBefore
 given_now m library = record {
   ordinal = ordinal_now m.special library;
   kind = m.kind;
@@ -52,5 +52,5 @@ binding_rules = record {
 }
 
 -- the bindings that are left, up to the first fault
-abbrev pub bindings_left : OpcodeBindingIterator → List (Result Binding Fault)
-bindings_left it = items_left binding_rules it.stream
+abbrev pub opcode_bindings_left : OpcodeBindingIterator → List (Result Binding Fault)
+opcode_bindings_left it = items_left binding_rules it.stream

@@ -1,11 +1,7 @@
 -- Items up to the first fault.
-use Rattle.std.specs.Prelude.{◌≡◌, List, [], ◌∷◌, ◌++◌, Option, Some, None, Result, Ok, Err}
-use Rattle.mach_base.specs.Fault.{Fault}
+use Rattle.std.specs.Prelude.{◌≡◌, List, [], ◌∷◌, ◌++◌, Option, Result, Ok, Err}
+use Rattle.mach_base.specs.Fault.{Fault, fault_item}
 use Rattle.mach_binds.specs.Streams.{Range, Placed, Reader, IsLongestBy}
-
-abbrev pub fault_item : {A : Type 0} → Option Fault → List (Result A Fault)
-fault_item None = []
-fault_item (Some f) = Err f ∷ []
 
 -- the items up to the first fault, with it
 abbrev pub upto_fault : {A : Type 0} → List (Result A Fault) → List (Result A Fault)

@@ -3,13 +3,13 @@
 use Rattle.std.specs.Prelude.{◌≡◌, ◌+◌, ◌-◌, ◌%◌, ◌^◌, ◌<◌, ◌≤◌, ℕ, zero, suc, pos, List, [], ◌∷◌, ◌++◌, map, length, Bool, true, false}
 use Rattle.std.specs.Prelude.{Option, Some, None, Result, Ok, Err, IsErr, nat_lt, if◌then◌else◌}
 use Rattle.mach_base.specs.Answer.{◌>>=◌}
-use Rattle.mach_base.specs.Fault.{Fault, malformed}
+use Rattle.mach_base.specs.Fault.{Fault, malformed, fault_item}
 use Rattle.mach_segments.specs.Segment.{segment_view}
 use Rattle.mach_binds.specs.Instructions as instructions
 use Rattle.mach_binds.specs.Instructions.{done, library, symbol, addend, segment, advance, binds, nothing, byte_at}
 use Rattle.mach_binds.specs.Streams.{Input, Range, Placed, Reader}
 use Rattle.mach_binds.specs.Binds.{Bind, count_of, stride_of, count_in, stride_in}
-use Rattle.mach_binds.specs.Faults.{fault_item, upto_fault}
+use Rattle.mach_binds.specs.Faults.{upto_fault}
 use Rattle.mach_base.specs.Text.{texts}
 use Rattle.mach_binds.specs.NamePlaces.{NameStands}
 use Rattle.mach_binds.specs.declared.imports.settings.Settings.{Settings}
@@ -38,7 +38,7 @@ abbrev pub Moves : Reader → Type 0
 Moves reader = (place : ℕ) (found : instructions.Instruction × ℕ) → reader place ≡ Ok found → place < found.1
 
 -- and none is read where there is no byte
-pub record Reads {M A : Type 0} (u : Rules M A) : Type 0 where
+pub record ReadsForward {M A : Type 0} (u : Rules M A) : Type 0 where
   pub moves : (r : Range) (pointer : ℕ) (bytes : List ℕ) → Moves (u.read r pointer bytes)
   pub bytes : (r : Range) (pointer : ℕ) (bytes : List ℕ) (place : ℕ) (f : Fault) → byte_at bytes place ≡ Err f → u.read r pointer bytes place ≡ Err f
 
@@ -220,7 +220,7 @@ abbrev pub next_read : {M A : Type 0} → Rules M A → Stream M → Result (ins
 next_read u it = u.read (range_of it.state) it.source.pointer it.source.bytes.now it.state.place
 
 -- the instruction that comes next can't be read, and this is its opcode byte, if one stands there
-pub record IsUnreadable {M A : Type 0} (u : Rules M A) (it : Stream M) (byte : ℕ) : Type 0 where
+pub record IsNextUnreadable {M A : Type 0} (u : Rules M A) (it : Stream M) (byte : ℕ) : Type 0 where
   pub count : it.state.count ≡ 0
   pub on : it.state.ended ≡ false
   pub within : it.state.place < it.state.upto
@@ -235,7 +235,7 @@ pub record MakesNothing {M A : Type 0} (u : Rules M A) (it : Stream M) : Type 0 
 
 -- no item comes, for this
 abbrev pub StopsFor : {M A : Type 0} → Rules M A → Stream M → Stop → Type 0
-StopsFor u it (stops.Instruction byte) = IsUnreadable u it byte
+StopsFor u it (stops.Instruction byte) = IsNextUnreadable u it byte
 StopsFor u it stops.Bind = MakesNothing u it
 
 -- both streams are at their end

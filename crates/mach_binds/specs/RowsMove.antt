@@ -11,7 +11,7 @@ use Rattle.mach_base.specs.Text.{text_at}
 use Rattle.mach_binds.specs.Instructions.{Instruction, done, library, symbol, addend, segment, advance, binds, nothing}
 unfoldable use Rattle.mach_binds.specs.Instructions.{byte_at, with_uleb, addend_at, symbol_operand_at, times_at, row_at, instruction_at}
 use Rattle.mach_binds.specs.Streams.{Range}
-use Rattle.mach_binds.specs.Machine.{Reads}
+use Rattle.mach_binds.specs.Machine.{ReadsForward}
 use Rattle.mach_binds.specs.BindLeft.{import_rules}
 use Rattle.mach_binds.specs.Bindings.{highest_opcode}
 unfoldable use Rattle.mach_binds.specs.Bindings.{opcode_at, bindings_row}
@@ -111,7 +111,7 @@ no_byte : (pointer : ℕ) (bytes : List ℕ) (place : ℕ) (f : Fault) → byte_
 unfolding instruction_at
 no_byte pointer bytes place f e = rw e refl
 
-pub import_reads : Reads import_rules
+pub import_reads : ReadsForward import_rules
 import_reads = record {
   moves = λ r pointer bytes place found e. ends_after pointer bytes place found e;
   bytes = λ r pointer bytes place f e. no_byte pointer bytes place f e;
@@ -140,7 +140,7 @@ no_opcode : (r : Range) (pointer : ℕ) (bytes : List ℕ) (place : ℕ) (f : Fa
 unfolding opcode_at
 no_opcode r pointer bytes place f e = rw e refl
 
-pub binding_reads : Reads binding_rules
+pub binding_reads : ReadsForward binding_rules
 binding_reads = record {
   moves = λ r pointer bytes place found e. ends_behind r pointer bytes place found e;
   bytes = λ r pointer bytes place f e. no_opcode r pointer bytes place f e;

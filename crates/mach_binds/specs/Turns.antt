@@ -3,16 +3,16 @@ use Rattle.std.specs.Prelude.{◌<◌, ◌≤◌, ◌+◌, ◌-◌, ◌*◌, ◌
 use Rattle.mach_binds.specs.declared.turns.Turns.{Turns}
 
 -- place j
-abbrev pub place_of : Turns → ℕ → ℕ
-place_of t j = (t.first + j * t.step) % t.size
+abbrev pub turn_place : Turns → ℕ → ℕ
+turn_place t j = (t.first + j * t.step) % t.size
 
 -- one of them is below a limit
 abbrev pub AnyBelow : ℕ → Turns → Type 0
-AnyBelow limit t = (j : ℕ) × (j < t.count) × (place_of t j < limit)
+AnyBelow limit t = (j : ℕ) × (j < t.count) × (turn_place t j < limit)
 
 -- where the last one is, if the ring is not gone round but laid out
-abbrev pub last_of : Turns → ℕ
-last_of t = t.first + (t.count - 1) * t.step
+abbrev pub last_turn_place : Turns → ℕ
+last_turn_place t = t.first + (t.count - 1) * t.step
 
 -- the ring has at most 2^64 places
 pub record IsRing (t : Turns) : Type 0 where

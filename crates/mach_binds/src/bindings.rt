@@ -15,7 +15,7 @@ ghost use Rattle.mach_binds.specs.SiteCursors.{AreBindingSites, binding_sites_le
 ghost use Rattle.mach_segments.specs.Bindings.{provider_of, provider_view, binding_view, binding_read};
 ghost use Rattle.mach_binds.specs.Bindings as defined;
 ghost use Rattle.mach_binds.specs.Bindings.{spot_of, is_complete, gives_ordinal, highest_opcode, opcode_at, done_leads_to, AreBindings};
-ghost use Rattle.mach_binds.specs.BindingsLeft.{ordinal_now, given_now, special_after, first_extra, extra_after, binding_rules, bindings_left};
+ghost use Rattle.mach_binds.specs.BindingsLeft.{ordinal_now, given_now, special_after, first_extra, extra_after, binding_rules, opcode_bindings_left};
 
 mod faults;
 
@@ -49,7 +49,7 @@ impl<'a> BindInterpreter<'a> {
     ) -> OpcodeBindingIterator<'a, 'b>
         ensures items { (ps : List Placed) × (qs : List Placed)
             × AreBindings (input_in self.now (pointer_size ctx.container) (texts libs.now) (map segment_view segments.now))
-            self.now.non_lazy self.now.lazy ps qs (bindings_left result) }
+            self.now.non_lazy self.now.lazy ps qs (opcode_bindings_left result) }
         ensures over { IsOverBindings (input_in self.now (pointer_size ctx.container) (texts libs.now) (map segment_view segments.now)) self.now.lazy result }
         ensures sites { AreBindingSites (input_in self.now (pointer_size ctx.container) (texts libs.now) (map segment_view segments.now))
             self.now.non_lazy self.now.lazy (binding_sites_left result) }
@@ -306,9 +306,9 @@ impl<'a> Iterator for OpcodeBindingIterator<'a, '_> {
 
     ghost use Rattle.std.specs.Iterator.{item_count};
 
-    ghost next_gives = { YieldsFirstBy binding_read bindings_left };
+    ghost next_gives = { YieldsFirstBy binding_read opcode_bindings_left };
 
-    ghost remaining = { item_count bindings_left };
+    ghost remaining = { item_count opcode_bindings_left };
 
     #[inline(always)]
     fn next(&mut self) -> Option<Result<Binding<'a>>> {
@@ -317,7 +317,7 @@ impl<'a> Iterator for OpcodeBindingIterator<'a, '_> {
 }
 
 impl Default for OpcodeBindingIterator<'_, '_> {
-    ghost is_default = { λ it. bindings_left it ≡ [] };
+    ghost is_default = { λ it. opcode_bindings_left it ≡ [] };
 
     /// No bindings.
     fn default() -> Self {

@@ -10,7 +10,7 @@ ghost use Rattle.mach_binds.specs.Imports.{bind_ranges, input_in, ListsImports};
 ghost use Rattle.mach_binds.specs.BindFault.{BindFault};
 ghost use Rattle.mach_binds.specs.BindViews.{imports_seen, ranges_at};
 ghost use Rattle.mach_base.specs.Text.{texts};
-ghost use Rattle.mach_binds.specs.BindCursors.{IsOver};
+ghost use Rattle.mach_binds.specs.BindCursors.{IsOverImports};
 ghost use Rattle.mach_binds.specs.BindItems.{AreBindItems};
 ghost use Rattle.mach_binds.specs.BindLeft.{imports_left, reads_left};
 ghost use Rattle.mach_binds.specs.Machine as machine;
@@ -173,7 +173,7 @@ impl<'a> BindInterpreter<'a> {
         ensures items { (ps : List Placed) × (qs : List Placed)
             × AreBindItems (input_in self.now (pointer_size ctx.container) (texts libs.now) (map segment_view segments.now))
             self.now.non_lazy self.now.lazy ps qs (imports_left result) }
-        ensures over { IsOver (input_in self.now (pointer_size ctx.container) (texts libs.now) (map segment_view segments.now)) self.now.lazy result }
+        ensures over { IsOverImports (input_in self.now (pointer_size ctx.container) (texts libs.now) (map segment_view segments.now)) self.now.lazy result }
         ensures sites { AreImportSites (input_in self.now (pointer_size ctx.container) (texts libs.now) (map segment_view segments.now))
             self.now.non_lazy self.now.lazy (import_sites_left result) }
     {
@@ -238,7 +238,7 @@ impl<'a> BindInterpreter<'a> {
             self.now.non_lazy self.now.lazy ps qs (imports_left result)
             × (reads_left result ≡ length ps + length qs) }
         ensures on { result.stream.state.ended ≡ false }
-        ensures over { IsOver (input_in self.now (pointer_size ctx.container) (texts libs.now) (map segment_view segments.now)) self.now.lazy result }
+        ensures over { IsOverImports (input_in self.now (pointer_size ctx.container) (texts libs.now) (map segment_view segments.now)) self.now.lazy result }
         ensures sites { AreImportSites (input_in self.now (pointer_size ctx.container) (texts libs.now) (map segment_view segments.now))
             self.now.non_lazy self.now.lazy (import_sites_left result) }
     {

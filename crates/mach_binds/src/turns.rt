@@ -1,7 +1,7 @@
 //! Whether one of many places on a ring, each a step behind the one before it, lies at its start.
 
 ghost use Rattle.std.specs.Prelude.{◌≡◌, ◌<◌, ◌≤◌, ◌+◌, ◌-◌, ◌*◌, ◌/◌, ◌^◌, ◌↔◌, ℕ, IsTrue};
-ghost use Rattle.mach_binds.specs.Turns.{AnyBelow, IsRing, last_of};
+ghost use Rattle.mach_binds.specs.Turns.{AnyBelow, IsRing, last_turn_place};
 
 /// So many places on a ring, counted from 0: the first, and each next one a step further.
 #[derive(Clone, Copy)]
@@ -17,7 +17,7 @@ impl Turns {
     fn last(self) -> u128
         requires ring { IsRing self }
         requires some { 0 < self.count }
-        ensures { result ≡ last_of self }
+        ensures { result ≡ last_turn_place self }
     {
         self.first + (self.count - 1) * self.step
     }

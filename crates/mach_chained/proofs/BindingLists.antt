@@ -5,11 +5,11 @@ use Rattle.mach_base.specs.Among.{IsAmong}
 use Rattle.mach_base.specs.Answer.{Stands}
 use Rattle.mach_base.specs.Fault.{Fault, fault_of}
 use Rattle.mach_base.proofs.Faults.{Stands-reported}
-use Rattle.mach_chained.specs.Pointers.{Kind, rebase, bind, value}
-use Rattle.mach_chained.specs.Fixups.{Input, Fixup}
-use Rattle.mach_chained.specs.Chained.{Placed, AreFixups, fixup_items}
+use Rattle.mach_chained.specs.Pointers.{KindOfFixup, rebase, bind, value}
+use Rattle.mach_chained.specs.Fixups.{FixupInput, Fixup}
+use Rattle.mach_chained.specs.Chained.{PlacedFixup, AreFixups, fixup_items}
 use Rattle.mach_segments.specs.Bindings.{Binding}
-use Rattle.mach_chained.specs.Bindings.{binding_of, binding_by, binding_in, bindings_before, bindings_of, AreBindingItems, ListsBindings, BindingFault}
+use Rattle.mach_chained.specs.Bindings.{chained_binding_of, binding_by, binding_in, bindings_before, bindings_of, AreBindingItems, ListsBindings, BindingFault}
 use Rattle.mach_chained.specs.BindingCounts.{binds_more, bind_count, AsManyAsBinds}
 use Rattle.mach_chained.proofs.Chained.{one_list}
 
@@ -33,7 +33,7 @@ among (y ∷ front) f rest = inr (among front f rest)
 
 -- ---- where there is a binding for each bind, no fault stands among the fixups
 
-none_before : (own : Option Item) (x : Input) (libs : List (List ℕ)) (ps : List Placed) (stop : Option Fault) (list : List Binding)
+none_before : (own : Option Item) (x : FixupInput) (libs : List (List ℕ)) (ps : List PlacedFixup) (stop : Option Fault) (list : List Binding)
     → ((more : List Binding) → bindings_of x libs (fixup_items ps stop) ≡ oks more → stop ≡ None)
     → bindings_before own (bindings_of x libs (fixup_items ps stop)) ≡ oks list → stop ≡ None
 none_before None x libs ps stop list next e = next list e
@@ -43,7 +43,7 @@ none_before (Some (Ok b)) x libs ps stop (c ∷ list) next e =
     let tail : bindings_of x libs (fixup_items ps stop) ≡ oks list = cc in
     next list tail
 
-no_stop : (x : Input) (libs : List (List ℕ)) (ps : List Placed) (stop : Option Fault) (list : List Binding)
+no_stop : (x : FixupInput) (libs : List (List ℕ)) (ps : List PlacedFixup) (stop : Option Fault) (list : List Binding)
     → bindings_of x libs (fixup_items ps stop) ≡ oks list → stop ≡ None
 no_stop x libs [] None list e = refl
 no_stop x libs [] (Some f) list e = absurd (no_error [] f [] list e)
@@ -52,7 +52,7 @@ no_stop x libs (p ∷ ps) stop list e = none_before (binding_in x libs p.fixup) 
 -- ---- the list
 
 -- items without a fault are the list
-pub listed : (x : Input) (libs : List (List ℕ)) (items : List Item) (list : List Binding) → AreBindingItems x libs items → items ≡ oks list
+pub listed : (x : FixupInput) (libs : List (List ℕ)) (items : List Item) (list : List Binding) → AreBindingItems x libs items → items ≡ oks list
     → ListsBindings x libs list
 listed x libs items list a e =
     let fixups = a.1 in
@@ -65,16 +65,16 @@ listed x libs items list a e =
     )
 
 -- an image with a list has no other items
-items_are : (x : Input) (libs : List (List ℕ)) (items : List Item) (list : List Binding) → AreBindingItems x libs items → ListsBindings x libs list
+items_are : (x : FixupInput) (libs : List (List ℕ)) (items : List Item) (list : List Binding) → AreBindingItems x libs items → ListsBindings x libs list
     → items ≡ oks list
 items_are x libs items list a l =
     let fixups = a.1 in
     let same = one_list x fixups.0 l.0 fixups.1 None fixups.2 l.1 in
     a.2 ∙ ap (λ (m : List (Result Fixup Fault)). bindings_of x libs m) fixups.3
-    ∙ ap (λ (ps : List Placed). bindings_of x libs (fixup_items ps fixups.1)) same.0
+    ∙ ap (λ (ps : List PlacedFixup). bindings_of x libs (fixup_items ps fixups.1)) same.0
     ∙ ap (λ (s : Option Fault). bindings_of x libs (fixup_items l.0 s)) same.1 ∙ l.2
 
-module _ (x : Input) (libs : List (List ℕ)) (items : List Item) (are : AreBindingItems x libs items) (found : List Binding) (left rest : List Item)
+module _ (x : FixupInput) (libs : List (List ℕ)) (items : List Item) (are : AreBindingItems x libs items) (found : List Binding) (left rest : List Item)
     (split : items ≡ oks found ++ left) (e : Error) (ends : left ≡ Err (fault_of e) ∷ rest) where
   all : items ≡ oks found ++ Err (fault_of e) ∷ rest
   all = split ∙ ap (λ m. oks found ++ m) ends
@@ -103,12 +103,12 @@ not_among f [] h = h
 not_among f (b ∷ list) (inl e) = cc
 not_among f (b ∷ list) (inr h) = not_among f list h
 
-pub one_list_of_bindings : (x : Input) (libs : List (List ℕ)) (xs ys : List Binding) → ListsBindings x libs xs → ListsBindings x libs ys → xs ≡ ys
+pub one_list_of_bindings : (x : FixupInput) (libs : List (List ℕ)) (xs ys : List Binding) → ListsBindings x libs xs → ListsBindings x libs ys → xs ≡ ys
 one_list_of_bindings x libs xs ys a b =
     let same = one_list x a.0 b.0 None None a.1 b.1 in
-    oks_same xs ys (sym a.2 ∙ ap (λ (ps : List Placed). bindings_of x libs (fixup_items ps None)) same.0 ∙ b.2)
+    oks_same xs ys (sym a.2 ∙ ap (λ (ps : List PlacedFixup). bindings_of x libs (fixup_items ps None)) same.0 ∙ b.2)
 
-pub faulty_have_none : (x : Input) (libs : List (List ℕ)) (f : Fault) (list : List Binding) → BindingFault x libs f → ListsBindings x libs list → ⊥
+pub faulty_have_none : (x : FixupInput) (libs : List (List ℕ)) (f : Fault) (list : List Binding) → BindingFault x libs f → ListsBindings x libs list → ⊥
 faulty_have_none x libs f list h l =
     not_among f list (subst (λ m. IsAmong (Err f) m) (items_are x libs h.0 list h.1 l) h.2)
 
@@ -120,13 +120,13 @@ count_own (Ok b) rest (c ∷ list) n next e =
     let tail : rest ≡ oks list = cc in
     ap suc (next list tail)
 
-count_by : (x : Input) (libs : List (List ℕ)) (f : Fixup) (kind : Kind) (rest : List Item) (list : List Binding) (n : ℕ)
+count_by : (x : FixupInput) (libs : List (List ℕ)) (f : Fixup) (kind : KindOfFixup) (rest : List Item) (list : List Binding) (n : ℕ)
     → ((more : List Binding) → rest ≡ oks more → length more ≡ n) → bindings_before (binding_by x libs f kind) rest ≡ oks list → length list ≡ binds_more kind n
 count_by x libs f (rebase target) rest list n next e = next list e
 count_by x libs f (value number) rest list n next e = next list e
-count_by x libs f (bind import inline) rest list n next e = count_own (binding_of x libs f import inline) rest list n next e
+count_by x libs f (bind import inline) rest list n next e = count_own (chained_binding_of x libs f import inline) rest list n next e
 
-count_all : (x : Input) (libs : List (List ℕ)) (ps : List Placed) (list : List Binding) → bindings_of x libs (fixup_items ps None) ≡ oks list
+count_all : (x : FixupInput) (libs : List (List ℕ)) (ps : List PlacedFixup) (list : List Binding) → bindings_of x libs (fixup_items ps None) ≡ oks list
     → length list ≡ bind_count ps
 count_all x libs [] [] e = refl
 count_all x libs [] (c ∷ list) e = absurd (cc)

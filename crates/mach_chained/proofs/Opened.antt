@@ -6,11 +6,11 @@ use Rattle.mach_base.specs.Fault.{Fault, malformed}
 use Rattle.mach_base.specs.Sums.{found_or_malformed}
 use Rattle.mach_segments.specs.Segment.{SegmentView}
 use Rattle.mach_chained.specs.declared.starts.ChainedStartsInSegment.{ChainedStartsInSegment}
-use Rattle.mach_chained.specs.Fixups.{Input, Span, Ends, no_ends, in_memory, behind, span_of, span_by}
+use Rattle.mach_chained.specs.Fixups.{FixupInput, Span, Ends, no_ends, in_memory, behind, span_of, span_by}
 unfoldable use Rattle.mach_chained.specs.Fixups.{span_at}
 use Rattle.mach_chained.specs.Starts.{Chains, starts_at, chains_of}
 use Rattle.std.specs.Prelude.{slice_get}
-use Rattle.mach_chained.specs.FixupCursors.{says_yes}
+use Rattle.mach_base.specs.Number.{says_yes}
 use Rattle.mach_chained.specs.Opened.{IsKnown, nothing_opened, span_or_nothing}
 use Rattle.std.proofs.lemmas.Bool.{le-leb}
 
@@ -39,12 +39,13 @@ span_same before k chains h s e =
     let d = bind_ok (behind before chains h) (λ (n : SegmentView). Ok (Some (span_of k chains n))) (Some s) e in
     ap (λ (n : SegmentView). span_of k chains n) (same_behind before chains h d.0 d.1) ∙ some_same d.2
 
-module _ (x : Input) (before : Ends) (k : ℕ) (s : Span) where
+module _ (x : FixupInput) (before : Ends) (k : ℕ) (s : Span) where
   by_memory : (chains : Chains) (r : Result SegmentView Fault) → (r >>= then_span before k chains) ≡ Ok (Some s)
       → ((r >>= then_span no_ends k chains) ≡ Ok (Some s)) × (k ≡ s.number)
   by_memory chains (Ok h) e =
       let same = span_same before k chains h s e in (
-        ap (λ (r : Result SegmentView Fault). r >>= λ (n : SegmentView). Ok (Some (span_of k chains n))) (first_behind chains h) ∙ ap (λ (q : Span). Ok (Some q)) same,
+        ap (λ (r : Result SegmentView Fault). r >>= λ (n : SegmentView). Ok (Some (span_of k chains n))) (first_behind chains h)
+            ∙ ap (λ (q : Span). Ok (Some q)) same,
         ap (λ (q : Span). q.number) same,
       )
   by_memory chains (Err f) e = absurd (cc)
@@ -69,13 +70,13 @@ module _ (x : Input) (before : Ends) (k : ℕ) (s : Span) where
   by_starts (Err f) e = absurd (cc)
 
 -- by its number
-pub opens_again : (x : Input) (before : Ends) (k : ℕ) (s : Span) → span_at x before k ≡ Ok (Some s) → span_at x no_ends s.number ≡ Ok (Some s)
+pub opens_again : (x : FixupInput) (before : Ends) (k : ℕ) (s : Span) → span_at x before k ≡ Ok (Some s) → span_at x no_ends s.number ≡ Ok (Some s)
 unfolding span_at
 opens_again x before k s e =
     let again = by_starts x before k s (starts_at x.fixups k) e in subst (λ (n : ℕ). span_at x no_ends n ≡ Ok (Some s)) again.1 again.0
 
 -- a segment that is known is the one that opens by its number
-pub known_span : (x : Input) (b : Bool) (s : Span) (n : ℕ) → says_yes n ≡ b → IsKnown x b s
+pub known_span : (x : FixupInput) (b : Bool) (s : Span) (n : ℕ) → says_yes n ≡ b → IsKnown x b s
     → cond (n == 0) nothing_opened (span_or_nothing (span_at x no_ends s.number)) ≡ s
 known_span x b s n e known = by_test (n == 0) b e known
   where

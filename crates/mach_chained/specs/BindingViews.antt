@@ -2,24 +2,25 @@
 use Rattle.std.specs.Prelude.{◌≡◌, ℕ, suc, List, [], ◌∷◌, map, true, Result, Ok, Err, if◌then◌else◌}
 use Rattle.mach_base.specs.Fault.{Fault}
 use Rattle.mach_segments.specs.declared.binding.Binding as binding
-use Rattle.mach_segments.specs.Bindings.{Binding, binding_view, texts}
+use Rattle.mach_segments.specs.Bindings.{Binding, binding_view}
+use Rattle.mach_base.specs.Text.{texts}
 use Rattle.mach_chained.specs.declared.bindings.ChainedBindIterator.{ChainedBindIterator}
 use Rattle.mach_chained.specs.Fixups.{Fixup}
 use Rattle.mach_chained.specs.Bindings.{bindings_of}
-use Rattle.mach_chained.specs.WalkViews.{input_of}
+use Rattle.mach_chained.specs.WalkViews.{fixup_input_of}
 use Rattle.mach_chained.specs.FixupsLeft.{fixups_left}
 
 abbrev pub bindings_seen : List binding.Binding → List Binding
 bindings_seen items = map binding_view items
 
-unfoldable pub bindings_left : ChainedBindIterator → List (Result Binding Fault)
-bindings_left it =
-    if it.ended then [] else bindings_of (input_of it.fixups.source) (texts it.libs.now) (fixups_left it.fixups)
+unfoldable pub chained_bindings_left : ChainedBindIterator → List (Result Binding Fault)
+chained_bindings_left it =
+    if it.ended then [] else bindings_of (fixup_input_of it.fixups.source) (texts it.libs.now) (fixups_left it.fixups)
 
 -- it has ended: nothing is left, and it stays so
-pub record HasEndedBindings (it : ChainedBindIterator) : Type 0 where
+pub record HasEndedChainedBindings (it : ChainedBindIterator) : Type 0 where
   pub ended : it.ended ≡ true
-  pub left : bindings_left it ≡ []
+  pub left : chained_bindings_left it ≡ []
 
 -- how many of some items are fixups
 abbrev pub fixup_count : List (Result Fixup Fault) → ℕ

@@ -8,9 +8,9 @@ use Rattle.mach_base.specs.Sums.{found_or_malformed, sum_of}
 use Rattle.mach_segments.specs.Bindings.{Binding, provider_of}
 use Rattle.mach_segments.specs.Segment.{SegmentView}
 use Rattle.mach_chained.specs.Imports.{import_at}
-use Rattle.mach_chained.specs.Pointers.{Kind, rebase, bind, value}
-use Rattle.mach_chained.specs.Fixups.{Input, Fixup}
-use Rattle.mach_chained.specs.Chained.{Placed, AreFixups, fixup_items, AreFixupItems}
+use Rattle.mach_chained.specs.Pointers.{KindOfFixup, rebase, bind, value}
+use Rattle.mach_chained.specs.Fixups.{FixupInput, Fixup}
+use Rattle.mach_chained.specs.Chained.{PlacedFixup, AreFixups, fixup_items, AreFixupItems}
 
 -- where an offset in a segment lies in the file
 abbrev pub place_in_file : List SegmentView → ℕ → ℕ → Result ℕ Fault
@@ -23,8 +23,8 @@ signed_or_malformed (pos n) = if nat_lt n (2 ^ 63) then Ok (pos n) else Err malf
 signed_or_malformed (negsuc n) = if nat_lt n (2 ^ 63) then Ok (negsuc n) else Err malformed
 
 -- the binding of a bind: its import names symbol and library, and both it and the pointer have an addend
-unfoldable pub binding_of : Input → List (List ℕ) → Fixup → ℕ → ℤ → Result Binding Fault
-binding_of x libs f import inline = do
+unfoldable pub chained_binding_of : FixupInput → List (List ℕ) → Fixup → ℕ → ℤ → Result Binding Fault
+chained_binding_of x libs f import inline = do
   found ← import_at x.fixups import
   provider ← provider_of libs found.library
   offset ← place_in_file x.segments f.segment f.offset
@@ -40,12 +40,12 @@ binding_of x libs f import inline = do
   })
 
 -- what comes of a fixup, if it is a bind
-abbrev pub binding_by : Input → List (List ℕ) → Fixup → Kind → Option (Result Binding Fault)
+abbrev pub binding_by : FixupInput → List (List ℕ) → Fixup → KindOfFixup → Option (Result Binding Fault)
 binding_by x libs f (rebase target) = None
 binding_by x libs f (value number) = None
-binding_by x libs f (bind import inline) = Some (binding_of x libs f import inline)
+binding_by x libs f (bind import inline) = Some (chained_binding_of x libs f import inline)
 
-abbrev pub binding_in : Input → List (List ℕ) → Fixup → Option (Result Binding Fault)
+abbrev pub binding_in : FixupInput → List (List ℕ) → Fixup → Option (Result Binding Fault)
 binding_in x libs f = binding_by x libs f f.kind
 
 -- what comes of a fixup before what comes of others: nothing, its binding, or its fault alone
@@ -55,21 +55,21 @@ bindings_before (Some (Err f)) rest = Err f ∷ []
 bindings_before (Some (Ok b)) rest = Ok b ∷ rest
 
 -- what comes of the binds among some fixups, in order, up to the first fault
-abbrev pub bindings_of : Input → List (List ℕ) → List (Result Fixup Fault) → List (Result Binding Fault)
+abbrev pub bindings_of : FixupInput → List (List ℕ) → List (Result Fixup Fault) → List (Result Binding Fault)
 bindings_of x libs [] = []
 bindings_of x libs (Err f ∷ items) = Err f ∷ []
 bindings_of x libs (Ok f ∷ items) = bindings_before (binding_in x libs f) (bindings_of x libs items)
 
 -- these are the bindings of an image's chains, over these libraries, up to the first fault
-abbrev pub AreBindingItems : Input → List (List ℕ) → List (Result Binding Fault) → Type 0
+abbrev pub AreBindingItems : FixupInput → List (List ℕ) → List (Result Binding Fault) → Type 0
 AreBindingItems x libs items =
     (fixups : List (Result Fixup Fault)) × AreFixupItems x fixups × (items ≡ bindings_of x libs fixups)
 
 -- this is the list of all bindings: no fault stands among the fixups, and each bind has one
-abbrev pub ListsBindings : Input → List (List ℕ) → List Binding → Type 0
+abbrev pub ListsBindings : FixupInput → List (List ℕ) → List Binding → Type 0
 ListsBindings x libs list =
-    (ps : List Placed) × AreFixups x ps None × (bindings_of x libs (fixup_items ps None) ≡ map Ok list)
+    (ps : List PlacedFixup) × AreFixups x ps None × (bindings_of x libs (fixup_items ps None) ≡ map Ok list)
 
 -- a fault stands among the bindings
-abbrev pub BindingFault : Input → List (List ℕ) → Fault → Type 0
+abbrev pub BindingFault : FixupInput → List (List ℕ) → Fault → Type 0
 BindingFault x libs f = (items : List (Result Binding Fault)) × AreBindingItems x libs items × IsAmong (Err f) items

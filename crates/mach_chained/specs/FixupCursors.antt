@@ -1,49 +1,46 @@
 -- How far the walk along chains has come, as numbers.
-use Rattle.std.specs.Prelude.{◌≡◌, ◌==◌, ℕ, List, [], Bool, true, not, Some, None, Result, if◌then◌else◌}
+use Rattle.std.specs.Prelude.{◌≡◌, ◌==◌, ℕ, List, [], true, Some, None, Result, if◌then◌else◌}
 use Rattle.mach_base.specs.Fault.{Fault}
 use Rattle.mach_segments.specs.Bindings.{Binding}
 use Rattle.mach_chained.specs.Bindings.{bindings_of}
-use Rattle.mach_chained.specs.Fixups.{Input, Span, Fixup, no_ends, span_at}
-use Rattle.mach_chained.specs.FixupsLeft.{items_of, fixups_left}
+use Rattle.mach_chained.specs.Fixups.{FixupInput, Span, Fixup, no_ends, span_at}
+use Rattle.mach_chained.specs.FixupsLeft.{fixups_unless_ended, fixups_left}
 use Rattle.mach_chained.specs.Opened.{IsKnown, nothing_opened, span_or_nothing}
-use Rattle.mach_chained.specs.WalkViews.{input_of, span_view}
+use Rattle.mach_chained.specs.WalkViews.{fixup_input_of, span_view}
 use Rattle.mach_chained.specs.declared.cursor.FixupCursor.{FixupCursor}
 use Rattle.mach_chained.specs.declared.fixups.FixupIterator.{FixupIterator}
 use Rattle.mach_chained.specs.declared.source.NextPlace.{NextPlace}
 use Rattle.mach_chained.specs.declared.source.NextPlace.TheVariants as variant
-
--- a number that isn't 0 says yes
-abbrev pub says_yes : ℕ → Bool
-says_yes n = not (n == 0)
+use Rattle.mach_base.specs.Number.{says_yes}
 
 -- the next place: 1 says a fixup and 2 a start, and any other number that there is none
-abbrev pub place_of : (kind at has_more index : ℕ) → NextPlace
-place_of kind at has_more index =
+abbrev pub next_place_said : (kind at has_more index : ℕ) → NextPlace
+next_place_said kind at has_more index =
     if kind == 1 then variant.Fixup (record { at = at; more = if has_more == 0 then None else Some index })
     else (if kind == 2 then variant.Start index at else variant.Nothing)
 
 -- the segment that a cursor is in
-abbrev pub span_in : Input → FixupCursor → Span
+abbrev pub span_in : FixupInput → FixupCursor → Span
 span_in x c = if c.opened == 0 then nothing_opened else span_or_nothing (span_at x no_ends c.number)
 
 -- the fixups that come behind a cursor
-abbrev pub fixups_behind : Input → FixupCursor → List (Result Fixup Fault)
-fixups_behind x c = items_of (says_yes c.ended) x (span_in x c) (place_of c.next c.at c.has_more c.index) c.page c.next_page c.segment
+abbrev pub fixups_behind : FixupInput → FixupCursor → List (Result Fixup Fault)
+fixups_behind x c = fixups_unless_ended (says_yes c.ended) x (span_in x c) (next_place_said c.next c.at c.has_more c.index) c.page c.next_page c.segment
 
 -- the bindings that come behind it, over these libraries
-abbrev pub bindings_behind : Input → List (List ℕ) → FixupCursor → List (Result Binding Fault)
-bindings_behind x libs c = bindings_of x libs (fixups_behind x c)
+abbrev pub chained_bindings_behind : FixupInput → List (List ℕ) → FixupCursor → List (Result Binding Fault)
+chained_bindings_behind x libs c = bindings_of x libs (fixups_behind x c)
 
 -- the iterator reads this, and knows its segment
-pub record IsOver (x : Input) (it : FixupIterator) : Type 0 where
-  pub source : input_of it.source ≡ x
-  pub known : IsKnown (input_of it.source) it.opened (span_view it.span)
+pub record IsOverFixups (x : FixupInput) (it : FixupIterator) : Type 0 where
+  pub source : fixup_input_of it.source ≡ x
+  pub known : IsKnown (fixup_input_of it.source) it.opened (span_view it.span)
 
 -- it has ended: nothing is left, and it stays so
-pub record HasEnded (it : FixupIterator) : Type 0 where
+pub record HasEndedFixups (it : FixupIterator) : Type 0 where
   pub ended : it.ended ≡ true
   pub left : fixups_left it ≡ []
 
 -- it knows its segment if it did
 abbrev pub KeepsSpan : FixupIterator → FixupIterator → Type 0
-KeepsSpan old new = IsKnown (input_of old.source) old.opened (span_view old.span) → IsKnown (input_of old.source) new.opened (span_view new.span)
+KeepsSpan old new = IsKnown (fixup_input_of old.source) old.opened (span_view old.span) → IsKnown (fixup_input_of old.source) new.opened (span_view new.span)

@@ -1,7 +1,7 @@
 -- The segment that was opened last.
 use Rattle.std.specs.Prelude.{◌≡◌, [], Bool, true, false, Option, Some, None, Result, Ok, Err}
 use Rattle.mach_base.specs.Fault.{Fault}
-use Rattle.mach_chained.specs.Fixups.{Input, Span, no_ends, span_at}
+use Rattle.mach_chained.specs.Fixups.{FixupInput, Span, no_ends, span_at}
 use Rattle.mach_chained.specs.declared.format.PointerFormat.TheVariants.{Generic64}
 
 -- what stands for it before the first
@@ -15,7 +15,7 @@ nothing_opened = record {
 }
 
 -- what is kept is that segment, which opens again by its number, or what stands for it before the first
-abbrev pub IsKnown : Input → Bool → Span → Type 0
+abbrev pub IsKnown : FixupInput → Bool → Span → Type 0
 IsKnown x true span = span_at x no_ends span.number ≡ Ok (Some span)
 IsKnown x false span = span ≡ nothing_opened
 

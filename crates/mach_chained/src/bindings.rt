@@ -4,14 +4,15 @@ ghost use Rattle.std.specs.Prelude.{◌≡◌, ◌+◌, ◌≤◌, ◌+ℤ◌, [
 ghost use Rattle.std.specs.Iterator.{YieldsFirstBy};
 ghost use Rattle.mach_base.specs.Answer.{Reads, Stands, IsOkUnlessMemory};
 ghost use Rattle.mach_base.specs.Fault.{Fault};
-ghost use Rattle.mach_chained.specs.Bindings.{place_in_file, signed_or_malformed, binding_of, binding_in, bindings_of, AreBindingItems, ListsBindings};
+ghost use Rattle.mach_chained.specs.Bindings.{place_in_file, signed_or_malformed, chained_binding_of, binding_in, bindings_of, AreBindingItems, ListsBindings};
 ghost use Rattle.mach_chained.specs.Bindings.{BindingFault};
-ghost use Rattle.mach_chained.specs.Chained.{Placed, AreFixups, fixup_items};
-ghost use Rattle.mach_chained.specs.WalkViews.{input_of, input_in, fixup_view};
+ghost use Rattle.mach_chained.specs.Chained.{PlacedFixup, AreFixups, fixup_items};
+ghost use Rattle.mach_chained.specs.WalkViews.{fixup_input_of, fixup_input_in, fixup_view};
 ghost use Rattle.mach_segments.specs.Segment.{segment_view};
 ghost use Rattle.mach_segments.specs.Bindings as declared;
-ghost use Rattle.mach_segments.specs.Bindings.{texts, binding_view, binding_read};
-ghost use Rattle.mach_chained.specs.BindingViews.{bindings_seen, bindings_left, pointers_left, HasEndedBindings};
+ghost use Rattle.mach_segments.specs.Bindings.{binding_view, binding_read};
+ghost use Rattle.mach_base.specs.Text.{texts};
+ghost use Rattle.mach_chained.specs.BindingViews.{bindings_seen, chained_bindings_left, pointers_left, HasEndedChainedBindings};
 
 use crate::fixups::FixupIterator;
 use crate::header::ChainedFixups;
@@ -64,7 +65,7 @@ impl<'a> ChainedFixups<'a> {
         segments: &'b [Segment<'a>],
         base: u64,
     ) -> ChainedBindIterator<'a, 'b>
-        ensures { AreBindingItems (input_in self.now segments.now base) (texts libs.now) (bindings_left result) }
+        ensures { AreBindingItems (fixup_input_in self.now segments.now base) (texts libs.now) (chained_bindings_left result) }
     {
         self.start_bindings(libs, segments, base)
     }
@@ -76,9 +77,9 @@ impl<'a> ChainedFixups<'a> {
         segments: &'b [Segment<'a>],
         base: u64,
     ) -> ChainedBindIterator<'a, 'b>
-        ensures { (ps : List Placed) × (stop : Option Fault)
-            × AreFixups (input_in self.now segments.now base) ps stop
-            × (bindings_left result ≡ bindings_of (input_in self.now segments.now base)
+        ensures { (ps : List PlacedFixup) × (stop : Option Fault)
+            × AreFixups (fixup_input_in self.now segments.now base) ps stop
+            × (chained_bindings_left result ≡ bindings_of (fixup_input_in self.now segments.now base)
             (texts libs.now) (fixup_items ps stop)) × (pointers_left result ≡ length ps) }
     {
         ChainedBindIterator {
@@ -100,11 +101,11 @@ impl<'a> ChainedFixups<'a> {
         segments: &[Segment<'a>],
         base: u64,
     ) -> Result<Vec<Binding<'a>, A>>
-        ensures listed { IfOk result (λ v. ListsBindings (input_in self.now segments.now base)
+        ensures listed { IfOk result (λ v. ListsBindings (fixup_input_in self.now segments.now base)
             (texts libs.now) (bindings_seen v.items)) }
-        ensures only { (list : List (declared.Binding)) → ListsBindings (input_in self.now segments.now base)
+        ensures only { (list : List (declared.Binding)) → ListsBindings (fixup_input_in self.now segments.now base)
             (texts libs.now) list → IsOkUnlessMemory result }
-        ensures refused { IfErr result (Stands (BindingFault (input_in self.now segments.now base)
+        ensures refused { IfErr result (Stands (BindingFault (fixup_input_in self.now segments.now base)
             (texts libs.now))) }
     {
         self.binds_counted(alloc, libs, segments, base, &mut Steps::new())
@@ -120,16 +121,16 @@ impl<'a> ChainedFixups<'a> {
         base: u64,
         steps: &mut Steps,
     ) -> Result<Vec<Binding<'a>, A>>
-        ensures listed { IfOk result (λ v. ListsBindings (input_in self.now segments.now base)
+        ensures listed { IfOk result (λ v. ListsBindings (fixup_input_in self.now segments.now base)
             (texts libs.now) (bindings_seen v.items)) }
-        ensures only { (list : List (declared.Binding)) → ListsBindings (input_in self.now segments.now base)
+        ensures only { (list : List (declared.Binding)) → ListsBindings (fixup_input_in self.now segments.now base)
             (texts libs.now) list → IsOkUnlessMemory result }
-        ensures refused { IfErr result (Stands (BindingFault (input_in self.now segments.now base)
+        ensures refused { IfErr result (Stands (BindingFault (fixup_input_in self.now segments.now base)
             (texts libs.now))) }
-        ensures reads { IfOk result (λ _. (ps : List Placed)
-            × AreFixups (input_in self.now segments.now base) ps None × (steps.new ≡ steps.old + length ps)) }
-        ensures bounded { IfErr result (λ _. (ps : List Placed) × (stop : Option Fault)
-            × AreFixups (input_in self.now segments.now base) ps stop
+        ensures reads { IfOk result (λ _. (ps : List PlacedFixup)
+            × AreFixups (fixup_input_in self.now segments.now base) ps None × (steps.new ≡ steps.old + length ps)) }
+        ensures bounded { IfErr result (λ _. (ps : List PlacedFixup) × (stop : Option Fault)
+            × AreFixups (fixup_input_in self.now segments.now base) ps stop
             × (steps.new ≤ steps.old + length ps + 1)) }
         ensures kept { steps.old ≤ steps.new }
     {
@@ -148,7 +149,7 @@ impl<'a> ChainedFixups<'a> {
 
 impl<'a> Source<'a, '_> {
     // The binding of a bind.
-    #[tactic(auto, unfolding(crate::specs::Bindings::binding_of))]
+    #[tactic(auto, unfolding(crate::specs::Bindings::chained_binding_of))]
     #[inline(always)]
     fn bound(
         &self,
@@ -157,7 +158,7 @@ impl<'a> Source<'a, '_> {
         import: u32,
         addend: i32,
     ) -> Result<Binding<'a>>
-        ensures { Reads binding_view result (binding_of (input_of self.now) (texts libs.now) (fixup_view fixup.now) import addend) }
+        ensures { Reads binding_view result (chained_binding_of (fixup_input_of self.now) (texts libs.now) (fixup_view fixup.now) import addend) }
     {
         let found = self.fixups.import(import)?;
         let provider = Provider::of_ordinal(libs, i64::from(found.library))?;
@@ -178,8 +179,8 @@ impl<'a> Source<'a, '_> {
     #[inline(always)]
     fn binding(&self, libs: &[&'a str], fixup: &Fixup) -> Option<Result<Binding<'a>>>
         ensures { MatchOption result
-            (binding_in (input_of self.now) (texts libs.now) (fixup_view fixup.now) ≡ None)
-            (λ answer. binding_in (input_of self.now) (texts libs.now) (fixup_view fixup.now) ≡ Some (binding_read answer)) }
+            (binding_in (fixup_input_of self.now) (texts libs.now) (fixup_view fixup.now) ≡ None)
+            (λ answer. binding_in (fixup_input_of self.now) (texts libs.now) (fixup_view fixup.now) ≡ Some (binding_read answer)) }
     {
         match fixup.kind {
             FixupKind::Bind { import, addend } => {
@@ -206,8 +207,8 @@ impl<'a> ChainedFixups<'a> {
         fixup: &Fixup,
     ) -> Option<Result<Binding<'a>>>
         ensures { MatchOption result
-            (binding_in (input_in self.now segments.now base) (texts libs.now) (fixup_view fixup.now) ≡ None)
-            (λ answer. binding_in (input_in self.now segments.now base) (texts libs.now) (fixup_view fixup.now) ≡ Some (binding_read answer)) }
+            (binding_in (fixup_input_in self.now segments.now base) (texts libs.now) (fixup_view fixup.now) ≡ None)
+            (λ answer. binding_in (fixup_input_in self.now segments.now base) (texts libs.now) (fixup_view fixup.now) ≡ Some (binding_read answer)) }
     {
         let source = Source {
             fixups: *self,
@@ -221,8 +222,8 @@ impl<'a> ChainedFixups<'a> {
 impl<'a> ChainedBindIterator<'a, '_> {
     // Ends.
     fn end(&mut self)
-        ensures items { bindings_left self.new ≡ [] }
-        ensures ended { HasEndedBindings self.new }
+        ensures items { chained_bindings_left self.new ≡ [] }
+        ensures ended { HasEndedChainedBindings self.new }
     {
         self.ended = true;
     }
@@ -230,9 +231,9 @@ impl<'a> ChainedBindIterator<'a, '_> {
     // The next binding, or the fault that ends them, with a count of the pointers read.
     #[inline(always)]
     fn step(&mut self, steps: &mut Steps) -> Option<Result<Binding<'a>>>
-        ensures items { YieldsFirstBy binding_read bindings_left self.old result self.new }
-        ensures end { IfNone result (HasEndedBindings self.new) }
-        ensures fault { IfSome result (λ item. OnErr item (HasEndedBindings self.new)) }
+        ensures items { YieldsFirstBy binding_read chained_bindings_left self.old result self.new }
+        ensures end { IfNone result (HasEndedChainedBindings self.new) }
+        ensures fault { IfSome result (λ item. OnErr item (HasEndedChainedBindings self.new)) }
         ensures none { IfNone result (steps.new ≡ steps.old + pointers_left self.old) }
         ensures reads { IfSome result (λ item. OnOk item
             (steps.new + pointers_left self.new ≡ steps.old + pointers_left self.old)) }
@@ -271,9 +272,9 @@ impl<'a, 'b> Iterator for ChainedBindIterator<'a, 'b> {
 
     ghost use Rattle.std.specs.Iterator.{item_count};
 
-    ghost next_gives = { YieldsFirstBy binding_read bindings_left };
+    ghost next_gives = { YieldsFirstBy binding_read chained_bindings_left };
 
-    ghost remaining = { item_count bindings_left };
+    ghost remaining = { item_count chained_bindings_left };
 
     #[inline(always)]
     fn next(&mut self) -> Option<Result<Binding<'a>>> {
@@ -282,10 +283,10 @@ impl<'a, 'b> Iterator for ChainedBindIterator<'a, 'b> {
 }
 
 impl<'a, 'b> Default for ChainedBindIterator<'a, 'b> {
-    ghost is_default = { λ it. bindings_left it ≡ [] };
+    ghost is_default = { λ it. chained_bindings_left it ≡ [] };
 
     /// No bindings.
-    #[tactic(auto, unfolding(crate::specs::BindingViews::bindings_left))]
+    #[tactic(auto, unfolding(crate::specs::BindingViews::chained_bindings_left))]
     fn default() -> Self {
         ChainedBindIterator {
             fixups: FixupIterator::default(),

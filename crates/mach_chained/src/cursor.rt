@@ -1,11 +1,12 @@
 //! How far the walk along chains has come, as numbers.
 
 ghost use Rattle.std.specs.Prelude.{◌≡◌};
-ghost use Rattle.mach_chained.specs.FixupCursors.{says_yes, place_of, span_in, fixups_behind, IsOver};
-ghost use Rattle.mach_chained.specs.Fixups.{Input, no_ends, span_at};
+ghost use Rattle.mach_chained.specs.FixupCursors.{next_place_said, span_in, fixups_behind, IsOverFixups};
+ghost use Rattle.mach_base.specs.Number.{says_yes};
+ghost use Rattle.mach_chained.specs.Fixups.{FixupInput, no_ends, span_at};
 ghost use Rattle.mach_chained.specs.FixupsLeft.{fixups_left};
 ghost use Rattle.mach_chained.specs.Opened.{IsKnown, span_or_nothing};
-ghost use Rattle.mach_chained.specs.WalkViews.{input_of, input_in, span_view};
+ghost use Rattle.mach_chained.specs.WalkViews.{fixup_input_of, fixup_input_in, span_view};
 
 use crate::fixups::FixupIterator;
 use crate::header::ChainedFixups;
@@ -47,7 +48,7 @@ fn flag(yes: bool) -> u8
 
 // The numbers of a place: its kind, the place in the page, whether a start comes behind the chain, and its number.
 fn numbers_of(next: NextPlace) -> (u8, usize, u8, u32)
-    ensures { place_of result.0 result.1 result.2 result.3 ≡ next }
+    ensures { next_place_said result.0 result.1 result.2 result.3 ≡ next }
 {
     match next {
         NextPlace::Nothing => (0, 0, 0, 0),
@@ -62,7 +63,7 @@ fn numbers_of(next: NextPlace) -> (u8, usize, u8, u32)
 impl FixupCursor {
     // The place that its numbers say.
     fn next_place(&self) -> NextPlace
-        ensures { result ≡ place_of self.now.next self.now.at self.now.has_more self.now.index }
+        ensures { result ≡ next_place_said self.now.next self.now.at self.now.has_more self.now.index }
     {
         match self.next {
             1 => {
@@ -85,8 +86,8 @@ impl FixupCursor {
 impl<'a, 'b> Source<'a, 'b> {
     // The segment of a number, and whether there is one with chains.
     fn span_again(&self, number: u32) -> (Span<'a>, bool)
-        ensures span { span_view result.0 ≡ span_or_nothing (span_at (input_of self.now) no_ends number) }
-        ensures known { IsKnown (input_of self.now) result.1 (span_view result.0) }
+        ensures span { span_view result.0 ≡ span_or_nothing (span_at (fixup_input_of self.now) no_ends number) }
+        ensures known { IsKnown (fixup_input_of self.now) result.1 (span_view result.0) }
     {
         match self.span(&Span::before_all(), number) {
             Ok(Some(span)) => (span, true),
@@ -97,8 +98,8 @@ impl<'a, 'b> Source<'a, 'b> {
 
     // The segment that a cursor is in, and whether there is one.
     fn span_of(&self, cursor: &FixupCursor) -> (Span<'a>, bool)
-        ensures span { span_view result.0 ≡ span_in (input_of self.now) cursor.now }
-        ensures known { IsKnown (input_of self.now) result.1 (span_view result.0) }
+        ensures span { span_view result.0 ≡ span_in (fixup_input_of self.now) cursor.now }
+        ensures known { IsKnown (fixup_input_of self.now) result.1 (span_view result.0) }
     {
         if cursor.opened == 0 {
             return (Span::before_all(), false);
@@ -115,8 +116,8 @@ impl<'a> ChainedFixups<'a> {
         base: u64,
         cursor: &FixupCursor,
     ) -> FixupIterator<'a, 'b>
-        ensures items { fixups_left result ≡ fixups_behind (input_in self.now segments.now base) cursor.now }
-        ensures over { IsOver (input_in self.now segments.now base) result }
+        ensures items { fixups_left result ≡ fixups_behind (fixup_input_in self.now segments.now base) cursor.now }
+        ensures over { IsOverFixups (fixup_input_in self.now segments.now base) result }
     {
         let source = Source {
             fixups: *self,
@@ -140,7 +141,7 @@ impl<'a> ChainedFixups<'a> {
 impl FixupIterator<'_, '_> {
     /// A cursor of the fixups that are left.
     pub fn cursor(&self) -> FixupCursor
-        ensures { (x : Input) → IsOver x self.now → fixups_behind x result ≡ fixups_left self.now }
+        ensures { (x : FixupInput) → IsOverFixups x self.now → fixups_behind x result ≡ fixups_left self.now }
     {
         let (next, at, has_more, index) = numbers_of(self.next);
         FixupCursor {

@@ -6,9 +6,10 @@ ghost use Rattle.mach_base.specs.Fault.{malformed};
 ghost use Rattle.mach_base.specs.Number.{number, number_at};
 ghost use Rattle.mach_base.specs.Sums.{found_or_malformed};
 ghost use Rattle.mach_chained.specs.Pointers.{pointer_width};
-ghost use Rattle.mach_chained.specs.Fixups.{Input, span_at, no_ends, ends_of, in_memory, behind, start_at, spot_of, spot_by, start_among, first_in_page};
+ghost use Rattle.mach_chained.specs.Fixups.{FixupInput, span_at, no_ends, ends_of, in_memory, behind, start_at, spot_by_start, spot_by, start_among};
+ghost use Rattle.mach_chained.specs.Fixups.{first_in_page};
 ghost use Rattle.mach_chained.specs.Fixups.{next_in_page, fixup_at};
-ghost use Rattle.mach_chained.specs.WalkViews.{input_of, chains_view, span_view, span_seen, spot_view, spot_seen, fixup_seen};
+ghost use Rattle.mach_chained.specs.WalkViews.{fixup_input_of, chains_view, span_view, span_seen, spot_view, spot_seen, fixup_seen};
 ghost use Rattle.mach_chained.specs.FixupsLeft.{next_spot};
 ghost use Rattle.mach_chained.specs.Opened.{nothing_opened};
 ghost use Rattle.std.specs.Prelude.{map, slice_get};
@@ -126,7 +127,7 @@ fn read_u16(bytes: &[u8], place: usize, le: Endian) -> Result<u16>
 // The place of one of several starts, which does not lie before another one.
 fn start_place(index: u32, least: usize, start: u16) -> Result<PagePlace>
     requires { index + 1 < 2 ^ 32 }
-    ensures { Reads (λ p. Some (spot_view p)) result (spot_of index least start) }
+    ensures { Reads (λ p. Some (spot_view p)) result (spot_by_start index least start) }
 {
     let at = usize::from(start % DYLD_CHAINED_PTR_START_LAST);
     if at < least {
@@ -169,7 +170,7 @@ impl<'a> Span<'a> {
     #[inline(always)]
     pub fn next_place(&self, place: PagePlace, skip: u32) -> NextPlace
         requires { place.at < 2 ^ 16 }
-        ensures { (x : Input) → next_spot x (span_view self.now) result ≡ next_in_page x (span_view self.now) (spot_view place) skip }
+        ensures { (x : FixupInput) → next_spot x (span_view self.now) result ≡ next_in_page x (span_view self.now) (spot_view place) skip }
     {
         if skip != 0 {
             return NextPlace::Fixup(PagePlace {
@@ -190,7 +191,7 @@ impl<'a> Span<'a> {
 impl<'a, 'b> Source<'a, 'b> {
     // The segment, where its chains know its place in memory.
     fn in_memory(&self, chains: &Chains, segment: &'b Segment<'a>) -> Result<&'b Segment<'a>>
-        ensures { Reads (λ s. segment_view s.now) result (in_memory (input_of self.now) (chains_view chains.now) (segment_view segment.now)) }
+        ensures { Reads (λ s. segment_view s.now) result (in_memory (fixup_input_of self.now) (chains_view chains.now) (segment_view segment.now)) }
     {
         let address = u128::from(self.base) + u128::from(chains.segment_offset);
         if address != u128::from(segment.vmaddr) {
@@ -221,7 +222,7 @@ impl<'a, 'b> Source<'a, 'b> {
     // A segment with its chains, if it has any, behind the one before.
     #[tactic(auto, unfolding(crate::specs::Fixups::span_at))]
     pub fn span(&self, before: &Span<'a>, number: u32) -> Result<Option<Span<'a>>>
-        ensures { Reads span_seen result (span_at (input_of self.now) (ends_of (span_view before.now)) number) }
+        ensures { Reads span_seen result (span_at (fixup_input_of self.now) (ends_of (span_view before.now)) number) }
     {
         let Some((starts, place)) = self.fixups.starts(number)? else {
             return Ok(None);
@@ -241,7 +242,7 @@ impl<'a, 'b> Source<'a, 'b> {
 
     // A start of a segment: those of its pages come first.
     fn start(&self, span: &Span<'a>, index: u32) -> Result<u16>
-        ensures { Reads (λ n. n) result (start_at (input_of self.now) (span_view span.now) index) }
+        ensures { Reads (λ n. n) result (start_at (fixup_input_of self.now) (span_view span.now) index) }
     {
         let offset = SIZEOF_CHAINED_STARTS_IN_SEGMENT + index as usize * 2;
         let place = span.chains.place.saturating_add(offset);
@@ -250,7 +251,7 @@ impl<'a, 'b> Source<'a, 'b> {
 
     // The place of one of several starts, which does not lie before another one.
     pub fn start_among(&self, span: &Span<'a>, index: u32, least: usize) -> Result<PagePlace>
-        ensures { Reads (λ p. Some (spot_view p)) result (start_among (input_of self.now) (span_view span.now) index least) }
+        ensures { Reads (λ p. Some (spot_view p)) result (start_among (fixup_input_of self.now) (span_view span.now) index least) }
     {
         if index >= span.chains.room {
             return Err(Error::Malformed("starts have room for those of a page"));
@@ -262,7 +263,7 @@ impl<'a, 'b> Source<'a, 'b> {
     // The first place of a page, if it has one.
     #[tactic(auto, unfolding(crate::specs::Fixups::first_in_page))]
     pub fn first_in_page(&self, span: &Span<'a>, page: u16) -> Result<Option<PagePlace>>
-        ensures { Reads spot_seen result (first_in_page (input_of self.now) (span_view span.now) page) }
+        ensures { Reads spot_seen result (first_in_page (fixup_input_of self.now) (span_view span.now) page) }
     {
         let start = self.start(span, u32::from(page))?;
         if start == DYLD_CHAINED_PTR_START_NONE {
@@ -290,8 +291,8 @@ impl<'a, 'b> Source<'a, 'b> {
         at: usize,
         steps: &mut Steps,
     ) -> Option<(Fixup, u32)>
-        ensures value { MatchOption result (fixup_at (input_of self.now) (span_view span.now) page at ≡ Err malformed)
-            (λ found. fixup_at (input_of self.now) (span_view span.now) page at ≡ Ok (fixup_seen found)) }
+        ensures value { MatchOption result (fixup_at (fixup_input_of self.now) (span_view span.now) page at ≡ Err malformed)
+            (λ found. fixup_at (fixup_input_of self.now) (span_view span.now) page at ≡ Ok (fixup_seen found)) }
         ensures within { IfSome result (λ _. at < 2 ^ 16) }
         ensures reads { IfSome result (λ _. steps.new ≡ steps.old + 1) }
         ensures bounded { steps.new ≤ steps.old + 1 }

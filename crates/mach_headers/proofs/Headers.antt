@@ -12,7 +12,8 @@ use Rattle.mach_base.specs.Record.{Value}
 use Rattle.mach_base.proofs.Binds.{same_ok, same_err}
 use Rattle.mach_base.proofs.Spelled.{values_in-front}
 use Rattle.mach_headers.specs.declared.header.Header.{Header}
-use Rattle.mach_headers.specs.Header.{header32_fields, header32_of_values, header64_fields, header64_of_values, header_of_32, held, header_in, header_front, IsHeader}
+use Rattle.mach_headers.specs.Header.{header32_fields, header32_of_values, header64_fields, header64_of_values, header_of_32, held, header_in, header_front}
+use Rattle.mach_headers.specs.Header.{IsHeader}
 
 -- the header at a place is the one at the front of what is left there
 header_in-front : (w : Container) (le : Endian) (bytes : List ℕ) (o : ℕ) → header_in w le bytes o ≡ header_in w le (drop o bytes) 0

@@ -14,11 +14,15 @@ from_here (x ∷ xs) (suc i) d lt = rw add-one (rw add-one at (from_here xs i d 
 
 base_first : (v : SegmentView) (vs : List SegmentView) → is_text_segment v ≡ true → base_of (v ∷ vs) ≡ v.command.vmaddr
 unfolding base_of
-base_first v vs e = ap (λ b. unwrap_or (option_map (λ (s : SegmentView). s.command.vmaddr) (first_of (cond b (v ∷ filter is_text_segment vs) (filter is_text_segment vs)))) 0) e
+base_first v vs e =
+    ap (λ b. unwrap_or (option_map (λ (s : SegmentView). s.command.vmaddr) (first_of (cond b (v ∷ filter is_text_segment vs) (filter is_text_segment vs)))) 0)
+    e
 
 base_later : (v : SegmentView) (vs : List SegmentView) → is_text_segment v ≡ false → base_of (v ∷ vs) ≡ base_of vs
 unfolding base_of
-base_later v vs e = ap (λ b. unwrap_or (option_map (λ (s : SegmentView). s.command.vmaddr) (first_of (cond b (v ∷ filter is_text_segment vs) (filter is_text_segment vs)))) 0) e
+base_later v vs e =
+    ap (λ b. unwrap_or (option_map (λ (s : SegmentView). s.command.vmaddr) (first_of (cond b (v ∷ filter is_text_segment vs) (filter is_text_segment vs)))) 0)
+    e
 
 base_none : base_of [] ≡ 0
 unfolding base_of

@@ -1,5 +1,6 @@
 -- The libraries of an image, counted by 64 bits, and the same as `libs` has them.
-use Rattle.std.proofs.Common.{◌≡◌, ℕ, suc, zero, ◌+◌, ◌<◌, ◌≤◌, ◌^◌, List, [], ◌∷◌, length, map, Bool, Option, Some, None, Result, Ok, Err, refl, sym, ap, ◌∙◌, arith, add-one}
+use Rattle.std.proofs.Common.{◌≡◌, ℕ, suc, zero, ◌+◌, ◌<◌, ◌≤◌, ◌^◌, List, [], ◌∷◌, length, map, Bool, Option, Some, None, Result, Ok, Err, refl, sym, ap}
+use Rattle.std.proofs.Common.{◌∙◌, arith, add-one}
 use Rattle.std.proofs.Math.Nat.{min-eq_left}
 use Rattle.std.specs.Prelude.{if◌then◌else◌, slice_get, codes, unwrap_or, option_map}
 use Rattle.mach_base.specs.Fault.{Fault}
@@ -19,7 +20,8 @@ use Rattle.mach_base.specs.Answer.{◌>>=◌}
 use Rattle.mach_base.specs.Text.{text_at}
 use Rattle.mach_load.specs.Subjects.{is_library}
 use Rattle.mach_image.specs.Subjects.{name_place, library_by, libs_in, own_name_in}
-use Rattle.mach_image.specs.Libraries.{NamedLibrary, LibraryView, of_ordinal, by_ordinal, counted_from, libraries_in, named_by, named_library, library_kind, dylib_of_values}
+use Rattle.mach_image.specs.Libraries.{NamedLibrary, LibraryView, of_ordinal, by_ordinal, counted_from, libraries_in, named_by, named_library, library_kind}
+use Rattle.mach_image.specs.Libraries.{dylib_of_values}
 use Rattle.mach_image.specs.Readings.{Reading, read_of, keep}
 
 few_kept : {V : Type 0} (found : Option (Result V Fault)) (vs : List V) → length (keep found vs) ≤ length vs + 1

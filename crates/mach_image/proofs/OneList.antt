@@ -14,8 +14,8 @@ use Rattle.mach_binds.specs.BindingLaws as dyld
 use Rattle.mach_binds.specs.Bindings.{upto_fault}
 use Rattle.mach_binds.specs.Imports.{BindRanges, Import, input_in}
 use Rattle.mach_chained.specs.Bindings.{bindings_of}
-use Rattle.mach_chained.specs.Chained.{Placed, AreFixups, AreFixupItems, fixup_items}
-use Rattle.mach_chained.specs.Fixups.{Input, Fixup}
+use Rattle.mach_chained.specs.Chained.{PlacedFixup, AreFixups, AreFixupItems, fixup_items}
+use Rattle.mach_chained.specs.Fixups.{FixupInput, Fixup}
 use Rattle.mach_chained.specs.Header.{Fixups}
 use Rattle.mach_image.specs.BindingLaws.{HasOneListOfFixups, HasOneListOfBindings, AreAlike, TellTheSame}
 use Rattle.mach_image.specs.Bindings.{AreOpcodeBindings, AreChainBindings, AreImageBindings}
@@ -27,13 +27,14 @@ use Rattle.mach_image.proofs.ImageFacts.{one_image}
 -- ---- the law of one list of fixups, as it is stated below
 
 abbrev pub OneListOfFixups : Type 0
-OneListOfFixups = (x : Input) (ps qs : List Placed) (stop other : Option Fault) → AreFixups x ps stop → AreFixups x qs other → (ps ≡ qs) × (stop ≡ other)
+OneListOfFixups = (x : FixupInput) (ps qs : List PlacedFixup) (stop other : Option Fault) → AreFixups x ps stop → AreFixups x qs other
+    → (ps ≡ qs) × (stop ≡ other)
 
 module _ (one : OneListOfFixups) where
-  one_list_of_items : (x : Input) (items others : List (Result Fixup Fault)) → AreFixupItems x items → AreFixupItems x others → items ≡ others
+  one_list_of_items : (x : FixupInput) (items others : List (Result Fixup Fault)) → AreFixupItems x items → AreFixupItems x others → items ≡ others
   one_list_of_items x items others (ps, stop, are, is) (qs, other, be, so) =
       let same = one x ps qs stop other are be in
-      is ∙ ap (λ (rs : List Placed). fixup_items rs stop) same.0 ∙ ap (fixup_items qs) same.1 ∙ sym so
+      is ∙ ap (λ (rs : List PlacedFixup). fixup_items rs stop) same.0 ∙ ap (fixup_items qs) same.1 ∙ sym so
 
   one_fixups : (chained : Result (Option Fixups) Fault) (segments : List SegmentView) (items others : List (Result Fixup Fault))
       → AreImageFixups chained segments items → AreImageFixups chained segments others → items ≡ others
@@ -54,7 +55,7 @@ module _ (one : OneListOfFixups) where
       let x = input_over fixups segments in
       is ∙ ap (bindings_of x libs) (one_list_of_items x xs ys are be) ∙ sym so
 
-  module _ (one_run : dyld.HasOneListOfBindings) where
+  module _ (one_run : dyld.StreamsHaveOneListOfBindings) where
     one_opcodes : (b : Option BindRanges) (n : ℕ) (libs : List (List ℕ)) (segments : List SegmentView) (items others : List (Result Binding Fault))
         → AreOpcodeBindings b n libs segments items → AreOpcodeBindings b n libs segments others → items ≡ others
     one_opcodes None n libs segments items others h k = h ∙ sym k
@@ -62,11 +63,14 @@ module _ (one : OneListOfFixups) where
         one_run (input_in b n libs segments) b.non_lazy b.lazy h.0 h.1 k.0 k.1 items others h.2 k.2
 
     one_bindings : (b : Option BindRanges) (chained : Result (Option Fixups) Fault) (n : ℕ) (libs : List (List ℕ)) (segments : List SegmentView)
-        (items others : List (Result Binding Fault)) → AreImageBindings b chained n libs segments items → AreImageBindings b chained n libs segments others → items ≡ others
+        (items others : List (Result Binding Fault)) → AreImageBindings b chained n libs segments items → AreImageBindings b chained n libs segments others
+        → items ≡ others
     one_bindings b chained n libs segments items others h k =
         h.are
-        ∙ ap (λ (xs : List (Result Binding Fault)). upto_fault (xs ++ h.by_chains)) (one_opcodes b n libs segments h.by_opcodes k.by_opcodes h.opcodes k.opcodes)
-        ∙ ap (λ (xs : List (Result Binding Fault)). upto_fault (k.by_opcodes ++ xs)) (one_chains chained libs segments h.by_chains k.by_chains h.chains k.chains)
+        ∙ ap (λ (xs : List (Result Binding Fault)). upto_fault (xs ++ h.by_chains))
+        (one_opcodes b n libs segments h.by_opcodes k.by_opcodes h.opcodes k.opcodes)
+        ∙ ap (λ (xs : List (Result Binding Fault)). upto_fault (k.by_opcodes ++ xs))
+        (one_chains chained libs segments h.by_chains k.by_chains h.chains k.chains)
         ∙ sym k.are
 
     pub one_image_bindings : HasOneListOfBindings
@@ -98,11 +102,13 @@ by_kind dyld_info bytes values = refl
 by_kind dyld_info_only bytes values = refl
 by_kind _ bytes values = tt
 
-last_lazy : (bytes : List ℕ) (cs : List Command) (before : Option BindRanges) → IsSecondLazy before → IsSecondLazy (last_or before (read_of (binds_by bytes) cs))
+last_lazy : (bytes : List ℕ) (cs : List Command) (before : Option BindRanges) → IsSecondLazy before
+    → IsSecondLazy (last_or before (read_of (binds_by bytes) cs))
 last_lazy bytes [] before h = h
 last_lazy bytes (c ∷ cs) before h = one_more (bind_ranges_of c.kind bytes c.values) (by_kind c.kind bytes c.values) (λ now k. last_lazy bytes cs now k)
   where
-    one_more : (o : Option BindRanges) → IsSecondLazy o → ((now : Option BindRanges) → IsSecondLazy now → IsSecondLazy (last_or now (read_of (binds_by bytes) cs)))
+    one_more : (o : Option BindRanges) → IsSecondLazy o
+        → ((now : Option BindRanges) → IsSecondLazy now → IsSecondLazy (last_or now (read_of (binds_by bytes) cs)))
         → IsSecondLazy (last_or before (keep (option_map (λ ranges. Ok ranges) o) (read_of (binds_by bytes) cs)))
     one_more None k others = others before h
     one_more (Some b) k others = others (Some b) k
@@ -110,7 +116,7 @@ last_lazy bytes (c ∷ cs) before h = one_more (bind_ranges_of c.kind bytes c.va
 binds_are_lazy : (bytes : List ℕ) (cs : List Command) → IsSecondLazy (binds_in bytes cs)
 binds_are_lazy bytes cs = last_lazy bytes cs None tt
 
-module _ (tell : dyld.TellTheSame) where
+module _ (tell : dyld.StreamsTellTheSame) where
   -- the bindings are those of the opcodes, where there are no chains
   opcodes_alone : (b : BindRanges) (n : ℕ) (libs : List (List ℕ)) (segments : List SegmentView) (items by_opcodes by_chains : List (Result Binding Fault))
       → AreOpcodeBindings (Some b) n libs segments by_opcodes → by_chains ≡ [] → items ≡ upto_fault (by_opcodes ++ by_chains) → items ≡ by_opcodes

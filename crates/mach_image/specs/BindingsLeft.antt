@@ -11,11 +11,11 @@ use Rattle.mach_image.specs.declared.bindings.ChainBindings.{ChainBindings}
 
 -- those of the chains
 unfoldable pub chain_bindings_left : ChainBindings → List (Result Binding Fault)
-chain_bindings_left it = told_first it.refusal ++ chains.bindings_left it.bindings
+chain_bindings_left it = told_first it.refusal ++ chains.chained_bindings_left it.bindings
 
 -- those of the opcodes, and then those of the chains
-unfoldable pub all_left : BindingIterator → List (Result Binding Fault)
-all_left it = opcodes.bindings_left it.opcodes ++ chain_bindings_left it.chains
+unfoldable pub all_bindings_left : BindingIterator → List (Result Binding Fault)
+all_bindings_left it = opcodes.opcode_bindings_left it.opcodes ++ chain_bindings_left it.chains
 
 unfoldable pub bindings_left : BindingIterator → List (Result Binding Fault)
-bindings_left it = if it.ended then [] else upto_fault (all_left it)
+bindings_left it = if it.ended then [] else upto_fault (all_bindings_left it)

@@ -30,13 +30,13 @@ abbrev pub pointer_by : ℕ → Reading ℕ
 pointer_by cputype c = option_map (λ words. pointer_in words cputype) (thread_of c.kind c.values)
 
 -- whether a name can be read and is __TEXT
-abbrev pub is_text : Result (List ℕ) Fault → Bool
-is_text (Ok name) = bytes_eq name (codes "__TEXT")
-is_text (Err f) = false
+abbrev pub is_named_text : Result (List ℕ) Fault → Bool
+is_named_text (Ok name) = bytes_eq name (codes "__TEXT")
+is_named_text (Err f) = false
 
 -- whether that is the name in the field of a segment: its text up to the first zero byte, all of it where there is none
 abbrev pub is_text_name : List ℕ → Bool
-is_text_name segname = is_text (text_at segname 0)
+is_text_name segname = is_named_text (text_at segname 0)
 
 -- the mapping of a segment, in either width, where it is one of the program's text
 abbrev pub text_among : List Value → Option Mapping
@@ -44,14 +44,14 @@ text_among values =
     if is_text_name (bytes_among values 2) then Some (record { vmaddr = number_among values 3; fileoff = number_among values 5 })
     else None
 
-abbrev pub text_of : Kind → List Value → Option Mapping
-text_of segment32 values = text_among values
-text_of segment64 values = text_among values
-text_of _ values = None
+abbrev pub text_mapping_of : Kind → List Value → Option Mapping
+text_mapping_of segment32 values = text_among values
+text_mapping_of segment64 values = text_among values
+text_mapping_of _ values = None
 
 -- a segment of the program's text
 abbrev pub text_by : Reading Mapping
-text_by c = option_map (λ text. Ok text) (text_of c.kind c.values)
+text_by c = option_map (λ text. Ok text) (text_mapping_of c.kind c.values)
 
 -- the address of a place in the file, as a segment is mapped; a whole number of 64 bits
 abbrev pub address_in : Mapping → ℕ → Result ℕ Fault

@@ -86,15 +86,18 @@ HasExportOf bytes o name found = OfImage bytes o (λ ctx cs. StandsInImage (trie
 
 -- its imports: the list of its last binds, over its libraries and its segments
 abbrev pub HasImports : List ℕ → ℕ → List Import → Type 0
-HasImports bytes o list = OfImage bytes o (λ ctx cs. ListsImageImports (binds_in bytes cs) (pointer_size ctx.container) (libs_in bytes cs) (lossy_segments_in ctx bytes cs) list)
+HasImports bytes o list =
+    OfImage bytes o (λ ctx cs. ListsImageImports (binds_in bytes cs) (pointer_size ctx.container) (libs_in bytes cs) (lossy_segments_in ctx bytes cs) list)
 
 -- a fault stands in its binds
 abbrev pub HasImportsFault : List ℕ → ℕ → Fault → Type 0
-HasImportsFault bytes o f = OfImage bytes o (λ ctx cs. ImageImportsFault (binds_in bytes cs) (pointer_size ctx.container) (libs_in bytes cs) (lossy_segments_in ctx bytes cs) f)
+HasImportsFault bytes o f =
+    OfImage bytes o (λ ctx cs. ImageImportsFault (binds_in bytes cs) (pointer_size ctx.container) (libs_in bytes cs) (lossy_segments_in ctx bytes cs) f)
 
 -- its imports one at a time, up to the first fault
 abbrev pub HasImportItems : List ℕ → ℕ → List (Result Import Fault) → Type 0
-HasImportItems bytes o items = OfImage bytes o (λ ctx cs. AreImageBindItems (binds_in bytes cs) (pointer_size ctx.container) (libs_in bytes cs) (lossy_segments_in ctx bytes cs) items)
+HasImportItems bytes o items =
+    OfImage bytes o (λ ctx cs. AreImageBindItems (binds_in bytes cs) (pointer_size ctx.container) (libs_in bytes cs) (lossy_segments_in ctx bytes cs) items)
 
 -- its chained fixups, if it has any, or why their front can't be read
 abbrev pub HasChainedFixups : List ℕ → ℕ → Result (Option Fixups) Fault → Type 0
@@ -110,7 +113,9 @@ HasFixups bytes o items = OfImage bytes o (λ ctx cs. AreImageFixups (chained_in
 
 -- what dyld binds of it, over its libraries and its segments: by its opcodes and then by its chains, up to the first fault
 abbrev pub HasBindings : List ℕ → ℕ → List (Result Binding Fault) → Type 0
-HasBindings bytes o items = OfImage bytes o (λ ctx cs. AreImageBindings (binds_in bytes cs) (chained_in ctx bytes cs) (pointer_size ctx.container) (libs_in bytes cs) (lossy_segments_in ctx bytes cs) items)
+HasBindings bytes o items =
+    OfImage bytes o (λ ctx cs. AreImageBindings (binds_in bytes cs) (chained_in ctx bytes cs) (pointer_size ctx.container) (libs_in bytes cs)
+    (lossy_segments_in ctx bytes cs) items)
 
 -- an export of this name with this address is among them
 abbrev pub IsExportedAt : List ℕ → ℕ → List trie.Entry → Type 0

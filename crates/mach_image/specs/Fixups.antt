@@ -11,7 +11,7 @@ use Rattle.mach_load.specs.Command.{Command}
 use Rattle.mach_load.specs.Commands.{Kind, dyld_chained_fixups}
 use Rattle.mach_segments.specs.Segment.{SegmentView}
 use Rattle.mach_chained.specs.Chained.{AreFixupItems}
-use Rattle.mach_chained.specs.Fixups.{Input, Fixup}
+use Rattle.mach_chained.specs.Fixups.{FixupInput, Fixup}
 use Rattle.mach_chained.specs.Header.{Fixups, fixups_at}
 use Rattle.mach_chained.specs.Views.{fixups_view}
 use Rattle.mach_chained.specs.declared.header.ChainedFixups.{ChainedFixups}
@@ -55,7 +55,7 @@ unfoldable pub base_of : List SegmentView → ℕ
 base_of segments = unwrap_or (option_map (λ s. s.command.vmaddr) (first_of (filter is_text_segment segments))) 0
 
 -- what fixups over these segments are read from
-abbrev pub input_over : Fixups → List SegmentView → Input
+abbrev pub input_over : Fixups → List SegmentView → FixupInput
 input_over fixups segments = record { fixups = fixups; segments = segments; base = base_of segments }
 
 -- ---- the fixups

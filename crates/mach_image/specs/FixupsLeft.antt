@@ -11,5 +11,5 @@ abbrev pub told_first : {A : Type 0} → Option Error → List (Result A Fault)
 told_first None = []
 told_first (Some e) = Err (fault_of e) ∷ []
 
-unfoldable pub fixups_left : FixupIterator → List (Result Fixup Fault)
-fixups_left it = told_first it.refusal ++ chains.fixups_left it.chains
+unfoldable pub image_fixups_left : FixupIterator → List (Result Fixup Fault)
+image_fixups_left it = told_first it.refusal ++ chains.fixups_left it.chains

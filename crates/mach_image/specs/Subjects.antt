@@ -8,7 +8,7 @@ use Rattle.mach_base.specs.Text.{text_at}
 use Rattle.mach_base.specs.declared.context.Ctx.{Ctx}
 use Rattle.mach_records.specs.SymbolTables.{symtab_command_of_values}
 use Rattle.mach_load.specs.Command.{Command}
-use Rattle.mach_load.specs.Commands.{Kind, id_dylib, rpath, symtab, dyld_info, dyld_info_only, dyld_exports_trie}
+use Rattle.mach_load.specs.Commands.{Kind, rpath, symtab, dyld_info, dyld_info_only, dyld_exports_trie, is_id}
 use Rattle.mach_load.specs.Subjects.{is_library, segment_command_by}
 use Rattle.mach_segments.specs.Segment.{SegmentView, widened, segment_at, lossy_segment_at}
 use Rattle.mach_symbols.specs.SymbolViews.{table_of}
@@ -22,11 +22,6 @@ use Rattle.mach_binds.specs.Streams.{Placed}
 use Rattle.mach_tries.specs.Trie.{Entry}
 use Rattle.mach_tries.specs.TrieRange.{TrieRange, empty_range, range_in, ListsExports, ExportsFault}
 use Rattle.mach_image.specs.Readings.{Reading, read_of, last_of}
-
--- the command that names the image itself
-abbrev pub is_id : Kind → Bool
-is_id id_dylib = true
-is_id _ = false
 
 -- the command that names a path on which libraries are sought
 abbrev pub is_run_path : Kind → Bool

@@ -7,7 +7,7 @@ ghost use Rattle.mach_chained.specs.BindingViews as chained;
 ghost use Rattle.mach_binds.specs.Bindings.{upto_fault};
 ghost use Rattle.mach_binds.specs.BindingsLeft as dyld;
 ghost use Rattle.mach_segments.specs.Bindings.{binding_read};
-ghost use Rattle.mach_image.specs.BindingsLeft.{chain_bindings_left, all_left, bindings_left};
+ghost use Rattle.mach_image.specs.BindingsLeft.{chain_bindings_left, all_bindings_left, bindings_left};
 
 use mach_base::{Error, Result};
 use mach_binds::bindings::OpcodeBindingIterator;
@@ -26,7 +26,7 @@ impl<'a, 'b> ChainBindings<'a, 'b> {
     /// Those of the chains.
     #[tactic(auto, unfolding(crate::specs::BindingsLeft::chain_bindings_left))]
     pub(crate) fn over(bindings: ChainedBindIterator<'a, 'b>) -> Self
-        ensures { chain_bindings_left result ≡ chained.bindings_left bindings.entry }
+        ensures { chain_bindings_left result ≡ chained.chained_bindings_left bindings.entry }
     {
         ChainBindings {
             refusal: None,
@@ -70,12 +70,12 @@ pub struct BindingIterator<'a, 'b> {
 
 impl<'a, 'b> BindingIterator<'a, 'b> {
     /// Those of the opcodes, and then those of the chains.
-    #[tactic(auto, unfolding(crate::specs::BindingsLeft::bindings_left, crate::specs::BindingsLeft::all_left))]
+    #[tactic(auto, unfolding(crate::specs::BindingsLeft::bindings_left, crate::specs::BindingsLeft::all_bindings_left))]
     pub(crate) fn over(
         opcodes: OpcodeBindingIterator<'a, 'b>,
         chains: ChainBindings<'a, 'b>,
     ) -> Self
-        ensures { bindings_left result ≡ upto_fault (dyld.bindings_left opcodes.entry ++ chain_bindings_left chains.entry) }
+        ensures { bindings_left result ≡ upto_fault (dyld.opcode_bindings_left opcodes.entry ++ chain_bindings_left chains.entry) }
     {
         BindingIterator {
             opcodes,
@@ -85,10 +85,10 @@ impl<'a, 'b> BindingIterator<'a, 'b> {
     }
 
     // What comes next, whether or not a fault came before.
-    #[tactic(auto, unfolding(crate::specs::BindingsLeft::all_left))]
+    #[tactic(auto, unfolding(crate::specs::BindingsLeft::all_bindings_left))]
     #[inline(always)]
     fn any(&mut self) -> Option<Result<Binding<'a>>>
-        ensures items { YieldsFirstBy binding_read all_left self.old result self.new }
+        ensures items { YieldsFirstBy binding_read all_bindings_left self.old result self.new }
         ensures ended { self.new.ended ≡ self.old.ended }
     {
         match self.opcodes.next() {

@@ -10,9 +10,12 @@ ghost use Rattle.mach_base.specs.Text.{texts};
 ghost use Rattle.mach_tries.specs.Trie as trie;
 ghost use Rattle.mach_image.specs.Bindings.{AreImageBindings};
 ghost use Rattle.mach_image.specs.Fixups.{AreImageFixups, base_held, chained_held};
-ghost use Rattle.mach_image.specs.Facts.{HasCommands, HasSymbols, HasSegments, HasRelocations, HasName, HasLibraries, HasRunPaths, HasEntryPoint, HasExports, HasExportsFault, HasImports, HasImportsFault, HasImportItems, HasChainedFixups, HasBase, HasFixups, HasBindings};
+ghost use Rattle.mach_image.specs.Facts.{HasCommands, HasSymbols, HasSegments, HasRelocations, HasName, HasLibraries, HasRunPaths, HasEntryPoint};
+ghost use Rattle.mach_image.specs.Facts.{HasExports, HasExportsFault, HasImports, HasImportsFault, HasImportItems, HasChainedFixups, HasBase, HasFixups};
+ghost use Rattle.mach_image.specs.Facts.{HasBindings};
 ghost use Rattle.mach_tries.specs.TrieRange.{ListsExports, ExportsFault};
-ghost use Rattle.mach_image.specs.Subjects.{ListsImageImports, ImageImportsFault, AreImageBindItems, ListsImageExports, ImageExportsFault, trie_or_empty, symbols_held};
+ghost use Rattle.mach_image.specs.Subjects.{ListsImageImports, ImageImportsFault, AreImageBindItems, ListsImageExports, ImageExportsFault, trie_or_empty};
+ghost use Rattle.mach_image.specs.Subjects.{symbols_held};
 ghost use Rattle.mach_image.specs.Modes.{InBothModes, Agrees, HoldsAs};
 ghost use Rattle.mach_image.specs.OpenImage.{IsImage, IsLossyImage, commands_held, segments_held, trie_held, binds_held, ctx_held, bytes_held};
 ghost use Rattle.mach_image.specs.Relocations.{relocated_sections_in};
@@ -144,5 +147,6 @@ pub fn fixups_of_image<A: Allocator>(image: &MachO<'_, A>)
 /// The bindings that `MachO::bindings` gives one at a time, up to the first fault, are those of the bytes.
 pub fn bindings_of_image<A: Allocator>(image: &MachO<'_, A>)
     ensures { Agrees image.now HasBindings
-        (AreImageBindings (binds_held image.now) (chained_held image.now) (pointer_size (ctx_held image.now).container) (texts image.now.libs.items) (segments_held image.now)) }
+        (AreImageBindings (binds_held image.now) (chained_held image.now) (pointer_size (ctx_held image.now).container) (texts image.now.libs.items)
+        (segments_held image.now)) }
 {}

@@ -36,7 +36,8 @@ impl<'a, A: Allocator + Clone> Fields<'a, A> {
         ctx: Ctx,
         commands: &[LoadCommand],
     ) -> Result<Fields<'a, A>>
-        ensures found { IfOk result (λ f. let cs = map command_of commands.now in AreFields ctx bytes.now (read_of (segment_by ctx bytes.now) cs) (libs_in bytes.now cs) cs f) }
+        ensures found { IfOk result (λ f. let cs = map command_of commands.now in
+            AreFields ctx bytes.now (read_of (segment_by ctx bytes.now) cs) (libs_in bytes.now cs) cs f) }
         ensures all { IfOk result (λ _. AllReadable ctx bytes.now (map command_of commands.now)) }
         ensures refused { IfErr result (Stands (IsUnreadable ctx bytes.now (map command_of commands.now))) }
     {
@@ -55,7 +56,8 @@ impl<'a, A: Allocator + Clone> Fields<'a, A> {
         ctx: Ctx,
         commands: &[LoadCommand],
     ) -> Result<Fields<'a, A>>
-        ensures found { IfOk result (λ f. let cs = map command_of commands.now in AreFields ctx bytes.now (read_of (lossy_segment_by ctx bytes.now) cs) (libs_in bytes.now cs) cs f) }
+        ensures found { IfOk result (λ f. let cs = map command_of commands.now in
+            AreFields ctx bytes.now (read_of (lossy_segment_by ctx bytes.now) cs) (libs_in bytes.now cs) cs f) }
         ensures only { IsOkUnlessMemory result }
     {
         let mut fields = Fields::empty(alloc)?;

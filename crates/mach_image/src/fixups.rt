@@ -11,7 +11,7 @@ ghost use Rattle.mach_chained.specs.FixupsLeft as walk;
 ghost use Rattle.mach_chained.specs.WalkViews.{fixup_read};
 ghost use Rattle.mach_image.specs.Fixups as defined;
 ghost use Rattle.mach_image.specs.Fixups.{chained_place_by, chained_place_in, chained_at, chained_seen};
-ghost use Rattle.mach_image.specs.FixupsLeft.{fixups_left};
+ghost use Rattle.mach_image.specs.FixupsLeft.{image_fixups_left};
 ghost use Rattle.mach_image.specs.Readings.{read_of, last_of};
 
 use crate::entry::is_text;
@@ -101,9 +101,9 @@ pub struct FixupIterator<'a, 'b> {
 
 impl<'a, 'b> FixupIterator<'a, 'b> {
     /// Those of the chains.
-    #[tactic(auto, unfolding(crate::specs::FixupsLeft::fixups_left))]
+    #[tactic(auto, unfolding(crate::specs::FixupsLeft::image_fixups_left))]
     pub(crate) fn over(chains: mach_chained::FixupIterator<'a, 'b>) -> Self
-        ensures { fixups_left result ≡ walk.fixups_left chains.entry }
+        ensures { image_fixups_left result ≡ walk.fixups_left chains.entry }
     {
         FixupIterator {
             refusal: None,
@@ -112,9 +112,9 @@ impl<'a, 'b> FixupIterator<'a, 'b> {
     }
 
     /// None but an error.
-    #[tactic(auto, unfolding(crate::specs::FixupsLeft::fixups_left))]
+    #[tactic(auto, unfolding(crate::specs::FixupsLeft::image_fixups_left))]
     pub(crate) fn refused(error: Error) -> Self
-        ensures { fixups_left result ≡ Err (fault_of error) ∷ [] }
+        ensures { image_fixups_left result ≡ Err (fault_of error) ∷ [] }
     {
         FixupIterator {
             refusal: Some(error),
@@ -123,10 +123,10 @@ impl<'a, 'b> FixupIterator<'a, 'b> {
     }
 
     // The next fixup, or an error.
-    #[tactic(auto, unfolding(crate::specs::FixupsLeft::fixups_left))]
+    #[tactic(auto, unfolding(crate::specs::FixupsLeft::image_fixups_left))]
     #[inline(always)]
     fn step(&mut self) -> Option<Result<Fixup>>
-        ensures { YieldsFirstBy fixup_read fixups_left self.old result self.new }
+        ensures { YieldsFirstBy fixup_read image_fixups_left self.old result self.new }
     {
         if let Some(error) = self.refusal.take() {
             return Some(Err(error));
@@ -140,9 +140,9 @@ impl<'a, 'b> Iterator for FixupIterator<'a, 'b> {
 
     ghost use Rattle.std.specs.Iterator.{item_count};
 
-    ghost next_gives = { YieldsFirstBy fixup_read fixups_left };
+    ghost next_gives = { YieldsFirstBy fixup_read image_fixups_left };
 
-    ghost remaining = { item_count fixups_left };
+    ghost remaining = { item_count image_fixups_left };
 
     #[inline(always)]
     fn next(&mut self) -> Option<Result<Fixup>> {
@@ -151,7 +151,7 @@ impl<'a, 'b> Iterator for FixupIterator<'a, 'b> {
 }
 
 impl<'a, 'b> Default for FixupIterator<'a, 'b> {
-    ghost is_default = { λ it. fixups_left it ≡ [] };
+    ghost is_default = { λ it. image_fixups_left it ≡ [] };
 
     /// No fixups.
     fn default() -> Self {

@@ -91,7 +91,8 @@ impl<'a, 'b> LibraryIterator<'a, 'b> {
     // The library that a command brings in, with the ordinal that comes now, if its name can be read.
     #[inline(always)]
     fn library(&self, command: &LoadCommand) -> Option<Library<'a>>
-        ensures { option_map library_view result ≡ option_map (of_ordinal self.now.ordinal) (first_of (said (named_by self.now.bytes.now (command_of command.now)))) }
+        ensures { option_map library_view result ≡ option_map (of_ordinal self.now.ordinal)
+            (first_of (said (named_by self.now.bytes.now (command_of command.now)))) }
     {
         let (kind, dylib) = brought(command)?;
         let place = command.offset.saturating_add(dylib.name as usize);
@@ -160,7 +161,8 @@ impl Debug for LibraryIterator<'_, '_> {
 /// The libraries with their kinds are those of `libs`: the names are the same, in the same order, and each library's
 /// ordinal is its place there.
 pub fn libraries_by_ordinal()
-    ensures names { (bytes : List ℕ) (cs : List Command) → libs_in bytes cs ≡ unwrap_or (own_name_in bytes cs) (codes "self") ∷ map (λ l. l.name) (libraries_in bytes cs) }
+    ensures names { (bytes : List ℕ) (cs : List Command)
+        → libs_in bytes cs ≡ unwrap_or (own_name_in bytes cs) (codes "self") ∷ map (λ l. l.name) (libraries_in bytes cs) }
     ensures ordinals { (bytes : List ℕ) (cs : List Command) (k : ℕ) (l : LibraryView) → slice_get (libraries_in bytes cs) k ≡ Some l → l.ordinal ≡ k + 1 }
 {}
 

@@ -54,7 +54,8 @@ impl<A: Allocator> Opened<A> {
     pub fn read(alloc: A, bytes: &[u8], offset: usize) -> Result<Opened<A>>
         ensures opened { IfOk result (λ x. LossyOpensAs bytes.now offset x.ctx (commands_of x)) }
         ensures header { IfOk result (λ x. IsHeader x.ctx bytes.now offset x.header) }
-        ensures entry { IfOk result (λ x. entry_point_in (cputype_at x.ctx bytes.now offset) (commands_of x) ≡ Ok (record { address = x.address; old_style = x.old_style_entry })) }
+        ensures entry { IfOk result (λ x. entry_point_in (cputype_at x.ctx bytes.now offset) (commands_of x)
+            ≡ Ok (record { address = x.address; old_style = x.old_style_entry })) }
         ensures refused { IfErr result (Stands (LossyFault bytes.now offset)) }
     {
         let (ctx, header) = read_header(bytes, offset)?;

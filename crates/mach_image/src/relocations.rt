@@ -36,7 +36,8 @@ fn add_relocations<'a, A: Allocator>(
     segment: &Segment<'a>,
     ctx: Ctx,
 ) -> Result<()>
-    ensures { Gives (λ _. map relocated_view found.new.items) result (with_front (map relocated_view found.old.items) (relocated_sections_of ctx bytes.now (segment_view segment.now))) }
+    ensures { Gives (λ _. map relocated_view found.new.items) result
+        (with_front (map relocated_view found.old.items) (relocated_sections_of ctx bytes.now (segment_view segment.now))) }
 {
     'sections: for (number, item) in segment.into_iter().enumerate() {
         let (section, _) = item?;

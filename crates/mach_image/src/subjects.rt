@@ -5,7 +5,8 @@ ghost use Rattle.std.specs.Prelude.{◌≡◌, List, ℕ, Some, None, if◌then�
 ghost use Rattle.mach_base.specs.Number.{place_after};
 ghost use Rattle.mach_load.specs.Variants.{command_of};
 ghost use Rattle.mach_load.specs.Subjects.{is_library};
-ghost use Rattle.mach_image.specs.Subjects.{is_id, is_run_path, name_place, library_by, id_by, run_path_by, table_by};
+ghost use Rattle.mach_image.specs.Subjects.{is_run_path, name_place, library_by, id_by, run_path_by, table_by};
+ghost use Rattle.mach_load.specs.Commands.{is_id};
 
 use crate::readings::Subject;
 use mach_base::{Ctx, Result, read_text};

@@ -6,7 +6,7 @@ use Rattle.mach_base.specs.declared.context.Ctx.{Ctx}
 use Rattle.mach_load.specs.Command.{Command}
 use Rattle.mach_segments.specs.Bindings.{Binding}
 use Rattle.mach_segments.specs.Segment.{SegmentView}
-use Rattle.mach_binds.specs.BindingLaws.{HasOneListOfBindings}
+use Rattle.mach_binds.specs.BindingLaws.{StreamsHaveOneListOfBindings}
 use Rattle.mach_binds.specs.Imports.{BindRanges, input_in}
 use Rattle.mach_image.specs.Bindings.{AreOpcodeBindings}
 use Rattle.mach_image.specs.Subjects.{binds_in, libs_in, lossy_segments_in}
@@ -70,7 +70,7 @@ module _ (one_shared : OneShared) (laid : Laid) where
         (sections_alike h.of_segments k.of_segments h.of_sections k.of_sections
         (segments_alike [] h.of_segments k.of_segments h.segments k.segments) h.sections k.sections) h.symbols k.symbols
 
-module _ (one_run : HasOneListOfBindings) where
+module _ (one_run : StreamsHaveOneListOfBindings) where
   one_opcodes : (b : Option BindRanges) (n : ℕ) (libs : List (List ℕ)) (segments : List SegmentView) (items others : List (Result Binding Fault))
       → AreOpcodeBindings b n libs segments items → AreOpcodeBindings b n libs segments others → items ≡ others
   one_opcodes None n libs segments items others h k = h ∙ sym k

@@ -2,7 +2,7 @@
 
 ghost use Rattle.std.specs.Prelude.{◌≡◌, ◌++◌, [], List, OnOk};
 ghost use Rattle.mach_base.specs.Answer.{IsOkUnlessMemory};
-ghost use Rattle.mach_binds.specs.BindingsLeft.{bindings_left};
+ghost use Rattle.mach_binds.specs.BindingsLeft.{opcode_bindings_left};
 ghost use Rattle.mach_layout.specs.Bindings as defined;
 ghost use Rattle.mach_rules.specs.Laid.{laid_of};
 ghost use Rattle.mach_rules.specs.declared.fault.LayoutFault as listed;
@@ -20,7 +20,7 @@ fn binds_told(
     layout: &Layout<'_, '_>,
     bindings: OpcodeBindingIterator<'_, '_>,
 ) -> Option<LayoutFault>
-    ensures { cons_option result [] ≡ defined.binds_told (laid_of layout.now) (bindings_left bindings.entry) }
+    ensures { cons_option result [] ≡ defined.binds_told (laid_of layout.now) (opcode_bindings_left bindings.entry) }
 {
     if !bindings.has_fault() {
         return None;

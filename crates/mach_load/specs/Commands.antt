@@ -1,5 +1,5 @@
 -- Which record each load command is read as: the command table (`mach-o/loader.h`).
-use Rattle.std.specs.Prelude.{◌==◌, ℕ, List, [], ◌∷◌, if◌then◌else◌}
+use Rattle.std.specs.Prelude.{◌==◌, ℕ, List, [], ◌∷◌, if◌then◌else◌, Bool, true, false}
 use Rattle.mach_base.specs.Record.{Field}
 use Rattle.mach_records.specs.Contents.{entry_point_command_fields, fileset_entry_command_fields, ident_command_fields, note_command_fields}
 use Rattle.mach_records.specs.Contents.{prebind_cksum_command_fields, uuid_command_fields}
@@ -148,3 +148,8 @@ row_among (row ∷ rows) cmd = if cmd == row.cmd then row else row_among rows cm
 -- the row of a command, closed so that no fact holds the whole table
 unfoldable pub row_of : ℕ → CommandRow
 row_of cmd = row_among command_rows cmd
+
+-- the command that names the image itself
+abbrev pub is_id : Kind → Bool
+is_id id_dylib = true
+is_id _ = false

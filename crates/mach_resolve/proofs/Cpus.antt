@@ -11,7 +11,7 @@ use Rattle.goblin_mach.specs.declared.fat_file.multi_arch.MultiArch.{MultiArch}
 use Rattle.mach_image.specs.declared.macho.MachO.{MachO}
 use Rattle.mach_resolve.specs.Cpu.{IsOfCpu, entry_bytes, FindsRecord, HasFor, image, other_image, entry, of_table}
 use Rattle.mach_resolve.specs.Files.{File}
-use Rattle.mach_resolve.specs.Given.{Given, IsFile, IsLibrary, NumberedFault, OpenFault, LibraryFault, unfound, of_image}
+use Rattle.mach_resolve.specs.Given.{GivenFile, IsFile, IsLibrary, NumberedFault, OpenFault, LibraryFault, unfound, of_image}
 use Rattle.mach_resolve.proofs.Notes.{stands_as}
 
 -- an image that was opened is one of its header's cpu
@@ -31,24 +31,24 @@ has_entry : (bytes slice : List ℕ) (cputype : ℕ) (arch : FatArch) → FindsR
 has_entry bytes slice cputype arch found is = subst (λ (b : List ℕ). HasFor bytes cputype (Some b)) (sym is) (entry arch found)
 
 -- the first entry of a cpu, opened
-pub entry_library : (cputype number : ℕ) (g : Given) (slice : List ℕ) (arch : FatArch) (f : File) → FindsRecord g.bytes cputype (Some arch)
+pub entry_library : (cputype number : ℕ) (g : GivenFile) (slice : List ℕ) (arch : FatArch) (f : File) → FindsRecord g.bytes cputype (Some arch)
     → slice ≡ entry_bytes g.bytes arch → IsFile number (record { path = g.path; bytes = slice }) f → IsLibrary cputype number g f
 entry_library cputype number g slice arch f found is opened = record { bytes = slice; has = has_entry g.bytes slice cputype arch found is; is_file = opened }
 
 -- a fault of the first entry of a cpu is one of the library
-pub entry_fault : (cputype number : ℕ) (g : Given) (slice : List ℕ) (arch : FatArch) → FindsRecord g.bytes cputype (Some arch)
+pub entry_fault : (cputype number : ℕ) (g : GivenFile) (slice : List ℕ) (arch : FatArch) → FindsRecord g.bytes cputype (Some arch)
     → slice ≡ entry_bytes g.bytes arch → (n : ℕ) (f : Fault) → OpenFault number (record { path = g.path; bytes = slice }) n f
     → NumberedFault number (LibraryFault cputype g) n f
 entry_fault cputype number g slice arch found is n f stands = (stands.0, of_image slice (has_entry g.bytes slice cputype arch found is) stands.1)
 
 -- a fault of a table is one of the library
-pub table_fault : {A : Type 0} (cputype number : ℕ) (g : Given) (m : MultiArch A) (e : Error) → IsFatMach g.bytes m
+pub table_fault : {A : Type 0} (cputype number : ℕ) (g : GivenFile) (m : MultiArch A) (e : Error) → IsFatMach g.bytes m
     → first_of_cpu cputype (archs_of (file_held m)) ≡ Err (fault_of e) → Stands (NumberedFault number (LibraryFault cputype g) number) e
 table_fault cputype number g m e fat is =
     stands_as (NumberedFault number (LibraryFault cputype g) number) e (refl, unfound (of_table (file_held m) fat.magic fat.file is))
 
 -- an image of the cpu
-pub image_library : {A : Type 0} (cputype number : ℕ) (g : Given) (m : MachO A) (f : File) → IsImage g.bytes 0 m → m.header.cputype ≡ cputype
+pub image_library : {A : Type 0} (cputype number : ℕ) (g : GivenFile) (m : MachO A) (f : File) → IsImage g.bytes 0 m → m.header.cputype ≡ cputype
     → IsFile number g f → IsLibrary cputype number g f
 image_library cputype number g m f is same opened =
     record { bytes = g.bytes; has = subst (λ (c : ℕ). HasFor g.bytes c (Some g.bytes)) same (image (of_cpu g.bytes m is)); is_file = opened }

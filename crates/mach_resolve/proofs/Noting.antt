@@ -11,7 +11,8 @@ use Rattle.mach_resolve.specs.declared.note.Note.TheVariants.{GivenBefore, Nothi
 
 -- what holds of both forms of notes holds of all
 pub cases_notes : (P : Note → Note → Type 0) → ((i j : ℕ) (x y : Bor (List ℕ)) → P (GivenBefore i x) (GivenBefore j y))
-    → ((i j : ℕ) (x : Bor (List ℕ)) (c : ℕ) → P (GivenBefore i x) (NothingFor j c)) → ((i j : ℕ) (c : ℕ) (y : Bor (List ℕ)) → P (NothingFor i c) (GivenBefore j y))
+    → ((i j : ℕ) (x : Bor (List ℕ)) (c : ℕ) → P (GivenBefore i x) (NothingFor j c))
+    → ((i j : ℕ) (c : ℕ) (y : Bor (List ℕ)) → P (NothingFor i c) (GivenBefore j y))
     → ((i j c d : ℕ) → P (NothingFor i c) (NothingFor j d)) → (a b : Note) → P a b
 cases_notes P one two three four (GivenBefore i x) (GivenBefore j y) = one i j x y
 cases_notes P one two three four (GivenBefore i x) (NothingFor j c) = two i j x c
@@ -22,12 +23,14 @@ cases_notes P one two three four (NothingFor i c) (NothingFor j d) = four i j c 
 abbrev pub IsEquality : (Note → Note → Bool) → Type 0
 IsEquality E = (a b : Note) → E a b ≡ is_same_note (note_seen a) (note_seen b)
 
-among_seen : (E : Note → Note → Bool) → IsEquality E → (n : Note) (ns : List Note) → list_any (E n) ns ≡ list_any (is_same_note (note_seen n)) (map note_seen ns)
+among_seen : (E : Note → Note → Bool) → IsEquality E → (n : Note) (ns : List Note)
+    → list_any (E n) ns ≡ list_any (is_same_note (note_seen n)) (map note_seen ns)
 among_seen E same n [] = refl
 among_seen E same n (x ∷ ns) =
     ap (λ (b : Bool). b || list_any (E n) ns) (same n x) ∙ ap (λ (b : Bool). is_same_note (note_seen n) (note_seen x) || b) (among_seen E same n ns)
 
-noted_by : (b : Bool) (n : Note) (ns : List Note) → map note_seen (if b then ns else ns ++ n ∷ []) ≡ (if b then map note_seen ns else map note_seen ns ++ note_seen n ∷ [])
+noted_by : (b : Bool) (n : Note) (ns : List Note)
+    → map note_seen (if b then ns else ns ++ n ∷ []) ≡ (if b then map note_seen ns else map note_seen ns ++ note_seen n ∷ [])
 noted_by true n ns = refl
 noted_by false n ns = map_push note_seen ns n
 

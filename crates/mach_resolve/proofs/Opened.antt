@@ -9,7 +9,7 @@ use Rattle.mach_image.specs.OpenImage.{IsImage, commands_held}
 use Rattle.mach_image.specs.Subjects.{own_name_in}
 use Rattle.mach_image.specs.declared.macho.MachO.{MachO}
 use Rattle.mach_resolve.specs.Answers.{Program}
-use Rattle.mach_resolve.specs.Given.{Given, Gathered, GathersAll, may_be_absent}
+use Rattle.mach_resolve.specs.Given.{GivenFile, Gathered, GathersAll, may_be_absent}
 use Rattle.mach_resolve.specs.Resolved.{IsProgram, HoldsItems, AnswerFault, ResolveFault, of_bindings, of_trie}
 
 name_said : (bytes path name : List ℕ) (own : Option (List ℕ)) → name ≡ unwrap_or own path → HasName bytes 0 own
@@ -26,7 +26,8 @@ opens_as : {A : Type 0} (bytes : List ℕ) (m : MachO A) → IsImage bytes 0 m �
 opens_as bytes m is = (is.ctx, commands_held m, is.opens)
 
 -- the program whose image was opened
-pub is_program : {A : Type 0} (g : Given) (m : MachO A) (p : Program) (items : List (Result Binding Fault)) (own : Option (List ℕ)) (libraries : List LibraryView)
+pub is_program : {A : Type 0} (g : GivenFile) (m : MachO A) (p : Program) (items : List (Result Binding Fault)) (own : Option (List ℕ))
+    (libraries : List LibraryView)
     → IsImage g.bytes 0 m → p.name ≡ unwrap_or own g.path → HasName g.bytes 0 own → p.may_be_absent ≡ may_be_absent libraries
     → HasLibrariesByKind g.bytes 0 libraries → HasBindings g.bytes 0 items → IsProgram g p items
 is_program g m p items own libraries is name has absences are all = record {
@@ -37,7 +38,7 @@ is_program g m p items own libraries is name has absences are all = record {
 }
 
 -- a fault that stands where the bindings of an opened program are answered stands in the program or in a trie
-pub more_faults : {A : Type 0} (limit : ℕ) (p : Given) (ls : List Given) (m : MachO A) (all : Gathered) → GathersAll p ls all
+pub more_faults : {A : Type 0} (limit : ℕ) (p : GivenFile) (ls : List GivenFile) (m : MachO A) (all : Gathered) → GathersAll p ls all
     → ((items : List (Result Binding Fault)) → HoldsItems m items → HasBindings p.bytes 0 items) → (n : ℕ) (f : Fault) → AnswerFault limit all.files m n f
     → ResolveFault limit p ls n f
 more_faults limit p ls m all gathered stand n f (of_bindings bindings rest holds within) = of_bindings bindings rest (stand _ holds) within

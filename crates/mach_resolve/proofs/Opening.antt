@@ -1,5 +1,6 @@
 -- Files that are opened and gathered.
-use Rattle.std.proofs.Common.{◌≡◌, ◌∙◌, ◌+◌, ◌<◌, ℕ, Bool, true, false, ◌||◌, List, [], ◌∷◌, ◌++◌, Some, Bor, length, map, drop, get_or, refl, sym, ap, subst, arith}
+use Rattle.std.proofs.Common.{◌≡◌, ◌∙◌, ◌+◌, ◌<◌, ℕ, Bool, true, false, ◌||◌, List, [], ◌∷◌, ◌++◌, Some, Bor, length, map, drop, get_or, refl, sym, ap}
+use Rattle.std.proofs.Common.{subst, arith}
 use Rattle.std.specs.Prelude.{bytes_eq, if◌then◌else◌, slice_get}
 use Rattle.std.specs.List.{list_any}
 use Rattle.std.proofs.lemmas.List.{append_assoc, map_push, length-map, at_drop_more, get_or-map}
@@ -9,7 +10,8 @@ use Rattle.mach_image.specs.Libraries.{LibraryView}
 use Rattle.mach_resolve.specs.Opened.{given_seen}
 use Rattle.mach_resolve.specs.declared.given.Given as declared
 use Rattle.mach_resolve.specs.Note.{Note, given_before}
-use Rattle.mach_resolve.specs.Given.{Given, Adds, counts, again, is_named, reexported, is_reexport, is_weak_kind, NumberedFault, OpenFault, LibraryFault, FaultFor, of_program, of_library}
+use Rattle.mach_resolve.specs.Given.{GivenFile, Adds, counts, again, is_named, reexported, is_reexport, is_weak_kind, NumberedFault, OpenFault}
+use Rattle.mach_resolve.specs.Given.{LibraryFault, FaultFor, of_program, of_library}
 use Rattle.mach_resolve.specs.Seen.{file_seen, note_seen}
 use Rattle.mach_resolve.specs.declared.note.Note as noted
 use Rattle.mach_resolve.specs.declared.file.File.{File}
@@ -52,17 +54,21 @@ adds_again items notes more f pushed there =
 -- a file that counts
 pub adds_new : {A : Type 0} (items more : List (File A)) (notes kept : List noted.Note) (f : File A) → more ≡ items ++ f ∷ [] → kept ≡ notes
     → is_named (map file_seen items) f.name.now ≡ false
-    → Adds (record { files = map file_seen items; notes = map note_seen notes }) (file_seen f) (record { files = map file_seen more; notes = map note_seen kept })
+    → Adds (record { files = map file_seen items; notes = map note_seen notes }) (file_seen f)
+    (record { files = map file_seen more; notes = map note_seen kept })
 adds_new items more notes kept f pushed same new =
-    subst (λ (ns : List noted.Note). Adds (record { files = map file_seen items; notes = map note_seen notes }) (file_seen f) (record { files = map file_seen more; notes = map note_seen ns }))
+    subst (λ (ns : List noted.Note). Adds (record { files = map file_seen items; notes = map note_seen notes }) (file_seen f)
+    (record { files = map file_seen more; notes = map note_seen ns }))
     (sym same) (adds_more items more (map note_seen notes) f pushed new)
 
 -- a file whose name is there, which is noted
 pub adds_known : {A : Type 0} (items kept : List (File A)) (notes more : List noted.Note) (n : noted.Note) (f : File A) → kept ≡ items → more ≡ notes ++ n ∷ []
     → note_seen n ≡ given_before f.number f.name.now → is_named (map file_seen items) f.name.now ≡ true
-    → Adds (record { files = map file_seen items; notes = map note_seen notes }) (file_seen f) (record { files = map file_seen kept; notes = map note_seen more })
+    → Adds (record { files = map file_seen items; notes = map note_seen notes }) (file_seen f)
+    (record { files = map file_seen kept; notes = map note_seen more })
 adds_known items kept notes more n f same pushed is there =
-    subst (λ (fs : List (File _)). Adds (record { files = map file_seen items; notes = map note_seen notes }) (file_seen f) (record { files = map file_seen fs; notes = map note_seen more }))
+    subst (λ (fs : List (File _)). Adds (record { files = map file_seen items; notes = map note_seen notes }) (file_seen f)
+    (record { files = map file_seen fs; notes = map note_seen more }))
     (sym same)
     (adds_again items (map note_seen notes) (map note_seen more) f
     (ap (map note_seen) pushed ∙ (map_push note_seen notes n ∙ ap (λ (x : Note). map note_seen notes ++ x ∷ []) is)) there)
@@ -95,11 +101,11 @@ absent_more all front pushed l ls left b so_far is same more =
     ∙ ap (λ (xs : List Bool). xs ++ rest) (ap (λ (x : Bool). front ++ x ∷ []) (sym same) ∙ sym more)))
 
 -- a fault of the program
-pub program_fault : (cputype : ℕ) (p : Given) (ls : List Given) (n : ℕ) (f : Fault) → OpenFault 0 p n f → FaultFor cputype p ls n f
+pub program_fault : (cputype : ℕ) (p : GivenFile) (ls : List GivenFile) (n : ℕ) (f : Fault) → OpenFault 0 p n f → FaultFor cputype p ls n f
 program_fault cputype p ls n f stands = subst (λ (k : ℕ). FaultFor cputype p ls k f) (sym stands.0) (of_program stands.1)
 
 -- a fault of a library, by its place among them
-pub library_fault : (cputype : ℕ) (p : Given) (ls : List declared.Given) (i : ℕ) (d : declared.Given) → i < length ls → (n : ℕ) (f : Fault)
+pub library_fault : (cputype : ℕ) (p : GivenFile) (ls : List declared.Given) (i : ℕ) (d : declared.Given) → i < length ls → (n : ℕ) (f : Fault)
     → NumberedFault (i + 1) (LibraryFault cputype (given_seen (get_or ls i d))) n f → FaultFor cputype p (map given_seen ls) n f
 library_fault cputype p ls i d inside n f stands =
     let xs = map given_seen ls in

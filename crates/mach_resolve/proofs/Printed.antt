@@ -8,7 +8,7 @@ use Rattle.mach_resolve.specs.Answers.{Answer}
 use Rattle.mach_resolve.specs.Follow.{not_given}
 use Rattle.mach_resolve.specs.Note.{Note}
 use Rattle.mach_resolve.specs.Report.{Outcome}
-use Rattle.mach_resolve.specs.Lines.{place_text, answer_text, lines_of, arch_line, entry_text, entries_text, note_text, said_line, said_lines}
+use Rattle.mach_resolve.specs.Lines.{place_text, answer_text, lines_of, entry_heading, entry_text, entries_text, note_text, said_line, said_lines}
 
 pub lines_push : (xs : List Answer) (a : Answer) → lines_of (xs ++ a ∷ []) ≡ lines_of xs ++ (answer_text a ++ codes "\n")
 lines_push [] a = append-nil (answer_text a ++ codes "\n")
@@ -31,13 +31,14 @@ said_push (x ∷ ns) n =
     ap (λ t. said_line (note_text x) ++ t) (said_push ns n) ∙ sym (append_assoc (said_line (note_text x)) (said_lines ns) (said_line (note_text n)))
 
 -- one more entry, behind the others
-pub entries_push : (k : ℕ) (os : List Outcome) (o : Outcome) → entries_text k (os ++ o ∷ []) ≡ entries_text k os ++ (arch_line (k + length os) ++ entry_text o)
+pub entries_push : (k : ℕ) (os : List Outcome) (o : Outcome)
+    → entries_text k (os ++ o ∷ []) ≡ entries_text k os ++ (entry_heading (k + length os) ++ entry_text o)
 entries_push k [] o =
-    append-nil (arch_line k ++ entry_text o) ∙ ap (λ (i : ℕ). arch_line i ++ entry_text o) (omega arith)
+    append-nil (entry_heading k ++ entry_text o) ∙ ap (λ (i : ℕ). entry_heading i ++ entry_text o) (omega arith)
 entries_push k (x ∷ os) o =
-    ap (λ t. arch_line k ++ entry_text x ++ t)
-    (entries_push (k + 1) os o ∙ ap (λ (i : ℕ). entries_text (k + 1) os ++ (arch_line i ++ entry_text o)) (omega arith))
-    ∙ sym (append_assoc (arch_line k ++ entry_text x) (entries_text (k + 1) os) (arch_line (k + length (x ∷ os)) ++ entry_text o))
+    ap (λ t. entry_heading k ++ entry_text x ++ t)
+    (entries_push (k + 1) os o ∙ ap (λ (i : ℕ). entries_text (k + 1) os ++ (entry_heading i ++ entry_text o)) (omega arith))
+    ∙ sym (append_assoc (entry_heading k ++ entry_text x) (entries_text (k + 1) os) (entry_heading (k + length (x ∷ os)) ++ entry_text o))
 
 -- where there is no text, nothing is written
 pub nothing_written : (known : Option (List ℕ)) (text : List ℕ) → text ≡ [] → Appends known known text

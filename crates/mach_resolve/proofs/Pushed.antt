@@ -13,7 +13,8 @@ edge_at f j r inside is =
     let e = edge_seen (record { from = f.name; to = r }) in
     let one : get_or (edges_of (file_seen f)) j e ≡ record { from = f.name.now; to = get_or (map (λ t. t.now) xs) j r.now } =
     get_or-map (λ (to : List ℕ). record { from = f.name.now; to = to }) (map (λ t. t.now) xs) j r.now e (omega (arith, inside, length-map xs (λ t. t.now))) in
-    let two : get_or (map (λ t. t.now) xs) j r.now ≡ r.now = get_or-map (λ (t : Bor (List ℕ)). t.now) xs j r r.now inside ∙ sym (ap (λ (t : Bor (List ℕ)). t.now) is) in
+    let two : get_or (map (λ t. t.now) xs) j r.now ≡ r.now = get_or-map (λ (t : Bor (List ℕ)). t.now) xs j r r.now inside
+    ∙ sym (ap (λ (t : Bor (List ℕ)). t.now) is) in
     sym (one ∙ ap (λ (to : List ℕ). record { from = f.name.now; to = to }) two)
 
 pub edges_long : {A : Type 0} (f : File A) → length (edges_of (file_seen f)) ≡ length f.reexports.items

@@ -1,5 +1,6 @@
 -- Steps along re-exports, and what failures tell.
-use Rattle.std.proofs.Common.{◌≡◌, ◌∙◌, ℕ, Bool, true, false, ◌&&◌, ◌||◌, ◌⊎◌, List, [], ◌∷◌, Option, Some, None, Bor, unwrap_or, map, refl, sym, ap, subst, inl, inr}
+use Rattle.std.proofs.Common.{◌≡◌, ◌∙◌, ℕ, Bool, true, false, ◌&&◌, ◌||◌, ◌⊎◌, List, [], ◌∷◌, Option, Some, None, Bor, unwrap_or, map, refl, sym, ap, subst}
+use Rattle.std.proofs.Common.{inl, inr}
 use Rattle.std.specs.Prelude.{bytes_eq}
 use Rattle.std.specs.List.{list_any}
 use Rattle.std.proofs.lemmas.Bool.{false≢true}
@@ -14,11 +15,11 @@ use Rattle.mach_tries.specs.Trie.{Info}
 use Rattle.mach_resolve.specs.Files.{File}
 use Rattle.mach_resolve.specs.Behind.{Met, IsBehindAll}
 use Rattle.mach_resolve.specs.Follow as follow
-use Rattle.mach_resolve.specs.Follow.{IsGiven, HasFirst, IsEnd, at, Follow}
+use Rattle.mach_resolve.specs.Follow.{IsGiven, HasFirst, IsEnd, at, FollowsTo}
 use Rattle.mach_resolve.specs.Special as special
 use Rattle.mach_resolve.specs.Special.{IsFlat}
 use Rattle.mach_resolve.specs.Failures.{told_as, IsFailure}
-use Rattle.mach_resolve.specs.Seen.{symbol_seen, LeadsOn, IsStep}
+use Rattle.mach_resolve.specs.Seen.{symbol_seen, LeadsToStep, IsStep}
 use Rattle.mach_resolve.specs.declared.follow.Symbol.{Symbol}
 use Rattle.mach_resolve.specs.declared.follow.Step.{Step}
 use Rattle.mach_resolve.specs.declared.follow.Step.TheVariants.{Leads, Ends}
@@ -38,7 +39,7 @@ given_name (Some x) name r e = ap (λ (b : Bor (List ℕ)). b.now) e
 
 -- where the first file behind a library leads
 pub is_step : (files : List File) (s : follow.Symbol) (behind : Met) (g : File) (info : Info) (st : Step) → IsGiven files s behind
-    → HasFirst files s.name behind.places g info → LeadsOn g info s.name st → IsStep files s st
+    → HasFirst files s.name behind.places g info → LeadsToStep g info s.name st → IsStep files s st
 is_step files s behind g info (Leads next) given has leads = (behind, given, g, info, has, leads)
 is_step files s behind g info (Ends place) given has leads =
     subst (IsEnd files s) (sym leads.2) (at behind g info leads.0 given has leads.1)
@@ -95,6 +96,6 @@ met_among s (x ∷ xs) (inl e) = or_one (is_same s x) (list_any (is_same s) xs) 
 met_among s (x ∷ xs) (inr a) = or_one (is_same s x) (list_any (is_same s) xs) (inr (met_among s xs a))
 
 -- where a name that any file may give leads from the first that has it
-pub is_flat : (files : List File) (all : Met) (g : File) (info : Info) (name : List ℕ) (t : follow.Symbol) (p : follow.Place) → IsBehindAll files all
-    → HasFirst files name all.places g info → follow.LeadsTo info name t → Follow files [] t p → IsFlat files name p
+pub is_flat : (files : List File) (all : Met) (g : File) (info : Info) (name : List ℕ) (t : follow.Symbol) (p : follow.SymbolPlace) → IsBehindAll files all
+    → HasFirst files name all.places g info → follow.LeadsTo info name t → FollowsTo files [] t p → IsFlat files name p
 is_flat files all g info name t p behind has leads way = special.further all g info t p behind has leads way

@@ -1,10 +1,11 @@
 -- Walks along edges that are left on a stack.
-use Rattle.std.proofs.Common.{◌≡◌, ◌∙◌, ◌<◌, ℕ, suc, Bool, true, false, List, [], ◌∷◌, ◌++◌, Some, None, length, reverse, drop, get_or, set, replicate, refl, sym, ap, subst, inl, inr, arith, drop-cons}
+use Rattle.std.proofs.Common.{◌≡◌, ◌∙◌, ◌<◌, ℕ, suc, Bool, true, false, List, [], ◌∷◌, ◌++◌, Some, None, length, reverse, drop, get_or, set, replicate}
+use Rattle.std.proofs.Common.{refl, sym, ap, subst, inl, inr, arith, drop-cons}
 use Rattle.std.specs.Prelude.{slice_get}
 use Rattle.std.proofs.lemmas.List.{reverse-append, get_or-set_same, get_or-set_other, get_or-replicate, length-replicate, length-set}
 use Rattle.std.proofs.lemmas.Bool.{cases_eq, true≢false}
 use Rattle.mach_base.specs.Among.{IsAmong}
-use Rattle.mach_resolve.specs.Files.{File, place_of}
+use Rattle.mach_resolve.specs.Files.{File, place_of_file}
 use Rattle.mach_resolve.specs.Behind.{Edge, Met, none_met, with_place, with_gap, edges_of, Walks, done, absent, again, first}
 use Rattle.mach_resolve.proofs.Places.{among_pushed, among_before, among_or_last}
 
@@ -20,7 +21,7 @@ split files (x ∷ xs) ys m n (first mid i f is new at inner rest) =
     let s = split files xs ys mid n rest in (s.0, first mid i f is new at inner s.1, s.2)
 
 -- a file that is entered now: what it re-exports stands in front of what is left
-pub entered : (files : List File) (e : Edge) (es : List Edge) (m n : Met) (i : ℕ) (f : File) → place_of files e.to ≡ Some i → (IsAmong i m.places → ⊥)
+pub entered : (files : List File) (e : Edge) (es : List Edge) (m n : Met) (i : ℕ) (f : File) → place_of_file files e.to ≡ Some i → (IsAmong i m.places → ⊥)
     → slice_get files i ≡ Some f → Walks files (edges_of f ++ es) (with_place m i) n → Walks files (e ∷ es) m n
 entered files e es m n i f is new at w =
     let s = split files (edges_of f) es (with_place m i) n w in first s.0 i f is new at s.1 s.2
@@ -50,7 +51,9 @@ pub no_marks : (files : List File) (marks : List Bool) → marks ≡ replicate (
 no_marks files marks are =
     record {
       long = ap length are ∙ length-replicate (length files) false;
-      met = λ i inside on. absurd (true≢false (sym on ∙ (ap (λ (ms : List Bool). get_or ms i false) are ∙ get_or-replicate (length files) i false false inside)));
+      met =
+          λ i inside on. absurd (true≢false
+          (sym on ∙ (ap (λ (ms : List Bool). get_or ms i false) are ∙ get_or-replicate (length files) i false false inside)));
       new = λ i inside off among. among;
     }
 
@@ -84,16 +87,17 @@ begins files starts marks are = record { walks = λ n w. w; marks_are = no_marks
 pub ended : (files : List File) (starts : List Edge) (met : Met) (marks : List Bool) → Holds files starts [] met marks → Walks files starts none_met met
 ended files starts met marks h = h.walks met done
 
-pub passed_gap : (files : List File) (starts left : List Edge) (e : Edge) (met : Met) (marks : List Bool) → place_of files e.to ≡ None
+pub passed_gap : (files : List File) (starts left : List Edge) (e : Edge) (met : Met) (marks : List Bool) → place_of_file files e.to ≡ None
     → Holds files starts (e ∷ left) met marks → Holds files starts left (with_gap met e) marks
 passed_gap files starts left e met marks none h = record { walks = λ n w. h.walks n (absent none w); marks_are = h.marks_are }
 
-pub passed_again : (files : List File) (starts left : List Edge) (e : Edge) (met : Met) (marks : List Bool) (i : ℕ) → place_of files e.to ≡ Some i
+pub passed_again : (files : List File) (starts left : List Edge) (e : Edge) (met : Met) (marks : List Bool) (i : ℕ) → place_of_file files e.to ≡ Some i
     → i < length files → get_or marks i false ≡ true → Holds files starts (e ∷ left) met marks → Holds files starts left met marks
 passed_again files starts left e met marks i is inside on h =
     record { walks = λ n w. h.walks n (again i is (h.marks_are.met i inside on) w); marks_are = h.marks_are }
 
-pub passed_first : (files : List File) (starts left : List Edge) (e : Edge) (met : Met) (marks : List Bool) (i : ℕ) (f : File) → place_of files e.to ≡ Some i
+pub passed_first : (files : List File) (starts left : List Edge) (e : Edge) (met : Met) (marks : List Bool) (i : ℕ) (f : File)
+    → place_of_file files e.to ≡ Some i
     → slice_get files i ≡ Some f → i < length files → get_or marks i false ≡ false → Holds files starts (e ∷ left) met marks
     → Holds files starts (edges_of f ++ left) (with_place met i) (set marks i true)
 passed_first files starts left e met marks i f is at inside off h =

@@ -1,5 +1,6 @@
 -- Weak look-ups, file by file.
-use Rattle.std.proofs.Common.{◌≡◌, ◌∙◌, ◌+◌, ◌<◌, ◌≤◌, ℕ, Bool, true, false, List, [], Option, Some, None, unwrap_or, length, take, get_or, refl, sym, ap, subst, inl, inr}
+use Rattle.std.proofs.Common.{◌≡◌, ◌∙◌, ◌+◌, ◌<◌, ◌≤◌, ℕ, Bool, true, false, List, [], Option, Some, None, unwrap_or, length, take, get_or, refl, sym, ap}
+use Rattle.std.proofs.Common.{subst, inl, inr}
 use Rattle.std.specs.Prelude.{All, slice_get, IfSome, IfNone, if◌then◌else◌}
 use Rattle.std.proofs.lemmas.List.{take_all}
 use Rattle.std.proofs.lemmas.List.Elements.{All-nil, All-more, All-weaker}

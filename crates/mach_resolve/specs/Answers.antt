@@ -3,7 +3,7 @@ use Rattle.std.specs.Prelude.{◌≡◌, ℕ, Bool, true, false, ◌||◌, ◌&&
 use Rattle.std.specs.List.{AllZip}
 use Rattle.mach_segments.specs.Bindings.{Binding, Provider, of_library, itself, main_executable, flat, weak_lookup}
 use Rattle.mach_resolve.specs.Files.{File}
-use Rattle.mach_resolve.specs.Follow.{Place, found, leads_back, no_library, missing, not_given, not_found, no_main, Follow}
+use Rattle.mach_resolve.specs.Follow.{SymbolPlace, found, leads_back, no_library, missing, not_given, not_found, no_main, FollowsTo}
 use Rattle.mach_resolve.specs.Special.{IsFlat, IsWeakLookup, IsInMain}
 
 -- a program: the name by which it is known; and by ordinal, itself first, whether a library may be absent
@@ -12,15 +12,15 @@ pub record Program : Type 0 where
   pub may_be_absent : List Bool
 
 -- where a name is that a provider is to give
-abbrev pub IsProvided : List File → Program → Provider → List ℕ → Place → Type 0
-IsProvided files p (of_library ordinal library) name place = Follow files [] (record { library = library; name = name }) place
-IsProvided files p itself name place = Follow files [] (record { library = p.name; name = name }) place
+abbrev pub IsProvided : List File → Program → Provider → List ℕ → SymbolPlace → Type 0
+IsProvided files p (of_library ordinal library) name place = FollowsTo files [] (record { library = library; name = name }) place
+IsProvided files p itself name place = FollowsTo files [] (record { library = p.name; name = name }) place
 IsProvided files p main_executable name place = IsInMain files name place
 IsProvided files p flat name place = IsFlat files name place
 IsProvided files p weak_lookup name place = IsWeakLookup files name place
 
 -- whether a provider is a library that is absent here, and may be
-abbrev pub is_absent_weak : Program → Provider → Place → Bool
+abbrev pub is_absent_weak : Program → Provider → SymbolPlace → Bool
 is_absent_weak p (of_library ordinal library) (no_library absent) = bytes_eq library absent && unwrap_or (slice_get p.may_be_absent ordinal) false
 is_absent_weak p provider place = false
 
@@ -28,7 +28,7 @@ is_absent_weak p provider place = false
 pub record Answer : Type 0 where
   pub name : List ℕ
   pub provider : Provider
-  pub place : Place
+  pub place : SymbolPlace
   pub is_weak : Bool
 
 -- The answer for a binding: it may be nowhere where the binding is a weak import, or its library is absent and may be.
@@ -43,7 +43,7 @@ abbrev pub AreAnswers : List File → Program → List Binding → List Answer �
 AreAnswers files p bindings answers = AllZip (IsAnswer files p) bindings answers
 
 -- whether a place settles a binding, by whether the name may be nowhere
-abbrev pub settles : Place → Bool → Bool
+abbrev pub settles : SymbolPlace → Bool → Bool
 settles (found file address is_absolute) is_weak = true
 settles (leads_back library) is_weak = false
 settles (no_library library) is_weak = is_weak

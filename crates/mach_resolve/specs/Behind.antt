@@ -2,7 +2,7 @@
 -- LC_REEXPORT_DYLIB).
 use Rattle.std.specs.Prelude.{◌≡◌, ℕ, List, [], ◌∷◌, ◌++◌, map, Option, Some, None, slice_get}
 use Rattle.mach_base.specs.Among.{IsAmong}
-use Rattle.mach_resolve.specs.Files.{File, place_of}
+use Rattle.mach_resolve.specs.Files.{File, place_of_file}
 
 -- a library re-exports another as a whole
 pub record Edge : Type 0 where
@@ -36,20 +36,20 @@ edges_of f = map (λ to. record { from = f.name; to = to }) f.reexports
 -- that was met; or a file that is met here first, and then what it re-exports, before the next edge.
 pub data Walks (files : List File) : List Edge → Met → Met → Type 0 where
   done : {m : Met} → Walks files [] m m
-  absent : {e : Edge} {es : List Edge} {m n : Met} → place_of files e.to ≡ None → Walks files es (with_gap m e) n → Walks files (e ∷ es) m n
-  again : {e : Edge} {es : List Edge} {m n : Met} (i : ℕ) → place_of files e.to ≡ Some i → IsAmong i m.places → Walks files es m n
+  absent : {e : Edge} {es : List Edge} {m n : Met} → place_of_file files e.to ≡ None → Walks files es (with_gap m e) n → Walks files (e ∷ es) m n
+  again : {e : Edge} {es : List Edge} {m n : Met} (i : ℕ) → place_of_file files e.to ≡ Some i → IsAmong i m.places → Walks files es m n
       → Walks files (e ∷ es) m n
-  first : {e : Edge} {es : List Edge} {m n : Met} (mid : Met) (i : ℕ) (f : File) → place_of files e.to ≡ Some i → (IsAmong i m.places → ⊥)
+  first : {e : Edge} {es : List Edge} {m n : Met} (mid : Met) (i : ℕ) (f : File) → place_of_file files e.to ≡ Some i → (IsAmong i m.places → ⊥)
       → slice_get files i ≡ Some f → Walks files (edges_of f) (with_place m i) mid → Walks files es mid n → Walks files (e ∷ es) m n
 
 -- a library as it is met first
-abbrev pub start_at : List ℕ → Edge
-start_at name = record { from = name; to = name }
+abbrev pub met_first : List ℕ → Edge
+met_first name = record { from = name; to = name }
 
 -- these stand behind the library of this name, itself first
 abbrev pub IsBehind : List File → List ℕ → Met → Type 0
-IsBehind files name m = Walks files (start_at name ∷ []) none_met m
+IsBehind files name m = Walks files (met_first name ∷ []) none_met m
 
 -- these stand behind all files, one after the other, each file once
 abbrev pub IsBehindAll : List File → Met → Type 0
-IsBehindAll files m = Walks files (map (λ f. start_at f.name) files) none_met m
+IsBehindAll files m = Walks files (map (λ f. met_first f.name) files) none_met m

@@ -17,8 +17,8 @@ pub record File : Type 0 where
   pub libs : List (List ℕ)
 
 -- the place of the first file of this name, all of it
-abbrev pub place_of : List File → List ℕ → Option ℕ
-place_of files name = position (λ f. bytes_eq name f.name) files
+abbrev pub place_of_file : List File → List ℕ → Option ℕ
+place_of_file files name = position (λ f. bytes_eq name f.name) files
 
 -- The own trie of a file says this of a name: the name is exported as this, or it is not exported.
 abbrev pub Says : File → List ℕ → Option Info → Type 0

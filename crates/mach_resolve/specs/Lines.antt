@@ -4,7 +4,7 @@ use Rattle.std.specs.Fmt.{digits, decimal}
 use Rattle.mach_base.specs.Words.{words_of}
 use Rattle.mach_base.specs.declared.error.Error.{Error}
 use Rattle.mach_segments.specs.Bindings.{Provider, of_library, itself, main_executable, flat, weak_lookup}
-use Rattle.mach_resolve.specs.Follow.{Place, found, leads_back, no_library, missing, not_given, not_found, no_main}
+use Rattle.mach_resolve.specs.Follow.{SymbolPlace, found, leads_back, no_library, missing, not_given, not_found, no_main}
 use Rattle.mach_resolve.specs.Answers.{Answer}
 use Rattle.mach_resolve.specs.Note.{Note, given_before, nothing_for, all_noted}
 use Rattle.mach_resolve.specs.Report.{Outcome, answered, archive, refused, Report, one, entries, nothing}
@@ -17,14 +17,14 @@ provider_text flat = codes "flat-namespace"
 provider_text weak_lookup = codes "weak-lookup"
 
 -- an address in a file
-abbrev pub address_text : ℕ → List ℕ → List ℕ
-address_text address file = codes "0x" ++ digits 16 false address ++ codes " in " ++ file
+abbrev pub address_in_file_text : ℕ → List ℕ → List ℕ
+address_in_file_text address file = codes "0x" ++ digits 16 false address ++ codes " in " ++ file
 
 abbrev pub found_text : List ℕ → ℕ → Bool → List ℕ
-found_text file address false = address_text address file
-found_text file address true = codes "absolute " ++ address_text address file
+found_text file address false = address_in_file_text address file
+found_text file address true = codes "absolute " ++ address_in_file_text address file
 
-abbrev pub place_text : Place → List ℕ
+abbrev pub place_text : SymbolPlace → List ℕ
 place_text (found file address is_absolute) = found_text file address is_absolute
 place_text (leads_back library) = codes "leads back to " ++ library
 place_text (no_library library) = codes "no library " ++ library
@@ -37,17 +37,17 @@ abbrev pub weak_text : Bool → List ℕ
 weak_text is_weak = if is_weak then codes "weak, " else []
 
 -- what stands before the place, where the name may be nowhere
-abbrev pub front_by : Place → Bool → List ℕ
-front_by (found file address is_absolute) is_weak = []
-front_by (leads_back library) is_weak = []
-front_by (no_library library) is_weak = weak_text is_weak
-front_by (missing library) is_weak = weak_text is_weak
-front_by (not_given library reexported) is_weak = weak_text is_weak
-front_by not_found is_weak = weak_text is_weak
-front_by no_main is_weak = weak_text is_weak
+abbrev pub text_before_place : SymbolPlace → Bool → List ℕ
+text_before_place (found file address is_absolute) is_weak = []
+text_before_place (leads_back library) is_weak = []
+text_before_place (no_library library) is_weak = weak_text is_weak
+text_before_place (missing library) is_weak = weak_text is_weak
+text_before_place (not_given library reexported) is_weak = weak_text is_weak
+text_before_place not_found is_weak = weak_text is_weak
+text_before_place no_main is_weak = weak_text is_weak
 
 abbrev pub front_text : Answer → List ℕ
-front_text a = front_by a.place a.is_weak
+front_text a = text_before_place a.place a.is_weak
 
 -- the name, who is to give it, and where it is
 abbrev pub answer_text : Answer → List ℕ
@@ -101,13 +101,13 @@ entry_text archive = codes "archive\n"
 entry_text (refused file e) = codes "refused: " ++ refusal_text file e ++ codes "\n"
 
 -- the line under which entry i stands
-abbrev pub arch_line : ℕ → List ℕ
-arch_line i = codes "arch " ++ decimal i ++ codes "\n"
+abbrev pub entry_heading : ℕ → List ℕ
+entry_heading i = codes "arch " ++ decimal i ++ codes "\n"
 
 -- entries from number i on, each under its line
 abbrev pub entries_text : ℕ → List Outcome → List ℕ
 entries_text i [] = []
-entries_text i (o ∷ others) = arch_line i ++ entry_text o ++ entries_text (i + 1) others
+entries_text i (o ∷ others) = entry_heading i ++ entry_text o ++ entries_text (i + 1) others
 
 -- what is printed of one program: where it is refused, nothing
 abbrev pub one_text : Outcome → List ℕ
@@ -149,5 +149,5 @@ said_first (entries outcomes) = []
 said_first (nothing cputype) = said_line (nothing_text 0 cputype)
 
 -- what is said of a program
-abbrev pub said : Report → List ℕ
-said r = said_first r ++ said_lines (notes_in r)
+abbrev pub said_of_report : Report → List ℕ
+said_of_report r = said_first r ++ said_lines (notes_in r)

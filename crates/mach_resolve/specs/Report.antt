@@ -11,7 +11,7 @@ use Rattle.mach_headers.specs.Magic.{begins_archive}
 use Rattle.goblin_mach.specs.View.{Tells}
 use Rattle.mach_resolve.specs.Answers.{Answer, is_settled}
 use Rattle.mach_resolve.specs.Cpu.{IsOfCpu, entry_bytes, FindsRecord, ForFault}
-use Rattle.mach_resolve.specs.Given.{Given}
+use Rattle.mach_resolve.specs.Given.{GivenFile}
 use Rattle.mach_resolve.specs.Note.{Note}
 use Rattle.mach_resolve.specs.Resolved.{IsResolved, ResolveFault}
 
@@ -23,23 +23,23 @@ pub data Outcome : Type 0 where
   refused : (file : ℕ) → Error → Outcome
 
 -- the outcome for an image
-pub data IsOutcome (limit : ℕ) (program : Given) (libraries : List Given) : Outcome → Type 0 where
+pub data IsOutcome (limit : ℕ) (program : GivenFile) (libraries : List GivenFile) : Outcome → Type 0 where
   resolved : (answers : List Answer) (notes : List Note) (cut : Option ℕ) → IsResolved limit program libraries answers notes cut
       → IsOutcome limit program libraries (answered answers notes cut)
   fault : (file : ℕ) (e : Error) → Tells (ResolveFault limit program libraries file) e → IsOutcome limit program libraries (refused file e)
 
 -- the outcome for an entry of a fat program: an archive, by its first bytes, or an image
-pub data IsEntryOutcome (limit : ℕ) (program : Given) (libraries : List Given) : Outcome → Type 0 where
+pub data IsEntryOutcome (limit : ℕ) (program : GivenFile) (libraries : List GivenFile) : Outcome → Type 0 where
   an_archive : begins_archive program.bytes ≡ true → IsEntryOutcome limit program libraries archive
   an_image : (o : Outcome) → begins_archive program.bytes ≡ false → IsOutcome limit program libraries o → IsEntryOutcome limit program libraries o
 
 -- an entry of a program, by its record
-abbrev pub entry_of : Given → FatArch → Given
-entry_of program arch = record { path = program.path; bytes = entry_bytes program.bytes arch }
+abbrev pub entry_of_program : GivenFile → FatArch → GivenFile
+entry_of_program program arch = record { path = program.path; bytes = entry_bytes program.bytes arch }
 
 -- one outcome for each record, in order
-abbrev pub AreEntryOutcomes : ℕ → Given → List Given → List FatArch → List Outcome → Type 0
-AreEntryOutcomes limit program libraries arches outcomes = AllZip (λ arch o. IsEntryOutcome limit (entry_of program arch) libraries o) arches outcomes
+abbrev pub AreEntryOutcomes : ℕ → GivenFile → List GivenFile → List FatArch → List Outcome → Type 0
+AreEntryOutcomes limit program libraries arches outcomes = AllZip (λ arch o. IsEntryOutcome limit (entry_of_program program arch) libraries o) arches outcomes
 
 -- a fault stands where a program is opened as a whole: where the file is opened, or in the table of a fat one
 pub data ProgramFault (bytes : List ℕ) : Fault → Type 0 where
@@ -59,18 +59,19 @@ IsOneOf Holds (entries outcomes) = ⊥
 IsOneOf Holds (nothing cputype) = ⊥
 
 -- What is told of a program, where all of it is asked for, or what it has for a cpu; of each image the first `limit` bindings are answered.
-pub data IsReport (limit : ℕ) (program : Given) (libraries : List Given) : Option ℕ → Report → Type 0 where
-  image : (cputype : ℕ) (o : Outcome) → IsOfCpu program.bytes cputype → IsOutcome limit program libraries o → IsReport limit program libraries None (one o)
+pub data IsProgramReport (limit : ℕ) (program : GivenFile) (libraries : List GivenFile) : Option ℕ → Report → Type 0 where
+  image : (cputype : ℕ) (o : Outcome) → IsOfCpu program.bytes cputype → IsOutcome limit program libraries o
+      → IsProgramReport limit program libraries None (one o)
   image_of_cpu : (cputype : ℕ) (o : Outcome) → IsOfCpu program.bytes cputype → IsOutcome limit program libraries o
-      → IsReport limit program libraries (Some cputype) (one o)
-  other_image : (cputype other : ℕ) → IsOfCpu program.bytes other → other ≢ cputype → IsReport limit program libraries (Some cputype) (nothing cputype)
+      → IsProgramReport limit program libraries (Some cputype) (one o)
+  other_image : (cputype other : ℕ) → IsOfCpu program.bytes other → other ≢ cputype → IsProgramReport limit program libraries (Some cputype) (nothing cputype)
   fat : (file : FatFile) (arches : List FatArch) (outcomes : List Outcome) → HasFatMagic program.bytes → fat_file_in program.bytes ≡ Ok file
-      → arches_in file ≡ Ok arches → AreEntryOutcomes limit program libraries arches outcomes → IsReport limit program libraries None (entries outcomes)
+      → arches_in file ≡ Ok arches → AreEntryOutcomes limit program libraries arches outcomes → IsProgramReport limit program libraries None (entries outcomes)
   entry : (cputype : ℕ) (arch : FatArch) (o : Outcome) → FindsRecord program.bytes cputype (Some arch)
-      → IsEntryOutcome limit (entry_of program arch) libraries o → IsReport limit program libraries (Some cputype) (one o)
-  no_entry : (cputype : ℕ) → FindsRecord program.bytes cputype None → IsReport limit program libraries (Some cputype) (nothing cputype)
-  unopened : (e : Error) → Tells (ProgramFault program.bytes) e → IsReport limit program libraries None (one (refused 0 e))
-  unfound : (cputype : ℕ) (e : Error) → Tells (ForFault program.bytes cputype) e → IsReport limit program libraries (Some cputype) (one (refused 0 e))
+      → IsEntryOutcome limit (entry_of_program program arch) libraries o → IsProgramReport limit program libraries (Some cputype) (one o)
+  no_entry : (cputype : ℕ) → FindsRecord program.bytes cputype None → IsProgramReport limit program libraries (Some cputype) (nothing cputype)
+  unopened : (e : Error) → Tells (ProgramFault program.bytes) e → IsProgramReport limit program libraries None (one (refused 0 e))
+  unfound : (cputype : ℕ) (e : Error) → Tells (ForFault program.bytes cputype) e → IsProgramReport limit program libraries (Some cputype) (one (refused 0 e))
 
 -- whether all is answered and settled, and nothing is refused
 abbrev pub is_whole : Outcome → Bool

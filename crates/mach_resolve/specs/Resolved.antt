@@ -14,7 +14,7 @@ use Rattle.mach_image.specs.Subjects.{own_name_in}
 use Rattle.mach_image.specs.declared.macho.MachO.{MachO}
 use Rattle.mach_resolve.specs.Files.{File, TrieFaultAt}
 use Rattle.mach_resolve.specs.Answers.{Program, Answer, AreAnswers}
-use Rattle.mach_resolve.specs.Given.{Given, Gathered, GathersAll, GivenFault, may_be_absent}
+use Rattle.mach_resolve.specs.Given.{GivenFile, Gathered, GathersAll, GivenFault, may_be_absent}
 use Rattle.mach_resolve.specs.Note.{Note}
 
 -- how many of some items are told, where there are more
@@ -22,7 +22,7 @@ abbrev pub cut_at : {X : Type 0} → ℕ → List X → Option ℕ
 cut_at limit items = if nat_lt limit (length items) then Some limit else None
 
 -- The bytes are this program: they open; its name is its own, or its path; and this is all that dyld binds of it.
-pub record IsProgram (g : Given) (p : Program) (items : List (Result Binding Fault)) : Type 0 where
+pub record IsProgram (g : GivenFile) (p : Program) (items : List (Result Binding Fault)) : Type 0 where
   pub opens : Opens g.bytes 0
   pub name : OfImage g.bytes 0 (λ ctx cs. p.name ≡ unwrap_or (own_name_in g.bytes cs) g.path)
   pub absences : OfImage g.bytes 0 (λ ctx cs. p.may_be_absent ≡ may_be_absent (libraries_in g.bytes cs))
@@ -30,7 +30,7 @@ pub record IsProgram (g : Given) (p : Program) (items : List (Result Binding Fau
 
 -- These are the answers for the first `limit` bindings of a program, in order, among the program and some libraries, these are the
 -- notes of libraries that do not count, and this is how many are answered, where there are more.
-pub record IsResolved (limit : ℕ) (program : Given) (libraries : List Given) (answers : List Answer) (notes : List Note) (cut : Option ℕ) : Type 0 where
+pub record IsResolved (limit : ℕ) (program : GivenFile) (libraries : List GivenFile) (answers : List Answer) (notes : List Note) (cut : Option ℕ) : Type 0 where
   pub files : List File
   pub gathered : GathersAll program libraries (record { files = files; notes = notes })
   pub known : Program
@@ -42,9 +42,10 @@ pub record IsResolved (limit : ℕ) (program : Given) (libraries : List Given) (
   pub cut_is : cut ≡ cut_at limit items
 
 -- why a program is refused: a fault of its bindings is one of the first `limit`
-pub data ResolveFault (limit : ℕ) (program : Given) (libraries : List Given) : ℕ → Fault → Type 0 where
+pub data ResolveFault (limit : ℕ) (program : GivenFile) (libraries : List GivenFile) : ℕ → Fault → Type 0 where
   of_file : {n : ℕ} {f : Fault} → GivenFault program libraries n f → ResolveFault limit program libraries n f
-  of_bindings : {f : Fault} (bindings : List Binding) (rest : List (Result Binding Fault)) → HasBindings program.bytes 0 (map (λ b. Ok b) bindings ++ Err f ∷ rest)
+  of_bindings : {f : Fault} (bindings : List Binding) (rest : List (Result Binding Fault))
+      → HasBindings program.bytes 0 (map (λ b. Ok b) bindings ++ Err f ∷ rest)
       → length bindings < limit → ResolveFault limit program libraries 0 f
   of_trie : {n : ℕ} {f : Fault} (all : Gathered) → GathersAll program libraries all → TrieFaultAt all.files n f → ResolveFault limit program libraries n f
 

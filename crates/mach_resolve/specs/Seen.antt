@@ -57,7 +57,7 @@ met_seen m = record { places = m.places.items; gap = option_map edge_seen m.gap 
 abbrev pub symbol_seen : Symbol → follow.Symbol
 symbol_seen s = record { library = s.library.now; name = s.name.now }
 
-abbrev pub place_seen : Place → follow.Place
+abbrev pub place_seen : Place → follow.SymbolPlace
 place_seen (Found file address is_absolute) = follow.found file.now address is_absolute
 place_seen (LeadsBack library) = follow.leads_back library.now
 place_seen (NoLibrary library) = follow.no_library library.now
@@ -67,9 +67,9 @@ place_seen NotFound = follow.not_found
 place_seen NoMain = follow.no_main
 
 -- what an export of a file, sought under this name, leads to: another symbol, or its address
-abbrev pub LeadsOn : files.File → Info → List ℕ → Step → Type 0
-LeadsOn g info name (Leads next) = follow.LeadsTo info name (symbol_seen next)
-LeadsOn g info name (Ends place) =
+abbrev pub LeadsToStep : files.File → Info → List ℕ → Step → Type 0
+LeadsToStep g info name (Leads next) = follow.LeadsTo info name (symbol_seen next)
+LeadsToStep g info name (Ends place) =
     (address : ℕ) × (follow.address_of info ≡ Some address) × (place_seen place ≡ follow.found g.name address (follow.is_absolute info))
 
 -- one step further, or the end
@@ -91,7 +91,7 @@ pub record IsDefinition (fs : List files.File) (i : ℕ) (name : List ℕ) (d : 
   pub listed : slice_get fs i ≡ Some file
   pub defines : special.Defines file name info address
   pub place_is : place_seen d.place ≡ follow.found file.name address (follow.is_absolute info)
-  pub weak : IsTrue d.is_weak ↔ special.IsWeak info
+  pub weak : IsTrue d.is_weak ↔ special.IsWeakDefinition info
 
 -- the place of a definition that isn't weak
 abbrev pub strong_place : Option Definition → Option Place
@@ -121,8 +121,8 @@ report_seen (Entries outcomes) = report.entries (map outcome_seen outcomes.items
 report_seen (Nothing cputype) = report.nothing cputype
 
 -- the outcome for a failure: a refused file, or none, where the failure is another
-abbrev pub IsRefusal : {A : Type 0} → Failure → Result (Outcome A) Failure → Type 0
-IsRefusal failure (Ok (Refused file e)) = failure ≡ failures.Refused file e
-IsRefusal failure (Ok Archive) = ⊥
-IsRefusal failure (Ok (Answered resolved)) = ⊥
-IsRefusal failure (Err kept) = (kept ≡ failure) × ((file : ℕ) (e : Error) → failure ≢ failures.Refused file e)
+abbrev pub IsOutcomeOfFailure : {A : Type 0} → Failure → Result (Outcome A) Failure → Type 0
+IsOutcomeOfFailure failure (Ok (Refused file e)) = failure ≡ failures.Refused file e
+IsOutcomeOfFailure failure (Ok Archive) = ⊥
+IsOutcomeOfFailure failure (Ok (Answered resolved)) = ⊥
+IsOutcomeOfFailure failure (Err kept) = (kept ≡ failure) × ((file : ℕ) (e : Error) → failure ≢ failures.Refused file e)

@@ -1,7 +1,7 @@
 //! The files that stand behind a library: itself, and those that it re-exports as a whole.
 
 ghost use Rattle.std.specs.Prelude.{◌≡◌, ◌++◌, map, reverse, option_map, IfOk, OnOk};
-ghost use Rattle.mach_resolve.specs.Behind.{Walks, none_met, edges_of, first_gap, start_at, IsBehind, IsBehindAll};
+ghost use Rattle.mach_resolve.specs.Behind.{Walks, none_met, edges_of, first_gap, met_first, IsBehind, IsBehindAll};
 ghost use Rattle.mach_resolve.specs.Seen.{file_seen, files_seen, edge_seen, met_seen};
 
 use crate::file::{File, Files};
@@ -26,7 +26,7 @@ pub struct Met<'a, A: Allocator> {
 impl<'a> Edge<'a> {
     // A library as it is met first.
     fn start_at(name: &'a str) -> Edge<'a>
-        ensures { edge_seen result ≡ start_at name.now }
+        ensures { edge_seen result ≡ met_first name.now }
     {
         Edge {
             from: name,

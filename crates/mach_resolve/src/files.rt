@@ -2,7 +2,7 @@
 
 ghost use Rattle.std.specs.Prelude.{◌≡◌, ◌<◌, ℕ, Bool, length, map, option_map, slice_get, IfOk, IfErr, IfSome, IfNone, OnOk, OnErr, Some, None};
 ghost use Rattle.mach_tries.specs.Exports.{info_of};
-ghost use Rattle.mach_resolve.specs.Files.{place_of, Says, Lacks, TrieFaultAt};
+ghost use Rattle.mach_resolve.specs.Files.{place_of_file, Says, Lacks, TrieFaultAt};
 ghost use Rattle.mach_resolve.specs.Follow.{HasFirst, NoneHas};
 ghost use Rattle.mach_resolve.specs.Failures.{IsFailure};
 ghost use Rattle.mach_resolve.specs.Seen.{file_seen, files_seen};
@@ -15,7 +15,7 @@ use std::alloc::Allocator;
 impl<'a, A: Allocator + Copy> Files<'a, A> {
     /// The place of the file of a name.
     pub fn place_of(&self, name: &str) -> Option<usize>
-        ensures place { result ≡ place_of (files_seen self.now) name.now }
+        ensures place { result ≡ place_of_file (files_seen self.now) name.now }
         ensures inside { IfSome result (λ i. i < length self.now.items.items) }
     {
         self.names.get_index_of(name)
@@ -28,7 +28,8 @@ impl<'a, A: Allocator + Copy> Files<'a, A> {
         place: usize,
         name: &str,
     ) -> Result<Option<(&File<'a, A>, ExportInfo<'a>)>, Failure>
-        ensures found { IfOk result (λ o. IfSome o (λ x. (slice_get (files_seen self.now) place ≡ Some (file_seen x.0.now)) × Says (file_seen x.0.now) name.now (Some (info_of x.1)))) }
+        ensures found { IfOk result (λ o. IfSome o (λ x. (slice_get (files_seen self.now) place ≡ Some (file_seen x.0.now))
+            × Says (file_seen x.0.now) name.now (Some (info_of x.1)))) }
         ensures none { IfOk result (λ o. IfNone o (Lacks (files_seen self.now) name.now place)) }
         ensures refused { IfErr result (IsFailure (TrieFaultAt (files_seen self.now))) }
     {

@@ -4,9 +4,9 @@ ghost use Rattle.std.specs.Prelude.{◌≡◌, ◌==◌, ◌<◌, ◌^◌, ◌+�
 ghost use Rattle.mach_base.specs.Among.{IsAmong};
 ghost use Rattle.mach_tries.specs.Exports.{info_of};
 ghost use Rattle.mach_resolve.specs.Files.{TrieFaultAt};
-ghost use Rattle.mach_resolve.specs.Follow.{Follow, found, nowhere};
+ghost use Rattle.mach_resolve.specs.Follow.{FollowsTo, found, nowhere};
 ghost use Rattle.mach_resolve.specs.Failures.{IsFailure};
-ghost use Rattle.mach_resolve.specs.Seen.{file_seen, files_seen, edge_seen, symbol_seen, place_seen, LeadsOn, IsStep};
+ghost use Rattle.mach_resolve.specs.Seen.{file_seen, files_seen, edge_seen, symbol_seen, place_seen, LeadsToStep, IsStep};
 
 use crate::behind::{Edge, behind};
 use crate::failure::Failure;
@@ -67,7 +67,7 @@ pub enum Step<'a> {
 
 /// What an export of a file leads to, by the name under which it was sought.
 pub fn lead<'a, A: Allocator>(file: &File<'a, A>, info: ExportInfo<'a>, name: &'a str) -> Step<'a>
-    ensures { LeadsOn (file_seen file.now) (info_of info.entry) name.now result }
+    ensures { LeadsToStep (file_seen file.now) (info_of info.entry) name.now result }
 {
     match info {
         ExportInfo::Regular { address, flags } => Step::Ends(found(file, address, flags)),
@@ -104,7 +104,8 @@ fn note<'a, A: Allocator + Copy>(
     symbol: Symbol<'a>,
 ) -> Result<bool, AllocFailed<Symbol<'a>>>
     ensures few { result ≡ Ok true → (length met.old.keys < 2 ^ 63) × (length met.new.keys ≡ length met.old.keys + 1) }
-    ensures fresh { result ≡ Ok true → (map symbol_seen met.new.keys ≡ map symbol_seen met.old.keys ++ symbol_seen symbol.entry ∷ []) × (IsAmong (symbol_seen symbol.entry) (map symbol_seen met.old.keys) → ⊥) }
+    ensures fresh { result ≡ Ok true → (map symbol_seen met.new.keys ≡ map symbol_seen met.old.keys ++ symbol_seen symbol.entry ∷ [])
+        × (IsAmong (symbol_seen symbol.entry) (map symbol_seen met.old.keys) → ⊥) }
     ensures again { result ≡ Ok false → IsAmong (symbol_seen symbol.entry) (map symbol_seen met.old.keys) }
 {
     let before = met.len();
@@ -152,7 +153,7 @@ pub fn follow<'a, A: Allocator + Copy>(
     files: &Files<'a, A>,
     start: Symbol<'a>,
 ) -> Result<Place<'a>, Failure>
-    ensures followed { IfOk result (λ place. Follow (files_seen files.now) [] (symbol_seen start.entry) (place_seen place)) }
+    ensures followed { IfOk result (λ place. FollowsTo (files_seen files.now) [] (symbol_seen start.entry) (place_seen place)) }
     ensures refused { IfErr result (IsFailure (TrieFaultAt (files_seen files.now))) }
 {
     let mut met = IndexSet::new(alloc);

@@ -120,9 +120,11 @@ fn open_entry<'a, A: Allocator + Copy>(
     given: Given<'a>,
     container: &MultiArch<'a, A>,
 ) -> Result<Option<File<'a, A>>, Failure>
-    ensures opened { IsFatMach given.entry.bytes.now container.now → IfOk result (λ o. IfSome o (λ f. IsLibrary cputype number (given_seen given.entry) (file_seen f))) }
+    ensures opened { IsFatMach given.entry.bytes.now container.now
+        → IfOk result (λ o. IfSome o (λ f. IsLibrary cputype number (given_seen given.entry) (file_seen f))) }
     ensures none { IsFatMach given.entry.bytes.now container.now → IfOk result (λ o. IfNone o (HasFor given.entry.bytes.now cputype None)) }
-    ensures refused { IsFatMach given.entry.bytes.now container.now → IfErr result (IsFailure (NumberedFault number (LibraryFault cputype (given_seen given.entry)))) }
+    ensures refused { IsFatMach given.entry.bytes.now container.now
+        → IfErr result (IsFailure (NumberedFault number (LibraryFault cputype (given_seen given.entry)))) }
 {
     let Given { path, bytes } = given;
     match container.find_cputype(cputype) {

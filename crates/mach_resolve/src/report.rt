@@ -5,8 +5,8 @@ ghost use Rattle.std.specs.List.{list_all};
 ghost use Rattle.goblin_mach.specs.File.{IsFatMach};
 ghost use Rattle.mach_resolve.specs.Cpu.{IsOfCpu};
 ghost use Rattle.mach_resolve.specs.Opened.{given_seen};
-ghost use Rattle.mach_resolve.specs.Report.{entry_of, IsOneOf, IsOutcome, IsEntryOutcome, AreEntryOutcomes, IsReport, is_whole, all_whole};
-ghost use Rattle.mach_resolve.specs.Seen.{outcome_seen, report_seen, IsRefusal};
+ghost use Rattle.mach_resolve.specs.Report.{entry_of_program, IsOneOf, IsOutcome, IsEntryOutcome, AreEntryOutcomes, IsProgramReport, is_whole, all_whole};
+ghost use Rattle.mach_resolve.specs.Seen.{outcome_seen, report_seen, IsOutcomeOfFailure};
 ghost use Rattle.mach_resolve.specs.declared.failure.Failure.TheVariants as failures;
 
 use crate::answers::all_settled;
@@ -80,7 +80,7 @@ impl<'a, A: Allocator> Report<'a, A> {
 
 // The outcome for a refused file; want of memory stays a failure.
 fn refusal<'a, A: Allocator>(failure: Failure) -> Result<Outcome<'a, A>, Failure>
-    ensures { IsRefusal failure result }
+    ensures { IsOutcomeOfFailure failure result }
 {
     match failure {
         Failure::Refused { file, error } => Ok(Outcome::Refused { file, error }),
@@ -112,7 +112,8 @@ fn entry_outcome<'a, A: Allocator + Copy>(
     arch: &FatArch,
     libraries: &[Given<'a>],
 ) -> Result<Outcome<'a, A>, Failure>
-    ensures told { IfOk result (λ o. IsEntryOutcome limit (entry_of (given_seen program.entry) arch.now) (map given_seen libraries.now) (outcome_seen o)) }
+    ensures told { IfOk result (λ o. IsEntryOutcome limit (entry_of_program (given_seen program.entry) arch.now) (map given_seen libraries.now)
+        (outcome_seen o)) }
     ensures memory { IfErr result (λ failure. failure ≡ failures.Memory) }
 {
     let Given { path, bytes } = program;
@@ -153,7 +154,8 @@ fn report_all<'a, A: Allocator + Copy>(
     container: &MultiArch<'a, A>,
     libraries: &[Given<'a>],
 ) -> Result<Report<'a, A>, Failure>
-    ensures told { IsFatMach program.entry.bytes.now container.now → IfOk result (λ r. IsReport limit (given_seen program.entry) (map given_seen libraries.now) None (report_seen r)) }
+    ensures told { IsFatMach program.entry.bytes.now container.now
+        → IfOk result (λ r. IsProgramReport limit (given_seen program.entry) (map given_seen libraries.now) None (report_seen r)) }
     ensures memory { IfErr result (λ failure. failure ≡ failures.Memory) }
 {
     match container.arches() {
@@ -177,7 +179,8 @@ fn report_entry<'a, A: Allocator + Copy>(
     container: &MultiArch<'a, A>,
     libraries: &[Given<'a>],
 ) -> Result<Report<'a, A>, Failure>
-    ensures told { IsFatMach program.entry.bytes.now container.now → IfOk result (λ r. IsReport limit (given_seen program.entry) (map given_seen libraries.now) (Some cputype) (report_seen r)) }
+    ensures told { IsFatMach program.entry.bytes.now container.now
+        → IfOk result (λ r. IsProgramReport limit (given_seen program.entry) (map given_seen libraries.now) (Some cputype) (report_seen r)) }
     ensures memory { IfErr result (λ failure. failure ≡ failures.Memory) }
 {
     match container.find_cputype(cputype) {
@@ -218,7 +221,8 @@ fn report_image<'a, A: Allocator + Copy>(
     program: Given<'a>,
     libraries: &[Given<'a>],
 ) -> Result<Report<'a, A>, Failure>
-    ensures told { IsOfCpu program.entry.bytes.now cputype → IfOk result (λ r. IsReport limit (given_seen program.entry) (map given_seen libraries.now) wanted (report_seen r)) }
+    ensures told { IsOfCpu program.entry.bytes.now cputype
+        → IfOk result (λ r. IsProgramReport limit (given_seen program.entry) (map given_seen libraries.now) wanted (report_seen r)) }
     ensures memory { IfErr result (λ failure. failure ≡ failures.Memory) }
 {
     match wanted {
@@ -236,7 +240,7 @@ pub fn report_on<'a, A: Allocator + Copy>(
     program: Given<'a>,
     libraries: &[Given<'a>],
 ) -> Result<Report<'a, A>, Failure>
-    ensures told { IfOk result (λ r. IsReport limit (given_seen program.entry) (map given_seen libraries.now) wanted (report_seen r)) }
+    ensures told { IfOk result (λ r. IsProgramReport limit (given_seen program.entry) (map given_seen libraries.now) wanted (report_seen r)) }
     ensures memory { IfErr result (λ failure. failure ≡ failures.Memory) }
 {
     match Mach::parse(alloc, program.bytes) {

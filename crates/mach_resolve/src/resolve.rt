@@ -29,7 +29,8 @@ fn answer_all<'a, A: Allocator + Copy>(
     image: &MachO<'a, A>,
 ) -> Result<(Vec<Answer<'a>, A>, Option<usize>), Failure>
     ensures answered { (met : Met) → IsBehindAll (files_seen files.now) met → met.places ≡ all.now
-        → IfOk result (λ v. (bindings : List Binding) × HoldsFirst limit image.now bindings v.1 × AreAnswers (files_seen files.now) (program_seen program.now) bindings (map answer_seen v.0.items)) }
+        → IfOk result (λ v. (bindings : List Binding) × HoldsFirst limit image.now bindings v.1
+        × AreAnswers (files_seen files.now) (program_seen program.now) bindings (map answer_seen v.0.items)) }
     ensures refused { IfErr result (IsFailure (AnswerFault limit (files_seen files.now) image.now)) }
 {
     let mut answers = Vec::new(alloc);
@@ -68,7 +69,9 @@ pub fn resolve<'a, A: Allocator + Copy>(
     program: Given<'a>,
     libraries: &[Given<'a>],
 ) -> Result<Resolved<'a, A>, Failure>
-    ensures resolved { IfOk result (λ r. IsResolved limit (given_seen program.entry) (map given_seen libraries.now) (map answer_seen r.answers.items) (map note_seen r.notes.items) r.cut) }
+    ensures resolved { IfOk result
+        (λ r. IsResolved limit (given_seen program.entry) (map given_seen libraries.now) (map answer_seen r.answers.items)
+        (map note_seen r.notes.items) r.cut) }
     ensures refused { IfErr result (IsFailure (ResolveFault limit (given_seen program.entry) (map given_seen libraries.now))) }
 {
     let image = match MachO::parse(alloc, program.bytes, 0) {

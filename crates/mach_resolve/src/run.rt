@@ -3,10 +3,11 @@
 ghost use Rattle.std.specs.Prelude.{◌≡◌, ◌≢◌, ◌≤◌, ◌⊎◌, ◌++◌, [], map, codes, IfOk, OnOk};
 ghost use Rattle.std.specs.Io.Buffered.{writer_buffer, writer_contents};
 ghost use Rattle.std.specs.Io.KnownBytes.{Appends};
-ghost use Rattle.mach_resolve.specs.Lines.{lines_of, cut_text, resolved_text, entry_text, arch_line, entries_text, one_text, printed, notes_in, all_notes, said_refusal, said_first, said_lines, said, notes_of};
+ghost use Rattle.mach_resolve.specs.Lines.{lines_of, cut_text, resolved_text, entry_text, entry_heading, entries_text, one_text, printed, notes_in};
+ghost use Rattle.mach_resolve.specs.Lines.{all_notes, said_refusal, said_first, said_lines, said_of_report, notes_of};
 ghost use Rattle.mach_resolve.specs.Note.{all_noted};
 ghost use Rattle.mach_resolve.specs.Opened.{given_seen};
-ghost use Rattle.mach_resolve.specs.Runs.{status_by, Runs};
+ghost use Rattle.mach_resolve.specs.Runs.{run_status, Runs};
 ghost use Rattle.mach_resolve.specs.Seen.{answer_seen, note_seen, outcome_seen, report_seen};
 
 use crate::answers::Answer;
@@ -47,7 +48,7 @@ pub fn run<'a, A: Allocator + Copy, W: Write + Drop, B: Allocator, E: Write>(
 
 // The status, by whether all is settled and nothing refused.
 fn status(whole: bool) -> u8
-    ensures { result ≡ status_by whole }
+    ensures { result ≡ run_status whole }
 {
     if whole { 0 } else { 1 }
 }
@@ -62,7 +63,7 @@ fn tell<'a, A: Allocator + Copy, W: Write + Drop, B: Allocator, E: Write>(
     out: &mut BufWriter<W, B>,
     err: &mut E,
 ) -> Result<bool, Failure>
-    ensures runs { IfOk result (λ whole. Runs wanted limit (given_seen program.entry) (map given_seen libraries.now) (status_by whole)
+    ensures runs { IfOk result (λ whole. Runs wanted limit (given_seen program.entry) (map given_seen libraries.now) (run_status whole)
         (writer_contents W.contents out.old) (writer_contents W.contents out.new) (E.contents err.old) (E.contents err.new)) }
     ensures flushed { OnOk result (writer_buffer out.new ≡ []) }
 {
@@ -126,7 +127,7 @@ fn print_entry<A: Allocator, O: Write>(
     outcome: &Outcome<'_, A>,
     out: &mut O,
 ) -> io::Result<()>
-    ensures { OnOk result (Appends (O.contents out.old) (O.contents out.new) (arch_line index ++ entry_text (outcome_seen outcome.now))) }
+    ensures { OnOk result (Appends (O.contents out.old) (O.contents out.new) (entry_heading index ++ entry_text (outcome_seen outcome.now))) }
 {
     writeln!(out, "arch {index}")?;
     print_outcome(outcome, out)
@@ -222,7 +223,8 @@ fn say<'a, A: Allocator, E: Write>(
     notes: &Notes<'a, A>,
     err: &mut E,
 ) -> io::Result<()>
-    ensures { map note_seen notes.now.keys ≡ notes_in (report_seen report.now) → OnOk result (Appends (E.contents err.old) (E.contents err.new) (said (report_seen report.now))) }
+    ensures { map note_seen notes.now.keys ≡ notes_in (report_seen report.now)
+        → OnOk result (Appends (E.contents err.old) (E.contents err.new) (said_of_report (report_seen report.now))) }
 {
     say_first(report, err)?;
     say_notes(notes.as_slice(), err)

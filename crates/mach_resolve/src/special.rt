@@ -3,7 +3,7 @@
 ghost use Rattle.std.specs.Prelude.{◌≡◌, slice_get, Some, IfOk, IfErr, IfSome, IfNone};
 ghost use Rattle.mach_tries.specs.Exports.{info_of};
 ghost use Rattle.mach_resolve.specs.Files.{File, TrieFaultAt};
-ghost use Rattle.mach_resolve.specs.Follow.{flags_of};
+ghost use Rattle.mach_resolve.specs.Follow.{flags_of_export};
 ghost use Rattle.mach_resolve.specs.Behind.{Met, IsBehindAll};
 ghost use Rattle.mach_resolve.specs.Special.{IsFlat, DefinesNot, IsWeakLookup, IsInMain};
 ghost use Rattle.mach_resolve.specs.Failures.{IsFailure};
@@ -23,7 +23,8 @@ pub fn flat<'a, A: Allocator + Copy>(
     all: &[usize],
     name: &'a str,
 ) -> Result<Place<'a>, Failure>
-    ensures flat { (met : Met) → IsBehindAll (files_seen files.now) met → met.places ≡ all.now → IfOk result (λ place. IsFlat (files_seen files.now) name.now (place_seen place)) }
+    ensures flat { (met : Met) → IsBehindAll (files_seen files.now) met → met.places ≡ all.now
+        → IfOk result (λ place. IsFlat (files_seen files.now) name.now (place_seen place)) }
     ensures refused { IfErr result (IsFailure (TrieFaultAt (files_seen files.now))) }
 {
     match files.first_having(alloc, all, name) {
@@ -45,7 +46,7 @@ struct Definition<'a> {
 
 // The flags of an export.
 fn flags_of(info: &ExportInfo<'_>) -> u64
-    ensures { result ≡ flags_of (info_of info.now) }
+    ensures { result ≡ flags_of_export (info_of info.now) }
 {
     match info {
         ExportInfo::Regular { flags, .. }

@@ -11,11 +11,11 @@ use Rattle.std.proofs.lemmas.List.Folds.{find-append}
 use Rattle.std.proofs.lemmas.Bool.{ltb-false}
 use Rattle.std.proofs.lemmas.List.Sums.{prefix_len-le-length}
 use Rattle.std.proofs.lemmas.Slice.Eq.{bytes_eq-Decides}
-use Rattle.mach_rules.specs.NamesMet.{first_place, name_again, name_and_place}
+use Rattle.mach_rules.specs.NamesMet.{first_place_kept, name_again, name_and_place}
 use Rattle.mach_load.specs.Command.{Command}
 use Rattle.mach_load.specs.Variants.{command_of}
 use Rattle.mach_load.specs.declared.load_command.LoadCommand.{LoadCommand}
-use Rattle.mach_rules.specs.Laid.{segment_of}
+use Rattle.mach_rules.specs.Laid.{placed_segment_of}
 use Rattle.mach_rules.specs.Segments.{same_name, segment_name, named_among, names_again}
 use Rattle.mach_rules.specs.declared.fault.LayoutFault.{LayoutFault}
 use Rattle.mach_rules.specs.declared.parts.PlacedSegment.{PlacedSegment}
@@ -25,20 +25,20 @@ same_text : (xs ys : List ℕ) → bytes_eq xs ys ≡ true → xs ≡ ys
 same_text xs ys e = (bytes_eq-Decides xs ys).0 e
 
 -- of a name that is kept nothing changes
-pub kept : (f : List ℕ → Option ℕ) (name : List ℕ) (place earlier : ℕ) (q : List ℕ) → f name ≡ Some earlier → f q ≡ first_place (f q) name place q
+pub kept : (f : List ℕ → Option ℕ) (name : List ℕ) (place earlier : ℕ) (q : List ℕ) → f name ≡ Some earlier → f q ≡ first_place_kept (f q) name place q
 kept f name place earlier q here = by (f q) (bytes_eq name q) refl refl
   where
-    by : (o : Option ℕ) (b : Bool) → f q ≡ o → bytes_eq name q ≡ b → o ≡ first_place o name place q
+    by : (o : Option ℕ) (b : Bool) → f q ≡ o → bytes_eq name q ≡ b → o ≡ first_place_kept o name place q
     by (Some p) b e same = refl
     by None true e same = let texts = ap f (same_text name q same) in absurd (cc)
     by None false e same = rw same refl
 
 -- a new name is kept with its place
 pub added : (f g : List ℕ → Option ℕ) (name : List ℕ) (place : ℕ) (q : List ℕ) → f name ≡ None
-    → g q ≡ (if bytes_eq name q then Some place else f q) → g q ≡ first_place (f q) name place q
+    → g q ≡ (if bytes_eq name q then Some place else f q) → g q ≡ first_place_kept (f q) name place q
 added f g name place q none new = new ∙ by (f q) (bytes_eq name q) refl refl
   where
-    by : (o : Option ℕ) (b : Bool) → f q ≡ o → bytes_eq name q ≡ b → (if b then Some place else o) ≡ first_place o name place q
+    by : (o : Option ℕ) (b : Bool) → f q ≡ o → bytes_eq name q ≡ b → (if b then Some place else o) ≡ first_place_kept o name place q
     by (Some p) true e same = let texts = ap f (same_text name q same) in absurd (cc)
     by (Some p) false e same = refl
     by None true e same = rw same refl
@@ -50,15 +50,15 @@ place_of o = option_map (λ (s : PlacedSegment). s.place) o
 
 -- what is kept of a name behind one more segment
 pub kept_behind : (q : List ℕ) (earlier : List PlacedSegment) (s : PlacedSegment) (old new : Option ℕ)
-    → old ≡ place_of (named_among q earlier) → new ≡ first_place old (segment_name s) s.place q
+    → old ≡ place_of (named_among q earlier) → new ≡ first_place_kept old (segment_name s) s.place q
     → new ≡ place_of (named_among q (earlier ++ s ∷ []))
 kept_behind q earlier s old new before now =
-    now ∙ ap (λ (o : Option ℕ). first_place o (segment_name s) s.place q) before
+    now ∙ ap (λ (o : Option ℕ). first_place_kept o (segment_name s) s.place q) before
     ∙ by (named_among q earlier) (bytes_eq (segment_name s) q) refl
     ∙ ap place_of (sym (find-append (λ (t : PlacedSegment). bytes_eq (segment_name t) q) earlier (s ∷ [])))
   where
     by : (o : Option PlacedSegment) (b : Bool) → bytes_eq (segment_name s) q ≡ b
-        → first_place (place_of o) (segment_name s) s.place q ≡ place_of (option_or o (find (λ (t : PlacedSegment). bytes_eq (segment_name t) q) (s ∷ [])))
+        → first_place_kept (place_of o) (segment_name s) s.place q ≡ place_of (option_or o (find (λ (t : PlacedSegment). bytes_eq (segment_name t) q) (s ∷ [])))
     by (Some t) b e = refl
     by None true e = rw e refl
     by None false e = rw e refl
@@ -88,23 +88,23 @@ told_behind front pushed earlier rest s met same more =
 
 -- the segments of the commands before one, and those from it on
 abbrev pub before : List LoadCommand → ℕ → List PlacedSegment
-before cs i = filter_map segment_of (map command_of (take i cs))
+before cs i = filter_map placed_segment_of (map command_of (take i cs))
 
 abbrev pub from_on : List LoadCommand → ℕ → List PlacedSegment
-from_on cs i = filter_map segment_of (map command_of (drop i cs))
+from_on cs i = filter_map placed_segment_of (map command_of (drop i cs))
 
 module _ (cs : List LoadCommand) (i : ℕ) (d : LoadCommand) (inside : i < length cs) where
   abbrev here : Option PlacedSegment
-  here = segment_of (command_of (get_or cs i d))
+  here = placed_segment_of (command_of (get_or cs i d))
 
   from_here : from_on cs i ≡ cons_option here (from_on cs (i + 1))
-  from_here = at_drop_more (λ (xs : List LoadCommand). filter_map segment_of (map command_of xs)) cs i d inside
+  from_here = at_drop_more (λ (xs : List LoadCommand). filter_map placed_segment_of (map command_of xs)) cs i d inside
 
   before_next : before cs (i + 1) ≡ before cs i ++ cons_option here []
   before_next =
-      ap (λ (xs : List LoadCommand). filter_map segment_of (map command_of xs)) (take_more cs i d inside)
-      ∙ ap (λ (xs : List Command). filter_map segment_of xs) (map-append command_of (take i cs) (get_or cs i d ∷ []))
-      ∙ filter_map-append segment_of (map command_of (take i cs)) (command_of (get_or cs i d) ∷ [])
+      ap (λ (xs : List LoadCommand). filter_map placed_segment_of (map command_of xs)) (take_more cs i d inside)
+      ∙ ap (λ (xs : List Command). filter_map placed_segment_of xs) (map-append command_of (take i cs) (get_or cs i d ∷ []))
+      ∙ filter_map-append placed_segment_of (map command_of (take i cs)) (command_of (get_or cs i d) ∷ [])
 
   no_segment : (o : Option PlacedSegment) → None ≡ option_map name_and_place o → o ≡ None
   no_segment None e = refl
@@ -124,7 +124,7 @@ module _ (cs : List LoadCommand) (i : ℕ) (d : LoadCommand) (inside : i < lengt
 
     with_segment : (s : PlacedSegment) → here ≡ Some s
         → ((q : List ℕ) → old q ≡ place_of (named_among q (before cs i)))
-        → ((q : List ℕ) → new q ≡ first_place (old q) (segment_name s) s.place q)
+        → ((q : List ℕ) → new q ≡ first_place_kept (old q) (segment_name s) s.place q)
         → whole ≡ front ++ names_again (before cs i) (from_on cs i)
         → pushed ≡ front ++ name_again (old (segment_name s)) s.place
         → Kept (before cs (i + 1)) × (whole ≡ pushed ++ names_again (before cs (i + 1)) (from_on cs (i + 1)))
@@ -140,7 +140,7 @@ module _ (cs : List LoadCommand) (i : ℕ) (d : LoadCommand) (inside : i < lengt
     -- a command of a segment goes from the one to the other
     pub named_next : (name : List ℕ) (place : ℕ) → Some (name, place) ≡ option_map name_and_place here
         → ((q : List ℕ) → old q ≡ place_of (named_among q (before cs i)))
-        → ((q : List ℕ) → new q ≡ first_place (old q) name place q)
+        → ((q : List ℕ) → new q ≡ first_place_kept (old q) name place q)
         → whole ≡ front ++ names_again (before cs i) (from_on cs i)
         → pushed ≡ front ++ name_again (old name) place
         → Kept (before cs (i + 1)) × (whole ≡ pushed ++ names_again (before cs (i + 1)) (from_on cs (i + 1)))
@@ -153,7 +153,8 @@ module _ (cs : List LoadCommand) (i : ℕ) (d : LoadCommand) (inside : i < lengt
             let n : name ≡ segment_name s = ap (λ (o : Option (List ℕ × ℕ)). unwrap_or (option_map (λ (p : List ℕ × ℕ). p.0) o) []) e in
             let p : place ≡ s.place = ap (λ (o : Option (List ℕ × ℕ)). unwrap_or (option_map (λ (p : List ℕ × ℕ). p.1) o) 0) e in
             with_segment s h was
-            (λ (q : List ℕ). now q ∙ ap (λ (x : List ℕ). first_place (old q) x place q) n ∙ ap (λ (y : ℕ). first_place (old q) (segment_name s) y q) p)
+            (λ (q : List ℕ). now q ∙ ap (λ (x : List ℕ). first_place_kept (old q) x place q) n
+            ∙ ap (λ (y : ℕ). first_place_kept (old q) (segment_name s) y q) p)
             all
             (more ∙ ap (λ (x : List ℕ). front ++ name_again (old x) place) n ∙ ap (λ (y : ℕ). front ++ name_again (old (segment_name s)) y) p)
 

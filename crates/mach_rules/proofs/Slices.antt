@@ -6,7 +6,7 @@ use Rattle.std.proofs.Math.Seq.{drop-cons}
 use Rattle.std.specs.Prelude.{filter_map, option_to_list}
 use Rattle.std.specs.List.{cons_option}
 use Rattle.mach_base.specs.Fault.{Fault}
-use Rattle.mach_rules.specs.Containers.{AreContainerFaults, slice_at, before_fault, slices_from, slices_of, records_out_of_file, slice_owner, slice_sees}
+use Rattle.mach_rules.specs.Containers.{AreContainerFaults, placed_slice_at, before_fault, slices_from, slices_of, records_out_of_file, slice_owner, slice_sees}
 use Rattle.mach_rules.specs.Containers.{slice_range}
 use Rattle.mach_rules.specs.Rules.{told_over}
 use Rattle.mach_rules.specs.Sweep.{AreShared}
@@ -33,7 +33,7 @@ pub kept_all : {X Y : Type 0} (f : X → Option Y) (ys : List Y) (xs : List X) (
 kept_all {X} f ys xs i past = ap (λ (left : List X). ys ++ filter_map f left) (drop_all i xs past) ∙ append-nil ys
 
 -- the slices from the next one on
-pub slices_next : (bytes : List ℕ) (k count : ℕ) (s : PlacedSlice) (found : List PlacedSlice) → k < count → slice_at bytes k ≡ Ok s
+pub slices_next : (bytes : List ℕ) (k count : ℕ) (s : PlacedSlice) (found : List PlacedSlice) → k < count → placed_slice_at bytes k ≡ Ok s
     → (found ++ s ∷ []) ++ slices_from bytes (k + 1) (count - (k + 1)) ≡ found ++ slices_from bytes k (count - k)
 slices_next bytes k count s found lt e =
     let left : count - k ≡ suc (count - (k + 1)) = omega arith in
@@ -41,7 +41,7 @@ slices_next bytes k count s found lt e =
     ∙ ap (λ (r : Result PlacedSlice Fault). found ++ before_fault r (slices_from bytes (k + 1) (count - (k + 1)))) (sym e)
     ∙ ap (λ (n : ℕ). found ++ slices_from bytes k n) (sym left)
 
-pub slices_end : (bytes : List ℕ) (k count : ℕ) (f : Fault) (found : List PlacedSlice) → k < count → slice_at bytes k ≡ Err f
+pub slices_end : (bytes : List ℕ) (k count : ℕ) (f : Fault) (found : List PlacedSlice) → k < count → placed_slice_at bytes k ≡ Err f
     → found ++ slices_from bytes k (count - k) ≡ found
 slices_end bytes k count f found lt e =
     let left : count - k ≡ suc (count - (k + 1)) = omega arith in

@@ -10,7 +10,7 @@ use Rattle.mach_load.specs.Commands.{dylib_code_sign_drs, linker_optimization_hi
 use Rattle.mach_load.specs.Commands.{encryption_info64, note, twolevel_hints, symseg}
 use Rattle.mach_segments.specs.Section.{is_zero_fill}
 use Rattle.mach_symbols.specs.Symbols.{nlist_size}
-use Rattle.mach_rules.specs.Laid.{Laid, is_stub, is_dsym, used_end, segment_of, sections_by}
+use Rattle.mach_rules.specs.Laid.{Laid, is_stub, is_dsym, used_end, placed_segment_of, sections_by}
 use Rattle.mach_rules.specs.Rules.{owner_at}
 use Rattle.mach_rules.specs.declared.claim.Claim.{Claim}
 use Rattle.mach_rules.specs.declared.fault.Part.{Part}
@@ -123,7 +123,7 @@ section_claims laid s = bytes_claim laid s ∷ relocations_claim s ∷ []
 -- what a command claims: its segment and the sections of it, or its tables
 abbrev pub claims_by : Laid → Command → List Claim
 claims_by laid c =
-    segment_claims (segment_of c) ++ (flat_map (section_claims laid) (sections_by laid.ctx laid.bytes c) ++ tables_by laid.ctx c)
+    segment_claims (placed_segment_of c) ++ (flat_map (section_claims laid) (sections_by laid.ctx laid.bytes c) ++ tables_by laid.ctx c)
 
 -- what the header and the commands claim: what they take
 abbrev pub header_claim : Laid → Claim

@@ -38,8 +38,8 @@ abbrev pub records_end : List ℕ → ℕ
 records_end bytes = 8 + 20 * slice_count bytes
 
 -- slice k with its record, or why this isn't there
-abbrev pub slice_at : List ℕ → ℕ → Result PlacedSlice Fault
-slice_at bytes k = record_at Big fat_arch_fields bytes (8 + 20 * k) >>= (λ vs. Ok (record { number = k; arch = fat_arch_of_values vs }))
+abbrev pub placed_slice_at : List ℕ → ℕ → Result PlacedSlice Fault
+placed_slice_at bytes k = record_at Big fat_arch_fields bytes (8 + 20 * k) >>= (λ vs. Ok (record { number = k; arch = fat_arch_of_values vs }))
 
 abbrev pub before_fault : Result PlacedSlice Fault → List PlacedSlice → List PlacedSlice
 before_fault (Ok s) rest = s ∷ rest
@@ -48,7 +48,7 @@ before_fault (Err f) rest = []
 -- the slices from number k on, n at most: those in front of the first whose record isn't there
 abbrev pub slices_from : List ℕ → (k n : ℕ) → List PlacedSlice
 slices_from bytes k zero = []
-slices_from bytes k (suc n) = before_fault (slice_at bytes k) (slices_from bytes (k + 1) n)
+slices_from bytes k (suc n) = before_fault (placed_slice_at bytes k) (slices_from bytes (k + 1) n)
 
 abbrev pub slices_of : List ℕ → List PlacedSlice
 slices_of bytes = slices_from bytes 0 (slice_count bytes)

@@ -9,7 +9,7 @@ use Rattle.mach_base.specs.Record.{Value, number_among, record_at}
 use Rattle.mach_base.specs.declared.context.Endian.{Endian}
 use Rattle.mach_load.specs.Command.{Command}
 use Rattle.mach_load.specs.Commands.{Kind, dyld_chained_fixups}
-use Rattle.mach_chained.specs.HeaderRecord.{header_fields, header_of_values}
+use Rattle.mach_chained.specs.HeaderRecord.{fixups_header_fields, header_of_values}
 use Rattle.mach_chained.specs.StartsRecord.{starts_fields, starts_of_values}
 use Rattle.mach_chained.specs.declared.header.ChainedFixupsHeader.{ChainedFixupsHeader}
 use Rattle.mach_chained.specs.declared.starts.ChainedStartsInSegment.{ChainedStartsInSegment}
@@ -100,7 +100,7 @@ front_by x (Ok h) =
 
 -- the front of the data, or what is seen of its first part that doesn't hold
 abbrev pub front_of : Data → Result Front Seen
-front_of x = front_by x (header_or_seen x (record_at x.le header_fields x.payload 0))
+front_of x = front_by x (header_or_seen x (record_at x.le fixups_header_fields x.payload 0))
 
 -- ---- the starts of a segment's chains
 
@@ -129,16 +129,16 @@ record_sees x text place segment (Ok values) =
     then_seen (page_sees x place (starts_of_values values)) (extent_sees text segment (starts_of_values values))
 
 -- the image has the segment
-abbrev pub segment_sees : Data → ℕ → ℕ → ℕ → Option PlacedSegment → Seen
-segment_sees x text starts info None = measured false info 0
-segment_sees x text starts info (Some segment) =
+abbrev pub segment_starts_sees : Data → ℕ → ℕ → ℕ → Option PlacedSegment → Seen
+segment_starts_sees x text starts info None = measured false info 0
+segment_starts_sees x text starts info (Some segment) =
     record_sees x text (starts + info) segment (record_at x.le starts_fields x.payload (starts + info))
 
 -- the starts of segment k are none (0), or all this holds of them
 abbrev pub starts_sees : Data → Front → ℕ → ℕ → Option PlacedSegment → Seen
 starts_sees x front text k segment =
     sees_there (readable (number_at x.le 4 x.payload (front.header.starts_offset + 4 + k * 4))) (λ info.
-    if info == 0 then sound else segment_sees x text front.header.starts_offset info segment)
+    if info == 0 then sound else segment_starts_sees x text front.header.starts_offset info segment)
 
 abbrev pub starts_fault : Data → Front → ℕ → ℕ → Option PlacedSegment → Option LayoutFault
 starts_fault x front text k segment = told rule.ChainedFixups (data_owner x k) (starts_sees x front text k segment)
@@ -147,8 +147,8 @@ starts_fault x front text k segment = told rule.ChainedFixups (data_owner x k) (
 
 -- An import: in the formats 1 and 2 the lowest 8 bits are the library and the highest 23 of 32 the name, in format 3 the lowest 16 and the highest 32
 -- of 64.
-abbrev pub row_of : ℕ → ℕ → ImportRow
-row_of format n =
+abbrev pub import_row_of : ℕ → ℕ → ImportRow
+import_row_of format n =
     if format == 3 then record { library = n % 2 ^ 16; name = n / 2 ^ 32 % 2 ^ 32 } else record { library = n % 2 ^ 8; name = n / 2 ^ 9 % 2 ^ 23 }
 
 -- how many bytes the number has
@@ -156,7 +156,7 @@ abbrev pub row_bytes : ℕ → ℕ
 row_bytes format = if format == 3 then 8 else 4
 
 abbrev pub row_by : ℕ → Result ℕ Fault → Option ImportRow
-row_by format (Ok n) = Some (row_of format n)
+row_by format (Ok n) = Some (import_row_of format n)
 row_by format (Err f) = None
 
 -- import k

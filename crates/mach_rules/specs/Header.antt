@@ -2,7 +2,7 @@
 use Rattle.std.specs.Prelude.{◌||◌, ◌^◌, ◌-◌, not, min, nat_le, List, [], ◌∷◌}
 use Rattle.std.specs.List.{list_any}
 use Rattle.mach_headers.specs.declared.header.Header.{Header}
-use Rattle.mach_rules.specs.Laid.{Laid, file_size, declared_end, chain_end, used_end, is_final, is_judged}
+use Rattle.mach_rules.specs.Laid.{Laid, file_size, declared_end, commands_end, used_end, is_final, is_judged}
 use Rattle.mach_rules.specs.Libraries.{is_library_file, says_id}
 use Rattle.mach_rules.specs.Rules.{measured, sound, owner_at, told_over}
 use Rattle.mach_rules.specs.Segments.{has_segment_of_header}
@@ -25,7 +25,7 @@ header_sees laid rule.FileKind h = measured (is_judged laid) laid.header.filetyp
 header_sees laid rule.CommandsOutOfFile h = measured (nat_le (declared_end laid) (file_size laid)) (declared_end laid) (file_size laid)
 -- and go on to there
 header_sees laid rule.CommandsEndEarly h =
-    measured (nat_le (declared_end laid) (chain_end laid)) (min (chain_end laid) (2 ^ 64 - 1)) (declared_end laid)
+    measured (nat_le (declared_end laid) (commands_end laid)) (min (commands_end laid) (2 ^ 64 - 1)) (declared_end laid)
 -- Some segment begins at the first byte of the file and holds the header and the commands (dyld, the kernel).
 header_sees laid rule.NoSegmentOfHeader h = measured (not (is_final laid) || has_segment_of_header laid) 0 (used_end laid)
 -- a library says its name

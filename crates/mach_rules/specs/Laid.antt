@@ -63,12 +63,12 @@ end_or default None = default
 end_or default (Some c) = command_end c
 
 -- where the last command ends, or the header where there is none
-abbrev pub chain_end : Laid → ℕ
-chain_end laid = end_or (header_len laid) (last_or None laid.commands)
+abbrev pub commands_end : Laid → ℕ
+commands_end laid = end_or (header_len laid) (last_or None laid.commands)
 
 -- where what the header and the commands take ends: no further than the header says
 abbrev pub used_end : Laid → ℕ
-used_end laid = min (chain_end laid) (declared_end laid)
+used_end laid = min (commands_end laid) (declared_end laid)
 
 -- ---- kinds of files (`mach-o/loader.h`, MH_EXECUTE and so on)
 
@@ -96,12 +96,12 @@ page_of laid = if laid.header.cputype == 0x100_000c || laid.header.cputype == 0x
 -- ---- segments
 
 -- the segment of a command, with the place of the command
-abbrev pub segment_of : Command → Option PlacedSegment
-segment_of c = option_map (λ s. record { place = c.offset; command = s }) (segment_command_by widened c.kind c.values)
+abbrev pub placed_segment_of : Command → Option PlacedSegment
+placed_segment_of c = option_map (λ s. record { place = c.offset; command = s }) (segment_command_by widened c.kind c.values)
 
 -- the segments of the commands, in order
 abbrev pub segments_of : Laid → List PlacedSegment
-segments_of laid = filter_map segment_of laid.commands
+segments_of laid = filter_map placed_segment_of laid.commands
 
 -- ---- sections
 
@@ -151,11 +151,11 @@ open_sections ctx bytes (Some s) k = sections_from ctx bytes s k
 
 -- the sections of a command, if it is one of a segment
 abbrev pub sections_by : Ctx → List ℕ → Command → List PlacedSection
-sections_by ctx bytes c = open_sections ctx bytes (segment_of c) 0
+sections_by ctx bytes c = open_sections ctx bytes (placed_segment_of c) 0
 
 -- the sections of an image, in order
-abbrev pub sections_of : Laid → List PlacedSection
-sections_of laid = flat_map (sections_by laid.ctx laid.bytes) laid.commands
+abbrev pub placed_sections_of : Laid → List PlacedSection
+placed_sections_of laid = flat_map (sections_by laid.ctx laid.bytes) laid.commands
 
 -- ---- ranges
 

@@ -6,7 +6,7 @@ use Rattle.std.specs.List.{list_any}
 use Rattle.mach_base.specs.Record.{Value, number_among, size}
 use Rattle.mach_base.specs.Text.{is_zero}
 use Rattle.mach_load.specs.Command.{Command, cmdsize_of}
-use Rattle.mach_load.specs.Commands.{Kind}
+use Rattle.mach_load.specs.Commands.{Kind, is_id}
 use Rattle.mach_load.specs.Commands as kind
 use Rattle.mach_records.specs.Contents.{fileset_entry_command_fields}
 use Rattle.mach_records.specs.Libraries.{dylib_command_fields, dylinker_command_fields, fvmfile_command_fields, fvmlib_command_fields}
@@ -82,11 +82,6 @@ text_sees bytes c t = measured (not (is_empty_text bytes c t)) t.offset (cmdsize
 -- a library, or one without contents (MH_DYLIB, MH_DYLIB_STUB)
 abbrev pub is_library_file : Laid → Bool
 is_library_file laid = laid.header.filetype == 6 || laid.header.filetype == 9
-
--- the command by which a library says its name (LC_ID_DYLIB)
-abbrev pub is_id : Kind → Bool
-is_id kind.id_dylib = true
-is_id _ = false
 
 abbrev pub says_id : Command → Bool
 says_id c = is_id c.kind

@@ -22,9 +22,9 @@ abbrev pub place_met : BTreeMap (Bor (List ℕ)) ℕ → List ℕ → Option ℕ
 place_met met q = get_by (λ k. slice_cmp nat_cmp q k.now) met
 
 -- what is kept of q behind one more name with its place: what was kept of it, or else the place where it is the name
-abbrev pub first_place : Option ℕ → List ℕ → ℕ → List ℕ → Option ℕ
-first_place (Some earlier) name place q = Some earlier
-first_place None name place q = if bytes_eq name q then Some place else None
+abbrev pub first_place_kept : Option ℕ → List ℕ → ℕ → List ℕ → Option ℕ
+first_place_kept (Some earlier) name place q = Some earlier
+first_place_kept None name place q = if bytes_eq name q then Some place else None
 
 -- the fault of a name of which an earlier place is kept
 abbrev pub name_again : Option ℕ → ℕ → List LayoutFault

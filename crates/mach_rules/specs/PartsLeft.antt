@@ -3,18 +3,18 @@ use Rattle.std.specs.Prelude.{◌≡◌, ℕ, ◌+◌, List, [], ◌∷◌, ◌+
 use Rattle.std.specs.Slice.Iter.{iter_rest}
 use Rattle.mach_base.specs.declared.context.Ctx.{Ctx}
 use Rattle.mach_load.specs.Variants.{command_of}
-use Rattle.mach_rules.specs.Laid.{segment_of, open_sections, sections_by}
+use Rattle.mach_rules.specs.Laid.{placed_segment_of, open_sections, sections_by}
 use Rattle.mach_rules.specs.declared.parts.PlacedSection.{PlacedSection}
 use Rattle.mach_rules.specs.declared.parts.PlacedSegment.{PlacedSegment}
 use Rattle.mach_rules.specs.declared.parts.SectionIterator.{SectionIterator}
 use Rattle.mach_rules.specs.declared.parts.SegmentIterator.{SegmentIterator}
 
-abbrev pub segments_left : SegmentIterator → List PlacedSegment
-segments_left it = filter_map segment_of (map command_of (iter_rest it.commands))
+abbrev pub placed_segments_left : SegmentIterator → List PlacedSegment
+placed_segments_left it = filter_map placed_segment_of (map command_of (iter_rest it.commands))
 
 -- those of the segment that is open, and then those of the commands that are left
-abbrev pub sections_left : SectionIterator → List PlacedSection
-sections_left it =
+abbrev pub placed_sections_left : SectionIterator → List PlacedSection
+placed_sections_left it =
     open_sections it.ctx it.bytes.now it.segment it.taken ++ flat_map (sections_by it.ctx it.bytes.now) (map command_of (iter_rest it.commands))
 
 -- of the sections from number k on the next was taken, or none is left

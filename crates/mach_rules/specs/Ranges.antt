@@ -6,7 +6,7 @@ use Rattle.std.specs.Prelude.{if◌then◌else◌}
 use Rattle.std.specs.List.{starts_with}
 use Rattle.mach_base.specs.Number.{place_after}
 use Rattle.mach_rules.specs.Claims.{claims_of, segment_claim}
-use Rattle.mach_rules.specs.Laid.{Laid, is_final, is_judged, used_end, file_size, segments_of, sections_of, ends_past}
+use Rattle.mach_rules.specs.Laid.{Laid, is_final, is_judged, used_end, file_size, segments_of, placed_sections_of, ends_past}
 use Rattle.mach_rules.specs.Rules.{measured, sound, owner_at, told_over}
 use Rattle.mach_rules.specs.declared.claim.Claim.{Claim}
 use Rattle.mach_rules.specs.declared.fault.LayoutFault.{LayoutFault}
@@ -64,7 +64,7 @@ file_ranges laid = filter_map (segment_bytes laid) (segments_of laid)
 
 -- the addresses of all sections
 abbrev pub section_ranges : Laid → List Claim
-section_ranges laid = filter_map section_memory (sections_of laid)
+section_ranges laid = filter_map section_memory (placed_sections_of laid)
 
 -- the claims of which no two may share a byte
 abbrev pub lone_claims : Laid → List Claim

@@ -6,7 +6,7 @@ use Rattle.std.specs.Str.{bytes_eq}
 use Rattle.mach_base.specs.Number.{place_after}
 use Rattle.mach_base.specs.Text.{is_zero}
 use Rattle.mach_rules.specs.Claims.{has_bytes}
-use Rattle.mach_rules.specs.Laid.{Laid, file_size, ends_past, is_final, is_object, sections_of}
+use Rattle.mach_rules.specs.Laid.{Laid, file_size, ends_past, is_final, is_object, placed_sections_of}
 use Rattle.mach_rules.specs.Rules.{measured, sound, against, owner_at, told_over}
 use Rattle.mach_rules.specs.Segments.{range_holds, segment_name, segment_owner}
 use Rattle.mach_rules.specs.declared.fault.LayoutFault.{LayoutFault}
@@ -64,4 +64,4 @@ section_sees laid _ s = sound
 abbrev pub section_faults : Laid → List LayoutFault
 section_faults laid =
     told_over (rule.SectionOutOfMemory ∷ rule.SectionOutOfBytes ∷ rule.SectionElsewhere ∷ rule.SectionAlignment ∷ rule.SectionUnaligned
-    ∷ rule.SectionOfOther ∷ []) (λ rule. section_owner) (section_sees laid) (sections_of laid)
+    ∷ rule.SectionOfOther ∷ []) (λ rule. section_owner) (section_sees laid) (placed_sections_of laid)

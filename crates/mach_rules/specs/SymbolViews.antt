@@ -25,8 +25,8 @@ abbrev pub ranges_judged : Ranges → Rule → SymbolRange → Seen
 ranges_judged j rule = range_sees j.nsyms
 
 -- an indirect symbol, and a section that has some
-abbrev pub indirect_owner : Indirect → Rule → ℕ → Owner
-indirect_owner j rule = defined.indirect_owner j.table
+abbrev pub owner_of_indirect : Indirect → Rule → ℕ → Owner
+owner_of_indirect j rule = defined.indirect_owner j.table
 
 abbrev pub indirect_judged : Indirect → Rule → ℕ → Seen
 indirect_judged j rule = indirect_sees j.ctx.le j.bytes.now j.table j.nsyms

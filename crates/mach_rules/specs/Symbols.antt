@@ -14,11 +14,11 @@ use Rattle.mach_base.specs.declared.context.Endian.{Endian}
 use Rattle.mach_load.specs.Command.{Command}
 use Rattle.mach_load.specs.Commands.{Kind, symtab, dysymtab}
 use Rattle.mach_load.specs.Subjects.{is_library}
-use Rattle.mach_symbols.specs.Symbols.{nlist_at, nlist_size, type_of}
+use Rattle.mach_symbols.specs.Symbols.{nlist_at, nlist_size, type_of, is_stab}
 use Rattle.mach_symbols.specs.declared.symbols.nlist.Nlist.{Nlist}
 use Rattle.mach_records.specs.SymbolTables.{symtab_command_of_values}
 use Rattle.mach_records.specs.declared.symbol_tables.DysymtabCommand.{DysymtabCommand}
-use Rattle.mach_rules.specs.Laid.{Laid, file_size, is_final, segment_of, sections_of, ends_past}
+use Rattle.mach_rules.specs.Laid.{Laid, file_size, is_final, placed_segment_of, placed_sections_of, ends_past}
 use Rattle.mach_rules.specs.Rules.{measured, sound, sees_there, then_seen, owner_at, told, told_over}
 use Rattle.mach_rules.specs.Sections.{section_owner}
 use Rattle.mach_rules.specs.declared.fault.LayoutFault.{LayoutFault}
@@ -137,10 +137,6 @@ symbols_there laid t = whole_records laid.bytes t.command.symoff (nlist_size lai
 abbrev pub symbol_numbers : Laid → PlacedSymtab → List ℕ
 symbol_numbers laid t = range_with_len 0 (symbols_there laid t)
 
--- an entry for a debugger (N_STAB)
-abbrev pub is_stab : Nlist → Bool
-is_stab s = not (bit_and s.n_type 0xe0 == 0)
-
 -- ---- the section of a symbol
 
 abbrev pub nsects_of : Option PlacedSegment → ℕ
@@ -149,7 +145,7 @@ nsects_of (Some s) = s.command.nsects
 
 -- how many sections the segments are said to have, no further than 64 bits count
 abbrev pub section_count : Laid → ℕ
-section_count laid = min (sum_by (λ c. nsects_of (segment_of c)) laid.commands) (2 ^ 64 - 1)
+section_count laid = min (sum_by (λ c. nsects_of (placed_segment_of c)) laid.commands) (2 ^ 64 - 1)
 
 -- A symbol names a section of the image by its number from 1, or none (NO_SECT, 0). Entries for debuggers aside it names one exactly where
 -- its type is N_SECT.
@@ -254,8 +250,8 @@ is_of_range number s =
     else (if number == 1 then is_external s && (is_stab s || not (is_of_other s))
     else is_external s && (not (is_stab s) && is_of_other s))
 
-abbrev pub symbol_kind : PlacedSymtab → ℕ → ℕ → Nlist → Option LayoutFault
-symbol_kind t number k s = told rule.SymbolRangeKind (symbol_owner t k) (measured (is_of_range number s) s.n_type 0)
+abbrev pub symbol_kind_fault : PlacedSymtab → ℕ → ℕ → Nlist → Option LayoutFault
+symbol_kind_fault t number k s = told rule.SymbolRangeKind (symbol_owner t k) (measured (is_of_range number s) s.n_type 0)
 
 -- what is told of the first of so many items, from a number on, of which something is told
 abbrev pub first_told : (ℕ → Option LayoutFault) → ℕ → ℕ → Option LayoutFault
@@ -269,7 +265,7 @@ range_len there r = min r.count (there - r.first)
 -- what is told of the first symbol of a range that isn't of it
 abbrev pub range_kind : Laid → PlacedSymtab → SymbolRange → Option LayoutFault
 range_kind laid t r =
-    first_told (λ k. if_there (symbol_in laid.ctx laid.bytes t k) (symbol_kind t r.number k)) r.first (range_len (symbols_there laid t) r)
+    first_told (λ k. if_there (symbol_in laid.ctx laid.bytes t k) (symbol_kind_fault t r.number k)) r.first (range_len (symbols_there laid t) r)
 
 -- ---- the order of the ranges
 
@@ -350,7 +346,7 @@ indirect_faults laid table dynamic =
     all_there dynamic (λ d.
     told_over (rule.IndirectSymbol ∷ []) (λ rule. indirect_owner d) (λ rule. indirect_sees laid.ctx.le laid.bytes d (symbol_count table))
     (range_with_len 0 (indirect_count laid d))
-    ++ told_over (rule.IndirectSection ∷ []) (λ rule. section_owner) (λ rule. indirect_section_sees laid.ctx.container d) (sections_of laid))
+    ++ told_over (rule.IndirectSection ∷ []) (λ rule. section_owner) (λ rule. indirect_section_sees laid.ctx.container d) (placed_sections_of laid))
 
 -- those of a table of symbols, and of what the dynamic linker needs of it
 abbrev pub table_faults : Laid → Option PlacedSymtab → Option PlacedDysymtab → List LayoutFault

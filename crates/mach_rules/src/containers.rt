@@ -52,7 +52,7 @@ fn records_end(bytes: &[u8]) -> u64
 
 // A slice with its record.
 fn slice_at(bytes: &[u8], number: u32) -> Result<PlacedSlice>
-    ensures { Reads (λ s. s) result (defined.slice_at bytes.now number) }
+    ensures { Reads (λ s. s) result (defined.placed_slice_at bytes.now number) }
 {
     let arch = FatArch::parse(bytes, 8 + 20 * number as usize)?;
     Ok(PlacedSlice { number, arch })

@@ -6,7 +6,7 @@ ghost use Rattle.mach_rules.specs.Laid as defined;
 ghost use Rattle.mach_rules.specs.Laid.{laid_of};
 ghost use Rattle.mach_rules.specs.Claims.{claims_of};
 ghost use Rattle.mach_rules.specs.ClaimsLeft.{claims_left};
-ghost use Rattle.mach_rules.specs.PartsLeft.{segments_left, sections_left};
+ghost use Rattle.mach_rules.specs.PartsLeft.{placed_segments_left, placed_sections_left};
 
 use crate::claiming::ClaimIterator;
 use crate::parts::{SectionIterator, SegmentIterator};
@@ -54,7 +54,7 @@ impl<'a, 'b> Layout<'a, 'b> {
 
     /// Where the last command ends, or the header where there is none; no further than 64 bits count.
     pub fn chain_end(&self) -> u64
-        ensures { result ≡ min (defined.chain_end (laid_of self.now)) (2 ^ 64 - 1) }
+        ensures { result ≡ min (defined.commands_end (laid_of self.now)) (2 ^ 64 - 1) }
     {
         match self.commands.last() {
             Some(command) => (command.offset as u64).saturating_add(
@@ -121,14 +121,14 @@ impl<'a, 'b> Layout<'a, 'b> {
 
     /// The segments, in the order of their commands.
     pub fn segments(&self) -> SegmentIterator<'b>
-        ensures { segments_left result ≡ defined.segments_of (laid_of self.now) }
+        ensures { placed_segments_left result ≡ defined.segments_of (laid_of self.now) }
     {
         SegmentIterator::new(self.commands)
     }
 
     /// The sections whose header lies in the bytes, in order.
     pub fn sections(&self) -> SectionIterator<'a, 'b>
-        ensures { sections_left result ≡ defined.sections_of (laid_of self.now) }
+        ensures { placed_sections_left result ≡ defined.placed_sections_of (laid_of self.now) }
     {
         SectionIterator::new(self.bytes, self.ctx, self.commands)
     }

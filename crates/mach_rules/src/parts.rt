@@ -6,7 +6,7 @@ ghost use Rattle.mach_load.specs.Variants.{command_of};
 ghost use Rattle.mach_segments.specs.Section.{section_place};
 ghost use Rattle.mach_segments.specs.Segment.{widened};
 ghost use Rattle.mach_rules.specs.Laid as defined;
-ghost use Rattle.mach_rules.specs.PartsLeft.{segments_left, sections_left, TakesSection};
+ghost use Rattle.mach_rules.specs.PartsLeft.{placed_segments_left, placed_sections_left, TakesSection};
 
 use crate::rules::Items;
 use mach_base::{Container, Ctx, Record, Result};
@@ -51,7 +51,7 @@ fn widen(c: &SegmentCommand32) -> SegmentCommand64
 
 /// The segment of a command, if it is one of a segment.
 pub fn segment_of(command: &LoadCommand) -> Option<PlacedSegment>
-    ensures { result ≡ defined.segment_of (command_of command.now) }
+    ensures { result ≡ defined.placed_segment_of (command_of command.now) }
 {
     let place = command.offset;
     match &command.command {
@@ -72,7 +72,7 @@ pub struct SegmentIterator<'b> {
 
 impl<'b> SegmentIterator<'b> {
     pub(crate) fn new(commands: &'b [LoadCommand]) -> Self
-        ensures { segments_left result ≡ filter_map defined.segment_of (map command_of commands.now) }
+        ensures { placed_segments_left result ≡ filter_map defined.placed_segment_of (map command_of commands.now) }
     {
         SegmentIterator {
             commands: commands.iter(),
@@ -85,9 +85,9 @@ impl<'b> Iterator for SegmentIterator<'b> {
 
     ghost use Rattle.std.specs.Iterator.{YieldsFirst, item_count};
 
-    ghost next_gives = { YieldsFirst segments_left };
+    ghost next_gives = { YieldsFirst placed_segments_left };
 
-    ghost remaining = { item_count segments_left };
+    ghost remaining = { item_count placed_segments_left };
 
     fn next(&mut self) -> Option<PlacedSegment> {
         'commands: loop {
@@ -106,7 +106,7 @@ impl<'b> Iterator for SegmentIterator<'b> {
 impl<'b> Items for SegmentIterator<'b> {
     type Item = PlacedSegment;
 
-    ghost left = { segments_left };
+    ghost left = { placed_segments_left };
 
     fn again(&self) -> SegmentIterator<'b> {
         SegmentIterator {
@@ -191,7 +191,7 @@ pub struct SectionIterator<'a, 'b> {
 
 impl<'a, 'b> SectionIterator<'a, 'b> {
     pub(crate) fn new(bytes: &'a [u8], ctx: Ctx, commands: &'b [LoadCommand]) -> Self
-        ensures { sections_left result ≡ flat_map (defined.sections_by ctx bytes.now) (map command_of commands.now) }
+        ensures { placed_sections_left result ≡ flat_map (defined.sections_by ctx bytes.now) (map command_of commands.now) }
     {
         SectionIterator {
             bytes,
@@ -225,9 +225,9 @@ impl<'a, 'b> Iterator for SectionIterator<'a, 'b> {
 
     ghost use Rattle.std.specs.Iterator.{YieldsFirst, item_count};
 
-    ghost next_gives = { YieldsFirst sections_left };
+    ghost next_gives = { YieldsFirst placed_sections_left };
 
-    ghost remaining = { item_count sections_left };
+    ghost remaining = { item_count placed_sections_left };
 
     fn next(&mut self) -> Option<PlacedSection> {
         'commands: loop {
@@ -250,7 +250,7 @@ impl<'a, 'b> Iterator for SectionIterator<'a, 'b> {
 impl<'a, 'b> Items for SectionIterator<'a, 'b> {
     type Item = PlacedSection;
 
-    ghost left = { sections_left };
+    ghost left = { placed_sections_left };
 
     fn again(&self) -> SectionIterator<'a, 'b> {
         SectionIterator {

@@ -5,8 +5,8 @@ ghost use Rattle.std.specs.List.{before_first, list_any};
 ghost use Rattle.mach_base.specs.Answer.{IsOkUnlessMemory};
 ghost use Rattle.mach_base.specs.Text.{is_zero};
 ghost use Rattle.mach_load.specs.Variants.{command_of};
-ghost use Rattle.mach_rules.specs.Laid.{laid_of, segment_of, segments_of};
-ghost use Rattle.mach_rules.specs.NamesMet.{place_met, first_place, name_again, seen_name, name_and_place};
+ghost use Rattle.mach_rules.specs.Laid.{laid_of, placed_segment_of, segments_of};
+ghost use Rattle.mach_rules.specs.NamesMet.{place_met, first_place_kept, name_again, seen_name, name_and_place};
 ghost use Rattle.mach_rules.specs.Segments as defined;
 ghost use Rattle.mach_rules.specs.declared.fault.Rule.TheVariants as rules_named;
 
@@ -223,7 +223,7 @@ pub fn before_zero(name: &[u8]) -> &[u8]
 
 // The name of the segment of a command and the place of the command, if it is one of a segment.
 fn named_segment(command: &LoadCommand) -> Option<(&[u8], usize)>
-    ensures { option_map seen_name result ≡ option_map name_and_place (segment_of (command_of command.now)) }
+    ensures { option_map seen_name result ≡ option_map name_and_place (placed_segment_of (command_of command.now)) }
 {
     match &command.command {
         CommandVariant::Segment32(c) => Some((before_zero(&c.segname), command.offset)),
@@ -253,7 +253,7 @@ fn add_name<'b, A: Allocator, B: Allocator + Clone>(
     place: usize,
 ) -> Result<()>
     ensures told { OnOk result (faults.new.items ≡ faults.old.items ++ name_again (place_met met.old name.now) place) }
-    ensures met { OnOk result ((q : List ℕ) → place_met met.new q ≡ first_place (place_met met.old q) name.now place q) }
+    ensures met { OnOk result ((q : List ℕ) → place_met met.new q ≡ first_place_kept (place_met met.old q) name.now place q) }
     ensures only { IsOkUnlessMemory result }
 {
     if let Some(earlier) = met.get(name) {

@@ -2,6 +2,7 @@
 
 ghost use Rattle.std.specs.Prelude.{◌≡◌, ◌++◌, OnOk};
 ghost use Rattle.mach_base.specs.Answer.{IsOkUnlessMemory, Reads};
+ghost use Rattle.mach_symbols.specs.Symbols as entries;
 ghost use Rattle.mach_symbols.specs.Symbols.{nlist_at};
 ghost use Rattle.mach_rules.specs.Laid.{laid_of};
 ghost use Rattle.mach_rules.specs.Symbols as defined;
@@ -131,7 +132,7 @@ pub fn symbols_there(layout: &Layout<'_, '_>, table: &PlacedSymtab) -> u32
 
 /// Whether a symbol is an entry for a debugger.
 pub fn is_stab(symbol: &Nlist) -> bool
-    ensures { result ≡ defined.is_stab symbol.now }
+    ensures { result ≡ entries.is_stab symbol.now }
 {
     symbol.n_type & N_STAB != 0
 }

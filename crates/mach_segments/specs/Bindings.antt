@@ -1,7 +1,6 @@
 -- Where dyld looks for a symbol that an image takes, by the ordinal of its bind (`mach-o/loader.h`, the constants
 -- BIND_SPECIAL_DYLIB).
-use Rattle.std.specs.Prelude.{◌==◌, ℕ, ℤ, pos, negsuc, Bool, List, map, Option, Some, None, Result, Ok, Err, if◌then◌else◌, slice_get}
-use Rattle.std.specs.Borrow.{Bor}
+use Rattle.std.specs.Prelude.{◌==◌, ℕ, ℤ, pos, negsuc, Bool, List, Option, Some, None, Result, Ok, Err, if◌then◌else◌, slice_get}
 use Rattle.mach_base.specs.declared.error.Error.{Error}
 use Rattle.mach_base.specs.Fault.{Fault, malformed, fault_of}
 use Rattle.mach_segments.specs.declared.binding.Binding as declared_binding
@@ -21,8 +20,8 @@ named n None = Err malformed
 named n (Some name) = Ok (of_library n name)
 
 -- by a number that counts the libraries: 0 is the image itself
-abbrev pub library_of : List (List ℕ) → ℕ → Result Provider Fault
-library_of libs n = if n == 0 then Ok itself else named n (slice_get libs n)
+abbrev pub provider_by_number : List (List ℕ) → ℕ → Result Provider Fault
+provider_by_number libs n = if n == 0 then Ok itself else named n (slice_get libs n)
 
 -- by a number below 0: these are 0 for -1, 1 for -2, and so on
 abbrev pub special_of : ℕ → Result Provider Fault
@@ -35,7 +34,7 @@ special_of n =
 -- by an ordinal: 0 the image itself, above it a library, below it -1 the main executable, -2 any image (flat),
 -- -3 the weak look-up; no other number is one of a provider
 unfoldable pub provider_of : List (List ℕ) → ℤ → Result Provider Fault
-provider_of libs (pos n) = library_of libs n
+provider_of libs (pos n) = provider_by_number libs n
 provider_of libs (negsuc n) = special_of n
 
 -- a place in memory that takes a symbol's address from a provider
@@ -50,10 +49,6 @@ pub record Binding : Type 0 where
   pub is_lazy : Bool
 
 -- ---- what a caller sees
-
--- the bytes of some texts
-abbrev pub texts : List (Bor (List ℕ)) → List (List ℕ)
-texts libs = map (λ text. text.now) libs
 
 abbrev pub provider_view : declared.Provider → Provider
 provider_view (variants.Library ordinal name) = of_library ordinal name.now

@@ -3,7 +3,8 @@
 ghost use Rattle.std.specs.Prelude.{◌≡◌, pos, Ok, Err, MatchOption};
 ghost use Rattle.mach_base.specs.Answer.{Reads};
 ghost use Rattle.mach_base.specs.Fault.{malformed};
-ghost use Rattle.mach_segments.specs.Bindings.{provider_of, provider_view, texts};
+ghost use Rattle.mach_segments.specs.Bindings.{provider_of, provider_view};
+ghost use Rattle.mach_base.specs.Text.{texts};
 
 use mach_base::{Error, Result};
 

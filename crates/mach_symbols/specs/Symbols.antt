@@ -1,5 +1,6 @@
 -- Symbols (`mach-o/nlist.h`) and where they stand (`mach-o/loader.h`, struct symtab_command).
-use Rattle.std.specs.Prelude.{◌≡◌, ◌≢◌, ℕ, ◌+◌, ◌-◌, ◌*◌, ◌/◌, ◌%◌, ◌^◌, min, List, [], ◌∷◌, length, Result, Ok, Err, nat_lt, nat_le, bit_and, codes, if◌then◌else◌}
+use Rattle.std.specs.Prelude.{◌≡◌, ◌≢◌, ℕ, ◌+◌, ◌-◌, ◌*◌, ◌/◌, ◌%◌, ◌^◌, min, List, [], ◌∷◌, length, Result, Ok, Err, nat_lt, nat_le, bit_and, codes}
+use Rattle.std.specs.Prelude.{if◌then◌else◌, ◌==◌, Bool, not}
 use Rattle.std.specs.Int.{IsBitSet}
 use Rattle.mach_base.specs.declared.context.Endian.{Endian}
 use Rattle.mach_base.specs.declared.context.Container.{Container}
@@ -114,8 +115,8 @@ abbrev pub IsGlobal : Nlist → Type 0
 IsGlobal s = IsBitSet s.n_type 0
 
 -- a weak reference or a weak definition: N_WEAK_REF or N_WEAK_DEF
-abbrev pub IsWeak : Nlist → Type 0
-IsWeak s = bit_and s.n_desc 0xc0 ≢ 0
+abbrev pub IsWeakSymbol : Nlist → Type 0
+IsWeakSymbol s = bit_and s.n_desc 0xc0 ≢ 0
 
 -- in no section, and of the type N_UNDF
 abbrev pub IsUndefined : Nlist → Type 0
@@ -124,6 +125,10 @@ IsUndefined s = (s.n_sect ≡ 0) × (type_of s.n_type ≡ 0)
 -- an entry for a debugger (`mach-o/stab.h`): any bit of N_STAB
 abbrev pub IsStab : Nlist → Type 0
 IsStab s = bit_and s.n_type 0xe0 ≢ 0
+
+-- an entry for a debugger (N_STAB)
+abbrev pub is_stab : Nlist → Bool
+is_stab s = not (bit_and s.n_type 0xe0 == 0)
 
 abbrev pub type_names : List Named
 type_names =

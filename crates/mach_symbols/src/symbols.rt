@@ -94,7 +94,8 @@ impl<'a> Symbols<'a> {
     /// The symbols of which `count` records stand from `start` on, and the names from `strtab` on,
     /// in a 64-bit little-endian image. None of this is tested; it is always Ok.
     pub fn new(bytes: &'a [u8], start: usize, count: usize, strtab: usize) -> Result<Symbols<'a>>
-        ensures { Reads table_of result (Ok (record { bytes = bytes.now; start = start; nsyms = count; strtab = strtab; ctx = record { container = Big; le = Little } })) }
+        ensures { Reads table_of result
+            (Ok (record { bytes = bytes.now; start = start; nsyms = count; strtab = strtab; ctx = record { container = Big; le = Little } })) }
     {
         Ok(Symbols {
             table: Table {

@@ -39,7 +39,8 @@ module _ (bytes : List ℕ) (libs : List (List ℕ)) (lib : List ℕ) (name : Op
   unfolding reexport_at
   in_reexport flags place e =
       let made = λ (text : List ℕ) (l : List ℕ). reexport l (Nodes.name_of text) flags in
-      let a = bind_ok (uleb_at bytes place) (λ (n : ℕ × ℕ). text_at bytes n.1 >>= λ (text : List ℕ). library libs n.0 >>= λ (l : List ℕ). Ok (made text l)) there e in
+      let a = bind_ok (uleb_at bytes place)
+      (λ (n : ℕ × ℕ). text_at bytes n.1 >>= λ (text : List ℕ). library libs n.0 >>= λ (l : List ℕ). Ok (made text l)) there e in
       let b = bind_ok (text_at bytes a.0.1) (λ (text : List ℕ). library libs a.0.0 >>= λ (l : List ℕ). Ok (made text l)) there a.2 in
       let d = bind_ok (library libs a.0.0) (λ (l : List ℕ). Ok (made b.0 l)) there b.2 in
       let same : made b.0 d.0 ≡ there = same_ok d.2 in
@@ -54,7 +55,8 @@ module _ (bytes : List ℕ) (libs : List (List ℕ)) (lib : List ℕ) (name : Op
 
   -- behind the size
   in_own : (size place : ℕ) (own : Info × ℕ) → own_at bytes libs size place ≡ Ok own → own.0 ≡ there
-      → (flags : ℕ × ℕ) × (uleb_at bytes place ≡ Ok flags) × (found : ℕ × ℕ) × (uleb_at bytes flags.1 ≡ Ok found) × IsReexportAt bytes libs lib name (Some found)
+      → (flags : ℕ × ℕ) × (uleb_at bytes place ≡ Ok flags) × (found : ℕ × ℕ) × (uleb_at bytes flags.1 ≡ Ok found)
+      × IsReexportAt bytes libs lib name (Some found)
   in_own size place own e is =
       let made = λ (info : Info). sum_of place size >>= λ (after : ℕ). Ok (info, after) in
       let a = bind_ok (uleb_at bytes place) (λ (flags : ℕ × ℕ). Nodes.info_at bytes libs flags.0 flags.1 >>= made) own e in

@@ -5,7 +5,7 @@ use Rattle.mach_tries.proofs.Starts.{starts_from}
 use Rattle.mach_tries.proofs.Readings.{reading, tree_or_twice, cut_stands}
 use Rattle.mach_tries.proofs.OpenNodes as nodes
 use Rattle.mach_tries.proofs.Unfoldings as met
-use Rattle.mach_tries.specs.CursorState.{below, name_of, IsStopped, IsAsBefore, TurnGives, HasCome, at_root, between, all_met}
+use Rattle.mach_tries.specs.CursorState.{below, name_met_last, IsStopped, IsAsBefore, TurnGives, HasCome, at_root, between, all_met}
 use Rattle.mach_tries.specs.Cursors.{HasGivenTo, NextGives}
 use Rattle.mach_tries.specs.declared.cursor.NextExport.{NextExport}
 use Rattle.mach_tries.specs.declared.cursor.NextExport.TheVariants.{Export, End, Refused, NameTooLong, StackTooShort}
@@ -59,7 +59,7 @@ module _ (t : TrieRange) (libs : List (List ℕ)) (c : TrieCursor) (name : List 
       at_root phase (record {
         nodes = 0;
         kept = record { name_len = omega arith; depth = omega arith; visits = omega arith };
-        is_read = nodes.root_read t libs (name_of c name) c.top (below c stack) left top_len (rw depth refl);
+        is_read = nodes.root_read t libs (name_met_last c name) c.top (below c stack) left top_len (rw depth refl);
       })
 
   pub starts_over : t.upto ≤ t.from → c.phase ≡ 2 → HasCome t libs c name stack []

@@ -1,11 +1,12 @@
 -- The walk by a cursor, turn by turn.
-use Rattle.mach_tries.proofs.Names.{◌≡◌, ◌<◌, ◌≤◌, ◌+◌, ◌-◌, ◌^◌, ℕ, suc, List, [], ◌∷◌, ◌++◌, length, take, reverse, reverse-append, ◌⊎◌, inl, inr, refl, sym, ap, ◌∙◌}
+use Rattle.mach_tries.proofs.Names.{◌≡◌, ◌<◌, ◌≤◌, ◌+◌, ◌-◌, ◌^◌, ℕ, suc, List, [], ◌∷◌, ◌++◌, length, take, reverse, reverse-append, ◌⊎◌, inl, inr, refl}
+use Rattle.mach_tries.proofs.Names.{sym, ap, ◌∙◌}
 use Rattle.mach_tries.proofs.Names.{arith, cases_eq, length-take, slice_get, Ok, Err, IsErr, Option, None, Some, Info, Branch, Node, Entry, own_entries, Fault}
-use Rattle.mach_tries.proofs.Names.{malformed, branch_at, node_at, branches_of, IsReadable, TrieRange, trie_there, Ahead, IsRead, IsCutBy, Open}
+use Rattle.mach_tries.proofs.Names.{malformed, branch_at, node_at, branches_of, IsReadable, TrieRange, trie_there, Ahead, IsReadSoFar, IsCutBy, Open}
 use Rattle.std.proofs.Common.{min}
 use Rattle.std.proofs.lemmas.List.{take-take, take_more}
 use Rattle.std.proofs.lemmas.Option.{get_or_from_slice_get, slice_get_within}
-use Rattle.mach_tries.specs.CursorState.{below, name_of, root, IsAtChild, HasCome, at_root, between, all_met, TurnGives, IsAsBefore, IsStopped, IsFull}
+use Rattle.mach_tries.specs.CursorState.{below, name_met_last, root, IsAtChild, HasCome, at_root, between, all_met, TurnGives, IsAsBefore, IsStopped, IsFull}
 use Rattle.mach_tries.specs.CursorState.{IsNextLabel}
 use Rattle.mach_tries.specs.declared.node.BranchRun.{BranchRun}
 use Rattle.mach_tries.specs.declared.cursor.NextExport.{NextExport}
@@ -23,7 +24,7 @@ one_below stack d x there =
 module _ {t : TrieRange} {libs : List (List ℕ)} where
   -- the same reading under equal parts
   moved : {name name' : List ℕ} {next : List Ahead} {os os' : List Open} {found : List Entry} {n : ℕ} → name' ≡ name → os' ≡ os
-      → IsRead t libs name next os found n → IsRead t libs name' next os' found n
+      → IsReadSoFar t libs name next os found n → IsReadSoFar t libs name' next os' found n
   moved a b k = rw (a, b) k
 
   -- at a branch
@@ -45,7 +46,7 @@ module _ {t : TrieRange} {libs : List (List ℕ)} where
           → IsCutBy (trie_there t libs) t.from found f
       cut f why = record {
         nodes = at.nodes;
-        next = record { name = take rest.name_len (name_of c name) ++ b.label; start = b.start };
+        next = record { name = take rest.name_len (name_met_last c name) ++ b.label; start = b.start };
         others = at.is_read.left;
         read = at.is_read.read;
         inside = inside;
@@ -70,26 +71,28 @@ module _ {t : TrieRange} {libs : List (List ℕ)} where
           (opened : 0 < run.left → d.top ≡ record { left = run.left; place = run.place; name_len = rest.name_len + length b.label })
           (over : 0 < run.left → 0 < rest.left → below d stack' ≡ rest ∷ below c stack)
           (in_place : 0 < run.left → rest.left ≡ 0 → below d stack' ≡ below c stack) where
-        named : name_of d name' ≡ take rest.name_len (name_of c name) ++ b.label
+        named : name_met_last d name' ≡ take rest.name_len (name_met_last c name) ++ b.label
         named = ap (λ (k : ℕ). take k name') len ∙ text
             ∙ ap (λ (x : List ℕ). x ++ b.label) (sym (take-take rest.name_len c.name_len name short))
 
         abbrev node : Node
         node = record { own = own; branches = branches_of t.bytes t.from run }
 
-        read : IsRead t libs (take rest.name_len (name_of c name) ++ b.label) [] (d.top ∷ below d stack')
-            (found ++ own_entries (take rest.name_len (name_of c name) ++ b.label) own) (suc at.nodes)
+        read : IsReadSoFar t libs (take rest.name_len (name_met_last c name) ++ b.label) [] (d.top ∷ below d stack')
+            (found ++ own_entries (take rest.name_len (name_met_last c name) ++ b.label) own) (suc at.nodes)
         read = elim (cases_eq run.left 0) [
           | inl none ↦ (
               let l = leaf none in
-              rw (l.0, l.1) (nodes.enters_leaf at.is_read b.label refl node (inside, there) (no_branch t.bytes t.from run.left run.place node.branches none readable)))
+              rw (l.0, l.1) (nodes.enters_leaf at.is_read b.label refl node (inside, there)
+              (no_branch t.bytes t.from run.left run.place node.branches none readable)))
           | inr some ↦ rw (opened (omega arith)) (nodes.enters at.is_read b.label refl node (inside, there) [] node.branches refl
               (record { left = run.left; place = run.place; name_len = rest.name_len + length b.label }) (below d stack')
-              (sym (nodes.given_len t.bytes t.from (name_of c name) rest (below c stack) at.is_read.left b.label _ refl at.is_read.ahead)) readable (over (omega arith))
+              (sym (nodes.given_len t.bytes t.from (name_met_last c name) rest (below c stack) at.is_read.left b.label _ refl at.is_read.ahead)) readable
+              (over (omega arith))
               (in_place (omega arith)))
         ]
 
-        pub enters : HasCome t libs d name' stack' (found ++ own_entries (name_of d name') own)
+        pub enters : HasCome t libs d name' stack' (found ++ own_entries (name_met_last d name') own)
         enters =
             between (suc at.nodes) phase
             (record { name_len = omega (arith, len, long, fits); depth = depth; visits = let v = at.kept.visits in omega arith })
@@ -98,7 +101,8 @@ module _ {t : TrieRange} {libs : List (List ℕ)} where
   -- between two branches
   module _ {c : TrieCursor} {name : List ℕ} {stack : List Open} {found : List Entry} (on : c.phase ≡ 1) where
     -- no open node is left
-    pub ends : c.top.left ≡ 0 → c.depth ≡ 0 → (d : TrieCursor) → d.phase ≡ 2 → HasCome t libs c name stack found → TurnGives t libs found (Some (End)) d name stack
+    pub ends : c.top.left ≡ 0 → c.depth ≡ 0 → (d : TrieCursor) → d.phase ≡ 2 → HasCome t libs c name stack found
+        → TurnGives t libs found (Some (End)) d name stack
     ends none bottom d over (at_root phase at) = absurd (omega arith)
     ends none bottom d over (between n phase kept k) =
         let all = nodes.all_read k none (ap (λ (k : ℕ). reverse (take k stack)) bottom) in
@@ -107,7 +111,8 @@ module _ {t : TrieRange} {libs : List (List ℕ)} where
 
     -- the one below is on top
     pub falls : c.top.left ≡ 0 → (e : ℕ) (x : Open) → c.depth ≡ e + 1 → slice_get stack e ≡ Some x → (d : TrieCursor) → d.phase ≡ 1
-        → d.visits_left ≡ c.visits_left → d.name_len ≡ c.name_len → d.depth ≡ e → d.top ≡ x → HasCome t libs c name stack found → HasCome t libs d name stack found
+        → d.visits_left ≡ c.visits_left → d.name_len ≡ c.name_len → d.depth ≡ e → d.top ≡ x → HasCome t libs c name stack found
+        → HasCome t libs d name stack found
     falls none e x deep there d phase' visits len depth top (at_root phase at) = absurd (omega arith)
     falls none e x deep there d phase' visits len depth top (between n phase kept k) =
         let below_is : below c stack ≡ x ∷ reverse (take e stack) = ap (λ (k : ℕ). reverse (take k stack)) deep ∙ one_below stack e x there in

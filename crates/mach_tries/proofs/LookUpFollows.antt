@@ -9,7 +9,7 @@ use Rattle.mach_tries.specs.Paths.{Leads, Path, IsTree}
 use Rattle.mach_tries.specs.Visits.{AreApart}
 use Rattle.mach_base.specs.Text.{texts}
 use Rattle.mach_tries.specs.Finds.{Finds, at_nothing, below}
-use Rattle.mach_tries.specs.LookUp.{Spells, IsOnWay, LookUpVisits}
+use Rattle.mach_tries.specs.LookUp.{PathSpells, IsOnWay, LookUpVisits}
 use Rattle.mach_tries.specs.LookUpState.{IsPassed, LeadsOn, SearchVisits}
 use Rattle.mach_tries.specs.Views.{source_trie}
 use Rattle.mach_tries.specs.declared.walk.Source.{Source}
@@ -39,7 +39,7 @@ module _ (s : Source) (name : List ℕ) where
   -- a path to a node that was visited before this start, with fewer branches than this
   abbrev pub IsBefore : ℕ → List ℕ → List ℕ → Type 0
   IsBefore start path p = (at : ℕ) × Leads (source_trie s) p s.from at × (at < start) × (length p < length path)
-      × (others : List ℕ) × Spells (source_trie s) s.from name p others
+      × (others : List ℕ) × PathSpells (source_trie s) s.from name p others
 
   pub record Follows (start : ℕ) (rest : List ℕ) (first steps : ℕ) : Type 0 where
     pub path : List ℕ
@@ -47,7 +47,7 @@ module _ (s : Source) (name : List ℕ) where
     pub leads : Leads (source_trie s) path s.from start
     pub inside : start < s.upto
     pub low : s.from ≤ start
-    pub spelled : Spells (source_trie s) s.from name path rest
+    pub spelled : PathSpells (source_trie s) s.from name path rest
     pub finds : (found : Option Info) → Finds (source_trie s) start rest found → Finds (source_trie s) s.from name found
     pub each : (p : List ℕ) → IsAmong p before → IsBefore start path p
     pub apart : AreApart (source_trie s) s.from before
@@ -122,7 +122,8 @@ module _ (s : Source) (name : List ℕ) where
       on = turn.1.3
 
       rest_behind : on.others ≡ drop len rest
-      rest_behind = sym (drop-append_seam on.branch.label on.others) ∙ (ap (λ n. drop n (on.branch.label ++ on.others)) on.len_is ∙ ap (drop len) (sym on.spells))
+      rest_behind = sym (drop-append_seam on.branch.label on.others)
+          ∙ (ap (λ n. drop n (on.branch.label ++ on.others)) on.len_is ∙ ap (drop len) (sym on.spells))
 
       pub len_within : len ≤ length rest
       len_within = let a = ap (λ (x : List ℕ). length x) on.spells in let b = length-append on.branch.label on.others in let c = on.len_is in omega arith

@@ -11,7 +11,7 @@ use Rattle.mach_tries.specs.Trie.{Branch, Node, Trie}
 use Rattle.mach_tries.specs.TrieFault.{TrieFault, at_node, met_again}
 use Rattle.mach_tries.specs.Paths.{Leads}
 use Rattle.mach_tries.specs.TerminalPaths.{IsNameOf}
-use Rattle.mach_tries.specs.LookUp.{Spells, IsOnWay, FaultOnWay, at_node_on_way, met_on_way}
+use Rattle.mach_tries.specs.LookUp.{PathSpells, IsOnWay, FaultOnWay, at_node_on_way, met_on_way}
 use Rattle.mach_tries.proofs.TriePaths.{same_node, same_some, Leads-append, leads_to_one}
 
 module _ (t : Trie) where
@@ -30,8 +30,8 @@ module _ (t : Trie) where
         ap (λ (x : List ℕ). x ++ n) h.6 ∙ append_assoc h.1.label h.2 n,
       )
 
-  pub spells_append : (p q : List ℕ) (a b : ℕ) (name rest others : List ℕ) → Leads t p a b → Spells t a name p rest → Spells t b rest q others
-      → Spells t a name (p ++ q) others
+  pub spells_append : (p q : List ℕ) (a b : ℕ) (name rest others : List ℕ) → Leads t p a b → PathSpells t a name p rest → PathSpells t b rest q others
+      → PathSpells t a name (p ++ q) others
   spells_append p q a b name rest others l front more = (
     front.0 ++ more.0,
     name_append p q a b front.0 more.0 l front.1 more.1,
@@ -39,8 +39,8 @@ module _ (t : Trie) where
   )
 
   -- by one branch more
-  pub spells_on : (p : List ℕ) (a b : ℕ) (name rest others : List ℕ) (node : Node) (k : ℕ) (branch : Branch) → Leads t p a b → Spells t a name p rest
-      → t.node b ≡ Ok node → slice_get node.branches k ≡ Some branch → rest ≡ branch.label ++ others → Spells t a name (p ++ k ∷ []) others
+  pub spells_on : (p : List ℕ) (a b : ℕ) (name rest others : List ℕ) (node : Node) (k : ℕ) (branch : Branch) → Leads t p a b → PathSpells t a name p rest
+      → t.node b ≡ Ok node → slice_get node.branches k ≡ Some branch → rest ≡ branch.label ++ others → PathSpells t a name (p ++ k ∷ []) others
   spells_on p a b name rest others node k branch l front at there e =
       spells_append p (k ∷ []) a b name rest others l front
       (branch.label, (node, branch, [], at, there, refl, append_nil_own branch.label), e)
@@ -50,7 +50,7 @@ module _ (t : Trie) where
       append_nil_own (x ∷ xs) = ap (λ (ys : List ℕ). x ∷ ys) (append_nil_own xs)
 
   -- what is on the way behind a node on it is on the way
-  pub way_behind : (p q : List ℕ) (a b : ℕ) (name rest : List ℕ) → Leads t p a b → Spells t a name p rest → IsOnWay t b rest q → IsOnWay t a name (p ++ q)
+  pub way_behind : (p q : List ℕ) (a b : ℕ) (name rest : List ℕ) → Leads t p a b → PathSpells t a name p rest → IsOnWay t b rest q → IsOnWay t a name (p ++ q)
   way_behind p q a b name rest l spelled way = (
     (way.0.0, Leads-append t p q a b way.0.0 l way.0.1, way.0.2),
     way.1,
@@ -58,7 +58,7 @@ module _ (t : Trie) where
   )
 
   -- and so are the faults there
-  pub fault_behind : (p : List ℕ) (a b : ℕ) (name rest : List ℕ) (f : Fault) → Leads t p a b → Spells t a name p rest → FaultOnWay t b rest f
+  pub fault_behind : (p : List ℕ) (a b : ℕ) (name rest : List ℕ) (f : Fault) → Leads t p a b → PathSpells t a name p rest → FaultOnWay t b rest f
       → FaultOnWay t a name f
   fault_behind p a b name rest _ l spelled (at_node_on_way g q at way more err) =
       at_node_on_way g (p ++ q) at (way_behind p q a b name rest l spelled way) (Leads-append t p q a b at l more) err
@@ -66,7 +66,7 @@ module _ (t : Trie) where
       met_on_way (p ++ q) (p ++ r) at (way_behind p q a b name rest l spelled one_way) (way_behind p r a b name rest l spelled two_way)
       (Leads-append t p q a b at l one) (Leads-append t p r a b at l two) (λ e. other (append_cancel_left p q r e))
 
-  pub stands_behind : {X : Type 0} (p : List ℕ) (a b : ℕ) (name rest : List ℕ) (r : Result X Error) → Leads t p a b → Spells t a name p rest
+  pub stands_behind : {X : Type 0} (p : List ℕ) (a b : ℕ) (name rest : List ℕ) (r : Result X Error) → Leads t p a b → PathSpells t a name p rest
       → IfErr r (Stands (FaultOnWay t b rest)) → IfErr r (Stands (FaultOnWay t a name))
   stands_behind p a b name rest (Ok x) l spelled h = tt
   stands_behind p a b name rest (Err e) l spelled h =

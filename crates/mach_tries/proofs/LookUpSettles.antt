@@ -6,7 +6,7 @@ use Rattle.mach_tries.specs.Nodes.{branch_at, branches_at}
 use Rattle.mach_tries.specs.Views.{those_read}
 use Rattle.mach_tries.specs.Views.{branches_of, IsReadable}
 use Rattle.mach_tries.specs.Finds.{BranchesFind}
-use Rattle.mach_tries.specs.LookUpState.{Settles, Stops}
+use Rattle.mach_tries.specs.LookUpState.{Settles, FirstBranchLeads}
 use Rattle.mach_tries.specs.Views.{source_trie}
 use Rattle.mach_tries.specs.declared.node.BranchRun.{BranchRun}
 use Rattle.mach_tries.specs.declared.walk.Source.{Source}
@@ -19,10 +19,10 @@ pub readable_as : (r : Result (List Branch) Fault) (bs : List Branch) → r ≡ 
 readable_as r bs e = let same : those_read r ≡ bs = ap those_read e in (e ∙ ap Ok (sym same), same)
 
 module _ (s : Source) (rest : List ℕ) (o : BranchRun) (readable : IsReadable s.bytes.now s.from o) where
-  pub stops_empty : o.left ≡ 0 → Stops (source_trie s) rest (branches_of s.bytes.now s.from o)
+  pub stops_empty : o.left ≡ 0 → FirstBranchLeads (source_trie s) rest (branches_of s.bytes.now s.from o)
   stops_empty none =
       let empty = no_branch s.bytes.now s.from o.left o.place (branches_of s.bytes.now s.from o) none readable in
-      subst (Stops (source_trie s) rest) (sym empty) tt
+      subst (FirstBranchLeads (source_trie s) rest) (sym empty) tt
 
   pub is_first : 0 < o.left → (found : Branch × ℕ) × (branch_at s.bytes.now s.from o.place ≡ Ok found)
   is_first some = first_branch s.bytes.now s.from o.left o.place (branches_of s.bytes.now s.from o) some readable
@@ -33,11 +33,12 @@ module _ (s : Source) (rest : List ℕ) (o : BranchRun) (readable : IsReadable s
         (o.left - 1) after ≡ Ok bs)
     next = next_left s.bytes.now s.from o.left o.place (branches_of s.bytes.now s.from o) (record { label = label; start = start }) after some readable read
 
-    pub stops_there : (start < s.upto) × (others : List ℕ) × (rest ≡ label ++ others) → Stops (source_trie s) rest (branches_of s.bytes.now s.from o)
-    stops_there h = subst (Stops (source_trie s) rest) (sym next.1) h
+    pub stops_there : (start < s.upto) × (others : List ℕ) × (rest ≡ label ++ others) → FirstBranchLeads (source_trie s) rest (branches_of s.bytes.now s.from o)
+    stops_there h = subst (FirstBranchLeads (source_trie s) rest) (sym next.1) h
 
-    pub stopped_there : Stops (source_trie s) rest (branches_of s.bytes.now s.from o) → (start < s.upto) × (others : List ℕ) × (rest ≡ label ++ others)
-    stopped_there h = subst (Stops (source_trie s) rest) next.1 h
+    pub stopped_there : FirstBranchLeads (source_trie s) rest (branches_of s.bytes.now s.from o)
+        → (start < s.upto) × (others : List ℕ) × (rest ≡ label ++ others)
+    stopped_there h = subst (FirstBranchLeads (source_trie s) rest) next.1 h
 
     pub readable_next : IsReadable s.bytes.now s.from (record { left = o.left - 1; place = after })
     readable_next = (readable_as (branches_at s.bytes.now s.from (o.left - 1) after) next.0 next.2).0
@@ -54,5 +55,6 @@ module _ (s : Source) (rest : List ℕ) (o : BranchRun) (readable : IsReadable s
           number = suc st.number;
           dropped = next_is ∙ one.1;
           finds = λ found x. st.finds found (subst (λ (bs : List Branch). BranchesFind (source_trie s) rest bs found) (sym next.1)
-              (one_passed (source_trie s) rest (record { label = label; start = start }) found next.0 h (subst (λ (bs : List Branch). BranchesFind (source_trie s) rest bs found) next_is x)));
+              (one_passed (source_trie s) rest (record { label = label; start = start }) found next.0 h
+              (subst (λ (bs : List Branch). BranchesFind (source_trie s) rest bs found) next_is x)));
         }

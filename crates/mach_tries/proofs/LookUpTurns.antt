@@ -5,8 +5,8 @@ use Rattle.mach_tries.proofs.Names.{Fault, malformed, IsAmong, Info, Branch, Nod
 use Rattle.mach_tries.proofs.Names.{branches_of, IsReadable, source_trie, node_in, Source}
 use Rattle.std.proofs.Math.Seq.{drop-append_seam}
 use Rattle.mach_tries.specs.Finds.{IsElsewhere, Finds, BranchesFind, here, below, none_left, behind, gone_back}
-use Rattle.mach_tries.specs.LookUp.{Spells, IsOnWay, FaultOnWay, at_node_on_way, met_on_way}
-use Rattle.mach_tries.specs.LookUpState.{Settles, Stops, SearchVisits}
+use Rattle.mach_tries.specs.LookUp.{PathSpells, IsOnWay, FaultOnWay, at_node_on_way, met_on_way}
+use Rattle.mach_tries.specs.LookUpState.{Settles, FirstBranchLeads, SearchVisits}
 use Rattle.mach_tries.specs.declared.look_up.Choice.{Choice}
 use Rattle.mach_tries.specs.declared.node.BranchRun.{BranchRun}
 use Rattle.mach_tries.proofs.BranchAgain.{no_branch, next_left}
@@ -90,7 +90,7 @@ module _ (s : Source) (root : ℕ) (name : List ℕ) where
     pub leads : Leads (source_trie s) f.path root f.start
     pub inside : f.start < s.upto
     pub node : node_in s f.start ≡ Ok f.node
-    pub spelled : Spells (source_trie s) root name f.path f.rest
+    pub spelled : PathSpells (source_trie s) root name f.path f.rest
 
   abbrev pub AreOpen : List Frame → Type 0
   AreOpen [] = Unit {0}
@@ -292,7 +292,7 @@ module _ (s : Source) (root : ℕ) (name : List ℕ) where
     rest_is : h.top.rest ≡ label ++ others
     rest_is = h.shown.rest ∙ taken.spells
 
-    child_spelled : Spells (source_trie s) root name (h.top.path ++ h.top.next ∷ []) others
+    child_spelled : PathSpells (source_trie s) root name (h.top.path ++ h.top.next ∷ []) others
     child_spelled = spells_on (source_trie s) h.top.path root h.top.start name h.top.rest others h.top.node h.top.next
         (record { label = label; start = start }) h.opened.0.leads h.opened.0.spelled h.opened.0.node head.0 rest_is
 
@@ -511,7 +511,7 @@ module _ (s : Source) (root : ℕ) (name : List ℕ) where
       → rest ≡ drop c.at name
       → Holds c cs marks first steps → IsReadable s.bytes.now s.from b
       → Settles (source_trie s) rest (branches_of s.bytes.now s.from c.branches) (branches_of s.bytes.now s.from b)
-      → Stops (source_trie s) rest (branches_of s.bytes.now s.from b) → 0 < b.left
+      → FirstBranchLeads (source_trie s) rest (branches_of s.bytes.now s.from b) → 0 < b.left
       → branch_at s.bytes.now s.from b.place ≡ Ok (record { label = label; start = start }, after)
       → Taken (record { branches = b; at = c.at }) cs marks first steps label start after
   takes {c} {b} {cs} {rest} {label} {start} {after} same h readable settles stops some read =

@@ -39,10 +39,10 @@ pub use Rattle.mach_tries.specs.TrieRows.{back_to_root, shared_node, children_at
 pub use Rattle.mach_tries.specs.TrieRows.{kind_1_with_stub_bit, ladder_of_40}
 pub use Rattle.mach_tries.specs.Visits.{AreApart, Visits}
 pub use Rattle.mach_tries.specs.Unfolds.{Ahead, ahead, to_root, Unfolds, nothing_read, passed, node_read, IsCutBy}
-pub use Rattle.mach_tries.specs.Reading.{AreLed, IsBeside, AreBeside, AreLastFirst, IsBehind, HasRead, AreMarked, AreAhead, IsRead}
-pub use Rattle.mach_tries.specs.WalkState.{Holds, HasListed, IsAtBranch, IsBetween, HasFound, IsWalk, IsRefused, unmarked, work}
+pub use Rattle.mach_tries.specs.Reading.{AreLed, IsBeside, AreBeside, AreLastFirst, GoesOnFromOne, HasRead, AreMarked, AreAhead, IsReadSoFar}
+pub use Rattle.mach_tries.specs.WalkState.{Holds, HasListed, IsAtBranch, IsBetween, HasFound, IsWalk, IsRefusedWalk, unmarked, work}
 pub use Rattle.mach_tries.specs.WalkState.{work_ahead}
-pub use Rattle.mach_tries.specs.Views.{branch_of, branches_of, IsReadable, branches_in, info_in, node_with_first, range_of, source_trie}
+pub use Rattle.mach_tries.specs.Views.{branch_of, branches_of, IsReadable, branches_in, info_in, node_with_first, trie_range_of, source_trie}
 pub use Rattle.mach_tries.specs.Views.{node_in, fault_in}
 pub use Rattle.mach_tries.specs.declared.walk.Open.{Open}
 pub use Rattle.mach_tries.specs.declared.walk.Source.{Source}

@@ -1,8 +1,9 @@
 -- What is ahead in open nodes, turn by turn: the same for a walk and for a cursor.
-use Rattle.mach_tries.proofs.Names.{◌≡◌, ◌<◌, ◌≤◌, ◌+◌, ◌-◌, ℕ, suc, List, [], ◌∷◌, ◌++◌, Ok, refl, sym, ap, subst, ◌∙◌, inl, inr, arith, length, take, cases_eq, map-append, append_assoc}
+use Rattle.mach_tries.proofs.Names.{◌≡◌, ◌<◌, ◌≤◌, ◌+◌, ◌-◌, ℕ, suc, List, [], ◌∷◌, ◌++◌, Ok, refl, sym, ap, subst, ◌∙◌, inl, inr, arith, length, take}
+use Rattle.mach_tries.proofs.Names.{cases_eq, map-append, append_assoc}
 use Rattle.mach_tries.proofs.Names.{length-append, length-take, slice_get, Some, Branch, Node, Entry, own_entries, branch_at, branches_at}
 use Rattle.mach_tries.proofs.Names.{trie_of, TrieRange, trie_there, IsNode, IsUtf8, IsUtf8-append}
-use Rattle.mach_tries.proofs.Names.{Ahead, ahead, Unfolds, nothing_read, passed, node_read, AreAhead, IsRead, Open}
+use Rattle.mach_tries.proofs.Names.{Ahead, ahead, Unfolds, nothing_read, passed, node_read, AreAhead, IsReadSoFar, Open}
 use Rattle.std.proofs.lemmas.List.{take-take, take_all, take-append-le}
 use Rattle.mach_tries.proofs.BranchAgain.{first_branch, next_left, no_branch}
 use Rattle.mach_tries.proofs.Starts.{labels_read}
@@ -92,7 +93,7 @@ pub root_next : (t : TrieRange) (libs : List (List ℕ)) (name : List ℕ) (len 
 root_next t libs name len none = rw none nothing_read
 
 abbrev pub root_read : (t : TrieRange) (libs : List (List ℕ)) (name : List ℕ) (o : Open) (os : List Open) → o.left ≡ 0 → o.name_len ≡ 0 → os ≡ []
-    → IsRead t libs name (record { name = take o.name_len name ++ []; start = t.from } ∷ []) (o ∷ os) [] 0
+    → IsReadSoFar t libs name (record { name = take o.name_len name ++ []; start = t.from } ∷ []) (o ∷ os) [] 0
 root_read t libs name o os none len bottom = record {
   left = [];
   read = root_next t libs name o.name_len len;
@@ -105,16 +106,16 @@ split name all first others left e = rw (e, map-append) (simp append_assoc)
 
 module _ {t : TrieRange} {libs : List (List ℕ)} {name : List ℕ} {found : List Entry} {n : ℕ} {o : Open} {os : List Open} where
   -- at a branch
-  module _ {x : Ahead} (k : IsRead t libs name (x ∷ []) (o ∷ os) found n) where
+  module _ {x : Ahead} (k : IsReadSoFar t libs name (x ∷ []) (o ∷ os) found n) where
     -- what is nothing is passed
-    abbrev pub passes : t.upto ≤ x.start → IsRead t libs name [] (o ∷ os) found n
+    abbrev pub passes : t.upto ≤ x.start → IsReadSoFar t libs name [] (o ∷ os) found n
     passes out = record { left = k.left; read = passed k.read out; ahead = k.ahead }
 
     module _ (label : List ℕ) (spelled : x.name ≡ take o.name_len name ++ label) (node : Node) (is : IsNode (trie_there t libs) x.start node) where
       -- a node is read; of its branches some come next, and the others are kept
       abbrev pub enters : (first others : List Branch) → node.branches ≡ first ++ others → (c : Open) (os' : List Open) → c.name_len ≡ length x.name
           → branches_at t.bytes t.from c.left c.place ≡ Ok others → (0 < o.left → os' ≡ o ∷ os) → (o.left ≡ 0 → os' ≡ os)
-          → IsRead t libs x.name (ahead x.name first) (c ∷ os') (found ++ own_entries x.name node.own) (suc n)
+          → IsReadSoFar t libs x.name (ahead x.name first) (c ∷ os') (found ++ own_entries x.name node.own) (suc n)
       enters first others all c os' len read over in_place = record {
         left = ahead x.name others ++ k.left;
         read = node_read node k.read is refl (split x.name node.branches first others k.left all);
@@ -122,7 +123,7 @@ module _ {t : TrieRange} {libs : List (List ℕ)} {name : List ℕ} {found : Lis
       }
 
       -- one without branches
-      abbrev pub enters_leaf : node.branches ≡ [] → IsRead t libs x.name [] (o ∷ os) (found ++ own_entries x.name node.own) (suc n)
+      abbrev pub enters_leaf : node.branches ≡ [] → IsReadSoFar t libs x.name [] (o ∷ os) (found ++ own_entries x.name node.own) (suc n)
       enters_leaf none = record {
         left = k.left;
         read = node_read node k.read is refl (split x.name node.branches [] [] k.left none);
@@ -130,9 +131,9 @@ module _ {t : TrieRange} {libs : List (List ℕ)} {name : List ℕ} {found : Lis
       }
 
   -- between two branches
-  module _ (k : IsRead t libs name [] (o ∷ os) found n) where
+  module _ (k : IsReadSoFar t libs name [] (o ∷ os) found n) where
     -- no branch of the top is left
-    abbrev pub closes : o.left ≡ 0 → IsRead t libs name [] os found n
+    abbrev pub closes : o.left ≡ 0 → IsReadSoFar t libs name [] os found n
     closes none = record { left = k.left; read = k.read; ahead = dropped t.bytes t.from name o os k.left none k.ahead }
 
     pub none_ahead : o.left ≡ 0 → os ≡ [] → k.left ≡ []
@@ -157,7 +158,7 @@ module _ {t : TrieRange} {libs : List (List ℕ)} {name : List ℕ} {found : Lis
         pub left_is : k.left ≡ record { name = take o.name_len name ++ b.label; start = b.start } ∷ left_then
         left_is = k.ahead.5 ∙ ap (λ (bs : List Branch). ahead (take o.name_len name) bs ++ k.ahead.1) next_then.1
 
-        abbrev pub goes_on : IsRead t libs name (record { name = take o.name_len name ++ b.label; start = b.start } ∷ [])
+        abbrev pub goes_on : IsReadSoFar t libs name (record { name = take o.name_len name ++ b.label; start = b.start } ∷ [])
             (record { left = o.left - 1; place = after; name_len = o.name_len } ∷ os) found n
         goes_on = record {
           left = left_then;
@@ -187,5 +188,5 @@ are_utf8 bytes libs from upto (node_read {next = next} node before is met_is sam
     subst AreUtf8 (sym same) (labels_utf8 next.name node.branches _ rest.0 (labels_read bytes libs from next.start node is.1) rest.1)
 
 pub next_utf8 : {t : TrieRange} {libs : List (List ℕ)} {name : List ℕ} {next : Ahead} {os : List Open} {found : List Entry} {n : ℕ}
-    → IsRead t libs name (next ∷ []) os found n → IsUtf8 next.name
+    → IsReadSoFar t libs name (next ∷ []) os found n → IsUtf8 next.name
 next_utf8 {t} {libs} k = (are_utf8 t.bytes libs t.from t.upto k.read).0

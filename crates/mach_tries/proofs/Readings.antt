@@ -1,9 +1,10 @@
 -- The paths of a reading, turn by turn: to the nodes that were read, and to what is ahead.
 use Rattle.mach_tries.proofs.Names.{◌≡◌, ◌<◌, ◌≤◌, ◌+◌, ◌-◌, ℕ, zero, suc, List, [], ◌∷◌, ◌++◌, ◌⊎◌, inl, inr, length, drop, Some, refl, sym, ap, subst, ◌∙◌}
-use Rattle.mach_tries.proofs.Names.{arith, append_assoc, append-nil, length-append, slice_get, cases_eq, Fault, malformed, Info, Option, None, Branch, Node, Trie}
+use Rattle.mach_tries.proofs.Names.{arith, append_assoc, append-nil, length-append, slice_get, cases_eq, Fault, malformed, Info, Option, None, Branch, Node}
+use Rattle.mach_tries.proofs.Names.{Trie}
 use Rattle.mach_tries.proofs.Names.{IsNode, Entry, own_entries, Leads, Path, Before, IsTree, StartsFrom, IsAmong, AreApart, TrieFault, at_node, met_again}
 use Rattle.mach_tries.proofs.Names.{Ahead, ahead, to_root, Unfolds, nothing_read, passed, node_read, IsCutBy}
-use Rattle.mach_tries.proofs.Names.{AreLed, IsBeside, AreBeside, AreLastFirst, IsBehind, HasRead}
+use Rattle.mach_tries.proofs.Names.{AreLed, IsBeside, AreBeside, AreLastFirst, GoesOnFromOne, HasRead}
 use Rattle.mach_tries.proofs.TriePaths.{same_node, leads_to_one, leads_inside, leads_behind, Leads-append, drop_head, not_before_itself}
 use Rattle.mach_tries.proofs.TriePaths.{among_left, among_right, among_append}
 use Rattle.mach_tries.proofs.TrieVisits.{few_paths}
@@ -157,7 +158,7 @@ module _ {t : Trie} {root : ℕ} where
     },
   )
     where
-      behind : (rest p : List ℕ) → p ≡ q ++ rest → Path t root p → IsAmong p (q ∷ paths) ⊎ IsBehind (children q 0 node.branches ++ qs) p
+      behind : (rest p : List ℕ) → p ≡ q ++ rest → Path t root p → IsAmong p (q ∷ paths) ⊎ GoesOnFromOne (children q 0 node.branches ++ qs) p
       behind [] p e path = inl (inl (e ∙ append-nil q))
       behind (k ∷ ks) p e path =
           let way = leads_behind t q (k ∷ ks) root x.start path.0 h.led.0 (subst (λ z. Leads t z root path.0) e path.1) in
@@ -222,7 +223,7 @@ module _ {t : Trie} {root : ℕ} where
     pub all_paths : (p : List ℕ) → Path t root p → IsAmong p paths
     all_paths p path = of others h.led (h.all p path)
       where
-        of : (qs : List (List ℕ)) → AreLed t root qs [] → IsAmong p paths ⊎ IsBehind qs p → IsAmong p paths
+        of : (qs : List (List ℕ)) → AreLed t root qs [] → IsAmong p paths ⊎ GoesOnFromOne qs p → IsAmong p paths
         of [] led i = elim i [ inl there ↦ there | inr b ↦ absurd b.2 ]
         of (q ∷ qs) led i = absurd led
 

@@ -1,5 +1,6 @@
 -- More levels keep a list.
-use Rattle.mach_tries.proofs.Names.{◌-◌, ◌⊎◌, zero-add, inl, inr, ◌≡◌, ◌<◌, ◌≤◌, ◌+◌, ℕ, zero, suc, true, false, List, [], ◌∷◌, ◌++◌, Option, Some, None, Result}
+use Rattle.mach_tries.proofs.Names.{◌-◌, ◌⊎◌, zero-add, inl, inr, ◌≡◌, ◌<◌, ◌≤◌, ◌+◌, ℕ, zero, suc, true, false, List, [], ◌∷◌, ◌++◌, Option, Some, None}
+use Rattle.mach_tries.proofs.Names.{Result}
 use Rattle.mach_tries.proofs.Names.{Ok, Err, refl, sym, ◌∙◌, arith, nat_le, nat_tests, cases_lt, Fault, Branch, Node, Trie, Entry, own_entries, lists_of}
 use Rattle.mach_tries.proofs.Names.{node_list, list_within}
 use Rattle.mach_tries.specs.Lists.{◌>>=◌}

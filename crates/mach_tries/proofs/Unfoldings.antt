@@ -82,7 +82,8 @@ begun_ahead {t} {root} nothing_read es (inr l) =
 begun_ahead (passed {next = next} before out) es l = begun_ahead before es (inr ([], es, nothing out, l, refl))
 begun_ahead {t} {root} {found = met} (node_read {found = found} {next = next} {others = others} node before is met_is left_is) es l =
     let own = own_entries next.name node.own in
-    let part : ListBegins t root [] (found ++ (own ++ es)) = elim (branches_begin t next.name node.branches others es (subst (λ (x : List Ahead). BegunAhead t x es) left_is l)) [
+    let part : ListBegins t root [] (found ++ (own ++ es)) =
+    elim (branches_begin t next.name node.branches others es (subst (λ (x : List Ahead). BegunAhead t x es) left_is l)) [
       | inl part ↦ begun_ahead before (own ++ es) (inl (node_begun node is part refl))
       | inr split ↦ begun_ahead before (own ++ es) (inr (
         own ++ split.0,

@@ -2,8 +2,8 @@
 use Rattle.mach_tries.proofs.Names.{◌≡◌, ◌<◌, ◌≤◌, ◌+◌, ◌-◌, ◌*◌, ℕ, suc, Bool, true, false, cond, List, [], ◌∷◌, ◌++◌, inl, inr, length, take, set, get_or}
 use Rattle.mach_tries.proofs.Names.{refl, sym, ap, subst, ◌∙◌, arith, replicate, reverse, reverse-append, sum_by-cons, cases_eq, Ok, Err, Option, Some}
 use Rattle.mach_tries.proofs.Names.{None, IfSome, Error, Fault, malformed, Info, Node, Trie, Branch, Entry, own_entries, nothing, IsUtf8, texts}
-use Rattle.mach_tries.proofs.Names.{Leads, Path, IsAmong, branch_at, source_trie, node_in, fault_in, range_of, at_node, met_again, AreApart, Visits}
-use Rattle.mach_tries.proofs.Names.{Ahead, ahead, HasRead, AreMarked, Holds, HasListed, IsRefused, IsAtBranch, HasFound, unmarked, work}
+use Rattle.mach_tries.proofs.Names.{Leads, Path, IsAmong, branch_at, source_trie, node_in, fault_in, trie_range_of, at_node, met_again, AreApart, Visits}
+use Rattle.mach_tries.proofs.Names.{Ahead, ahead, HasRead, AreMarked, Holds, HasListed, IsRefusedWalk, IsAtBranch, HasFound, unmarked, work}
 use Rattle.mach_tries.proofs.Names.{branch_of, branches_of, branches_in, IsReadable, Source, Open}
 use Rattle.std.proofs.lemmas.List.{take_all}
 use Rattle.mach_tries.specs.declared.walk.Walker.{Walker}
@@ -88,7 +88,7 @@ nothing_listed s out = record {
 pub starts : (s : Source) → s.from < s.upto → (name : List ℕ) (marks : List Bool) (o : Open) (os : List Open) → marks ≡ replicate (s.upto - s.from) false
     → o.left ≡ 0 → o.name_len ≡ 0 → os ≡ [] → Holds s name marks (record { name = take o.name_len name ++ []; start = s.from } ∷ []) o os [] 0
 starts s inside name marks o os none left len bottom = rw (none, bottom) (record {
-  is_read = nodes.root_read (range_of s) (texts s.libs.now) name o [] left len refl;
+  is_read = nodes.root_read (trie_range_of s) (texts s.libs.now) name o [] left len refl;
   paths = [];
   others = [] ∷ [];
   count = refl;
@@ -286,9 +286,9 @@ visits_so_far w f = elim f [
 ]
 
 -- a refusal, counted from an earlier state
-pub refused_from : {s s' : Source} {n m old mid new : ℕ} {e : Error} → s' ≡ s → IsRefused s' m mid new e → mid + n ≡ old + m → IsRefused s n old new e
+pub refused_from : {s s' : Source} {n m old mid new : ℕ} {e : Error} → s' ≡ s → IsRefusedWalk s' m mid new e → mid + n ≡ old + m → IsRefusedWalk s n old new e
 refused_from {n} {m} {old} {mid} {new} {e} same r grew =
-    subst (λ (x : Source). IsRefused x n old new e) same (record {
+    subst (λ (x : Source). IsRefusedWalk x n old new e) same (record {
       fault = r.fault;
       visited = r.visited;
       visits = r.visits;

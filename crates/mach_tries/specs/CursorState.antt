@@ -7,7 +7,7 @@ use Rattle.mach_tries.specs.Nodes.{branch_at}
 use Rattle.mach_tries.specs.Trie as trie
 use Rattle.mach_tries.specs.Trie.{Entry, entry}
 use Rattle.mach_tries.specs.TrieRange.{TrieRange, trie_there}
-use Rattle.mach_tries.specs.Reading.{IsRead, branches_left}
+use Rattle.mach_tries.specs.Reading.{IsReadSoFar, branches_left}
 use Rattle.mach_tries.specs.Unfolds.{Unfolds, IsCutBy}
 use Rattle.mach_tries.specs.declared.cursor.NextExport.{NextExport}
 use Rattle.mach_tries.specs.declared.cursor.NextExport.TheVariants.{Export, End, Refused, NameTooLong, StackTooShort}
@@ -19,8 +19,8 @@ abbrev pub below : TrieCursor → List Open → List Open
 below c stack = reverse (take c.depth stack)
 
 -- the name of the node that was met last
-abbrev pub name_of : TrieCursor → List ℕ → List ℕ
-name_of c name = take c.name_len name
+abbrev pub name_met_last : TrieCursor → List ℕ → List ℕ
+name_met_last c name = take c.name_len name
 
 -- the memory has what the cursor counts of it, and so many visits are left where so many were made
 pub record IsKept (t : TrieRange) (c : TrieCursor) (name : List ℕ) (stack : List Open) (n : ℕ) : Type 0 where
@@ -37,13 +37,14 @@ pub record IsAtChild (t : TrieRange) (libs : List (List ℕ)) (c : TrieCursor) (
     (found : List Entry) : Type 0 where
   pub nodes : ℕ
   pub kept : IsKept t c name stack nodes
-  pub is_read : IsRead t libs (name_of c name) (record { name = take rest.name_len (name_of c name) ++ b.label; start = b.start } ∷ []) (rest ∷ below c stack)
+  pub is_read : IsReadSoFar t libs (name_met_last c name) (record { name = take rest.name_len (name_met_last c name) ++ b.label; start = b.start } ∷ [])
+      (rest ∷ below c stack)
       found nodes
 
 -- the same at the root, between two branches, or where all is met
 pub data HasCome (t : TrieRange) (libs : List (List ℕ)) (c : TrieCursor) (name : List ℕ) (stack : List Open) (found : List Entry) : Type 0 where
   at_root : c.phase ≡ 0 → IsAtChild t libs c name stack (root t) c.top found → HasCome t libs c name stack found
-  between : (n : ℕ) → c.phase ≡ 1 → IsKept t c name stack n → IsRead t libs (name_of c name) [] (c.top ∷ below c stack) found n
+  between : (n : ℕ) → c.phase ≡ 1 → IsKept t c name stack n → IsReadSoFar t libs (name_met_last c name) [] (c.top ∷ below c stack) found n
       → HasCome t libs c name stack found
   all_met : (n : ℕ) → 1 < c.phase → Unfolds (trie_there t libs) t.from n found [] → HasCome t libs c name stack found
 
@@ -52,7 +53,7 @@ pub data HasCome (t : TrieRange) (libs : List (List ℕ)) (c : TrieCursor) (name
 -- one more export; at the end nothing, and all is met; an error where the reading is cut short by it
 abbrev pub TurnGives : TrieRange → List (List ℕ) → List Entry → Option NextExport → TrieCursor → List ℕ → List Open → Type 0
 TurnGives t libs found None c name stack = HasCome t libs c name stack found
-TurnGives t libs found (Some (Export info)) c name stack = HasCome t libs c name stack (found ++ entry (name_of c name) (info_of info) ∷ [])
+TurnGives t libs found (Some (Export info)) c name stack = HasCome t libs c name stack (found ++ entry (name_met_last c name) (info_of info) ∷ [])
 TurnGives t libs found (Some (End)) c name stack = HasCome t libs c name stack found × (n : ℕ) × Unfolds (trie_there t libs) t.from n found []
 TurnGives t libs found (Some (Refused e)) c name stack = IsCutBy (trie_there t libs) t.from found (fault_of e)
 TurnGives t libs found (Some (NameTooLong n)) c name stack = Unit {0}
@@ -74,11 +75,11 @@ IsStopped (Some (NameTooLong n)) = Unit {0}
 IsStopped (Some (StackTooShort)) = Unit {0}
 
 -- what is left to do, in a trie of so many bytes: visits, and the branches of open nodes
-abbrev pub work : ℕ → ℕ → List Open → ℕ
-work most visits os = (most + 2) * visits + branches_left os
+abbrev pub cursor_work : ℕ → ℕ → List Open → ℕ
+cursor_work most visits os = (most + 2) * visits + branches_left os
 
 abbrev pub work_of : ℕ → TrieCursor → List Open → ℕ
-work_of most c stack = if nat_lt 1 c.phase then 0 else (work most c.visits_left (c.top ∷ below c stack) + (1 - c.phase))
+work_of most c stack = if nat_lt 1 c.phase then 0 else (cursor_work most c.visits_left (c.top ∷ below c stack) + (1 - c.phase))
 
 -- the label of the branch that comes next; the root's is empty
 abbrev pub IsNextLabel : List ℕ → ℕ → TrieCursor → List ℕ → Type 0

@@ -4,7 +4,7 @@ use Rattle.mach_base.specs.Answer.{◌>>=◌}
 use Rattle.mach_base.specs.Fault.{Fault, malformed, fault_of}
 use Rattle.mach_base.specs.Leb128.{uleb_at}
 use Rattle.mach_base.specs.Text.{text_at}
-use Rattle.mach_tries.specs.CursorState.{HasCome, name_of}
+use Rattle.mach_tries.specs.CursorState.{HasCome, name_met_last}
 use Rattle.mach_tries.specs.Exports.{info_of}
 use Rattle.mach_tries.specs.Nodes as Nodes
 use Rattle.mach_tries.specs.Nodes.{node_at}
@@ -33,7 +33,7 @@ pub record IsCutShort (t : TrieRange) (libs : List (List ℕ)) (found : List Ent
 -- what comes behind these exports: one more; at the end nothing, all is met, and they are the trie's list, if no two paths lead to one
 -- node; the fault by which the reading is cut short; or nothing yet, for want of memory
 abbrev pub NextGives : TrieRange → List (List ℕ) → List Entry → NextExport → TrieCursor → List ℕ → List Open → Type 0
-NextGives t libs found (Export info) c name stack = HasGivenTo t libs c name stack (found ++ entry (name_of c name) (info_of info) ∷ [])
+NextGives t libs found (Export info) c name stack = HasGivenTo t libs c name stack (found ++ entry (name_met_last c name) (info_of info) ∷ [])
 NextGives t libs found (End) c name stack =
     HasGivenTo t libs c name stack found × AreAllMet t libs found × (ListsExports t libs found ⊎ ExportsFault t libs malformed)
 NextGives t libs found (Refused e) c name stack = IsCutShort t libs found (fault_of e)

@@ -22,12 +22,12 @@ StandsFor t root name None = (info : Info) → IsExportOf t root name info → �
 StandsFor t root name (Some info) = IsExportOf t root name info
 
 -- the name of a path is a beginning of this name, behind which the rest is left
-abbrev pub Spells : Trie → ℕ → List ℕ → List ℕ → List ℕ → Type 0
-Spells t root name path rest = (front : List ℕ) × IsNameOf t root path front × (name ≡ front ++ rest)
+abbrev pub PathSpells : Trie → ℕ → List ℕ → List ℕ → List ℕ → Type 0
+PathSpells t root name path rest = (front : List ℕ) × IsNameOf t root path front × (name ≡ front ++ rest)
 
 -- the path leads to a node on the way of the name
 abbrev pub IsOnWay : Trie → ℕ → List ℕ → List ℕ → Type 0
-IsOnWay t root name path = Path t root path × (rest : List ℕ) × Spells t root name path rest
+IsOnWay t root name path = Path t root path × (rest : List ℕ) × PathSpells t root name path rest
 
 -- a fault that the name's way meets: a node on it is malformed, or two paths on it lead to one node
 pub data FaultOnWay (t : Trie) (root : ℕ) (name : List ℕ) : Fault → Type 0 where

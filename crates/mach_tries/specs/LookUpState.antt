@@ -28,9 +28,9 @@ pub record Settles (t : Trie) (rest : List ℕ) (bs cs : List trie.Branch) : Typ
   pub finds : (found : Option Info) → BranchesFind t rest cs found → BranchesFind t rest bs found
 
 -- the first branch, if there is one, spells a beginning of the rest and leads into the range
-abbrev pub Stops : Trie → List ℕ → List trie.Branch → Type 0
-Stops t rest [] = Unit {0}
-Stops t rest (b ∷ bs) = (b.start < t.upto) × (others : List ℕ) × (rest ≡ b.label ++ others)
+abbrev pub FirstBranchLeads : Trie → List ℕ → List trie.Branch → Type 0
+FirstBranchLeads t rest [] = Unit {0}
+FirstBranchLeads t rest (b ∷ bs) = (b.start < t.upto) × (others : List ℕ) × (rest ≡ b.label ++ others)
 
 -- one of the branches leads into the range, by a label of so many bytes, and what is found there is found
 pub record LeadsOn (t : Trie) (rest : List ℕ) (bs : List trie.Branch) (start len : ℕ) : Type 0 where

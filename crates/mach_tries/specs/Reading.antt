@@ -35,8 +35,8 @@ AreLastFirst [] = Unit {0}
 AreLastFirst (p ∷ ps) = ((q : List ℕ) → IsAmong q ps → Before q p) × AreLastFirst ps
 
 -- it goes on from one of these
-abbrev pub IsBehind : List (List ℕ) → List ℕ → Type 0
-IsBehind qs p = (q : List ℕ) × (rest : List ℕ) × IsAmong q qs × (p ≡ q ++ rest)
+abbrev pub GoesOnFromOne : List (List ℕ) → List ℕ → Type 0
+GoesOnFromOne qs p = (q : List ℕ) × (rest : List ℕ) × IsAmong q qs × (p ≡ q ++ rest)
 
 -- The paths to the nodes that were read, the last first, and to what is ahead: each node was read or is behind what is ahead.
 pub record HasRead (t : Trie) (root : ℕ) (paths others : List (List ℕ)) (left : List Ahead) : Type 0 where
@@ -45,7 +45,7 @@ pub record HasRead (t : Trie) (root : ℕ) (paths others : List (List ℕ)) (lef
   pub before : (p q : List ℕ) → IsAmong p paths → IsAmong q others → Before p q
   pub beside : AreBeside others
   pub last_first : AreLastFirst paths
-  pub all : (p : List ℕ) → Path t root p → IsAmong p paths ⊎ IsBehind others p
+  pub all : (p : List ℕ) → Path t root p → IsAmong p paths ⊎ GoesOnFromOne others p
 
 -- ---- marks
 
@@ -66,7 +66,7 @@ AreAhead bytes from name (o ∷ os) left =
     × AreAhead bytes from (take o.name_len name) os others × (left ≡ ahead (take o.name_len name) branches ++ others)
 
 -- So many nodes were read and these exports met; these branches come next, and behind them those of the open nodes.
-pub record IsRead (t : TrieRange) (libs : List (List ℕ)) (name : List ℕ) (next : List Ahead) (os : List Open) (found : List Entry) (n : ℕ) : Type 0 where
+pub record IsReadSoFar (t : TrieRange) (libs : List (List ℕ)) (name : List ℕ) (next : List Ahead) (os : List Open) (found : List Entry) (n : ℕ) : Type 0 where
   pub left : List Ahead
   pub read : Unfolds (trie_there t libs) t.from n found (next ++ left)
   pub ahead : AreAhead t.bytes t.from name os left

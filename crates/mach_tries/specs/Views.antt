@@ -51,8 +51,8 @@ node_with_first bytes from read = record { own = info_in read.0; branches = bran
 
 -- ---- a source
 
-abbrev pub range_of : Source → TrieRange
-range_of s = record { bytes = s.bytes.now; from = s.from; upto = s.upto }
+abbrev pub trie_range_of : Source → TrieRange
+trie_range_of s = record { bytes = s.bytes.now; from = s.from; upto = s.upto }
 
 abbrev pub source_trie : Source → Trie
 source_trie s = trie_of s.bytes.now (texts s.libs.now) s.from s.upto

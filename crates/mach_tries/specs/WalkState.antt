@@ -10,9 +10,9 @@ use Rattle.mach_tries.specs.Lists.{Lists}
 use Rattle.mach_tries.specs.Paths.{IsTree}
 use Rattle.mach_tries.specs.Visits.{Visits}
 use Rattle.mach_tries.specs.Unfolds.{Ahead}
-use Rattle.mach_tries.specs.Reading.{HasRead, AreMarked, IsRead, branches_left}
+use Rattle.mach_tries.specs.Reading.{HasRead, AreMarked, IsReadSoFar, branches_left}
 use Rattle.mach_tries.specs.Exports.{info_of}
-use Rattle.mach_tries.specs.Views.{range_of, source_trie, fault_in}
+use Rattle.mach_tries.specs.Views.{trie_range_of, source_trie, fault_in}
 use Rattle.mach_tries.specs.declared.info.ExportInfo.{ExportInfo}
 use Rattle.mach_tries.specs.declared.walk.Source.{Source}
 use Rattle.mach_tries.specs.declared.walk.Open.{Open}
@@ -25,7 +25,7 @@ HaveMore (o ∷ os) = (0 < o.left) × HaveMore os
 
 -- so many nodes were visited and these exports found, these branches come next, and a node is open over others
 pub record Holds (s : Source) (name : List ℕ) (marks : List Bool) (next : List Ahead) (o : Open) (os : List Open) (found : List Entry) (n : ℕ) : Type 0 where
-  pub is_read : IsRead (range_of s) (texts s.libs.now) name next (o ∷ os) found n
+  pub is_read : IsReadSoFar (trie_range_of s) (texts s.libs.now) name next (o ∷ os) found n
   pub paths : List (List ℕ)
   pub others : List (List ℕ)
   pub count : n ≡ length paths
@@ -44,11 +44,11 @@ pub record HasListed (s : Source) (found : List Entry) (n : ℕ) : Type 0 where
 -- ---- how far a walk has come, which has found these exports by so many visits
 
 -- the branch that comes next
-abbrev pub next_of : {A : Type 0} → Walker A → Ahead
-next_of w = record { name = take w.top.name_len w.name.items ++ w.next.label.now; start = w.next.start }
+abbrev pub next_branch : {A : Type 0} → Walker A → Ahead
+next_branch w = record { name = take w.top.name_len w.name.items ++ w.next.label.now; start = w.next.start }
 
 abbrev pub IsAtBranch : {A : Type 0} → List Entry → ℕ → Walker A → Type 0
-IsAtBranch found n w = (w.over ≡ false) × Holds w.source w.name.items w.marks (next_of w ∷ []) w.top (reverse w.stack.items) found n
+IsAtBranch found n w = (w.over ≡ false) × Holds w.source w.name.items w.marks (next_branch w ∷ []) w.top (reverse w.stack.items) found n
 
 -- between two branches
 abbrev pub IsBetween : {A : Type 0} → List Entry → ℕ → Walker A → Type 0
@@ -62,7 +62,7 @@ abbrev pub IsWalk : {A : Type 0} → Walker A → Type 0
 IsWalk w = w.over ≡ false → ∥ ((found : List Entry) × (n : ℕ) × HasFound found n w) ∥₁
 
 -- why a walk that had visited so many nodes is refused, and how the count of visits grew
-pub record IsRefused (s : Source) (n old new : ℕ) (e : Error) : Type 0 where
+pub record IsRefusedWalk (s : Source) (n old new : ℕ) (e : Error) : Type 0 where
   pub fault : Stands (fault_in s) e
   pub visited : ℕ
   pub visits : Visits {X = ℕ} {E = ℕ} (source_trie s) s.from 0 visited (Err 0)
@@ -73,7 +73,7 @@ pub record IsRefused (s : Source) (n old new : ℕ) (e : Error) : Type 0 where
 abbrev pub StepGives : {A : Type 0} → List Entry → ℕ → ℕ → ℕ → Source → Option (Result ExportInfo Error) → Walker A → Type 0
 StepGives found n old new s None w = (m : ℕ) × HasListed s found m × HasFound found m w × (new + n ≡ old + m)
 StepGives found n old new s (Some (Ok info)) w = (m : ℕ) × HasFound (found ++ entry w.name.items (info_of info) ∷ []) m w × (new + n ≡ old + m)
-StepGives found n old new s (Some (Err e)) w = IsRefused s n old new e
+StepGives found n old new s (Some (Err e)) w = IsRefusedWalk s n old new e
 
 -- ---- what is left to do: marks to be set, and the branches of the open nodes
 

@@ -16,8 +16,8 @@ abbrev pub HasGiven : {A : Type 0} → TrieRange → List (List ℕ) → List En
 HasGiven t libs found w = (source_trie w.walker.source ≡ trie_there t libs) × (w.walker.source.from ≡ t.from) × (n : ℕ) × HasFound found n w.walker
 
 -- it gives nothing more
-abbrev pub IsOver : {A : Type 0} → ExportWalk A → Type 0
-IsOver w = w.walker.over ≡ true
+abbrev pub GivesNoMore : {A : Type 0} → ExportWalk A → Type 0
+GivesNoMore w = w.walker.over ≡ true
 
 -- what it has left to do, which each export makes less
 abbrev pub work_left : {A : Type 0} → ExportWalk A → ℕ
@@ -31,8 +31,8 @@ SaysOfTrie t libs found (Some (Err e)) = Stands (ExportsFault t libs) e
 
 -- how a walk goes on behind an answer: over after an error and at the end, else with one export more given and less to do
 abbrev pub GoesOn : {A : Type 0} → ExportWalk A → Option (Result (Bor (List ℕ) × ExportInfo) Error) → ExportWalk A → Type 0
-GoesOn old None new = IsOver new
-GoesOn old (Some (Err e)) new = IsOver new
+GoesOn old None new = GivesNoMore new
+GoesOn old (Some (Err e)) new = GivesNoMore new
 GoesOn old (Some (Ok given)) new = (work_left new < work_left old)
     × ((t : TrieRange) (libs : List (List ℕ)) (found : List Entry) → HasGiven t libs found old
     → HasGiven t libs (found ++ entry given.0.now (info_of given.1) ∷ []) new)

@@ -6,12 +6,12 @@
 
 ghost use Rattle.std.specs.Prelude.{◌≡◌, ◌≤◌, ◌<◌, ◌+◌, ◌-◌, ◌^◌, ◌++◌, ◌∷◌, [], ℕ, List, length, take, min, Option, Ok, Some, IfOk, IfNone, IfSome};
 ghost use Rattle.mach_base.specs.Answer.{Reads};
-ghost use Rattle.mach_tries.specs.CursorState.{below, IsAtChild, HasCome, TurnGives, IsAsBefore, IsStopped, IsFull, work, work_of};
+ghost use Rattle.mach_tries.specs.CursorState.{below, IsAtChild, HasCome, TurnGives, IsAsBefore, IsStopped, IsFull, cursor_work, work_of};
 ghost use Rattle.mach_tries.specs.Cursors.{HasGivenTo, NextGives, IsOwnAt, IsReexportAt, StandsAt, place_at};
 ghost use Rattle.mach_tries.specs.Lists.{ListBegins};
 ghost use Rattle.mach_tries.specs.TrieRange.{TrieRange, trie_there};
 ghost use Rattle.mach_base.specs.Text.{texts};
-ghost use Rattle.mach_tries.specs.Views.{branch_of, node_in, node_of, range_of, IsReadable};
+ghost use Rattle.mach_tries.specs.Views.{branch_of, node_in, node_of, trie_range_of, IsReadable};
 ghost use Rattle.mach_tries.specs.Trie.{Entry, reexport};
 ghost use Rattle.mach_tries.specs.declared.cursor.NextExport.TheVariants as next;
 
@@ -200,15 +200,15 @@ impl TrieCursor {
     ) -> Option<NextExport<'a>>
         requires kept { self.old.depth ≤ length stack.old }
         ensures gives { (found : List Entry)
-            → IsAtChild (range_of source.now) (texts source.now.libs.now) self.old name.old stack.old (branch_of branch.entry) rest found
-            → TurnGives (range_of source.now) (texts source.now.libs.now) found result self.new name.new stack.new }
+            → IsAtChild (trie_range_of source.now) (texts source.now.libs.now) self.old name.old stack.old (branch_of branch.entry) rest found
+            → TurnGives (trie_range_of source.now) (texts source.now.libs.now) found result self.new name.new stack.new }
         ensures stopped { IsStopped result → IsAsBefore self.old self.new name.old name.new stack.old stack.new }
         ensures long { (n : ℕ) → result ≡ Some (next.NameTooLong n) → (n ≡ min (rest.name_len + length (branch_of branch.entry).label) (2 ^ 64 - 1))
             × (length name.old < rest.name_len + length (branch_of branch.entry).label) }
         ensures placed { StandsAt source.now.bytes.now (texts source.now.libs.now) source.now.from self.new.node result }
         ensures full { result ≡ Some next.StackTooShort → length stack.old ≤ self.old.depth }
         ensures less { IfNone result (work_of (length source.now.bytes.now) self.new stack.new
-            ≤ work (length source.now.bytes.now) self.old.visits_left (rest ∷ below self.old stack.old)) }
+            ≤ cursor_work (length source.now.bytes.now) self.old.visits_left (rest ∷ below self.old stack.old)) }
         ensures depth { self.new.depth ≤ length stack.new }
         ensures name_len { length name.new ≡ length name.old }
         ensures stack_len { length stack.new ≡ length stack.old }
@@ -253,8 +253,8 @@ impl TrieCursor {
     ) -> Option<NextExport<'a>>
         requires root { self.old.phase ≡ 0 }
         requires kept { self.old.depth ≤ length stack.old }
-        ensures gives { (found : List Entry) → HasCome (range_of source.now) (texts source.now.libs.now) self.old name.old stack.old found
-            → TurnGives (range_of source.now) (texts source.now.libs.now) found result self.new name.new stack.new }
+        ensures gives { (found : List Entry) → HasCome (trie_range_of source.now) (texts source.now.libs.now) self.old name.old stack.old found
+            → TurnGives (trie_range_of source.now) (texts source.now.libs.now) found result self.new name.new stack.new }
         ensures stopped { IsStopped result → IsAsBefore self.old self.new name.old name.new stack.old stack.new }
         ensures full { IsFull source.now.bytes.now source.now.from self.new name.new stack.new result }
         ensures placed { StandsAt source.now.bytes.now (texts source.now.libs.now) source.now.from self.new.node result }
@@ -281,8 +281,8 @@ impl TrieCursor {
     ) -> Option<NextExport<'a>>
         requires on { self.old.phase ≤ 1 }
         requires kept { self.old.depth ≤ length stack.old }
-        ensures gives { (found : List Entry) → HasCome (range_of source.now) (texts source.now.libs.now) self.old name.old stack.old found
-            → TurnGives (range_of source.now) (texts source.now.libs.now) found result self.new name.new stack.new }
+        ensures gives { (found : List Entry) → HasCome (trie_range_of source.now) (texts source.now.libs.now) self.old name.old stack.old found
+            → TurnGives (trie_range_of source.now) (texts source.now.libs.now) found result self.new name.new stack.new }
         ensures stopped { IsStopped result → IsAsBefore self.old self.new name.old name.new stack.old stack.new }
         ensures full { IsFull source.now.bytes.now source.now.from self.new name.new stack.new result }
         ensures placed { StandsAt source.now.bytes.now (texts source.now.libs.now) source.now.from self.new.node result }

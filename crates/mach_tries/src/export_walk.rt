@@ -23,7 +23,7 @@ impl<'a, 'b, A: Allocator> ExportWalk<'a, 'b, A> {
     ghost use Rattle.std.specs.Prelude.{⊤};
     ghost use Rattle.std.specs.Borrow.{sem};
     ghost use Rattle.mach_tries.specs.contracts.export_walk.ExportWalk.{the_row};
-    ghost use Rattle.mach_tries.specs.Walks.{HasGiven, IsOver, SaysOfTrie, GoesOn};
+    ghost use Rattle.mach_tries.specs.Walks.{HasGiven, GivesNoMore, SaysOfTrie, GoesOn};
     ghost use mathlib.Core.Option.{none};
     ghost use denote.Follow.{follows_so};
     ghost use mir.Syntax.{named};
@@ -36,7 +36,7 @@ impl<'a, 'b, A: Allocator> ExportWalk<'a, 'b, A> {
             → SaysOfTrie t libs found result }
         ensures begun { (t : TrieRange) (libs : List (List ℕ)) (found : List Entry) → HasGiven t libs found self.old
             → ListBegins (trie_there t libs) t.from [] found }
-        ensures over { IsOver self.old → IsNone result }
+        ensures over { GivesNoMore self.old → IsNone result }
         ensures* goes_on { sem 𝓛 (follows_so
             (the_row (record { mir = named 1; lft = [] }) (record { mir = named 2; lft = [] }) A.row A.Allocator)
             (the_row (record { mir = named 1; lft = [] }) (record { mir = named 2; lft = [] }) A.row A.Allocator)

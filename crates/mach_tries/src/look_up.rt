@@ -4,7 +4,8 @@
 //! node do, or a child doesn't stand behind its parent, it searches from that node on: the nodes visited there
 //! are marked, so that none is visited twice.
 
-ghost use Rattle.std.specs.Prelude.{◌≡◌, ◌≢◌, ◌≤◌, ◌<◌, ◌+◌, ◌-◌, ◌*◌, ◌++◌, ◌∷◌, [], ℕ, List, length, IfOk, IfErr, IfSome, IfNone, OnOk, Some, None, IsTrue, IsFalse, ◌⊎◌, option_map, Option, Ok};
+ghost use Rattle.std.specs.Prelude.{◌≡◌, ◌≢◌, ◌≤◌, ◌<◌, ◌+◌, ◌-◌, ◌*◌, ◌++◌, ◌∷◌, [], ℕ, List, length, IfOk, IfErr, IfSome, IfNone, OnOk, Some, None};
+ghost use Rattle.std.specs.Prelude.{IsTrue, IsFalse, ◌⊎◌, option_map, Option, Ok};
 ghost use Rattle.mach_base.specs.Answer.{Reads, Stands, FailsAs, IsOkUnlessMemory};
 ghost use Rattle.mach_base.specs.Leb128.{uleb_at};
 ghost use Rattle.mach_tries.specs.Trie as trie;
@@ -16,7 +17,7 @@ ghost use Rattle.mach_tries.specs.Nodes.{branches_at, children_at};
 ghost use Rattle.mach_tries.specs.Views.{branch_of, branches_of, IsReadable, source_trie, node_in, own_in, node_of, node_behind};
 ghost use Rattle.mach_tries.specs.Finds.{Finds};
 ghost use Rattle.mach_tries.specs.LookUp.{StandsFor, IsFirstOf, FaultOnWay, LookUpVisits};
-ghost use Rattle.mach_tries.specs.LookUpState.{OwnEnds, Settles, Stops, Goes, IsPassed, ComesTo, SearchVisits};
+ghost use Rattle.mach_tries.specs.LookUpState.{OwnEnds, Settles, FirstBranchLeads, Goes, IsPassed, ComesTo, SearchVisits};
 
 use crate::exports::{ExportInfo, ExportTrie};
 use crate::marks::Marks;
@@ -77,7 +78,8 @@ fn leads(source: &Source<'_, '_>, rest: &[u8], branch: Branch<'_>) -> bool
 // Where so many branches go on, if all of them can be read.
 #[inline(always)]
 fn quick_way(source: &Source<'_, '_>, rest: &[u8], count: usize, first: usize) -> Option<Way>
-    ensures { IfSome result (λ way. (bs : List trie.Branch) × (branches_at source.now.bytes.now source.now.from count first ≡ Ok bs) × Goes (source_trie source.now) rest.now bs way) }
+    ensures { IfSome result (λ way. (bs : List trie.Branch) × (branches_at source.now.bytes.now source.now.from count first ≡ Ok bs)
+        × Goes (source_trie source.now) rest.now bs way) }
 {
     let mut way = Way::Nowhere;
     let mut place = first;
@@ -216,8 +218,9 @@ fn turn<'a>(
 fn settle(source: &Source<'_, '_>, rest: &[u8], branches: BranchRun) -> BranchRun
     requires { IsReadable source.now.bytes.now source.now.from branches }
     ensures readable { IsReadable source.now.bytes.now source.now.from result }
-    ensures settles { Settles (source_trie source.now) rest.now (branches_of source.now.bytes.now source.now.from branches) (branches_of source.now.bytes.now source.now.from result) }
-    ensures stops { Stops (source_trie source.now) rest.now (branches_of source.now.bytes.now source.now.from result) }
+    ensures settles { Settles (source_trie source.now) rest.now (branches_of source.now.bytes.now source.now.from branches)
+        (branches_of source.now.bytes.now source.now.from result) }
+    ensures stops { FirstBranchLeads (source_trie source.now) rest.now (branches_of source.now.bytes.now source.now.from result) }
 {
     let mut left = branches;
     for _ in 0..branches.left {

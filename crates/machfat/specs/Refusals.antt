@@ -17,8 +17,8 @@ refusal_words (NoEntry i) = codes "no entry " ++ decimal i
 refusal_words (OutOfFile i) = codes "entry " ++ (decimal i ++ codes " is out of the file")
 
 -- the line on the error output
-abbrev pub complaint : Refusal → List ℕ
-complaint refusal = codes "machfat: " ++ refusal_words refusal ++ codes "\n"
+abbrev pub refusal_line : Refusal → List ℕ
+refusal_line refusal = codes "machfat: " ++ refusal_words refusal ++ codes "\n"
 
 -- Why there is no list: a fault that stands where the file is opened or in its table, want of memory, or that it is an image.
 abbrev pub RefusesList : List ℕ → Refusal → Type 0

@@ -6,7 +6,7 @@ ghost use Rattle.std.specs.Io.KnownBytes.{Appends};
 ghost use Rattle.mach_headers.specs.declared.fat.FatArch.{FatArch};
 ghost use Rattle.machfat.specs.Entry.{HasRecords, IsEntryOf, WasWritten};
 ghost use Rattle.machfat.specs.Lines.{lines_from};
-ghost use Rattle.machfat.specs.Refusals.{RefusesList, IsRefusal, complaint};
+ghost use Rattle.machfat.specs.Refusals.{RefusesList, IsRefusal, refusal_line};
 ghost use Rattle.machfat.specs.declared.refusal.Failure.TheVariants as failures;
 ghost use Rattle.machfat.specs.declared.refusal.Refusal.{Refusal};
 
@@ -31,7 +31,7 @@ pub fn run_list<A: Allocator + Clone, W: Write + Drop, B: Allocator, E: Write>(
         × Appends (writer_contents W.contents out.old) (writer_contents W.contents out.new) (lines_from bytes.now 0 records) }
     ensures flushed { result ≡ 0 → writer_buffer out.new ≡ [] }
     ensures refused { result ≡ 1 → (refusal : Refusal) × RefusesList bytes.now refusal
-        × Appends (E.contents err.old) (E.contents err.new) (complaint refusal) }
+        × Appends (E.contents err.old) (E.contents err.new) (refusal_line refusal) }
 {
     status(list_all(alloc, bytes, out), "", err)
 }
@@ -90,7 +90,7 @@ pub fn status<E: Write>(answer: Result<(), Failure>, target: &str, err: &mut E) 
     ensures bound { result ≤ 2 }
     ensures only { result ≡ 0 → IsOk answer }
     ensures refused { result ≡ 1 → (refusal : Refusal) × (answer ≡ Err (failures.Refused refusal))
-        × Appends (E.contents err.old) (E.contents err.new) (complaint refusal) }
+        × Appends (E.contents err.old) (E.contents err.new) (refusal_line refusal) }
 {
     match answer {
         Ok(()) => 0,

@@ -1,7 +1,7 @@
 //! A record of a fat file as it is printed.
 
 ghost use Rattle.std.specs.Prelude.{◌≡◌, Some};
-ghost use Rattle.machfat.specs.Lines.{cpu_text, place_text, entry_kind, record_text};
+ghost use Rattle.machfat.specs.Lines.{cpu_text, entry_place_text, entry_kind, record_text};
 
 use goblin_mach::fat::FatArch;
 use goblin_mach::{Hint, peek_bytes, take_hint_bytes};
@@ -30,7 +30,7 @@ impl Display for CpuText {
 struct PlaceText(FatArch);
 
 impl Display for PlaceText {
-    ghost output = { λ t. Some (place_text t.0) };
+    ghost output = { λ t. Some (entry_place_text t.0) };
 
     fn fmt<W: Write>(&self, f: &mut Formatter<W>) -> fmt::Result {
         let FatArch {

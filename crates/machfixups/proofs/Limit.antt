@@ -1,5 +1,6 @@
 -- The first lines of a list, up to a limit.
-use Rattle.std.proofs.Common.{◌≡◌, ◌≤◌, ◌+◌, ◌-◌, ◌++◌, ◌∷◌, [], ◌∙◌, ℕ, zero, suc, List, Option, Result, Bool, true, false, refl, sym, ap, subst, length, take, arith}
+use Rattle.std.proofs.Common.{◌≡◌, ◌≤◌, ◌+◌, ◌-◌, ◌++◌, ◌∷◌, [], ◌∙◌, ℕ, zero, suc, List, Option, Result, Bool, true, false, refl, sym, ap, subst, length}
+use Rattle.std.proofs.Common.{take, arith}
 use Rattle.std.specs.Prelude.{◌&&◌, ◌||◌, not, nat_lt}
 use Rattle.std.proofs.lemmas.Bool.{le-ltb, lt-ltb, ltb-true, ltb-false}
 use Rattle.std.proofs.lemmas.List.{append-nil, append_assoc, length-append, take-append-le, take_all}
@@ -9,8 +10,8 @@ use Rattle.mach_base.proofs.Written.{Appends-both}
 use Rattle.mach_base.specs.Fault.{Fault}
 use Rattle.mach_base.specs.declared.error.Error.{Error}
 use Rattle.machfixups.proofs.Written.{no_lines, line_more, lines_both}
-use Rattle.machfixups.specs.Lines.{row_line, line_of_more, Tells, WritesLines, WritesTold}
-use Rattle.machfixups.specs.Rows.{Row, row_read}
+use Rattle.machfixups.specs.Lines.{row_line, line_of_more, WritesFirstRows, WritesRowLines, WritesTold}
+use Rattle.machfixups.specs.Rows.{PointerRow, row_read}
 use Rattle.machfixups.specs.declared.print.Told.{Told}
 use Rattle.machfixups.specs.declared.row.Row as declared
 
@@ -47,16 +48,16 @@ more_both n xs ys = more_by n xs ys (nat_lt n (length xs)) refl
 -- ---- a list that is gone over
 
 -- The rows begin with some whose lines were written, with `rest` behind them, and so many lines more may be.
-pub record Goes (limit : ℕ) (rows rest : List (Result Row Fault)) (left : ℕ) (whole : Bool) (old new : Option (List ℕ)) : Type 0 where
-  pub front : List (Result Row Fault)
+pub record Goes (limit : ℕ) (rows rest : List (Result PointerRow Fault)) (left : ℕ) (whole : Bool) (old new : Option (List ℕ)) : Type 0 where
+  pub front : List (Result PointerRow Fault)
   pub are : rows ≡ front ++ rest
   pub count : left + length front ≡ limit
-  pub lines : WritesLines front whole old new
+  pub lines : WritesRowLines front whole old new
 
-pub goes_init : (limit : ℕ) (rows rest : List (Result Row Fault)) (known : Option (List ℕ)) → rows ≡ rest → Goes limit rows rest limit true known known
+pub goes_init : (limit : ℕ) (rows rest : List (Result PointerRow Fault)) (known : Option (List ℕ)) → rows ≡ rest → Goes limit rows rest limit true known known
 goes_init limit rows rest known same = record { front = []; are = same; count = omega arith; lines = no_lines known }
 
-pub goes_on : (limit : ℕ) (rows all rest : List (Result Row Fault)) (left : ℕ) (whole one : Bool) (answer : Result declared.Row Error)
+pub goes_on : (limit : ℕ) (rows all rest : List (Result PointerRow Fault)) (left : ℕ) (whole one : Bool) (answer : Result declared.Row Error)
     (old middle new : Option (List ℕ)) → Goes limit rows all left whole old middle → all ≡ row_read answer ∷ rest → 1 ≤ left → one ≡ is_ok answer
     → Appends middle new (row_line answer) → Goes limit rows rest (left - 1) (whole && one) old new
 goes_on limit rows all rest left whole one answer old middle new goes is some ok line =
@@ -68,23 +69,24 @@ goes_on limit rows all rest left whole one answer old middle new goes is some ok
     }
 
 -- to the end of the list
-pub goes_over : (limit : ℕ) (rows rest : List (Result Row Fault)) (left : ℕ) (whole : Bool) (old new : Option (List ℕ)) (t : Told)
-    → Goes limit rows rest left whole old new → rest ≡ [] → (t.left ≡ left) × (t.whole ≡ whole) × (t.more ≡ false) → Tells limit rows old new t
+pub goes_over : (limit : ℕ) (rows rest : List (Result PointerRow Fault)) (left : ℕ) (whole : Bool) (old new : Option (List ℕ)) (t : Told)
+    → Goes limit rows rest left whole old new → rest ≡ [] → (t.left ≡ left) × (t.whole ≡ whole) × (t.more ≡ false) → WritesFirstRows limit rows old new t
 goes_over limit rows rest left whole old new t goes none is =
     let all : rows ≡ goes.front = goes.are ∙ ap (λ back. goes.front ++ back) none ∙ append-nil goes.front in
     let many : length rows ≡ length goes.front = ap length all in
     let few : length rows ≤ limit = omega (arith, goes.count, many) in
     let told : take limit rows ≡ goes.front = take_all limit rows few ∙ all in
     record {
-      lines = rw is.1 (subst (λ (xs : List (Result Row Fault)). WritesLines xs whole old new) (sym told) goes.lines);
+      lines = rw is.1 (subst (λ (xs : List (Result PointerRow Fault)). WritesRowLines xs whole old new) (sym told) goes.lines);
       left = is.0 ∙ omega (arith, goes.count, many);
       more = is.2 ∙ sym (le-ltb limit (length rows) few);
     }
 
 -- to the limit, with an item behind it
-pub goes_cut : (limit : ℕ) (rows all : List (Result Row Fault)) (left : ℕ) (whole : Bool) (old new : Option (List ℕ)) (t : Told) (item : Result Row Fault)
-    (rest : List (Result Row Fault)) → Goes limit rows all left whole old new → all ≡ item ∷ rest → left ≡ 0
-    → (t.left ≡ 0) × (t.whole ≡ whole) × (t.more ≡ true) → Tells limit rows old new t
+pub goes_cut : (limit : ℕ) (rows all : List (Result PointerRow Fault)) (left : ℕ) (whole : Bool) (old new : Option (List ℕ)) (t : Told)
+    (item : Result PointerRow Fault)
+    (rest : List (Result PointerRow Fault)) → Goes limit rows all left whole old new → all ≡ item ∷ rest → left ≡ 0
+    → (t.left ≡ 0) × (t.whole ≡ whole) × (t.more ≡ true) → WritesFirstRows limit rows old new t
 goes_cut limit rows all left whole old new t item rest goes is none said =
     let are : rows ≡ goes.front ++ item ∷ rest = goes.are ∙ ap (λ back. goes.front ++ back) is in
     let many : length rows ≡ length goes.front + length (item ∷ rest) = ap length are ∙ length-append goes.front (item ∷ rest) in
@@ -92,15 +94,16 @@ goes_cut limit rows all left whole old new t item rest goes is none said =
     let told : take limit rows ≡ goes.front =
     ap (λ xs. take limit xs) are ∙ take-append-le limit goes.front (item ∷ rest) (omega (arith, front)) ∙ take_all limit goes.front (omega (arith, front)) in
     record {
-      lines = rw said.1 (subst (λ (xs : List (Result Row Fault)). WritesLines xs whole old new) (sym told) goes.lines);
+      lines = rw said.1 (subst (λ (xs : List (Result PointerRow Fault)). WritesRowLines xs whole old new) (sym told) goes.lines);
       left = said.0 ∙ omega (arith, many, front);
       more = said.2 ∙ sym (lt-ltb limit (length rows) (omega (arith, many, front)));
     }
 
 -- ---- both lists of an image
 
-pub told_both : (limit : ℕ) (first second : List (Result Row Fault)) (one two : Told) (more final : Bool) (old middle after new : Option (List ℕ))
-    → Tells limit first old middle one → Tells one.left second middle after two → more ≡ (one.more || two.more) → Appends after new (line_of_more limit more)
+pub told_both : (limit : ℕ) (first second : List (Result PointerRow Fault)) (one two : Told) (more final : Bool) (old middle after new : Option (List ℕ))
+    → WritesFirstRows limit first old middle one → WritesFirstRows one.left second middle after two → more ≡ (one.more || two.more)
+    → Appends after new (line_of_more limit more)
     → final ≡ ((one.whole && two.whole) && not more) → WritesTold limit (first ++ second) final old new
 told_both limit first second one two more final old middle after new a b is line said =
     let long : nat_lt limit (length (first ++ second)) ≡ more =
@@ -111,7 +114,7 @@ told_both limit first second one two more final old middle after new a b is line
     let both = lines_both (take limit first) (take one.left second) one.whole two.whole (one.whole && two.whole) old middle after a.lines b.lines refl in
     let told : take limit first ++ take one.left second ≡ take limit (first ++ second) =
     ap (λ (n : ℕ). take limit first ++ take n second) a.left ∙ sym (take_both limit first second) in
-    let lines = subst (λ (xs : List (Result Row Fault)). WritesLines xs (one.whole && two.whole) old after) told both in
+    let lines = subst (λ (xs : List (Result PointerRow Fault)). WritesRowLines xs (one.whole && two.whole) old after) told both in
     record {
       text = lines.text ++ line_of_more limit more;
       lines = record {

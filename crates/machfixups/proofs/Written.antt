@@ -10,12 +10,12 @@ use Rattle.std.specs.Result.{is_ok}
 use Rattle.mach_base.proofs.Written.{Appends-none, Appends-both}
 use Rattle.mach_base.specs.Fault.{Fault}
 use Rattle.mach_base.specs.declared.error.Error.{Error}
-use Rattle.machfixups.specs.Lines.{row_line, WritesLines}
-use Rattle.machfixups.specs.Rows.{Row, row_read}
+use Rattle.machfixups.specs.Lines.{row_line, WritesRowLines}
+use Rattle.machfixups.specs.Rows.{PointerRow, row_read}
 use Rattle.machfixups.specs.declared.row.Row as declared
 
 -- before the first row
-pub no_lines : (known : Option (List ℕ)) → WritesLines [] true known known
+pub no_lines : (known : Option (List ℕ)) → WritesRowLines [] true known known
 no_lines known = record {
   text = [];
   lines = record { answers = []; are_rows = refl; is_text = refl; is_whole = refl };
@@ -23,9 +23,9 @@ no_lines known = record {
 }
 
 -- the lines of some rows and then those of others
-pub lines_both : (first second : List (Result Row Fault)) (whole rest after : Bool) (old middle new : Option (List ℕ))
-    → WritesLines first whole old middle → WritesLines second rest middle new → after ≡ (whole && rest)
-    → WritesLines (first ++ second) after old new
+pub lines_both : (first second : List (Result PointerRow Fault)) (whole rest after : Bool) (old middle new : Option (List ℕ))
+    → WritesRowLines first whole old middle → WritesRowLines second rest middle new → after ≡ (whole && rest)
+    → WritesRowLines (first ++ second) after old new
 lines_both first second whole rest after old middle new one two is =
     let a = one.lines in
     let b = two.lines in
@@ -49,7 +49,7 @@ whole-one (Err e) = refl
 
 -- the line of a row
 one_line : (answer : Result declared.Row Error) (old new : Option (List ℕ)) → Appends old new (row_line answer)
-    → WritesLines (row_read answer ∷ []) (is_ok answer) old new
+    → WritesRowLines (row_read answer ∷ []) (is_ok answer) old new
 one_line answer old new written = record {
   text = row_line answer;
   lines = record { answers = answer ∷ []; are_rows = refl; is_text = sym (append-nil (row_line answer)); is_whole = whole-one answer };
@@ -57,9 +57,9 @@ one_line answer old new written = record {
 }
 
 -- after one more
-pub line_more : (front : List (Result Row Fault)) (whole one after : Bool) (answer : Result declared.Row Error) (old middle new : Option (List ℕ))
-    → WritesLines front whole old middle → one ≡ is_ok answer → after ≡ (whole && one) → Appends middle new (row_line answer)
-    → WritesLines (front ++ row_read answer ∷ []) after old new
+pub line_more : (front : List (Result PointerRow Fault)) (whole one after : Bool) (answer : Result declared.Row Error) (old middle new : Option (List ℕ))
+    → WritesRowLines front whole old middle → one ≡ is_ok answer → after ≡ (whole && one) → Appends middle new (row_line answer)
+    → WritesRowLines (front ++ row_read answer ∷ []) after old new
 line_more front whole one after answer old middle new before ok is line =
     lines_both front (row_read answer ∷ []) whole (is_ok answer) after old middle new before (one_line answer middle new line)
     (is ∙ ap (λ w. whole && w) ok)

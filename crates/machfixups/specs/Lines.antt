@@ -1,5 +1,6 @@
 -- The lines that are printed of binds and fixups.
-use Rattle.std.specs.Prelude.{◌≡◌, ◌==◌, ◌&&◌, ◌-◌, ℕ, List, [], ◌++◌, codes, map, take, length, nat_lt, Bool, true, false, not, Option, Some, None, Result, Ok, Err}
+use Rattle.std.specs.Prelude.{◌≡◌, ◌==◌, ◌&&◌, ◌-◌, ℕ, List, [], ◌++◌, codes, map, take, length, nat_lt, Bool, true, false, not, Option, Some, None, Result}
+use Rattle.std.specs.Prelude.{Ok, Err}
 use Rattle.std.specs.Prelude.{if◌then◌else◌}
 use Rattle.std.specs.Fmt.{digits, decimal, signed_decimal}
 use Rattle.std.specs.Io.KnownBytes.{Appends}
@@ -9,7 +10,7 @@ use Rattle.mach_base.specs.Fault.{Fault}
 use Rattle.mach_base.specs.Words.{words_of}
 use Rattle.mach_base.specs.declared.error.Error.{Error}
 use Rattle.mach_chained.specs.Pointers.{Auth}
-use Rattle.machfixups.specs.Rows.{Place, Bind, Action, binds, rebases, is_value, Row, row_view, row_read}
+use Rattle.machfixups.specs.Rows.{PointerPlace, PointerBind, Action, binds, rebases, is_value, PointerRow, row_view, row_read}
 use Rattle.machfixups.specs.declared.print.Told.{Told}
 use Rattle.machfixups.specs.declared.row.Row as declared
 
@@ -18,8 +19,8 @@ abbrev pub hex : ℕ → List ℕ
 hex n = codes "0x" ++ digits 16 false n
 
 -- an address, the name of the segment and that of the section
-abbrev pub place_text : Place → List ℕ
-place_text p = hex p.address ++ codes " " ++ p.segment ++ codes " " ++ p.section
+abbrev pub pointer_place_text : PointerPlace → List ℕ
+pointer_place_text p = hex p.address ++ codes " " ++ p.segment ++ codes " " ++ p.section
 
 -- the keys of arm64e
 abbrev pub key_text : ℕ → List ℕ
@@ -48,7 +49,7 @@ flags_text true false (Some a) = codes "weak," ++ auth_text a
 flags_text false true (Some a) = codes "lazy," ++ auth_text a
 flags_text true true (Some a) = codes "weak,lazy," ++ auth_text a
 
-abbrev pub bind_text : Bind → List ℕ
+abbrev pub bind_text : PointerBind → List ℕ
 bind_text b =
     codes "bind " ++ signed_decimal b.ordinal ++ codes " " ++ signed_decimal b.addend ++ codes " "
     ++ flags_text b.is_weak b.is_lazy b.auth ++ codes " " ++ b.name
@@ -63,8 +64,8 @@ action_text (binds b) = bind_text b
 action_text (rebases target auth) = rebase_text target auth
 action_text (is_value number) = codes "value " ++ hex number
 
-abbrev pub row_text : Row → List ℕ
-row_text r = place_text r.place ++ codes " " ++ action_text r.action
+abbrev pub row_text : PointerRow → List ℕ
+row_text r = pointer_place_text r.place ++ codes " " ++ action_text r.action
 
 -- The line of a row as it was answered: the row, or why there is none.
 abbrev pub row_line : Result declared.Row Error → List ℕ
@@ -73,16 +74,16 @@ row_line (Err e) = codes "unreadable: " ++ words_of e ++ codes "\n"
 
 -- The text is a line for each of these rows, in order; one that is missing is an error that reports its fault. It is
 -- whole where none is missing.
-pub record AreLines (rows : List (Result Row Fault)) (text : List ℕ) (whole : Bool) : Type 0 where
+pub record AreRowLines (rows : List (Result PointerRow Fault)) (text : List ℕ) (whole : Bool) : Type 0 where
   pub answers : List (Result declared.Row Error)
   pub are_rows : map row_read answers ≡ rows
   pub is_text : text ≡ flat_map row_line answers
   pub is_whole : whole ≡ list_all is_ok rows
 
 -- What was written is such lines.
-pub record WritesLines (rows : List (Result Row Fault)) (whole : Bool) (old new : Option (List ℕ)) : Type 0 where
+pub record WritesRowLines (rows : List (Result PointerRow Fault)) (whole : Bool) (old new : Option (List ℕ)) : Type 0 where
   pub text : List ℕ
-  pub lines : AreLines rows text whole
+  pub lines : AreRowLines rows text whole
   pub written : Appends old new text
 
 -- ---- where there is a limit
@@ -96,21 +97,21 @@ line_of_more limit more = if more then limit_line limit else []
 
 -- The text is the lines of the first `limit` of these rows, and behind them, exactly where there are more rows than that,
 -- a line that says so. It is whole where there are no more, and none is missing.
-pub record AreLinesTo (limit : ℕ) (rows : List (Result Row Fault)) (text : List ℕ) (whole : Bool) : Type 0 where
+pub record AreLinesTo (limit : ℕ) (rows : List (Result PointerRow Fault)) (text : List ℕ) (whole : Bool) : Type 0 where
   pub lines : List ℕ
   pub is_read : Bool
-  pub are_lines : AreLines (take limit rows) lines is_read
+  pub are_lines : AreRowLines (take limit rows) lines is_read
   pub is_text : text ≡ lines ++ line_of_more limit (nat_lt limit (length rows))
   pub is_whole : whole ≡ (is_read && not (nat_lt limit (length rows)))
 
 -- What was written is such lines.
-pub record WritesTold (limit : ℕ) (rows : List (Result Row Fault)) (whole : Bool) (old new : Option (List ℕ)) : Type 0 where
+pub record WritesTold (limit : ℕ) (rows : List (Result PointerRow Fault)) (whole : Bool) (old new : Option (List ℕ)) : Type 0 where
   pub text : List ℕ
   pub lines : AreLinesTo limit rows text whole
   pub written : Appends old new text
 
 -- The lines of the first `limit` rows were written, and this is what is known then.
-pub record Tells (limit : ℕ) (rows : List (Result Row Fault)) (old new : Option (List ℕ)) (t : Told) : Type 0 where
-  pub lines : WritesLines (take limit rows) t.whole old new
+pub record WritesFirstRows (limit : ℕ) (rows : List (Result PointerRow Fault)) (old new : Option (List ℕ)) (t : Told) : Type 0 where
+  pub lines : WritesRowLines (take limit rows) t.whole old new
   pub left : t.left ≡ limit - length rows
   pub more : t.more ≡ nat_lt limit (length rows)

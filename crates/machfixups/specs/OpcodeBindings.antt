@@ -9,4 +9,5 @@ use Rattle.mach_image.specs.Subjects.{binds_in, libs_in, lossy_segments_in}
 
 -- its binds by opcodes one at a time, over its libraries and its segments, up to the first fault
 abbrev pub HasOpcodeBindings : List ℕ → ℕ → List (Result Binding Fault) → Type 0
-HasOpcodeBindings bytes o items = OfImage bytes o (λ ctx cs. AreOpcodeBindings (binds_in bytes cs) (pointer_size ctx.container) (libs_in bytes cs) (lossy_segments_in ctx bytes cs) items)
+HasOpcodeBindings bytes o items =
+    OfImage bytes o (λ ctx cs. AreOpcodeBindings (binds_in bytes cs) (pointer_size ctx.container) (libs_in bytes cs) (lossy_segments_in ctx bytes cs) items)

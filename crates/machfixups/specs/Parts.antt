@@ -24,8 +24,8 @@ pub record Part : Type 0 where
   pub sections : List (Section × List ℕ)
 
 -- that of a segment: it has no sections where one of them can't be read
-abbrev pub part_of : SegmentView → Part
-part_of s = record {
+abbrev pub part_of_segment : SegmentView → Part
+part_of_segment s = record {
   name = shown_name (text_at s.command.segname 0);
   vmaddr = s.command.vmaddr;
   vmsize = s.command.vmsize;
@@ -34,7 +34,7 @@ part_of s = record {
 
 -- those of all segments, in order
 abbrev pub parts_of : List SegmentView → List Part
-parts_of segments = map part_of segments
+parts_of segments = map part_of_segment segments
 
 -- whether a stretch of memory holds an address
 abbrev pub holds : (start size address : ℕ) → Bool

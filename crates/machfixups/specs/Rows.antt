@@ -7,11 +7,11 @@ use Rattle.mach_segments.specs.Bindings.{Binding, Provider, of_library, itself, 
 use Rattle.mach_base.specs.Items.{read_as}
 use Rattle.mach_chained.specs.Fixups.{Fixup}
 use Rattle.mach_chained.specs.Header.{Fixups}
-use Rattle.mach_chained.specs.Imports.{Import, import_at}
+use Rattle.mach_chained.specs.Imports.{FixupImport, import_at}
 use Rattle.mach_chained.specs.PointerViews.{auth_seen}
 use Rattle.mach_chained.specs.Views.{fixups_view}
 use Rattle.mach_chained.specs.declared.header.ChainedFixups.{ChainedFixups}
-use Rattle.mach_chained.specs.Pointers.{Kind, rebase, bind, value, Auth}
+use Rattle.mach_chained.specs.Pointers.{KindOfFixup, rebase, bind, value, Auth}
 use Rattle.machfixups.specs.Parts.{Part, part_with, section_with}
 use Rattle.machfixups.specs.declared.row.Action as declared_action
 use Rattle.machfixups.specs.declared.row.Action.TheVariants as variants
@@ -20,14 +20,14 @@ use Rattle.machfixups.specs.declared.row.Place as declared_place
 use Rattle.machfixups.specs.declared.row.Row as declared
 
 -- where a pointer lies: its address, and the names that are shown of its segment and its section
-pub record Place : Type 0 where
+pub record PointerPlace : Type 0 where
   pub address : ℕ
   pub segment : List ℕ
   pub section : List ℕ
 
 -- a symbol whose address a pointer takes: 0 is the image itself as its provider, above it a library of the image's list,
 -- -1 the main executable, -2 any image (flat), -3 the weak look-up
-pub record Bind : Type 0 where
+pub record PointerBind : Type 0 where
   pub name : List ℕ
   pub ordinal : ℤ
   pub addend : ℤ
@@ -37,16 +37,16 @@ pub record Bind : Type 0 where
 
 -- what is asked for: a symbol's address, an address that moves with the image, or a number
 pub data Action : Type 0 where
-  binds : Bind → Action
+  binds : PointerBind → Action
   rebases : (target : ℕ) → Option Auth → Action
   is_value : ℕ → Action
 
-pub record Row : Type 0 where
-  pub place : Place
+pub record PointerRow : Type 0 where
+  pub place : PointerPlace
   pub action : Action
 
 -- the place of an address in a segment, if there is one
-abbrev pub place_in : Option Part → ℕ → Place
+abbrev pub place_in : Option Part → ℕ → PointerPlace
 place_in None address = record { address = address; segment = codes "-"; section = codes "-" }
 place_in (Some p) address = record { address = address; segment = p.name; section = section_with address p.sections }
 
@@ -59,7 +59,7 @@ ordinal_of main_executable = negsuc 0
 ordinal_of flat = negsuc 1
 ordinal_of weak_lookup = negsuc 2
 
-abbrev pub bind_of_binding : Binding → Bind
+abbrev pub bind_of_binding : Binding → PointerBind
 bind_of_binding b = record {
   name = b.name;
   ordinal = ordinal_of b.provider;
@@ -70,7 +70,7 @@ bind_of_binding b = record {
 }
 
 -- that of a bind of the opcodes, in the first segment that holds its address
-abbrev pub row_of_binding : List Part → Binding → Row
+abbrev pub row_of_binding : List Part → Binding → PointerRow
 row_of_binding parts b = record {
   place = place_in (part_with b.address parts) b.address;
   action = binds (bind_of_binding b);
@@ -79,12 +79,12 @@ row_of_binding parts b = record {
 -- ---- fixups of the chains
 
 -- the import of a number, if there are chains and their table has it
-abbrev pub import_in : Option Fixups → ℕ → Result Import Fault
+abbrev pub import_in : Option Fixups → ℕ → Result FixupImport Fault
 import_in None k = Err malformed
 import_in (Some table) k = import_at table k
 
 -- the bind of an import: the addend of the table and that of the pointer together
-abbrev pub bind_of_import : Import → ℤ → Option Auth → Bind
+abbrev pub bind_of_import : FixupImport → ℤ → Option Auth → PointerBind
 bind_of_import i inline auth = record {
   name = i.name;
   ordinal = i.library;
@@ -94,43 +94,43 @@ bind_of_import i inline auth = record {
   auth = auth;
 }
 
-abbrev pub action_of : Option Fixups → Kind → Option Auth → Result Action Fault
+abbrev pub action_of : Option Fixups → KindOfFixup → Option Auth → Result Action Fault
 action_of table (rebase target) auth = Ok (rebases target auth)
 action_of table (value number) auth = Ok (is_value number)
 action_of table (bind import inline) auth = import_in table import >>= (λ i. Ok (binds (bind_of_import i inline auth)))
 
 -- that of a fixup, in its segment
-abbrev pub row_of_fixup : List Part → Option Fixups → Fixup → Result Row Fault
+abbrev pub row_of_fixup : List Part → Option Fixups → Fixup → Result PointerRow Fault
 row_of_fixup parts table f =
     action_of table f.kind f.auth
     >>= (λ action. Ok (record { place = place_in (slice_get parts f.segment) f.address; action = action }))
 
 -- ---- all rows
 
-abbrev pub binding_row : List Part → Result Binding Fault → Result Row Fault
-binding_row parts item = item >>= (λ b. Ok (row_of_binding parts b))
+abbrev pub row_for_binding : List Part → Result Binding Fault → Result PointerRow Fault
+row_for_binding parts item = item >>= (λ b. Ok (row_of_binding parts b))
 
-abbrev pub fixup_row : List Part → Option Fixups → Result Fixup Fault → Result Row Fault
-fixup_row parts table item = item >>= row_of_fixup parts table
+abbrev pub row_for_fixup : List Part → Option Fixups → Result Fixup Fault → Result PointerRow Fault
+row_for_fixup parts table item = item >>= row_of_fixup parts table
 
 -- those chained fixups, if they can be read
-abbrev pub table_of : Result (Option Fixups) Fault → Option Fixups
-table_of (Ok table) = table
-table_of (Err f) = None
+abbrev pub readable_table : Result (Option Fixups) Fault → Option Fixups
+readable_table (Ok table) = table
+readable_table (Err f) = None
 
 -- a row for each bind of the opcodes in order, then one for each fixup of the chains, or why there is none
-abbrev pub rows_of : List Part → Option Fixups → List (Result Binding Fault) → List (Result Fixup Fault) → List (Result Row Fault)
-rows_of parts table bindings fixups = map (binding_row parts) bindings ++ map (fixup_row parts table) fixups
+abbrev pub rows_in_order : List Part → Option Fixups → List (Result Binding Fault) → List (Result Fixup Fault) → List (Result PointerRow Fault)
+rows_in_order parts table bindings fixups = map (row_for_binding parts) bindings ++ map (row_for_fixup parts table) fixups
 
 -- ---- what the code's values stand for
 
-abbrev pub table_seen : Option ChainedFixups → Option Fixups
-table_seen table = option_map fixups_view table
+abbrev pub fixups_table_seen : Option ChainedFixups → Option Fixups
+fixups_table_seen table = option_map fixups_view table
 
-abbrev pub place_view : declared_place.Place → Place
+abbrev pub place_view : declared_place.Place → PointerPlace
 place_view p = record { address = p.address; segment = p.segment.now; section = p.section.now }
 
-abbrev pub bind_view : declared_bind.Bind → Bind
+abbrev pub bind_view : declared_bind.Bind → PointerBind
 bind_view b = record {
   name = b.name.now;
   ordinal = b.ordinal;
@@ -145,9 +145,9 @@ action_view (variants.Bind b) = binds (bind_view b)
 action_view (variants.Rebase target auth) = rebases target (auth_seen auth)
 action_view (variants.Value number) = is_value number
 
-abbrev pub row_view : declared.Row → Row
+abbrev pub row_view : declared.Row → PointerRow
 row_view r = record { place = place_view r.place; action = action_view r.action }
 
 -- a row, as it was answered
-abbrev pub row_read : Result declared.Row Error → Result Row Fault
+abbrev pub row_read : Result declared.Row Error → Result PointerRow Fault
 row_read answer = read_as row_view answer

@@ -9,7 +9,7 @@ ghost use Rattle.mach_segments.specs.SectionItems.{section_and_bytes};
 ghost use Rattle.mach_image.specs.Facts.{HasSegments};
 ghost use Rattle.mach_image.specs.OpenImage.{IsImage, segments_held};
 ghost use Rattle.goblin_mach.specs.View.{IsTold};
-ghost use Rattle.machfixups.specs.Parts.{shown_name, part_of, parts_of, part_with, section_with, holds, part_view, parts_seen};
+ghost use Rattle.machfixups.specs.Parts.{shown_name, part_of_segment, parts_of, part_with, section_with, holds, part_view, parts_seen};
 
 use goblin_mach::segment::{Section, SectionData, Segment};
 use goblin_mach::{Error, MachO, laws, read_text};
@@ -66,7 +66,7 @@ fn unless_memory(error: Error) -> Result<(), AllocError>
 impl<'a, A: Allocator + Clone> Part<'a, A> {
     // A segment with its sections.
     fn of(alloc: &A, segment: &Segment<'a>) -> Result<Self, AllocError>
-        ensures { IfOk result (λ p. part_view p ≡ part_of (segment_view segment.now)) }
+        ensures { IfOk result (λ p. part_view p ≡ part_of_segment (segment_view segment.now)) }
     {
         let sections = match segment.sections(alloc.clone()?) {
             Ok(sections) => sections,

@@ -6,15 +6,15 @@ ghost use Rattle.std.specs.Result.{is_ok};
 ghost use Rattle.mach_base.specs.Fault.{Fault};
 ghost use Rattle.mach_chained.specs.Fixups.{Fixup};
 ghost use Rattle.mach_chained.specs.Header.{Fixups};
-ghost use Rattle.mach_binds.specs.BindingsLeft.{bindings_left};
+ghost use Rattle.mach_binds.specs.BindingsLeft.{opcode_bindings_left};
 ghost use Rattle.mach_segments.specs.Bindings.{Binding};
 ghost use Rattle.mach_image.specs.Facts.{HasChainedFixups, HasFixups};
 ghost use Rattle.mach_image.specs.Fixups.{chained_held};
-ghost use Rattle.mach_image.specs.FixupsLeft.{fixups_left};
+ghost use Rattle.mach_image.specs.FixupsLeft.{image_fixups_left};
 ghost use Rattle.mach_image.specs.OpenImage.{IsImage};
-ghost use Rattle.machfixups.specs.Lines.{row_line, line_of_more, Tells, WritesTold};
+ghost use Rattle.machfixups.specs.Lines.{row_line, line_of_more, WritesFirstRows, WritesTold};
 ghost use Rattle.machfixups.specs.Parts.{parts_seen};
-ghost use Rattle.machfixups.specs.Rows.{binding_row, fixup_row, rows_of, table_of, table_seen};
+ghost use Rattle.machfixups.specs.Rows.{row_for_binding, row_for_fixup, rows_in_order, readable_table, fixups_table_seen};
 ghost use Rattle.machfixups.specs.OpcodeBindings.{HasOpcodeBindings};
 
 use crate::parts::Part;
@@ -76,7 +76,7 @@ pub fn print_fixups<A: Allocator, B: Allocator, O: Write>(
         → IfOk result (λ whole. (bindings : List (Result Binding Fault)) × HasOpcodeBindings bytes o bindings
         × (chained : Result (Option Fixups) Fault) × HasChainedFixups bytes o chained
         × (fixups : List (Result Fixup Fault)) × HasFixups bytes o fixups
-        × WritesTold limit (rows_of (parts_seen parts.now) (table_of chained) bindings fixups) whole (O.contents out.old) (O.contents out.new)) }
+        × WritesTold limit (rows_in_order (parts_seen parts.now) (readable_table chained) bindings fixups) whole (O.contents out.old) (O.contents out.new)) }
 {
     laws::strict_image_is_lossy(image);
     let binds = print_bindings(image.opcode_bindings(), parts, limit, out)?;
@@ -99,7 +99,7 @@ fn print_more<O: Write>(limit: usize, more: bool, out: &mut O) -> io::Result<()>
 
 // The chained fixups of an image, if it has any that can be read.
 fn table_of<'a, A: Allocator>(image: &MachO<'a, A>) -> Option<ChainedFixups<'a>>
-    ensures { table_seen result ≡ table_of (chained_held image.now) }
+    ensures { fixups_table_seen result ≡ readable_table (chained_held image.now) }
 {
     match image.chained_fixups() {
         Ok(found) => found,
@@ -114,7 +114,8 @@ fn print_bindings<B: Allocator, O: Write>(
     limit: usize,
     out: &mut O,
 ) -> io::Result<Told>
-    ensures { IfOk result (Tells limit (map (binding_row (parts_seen parts.now)) (bindings_left bindings.entry)) (O.contents out.old) (O.contents out.new)) }
+    ensures { IfOk result (WritesFirstRows limit (map (row_for_binding (parts_seen parts.now)) (opcode_bindings_left bindings.entry)) (O.contents out.old)
+        (O.contents out.new)) }
 {
     let mut left = limit;
     let mut whole = true;
@@ -137,7 +138,7 @@ fn print_chains<B: Allocator, O: Write>(
     limit: usize,
     out: &mut O,
 ) -> io::Result<Told>
-    ensures { IfOk result (Tells limit (map (fixup_row (parts_seen parts.now) (table_seen table.now)) (fixups_left fixups.entry))
+    ensures { IfOk result (WritesFirstRows limit (map (row_for_fixup (parts_seen parts.now) (fixups_table_seen table.now)) (image_fixups_left fixups.entry))
         (O.contents out.old) (O.contents out.new)) }
 {
     let mut left = limit;

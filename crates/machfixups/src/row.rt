@@ -7,7 +7,8 @@ ghost use Rattle.mach_chained.specs.PointerViews.{kind_view, auth_seen};
 ghost use Rattle.mach_chained.specs.Views.{import_view};
 ghost use Rattle.mach_chained.specs.WalkViews.{fixup_view, fixup_read};
 ghost use Rattle.machfixups.specs.Parts.{part_with, part_view, parts_seen};
-ghost use Rattle.machfixups.specs.Rows.{place_in, ordinal_of, row_of_binding, import_in, action_of, bind_of_import, row_of_fixup, binding_row, fixup_row, place_view, bind_view, action_view, row_view, row_read, table_seen};
+ghost use Rattle.machfixups.specs.Rows.{place_in, ordinal_of, row_of_binding, import_in, action_of, bind_of_import, row_of_fixup, row_for_binding};
+ghost use Rattle.machfixups.specs.Rows.{row_for_fixup, place_view, bind_view, action_view, row_view, row_read, fixups_table_seen};
 
 use crate::parts::{Part, part_with};
 use goblin_mach::chained_fixups::{ChainedFixups, ChainedImport, Fixup, FixupKind, PointerAuth};
@@ -111,7 +112,7 @@ fn row_of_binding<'b, 'a, A: Allocator>(
 
 // The import of a number, if there are chains and their table has it.
 fn import_in<'a>(table: &Option<ChainedFixups<'a>>, index: u32) -> Result<ChainedImport<'a>>
-    ensures { Reads import_view result (import_in (table_seen table.now) index) }
+    ensures { Reads import_view result (import_in (fixups_table_seen table.now) index) }
 {
     match table {
         Some(table) => table.import(index),
@@ -139,7 +140,7 @@ fn bind_of_import<'a>(
 
 // What a fixup asks for.
 fn action_of<'a>(table: &Option<ChainedFixups<'a>>, fixup: &Fixup) -> Result<Action<'a>>
-    ensures { Reads action_view result (action_of (table_seen table.now) (kind_view fixup.now.kind) (auth_seen fixup.now.auth)) }
+    ensures { Reads action_view result (action_of (fixups_table_seen table.now) (kind_view fixup.now.kind) (auth_seen fixup.now.auth)) }
 {
     let auth = fixup.auth;
     match fixup.kind {
@@ -158,7 +159,7 @@ fn row_of_fixup<'b, 'a, A: Allocator>(
     table: &Option<ChainedFixups<'a>>,
     fixup: &Fixup,
 ) -> Result<Row<'b, 'a>>
-    ensures { Reads row_view result (row_of_fixup (parts_seen parts.now) (table_seen table.now) (fixup_view fixup.now)) }
+    ensures { Reads row_view result (row_of_fixup (parts_seen parts.now) (fixups_table_seen table.now) (fixup_view fixup.now)) }
 {
     let action = action_of(table, fixup)?;
     let part = parts.get(fixup.segment as usize);
@@ -173,7 +174,7 @@ pub fn binding_row<'b, 'a, A: Allocator>(
     parts: &'b [Part<'_, A>],
     item: Result<Binding<'a>>,
 ) -> Result<Row<'b, 'a>>
-    ensures { row_read result ≡ binding_row (parts_seen parts.now) (binding_read item.entry) }
+    ensures { row_read result ≡ row_for_binding (parts_seen parts.now) (binding_read item.entry) }
 {
     match item {
         Ok(binding) => Ok(row_of_binding(parts, &binding)),
@@ -187,7 +188,7 @@ pub fn fixup_row<'b, 'a, A: Allocator>(
     table: &Option<ChainedFixups<'a>>,
     item: Result<Fixup>,
 ) -> Result<Row<'b, 'a>>
-    ensures { row_read result ≡ fixup_row (parts_seen parts.now) (table_seen table.now) (fixup_read item) }
+    ensures { row_read result ≡ row_for_fixup (parts_seen parts.now) (fixups_table_seen table.now) (fixup_read item) }
 {
     match item {
         Ok(fixup) => row_of_fixup(parts, table, &fixup),

@@ -3,7 +3,7 @@
 ghost use Rattle.std.specs.Prelude.{◌≡◌, ◌≢◌, ◌≤◌, [], codes};
 ghost use Rattle.std.specs.Io.Buffered.{writer_buffer, writer_contents};
 ghost use Rattle.mach_show.specs.Shown.{Shown, ShowsFile, Writes, status_by};
-ghost use Rattle.machfixups.specs.ImageLines.{AreImageLines};
+ghost use Rattle.machfixups.specs.ImageLines.{AreImagePointerLines};
 
 use crate::parts::image_parts;
 use crate::print::print_fixups;
@@ -24,7 +24,7 @@ struct Fixups {
 impl Shows for Fixups {
     ghost name = { codes "machfixups" };
 
-    ghost lines = { λ asked. AreImageLines asked.limit };
+    ghost lines = { λ asked. AreImagePointerLines asked.limit };
 
     fn name(&self) -> &'static str {
         NAME
@@ -55,7 +55,7 @@ pub fn run<A: Allocator + Clone, W: Write + Drop, B: Allocator, E: Write>(
     err: &mut E,
 ) -> u8
     ensures status { result ≤ 2 }
-    ensures shown { result ≢ 2 → (shown : Shown) × ShowsFile (codes "machfixups") (AreImageLines limit) bytes.now shown
+    ensures shown { result ≢ 2 → (shown : Shown) × ShowsFile (codes "machfixups") (AreImagePointerLines limit) bytes.now shown
         × (result ≡ status_by shown.whole)
         × Writes shown (writer_contents W.contents out.old) (writer_contents W.contents out.new) (E.contents err.old) (E.contents err.new) }
     ensures flushed { result ≢ 2 → writer_buffer out.new ≡ [] }

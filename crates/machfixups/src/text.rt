@@ -2,7 +2,7 @@
 
 ghost use Rattle.std.specs.Prelude.{◌≡◌, Some};
 ghost use Rattle.mach_chained.specs.PointerViews.{auth_view, auth_seen};
-ghost use Rattle.machfixups.specs.Lines.{place_text, key_text, address_text, auth_text, flags_text, bind_text, action_text, row_text};
+ghost use Rattle.machfixups.specs.Lines.{pointer_place_text, key_text, address_text, auth_text, flags_text, bind_text, action_text, row_text};
 ghost use Rattle.machfixups.specs.Rows.{place_view, bind_view, action_view, row_view};
 
 use crate::row::{Action, Bind, Place, Row};
@@ -11,7 +11,7 @@ use std::fmt;
 use std::fmt::{Display, Formatter, Write};
 
 impl Display for Place<'_> {
-    ghost output = { λ t. Some (place_text (place_view t)) };
+    ghost output = { λ t. Some (pointer_place_text (place_view t)) };
 
     fn fmt<W: Write>(&self, f: &mut Formatter<W>) -> fmt::Result {
         let Place {

@@ -10,18 +10,18 @@ use Rattle.mach_base.specs.declared.error.Error.{Error}
 use Rattle.mach_symbols.specs.SymbolViews.{symbol_read}
 use Rattle.mach_symbols.specs.declared.symbols.nlist.Nlist.{Nlist}
 use Rattle.mach_symbols.specs.Symbols.{SymbolTable, begun_of, symbols_of}
-use Rattle.machsyms.specs.Lines.{symbol_line, past_line, past_the_end, WritesLines, WritesTable}
+use Rattle.machsyms.specs.Lines.{symbol_line, past_line, past_the_end, WritesSymbolLines, WritesTable}
 
 -- before the first symbol
-pub no_lines : (is_64 : Bool) (sections : List ℕ) (known : Option (List ℕ)) → WritesLines is_64 sections [] known known
+pub no_lines : (is_64 : Bool) (sections : List ℕ) (known : Option (List ℕ)) → WritesSymbolLines is_64 sections [] known known
 no_lines is_64 sections known =
     record { text = []; lines = record { answers = []; are_symbols = refl; is_text = refl }; written = Appends-none known }
 
 -- after one more
 pub line_more : (is_64 : Bool) (sections : List ℕ) (symbols : List (Result (List ℕ × Nlist) Fault))
     (answer : Result (Bor (List ℕ) × Nlist) Error) (old middle new : Option (List ℕ))
-    → WritesLines is_64 sections symbols old middle → Appends middle new (symbol_line is_64 sections answer)
-    → WritesLines is_64 sections (symbols ++ symbol_read answer ∷ []) old new
+    → WritesSymbolLines is_64 sections symbols old middle → Appends middle new (symbol_line is_64 sections answer)
+    → WritesSymbolLines is_64 sections (symbols ++ symbol_read answer ∷ []) old new
 line_more is_64 sections symbols answer old middle new before line =
     let lines = before.lines in
     record {
@@ -44,7 +44,7 @@ no_table is_64 sections known =
 
 -- the symbols of a table that begin within the bytes, and then the line of the others
 pub table_lines : (is_64 : Bool) (sections : List ℕ) (t : SymbolTable) (whole : Bool) (old middle new : Option (List ℕ))
-    → WritesLines is_64 sections (symbols_of (begun_of t)) old middle → Appends middle new (past_line (past_the_end (Some t)))
+    → WritesSymbolLines is_64 sections (symbols_of (begun_of t)) old middle → Appends middle new (past_line (past_the_end (Some t)))
     → whole ≡ (past_the_end (Some t) == 0) → WritesTable is_64 sections (Some t) whole old new
 table_lines is_64 sections t whole old middle new before last is = record {
   text = before.text ++ past_line (past_the_end (Some t));

@@ -14,7 +14,7 @@ HasWidth bytes o is_64 = OfImage bytes o (λ ctx cs. IsTrue is_64 ↔ (ctx.conta
 
 -- The text is the lines of the image at the front of the bytes: one for each symbol of its table whose record begins within the
 -- bytes, in order, with the letters of its sections, and one for all others. It is whole where there are no others.
-pub record AreImageLines (bytes : List ℕ) (text : List ℕ) (whole : Bool) : Type 0 where
+pub record AreImageSymbolLines (bytes : List ℕ) (text : List ℕ) (whole : Bool) : Type 0 where
   pub opens : Opens bytes 0
   pub is_64 : Bool
   pub has_width : HasWidth bytes 0 is_64

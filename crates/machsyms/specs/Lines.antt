@@ -1,5 +1,5 @@
 -- The lines that are printed of symbols, as `nm -a -p` prints them.
-use Rattle.std.specs.Prelude.{◌≡◌, ◌==◌, ℕ, ◌-◌, ◌^◌, List, [], ◌++◌, codes, map, bit_and, Bool, true, false, ◌&&◌, Option, Some, None, option_map, Result, Ok, Err}
+use Rattle.std.specs.Prelude.{◌≡◌, ◌==◌, ℕ, ◌-◌, ◌^◌, List, [], ◌++◌, codes, map, Bool, true, false, ◌&&◌, Option, Some, None, option_map, Result, Ok, Err}
 use Rattle.std.specs.Prelude.{if◌then◌else◌}
 use Rattle.std.specs.Char.{encode_utf8}
 use Rattle.std.specs.Fmt.{decimal, digits, padded, padded_integral, format_spec}
@@ -8,7 +8,7 @@ use Rattle.std.specs.List.{flat_map}
 use Rattle.std.specs.Borrow.{Bor}
 use Rattle.mach_base.specs.Fault.{Fault}
 use Rattle.mach_base.specs.declared.error.Error.{Error}
-use Rattle.mach_symbols.specs.Symbols.{SymbolTable, begun_of, type_of}
+use Rattle.mach_symbols.specs.Symbols.{SymbolTable, begun_of, type_of, is_stab}
 use Rattle.mach_symbols.specs.SymbolViews.{symbol_read}
 use Rattle.mach_image.specs.Subjects.{symbols_in}
 use Rattle.mach_symbols.specs.declared.symbols.nlist.Nlist.{Nlist}
@@ -17,16 +17,12 @@ use Rattle.machsyms.specs.Stabs.{stab_name}
 use Rattle.mach_base.specs.Words.{words_of}
 
 -- a number in so many hexadecimal digits, zeros before it
-abbrev pub hex : ℕ → ℕ → List ℕ
-hex width n = padded_integral (format_spec 32 0 4 width (2 ^ 64 - 1)) false [] (digits 16 false n)
+abbrev pub padded_hex : ℕ → ℕ → List ℕ
+padded_hex width n = padded_integral (format_spec 32 0 4 width (2 ^ 64 - 1)) false [] (digits 16 false n)
 
 -- a text with blanks before it, up to a width
 abbrev pub right : ℕ → List ℕ → List ℕ
 right width text = padded (format_spec 32 3 0 width (2 ^ 64 - 1)) text
-
--- an entry for a debugger: a bit of N_STAB is 1
-abbrev pub is_stab : Nlist → Bool
-is_stab s = if bit_and s.n_type 0xe0 == 0 then false else true
 
 -- another image defines it: of type N_UNDF, known outside the image, and without a value
 abbrev pub is_elsewhere : Nlist → Bool
@@ -41,20 +37,20 @@ value_shown s = if is_elsewhere s then None else Some s.n_value
 
 -- a value in 16 digits, or 8 in a 32-bit image; as many blanks for none
 abbrev pub value_text : (is_64 : Bool) → Option ℕ → List ℕ
-value_text true (Some value) = hex 16 value
-value_text false (Some value) = hex 8 value
+value_text true (Some value) = padded_hex 16 value
+value_text false (Some value) = padded_hex 8 value
 value_text true None = codes "                "
 value_text false None = codes "        "
 
 -- the name of a type of entry, or its number
 abbrev pub stab_text : ℕ → Option (List ℕ) → List ℕ
 stab_text n_type (Some name) = right 5 name
-stab_text n_type None = codes "   " ++ hex 2 n_type
+stab_text n_type None = codes "   " ++ padded_hex 2 n_type
 
 -- what the symbol is: its letter, or of an entry for a debugger the section's number, the flags and the type
 abbrev pub kind_text : List ℕ → Nlist → List ℕ
 kind_text sections s =
-    if is_stab s then codes "- " ++ hex 2 s.n_sect ++ codes " " ++ hex 4 s.n_desc ++ codes " " ++ stab_text s.n_type (stab_name s.n_type)
+    if is_stab s then codes "- " ++ padded_hex 2 s.n_sect ++ codes " " ++ padded_hex 4 s.n_desc ++ codes " " ++ stab_text s.n_type (stab_name s.n_type)
     else encode_utf8 (symbol_letter sections s)
 
 -- a symbol with its name, over the letters of the image's sections
@@ -67,15 +63,15 @@ symbol_line is_64 sections (Ok found) = symbol_text is_64 sections found.0.now f
 symbol_line is_64 sections (Err e) = codes "unreadable: " ++ words_of e ++ codes "\n"
 
 -- The text is a line for each of these symbols, in order; an unreadable one is an error that reports its fault.
-pub record AreLines (is_64 : Bool) (sections : List ℕ) (symbols : List (Result (List ℕ × Nlist) Fault)) (text : List ℕ) : Type 0 where
+pub record AreSymbolLines (is_64 : Bool) (sections : List ℕ) (symbols : List (Result (List ℕ × Nlist) Fault)) (text : List ℕ) : Type 0 where
   pub answers : List (Result (Bor (List ℕ) × Nlist) Error)
   pub are_symbols : map symbol_read answers ≡ symbols
   pub is_text : text ≡ flat_map (symbol_line is_64 sections) answers
 
 -- What was written is such lines.
-pub record WritesLines (is_64 : Bool) (sections : List ℕ) (symbols : List (Result (List ℕ × Nlist) Fault)) (old new : Option (List ℕ)) : Type 0 where
+pub record WritesSymbolLines (is_64 : Bool) (sections : List ℕ) (symbols : List (Result (List ℕ × Nlist) Fault)) (old new : Option (List ℕ)) : Type 0 where
   pub text : List ℕ
-  pub lines : AreLines is_64 sections symbols text
+  pub lines : AreSymbolLines is_64 sections symbols text
   pub written : Appends old new text
 
 -- how many symbols of a table have no byte of their record within the bytes
@@ -91,7 +87,7 @@ past_line n = if n == 0 then [] else decimal n ++ codes " more symbols past the 
 -- there are no others.
 pub record AreTableLines (is_64 : Bool) (sections : List ℕ) (table : Option SymbolTable) (text : List ℕ) (whole : Bool) : Type 0 where
   pub front : List ℕ
-  pub lines : AreLines is_64 sections (symbols_in (option_map begun_of table)) front
+  pub lines : AreSymbolLines is_64 sections (symbols_in (option_map begun_of table)) front
   pub is_text : text ≡ front ++ past_line (past_the_end table)
   pub is_whole : whole ≡ (past_the_end table == 0)
 

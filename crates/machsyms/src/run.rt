@@ -3,7 +3,7 @@
 ghost use Rattle.std.specs.Prelude.{◌≡◌, ◌≢◌, ◌≤◌, [], codes};
 ghost use Rattle.std.specs.Io.Buffered.{writer_buffer, writer_contents};
 ghost use Rattle.mach_show.specs.Shown.{Shown, ShowsFile, Writes, status_by};
-ghost use Rattle.machsyms.specs.ImageLines.{AreImageLines};
+ghost use Rattle.machsyms.specs.ImageLines.{AreImageSymbolLines};
 
 use crate::letters::section_letters;
 use crate::print::print_symbols;
@@ -22,7 +22,7 @@ struct SymbolsOf;
 impl Shows for SymbolsOf {
     ghost name = { codes "machsyms" };
 
-    ghost lines = { λ _. AreImageLines };
+    ghost lines = { λ _. AreImageSymbolLines };
 
     fn name(&self) -> &'static str {
         NAME
@@ -52,7 +52,7 @@ pub fn run<A: Allocator + Clone, W: Write + Drop, B: Allocator, E: Write>(
     err: &mut E,
 ) -> u8
     ensures status { result ≤ 2 }
-    ensures shown { result ≢ 2 → (shown : Shown) × ShowsFile (codes "machsyms") AreImageLines bytes.now shown × (result ≡ status_by shown.whole)
+    ensures shown { result ≢ 2 → (shown : Shown) × ShowsFile (codes "machsyms") AreImageSymbolLines bytes.now shown × (result ≡ status_by shown.whole)
         × Writes shown (writer_contents W.contents out.old) (writer_contents W.contents out.new) (E.contents err.old) (E.contents err.new) }
     ensures flushed { result ≢ 2 → writer_buffer out.new ≡ [] }
 {

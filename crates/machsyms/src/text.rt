@@ -1,7 +1,7 @@
 //! A symbol as it is printed.
 
 ghost use Rattle.std.specs.Prelude.{◌≡◌, Some};
-ghost use Rattle.machsyms.specs.Lines.{symbol_text, value_text, value_shown, kind_text, stab_text, hex};
+ghost use Rattle.machsyms.specs.Lines.{symbol_text, value_text, value_shown, kind_text, stab_text, padded_hex};
 
 use crate::letters::symbol_letter;
 use crate::stabs::stab_name;

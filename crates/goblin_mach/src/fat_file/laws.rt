@@ -13,14 +13,16 @@ ghost use Rattle.goblin_mach.specs.FatFile.{FatFile, fat_file_in, arch_at, archs
 pub fn records_by_number()
     ensures count { (file : FatFile) → length (archs_of file) ≡ file.narches }
     ensures item { (file : FatFile) (k : ℕ) → k < file.narches → slice_get (archs_of file) k ≡ Some (arch_at file.bytes k) }
-    ensures only { (file : FatFile) (k : ℕ) (arch : Result FatArch Fault) → slice_get (archs_of file) k ≡ Some arch → (k < file.narches) × (arch_at file.bytes k ≡ arch) }
+    ensures only { (file : FatFile) (k : ℕ) (arch : Result FatArch Fault) → slice_get (archs_of file) k ≡ Some arch
+        → (k < file.narches) × (arch_at file.bytes k ≡ arch) }
 {}
 
 /// The entries of a fat file go by their number.
 pub fn entries_by_number()
     ensures count { (file : FatFile) → length (entries_of file) ≡ file.narches }
     ensures item { (file : FatFile) (k : ℕ) → k < file.narches → slice_get (entries_of file) k ≡ Some (entry_at file k) }
-    ensures only { (file : FatFile) (k : ℕ) (entry : Result FatEntry Fault) → slice_get (entries_of file) k ≡ Some entry → (k < file.narches) × (entry_at file k ≡ entry) }
+    ensures only { (file : FatFile) (k : ℕ) (entry : Result FatEntry Fault) → slice_get (entries_of file) k ≡ Some entry
+        → (k < file.narches) × (entry_at file k ≡ entry) }
 {}
 
 /// The fat file of some bytes is those bytes, with the count of their header, which has 8 bytes.

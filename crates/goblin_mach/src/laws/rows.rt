@@ -19,7 +19,12 @@ pub fn spellings()
 /// The one command of file A.
 pub fn chain_of_file_a()
     ensures { IsChain Little file_a 32
-        (record { offset = 32; kind = uuid; values = number_is 0x1b ∷ number_is 24 ∷ bytes_are (1 ∷ 2 ∷ 3 ∷ 4 ∷ 5 ∷ 6 ∷ 7 ∷ 8 ∷ 9 ∷ 10 ∷ 11 ∷ 12 ∷ 13 ∷ 14 ∷ 15 ∷ 16 ∷ []) ∷ [] } ∷ []) }
+        (record {
+          offset = 32;
+          kind = uuid;
+          values =
+              number_is 0x1b ∷ number_is 24 ∷ bytes_are (1 ∷ 2 ∷ 3 ∷ 4 ∷ 5 ∷ 6 ∷ 7 ∷ 8 ∷ 9 ∷ 10 ∷ 11 ∷ 12 ∷ 13 ∷ 14 ∷ 15 ∷ 16 ∷ []) ∷ [];
+        } ∷ []) }
 {}
 
 /// The five commands of file B.

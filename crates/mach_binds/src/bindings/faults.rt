@@ -7,7 +7,7 @@ ghost use Rattle.mach_segments.specs.Segment.{segment_view};
 ghost use Rattle.mach_binds.specs.Bindings.{spot_of};
 ghost use Rattle.mach_binds.specs.BindingFaults as defined;
 ghost use Rattle.mach_binds.specs.BindingFaults.{has_fault, still_made, offset_at, binding_reads_left};
-ghost use Rattle.mach_binds.specs.BindingsLeft.{binding_rules, bindings_left};
+ghost use Rattle.mach_binds.specs.BindingsLeft.{binding_rules, opcode_bindings_left};
 ghost use Rattle.mach_binds.specs.Machine.{items_left, opcodes_left};
 
 use crate::bindings::{Extra, OpcodeBindingIterator};
@@ -108,14 +108,14 @@ impl OpcodeBindingIterator<'_, '_> {
     /// Whether a fault stands among the bindings that are left. It takes no memory, and of each instruction a bounded time:
     /// so it is linear in the bytes of the streams, however many bindings there are.
     pub fn has_fault(self) -> bool
-        ensures { result ≡ has_fault (bindings_left self.entry) }
+        ensures { result ≡ has_fault (opcode_bindings_left self.entry) }
     {
         self.has_fault_counted(&mut Steps::new())
     }
 
     /// The same, with the instructions that are read added to a count: at most those that can be read, and one more.
     pub fn has_fault_counted(self, steps: &mut Steps) -> bool
-        ensures fault { result ≡ has_fault (bindings_left self.entry) }
+        ensures fault { result ≡ has_fault (opcode_bindings_left self.entry) }
         ensures bounded { steps.new ≤ steps.old + binding_reads_left self.entry + 1 }
         ensures kept { steps.old ≤ steps.new }
     {

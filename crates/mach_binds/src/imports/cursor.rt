@@ -5,13 +5,14 @@ ghost use Rattle.std.specs.Iterator.{YieldsFirstBy};
 ghost use Rattle.mach_base.specs.Context.{pointer_size};
 ghost use Rattle.mach_base.specs.Text.{text_at};
 ghost use Rattle.mach_segments.specs.Segment.{segment_view};
-ghost use Rattle.mach_binds.specs.BindCursors.{says_yes, special_in, extra_in, state_in, imports_behind, bindings_behind};
-ghost use Rattle.mach_binds.specs.BindCursors.{IsOver, IsOverBindings, HasEnded, HasEndedBindings};
-ghost use Rattle.mach_binds.specs.BindCursors.{placed_read, placed_binding_read, IsPlaced, Stands};
+ghost use Rattle.mach_binds.specs.BindCursors.{special_in, extra_in, state_in, imports_behind, opcode_bindings_behind};
+ghost use Rattle.mach_base.specs.Number.{says_yes};
+ghost use Rattle.mach_binds.specs.BindCursors.{IsOverImports, IsOverBindings, HasEndedImports, HasEndedOpcodeBindings};
+ghost use Rattle.mach_binds.specs.BindCursors.{placed_read, placed_binding_read, IsPlaced, TextStands};
 ghost use Rattle.mach_binds.specs.BindLeft.{imports_left};
 ghost use Rattle.mach_binds.specs.Machine as machine;
 ghost use Rattle.mach_binds.specs.Machine.{items_left, items_of, reader_by, start_of, state_of};
-ghost use Rattle.mach_binds.specs.BindingsLeft.{bindings_left, first_extra};
+ghost use Rattle.mach_binds.specs.BindingsLeft.{opcode_bindings_left, first_extra};
 ghost use Rattle.mach_base.specs.Text.{texts};
 ghost use Rattle.mach_binds.specs.Imports.{input_in};
 ghost use Rattle.mach_binds.specs.NamePlaces.{NameStands, text_or_none, IsNamed};
@@ -227,7 +228,8 @@ impl<'a> BindInterpreter<'a> {
         more: M,
     ) -> Stream<'a, 'b, M>
         ensures items { items_left M.rules result ≡ items_of M.rules
-            (input_in self.now (pointer_size ctx.container) (texts libs.now) (map segment_view segments.now)) self.now.lazy more (state_in self.now.bytes cursor.now) }
+            (input_in self.now (pointer_size ctx.container) (texts libs.now) (map segment_view segments.now)) self.now.lazy more
+            (state_in self.now.bytes cursor.now) }
         ensures over { machine.IsOver (input_in self.now (pointer_size ctx.container) (texts libs.now) (map segment_view segments.now)) self.now.lazy result }
         ensures sites { sites_left M.rules result ≡ sites_of
             (reader_by M.rules (input_in self.now (pointer_size ctx.container) (texts libs.now) (map segment_view segments.now))) self.now.lazy
@@ -252,7 +254,7 @@ impl<'a> BindInterpreter<'a> {
     ) -> BindIterator<'a, 'b>
         ensures items { imports_left result
             ≡ imports_behind (input_in self.now (pointer_size ctx.container) (texts libs.now) (map segment_view segments.now)) self.now.lazy cursor.now }
-        ensures over { IsOver (input_in self.now (pointer_size ctx.container) (texts libs.now) (map segment_view segments.now)) self.now.lazy result }
+        ensures over { IsOverImports (input_in self.now (pointer_size ctx.container) (texts libs.now) (map segment_view segments.now)) self.now.lazy result }
         ensures sites { import_sites_left result
             ≡ import_sites_behind (input_in self.now (pointer_size ctx.container) (texts libs.now) (map segment_view segments.now)) self.now.lazy cursor.now }
     {
@@ -269,8 +271,9 @@ impl<'a> BindInterpreter<'a> {
         ctx: Ctx,
         cursor: &BindCursor,
     ) -> OpcodeBindingIterator<'a, 'b>
-        ensures items { bindings_left result
-            ≡ bindings_behind (input_in self.now (pointer_size ctx.container) (texts libs.now) (map segment_view segments.now)) self.now.lazy cursor.now }
+        ensures items { opcode_bindings_left result
+            ≡ opcode_bindings_behind (input_in self.now (pointer_size ctx.container) (texts libs.now) (map segment_view segments.now))
+            self.now.lazy cursor.now }
         ensures over { IsOverBindings (input_in self.now (pointer_size ctx.container) (texts libs.now) (map segment_view segments.now)) self.now.lazy result }
         ensures sites { binding_sites_left result
             ≡ binding_sites_behind (input_in self.now (pointer_size ctx.container) (texts libs.now) (map segment_view segments.now)) self.now.lazy cursor.now }
@@ -296,8 +299,8 @@ impl<'a> BindInterpreter<'a> {
 impl<'a> BindIterator<'a, '_> {
     /// A cursor of the imports that are left.
     pub fn cursor(&self) -> BindCursor
-        ensures items { (x : Input) (lazy : Range) → IsOver x lazy self.now → imports_behind x lazy result ≡ imports_left self.now }
-        ensures sites { (x : Input) (lazy : Range) → IsOver x lazy self.now → import_sites_behind x lazy result ≡ import_sites_left self.now }
+        ensures items { (x : Input) (lazy : Range) → IsOverImports x lazy self.now → imports_behind x lazy result ≡ imports_left self.now }
+        ensures sites { (x : Input) (lazy : Range) → IsOverImports x lazy self.now → import_sites_behind x lazy result ≡ import_sites_left self.now }
     {
         self.stream.state.cursor(self.stream.source.bytes, <Extra as Makes<'_>>::first(false))
     }
@@ -306,10 +309,10 @@ impl<'a> BindIterator<'a, '_> {
     #[inline(always)]
     pub fn next_placed(&mut self) -> Option<Result<PlacedImport<'a>>>
         ensures items { YieldsFirstBy placed_read imports_left self.old result self.new }
-        ensures end { IfNone result (HasEnded self.new) }
-        ensures fault { IfSome result (λ item. OnErr item (HasEnded self.new)) }
-        ensures over { (x : Input) (lazy : Range) → IsOver x lazy self.old → IsOver x lazy self.new }
-        ensures placed { (x : Input) (lazy : Range) → IsOver x lazy self.old → IfSome result (λ item. IfOk item (IsPlaced x)) }
+        ensures end { IfNone result (HasEndedImports self.new) }
+        ensures fault { IfSome result (λ item. OnErr item (HasEndedImports self.new)) }
+        ensures over { (x : Input) (lazy : Range) → IsOverImports x lazy self.old → IsOverImports x lazy self.new }
+        ensures placed { (x : Input) (lazy : Range) → IsOverImports x lazy self.old → IfSome result (λ item. IfOk item (IsPlaced x)) }
         ensures site { IfSome result (λ item. IfOk item (λ p. import_sites_left self.old ≡ site_of p ∷ import_sites_left self.new)) }
     {
         match self.stream.next_item() {
@@ -327,7 +330,7 @@ impl<'a> BindIterator<'a, '_> {
 impl<'a> OpcodeBindingIterator<'a, '_> {
     /// A cursor of the bindings that are left.
     pub fn cursor(&self) -> BindCursor
-        ensures items { (x : Input) (lazy : Range) → IsOverBindings x lazy self.now → bindings_behind x lazy result ≡ bindings_left self.now }
+        ensures items { (x : Input) (lazy : Range) → IsOverBindings x lazy self.now → opcode_bindings_behind x lazy result ≡ opcode_bindings_left self.now }
         ensures sites { (x : Input) (lazy : Range) → IsOverBindings x lazy self.now → binding_sites_behind x lazy result ≡ binding_sites_left self.now }
     {
         self.stream
@@ -338,12 +341,12 @@ impl<'a> OpcodeBindingIterator<'a, '_> {
     /// The next binding with the place of its name, or the fault that ends them.
     #[inline(always)]
     pub fn next_placed(&mut self) -> Option<Result<PlacedBinding<'a>>>
-        ensures items { YieldsFirstBy placed_binding_read bindings_left self.old result self.new }
-        ensures end { IfNone result (HasEndedBindings self.new) }
-        ensures fault { IfSome result (λ item. OnErr item (HasEndedBindings self.new)) }
+        ensures items { YieldsFirstBy placed_binding_read opcode_bindings_left self.old result self.new }
+        ensures end { IfNone result (HasEndedOpcodeBindings self.new) }
+        ensures fault { IfSome result (λ item. OnErr item (HasEndedOpcodeBindings self.new)) }
         ensures over { (x : Input) (lazy : Range) → IsOverBindings x lazy self.old → IsOverBindings x lazy self.new }
         ensures placed { (x : Input) (lazy : Range) → IsOverBindings x lazy self.old
-            → IfSome result (λ item. IfOk item (λ p. Stands x.bytes p.name_place p.binding.name.now)) }
+            → IfSome result (λ item. IfOk item (λ p. TextStands x.bytes p.name_place p.binding.name.now)) }
         ensures site { IfSome result (λ item. IfOk item (λ p. (library : ℕ)
             × (binding_sites_left self.old ≡ record { name_place = p.name_place; library = library } ∷ binding_sites_left self.new))) }
     {

@@ -23,14 +23,14 @@ impl<'a> Makes<'a> for Plain {
     type Why = Error;
 
     ghost use Rattle.mach_binds.specs.Imports as imports;
-    ghost use Rattle.mach_binds.specs.BindViews.{import_in};
+    ghost use Rattle.mach_binds.specs.BindViews.{import_seen};
     ghost use Rattle.mach_binds.specs.BindLeft.{import_rules};
     ghost use Rattle.mach_base.specs.Fault.{fault_of};
     ghost use Rattle.mach_binds.specs.RowsMove.{import_reads};
 
     ghost Seen = { imports.Import };
 
-    ghost seen = { import_in };
+    ghost seen = { import_seen };
 
     ghost fault = { fault_of };
 

@@ -3,7 +3,7 @@
 ghost use Rattle.std.specs.Prelude.{◌≡◌, Ok, Err, MatchOption};
 ghost use Rattle.mach_base.specs.Fault.{malformed, fault_of};
 ghost use Rattle.mach_binds.specs.Imports.{target_of, import_of};
-ghost use Rattle.mach_binds.specs.BindViews.{import_in};
+ghost use Rattle.mach_binds.specs.BindViews.{import_seen};
 ghost use Rattle.mach_binds.specs.BindLeft.{target_in};
 ghost use Rattle.mach_binds.specs.Machine.{input_of, bind_of};
 
@@ -58,7 +58,7 @@ impl<'a> Source<'a, '_> {
     #[inline(always)]
     pub fn import(&self, settings: &Settings<'a>) -> Option<Import<'a>>
         ensures { MatchOption result (import_of (input_of self.now) (bind_of settings.now) ≡ Err malformed)
-            (λ i. import_of (input_of self.now) (bind_of settings.now) ≡ Ok (import_in i)) }
+            (λ i. import_of (input_of self.now) (bind_of settings.now) ≡ Ok (import_seen i)) }
     {
         let target = self.target(settings.library, settings.segment, settings.offset)?;
         Some(Import {

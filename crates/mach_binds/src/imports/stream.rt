@@ -1,13 +1,14 @@
 //! Two streams of instructions, one after the other, whose binds make items by rules.
 
-ghost use Rattle.std.specs.Prelude.{◌≡◌, ◌+◌, ◌-◌, ◌<◌, ◌≤◌, ◌^◌, [], ◌∷◌, length, min, IfOk, IfErr, IfNone, IfSome, OnOk, OnErr, Ok, Err, IsErr, MatchOption, true, false};
+ghost use Rattle.std.specs.Prelude.{◌≡◌, ◌+◌, ◌-◌, ◌<◌, ◌≤◌, ◌^◌, [], ◌∷◌, length, min, IfOk, IfErr, IfNone, IfSome, OnOk, OnErr, Ok, Err, IsErr};
+ghost use Rattle.std.specs.Prelude.{MatchOption, true, false};
 ghost use Rattle.std.specs.Iterator.{YieldsFirstBy};
 ghost use Rattle.mach_base.specs.Fault.{Fault, malformed};
 ghost use Rattle.mach_binds.specs.Instructions.{byte_at};
 ghost use Rattle.mach_binds.specs.NamePlaces.{NameStands};
 ghost use Rattle.mach_binds.specs.Streams.{Range};
-ghost use Rattle.mach_binds.specs.Machine.{Rules, Reads, range_of, state_of, bind_of, input_of, executed_by, items_left, opcodes_left};
-ghost use Rattle.mach_binds.specs.Machine.{StopsFor, IsUnreadable, MakesNothing, IsAtEnd, IsMadeBy, Keeps, Fails, HasEnded, item_read};
+ghost use Rattle.mach_binds.specs.Machine.{Rules, ReadsForward, range_of, state_of, bind_of, input_of, executed_by, items_left, opcodes_left};
+ghost use Rattle.mach_binds.specs.Machine.{StopsFor, IsNextUnreadable, MakesNothing, IsAtEnd, IsMadeBy, Keeps, Fails, HasEnded, item_read};
 ghost use Rattle.mach_binds.specs.Sites.{site_by, site_in, sites_left};
 
 use crate::imports::instruction::opcode_byte;
@@ -33,7 +34,7 @@ pub trait Makes<'a>: Copy {
     ghost rules: { Rules Self Seen };
 
     // That each instruction takes a byte at least.
-    ghost reads: { Reads rules };
+    ghost reads: { ReadsForward rules };
 
     /// Those where a range begins.
     fn first(is_lazy: bool) -> Self
@@ -150,7 +151,7 @@ impl<'a, 'b, M: Makes<'a>> Stream<'a, 'b, M> {
         ensures items { items_left M.rules self.old ≡ items_left M.rules self.new }
         ensures left { OnOk result (opcodes_left M.rules self.old ≡ opcodes_left M.rules self.new + 1) }
         ensures on { self.new.state.ended ≡ false }
-        ensures err { IfErr result (IsUnreadable M.rules self.new) }
+        ensures err { IfErr result (IsNextUnreadable M.rules self.new) }
         ensures reads { steps.new ≡ steps.old + 1 }
         ensures is_lazy { self.new.state.settings.is_lazy ≡ self.old.state.settings.is_lazy }
         ensures keeps { Keeps self.old self.new }
@@ -198,7 +199,7 @@ impl<'a, 'b, M: Makes<'a>> Stream<'a, 'b, M> {
         ensures on { self.new.state.ended ≡ false }
         ensures there { IfOk result (λ there. there ≡ true → 0 < self.new.state.count) }
         ensures end { IfOk result (λ there. there ≡ false → IsAtEnd self.new) }
-        ensures err { IfErr result (IsUnreadable M.rules self.new) }
+        ensures err { IfErr result (IsNextUnreadable M.rules self.new) }
         ensures keeps { Keeps self.old self.new }
         ensures sites { OnOk result (sites_left M.rules self.old ≡ sites_left M.rules self.new) }
     {

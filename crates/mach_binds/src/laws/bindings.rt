@@ -1,7 +1,7 @@
 //! Laws of bindings: how they follow from the instructions in order, where they lie, and when they are
 //! those of the imports.
 
-ghost use Rattle.mach_binds.specs.BindingLaws.{FindsLastOrdinal, AddsBindings, HasOneListOfBindings, BindingLiesIn, BindingsLieIn, TellTheSame};
+ghost use Rattle.mach_binds.specs.BindingLaws.{FindsLastOrdinal, AddsBindings, StreamsHaveOneListOfBindings, BindingLiesIn, BindingsLieIn, StreamsTellTheSame};
 
 /// The ordinal of a bind is the one that was set last before it, by opcode 1, 2 or 3, or 0; no instruction that
 /// bindings read is a DONE.
@@ -18,7 +18,7 @@ pub fn adds_bindings()
 
 /// Two streams have one list of bindings up to the first fault.
 pub fn one_list_of_bindings()
-    ensures { HasOneListOfBindings }
+    ensures { StreamsHaveOneListOfBindings }
 {}
 
 /// The address of a bind's binding is at least the `vmaddr` of the bind's segment, and below that plus
@@ -36,5 +36,5 @@ pub fn bindings_lie_in_segments()
 /// Of streams that imports and bindings read alike, each binding tells what the import at its place tells: the name, the
 /// library's name, the places, the addend and both flags.
 pub fn bindings_are_imports()
-    ensures { TellTheSame }
+    ensures { StreamsTellTheSame }
 {}

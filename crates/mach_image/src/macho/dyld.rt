@@ -8,7 +8,7 @@ ghost use Rattle.mach_base.specs.Text.{texts};
 ghost use Rattle.mach_image.specs.Bindings.{AreOpcodeBindings, AreChainBindings, AreImageBindings};
 ghost use Rattle.mach_image.specs.BindingsLeft.{chain_bindings_left, bindings_left};
 ghost use Rattle.mach_image.specs.Fixups.{AreImageFixups, base_held, chained_held, chained_place_in, chained_seen};
-ghost use Rattle.mach_image.specs.FixupsLeft.{fixups_left};
+ghost use Rattle.mach_image.specs.FixupsLeft.{image_fixups_left};
 ghost use Rattle.mach_image.specs.OpenImage.{binds_held, bytes_held, commands_held, ctx_held, trie_held, segments_held};
 
 use crate::bindings::{BindingIterator, ChainBindings};
@@ -81,7 +81,7 @@ impl<'a, A: Allocator> MachO<'a, A> {
     /// and along the chains, up to the first fault, and its error last; none where no command brings any.
     /// Where their front can't be read, its error alone. It takes no memory.
     pub fn fixups<'b>(&'b self) -> FixupIterator<'a, 'b>
-        ensures { AreImageFixups (chained_held self.now) (segments_held self.now) (fixups_left result) }
+        ensures { AreImageFixups (chained_held self.now) (segments_held self.now) (image_fixups_left result) }
     {
         let found = match self.chained_fixups() {
             Ok(found) => found,
@@ -98,7 +98,7 @@ impl<'a, A: Allocator> MachO<'a, A> {
     /// fault, and its error last; none where no command brings binds. It takes no memory.
     pub fn opcode_bindings<'b>(&'b self) -> OpcodeBindingIterator<'a, 'b>
         ensures { AreOpcodeBindings (binds_held self.now) (pointer_size (ctx_held self.now).container)
-            (texts self.now.libs.items) (segments_held self.now) (dyld.bindings_left result) }
+            (texts self.now.libs.items) (segments_held self.now) (dyld.opcode_bindings_left result) }
     {
         let Some(binds) = &self.bind_interpreter else {
             return OpcodeBindingIterator::default();

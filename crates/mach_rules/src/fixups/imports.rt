@@ -25,7 +25,7 @@ pub struct ImportRow {
 
 // What the number of an import says, in a format.
 fn row_of(format: u32, number: u64) -> ImportRow
-    ensures { result ≡ defined.row_of format number }
+    ensures { result ≡ defined.import_row_of format number }
 {
     if format == 3 {
         ImportRow {

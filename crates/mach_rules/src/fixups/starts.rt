@@ -85,7 +85,7 @@ fn segment_seen(
     info: u32,
     segment: Option<PlacedSegment>,
 ) -> Seen
-    ensures { result ≡ defined.segment_sees (data_view chained.now) text starts info segment }
+    ensures { result ≡ defined.segment_starts_sees (data_view chained.now) text starts info segment }
 {
     match segment {
         Some(segment) => {

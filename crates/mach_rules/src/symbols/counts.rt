@@ -2,7 +2,7 @@
 
 ghost use Rattle.std.specs.Prelude.{◌≡◌, ◌<◌, ◌≤◌, length};
 ghost use Rattle.mach_load.specs.Variants.{command_of};
-ghost use Rattle.mach_rules.specs.Laid.{laid_of, segment_of as defined_segment};
+ghost use Rattle.mach_rules.specs.Laid.{laid_of, placed_segment_of};
 ghost use Rattle.mach_rules.specs.Symbols as defined;
 
 use crate::layout::Layout;
@@ -32,7 +32,7 @@ pub fn texts_end(strings: &[u8]) -> usize
 
 // How many sections a command is said to have.
 fn nsects_in(command: &LoadCommand) -> u64
-    ensures { result ≡ defined.nsects_of (defined_segment (command_of command.now)) }
+    ensures { result ≡ defined.nsects_of (placed_segment_of (command_of command.now)) }
 {
     match segment_of(command) {
         Some(segment) => u64::from(segment.command.nsects),

@@ -186,9 +186,9 @@ struct Indirect<'a> {
 }
 
 impl Judges<u32> for Indirect<'_> {
-    ghost use Rattle.mach_rules.specs.SymbolViews.{indirect_owner, indirect_judged};
+    ghost use Rattle.mach_rules.specs.SymbolViews.{owner_of_indirect, indirect_judged};
 
-    ghost owner = { indirect_owner };
+    ghost owner = { owner_of_indirect };
 
     ghost sees = { indirect_judged };
 

@@ -49,7 +49,7 @@ fn symbol_kind(
     number: u64,
     k: u32,
 ) -> Option<LayoutFault>
-    ensures { result ≡ defined.if_there (defined.symbol_in layout.now.ctx layout.now.bytes.now table.now k) (defined.symbol_kind table.now number k) }
+    ensures { result ≡ defined.if_there (defined.symbol_in layout.now.ctx layout.now.bytes.now table.now k) (defined.symbol_kind_fault table.now number k) }
 {
     let symbol = symbol_in(layout.bytes, layout.ctx, table, k)?;
     let owner = owner_at(Part::Symbols, table.place, u64::from(k));

@@ -21,5 +21,6 @@ pub fn bits_together(r: RelocationInfo) -> u32
 /// place, whatever the others are.
 pub fn relocations_by_number()
     ensures count { (le : Endian) (bytes : List ℕ) (reloff count : ℕ) → length (relocations_at le bytes reloff count) ≡ count }
-    ensures item { (le : Endian) (bytes : List ℕ) (reloff count k : ℕ) → k < count → slice_get (relocations_at le bytes reloff count) k ≡ Some (relocation_item le bytes reloff k) }
+    ensures item { (le : Endian) (bytes : List ℕ) (reloff count k : ℕ) → k < count
+        → slice_get (relocations_at le bytes reloff count) k ≡ Some (relocation_item le bytes reloff k) }
 {}

@@ -25,5 +25,6 @@ pub fn section_written_and_read(section: Section, bytes: &mut [u8], ctx: Ctx) ->
 /// place, whatever the others are.
 pub fn sections_by_number()
     ensures count { (ctx : Ctx) (file : List ℕ) (offset count : ℕ) → length (sections_at ctx file offset count) ≡ count }
-    ensures item { (ctx : Ctx) (file : List ℕ) (offset count k : ℕ) → k < count → slice_get (sections_at ctx file offset count) k ≡ Some (section_item ctx file offset k) }
+    ensures item { (ctx : Ctx) (file : List ℕ) (offset count k : ℕ) → k < count
+        → slice_get (sections_at ctx file offset count) k ≡ Some (section_item ctx file offset k) }
 {}

@@ -2,7 +2,7 @@
 
 ghost use Rattle.std.specs.Prelude.{◌≡◌, ◌<◌, ◌↔◌, IsTrue};
 ghost use Rattle.mach_base.specs.Answer.{Reads};
-ghost use Rattle.mach_symbols.specs.Symbols.{nlist_at, type_of, type_name, IsGlobal, IsWeak, IsUndefined, IsStab};
+ghost use Rattle.mach_symbols.specs.Symbols.{nlist_at, type_of, type_name, IsGlobal, IsWeakSymbol, IsUndefined, IsStab};
 
 use crate::symbols::names::{N_EXT, N_STAB, N_TYPE, N_UNDF, N_WEAK_DEF, N_WEAK_REF, n_type_to_str};
 use mach_base::{
@@ -151,7 +151,7 @@ impl Nlist {
 
     /// Whether it is a weak reference or a weak definition.
     pub fn is_weak(&self) -> bool
-        ensures { IsTrue result ↔ IsWeak self.now }
+        ensures { IsTrue result ↔ IsWeakSymbol self.now }
     {
         self.n_desc & (N_WEAK_REF | N_WEAK_DEF) != 0
     }

@@ -157,7 +157,8 @@ fn data_by_format(rt: HostRuntime) -> Result<(), Fail> {
         ),
         (
             9,
-            "0 0x0 0x100000000 rebase 0x105000000 auth 0 0x0 false; malformed: a fixup lies in its segment's data; | malformed: a fixup lies in its segment's data; ",
+            "0 0x0 0x100000000 rebase 0x105000000 auth 0 0x0 false; malformed: a fixup lies in its segment's data; \
+            | malformed: a fixup lies in its segment's data; ",
         ),
     ] {
         let mut payload = PAYLOAD;

@@ -107,7 +107,8 @@ fn read_otherwise(rt: HostRuntime) -> Result<(), Fail> {
         (
             32,
             2,
-            "0 0x0 0x100000000 bind 0 5; 0 0x8 0x100000008 rebase 0x1000; 22 bytes are wanted and 16 are left; | library 1 L _a 0x4000 0x100000000 5; 22 bytes are wanted and 16 are left; ",
+            "0 0x0 0x100000000 bind 0 5; 0 0x8 0x100000008 rebase 0x1000; 22 bytes are wanted and 16 are left; \
+            | library 1 L _a 0x4000 0x100000000 5; 22 bytes are wanted and 16 are left; ",
         ),
     ] {
         let mut payload = PAYLOAD;
@@ -124,7 +125,8 @@ fn chains_that_leave(rt: HostRuntime) -> Result<(), Fail> {
     for (byte, want) in [
         (
             0x81,
-            "0 0x0 0x100000000 bind 0 5; malformed: a fixup lies in its segment's data; | library 1 L _a 0x4000 0x100000000 5; malformed: a fixup lies in its segment's data; ",
+            "0 0x0 0x100000000 bind 0 5; malformed: a fixup lies in its segment's data; \
+            | library 1 L _a 0x4000 0x100000000 5; malformed: a fixup lies in its segment's data; ",
         ),
         (
             0xff,

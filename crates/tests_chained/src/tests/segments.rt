@@ -13,7 +13,8 @@ fn two_segments(rt: HostRuntime) -> Result<(), Fail> {
     let text = text_of(rt.alloc(), &TWO_SEGMENTS, &segments, BASE)?;
     assert_eq!(rt;
         text.as_str(),
-        "0 0x0 0x100000000 bind 0 5; 0 0x8 0x100000008 rebase 0x1000; 1 0x0 0x100004000 bind 0 5; 1 0x8 0x100004008 rebase 0x1000; | library 1 L _a 0x4000 0x100000000 5; library 1 L _a 0x4010 0x100004000 5; "
+        "0 0x0 0x100000000 bind 0 5; 0 0x8 0x100000008 rebase 0x1000; 1 0x0 0x100004000 bind 0 5; 1 0x8 0x100004008 rebase 0x1000; \
+        | library 1 L _a 0x4000 0x100000000 5; library 1 L _a 0x4010 0x100004000 5; "
     );
     Ok(())
 }
@@ -45,7 +46,8 @@ fn starts_over_each_other(rt: HostRuntime) -> Result<(), Fail> {
     let text = text_of(rt.alloc(), &payload, &segments, BASE)?;
     assert_eq!(rt;
         text.as_str(),
-        "0 0x0 0x100000000 bind 0 5; 0 0x8 0x100000008 rebase 0x1000; malformed: starts lie behind those before them; | library 1 L _a 0x4000 0x100000000 5; malformed: starts lie behind those before them; "
+        "0 0x0 0x100000000 bind 0 5; 0 0x8 0x100000008 rebase 0x1000; malformed: starts lie behind those before them; \
+        | library 1 L _a 0x4000 0x100000000 5; malformed: starts lie behind those before them; "
     );
     Ok(())
 }
@@ -59,7 +61,8 @@ fn segments_over_each_other(rt: HostRuntime) -> Result<(), Fail> {
     let text = text_of(rt.alloc(), &TWO_SEGMENTS, &segments, BASE)?;
     assert_eq!(rt;
         text.as_str(),
-        "0 0x0 0x100000000 bind 0 5; 0 0x8 0x100000008 rebase 0x1000; malformed: a segment with chains lies behind the one before it; | library 1 L _a 0x4000 0x100000000 5; malformed: a segment with chains lies behind the one before it; "
+        "0 0x0 0x100000000 bind 0 5; 0 0x8 0x100000008 rebase 0x1000; malformed: a segment with chains lies behind the one before it; \
+        | library 1 L _a 0x4000 0x100000000 5; malformed: a segment with chains lies behind the one before it; "
     );
     Ok(())
 }
@@ -81,7 +84,8 @@ fn addresses_past_64_bits(rt: HostRuntime) -> Result<(), Fail> {
     let text = text_of(rt.alloc(), &PAYLOAD, &segments, base)?;
     assert_eq!(rt;
         text.as_str(),
-        "0 0x0 0xfffffffffffffff8 bind 0 5; malformed: a fixup's address has at most 64 bits; | library 1 L _a 0x4000 0xfffffffffffffff8 5; malformed: a fixup's address has at most 64 bits; "
+        "0 0x0 0xfffffffffffffff8 bind 0 5; malformed: a fixup's address has at most 64 bits; \
+        | library 1 L _a 0x4000 0xfffffffffffffff8 5; malformed: a fixup's address has at most 64 bits; "
     );
     Ok(())
 }

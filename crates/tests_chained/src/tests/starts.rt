@@ -36,17 +36,20 @@ fn starts_changed(rt: HostRuntime) -> Result<(), Fail> {
         (
             66,
             7,
-            "0 0x0 0x100000000 rebase 0x1000; 0 0x4 0x100000004 rebase 0x2000; malformed: a start lies behind the chain before it; | malformed: a start lies behind the chain before it; ",
+            "0 0x0 0x100000000 rebase 0x1000; 0 0x4 0x100000004 rebase 0x2000; malformed: a start lies behind the chain before it; \
+            | malformed: a start lies behind the chain before it; ",
         ),
         (
             40,
             26,
-            "0 0x0 0x100000000 rebase 0x1000; 0 0x4 0x100000004 rebase 0x2000; malformed: starts have room for those of a page; | malformed: starts have room for those of a page; ",
+            "0 0x0 0x100000000 rebase 0x1000; 0 0x4 0x100000004 rebase 0x2000; malformed: starts have room for those of a page; \
+            | malformed: starts have room for those of a page; ",
         ),
         (
             67,
             0,
-            "0 0x0 0x100000000 rebase 0x1000; 0 0x4 0x100000004 rebase 0x2000; 0 0x8 0x100000008 value 0x5; 0 0xc 0x10000000c value 0xffffffff; malformed: starts have room for those of a page; | malformed: starts have room for those of a page; ",
+            "0 0x0 0x100000000 rebase 0x1000; 0 0x4 0x100000004 rebase 0x2000; 0 0x8 0x100000008 value 0x5; 0 0xc 0x10000000c value 0xffffffff; \
+            malformed: starts have room for those of a page; | malformed: starts have room for those of a page; ",
         ),
         (
             67,

@@ -11,7 +11,7 @@ ghost use Rattle.mach_tries.specs.Trie.{Entry};
 ghost use Rattle.mach_image.specs.Facts.{HasRunPaths, HasEntryPoint, HasImportItems, HasBindings, HasFixups, HasExports, HasExportOf, HasLibrariesByKind};
 ghost use Rattle.mach_image.specs.Facts.{IsExportedAt, IsNotExported};
 ghost use Rattle.mach_image.specs.BindingsLeft.{bindings_left};
-ghost use Rattle.mach_image.specs.FixupsLeft.{fixups_left};
+ghost use Rattle.mach_image.specs.FixupsLeft.{image_fixups_left};
 ghost use Rattle.goblin_mach.specs.FatEntry.{FatEntry, entries_of, OpensEntry};
 ghost use Rattle.goblin_mach.specs.FatFile.{file_held};
 ghost use Rattle.mach_image.specs.Libraries.{libraries_left};
@@ -73,7 +73,7 @@ fn bindings<'a, 'b>(image: &'b MachO<'a>) -> BindingIterator<'a, 'b>
 
 // Its fixups.
 fn fixups<'a, 'b>(image: &'b MachO<'a>) -> FixupIterator<'a, 'b>
-    ensures { (bytes : List ℕ) (o : ℕ) → IsLossyImage bytes o image.now → HasFixups bytes o (fixups_left result) }
+    ensures { (bytes : List ℕ) (o : ℕ) → IsLossyImage bytes o image.now → HasFixups bytes o (image_fixups_left result) }
 {
     laws::fixups_of_image(image);
     image.fixups()

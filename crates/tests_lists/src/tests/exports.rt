@@ -25,7 +25,8 @@ fn listed(alloc: Global, trie: &ExportTrie<'_>, libs: &[&str]) -> Result<String,
 }
 
 const THREE: &str =
-    "[__mh_execute_header] regular 0x0 flags 0x0 at 0x0 of 0; [_maximum] regular 0xf40 flags 0x0 at 0xf40 of 0; [_main] regular 0xf50 flags 0x0 at 0xf50 of 0; ";
+    "[__mh_execute_header] regular 0x0 flags 0x0 at 0x0 of 0; [_maximum] regular 0xf40 flags 0x0 at 0xf40 of 0; \
+    [_main] regular 0xf50 flags 0x0 at 0xf50 of 0; ";
 
 const ROWS: [(&str, &[u8], &str); 11] = [
     ("exports_vector", &EXPORTS, THREE),

@@ -52,7 +52,8 @@ const EXPORTS_OF_B: &str =
     "[] regular 0x7 flags 0x0 at 0x7 of 0; [a] regular 0x9 flags 0x0 at 0x9 of 0; ";
 
 const EXPORTS_OF_VECTOR: &str =
-    "[__mh_execute_header] regular 0x0 flags 0x0 at 0x0 of 0; [_maximum] regular 0xf40 flags 0x0 at 0xf40 of 0; [_main] regular 0xf50 flags 0x0 at 0xf50 of 0; ";
+    "[__mh_execute_header] regular 0x0 flags 0x0 at 0x0 of 0; [_maximum] regular 0xf40 flags 0x0 at 0xf40 of 0; \
+    [_main] regular 0xf50 flags 0x0 at 0xf50 of 0; ";
 
 const ROWS: [Row; 15] = [
     Row {

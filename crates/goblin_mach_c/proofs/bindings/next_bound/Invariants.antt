@@ -1,8 +1,8 @@
 use Rattle.std.proofs.Common.{◌≡◌, length}
-use Rattle.mach_chained.specs.FixupCursors.{IsOver}
-use Rattle.mach_chained.specs.Fixups.{Input}
+use Rattle.mach_chained.specs.FixupCursors.{IsOverFixups}
+use Rattle.mach_chained.specs.Fixups.{FixupInput}
 use Rattle.mach_chained.specs.FixupsLeft.{fixups_left}
-use Rattle.mach_segments.specs.Bindings.{texts}
+use Rattle.mach_base.specs.Text.{texts}
 use Rattle.goblin_mach_c.specs.BindingsBehind.{bound_left, bound_places}
 use Rattle.goblin_mach_c.proofs.bindings.next_bound.Given as goal
 
@@ -10,7 +10,7 @@ abbrev pub invariant-fixups : goal.invariant-fixups
 invariant-fixups l = record {
   items : bound_left l.initial.walk l.segments l.base (texts l.libs) ≡ bound_left l.walk l.segments l.base (texts l.libs);
   places : bound_places l.initial.walk l.chains_at ≡ bound_places l.walk l.chains_at;
-  over : (x : Input) → IsOver x l.initial.walk.fixups → IsOver x l.walk.fixups;
+  over : (x : FixupInput) → IsOverFixups x l.initial.walk.fixups → IsOverFixups x l.walk.fixups;
   chained : l.walk.chained ≡ l.initial.walk.chained;
 }
 

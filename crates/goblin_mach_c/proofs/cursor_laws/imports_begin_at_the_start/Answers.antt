@@ -1,5 +1,5 @@
 use Rattle.std.proofs.Common.{ℕ, sym, subst}
-use Rattle.goblin_mach_c.specs.ImportsBehind.{AreAtStage, binds_there}
+use Rattle.goblin_mach_c.specs.ImportsBehind.{AreImportsAtStage, binds_there}
 use Rattle.goblin_mach_c.specs.Stage.{stage_of}
 use Rattle.goblin_mach_c.proofs.cursor_laws.imports_begin_at_the_start.Goals as goal
 
@@ -9,12 +9,12 @@ returns c = λ bytes o k e items. (
     ctx = q.ctx;
     cs = q.cs;
     opens = q.opens;
-    holds = subst (λ (n : ℕ). AreAtStage (stage_of n) k.binds (binds_there q.ctx bytes q.cs) items) e q.holds;
+    holds = subst (λ (n : ℕ). AreImportsAtStage (stage_of n) k.binds (binds_there q.ctx bytes q.cs) items) e q.holds;
   },
   λ q. record {
     ctx = q.ctx;
     cs = q.cs;
     opens = q.opens;
-    holds = subst (λ (n : ℕ). AreAtStage (stage_of n) k.binds (binds_there q.ctx bytes q.cs) items) (sym e) q.holds;
+    holds = subst (λ (n : ℕ). AreImportsAtStage (stage_of n) k.binds (binds_there q.ctx bytes q.cs) items) (sym e) q.holds;
   },
 )

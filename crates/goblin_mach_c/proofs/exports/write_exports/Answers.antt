@@ -39,7 +39,14 @@ loop-k-preserved c =
     let count = put.count in
     let len = put.len in
     let cut = length-take c.next_export.new.cursor.name_len c.next_export.new.name in
-    let at = length-set c.loop-k.out c.loop-k.k (record { name = c.loop-k.used; name_len = c.put_name-len.result; library = c.brought_from-library.result.0; target = c.brought_from-library.result.1; what = c.row_of.result }) in
+    let at = length-set c.loop-k.out c.loop-k.k
+    (record {
+      name = c.loop-k.used;
+      name_len = c.put_name-len.result;
+      library = c.brought_from-library.result.0;
+      target = c.brought_from-library.result.1;
+      what = c.row_of.result;
+    }) in
     record {
       so_far = one_more c.in-Ok.info c.brought_from-library.result.0 c.brought_from-library.result.1 c.next_export.new.cursor.node
           c.loop-k.invariant.so_far (omega arith)
@@ -73,7 +80,8 @@ returns-in-Err-clause-name c = λ n is.
     let t = c.args.trie.now in
     let cursor = c.next_export.new.cursor in
     let name = c.next_export.new.name in
-    let full = subst (λ (x : NextExport). IsFull t.bytes t.from cursor name c.next_export.new.stack (Some x)) (sym c.in-Err.ensures) c.next_export.ensures.full in
+    let full = subst (λ (x : NextExport). IsFull t.bytes t.from cursor name c.next_export.new.stack (Some x))
+    (sym c.in-Err.ensures) c.next_export.ensures.full in
     let same = c.next_export.ensures.name_len in
     let kept = c.loop-k.invariant.name_len in
     let few : length name < 2 ^ 64 - 1 = omega arith in

@@ -9,4 +9,5 @@ use Rattle.goblin_mach_c.proofs.fat.gmr_fat_entries.Goals as goal
 pub returns : goal.returns
 returns c =
     let rows = λ (count : ℕ). drop c.args.first (items_from (λ k. fat_row (arch_at c.args.bytes.now k)) 0 count) in
-    subst (λ (l : List gm_fat_entry). Fills l c.args.out.now c.fill.new.out c.fill.result) (c.rows_from-rows.ensures ∙ ap rows c.told_of.ensures) c.fill.ensures.filled
+    subst (λ (l : List gm_fat_entry). Fills l c.args.out.now c.fill.new.out c.fill.result)
+    (c.rows_from-rows.ensures ∙ ap rows c.told_of.ensures) c.fill.ensures.filled

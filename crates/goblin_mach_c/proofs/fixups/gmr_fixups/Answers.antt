@@ -5,7 +5,7 @@ use Rattle.mach_image.proofs.ImageFacts.{facts_are}
 use Rattle.mach_image.specs.Fixups.{chained_held}
 use Rattle.mach_image.specs.OpenImage.{segments_held}
 use Rattle.goblin_mach_c.specs.FixupRows.{fixup_row}
-use Rattle.goblin_mach_c.specs.FixupsBehind.{AreFixupsBehind, AreFixupsWritten, Chains, items_left}
+use Rattle.goblin_mach_c.specs.FixupsBehind.{AreFixupsBehind, AreFixupsWritten, FixupSource, fixup_rows_left}
 use Rattle.goblin_mach_c.proofs.FactsBehind.{chains_by}
 use Rattle.goblin_mach_c.proofs.Said.{mapped_fills}
 use Rattle.goblin_mach_c.proofs.fixups.gmr_fixups.Goals as goal
@@ -13,9 +13,9 @@ use Rattle.goblin_mach_c.proofs.fixups.gmr_fixups.Goals as goal
 pub returns-in-Ok-clause-written : goal.returns-in-Ok-clause-written
 returns-in-Ok-clause-written c = λ _.
     let m = c.in-Ok.found in
-    let x : Chains = record { chained = chained_held m; segments = segments_held m } in
+    let x : FixupSource = record { chained = chained_held m; segments = segments_held m } in
     let over = c.behind-rows.ensures.over in
-    let items = items_left c.behind-rows.result in
+    let items = fixup_rows_left c.behind-rows.result in
     let n = c.fill_items.result in
     (facts_are c.args.bytes.now c.args.image.now.offset m c.in-Ok.ensures.opened
     (λ f. AreFixupsWritten (chains_by f) f.segments c.args.cursor.now c.cursor.result c.args.out.now c.fill_items.new.out n)).1

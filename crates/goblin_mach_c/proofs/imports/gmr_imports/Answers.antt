@@ -1,6 +1,6 @@
 use Rattle.std.proofs.Common.{refl, sym}
 use Rattle.mach_image.proofs.ImageFacts.{facts_are}
-use Rattle.goblin_mach_c.specs.ImportsBehind.{AreImportsWritten, Binds, binds_of, imports_in, items_left, sites_in}
+use Rattle.goblin_mach_c.specs.ImportsBehind.{AreImportsWritten, Binds, binds_of_image, imports_in_rows, import_rows_left, sites_in_rows}
 use Rattle.goblin_mach_c.proofs.HeldBinds.{binds_stand}
 use Rattle.goblin_mach_c.proofs.FactsBehind.{binds_by}
 use Rattle.goblin_mach_c.proofs.imports.gmr_imports.Goals as goal
@@ -9,24 +9,24 @@ pub returns-in-Ok-clause-written : goal.returns-in-Ok-clause-written
 returns-in-Ok-clause-written c = λ _.
     let m = c.in-Ok.found in
     let bytes = c.args.bytes.now in
-    let x : Binds = binds_of m in
+    let x : Binds = binds_of_image m in
     let over = c.behind-rows.ensures.over bytes (binds_stand bytes c.args.image.now.offset m c.in-Ok.ensures.opened) in
     let n = c.fill_items.result in
     (facts_are bytes c.args.image.now.offset m c.in-Ok.ensures.opened
     (λ f. AreImportsWritten bytes (binds_by f) c.args.cursor.now c.cursor.result c.args.out.now c.fill_items.new.out n)).1
     (record {
-      items = items_left c.behind-rows.result;
+      items = import_rows_left c.behind-rows.result;
       behind = record {
-        imports = imports_in c.behind-rows.result;
-        sites = sites_in c.behind-rows.result;
+        imports = imports_in_rows c.behind-rows.result;
+        sites = sites_in_rows c.behind-rows.result;
         behind = c.behind-rows.ensures.items;
         sites_behind = c.behind-rows.ensures.sites;
         are = refl;
       };
       rows = c.fill_items.ensures.filled (bytes, x) over;
       rest = record {
-        imports = imports_in c.fill_items.new.rows;
-        sites = sites_in c.fill_items.new.rows;
+        imports = imports_in_rows c.fill_items.new.rows;
+        sites = sites_in_rows c.fill_items.new.rows;
         behind = c.cursor.ensures.items (bytes, x) (c.fill_items.ensures.over (bytes, x) over);
         sites_behind = c.cursor.ensures.sites (bytes, x) (c.fill_items.ensures.over (bytes, x) over);
         are = sym (c.fill_items.ensures.rest (bytes, x) over);

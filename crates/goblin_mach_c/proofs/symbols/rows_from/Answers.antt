@@ -8,5 +8,6 @@ pub returns : goal.returns
 returns c =
     let bytes = c.args.bytes.now in
     let image = c.args.image.now in
-    ap (λ x. items_from (symbol_row (record { bytes = bytes; start = image.symbols_at; nsyms = image.symbols; strtab = image.names_at; ctx = x })) c.args.first (image.symbols - c.args.first))
+    ap (λ x. items_from (symbol_row (record { bytes = bytes; start = image.symbols_at; nsyms = image.symbols; strtab = image.names_at; ctx = x }))
+    c.args.first (image.symbols - c.args.first))
     c.ctx_of.ensures ∙ sym (items_behind (symbol_row (table_seen bytes image)) image.symbols c.args.first)

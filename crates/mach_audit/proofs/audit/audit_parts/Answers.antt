@@ -3,7 +3,7 @@ use Rattle.mach_segments.specs.Segment.{segment_view}
 use Rattle.mach_binds.specs.BindLeft.{imports_left}
 use Rattle.mach_image.specs.BindingsLeft.{bindings_left}
 use Rattle.mach_image.specs.Facts.{HasFixups, HasBindings}
-use Rattle.mach_image.specs.FixupsLeft.{fixups_left}
+use Rattle.mach_image.specs.FixupsLeft.{image_fixups_left}
 use Rattle.mach_audit.proofs.Images.{layout_judged, read_judged, judged_one, sections_judged, relocations_judged, symbols_judged, exports_judged}
 use Rattle.mach_audit.proofs.Images.{imports_judged, parts_judged}
 use Rattle.mach_layout.specs.Facts.{HasLayoutFaults}
@@ -36,7 +36,7 @@ returns-clause-judged g c = λ bytes image.
     let symbols = rw c.symbols.ensures.items at c.in_ok-symbols.ensures.told in
     let items = imports_left c.iter_imports.result in
     let are_items = c.import_items_of_image.ensures.strict bytes 0 image in
-    let fixups = fixups_left c.fixups.result in
+    let fixups = image_fixups_left c.fixups.result in
     let has_fixups = (c.fixups_of_image.ensures.strict bytes 0 image fixups).1 c.fixups.ensures in
     let bindings = bindings_left c.bindings.result in
     let has_bindings = (c.bindings_of_image.ensures.strict bytes 0 image bindings).1 c.bindings.ensures in
@@ -69,7 +69,7 @@ returns-clause-told g c = λ bytes image.
       layout = c.in_ok-layout.layout;
     } in
     let items = imports_left c.iter_imports.result in
-    let fixups = fixups_left c.fixups.result in
+    let fixups = image_fixups_left c.fixups.result in
     let bindings = bindings_left c.bindings.result in
     image_told limit bytes m image parts
     (rw c.as_slice-segments.ensures at c.in_ok-sections.ensures.told)

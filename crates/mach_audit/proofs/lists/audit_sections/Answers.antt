@@ -1,7 +1,7 @@
 use Rattle.std.proofs.Common.{ℕ, List, Option, arith, map, subst, sym, take}
 use Rattle.mach_segments.specs.Segment.{SegmentView, segment_view, sections_of}
 use Rattle.mach_audit.proofs.Goes.{one_part_more, next_number}
-use Rattle.mach_audit.specs.Told.{FaultAt, HasMet, faults_from, section_faults}
+use Rattle.mach_audit.specs.Told.{FaultAt, HasMet, faults_from, section_faults_told}
 use Rattle.mach_audit.specs.declared.report.Place.TheVariants as places
 use Rattle.mach_audit.proofs.lists.audit_sections.Goals as goal
 
@@ -11,7 +11,7 @@ loop-segment-preserved g c =
     let i = c.loop-segment.segment-index in
     let before = c.loop-segment.invariant in
     let part : ℕ → SegmentView → List (Option FaultAt) = λ n s. faults_from (places.Section n) 0 (sections_of s) in
-    let added = c.in_ok-add_sections.ensures.told c.args.limit (section_faults (map segment_view (take i segments))) before.0 in
+    let added = c.in_ok-add_sections.ensures.told c.args.limit (section_faults_told (map segment_view (take i segments))) before.0 in
     let here = rw (c.into_iter.ensures.into_iter_gives, before.1) at added in (
       subst (λ (xs : List (Option FaultAt)). HasMet c.args.limit xs c.add_sections.new.tally)
           (sym (one_part_more segment_view part segments i _ c.loop-segment-test.true)) here,

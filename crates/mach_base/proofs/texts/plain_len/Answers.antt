@@ -8,7 +8,8 @@ returns-then-stops-ne0-clause-value c =
     let xs = c.args.bytes.now in
     let i = c.loop-len.len in
     let found = lowest_stops xs i c.stops_at-stops.result (omega arith) c.stops_at-stops.ensures (omega arith) in
-    first_stop xs _ (omega (arith, found.0)) (λ k l. elim (cases_lt k i) [ inl early ↦ c.loop-len.invariant.1 k early | inr late ↦ found.1 k late l ]) (λ l. found.2)
+    first_stop xs _ (omega (arith, found.0)) (λ k l. elim (cases_lt k i) [ inl early ↦ c.loop-len.invariant.1 k early | inr late ↦ found.1 k late l ])
+    (λ l. found.2)
 
 pub returns-then-stops-ne0-clause-within : goal.returns-then-stops-ne0-clause-within
 returns-then-stops-ne0-clause-within c =

@@ -13,4 +13,5 @@ returns-clause-text c =
       | else-len-bytes-via-then-len-bytes+else-bytes-len-ne0 w ↦ λ l. let e = w.if-bytes-len-ne0.false in e
       | else-len-bytes-via-else-len-bytes w ↦ λ l. absurd (let e = w.if-len-bytes.false in omega (arith, e, l))
     ] in
-    text_before c.args.bytes.now c.plain_len-len.result c.plain_len-len.ensures.within c.plain_len-len.ensures.value c.ascii_text.result.now c.ascii_text.ensures zero
+    text_before c.args.bytes.now c.plain_len-len.result c.plain_len-len.ensures.within c.plain_len-len.ensures.value c.ascii_text.result.now
+    c.ascii_text.ensures zero

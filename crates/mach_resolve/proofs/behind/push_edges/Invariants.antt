@@ -5,4 +5,5 @@ use Rattle.mach_resolve.proofs.behind.push_edges.Given as goal
 
 -- the last ones were pushed
 abbrev pub invariant-loop-done : goal.invariant-loop-done
-invariant-loop-done g l = reverse (map edge_seen l.left.items) ≡ drop (l.count - l.done) (edges_of (file_seen l.file)) ++ reverse (map edge_seen l.fn.left.items)
+invariant-loop-done g l =
+    reverse (map edge_seen l.left.items) ≡ drop (l.count - l.done) (edges_of (file_seen l.file)) ++ reverse (map edge_seen l.fn.left.items)

@@ -26,7 +26,8 @@ edges-preserved-in-None g c =
     let marks = c.edges.is_met.items in
     let e = edge_seen c.in-Some.edge in
     let below = map edge_seen c.pop.new.self.items in
-    let top = popped (map edge_seen c.edges.left.items) below e (ap (map edge_seen) c.in-Some.ensures.items ∙ map_push edge_seen c.pop.new.self.items c.in-Some.edge) in
+    let top = popped (map edge_seen c.edges.left.items) below e (ap (map edge_seen) c.in-Some.ensures.items
+    ∙ map_push edge_seen c.pop.new.self.items c.in-Some.edge) in
     let held = subst (λ xs. Holds files starts xs met marks) top c.edges.invariant in
     subst (λ gap. Holds files starts (reverse below) (record { places = c.edges.places.items; gap = gap }) marks) (sym c.keep-gap.ensures)
     (passed_gap files starts (reverse below) e met marks (sym c.in-None.ensures.place) held)
@@ -43,14 +44,16 @@ edges-preserved-in-Continue-branch-3 g c =
     let i = c.in-Some-place_of.place in
     let f = c.index-then-not-index.result.now in
     let below = map edge_seen c.pop.new.self.items in
-    let top = popped (map edge_seen c.edges.left.items) below e (ap (map edge_seen) c.in-Some.ensures.items ∙ map_push edge_seen c.pop.new.self.items c.in-Some.edge) in
+    let top = popped (map edge_seen c.edges.left.items) below e (ap (map edge_seen) c.in-Some.ensures.items
+    ∙ map_push edge_seen c.pop.new.self.items c.in-Some.edge) in
     let held = subst (λ xs. Holds files starts xs met marks) top c.edges.invariant in
     let inside : i < length files = omega (arith, c.in-Some-place_of.ensures.inside, length-map items file_seen) in
     let within : i < length marks = omega (arith, inside, c.edges.invariant.marks_are.long) in
     let off : get_or marks i false ≡ false = sym (c.index.ensures ∙ get_or_default marks i c.index.result.now false within) ∙ c.if-not-index.true in
     let at = file_at items items i f refl c.in-Some-place_of.ensures.inside c.index-then-not-index.ensures in
     let after = passed_first files starts (reverse below) e met marks i (file_seen f) (sym c.in-Some-place_of.ensures.place) at inside off held in
-    subst (λ xs. Holds files starts xs (record { places = c.push.new.self.items; gap = gap }) (set marks i true)) (sym c.in_ok-push_edges-in-Some-place_of.ensures)
+    subst (λ xs. Holds files starts xs (record { places = c.push.new.self.items; gap = gap }) (set marks i true))
+    (sym c.in_ok-push_edges-in-Some-place_of.ensures)
     (subst (λ ps. Holds files starts (edges_of (file_seen f) ++ reverse below) (record { places = ps; gap = gap }) (set marks i true))
     (sym c.in_ok-push-in-Some-place_of.ensures.items) after)
 
@@ -64,7 +67,8 @@ edges-preserved g c =
     let e = edge_seen c.in-Some.edge in
     let i = c.in-Some-place_of.place in
     let below = map edge_seen c.pop.new.self.items in
-    let top = popped (map edge_seen c.edges.left.items) below e (ap (map edge_seen) c.in-Some.ensures.items ∙ map_push edge_seen c.pop.new.self.items c.in-Some.edge) in
+    let top = popped (map edge_seen c.edges.left.items) below e (ap (map edge_seen) c.in-Some.ensures.items
+    ∙ map_push edge_seen c.pop.new.self.items c.in-Some.edge) in
     let held = subst (λ xs. Holds files starts xs met marks) top c.edges.invariant in
     let inside : i < length files = omega (arith, c.in-Some-place_of.ensures.inside, length-map items file_seen) in
     let within : i < length marks = omega (arith, inside, c.edges.invariant.marks_are.long) in

@@ -1,6 +1,6 @@
 use Rattle.std.proofs.Common.{Bool, ap, subst}
 use Rattle.std.specs.Prelude.{Ok}
-use Rattle.mach_resolve.specs.Follow.{Follow, back, ends, further}
+use Rattle.mach_resolve.specs.Follow.{FollowsTo, back, ends, further}
 use Rattle.mach_resolve.specs.Seen.{files_seen, symbol_seen, place_seen}
 use Rattle.mach_resolve.proofs.follow.follow.Goals as goal
 
@@ -13,7 +13,7 @@ turns-preserved g c = λ place way.
     let fresh = c.in_ok-note.ensures.fresh (ap (λ (b : Bool). Ok b) c.if-not-branch.false) in
     c.turns.invariant place
     (further (symbol_seen c.in-Ok-Leads.next) fresh.1 (rw c.in-Ok-Leads.field-0-is at c.in-Ok-Leads.ensures.step)
-    (subst (λ met. Follow (files_seen c.args.files.now) met (symbol_seen c.in-Ok-Leads.next) place) fresh.0 way))
+    (subst (λ met. FollowsTo (files_seen c.args.files.now) met (symbol_seen c.in-Ok-Leads.next) place) fresh.0 way))
 
 pub returns-in-Ok-Ends-clause-followed : goal.returns-in-Ok-Ends-clause-followed
 returns-in-Ok-Ends-clause-followed g c =

@@ -1,13 +1,13 @@
 use Rattle.std.proofs.Common.{◌-◌, ◌^◌, [], length, map}
-use Rattle.mach_resolve.specs.Follow.{Place, Follow}
+use Rattle.mach_resolve.specs.Follow.{SymbolPlace, FollowsTo}
 use Rattle.mach_resolve.specs.Seen.{files_seen, symbol_seen}
 use Rattle.mach_resolve.proofs.follow.follow.Given as goal
 
 -- where the way ends from here, it ends from its start
 abbrev pub invariant-turns : goal.invariant-turns
 invariant-turns g l =
-    (place : Place) → Follow (files_seen l.files) (map symbol_seen l.met.keys) (symbol_seen l.sought) place
-    → Follow (files_seen l.files) [] (symbol_seen l.start) place
+    (place : SymbolPlace) → FollowsTo (files_seen l.files) (map symbol_seen l.met.keys) (symbol_seen l.sought) place
+    → FollowsTo (files_seen l.files) [] (symbol_seen l.start) place
 
 abbrev pub decreases-turns : goal.decreases-turns
 decreases-turns g l = 2 ^ 63 - length l.met.keys

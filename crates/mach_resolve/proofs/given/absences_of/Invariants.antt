@@ -6,4 +6,5 @@ use Rattle.mach_resolve.proofs.given.absences_of.Given as goal
 
 abbrev pub invariant-libraries : goal.invariant-libraries
 invariant-libraries g l =
-    may_be_absent (libraries_in (bytes_held l.image) (commands_held l.image)) ≡ l.absences.items ++ map (λ x. is_weak_kind x.kind) (libraries_left l.library-iterator)
+    may_be_absent (libraries_in (bytes_held l.image) (commands_held l.image)) ≡ l.absences.items ++ map (λ x. is_weak_kind x.kind)
+    (libraries_left l.library-iterator)

@@ -23,8 +23,10 @@ returns-in-Err-open-clause-refused g c = λ fat.
     let arm = c.in-Ok-Some in
     let number = c.args.number in
     let found = rw (arm.is, arm.field-0-is) at c.find_cputype.ensures in
-    fails_more (OpenFault number (record { path = given.path; bytes = c.slice-bytes.result.now })) (NumberedFault number (LibraryFault c.args.cputype given)) c.in-Err-open.failure
-    (entry_fault c.args.cputype number given c.slice-bytes.result.now arm.arch (finds given.bytes c.args.container.now c.args.cputype _ fat found) c.slice-bytes.ensures)
+    fails_more (OpenFault number (record { path = given.path; bytes = c.slice-bytes.result.now }))
+    (NumberedFault number (LibraryFault c.args.cputype given)) c.in-Err-open.failure
+    (entry_fault c.args.cputype number given c.slice-bytes.result.now arm.arch (finds given.bytes c.args.container.now c.args.cputype _ fat found)
+    c.slice-bytes.ensures)
     c.in-Err-open.ensures.refused
 
 pub returns-in-Ok-None-clause-none : goal.returns-in-Ok-None-clause-none

@@ -31,7 +31,8 @@ returns-clause-refused g c =
     let FaultAt = NumberedFault c.args.number (LibraryFault c.args.cputype given) in
     subst (IsFailure FaultAt) (sym c.refused.ensures)
     (told FaultAt c.args.number c.in-Err.error
-    (stands_more (MachFault ImageFault given.bytes) (FaultAt c.args.number) c.in-Err.error (λ f stands. (refl, unfound (of_file stands))) c.in-Err.ensures.refused))
+    (stands_more (MachFault ImageFault given.bytes) (FaultAt c.args.number) c.in-Err.error
+    (λ f stands. (refl, unfound (of_file stands))) c.in-Err.ensures.refused))
 
 pub returns-in-Ok-Fat-clause-opened : goal.returns-in-Ok-Fat-clause-opened
 returns-in-Ok-Fat-clause-opened g c =

@@ -10,7 +10,8 @@ use Rattle.mach_resolve.proofs.report.report_all.Goals as goal
 pub returns-in-Ok-entry_outcomes-clause-told : goal.returns-in-Ok-entry_outcomes-clause-told
 returns-in-Ok-entry_outcomes-clause-told g c = λ is.
     fat (file_held c.args.container.now) c.in-Ok.arches.items _ is.magic is.file c.in-Ok.ensures
-    (subst (λ xs. AreEntryOutcomes c.args.limit (given_seen c.args.program) (map given_seen c.args.libraries.now) xs (map outcome_seen c.in-Ok-entry_outcomes.outcomes.items))
+    (subst (λ xs. AreEntryOutcomes c.args.limit (given_seen c.args.program) (map given_seen c.args.libraries.now) xs
+    (map outcome_seen c.in-Ok-entry_outcomes.outcomes.items))
     c.deref.ensures.value c.in-Ok-entry_outcomes.ensures.told)
 
 pub returns-in-Ok-refusal-clause-told : goal.returns-in-Ok-refusal-clause-told

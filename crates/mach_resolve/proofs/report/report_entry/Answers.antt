@@ -29,4 +29,5 @@ returns-in-Ok-refusal-clause-told g c = λ is.
     let e = c.in-Err.error in
     let Q = ForFault p.bytes c.args.cputype in
     search_refused c.args.limit p (map given_seen c.args.libraries.now) c.args.cputype (outcome_seen c.in-Ok-refusal.outcome)
-    (program_refused Q e c.refused.result c.in-Ok-refusal.outcome c.refused.ensures (stands_as Q e (of_table file is.magic is.file c.in-Err.ensures)) c.in-Ok-refusal.ensures)
+    (program_refused Q e c.refused.result c.in-Ok-refusal.outcome c.refused.ensures (stands_as Q e (of_table file is.magic is.file c.in-Err.ensures))
+    c.in-Ok-refusal.ensures)

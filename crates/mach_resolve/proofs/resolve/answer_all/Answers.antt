@@ -30,9 +30,17 @@ bindings-preserved g c =
       before.3 ∙ (ap (λ rest. front ++ rest) (c.in-Some.ensures.steps ∙ ap (λ item. binding_read item ∷ left) c.in-Ok.is)
           ∙ (sym (append_assoc front (Ok b ∷ []) left) ∙ ap (λ xs. xs ++ left) (sym (map_push (λ (x : Binding). Ok x) bs b)))),
       λ met behind same.
-          subst (λ qs. AreAnswers fs p (bs ++ b ∷ []) qs) (sym (ap (map answer_seen) c.in_ok-push-in-Ok-answer_for.ensures.items ∙ map_push answer_seen answers a))
-          (all_zip_push (IsAnswer fs p) bs (map answer_seen answers) b (answer_seen a) (before.4 met behind same) (c.in-Ok-answer_for.ensures.answered met behind same)),
-      omega (arith, before.5, ap length c.in_ok-push-in-Ok-answer_for.ensures.items, length-append answers (c.in-Ok-answer_for.answer ∷ []), length-append bs (b ∷ [])),
+          subst (λ qs. AreAnswers fs p (bs ++ b ∷ []) qs)
+          (sym (ap (map answer_seen) c.in_ok-push-in-Ok-answer_for.ensures.items ∙ map_push answer_seen answers a))
+          (all_zip_push (IsAnswer fs p) bs (map answer_seen answers) b (answer_seen a) (before.4 met behind same)
+          (c.in-Ok-answer_for.ensures.answered met behind same)),
+      omega (
+        arith,
+        before.5,
+        ap length c.in_ok-push-in-Ok-answer_for.ensures.items,
+        length-append answers (c.in-Ok-answer_for.answer ∷ []),
+        length-append bs (b ∷ []),
+      ),
       omega (arith, before.5, before.6, c.if-len-limit.false, c.len.ensures, length-append bs (b ∷ [])),
     )
 
@@ -48,7 +56,8 @@ returns-then-len-limit-clause-answered g c = λ met behind same.
 pub returns-in-Err-answer_for-clause-refused : goal.returns-in-Err-answer_for-clause-refused
 returns-in-Err-answer_for-clause-refused g c =
     let fs = files_seen c.args.files.now in
-    fails_more (TrieFaultAt fs) (AnswerFault c.args.limit fs c.args.image.now) c.in-Err-answer_for.failure (λ n f stands. of_trie stands) c.in-Err-answer_for.ensures.refused
+    fails_more (TrieFaultAt fs) (AnswerFault c.args.limit fs c.args.image.now) c.in-Err-answer_for.failure
+    (λ n f stands. of_trie stands) c.in-Err-answer_for.ensures.refused
 
 pub returns-in-Err-clause-refused : goal.returns-in-Err-clause-refused
 returns-in-Err-clause-refused g c =
@@ -57,7 +66,8 @@ returns-in-Err-clause-refused g c =
     let m = c.args.image.now in
     let e = c.in-Err.error in
     let left = bindings_left c.next.new.self in
-    let all = before.3 ∙ ap (λ rest. map (λ (x : Binding). Ok x) before.2 ++ rest) (c.in-Some.ensures.steps ∙ ap (λ item. binding_read item ∷ left) c.in-Err.is) in
+    let all = before.3 ∙ ap (λ rest. map (λ (x : Binding). Ok x) before.2 ++ rest)
+    (c.in-Some.ensures.steps ∙ ap (λ item. binding_read item ∷ left) c.in-Err.is) in
     let Faults = AnswerFault c.args.limit fs m in
     subst (IsFailure Faults) (sym c.refused.ensures)
     (told Faults 0 e (stands_as (Faults 0) e (of_bindings before.2 left (subst (HoldsItems m) all before.1)

@@ -12,5 +12,6 @@ abbrev pub invariant-bindings : goal.invariant-bindings
 invariant-bindings g l =
     (items : List (Result Binding Fault)) × HoldsItems l.image items
     × (bindings : List Binding) × (items ≡ map (λ b. Ok b) bindings ++ bindings_left l.item-iterator)
-    × ((met : Met) → IsBehindAll (files_seen l.files) met → met.places ≡ l.all → AreAnswers (files_seen l.files) (program_seen l.program) bindings (map answer_seen l.answers.items))
+    × ((met : Met) → IsBehindAll (files_seen l.files) met → met.places ≡ l.all
+    → AreAnswers (files_seen l.files) (program_seen l.program) bindings (map answer_seen l.answers.items))
     × (length l.answers.items ≡ length bindings) × (length bindings ≤ l.limit)

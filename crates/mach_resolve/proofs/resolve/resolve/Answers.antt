@@ -21,7 +21,8 @@ returns-in-Err-clause-refused g c =
     let ls = map given_seen c.args.libraries.now in
     subst (IsFailure (ResolveFault c.args.limit p ls)) (sym c.refused.ensures)
     (told (ResolveFault c.args.limit p ls) 0 c.in-Err.error
-    (stands_more (ImageFault p.bytes 0) (ResolveFault c.args.limit p ls 0) c.in-Err.error (λ f stands. of_file (unopened refl stands)) c.in-Err.ensures.refused))
+    (stands_more (ImageFault p.bytes 0) (ResolveFault c.args.limit p ls 0) c.in-Err.error
+    (λ f stands. of_file (unopened refl stands)) c.in-Err.ensures.refused))
 
 pub returns-in-Err-gather-clause-refused : goal.returns-in-Err-gather-clause-refused
 returns-in-Err-gather-clause-refused g c =
@@ -66,7 +67,8 @@ returns-clause-refused g c =
     let all = gathered_seen c.in-Ok-gather.gathered in
     let files = all.files in
     fails_more (AnswerFault c.args.limit files m) (ResolveFault c.args.limit p ls) c.in-Err-answer_all.failure
-    (more_faults c.args.limit p ls m all (m.header.cputype, of_cpu p.bytes m is, c.in-Ok-gather.ensures.gathered) (λ items. (c.bindings_of_image.ensures.strict p.bytes 0 c.in-Ok.ensures.opened items).1))
+    (more_faults c.args.limit p ls m all (m.header.cputype, of_cpu p.bytes m is, c.in-Ok-gather.ensures.gathered)
+    (λ items. (c.bindings_of_image.ensures.strict p.bytes 0 c.in-Ok.ensures.opened items).1))
     c.in-Err-answer_all.ensures.refused
 
 pub returns-in_err-all-clause-refused : goal.returns-in_err-all-clause-refused

@@ -6,4 +6,5 @@ use Rattle.mach_resolve.proofs.run.note_entries.Given as goal
 -- with those that are left, these make what all made
 abbrev pub invariant-outcomes : goal.invariant-outcomes
 invariant-outcomes g l =
-    all_notes (map note_seen l.notes.keys) (map outcome_seen (drop l.outcome-index l.outcomes)) ≡ all_notes (map note_seen l.fn.notes.keys) (map outcome_seen l.outcomes)
+    all_notes (map note_seen l.notes.keys) (map outcome_seen (drop l.outcome-index l.outcomes)) ≡ all_notes (map note_seen l.fn.notes.keys)
+    (map outcome_seen l.outcomes)

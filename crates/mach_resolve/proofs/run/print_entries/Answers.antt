@@ -2,7 +2,7 @@ use Rattle.std.proofs.Common.{◌≡◌, ◌∙◌, ◌+◌, ◌++◌, ◌≤◌
 use Rattle.std.proofs.lemmas.List.{map_push, take_more, length-map, length-take-le}
 use Rattle.std.specs.Io.KnownBytes.{Appends}
 use Rattle.mach_base.proofs.Written.{Appends-both}
-use Rattle.mach_resolve.specs.Lines.{arch_line, entry_text, entries_text}
+use Rattle.mach_resolve.specs.Lines.{entry_heading, entry_text, entries_text}
 use Rattle.mach_resolve.specs.Seen.{outcome_seen}
 use Rattle.mach_resolve.proofs.Printed.{entries_push}
 use Rattle.mach_resolve.proofs.run.print_entries.Goals as goal
@@ -22,5 +22,5 @@ outcomes-preserved g c =
     (sym (ap (λ xs. entries_text 0 (map outcome_seen xs)) (take_more outcomes i x c.outcomes-test.true)
     ∙ (ap (entries_text 0) (map_push outcome_seen (take i outcomes) (get_or outcomes i x)) ∙ entries_push 0 before (outcome_seen (get_or outcomes i x)))))
     (Appends-both _ _ _ (entries_text 0 before) _ c.outcomes.invariant
-    (subst (λ y. Appends first last (arch_line (0 + length before) ++ entry_text (outcome_seen y))) c.index-outcomes-index.is
-    (subst (λ (k : ℕ). Appends first last (arch_line k ++ entry_text (outcome_seen x))) number c.in_ok-print_entry.ensures)))
+    (subst (λ y. Appends first last (entry_heading (0 + length before) ++ entry_text (outcome_seen y))) c.index-outcomes-index.is
+    (subst (λ (k : ℕ). Appends first last (entry_heading k ++ entry_text (outcome_seen x))) number c.in_ok-print_entry.ensures)))

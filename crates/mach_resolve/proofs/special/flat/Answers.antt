@@ -1,6 +1,6 @@
 use Rattle.std.proofs.Common.{[], sym, subst}
 use Rattle.mach_tries.specs.Exports.{info_of}
-use Rattle.mach_resolve.specs.Follow.{Follow, HasFirst, NoneHas}
+use Rattle.mach_resolve.specs.Follow.{FollowsTo, HasFirst, NoneHas}
 use Rattle.mach_resolve.specs.Special.{IsFlat, nowhere, at, further}
 use Rattle.mach_resolve.specs.Seen.{file_seen, files_seen, symbol_seen, place_seen}
 use Rattle.mach_resolve.proofs.Found.{ok_more}
@@ -13,7 +13,7 @@ returns-in-Leads-clause-flat g c = λ met behind same.
     let f = file_seen c.in-Ok-Some.file.now in
     let info = info_of c.in-Ok-Some.info in
     let has = subst (λ places. HasFirst fs name places f info) (sym same) (rw c.in-Ok-Some.field-0-is at c.in-Ok-Some.ensures.found) in
-    ok_more (λ place. Follow fs [] (symbol_seen c.in-Leads.next) (place_seen place)) (λ place. IsFlat fs name (place_seen place)) c.follow.result
+    ok_more (λ place. FollowsTo fs [] (symbol_seen c.in-Leads.next) (place_seen place)) (λ place. IsFlat fs name (place_seen place)) c.follow.result
     (λ place way. further met f info (symbol_seen c.in-Leads.next) (place_seen place) behind has c.in-Leads.ensures way) c.follow.ensures.followed
 
 pub returns-in-Ends-clause-flat : goal.returns-in-Ends-clause-flat

@@ -3,7 +3,7 @@ use Rattle.std.specs.Prelude.{All, IsFalse}
 use Rattle.std.proofs.lemmas.List.{length-map, get_or-map, take_all}
 use Rattle.std.proofs.lemmas.List.Elements.{All-more}
 use Rattle.mach_resolve.specs.Files as files
-use Rattle.mach_resolve.specs.Follow.{Follow}
+use Rattle.mach_resolve.specs.Follow.{FollowsTo}
 use Rattle.mach_resolve.specs.Special.{IsInMain, none, first}
 use Rattle.mach_resolve.specs.Seen.{file_seen, files_seen, place_seen}
 use Rattle.mach_resolve.proofs.Found.{file_at, ok_more}
@@ -15,8 +15,10 @@ returns-then-file-clause-sought g c =
     let f = c.file-item.result in
     let i = c.loop-file.file-index in
     let listed = file_at c.args.files.now.items.items c.deref-file-items.result.now i f c.deref-file-items.ensures.value c.loop-file-test.true c.file-item.is in
-    ok_more (λ place. Follow fs [] (record { library = f.name.now; name = c.args.name.now }) (place_seen place)) (λ place. IsInMain fs c.args.name.now (place_seen place))
-    c.follow.result (λ place way. first i (file_seen f) (place_seen place) (record { listed = listed; is_main = c.if-file.true; before = c.loop-file.invariant }) way)
+    ok_more (λ place. FollowsTo fs [] (record { library = f.name.now; name = c.args.name.now }) (place_seen place))
+    (λ place. IsInMain fs c.args.name.now (place_seen place))
+    c.follow.result (λ place way. first i (file_seen f) (place_seen place)
+    (record { listed = listed; is_main = c.if-file.true; before = c.loop-file.invariant }) way)
     c.follow.ensures.followed
 
 pub loop-file-preserved : goal.loop-file-preserved
@@ -37,5 +39,10 @@ pub returns-clause-sought : goal.returns-clause-sought
 returns-clause-sought g c =
     let fs = files_seen c.args.files.now in
     let items = c.args.files.now.items.items in
-    let all : length fs ≤ c.loop-file.file-index = omega (arith, c.loop-file-test.false, ap length c.deref-file-items.ensures.value, length-map items file_seen) in
+    let all : length fs ≤ c.loop-file.file-index = omega (
+      arith,
+      c.loop-file-test.false,
+      ap length c.deref-file-items.ensures.value,
+      length-map items file_seen,
+    ) in
     none (subst (All (λ (x : files.File). IsFalse x.is_main)) (take_all c.loop-file.file-index fs all) c.loop-file.invariant)

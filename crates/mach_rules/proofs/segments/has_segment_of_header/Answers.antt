@@ -2,12 +2,12 @@ use Rattle.std.proofs.Common.{rules, tests}
 use Rattle.std.proofs.lemmas.Iterator.Consumers.{YieldsList-from_first}
 use Rattle.std.proofs.lemmas.Iterator.Search.{any_from_yields_List}
 use Rattle.mach_rules.specs.Laid.{laid_of, segments_of}
-use Rattle.mach_rules.specs.PartsLeft.{segments_left}
+use Rattle.mach_rules.specs.PartsLeft.{placed_segments_left}
 use Rattle.mach_rules.specs.Segments.{holds_header}
 use Rattle.mach_rules.proofs.segments.has_segment_of_header.Goals as goal
 
 pub returns : goal.returns
 returns c =
     any_from_yields_List (holds_header (laid_of c.args.layout.now)) c.any.new.self _ c.any.result c.any.ensures.ran
-    (YieldsList-from_first (λ s. s) segments_left {s = c.segments.result} (segments_of (laid_of c.args.layout.now)) c.segments.ensures)
+    (YieldsList-from_first (λ s. s) placed_segments_left {s = c.segments.result} (segments_of (laid_of c.args.layout.now)) c.segments.ensures)
     (λ x b q k. search (rules, tests))

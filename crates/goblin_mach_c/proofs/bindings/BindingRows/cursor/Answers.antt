@@ -1,9 +1,10 @@
 use Rattle.std.proofs.Common.{◌++◌, List, Result, ap}
 use Rattle.mach_base.specs.Fault.{Fault}
 use Rattle.mach_binds.specs.Bindings.{upto_fault}
-use Rattle.mach_segments.specs.Bindings.{Binding, texts}
-use Rattle.goblin_mach_c.specs.BindingsBehind.{opcodes_left}
-use Rattle.goblin_mach_c.specs.FixupsBehind.{items_left}
+use Rattle.mach_segments.specs.Bindings.{Binding}
+use Rattle.mach_base.specs.Text.{texts}
+use Rattle.goblin_mach_c.specs.BindingsBehind.{opcode_rows_left}
+use Rattle.goblin_mach_c.specs.FixupsBehind.{fixup_rows_left}
 use Rattle.goblin_mach_c.proofs.BoundChains.{same_chains}
 use Rattle.goblin_mach_c.proofs.PlacedBindings.{whole}
 use Rattle.goblin_mach_c.proofs.bindings.BindingRows.cursor.Goals as goal
@@ -11,10 +12,10 @@ use Rattle.goblin_mach_c.proofs.bindings.BindingRows.cursor.Goals as goal
 pub returns-clause-items : goal.returns-clause-items
 returns-clause-items c = λ x over.
     let it = c.args.self.now in
-    let by_opcodes = opcodes_left it.opcodes in
+    let by_opcodes = opcode_rows_left it.opcodes in
     record {
       by_opcodes = by_opcodes;
-      fixups = items_left it.fixups;
+      fixups = fixup_rows_left it.fixups;
       opcodes = c.opcode_cursor.ensures.items x over.opcodes;
       chains = c.cursor.ensures (record { chained = x.chained; segments = x.binds.segments }) over.fixups;
       are = ap (λ (l : List (Result Binding Fault)). upto_fault (by_opcodes ++ l))

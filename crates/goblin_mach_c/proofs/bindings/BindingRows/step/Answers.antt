@@ -1,6 +1,6 @@
 use Rattle.std.proofs.Common.{None, sym, subst}
 use Rattle.mach_binds.specs.Imports.{input_in}
-use Rattle.goblin_mach_c.specs.BindingsBehind.{AreOver, AreOverOpcodes}
+use Rattle.goblin_mach_c.specs.BindingsBehind.{AreBindingRowsOver, AreOverOpcodes}
 use Rattle.goblin_mach_c.specs.declared.bindings.BindingRows.{BindingRows}
 use Rattle.goblin_mach_c.proofs.BoundNames.{opcode_placed}
 use Rattle.goblin_mach_c.proofs.PlacedBindings.{over_chains}
@@ -17,6 +17,6 @@ pub returns-clause-over : goal.returns-clause-over
 returns-clause-over c = λ x over.
     let chains = over_chains x c.args.self.now over in
     c.next_of_chains.ensures.over x (elim c.match-self.branch [
-      | in-Some+in_default-next_placed w ↦ subst (λ (it : BindingRows). AreOver x (record it { opcodes = None })) (sym w.self-is) chains
-      | in_default w ↦ subst (λ (it : BindingRows). AreOver x (record it { opcodes = None })) (sym w.self-is) chains
+      | in-Some+in_default-next_placed w ↦ subst (λ (it : BindingRows). AreBindingRowsOver x (record it { opcodes = None })) (sym w.self-is) chains
+      | in_default w ↦ subst (λ (it : BindingRows). AreBindingRowsOver x (record it { opcodes = None })) (sym w.self-is) chains
     ])

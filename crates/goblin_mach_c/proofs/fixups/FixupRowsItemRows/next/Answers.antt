@@ -3,7 +3,7 @@ use Rattle.mach_base.specs.Fault.{fault_of}
 use Rattle.mach_base.specs.declared.error.Error.{Error}
 use Rattle.mach_chained.specs.Fixups.{Fixup}
 use Rattle.mach_image.specs.FixupsLeft.{told_first}
-use Rattle.goblin_mach_c.specs.FixupsBehind.{items_left}
+use Rattle.goblin_mach_c.specs.FixupsBehind.{fixup_rows_left}
 use Rattle.goblin_mach_c.proofs.fixups.FixupRowsItemRows.next.Goals as goal
 
 pub returns-in_ok-why-in-Unread-clause-says : goal.returns-in_ok-why-in-Unread-clause-says
@@ -12,7 +12,7 @@ returns-in_ok-why-in-Unread-clause-says c = λ x over.
     let told : c.in-Unread.told ≡ Some why = cc (c.in_ok-why-in-Unread.ensures.value) in
     let after : c.take.new.self ≡ None = c.in_ok-why-in-Unread.ensures.after in (
       Err (fault_of why),
-      ap items_left c.in-Unread.is ∙ ap (λ (o : Option Error). told_first {A = Fixup} o) told
+      ap fixup_rows_left c.in-Unread.is ∙ ap (λ (o : Option Error). told_first {A = Fixup} o) told
           ∙ ap (λ (o : Option Error). Err (fault_of why) ∷ told_first {A = Fixup} o) (sym after),
       c.refused_row.ensures,
     )

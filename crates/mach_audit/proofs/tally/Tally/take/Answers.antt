@@ -1,7 +1,7 @@
 use Rattle.std.proofs.Common.{List, take, Some, None, refl, sym, subst}
 use Rattle.std.proofs.lemmas.List.{append-nil}
 use Rattle.mach_base.specs.Fault.{fault_of}
-use Rattle.mach_audit.specs.Told.{FaultAt, Tells, faults_of}
+use Rattle.mach_audit.specs.Told.{FaultAt, TellsFirstFaults, faults_of}
 use Rattle.mach_audit.proofs.Told.{met_one_more, countable}
 use Rattle.mach_audit.proofs.tally.Tally.take.Goals as goal
 
@@ -18,5 +18,5 @@ pub returns-in_default-error-clause-met : goal.returns-in_default-error-clause-m
 returns-in_default-error-clause-met g c = λ limit items met.
     let t = c.args.self.now in
     let same = append-nil (faults_of (take limit items)) in
-    let tells = subst (λ (fs : List FaultAt). Tells fs t.part) (sym same) met.tells.faults in
+    let tells = subst (λ (fs : List FaultAt). TellsFirstFaults fs t.part) (sym same) met.tells.faults in
     rw (c.in_default-error.is, c.in-Some.ensures.1) (met_one_more limit items None t t.part met c.in-Some.ensures.0 tells refl)

@@ -1,5 +1,5 @@
 use Rattle.mach_binds.proofs.Names.{subst, ℕ, List, Input, input_of, bind_of}
-use Rattle.mach_binds.specs.BindCursors.{Stands}
+use Rattle.mach_binds.specs.BindCursors.{TextStands}
 use Rattle.mach_segments.specs.Bindings.{binding_view}
 use Rattle.mach_binds.specs.BindingsLeft.{given_now}
 use Rattle.mach_binds.proofs.BindPlaced.{binding_tells, stands}
@@ -13,8 +13,8 @@ returns-in-Some-Ok-clause-placed c = λ x lazy over.
     let tells = binding_tells (input_of new.source) (given_now new.more new.state.settings.library)
     (record (bind_of new.state.settings) { offset = bound.0 }) (binding_view c.in-Some-Ok.binding) bound.1 in
     let named = stands bytes new.state.settings.name.now new.state.settings.name_place (c.in-Some-Ok.ensures.keeps.named over.named) in
-    subst (λ (i : Input). Stands i.bytes new.state.settings.name_place c.in-Some-Ok.binding.name.now) over.source
-    (subst (λ (n : List ℕ). Stands bytes new.state.settings.name_place n) tells named)
+    subst (λ (i : Input). TextStands i.bytes new.state.settings.name_place c.in-Some-Ok.binding.name.now) over.source
+    (subst (λ (n : List ℕ). TextStands bytes new.state.settings.name_place n) tells named)
 
 pub returns-in-Some-Ok-clause-site : goal.returns-in-Some-Ok-clause-site
 returns-in-Some-Ok-clause-site c = (c.next_item.new.self.state.settings.library, rw c.in-Some-Ok.field-0-is at c.in-Some-Ok.ensures.site)

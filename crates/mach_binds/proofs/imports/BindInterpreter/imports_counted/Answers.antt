@@ -1,4 +1,5 @@
-use Rattle.mach_binds.proofs.Names.{map, ◌≡◌, ◌∙◌, ◌+◌, ◌++◌, ap, refl, arith, length, err_from_is_err_and, append-nil, pointer_size, input_in, imports_seen, texts}
+use Rattle.mach_binds.proofs.Names.{map, ◌≡◌, ◌∙◌, ◌+◌, ◌++◌, ap, refl, arith, length, err_from_is_err_and, append-nil, pointer_size, input_in}
+use Rattle.mach_binds.proofs.Names.{imports_seen, texts}
 use Rattle.mach_segments.specs.Segment.{segment_view}
 use Rattle.mach_binds.proofs.Names.{imports_left, import_rules}
 use Rattle.mach_binds.proofs.BindLists.{oks, list_from_items, beginnings_have}
@@ -17,7 +18,8 @@ returns-in-Err-clause-only g c = λ list l.
 pub returns-in-Err-clause-refused : goal.returns-in-Err-clause-refused
 returns-in-Err-clause-refused g c =
     let it = c.start-left.ensures.items in
-    refuses c.args.self.now (pointer_size c.args.ctx.container) (texts c.args.libs.now) (map segment_view c.args.segments.now) it.0 it.1 _ it.2 (imports_seen c.binds.found.items)
+    refuses c.args.self.now (pointer_size c.args.ctx.container) (texts c.args.libs.now) (map segment_view c.args.segments.now) it.0 it.1 _ it.2
+    (imports_seen c.binds.found.items)
     _ c.binds.invariant.items
     c.end_at.result (c.in-Err.ensures.items ∙ c.end_at.ensures.fails.0)
 
@@ -36,7 +38,8 @@ returns-in_default-clause-only g c = λ list l.
 pub returns-in_default-clause-refused : goal.returns-in_default-clause-refused
 returns-in_default-clause-refused g c =
     let it = c.start-left.ensures.items in
-    refuses c.args.self.now (pointer_size c.args.ctx.container) (texts c.args.libs.now) (map segment_view c.args.segments.now) it.0 it.1 _ it.2 (imports_seen c.binds.found.items)
+    refuses c.args.self.now (pointer_size c.args.ctx.container) (texts c.args.libs.now) (map segment_view c.args.segments.now) it.0 it.1 _ it.2
+    (imports_seen c.binds.found.items)
     _ c.binds.invariant.items
     c.end_at-in_default.result (c.in-Ok-true.ensures.items ∙ c.in_default.ensures.none.0 ∙ c.end_at-in_default.ensures.fails.0)
 

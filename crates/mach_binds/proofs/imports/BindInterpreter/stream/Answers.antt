@@ -1,4 +1,5 @@
-use Rattle.mach_binds.proofs.Names.{map, ◌∙◌, ap, true, false, pointer_size, BindRanges, Input, Range, State, input_in, texts, items_of, reads_of, items_left, opcodes_left}
+use Rattle.mach_binds.proofs.Names.{map, ◌∙◌, ap, true, false, pointer_size, BindRanges, Input, Range, State, input_in, texts, items_of, reads_of}
+use Rattle.mach_binds.proofs.Names.{items_left, opcodes_left}
 use Rattle.mach_binds.proofs.Names.{start_of, state_of}
 use Rattle.mach_segments.specs.Segment.{segment_view}
 use Rattle.mach_binds.proofs.Names.{reader_by}

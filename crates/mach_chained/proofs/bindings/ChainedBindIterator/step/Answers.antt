@@ -1,22 +1,23 @@
 use Rattle.std.proofs.Common.{◌≡◌, ◌∷◌, ◌+◌, [], Some, None, Ok, Err, OnOk, refl, sym, ap, subst, ◌∙◌, arith}
 use Rattle.mach_base.specs.Fault.{fault_of}
-use Rattle.mach_chained.specs.WalkViews.{input_of, fixup_view, fixup_read}
+use Rattle.mach_chained.specs.WalkViews.{fixup_input_of, fixup_view, fixup_read}
 use Rattle.mach_chained.specs.FixupsLeft.{fixups_left}
 use Rattle.mach_chained.specs.Bindings.{binding_in}
-use Rattle.mach_segments.specs.Bindings.{texts, binding_view, binding_read}
-use Rattle.mach_chained.specs.BindingViews.{bindings_left, pointers_left}
+use Rattle.mach_segments.specs.Bindings.{binding_view, binding_read}
+use Rattle.mach_base.specs.Text.{texts}
+use Rattle.mach_chained.specs.BindingViews.{chained_bindings_left, pointers_left}
 use Rattle.mach_chained.proofs.BindingsLeft.{on_bindings, off_bindings, before_others, on_pointers, off_pointers}
 use Rattle.mach_chained.proofs.bindings.ChainedBindIterator.step.Goals as goal
 
 pub returns-then-self-clause-items : goal.returns-then-self-clause-items
-unfolding bindings_left
+unfolding chained_bindings_left
 returns-then-self-clause-items c =
     let it = c.args.self.now in
     let none = off_bindings it.ended it.fixups.source (texts it.libs.now) (fixups_left it.fixups) c.if-self.true in
     (none, none)
 
 pub returns-then-self-clause-end : goal.returns-then-self-clause-end
-unfolding bindings_left
+unfolding chained_bindings_left
 returns-then-self-clause-end c =
     let it = c.args.self.now in record {
       ended = c.if-self.true;
@@ -24,7 +25,7 @@ returns-then-self-clause-end c =
     }
 
 pub returns-in-None-clause-items : goal.returns-in-None-clause-items
-unfolding bindings_left
+unfolding chained_bindings_left
 returns-in-None-clause-items c =
     let it = c.fixups.self in
     let libs = texts it.libs.now in
@@ -34,7 +35,7 @@ returns-in-None-clause-items c =
     )
 
 pub returns-in-Some-Err-clause-items : goal.returns-in-Some-Err-clause-items
-unfolding bindings_left
+unfolding chained_bindings_left
 returns-in-Some-Err-clause-items c =
     let it = c.fixups.self in
     let new = c.step.new.self in
@@ -47,13 +48,13 @@ returns-in-Some-Err-clause-items c =
     ∙ ap (λ r. Err f ∷ r) (sym c.end-in-Some-Err.ensures.items)
 
 pub returns-in-Some-Ok-binding-clause-items : goal.returns-in-Some-Ok-binding-clause-items
-unfolding bindings_left
+unfolding chained_bindings_left
 returns-in-Some-Ok-binding-clause-items c =
     let it = c.fixups.self in
     let new = c.step.new.self in
     let libs = texts it.libs.now in
     let inv = c.fixups.invariant in
-    let x = input_of new.source in
+    let x = fixup_input_of new.source in
     let f = fixup_view c.in-Some-Ok.fixup in
     let there : fixups_left it.fixups ≡ Ok f ∷ fixups_left new =
     c.in-Some-Ok.ensures.items ∙ ap (λ r. fixup_read r ∷ fixups_left new) c.in-Some-Ok.field-0-is in
@@ -64,13 +65,13 @@ returns-in-Some-Ok-binding-clause-items c =
     ∙ ap (λ m. Ok b ∷ m) (sym (on_bindings it.ended new.source new.source libs (fixups_left new) (fixups_left new) inv.on refl refl))
 
 pub returns-in-Some-Err-binding-clause-items : goal.returns-in-Some-Err-binding-clause-items
-unfolding bindings_left
+unfolding chained_bindings_left
 returns-in-Some-Err-binding-clause-items c =
     let it = c.fixups.self in
     let new = c.step.new.self in
     let libs = texts it.libs.now in
     let inv = c.fixups.invariant in
-    let x = input_of new.source in
+    let x = fixup_input_of new.source in
     let f = fixup_view c.in-Some-Ok.fixup in
     let there : fixups_left it.fixups ≡ Ok f ∷ fixups_left new =
     c.in-Some-Ok.ensures.items ∙ ap (λ r. fixup_read r ∷ fixups_left new) c.in-Some-Ok.field-0-is in
@@ -81,13 +82,13 @@ returns-in-Some-Err-binding-clause-items c =
     ∙ ap (λ m. Err g ∷ m) (sym c.end-in-Some-Err-binding.ensures.items)
 
 pub fixups-preserved : goal.fixups-preserved
-unfolding bindings_left pointers_left
+unfolding chained_bindings_left pointers_left
 fixups-preserved c =
     let it = c.fixups.self in
     let new = c.step.new.self in
     let libs = texts it.libs.now in
     let inv = c.fixups.invariant in
-    let x = input_of new.source in
+    let x = fixup_input_of new.source in
     let f = fixup_view c.in-Some-Ok.fixup in
     let there : fixups_left it.fixups ≡ Ok f ∷ fixups_left new =
     c.in-Some-Ok.ensures.items ∙ ap (λ r. fixup_read r ∷ fixups_left new) c.in-Some-Ok.field-0-is in

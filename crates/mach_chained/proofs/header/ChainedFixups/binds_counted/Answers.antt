@@ -1,37 +1,38 @@
 use Rattle.std.proofs.Common.{◌≡◌, ◌∙◌, ◌++◌, ◌∷◌, None, Err, List, length, refl, ap, arith, append-nil}
 use Rattle.mach_base.specs.Fault.{fault_of}
-use Rattle.mach_chained.specs.Chained.{Placed, fixup_items}
+use Rattle.mach_chained.specs.Chained.{PlacedFixup, fixup_items}
 use Rattle.mach_chained.specs.Bindings.{AreBindingItems}
-use Rattle.mach_chained.specs.WalkViews.{input_in}
-use Rattle.mach_segments.specs.Bindings.{texts, binding_read}
-use Rattle.mach_chained.specs.BindingViews.{bindings_seen, bindings_left}
+use Rattle.mach_chained.specs.WalkViews.{fixup_input_in}
+use Rattle.mach_segments.specs.Bindings.{binding_read}
+use Rattle.mach_base.specs.Text.{texts}
+use Rattle.mach_chained.specs.BindingViews.{bindings_seen, chained_bindings_left}
 use Rattle.mach_chained.proofs.Chained.{one_list}
 use Rattle.mach_chained.proofs.BindingLists.{oks, listed, refuses, has_none}
 use Rattle.mach_chained.proofs.header.ChainedFixups.binds_counted.Goals as goal
 
 pub returns-in-Some-Err-clause-only : goal.returns-in-Some-Err-clause-only
 returns-in-Some-Err-clause-only g c = λ list l.
-    let x = input_in c.args.self.now c.args.segments.now c.args.base in
+    let x = fixup_input_in c.args.self.now c.args.segments.now c.args.base in
     let libs = texts c.args.libs.now in
     let it = c.start_bindings-left.ensures in
-    let are : AreBindingItems x libs (bindings_left c.start_bindings-left.result) = (fixup_items it.0 it.1, (it.0, it.1, it.2, refl), it.3) in
-    let rest = bindings_left c.step.new.self in
-    let there : bindings_left c.binds.left ≡ Err (fault_of c.in-Some-Err.e) ∷ rest =
+    let are : AreBindingItems x libs (chained_bindings_left c.start_bindings-left.result) = (fixup_items it.0 it.1, (it.0, it.1, it.2, refl), it.3) in
+    let rest = chained_bindings_left c.step.new.self in
+    let there : chained_bindings_left c.binds.left ≡ Err (fault_of c.in-Some-Err.e) ∷ rest =
     c.in-Some-Err.ensures.items ∙ ap (λ r. binding_read r ∷ rest) c.in-Some-Err.field-0-is in
-    absurd (has_none x libs (bindings_left c.start_bindings-left.result) are (bindings_seen c.binds.found.items)
-    (bindings_left c.binds.left) rest c.binds.invariant.items c.in-Some-Err.e there list l)
+    absurd (has_none x libs (chained_bindings_left c.start_bindings-left.result) are (bindings_seen c.binds.found.items)
+    (chained_bindings_left c.binds.left) rest c.binds.invariant.items c.in-Some-Err.e there list l)
 
 pub returns-in-Some-Err-clause-refused : goal.returns-in-Some-Err-clause-refused
 returns-in-Some-Err-clause-refused g c =
-    let x = input_in c.args.self.now c.args.segments.now c.args.base in
+    let x = fixup_input_in c.args.self.now c.args.segments.now c.args.base in
     let libs = texts c.args.libs.now in
     let it = c.start_bindings-left.ensures in
-    let are : AreBindingItems x libs (bindings_left c.start_bindings-left.result) = (fixup_items it.0 it.1, (it.0, it.1, it.2, refl), it.3) in
-    let rest = bindings_left c.step.new.self in
-    let there : bindings_left c.binds.left ≡ Err (fault_of c.in-Some-Err.e) ∷ rest =
+    let are : AreBindingItems x libs (chained_bindings_left c.start_bindings-left.result) = (fixup_items it.0 it.1, (it.0, it.1, it.2, refl), it.3) in
+    let rest = chained_bindings_left c.step.new.self in
+    let there : chained_bindings_left c.binds.left ≡ Err (fault_of c.in-Some-Err.e) ∷ rest =
     c.in-Some-Err.ensures.items ∙ ap (λ r. binding_read r ∷ rest) c.in-Some-Err.field-0-is in
-    refuses x libs (bindings_left c.start_bindings-left.result) are (bindings_seen c.binds.found.items)
-    (bindings_left c.binds.left) rest c.binds.invariant.items c.in-Some-Err.e there
+    refuses x libs (chained_bindings_left c.start_bindings-left.result) are (bindings_seen c.binds.found.items)
+    (chained_bindings_left c.binds.left) rest c.binds.invariant.items c.in-Some-Err.e there
 
 pub returns-in-Some-Err-clause-bounded : goal.returns-in-Some-Err-clause-bounded
 returns-in-Some-Err-clause-bounded g c =
@@ -40,25 +41,25 @@ returns-in-Some-Err-clause-bounded g c =
 
 pub returns-clause-listed : goal.returns-clause-listed
 returns-clause-listed g c =
-    let x = input_in c.args.self.now c.args.segments.now c.args.base in
+    let x = fixup_input_in c.args.self.now c.args.segments.now c.args.base in
     let libs = texts c.args.libs.now in
     let it = c.start_bindings-left.ensures in
-    let are : AreBindingItems x libs (bindings_left c.start_bindings-left.result) = (fixup_items it.0 it.1, (it.0, it.1, it.2, refl), it.3) in
+    let are : AreBindingItems x libs (chained_bindings_left c.start_bindings-left.result) = (fixup_items it.0 it.1, (it.0, it.1, it.2, refl), it.3) in
     let list = bindings_seen c.binds.found.items in
-    let whole : bindings_left c.start_bindings-left.result ≡ oks list =
+    let whole : chained_bindings_left c.start_bindings-left.result ≡ oks list =
     c.binds.invariant.items ∙ ap (λ m. oks list ++ m) c.in-None.ensures.items.0 ∙ append-nil _ in
-    listed x libs (bindings_left c.start_bindings-left.result) list are whole
+    listed x libs (chained_bindings_left c.start_bindings-left.result) list are whole
 
 pub returns-clause-reads : goal.returns-clause-reads
 returns-clause-reads g c =
-    let x = input_in c.args.self.now c.args.segments.now c.args.base in
+    let x = fixup_input_in c.args.self.now c.args.segments.now c.args.base in
     let libs = texts c.args.libs.now in
     let it = c.start_bindings-left.ensures in
-    let are : AreBindingItems x libs (bindings_left c.start_bindings-left.result) = (fixup_items it.0 it.1, (it.0, it.1, it.2, refl), it.3) in
+    let are : AreBindingItems x libs (chained_bindings_left c.start_bindings-left.result) = (fixup_items it.0 it.1, (it.0, it.1, it.2, refl), it.3) in
     let list = bindings_seen c.binds.found.items in
-    let whole : bindings_left c.start_bindings-left.result ≡ oks list =
+    let whole : chained_bindings_left c.start_bindings-left.result ≡ oks list =
     c.binds.invariant.items ∙ ap (λ m. oks list ++ m) c.in-None.ensures.items.0 ∙ append-nil _ in
-    let all = listed x libs (bindings_left c.start_bindings-left.result) list are whole in
+    let all = listed x libs (chained_bindings_left c.start_bindings-left.result) list are whole in
     let same = one_list x all.0 it.0 None it.1 all.1 it.2 in
-    let long = ap (λ (ps : List Placed). length ps) same.0 in
+    let long = ap (λ (ps : List PlacedFixup). length ps) same.0 in
     (all.0, all.1, omega (arith, long, c.in-None.ensures.none, c.binds.invariant.reads, it.4))

@@ -13,4 +13,5 @@ loop-place-preserved g c =
 
 pub returns-clause-none : goal.returns-clause-none
 returns-clause-none g c =
-    subst (All (Lacks (files_seen c.args.self.now) c.args.name.now)) (take_all c.loop-place.place-index c.args.places.now c.loop-place-test.false) c.loop-place.invariant
+    subst (All (Lacks (files_seen c.args.self.now) c.args.name.now)) (take_all c.loop-place.place-index c.args.places.now c.loop-place-test.false)
+    c.loop-place.invariant

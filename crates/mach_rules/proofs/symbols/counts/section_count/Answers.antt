@@ -2,7 +2,7 @@ use Rattle.std.proofs.Common.{◌≡◌, ◌∙◌, ◌+◌, ◌-◌, ◌<◌, �
 use Rattle.std.proofs.lemmas.List.{drop_all}
 use Rattle.std.specs.Prelude.{sum_by}
 use Rattle.mach_load.specs.Variants.{command_of}
-use Rattle.mach_rules.specs.Laid.{segment_of}
+use Rattle.mach_rules.specs.Laid.{placed_segment_of}
 use Rattle.mach_rules.specs.Symbols.{nsects_of}
 use Rattle.mach_rules.proofs.symbols.counts.section_count.Goals as goal
 
@@ -13,5 +13,5 @@ returns c =
     let all : count ≡ min (count + 0) (2 ^ 64 - 1) = omega (arith, fits) in
     let none = drop_all c.loop-command.command-index c.args.layout.now.commands.now c.loop-command-test.false in
     all
-    ∙ sym (ap (λ left. min (count + sum_by (λ x. nsects_of (segment_of x)) (map command_of left)) (2 ^ 64 - 1)) none)
+    ∙ sym (ap (λ left. min (count + sum_by (λ x. nsects_of (placed_segment_of x)) (map command_of left)) (2 ^ 64 - 1)) none)
     ∙ c.loop-command.invariant.counted

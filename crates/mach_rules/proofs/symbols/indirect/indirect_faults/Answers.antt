@@ -1,6 +1,6 @@
 use Rattle.std.proofs.Common.{◌≡◌, ◌++◌, ◌∷◌, [], ℕ, List, ap, ◌∙◌}
 use Rattle.std.specs.List.{range_with_len}
-use Rattle.mach_rules.specs.Laid.{laid_of, sections_of}
+use Rattle.mach_rules.specs.Laid.{laid_of, placed_sections_of}
 use Rattle.mach_rules.specs.Rules.{told_over, numbers_left}
 use Rattle.mach_rules.specs.Sections.{section_owner}
 use Rattle.mach_rules.specs.Symbols.{indirect_count, indirect_owner, indirect_sees, indirect_section_sees, symbol_count}
@@ -26,6 +26,6 @@ returns-clause-told g c =
     ∙ ap (λ (n : ℕ). old ++ symbols n (numbers_left c.of-numbers.result)) c.symbol_count.ensures
     ∙ ap (λ (ks : List ℕ). old ++ symbols nsyms ks) c.of-numbers.ensures
     ∙ ap (λ (n : ℕ). old ++ symbols nsyms (range_with_len 0 n)) c.indirect_count.ensures in
-    let second : c.tell_over-2.new.faults.items ≡ middle ++ sections (sections_of laid) =
+    let second : c.tell_over-2.new.faults.items ≡ middle ++ sections (placed_sections_of laid) =
     c.in_ok-tell_over-2.ensures.told ∙ ap (λ (ss : List PlacedSection). middle ++ sections ss) c.sections.ensures in
-    rw c.in-Some.is (then_others old (symbols nsyms (range_with_len 0 (indirect_count laid d))) (sections (sections_of laid)) first second)
+    rw c.in-Some.is (then_others old (symbols nsyms (range_with_len 0 (indirect_count laid d))) (sections (placed_sections_of laid)) first second)

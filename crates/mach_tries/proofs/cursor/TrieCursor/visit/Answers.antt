@@ -1,5 +1,5 @@
 use Rattle.std.proofs.Common.{arith, refl, ◌∙◌, ap}
-use Rattle.mach_tries.proofs.Names.{append-nil, subst, ℕ, List, Entry, Ok, Option, info_in, node_at, texts, fault_of, branches_of, range_of}
+use Rattle.mach_tries.proofs.Names.{append-nil, subst, ℕ, List, Entry, Ok, Option, info_in, node_at, texts, fault_of, branches_of, trie_range_of}
 use Rattle.mach_tries.specs.declared.info.ExportInfo.{ExportInfo}
 use Rattle.mach_tries.specs.CursorState.{HasCome}
 use Rattle.mach_tries.proofs.CursorTurns.{passes, cut_by_count, cut_by_node, enters}
@@ -26,7 +26,7 @@ returns-in-Some-clause-gives c = λ found at.
 pub returns-in-None-clause-gives : goal.returns-in-None-clause-gives
 returns-in-None-clause-gives c = λ found at.
     let e = c.enter.ensures in
-    subst (λ (es : List Entry). HasCome (range_of c.args.source.now) (texts c.args.source.now.libs.now) c.enter.new.self c.put_label.new.name
+    subst (λ (es : List Entry). HasCome (trie_range_of c.args.source.now) (texts c.args.source.now.libs.now) c.enter.new.self c.put_label.new.name
     c.enter.new.stack es) (append-nil found)
     (rw (c.in-None.is) at (enters at (omega arith) c.enter.new.self c.put_label.new.name c.enter.new.stack (info_in c.in-Ok.node.0) c.in-Ok.node.1
     c.in-Ok.ensures.node c.in-Ok.ensures.readable (omega arith)

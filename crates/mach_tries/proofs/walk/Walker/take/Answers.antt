@@ -1,5 +1,6 @@
 use Rattle.mach_tries.proofs.Names.{◌≡◌, ◌+◌, ◌-◌, ◌++◌, ◌∙◌, refl, sym, ap, subst, arith, ℕ, suc, List, length, reverse, take, inl, append-nil}
-use Rattle.mach_tries.proofs.Names.{err_from_is_err_and, IsUtf8, Stands-reported, Entry, own_entries, fault_in, info_in, fault_of, HasFound, node_in, node_with_first}
+use Rattle.mach_tries.proofs.Names.{err_from_is_err_and, IsUtf8, Stands-reported, Entry, own_entries, fault_in, info_in, fault_of, HasFound, node_in}
+use Rattle.mach_tries.proofs.Names.{node_with_first}
 use Rattle.std.proofs.Math.Logic.{∥∥₁_elim, ∥∥₁_map}
 use Rattle.std.proofs.Math.Bridge.{le_prop}
 use Rattle.std.proofs.Props.{props}
@@ -161,7 +162,8 @@ pub returns-clause-less : goal.returns-clause-less
 returns-clause-less g c =
     ∥∥₁_elim c.requires le_prop (λ r.
     let off = turn.clear r.2.1 (omega arith) c.is_marked.ensures c.if-is_marked.false in
-    let few = subst (λ (bs : Option Branches). IfSome bs (λ b. b.behind.left + 1 ≤ length c.args.self.now.source.bytes.now)) c.in-Some.is c.in_ok-own.ensures.few in
+    let few = subst (λ (bs : Option Branches). IfSome bs (λ b. b.behind.left + 1 ≤ length c.args.self.now.source.bytes.now)) c.in-Some.is
+    c.in_ok-own.ensures.few in
     let w = c.args.self.now in
     less_entered w.over (length w.source.bytes.now) w.marks c.mark.new.self w.top
     (record { left = c.in-Some.branches.behind.left; place = c.in-Some.branches.behind.place; name_len = c.len-name_len.result })

@@ -3,7 +3,7 @@ use Rattle.mach_base.proofs.Written.{Appends-both}
 use Rattle.mach_image.specs.OpenImage.{commands_held}
 use Rattle.machfixups.specs.Lines.{AreLinesTo}
 use Rattle.machfixups.specs.Parts.{Part, parts_seen}
-use Rattle.machfixups.specs.Rows.{rows_of, table_of}
+use Rattle.machfixups.specs.Rows.{rows_in_order, readable_table}
 use Rattle.machfixups.proofs.run.FixupsShows.show.Goals as goal
 
 pub returns-clause-shown : goal.returns-clause-shown
@@ -13,7 +13,7 @@ returns-clause-shown g c = λ bytes opened.
     let known = c.in_ok-parts.ensures bytes 0 opened in
     let listed = c.in_ok-print_fixups.ensures bytes 0 opened in
     let lines = listed.6 in
-    let over = λ (parts : List Part). AreLinesTo limit (rows_of parts (table_of listed.2) listed.0 listed.4) lines.text whole in (
+    let over = λ (parts : List Part). AreLinesTo limit (rows_in_order parts (readable_table listed.2) listed.0 listed.4) lines.text whole in (
       lines.text,
       record {
         opens = (opened.ctx, commands_held c.args.image.now, opened.opens);

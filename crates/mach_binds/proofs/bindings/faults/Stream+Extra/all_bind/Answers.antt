@@ -23,7 +23,8 @@ returns-in_default c =
     let b = bind_of it.state.settings in
     let made : Bind → Result Binding Fault = λ d. binding_rules.makes x d it.more in
     faulty made b it.state.stride it.state.count 0 malformed c.requires
-    (no_provider x (given_now it.more b.library) (at_offset b (offset_at b.offset it.state.stride 0)) (sym c.is_complete.ensures ∙ c.if-not-is_complete.false) c.in_default.ensures)
+    (no_provider x (given_now it.more b.library) (at_offset b (offset_at b.offset it.state.stride 0))
+    (sym c.is_complete.ensures ∙ c.if-not-is_complete.false) c.in_default.ensures)
 
 by_cases : (b : Bool) (r : Bool) → (b ≡ true → r ≡ false) → (b ≡ false → r ≡ true) → r ≡ not b
 by_cases true r all one = all refl

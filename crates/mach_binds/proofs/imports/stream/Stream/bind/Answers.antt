@@ -1,4 +1,5 @@
-use Rattle.mach_binds.proofs.Names.{◌≡◌, Bool, suc, ◌-◌, ◌∙◌, refl, ap, arith, Bind, State, input_of, lazy_of, state_of, bind_of, moved, items_left, opcodes_left}
+use Rattle.mach_binds.proofs.Names.{◌≡◌, Bool, suc, ◌-◌, ◌∙◌, refl, ap, arith, Bind, State, input_of, lazy_of, state_of, bind_of, moved, items_left}
+use Rattle.mach_binds.proofs.Names.{opcodes_left}
 use Rattle.mach_binds.proofs.Names.{reads_of, subst, sym, Ok}
 use Rattle.mach_binds.proofs.BindSteps.{after_bind}
 use Rattle.mach_binds.proofs.BindSites.{site_of_bind}
