@@ -34,7 +34,7 @@ arch_at bytes i = record_at Big fat_arch_fields bytes (arch_place i) >>= λ valu
 abbrev pub archs_of : FatFile → List (Result FatArch Fault)
 archs_of file = items_from (arch_at file.bytes) 0 file.narches
 
--- the records as one list, where the bytes could hold so many; else the fault of the first unreadable one
+-- the records as one list, where the bytes could hold that number of them; else the fault of the first unreadable one
 abbrev pub arches_in : FatFile → Result (List FatArch) Fault
 arches_in file =
     if nat_le file.narches (length file.bytes / 20) then all_read (archs_of file)

@@ -89,7 +89,7 @@ module _ (bytes bytes' : List ℕ) (IsLibrary IsLibrary' : ℕ → List ℕ → 
     names = w.names;
   }
 
--- The walk went on from one cursor to another, and gave exports, of which so many rows and so many bytes of names are written.
+-- The walk went on from one cursor to another, and gave exports, of which k rows and `used` bytes of names are written.
 pub record SoFar (t : TrieRange) (libs : List (List ℕ)) (c c' : TrieCursor) (name name' : List ℕ) (stack stack' : List Open)
     (old new : List gm_listed_export) (text text' : List ℕ) (k used : ℕ) : Type 0 where
   pub given : List Entry

@@ -46,7 +46,7 @@ says_record : (t : SymbolTable) (found : Result Nlist Fault)
 says_record t (Ok s) = says_text t.bytes t.strtab s (text_at t.bytes (place_after t.strtab s.n_strx)) refl
 says_record t (Err f) = refl
 
--- the row of a symbol whose name has so many bytes at a place
+-- the row of a symbol whose name has `len` bytes at a place
 abbrev pub named_at : Nlist → ℕ → ℕ → gm_symbol
 named_at s len place =
     record { value = s.n_value; name = place; name_len = len; section = s.n_sect; code = 0; desc = s.n_desc; n_type = s.n_type }

@@ -13,7 +13,7 @@ abbrev pub with_those_behind : Result Command Fault → (Command → List Comman
 with_those_behind (Ok c) behind = c ∷ behind c
 with_those_behind (Err f) behind = []
 
--- the commands from a place on, one behind the other: so many, or those before the first that can't be read
+-- the commands from a place on, one behind the other: as many as the count says, or those before the first that can't be read
 unfoldable pub readable_commands_from : Endian → List ℕ → ℕ → ℕ → List Command
 readable_commands_from le bytes place zero = []
 readable_commands_from le bytes place (suc count) =

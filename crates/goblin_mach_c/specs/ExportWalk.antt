@@ -55,7 +55,7 @@ AreListed bytes IsLibrary IsNode place (e ∷ es) [] = ⊥
 AreListed bytes IsLibrary IsNode place (e ∷ es) (row ∷ rows) =
     IsListed bytes IsLibrary IsNode place e row × AreListed bytes IsLibrary IsNode (place + length e.name) es rows
 
--- These exports were written: so many rows in front of an array, and so many bytes of names in front of a text. What is
+-- These exports were written: `count` rows in front of an array, and `used` bytes of names in front of a text. What is
 -- behind them is as it was.
 pub record AreWritten (bytes : List ℕ) (IsLibrary : ℕ → List ℕ → Type 0) (IsNode : ℕ → Info → Type 0) (given : List Entry) (count used : ℕ)
     (old new : List gm_listed_export) (text text' : List ℕ) : Type 0 where
@@ -70,7 +70,7 @@ pub record AreWritten (bytes : List ℕ) (IsLibrary : ℕ → List ℕ → Type 
 abbrev pub HasLibrary : List ℕ → ℕ → ℕ → List ℕ → Type 0
 HasLibrary bytes o number name = (libs : List (List ℕ)) × HasLibraries bytes o libs × (slice_get libs number ≡ Some name)
 
--- the same of a list of libraries
+-- the library of this number in a list of libraries
 abbrev pub IsNumbered : List (List ℕ) → ℕ → List ℕ → Type 0
 IsNumbered libs number name = slice_get libs number ≡ Some name
 
@@ -118,7 +118,7 @@ pub record IsWholeWith (bytes : List ℕ) (o : ℕ) (all : List Entry) : Type 0 
 abbrev pub EndsWholeWith : List ℕ → ℕ → gm_export_walk → List ℕ → List Open → List Entry → Type 0
 EndsWholeWith bytes o w name stack given = (found : List Entry) → HasWalked bytes o w name stack found → IsWholeWith bytes o (found ++ given)
 
--- The name that comes next in a trie has so many bytes, as far as 64 bits tell: those of the node on top, and those of the label of
+-- The name that comes next in a trie has n bytes, as far as 64 bits tell: those of the node on top, and those of the label of
 -- its next branch.
 abbrev pub IsNextName : TrieRange → TrieCursor → ℕ → Type 0
 IsNextName t c n = (label : List ℕ) × IsNextLabel t.bytes t.from c label × (n ≡ min (c.top.name_len + length label) (2 ^ 64 - 1))
@@ -127,7 +127,7 @@ IsNextName t c n = (label : List ℕ) × IsNextLabel t.bytes t.from c label × (
 abbrev pub HasNextName : List ℕ → ℕ → gm_export_walk → ℕ → Type 0
 HasNextName bytes o w n = OfImage bytes o (λ ctx cs. IsNextName (trie_or_empty (trie_in bytes cs)) w.cursor n)
 
--- ---- the same of a trie
+-- ---- what a cursor gives, of a trie
 
 -- what a cursor gives next, as an export or as what comes in its place
 abbrev pub next_export_of : Result ExportInfo Ending → NextExport
@@ -158,7 +158,7 @@ end_number rows room name (Some (Refused e)) = 5
 end_number rows room name (Some (NameTooLong n)) = 3
 end_number rows room name (Some (StackTooShort)) = 4
 
--- how many rows, bytes or open nodes it must have to go on, where so many nodes are in use
+-- how many rows, bytes or open nodes it must have to go on, where `used` nodes are in use
 abbrev pub needed_number : (rows room name used : ℕ) → Option Ending → ℕ
 needed_number rows room name used None = if rows == 0 then 1 else (if nat_lt room name then name else 0)
 needed_number rows room name used (Some (End)) = 0

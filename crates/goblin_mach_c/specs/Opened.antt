@@ -81,7 +81,7 @@ FaultIn false bytes o f = ImageFault bytes o f
 abbrev pub FaultByMode : ℕ → List ℕ → ℕ → Fault → Type 0
 FaultByMode mode bytes o f = ((mode ≤ 1) × FaultIn (lossy_mode mode) bytes o f) ⊎ ((1 < mode) × (f ≡ malformed))
 
--- ---- the same of an image that is held
+-- ---- the numbers of an image that is held
 
 abbrev pub width_of : Bool → Container
 width_of true = width.Big

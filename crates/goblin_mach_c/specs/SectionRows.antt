@@ -44,7 +44,7 @@ section_row (Err f) =
       code = code_of_fault f;
     }
 
--- so many sections behind the command of a segment
+-- `count` sections behind the command of a segment
 abbrev pub section_rows : List ℕ → gm_image → ℕ → ℕ → List gm_section
 section_rows bytes image command count = items_from (λ k. section_row (section_item (ctx_seen image) bytes command k)) 0 count
 
@@ -53,6 +53,6 @@ abbrev pub relocation_row : Result RelocationInfo Fault → gm_relocation
 relocation_row (Ok r) = record { address = r.r_address; info = r.r_info; code = 0 }
 relocation_row (Err f) = record { address = pos 0; info = 0; code = code_of_fault f }
 
--- so many relocations from a place on
+-- `count` relocations from a place on
 abbrev pub relocation_rows : List ℕ → gm_image → ℕ → ℕ → List gm_relocation
 relocation_rows bytes image reloff count = items_from (λ k. relocation_row (relocation_item (ctx_seen image).le bytes reloff k)) 0 count

@@ -11,7 +11,7 @@ use crate::rows::{Rows, fill, skip};
 use mach_base::Endian;
 use mach_load::LoadCommand;
 
-/// The commands from a place on: so many, or those before the first that can't be read.
+/// The commands from a place on: `count` of them, or those before the first that can't be read.
 #[derive(Clone, Copy)]
 pub struct Commands<'a> {
     bytes: &'a [u8],

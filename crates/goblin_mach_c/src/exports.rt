@@ -104,7 +104,7 @@ fn export_or_ending(next: NextExport<'_>) -> Result<ExportInfo<'_>, Ending>
     }
 }
 
-// Puts the front of a name, so many bytes or all of them, at a place among others. Answers how many these are.
+// Puts the front of a name, `count` bytes or all, at a place among others. Answers how many bytes that are.
 #[inline(always)]
 fn put_name(name: &[u8], count: usize, names: &mut [u8], at: usize) -> usize
     requires { at + length name.now ≤ length names.old }
@@ -184,8 +184,8 @@ fn write_exports<'a>(
     (out.len(), used, None)
 }
 
-// Why a batch ends, and how much there must be to go on: room for so many rows, for so many bytes of a name and of names, and of the
-// stack so many nodes in use.
+// Why a batch ends, and how much there must be to go on: how many rows, bytes of a name and of names, and nodes
+// of the stack.
 fn end_of(
     ending: &Option<Ending>,
     rows: usize,

@@ -25,7 +25,7 @@ pub struct Numbers<S: Numbered + Drop> {
     end: u32,
 }
 
-/// The rows of a source from a number on, of which there are so many.
+/// The rows of a source from number `first` on, of `count` rows in all.
 pub fn rows_from<S: Numbered + Drop>(source: S, first: usize, count: u32) -> Numbers<S>
     ensures { items_from (S.item result.source) result.next (result.end - result.next) ≡ drop first (items_from (S.item source) 0 count) }
 {

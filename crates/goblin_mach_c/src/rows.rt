@@ -31,7 +31,7 @@ pub fn fill<R: Rows>(rows: &mut R, out: &mut [R::Row]) -> usize
     out.len()
 }
 
-/// Passes over so many rows, or over all where there are fewer.
+/// Passes over `count` rows, or over all where there are fewer.
 pub fn skip<R: Rows>(rows: &mut R, count: usize)
     ensures { R.left rows.new ≡ drop count (R.left rows.old) }
 {

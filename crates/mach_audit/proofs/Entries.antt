@@ -147,7 +147,7 @@ entries_more limit file n es e before here =
     longer (inl l) = let less = l.1 in (l.0, omega (arith, less), l.2)
     longer (inr l) = (n, omega arith, l)
 
--- a fat file whose table can be read, of which so many entries were gone over
+-- a fat file whose table can be read, of which n entries were gone over
 pub fat_file_judged : (limit : ℕ) (file : FatFile) (n : ℕ) (cut : Bool) (v : Verdict) → IsOk (arches_in file) → n ≡ min file.narches limit
     → cut ≡ nat_lt limit file.narches → Judges (AllSound file n) (SomeLong limit file n) v
     → Judges (IsSoundFat file) (IsLongFat limit file) (if file.narches == 0 then Faulty else verdict_of_both (if cut then Unended else Sound) v)

@@ -45,7 +45,7 @@ pub err_told : {X Y : Type 0} (view : X → Y) (place : Place) (item : Result X 
 err_told view place (Ok x) = refl
 err_told view place (Err e) = refl
 
--- the same of an import and of a binding
+-- the fault told of an import, and of a binding
 pub import_told : (place : Place) (item : Result Import Error)
     → option_map (λ e. (place, fault_of e)) (result_err item) ≡ fault_read_at place (import_read item)
 import_told place (Ok x) = refl

@@ -41,7 +41,7 @@ use Rattle.mach_audit.specs.declared.report.Place.TheVariants as places
 use Rattle.mach_audit.specs.declared.verdict.Verdict.TheVariants.{Sound, Unended, Faulty}
 use Rattle.mach_audit.specs.declared.verdict.Verdict.{Verdict}
 
--- more than so many items are in a list of this kind
+-- more than `limit` items are in a list of this kind
 abbrev pub LongOf : {X : Type 0} → ℕ → (List (Result X Fault) → Type 0) → Type 0
 LongOf limit Has = (items : List (Result _ Fault)) × Has items × (limit < length items)
 

@@ -62,7 +62,7 @@ both_judged Sound Faulty p q = faulty_judged (λ s. q.faulty refl s.1)
 both_judged Sound Unended p q = unended_judged (inr (q.unended refl))
 both_judged Sound Sound p q = sound_judged (p.sound refl, q.sound refl) (λ l. neither (p.whole refl) (q.whole refl) l)
 
--- the same of what is so exactly where that is
+-- a verdict on what is equivalent
 pub judged_as : {S T L M : Type 0} (v : Verdict) → (S → T) → (T → S) → (L → M) → (M → L) → Judges S L v → Judges T M v
 judged_as v to from longer shorter p = record {
   sound = λ e. to (p.sound e);

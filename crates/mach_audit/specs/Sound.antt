@@ -44,8 +44,8 @@ all_relocations ctx bytes segments = flat_map (λ s. flat_map (relocations_by ct
 abbrev pub HasAllRelocations : List ℕ → ℕ → List (Result RelocationInfo Fault) → Type 0
 HasAllRelocations bytes o items = OfImage bytes o (λ ctx cs. items ≡ all_relocations ctx bytes (lossy_segments_in ctx bytes cs))
 
--- What is met of the exports of a trie, up to one item more than `limit`: all of them; or those before a fault, and the fault; or so many that
--- there are more than `limit`.
+-- What is met of the exports of a trie, up to one item more than `limit`: all of them; or those before a fault, and the fault; or one more
+-- than `limit`.
 pub data AreExportItems (limit : ℕ) (t : TrieRange) (libs : List (List ℕ)) : List (Result trie.Entry Fault) → Type 0 where
   all_exports : (list : List trie.Entry) → ListsExports t libs list → AreExportItems limit t libs (map Ok list)
   up_to_fault : (found : List trie.Entry) (f : Fault) → ListBegins (trie_there t libs) t.from [] found → ExportsFault t libs f
@@ -53,7 +53,7 @@ pub data AreExportItems (limit : ℕ) (t : TrieRange) (libs : List (List ℕ)) :
   past_limit : (found : List trie.Entry) → ListBegins (trie_there t libs) t.from [] found → limit < length found
       → AreExportItems limit t libs (map Ok found)
 
--- the same of an image
+-- what is met of the exports of an image
 abbrev pub HasExportItems : ℕ → List ℕ → ℕ → List (Result trie.Entry Fault) → Type 0
 HasExportItems limit bytes o items = OfImage bytes o (λ ctx cs. AreExportItems limit (trie_or_empty (trie_in bytes cs)) (libs_in bytes cs) items)
 
@@ -72,7 +72,7 @@ pub record IsSoundImage (bytes : List ℕ) : Type 0 where
   pub fixups : (items : List (Result Fixup Fault)) × HasFixups bytes 0 items × IsTrue (are_all_ok items)
   pub bindings : (items : List (Result Binding Fault)) × HasBindings bytes 0 items × IsTrue (are_all_ok items)
 
--- A list of the image at 0 has more than so many items: one of those of its sections, its relocations, and so on. The items of a list count with the
+-- A list of the image at 0 has more than `limit` items: one of those of its sections, its relocations, and so on. The items of a list count with the
 -- fault that ends it.
 pub data HasLongList (limit : ℕ) (bytes : List ℕ) : Type 0 where
   of_sections : (segments : List SegmentView) → HasSegments bytes 0 segments → limit < length (all_sections segments) → HasLongList limit bytes
@@ -89,7 +89,7 @@ IsSoundEntry (Ok (archive bytes)) = Unit {0}
 IsSoundEntry (Ok (image bytes)) = IsSoundImage bytes
 IsSoundEntry (Err f) = ⊥
 
--- an entry is an image with a list of more than so many items
+-- an entry is an image with a list of more than `limit` items
 abbrev pub IsLongEntry : ℕ → Result FatEntry Fault → Type 0
 IsLongEntry limit (Ok (archive bytes)) = ⊥
 IsLongEntry limit (Ok (image bytes)) = HasLongList limit bytes
@@ -101,7 +101,7 @@ pub record IsSoundFat (file : FatFile) : Type 0 where
   pub table : IsOk (arches_in file)
   pub entries : (k : ℕ) → k < file.narches → IsSoundEntry (entry_at file k)
 
--- a fat file has more than so many entries, or one of them a list of more items
+-- a fat file has more than `limit` entries, or one of them a list of more items
 pub data IsLongFat (limit : ℕ) (file : FatFile) : Type 0 where
   of_entries : limit < file.narches → IsLongFat limit file
   of_entry : (k : ℕ) → k < file.narches → IsLongEntry limit (entry_at file k) → IsLongFat limit file
@@ -111,7 +111,7 @@ pub data IsSound (bytes : List ℕ) : Type 0 where
   one_image : IsSoundImage bytes → IsSound bytes
   fat_file : (file : FatFile) → HasFatMagic bytes → fat_file_in bytes ≡ Ok file → AreContainerFaults bytes [] → IsSoundFat file → IsSound bytes
 
--- The file has a list of more than so many items.
+-- The file has a list of more than `limit` items.
 pub data IsLong (limit : ℕ) (bytes : List ℕ) : Type 0 where
   of_image : HasLongList limit bytes → IsLong limit bytes
   of_fat : (file : FatFile) → HasFatMagic bytes → fat_file_in bytes ≡ Ok file → IsLongFat limit file → IsLong limit bytes

@@ -24,7 +24,7 @@ use goblin_mach::symbols::SymbolIterator;
 use goblin_mach::{BindingIterator, Ctx, FixupIterator, MachO};
 use std::alloc::Allocator;
 
-/// The sections of all segments, of at most so many.
+/// The sections of all segments, `limit` of them at most.
 pub fn audit_sections<A: Allocator>(
     alloc: A,
     segments: &[Segment<'_>],
@@ -62,7 +62,7 @@ fn add_sections<A: Allocator>(
     Ok(())
 }
 
-/// The relocations of all sections, of at most so many.
+/// The relocations of all sections, `limit` of them at most.
 pub fn audit_relocations<A: Allocator>(
     alloc: A,
     bytes: &[u8],
@@ -147,7 +147,7 @@ fn add_relocations_of<A: Allocator>(
     Ok(())
 }
 
-/// The exports of the trie, of at most so many, up to the first fault.
+/// The exports of the trie, `limit` of them at most, up to the first fault.
 pub fn audit_exports<A: Allocator, B: Allocator + Clone>(
     alloc: B,
     image: &MachO<'_, A>,
@@ -179,7 +179,7 @@ pub fn audit_exports<A: Allocator, B: Allocator + Clone>(
     Ok(tally.part())
 }
 
-/// The symbols, of at most so many.
+/// The symbols, `limit` of them at most.
 pub fn audit_symbols<A: Allocator>(
     alloc: A,
     symbols: SymbolIterator<'_>,
@@ -199,7 +199,7 @@ pub fn audit_symbols<A: Allocator>(
     Ok(tally.part())
 }
 
-/// The imports of the opcodes, of at most so many, up to the first fault.
+/// The imports of the opcodes, `limit` of them at most, up to the first fault.
 pub fn audit_imports<A: Allocator>(
     alloc: A,
     imports: BindIterator<'_, '_>,
@@ -219,7 +219,7 @@ pub fn audit_imports<A: Allocator>(
     Ok(tally.part())
 }
 
-/// The fixups of the chains, of at most so many, up to the first fault.
+/// The fixups of the chains, `limit` of them at most, up to the first fault.
 pub fn audit_fixups<A: Allocator>(
     alloc: A,
     fixups: FixupIterator<'_, '_>,
@@ -239,7 +239,7 @@ pub fn audit_fixups<A: Allocator>(
     Ok(tally.part())
 }
 
-/// What dyld binds, by opcodes and by chains, of at most so many bindings, up to the first fault.
+/// What dyld binds, by opcodes and by chains, `limit` bindings at most, up to the first fault.
 pub fn audit_bindings<A: Allocator>(
     alloc: A,
     bindings: BindingIterator<'_, '_>,

@@ -79,13 +79,13 @@ pub enum Place {
     },
     /// A symbol.
     Symbol(usize),
-    /// The export behind so many.
+    /// The export of this number.
     Export(usize),
-    /// The import behind so many.
+    /// The import of this number.
     Import(usize),
-    /// The fixup behind so many.
+    /// The fixup of this number.
     Fixup(usize),
-    /// The binding behind so many.
+    /// The binding of this number.
     Binding(usize),
 }
 

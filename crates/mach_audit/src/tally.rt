@@ -20,7 +20,7 @@ pub struct Tally<A: Allocator> {
 }
 
 impl<A: Allocator> Tally<A> {
-    /// A count of nothing yet, of at most so many items.
+    /// A count of nothing yet, of at most `limit` items.
     pub fn new(alloc: A, limit: usize) -> Tally<A>
         ensures { HasMet limit [] result }
     {

@@ -5,7 +5,7 @@ use Rattle.mach_base.specs.Answer.{Reads}
 use Rattle.mach_base.specs.Fault.{Fault}
 use Rattle.mach_base.specs.Items.{items_from, read_as}
 
--- there are so many
+-- there are `count`
 pub length-items_from : {A : Type 0} (item : ℕ → A) (first count : ℕ) → length (items_from item first count) ≡ count
 length-items_from item first zero = refl
 length-items_from item first (suc count) = ap suc (length-items_from item (first + 1) count)

@@ -4,7 +4,7 @@ use Rattle.mach_base.specs.declared.error.Error.{Error}
 use Rattle.mach_base.specs.Answer.{◌>>=◌}
 use Rattle.mach_base.specs.Fault.{Fault, fault_of}
 
--- so many items, from that of a number on
+-- `count` items, from that of number `first` on
 abbrev pub items_from : {A : Type 0} → (ℕ → A) → ℕ → ℕ → List A
 items_from item first zero = []
 items_from item first (suc count) = item first ∷ items_from item (first + 1) count

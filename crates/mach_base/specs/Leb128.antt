@@ -93,7 +93,7 @@ uleb_number u = u.value
 abbrev pub uleb_size : Uleb128 → ℕ
 uleb_size u = u.size
 
--- the same of a signed one
+-- the number that a signed one spells
 abbrev pub sleb_number : Sleb128 → ℤ
 sleb_number u = u.value
 

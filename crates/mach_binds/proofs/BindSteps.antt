@@ -12,7 +12,7 @@ module _ {M A : Type 0} (u : Rules M A) (laws : ReadsForward u) (x : Input) (laz
   abbrev pub NothingLeft : M → State → Type 0
   NothingLeft m s = (items_of u x lazy m s ≡ []) × (reads_of u x lazy s ≡ 0)
 
-  -- after so many reads the same is left
+  -- after n reads the same is left
   pub record Leaves (m : M) (s : State) (n : ℕ) (l : M) (t : State) : Type 0 where
     pub items : items_of u x lazy m s ≡ items_of u x lazy l t
     pub reads : reads_of u x lazy s ≡ reads_of u x lazy t + n

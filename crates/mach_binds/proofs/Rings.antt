@@ -88,7 +88,7 @@ module _ (t : Turns) (limit : ℕ) (ring : IsRing t) (some : 0 < t.count) (step 
   abbrev q : ℕ
   q = t.size / t.step + 1
 
-  -- so many rounds, and so much back for each, are whole steps
+  -- w rounds, and w times `back`, are whole steps
   rounds : (w : ℕ) → w * t.size + w * back ≡ w * q * t.step
   rounds w =
       let whole : t.size + back ≡ q * t.step = whole_steps t step in

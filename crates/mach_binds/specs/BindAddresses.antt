@@ -16,7 +16,7 @@ LiesIn segments number address =
 abbrev pub LiesInSome : List SegmentView → ℕ → Type 0
 LiesInSome segments address = (number : ℕ) × LiesIn segments number address
 
--- so many bytes from the address on are in the segment of this number
+-- `len` bytes from the address on are in the segment of this number
 abbrev pub LiesWhole : List SegmentView → ℕ → ℕ → ℕ → Type 0
 LiesWhole segments number address len =
     (s : SegmentView) × (slice_get segments number ≡ Some s) × (s.command.vmaddr ≤ address) × (address + len ≤ s.command.vmaddr + s.command.vmsize)

@@ -82,7 +82,7 @@ opcode_at r pointer bytes place = do
 
 -- ---- bindings
 
--- the segment, where it holds so many bytes from the offset on
+-- the segment, where it holds `len` bytes from the offset on
 abbrev pub holding_all : ℕ → ℕ → SegmentView → Result SegmentView Fault
 holding_all len offset segment = if nat_le (offset + len) segment.command.vmsize then Ok segment else Err malformed
 

@@ -97,7 +97,7 @@ set_by (advance by) end b = moved by b
 set_by (binds count skip) end b = b
 set_by nothing end b = b
 
--- so many binds, each a stride further than the one before
+-- a number of binds, each a stride further than the one before
 unfoldable pub strides : Bind → ℕ → ℕ → List Bind
 strides b stride zero = []
 strides b stride (suc k) = b ∷ strides (moved stride b) stride k

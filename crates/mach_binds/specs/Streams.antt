@@ -86,12 +86,12 @@ pub record IsLongestBy (reader : Reader) (r : Range) (ps : List Placed) (stop : 
 abbrev pub IsLongest : Input → Range → List Placed → Option Fault → Type 0
 IsLongest x r ps stop = IsLongestBy (reader_of x) r ps stop
 
--- both streams have so many instructions
+-- both streams have n instructions
 abbrev pub StreamsHave : Input → Range → Range → ℕ → Type 0
 StreamsHave x non_lazy lazy n =
     (ps : List Placed) × (qs : List Placed) × IsStream x non_lazy ps × IsStream x lazy qs × (n ≡ length ps + length qs)
 
--- the longest beginnings of both streams have so many
+-- the longest beginnings of both streams have n instructions
 abbrev pub BeginningsHave : Input → Range → Range → ℕ → Type 0
 BeginningsHave x non_lazy lazy n =
     (ps : List Placed) × (qs : List Placed) × (stop : Option Fault) × (lazy_stop : Option Fault)

@@ -69,7 +69,7 @@ pub const BIND_OPCODE_DO_BIND: u8 = 0x90;
 /// Bind, then advance by a ULEB128 number and a pointer.
 pub const BIND_OPCODE_DO_BIND_ADD_ADDR_ULEB: u8 = 0xa0;
 
-/// Bind, then advance by so many pointers as the immediate says, and one more.
+/// Bind, then advance by as many pointers as the immediate says, and one more.
 pub const BIND_OPCODE_DO_BIND_ADD_ADDR_IMM_SCALED: u8 = 0xb0;
 
 /// So many times as a ULEB128 number says: bind, then advance by a second one and a pointer.

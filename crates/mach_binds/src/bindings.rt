@@ -101,7 +101,7 @@ fn highest(is_lazy: bool) -> Opcode
     }
 }
 
-// Whether so many bytes from the offset on lie in a segment of that size.
+// Whether `len` bytes from the offset on lie in a segment of that size.
 #[inline(always)]
 fn holds_all(size: u64, offset: u64, len: u8) -> bool
     ensures { result ≡ nat_le (offset + len) size }

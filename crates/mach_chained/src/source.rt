@@ -166,7 +166,7 @@ impl<'a> Span<'a> {
         }
     }
 
-    // Where the next fixup stands, so many bytes further or where the chain ends at the next start.
+    // Where the next fixup stands, `skip` bytes further or where the chain ends at the next start.
     #[inline(always)]
     pub fn next_place(&self, place: PagePlace, skip: u32) -> NextPlace
         requires { place.at < 2 ^ 16 }

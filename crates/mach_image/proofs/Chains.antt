@@ -88,7 +88,7 @@ same_carried le bytes s (c ∷ cs) (d ∷ ds) p q e =
     let rest = same_carried le bytes (s + cmdsize_of c) cs ds p.1 q' (omega arith) in
     cc
 
--- at most one chain of so many commands stands at a place
+-- at most one chain of a number of commands stands at a place
 pub same_chain : (le : Endian) (bytes : List ℕ) (s : ℕ) (cs ds : List Command) → IsChain le bytes s cs → IsChain le bytes s ds → length cs ≡ length ds → cs ≡ ds
 same_chain le bytes s cs ds p q e = same_carried le bytes s cs ds (chain_carries le bytes s cs p) (chain_carries le bytes s ds q) e
 

@@ -87,7 +87,7 @@ module _ (t : Trie) where
       none_first ps es name each.1 none,
     )
 
--- the same of the trie of an image, if it has one
+-- the first export of a name in the trie of an image, if it has one
 
 first_in : (t : Option TrieRange) (libs : List (List ℕ)) (list : List Entry) (name : List ℕ) (found : Option Info) → ListsImageExports t libs list
     → IsFirstOf name list found → StandsInImage t libs name found

@@ -23,11 +23,11 @@ module _ (ctx : Ctx) (bytes : List ℕ) where
   abbrev pub among_from : ℕ → List Section → List RelocatedSection
   among_from n sections = map (relocated_section ctx bytes) (filter (λ s. nat_lt 0 s.1.nreloc) (enumerate_from n sections))
 
-  -- the same of sections with their data
+  -- the relocations of sections with their data
   abbrev pub found_from : ℕ → Result (List (Section × List ℕ)) Fault → Result (List RelocatedSection) Fault
   found_from n sections = sections >>= (λ found. Ok (among_from n (map (λ s. s.0) found)))
 
-  -- the same of items that may be refused
+  -- the relocations of sections that may be refused
   abbrev pub left_from : ℕ → List (Result (Section × List ℕ) Fault) → Result (List RelocatedSection) Fault
   left_from n items = found_from n (all_read items)
 

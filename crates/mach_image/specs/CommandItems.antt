@@ -13,7 +13,7 @@ abbrev pub with_others : Result Command Fault → (Command → List (Result Comm
 with_others (Ok c) others = Ok c ∷ others c
 with_others (Err f) others = Err f ∷ []
 
--- so many commands from a place on, each as many bytes behind the one before it as that one's cmdsize says, up to the
+-- a number of commands from a place on, each as many bytes behind the one before it as that one's cmdsize says, up to the
 -- first fault
 unfoldable pub commands_from : Endian → List ℕ → ℕ → ℕ → List (Result Command Fault)
 commands_from le bytes s zero = []

@@ -18,7 +18,7 @@ pub record HasHeader (bytes : List ℕ) (o : ℕ) (ctx : Ctx) : Type 0 where
   pub magic_is : magic_at bytes o ≡ Ok (magic, Some ctx)
   pub room : o + 32 ≤ length bytes
 
--- the header's counts can be those of an image of so many bytes
+-- the header's counts can be those of an image of as many bytes as these
 pub record CountsFit (bytes : List ℕ) (o : ℕ) (ctx : Ctx) : Type 0 where
   pub ncmds : ncmds_at ctx bytes o ≤ sizeofcmds_at ctx bytes o / 8
   pub sizeofcmds : sizeofcmds_at ctx bytes o ≤ length bytes

@@ -64,7 +64,7 @@ impl<'a> Iterator for CommandIterator<'a> {
     }
 }
 
-/// Of a chain of so many commands each is given, in order.
+/// Each command of a chain is given, in order.
 #[tactic(auto, using(crate::proofs::CommandItems::one_by_one))]
 pub fn commands_one_by_one()
     ensures { (le : order.Endian) (bytes : List ℕ) (s : ℕ) (cs : List Command) → IsChain le bytes s cs → commands_from le bytes s (length cs) ≡ map Ok cs }

@@ -16,7 +16,7 @@ use mach_headers::header::Header;
 use mach_headers::magic::parse_magic_and_ctx;
 use std::alloc::Allocator;
 
-/// At most one chain of so many load commands stands at a place.
+/// At most one chain of a number of load commands stands at a place.
 #[tactic(auto, using(crate::proofs::Chains::same_chain))]
 pub fn one_chain()
     ensures { (le : Endian) (bytes : List ℕ) (s : ℕ) (cs ds : List Command) → IsChain le bytes s cs → IsChain le bytes s ds → length cs ≡ length ds → cs ≡ ds }

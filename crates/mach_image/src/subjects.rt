@@ -16,7 +16,7 @@ use mach_segments::segment::Segment;
 use mach_symbols::symbols::Symbols;
 use mach_tries::exports::ExportTrie;
 
-// The place so many bytes after another, or the last place there is.
+// The place `offset` bytes after another, or the last place there is.
 fn place_of(start: usize, offset: u32) -> usize
     ensures { result ≡ place_after start offset }
 {

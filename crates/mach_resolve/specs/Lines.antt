@@ -58,7 +58,7 @@ abbrev pub lines_of : List Answer → List ℕ
 lines_of [] = []
 lines_of (a ∷ others) = answer_text a ++ codes "\n" ++ lines_of others
 
--- that more bindings are there than so many
+-- that there are more bindings than these
 abbrev pub cut_text : Option ℕ → List ℕ
 cut_text None = []
 cut_text (Some limit) = codes "limit: " ++ (decimal limit ++ codes " of them are told, and there are more\n")

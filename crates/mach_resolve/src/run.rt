@@ -155,7 +155,7 @@ fn print_resolved<A: Allocator, O: Write>(resolved: &Resolved<'_, A>, out: &mut 
     print_cut(resolved.cut, out)
 }
 
-// Prints that there are more bindings than so many, if that is so.
+// Prints that there are more bindings than were answered, if there are.
 fn print_cut<O: Write>(cut: Option<usize>, out: &mut O) -> io::Result<()>
     ensures { OnOk result (Appends (O.contents out.old) (O.contents out.new) (cut_text cut)) }
 {

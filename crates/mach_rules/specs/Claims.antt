@@ -18,7 +18,7 @@ use Rattle.mach_rules.specs.declared.fault.Part.TheVariants as part
 use Rattle.mach_rules.specs.declared.parts.PlacedSection.{PlacedSection}
 use Rattle.mach_rules.specs.declared.parts.PlacedSegment.{PlacedSegment}
 
--- so many bytes from a start on, claimed by a part of the command at a place
+-- `len` bytes from a start on, claimed by a part of the command at a place
 abbrev pub claim : Part → ℕ → ℕ → ℕ → Claim
 claim p place start len = record { owner = owner_at p place 0; start = start; len = len }
 
@@ -103,7 +103,7 @@ abbrev pub has_bytes : Laid → PlacedSection → Bool
 has_bytes laid s =
     not (s.section.size == 0) && not (is_zero_fill s.section.flags) && not (is_stub laid) && not (is_dsym laid && s.section.offset == 0)
 
--- so many bytes from a start on, claimed by a part of a section
+-- `len` bytes from a start on, claimed by a part of a section
 abbrev pub section_claim : Part → PlacedSection → ℕ → ℕ → Claim
 section_claim p s start len = record { owner = owner_at p s.segment.place s.number; start = start; len = len }
 

@@ -109,7 +109,7 @@ unit_of laid c = if laid.header.filetype == 4 && cmd_of c == 4 then 4 else point
 abbrev pub behind_header : List ℕ → Command → List ℕ
 behind_header bytes c = take (cmdsize_of c - 8) (drop (c.offset + 8) bytes)
 
--- how many bytes the state of a thread at the front has: its flavor, its count and so many words (struct thread_command)
+-- how many bytes the state of a thread at the front has: its flavor, its count and as many words as that (struct thread_command)
 abbrev pub state_size : Endian → List ℕ → ℕ
 state_size le rest = 8 + 4 * number le 4 (drop 4 rest)
 

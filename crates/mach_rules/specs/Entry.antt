@@ -40,7 +40,7 @@ entry_place cputype _ values = None
 abbrev pub is_code : PlacedSegment → Bool
 is_code s = not (bit_and s.command.initprot 4 == 0)
 
--- a number is one of so many from a start on
+-- a number is one of `len` from a start on
 abbrev pub is_among : (start len number : ℕ) → Bool
 is_among start len number = nat_le start number && nat_lt number (start + len)
 

@@ -175,7 +175,7 @@ ordinals_end format = if format == 3 then 2 ^ 16 else 2 ^ 8
 abbrev pub import_names_end : Data → ChainedFixupsHeader → ℕ
 import_names_end x h = if h.symbols_format == 0 then texts_end x.payload else length x.payload
 
--- what each rule of one import sees, among so many libraries and with names that end there
+-- what each rule of one import sees, where the image has `libraries` and the names end at `upto`
 abbrev pub import_sees : Data → ChainedFixupsHeader → (libraries upto : ℕ) → Rule → ImportRow → Seen
 -- an import names a library of the image, itself (0), or what is special
 import_sees x h libraries upto rule.ImportLibrary row =

@@ -159,6 +159,6 @@ placed_sections_of laid = flat_map (sections_by laid.ctx laid.bytes) laid.comman
 
 -- ---- ranges
 
--- so many bytes from a start on pass a limit
+-- `len` bytes from a start on pass a limit
 abbrev pub ends_past : ℕ → ℕ → ℕ → Bool
 ends_past limit start len = nat_lt limit (start + len)

@@ -19,7 +19,7 @@ use Rattle.mach_rules.specs.declared.rules.Seen.{Seen}
 
 -- ---- the texts of commands
 
--- A text whose offset, counted from its command, is number k of the values, behind a struct of so many bytes (union lc_str).
+-- A text whose offset, counted from its command, is number k of the values, behind a struct of `struct` bytes (union lc_str).
 abbrev pub text_behind : ℕ → ℕ → List Value → Option CommandText
 text_behind k struct values = Some (record { offset = number_among values k; struct_size = struct; is_read = true })
 

@@ -27,7 +27,7 @@ use Rattle.mach_rules.specs.declared.segments.EncryptedRange.{EncryptedRange}
 abbrev pub segment_owner : PlacedSegment → Owner
 segment_owner s = owner_at part.Segment s.place 0
 
--- so many bytes or addresses from a start on hold so many others
+-- `len` bytes or addresses from a start on hold `inner_len` others
 abbrev pub range_holds : ℕ → ℕ → ℕ → ℕ → Bool
 range_holds start len inner inner_len = nat_le start inner && nat_le (inner + inner_len) (start + len)
 

@@ -61,7 +61,7 @@ abbrev pub readable : {A : Type 0} → Result A Fault → Option A
 readable (Ok x) = Some x
 readable (Err f) = None
 
--- how many of so many records of a size, from a place on, lie in the bytes
+-- how many of `count` records of a size, from a place on, lie in the bytes
 abbrev pub whole_records : List ℕ → (start size count : ℕ) → ℕ
 whole_records bytes start size count = min count ((length bytes - start) / size)
 
@@ -228,7 +228,7 @@ ranges_of d =
 abbrev pub is_range_out : ℕ → SymbolRange → Bool
 is_range_out nsyms r = nat_lt 0 r.count && nat_lt nsyms (r.first + r.count)
 
--- what the rule of ranges sees in one, in a table of so many symbols
+-- what the rule of ranges sees in one, in a table of `nsyms` symbols
 abbrev pub range_sees : ℕ → SymbolRange → Seen
 range_sees nsyms r = measured (not (is_range_out nsyms r)) (r.first + r.count) nsyms
 
@@ -253,12 +253,12 @@ is_of_range number s =
 abbrev pub symbol_kind_fault : PlacedSymtab → ℕ → ℕ → Nlist → Option LayoutFault
 symbol_kind_fault t number k s = told rule.SymbolRangeKind (symbol_owner t k) (measured (is_of_range number s) s.n_type 0)
 
--- what is told of the first of so many items, from a number on, of which something is told
+-- what is told of the first of these items, from number k on, of which anything is told
 abbrev pub first_told : (ℕ → Option LayoutFault) → ℕ → ℕ → Option LayoutFault
 first_told tell k zero = None
 first_told tell k (suc n) = first_of_two (tell k) (first_told tell (k + 1) n)
 
--- how many symbols of a range lie in the bytes, which hold so many of the table
+-- how many symbols of a range lie in the bytes, which hold `there` of the table
 abbrev pub range_len : ℕ → SymbolRange → ℕ
 range_len there r = min r.count (there - r.first)
 

@@ -29,7 +29,7 @@ fn claim(part: Part, place: usize, start: u64, len: u64) -> Claim
     Claim { owner, start, len }
 }
 
-// The same of fields of 32 bits, the second of which counts items of so many bytes.
+// A claim by fields of 32 bits, the second of which counts items of `each` bytes.
 fn table(part: Part, place: usize, start: u32, count: u32, each: u32) -> Claim
     ensures { result ≡ defined.claim part place start (count * each) }
 {
@@ -266,8 +266,8 @@ fn header_claim(layout: &Layout<'_, '_>) -> Claim
     claim(Part::Header, 0, 0, layout.used_end())
 }
 
-// What is left of the claims of one command: one that comes first, those of the sections of a segment of which so many
-// came, and those of the tables of a command of which so many came.
+// What is left of the claims of one command: one that comes first, those of the sections behind the first ones of a segment
+// that came, and those of the tables of a command behind the first ones.
 #[derive(Clone, Copy)]
 struct Open<'b> {
     first: Option<Claim>,

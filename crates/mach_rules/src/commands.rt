@@ -109,7 +109,7 @@ fn thread_size(layout: &Layout<'_, '_>, command: &LoadCommand) -> u64
     8 + states_size(bytes_from(layout.bytes, place, len), layout.ctx.le) as u64
 }
 
-// The size of a struct with so many items behind it.
+// The size of a struct with `count` items behind it.
 fn size_with(size: usize, count: u32, each: usize) -> u64
     requires small { (size ≤ 80) × (each ≤ 80) }
     ensures { result ≡ size + each * count }

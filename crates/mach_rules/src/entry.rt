@@ -72,7 +72,7 @@ fn is_code(segment: &PlacedSegment) -> bool
     segment.command.initprot & VM_PROT_EXECUTE != 0
 }
 
-// Whether a number is one of so many from a start on.
+// Whether a number is one of `len` from a start on.
 fn is_among(start: u64, len: u64, number: u64) -> bool
     ensures { result ≡ defined.is_among start len number }
 {

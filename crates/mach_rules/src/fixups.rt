@@ -148,7 +148,7 @@ fn places_seen(chained: &FixupData<'_>, header: &ChainedFixupsHeader) -> Seen
         .then(measured(end <= names, names, end))
 }
 
-// The front with its count of starts, where so many stand behind it.
+// The front with its count of starts, where all these stand behind it.
 fn front_or_seen(
     chained: &FixupData<'_>,
     header: ChainedFixupsHeader,

@@ -141,7 +141,7 @@ impl<'a, 'b> Layout<'a, 'b> {
     }
 }
 
-/// Whether so many bytes from a start on pass a limit.
+/// Whether `len` bytes from a start on pass a limit.
 pub fn ends_past(limit: u64, start: u64, len: u64) -> bool
     ensures { result ≡ defined.ends_past limit start len }
 {
@@ -151,7 +151,7 @@ pub fn ends_past(limit: u64, start: u64, len: u64) -> bool
     }
 }
 
-/// Where so many bytes from a start on end; no further than 64 bits count.
+/// Where `len` bytes from a start on end; no further than 64 bits count.
 pub fn range_end(start: u64, len: u64) -> u64
     ensures { result ≡ place_after start len }
 {

@@ -30,7 +30,7 @@ pub struct CommandText {
     pub is_read: bool,
 }
 
-// The text at an offset, behind a struct of so many bytes.
+// The text at an offset, behind a struct of `struct_size` bytes.
 fn text_behind(offset: LcStr, struct_size: usize) -> Option<CommandText>
     ensures { result ≡ Some (record { offset = offset; struct_size = struct_size; is_read = true }) }
 {

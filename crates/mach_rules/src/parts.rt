@@ -203,7 +203,7 @@ impl<'a, 'b> SectionIterator<'a, 'b> {
     }
 }
 
-/// The next section of a segment of which so many came, if it has one more.
+/// The next section of a segment behind those that came, if it has one more.
 pub(crate) fn take_section(
     bytes: &[u8],
     ctx: Ctx,

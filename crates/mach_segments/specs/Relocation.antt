@@ -47,6 +47,6 @@ relocation_at le bytes s = record_at le relocation_fields bytes s >>= (λ vs. Ok
 abbrev pub relocation_item : Endian → List ℕ → ℕ → ℕ → Result RelocationInfo Fault
 relocation_item le bytes reloff k = relocation_at le bytes (reloff + 8 * k)
 
--- so many relocations that begin at a place, from the first
+-- `count` relocations that begin at `reloff`, from the first
 abbrev pub relocations_at : Endian → List ℕ → ℕ → ℕ → List (Result RelocationInfo Fault)
 relocations_at le bytes reloff count = items_from (relocation_item le bytes reloff) 0 count

@@ -153,6 +153,6 @@ section_with_data ctx file place =
 abbrev pub section_item : Ctx → List ℕ → ℕ → ℕ → Result (Section × List ℕ) Fault
 section_item ctx file offset k = section_with_data ctx file (section_place ctx.container offset k)
 
--- so many sections behind the command at an offset, from the first
+-- `count` sections behind the command at an offset, from the first
 abbrev pub sections_at : Ctx → List ℕ → ℕ → ℕ → List (Result (Section × List ℕ) Fault)
 sections_at ctx file offset count = items_from (section_item ctx file offset) 0 count

@@ -96,7 +96,7 @@ segment_view s =
       ctx = s.ctx;
     }
 
--- the data of a segment: so many bytes at a place, and none where they are none, wherever it is
+-- the data of a segment: n bytes at a place; where n is 0 none, wherever the place is
 abbrev pub segment_data : List ℕ → ℕ → ℕ → Result (List ℕ) Fault
 segment_data bytes place n = if n == 0 then Ok [] else slice_at n bytes place
 
@@ -115,7 +115,7 @@ abbrev pub lossy_segment_at : Ctx → List ℕ → ℕ → SegmentCommand64 → 
 lossy_segment_at ctx bytes offset c =
     Ok (with_data ctx bytes offset c (result_unwrap_or (segment_data bytes c.fileoff c.filesize) []))
 
--- a new command before so many bytes of sections: its number and its size, and all else 0
+-- a new command before sections of `len` bytes: its number and its size, and all else 0
 abbrev pub new_command : Container → ℕ → SegmentCommand64
 new_command container len =
     record {

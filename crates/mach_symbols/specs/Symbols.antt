@@ -143,7 +143,7 @@ type_names =
 abbrev pub type_name : ℕ → List ℕ
 type_name n_type = name_or (codes "UNKNOWN_N_TYPE") type_names n_type
 
--- The symbols of some bytes: their records from a place on, so many of them, and their names from another.
+-- The symbols of some bytes: the place of their records, how many they are, and the place of their names.
 pub record SymbolTable : Type 0 where
   pub bytes : List ℕ
   pub start : ℕ

@@ -22,7 +22,7 @@ below c stack = reverse (take c.depth stack)
 abbrev pub name_met_last : TrieCursor → List ℕ → List ℕ
 name_met_last c name = take c.name_len name
 
--- the memory has what the cursor counts of it, and so many visits are left where so many were made
+-- the memory has what the cursor counts of it, and the visits that are left make with the n that were made as many as the range has bytes
 pub record IsKept (t : TrieRange) (c : TrieCursor) (name : List ℕ) (stack : List Open) (n : ℕ) : Type 0 where
   pub name_len : c.name_len ≤ length name
   pub depth : c.depth ≤ length stack
@@ -74,7 +74,7 @@ IsStopped (Some (Refused e)) = ⊥
 IsStopped (Some (NameTooLong n)) = Unit {0}
 IsStopped (Some (StackTooShort)) = Unit {0}
 
--- what is left to do, in a trie of so many bytes: visits, and the branches of open nodes
+-- what is left to do, in a trie of `most` bytes: visits, and the branches of open nodes
 abbrev pub cursor_work : ℕ → ℕ → List Open → ℕ
 cursor_work most visits os = (most + 2) * visits + branches_left os
 
@@ -86,7 +86,7 @@ abbrev pub IsNextLabel : List ℕ → ℕ → TrieCursor → List ℕ → Type 0
 IsNextLabel bytes from c label =
     ((c.phase ≡ 0) × (label ≡ [])) ⊎ ((start : ℕ) × (after : ℕ) × (branch_at bytes from c.top.place ≡ Ok (record { label = label; start = start }, after)))
 
--- the memory is too short: the name that comes next has so many bytes, or all nodes of the stack are in use
+-- the memory is too short: for the name that comes next, whose length is told, or all nodes of the stack are in use
 abbrev pub IsFull : List ℕ → ℕ → TrieCursor → List ℕ → List Open → Option NextExport → Type 0
 IsFull bytes from c name stack None = Unit {0}
 IsFull bytes from c name stack (Some (Export info)) = Unit {0}

@@ -32,7 +32,7 @@ mutual
     one_whole : {prefix : List ℕ} {b : Branch} {bs : List Branch} {first others list : List Entry} → Lists t b.start (prefix ++ b.label) first
         → BranchesBegin t prefix bs others → list ≡ first ++ others → BranchesBegin t prefix (b ∷ bs) list
 
--- The list within so many levels of nested nodes, as a value. The law `lists_within_levels` says that
+-- The list within a number of levels of nested nodes, as a value. The law `lists_within_levels` says that
 -- Lists holds exactly where this is the list within some number of levels.
 infixl 10 ◌>>=◌
 abbrev pub ◌>>=◌ : {A B : Type 0} → Option A → (A → Option B) → Option B

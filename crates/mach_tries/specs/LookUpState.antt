@@ -16,7 +16,7 @@ use Rattle.mach_tries.specs.declared.look_up.Way.TheVariants.{Nowhere, One, Seve
 use Rattle.mach_tries.specs.declared.look_up.Outcome.{Outcome}
 use Rattle.mach_tries.specs.declared.look_up.Outcome.TheVariants.{Found, Ends, Child, Open}
 
--- the own export of so many bytes, if there is one, and the place behind it
+-- the own export of `size` bytes, if there is one, and the place behind it
 abbrev pub OwnEnds : Source → ℕ → ℕ → Option Info → ℕ → Type 0
 OwnEnds s size place None after = (size ≡ 0) × (after ≡ place)
 OwnEnds s size place (Some info) after = (size ≢ 0) × (own_in s size place ≡ Ok (info, after))
@@ -32,7 +32,7 @@ abbrev pub FirstBranchLeads : Trie → List ℕ → List trie.Branch → Type 0
 FirstBranchLeads t rest [] = Unit {0}
 FirstBranchLeads t rest (b ∷ bs) = (b.start < t.upto) × (others : List ℕ) × (rest ≡ b.label ++ others)
 
--- one of the branches leads into the range, by a label of so many bytes, and what is found there is found
+-- one of the branches leads into the range, by a label of `len` bytes, and what is found there is found
 pub record LeadsOn (t : Trie) (rest : List ℕ) (bs : List trie.Branch) (start len : ℕ) : Type 0 where
   pub number : ℕ
   pub branch : trie.Branch

@@ -77,7 +77,7 @@ branch_at bytes from place = do
   start ← sum_of from offset.0
   Ok (record { label = label; start = start }, offset.1)
 
--- so many branches, one after the other
+-- a number of branches, one after the other
 unfoldable pub branches_at : List ℕ → ℕ → ℕ → ℕ → Result (List Branch) Fault
 branches_at bytes from zero place = Ok []
 branches_at bytes from (suc n) place = do
@@ -91,7 +91,7 @@ children_at bytes from place = do
   count ← uleb_at bytes place
   if nat_lt (length bytes) count.0 then Err (too_short count.0 (codes "branches")) else branches_at bytes from count.0 count.1
 
--- an own export of so many bytes at place, and the place of the branches behind it
+-- an own export of `size` bytes at place, and the place of the branches behind it
 abbrev pub own_at : List ℕ → List (List ℕ) → ℕ → ℕ → Result (Info × ℕ) Fault
 own_at bytes libs size place = do
   flags ← uleb_at bytes place

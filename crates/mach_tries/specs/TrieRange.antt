@@ -18,7 +18,7 @@ pub record TrieRange : Type 0 where
 abbrev pub empty_range : TrieRange
 empty_range = record { bytes = []; from = 0; upto = 0 }
 
--- so many bytes from a place on; the empty range where they don't lie in the bytes
+-- `size` bytes from `offset` on; the empty range where they don't lie in the bytes
 abbrev pub range_in : List ℕ → ℕ → ℕ → TrieRange
 range_in bytes offset size =
     if nat_le (offset + size) (length bytes) then record { bytes = bytes; from = offset; upto = offset + size }

@@ -23,7 +23,7 @@ abbrev pub HaveMore : List Open → Type 0
 HaveMore [] = Unit {0}
 HaveMore (o ∷ os) = (0 < o.left) × HaveMore os
 
--- so many nodes were visited and these exports found, these branches come next, and a node is open over others
+-- n nodes were visited and these exports found, these branches come next, and a node is open over others
 pub record Holds (s : Source) (name : List ℕ) (marks : List Bool) (next : List Ahead) (o : Open) (os : List Open) (found : List Entry) (n : ℕ) : Type 0 where
   pub is_read : IsReadSoFar (trie_range_of s) (texts s.libs.now) name next (o ∷ os) found n
   pub paths : List (List ℕ)
@@ -41,7 +41,7 @@ pub record HasListed (s : Source) (found : List Entry) (n : ℕ) : Type 0 where
   pub few_exports : length found ≤ s.upto - s.from
   pub few_visits : n ≤ s.upto - s.from
 
--- ---- how far a walk has come, which has found these exports by so many visits
+-- ---- how far a walk has come, which has found these exports by n visits
 
 -- the branch that comes next
 abbrev pub next_branch : {A : Type 0} → Walker A → Ahead
@@ -61,7 +61,7 @@ HasFound found n w = IsAtBranch found n w ⊎ ((w.over ≡ true) × HasListed w.
 abbrev pub IsWalk : {A : Type 0} → Walker A → Type 0
 IsWalk w = w.over ≡ false → ∥ ((found : List Entry) × (n : ℕ) × HasFound found n w) ∥₁
 
--- why a walk that had visited so many nodes is refused, and how the count of visits grew
+-- why a walk that had visited n nodes is refused, and how the count of visits grew
 pub record IsRefusedWalk (s : Source) (n old new : ℕ) (e : Error) : Type 0 where
   pub fault : Stands (fault_in s) e
   pub visited : ℕ
@@ -69,7 +69,7 @@ pub record IsRefusedWalk (s : Source) (n old new : ℕ) (e : Error) : Type 0 whe
   pub few_visits : visited ≤ s.upto - s.from
   pub count : new + n ≡ old + visited
 
--- what a step of a walk gives that had found these exports by so many visits: the next export, an error, or, at the end, nothing
+-- what a step of a walk gives that had found these exports by n visits: the next export, an error, or, at the end, nothing
 abbrev pub StepGives : {A : Type 0} → List Entry → ℕ → ℕ → ℕ → Source → Option (Result ExportInfo Error) → Walker A → Type 0
 StepGives found n old new s None w = (m : ℕ) × HasListed s found m × HasFound found m w × (new + n ≡ old + m)
 StepGives found n old new s (Some (Ok info)) w = (m : ℕ) × HasFound (found ++ entry w.name.items (info_of info) ∷ []) m w × (new + n ≡ old + m)

@@ -56,7 +56,7 @@ pub enum NextExport<'a> {
     End,
     /// A fault stands in the trie.
     Refused(Error),
-    /// The name needs so many bytes. The walk is as it was.
+    /// The name needs this number of bytes. The walk is as it was.
     NameTooLong(usize),
     /// More nodes are open than there is memory for. The walk is as it was.
     StackTooShort,

@@ -146,7 +146,7 @@ impl<'a> ExportTrie<'a> {
         self.upto
     }
 
-    // The trie in so many bytes from an offset on; an empty one where they don't lie in the bytes.
+    // The trie in `size` bytes from an offset on; an empty one where they don't lie in the bytes.
     fn in_range(bytes: &'a [u8], offset: u32, size: u32) -> Self
         ensures { result ≡ range_in bytes.now offset size }
     {

@@ -32,7 +32,7 @@ use std::alloc::{AllocError, Allocator};
 #[derive(Clone, Copy, Debug)]
 pub enum Way {
     Nowhere,
-    /// To one child, by a label of so many bytes.
+    /// To one child, by a label of `len` bytes.
     One { start: usize, len: usize },
     Several,
 }
@@ -44,7 +44,7 @@ pub enum Outcome<'a> {
     Found(ExportInfo<'a>),
     /// None of its branches goes on.
     Ends,
-    /// One branch goes on, by a label of so many bytes, to a child behind the node.
+    /// One branch goes on, by a label of `len` bytes, to a child behind the node.
     Child { start: usize, len: usize },
     /// Its branches are to be searched.
     Open(BranchRun),
@@ -75,7 +75,7 @@ fn leads(source: &Source<'_, '_>, rest: &[u8], branch: Branch<'_>) -> bool
     branch.start < source.upto && behind(rest, branch.label.as_bytes()).is_some()
 }
 
-// Where so many branches go on, if all of them can be read.
+// Where `count` branches go on, if all of them can be read.
 #[inline(always)]
 fn quick_way(source: &Source<'_, '_>, rest: &[u8], count: usize, first: usize) -> Option<Way>
     ensures { IfSome result (λ way. (bs : List trie.Branch) × (branches_at source.now.bytes.now source.now.from count first ≡ Ok bs)
@@ -152,7 +152,7 @@ fn rare_place(source: &Source<'_, '_>, size: u64, place: usize) -> Result<usize>
     Ok(after)
 }
 
-// The place behind a node's own export of so many bytes, if there is one.
+// The place behind a node's own export of `size` bytes, if there is one.
 #[inline(always)]
 fn place_behind(source: &Source<'_, '_>, size: u64, place: usize) -> Result<usize>
     ensures behind { IfOk result (λ after. (own : Option trie.Info) × OwnEnds source.now size place own after) }

@@ -6,7 +6,7 @@ ghost use Rattle.mach_tries.specs.Marks.{marks_of};
 use std::alloc::{AllocError, Allocator, Global};
 use std::marker::Model;
 
-/// Which of so many places are marked: place p is bit p % 64 of word p / 64.
+/// Which of some places are marked: place p is bit p % 64 of word p / 64.
 #[derive(Drop)]
 pub struct Marks<A: Allocator = Global> {
     words: Vec<u64, A>,

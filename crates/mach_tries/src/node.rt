@@ -82,7 +82,7 @@ fn read_branch(bytes: &[u8], from: usize, place: usize) -> Result<(Branch<'_>, u
     Ok((Branch { label, start }, after))
 }
 
-// Whether so many branches can be read, one after the other.
+// Whether `count` branches can be read, one after the other.
 #[cold]
 #[inline(never)]
 fn test_branches(bytes: &[u8], from: usize, count: usize, first: usize) -> Result<()>
@@ -96,7 +96,7 @@ fn test_branches(bytes: &[u8], from: usize, count: usize, first: usize) -> Resul
     Ok(())
 }
 
-// Why so many branches can't all be read.
+// Why not all of `count` branches can be read.
 #[cold]
 #[inline(never)]
 pub(crate) fn branches_error(bytes: &[u8], from: usize, count: usize, first: usize) -> Error
@@ -124,7 +124,7 @@ pub(crate) fn quick_branch(bytes: &[u8], from: usize, place: usize) -> Option<(B
     }
 }
 
-// Whether so many branches can be read, one after the other.
+// Whether `count` branches can be read, one after the other.
 #[inline(always)]
 pub(crate) fn quick_test(bytes: &[u8], from: usize, count: usize, first: usize) -> bool
     ensures yes { result ≡ true → branches_at bytes.now from count first ≡ Ok (those_read (branches_at bytes.now from count first)) }
@@ -202,7 +202,7 @@ pub fn read_run(bytes: &[u8], from: usize, place: usize) -> Result<BranchRun>
     Ok(BranchRun { left, place })
 }
 
-/// A node's own export of so many bytes, and the place of the branches behind it.
+/// A node's own export of `size` bytes, and the place of the branches behind it.
 pub fn read_own<'a>(
     bytes: &'a [u8],
     libs: &[&'a str],
@@ -242,7 +242,7 @@ pub fn quick_own(bytes: &[u8], size: u64, place: usize) -> Option<(u64, u64, usi
     }
 }
 
-// An own export of so many bytes that the quick reader leaves, and the place of the branches.
+// An own export of `size` bytes that the quick reader leaves, and the place of the branches.
 #[cold]
 #[inline(never)]
 fn rare_own<'a>(source: &Source<'a, '_>, size: u64, place: usize) -> Result<(ExportInfo<'a>, usize)>
@@ -251,7 +251,7 @@ fn rare_own<'a>(source: &Source<'a, '_>, size: u64, place: usize) -> Result<(Exp
     read_own(source.bytes, source.libs, size, place)
 }
 
-/// An own export of so many bytes, and the place of the branches.
+/// An own export of `size` bytes, and the place of the branches.
 #[inline(always)]
 pub fn own_export<'a>(
     source: &Source<'a, '_>,

@@ -81,7 +81,7 @@ pub struct Work {
 }
 
 impl Work {
-    // Nothing yet, of at most so many items.
+    // Nothing yet, of at most `limit` items.
     fn new(limit: usize) -> Work
         ensures { (result.items ≡ 0) × (result.left ≡ limit) × (result.more ≡ false) }
     {
@@ -111,7 +111,7 @@ impl Work {
         }
     }
 
-    // Adds so many items, and what they hold.
+    // Adds a number of items, and what they hold.
     fn add(&mut self, items: usize, sum: u64)
         ensures items { self.new.items ≡ (self.old.items + items) % 2 ^ 64 }
         ensures sum { self.new.sum ≡ (self.old.sum + sum) % 2 ^ 64 }

@@ -28,14 +28,14 @@ impl Times {
     }
 }
 
-/// Tenths of a nanosecond that an item took, where a run took so many nanoseconds.
+/// Tenths of a nanosecond that an item took, where a run took `run` nanoseconds.
 pub fn per_item(run: u64, items: u64) -> u64
     ensures { run * 10 < 2 ^ 64 → result ≡ run * 10 / max items 1 }
 {
     run.saturating_mul(10) / items.max(1)
 }
 
-/// Megabytes a second, where a run took so many nanoseconds; those of one nanosecond where it took none.
+/// Megabytes a second, where a run took `run` nanoseconds; those of one nanosecond where it took none.
 pub fn speed(bytes: u64, run: u64) -> u64
     ensures { bytes * 1000 < 2 ^ 64 → result ≡ bytes * 1000 / max run 1 }
 {

@@ -47,7 +47,7 @@ more_both n xs ys = more_by n xs ys (nat_lt n (length xs)) refl
 
 -- ---- a list that is gone over
 
--- The rows begin with some whose lines were written, with `rest` behind them, and so many lines more may be.
+-- The rows begin with some whose lines were written, with `rest` behind them, and `left` lines more may be written.
 pub record Goes (limit : ℕ) (rows rest : List (Result PointerRow Fault)) (left : ℕ) (whole : Bool) (old new : Option (List ℕ)) : Type 0 where
   pub front : List (Result PointerRow Fault)
   pub are : rows ≡ front ++ rest

@@ -40,7 +40,7 @@ pub struct Told {
 }
 
 impl Told {
-    // All of a list, with so many lines left.
+    // All of a list, with `left` lines left.
     fn all(left: usize, whole: bool) -> Told
         ensures { (result.left ≡ left) × (result.whole ≡ whole) × (result.more ≡ false) }
     {

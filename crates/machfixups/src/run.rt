@@ -15,7 +15,7 @@ use std::io::{BufWriter, Write};
 /// The program's name.
 pub const NAME: &str = "machfixups";
 
-// The binds and fixups of an image, so many of them at most.
+// The binds and fixups of an image, `limit` of them at most.
 #[derive(Clone, Copy)]
 struct Fixups {
     limit: usize,

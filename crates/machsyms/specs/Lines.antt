@@ -16,7 +16,7 @@ use Rattle.machsyms.specs.Letters.{is_local, symbol_letter}
 use Rattle.machsyms.specs.Stabs.{stab_name}
 use Rattle.mach_base.specs.Words.{words_of}
 
--- a number in so many hexadecimal digits, zeros before it
+-- a number in `width` hexadecimal digits, zeros before it
 abbrev pub padded_hex : ℕ → ℕ → List ℕ
 padded_hex width n = padded_integral (format_spec 32 0 4 width (2 ^ 64 - 1)) false [] (digits 16 false n)
 
@@ -79,7 +79,7 @@ abbrev pub past_the_end : Option SymbolTable → ℕ
 past_the_end None = 0
 past_the_end (Some t) = t.nsyms - (begun_of t).nsyms
 
--- the line of so many of them; none of none
+-- the line of n of them; none of none
 abbrev pub past_line : ℕ → List ℕ
 past_line n = if n == 0 then [] else decimal n ++ codes " more symbols past the end\n"
 

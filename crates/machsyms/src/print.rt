@@ -49,7 +49,7 @@ fn print_table<O: Write>(
     Ok(past == 0)
 }
 
-// Prints the line of so many symbols that begin past the end, if there are any.
+// Prints how many symbols begin past the end, if any do.
 fn print_past<O: Write>(past: usize, out: &mut O) -> io::Result<()>
     ensures { OnOk result (Appends (O.contents out.old) (O.contents out.new) (past_line past)) }
 {

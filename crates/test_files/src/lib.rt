@@ -100,7 +100,7 @@ pub const ARCHIVE: [u8; 16] = [
     0x21, 0x3c, 0x61, 0x72, 0x63, 0x68, 0x3e, 0x0a, 0, 0, 0, 0, 0, 0, 0, 0,
 ];
 
-/// A fat file of one entry, which stands at 28 and has so many bytes.
+/// A fat file of one entry, which stands at 28 and has `size` bytes.
 pub fn of_one(alloc: Global, size: u8, entry: &[u8]) -> Result<Vec<u8>, AllocError> {
     let mut bytes = vec![in alloc;
         0xca, 0xfe, 0xba, 0xbe, 0, 0, 0, 1, 0, 0, 0, 0, 0, 0, 0, 0, 0, 0, 0, 28, 0, 0, 0, size, 0,
@@ -150,7 +150,7 @@ pub enum File {
     Front(&'static [u8], usize),
     /// A 64-bit little-endian image: its counts, and what stands behind the header.
     Image(u8, u8, &'static [u8]),
-    /// A fat file of one entry, which has so many bytes.
+    /// A fat file of one entry, with its size.
     OfOne(u8, &'static [u8]),
     /// A fat file said to have two entries, with one record and these bytes.
     OfOneRecord(&'static [u8]),

@@ -9,7 +9,7 @@ use mach_headers::fat::{FatArch, SIZEOF_FAT_ARCH, SIZEOF_FAT_HEADER};
 use std::fmt;
 use std::fmt::{Debug, Formatter, Write};
 
-/// The records of a fat file: exactly so many items as it is said to have entries, of which each is
+/// The records of a fat file: exactly as many items as it is said to have entries, of which each is
 /// the record at its own place or the error of the read there.
 #[derive(Clone, Drop)]
 pub struct FatArchIterator<'a> {

@@ -8,8 +8,8 @@ ghost use Rattle.mach_headers.specs.declared.fat.FatArch.{FatArch};
 ghost use Rattle.goblin_mach.specs.FatEntry.{FatEntry, entry_at, entries_of};
 ghost use Rattle.goblin_mach.specs.FatFile.{FatFile, fat_file_in, arch_at, archs_of};
 
-/// The records of a fat file go by their number: there are so many as it is said to have entries, and
-/// the one of a number is that at its own place, whatever the others are.
+/// The records of a fat file go by their number: there are as many as it is said to have entries, and
+/// record k is the one at its own place, whatever the others are.
 pub fn records_by_number()
     ensures count { (file : FatFile) → length (archs_of file) ≡ file.narches }
     ensures item { (file : FatFile) (k : ℕ) → k < file.narches → slice_get (archs_of file) k ≡ Some (arch_at file.bytes k) }

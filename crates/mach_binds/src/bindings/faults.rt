@@ -38,7 +38,7 @@ fn highest_offset(pointer: u8, segment: &Segment<'_>) -> Option<u64>
     Some(room.min(in_file.min(address)))
 }
 
-// Whether each of so many turns, the first at an offset and each next one a stride further, modulo 2^64, is at a place of
+// Whether each of `count` turns, the first at an offset and each next one a stride further, modulo 2^64, is at a place of
 // a segment where a pointer lies in it.
 fn all_lie(
     pointer: u8,

@@ -45,7 +45,7 @@ impl<'a> State<'a> {
     }
 
     /// Reads the operands of an opcode with its immediate, which stand at a place, and takes the
-    /// settings and the binds of the instruction; None where they can't be read. A pointer has so many
+    /// settings and the binds of the instruction; None where they can't be read. A pointer has `pointer`
     /// bytes.
     #[tactic(auto, unfolding(crate::specs::Instructions::row_at, crate::specs::Instructions::with_uleb, crate::specs::Instructions::symbol_operand_at, crate::specs::Instructions::addend_at, crate::specs::Instructions::times_at, crate::specs::Machine::set_by, crate::specs::Machine::executed))]
     #[inline(always)]

@@ -44,7 +44,7 @@ pub trait Makes<'a>: Copy {
     fn set(self, byte: u8) -> Self
         ensures { result ≡ rules.set byte self };
 
-    /// Executes the instruction that comes next, by its opcode byte; None where it can't be read. A pointer has so many
+    /// Executes the instruction that comes next, by its opcode byte; None where it can't be read. A pointer has `pointer`
     /// bytes.
     fn execute(state: &mut State<'a>, bytes: &'a [u8], pointer: u8, byte: u8) -> Option<()>
         requires count { state.old.count ≡ 0 }

@@ -9,7 +9,7 @@ use crate::layout::Layout;
 use crate::parts::segment_of;
 use mach_load::{CommandVariant, LoadCommand};
 
-/// How many of so many records of a size, from a place on, lie in the bytes.
+/// How many of `count` records of a size, from a place on, lie in the bytes.
 pub fn whole_records(bytes: &[u8], start: u32, size: usize, count: u32) -> u32
     requires { 0 < size }
     ensures { result ≡ defined.whole_records bytes.now start size count }

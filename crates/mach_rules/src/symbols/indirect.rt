@@ -60,7 +60,7 @@ pub fn is_range_out(nsyms: u32, range: &SymbolRange) -> bool
     range.count > 0 && end > u64::from(nsyms)
 }
 
-// The ranges of a table of so many symbols.
+// The ranges of a table of symbols.
 #[derive(Clone, Copy)]
 struct Ranges {
     place: usize,
@@ -176,7 +176,7 @@ fn section_seen(width: Container, table: &PlacedDysymtab, section: &PlacedSectio
     )
 }
 
-// The indirect symbols of an image with so many symbols, by their numbers, and the sections that have some.
+// The indirect symbols of an image with symbols, by their numbers, and the sections that have some.
 #[derive(Clone, Copy)]
 struct Indirect<'a> {
     bytes: &'a [u8],

@@ -17,7 +17,7 @@ pub fn bits_together(r: RelocationInfo) -> u32
         + u32::from(r.r_type()) * (1 << 28)
 }
 
-/// Relocations go by their number: there are so many, and the one of a number is that at its own
+/// Relocations go by their number: there are `count`, and relocation k is the one at its own
 /// place, whatever the others are.
 pub fn relocations_by_number()
     ensures count { (le : Endian) (bytes : List ℕ) (reloff count : ℕ) → length (relocations_at le bytes reloff count) ≡ count }

@@ -7,7 +7,7 @@ ghost use Rattle.mach_segments.specs.Relocation.{relocation_at};
 use crate::relocation::{RelocationInfo, SIZEOF_RELOCATION_INFO};
 use mach_base::{Endian, Record, Result};
 
-/// The relocations of a section: exactly so many items, of which each is the relocation at its own
+/// The relocations of a section: exactly as many items as the section says, each the relocation at its own
 /// place or the error of the read there.
 #[derive(Clone, Drop)]
 pub struct RelocationIterator<'a> {

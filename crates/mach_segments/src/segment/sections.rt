@@ -8,7 +8,7 @@ use crate::segment::conversions::command_len;
 use crate::segment::section::{Section, SectionData};
 use mach_base::{Ctx, Result, SizeWith};
 
-/// The sections of a segment with their data: exactly so many items as the segment says, of which
+/// The sections of a segment with their data: exactly as many items as the segment says, of which
 /// each is the section at its own place or the error of the read there.
 #[derive(Clone, Drop)]
 pub struct SectionIterator<'a> {

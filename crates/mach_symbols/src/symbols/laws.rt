@@ -6,7 +6,7 @@ ghost use Rattle.mach_symbols.specs.SymbolViews.{table_of};
 
 use crate::symbols::Symbols;
 
-/// Symbols go by their number: there are so many as the table says, and the one of a number is the
+/// Symbols go by their number: there are as many as the table says, and symbol k is the
 /// one that `get` gives, whatever the others are.
 pub fn symbols_by_number()
     ensures count { (t : SymbolTable) → length (symbols_of t) ≡ t.nsyms }
