@@ -2,6 +2,7 @@
    gm_test check FILE.. tests each file and each of its prefixes: batches of 1, 2, 7 and all give the same rows, the rest of an
    array stays, memory may be refused at any request, an arena serves without malloc, NULL serves with length 0.
    gm_test deep LEVELS goes over a trie of so many levels in buffers that grow.
+   gm_test constants FILE.. tests that constants and names of the header say what the calls answer of each file.
    gm_test damage COUNT FILE.. hands in COUNT images of made-up numbers, by a fixed seed. */
 #define _GNU_SOURCE
 #include "goblin_mach.h"
@@ -580,6 +581,127 @@ static void check(const uint8_t *bytes, size_t len) {
     }
 }
 
+/* ---- constants and names: what the calls answer of a file is what they say */
+
+#if GM_MH_MAGIC_64 != 0xfeedfacf || GM_N_EXT != 1 || GM_EXPORT_SYMBOL_FLAGS_REEXPORT != 8 || GM_VERSION_NUMBER < 2000
+#error "a constant that the preprocessor reads otherwise"
+#endif
+
+static size_t named_numbers;
+static void has_name(const char *name, const char *of, uint32_t number) {
+    if (!name) DIE("%s 0x%x has no name", of, number);
+    named_numbers++;
+}
+
+/* the kind of the library that a command brings in, or -1 */
+static int kind_of(uint32_t cmd) {
+    switch (cmd) {
+    case GM_LC_LOAD_DYLIB: return GM_REQUIRED;
+    case GM_LC_LOAD_WEAK_DYLIB: return GM_WEAK;
+    case GM_LC_REEXPORT_DYLIB: return GM_REEXPORT;
+    case GM_LC_LOAD_UPWARD_DYLIB: return GM_UPWARD;
+    case GM_LC_LAZY_LOAD_DYLIB: return GM_LAZY;
+    default: return -1;
+    }
+}
+
+static void constants_of_commands(const given *g) {
+    size_t segments = 0, libraries = 0, run_paths = 0;
+    gm_command c;
+    gm_library l;
+    for (size_t i = 0; gm_commands(OF, i, &c, 1); i++) {
+        has_name(gm_command_name(c.cmd), "command", c.cmd);
+        segments += c.cmd == (g->image.is_64 ? GM_LC_SEGMENT_64 : GM_LC_SEGMENT);
+        run_paths += c.cmd == GM_LC_RPATH;
+        int kind = kind_of(c.cmd);
+        if (kind >= 0 && (gm_libraries(OF, libraries++, &l, 1) != 1 || l.kind != (uint32_t)kind)) DIE("command %zu isn't of library %zu", i, libraries);
+    }
+    if (segments != g->image.segments || libraries != g->image.libraries || run_paths != g->image.run_paths) DIE("commands of other numbers than the lists");
+}
+
+static void constants_of_segments(const given *g) {
+    const uint32_t rights = GM_VM_PROT_READ | GM_VM_PROT_WRITE | GM_VM_PROT_EXECUTE;
+    gm_segment segment;
+    gm_section section;
+    gm_relocation relocation;
+    for (size_t i = 0; gm_segments(OF, i, &segment, 1); i++) {
+        if ((segment.maxprot | segment.initprot) & ~rights || segment.flags > (GM_SG_READ_ONLY << 1) - 1) DIE("segment %zu has bits of no name", i);
+        for (size_t k = 0; gm_sections(OF, segment.command, segment.sections, k, &section, 1); k++) {
+            uint32_t type = section.flags & GM_SECTION_TYPE;
+            if (type > GM_S_INIT_FUNC_OFFSETS) DIE("section %zu has a type of no name", k);
+            bool is_zeros = type == GM_S_ZEROFILL || type == GM_S_GB_ZEROFILL || type == GM_S_THREAD_LOCAL_ZEROFILL;
+            if (is_zeros && section.data_len) DIE("zeros of section %zu in the file", k);
+            for (size_t n = 0; gm_relocations(OF, section.reloff, section.nreloc, n, &relocation, 1); n++)
+                has_name(gm_relocation_name(g->image.cputype, relocation.info >> 28), "relocation", relocation.info);
+        }
+    }
+}
+
+static void constants_of_symbols(const given *g) {
+    gm_symbol s;
+    for (size_t i = 0; gm_symbols(OF, i, &s, 1); i++) {
+        has_name(gm_symbol_type_name(s.n_type), "symbol type", s.n_type);
+        bool of_section = !(s.n_type & GM_N_STAB) && (s.n_type & GM_N_TYPE) == GM_N_SECT;
+        if (of_section && s.section == GM_NO_SECT) DIE("symbol %zu of no section", i);
+    }
+}
+
+static void constants_of_exports(const given *g) {
+    gm_export_walk walk = {0};
+    gm_export_room r = room_of(4096, LIMIT);
+    gm_export_batch b;
+    if (!export_batch(g, &walk, &r, &b, NULL) && b.end != GM_END) DIE("exports that don't fit");
+    for (size_t i = 0; i < b.count; i++, named_numbers++) {
+        const gm_export *x = &r.out[i].what;
+        uint32_t kind = GM_ADDRESS;
+        if (x->flags & GM_EXPORT_SYMBOL_FLAGS_REEXPORT) kind = GM_REEXPORTED;
+        else if (x->flags & GM_EXPORT_SYMBOL_FLAGS_STUB_AND_RESOLVER) kind = GM_STUB;
+        if (x->kind != kind) DIE("export %zu is of kind %u by its flags", i, kind);
+    }
+    give_room(&r);
+}
+
+static void check_constants(const uint8_t *bytes, size_t len) {
+    given held = {.bytes = bytes, .len = len}, *g = &held;
+    gm_error e;
+    if (gm_open(bytes, len, 0, GM_STRICT, NULL, &g->image, &e)) DIE("%s", e.text);
+    const gm_image *image = &g->image;
+    if (image->magic != (image->is_64 ? GM_MH_MAGIC_64 : GM_MH_MAGIC)) DIE("magic 0x%x", image->magic);
+    has_name(gm_cpu_name(image->cputype, image->cpusubtype), "cpu", image->cputype);
+    has_name(gm_file_type_name(image->filetype), "file type", image->filetype);
+    for (uint32_t flags = image->flags; flags; flags &= flags - 1) has_name(gm_header_flag_name(flags & ~(flags - 1)), "flag of", flags);
+    constants_of_commands(g);
+    constants_of_segments(g);
+    constants_of_symbols(g);
+    constants_of_exports(g);
+}
+
+/* names of some numbers, and that others have none; and the version */
+static void check_names(void) {
+    const struct { const char *found, *wanted; } rows[] = {
+        {gm_code_name(GM_OK), "ok"}, {gm_code_name(GM_NO_ROWS), "no rows"}, {gm_code_name(GM_NO_ROWS + 1), NULL}, {gm_code_name(UINT32_MAX), NULL},
+        {gm_cpu_name(GM_CPU_TYPE_ARM64, GM_CPU_SUBTYPE_ARM64E | UINT32_C(0x80000000)), "arm64e"}, {gm_cpu_name(GM_CPU_TYPE_ARM64, 1), NULL},
+        {gm_cpu_name(GM_CPU_TYPE_X86_64, GM_CPU_SUBTYPE_X86_64_H), "x86_64h"}, {gm_cpu_name(GM_CPU_TYPE_ARM, GM_CPU_SUBTYPE_ARM_V7S), "armv7s"},
+        {gm_cpu_name(GM_CPU_TYPE_POWERPC64, 0), "ppc64"}, {gm_cpu_name(GM_CPU_ARCH_ABI64, 0), NULL}, {gm_cpu_name(0, 0), NULL},
+        {gm_file_type_name(GM_MH_EXECUTE), "EXECUTE"}, {gm_file_type_name(0), NULL}, {gm_file_type_name(GM_MH_GPU_DYLIB + 1), NULL},
+        {gm_header_flag_name(GM_MH_PIE), "MH_PIE"}, {gm_header_flag_name(GM_MH_DYLIB_IN_CACHE), "MH_DYLIB_IN_CACHE"}, {gm_header_flag_name(3), NULL},
+        {gm_command_name(GM_LC_MAIN), "LC_MAIN"}, {gm_command_name(GM_LC_REQ_DYLD), NULL}, {gm_command_name(GM_LC_MAIN ^ GM_LC_REQ_DYLD), NULL},
+        {gm_symbol_type_name(GM_N_SECT | GM_N_EXT), "N_SECT"}, {gm_symbol_type_name(GM_N_FUN), "N_FUN"}, {gm_symbol_type_name(GM_N_EXT), "N_UNDF"},
+        {gm_symbol_type_name(4), NULL}, {gm_symbol_type_name(0x21), NULL},
+        {gm_relocation_name(GM_CPU_TYPE_ARM64_32, GM_ARM64_RELOC_ADDEND), "ARM64_RELOC_ADDEND"},
+        {gm_relocation_name(GM_CPU_TYPE_X86, GM_GENERIC_RELOC_VANILLA), "GENERIC_RELOC_VANILLA"},
+        {gm_relocation_name(GM_CPU_TYPE_X86_64, 10), NULL}, {gm_relocation_name(GM_CPU_TYPE_POWERPC, 0), NULL},
+        {gm_platform_name(GM_PLATFORM_MACOS), "MACOS"}, {gm_platform_name(0), NULL}, {gm_platform_name(GM_PLATFORM_VISIONOSSIMULATOR + 1), NULL}};
+    for (size_t n = 0; n < sizeof rows / sizeof *rows; n++) {
+        const char *found = rows[n].found ? rows[n].found : "(none)", *wanted = rows[n].wanted ? rows[n].wanted : "(none)";
+        if (strcmp(found, wanted)) DIE("name %zu is '%s', and not '%s'", n, found, wanted);
+    }
+    char text[32];
+    snprintf(text, sizeof text, "%d.%d.%d", GM_VERSION_MAJOR, GM_VERSION_MINOR, GM_VERSION_PATCH);
+    if (strcmp(gm_version(), GM_VERSION_TEXT) || strcmp(text, GM_VERSION_TEXT)) DIE("versions %s, %s and %s", text, GM_VERSION_TEXT, gm_version());
+    if (gm_version_number() != GM_VERSION_NUMBER || !GM_VERSION_FITS()) DIE("versions %u and %u", GM_VERSION_NUMBER, gm_version_number());
+}
+
 static uint64_t seed = 88172645463325252u;
 static uint64_t chance(void) { seed ^= seed << 13; seed ^= seed >> 7; seed ^= seed << 17; return seed; }
 
@@ -664,6 +786,7 @@ static void print_list(const list *l, const given *g) {
 static void print(const char *what, const uint8_t *bytes, size_t len) {
     given g = {.bytes = bytes, .len = len};
     gm_error e;
+    if (!strcmp(what, "constants")) { check_constants(bytes, len); return; }
     if (gm_open(bytes, len, 0, GM_STRICT, NULL, &g.image, &e)) { printf("refused: %s\n", e.text); return; }
     if (!strncmp(what, "find:", 5)) print_exports(&g, what + 5);
     if (!strcmp(what, "exports") || !strcmp(what, "reexports")) {
@@ -822,9 +945,9 @@ static void check_edges(void) {
 }
 
 int main(int argc, char **argv) {
-    if (gm_version() != GM_VERSION) DIE("the header is of version %d and the library of %u", GM_VERSION, gm_version());
+    check_names();
     if (argc == 2 && !strcmp(argv[1], "names")) return print_names();
-    if (argc < 3) DIE("usage: gm_test names, gm_test WHAT FILE, gm_test check FILE.., gm_test damage COUNT FILE.., gm_test deep LEVELS");
+    if (argc < 3) DIE("usage: gm_test names, gm_test WHAT FILE, gm_test check|constants FILE.., gm_test damage COUNT FILE.., gm_test deep LEVELS");
     of_damage = !strcmp(argv[1], "damage");
     away = fopen("/dev/null", "w");
     if (!away) DIE("/dev/null can't be opened");
@@ -862,6 +985,7 @@ int main(int argc, char **argv) {
         free(bytes);
     }
     fclose(away);
+    if (!strcmp(argv[1], "constants")) printf("%zu numbers have the names that they are to have\n", named_numbers);
     if (!strcmp(argv[1], "check")) printf("%zu lists agree, %zu of trees; %zu exports as they are found, %zu of them brought, and %zu others of a name\n", tested, trees, alike, brought, others);
     return 0;
 }

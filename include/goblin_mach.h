@@ -8,9 +8,11 @@
    length is 0. Calls that answer a code answer GM_OK, or why not, with words in *error; `error` may be NULL.
 
    Calls with a cursor write the items behind it, as many as there are and fit, move it behind them, and say in *count how many:
-   fewer than `cap` says that there are no more. With a `cap` of 0 they are refused with GM_NO_ROWS. A cursor is numbers that the calls alone read; all zero is the start; it goes
-   with the bytes and the image, and may be copied. They open the image again, and take memory while they run. A refusal leaves
-   the array, the cursor and *count as they were. */
+   fewer than `cap` says that there are no more. With a `cap` of 0 they are refused with GM_NO_ROWS. A cursor is numbers that the calls
+   alone read; all zero is the start; it goes with the bytes and the image, and may be copied. They open the image again, and take memory
+   while they run. A refusal leaves the array, the cursor and *count as they were.
+
+   The names of numbers, as GM_LC_MAIN of a command's, and calls that give them as texts stand at the end. */
 #ifndef GOBLIN_MACH_H
 #define GOBLIN_MACH_H
 #include <stdbool.h>
