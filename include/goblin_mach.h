@@ -695,14 +695,18 @@ const char *gm_platform_name(uint32_t platform);                      /* "MACOS"
 /* ---- end */
 
 /* The layout that the library gives each struct (x86-64 Linux), and its numbers: a compiler that sees other ones refuses this header. */
-#if defined __cplusplus && __cplusplus >= 201103L
+#ifdef __cplusplus
 #define GM_ASSERT(name, holds) static_assert(holds, #name)
-#elif !defined __cplusplus && defined __STDC_VERSION__ && __STDC_VERSION__ >= 201112L
+#define GM_WIDTH(type, field) sizeof(type::field)
+#else
+#if defined __STDC_VERSION__ && __STDC_VERSION__ >= 201112L
 #define GM_ASSERT(name, holds) _Static_assert(holds, #name)
 #else
 #define GM_ASSERT(name, holds) typedef char gm_assert_##name[(holds) ? 1 : -1]
 #endif
-#define GM_FIELD(type, field, at, size) GM_ASSERT(type##_##field, offsetof(type, field) == (at) && sizeof(((type *)0)->field) == (size))
+#define GM_WIDTH(type, field) sizeof(((type *)0)->field)
+#endif
+#define GM_FIELD(type, field, at, size) GM_ASSERT(type##_##field, offsetof(type, field) == (at) && GM_WIDTH(type, field) == (size))
 #define GM_SIZE(type, size) GM_ASSERT(type, sizeof(type) == (size))
 #define GM_IS(name, number) GM_ASSERT(name, name == (number))
 GM_FIELD(gm_memory, self, 0, 8);
@@ -928,6 +932,7 @@ GM_IS(GM_LAZY, 4);
 GM_IS(GM_LOSSY, 1);
 /* ---- end */
 #undef GM_ASSERT
+#undef GM_WIDTH
 #undef GM_FIELD
 #undef GM_SIZE
 #undef GM_IS
