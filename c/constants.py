@@ -262,6 +262,8 @@ def structs():
         for text in sources(crate).values():
             for name, body in re.findall(r"^#\[repr\(C\)\]\npub struct (\w+) \{\n(.*?)^\}", text, re.M | re.S):
                 found[name] = re.findall(r"^    pub (\w+): (.*),$", body, re.M)
+                if len(found[name]) != len(re.findall(r"^ *[^ /]", body, re.M)):
+                    refuse(f"a field of {name} isn't read")
     return found
 
 
