@@ -106,7 +106,8 @@ static void dylib(FILE *to, const given *g, uint64_t ordinal) {
 BEHIND(imports, gm_import, gm_bind_cursor)
 LIST(imports, gm_import, imports(g, first, rows, cap),
      fprintf(to, "%u %" PRIu64 " %" PRIx64 " %" PRId64 " %" PRIx64 " %zu %u %u 0x%" PRIx64 " ", r->code, r->library, r->offset, r->addend,
-             r->start_of_sequence_offset, r->size, r->is_weak, r->is_lazy, r->address); dylib(to, g, r->library); fputc(' ', to); text(to, g, r->name, r->name_len))
+             r->start_of_sequence_offset, r->size, r->is_weak, r->is_lazy, r->address);
+     dylib(to, g, r->library); fputc(' ', to); text(to, g, r->name, r->name_len))
 BEHIND(bindings, gm_binding, gm_binding_cursor)
 LIST(bindings, gm_binding, bindings(g, first, rows, cap),
      fprintf(to, "%u %u %" PRIu64 " %" PRIx64 " %" PRId64 " %u %u 0x%" PRIx64 " ", r->code, r->provider, r->library, r->offset, r->addend, r->is_weak,
@@ -156,7 +157,8 @@ typedef struct {
 #define ONE(name, row) {#name, sizeof(row), rows_##name, line_##name}
 static const list lists[] = {ONE(commands, gm_command), ONE(segments, gm_segment), ONE(symbols, gm_symbol), ONE(libraries, gm_library),
                              ONE(run_paths, gm_run_path), ONE(fixups, gm_fixup), ONE(imports, gm_import), ONE(bindings, gm_binding), ONE(entries, gm_fat_entry),
-                             ONE(sections, gm_section), ONE(relocations, gm_relocation), ONE(layout, gm_layout_fault), ONE(table, gm_layout_fault), ONE(ids, gm_id)};
+                             ONE(sections, gm_section), ONE(relocations, gm_relocation), ONE(layout, gm_layout_fault),
+                              ONE(table, gm_layout_fault), ONE(ids, gm_id)};
 enum { LISTS = sizeof lists / sizeof *lists, LIMIT = 400 };
 
 static const list *named(const char *name) {
@@ -480,7 +482,8 @@ static void exports_by_memory(const given *g) {
         uint32_t code = export_batch(g, &walk, &r, &b, &m);
         if (c.held) DIE("a block was kept");
         if (code != GM_NO_MEMORY) break;
-        if (b.count || memcmp(&walk, &before, sizeof walk) || memcmp(name, r.name, 64) || memcmp(stack, r.stack, sizeof stack)) DIE("a refusal changed the walk");
+        if (b.count || memcmp(&walk, &before, sizeof walk) || memcmp(name, r.name, 64) || memcmp(stack, r.stack, sizeof stack))
+            DIE("a refusal changed the walk");
     }
     give_room(&r);
 }
@@ -514,7 +517,8 @@ static void check_deep(size_t levels) {
         for (size_t i = 0; i < b.count; i++, n++) {
             const gm_listed_export *x = r.out + i;
             bool last = n == 0; /* the deepest comes first, and then the others from below */
-            if (x->name_len != (last ? levels : levels - n + 1) || r.names[x->name + x->name_len - 1] != (last ? 'a' : 'b')) DIE("export %zu of a deep trie", n);
+            if (x->name_len != (last ? levels : levels - n + 1) || r.names[x->name + x->name_len - 1] != (last ? 'a' : 'b'))
+                DIE("export %zu of a deep trie", n);
         }
         b.needed *= 2;
         if (b.end != GM_MORE && b.end != GM_END) give_more(&r, &b);
@@ -866,7 +870,8 @@ static uint8_t *image_of_symbols(const uint8_t *rest, size_t len, uint32_t nsyms
 
 /* what is told of a symbol whose name is no text, or is past the end */
 static void check_symbols(void) {
-    static const struct { uint8_t strx, code; size_t at, len; } rows[] = {{1, GM_OK, 1, 2}, {4, GM_SHORT, 4, 3}, {6, GM_SHORT, 6, 1}, {8, GM_OK, 8, 1}, {9, GM_SHORT, 0, 0}};
+    static const struct { uint8_t strx, code; size_t at, len; } rows[] = {
+        {1, GM_OK, 1, 2}, {4, GM_SHORT, 4, 3}, {6, GM_SHORT, 6, 1}, {8, GM_OK, 8, 1}, {9, GM_SHORT, 0, 0}};
     enum { SYMBOLS = sizeof rows / sizeof *rows, NAMES = 56 + 16 * SYMBOLS };
     static const uint8_t names[] = {0, '_', 'a', 0, 'b', 'c', 0xff, 0, 'd'};
     uint8_t rest[16 * SYMBOLS + sizeof names] = {0};
@@ -881,7 +886,8 @@ static void check_symbols(void) {
     for (size_t k = 0; k < SYMBOLS; k++) {
         if (s[k].value != (UINT64_C(0x80) << 56 | k) || s[k].section != 7 || s[k].n_type != 0xf || s[k].desc != 0x1234) DIE("symbol %zu lost its record", k);
         size_t at = rows[k].at ? NAMES + rows[k].at : 0;
-        if (s[k].code != rows[k].code || s[k].name != at || s[k].name_len != rows[k].len) DIE("symbol %zu: code %u, name %zu %zu", k, s[k].code, s[k].name, s[k].name_len);
+        if (s[k].code != rows[k].code || s[k].name != at || s[k].name_len != rows[k].len)
+            DIE("symbol %zu: code %u, name %zu %zu", k, s[k].code, s[k].name, s[k].name_len);
     }
     free(bytes);
 }
@@ -926,19 +932,23 @@ static void check_edges(void) {
     gm_bind_cursor i = {0};
     gm_binding_cursor b = {0};
     size_t count = 5;
-    const uint32_t codes[] = {gm_fixups(g.bytes, g.len, &g.image, &f, NULL, 0, &count, NULL, &e), gm_imports(g.bytes, g.len, &g.image, &i, NULL, 0, &count, NULL, &e),
-                              gm_bindings(g.bytes, g.len, &g.image, &b, NULL, 0, &count, NULL, NULL), gm_layout_faults(g.bytes, g.len, &g.image, 0, NULL, 0, &count, NULL, &e),
+    const uint32_t codes[] = {gm_fixups(g.bytes, g.len, &g.image, &f, NULL, 0, &count, NULL, &e),
+                              gm_imports(g.bytes, g.len, &g.image, &i, NULL, 0, &count, NULL, &e),
+                              gm_bindings(g.bytes, g.len, &g.image, &b, NULL, 0, &count, NULL, NULL),
+                              gm_layout_faults(g.bytes, g.len, &g.image, 0, NULL, 0, &count, NULL, &e),
                               gm_container_faults(g.bytes, g.len, 0, NULL, 0, &count, NULL, NULL)};
     for (size_t n = 0; n < sizeof codes / sizeof *codes; n++)
         if (codes[n] != GM_NO_ROWS || count != 5) DIE("call %zu with an array of no rows: %u", n, codes[n]);
     gm_export_walk walk = {0};
     gm_export_room room = {NULL, 0, NULL, 0, NULL, 0, NULL, 0};
     gm_export_batch batch;
-    if (gm_exports(g.bytes, g.len, &g.image, &walk, &room, &batch, NULL, NULL) || batch.end != GM_NO_ROOM || batch.needed != 1) DIE("exports with an array of no rows");
+    if (gm_exports(g.bytes, g.len, &g.image, &walk, &room, &batch, NULL, NULL) || batch.end != GM_NO_ROOM || batch.needed != 1)
+        DIE("exports with an array of no rows");
     gm_listed_export row;
     char name[9];
     room = (gm_export_room){name, sizeof name, NULL, 0, &row, 1, NULL, 0};
-    if (gm_exports(g.bytes, g.len, &g.image, &walk, &room, &batch, NULL, NULL) || batch.end != GM_NO_ROOM || batch.needed != 9) DIE("exports with no room for a name");
+    if (gm_exports(g.bytes, g.len, &g.image, &walk, &room, &batch, NULL, NULL) || batch.end != GM_NO_ROOM || batch.needed != 9)
+        DIE("exports with no room for a name");
     if (gm_open(g.bytes, g.len, 0, GM_STRICT, NULL, &g.image, NULL)) DIE("an image that opened");
     check_within(&g);
     free(bytes);
@@ -986,6 +996,8 @@ int main(int argc, char **argv) {
     }
     fclose(away);
     if (!strcmp(argv[1], "constants")) printf("%zu numbers have the names that they are to have\n", named_numbers);
-    if (!strcmp(argv[1], "check")) printf("%zu lists agree, %zu of trees; %zu exports as they are found, %zu of them brought, and %zu others of a name\n", tested, trees, alike, brought, others);
+    if (!strcmp(argv[1], "check"))
+        printf("%zu lists agree, %zu of trees; %zu exports as they are found, %zu of them brought, and %zu others of a name\n", tested, trees, alike, brought,
+               others);
     return 0;
 }
