@@ -644,9 +644,9 @@ static void constants_of_segments(const given *g) {
 static void constants_of_symbols(const given *g) {
     gm_symbol s;
     for (size_t i = 0; gm_symbols(OF, i, &s, 1); i++) {
+        if (s.n_type & GM_N_STAB) continue; /* (of a debugger's entries not all numbers have names) */
         has_name(gm_symbol_type_name(s.n_type), "symbol type", s.n_type);
-        bool of_section = !(s.n_type & GM_N_STAB) && (s.n_type & GM_N_TYPE) == GM_N_SECT;
-        if (of_section && s.section == GM_NO_SECT) DIE("symbol %zu of no section", i);
+        if ((s.n_type & GM_N_TYPE) == GM_N_SECT && s.section == GM_NO_SECT) DIE("symbol %zu of no section", i);
     }
 }
 
@@ -678,6 +678,17 @@ static void check_constants(const uint8_t *bytes, size_t len) {
     constants_of_segments(g);
     constants_of_symbols(g);
     constants_of_exports(g);
+}
+
+/* a line for each entry for a debugger: its type, and the type's name without N_, or the type again */
+static void print_debugger_entries(const given *g) {
+    gm_symbol s;
+    for (size_t i = 0; gm_symbols(OF, i, &s, 1); i++) {
+        if (!(s.n_type & GM_N_STAB)) continue;
+        const char *name = gm_symbol_type_name(s.n_type);
+        if (name) printf("%02x %s\n", s.n_type, name + strlen("N_"));
+        else printf("%02x %02x\n", s.n_type, s.n_type);
+    }
 }
 
 /* names of some numbers, and that others have none; and the version */
@@ -793,6 +804,7 @@ static void print(const char *what, const uint8_t *bytes, size_t len) {
     if (!strcmp(what, "constants")) { check_constants(bytes, len); return; }
     if (gm_open(bytes, len, 0, GM_STRICT, NULL, &g.image, &e)) { printf("refused: %s\n", e.text); return; }
     if (!strncmp(what, "find:", 5)) print_exports(&g, what + 5);
+    if (!strcmp(what, "debugger")) print_debugger_entries(&g);
     if (!strcmp(what, "exports") || !strcmp(what, "reexports")) {
         char *all = export_lines(&g, 1000, 1 << 16, !strcmp(what, "reexports"));
         fputs(all, stdout);
