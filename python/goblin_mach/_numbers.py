@@ -3,7 +3,7 @@
 The fields of items and images are plain `int`s, as the file says them, and a property beside each is the enum: `command.cmd` is 25, and
 `command.load_command` is `LoadCommand.SEGMENT_64`. So a list costs no look-up of a name that nobody asks for, what is printed, compared or pickled
 is a number in each version of Python, and a number that has no name is no fault. The property always answers an enum: of a number without a name
-one that is named after it, as `LoadCommand.UNKNOWN_0x99`, equal to the number, and kept nowhere, so that a file can't make the tables grow.
+one that is named after it, as `LoadCommand.UNKNOWN_0x99`, equal to the number, and not kept, so that a file can't make the tables grow.
 """
 
 from __future__ import annotations
