@@ -28,7 +28,7 @@ pub fn run<S: Shows, A: Allocator + Clone, W: Write + Drop, B: Allocator, E: Wri
 {
     match show_all(shows, alloc, bytes, out, err) {
         Ok(whole) => status(whole),
-        Err(_) => unwritten(shows.name(), err),
+        Err(_) => unwritten(shows.name(), "", err),
     }
 }
 
