@@ -4,7 +4,6 @@ use Rattle.std.specs.Prelude.{if◌then◌else◌}
 use Rattle.std.specs.Char.{encode_utf8}
 use Rattle.std.specs.Fmt.{decimal, digits, padded, padded_integral, format_spec}
 use Rattle.std.specs.Io.KnownBytes.{Appends}
-use Rattle.std.specs.List.{flat_map}
 use Rattle.std.specs.Borrow.{Bor}
 use Rattle.mach_base.specs.Fault.{Fault}
 use Rattle.mach_base.specs.declared.error.Error.{Error}
@@ -12,6 +11,7 @@ use Rattle.mach_symbols.specs.Symbols.{SymbolTable, begun_of, type_of}
 use Rattle.mach_symbols.specs.SymbolViews.{symbol_read}
 use Rattle.mach_image.specs.Subjects.{symbols_in}
 use Rattle.mach_symbols.specs.declared.symbols.nlist.Nlist.{Nlist}
+use Rattle.mach_show.specs.Lines.{AreLines}
 use Rattle.machsyms.specs.Letters.{is_local, symbol_letter}
 use Rattle.machsyms.specs.Stabs.{stab_name}
 use Rattle.mach_base.specs.Words.{words_of}
@@ -67,16 +67,8 @@ symbol_line is_64 sections (Ok found) = symbol_text is_64 sections found.0.now f
 symbol_line is_64 sections (Err e) = codes "unreadable: " ++ words_of e ++ codes "\n"
 
 -- The text is a line for each of these symbols, in order; an unreadable one is an error that reports its fault.
-pub record AreLines (is_64 : Bool) (sections : List ℕ) (symbols : List (Result (List ℕ × Nlist) Fault)) (text : List ℕ) : Type 0 where
-  pub answers : List (Result (Bor (List ℕ) × Nlist) Error)
-  pub are_symbols : map symbol_read answers ≡ symbols
-  pub is_text : text ≡ flat_map (symbol_line is_64 sections) answers
-
--- What was written is such lines.
-pub record WritesLines (is_64 : Bool) (sections : List ℕ) (symbols : List (Result (List ℕ × Nlist) Fault)) (old new : Option (List ℕ)) : Type 0 where
-  pub text : List ℕ
-  pub lines : AreLines is_64 sections symbols text
-  pub written : Appends old new text
+abbrev pub AreSymbolLines : (is_64 : Bool) → List ℕ → List (Result (List ℕ × Nlist) Fault) → List ℕ → Type 0
+AreSymbolLines is_64 sections symbols text = AreLines symbol_read (symbol_line is_64 sections) symbols text
 
 -- how many symbols of a table have no byte of their record within the bytes
 abbrev pub past_the_end : Option SymbolTable → ℕ
@@ -91,7 +83,7 @@ past_line n = if n == 0 then [] else decimal n ++ codes " more symbols past the 
 -- there are no others.
 pub record AreTableLines (is_64 : Bool) (sections : List ℕ) (table : Option SymbolTable) (text : List ℕ) (whole : Bool) : Type 0 where
   pub front : List ℕ
-  pub lines : AreLines is_64 sections (symbols_in (option_map begun_of table)) front
+  pub lines : AreSymbolLines is_64 sections (symbols_in (option_map begun_of table)) front
   pub is_text : text ≡ front ++ past_line (past_the_end table)
   pub is_whole : whole ≡ (past_the_end table == 0)
 
