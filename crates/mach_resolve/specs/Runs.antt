@@ -1,18 +1,19 @@
 -- What a run of the program writes, and its status.
-use Rattle.std.specs.Prelude.{◌≡◌, ℕ, Bool, List, Option, if◌then◌else◌}
+use Rattle.std.specs.Prelude.{◌≡◌, ◌≤◌, ℕ, Bool, List, Option, if◌then◌else◌}
 use Rattle.std.specs.Io.KnownBytes.{Appends}
 use Rattle.mach_resolve.specs.Given.{Given}
 use Rattle.mach_resolve.specs.Lines.{printed, said}
-use Rattle.mach_resolve.specs.Report.{Report, IsReport, all_whole}
+use Rattle.mach_resolve.specs.Report.{Report, IsReport, answers_in, all_whole}
 
 -- the exit status: 0 where all is answered and settled and nothing is refused, else 1
 abbrev pub status_by : Bool → ℕ
 status_by whole = if whole then 0 else 1
 
--- what is told of a program was written on the two outputs, and this is the status
+-- what is told of a program was written on the two outputs, and this is the status; at most `limit` bindings are answered
 pub record Runs (wanted : Option ℕ) (limit : ℕ) (program : Given) (libraries : List Given) (status : ℕ) (out_old out_new err_old err_new : Option (List ℕ)) : Type 0 where
   pub report : Report
   pub is_report : IsReport limit program libraries wanted report
+  pub few : answers_in report ≤ limit
   pub status_is : status ≡ status_by (all_whole report)
-  pub text : Appends out_old out_new (printed report)
+  pub text : Appends out_old out_new (printed limit report)
   pub told : Appends err_old err_new (said report)
