@@ -2,6 +2,7 @@
 use Rattle.std.proofs.Common.{◌≡◌, ◌∙◌, ◌≤◌, ◌+◌, ◌-◌, ◌++◌, ◌∷◌, [], ℕ, List, Option, Ok, length, take, ap, subst, arith}
 use Rattle.std.specs.Prelude.{sum_by}
 use Rattle.std.proofs.lemmas.List.{length-map, length-take}
+use Rattle.std.proofs.lemmas.List.Sums.{sum_by-cons}
 use Rattle.std.proofs.lemmas.Slice.Zip.{AllZip-long}
 use Rattle.mach_headers.specs.declared.fat.FatArch.{FatArch}
 use Rattle.mach_segments.specs.Bindings.{Binding}
@@ -26,7 +27,7 @@ entries_few limit p ls [] [] all = omega arith
 entries_few limit p ls [] (o ∷ os) all = absurd all
 entries_few limit p ls (arch ∷ arches) [] all = absurd all
 entries_few limit p ls (arch ∷ arches) (o ∷ os) all =
-    omega (arith, entry_few limit (entry_of p arch) ls o all.0, entries_few (limit - answer_count o) p ls arches os all.1)
+    omega (arith, sum_by-cons answer_count o os, entry_few limit (entry_of p arch) ls o all.0, entries_few (limit - answer_count o) p ls arches os all.1)
 
 -- of what is told of a program at most as many as the limit
 pub report_few : (limit : ℕ) (p : Given) (ls : List Given) (wanted : Option ℕ) (r : Report) → IsReport limit p ls wanted r → answers_in r ≤ limit
@@ -47,4 +48,4 @@ outcomes_push limit p ls [] [] arch o all is = (subst (λ (n : ℕ). IsEntryOutc
 outcomes_push limit p ls [] (x ∷ os) arch o all is = absurd all
 outcomes_push limit p ls (a ∷ arches) [] arch o all is = absurd all
 outcomes_push limit p ls (a ∷ arches) (x ∷ os) arch o all is =
-    (all.0, outcomes_push (limit - answer_count x) p ls arches os arch o all.1 (subst (λ (n : ℕ). IsEntryOutcome n (entry_of p arch) ls o) (omega arith) is))
+    (all.0, outcomes_push (limit - answer_count x) p ls arches os arch o all.1 (subst (λ (n : ℕ). IsEntryOutcome n (entry_of p arch) ls o) (omega (arith, sum_by-cons answer_count x os)) is))
