@@ -1,18 +1,17 @@
-// example FILE: the defined symbols of an image, sorted by address, with C++20 ranges over the C interface.
+// example FILE: the defined symbols of an image, sorted by address. It is C++11, and C++17 and C++20 as well.
 #include "goblin_mach.h"
 #include <algorithm>
 #include <array>
+#include <cinttypes>
 #include <cstdio>
 #include <fstream>
 #include <iterator>
-#include <ranges>
-#include <span>
-#include <string_view>
+#include <stdexcept>
+#include <string>
+#include <utility>
 #include <vector>
 
 namespace {
-
-using bytes_view = std::span<const uint8_t>;
 
 // All rows of a list, asked for in batches.
 template <typename Row, typename Call>
@@ -24,9 +23,13 @@ std::vector<Row> rows(Call call) {
     return all;
 }
 
-struct macho {
-    bytes_view bytes;
-    gm_image image;
+// An image, with the bytes that it goes with.
+class macho {
+public:
+    explicit macho(std::vector<uint8_t> held) : bytes(std::move(held)) {
+        gm_error error;
+        if (gm_open(bytes.data(), bytes.size(), 0, GM_LOSSY, nullptr, &image, &error)) throw std::runtime_error(error.text);
+    }
 
     std::vector<gm_symbol> symbols() const {
         return rows<gm_symbol>([this](size_t first, gm_symbol *out, size_t cap) {
@@ -34,9 +37,13 @@ struct macho {
         });
     }
 
-    std::string_view name(const gm_symbol &s) const {
-        return {reinterpret_cast<const char *>(bytes.data()) + s.name, s.name_len};
+    std::string name(const gm_symbol &s) const {
+        return std::string(reinterpret_cast<const char *>(bytes.data()) + s.name, s.name_len);
     }
+
+private:
+    std::vector<uint8_t> bytes;
+    gm_image image;
 };
 
 } // namespace
@@ -44,16 +51,16 @@ struct macho {
 int main(int argc, char **argv) {
     if (argc != 2) return 2;
     std::ifstream file(argv[1], std::ios::binary);
-    std::vector<uint8_t> held{std::istreambuf_iterator<char>(file), {}};
-    macho m{held, {}};
-    gm_error error;
-    if (gm_open(held.data(), held.size(), 0, GM_LOSSY, nullptr, &m.image, &error)) {
-        std::fprintf(stderr, "%s\n", error.text);
+    std::vector<uint8_t> bytes{std::istreambuf_iterator<char>(file), std::istreambuf_iterator<char>()};
+    try {
+        const macho m(std::move(bytes));
+        std::vector<gm_symbol> symbols = m.symbols();
+        std::sort(symbols.begin(), symbols.end(), [](const gm_symbol &a, const gm_symbol &b) { return a.value < b.value; });
+        for (const gm_symbol &s : symbols)
+            if (s.code == GM_OK && s.section != GM_NO_SECT) std::printf("%016" PRIx64 " %s\n", s.value, m.name(s).c_str());
+    } catch (const std::exception &why) {
+        std::fprintf(stderr, "%s\n", why.what());
         return 1;
     }
-    auto symbols = m.symbols();
-    std::ranges::sort(symbols, {}, &gm_symbol::value);
-    for (const auto &s : symbols | std::views::filter([](const gm_symbol &s) { return s.code == GM_OK && s.section != 0; }))
-        std::printf("%016llx %.*s\n", static_cast<unsigned long long>(s.value), static_cast<int>(s.name_len), m.name(s).data());
     return 0;
 }

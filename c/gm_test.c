@@ -2,6 +2,7 @@
    gm_test check FILE.. tests each file and each of its prefixes: batches of 1, 2, 7 and all give the same rows, the rest of an
    array stays, memory may be refused at any request, an arena serves without malloc, NULL serves with length 0.
    gm_test deep LEVELS goes over a trie of so many levels in buffers that grow.
+   gm_test constants FILE.. tests that constants and names of the header say what the calls answer of each file.
    gm_test damage COUNT FILE.. hands in COUNT images of made-up numbers, by a fixed seed. */
 #define _GNU_SOURCE
 #include "goblin_mach.h"
@@ -105,7 +106,8 @@ static void dylib(FILE *to, const given *g, uint64_t ordinal) {
 BEHIND(imports, gm_import, gm_bind_cursor)
 LIST(imports, gm_import, imports(g, first, rows, cap),
      fprintf(to, "%u %" PRIu64 " %" PRIx64 " %" PRId64 " %" PRIx64 " %zu %u %u 0x%" PRIx64 " ", r->code, r->library, r->offset, r->addend,
-             r->start_of_sequence_offset, r->size, r->is_weak, r->is_lazy, r->address); dylib(to, g, r->library); fputc(' ', to); text(to, g, r->name, r->name_len))
+             r->start_of_sequence_offset, r->size, r->is_weak, r->is_lazy, r->address);
+     dylib(to, g, r->library); fputc(' ', to); text(to, g, r->name, r->name_len))
 BEHIND(bindings, gm_binding, gm_binding_cursor)
 LIST(bindings, gm_binding, bindings(g, first, rows, cap),
      fprintf(to, "%u %u %" PRIu64 " %" PRIx64 " %" PRId64 " %u %u 0x%" PRIx64 " ", r->code, r->provider, r->library, r->offset, r->addend, r->is_weak,
@@ -155,7 +157,8 @@ typedef struct {
 #define ONE(name, row) {#name, sizeof(row), rows_##name, line_##name}
 static const list lists[] = {ONE(commands, gm_command), ONE(segments, gm_segment), ONE(symbols, gm_symbol), ONE(libraries, gm_library),
                              ONE(run_paths, gm_run_path), ONE(fixups, gm_fixup), ONE(imports, gm_import), ONE(bindings, gm_binding), ONE(entries, gm_fat_entry),
-                             ONE(sections, gm_section), ONE(relocations, gm_relocation), ONE(layout, gm_layout_fault), ONE(table, gm_layout_fault), ONE(ids, gm_id)};
+                             ONE(sections, gm_section), ONE(relocations, gm_relocation), ONE(layout, gm_layout_fault),
+                              ONE(table, gm_layout_fault), ONE(ids, gm_id)};
 enum { LISTS = sizeof lists / sizeof *lists, LIMIT = 400 };
 
 static const list *named(const char *name) {
@@ -479,7 +482,8 @@ static void exports_by_memory(const given *g) {
         uint32_t code = export_batch(g, &walk, &r, &b, &m);
         if (c.held) DIE("a block was kept");
         if (code != GM_NO_MEMORY) break;
-        if (b.count || memcmp(&walk, &before, sizeof walk) || memcmp(name, r.name, 64) || memcmp(stack, r.stack, sizeof stack)) DIE("a refusal changed the walk");
+        if (b.count || memcmp(&walk, &before, sizeof walk) || memcmp(name, r.name, 64) || memcmp(stack, r.stack, sizeof stack))
+            DIE("a refusal changed the walk");
     }
     give_room(&r);
 }
@@ -513,7 +517,8 @@ static void check_deep(size_t levels) {
         for (size_t i = 0; i < b.count; i++, n++) {
             const gm_listed_export *x = r.out + i;
             bool last = n == 0; /* the deepest comes first, and then the others from below */
-            if (x->name_len != (last ? levels : levels - n + 1) || r.names[x->name + x->name_len - 1] != (last ? 'a' : 'b')) DIE("export %zu of a deep trie", n);
+            if (x->name_len != (last ? levels : levels - n + 1) || r.names[x->name + x->name_len - 1] != (last ? 'a' : 'b'))
+                DIE("export %zu of a deep trie", n);
         }
         b.needed *= 2;
         if (b.end != GM_MORE && b.end != GM_END) give_more(&r, &b);
@@ -578,6 +583,138 @@ static void check(const uint8_t *bytes, size_t len) {
         finds(&g, "a", 1);
         finds(&g, "\xff", 1);
     }
+}
+
+/* ---- constants and names: what the calls answer of a file is what they say */
+
+#if GM_MH_MAGIC_64 != 0xfeedfacf || GM_N_EXT != 1 || GM_EXPORT_SYMBOL_FLAGS_REEXPORT != 8 || GM_VERSION_NUMBER < 2000
+#error "a constant that the preprocessor reads otherwise"
+#endif
+
+static size_t named_numbers;
+static void has_name(const char *name, const char *of, uint32_t number) {
+    if (!name) DIE("%s 0x%x has no name", of, number);
+    named_numbers++;
+}
+
+/* the kind of the library that a command brings in, or -1 */
+static int kind_of(uint32_t cmd) {
+    switch (cmd) {
+    case GM_LC_LOAD_DYLIB: return GM_REQUIRED;
+    case GM_LC_LOAD_WEAK_DYLIB: return GM_WEAK;
+    case GM_LC_REEXPORT_DYLIB: return GM_REEXPORT;
+    case GM_LC_LOAD_UPWARD_DYLIB: return GM_UPWARD;
+    case GM_LC_LAZY_LOAD_DYLIB: return GM_LAZY;
+    default: return -1;
+    }
+}
+
+static void constants_of_commands(const given *g) {
+    size_t segments = 0, libraries = 0, run_paths = 0;
+    gm_command c;
+    gm_library l;
+    for (size_t i = 0; gm_commands(OF, i, &c, 1); i++) {
+        has_name(gm_command_name(c.cmd), "command", c.cmd);
+        segments += c.cmd == (g->image.is_64 ? GM_LC_SEGMENT_64 : GM_LC_SEGMENT);
+        run_paths += c.cmd == GM_LC_RPATH;
+        int kind = kind_of(c.cmd);
+        if (kind >= 0 && (gm_libraries(OF, libraries++, &l, 1) != 1 || l.kind != (uint32_t)kind)) DIE("command %zu isn't of library %zu", i, libraries);
+    }
+    if (segments != g->image.segments || libraries != g->image.libraries || run_paths != g->image.run_paths) DIE("commands of other numbers than the lists");
+}
+
+static void constants_of_segments(const given *g) {
+    const uint32_t rights = GM_VM_PROT_READ | GM_VM_PROT_WRITE | GM_VM_PROT_EXECUTE;
+    gm_segment segment;
+    gm_section section;
+    gm_relocation relocation;
+    for (size_t i = 0; gm_segments(OF, i, &segment, 1); i++) {
+        if ((segment.maxprot | segment.initprot) & ~rights || segment.flags > (GM_SG_READ_ONLY << 1) - 1) DIE("segment %zu has bits of no name", i);
+        for (size_t k = 0; gm_sections(OF, segment.command, segment.sections, k, &section, 1); k++) {
+            uint32_t type = section.flags & GM_SECTION_TYPE;
+            if (type > GM_S_INIT_FUNC_OFFSETS) DIE("section %zu has a type of no name", k);
+            bool is_zeros = type == GM_S_ZEROFILL || type == GM_S_GB_ZEROFILL || type == GM_S_THREAD_LOCAL_ZEROFILL;
+            if (is_zeros && section.data_len) DIE("zeros of section %zu in the file", k);
+            for (size_t n = 0; gm_relocations(OF, section.reloff, section.nreloc, n, &relocation, 1); n++)
+                has_name(gm_relocation_name(g->image.cputype, relocation.info >> 28), "relocation", relocation.info);
+        }
+    }
+}
+
+static void constants_of_symbols(const given *g) {
+    gm_symbol s;
+    for (size_t i = 0; gm_symbols(OF, i, &s, 1); i++) {
+        if (s.n_type & GM_N_STAB) continue; /* (of a debugger's entries not all numbers have names) */
+        has_name(gm_symbol_type_name(s.n_type), "symbol type", s.n_type);
+        if ((s.n_type & GM_N_TYPE) == GM_N_SECT && s.section == GM_NO_SECT) DIE("symbol %zu of no section", i);
+    }
+}
+
+static void constants_of_exports(const given *g) {
+    gm_export_walk walk = {0};
+    gm_export_room r = room_of(4096, LIMIT);
+    gm_export_batch b;
+    if (!export_batch(g, &walk, &r, &b, NULL) && b.end != GM_END) DIE("exports that don't fit");
+    for (size_t i = 0; i < b.count; i++, named_numbers++) {
+        const gm_export *x = &r.out[i].what;
+        uint32_t kind = GM_ADDRESS;
+        if (x->flags & GM_EXPORT_SYMBOL_FLAGS_REEXPORT) kind = GM_REEXPORTED;
+        else if (x->flags & GM_EXPORT_SYMBOL_FLAGS_STUB_AND_RESOLVER) kind = GM_STUB;
+        if (x->kind != kind) DIE("export %zu is of kind %u by its flags", i, kind);
+    }
+    give_room(&r);
+}
+
+static void check_constants(const uint8_t *bytes, size_t len) {
+    given held = {.bytes = bytes, .len = len}, *g = &held;
+    gm_error e;
+    if (gm_open(bytes, len, 0, GM_STRICT, NULL, &g->image, &e)) DIE("%s", e.text);
+    const gm_image *image = &g->image;
+    if (image->magic != (image->is_64 ? GM_MH_MAGIC_64 : GM_MH_MAGIC)) DIE("magic 0x%x", image->magic);
+    has_name(gm_cpu_name(image->cputype, image->cpusubtype), "cpu", image->cputype);
+    has_name(gm_file_type_name(image->filetype), "file type", image->filetype);
+    for (uint32_t flags = image->flags; flags; flags &= flags - 1) has_name(gm_header_flag_name(flags & ~(flags - 1)), "flag of", flags);
+    constants_of_commands(g);
+    constants_of_segments(g);
+    constants_of_symbols(g);
+    constants_of_exports(g);
+}
+
+/* a line for each entry for a debugger: its type, and the type's name without N_, or the type again */
+static void print_debugger_entries(const given *g) {
+    gm_symbol s;
+    for (size_t i = 0; gm_symbols(OF, i, &s, 1); i++) {
+        if (!(s.n_type & GM_N_STAB)) continue;
+        const char *name = gm_symbol_type_name(s.n_type);
+        if (name) printf("%02x %s\n", s.n_type, name + strlen("N_"));
+        else printf("%02x %02x\n", s.n_type, s.n_type);
+    }
+}
+
+/* names of some numbers, and that others have none; and the version */
+static void check_names(void) {
+    const struct { const char *found, *wanted; } rows[] = {
+        {gm_code_name(GM_OK), "ok"}, {gm_code_name(GM_NO_ROWS), "no rows"}, {gm_code_name(GM_NO_ROWS + 1), NULL}, {gm_code_name(UINT32_MAX), NULL},
+        {gm_cpu_name(GM_CPU_TYPE_ARM64, GM_CPU_SUBTYPE_ARM64E | UINT32_C(0x80000000)), "arm64e"}, {gm_cpu_name(GM_CPU_TYPE_ARM64, 1), NULL},
+        {gm_cpu_name(GM_CPU_TYPE_X86_64, GM_CPU_SUBTYPE_X86_64_H), "x86_64h"}, {gm_cpu_name(GM_CPU_TYPE_ARM, GM_CPU_SUBTYPE_ARM_V7S), "armv7s"},
+        {gm_cpu_name(GM_CPU_TYPE_POWERPC64, 0), "ppc64"}, {gm_cpu_name(GM_CPU_ARCH_ABI64, 0), NULL}, {gm_cpu_name(0, 0), NULL},
+        {gm_file_type_name(GM_MH_EXECUTE), "EXECUTE"}, {gm_file_type_name(0), NULL}, {gm_file_type_name(GM_MH_GPU_DYLIB + 1), NULL},
+        {gm_header_flag_name(GM_MH_PIE), "MH_PIE"}, {gm_header_flag_name(GM_MH_DYLIB_IN_CACHE), "MH_DYLIB_IN_CACHE"}, {gm_header_flag_name(3), NULL},
+        {gm_command_name(GM_LC_MAIN), "LC_MAIN"}, {gm_command_name(GM_LC_REQ_DYLD), NULL}, {gm_command_name(GM_LC_MAIN ^ GM_LC_REQ_DYLD), NULL},
+        {gm_symbol_type_name(GM_N_SECT | GM_N_EXT), "N_SECT"}, {gm_symbol_type_name(GM_N_FUN), "N_FUN"}, {gm_symbol_type_name(GM_N_EXT), "N_UNDF"},
+        {gm_symbol_type_name(4), NULL}, {gm_symbol_type_name(0x21), NULL},
+        {gm_relocation_name(GM_CPU_TYPE_ARM64_32, GM_ARM64_RELOC_ADDEND), "ARM64_RELOC_ADDEND"},
+        {gm_relocation_name(GM_CPU_TYPE_X86, GM_GENERIC_RELOC_VANILLA), "GENERIC_RELOC_VANILLA"},
+        {gm_relocation_name(GM_CPU_TYPE_X86_64, 10), NULL}, {gm_relocation_name(GM_CPU_TYPE_POWERPC, 0), NULL},
+        {gm_platform_name(GM_PLATFORM_MACOS), "MACOS"}, {gm_platform_name(0), NULL}, {gm_platform_name(GM_PLATFORM_VISIONOSSIMULATOR + 1), NULL}};
+    for (size_t n = 0; n < sizeof rows / sizeof *rows; n++) {
+        const char *found = rows[n].found ? rows[n].found : "(none)", *wanted = rows[n].wanted ? rows[n].wanted : "(none)";
+        if (strcmp(found, wanted)) DIE("name %zu is '%s', and not '%s'", n, found, wanted);
+    }
+    char text[32];
+    snprintf(text, sizeof text, "%d.%d.%d", GM_VERSION_MAJOR, GM_VERSION_MINOR, GM_VERSION_PATCH);
+    if (strcmp(gm_version(), GM_VERSION_TEXT) || strcmp(text, GM_VERSION_TEXT)) DIE("versions %s, %s and %s", text, GM_VERSION_TEXT, gm_version());
+    if (gm_version_number() != GM_VERSION_NUMBER || !GM_VERSION_FITS()) DIE("versions %u and %u", GM_VERSION_NUMBER, gm_version_number());
 }
 
 static uint64_t seed = 88172645463325252u;
@@ -664,8 +801,10 @@ static void print_list(const list *l, const given *g) {
 static void print(const char *what, const uint8_t *bytes, size_t len) {
     given g = {.bytes = bytes, .len = len};
     gm_error e;
+    if (!strcmp(what, "constants")) { check_constants(bytes, len); return; }
     if (gm_open(bytes, len, 0, GM_STRICT, NULL, &g.image, &e)) { printf("refused: %s\n", e.text); return; }
     if (!strncmp(what, "find:", 5)) print_exports(&g, what + 5);
+    if (!strcmp(what, "debugger")) print_debugger_entries(&g);
     if (!strcmp(what, "exports") || !strcmp(what, "reexports")) {
         char *all = export_lines(&g, 1000, 1 << 16, !strcmp(what, "reexports"));
         fputs(all, stdout);
@@ -743,7 +882,8 @@ static uint8_t *image_of_symbols(const uint8_t *rest, size_t len, uint32_t nsyms
 
 /* what is told of a symbol whose name is no text, or is past the end */
 static void check_symbols(void) {
-    static const struct { uint8_t strx, code; size_t at, len; } rows[] = {{1, GM_OK, 1, 2}, {4, GM_SHORT, 4, 3}, {6, GM_SHORT, 6, 1}, {8, GM_OK, 8, 1}, {9, GM_SHORT, 0, 0}};
+    static const struct { uint8_t strx, code; size_t at, len; } rows[] = {
+        {1, GM_OK, 1, 2}, {4, GM_SHORT, 4, 3}, {6, GM_SHORT, 6, 1}, {8, GM_OK, 8, 1}, {9, GM_SHORT, 0, 0}};
     enum { SYMBOLS = sizeof rows / sizeof *rows, NAMES = 56 + 16 * SYMBOLS };
     static const uint8_t names[] = {0, '_', 'a', 0, 'b', 'c', 0xff, 0, 'd'};
     uint8_t rest[16 * SYMBOLS + sizeof names] = {0};
@@ -758,7 +898,8 @@ static void check_symbols(void) {
     for (size_t k = 0; k < SYMBOLS; k++) {
         if (s[k].value != (UINT64_C(0x80) << 56 | k) || s[k].section != 7 || s[k].n_type != 0xf || s[k].desc != 0x1234) DIE("symbol %zu lost its record", k);
         size_t at = rows[k].at ? NAMES + rows[k].at : 0;
-        if (s[k].code != rows[k].code || s[k].name != at || s[k].name_len != rows[k].len) DIE("symbol %zu: code %u, name %zu %zu", k, s[k].code, s[k].name, s[k].name_len);
+        if (s[k].code != rows[k].code || s[k].name != at || s[k].name_len != rows[k].len)
+            DIE("symbol %zu: code %u, name %zu %zu", k, s[k].code, s[k].name, s[k].name_len);
     }
     free(bytes);
 }
@@ -803,28 +944,32 @@ static void check_edges(void) {
     gm_bind_cursor i = {0};
     gm_binding_cursor b = {0};
     size_t count = 5;
-    const uint32_t codes[] = {gm_fixups(g.bytes, g.len, &g.image, &f, NULL, 0, &count, NULL, &e), gm_imports(g.bytes, g.len, &g.image, &i, NULL, 0, &count, NULL, &e),
-                              gm_bindings(g.bytes, g.len, &g.image, &b, NULL, 0, &count, NULL, NULL), gm_layout_faults(g.bytes, g.len, &g.image, 0, NULL, 0, &count, NULL, &e),
+    const uint32_t codes[] = {gm_fixups(g.bytes, g.len, &g.image, &f, NULL, 0, &count, NULL, &e),
+                              gm_imports(g.bytes, g.len, &g.image, &i, NULL, 0, &count, NULL, &e),
+                              gm_bindings(g.bytes, g.len, &g.image, &b, NULL, 0, &count, NULL, NULL),
+                              gm_layout_faults(g.bytes, g.len, &g.image, 0, NULL, 0, &count, NULL, &e),
                               gm_container_faults(g.bytes, g.len, 0, NULL, 0, &count, NULL, NULL)};
     for (size_t n = 0; n < sizeof codes / sizeof *codes; n++)
         if (codes[n] != GM_NO_ROWS || count != 5) DIE("call %zu with an array of no rows: %u", n, codes[n]);
     gm_export_walk walk = {0};
     gm_export_room room = {NULL, 0, NULL, 0, NULL, 0, NULL, 0};
     gm_export_batch batch;
-    if (gm_exports(g.bytes, g.len, &g.image, &walk, &room, &batch, NULL, NULL) || batch.end != GM_NO_ROOM || batch.needed != 1) DIE("exports with an array of no rows");
+    if (gm_exports(g.bytes, g.len, &g.image, &walk, &room, &batch, NULL, NULL) || batch.end != GM_NO_ROOM || batch.needed != 1)
+        DIE("exports with an array of no rows");
     gm_listed_export row;
     char name[9];
     room = (gm_export_room){name, sizeof name, NULL, 0, &row, 1, NULL, 0};
-    if (gm_exports(g.bytes, g.len, &g.image, &walk, &room, &batch, NULL, NULL) || batch.end != GM_NO_ROOM || batch.needed != 9) DIE("exports with no room for a name");
+    if (gm_exports(g.bytes, g.len, &g.image, &walk, &room, &batch, NULL, NULL) || batch.end != GM_NO_ROOM || batch.needed != 9)
+        DIE("exports with no room for a name");
     if (gm_open(g.bytes, g.len, 0, GM_STRICT, NULL, &g.image, NULL)) DIE("an image that opened");
     check_within(&g);
     free(bytes);
 }
 
 int main(int argc, char **argv) {
-    if (gm_version() != GM_VERSION) DIE("the header is of version %d and the library of %u", GM_VERSION, gm_version());
+    check_names();
     if (argc == 2 && !strcmp(argv[1], "names")) return print_names();
-    if (argc < 3) DIE("usage: gm_test names, gm_test WHAT FILE, gm_test check FILE.., gm_test damage COUNT FILE.., gm_test deep LEVELS");
+    if (argc < 3) DIE("usage: gm_test names, gm_test WHAT FILE, gm_test check|constants FILE.., gm_test damage COUNT FILE.., gm_test deep LEVELS");
     of_damage = !strcmp(argv[1], "damage");
     away = fopen("/dev/null", "w");
     if (!away) DIE("/dev/null can't be opened");
@@ -862,6 +1007,9 @@ int main(int argc, char **argv) {
         free(bytes);
     }
     fclose(away);
-    if (!strcmp(argv[1], "check")) printf("%zu lists agree, %zu of trees; %zu exports as they are found, %zu of them brought, and %zu others of a name\n", tested, trees, alike, brought, others);
+    if (!strcmp(argv[1], "constants")) printf("%zu numbers have the names that they are to have\n", named_numbers);
+    if (!strcmp(argv[1], "check"))
+        printf("%zu lists agree, %zu of trees; %zu exports as they are found, %zu of them brought, and %zu others of a name\n", tested, trees, alike, brought,
+               others);
     return 0;
 }

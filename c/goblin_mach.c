@@ -68,8 +68,10 @@ gm_memory gm_arena_memory(gm_arena *arena) { return (gm_memory){arena, arena_tak
     return code; \
 }
 
+/* the version is the header's, where the library has the interface that this file calls */
 uint32_t gmr_version(void);
-uint32_t gm_version(void) { return gmr_version(); }
+const char *gm_version(void) { return GM_VERSION_TEXT; }
+uint32_t gm_version_number(void) { return gmr_version() == 1 ? GM_VERSION_NUMBER : 0; }
 
 uint32_t gmr_open(const uint8_t *, size_t, size_t, uint32_t, gm_image *, gm_error *);
 uint32_t gm_open(const uint8_t *bytes, size_t len, size_t offset, uint32_t mode, const gm_memory *memory, gm_image *image, gm_error *error)
@@ -135,7 +137,57 @@ uint32_t gm_container_faults(const uint8_t *bytes, size_t len, size_t first, gm_
                              const gm_memory *memory, gm_error *error)
     WITH_MEMORY(gmr_container_faults(BYTES, len, first, AT(out), cap, count, TOLD))
 
+/* ---- names */
+
+#include "names.h"
+
 #define WORDS(name, words) words,
 static const char *const rules[] = {"none", GM_LAYOUT_RULES(WORDS)}, *const parts[] = {"none", GM_LAYOUT_PARTS(WORDS)};
 const char *gm_layout_rule(uint32_t rule) { return rules[rule < sizeof rules / sizeof *rules ? rule : 0]; }
 const char *gm_layout_part(uint32_t part) { return parts[part < sizeof parts / sizeof *parts ? part : 0]; }
+
+const char *gm_code_name(uint32_t code) {
+    static const char *const names[] = {"ok", "malformed", "bad magic", "out of the bytes, or no text", "too many", "out of memory", "no rows"};
+    return code < sizeof names / sizeof *names ? names[code] : NULL;
+}
+
+const char *gm_symbol_type_name(uint8_t n_type) {
+    return n_type & GM_N_STAB ? debugger_entry_name(n_type) : symbol_type_name(n_type & GM_N_TYPE);
+}
+
+const char *gm_relocation_name(uint32_t cputype, uint32_t type) {
+    switch (cputype) {
+    case GM_CPU_TYPE_ARM64: case GM_CPU_TYPE_ARM64_32: return arm64_name(type);
+    case GM_CPU_TYPE_X86_64: return x86_64_name(type);
+    case GM_CPU_TYPE_ARM: return arm_name(type);
+    case GM_CPU_TYPE_X86: return x86_name(type);
+    default: return NULL;
+    }
+}
+
+/* the cpus that MachOObjectFile::getArchTriple of LLVM knows, by the names that it gives them (ArchFlag) */
+const char *gm_cpu_name(uint32_t cputype, uint32_t cpusubtype) {
+    static const struct { uint32_t cputype, cpusubtype; const char *name; } cpus[] = {
+        {GM_CPU_TYPE_X86, GM_CPU_SUBTYPE_I386_ALL, "i386"},
+        {GM_CPU_TYPE_X86_64, GM_CPU_SUBTYPE_X86_64_ALL, "x86_64"},
+        {GM_CPU_TYPE_X86_64, GM_CPU_SUBTYPE_X86_64_H, "x86_64h"},
+        {GM_CPU_TYPE_ARM, GM_CPU_SUBTYPE_ARM_V4T, "armv4t"},
+        {GM_CPU_TYPE_ARM, GM_CPU_SUBTYPE_ARM_V5TEJ, "armv5e"},
+        {GM_CPU_TYPE_ARM, GM_CPU_SUBTYPE_ARM_XSCALE, "xscale"},
+        {GM_CPU_TYPE_ARM, GM_CPU_SUBTYPE_ARM_V6, "armv6"},
+        {GM_CPU_TYPE_ARM, GM_CPU_SUBTYPE_ARM_V6M, "armv6m"},
+        {GM_CPU_TYPE_ARM, GM_CPU_SUBTYPE_ARM_V7, "armv7"},
+        {GM_CPU_TYPE_ARM, GM_CPU_SUBTYPE_ARM_V7EM, "armv7em"},
+        {GM_CPU_TYPE_ARM, GM_CPU_SUBTYPE_ARM_V7K, "armv7k"},
+        {GM_CPU_TYPE_ARM, GM_CPU_SUBTYPE_ARM_V7M, "armv7m"},
+        {GM_CPU_TYPE_ARM, GM_CPU_SUBTYPE_ARM_V7S, "armv7s"},
+        {GM_CPU_TYPE_ARM64, GM_CPU_SUBTYPE_ARM64_ALL, "arm64"},
+        {GM_CPU_TYPE_ARM64, GM_CPU_SUBTYPE_ARM64E, "arm64e"},
+        {GM_CPU_TYPE_ARM64_32, GM_CPU_SUBTYPE_ARM64_32_V8, "arm64_32"},
+        {GM_CPU_TYPE_POWERPC, GM_CPU_SUBTYPE_POWERPC_ALL, "ppc"},
+        {GM_CPU_TYPE_POWERPC64, GM_CPU_SUBTYPE_POWERPC_ALL, "ppc64"},
+    };
+    for (size_t i = 0; i < sizeof cpus / sizeof *cpus; i++)
+        if (cpus[i].cputype == cputype && cpus[i].cpusubtype == (cpusubtype & ~GM_CPU_SUBTYPE_MASK)) return cpus[i].name;
+    return NULL;
+}

@@ -1,10 +1,11 @@
 #!/usr/bin/env python3
-"""many_rows.py FOLDER: writes an image with 1,000 symbols, imports and exports into FOLDER/many, and the lines that the examples of docs/C.md
-print of it into FOLDER/symbols, imports, exports, faults and memory."""
+"""many_rows.py FOLDER: writes an image with 1,000 symbols, imports and exports and 200 sections into FOLDER/many, and the lines that the examples of
+docs/C.md print of it into FOLDER/symbols, commands, sections, imports, bindings, exports, faults and memory."""
 import struct
 import sys
 
 COUNT = 1000
+SEGMENTS, SECTIONS = 10, 20  # so many segments with so many sections each, of four bytes each
 
 
 def uleb(number):
@@ -23,29 +24,60 @@ def trie():
     return out + b"".join(b"\x04\0" + uleb(k) + b"\0" for k in range(COUNT))
 
 
+def address(segment, section):
+    return 0x100000 + 0x1000 * segment + 4 * section
+
+
+def data_of(segment, section):
+    return bytes([segment, section, 1, 0])
+
+
+def sections_at(place):
+    """The commands of segments whose data stand one behind the other from a place on."""
+    out = b""
+    for a in range(SEGMENTS):
+        name, begin = b"__S%d" % a, place + 4 * SECTIONS * a
+        out += struct.pack("<II16s4Q4I", 0x19, 72 + 80 * SECTIONS, name, address(a, 0), 0x1000, begin, 4 * SECTIONS, 3, 3, SECTIONS, 0)
+        for b in range(SECTIONS):
+            out += struct.pack("<16s16s2Q8I", b"__s%02d" % b, name, address(a, b), 4, begin + 4 * b, 2, 0, 0, 0, 0, 0, 0)
+    return out
+
+
 def image():
+    """The image, and where its commands stand, each with its name."""
     names = b"\0" + b"".join(b"_s%03d\0" % k for k in range(COUNT))
-    symbols = b"".join(struct.pack("<IBBHQ", 1 + 6 * k, 0xF, 9, 0, k) for k in range(COUNT))
+    symbols = b"".join(struct.pack("<IBBHQ", 1 + 6 * k, 0xF, 255, 0, k) for k in range(COUNT))
     binds = b"\x11\x51\x70\0" + b"".join(b"\x40_i%03d\0\x90" % k for k in range(COUNT)) + b"\0"
     exports = trie()
-    at = 32 + 32 + 72 + 24 + 48
-    places = [at, at + len(symbols), at + len(symbols) + len(names), at + len(symbols) + len(names) + len(binds)]
+    data = b"".join(data_of(a, b) for a in range(SEGMENTS) for b in range(SECTIONS))
+    sizes = [("LC_LOAD_DYLIB", 32), ("LC_SEGMENT_64", 72), ("LC_SYMTAB", 24), ("LC_DYLD_INFO_ONLY", 48)] + [("LC_SEGMENT_64", 72 + 80 * SECTIONS)] * SEGMENTS
+    commands, at = [], 32
+    for name, size in sizes:
+        commands.append((at, name))
+        at += size
+    places = [at]
+    for part in (symbols, names, binds, exports):
+        places.append(places[-1] + len(part))
     library = struct.pack("<6I", 0xC, 32, 24, 0, 0, 0) + b"/l".ljust(8, b"\0")
     segment = struct.pack("<II16s4Q4I", 0x19, 72, b"__DATA", 0x1000, 8 * COUNT, 0, 0, 3, 3, 0, 0)
     table = struct.pack("<6I", 2, 24, places[0], COUNT, places[1], len(names))
     info = struct.pack("<12I", 0x80000022, 48, 0, 0, places[2], len(binds), 0, 0, 0, 0, places[3], len(exports))
-    header = struct.pack("<8I", 0xFEEDFACF, 0x01000007, 3, 6, 4, at - 32, 0, 0)
-    return header + library + segment + table + info + symbols + names + binds + exports, 32 + 32 + 72
+    header = struct.pack("<8I", 0xFEEDFACF, 0x01000007, 3, 6, len(commands), at - 32, 0, 0)
+    return header + library + segment + table + info + sections_at(places[4]) + symbols + names + binds + exports + data, commands
 
 
 folder = sys.argv[1]
-data, table = image()
+data, commands = image()
+table = commands[2][0]
 lines = {
     "symbols": ["%x _s%03d" % (k, k) for k in range(COUNT)],
+    "commands": ["x86_64 DYLIB"] + ["0x%x %s" % command for command in commands],
+    "sections": ["__S%d __s%02d %x %d" % (a, b, address(a, b), sum(data_of(a, b))) for a in range(SEGMENTS) for b in range(SECTIONS)],
     "imports": ["%x _i%03d" % (0x1000 + 8 * k, k) for k in range(COUNT)],
+    "bindings": ["%x /l _i%03d" % (0x1000 + 8 * k, k) for k in range(COUNT)],
     "exports": ["%x _e%03d" % (k, k) for k in range(COUNT)],
     "memory": ["%d symbols" % COUNT],
-    "faults": ["symbol section: symbols at 0x%x: 0x9 against 0x0" % table] * COUNT,
+    "faults": ["symbol section: symbols at 0x%x: 0xff against 0x%x" % (table, SEGMENTS * SECTIONS)] * COUNT,
 }
 with open(folder + "/many", "wb") as file:
     file.write(data)

@@ -8,9 +8,11 @@
    length is 0. Calls that answer a code answer GM_OK, or why not, with words in *error; `error` may be NULL.
 
    Calls with a cursor write the items behind it, as many as there are and fit, move it behind them, and say in *count how many:
-   fewer than `cap` says that there are no more. With a `cap` of 0 they are refused with GM_NO_ROWS. A cursor is numbers that the calls alone read; all zero is the start; it goes
-   with the bytes and the image, and may be copied. They open the image again, and take memory while they run. A refusal leaves
-   the array, the cursor and *count as they were. */
+   fewer than `cap` says that there are no more. With a `cap` of 0 they are refused with GM_NO_ROWS. A cursor is numbers that the calls
+   alone read; all zero is the start; it goes with the bytes and the image, and may be copied. They open the image again, and take memory
+   while they run. A refusal leaves the array, the cursor and *count as they were.
+
+   The names of numbers, as GM_LC_MAIN of a command's, and calls that give them as texts stand at the end. */
 #ifndef GOBLIN_MACH_H
 #define GOBLIN_MACH_H
 #include <stdbool.h>
@@ -20,9 +22,16 @@
 extern "C" {
 #endif
 
-/* the version of this header; gm_version() answers that of the library */
-#define GM_VERSION 1
-uint32_t gm_version(void);
+/* The version of this header. gm_version() and gm_version_number() answer those of the library: where MAJOR or MINOR differ, structs and calls
+   may; test GM_VERSION_FITS() once. */
+#define GM_VERSION_MAJOR 0
+#define GM_VERSION_MINOR 2
+#define GM_VERSION_PATCH 0
+#define GM_VERSION_TEXT "0.2.0"
+#define GM_VERSION_NUMBER (GM_VERSION_MAJOR * UINT32_C(1000000) + GM_VERSION_MINOR * UINT32_C(1000) + GM_VERSION_PATCH)
+#define GM_VERSION_FITS() (gm_version_number() / 1000 == GM_VERSION_NUMBER / 1000)
+const char *gm_version(void);
+uint32_t gm_version_number(void);
 
 /* malformed bytes; a magic of no image; a read past the end or of no text; too many of a thing; memory was refused; `cap` is 0 */
 enum { GM_OK, GM_MALFORMED, GM_BAD_MAGIC, GM_SHORT, GM_TOO_MANY, GM_NO_MEMORY, GM_NO_ROWS };
@@ -288,11 +297,437 @@ uint32_t gm_layout_faults(const uint8_t *bytes, size_t len, const gm_image *imag
 uint32_t gm_container_faults(const uint8_t *bytes, size_t len, size_t first, gm_layout_fault *out, size_t cap, size_t *count,
                              const gm_memory *memory, gm_error *error);
 
-/* The layout that Rattle gives each struct (x86-64 Linux): a C compiler that lays one out otherwise refuses this header. */
-#if !defined __cplusplus && __STDC_VERSION__ >= 201112L
-#define GM_FIELD(type, field, at, size) \
-    _Static_assert(offsetof(type, field) == (at) && sizeof(((type *)0)->field) == (size), #type "." #field)
-#define GM_SIZE(type, size) _Static_assert(sizeof(type) == (size), #type)
+/* ---- the names of numbers; NULL of a number that has none */
+const char *gm_code_name(uint32_t code);                              /* "malformed", of a code of an error or of a row */
+const char *gm_cpu_name(uint32_t cputype, uint32_t cpusubtype);       /* "arm64e", as clang, lipo and LLVM call it */
+const char *gm_file_type_name(uint32_t filetype);                     /* "EXECUTE" */
+const char *gm_header_flag_name(uint32_t flag);                       /* "MH_PIE", of exactly one flag */
+const char *gm_command_name(uint32_t cmd);                            /* "LC_SEGMENT_64" */
+const char *gm_symbol_type_name(uint8_t n_type);                      /* "N_SECT", by the bits of GM_N_TYPE; "N_FUN" of an entry for a debugger */
+const char *gm_relocation_name(uint32_t cputype, uint32_t type);      /* "ARM64_RELOC_BRANCH26", by `info >> 28` */
+const char *gm_platform_name(uint32_t platform);                      /* "MACOS" */
+
+/* ---- constants: written by c/constants.py */
+/* the magic numbers: `magic` of a gm_image, and the first four bytes of a fat file */
+#define GM_FAT_CIGAM   UINT32_C(0xbebafeca) /* the magic of a fat file, its bytes reversed */
+#define GM_FAT_MAGIC   UINT32_C(0xcafebabe) /* the magic of a fat file */
+#define GM_MH_CIGAM    UINT32_C(0xcefaedfe) /* the magic of a 32-bit image, its bytes reversed */
+#define GM_MH_CIGAM_64 UINT32_C(0xcffaedfe) /* the magic of a 64-bit image, its bytes reversed */
+#define GM_MH_MAGIC    UINT32_C(0xfeedface) /* the magic of a 32-bit image */
+#define GM_MH_MAGIC_64 UINT32_C(0xfeedfacf) /* the magic of a 64-bit image */
+/* cpus: `cputype` */
+#define GM_CPU_TYPE_X86       UINT32_C(0x7)
+#define GM_CPU_TYPE_ARM       UINT32_C(0xc)
+#define GM_CPU_TYPE_POWERPC   UINT32_C(0x12)
+#define GM_CPU_ARCH_ABI64     UINT32_C(0x01000000) /* the bit of a cpu whose addresses have 64 bits */
+#define GM_CPU_TYPE_X86_64    UINT32_C(0x01000007)
+#define GM_CPU_TYPE_ARM64     UINT32_C(0x0100000c)
+#define GM_CPU_TYPE_POWERPC64 UINT32_C(0x01000012)
+#define GM_CPU_ARCH_ABI64_32  UINT32_C(0x02000000) /* the bit of a cpu of 64 bits whose addresses have 32 */
+#define GM_CPU_TYPE_ARM64_32  UINT32_C(0x0200000c) /* an ARM64 whose addresses have 32 bits */
+/* `cpusubtype`: the bits of capabilities; the others are the kind of the cpu */
+#define GM_CPU_SUBTYPE_LIB64 UINT32_C(0x80000000) /* a capability: an executable for libraries of 64 bits */
+#define GM_CPU_SUBTYPE_MASK  UINT32_C(0xff000000) /* the bits of a cpu's kind that hold its capabilities */
+/* the kinds of GM_CPU_TYPE_X86 and GM_CPU_TYPE_X86_64 */
+#define GM_CPU_SUBTYPE_I386_ALL   UINT32_C(3)
+#define GM_CPU_SUBTYPE_X86_64_ALL UINT32_C(3)
+#define GM_CPU_SUBTYPE_X86_64_H   UINT32_C(8) /* Haswell */
+/* the kinds of GM_CPU_TYPE_ARM */
+#define GM_CPU_SUBTYPE_ARM_ALL    UINT32_C(0)
+#define GM_CPU_SUBTYPE_ARM_V4T    UINT32_C(5)
+#define GM_CPU_SUBTYPE_ARM_V6     UINT32_C(6)
+#define GM_CPU_SUBTYPE_ARM_V5TEJ  UINT32_C(7)
+#define GM_CPU_SUBTYPE_ARM_XSCALE UINT32_C(8)
+#define GM_CPU_SUBTYPE_ARM_V7     UINT32_C(9)
+#define GM_CPU_SUBTYPE_ARM_V7S    UINT32_C(11)
+#define GM_CPU_SUBTYPE_ARM_V7K    UINT32_C(12)
+#define GM_CPU_SUBTYPE_ARM_V6M    UINT32_C(14)
+#define GM_CPU_SUBTYPE_ARM_V7M    UINT32_C(15)
+#define GM_CPU_SUBTYPE_ARM_V7EM   UINT32_C(16)
+/* the kinds of GM_CPU_TYPE_ARM64 and GM_CPU_TYPE_ARM64_32 */
+#define GM_CPU_SUBTYPE_ARM64_ALL   UINT32_C(0)
+#define GM_CPU_SUBTYPE_ARM64_V8    UINT32_C(1)
+#define GM_CPU_SUBTYPE_ARM64_32_V8 UINT32_C(1)
+#define GM_CPU_SUBTYPE_ARM64E      UINT32_C(2) /* with signed pointers */
+/* the kind of GM_CPU_TYPE_POWERPC and GM_CPU_TYPE_POWERPC64 */
+#define GM_CPU_SUBTYPE_POWERPC_ALL UINT32_C(0)
+/* file types: `filetype` of a gm_image */
+#define GM_MH_OBJECT      UINT32_C(0x1) /* A relocatable object file */
+#define GM_MH_EXECUTE     UINT32_C(0x2) /* an executable */
+#define GM_MH_FVMLIB      UINT32_C(0x3) /* A shared library at a fixed address */
+#define GM_MH_CORE        UINT32_C(0x4) /* what is left of a crashed process */
+#define GM_MH_PRELOAD     UINT32_C(0x5) /* an executable that isn't started by the kernel */
+#define GM_MH_DYLIB       UINT32_C(0x6) /* A dynamic library */
+#define GM_MH_DYLINKER    UINT32_C(0x7) /* A dynamic linker */
+#define GM_MH_BUNDLE      UINT32_C(0x8) /* A bundle, loaded at run time */
+#define GM_MH_DYLIB_STUB  UINT32_C(0x9) /* A library to link against, without contents */
+#define GM_MH_DSYM        UINT32_C(0xa) /* debug sections of another file */
+#define GM_MH_KEXT_BUNDLE UINT32_C(0xb) /* A kernel extension */
+#define GM_MH_FILESET     UINT32_C(0xc) /* A set of images */
+#define GM_MH_GPU_EXECUTE UINT32_C(0xd) /* A program for a graphics processor */
+#define GM_MH_GPU_DYLIB   UINT32_C(0xe) /* A library for a graphics processor */
+/* the bits of `flags` of a gm_image */
+#define GM_MH_NOUNDEFS                      UINT32_C(0x1) /* there are no undefined references */
+#define GM_MH_INCRLINK                      UINT32_C(0x2) /* it is the output of an incremental link against a base file */
+#define GM_MH_DYLDLINK                      UINT32_C(0x4) /* it is input for the dynamic linker, and isn't linked again */
+#define GM_MH_BINDATLOAD                    UINT32_C(0x8) /* undefined references are bound when it is loaded */
+#define GM_MH_PREBOUND                      UINT32_C(0x10) /* its undefined references are bound beforehand */
+#define GM_MH_SPLIT_SEGS                    UINT32_C(0x20) /* read-only and writable segments are apart */
+#define GM_MH_LAZY_INIT                     UINT32_C(0x40) /* obsolete: a library is set up at its first use */
+#define GM_MH_TWOLEVEL                      UINT32_C(0x80) /* undefined references name the library they are bound to */
+#define GM_MH_FORCE_FLAT                    UINT32_C(0x100) /* all images are bound by names alone */
+#define GM_MH_NOMULTIDEFS                   UINT32_C(0x200) /* no symbol is defined twice in the images beneath it */
+#define GM_MH_NOFIXPREBINDING               UINT32_C(0x400) /* the prebinding agent isn't told of it */
+#define GM_MH_PREBINDABLE                   UINT32_C(0x800) /* it isn't prebound, and could be */
+#define GM_MH_ALLMODSBOUND                  UINT32_C(0x1000) /* it is bound to every module of the libraries it needs */
+#define GM_MH_SUBSECTIONS_VIA_SYMBOLS       UINT32_C(0x2000) /* sections may be cut up at symbols */
+#define GM_MH_CANONICAL                     UINT32_C(0x4000) /* its prebinding was undone */
+#define GM_MH_WEAK_DEFINES                  UINT32_C(0x8000) /* it defines weak symbols */
+#define GM_MH_BINDS_TO_WEAK                 UINT32_C(0x00010000) /* it uses weak symbols */
+#define GM_MH_ALLOW_STACK_EXECUTION         UINT32_C(0x00020000) /* stacks may be run, in an executable */
+#define GM_MH_ROOT_SAFE                     UINT32_C(0x00040000) /* it may run as root */
+#define GM_MH_SETUID_SAFE                   UINT32_C(0x00080000) /* it may run with another user's rights */
+#define GM_MH_NO_REEXPORTED_DYLIBS          UINT32_C(0x00100000) /* no library beneath it is given out again */
+#define GM_MH_PIE                           UINT32_C(0x00200000) /* it is loaded at a random address, in an executable */
+#define GM_MH_DEAD_STRIPPABLE_DYLIB         UINT32_C(0x00400000) /* it need not be loaded where nothing of it is used */
+#define GM_MH_HAS_TLV_DESCRIPTORS           UINT32_C(0x00800000) /* it has a section of variables of threads */
+#define GM_MH_NO_HEAP_EXECUTION             UINT32_C(0x01000000) /* the heap may not be run, in an executable */
+#define GM_MH_APP_EXTENSION_SAFE            UINT32_C(0x02000000) /* it may be used in an extension of an application */
+#define GM_MH_NLIST_OUTOFSYNC_WITH_DYLDINFO UINT32_C(0x04000000) /* symbols and what dyld reads say different things */
+#define GM_MH_SIM_SUPPORT                   UINT32_C(0x08000000) /* it may be used in a simulator */
+#define GM_MH_DYLIB_IN_CACHE                UINT32_C(0x80000000) /* it is in a shared cache */
+/* load commands: `cmd` of a gm_command */
+#define GM_LC_SEGMENT                  UINT32_C(0x1)
+#define GM_LC_SYMTAB                   UINT32_C(0x2)
+#define GM_LC_SYMSEG                   UINT32_C(0x3)
+#define GM_LC_THREAD                   UINT32_C(0x4)
+#define GM_LC_UNIXTHREAD               UINT32_C(0x5)
+#define GM_LC_LOADFVMLIB               UINT32_C(0x6)
+#define GM_LC_IDFVMLIB                 UINT32_C(0x7)
+#define GM_LC_IDENT                    UINT32_C(0x8)
+#define GM_LC_FVMFILE                  UINT32_C(0x9)
+#define GM_LC_PREPAGE                  UINT32_C(0xa)
+#define GM_LC_DYSYMTAB                 UINT32_C(0xb)
+#define GM_LC_LOAD_DYLIB               UINT32_C(0xc)
+#define GM_LC_ID_DYLIB                 UINT32_C(0xd)
+#define GM_LC_LOAD_DYLINKER            UINT32_C(0xe)
+#define GM_LC_ID_DYLINKER              UINT32_C(0xf)
+#define GM_LC_PREBOUND_DYLIB           UINT32_C(0x10)
+#define GM_LC_ROUTINES                 UINT32_C(0x11)
+#define GM_LC_SUB_FRAMEWORK            UINT32_C(0x12)
+#define GM_LC_SUB_UMBRELLA             UINT32_C(0x13)
+#define GM_LC_SUB_CLIENT               UINT32_C(0x14)
+#define GM_LC_SUB_LIBRARY              UINT32_C(0x15)
+#define GM_LC_TWOLEVEL_HINTS           UINT32_C(0x16)
+#define GM_LC_PREBIND_CKSUM            UINT32_C(0x17)
+#define GM_LC_SEGMENT_64               UINT32_C(0x19)
+#define GM_LC_ROUTINES_64              UINT32_C(0x1a)
+#define GM_LC_UUID                     UINT32_C(0x1b)
+#define GM_LC_CODE_SIGNATURE           UINT32_C(0x1d)
+#define GM_LC_SEGMENT_SPLIT_INFO       UINT32_C(0x1e)
+#define GM_LC_LAZY_LOAD_DYLIB          UINT32_C(0x20)
+#define GM_LC_ENCRYPTION_INFO          UINT32_C(0x21)
+#define GM_LC_DYLD_INFO                UINT32_C(0x22)
+#define GM_LC_VERSION_MIN_MACOSX       UINT32_C(0x24)
+#define GM_LC_VERSION_MIN_IPHONEOS     UINT32_C(0x25)
+#define GM_LC_FUNCTION_STARTS          UINT32_C(0x26)
+#define GM_LC_DYLD_ENVIRONMENT         UINT32_C(0x27)
+#define GM_LC_DATA_IN_CODE             UINT32_C(0x29)
+#define GM_LC_SOURCE_VERSION           UINT32_C(0x2a)
+#define GM_LC_DYLIB_CODE_SIGN_DRS      UINT32_C(0x2b)
+#define GM_LC_ENCRYPTION_INFO_64       UINT32_C(0x2c)
+#define GM_LC_LINKER_OPTION            UINT32_C(0x2d)
+#define GM_LC_LINKER_OPTIMIZATION_HINT UINT32_C(0x2e)
+#define GM_LC_VERSION_MIN_TVOS         UINT32_C(0x2f)
+#define GM_LC_VERSION_MIN_WATCHOS      UINT32_C(0x30)
+#define GM_LC_NOTE                     UINT32_C(0x31)
+#define GM_LC_BUILD_VERSION            UINT32_C(0x32)
+#define GM_LC_REQ_DYLD                 UINT32_C(0x80000000) /* the bit of a command that the dynamic linker has to understand */
+#define GM_LC_LOAD_WEAK_DYLIB          UINT32_C(0x80000018)
+#define GM_LC_RPATH                    UINT32_C(0x8000001c)
+#define GM_LC_REEXPORT_DYLIB           UINT32_C(0x8000001f)
+#define GM_LC_DYLD_INFO_ONLY           UINT32_C(0x80000022)
+#define GM_LC_LOAD_UPWARD_DYLIB        UINT32_C(0x80000023)
+#define GM_LC_MAIN                     UINT32_C(0x80000028)
+#define GM_LC_DYLD_EXPORTS_TRIE        UINT32_C(0x80000033)
+#define GM_LC_DYLD_CHAINED_FIXUPS      UINT32_C(0x80000034)
+#define GM_LC_FILESET_ENTRY            UINT32_C(0x80000035)
+/* what memory allows: `maxprot` and `initprot` of a gm_segment */
+#define GM_VM_PROT_NONE    UINT32_C(0x0) /* nothing */
+#define GM_VM_PROT_READ    UINT32_C(0x1) /* reading */
+#define GM_VM_PROT_WRITE   UINT32_C(0x2) /* writing */
+#define GM_VM_PROT_EXECUTE UINT32_C(0x4) /* running */
+/* the bits of `flags` of a gm_segment */
+#define GM_SG_HIGHVM              UINT32_C(0x1) /* its bytes are the last ones of its memory */
+#define GM_SG_FVMLIB              UINT32_C(0x2) /* it is memory of a library at a fixed address */
+#define GM_SG_NORELOC             UINT32_C(0x4) /* nothing of it is corrected */
+#define GM_SG_PROTECTED_VERSION_1 UINT32_C(0x8) /* it is encrypted, but for its first page */
+#define GM_SG_READ_ONLY           UINT32_C(0x10) /* it may not be written once it is corrected */
+/* the types of sections: `flags` of a gm_section in the bits of GM_SECTION_TYPE */
+#define GM_S_REGULAR                             UINT32_C(0x0) /* a section like most */
+#define GM_S_ZEROFILL                            UINT32_C(0x1) /* the type of a section of zeros, which takes no bytes of the file */
+#define GM_S_CSTRING_LITERALS                    UINT32_C(0x2) /* texts, each with a zero byte behind it */
+#define GM_S_4BYTE_LITERALS                      UINT32_C(0x3) /* literals of 4 bytes */
+#define GM_S_8BYTE_LITERALS                      UINT32_C(0x4) /* literals of 8 bytes */
+#define GM_S_LITERAL_POINTERS                    UINT32_C(0x5) /* pointers to literals */
+#define GM_S_NON_LAZY_SYMBOL_POINTERS            UINT32_C(0x6) /* pointers to symbols, bound when the image is loaded */
+#define GM_S_LAZY_SYMBOL_POINTERS                UINT32_C(0x7) /* pointers to symbols, bound at their first use */
+#define GM_S_SYMBOL_STUBS                        UINT32_C(0x8) /* stubs of symbols */
+#define GM_S_MOD_INIT_FUNC_POINTERS              UINT32_C(0x9) /* pointers to functions to call at the start */
+#define GM_S_MOD_TERM_FUNC_POINTERS              UINT32_C(0xa) /* pointers to functions to call at the end */
+#define GM_S_COALESCED                           UINT32_C(0xb) /* symbols of which one definition stays */
+#define GM_S_GB_ZEROFILL                         UINT32_C(0xc) /* the type of a section of zeros that may have more than 4 gigabytes */
+#define GM_S_INTERPOSING                         UINT32_C(0xd) /* pairs of functions, of which one takes the other's place */
+#define GM_S_16BYTE_LITERALS                     UINT32_C(0xe) /* literals of 16 bytes */
+#define GM_S_DTRACE_DOF                          UINT32_C(0xf) /* what DTrace reads */
+#define GM_S_LAZY_DYLIB_SYMBOL_POINTERS          UINT32_C(0x10) /* pointers to symbols of libraries that are loaded at their first use */
+#define GM_S_THREAD_LOCAL_REGULAR                UINT32_C(0x11) /* first values of variables that every thread has for itself */
+#define GM_S_THREAD_LOCAL_ZEROFILL               UINT32_C(0x12) /* the type of a section of zeros that every thread has for itself */
+#define GM_S_THREAD_LOCAL_VARIABLES              UINT32_C(0x13) /* descriptors of such variables */
+#define GM_S_THREAD_LOCAL_VARIABLE_POINTERS      UINT32_C(0x14) /* pointers to such descriptors */
+#define GM_S_THREAD_LOCAL_INIT_FUNCTION_POINTERS UINT32_C(0x15) /* pointers to functions that make such values */
+#define GM_S_INIT_FUNC_OFFSETS                   UINT32_C(0x16) /* places of functions to call at the start, of 32 bits */
+#define GM_SECTION_TYPE                          UINT32_C(0xff) /* the bits of a section's flags that hold its type */
+/* the bits above them */
+#define GM_S_ATTR_LOC_RELOC           UINT32_C(0x00000100) /* it has local relocations */
+#define GM_S_ATTR_EXT_RELOC           UINT32_C(0x00000200) /* it has external relocations */
+#define GM_S_ATTR_SOME_INSTRUCTIONS   UINT32_C(0x00000400) /* some instructions */
+#define GM_SECTION_ATTRIBUTES_SYS     UINT32_C(0x00ffff00) /* those that the system sets */
+#define GM_S_ATTR_DEBUG               UINT32_C(0x02000000) /* for a debugger */
+#define GM_S_ATTR_SELF_MODIFYING_CODE UINT32_C(0x04000000) /* code that dyld writes */
+#define GM_S_ATTR_LIVE_SUPPORT        UINT32_C(0x08000000) /* used where what it refers to is used */
+#define GM_S_ATTR_NO_DEAD_STRIP       UINT32_C(0x10000000) /* never stripped as unused */
+#define GM_S_ATTR_STRIP_STATIC_SYMS   UINT32_C(0x20000000) /* its local symbols may be stripped */
+#define GM_S_ATTR_NO_TOC              UINT32_C(0x40000000) /* its symbols are in no table of contents */
+#define GM_S_ATTR_PURE_INSTRUCTIONS   UINT32_C(0x80000000) /* instructions alone */
+#define GM_SECTION_ATTRIBUTES_USR     UINT32_C(0xff000000) /* those that a user may set */
+#define GM_SECTION_ATTRIBUTES         UINT32_C(0xffffff00) /* all of them */
+/* the parts of `n_type` of a gm_symbol */
+#define GM_NLIST_TYPE_LOCAL  UINT8_C(0x0) /* known inside the image */
+#define GM_N_EXT             UINT8_C(0x1) /* known outside the image */
+#define GM_NLIST_TYPE_GLOBAL UINT8_C(0x1) /* known outside the image */
+#define GM_N_TYPE            UINT8_C(0xe) /* the bits of a symbol's type */
+#define GM_NLIST_TYPE_MASK   UINT8_C(0xe) /* the bits of a symbol's type */
+#define GM_N_PEXT            UINT8_C(0x10) /* known outside its object file, and not outside the image */
+#define GM_N_STAB            UINT8_C(0xe0) /* the bits of a type that only entries for a debugger have */
+/* the types of symbols: `n_type` in the bits of GM_N_TYPE, where none of GM_N_STAB is set */
+#define GM_N_UNDF UINT8_C(0x0) /* undefined: found in another image */
+#define GM_N_ABS  UINT8_C(0x2) /* an absolute number */
+#define GM_N_INDR UINT8_C(0xa) /* the same as another symbol */
+#define GM_N_PBUD UINT8_C(0xc) /* undefined, and bound beforehand */
+#define GM_N_SECT UINT8_C(0xe) /* defined in a section */
+/* `section` of a gm_symbol */
+#define GM_NO_SECT  UINT8_C(0x0) /* no section */
+#define GM_MAX_SECT UINT8_C(0xff) /* the highest number of a section */
+/* how an undefined symbol is referred to: `desc` of a gm_symbol in the bits of GM_REFERENCE_TYPE */
+#define GM_REFERENCE_FLAG_UNDEFINED_NON_LAZY         UINT16_C(0x0) /* an undefined symbol, bound when the image is loaded */
+#define GM_REFERENCE_FLAG_UNDEFINED_LAZY             UINT16_C(0x1) /* an undefined symbol, bound at its first use */
+#define GM_REFERENCE_FLAG_DEFINED                    UINT16_C(0x2) /* A symbol defined in this module */
+#define GM_REFERENCE_FLAG_PRIVATE_DEFINED            UINT16_C(0x3) /* A symbol defined in this module, and known in its image alone */
+#define GM_REFERENCE_FLAG_PRIVATE_UNDEFINED_NON_LAZY UINT16_C(0x4) /* A symbol of another module of the image, bound when it is loaded */
+#define GM_REFERENCE_FLAG_PRIVATE_UNDEFINED_LAZY     UINT16_C(0x5) /* A symbol of another module of the image, bound at its first use */
+#define GM_REFERENCE_TYPE                            UINT16_C(0xf) /* the bits of `n_desc` that say how an undefined symbol is referred to */
+/* the other bits of `desc` */
+#define GM_N_ARM_THUMB_DEF        UINT16_C(0x0008) /* it is Thumb code */
+#define GM_REFERENCED_DYNAMICALLY UINT16_C(0x10) /* looked up by name at run time, so it isn't stripped */
+#define GM_N_DESC_DISCARDED       UINT16_C(0x20) /* for the dynamic linker at run time */
+#define GM_N_NO_DEAD_STRIP        UINT16_C(0x20) /* never stripped as unused, in an object file */
+#define GM_N_WEAK_REF             UINT16_C(0x40) /* A weak reference: 0 where nothing defines it */
+#define GM_N_WEAK_DEF             UINT16_C(0x80) /* A weak definition: another one takes its place */
+#define GM_N_REF_TO_WEAK          UINT16_C(0x0080) /* of an undefined symbol: its definition is weak */
+#define GM_N_SYMBOL_RESOLVER      UINT16_C(0x0100) /* a function that answers the address to use */
+#define GM_N_ALT_ENTRY            UINT16_C(0x0200) /* a place inside of what the symbol before it names */
+#define GM_N_COLD_FUNC            UINT16_C(0x0400) /* a function that is seldom called */
+/* the types of entries for a debugger: `n_type`, where a bit of GM_N_STAB is set */
+#define GM_N_GSYM    UINT8_C(0x20) /* A global variable */
+#define GM_N_FNAME   UINT8_C(0x22) /* the name of a procedure */
+#define GM_N_FUN     UINT8_C(0x24) /* A procedure */
+#define GM_N_STSYM   UINT8_C(0x26) /* A static variable */
+#define GM_N_LCSYM   UINT8_C(0x28) /* A static variable of zeros */
+#define GM_N_BNSYM   UINT8_C(0x2e) /* the beginning of a section's symbol */
+#define GM_N_PC      UINT8_C(0x30) /* A global Pascal symbol */
+#define GM_N_AST     UINT8_C(0x32) /* the path of a syntax tree */
+#define GM_N_OPT     UINT8_C(0x3c) /* what the compiler was told */
+#define GM_N_RSYM    UINT8_C(0x40) /* A variable in a register */
+#define GM_N_SLINE   UINT8_C(0x44) /* A line of the source */
+#define GM_N_ENSYM   UINT8_C(0x4e) /* the end of a section's symbol */
+#define GM_N_SSYM    UINT8_C(0x60) /* an element of a structure */
+#define GM_N_SO      UINT8_C(0x64) /* A source file */
+#define GM_N_OSO     UINT8_C(0x66) /* an object file */
+#define GM_N_LSYM    UINT8_C(0x80) /* A local variable */
+#define GM_N_BINCL   UINT8_C(0x82) /* the beginning of an included file */
+#define GM_N_SOL     UINT8_C(0x84) /* an included file */
+#define GM_N_PARAMS  UINT8_C(0x86) /* the compiler's parameters */
+#define GM_N_VERSION UINT8_C(0x88) /* the compiler's version */
+#define GM_N_OLEVEL  UINT8_C(0x8a) /* the compiler's level of optimization */
+#define GM_N_PSYM    UINT8_C(0xa0) /* A parameter */
+#define GM_N_EINCL   UINT8_C(0xa2) /* the end of an included file */
+#define GM_N_ENTRY   UINT8_C(0xa4) /* another entry of a procedure */
+#define GM_N_LBRAC   UINT8_C(0xc0) /* A left bracket */
+#define GM_N_EXCL    UINT8_C(0xc2) /* an included file that was left out */
+#define GM_N_RBRAC   UINT8_C(0xe0) /* A right bracket */
+#define GM_N_BCOMM   UINT8_C(0xe2) /* the beginning of a common block */
+#define GM_N_ECOMM   UINT8_C(0xe4) /* the end of a common block */
+#define GM_N_ECOML   UINT8_C(0xe8) /* the end of a local common block */
+#define GM_N_LENG    UINT8_C(0xfe) /* how long the entry before it is */
+/* the library of an undefined symbol: the high 8 bits of `desc`, where the image has GM_MH_TWOLEVEL */
+#define GM_SELF_LIBRARY_ORDINAL   UINT8_C(0) /* the image itself */
+#define GM_MAX_LIBRARY_ORDINAL    UINT8_C(0xfd) /* the last one that is an ordinal */
+#define GM_DYNAMIC_LOOKUP_ORDINAL UINT8_C(0xfe) /* any image */
+#define GM_EXECUTABLE_ORDINAL     UINT8_C(0xff) /* the main executable */
+/* `flags` of a gm_export */
+#define GM_EXPORT_SYMBOL_FLAGS_KIND_REGULAR      UINT64_C(0x00) /* the kind of a symbol like most */
+#define GM_EXPORT_SYMBOL_FLAGS_KIND_THREAD_LOCAL UINT64_C(0x01) /* the kind of a symbol that every thread has for itself */
+#define GM_EXPORT_SYMBOL_FLAGS_KIND_ABSOLUTE     UINT64_C(0x02) /* the kind of a symbol whose address doesn't move with the image */
+#define GM_EXPORT_SYMBOL_FLAGS_KIND_MASK         UINT64_C(0x03) /* the bits of an export's flags that tell its kind */
+#define GM_EXPORT_SYMBOL_FLAGS_WEAK_DEFINITION   UINT64_C(0x04) /* the definition is weak: another may stand in its place */
+#define GM_EXPORT_SYMBOL_FLAGS_REEXPORT          UINT64_C(0x08) /* the export is one of another library */
+#define GM_EXPORT_SYMBOL_FLAGS_STUB_AND_RESOLVER UINT64_C(0x10) /* the export is a stub with a resolver */
+/* relocations of GM_CPU_TYPE_X86_64: bits 28 to 31 of `info` of a gm_relocation */
+#define GM_X86_64_RELOC_UNSIGNED   UINT8_C(0) /* an absolute address */
+#define GM_X86_64_RELOC_SIGNED     UINT8_C(1) /* A displacement of 32 bits, signed */
+#define GM_X86_64_RELOC_BRANCH     UINT8_C(2) /* the displacement of a call or a jump */
+#define GM_X86_64_RELOC_GOT_LOAD   UINT8_C(3) /* A load of an entry of the global offset table */
+#define GM_X86_64_RELOC_GOT        UINT8_C(4) /* another use of the global offset table */
+#define GM_X86_64_RELOC_SUBTRACTOR UINT8_C(5) /* what is subtracted; a GM_X86_64_RELOC_UNSIGNED follows */
+#define GM_X86_64_RELOC_SIGNED_1   UINT8_C(6) /* as GM_X86_64_RELOC_SIGNED, with the addend -1 */
+#define GM_X86_64_RELOC_SIGNED_2   UINT8_C(7) /* as GM_X86_64_RELOC_SIGNED, with the addend -2 */
+#define GM_X86_64_RELOC_SIGNED_4   UINT8_C(8) /* as GM_X86_64_RELOC_SIGNED, with the addend -4 */
+#define GM_X86_64_RELOC_TLV        UINT8_C(9) /* A variable that each thread has for itself */
+/* relocations of GM_CPU_TYPE_X86 */
+#define GM_GENERIC_RELOC_VANILLA        UINT8_C(0) /* A plain address */
+#define GM_GENERIC_RELOC_PAIR           UINT8_C(1) /* the second of two that belong together */
+#define GM_GENERIC_RELOC_SECTDIFF       UINT8_C(2) /* the difference of two addresses; a pair follows */
+#define GM_GENERIC_RELOC_PB_LA_PTR      UINT8_C(3) /* A lazy pointer that is bound beforehand */
+#define GM_GENERIC_RELOC_LOCAL_SECTDIFF UINT8_C(4) /* the difference of two local addresses; a pair follows */
+#define GM_GENERIC_RELOC_TLV            UINT8_C(5) /* A variable that each thread has for itself */
+/* relocations of GM_CPU_TYPE_ARM */
+#define GM_ARM_RELOC_VANILLA        UINT8_C(0) /* A plain address */
+#define GM_ARM_RELOC_PAIR           UINT8_C(1) /* the second of two that belong together */
+#define GM_ARM_RELOC_SECTDIFF       UINT8_C(2) /* the difference of two addresses; a pair follows */
+#define GM_ARM_RELOC_LOCAL_SECTDIFF UINT8_C(3) /* the difference of two local addresses; a pair follows */
+#define GM_ARM_RELOC_PB_LA_PTR      UINT8_C(4) /* A lazy pointer that is bound beforehand */
+#define GM_ARM_RELOC_BR24           UINT8_C(5) /* the 24-bit displacement of a branch */
+#define GM_ARM_THUMB_RELOC_BR22     UINT8_C(6) /* the 22-bit displacement of a Thumb branch */
+#define GM_ARM_THUMB_32BIT_BRANCH   UINT8_C(7) /* A Thumb branch of 32 bits, no longer used */
+#define GM_ARM_RELOC_HALF           UINT8_C(8) /* half of an address, in a `movw` or a `movt` */
+#define GM_ARM_RELOC_HALF_SECTDIFF  UINT8_C(9) /* half of the difference of two addresses */
+/* relocations of GM_CPU_TYPE_ARM64 and GM_CPU_TYPE_ARM64_32 */
+#define GM_ARM64_RELOC_UNSIGNED            UINT8_C(0) /* A pointer */
+#define GM_ARM64_RELOC_SUBTRACTOR          UINT8_C(1) /* what is subtracted; a GM_ARM64_RELOC_UNSIGNED follows */
+#define GM_ARM64_RELOC_BRANCH26            UINT8_C(2) /* the 26-bit displacement of a branch */
+#define GM_ARM64_RELOC_PAGE21              UINT8_C(3) /* the distance to the page of the target */
+#define GM_ARM64_RELOC_PAGEOFF12           UINT8_C(4) /* the offset inside that page */
+#define GM_ARM64_RELOC_GOT_LOAD_PAGE21     UINT8_C(5) /* the distance to the page of an entry of the global offset table */
+#define GM_ARM64_RELOC_GOT_LOAD_PAGEOFF12  UINT8_C(6) /* the offset of that entry inside its page */
+#define GM_ARM64_RELOC_POINTER_TO_GOT      UINT8_C(7) /* A pointer to an entry of the global offset table */
+#define GM_ARM64_RELOC_TLVP_LOAD_PAGE21    UINT8_C(8) /* the distance to the page of a variable that each thread has for itself */
+#define GM_ARM64_RELOC_TLVP_LOAD_PAGEOFF12 UINT8_C(9) /* the offset of that variable inside its page */
+#define GM_ARM64_RELOC_ADDEND              UINT8_C(10) /* the addend of the GM_ARM64_RELOC_PAGE21 or GM_ARM64_RELOC_PAGEOFF12 that follows */
+/* bits 0 to 23 of `info` */
+#define GM_R_ABS UINT8_C(0) /* no symbol and no section, but an absolute value */
+/* platforms, of GM_LC_BUILD_VERSION */
+#define GM_PLATFORM_MACOS             UINT32_C(1)
+#define GM_PLATFORM_IOS               UINT32_C(2)
+#define GM_PLATFORM_TVOS              UINT32_C(3)
+#define GM_PLATFORM_WATCHOS           UINT32_C(4)
+#define GM_PLATFORM_BRIDGEOS          UINT32_C(5)
+#define GM_PLATFORM_MACCATALYST       UINT32_C(6)
+#define GM_PLATFORM_IOSSIMULATOR      UINT32_C(7)
+#define GM_PLATFORM_TVOSSIMULATOR     UINT32_C(8)
+#define GM_PLATFORM_WATCHOSSIMULATOR  UINT32_C(9)
+#define GM_PLATFORM_DRIVERKIT         UINT32_C(10)
+#define GM_PLATFORM_VISIONOS          UINT32_C(11)
+#define GM_PLATFORM_VISIONOSSIMULATOR UINT32_C(12)
+/* tools, of GM_LC_BUILD_VERSION */
+#define GM_TOOL_CLANG UINT32_C(1)
+#define GM_TOOL_SWIFT UINT32_C(2)
+#define GM_TOOL_LD    UINT32_C(3)
+#define GM_TOOL_LLD   UINT32_C(4)
+/* the opcodes of binds: the halves of a byte */
+#define GM_BIND_IMMEDIATE_MASK UINT8_C(0x0f) /* the half of a byte that is the immediate */
+#define GM_BIND_OPCODE_MASK    UINT8_C(0xf0) /* the half of a byte that is the opcode */
+/* the opcodes */
+#define GM_BIND_OPCODE_DONE                             UINT8_C(0x00) /* set the fresh values */
+#define GM_BIND_OPCODE_SET_DYLIB_ORDINAL_IMM            UINT8_C(0x10) /* the library is the immediate */
+#define GM_BIND_OPCODE_SET_DYLIB_ORDINAL_ULEB           UINT8_C(0x20) /* the library is a ULEB128 number */
+#define GM_BIND_OPCODE_SET_DYLIB_SPECIAL_IMM            UINT8_C(0x30) /* the library is a special one, which no import shows */
+#define GM_BIND_OPCODE_SET_SYMBOL_TRAILING_FLAGS_IMM    UINT8_C(0x40) /* the flags are the immediate, and the name is a text */
+#define GM_BIND_OPCODE_SET_TYPE_IMM                     UINT8_C(0x50) /* the type is the immediate */
+#define GM_BIND_OPCODE_SET_ADDEND_SLEB                  UINT8_C(0x60) /* the addend is an SLEB128 number */
+#define GM_BIND_OPCODE_SET_SEGMENT_AND_OFFSET_ULEB      UINT8_C(0x70) /* the segment is the immediate, and the offset in it a ULEB128 number */
+#define GM_BIND_OPCODE_ADD_ADDR_ULEB                    UINT8_C(0x80) /* advance by a ULEB128 number */
+#define GM_BIND_OPCODE_DO_BIND                          UINT8_C(0x90) /* bind, then advance by a pointer */
+#define GM_BIND_OPCODE_DO_BIND_ADD_ADDR_ULEB            UINT8_C(0xa0) /* bind, then advance by a ULEB128 number and a pointer */
+#define GM_BIND_OPCODE_DO_BIND_ADD_ADDR_IMM_SCALED      UINT8_C(0xb0) /* bind, then advance by as many pointers as the immediate says, and one more */
+/* so many times as a ULEB128 number says: bind, then advance by a second one and a pointer */
+#define GM_BIND_OPCODE_DO_BIND_ULEB_TIMES_SKIPPING_ULEB UINT8_C(0xc0)
+#define GM_BIND_OPCODE_THREADED                         UINT8_C(0xd0) /* threaded binds, by an operand that would have to be read with it */
+/* the immediates of GM_BIND_OPCODE_SET_TYPE_IMM */
+#define GM_BIND_TYPE_POINTER         UINT8_C(1) /* bind a pointer */
+#define GM_BIND_TYPE_TEXT_ABSOLUTE32 UINT8_C(2) /* bind an absolute address of 32 bits in code */
+#define GM_BIND_TYPE_TEXT_PCREL32    UINT8_C(3) /* bind a relative address of 32 bits in code */
+/* those of GM_BIND_OPCODE_SET_DYLIB_SPECIAL_IMM */
+#define GM_BIND_SPECIAL_DYLIB_SELF            UINT8_C(0) /* the image itself */
+#define GM_BIND_SPECIAL_DYLIB_FLAT_LOOKUP     UINT8_C(0xe) /* any image, which the immediate -2 stands for */
+#define GM_BIND_SPECIAL_DYLIB_MAIN_EXECUTABLE UINT8_C(0xf) /* the program, which the immediate -1 stands for */
+/* the bits of those of GM_BIND_OPCODE_SET_SYMBOL_TRAILING_FLAGS_IMM */
+#define GM_BIND_SYMBOL_FLAGS_WEAK_IMPORT         UINT8_C(0x1) /* the symbol may be missing */
+#define GM_BIND_SYMBOL_FLAGS_NON_WEAK_DEFINITION UINT8_C(0x8) /* the image defines the symbol itself, and not weakly */
+/* how the imports of chained fixups are laid out */
+#define GM_DYLD_CHAINED_IMPORT          UINT32_C(1) /* the import's library, whether it may be missing, and its name */
+#define GM_DYLD_CHAINED_IMPORT_ADDEND   UINT32_C(2) /* the same, with an addend of 32 bits */
+#define GM_DYLD_CHAINED_IMPORT_ADDEND64 UINT32_C(3) /* the same in wider fields, with an addend of 64 bits */
+/* how the pointers of chained fixups are laid out, of those that are read */
+#define GM_DYLD_CHAINED_PTR_ARM64E            UINT16_C(1) /* targets are addresses */
+#define GM_DYLD_CHAINED_PTR_64                UINT16_C(2) /* targets are addresses */
+#define GM_DYLD_CHAINED_PTR_32                UINT16_C(3) /* targets are addresses, and there are numbers among the pointers */
+#define GM_DYLD_CHAINED_PTR_64_OFFSET         UINT16_C(6) /* targets count from the image's base */
+#define GM_DYLD_CHAINED_PTR_ARM64E_KERNEL     UINT16_C(7) /* as GM_DYLD_CHAINED_PTR_ARM64E_USERLAND, in steps of 4 bytes */
+#define GM_DYLD_CHAINED_PTR_ARM64E_USERLAND   UINT16_C(9) /* targets count from the image's base */
+#define GM_DYLD_CHAINED_PTR_ARM64E_FIRMWARE   UINT16_C(10) /* as GM_DYLD_CHAINED_PTR_ARM64E, in steps of 4 bytes */
+#define GM_DYLD_CHAINED_PTR_ARM64E_USERLAND24 UINT16_C(12) /* as GM_DYLD_CHAINED_PTR_ARM64E_USERLAND, with 24 bits for an import's number */
+/* where the chain of a page starts */
+/* the bit of a page's start that says that the page has several, which stand behind those of the pages */
+#define GM_DYLD_CHAINED_PTR_START_MULTI UINT16_C(0x8000)
+#define GM_DYLD_CHAINED_PTR_START_LAST  UINT16_C(0x8000) /* the bit of the last of several starts */
+#define GM_DYLD_CHAINED_PTR_START_NONE  UINT16_C(0xffff) /* the start of a page that has no chain */
+/* ---- end */
+
+/* The layout that the library gives each struct (x86-64 Linux), and its numbers: a compiler that sees other ones refuses this header. */
+#ifdef __cplusplus
+#define GM_ASSERT(name, holds) static_assert(holds, #name)
+#define GM_WIDTH(type, field) sizeof(type::field)
+#else
+#if defined __STDC_VERSION__ && __STDC_VERSION__ >= 201112L
+#define GM_ASSERT(name, holds) _Static_assert(holds, #name)
+#else
+#define GM_ASSERT(name, holds) typedef char gm_assert_##name[(holds) ? 1 : -1]
+#endif
+#define GM_WIDTH(type, field) sizeof(((type *)0)->field)
+#endif
+#define GM_FIELD(type, field, at, size) GM_ASSERT(type##_##field, offsetof(type, field) == (at) && GM_WIDTH(type, field) == (size))
+#define GM_SIZE(type, size) GM_ASSERT(type, sizeof(type) == (size))
+#define GM_IS(name, number) GM_ASSERT(name, name == (number))
+GM_FIELD(gm_memory, self, 0, 8);
+GM_FIELD(gm_memory, take, 8, 8);
+GM_FIELD(gm_memory, give, 16, 8);
+GM_SIZE(gm_memory, 24);
+GM_FIELD(gm_arena, bytes, 0, 8);
+GM_FIELD(gm_arena, size, 8, 8);
+GM_FIELD(gm_arena, used, 16, 8);
+GM_FIELD(gm_arena, blocks, 24, 8);
+GM_SIZE(gm_arena, 32);
+GM_FIELD(gm_export_room, name, 0, 8);
+GM_FIELD(gm_export_room, name_cap, 8, 8);
+GM_FIELD(gm_export_room, stack, 16, 8);
+GM_FIELD(gm_export_room, stack_cap, 24, 8);
+GM_FIELD(gm_export_room, out, 32, 8);
+GM_FIELD(gm_export_room, cap, 40, 8);
+GM_FIELD(gm_export_room, names, 48, 8);
+GM_FIELD(gm_export_room, names_cap, 56, 8);
+GM_SIZE(gm_export_room, 64);
+/* ---- layout: written by c/constants.py */
 GM_FIELD(gm_bind_cursor, binds, 0, 96);
 GM_FIELD(gm_bind_cursor, stage, 96, 4);
 GM_SIZE(gm_bind_cursor, 104);
@@ -464,9 +899,43 @@ GM_FIELD(gm_symbol, code, 32, 4);
 GM_FIELD(gm_symbol, desc, 36, 2);
 GM_FIELD(gm_symbol, n_type, 38, 1);
 GM_SIZE(gm_symbol, 40);
+GM_IS(GM_OF_LIBRARY, 0);
+GM_IS(GM_OF_ITSELF, 1);
+GM_IS(GM_OF_PROGRAM, 2);
+GM_IS(GM_OF_ANY, 3);
+GM_IS(GM_OF_ANY_WEAK, 4);
+GM_IS(GM_OK, 0);
+GM_IS(GM_MALFORMED, 1);
+GM_IS(GM_BAD_MAGIC, 2);
+GM_IS(GM_SHORT, 3);
+GM_IS(GM_TOO_MANY, 4);
+GM_IS(GM_NO_MEMORY, 5);
+GM_IS(GM_NO_ROWS, 6);
+GM_IS(GM_MORE, 0);
+GM_IS(GM_END, 1);
+GM_IS(GM_NO_ROOM, 2);
+GM_IS(GM_NAME_SHORT, 3);
+GM_IS(GM_STACK_SHORT, 4);
+GM_IS(GM_REFUSED, 5);
+GM_IS(GM_NO_EXPORT, 0);
+GM_IS(GM_ADDRESS, 1);
+GM_IS(GM_REEXPORTED, 2);
+GM_IS(GM_STUB, 3);
+GM_IS(GM_REBASE, 0);
+GM_IS(GM_BIND, 1);
+GM_IS(GM_NUMBER, 2);
+GM_IS(GM_REQUIRED, 0);
+GM_IS(GM_WEAK, 1);
+GM_IS(GM_REEXPORT, 2);
+GM_IS(GM_UPWARD, 3);
+GM_IS(GM_LAZY, 4);
+GM_IS(GM_LOSSY, 1);
+/* ---- end */
+#undef GM_ASSERT
+#undef GM_WIDTH
 #undef GM_FIELD
 #undef GM_SIZE
-#endif
+#undef GM_IS
 
 #ifdef __cplusplus
 }

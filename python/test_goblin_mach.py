@@ -15,7 +15,7 @@ import unittest
 import goblin_mach
 from goblin_mach import Refused
 
-HERE = os.path.dirname(os.path.abspath(goblin_mach.__file__))
+HERE = os.path.dirname(os.path.dirname(os.path.abspath(goblin_mach.__file__)))
 CPU, DYLIB = 0x01000007, 6
 NOT_UTF8 = "_b\udcff"  # the bytes of a name as str has them
 SECONDS = 60
@@ -204,9 +204,10 @@ class Closed(Case):
             "imports": one.imports, "bindings": one.bindings, "exports": one.exports, "run_paths": one.run_paths, "ids": one.ids,
             "layout_faults": one.layout_faults, "find_export": lambda: [one.find_export("_a")],
             "exports_are_a_tree": lambda: [one.exports_are_a_tree()], "name": lambda: [one.name],
-            "sections": lambda: one.sections(part), "relocations": lambda: one.relocations(section),
+            "sections": lambda: one.sections(part), "relocations": lambda: one.relocations(section), "data": lambda: [one.data],
         }
-        public = {name for name in dir(goblin_mach.Image) if name[0] != "_"} - {"error"}
+        numbers = {"error", "arch", "cpu_type", "cpu_subtype", "file_type", "header_flags"}
+        public = {name for name in dir(goblin_mach.Image) if name[0] != "_"} - numbers
         self.assertEqual(public, set(calls))
         for call in calls.values():
             list(call())

@@ -1,0 +1,46 @@
+"""Reads Apple's Mach-O images, by the proved library libgoblin_mach.so.
+
+    import goblin_mach
+    with goblin_mach.open("a.out") as file:
+        for image in file:
+            for symbol in image.symbols():
+                print(hex(symbol.value), symbol.name)
+
+A file is mapped, not copied. Each list is an iterator that asks the library for 1,000 items at a time. What can't be read of a
+list is an item with an `error`; what can't be opened raises `Refused`, but for an entry of a fat file, which is an image with an `error`.
+A list may be as long as a hostile file says, up to 2^60 bindings: take of it what is wanted (`itertools.islice`). Bytes of a name
+that are no UTF-8 stand as surrogates, as `os.fsdecode` has them. It needs no package beside Python 3.8. docs/PYTHON.md says more.
+"""
+
+from __future__ import annotations
+
+from ._exports import EXPORTS
+from ._lists import FIXUPS, KINDS, PROVIDERS
+from ._rows import BATCH, Rows
+from .enums import (
+    CPU_SUBTYPES, Arm64_32Subtype, Arm64Subtype, ArmSubtype, CpuSubtype, CpuType, ErrorCode, FileType, HeaderFlags, LoadCommand, Mode, Platform,
+    PowerPcSubtype, Protection, SectionAttributes, SectionType, SegmentFlags, Tool, X86_64Subtype, X86Subtype,
+)
+from .errors import ERRORS, Refused
+from .file import File, container_faults, fat_entries, open, parse
+from .image import Image
+from .items import Binding, Command, Export, FatEntry, Fixup, Import, LayoutFault, Library, Owner, Relocation, Section, Segment, Symbol
+from .symbol_enums import (
+    RELOCATION_TYPES, Arm64Relocation, ArmRelocation, ExportFlags, ExportKind, GenericRelocation, PowerPcRelocation, ReferenceType, RelocationType,
+    Stab, SymbolDescription, SymbolType, X86_64Relocation,
+)
+
+__version__ = "0.2.0"
+
+STRICT, LOSSY = Mode.STRICT, Mode.LOSSY
+NO_MEMORY = ErrorCode.NO_MEMORY
+
+__all__ = [
+    "open", "parse", "fat_entries", "container_faults", "File", "Image", "Rows", "Refused",
+    "FatEntry", "Command", "Segment", "Section", "Relocation", "Symbol", "Library", "Fixup", "Import", "Binding", "Export", "Owner", "LayoutFault",
+    "Mode", "STRICT", "LOSSY", "ErrorCode", "ERRORS", "NO_MEMORY", "BATCH", "FIXUPS", "PROVIDERS", "KINDS", "EXPORTS",
+    "CpuType", "CpuSubtype", "CPU_SUBTYPES", "X86Subtype", "X86_64Subtype", "ArmSubtype", "Arm64Subtype", "Arm64_32Subtype", "PowerPcSubtype",
+    "FileType", "HeaderFlags", "LoadCommand", "Protection", "SegmentFlags", "SectionType", "SectionAttributes", "Platform", "Tool",
+    "SymbolType", "Stab", "ReferenceType", "SymbolDescription", "ExportKind", "ExportFlags",
+    "RelocationType", "RELOCATION_TYPES", "X86_64Relocation", "GenericRelocation", "ArmRelocation", "Arm64Relocation", "PowerPcRelocation",
+]

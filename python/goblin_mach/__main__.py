@@ -1,0 +1,131 @@
+"""`python3 -m goblin_mach WORD FILE` prints a list of each image of a file."""
+
+from __future__ import annotations
+
+import io
+import os
+import signal
+import sys
+from typing import Callable, Dict, Iterator, List
+
+import goblin_mach
+
+from .errors import Refused, code_of
+from .file import File
+from .image import Image
+
+
+def _commands(image: Image) -> Iterator[str]:
+    for c in image.commands():
+        yield f"0x{c.offset:x} {c.cmd:x} size: {c.size}"
+
+
+def _segments(image: Image) -> Iterator[str]:
+    for s in image.segments():
+        yield (f"{s.name.decode('utf-8', 'surrogateescape')} {s.vmaddr:x} {s.vmsize:x} {s.fileoff:x} {s.filesize:x} {s.command} {len(s.data)} "
+               f"{s.maxprot:x} {s.initprot:x} {s.nsects} {s.flags:x}")
+
+
+def _symbols(image: Image) -> Iterator[str]:
+    for s in image.symbols():
+        yield f"{s.value:0{16 if image.is_64 else 8}x} {s.n_type:x} {s.section} {s.desc:x} {code_of(s.error)} {s.name}"
+
+
+def _libraries(image: Image) -> Iterator[str]:
+    for library in image.libraries():
+        yield (f"{goblin_mach.KINDS.index(library.kind)} {library.timestamp} {library.current_version:x} {library.compatibility_version:x} "
+               f"{library.name}")
+
+
+def _fixups(image: Image) -> Iterator[str]:
+    for f in image.fixups():
+        yield (f"{f.address:x} {f.offset:x} {f.target:x} {f.segment} {goblin_mach.FIXUPS.index(f.kind)} {f.import_number} {f.addend} "
+               f"{int(f.is_signed)} {f.key} {f.diversity} {int(f.is_address_diverse)} {code_of(f.error)}")
+
+
+def _exports(image: Image) -> Iterator[str]:
+    for e in image.exports():
+        yield f"0x{e.address if e.kind == goblin_mach.EXPORTS[1] else 0:x} {e.name}"
+
+
+def _imports(image: Image) -> Iterator[str]:
+    names = ["self"] + [library.name for library in image.libraries()]
+    for i in image.imports():
+        yield (f"{code_of(i.error)} {i.library} {i.offset:x} {i.addend} {i.start_of_sequence_offset:x} {i.size} {int(i.is_weak)} {int(i.is_lazy)} "
+               f"0x{i.address:x} {names[i.library]} {i.name}")
+
+
+def _bindings(image: Image) -> Iterator[str]:
+    for b in image.bindings():
+        yield (f"{code_of(b.error)} {goblin_mach.PROVIDERS.index(b.provider)} {b.library} {b.offset:x} {b.addend} {int(b.is_weak)} {int(b.is_lazy)} "
+               f"0x{b.address:x} {b.name}")
+
+
+def _layout(image: Image) -> Iterator[str]:
+    for fault in image.layout_faults():
+        yield str(fault)
+
+
+LINES: Dict[str, Callable[[Image], Iterator[str]]] = {
+    "commands": _commands,
+    "segments": _segments,
+    "symbols": _symbols,
+    "libraries": _libraries,
+    "run_paths": lambda image: iter(image.run_paths()),
+    "ids": lambda image: iter(image.ids()),
+    "fixups": _fixups,
+    "exports": _exports,
+    "imports": _imports,
+    "bindings": _bindings,
+    "layout": _layout,
+}
+"""For each word what is printed of an image."""
+
+
+def _print(file: File, word: str) -> int:
+    """Prints the lines of a file's images, and what can't be opened: answers the status."""
+    status = 0
+    if word == "layout":
+        for fault in file.container_faults():
+            print(fault)
+    for image in file:
+        try:
+            for line in LINES[word](image):
+                print(line)
+        except Refused as why:
+            print(f"goblin_mach: {why}", file=sys.stderr)
+            status = 1
+    sys.stdout.flush()
+    return status
+
+
+def main(words: List[str]) -> int:
+    """Runs the program on these words: answers the status."""
+    if len(words) != 2 or words[0] not in LINES:
+        print(f"usage: python3 -m goblin_mach {'|'.join(LINES)} FILE", file=sys.stderr)
+        return 2
+    try:
+        with goblin_mach.open(words[1]) as file:
+            return _print(file, words[0])
+    except (OSError, Refused) as why:
+        print(f"goblin_mach: {why}", file=sys.stderr)
+        return 1 if isinstance(why, Refused) else 2
+
+
+def program() -> None:
+    """Runs the program, and ends it."""
+    # A pipe that is closed and Ctrl-C end it as they end other programs: with no words, and by their signal. Where Ctrl-C was ignored it stays so.
+    signal.signal(signal.SIGPIPE, signal.SIG_DFL)
+    if signal.getsignal(signal.SIGINT) is signal.default_int_handler:
+        signal.signal(signal.SIGINT, signal.SIG_DFL)
+    # Names are written as the bytes that they are in the file, whatever the locale is.
+    if isinstance(sys.stdout, io.TextIOWrapper):
+        sys.stdout.reconfigure(encoding="utf-8", errors="surrogateescape")
+    status = main(sys.argv[1:])
+    if status == 2:  # what a failed write left in the buffer would fail again, with words and a status of Python's own
+        os.dup2(os.open(os.devnull, os.O_WRONLY), sys.stdout.fileno())
+    sys.exit(status)
+
+
+if __name__ == "__main__":
+    program()

@@ -1,0 +1,103 @@
+"""Finds libgoblin_mach.so, loads it, and says what its calls take and answer."""
+
+from __future__ import annotations
+
+import ctypes
+import glob
+import os
+from ctypes import POINTER, c_char_p, c_size_t, c_uint32, c_void_p
+from typing import Any, Dict, List, Sequence, Tuple
+
+from . import _structs as s
+from .errors import Refused
+
+FITS = (0, 2)
+"""MAJOR and MINOR of the versions of the library that this package is written for: others may have other structs and calls."""
+
+HERE = os.path.dirname(os.path.abspath(__file__))
+NAME = "libgoblin_mach.so"
+SONAME = "libgoblin_mach.so.0"
+
+
+def _in_folder(folder: str) -> List[str]:
+    return sorted(glob.glob(os.path.join(glob.escape(folder), NAME + "*")))
+
+
+def places() -> List[str]:
+    """Where the library is sought, in order: where GOBLIN_MACH says, and nowhere else if it says anything; beside this file, as in a wheel that
+    carries it; in build/ of the repository that the package lies in; and where the system's loader looks."""
+    named = os.environ.get("GOBLIN_MACH")
+    if named:
+        return [named]
+    top = os.path.dirname(os.path.dirname(HERE))
+    built = _in_folder(os.path.join(top, "build")) if os.path.exists(os.path.join(top, "python", "pyproject.toml")) else []
+    return [*_in_folder(HERE), *built, SONAME, NAME]
+
+
+def _open_first(paths: Sequence[str]) -> ctypes.CDLL:
+    """The first of these that can be loaded."""
+    why = []
+    for path in paths:
+        try:
+            return ctypes.CDLL(path)
+        except OSError as error:
+            why.append(str(error))
+    raise ImportError(f"{NAME} is not found: build it by ./build-c, and name it in GOBLIN_MACH. Tried: " + "; ".join(why))
+
+
+def _prototypes() -> Dict[str, Tuple[Any, List[Any]]]:
+    """What each call answers, and what it takes."""
+    image, error, count = POINTER(s.gm_image), POINTER(s.gm_error), POINTER(c_size_t)
+    held: List[Any] = [c_void_p, c_size_t]
+    by_number: List[Any] = [c_size_t, c_void_p, c_size_t]
+    calls: Dict[str, Tuple[Any, List[Any]]] = {
+        "gm_open": (c_uint32, [*held, c_size_t, c_uint32, c_void_p, image, error]),
+        "gm_fat_entries": (c_size_t, [*held, *by_number]),
+        "gm_sections": (c_size_t, [*held, image, c_size_t, c_uint32, *by_number]),
+        "gm_relocations": (c_size_t, [*held, image, c_uint32, c_uint32, *by_number]),
+        "gm_find_export": (c_uint32, [*held, image, c_char_p, c_size_t, POINTER(s.gm_export), c_void_p, c_size_t, c_void_p, c_size_t, c_void_p, error]),
+        "gm_exports": (c_uint32, [*held, image, POINTER(s.gm_export_walk), POINTER(s.gm_export_room), POINTER(s.gm_export_batch), c_void_p, error]),
+        "gm_exports_are_a_tree": (c_uint32, [*held, image, c_void_p, error]),
+        "gm_layout_faults": (c_uint32, [*held, image, *by_number, count, c_void_p, error]),
+        "gm_container_faults": (c_uint32, [*held, *by_number, count, c_void_p, error]),
+        "gm_layout_rule": (c_char_p, [c_uint32]),
+        "gm_layout_part": (c_char_p, [c_uint32]),
+    }
+    for name in ("commands", "segments", "symbols", "libraries", "run_paths", "ids"):
+        calls["gm_" + name] = c_size_t, [*held, image, *by_number]
+    for name, cursor in (("fixups", s.gm_fixup_cursor), ("imports", s.gm_bind_cursor), ("bindings", s.gm_binding_cursor)):
+        calls["gm_" + name] = c_uint32, [*held, image, POINTER(cursor), c_void_p, c_size_t, count, c_void_p, error]
+    return calls
+
+
+def version_of(found: ctypes.CDLL) -> Tuple[int, int, int]:
+    """The version of a library. One that has no call for its number is of before 0.2.0, and has the same structs and calls where it answers 1."""
+    if not hasattr(found, "gm_version_number"):
+        found.gm_version.restype = c_uint32
+        return (0, 2, 0) if found.gm_version() == 1 else (0, 0, 0)
+    found.gm_version_number.restype = c_uint32
+    number = int(found.gm_version_number())
+    return number // 1000000, number // 1000 % 1000, number % 1000
+
+
+def load(paths: Sequence[str]) -> ctypes.CDLL:
+    """The library, loaded from the first of these places that has it; an ImportError where none has, or where it is of another version."""
+    found = _open_first(paths)
+    try:
+        version = version_of(found)
+        if version[:2] != FITS:
+            raise ImportError(f"{found._name} is of version {'.'.join(map(str, version))}, and this package for {FITS[0]}.{FITS[1]}")
+        for name, (answer, taken) in _prototypes().items():
+            call = getattr(found, name)
+            call.restype, call.argtypes = answer, taken
+    except AttributeError as error:
+        raise ImportError(f"{found._name} lacks a call: {error}") from None
+    return found
+
+
+lib = load(places())
+
+
+def refused(error: s.gm_error) -> Refused:
+    """What the library says of a refusal."""
+    return Refused(error.code, error.text.decode("utf-8", "replace"))

@@ -1,0 +1,137 @@
+"""Items out of rows: for each kind of list what makes its items. Each is a loop of its own over tuples, since lists are long."""
+
+from __future__ import annotations
+
+from functools import lru_cache
+from typing import Any, Callable, Iterable, List, Optional, Tuple
+
+from . import _structs as s
+from ._library import lib
+from ._memory import Held
+from ._rows import Kind
+from .errors import ERRORS
+from .items import Binding, Command, FatEntry, Fixup, Import, LayoutFault, Library, Owner, Relocation, Section, Segment, Symbol
+
+FIXUPS = ("rebase", "bind", "number")
+PROVIDERS = ("library", "itself", "program", "any", "any weak")
+KINDS = ("required", "weak", "reexport", "upward", "lazy")
+
+Raws = Iterable[Tuple[Any, ...]]
+_new = tuple.__new__  # of a NamedTuple: the fields as one tuple, at a third of the time
+_error: Callable[[int], Optional[str]] = ERRORS.get
+_ESCAPED = "surrogateescape"
+
+
+def _name(raw: bytes) -> bytes:
+    return raw.split(b"\0", 1)[0]
+
+
+def fat_entries(held: Held, raws: Raws, first: int) -> List[FatEntry]:
+    return [FatEntry(cpu, kind, offset, size, align, _error(code)) for cpu, kind, offset, size, align, code in raws]
+
+
+def commands(held: Held, raws: Raws, first: int) -> List[Command]:
+    return [_new(Command, raw) for raw in raws]
+
+
+def segments(held: Held, raws: Raws, first: int) -> List[Segment]:
+    view = held.view
+    return [
+        Segment(_name(name), vmaddr, vmsize, fileoff, filesize, maxprot, initprot, flags, view[fileoff:fileoff + data_len], command, nsects)
+        for name, vmaddr, vmsize, fileoff, filesize, command, data_len, maxprot, initprot, nsects, flags in raws
+    ]
+
+
+def sections(held: Held, raws: Raws, first: int) -> List[Section]:
+    view = held.view
+    return [
+        Section(_name(name), _name(segment), addr, size, offset, align, reloff, nreloc, flags, view[offset:offset + data_len], _error(code))
+        for name, segment, addr, size, data_len, offset, align, reloff, nreloc, flags, code in raws
+    ]
+
+
+def relocations(held: Held, raws: Raws, first: int) -> List[Relocation]:
+    return [_new(Relocation, (address, info, _error(code))) for address, info, code in raws]
+
+
+def symbols(held: Held, raws: Raws, first: int) -> List[Symbol]:
+    view, new = held.view, _new
+    return [
+        new(Symbol, (str(view[name:name + size], "utf-8", _ESCAPED), value, section, n_type, desc, _error(code) if code else None))
+        for value, name, size, section, code, desc, n_type in raws
+    ]
+
+
+def run_paths(held: Held, raws: Raws, first: int) -> List[str]:
+    return [held.text(path, size) for path, size in raws]
+
+
+def ids(held: Held, raws: Raws, first: int) -> List[str]:
+    return [held.text(name, size) for name, size in raws]
+
+
+def libraries(held: Held, raws: Raws, first: int) -> List[Library]:
+    return [
+        Library(ordinal, held.text(name, size), KINDS[kind], timestamp, current_version, compatibility_version)
+        for ordinal, (name, size, kind, timestamp, current_version, compatibility_version) in enumerate(raws, first + 1)
+    ]
+
+
+def fixups(held: Held, raws: Raws, first: int) -> List[Fixup]:
+    new = _new
+    return [
+        new(Fixup, (address, segment, offset, FIXUPS[kind], target, number, addend, signed != 0, key, diversity, diverse != 0,
+                    _error(code) if code else None))
+        for address, offset, target, segment, kind, number, addend, signed, key, diversity, diverse, code in raws
+    ]
+
+
+def imports(held: Held, raws: Raws, first: int) -> List[Import]:
+    view, new = held.view, _new
+    return [
+        new(Import, (str(view[name:name + length], "utf-8", _ESCAPED), library, address, offset, addend, size, start, weak != 0, lazy != 0,
+                     _error(code) if code else None))
+        for address, offset, addend, start, name, length, library, size, weak, lazy, code in raws
+    ]
+
+
+def bindings(held: Held, raws: Raws, first: int) -> List[Binding]:
+    view, new = held.view, _new
+    return [
+        new(Binding, (str(view[name:name + length], "utf-8", _ESCAPED), PROVIDERS[provider], library, address, offset, addend, weak != 0, lazy != 0,
+                      _error(code) if code else None))
+        for address, offset, addend, name, length, library, provider, weak, lazy, code in raws
+    ]
+
+
+@lru_cache(maxsize=None)
+def _rule(number: int) -> str:
+    return str(lib.gm_layout_rule(number).decode())
+
+
+@lru_cache(maxsize=None)
+def _part(number: int) -> str:
+    return str(lib.gm_layout_part(number).decode())
+
+
+def layout_faults(held: Held, raws: Raws, first: int) -> List[LayoutFault]:
+    return [
+        LayoutFault(_rule(rule), Owner(_part(part), command, index), found, limit, Owner(_part(other), other_command, other_index) if other else None)
+        for found, limit, command, index, other_command, other_index, rule, part, other in raws
+    ]
+
+
+FAT_ENTRIES = Kind(lib.gm_fat_entries, s.gm_fat_entry, fat_entries)
+COMMANDS = Kind(lib.gm_commands, s.gm_command, commands)
+SEGMENTS = Kind(lib.gm_segments, s.gm_segment, segments)
+SECTIONS = Kind(lib.gm_sections, s.gm_section, sections)
+RELOCATIONS = Kind(lib.gm_relocations, s.gm_relocation, relocations)
+SYMBOLS = Kind(lib.gm_symbols, s.gm_symbol, symbols)
+LIBRARIES = Kind(lib.gm_libraries, s.gm_library, libraries)
+RUN_PATHS = Kind(lib.gm_run_paths, s.gm_run_path, run_paths)
+IDS = Kind(lib.gm_ids, s.gm_id, ids)
+FIXUPS_BEHIND = Kind(lib.gm_fixups, s.gm_fixup, fixups)
+IMPORTS_BEHIND = Kind(lib.gm_imports, s.gm_import, imports)
+BINDINGS_BEHIND = Kind(lib.gm_bindings, s.gm_binding, bindings)
+LAYOUT_FAULTS = Kind(lib.gm_layout_faults, s.gm_layout_fault, layout_faults)
+CONTAINER_FAULTS = Kind(lib.gm_container_faults, s.gm_layout_fault, layout_faults)

@@ -1,0 +1,81 @@
+"""What is common to numbers that have names.
+
+The fields of items and images are plain `int`s, as the file says them, and a property beside each is the enum: `command.cmd` is 25, and
+`command.load_command` is `LoadCommand.SEGMENT_64`. So a list costs no look-up of a name that nobody asks for, what is printed, compared or pickled
+is a number in each version of Python, and a number that has no name is no fault. The property always answers an enum: of a number without a name
+one that is named after it, as `LoadCommand.UNKNOWN_0x99`, equal to the number, and not kept, so that a file can't make the tables grow.
+"""
+
+from __future__ import annotations
+
+from enum import IntEnum, IntFlag
+from typing import Any, Tuple, Type, TypeVar, cast
+
+E = TypeVar("E", bound="Number")
+F = TypeVar("F", bound="Flags")
+
+
+class Number(IntEnum):
+    """A number with a name. No number is refused."""
+
+    @classmethod
+    def of(cls: Type[E], number: int) -> E:
+        """The member of a number, with a name or without."""
+        member = cls._value2member_map_.get(number)
+        return cls._unnamed(number) if member is None else cast(E, member)
+
+    @classmethod
+    def _unnamed(cls: Type[E], number: int) -> E:
+        member = int.__new__(cls, number)
+        member._name_ = f"UNKNOWN_{'-' if number < 0 else ''}0x{abs(number):x}"
+        member._value_ = number
+        return member
+
+    @classmethod
+    def _missing_(cls, value: object) -> Any:
+        return cls._unnamed(value) if isinstance(value, int) else None
+
+    @property
+    def is_known(self) -> bool:
+        """Whether the number has a name."""
+        return self._value_ in type(self)._value2member_map_
+
+    def __reduce_ex__(self, protocol: Any) -> Any:
+        return type(self).of, (self._value_,)
+
+    def __copy__(self: E) -> E:
+        return self
+
+    def __deepcopy__(self: E, memo: Any) -> E:
+        return self
+
+
+class Flags(IntFlag):
+    """Bits with names. No bit is refused."""
+
+    @classmethod
+    def of(cls: Type[F], number: int) -> F:
+        """The flags of a number; bits that have no name are kept."""
+        return cls(number)
+
+    @classmethod
+    def _missing_(cls, value: object) -> Any:
+        member = super()._missing_(value)
+        cls._value2member_map_.pop(member._value_, None)  # Python keeps each sum of flags that was ever asked for
+        return member
+
+    @property
+    def names(self) -> Tuple[str, ...]:
+        """The names of the bits that are set, lowest first; a bit without a name stands as its number."""
+        known = {member.value: name for name, member in reversed(list(type(self).__members__.items()))}
+        bits = (1 << k for k in range(int(self).bit_length()))
+        return tuple(known.get(bit, f"0x{bit:x}") for bit in bits if int(self) & bit)
+
+    def __reduce_ex__(self, protocol: Any) -> Any:
+        return type(self).of, (self._value_,)
+
+    def __copy__(self: F) -> F:
+        return self
+
+    def __deepcopy__(self: F, memo: Any) -> F:
+        return self

@@ -1,0 +1,145 @@
+"""Lists of items, which the library writes in batches."""
+
+from __future__ import annotations
+
+import ctypes
+import struct
+from typing import Any, Callable, Generic, Iterable, Iterator, List, Optional, Sequence, Tuple, Type, TypeVar, Union, overload
+
+from ._library import refused
+from ._memory import Held
+from ._structs import gm_error, unpacker
+from .errors import Refused
+
+T = TypeVar("T")
+BATCH = 1000
+"""How many items the library is asked for at a time."""
+
+Decode = Callable[[Held, Iterable[Tuple[Any, ...]], int], List[T]]
+"""What makes items of rows in some bytes, whose first one has this number in the list."""
+
+
+class Kind(Generic[T]):
+    """A kind of list: the call that writes its rows, the struct of a row, and what makes items of rows."""
+
+    __slots__ = ("call", "decode", "row")
+
+    def __init__(self, call: Callable[..., Any], row: Type[ctypes.Structure], decode: Decode[T]) -> None:
+        self.call, self.decode = call, decode
+        self.row: struct.Struct = unpacker(row)
+
+    def array(self, count: int) -> ctypes.Array[ctypes.c_char]:
+        """Room for so many rows."""
+        return ctypes.create_string_buffer(count * self.row.size)
+
+    def items(self, held: Held, array: ctypes.Array[ctypes.c_char], count: int, first: int) -> List[T]:
+        """The items of the first `count` rows of an array, whose numbers begin with `first`."""
+        return self.decode(held, self.row.iter_unpack(memoryview(array)[:count * self.row.size]), first)
+
+
+class Rows(Generic[T]):
+    """A list whose items stand at numbers of their own. It is an iterator over them, and is gone over once. Beside that `len` says how many there are,
+    an index or a slice asks for items anew, wherever the iterator is, and so does `in`."""
+
+    __slots__ = ("_given", "_kind", "_length", "_live", "_walk")
+
+    def __init__(self, kind: Kind[T], live: Callable[[], Held], given: Sequence[Any] = (), length: Optional[Callable[[], int]] = None) -> None:
+        self._kind, self._live, self._given, self._length = kind, live, given, length
+        self._walk = self._items(0, None)
+
+    def _items(self, first: int, end: Optional[int]) -> Iterator[T]:
+        """The items from a number on, up to `end` if that is said, in batches."""
+        kind, held = self._kind, self._live()
+        life, cap = held.life, BATCH if end is None else min(BATCH, end - first)
+        array = kind.array(cap)
+        while cap > 0:
+            life.check()
+            count = kind.call(held.at, held.len, *self._given, first, array, cap)
+            for item in kind.items(held, array, count, first):
+                yield item
+                if life.closed:
+                    life.check()
+            if count < cap:
+                return
+            first += count
+            cap = cap if end is None else min(cap, end - first)
+
+    def __iter__(self) -> Iterator[T]:
+        return self._walk
+
+    def __next__(self) -> T:
+        return next(self._walk)
+
+    def __len__(self) -> int:
+        self._live()
+        return sum(1 for _ in self._items(0, None)) if self._length is None else self._length()
+
+    def __contains__(self, item: object) -> bool:
+        return any(item == each for each in self._items(0, None))
+
+    @overload
+    def __getitem__(self, index: int) -> T: ...
+
+    @overload
+    def __getitem__(self, index: slice) -> List[T]: ...
+
+    def __getitem__(self, index: Union[int, slice]) -> Union[T, List[T]]:
+        if isinstance(index, slice):
+            return self._slice(range(*index.indices(len(self))))
+        number = index.__index__()
+        if number < 0:
+            number += len(self)
+        found = list(self._items(number, number + 1)) if 0 <= number < 1 << 63 else []
+        if not found:
+            raise IndexError(f"there is no item {index}")
+        return found[0]
+
+    def _slice(self, numbers: range) -> List[T]:
+        """The items of these numbers. What lies between them is read in batches, and isn't kept."""
+        if not numbers:
+            return []
+        first, end, step = min(numbers[0], numbers[-1]), max(numbers[0], numbers[-1]) + 1, abs(numbers.step)
+        found = [item for number, item in enumerate(self._items(first, end)) if number % step == 0]
+        return found if numbers.step > 0 else found[::-1]
+
+    def __repr__(self) -> str:
+        name = self._kind.decode.__name__.replace("_", " ")
+        try:
+            return f"<Rows: {len(self)} {name}>"
+        except (Refused, ValueError) as why:  # an image that can't be opened, or a file that is closed
+            return f"<Rows: {name}, {why}>"
+
+
+def rows_behind(kind: Kind[T], live: Callable[[], Held], numbers: Any, cursor: ctypes.Structure) -> Iterator[T]:
+    """The items of a list that goes on from a cursor, which begins as zeros."""
+    held, array, count, error, first = live(), kind.array(BATCH), ctypes.c_size_t(), gm_error(), 0
+    life = held.life
+    while True:
+        life.check()
+        if kind.call(held.at, held.len, numbers, ctypes.byref(cursor), array, BATCH, ctypes.byref(count), None, ctypes.byref(error)):
+            raise refused(error)
+        for item in kind.items(held, array, count.value, first):
+            yield item
+            if life.closed:
+                life.check()
+        if count.value < BATCH:
+            return
+        first += BATCH
+
+
+def all_faults(kind: Kind[T], live: Callable[[], Held], given: Sequence[Any] = ()) -> Iterator[T]:
+    """The items of a list of which each call seeks all: so batches double."""
+    held, first, cap = live(), 0, BATCH
+    life = held.life
+    while True:
+        life.check()
+        array, count, error = kind.array(cap), ctypes.c_size_t(), gm_error()
+        if kind.call(held.at, held.len, *given, first, array, cap, ctypes.byref(count), None, ctypes.byref(error)):
+            raise refused(error)
+        for item in kind.items(held, array, count.value, first):
+            yield item
+            if life.closed:
+                life.check()
+        if count.value < cap:
+            return
+        first, cap = first + cap, 2 * cap

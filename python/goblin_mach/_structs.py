@@ -1,0 +1,169 @@
+"""The structs of include/goblin_mach.h, with its names. A test compares each field's place and size with those that the header states."""
+
+from __future__ import annotations
+
+import ctypes
+import struct
+from ctypes import c_char, c_int32, c_int64, c_size_t, c_uint8, c_uint16, c_uint32, c_uint64, c_void_p
+from typing import Any, List, Tuple, Type
+
+Fields = List[Tuple[str, Any]]
+
+
+def _fields(kind: Any, names: str) -> Fields:
+    return [(name, kind) for name in names.split()]
+
+
+def _u32(names: str) -> Fields:
+    return _fields(c_uint32, names)
+
+
+def _u64(names: str) -> Fields:
+    return _fields(c_uint64, names)
+
+
+def _sizes(names: str) -> Fields:
+    return _fields(c_size_t, names)
+
+
+class gm_error(ctypes.Structure):
+    _fields_ = [("code", c_uint32), ("text", c_char * 124)]
+
+
+class gm_image(ctypes.Structure):
+    _fields_ = (
+        [("offset", c_size_t), ("entry", c_uint64)]
+        + _sizes("first_command commands segments libraries run_paths symbols symbols_at names_at")
+        + _u32("magic cputype cpusubtype filetype flags is_lossy is_old_style_entry is_little_endian is_64")
+    )
+
+
+class gm_fat_entry(ctypes.Structure):
+    _fields_ = _u32("cputype cpusubtype offset size align code")
+
+
+class gm_command(ctypes.Structure):
+    _fields_ = _sizes("offset size") + _u32("cmd")
+
+
+class gm_segment(ctypes.Structure):
+    _fields_ = [("name", c_uint8 * 16)] + _u64("vmaddr vmsize fileoff filesize") + _sizes("command data_len") + _u32("maxprot initprot sections flags")
+
+
+class gm_section(ctypes.Structure):
+    _fields_ = (
+        [("name", c_uint8 * 16), ("segment", c_uint8 * 16)]
+        + _u64("addr size")
+        + _sizes("data_len")
+        + _u32("offset align reloff nreloc flags code")
+    )
+
+
+class gm_relocation(ctypes.Structure):
+    _fields_ = [("address", c_int32), ("info", c_uint32), ("code", c_uint32)]
+
+
+class gm_symbol(ctypes.Structure):
+    _fields_ = _u64("value") + _sizes("name name_len section") + [("code", c_uint32), ("desc", c_uint16), ("n_type", c_uint8)]
+
+
+class gm_library(ctypes.Structure):
+    _fields_ = _sizes("name name_len") + _u32("kind timestamp current_version compatibility_version")
+
+
+class gm_run_path(ctypes.Structure):
+    _fields_ = _sizes("path path_len")
+
+
+class gm_id(ctypes.Structure):
+    _fields_ = _sizes("name name_len")
+
+
+class gm_export(ctypes.Structure):
+    _fields_ = _u64("address resolver flags") + _sizes("library_len target_len") + _u32("kind reserved")
+
+
+class gm_open_node(ctypes.Structure):
+    _fields_ = _sizes("left place name_len")
+
+
+class gm_export_walk(ctypes.Structure):
+    _fields_ = _sizes("phase visits_left name_len depth node") + [("top", gm_open_node)] + _u32("is_begun code")
+
+
+class gm_listed_export(ctypes.Structure):
+    _fields_ = _sizes("name name_len library target") + [("what", gm_export)]
+
+
+class gm_export_room(ctypes.Structure):
+    _fields_ = [("name", c_void_p), ("name_cap", c_size_t), ("stack", c_void_p), ("stack_cap", c_size_t),
+                ("out", c_void_p), ("cap", c_size_t), ("names", c_void_p), ("names_cap", c_size_t)]
+
+
+class gm_export_batch(ctypes.Structure):
+    _fields_ = _sizes("count names_len needed") + _u32("end reserved")
+
+
+class gm_fixup(ctypes.Structure):
+    _fields_ = (
+        _u64("address offset target")
+        + _u32("segment kind import")
+        + [("addend", c_int32)]
+        + _u32("is_signed key diversity is_address_diverse code")
+    )
+
+
+class gm_fixup_cursor(ctypes.Structure):
+    _fields_ = [("chains", c_uint64 * 4), ("stage", c_uint32), ("reserved", c_uint32)]
+
+
+class gm_import(ctypes.Structure):
+    _fields_ = (
+        _u64("address offset")
+        + [("addend", c_int64)]
+        + _u64("start_of_sequence_offset")
+        + _sizes("name name_len")
+        + _u64("library")
+        + _sizes("size")
+        + _u32("is_weak is_lazy code")
+    )
+
+
+class gm_bind_cursor(ctypes.Structure):
+    _fields_ = [("binds", c_uint64 * 12), ("stage", c_uint32), ("reserved", c_uint32)]
+
+
+class gm_binding(ctypes.Structure):
+    _fields_ = (
+        _u64("address offset")
+        + [("addend", c_int64)]
+        + _sizes("name name_len")
+        + _u64("library")
+        + _u32("provider is_weak is_lazy code")
+    )
+
+
+class gm_binding_cursor(ctypes.Structure):
+    _fields_ = [("opcodes", gm_bind_cursor), ("chains", gm_fixup_cursor)]
+
+
+class gm_layout_fault(ctypes.Structure):
+    _fields_ = _u64("found limit command index other_command other_index") + _u32("rule part other_part")
+
+
+def _codes(kind: Any) -> str:
+    """What the module `struct` calls the fields of a type, one behind the other."""
+    if issubclass(kind, ctypes.Structure):
+        return "".join(_codes(field[1]) for field in kind._fields_)
+    if issubclass(kind, ctypes.Array):
+        return f"{kind._length_}s"
+    return str(kind._type_)
+
+
+def unpacker(row: Type[ctypes.Structure]) -> struct.Struct:
+    """What takes the rows of this type out of bytes, each as a tuple of its fields: many times as fast as ctypes."""
+    end = {4: "0I", 8: "0Q"}[ctypes.alignment(row)]
+    made = struct.Struct("@" + _codes(row) + end)
+    if made.size != ctypes.sizeof(row):
+        raise ImportError(f"{row.__name__} has {ctypes.sizeof(row)} bytes here, and its fields {made.size}")
+    return made

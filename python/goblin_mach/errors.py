@@ -1,0 +1,38 @@
+"""Why something was refused."""
+
+from __future__ import annotations
+
+from typing import Dict, Optional
+
+from .enums import ErrorCode
+
+ERRORS: Dict[int, str] = {
+    ErrorCode.MALFORMED: "malformed",
+    ErrorCode.BAD_MAGIC: "bad magic",
+    ErrorCode.SHORT: "out of the bytes, or no text",
+    ErrorCode.TOO_MANY: "too many",
+    ErrorCode.NO_MEMORY: "out of memory",
+    ErrorCode.NO_ROWS: "no rows",
+}
+_CODES = {words: code for code, words in ERRORS.items()}
+
+
+class Refused(Exception):
+    """Why an image was refused: `code` is its number, one of `ErrorCode`, and the words say where. It can be copied and pickled."""
+
+    def __init__(self, code: int, words: str) -> None:
+        super().__init__(code, words)
+        self.code, self.words = code, words
+
+    def __str__(self) -> str:
+        return self.words
+
+
+def again(error: Refused) -> Refused:
+    """An error of the same code and words, with no traceback."""
+    return Refused(error.code, error.words)
+
+
+def code_of(error: Optional[str]) -> int:
+    """The code of what an item says as its `error`: 0 where that is None."""
+    return 0 if error is None else int(_CODES[error])

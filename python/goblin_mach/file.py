@@ -1,0 +1,173 @@
+"""Files, and bytes that are taken as files."""
+
+from __future__ import annotations
+
+import builtins
+import errno
+import mmap
+import os
+import stat
+from typing import TYPE_CHECKING, Any, Dict, Iterator, List, Optional, Sequence, Tuple, Union, overload
+
+from . import _lists
+from ._memory import Held, Life
+from ._rows import Rows, all_faults
+from .enums import Mode
+from .image import Image
+from .items import FatEntry, LayoutFault
+
+if TYPE_CHECKING:
+    from _typeshed import ReadableBuffer
+
+    StrOrBytesPath = Union[str, bytes, os.PathLike[str], os.PathLike[bytes]]
+
+FAT_MAGIC, ARCHIVE_MAGIC = b"\xca\xfe\xba\xbe", b"!<arch>\n"
+
+
+def _held(data: Union[ReadableBuffer, Held]) -> Held:
+    return data if isinstance(data, Held) else Held(data)
+
+
+def fat_entries(data: Union[ReadableBuffer, Held]) -> Rows[FatEntry]:
+    """The entries of a fat file; none where the bytes are no fat file."""
+    return Rows(_lists.FAT_ENTRIES, _held(data).live)
+
+
+def container_faults(data: Union[ReadableBuffer, Held]) -> Iterator[LayoutFault]:
+    """The faults of the table of a fat file; none where the bytes are no fat file."""
+    return all_faults(_lists.CONTAINER_FAULTS, _held(data).live)
+
+
+def _mapped(path: Any) -> Union[mmap.mmap, bytes]:
+    """The bytes of the file at a path, as they lie there."""
+    with builtins.open(path, "rb") as file:
+        state = os.fstat(file.fileno())
+        if not stat.S_ISREG(state.st_mode):
+            raise OSError(errno.ENODEV, "not a file that can be mapped", path)
+        return mmap.mmap(file.fileno(), 0, access=mmap.ACCESS_READ) if state.st_size else b""
+
+
+class File(Sequence[Image]):
+    """A mapped file, or bytes: a sequence of its images, archives left out, each of which is opened when it is asked for. Images and their lists may be
+    used as long as the file is open: behind `close`, or behind the end of a `with`, each raises ValueError. Items that were given stay as they are."""
+
+    def __init__(self, path: StrOrBytesPath, mode: int = Mode.STRICT) -> None:
+        self._begin(_mapped(path), path, mode)
+
+    def _begin(self, data: ReadableBuffer, name: Optional[StrOrBytesPath], mode: int) -> None:
+        self.name = name
+        """The path that it was opened by; None of bytes."""
+        self._mode, self._life = mode, Life()
+        self._held: Optional[Held] = Held(data, self._life)
+        self._kept: Optional[Tuple[FatEntry, ...]] = None
+
+    @property
+    def closed(self) -> bool:
+        """Whether `close` was called."""
+        return self._life.closed
+
+    def _whole(self) -> Held:
+        self._life.check()
+        assert self._held is not None
+        return self._held
+
+    def _is_fat(self, whole: Held) -> bool:
+        return whole.len >= 8 and whole.view[:4] == FAT_MAGIC
+
+    def _part(self, whole: Held, entry: FatEntry) -> memoryview:
+        """The bytes of an entry: all of them, or none."""
+        end = entry.offset + entry.size
+        return whole.view[entry.offset:end] if end <= whole.len else whole.view[:0]
+
+    def _has_image(self, whole: Held, entry: FatEntry) -> bool:
+        """Whether an entry is for an image: it is unless it begins as an archive does."""
+        part = self._part(whole, entry)
+        return len(part) < 16 or part[:8] != ARCHIVE_MAGIC
+
+    def _of_entry(self, whole: Held, entry: FatEntry) -> Image:
+        return Image._of_entry(entry, Held(self._part(whole, entry), self._life), self._mode)
+
+    def _entries(self) -> Tuple[FatEntry, ...]:
+        """The entries of a fat file that are for images."""
+        if self._kept is None:
+            whole = self._whole()
+            self._kept = tuple(entry for entry in fat_entries(whole) if self._has_image(whole, entry))
+        return self._kept
+
+    def __iter__(self) -> Iterator[Image]:
+        """Its image, or those of a fat file's entries in order. An entry that can't be opened is an image with an `error`."""
+        whole = self._whole()
+        if not self._is_fat(whole):
+            yield Image(whole, 0, self._mode)
+            self._life.check()
+            return
+        for entry in fat_entries(whole):
+            if self._has_image(whole, entry):
+                yield self._of_entry(whole, entry)
+
+    def __len__(self) -> int:
+        return len(self._entries()) if self._is_fat(self._whole()) else 1
+
+    @overload
+    def __getitem__(self, index: int) -> Image: ...
+
+    @overload
+    def __getitem__(self, index: slice) -> List[Image]: ...
+
+    def __getitem__(self, index: Union[int, slice]) -> Union[Image, List[Image]]:
+        whole = self._whole()
+        if isinstance(index, slice):
+            return [self[number] for number in range(*index.indices(len(self)))]
+        if self._is_fat(whole):
+            return self._of_entry(whole, self._entries()[index])
+        if index not in (0, -1):
+            raise IndexError(f"there is no image {index}")
+        return Image(whole, 0, self._mode)
+
+    def image(self, arch: Optional[str] = None) -> Image:
+        """The first image, or the first one of an architecture, as "arm64e"; a LookupError where there is none."""
+        found: Dict[str, None] = {}
+        for image in self:
+            if arch is None or image.arch == arch:
+                return image
+            found[image.arch] = None
+        there = ", ".join(list(found)[:10]) or "none"
+        raise LookupError(f"no image of {arch or 'any architecture'}: there are {there}")
+
+    def container_faults(self) -> Iterator[LayoutFault]:
+        """The faults of its table, if it is a fat file."""
+        return container_faults(self._whole())
+
+    def close(self) -> None:
+        """Closes it. The bytes stay mapped as long as something that was taken of them is held."""
+        self._life.closed, self._held, self._kept = True, None, None
+
+    def __enter__(self) -> File:
+        self._whole()
+        return self
+
+    def __exit__(self, *_: object) -> None:
+        self.close()
+
+    def __repr__(self) -> str:
+        name = "bytes" if self.name is None else repr(os.fspath(self.name))
+        return f"<File {name}, closed>" if self._held is None else f"<File {name}, {self._held.len} bytes>"
+
+
+def open(path: Union[StrOrBytesPath, ReadableBuffer], mode: int = Mode.STRICT) -> File:
+    """Maps the file at a path: a str, bytes or a `pathlib.Path`. Anything else that has a buffer, as a bytearray, a memoryview or an mmap, is taken as the
+    bytes of a file (`parse`). Its images are opened one by one as it is gone over. What can't be opened raises `Refused`; an entry of a fat file is an
+    image with that `error`."""
+    if isinstance(path, (bytearray, memoryview, mmap.mmap)) or not isinstance(path, (str, bytes, int)) and not hasattr(path, "__fspath__"):
+        return parse(path, mode)
+    return File(path, mode)
+
+
+def parse(data: ReadableBuffer, mode: int = Mode.STRICT) -> File:
+    """Takes bytes as those of a file, without a copy: bytes, a bytearray, a memoryview, an mmap, or anything else that has a buffer. They stay as they are
+    while it is used."""
+    if isinstance(data, str) or hasattr(data, "__fspath__"):
+        raise TypeError("parse takes bytes; open takes a path")
+    file = File.__new__(File)
+    file._begin(data, None, mode)
+    return file

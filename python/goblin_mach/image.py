@@ -1,0 +1,202 @@
+"""An image: its numbers and its lists."""
+
+from __future__ import annotations
+
+import ctypes
+from typing import TYPE_CHECKING, Iterator, List, Optional, Tuple, Union
+
+from . import _exports, _lists
+from . import _structs as s
+from ._arch import arch_name
+from ._library import lib, refused
+from ._memory import Held
+from ._rows import Rows, all_faults, rows_behind
+from .enums import CpuSubtype, CpuType, ErrorCode, FileType, HeaderFlags, Mode, cpu_subtype
+from .errors import Refused, again, code_of
+from .items import Binding, Command, Export, FatEntry, Fixup, Import, LayoutFault, Library, Relocation, Section, Segment, Symbol
+
+if TYPE_CHECKING:
+    from _typeshed import ReadableBuffer
+
+
+class Image:
+    """An image in some bytes, which stay as they are while it is used. `error` is None; of an entry of a fat file that can't be opened it
+    is the `Refused` that says why, its numbers are 0, and each of its lists raises it.
+
+    Lists are iterators. Those whose items stand at numbers of their own also have `len`, indices and slices (`Rows`); those of exports, fixups, imports
+    and bindings go on from where they stopped, and have none of these."""
+
+    error: Optional[Refused] = None
+    offset: int
+    """Where it begins in the bytes that it was opened in."""
+    fat_offset: int
+    """Where these bytes begin in their file: 0, or the place of an entry of a fat file."""
+    entry: int
+    """The address at which it begins to run, or 0."""
+    cputype: int
+    cpusubtype: int
+    filetype: int
+    flags: int
+    is_64: bool
+    is_little_endian: bool
+
+    def __init__(self, data: Union[ReadableBuffer, Held], offset: int = 0, mode: int = Mode.STRICT) -> None:
+        self._open(data if isinstance(data, Held) else Held(data), offset, mode)
+        self.fat_offset = 0
+
+    def _open(self, held: Held, offset: int, mode: int) -> None:
+        numbers, error = s.gm_image(), s.gm_error()
+        if lib.gm_open(held.live().at, held.len, offset, mode, None, ctypes.byref(numbers), ctypes.byref(error)):
+            raise refused(error)
+        self._held = held
+        self._take(numbers)
+
+    def _take(self, numbers: s.gm_image) -> None:
+        self._numbers, self._pointer = numbers, ctypes.byref(numbers)
+        self.offset, self.entry = numbers.offset, numbers.entry
+        self.cputype, self.cpusubtype, self.filetype, self.flags = numbers.cputype, numbers.cpusubtype, numbers.filetype, numbers.flags
+        self.is_64, self.is_little_endian = bool(numbers.is_64), bool(numbers.is_little_endian)
+        self._arch = arch_name(self.cputype, self.cpusubtype)
+
+    @classmethod
+    def _of_entry(cls, entry: FatEntry, part: Held, mode: int) -> Image:
+        """The image of an entry of a fat file, whose bytes these are, or the one that says why it isn't opened."""
+        self = cls.__new__(cls)
+        try:
+            if entry.error is not None:
+                raise Refused(code_of(entry.error), entry.error)
+            self._open(part, 0, mode)
+        except Refused as error:
+            self.error, self._held = again(error), part
+            self._take(s.gm_image())
+            self._arch = entry.arch
+        self.fat_offset = entry.offset
+        return self
+
+    def _live(self) -> Held:
+        """Its bytes, where it was opened and its file is open."""
+        if self.error is not None:
+            raise again(self.error)
+        return self._held.live()
+
+    @property
+    def arch(self) -> str:
+        """The name of its architecture, as LLVM's tools have it: "arm64e". Of an entry of a fat file that can't be opened it is what the entry says."""
+        return self._arch
+
+    @property
+    def cpu_type(self) -> CpuType:
+        """`cputype` by its name."""
+        return CpuType.of(self.cputype)
+
+    @property
+    def cpu_subtype(self) -> CpuSubtype:
+        """`cpusubtype` by its name, without capabilities."""
+        return cpu_subtype(self.cputype, self.cpusubtype)
+
+    @property
+    def file_type(self) -> FileType:
+        """`filetype` by its name."""
+        return FileType.of(self.filetype)
+
+    @property
+    def header_flags(self) -> HeaderFlags:
+        """`flags` by their names."""
+        return HeaderFlags.of(self.flags)
+
+    @property
+    def data(self) -> memoryview:
+        """The bytes that it was opened in: of a fat file's entry those of the entry. Places of commands and symbols count from their start."""
+        return self._live().view
+
+    def commands(self) -> Rows[Command]:
+        """Its load commands."""
+        return Rows(_lists.COMMANDS, self._live, (self._pointer,), lambda: int(self._numbers.commands))
+
+    def segments(self) -> Rows[Segment]:
+        """Its segments."""
+        return Rows(_lists.SEGMENTS, self._live, (self._pointer,), lambda: int(self._numbers.segments))
+
+    def sections(self, segment: Segment) -> Rows[Section]:
+        """The sections of a segment. One that can't be read has an `error`."""
+        return Rows(_lists.SECTIONS, self._live, (self._pointer, segment.command, segment.nsects), lambda: segment.nsects)
+
+    def relocations(self, section: Section) -> Rows[Relocation]:
+        """The relocations of a section. One that can't be read has an `error`."""
+        return Rows(_lists.RELOCATIONS, self._live, (self._pointer, section.reloff, section.nreloc), lambda: section.nreloc)
+
+    def symbols(self) -> Rows[Symbol]:
+        """Its symbols. One that can't be read has an `error`."""
+        return Rows(_lists.SYMBOLS, self._live, (self._pointer,), lambda: int(self._numbers.symbols))
+
+    def libraries(self) -> Rows[Library]:
+        """The libraries that it brings in: number k has ordinal k + 1."""
+        return Rows(_lists.LIBRARIES, self._live, (self._pointer,), lambda: int(self._numbers.libraries))
+
+    def run_paths(self) -> Rows[str]:
+        """The paths on which its libraries are sought."""
+        return Rows(_lists.RUN_PATHS, self._live, (self._pointer,), lambda: int(self._numbers.run_paths))
+
+    def ids(self) -> Rows[str]:
+        """The names by which the image is known as a library; the last one counts."""
+        return Rows(_lists.IDS, self._live, (self._pointer,))
+
+    @property
+    def name(self) -> Optional[str]:
+        """The name by which the image is known as a library, if it has one."""
+        name = None
+        for name in self.ids():
+            pass
+        return name
+
+    def fixups(self) -> Iterator[Fixup]:
+        """The fixups of its chains (LC_DYLD_CHAINED_FIXUPS); the last may be the error that ends them."""
+        return rows_behind(_lists.FIXUPS_BEHIND, self._live, self._pointer, s.gm_fixup_cursor())
+
+    def imports(self) -> Iterator[Import]:
+        """Its imports by the binds of LC_DYLD_INFO; the last may be the error that ends them."""
+        return rows_behind(_lists.IMPORTS_BEHIND, self._live, self._pointer, s.gm_bind_cursor())
+
+    def bindings(self) -> Iterator[Binding]:
+        """What dyld binds of it, by opcodes and then by chains; the last may be the error that ends them."""
+        return rows_behind(_lists.BINDINGS_BEHIND, self._live, self._pointer, s.gm_binding_cursor())
+
+    def exports(self) -> Iterator[Export]:
+        """All exports, in the order of the trie. A fault of the trie raises `Refused` behind those that stand before it."""
+        return _exports.exports(self._live, self._pointer, self._library_names)
+
+    def _library_names(self) -> List[str]:
+        return [self.name or "self", *(library.name for library in self.libraries())]
+
+    def find_export(self, name: str) -> Optional[Export]:
+        """What the image exports a name as, or None."""
+        return _exports.find_export(self._live(), self._pointer, name)
+
+    def exports_are_a_tree(self) -> bool:
+        """Whether all exports can be read, and no two paths of their trie lead to one node: then `exports` gives each once."""
+        code, error = _exports.are_a_tree(self._live(), self._pointer)
+        if code == ErrorCode.NO_MEMORY:
+            raise refused(error)
+        return not code
+
+    def layout_faults(self) -> Iterator[LayoutFault]:
+        """What lies where the format and its readers don't allow it, of the file that begins with the image."""
+        return all_faults(_lists.LAYOUT_FAULTS, self._live, (self._pointer,))
+
+    def _place(self) -> Tuple[object, ...]:
+        """Which image it is: two of one place in the same bytes, opened in the same mode, are equal."""
+        held = self._held
+        return held.at, held.len, self.fat_offset, self.offset, self._numbers.is_lossy, self.error is None
+
+    def __eq__(self, other: object) -> bool:
+        return isinstance(other, Image) and self._place() == other._place()
+
+    def __hash__(self) -> int:
+        return hash(self._place())
+
+    def __repr__(self) -> str:
+        at = f"at 0x{self.fat_offset + self.offset:x}"
+        if self.error is not None:
+            return f"<Image {self.arch} {at}, refused: {self.error}>"
+        count = self._numbers.commands
+        return f"<Image {self.arch} {self.file_type.name} {at}, {count} command{'' if count == 1 else 's'}>"

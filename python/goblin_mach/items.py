@@ -1,0 +1,338 @@
+"""What the lists of a file and of its images give. Each item is a tuple with names (`typing.NamedTuple`): numbers are `int`s, as the file has them, and
+the properties say what they mean."""
+
+from __future__ import annotations
+
+from typing import Any, NamedTuple, Optional, Type, TypeVar
+
+from ._arch import arch_name
+from .enums import (
+    CpuSubtype, CpuType, LoadCommand, Protection, SectionAttributes, SectionType, SegmentFlags, cpu_subtype,
+)
+from .symbol_enums import (
+    ExportFlags, ExportKind, ReferenceType, RelocationType, Stab, SymbolDescription, SymbolType, relocation_type,
+)
+
+Item = TypeVar("Item", bound=Type[Any])
+
+
+def _shown(value: object) -> str:
+    """A value in words: numbers in hexadecimal, and of bytes of the file how many they are."""
+    if isinstance(value, int) and not isinstance(value, bool):
+        return str(value) if -10 < value < 10 else hex(value)
+    return f"<{len(value)} bytes>" if isinstance(value, memoryview) else repr(value)
+
+
+def _words(item: Any) -> str:
+    return f"{type(item).__name__}({', '.join(f'{name}={_shown(value)}' for name, value in zip(item._fields, item))})"
+
+
+def _readable(item: Item) -> Item:
+    """Gives a kind of item a `repr` to be read."""
+    setattr(item, "__repr__", _words)
+    return item
+
+
+@_readable
+class FatEntry(NamedTuple):
+    """A record of a fat file: where an image lies in it. `align` is a power of 2."""
+
+    cputype: int
+    cpusubtype: int
+    offset: int
+    size: int
+    align: int
+    error: Optional[str]
+
+    @property
+    def arch(self) -> str:
+        """The name of its architecture, as LLVM's tools have it: "arm64e"."""
+        return arch_name(self.cputype, self.cpusubtype)
+
+    @property
+    def cpu_type(self) -> CpuType:
+        """`cputype` by its name."""
+        return CpuType.of(self.cputype)
+
+    @property
+    def cpu_subtype(self) -> CpuSubtype:
+        """`cpusubtype` by its name, without capabilities."""
+        return cpu_subtype(self.cputype, self.cpusubtype)
+
+
+@_readable
+class Command(NamedTuple):
+    """A load command: `size` bytes from `offset` on."""
+
+    offset: int
+    size: int
+    cmd: int
+
+    @property
+    def load_command(self) -> LoadCommand:
+        """`cmd` by its name."""
+        return LoadCommand.of(self.cmd)
+
+
+@_readable
+class Segment(NamedTuple):
+    """A segment. `data` are its bytes: all of them, or none where they are not all in the file. `command` is the place of its load command."""
+
+    name: bytes
+    vmaddr: int
+    vmsize: int
+    fileoff: int
+    filesize: int
+    maxprot: int
+    initprot: int
+    flags: int
+    data: memoryview
+    command: int
+    nsects: int
+
+    @property
+    def max_protection(self) -> Protection:
+        """`maxprot` by its bits' names."""
+        return Protection.of(self.maxprot)
+
+    @property
+    def initial_protection(self) -> Protection:
+        """`initprot` by its bits' names."""
+        return Protection.of(self.initprot)
+
+    @property
+    def segment_flags(self) -> SegmentFlags:
+        """`flags` by their names."""
+        return SegmentFlags.of(self.flags)
+
+
+@_readable
+class Section(NamedTuple):
+    """A section of a segment. `align` is a power of 2. `data` are its bytes: all of them, or none."""
+
+    name: bytes
+    segment: bytes
+    addr: int
+    size: int
+    offset: int
+    align: int
+    reloff: int
+    nreloc: int
+    flags: int
+    data: memoryview
+    error: Optional[str]
+
+    @property
+    def type(self) -> SectionType:
+        """The low 8 bits of `flags` by their name."""
+        return SectionType.of(self.flags & 0xFF)
+
+    @property
+    def attributes(self) -> SectionAttributes:
+        """The other bits of `flags` by their names."""
+        return SectionAttributes.of(self.flags & 0xFFFFFF00)
+
+
+@_readable
+class Relocation(NamedTuple):
+    """A relocation of a section: at `address`, and the rest in the bits of `info`. Scattered relocations are not told apart."""
+
+    address: int
+    info: int
+    error: Optional[str]
+
+    @property
+    def number(self) -> int:
+        """Of a symbol where `is_extern`, and else of a section."""
+        return self.info & 0xFFFFFF
+
+    @property
+    def is_pcrel(self) -> bool:
+        """Whether it counts from its own address."""
+        return self.info >> 24 & 1 != 0
+
+    @property
+    def length(self) -> int:
+        """How many bytes it corrects, as a power of 2."""
+        return self.info >> 25 & 3
+
+    @property
+    def is_extern(self) -> bool:
+        """Whether `number` is that of a symbol."""
+        return self.info >> 27 & 1 != 0
+
+    @property
+    def type_number(self) -> int:
+        """Its type as a number, whose name goes by the cpu."""
+        return self.info >> 28 & 15
+
+    def type_for(self, cputype: int) -> RelocationType:
+        """Its type by its name, for an image of this `cputype`."""
+        return relocation_type(cputype, self.type_number)
+
+
+@_readable
+class Symbol(NamedTuple):
+    """A symbol. One that can't be read, or whose name can't, has an `error`."""
+
+    name: str
+    value: int
+    section: int
+    n_type: int
+    desc: int
+    error: Optional[str]
+
+    @property
+    def type(self) -> SymbolType:
+        """What it is, where it is none for a debugger (`stab`)."""
+        return SymbolType.of(self.n_type & 0x0E)
+
+    @property
+    def stab(self) -> Optional[Stab]:
+        """What it is for a debugger, if it is for one."""
+        return Stab.of(self.n_type) if self.n_type & 0xE0 else None
+
+    @property
+    def is_external(self) -> bool:
+        """Whether other images see it (N_EXT)."""
+        return self.n_type & 0x01 != 0
+
+    @property
+    def is_private_external(self) -> bool:
+        """Whether it was external, and is so no more (N_PEXT)."""
+        return self.n_type & 0xF0 == 0x10
+
+    @property
+    def is_undefined(self) -> bool:
+        """Whether it is to be found elsewhere: it is in no section, and is none for a debugger."""
+        return self.n_type & 0xEE == 0 and self.section == 0
+
+    @property
+    def description(self) -> SymbolDescription:
+        """The flags of `desc`. Of one that isn't defined the high 8 bits are no flags, but `library_ordinal`."""
+        return SymbolDescription.of(self.desc & (0xF8 if self.is_undefined else 0xFFF8))
+
+    @property
+    def reference(self) -> ReferenceType:
+        """How one that isn't defined is used: the low bits of `desc`."""
+        return ReferenceType.of(self.desc & 7)
+
+    @property
+    def library_ordinal(self) -> Optional[int]:
+        """The library that one that isn't defined comes from: 0 is the image itself, 254 any, 255 the main executable."""
+        return self.desc >> 8 if self.is_undefined else None
+
+
+@_readable
+class Library(NamedTuple):
+    """A library that the image brings in: `kind` is "required", "weak", "reexport", "upward" or "lazy"."""
+
+    ordinal: int
+    name: str
+    kind: str
+    timestamp: int
+    current_version: int
+    compatibility_version: int
+
+
+@_readable
+class Fixup(NamedTuple):
+    """A pointer to be corrected. `kind` is "rebase", "bind" or "number"; `target` of a rebase is an address, `import_number` of a bind counts from 0."""
+
+    address: int
+    segment: int
+    offset: int
+    kind: str
+    target: int
+    import_number: int
+    addend: int
+    is_signed: bool
+    key: int
+    diversity: int
+    is_address_diverse: bool
+    error: Optional[str]
+
+
+@_readable
+class Import(NamedTuple):
+    """A symbol that the image takes from a library, whose ordinal is `library`: 0 is the image itself. `offset` is a place in the file."""
+
+    name: str
+    library: int
+    address: int
+    offset: int
+    addend: int
+    size: int
+    start_of_sequence_offset: int
+    is_weak: bool
+    is_lazy: bool
+    error: Optional[str]
+
+
+@_readable
+class Binding(NamedTuple):
+    """A place that takes a symbol's address from a provider: "library" (by its ordinal), "itself", "program", "any" or "any weak"."""
+
+    name: str
+    provider: str
+    library: int
+    address: int
+    offset: int
+    addend: int
+    is_weak: bool
+    is_lazy: bool
+    error: Optional[str]
+
+
+@_readable
+class Export(NamedTuple):
+    """What a name is exported as: `kind` is "address", "re-export" or "stub". Addresses count from the image's start."""
+
+    name: str
+    kind: str
+    address: int
+    resolver: int
+    flags: int
+    library: Optional[str]
+    target: Optional[str]
+
+    @property
+    def export_kind(self) -> ExportKind:
+        """The low 2 bits of `flags` by their name."""
+        return ExportKind.of(self.flags & 3)
+
+    @property
+    def export_flags(self) -> ExportFlags:
+        """The other bits of `flags` by their names."""
+        return ExportFlags.of(self.flags & ~3)
+
+
+NUMBERED = ("section", "relocations", "slice", "imports", "symbol ranges")
+
+
+@_readable
+class Owner(NamedTuple):
+    """Whose a range or a fault is: a part, the place of its command or record, and its number there, or 0."""
+
+    part: str
+    command: int
+    index: int  # type: ignore[assignment]  # of a tuple it would be a method
+
+    def __str__(self) -> str:
+        number = f" {self.index}" if self.index or self.part in NUMBERED else ""
+        return f"{self.part}{number} at 0x{self.command:x}"
+
+
+@_readable
+class LayoutFault(NamedTuple):
+    """A fault of layout, of the rule with this plain name: what is there and what it breaks, as docs/C.md says of the rule."""
+
+    rule: str
+    owner: Owner
+    found: int
+    limit: int
+    other: Optional[Owner]
+
+    def __str__(self) -> str:
+        other = f" of {self.other}" if self.other else ""
+        return f"{self.rule}: {self.owner}: 0x{self.found:x} against 0x{self.limit:x}{other}"

@@ -1,0 +1,28 @@
+"""A wheel that carries the library is for the system that the library was built on, and for any Python 3; one without it is for all."""
+
+import glob
+import os
+
+from setuptools import Distribution, setup
+
+try:
+    from setuptools.command.bdist_wheel import bdist_wheel
+except ImportError:
+    from wheel.bdist_wheel import bdist_wheel
+
+HERE = os.path.dirname(os.path.abspath(__file__))
+CARRIED = glob.glob(os.path.join(glob.escape(HERE), "goblin_mach", "libgoblin_mach.so*"))
+
+
+class Package(Distribution):
+    def has_ext_modules(self):
+        return bool(CARRIED)
+
+
+class Wheel(bdist_wheel):
+    def get_tag(self):
+        python, abi, system = super().get_tag()
+        return ("py3", "none", system) if CARRIED else (python, abi, system)
+
+
+setup(distclass=Package, cmdclass={"bdist_wheel": Wheel})

@@ -1,0 +1,91 @@
+"""Tests of what others make of the package: that `mypy --strict` has nothing to say, where it is installed, and that the tools of Python make a wheel
+with the library within, without a network, where build, setuptools and wheel are (Debian: python3-build, python3-setuptools, python3-wheel)."""
+
+import importlib.util
+import os
+import shutil
+import subprocess
+import sys
+import tempfile
+import unittest
+import zipfile
+
+import goblin_mach
+from goblin_mach import _library
+
+PACKAGE = os.path.dirname(os.path.abspath(goblin_mach.__file__))
+HERE = os.path.dirname(os.path.abspath(__file__))
+LINES, WIDTH = 500, 160
+SECONDS = 600
+
+
+def has(*names):
+    return all(importlib.util.find_spec(name) is not None for name in names)
+
+
+def run(*words, **more):
+    ran = subprocess.run(words, stdout=subprocess.PIPE, stderr=subprocess.STDOUT, timeout=SECONDS, check=False, **more)
+    return ran.returncode, ran.stdout.decode()
+
+
+class Types(unittest.TestCase):
+    @unittest.skipUnless(shutil.which("mypy"), "there is no mypy")
+    def test_are_strict(self):
+        with tempfile.TemporaryDirectory() as room:
+            status, said = run("mypy", "--strict", "--cache-dir", room, "goblin_mach", "enums_check.py", "bench.py", cwd=HERE)
+        self.assertEqual((status, said[:8]), (0, "Success:"), said)
+
+
+class Text(unittest.TestCase):
+    def test_is_short(self):
+        for folder in (HERE, PACKAGE):
+            for name in sorted(os.listdir(folder)):
+                if name.endswith(".py"):
+                    with open(os.path.join(folder, name), encoding="utf-8") as file:
+                        lines = file.read().splitlines()
+                    self.assertLessEqual(len(lines), LINES, name)
+                    self.assertLessEqual(max(map(len, lines), default=0), WIDTH, name)
+
+
+@unittest.skipUnless(has("build", "setuptools", "wheel"), "build, setuptools and wheel are not all there")
+class Wheel(unittest.TestCase):
+    def setUp(self):
+        room = tempfile.TemporaryDirectory()
+        self.addCleanup(room.cleanup)
+        self.room = room.name
+        self.source = os.path.join(self.room, "source")
+        left_out = shutil.ignore_patterns("*.so*", "__pycache__", "build", "dist", "*.egg-info", "test_*")
+        shutil.copytree(HERE, self.source, ignore=left_out)
+
+    def made(self):
+        """The names of the files of a wheel that is made, and its own."""
+        status, said = run(sys.executable, "-m", "build", "--no-isolation", "--wheel", "--outdir", self.room, self.source, cwd=self.room)
+        self.assertEqual(status, 0, said)
+        (name,) = (name for name in os.listdir(self.room) if name.endswith(".whl"))
+        with zipfile.ZipFile(os.path.join(self.room, name)) as wheel:
+            wheel.extractall(os.path.join(self.room, "installed"))
+            return name, set(wheel.namelist())
+
+    def test_has_the_library_within(self):
+        path = _library.lib._name if os.path.exists(_library.lib._name) else None
+        if path is None:
+            self.skipTest("the library is the system's")
+        shutil.copy(path, os.path.join(self.source, "goblin_mach/libgoblin_mach.so"))
+        name, files = self.made()
+        self.assertTrue(name.startswith(f"goblin_mach-{goblin_mach.__version__}-py3-none-linux_"), name)
+        modules = {f"goblin_mach/{each}" for each in os.listdir(PACKAGE) if each.endswith((".py", ".typed"))}
+        self.assertEqual({each for each in files if "dist-info" not in each}, {*modules, "goblin_mach/libgoblin_mach.so"})
+        installed = os.path.join(self.room, "installed")
+        kept = {name: value for name, value in os.environ.items() if name != "GOBLIN_MACH"}
+        code = "import goblin_mach; print(goblin_mach._library.lib._name, goblin_mach.__version__)"
+        status, said = run(sys.executable, "-c", code, cwd=self.room, env={**kept, "PYTHONPATH": installed})
+        self.assertEqual((status, said), (0, f"{installed}/goblin_mach/libgoblin_mach.so {goblin_mach.__version__}\n"))
+
+    def test_without_the_library_is_for_every_system(self):
+        name, files = self.made()
+        self.assertEqual(name, f"goblin_mach-{goblin_mach.__version__}-py3-none-any.whl")
+        self.assertIn("goblin_mach/py.typed", files)
+
+
+if __name__ == "__main__":
+    unittest.main()
