@@ -1,15 +1,15 @@
 -- Exports that are written one after the other.
 use Rattle.std.proofs.Common.{◌≡◌, ◌<◌, ◌+◌, ◌∙◌, ◌++◌, ◌∷◌, [], ℕ, suc, List, Option, Some, Ok, length, take, drop, set, refl, sym, ap, subst}
-use Rattle.std.proofs.Common.{arith}
 use Rattle.std.proofs.lemmas.List.{append-nil, append_assoc, length-append, drop-drop}
 use Rattle.std.proofs.Math.Seq.{take-append_seam, drop-append-add}
 use Rattle.mach_base.specs.Text.{text_at}
 use Rattle.mach_tries.specs.CursorState.{name_met_last}
-use Rattle.mach_tries.specs.Cursors.{HasGivenTo, IsReexportAt, NextGives, place_at}
+use Rattle.mach_tries.specs.Cursors.{HasGivenTo, IsOwnAt, IsReexportAt, NextGives, place_at}
 use Rattle.mach_tries.specs.Exports.{info_of}
 use Rattle.mach_tries.specs.Nodes as Nodes
 use Rattle.mach_tries.specs.Trie.{Entry, Info, entry, regular, reexport, stub}
-use Rattle.mach_tries.specs.TrieRange.{TrieRange}
+use Rattle.mach_tries.specs.TrieRange.{TrieRange, trie_there}
+use Rattle.mach_tries.specs.Unfolds.{IsNextNode}
 use Rattle.mach_tries.specs.declared.cursor.NextExport.TheVariants.{Export}
 use Rattle.mach_tries.specs.declared.cursor.TrieCursor.{TrieCursor}
 use Rattle.mach_tries.specs.declared.info.ExportInfo.{ExportInfo}
@@ -26,33 +26,31 @@ names_more : (es : List Entry) (e : Entry) → names_of (es ++ e ∷ []) ≡ nam
 names_more [] e = append-nil e.name
 names_more (x ∷ es) e = ap (λ l. x.name ++ l) (names_more es e) ∙ sym (append_assoc x.name (names_of es) e.name)
 
-module _ (bytes : List ℕ) (IsLibrary : ℕ → List ℕ → Type 0) (IsNode : ℕ → Info → Type 0) where
-  listed_more : (place : ℕ) (es : List Entry) (rows : List gm_listed_export) (e : Entry) (row : gm_listed_export)
-      → AreListed bytes IsLibrary IsNode place es rows → IsListed bytes IsLibrary IsNode (place + length (names_of es)) e row
-      → AreListed bytes IsLibrary IsNode place (es ++ e ∷ []) (rows ++ row ∷ [])
-  listed_more place [] [] e row are more =
-      let same : place + 0 ≡ place = omega arith in (subst (λ (n : ℕ). IsListed bytes IsLibrary IsNode n e row) same more, tt)
-  listed_more place [] (r ∷ rows) e row are more = absurd are
-  listed_more place (x ∷ es) [] e row are more = absurd are
-  listed_more place (x ∷ es) (r ∷ rows) e row are more =
-      let long = length-append x.name (names_of es) in
-      let same : place + length (x.name ++ names_of es) ≡ (place + length x.name) + length (names_of es) = omega (arith, long) in (
-        are.0,
-        listed_more (place + length x.name) es rows e row are.1 (subst (λ (n : ℕ). IsListed bytes IsLibrary IsNode n e row) same more),
-      )
+module _ (bytes : List ℕ) (IsLibrary : ℕ → List ℕ → Type 0) (IsNode : List Entry → Entry → ℕ → Type 0) where
+  listed_more : (before es : List Entry) (rows : List gm_listed_export) (e : Entry) (row : gm_listed_export)
+      → AreListed bytes IsLibrary IsNode before es rows → IsListed bytes IsLibrary IsNode (before ++ es) e row
+      → AreListed bytes IsLibrary IsNode before (es ++ e ∷ []) (rows ++ row ∷ [])
+  listed_more before [] [] e row are more = (subst (λ (l : List Entry). IsListed bytes IsLibrary IsNode l e row) (append-nil before) more, tt)
+  listed_more before [] (r ∷ rows) e row are more = absurd are
+  listed_more before (x ∷ es) [] e row are more = absurd are
+  listed_more before (x ∷ es) (r ∷ rows) e row are more = (
+    are.0,
+    listed_more (before ++ x ∷ []) es rows e row are.1
+        (subst (λ (l : List Entry). IsListed bytes IsLibrary IsNode l e row) (sym (append_assoc before (x ∷ []) es)) more),
+  )
 
-  listed_length : (place : ℕ) (es : List Entry) (rows : List gm_listed_export) → AreListed bytes IsLibrary IsNode place es rows → length rows ≡ length es
-  listed_length place [] [] are = refl
-  listed_length place [] (r ∷ rows) are = absurd are
-  listed_length place (x ∷ es) [] are = absurd are
-  listed_length place (x ∷ es) (r ∷ rows) are = ap suc (listed_length (place + length x.name) es rows are.1)
+  listed_length : (before es : List Entry) (rows : List gm_listed_export) → AreListed bytes IsLibrary IsNode before es rows → length rows ≡ length es
+  listed_length before [] [] are = refl
+  listed_length before [] (r ∷ rows) are = absurd are
+  listed_length before (x ∷ es) [] are = absurd are
+  listed_length before (x ∷ es) (r ∷ rows) are = ap suc (listed_length (before ++ x ∷ []) es rows are.1)
 
 -- what is said of other bytes, other libraries and other nodes
-module _ (bytes bytes' : List ℕ) (IsLibrary IsLibrary' : ℕ → List ℕ → Type 0) (IsNode IsNode' : ℕ → Info → Type 0)
+module _ (bytes bytes' : List ℕ) (IsLibrary IsLibrary' : ℕ → List ℕ → Type 0) (IsNode IsNode' : List Entry → Entry → ℕ → Type 0)
     (text : (place : ℕ) (text : List ℕ) → text_at bytes place ≡ Ok text → text_at bytes' place ≡ Ok text)
     (number_place : (node : ℕ) (found : ℕ × ℕ) → place_at bytes node ≡ Ok found → place_at bytes' node ≡ Ok found)
     (library : (number : ℕ) (name : List ℕ) → IsLibrary number name → IsLibrary' number name)
-    (is_node : (node : ℕ) (info : Info) → IsNode node info → IsNode' node info) where
+    (is_node : (before : List Entry) (e : Entry) (node : ℕ) → IsNode before e node → IsNode' before e node) where
   brought_there : (node : ℕ) (info : Info) (number place : ℕ) → IsBrought bytes IsLibrary node info number place
       → IsBrought bytes' IsLibrary' node info number place
   brought_there node (regular address flags) number place b = b
@@ -60,22 +58,22 @@ module _ (bytes bytes' : List ℕ) (IsLibrary IsLibrary' : ℕ → List ℕ → 
       (number_place node (number, place) b.0, library number lib b.1, text place (text_or_empty name) b.2)
   brought_there node (stub at resolver flags) number place b = b
 
-  listed_there : (place : ℕ) (es : List Entry) (rows : List gm_listed_export) → AreListed bytes IsLibrary IsNode place es rows
-      → AreListed bytes' IsLibrary' IsNode' place es rows
-  listed_there place [] [] are = tt
-  listed_there place [] (r ∷ rows) are = absurd are
-  listed_there place (x ∷ es) [] are = absurd are
-  listed_there place (x ∷ es) (r ∷ rows) are =
+  listed_there : (before es : List Entry) (rows : List gm_listed_export) → AreListed bytes IsLibrary IsNode before es rows
+      → AreListed bytes' IsLibrary' IsNode' before es rows
+  listed_there before [] [] are = tt
+  listed_there before [] (r ∷ rows) are = absurd are
+  listed_there before (x ∷ es) [] are = absurd are
+  listed_there before (x ∷ es) (r ∷ rows) are =
       let l = are.0 in (
         record {
           name = l.name;
           name_len = l.name_len;
           what = l.what;
           node = l.node;
-          is_node = is_node l.node x.info l.is_node;
+          is_node = is_node before x l.node l.is_node;
           brought = brought_there l.node x.info r.library r.target l.brought;
         },
-        listed_there (place + length x.name) es rows are.1,
+        listed_there (before ++ x ∷ []) es rows are.1,
       )
 
   pub written_there : {given : List Entry} {count used : ℕ} {old new : List gm_listed_export} {names names' : List ℕ}
@@ -84,7 +82,7 @@ module _ (bytes bytes' : List ℕ) (IsLibrary IsLibrary' : ℕ → List ℕ → 
     is_count = w.is_count;
     is_used = w.is_used;
     listed = w.listed;
-    are = listed_there 0 given w.listed w.are;
+    are = listed_there [] given w.listed w.are;
     rows = w.rows;
     names = w.names;
   }
@@ -93,7 +91,7 @@ module _ (bytes bytes' : List ℕ) (IsLibrary IsLibrary' : ℕ → List ℕ → 
 pub record SoFar (t : TrieRange) (libs : List (List ℕ)) (c c' : TrieCursor) (name name' : List ℕ) (stack stack' : List Open)
     (old new : List gm_listed_export) (text text' : List ℕ) (k used : ℕ) : Type 0 where
   pub given : List Entry
-  pub written : AreWritten t.bytes (IsNumbered libs) (IsNodeOf t libs) given k used old new text text'
+  pub written : AreWritten t.bytes (IsNumbered libs) (IsNodeOf t libs (HasGivenTo t libs c name stack)) given k used old new text text'
   pub walked : (found : List Entry) → HasGivenTo t libs c name stack found → HasGivenTo t libs c' name' stack' (found ++ given)
 
 pub none_so_far : {t : TrieRange} {libs : List (List ℕ)} {c : TrieCursor} {name : List ℕ} {stack : List Open} {old : List gm_listed_export} {text : List ℕ}
@@ -115,21 +113,19 @@ put_behind done old text after used is e =
     ap (λ l. (l ++ text) ++ drop (used + n) after) front ∙ ap (λ l. (done ++ text) ++ l) rear
 
 -- one more row and one more name
-written_more : {bytes : List ℕ} {IsLibrary : ℕ → List ℕ → Type 0} {IsNode : ℕ → Info → Type 0} {given : List Entry} {k used : ℕ}
+written_more : {bytes : List ℕ} {IsLibrary : ℕ → List ℕ → Type 0} {IsNode : List Entry → Entry → ℕ → Type 0} {given : List Entry} {k used : ℕ}
     {old new : List gm_listed_export} {text text' : List ℕ}
     (e : Entry) (row : gm_listed_export) → AreWritten bytes IsLibrary IsNode given k used old new text text' → k < length old
-    → IsListed bytes IsLibrary IsNode used e row
+    → IsListed bytes IsLibrary IsNode given e row
     → AreWritten bytes IsLibrary IsNode (given ++ e ∷ []) (k + 1) (used + length e.name) old (set new k row) text
     (take used text' ++ e.name ++ drop (used + length e.name) text')
 written_more {bytes} {IsLibrary} {IsNode} {given} {k} {used} {old} {new} {text} {text'} e row w less is_row =
-    let many = listed_length bytes IsLibrary IsNode 0 given w.listed w.are ∙ sym w.is_count in
-    let is = w.is_used in
-    let place : used ≡ 0 + length (names_of given) = omega (arith, is) in
+    let many = listed_length bytes IsLibrary IsNode [] given w.listed w.are ∙ sym w.is_count in
     record {
       is_count = ap (λ n. n + 1) w.is_count ∙ sym (length-append given (e ∷ []));
       is_used = ap (λ n. n + length e.name) w.is_used ∙ sym (length-append (names_of given) e.name) ∙ ap length (sym (names_more given e));
       listed = w.listed ++ row ∷ [];
-      are = listed_more bytes IsLibrary IsNode 0 given w.listed e row w.are (subst (λ (n : ℕ). IsListed bytes IsLibrary IsNode n e row) place is_row);
+      are = listed_more bytes IsLibrary IsNode [] given w.listed e row w.are is_row;
       rows = ap (λ l. set l k row) w.rows ∙ set_behind w.listed old k row many less ∙ sym (append_assoc w.listed (row ∷ []) (drop (k + 1) old));
       names = put_behind (names_of given) text e.name text' used w.is_used w.names ∙ ap (λ l. l ++ drop (used + length e.name) text) (sym (names_more given e));
     }
@@ -140,15 +136,23 @@ pub one_more : {t : TrieRange} {libs : List (List ℕ)} {c c' d : TrieCursor} {n
     → SoFar t libs c c' name name' stack stack' old new text text' k used → k < length old
     → ((found : List Entry) → HasGivenTo t libs c' name' stack' found → NextGives t libs found (Export info) d m q)
     → len ≡ length (name_met_last d m) → after ≡ take used text' ++ name_met_last d m ++ drop (used + len) text' → what ≡ export_row (Some (info_of info))
-    → IsNodeOf t libs node (info_of info) → IsBrought t.bytes (IsNumbered libs) node (info_of info) library target
+    → IsOwnAt t.bytes libs t.from node (info_of info)
+    → ((found : List Entry) → HasGivenTo t libs c' name' stack' found → IsNextNode (trie_there t libs) t.from found (name_met_last d m) node)
+    → IsBrought t.bytes (IsNumbered libs) node (info_of info) library target
     → SoFar t libs c d name m stack q old (set new k (record { name = used; name_len = len; library = library; target = target; what = what })) text after
     (k + 1) (used + len)
 one_more {t} {libs} {c} {c'} {d} {name} {name'} {m} {stack} {stack'} {q} {old} {new} {text} {text'} {after} {k} {used} {len} {what} info library target node
-    so less gives long put is is_node brought =
+    so less gives long put is own leads brought =
     let e = entry (name_met_last d m) (info_of info) in
     let row : gm_listed_export = record { name = used; name_len = length e.name; library = library; target = target; what = what } in
-    let more = written_more e row so.written less
-    (record { name = refl; name_len = refl; what = is; node = node; is_node = is_node; brought = brought }) in
+    let more = written_more e row so.written less (record {
+      name = so.written.is_used;
+      name_len = refl;
+      what = is;
+      node = node;
+      is_node = record { own = own; leads = λ found h. leads (found ++ so.given) (so.walked found h) };
+      brought = brought;
+    }) in
     record {
       given = so.given ++ e ∷ [];
       written = rw (put, long) more;

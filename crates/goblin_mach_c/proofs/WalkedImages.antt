@@ -25,9 +25,10 @@ use Rattle.goblin_mach_c.specs.declared.exports.gm_listed_export.{gm_listed_expo
 
 -- ---- a call that gives nothing
 
-pub none_written : (bytes : List ℕ) (o : ℕ) (b : gm_export_batch) (out : List gm_listed_export) (text : List ℕ) → b ≡ no_batch
-    → AreWritten bytes (HasLibrary bytes o) (HasNodeOf bytes o) [] b.count b.names_len out out text text
-none_written bytes o b out text is = rw is (record { is_count = refl; is_used = refl; listed = []; are = tt; rows = refl; names = refl })
+pub none_written : (bytes : List ℕ) (o : ℕ) (w : gm_export_walk) (name : List ℕ) (stack : List Open) (b : gm_export_batch) (out : List gm_listed_export)
+    (text : List ℕ) → b ≡ no_batch
+    → AreWritten bytes (HasLibrary bytes o) (HasNodeOf bytes o w name stack) [] b.count b.names_len out out text text
+none_written bytes o w name stack b out text is = rw is (record { is_count = refl; is_used = refl; listed = []; are = tt; rows = refl; names = refl })
 
 pub stays : (bytes : List ℕ) (o : ℕ) (w : gm_export_walk) (name : List ℕ) (stack : List Open) → GivesFurther bytes o w name stack [] w name stack
 stays bytes o w name stack found h = subst (HasWalked bytes o w name stack) (sym (append-nil found)) h
@@ -64,17 +65,20 @@ module _ (bytes : List ℕ) (o : ℕ) (m : MachO Global) (p : IsLossyImage bytes
   there w name stack found = (facts_are bytes o m p (λ f. HasWalkedTrie (trie_or_empty f.trie) f.libs w name stack found)).1
 
   -- its rows
-  pub rows_there : (given : List Entry) (count used : ℕ) (old new : List gm_listed_export) (names names' : List ℕ)
-      → AreWritten trie.bytes (IsNumbered libs) (IsNodeOf trie libs) given count used old new names names'
-      → AreWritten bytes (HasLibrary bytes o) (HasNodeOf bytes o) given count used old new names names'
-  rows_there given count used old new names names' w =
-      written_there trie.bytes bytes (IsNumbered libs) (HasLibrary bytes o) (IsNodeOf trie libs) (HasNodeOf bytes o)
+  pub rows_there : (w : gm_export_walk) (name : List ℕ) (stack : List Open) (given : List Entry) (count used : ℕ) (old new : List gm_listed_export)
+      (names names' : List ℕ)
+      → AreWritten trie.bytes (IsNumbered libs) (IsNodeOf trie libs (HasWalkedTrie trie libs w name stack)) given count used old new names names'
+      → AreWritten bytes (HasLibrary bytes o) (HasNodeOf bytes o w name stack) given count used old new names names'
+  rows_there w name stack given count used old new names names' =
+      written_there trie.bytes bytes (IsNumbered libs) (HasLibrary bytes o) (IsNodeOf trie libs (HasWalkedTrie trie libs w name stack))
+      (HasNodeOf bytes o w name stack)
       (λ place text e. text_there bytes (commands_held m) place text
       (subst (λ (t : Option TrieRange). text_at (trie_or_empty t).bytes place ≡ Ok text) p.fields.trie e))
       (λ node found e. place_there bytes (commands_held m) node found
       (subst (λ (t : Option TrieRange). place_at (trie_or_empty t).bytes node ≡ Ok found) p.fields.trie e))
       (λ number name e. (libs, ((libraries_are m).lossy bytes o p libs).1 refl, e))
-      (λ node info own. (facts_are bytes o m p (λ f. IsNodeOf (trie_or_empty f.trie) f.libs node info)).1 own) w
+      (λ before e node. (facts_are bytes o m p (λ f. IsNodeOf (trie_or_empty f.trie) f.libs (HasWalkedTrie (trie_or_empty f.trie) f.libs w name stack)
+      before e node)).1)
 
   -- the name that comes next
   pub next_name_there : (w : gm_export_walk) (n : ℕ) → IsNextName trie w.cursor n → HasNextName bytes o w n

@@ -8,10 +8,13 @@ use Rattle.mach_tries.specs.Trie.{Entry}
 use Rattle.mach_tries.specs.TrieRange.{ListsExports, ExportsFault, TrieRange}
 use Rattle.mach_tries.specs.declared.cursor.TrieCursor.{TrieCursor}
 use Rattle.mach_tries.specs.declared.walk.Open.{Open}
-use Rattle.goblin_mach_c.specs.ExportWalk.{GoesAlong, HasWalkedTrie, IsCode, IsCutFor, IsNextName, StopsAt, end_number, next_export_of}
+use Rattle.goblin_mach_c.specs.ExportWalk.{AreWritten, GoesAlong, HasWalkedTrie, IsCode, IsCutFor, IsNextName, IsNodeOf, IsNumbered, StopsAt, end_number}
+use Rattle.goblin_mach_c.specs.ExportWalk.{next_export_of}
+use Rattle.goblin_mach_c.proofs.ListedExports.{written_there}
 use Rattle.goblin_mach_c.specs.declared.exports.Ending.{Ending}
 use Rattle.goblin_mach_c.specs.declared.exports.Ending.TheVariants.{End, Refused, NameTooLong, StackTooShort}
 use Rattle.goblin_mach_c.specs.declared.exports.gm_export_walk.{gm_export_walk}
+use Rattle.goblin_mach_c.specs.declared.exports.gm_listed_export.{gm_listed_export}
 
 -- a cursor that has given nothing begins a walk
 pub walk_begins : {t : TrieRange} {libs : List (List ℕ)} {w : gm_export_walk} {c : TrieCursor} {name : List ℕ} {stack : List Open} {found : List Entry}
@@ -74,6 +77,17 @@ goes_along {t} {libs} {w} {b} {w'} {name} {name'} {stack} {stack'} {given} rows 
   ended = λ one found h.
       (is_whole t libs w'.cursor name' stack' (found ++ given) rows room longest e (stops found ((begins found h).begun begun ready)) (sym is ∙ one)).1;
 }
+
+-- its rows
+pub walk_written : {t : TrieRange} {libs : List (List ℕ)} {w b : gm_export_walk} {name : List ℕ} {stack : List Open} {given : List Entry}
+    {count used : ℕ} {old new : List gm_listed_export} {text text' : List ℕ}
+    → ((found : List Entry) → HasWalkedTrie t libs w name stack found → HasWalkedTrie t libs b name stack found) → b.is_begun ≢ 0 → b.code ≡ 0
+    → AreWritten t.bytes (IsNumbered libs) (IsNodeOf t libs (HasGivenTo t libs b.cursor name stack)) given count used old new text text'
+    → AreWritten t.bytes (IsNumbered libs) (IsNodeOf t libs (HasWalkedTrie t libs w name stack)) given count used old new text text'
+walk_written {t} {libs} {w} {b} {name} {stack} begins begun ready =
+    written_there t.bytes t.bytes (IsNumbered libs) (IsNumbered libs) (IsNodeOf t libs (HasGivenTo t libs b.cursor name stack))
+    (IsNodeOf t libs (HasWalkedTrie t libs w name stack)) (λ _ _ e. e) (λ _ _ e. e) (λ _ _ e. e)
+    (λ before e node n. record { own = n.own; leads = λ found h. n.leads found ((begins found h).begun begun ready) })
 
 -- the name that was too long
 pub long_name : (t : TrieRange) (c : TrieCursor) (name : List ℕ) (stack : List Open) (e : Ending) (n : ℕ)

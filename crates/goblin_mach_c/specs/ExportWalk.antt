@@ -6,7 +6,8 @@ use Rattle.mach_base.specs.Text.{text_at}
 use Rattle.mach_tries.specs.CursorState.{IsNextLabel}
 use Rattle.mach_tries.specs.Cursors.{HasGivenTo, NextGives, AreAllMet, IsCutShort, IsOwnAt, place_at}
 use Rattle.mach_tries.specs.Trie.{Entry, Info, regular, reexport, stub}
-use Rattle.mach_tries.specs.TrieRange.{ListsExports, ExportsFault, TrieRange}
+use Rattle.mach_tries.specs.TrieRange.{ListsExports, ExportsFault, TrieRange, trie_there}
+use Rattle.mach_tries.specs.Unfolds.{IsNextNode}
 use Rattle.mach_tries.specs.declared.cursor.NextExport.{NextExport}
 use Rattle.mach_tries.specs.declared.cursor.NextExport.TheVariants as next
 use Rattle.mach_tries.specs.declared.cursor.TrieCursor.{TrieCursor}
@@ -32,37 +33,37 @@ IsBrought bytes IsLibrary node (reexport lib name flags) library target =
     (place_at bytes node ≡ Ok (library, target)) × IsLibrary library lib × (text_at bytes target ≡ Ok (text_or_empty name))
 IsBrought bytes IsLibrary node (stub at resolver flags) library target = (library ≡ 0) × (target ≡ 0)
 
--- the row of an export whose name stands at a place among the names, and which is that of a node
-pub record IsListed (bytes : List ℕ) (IsLibrary : ℕ → List ℕ → Type 0) (IsNode : ℕ → Info → Type 0) (place : ℕ) (e : Entry)
-    (row : gm_listed_export) : Type 0 where
-  pub name : row.name ≡ place
-  pub name_len : row.name_len ≡ length e.name
-  pub what : row.what ≡ export_row (Some e.info)
-  pub node : ℕ
-  pub is_node : IsNode node e.info
-  pub brought : IsBrought bytes IsLibrary node e.info row.library row.target
-
 -- some names, one behind the other
 abbrev pub names_of : List Entry → List ℕ
 names_of [] = []
 names_of (e ∷ es) = e.name ++ names_of es
 
--- the rows of exports whose names stand so, from a place among the names on
-abbrev pub AreListed : List ℕ → (ℕ → List ℕ → Type 0) → (ℕ → Info → Type 0) → ℕ → List Entry → List gm_listed_export → Type 0
-AreListed bytes IsLibrary IsNode place [] [] = Unit {0}
-AreListed bytes IsLibrary IsNode place [] (row ∷ rows) = ⊥
-AreListed bytes IsLibrary IsNode place (e ∷ es) [] = ⊥
-AreListed bytes IsLibrary IsNode place (e ∷ es) (row ∷ rows) =
-    IsListed bytes IsLibrary IsNode place e row × AreListed bytes IsLibrary IsNode (place + length e.name) es rows
+-- The row of an export that comes behind some others: its name stands behind theirs, and it is that of a node, by which it is told.
+pub record IsListed (bytes : List ℕ) (IsLibrary : ℕ → List ℕ → Type 0) (IsNode : List Entry → Entry → ℕ → Type 0) (before : List Entry) (e : Entry)
+    (row : gm_listed_export) : Type 0 where
+  pub name : row.name ≡ length (names_of before)
+  pub name_len : row.name_len ≡ length e.name
+  pub what : row.what ≡ export_row (Some e.info)
+  pub node : ℕ
+  pub is_node : IsNode before e node
+  pub brought : IsBrought bytes IsLibrary node e.info row.library row.target
+
+-- the rows of exports that come behind some others
+abbrev pub AreListed : List ℕ → (ℕ → List ℕ → Type 0) → (List Entry → Entry → ℕ → Type 0) → List Entry → List Entry → List gm_listed_export → Type 0
+AreListed bytes IsLibrary IsNode before [] [] = Unit {0}
+AreListed bytes IsLibrary IsNode before [] (row ∷ rows) = ⊥
+AreListed bytes IsLibrary IsNode before (e ∷ es) [] = ⊥
+AreListed bytes IsLibrary IsNode before (e ∷ es) (row ∷ rows) =
+    IsListed bytes IsLibrary IsNode before e row × AreListed bytes IsLibrary IsNode (before ++ e ∷ []) es rows
 
 -- These exports were written: `count` rows in front of an array, and `used` bytes of names in front of a text. What is
 -- behind them is as it was.
-pub record AreWritten (bytes : List ℕ) (IsLibrary : ℕ → List ℕ → Type 0) (IsNode : ℕ → Info → Type 0) (given : List Entry) (count used : ℕ)
-    (old new : List gm_listed_export) (text text' : List ℕ) : Type 0 where
+pub record AreWritten (bytes : List ℕ) (IsLibrary : ℕ → List ℕ → Type 0) (IsNode : List Entry → Entry → ℕ → Type 0) (given : List Entry)
+    (count used : ℕ) (old new : List gm_listed_export) (text text' : List ℕ) : Type 0 where
   pub is_count : count ≡ length given
   pub is_used : used ≡ length (names_of given)
   pub listed : List gm_listed_export
-  pub are : AreListed bytes IsLibrary IsNode 0 given listed
+  pub are : AreListed bytes IsLibrary IsNode [] given listed
   pub rows : new ≡ listed ++ drop count old
   pub names : text' ≡ names_of given ++ drop used text
 
@@ -74,13 +75,11 @@ HasLibrary bytes o number name = (libs : List (List ℕ)) × HasLibraries bytes 
 abbrev pub IsNumbered : List (List ℕ) → ℕ → List ℕ → Type 0
 IsNumbered libs number name = slice_get libs number ≡ Some name
 
--- this is the own export of the node of a trie that begins here
-abbrev pub IsNodeOf : TrieRange → List (List ℕ) → ℕ → Info → Type 0
-IsNodeOf t libs node info = IsOwnAt t.bytes libs t.from node info
-
--- the same of the trie of the image at o
-abbrev pub HasNodeOf : List ℕ → ℕ → ℕ → Info → Type 0
-HasNodeOf bytes o node info = OfImage bytes o (λ ctx cs. IsNodeOf (trie_or_empty (trie_in bytes cs)) (libs_in bytes cs) node info)
+-- The node of a trie that begins here has this export as its own. And whatever a walk had given before: behind that and these comes
+-- this node, of the export's name, and a path of that name leads to it.
+pub record IsNodeOf (t : TrieRange) (libs : List (List ℕ)) (HasGiven : List Entry → Type 0) (before : List Entry) (e : Entry) (node : ℕ) : Type 0 where
+  pub own : IsOwnAt t.bytes libs t.from node e.info
+  pub leads : (found : List Entry) → HasGiven found → IsNextNode (trie_there t libs) t.from (found ++ before) e.name node
 
 -- ---- walks
 
@@ -99,6 +98,12 @@ pub record HasWalkedTrie (t : TrieRange) (libs : List (List ℕ)) (w : gm_export
 abbrev pub HasWalked : List ℕ → ℕ → gm_export_walk → List ℕ → List Open → List Entry → Type 0
 HasWalked bytes o w name stack found =
     OfImage bytes o (λ ctx cs. HasWalkedTrie (trie_or_empty (trie_in bytes cs)) (libs_in bytes cs) w name stack found)
+
+-- Behind these rows of a walk of the image at o this export is that of the node of its trie that begins here.
+abbrev pub HasNodeOf : List ℕ → ℕ → gm_export_walk → List ℕ → List Open → List Entry → Entry → ℕ → Type 0
+HasNodeOf bytes o w name stack before e node = OfImage bytes o (λ ctx cs.
+    let t = trie_or_empty (trie_in bytes cs) in
+    let libs = libs_in bytes cs in IsNodeOf t libs (HasWalkedTrie t libs w name stack) before e node)
 
 -- Whatever the walk had given before, it has given that and these.
 abbrev pub GivesFurther : List ℕ → ℕ → gm_export_walk → List ℕ → List Open → List Entry → gm_export_walk → List ℕ → List Open → Type 0

@@ -16,7 +16,7 @@ ghost use Rattle.goblin_mach_c.specs.Opened.{FaultIn, lossy_mode};
 ghost use Rattle.goblin_mach_c.specs.declared.exports.Ending.TheVariants as ending;
 
 use crate::errors::{GM_OK, gm_error, refuse, refuse_again};
-use crate::find::{gm_export, row_of};
+use crate::find::{gm_export, row_of_export};
 use crate::images::gm_image;
 use crate::open::open;
 use goblin_mach::MachO;
@@ -149,7 +149,8 @@ fn write_exports<'a>(
     out: &mut [gm_listed_export],
     names: &mut [u8],
 ) -> (usize, usize, Option<Ending>)
-    ensures written { (given : List Entry) × AreWritten trie.now.bytes (IsNumbered (texts libs.now)) (IsNodeOf trie.now (texts libs.now)) given
+    ensures written { (given : List Entry) × AreWritten trie.now.bytes (IsNumbered (texts libs.now))
+        (IsNodeOf trie.now (texts libs.now) (HasGivenTo trie.now (texts libs.now) cursor.old name.old stack.old)) given
         result.0 result.1 out.old out.new names.old names.new
         × ((found : List Entry) → HasGivenTo trie.now (texts libs.now) cursor.old name.old stack.old found
         → StopsAt trie.now (texts libs.now) (found ++ given) result.2 cursor.new name.new stack.new) }
@@ -174,7 +175,7 @@ fn write_exports<'a>(
                     name_len: len,
                     library,
                     target,
-                    what: row_of(&Some(info)),
+                    what: row_of_export(&info),
                 };
                 used += len;
             }
@@ -247,7 +248,8 @@ fn go_along<'a>(
     error: &mut gm_error,
 ) -> u32
     requires ready { walk.old.code ≡ 0 }
-    ensures written { (given : List Entry) × AreWritten trie.now.bytes (IsNumbered (texts libs.now)) (IsNodeOf trie.now (texts libs.now)) given
+    ensures written { (given : List Entry) × AreWritten trie.now.bytes (IsNumbered (texts libs.now))
+        (IsNodeOf trie.now (texts libs.now) (HasWalkedTrie trie.now (texts libs.now) walk.old name.old stack.old)) given
         batch.new.count batch.new.names_len out.old out.new names.old names.new
         × GoesAlong trie.now (texts libs.now) walk.old walk.new name.old name.new stack.old stack.new given batch.new.end }
     ensures full { batch.new.end ≡ 0 → (batch.new.count ≡ length out.old) ⊎ (length names.old < batch.new.names_len + length name.old) }
@@ -331,7 +333,8 @@ pub extern "C" fn gmr_exports(
     batch: &mut gm_export_batch,
     error: &mut gm_error,
 ) -> u32
-    ensures written { (given : List Entry) × AreWritten bytes.now (HasLibrary bytes.now image.now.offset) (HasNodeOf bytes.now image.now.offset) given
+    ensures written { (given : List Entry) × AreWritten bytes.now (HasLibrary bytes.now image.now.offset)
+        (HasNodeOf bytes.now image.now.offset walk.old name.old stack.old) given
         batch.new.count batch.new.names_len out.old out.new names.old names.new
         × GivesFurther bytes.now image.now.offset walk.old name.old stack.old given walk.new name.new stack.new
         × (batch.new.end ≡ 1 → EndsWholeWith bytes.now image.now.offset walk.old name.old stack.old given) }

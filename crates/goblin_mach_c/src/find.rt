@@ -1,6 +1,6 @@
 //! What an image exports one name as.
 
-ghost use Rattle.std.specs.Prelude.{◌≡◌, ◌≢◌, ◌⊎◌, IfOk, IfErr, List, Option, option_map};
+ghost use Rattle.std.specs.Prelude.{◌≡◌, ◌≢◌, ◌⊎◌, IfOk, IfErr, List, Option, None, Some, option_map};
 ghost use Rattle.std.specs.Str.{IsUtf8};
 ghost use Rattle.mach_base.specs.Answer.{IsOkUnlessMemory, Stands};
 ghost use Rattle.mach_tries.specs.Exports.{info_of};
@@ -53,59 +53,65 @@ fn find<'a>(
     image.find_export(alloc, name)
 }
 
-// The numbers of an answer.
-pub fn row_of(found: &Option<ExportInfo<'_>>) -> gm_export
-    ensures { result ≡ export_row (option_map info_of found.now) }
+// The answer of no export.
+#[inline(always)]
+fn no_export() -> gm_export
+    ensures { result ≡ export_row None }
 {
-    match found {
-        None => gm_export {
-            address: 0,
-            resolver: 0,
-            flags: 0,
-            library_len: 0,
-            target_len: 0,
-            kind: 0,
-            reserved: 0,
-        },
-        Some(ExportInfo::Regular { address, flags }) => gm_export {
+    gm_export {
+        address: 0,
+        resolver: 0,
+        flags: 0,
+        library_len: 0,
+        target_len: 0,
+        kind: 0,
+        reserved: 0,
+    }
+}
+
+/// The numbers of an export.
+pub fn row_of_export(info: &ExportInfo<'_>) -> gm_export
+    ensures { result ≡ export_row (Some (info_of info.now)) }
+{
+    match info {
+        ExportInfo::Regular { address, flags } => gm_export {
             address: *address,
-            resolver: 0,
             flags: *flags,
-            library_len: 0,
-            target_len: 0,
             kind: 1,
-            reserved: 0,
+            ..no_export()
         },
-        Some(
-            ExportInfo::Reexport {
-                lib,
-                lib_symbol_name,
-                flags,
-            },
-        ) => gm_export {
-            address: 0,
-            resolver: 0,
+        ExportInfo::Reexport {
+            lib,
+            lib_symbol_name,
+            flags,
+        } => gm_export {
             flags: *flags,
             library_len: lib.len(),
             target_len: lib_symbol_name.unwrap_or("").len(),
             kind: 2,
-            reserved: 0,
+            ..no_export()
         },
-        Some(
-            ExportInfo::Stub {
-                stub_offset,
-                resolver_offset,
-                flags,
-            },
-        ) => gm_export {
+        ExportInfo::Stub {
+            stub_offset,
+            resolver_offset,
+            flags,
+        } => gm_export {
             address: u64::from(*stub_offset),
             resolver: u64::from(*resolver_offset),
             flags: *flags,
-            library_len: 0,
-            target_len: 0,
             kind: 3,
-            reserved: 0,
+            ..no_export()
         },
+    }
+}
+
+// The numbers of an answer.
+fn row_of(found: &Option<ExportInfo<'_>>) -> gm_export
+    ensures { result ≡ export_row (option_map info_of found.now) }
+{
+    match found {
+        None => no_export(),
+        Some(info) => row_of_export(info),
     }
 }
 

@@ -27,7 +27,7 @@ module _ {t : TrieRange} {libs : List (List ℕ)} {c : TrieCursor} {name : List 
   pub next_gives : (given : NextExport) {d : TrieCursor} {name' : List ℕ} {stack' : List Open} → HasCome t libs c name stack found
       → (IsStopped (Some given) → IsAsBefore c d name name' stack stack') → TurnGives t libs found (Some given) d name' stack'
       → NextGives t libs found given d name' stack'
-  next_gives (Export info) come stopped gives = gives
+  next_gives (Export info) come stopped gives = gives.0
   next_gives (End) come stopped gives = (gives.0, (gives.1, gives.2), whole_or_not t libs gives.2)
   next_gives (Refused e) come stopped gives = record { cut = gives; stands = cut_stands (starts_from t.bytes libs t.from t.upto) gives }
   next_gives (NameTooLong n) come stopped gives = let b = stopped tt in rw (b.same_cursor, b.same_name, b.same_stack) come

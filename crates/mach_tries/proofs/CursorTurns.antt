@@ -8,11 +8,13 @@ use Rattle.std.proofs.lemmas.List.{take-take, take_more}
 use Rattle.std.proofs.lemmas.Option.{get_or_from_slice_get, slice_get_within}
 use Rattle.mach_tries.specs.CursorState.{below, name_met_last, root, IsAtChild, HasCome, at_root, between, all_met, TurnGives, IsAsBefore, IsStopped, IsFull}
 use Rattle.mach_tries.specs.CursorState.{IsNextLabel}
+use Rattle.mach_tries.specs.Unfolds.{IsNextNode}
 use Rattle.mach_tries.specs.declared.node.BranchRun.{BranchRun}
 use Rattle.mach_tries.specs.declared.cursor.NextExport.{NextExport}
 use Rattle.mach_tries.specs.declared.cursor.NextExport.TheVariants.{Export, End, Refused, NameTooLong, StackTooShort}
 use Rattle.mach_tries.specs.declared.cursor.TrieCursor.{TrieCursor}
 use Rattle.mach_tries.proofs.BranchAgain.{no_branch}
+use Rattle.mach_tries.proofs.NamedPaths.{is_next}
 use Rattle.mach_tries.proofs.OpenNodes as nodes
 
 -- the node below the top
@@ -32,6 +34,16 @@ module _ {t : TrieRange} {libs : List (List ℕ)} where
       (at : IsAtChild t libs c name stack b rest found) where
     short : rest.name_len ≤ c.name_len
     short = let fits = at.is_read.ahead.3 in let cut = length-take c.name_len name in omega arith
+
+    -- the name of its child
+    module _ (d : TrieCursor) (name' : List ℕ) (len : d.name_len ≡ rest.name_len + length b.label)
+        (text : take (rest.name_len + length b.label) name' ≡ take rest.name_len name ++ b.label) where
+      named : name_met_last d name' ≡ take rest.name_len (name_met_last c name) ++ b.label
+      named = ap (λ (k : ℕ). take k name') len ∙ text
+          ∙ ap (λ (x : List ℕ). x ++ b.label) (sym (take-take rest.name_len c.name_len name short))
+
+      pub comes_next : d.node ≡ b.start → IsNextNode (trie_there t libs) t.from found (name_met_last d name') d.node
+      comes_next there = rw (named, there) (is_next at.is_read.read)
 
     -- a branch to nothing is passed
     pub passes : t.upto ≤ b.start → (d : TrieCursor) → d.phase ≡ 1 → d.visits_left ≡ c.visits_left → d.name_len ≡ c.name_len → d.depth ≡ c.depth
@@ -71,10 +83,6 @@ module _ {t : TrieRange} {libs : List (List ℕ)} where
           (opened : 0 < run.left → d.top ≡ record { left = run.left; place = run.place; name_len = rest.name_len + length b.label })
           (over : 0 < run.left → 0 < rest.left → below d stack' ≡ rest ∷ below c stack)
           (in_place : 0 < run.left → rest.left ≡ 0 → below d stack' ≡ below c stack) where
-        named : name_met_last d name' ≡ take rest.name_len (name_met_last c name) ++ b.label
-        named = ap (λ (k : ℕ). take k name') len ∙ text
-            ∙ ap (λ (x : List ℕ). x ++ b.label) (sym (take-take rest.name_len c.name_len name short))
-
         abbrev node : Node
         node = record { own = own; branches = branches_of t.bytes t.from run }
 
@@ -96,7 +104,7 @@ module _ {t : TrieRange} {libs : List (List ℕ)} where
         enters =
             between (suc at.nodes) phase
             (record { name_len = omega (arith, len, long, fits); depth = depth; visits = let v = at.kept.visits in omega arith })
-            (rw named read)
+            (rw (named d name' len text) read)
 
   -- between two branches
   module _ {c : TrieCursor} {name : List ℕ} {stack : List Open} {found : List Entry} (on : c.phase ≡ 1) where

@@ -25,6 +25,8 @@ pub mod LookUps
 pub mod LookUpNodes
 pub mod LookUpWays
 pub mod LookUpPaths
+pub mod NamedPaths
+pub mod OneReading
 pub mod LookUpSettles
 pub mod LookUpTurns
 pub mod LookUpFollows

@@ -15,7 +15,7 @@ use Rattle.mach_tries.specs.LookUp.{PathSpells, IsOnWay, FaultOnWay, at_node_on_
 use Rattle.mach_tries.proofs.TriePaths.{same_node, same_some, Leads-append, leads_to_one}
 
 module _ (t : Trie) where
-  name_append : (p q : List ℕ) (a b : ℕ) (m n : List ℕ) → Leads t p a b → IsNameOf t a p m → IsNameOf t b q n → IsNameOf t a (p ++ q) (m ++ n)
+  pub name_append : (p q : List ℕ) (a b : ℕ) (m n : List ℕ) → Leads t p a b → IsNameOf t a p m → IsNameOf t b q n → IsNameOf t a (p ++ q) (m ++ n)
   name_append [] q a b m n l h more =
       subst (λ (x : List ℕ). IsNameOf t a q (x ++ n)) (sym h) (subst (λ x. IsNameOf t x q n) (sym l) more)
   name_append (k ∷ ks) q a b m n l h more =

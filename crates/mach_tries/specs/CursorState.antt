@@ -8,7 +8,7 @@ use Rattle.mach_tries.specs.Trie as trie
 use Rattle.mach_tries.specs.Trie.{Entry, entry}
 use Rattle.mach_tries.specs.TrieRange.{TrieRange, trie_there}
 use Rattle.mach_tries.specs.Reading.{IsReadSoFar, branches_left}
-use Rattle.mach_tries.specs.Unfolds.{Unfolds, IsCutBy}
+use Rattle.mach_tries.specs.Unfolds.{Unfolds, IsCutBy, IsNextNode}
 use Rattle.mach_tries.specs.declared.cursor.NextExport.{NextExport}
 use Rattle.mach_tries.specs.declared.cursor.NextExport.TheVariants.{Export, End, Refused, NameTooLong, StackTooShort}
 use Rattle.mach_tries.specs.declared.cursor.TrieCursor.{TrieCursor}
@@ -50,10 +50,12 @@ pub data HasCome (t : TrieRange) (libs : List (List ℕ)) (c : TrieCursor) (name
 
 -- ---- what a turn gives behind these exports
 
--- one more export; at the end nothing, and all is met; an error where the reading is cut short by it
+-- one more export, that of the node which comes next; at the end nothing, and all is met; an error where the reading is cut short by it
 abbrev pub TurnGives : TrieRange → List (List ℕ) → List Entry → Option NextExport → TrieCursor → List ℕ → List Open → Type 0
 TurnGives t libs found None c name stack = HasCome t libs c name stack found
-TurnGives t libs found (Some (Export info)) c name stack = HasCome t libs c name stack (found ++ entry (name_met_last c name) (info_of info) ∷ [])
+TurnGives t libs found (Some (Export info)) c name stack =
+    HasCome t libs c name stack (found ++ entry (name_met_last c name) (info_of info) ∷ [])
+    × IsNextNode (trie_there t libs) t.from found (name_met_last c name) c.node
 TurnGives t libs found (Some (End)) c name stack = HasCome t libs c name stack found × (n : ℕ) × Unfolds (trie_there t libs) t.from n found []
 TurnGives t libs found (Some (Refused e)) c name stack = IsCutBy (trie_there t libs) t.from found (fault_of e)
 TurnGives t libs found (Some (NameTooLong n)) c name stack = Unit {0}

@@ -10,10 +10,11 @@ use Rattle.mach_tries.specs.Nodes as Nodes
 use Rattle.mach_tries.specs.Nodes.{node_at}
 use Rattle.mach_tries.specs.Trie.{Branch, Entry, Info, entry}
 use Rattle.mach_tries.specs.TrieRange.{TrieRange, trie_there, ListsExports, ExportsFault}
-use Rattle.mach_tries.specs.Unfolds.{Unfolds, IsCutBy}
+use Rattle.mach_tries.specs.Unfolds.{Unfolds, IsCutBy, IsNextNode}
 use Rattle.mach_tries.specs.declared.cursor.NextExport.{NextExport}
 use Rattle.mach_tries.specs.declared.cursor.NextExport.TheVariants.{Export, End, Refused, NameTooLong, StackTooShort}
 use Rattle.mach_tries.specs.declared.cursor.TrieCursor.{TrieCursor}
+use Rattle.mach_tries.specs.declared.info.ExportInfo.{ExportInfo}
 use Rattle.mach_tries.specs.declared.walk.Open.{Open}
 
 -- The cursor goes over the trie of this range, with this name and these open nodes, and has given these exports: what is met first in
@@ -54,6 +55,11 @@ StandsAt bytes libs from start (Some (End)) = Unit {0}
 StandsAt bytes libs from start (Some (Refused e)) = Unit {0}
 StandsAt bytes libs from start (Some (NameTooLong n)) = Unit {0}
 StandsAt bytes libs from start (Some (StackTooShort)) = Unit {0}
+
+-- an export that is given behind these is that of the node which comes next there, and a path of its name leads to the node
+abbrev pub IsLedTo : TrieRange → List (List ℕ) → List Entry → NextExport → TrieCursor → List ℕ → Type 0
+IsLedTo t libs found given c name =
+    (info : ExportInfo) → given ≡ Export info → IsNextNode (trie_there t libs) t.from found (name_met_last c name) c.node
 
 -- of a re-export of the node at this start: the ordinal, and the place behind it, behind the size of the export and its flags
 abbrev pub place_at : List ℕ → ℕ → Result (ℕ × ℕ) Fault

@@ -2,6 +2,8 @@
 use Rattle.std.specs.Prelude.{◌≡◌, ◌<◌, ◌≤◌, ◌-◌, ◌⊎◌, ℕ, suc, List, [], ◌∷◌, ◌++◌, map, Err}
 use Rattle.mach_base.specs.Fault.{Fault, malformed}
 use Rattle.mach_tries.specs.Trie.{Branch, Node, Trie, IsNode, Entry, own_entries}
+use Rattle.mach_tries.specs.Paths.{Leads}
+use Rattle.mach_tries.specs.TerminalPaths.{IsNameOf}
 
 -- a branch that is still to be taken: the name of its child, and where the child begins
 pub record Ahead : Type 0 where
@@ -24,6 +26,17 @@ pub data Unfolds (t : Trie) (root : ℕ) : ℕ → List Entry → List Ahead →
   node_read : {n : ℕ} {found met : List Entry} {next : Ahead} {others left : List Ahead} (node : Node) → Unfolds t root n found (next ∷ others)
       → IsNode t next.start node → met ≡ found ++ own_entries next.name node.own → left ≡ ahead next.name node.branches ++ others
       → Unfolds t root (suc n) met left
+
+-- a path of this name leads from the one start to the other
+abbrev pub LeadsByName : Trie → ℕ → List ℕ → ℕ → Type 0
+LeadsByName t from name to = (path : List ℕ) × Leads t path from to × IsNameOf t from path name
+
+-- Behind these exports comes the node that begins here, and has this name: a path of the name leads to it.
+pub record IsNextNode (t : Trie) (root : ℕ) (found : List Entry) (name : List ℕ) (at : ℕ) : Type 0 where
+  pub nodes : ℕ
+  pub others : List Ahead
+  pub read : Unfolds t root nodes found (record { name = name; start = at } ∷ others)
+  pub leads : LeadsByName t root name at
 
 -- These exports were met, and the reading can't go on for this fault: the node that comes next is malformed; or it comes behind as many
 -- nodes as the trie has places, of which two are then one.

@@ -7,7 +7,7 @@
 ghost use Rattle.std.specs.Prelude.{◌≡◌, ◌≤◌, ◌<◌, ◌+◌, ◌-◌, ◌^◌, ◌++◌, ◌∷◌, [], ℕ, List, length, take, min, Option, Ok, Some, IfOk, IfNone, IfSome};
 ghost use Rattle.mach_base.specs.Answer.{Reads};
 ghost use Rattle.mach_tries.specs.CursorState.{below, IsAtChild, HasCome, TurnGives, IsAsBefore, IsStopped, IsFull, cursor_work, work_of};
-ghost use Rattle.mach_tries.specs.Cursors.{HasGivenTo, NextGives, IsOwnAt, IsReexportAt, StandsAt, place_at};
+ghost use Rattle.mach_tries.specs.Cursors.{HasGivenTo, NextGives, IsLedTo, IsOwnAt, IsReexportAt, StandsAt, place_at};
 ghost use Rattle.mach_tries.specs.Lists.{ListBegins};
 ghost use Rattle.mach_tries.specs.TrieRange.{TrieRange, trie_there};
 ghost use Rattle.mach_base.specs.Text.{texts};
@@ -345,6 +345,8 @@ impl<'a> ExportTrie<'a> {
     ) -> NextExport<'a>
         ensures gives { (found : List Entry) → HasGivenTo self.now (texts libs.now) cursor.old name.old stack.old found
             → NextGives self.now (texts libs.now) found result cursor.new name.new stack.new }
+        ensures leads { (found : List Entry) → HasGivenTo self.now (texts libs.now) cursor.old name.old stack.old found
+            → IsLedTo self.now (texts libs.now) found result cursor.new name.new }
         ensures begun { (found : List Entry) → HasGivenTo self.now (texts libs.now) cursor.old name.old stack.old found
             → ListBegins (trie_there self.now (texts libs.now)) self.now.from [] found }
         ensures full { IsFull self.now.bytes self.now.from cursor.new name.new stack.new (Some result) }

@@ -2,13 +2,14 @@
 
 ghost use Rattle.std.specs.Prelude.{◌≡◌, ◌≤◌, ◌<◌, ◌+◌, ◌-◌, ◌*◌, ◌++◌, ◌↔◌, ℕ, List, [], length, Some, Result, Ok};
 ghost use Rattle.mach_base.specs.Fault.{Fault};
-ghost use Rattle.mach_tries.specs.Trie.{Trie, Entry};
+ghost use Rattle.mach_tries.specs.Trie.{Trie, Entry, Info, IsNode, Node};
 ghost use Rattle.mach_tries.specs.Lists.{Lists, ListBegins, ListsWithin, list_within};
 ghost use Rattle.mach_tries.specs.Paths.{Leads, Path, IsTree, StartsFrom};
 ghost use Rattle.mach_tries.specs.TrieFault.{TrieFault};
 ghost use Rattle.mach_tries.specs.TerminalPaths.{AreInOrder, ListsPaths};
 ghost use Rattle.mach_base.specs.Among.{IsAmong};
 ghost use Rattle.mach_tries.specs.TrieRange.{TrieRange, trie_there, ListsExports, ExportsFault};
+ghost use Rattle.mach_tries.specs.Unfolds.{IsNextNode};
 ghost use Rattle.mach_tries.specs.Visits.{Visits};
 ghost use Rattle.mach_tries.specs.LookUp.{FaultOnWay, LookUpVisits};
 
@@ -52,6 +53,12 @@ pub fn other_roots_have_lists()
 pub fn exports_of_terminal_paths()
     ensures { (t : Trie) (root : ℕ) (prefix : List ℕ) (xs : List Entry) → Lists t root prefix xs
         → (paths : List (List ℕ)) × ListsPaths t root prefix paths xs }
+{}
+
+/// Behind exports that were met the own export of one node comes next.
+pub fn one_next_node()
+    ensures { (t : Trie) (root : ℕ) (found : List Entry) (m n : List ℕ) (a b : ℕ) (v w : Node) (x y : Info) → IsNextNode t root found m a
+        → IsNextNode t root found n b → IsNode t a v → v.own ≡ Some x → IsNode t b w → w.own ≡ Some y → (m ≡ n) × (a ≡ b) }
 {}
 
 /// Where a fault stands in the trie of a range, it has no list of exports.

@@ -1,6 +1,6 @@
 use Rattle.std.proofs.Common.{◌-◌, ◌<◌, ◌^◌, ◌≡◌, ◌∙◌, ◌++◌, ℕ, Some, length, refl, sym, subst, arith, length-set, length-take}
 use Rattle.mach_tries.specs.CursorState.{IsFull}
-use Rattle.mach_tries.specs.Cursors.{NextGives, StandsAt}
+use Rattle.mach_tries.specs.Cursors.{HasGivenTo, NextGives, StandsAt}
 use Rattle.mach_base.specs.Text.{texts}
 use Rattle.mach_tries.specs.declared.cursor.NextExport.{NextExport}
 use Rattle.goblin_mach_c.specs.ExportWalk.{AreWritten, IsNodeOf, IsNumbered}
@@ -45,14 +45,15 @@ loop-k-preserved c =
       name_len = c.put_name-len.result;
       library = c.brought_from-library.result.0;
       target = c.brought_from-library.result.1;
-      what = c.row_of.result;
+      what = c.row_of_export.result;
     }) in
     record {
       so_far = one_more c.in-Ok.info c.brought_from-library.result.0 c.brought_from-library.result.1 c.next_export.new.cursor.node
           c.loop-k.invariant.so_far (omega arith)
           (λ found h. subst (λ (x : NextExport). NextGives c.args.trie.now (texts c.args.libs.now) found x c.next_export.new.cursor c.next_export.new.name
           c.next_export.new.stack) (sym c.in-Ok.ensures) (c.next_export.ensures.gives found h))
-          c.put_name-len.ensures.count c.put_name-len.ensures.written c.row_of.ensures own
+          c.put_name-len.ensures.count c.put_name-len.ensures.written c.row_of_export.ensures own
+          (λ found h. c.next_export.ensures.leads found h c.in-Ok.info (sym c.in-Ok.ensures))
           (c.brought_from-library.ensures (texts c.args.libs.now) own);
       fits = omega arith;
       name_len = same_name ∙ name_len;
@@ -70,8 +71,9 @@ returns-clause-written c =
     let end = c.loop-k.auto.k-end in
     let all : c.loop-k.k ≡ length c.loop-k.out = omega (arith, out_len, past, end) in (
       so.given,
-      subst (λ (n : ℕ). AreWritten c.args.trie.now.bytes (IsNumbered (texts c.args.libs.now)) (IsNodeOf c.args.trie.now (texts c.args.libs.now))
-          so.given n c.loop-k.used c.args.out.now c.loop-k.out c.args.names.now c.loop-k.names) all so.written,
+      subst (λ (n : ℕ). AreWritten c.args.trie.now.bytes (IsNumbered (texts c.args.libs.now)) (IsNodeOf c.args.trie.now (texts c.args.libs.now)
+          (HasGivenTo c.args.trie.now (texts c.args.libs.now) c.args.cursor.now c.args.name.now c.args.stack.now)) so.given n c.loop-k.used c.args.out.now
+          c.loop-k.out c.args.names.now c.loop-k.names) all so.written,
       so.walked,
     )
 

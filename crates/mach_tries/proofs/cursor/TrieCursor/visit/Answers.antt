@@ -2,7 +2,7 @@ use Rattle.std.proofs.Common.{arith, refl, ◌∙◌, ap}
 use Rattle.mach_tries.proofs.Names.{append-nil, subst, ℕ, List, Entry, Ok, Option, info_in, node_at, texts, fault_of, branches_of, trie_range_of}
 use Rattle.mach_tries.specs.declared.info.ExportInfo.{ExportInfo}
 use Rattle.mach_tries.specs.CursorState.{HasCome}
-use Rattle.mach_tries.proofs.CursorTurns.{passes, cut_by_count, cut_by_node, enters}
+use Rattle.mach_tries.proofs.CursorTurns.{passes, cut_by_count, cut_by_node, comes_next, enters}
 use Rattle.mach_tries.proofs.cursor.TrieCursor.visit.Goals as goal
 
 pub returns-then-start-source-clause-gives : goal.returns-then-start-source-clause-gives
@@ -18,10 +18,12 @@ returns-in-Err-clause-gives c = λ found at.
 pub returns-in-Some-clause-gives : goal.returns-in-Some-clause-gives
 returns-in-Some-clause-gives c = λ found at.
     let e = c.enter.ensures in
-    rw (c.in-Some.is) at (enters at (omega arith) c.enter.new.self c.put_label.new.name c.enter.new.stack (info_in c.in-Ok.node.0) c.in-Ok.node.1
-    c.in-Ok.ensures.node c.in-Ok.ensures.readable (omega arith)
-    c.put_label.ensures.len (rw c.as_bytes.ensures.value at c.put_label.ensures.text) e.way e.visits (omega arith) e.kept e.leaf (omega arith)
-    e.over e.in_place)
+    let text = rw c.as_bytes.ensures.value at c.put_label.ensures.text in (
+      rw (c.in-Some.is) at (enters at (omega arith) c.enter.new.self c.put_label.new.name c.enter.new.stack (info_in c.in-Ok.node.0) c.in-Ok.node.1
+          c.in-Ok.ensures.node c.in-Ok.ensures.readable (omega arith) c.put_label.ensures.len text e.way e.visits (omega arith) e.kept e.leaf (omega arith)
+          e.over e.in_place),
+      comes_next at c.enter.new.self c.put_label.new.name (omega arith) text e.node,
+    )
 
 pub returns-in-None-clause-gives : goal.returns-in-None-clause-gives
 returns-in-None-clause-gives c = λ found at.

@@ -2,6 +2,7 @@ use Rattle.std.proofs.Common.{arith, refl, subst, ap, Some}
 use Rattle.mach_tries.specs.CursorState.{HasCome, TurnGives, IsFull}
 use Rattle.mach_base.specs.Text.{texts}
 use Rattle.mach_tries.specs.TrieRange.{TrieRange}
+use Rattle.mach_tries.specs.declared.cursor.NextExport.{NextExport}
 use Rattle.mach_tries.proofs.CursorTries.{next_gives, over_gives, too_deep, too_far, begins_there}
 use Rattle.mach_tries.proofs.exports.ExportTrie.next_export.Goals as goal
 use Rattle.mach_tries.proofs.exports.ExportTrie.next_export.Goals.{else-cursor-le-ON_THE_WAY-via-then-cursor-le-ON_THE_WAY+else-cursor-stack}
@@ -40,6 +41,14 @@ returns-in-Some-clause-gives c = λ found given.
     → TurnGives t (texts c.args.libs.now) found (Some c.in-Some.given) c.turn.new.self c.turn.new.name c.turn.new.stack)
     c.self.view_is (c.in-Some.ensures.gives found) in
     next_gives c.in-Some.given come c.in-Some.ensures.stopped (turn come)
+
+pub returns-in-Some-clause-leads : goal.returns-in-Some-clause-leads
+returns-in-Some-clause-leads c = λ found given info is.
+    let turn = subst (λ (t : TrieRange). HasCome t (texts c.args.libs.now) c.turns.cursor c.turns.name c.turns.stack found
+    → TurnGives t (texts c.args.libs.now) found (Some c.in-Some.given) c.turn.new.self c.turn.new.name c.turn.new.stack)
+    c.self.view_is (c.in-Some.ensures.gives found) in
+    let gives = turn (c.turns.invariant.gives found given) in
+    (subst (λ (x : NextExport). TurnGives c.args.self.now (texts c.args.libs.now) found (Some x) c.turn.new.self c.turn.new.name c.turn.new.stack) is gives).1
 
 pub returns-in-Some-clause-begun : goal.returns-in-Some-clause-begun
 returns-in-Some-clause-begun c = λ found given. begins_there given

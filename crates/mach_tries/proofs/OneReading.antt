@@ -1,0 +1,93 @@
+-- A trie is read as if it were a tree in one order.
+use Rattle.mach_tries.proofs.Names.{◌≡◌, ◌<◌, ◌≤◌, ℕ, suc, List, [], ◌∷◌, ◌++◌, length, Some, Ok, Info, refl, sym, ap, subst, ◌∙◌, inl, inr, arith}
+use Rattle.mach_tries.proofs.Names.{cases_eq, cases_lt}
+use Rattle.mach_tries.proofs.Names.{length-append, Node, Trie, IsNode, Entry, own_entries, Ahead, ahead, Unfolds, nothing_read, passed, node_read}
+use Rattle.mach_tries.specs.Unfolds.{IsNextNode}
+use Rattle.mach_tries.proofs.TriePaths.{same_node}
+
+same_head : {x y : Ahead} {xs ys : List Ahead} → x ∷ xs ≡ y ∷ ys → x ≡ y
+same_head e = cc
+
+same_tail : {x y : Ahead} {xs ys : List Ahead} → x ∷ xs ≡ y ∷ ys → xs ≡ ys
+same_tail e = cc
+
+-- how many branches were taken or passed
+abbrev steps : {t : Trie} {root n : ℕ} {found : List Entry} {left : List Ahead} → Unfolds t root n found left → ℕ
+steps nothing_read = 0
+steps (passed before out) = suc (steps before)
+steps (node_read node before is met_is left_is) = suc (steps before)
+
+-- a reading up to a step of it, by which no more was met
+record UpTo (t : Trie) (root k : ℕ) (found : List Entry) : Type 0 where
+  nodes : ℕ
+  met : List Entry
+  left : List Ahead
+  read : Unfolds t root nodes met left
+  count : steps read ≡ k
+  few : length met ≤ length found
+
+module _ {t : Trie} {root : ℕ} where
+  -- so many steps come to one place
+  one_reading : {n m : ℕ} {found met : List Entry} {left ahead_then : List Ahead} (u : Unfolds t root n found left) (v : Unfolds t root m met ahead_then)
+      → steps u ≡ steps v → (found ≡ met) × (left ≡ ahead_then)
+  one_reading nothing_read nothing_read e = (refl, refl)
+  one_reading nothing_read (passed v out) e = absurd (omega arith)
+  one_reading nothing_read (node_read node v is a b) e = absurd (omega arith)
+  one_reading (passed u out) nothing_read e = absurd (omega arith)
+  one_reading (passed u out) (passed v out') e = let same = one_reading u v (omega arith) in (same.0, same_tail same.1)
+  one_reading (passed {next = x} u out) (node_read {next = y} node v is a b) e =
+      let same = one_reading u v (omega arith) in
+      let start = ap (λ (x : Ahead). x.start) (same_head same.1) in
+      let inside = is.0 in absurd (omega arith)
+  one_reading (node_read node u is a b) nothing_read e = absurd (omega arith)
+  one_reading (node_read {next = y} node u is a b) (passed {next = x} v out) e =
+      let same = one_reading u v (omega arith) in
+      let start = ap (λ (x : Ahead). x.start) (same_head same.1) in
+      let inside = is.0 in absurd (omega arith)
+  one_reading (node_read {found = f} {next = x} {others = l} node u is a b) (node_read {found = g} {next = y} {others = r} other v also c d) e =
+      let same = one_reading u v (omega arith) in
+      let next : x ≡ y = same_head same.1 in
+      let there : node ≡ other = same_node is.1 (subst (λ (z : Ahead). t.node z.start ≡ Ok other) (sym next) also.1) in (
+        a ∙ ap (λ (es : List Entry). es ++ own_entries x.name node.own) same.0 ∙ ap (λ (z : Ahead). g ++ own_entries z.name node.own) next
+            ∙ ap (λ (z : Node). g ++ own_entries y.name z.own) there ∙ sym c,
+        b ∙ ap (λ (others : List Ahead). ahead x.name node.branches ++ others) (same_tail same.1)
+            ∙ ap (λ (z : Ahead). ahead z.name node.branches ++ r) next ∙ ap (λ (z : Node). ahead y.name z.branches ++ r) there ∙ sym d,
+      )
+
+  up_to : {n : ℕ} {found : List Entry} {left : List Ahead} (u : Unfolds t root n found left) (k : ℕ) → k ≤ steps u → UpTo t root k found
+  up_to nothing_read k le = record { nodes = 0; met = []; left = _; read = nothing_read; count = omega arith; few = omega arith }
+  up_to {n} {found} {left} (passed u out) k le = elim (cases_eq k (suc (steps u))) [
+    | inl all ↦ record { nodes = n; met = found; left = left; read = passed u out; count = sym all; few = omega arith }
+    | inr less ↦ up_to u k (omega arith)
+  ]
+  up_to {n} {found} {left} (node_read {found = f} {next = x} node u is a b) k le = elim (cases_eq k (suc (steps u))) [
+    | inl all ↦ record { nodes = n; met = found; left = left; read = node_read node u is a b; count = sym all; few = omega arith }
+    | inr less ↦ (
+        let r = up_to u k (omega arith) in
+        let few = r.few in
+        let long = ap (λ (es : List Entry). length es) a ∙ length-append f (own_entries x.name node.own) in
+        record { nodes = r.nodes; met = r.met; left = r.left; read = r.read; count = r.count; few = omega arith })
+  ]
+
+  -- behind a node's own export more was met
+  not_behind : {n m : ℕ} {found : List Entry} {x : Ahead} {others left : List Ahead} (u : Unfolds t root n found (x ∷ others)) (node : Node) (info : Info)
+      → IsNode t x.start node → node.own ≡ Some info → (v : Unfolds t root m found left) → steps u < steps v → ⊥
+  not_behind {found = found} {x = x} u node info is own v less =
+      let r = up_to v (suc (steps u)) (omega arith) in
+      let w : Unfolds t root _ (found ++ own_entries x.name node.own) _ = node_read node u is refl refl in
+      let same = (one_reading w r.read (sym r.count)).0 in
+      let one = ap (λ o. length (own_entries x.name o)) own in
+      let long = sym (length-append found (own_entries x.name node.own)) ∙ ap (λ (es : List Entry). length es) same in
+      let few = r.few in omega arith
+
+  pub one_next : (found : List Entry) (m n : List ℕ) (a b : ℕ) (v w : Node) (x y : Info) → IsNextNode t root found m a → IsNextNode t root found n b
+      → IsNode t a v → v.own ≡ Some x → IsNode t b w → w.own ≡ Some y → (m ≡ n) × (a ≡ b)
+  one_next found m n a b v w x y p q is own also has = elim (cases_lt (steps p.read) (steps q.read)) [
+    | inl less ↦ absurd (not_behind p.read v x is own q.read less)
+    | inr more ↦ elim (cases_lt (steps q.read) (steps p.read)) [
+      | inl less ↦ absurd (not_behind q.read w y also has p.read less)
+      | inr no_more ↦ (
+          let next = same_head (one_reading p.read q.read (omega arith)).1 in
+          (ap (λ (z : Ahead). z.name) next, ap (λ (z : Ahead). z.start) next))
+    ]
+  ]
