@@ -135,7 +135,7 @@ read_judged limit items sections None unclean first second = record {
 
     unclean_judged : {A : Type 0} (p : Part A) → is_clean p ≡ false → verdict_of p ≡ Sound → ⊥
     unclean_judged p e = by_number p.faults p.cut e
-read_judged limit items sections (Some q) tells first second = both_judged _ _ first (second q tells)
+read_judged limit items sections (Some q) tells first second = both_judged _ _ first (second q tells.1)
 
 -- ---- the exports of a trie
 

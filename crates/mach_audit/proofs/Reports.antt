@@ -1,9 +1,11 @@
 -- What is told of a file, from what is told of its lists.
-use Rattle.std.proofs.Common.{◌≡◌, ◌+◌, ◌++◌, ◌∷◌, ◌∙◌, [], ℕ, zero, suc, List, Some, Result, Ok, refl, sym, ap, subst, arith}
+use Rattle.std.proofs.Common.{◌≡◌, ◌+◌, ◌++◌, ◌∷◌, ◌∙◌, [], ℕ, zero, suc, List, Some, Result, Ok, Err, refl, sym, ap, subst, arith, inr}
 use Rattle.std.specs.List.{AllZip}
 use Rattle.std.proofs.lemmas.Slice.Zip.{all_zipped_more}
+use Rattle.std.specs.Borrow.{Bor}
+use Rattle.mach_base.proofs.Faults.{Stands-in}
 use Rattle.mach_base.specs.Answer.{Stands}
-use Rattle.mach_base.specs.Fault.{Fault}
+use Rattle.mach_base.specs.Fault.{Fault, fault_of}
 use Rattle.mach_base.specs.Items.{items_from}
 use Rattle.mach_base.specs.Text.{texts}
 use Rattle.mach_base.specs.declared.error.Error.{Error}
@@ -13,16 +15,18 @@ use Rattle.mach_segments.specs.Bindings.{Binding}
 use Rattle.mach_layout.specs.Facts.{HasLayoutFaults}
 use Rattle.mach_image.proofs.ImageFacts.{facts_are, segments_are, symbols_are}
 use Rattle.mach_image.specs.Facts.{HasImportItems, HasFixups, HasBindings}
-use Rattle.mach_image.specs.Image.{ImageFault}
-use Rattle.mach_image.specs.OpenImage.{IsImage, IsLossyImage, segments_held, trie_held, ctx_held, bytes_held}
+use Rattle.mach_image.specs.Image.{ImageFault, LossyOpens}
+use Rattle.mach_image.specs.OpenImage.{IsImage, IsLossyImage, commands_held, segments_held, trie_held, ctx_held, bytes_held}
 use Rattle.mach_image.specs.Subjects.{symbols_held, trie_or_empty}
 use Rattle.mach_image.specs.declared.macho.MachO.{MachO}
-use Rattle.goblin_mach.specs.FatEntry.{FatEntry, EntryOpens, IsEntry, archive, image}
+use Rattle.goblin_mach.specs.FatEntry.{FatEntry, FatEntryFault, IsEntry, archive, image, fat_entry_of, no_entry, no_image}
 use Rattle.goblin_mach.specs.declared.fat_file.entry.SingleArch.TheVariants as arches
-use Rattle.goblin_mach.specs.File.{MachFault}
+use Rattle.goblin_mach.proofs.Files.{fat-excludes_image}
+use Rattle.goblin_mach.specs.File.{HasFatMagic, MachFault, MachOpens, of_image}
 use Rattle.goblin_mach.specs.View.{IsTold}
+use Rattle.mach_audit.proofs.EntryBytes.{image_entry, image_no_fat, same_bytes}
 use Rattle.mach_audit.proofs.Goes.{stands_of}
-use Rattle.mach_audit.specs.Report.{TellsImage, TellsLossily, IsImageReport, IsEntryReport, reason_of}
+use Rattle.mach_audit.specs.Report.{TellsImage, TellsLossily, IsImageReport, IsEntryReport, IsRefusedFor, reason_of}
 use Rattle.mach_audit.specs.Told.{TellsOf, TellsOfTrie, TellsRelocations, faults_from, section_faults_told, relocation_faults}
 use Rattle.mach_audit.specs.Verdicts.{is_clean, verdict_of_image}
 use Rattle.mach_audit.specs.declared.report.EntryReport.TheVariants as entries
@@ -63,23 +67,66 @@ refused_faulty e (images.Refused x) is = refl
 same_some : {X : Type 0} {x y : X} → Some x ≡ Some y → x ≡ y
 same_some is = cc
 
+-- what opens neither as a fat file nor as an image doesn't open as an image
+pub not_lossy : (bytes : List ℕ) → (MachOpens LossyOpens bytes → HasFatMagic bytes) → ¬ (LossyOpens bytes 0)
+not_lossy bytes only opens =
+    let room = opens.2.header.room in
+    fat-excludes_image bytes (only (record { magic = omega (arith, room); file = inr opens })) opens
+
+-- what lossy mode tells of some bytes that don't open strictly
 pub refused_told : {A : Type 0} (limit : ℕ) (bytes : List ℕ) (e : Error) (r : ImageReport A) → reason_of r ≡ Some e → IsTold e
     → Stands (MachFault ImageFault bytes) e → TellsLossily limit bytes r → IsImageReport limit bytes r
 refused_told limit bytes e (images.Opens parts) is told stands tells = absurd tells
 refused_told limit bytes e (images.OpensLossily x parts) is told stands tells = let same = same_some is in rw same (told, stands, tells)
-refused_told limit bytes e (images.Refused x) is told stands tells = let same = same_some is in rw same (told, stands, tells)
+refused_told limit bytes e (images.Refused x) is told stands tells = let same = same_some is in rw same (told, stands, not_lossy bytes tells)
 
-pub entry_refused : {A : Type 0} (limit : ℕ) (bytes : List ℕ) (entry : Result FatEntry Fault) (e : Error) (r : ImageReport A) → reason_of r ≡ Some e → IsTold e
-    → (EntryOpens entry → Stands (λ _. ⊥) e) → TellsLossily limit bytes r → IsEntryReport limit entry (entries.Image r)
-entry_refused limit bytes entry e (images.Opens parts) is told only tells = absurd tells
-entry_refused limit bytes entry e (images.OpensLossily x parts) is told only tells = λ opens. stands_of (λ _. ⊥) e told (only opens)
-entry_refused limit bytes entry e (images.Refused x) is told only tells = λ opens. stands_of (λ _. ⊥) e told (only opens)
+-- lossy mode opens the bytes of which it tells the parts
+told_opens : {A : Type 0} (limit : ℕ) (bytes : List ℕ) (parts : Parts A) → TellsImage limit bytes parts → LossyOpens bytes 0
+told_opens limit bytes parts tells = let has = tells.sections.1 in (has.ctx, has.cs, has.opens)
 
+-- ---- entries
+
+no_entry_fault : (f g : Fault) → FatEntryFault (Err f) g → g ≡ f
+no_entry_fault f _ (no_entry f) = refl
+
+image_fault : (slice : List ℕ) (f : Fault) → FatEntryFault (Ok (image slice)) f → ImageFault slice 0 f
+image_fault slice _ (no_image slice f fault) = fault
+
+archive_fault : (slice : List ℕ) (f : Fault) → FatEntryFault (Ok (archive slice)) f → ⊥
+archive_fault slice f fault = elim fault [ ]
+
+refused_for : {A : Type 0} (limit : ℕ) (bytes : List ℕ) (f : Fault) (e : Error) (r : ImageReport A) → fat_entry_of bytes ≡ Err f → reason_of r ≡ Some e
+    → IsTold e → fault_of e ≡ f → TellsLossily limit bytes r → IsRefusedFor f r
+refused_for limit bytes f e (images.Opens parts) none is told fault tells = absurd tells
+refused_for limit bytes f e (images.OpensLossily x parts) none is told fault tells =
+    let wrong : Ok (image bytes) ≡ Err f = sym (image_entry bytes (told_opens limit bytes parts tells)) ∙ none in
+    absurd (cc)
+refused_for limit bytes f e (images.Refused x) none is told fault tells = let same = same_some is in rw same (told, fault)
+
+-- an entry that doesn't open strictly, and what lossy mode tells of its bytes
+pub entry_refused : {A : Type 0} (limit : ℕ) (bytes : List ℕ) (entry : Result FatEntry Fault) (e : Error) (r : ImageReport A) → fat_entry_of bytes ≡ entry
+    → reason_of r ≡ Some e → IsTold e → Stands (FatEntryFault entry) e → TellsLossily limit bytes r → IsEntryReport limit entry (entries.Image r)
+entry_refused limit bytes (Ok (archive slice)) e r here is told stands tells =
+    absurd (archive_fault slice (fault_of e) (stands_of (FatEntryFault (Ok (archive slice))) e told stands))
+entry_refused limit bytes (Ok (image slice)) e r here is told stands tells =
+    let same = same_bytes bytes slice here in
+    let fault = Stands-in (FatEntryFault (Ok (image slice))) (MachFault ImageFault slice) e
+    (λ f one. of_image f (subst (λ (x : List ℕ). ¬ (HasFatMagic x)) same (image_no_fat bytes slice here)) (image_fault slice f one)) stands in
+    refused_told limit slice e r is told fault (subst (λ (x : List ℕ). TellsLossily limit x r) same tells)
+entry_refused limit bytes (Err f) e r here is told stands tells =
+    refused_for limit bytes f e r here is told (no_entry_fault f (fault_of e) (stands_of (FatEntryFault (Err f)) e told stands)) tells
+
+-- an entry that opens
 pub entry_told : {A B : Type 0} (limit : ℕ) (entry : Result FatEntry Fault) (e : FatEntry) (m : MachO A) (parts : Parts B) → entry ≡ Ok e
     → IsEntry e (arches.MachO m) → ((bytes : List ℕ) → IsImage bytes 0 m → TellsImage limit bytes parts)
-    → (bytes : List ℕ) × (entry ≡ Ok (image bytes)) × TellsImage limit bytes parts
+    → IsEntryReport limit entry (entries.Image (images.Opens parts))
 entry_told limit entry (archive slice) m parts is opened told = absurd opened
-entry_told limit entry (image slice) m parts is opened told = (slice, is, told slice opened)
+entry_told limit entry (image slice) m parts is opened told = rw is ((opened.ctx, commands_held m, opened.opens), told slice opened)
+
+pub archive_told : {A B : Type 0} (limit : ℕ) (entry : Result FatEntry Fault) (e : FatEntry) (bytes : Bor (List ℕ)) → entry ≡ Ok e
+    → IsEntry {A = A} e (arches.Archive bytes) → IsEntryReport {A = B} limit entry entries.Archive
+archive_told limit entry (archive slice) bytes is opened = rw is tt
+archive_told limit entry (image slice) bytes is opened = absurd opened
 
 -- one entry more
 items_from-last : {A : Type 0} (item : ℕ → A) (first count : ℕ) → items_from item first (count + 1) ≡ items_from item first count ++ item (first + count) ∷ []

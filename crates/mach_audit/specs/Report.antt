@@ -1,10 +1,12 @@
 -- What is told of a file: which items of its lists can't be read, by their numbers.
-use Rattle.std.specs.Prelude.{◌≡◌, ℕ, List, Result, Ok, Option, Some, None, min, nat_lt}
+use Rattle.std.specs.Prelude.{◌≡◌, ℕ, List, [], false, Result, Ok, Err, IsOk, Option, Some, None, min, nat_lt}
 use Rattle.std.specs.List.{AllZip}
 use Rattle.mach_base.specs.Answer.{Stands, FailsAs}
-use Rattle.mach_base.specs.Fault.{Fault}
+use Rattle.mach_base.specs.Fault.{Fault, fault_of}
 use Rattle.mach_base.specs.Items.{items_from}
 use Rattle.mach_base.specs.declared.error.Error.{Error}
+use Rattle.mach_headers.specs.Fat.{part_of}
+use Rattle.mach_headers.specs.declared.fat.FatArch.{FatArch}
 use Rattle.mach_rules.specs.Containers.{AreContainerFaults}
 use Rattle.mach_binds.specs.Imports.{Import}
 use Rattle.mach_chained.specs.Fixups.{Fixup}
@@ -13,9 +15,9 @@ use Rattle.mach_segments.specs.Segment.{SegmentView}
 use Rattle.mach_symbols.specs.declared.symbols.nlist.Nlist.{Nlist}
 use Rattle.mach_layout.specs.Facts.{HasLayoutFaults}
 use Rattle.mach_image.specs.Facts.{OfImage, HasSegments, HasSymbols, HasImportItems, HasFixups, HasBindings}
-use Rattle.mach_image.specs.Image.{ImageFault, LossyOpens}
+use Rattle.mach_image.specs.Image.{Opens, ImageFault, LossyOpens}
 use Rattle.mach_image.specs.Subjects.{lossy_segments_in, libs_in, trie_in, trie_or_empty}
-use Rattle.goblin_mach.specs.FatEntry.{FatEntry, archive, image, entry_at, EntryOpens}
+use Rattle.goblin_mach.specs.FatEntry.{FatEntry, archive, image, entry_at}
 use Rattle.goblin_mach.specs.FatFile.{FatFile, fat_file_in, arches_in}
 use Rattle.goblin_mach.specs.File.{HasFatMagic, MachFault, MachOpens}
 use Rattle.goblin_mach.specs.View.{IsTold}
@@ -43,12 +45,12 @@ pub record TellsImage {A : Type 0} (limit : ℕ) (bytes : List ℕ) (p : Parts A
   pub bindings : (items : List (Result Binding Fault)) × HasBindings bytes 0 items × TellsOf limit (faults_from places.Binding 0 items) p.bindings
   pub layout : HasLayoutFaults bytes p.layout.items
 
--- What is told of some bytes as an image: of what opens, its parts; of what doesn't open strictly, a fault that stands; and that lossy mode opens it,
--- exactly where it does.
+-- What is told of some bytes as an image: of what opens strictly, its parts; of what doesn't, a fault that stands; and the parts that lossy mode reads,
+-- exactly where it opens them.
 abbrev pub IsImageReport : {A : Type 0} → ℕ → List ℕ → ImageReport A → Type 0
-IsImageReport limit bytes (images.Opens parts) = TellsImage limit bytes parts
+IsImageReport limit bytes (images.Opens parts) = Opens bytes 0 × TellsImage limit bytes parts
 IsImageReport limit bytes (images.OpensLossily e parts) = IsTold e × Stands (MachFault ImageFault bytes) e × TellsImage limit bytes parts
-IsImageReport limit bytes (images.Refused e) = IsTold e × Stands (MachFault ImageFault bytes) e × (MachOpens LossyOpens bytes → HasFatMagic bytes)
+IsImageReport limit bytes (images.Refused e) = IsTold e × Stands (MachFault ImageFault bytes) e × ¬ (LossyOpens bytes 0)
 
 -- why some bytes don't open strictly as an image, if they don't
 abbrev pub reason_of : {A : Type 0} → ImageReport A → Option Error
@@ -62,24 +64,47 @@ TellsLossily limit bytes (images.Opens parts) = ⊥
 TellsLossily limit bytes (images.OpensLossily e parts) = TellsImage limit bytes parts
 TellsLossily limit bytes (images.Refused e) = MachOpens LossyOpens bytes → HasFatMagic bytes
 
--- What is told of an entry of a fat file: that it is an archive; of an image that opens strictly its parts; and that an entry doesn't open.
+-- it is told as refused, and for this fault
+abbrev pub IsRefusedFor : {A : Type 0} → Fault → ImageReport A → Type 0
+IsRefusedFor f (images.Opens parts) = ⊥
+IsRefusedFor f (images.OpensLossily e parts) = ⊥
+IsRefusedFor f (images.Refused e) = IsTold e × (fault_of e ≡ f)
+
+-- What is told of an entry of a fat file: of an archive that it is one; of an image what is told of its bytes as a file of their own; and of what is
+-- neither, that it is refused for that fault.
 abbrev pub IsEntryReport : {A : Type 0} → ℕ → Result FatEntry Fault → EntryReport A → Type 0
-IsEntryReport limit entry entries.Archive = (bytes : List ℕ) × (entry ≡ Ok (archive bytes))
-IsEntryReport limit entry (entries.Image (images.Opens parts)) = (bytes : List ℕ) × (entry ≡ Ok (image bytes)) × TellsImage limit bytes parts
-IsEntryReport limit entry (entries.Image (images.OpensLossily e parts)) = EntryOpens entry → ⊥
-IsEntryReport limit entry (entries.Image (images.Refused e)) = EntryOpens entry → ⊥
+IsEntryReport limit (Ok (archive bytes)) entries.Archive = Unit {0}
+IsEntryReport limit (Ok (archive bytes)) (entries.Image r) = ⊥
+IsEntryReport limit (Ok (image bytes)) entries.Archive = ⊥
+IsEntryReport limit (Ok (image bytes)) (entries.Image r) = IsImageReport limit bytes r
+IsEntryReport limit (Err f) entries.Archive = ⊥
+IsEntryReport limit (Err f) (entries.Image r) = IsRefusedFor f r
+
+-- the bytes that the record of an entry names in a file, if there is a record; else none
+abbrev pub named_bytes : List ℕ → Option FatArch → List ℕ
+named_bytes bytes None = []
+named_bytes bytes (Some arch) = part_of bytes arch.offset arch.size
 
 -- What is told of a fat file whose table can be read: the faults of the table; each of the first `limit` entries, in order; and exactly whether there
 -- are more.
 pub record TellsEntries {A : Type 0} (limit : ℕ) (bytes : List ℕ) (file : FatFile) (r : FatReport A) : Type 0 where
+  pub readable : IsOk (arches_in file)
   pub container : AreContainerFaults bytes r.container.items
   pub entries : AllZip (IsEntryReport limit) (items_from (entry_at file) 0 (min limit file.narches)) r.entries.items
   pub cut : r.cut ≡ nat_lt limit file.narches
 
+-- and of one whose table can't be read: why it can't, and nothing else
+pub record TellsNoEntries {A : Type 0} (file : FatFile) (r : FatReport A) (e : Error) : Type 0 where
+  pub told : IsTold e
+  pub fails : FailsAs e (arches_in file)
+  pub container : r.container.items ≡ []
+  pub entries : r.entries.items ≡ []
+  pub cut : r.cut ≡ false
+
 -- the same by why its table can't be read, if it can't
 abbrev pub TellsTable : {A : Type 0} → ℕ → List ℕ → FatFile → FatReport A → Option Error → Type 0
 TellsTable limit bytes file r None = TellsEntries limit bytes file r
-TellsTable limit bytes file r (Some e) = IsTold e × FailsAs e (arches_in file)
+TellsTable limit bytes file r (Some e) = TellsNoEntries file r e
 
 -- What is told of a fat file, and how many entries its header says.
 pub record IsFatReport {A : Type 0} (limit : ℕ) (bytes : List ℕ) (file : FatFile) (r : FatReport A) : Type 0 where

@@ -1,5 +1,6 @@
 -- What is told of a list: of its first items those that can't be read, each by its place.
-use Rattle.std.specs.Prelude.{◌≡◌, ◌<◌, ◌+◌, ◌-◌, ◌^◌, ◌++◌, ◌∷◌, ℕ, Bool, false, List, [], map, take, length, Option, Some, None, Result, Ok, Err, nat_lt}
+use Rattle.std.specs.Prelude.{◌≡◌, ◌<◌, ◌+◌, ◌-◌, ◌^◌, ◌++◌, ◌∷◌, ℕ, Bool, false, true, List, [], map, take, length, Option, Some, None, Result, Ok, Err}
+use Rattle.std.specs.Prelude.{nat_lt}
 use Rattle.std.specs.List.{filter_map}
 use Rattle.mach_base.specs.Fault.{Fault, fault_of}
 use Rattle.mach_base.specs.declared.context.Ctx.{Ctx}
@@ -75,7 +76,7 @@ pub record TellsOfTrie {A : Type 0} (limit : ℕ) (t : TrieRange) (libs : List (
   pub met : AreExportItems limit t libs items
   pub tells : TellsOf limit (faults_from places.Export 0 items) p
 
--- What is told of the relocations: that they were not read, only where the sections have a fault or too many items; else the relocations.
+-- What is told of the relocations: that they were not read, where the sections have a fault or too many items; else the relocations.
 abbrev pub TellsRelocations : {A : Type 0} → ℕ → List (Option FaultAt) → (clean : Bool) → Option (Part A) → Type 0
 TellsRelocations limit items clean None = clean ≡ false
-TellsRelocations limit items clean (Some p) = TellsOf limit items p
+TellsRelocations limit items clean (Some p) = (clean ≡ true) × TellsOf limit items p

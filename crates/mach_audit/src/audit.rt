@@ -1,10 +1,10 @@
 //! What is wrong with a file, image by image and part by part.
 
-ghost use Rattle.std.specs.Prelude.{◌≡◌, ◌<◌, ℕ, List, [], map, Result, Option, Some, IfOk, IfErr};
+ghost use Rattle.std.specs.Prelude.{◌≡◌, ◌<◌, ℕ, List, [], map, Result, Option, Some, IfOk, IfErr, slice_get};
 ghost use Rattle.mach_base.specs.Answer.{Stands};
 ghost use Rattle.mach_base.specs.Fault.{Fault};
 ghost use Rattle.mach_segments.specs.Segment.{segment_view};
-ghost use Rattle.goblin_mach.specs.FatEntry.{entry_at};
+ghost use Rattle.goblin_mach.specs.FatEntry.{entry_at, fat_entry_of};
 ghost use Rattle.goblin_mach.specs.FatFile.{file_held};
 ghost use Rattle.mach_image.specs.OpenImage.{IsImage, IsLossyImage};
 ghost use Rattle.goblin_mach.specs.View.{IsTold};
@@ -12,7 +12,7 @@ ghost use Rattle.mach_layout.specs.Bindings.{AreBindFaults};
 ghost use Rattle.mach_rules.specs.Containers.{AreContainerFaults};
 ghost use Rattle.mach_rules.specs.Faults.{AreLayoutFaults};
 ghost use Rattle.mach_layout.specs.Held.{laid_held};
-ghost use Rattle.mach_audit.specs.Report.{IsFileReport, IsEntryReport, IsFatReport, TellsImage, TellsLossily, reason_of};
+ghost use Rattle.mach_audit.specs.Report.{IsFileReport, IsEntryReport, IsFatReport, TellsImage, TellsLossily, named_bytes, reason_of};
 ghost use Rattle.mach_audit.specs.Sound.{IsSound, IsSoundEntry, IsSoundFat, IsSoundImage, IsLong, IsLongEntry, IsLongFat, HasLongList};
 ghost use Rattle.mach_audit.specs.Told.{TellsRelocations, relocation_faults};
 ghost use Rattle.mach_audit.specs.Verdicts.{Judges, is_clean, verdict_of_parts, verdict_of_image, verdict_of_entry, verdict_of_fat, verdict_of_report};
@@ -23,6 +23,7 @@ use crate::lists::{
     audit_symbols,
 };
 use crate::report::{EntryReport, Failure, FatReport, ImageReport, Part, Parts, Report, no_memory};
+use goblin_mach::fat::FatArch;
 use goblin_mach::segment::Segment;
 use goblin_mach::{Ctx, Error, Mach, MachO, MultiArch, SingleArch, laws};
 use mach_layout::{LayoutFault, container_faults, laws as layout_laws, layout_faults};
@@ -147,7 +148,8 @@ fn audit_entry<A: Allocator + Clone>(
     bytes: &[u8],
     limit: usize,
 ) -> Result<EntryReport<A>, Failure>
-    ensures told { IfOk result (IsEntryReport limit (entry_at (file_held container.now) index)) }
+    ensures told { fat_entry_of bytes.now ≡ entry_at (file_held container.now) index
+        → IfOk result (IsEntryReport limit (entry_at (file_held container.now) index)) }
     ensures judged { IfOk result (λ r. Judges (IsSoundEntry (entry_at (file_held container.now) index))
         (IsLongEntry limit (entry_at (file_held container.now) index))
         (verdict_of_entry r)) }
@@ -166,6 +168,16 @@ fn audit_entry<A: Allocator + Clone>(
     }
 }
 
+// The bytes that the record of an entry names, if it has one; else none.
+fn named_bytes<'a>(bytes: &'a [u8], arches: &[FatArch], index: usize) -> &'a [u8]
+    ensures { result.now ≡ named_bytes bytes.now (slice_get arches.now index) }
+{
+    match arches.get(index) {
+        Some(arch) => arch.slice(bytes),
+        None => &[],
+    }
+}
+
 // A fat file: its table, and then its entries. Where the table can't be read none is gone over.
 fn audit_fat<A: Allocator + Clone>(
     alloc: &A,
@@ -173,7 +185,7 @@ fn audit_fat<A: Allocator + Clone>(
     bytes: &[u8],
     limit: usize,
 ) -> Result<FatReport<A>, Failure>
-    ensures told { IfOk result (IsFatReport limit bytes.now (file_held container.now)) }
+    ensures told { (file_held container.now).bytes ≡ bytes.now → IfOk result (IsFatReport limit bytes.now (file_held container.now)) }
     ensures judged { IfOk result (λ r. Judges (AreContainerFaults bytes.now [] × IsSoundFat (file_held container.now))
         (IsLongFat limit (file_held container.now)) (verdict_of_fat r)) }
     ensures memory { IfErr result (λ failure. failure ≡ failures.Memory) }
@@ -194,7 +206,7 @@ fn audit_fat<A: Allocator + Clone>(
     };
     let container_faults = audit_container(alloc.clone()?, bytes)?;
     for index in 0..count.min(limit) {
-        let entry = arches.get(index).map_or(&[][..], |arch| arch.slice(bytes));
+        let entry = named_bytes(bytes, arches.as_slice(), index);
         entries.push(audit_entry(alloc, container, index, entry, limit)?)?;
     }
     Ok(FatReport {

@@ -1,8 +1,10 @@
-use Rattle.goblin_mach.specs.FatFile.{file_held}
+use Rattle.std.proofs.Common.{ap, sym}
+use Rattle.goblin_mach.proofs.FatNumbers.{file_is}
+use Rattle.goblin_mach.specs.FatFile.{FatFile, file_held}
 use Rattle.mach_image.specs.OpenImage.{commands_held}
 use Rattle.mach_image.proofs.ImageFacts.{strict-lossy}
 use Rattle.mach_audit.proofs.Entries.{image_judged, fat_judged, refused_judged}
-use Rattle.mach_audit.proofs.Reports.{refused_faulty}
+use Rattle.mach_audit.proofs.Reports.{refused_faulty, refused_told}
 use Rattle.mach_audit.specs.Verdicts.{verdict_of_parts, verdict_of_fat}
 use Rattle.mach_audit.proofs.audit.audit.Goals as goal
 
@@ -22,8 +24,23 @@ returns-in_ok-fat-in-Ok-Fat-clause-judged g c =
 pub returns-in_ok-parts-in-Ok-Binary-clause-told : goal.returns-in_ok-parts-in-Ok-Binary-clause-told
 returns-in_ok-parts-in-Ok-Binary-clause-told g c =
     let bytes = c.args.bytes.now in
-    let opened = rw c.in-Ok-Binary.field-0-is at c.in-Ok-Binary.ensures.opened in
-    rw c.in_ok-parts-in-Ok-Binary.was at (c.audit_parts.ensures.told bytes (strict-lossy bytes 0 c.in-Ok-Binary.image opened))
+    let opened = rw c.in-Ok-Binary.field-0-is at c.in-Ok-Binary.ensures.opened in (
+      (opened.ctx, commands_held c.in-Ok-Binary.image, opened.opens),
+      rw c.in_ok-parts-in-Ok-Binary.was at (c.audit_parts.ensures.told bytes (strict-lossy bytes 0 c.in-Ok-Binary.image opened)),
+    )
+
+pub returns-in_ok-fat-in-Ok-Fat-clause-told : goal.returns-in_ok-fat-in-Ok-Fat-clause-told
+returns-in_ok-fat-in-Ok-Fat-clause-told g c =
+    let file = file_held c.in-Ok-Fat.container in
+    let opened = rw c.in-Ok-Fat.field-0-is at c.in-Ok-Fat.ensures.opened in
+    let same = ap (λ (f : FatFile). f.bytes) (sym (file_is c.args.bytes.now file opened.file)) in
+    (file, opened.magic, opened.file, rw c.in_ok-fat-in-Ok-Fat.was at (c.audit_fat.ensures.told same))
+
+pub returns-in_ok-image-in-Err-clause-told : goal.returns-in_ok-image-in-Err-clause-told
+returns-in_ok-image-in-Err-clause-told g c =
+    let reason = c.in_ok-image-in-Err.ensures.reason in
+    refused_told c.args.limit c.args.bytes.now c.in-Err.error c.in_ok-image-in-Err.image reason.0 reason.1 c.in-Err.ensures.refused
+    c.in_ok-image-in-Err.ensures.told
 
 pub returns-in_ok-image-in-Err-clause-judged : goal.returns-in_ok-image-in-Err-clause-judged
 returns-in_ok-image-in-Err-clause-judged g c =

@@ -1,13 +1,15 @@
-use Rattle.std.proofs.Common.{◌≡◌, min, nat_lt, refl, arith}
+use Rattle.std.proofs.Common.{◌≡◌, ◌<◌, ◌∙◌, ℕ, List, min, nat_lt, slice_get, refl, sym, ap, arith, rules}
 use Rattle.std.specs.Prelude.{IsOk}
-use Rattle.goblin_mach.specs.FatEntry.{entry_at}
+use Rattle.mach_headers.specs.declared.fat.FatArch.{FatArch}
+use Rattle.goblin_mach.specs.FatEntry.{entry_at, fat_entry_of}
 use Rattle.goblin_mach.specs.FatFile.{arches_in, file_held}
 use Rattle.mach_rules.specs.Containers.{AreContainerFaults}
 use Rattle.mach_audit.proofs.Entries.{entries_more, no_entries_judged, fat_file_judged, refused_table_judged, one_container}
+use Rattle.mach_audit.proofs.EntryBytes.{named_entry}
 use Rattle.mach_audit.proofs.Images.{layout_judged, beside}
 use Rattle.mach_audit.proofs.Reports.{one_entry_more}
 use Rattle.mach_audit.proofs.Verdicts.{both_judged}
-use Rattle.mach_audit.specs.Report.{IsEntryReport}
+use Rattle.mach_audit.specs.Report.{IsEntryReport, named_bytes}
 use Rattle.mach_audit.specs.Verdicts.{verdict_of_entries}
 use Rattle.mach_audit.proofs.audit.audit_fat.Goals as goal
 
@@ -17,14 +19,22 @@ returns-in-Err-clause-judged g c =
     refused_table_judged _ (file_held c.args.container.now) c.in-Err.error c.in-Err.ensures (rw told.0 at told.1)
 
 pub loop-index-init : goal.loop-index-init
-loop-index-init g c = rw c.new-entries.ensures.items (tt, no_entries_judged c.args.limit (file_held c.args.container.now))
+loop-index-init g c = rw c.new-entries.ensures.items ((λ _. tt), no_entries_judged c.args.limit (file_held c.args.container.now))
 
 pub loop-index-preserved : goal.loop-index-preserved
 loop-index-preserved g c =
     let file = file_held c.args.container.now in
+    let k = c.loop-index.index in
+    let inside : k < file.narches = omega (arith, c.loop-index-test.true, c.min-index-end.ensures) in
+    let xs = c.in-Ok.arches.items in
+    let here = λ (same : file.bytes ≡ c.args.bytes.now).
+    ap (λ (ys : List ℕ). fat_entry_of ys) (c.named_bytes-entry.ensures
+    ∙ ap (λ (ys : List FatArch). named_bytes c.args.bytes.now (slice_get ys k)) c.as_slice.ensures.value
+    ∙ ap (λ (ys : List ℕ). named_bytes ys (slice_get xs k)) (sym same))
+    ∙ named_entry file k xs inside c.in-Ok.ensures in
     rw c.in_ok-push.ensures.items (
-      one_entry_more (IsEntryReport c.args.limit) (entry_at file) c.loop-index.index c.loop-index.entries.items c.in_ok-audit_entry.field-0
-          c.loop-index.invariant.0 c.in_ok-audit_entry.ensures.told,
+      (λ same. one_entry_more (IsEntryReport c.args.limit) (entry_at file) c.loop-index.index c.loop-index.entries.items c.in_ok-audit_entry.field-0
+          (c.loop-index.invariant.0 same) (rw c.in_ok-audit_entry.was at (c.audit_entry.ensures.told (here same)))),
       entries_more c.args.limit file c.loop-index.index c.loop-index.entries.items c.in_ok-audit_entry.field-0 c.loop-index.invariant.1
           c.in_ok-audit_entry.ensures.judged,
     )
@@ -49,11 +59,12 @@ returns-clause-told g c =
     let limit = c.args.limit in
     let all : c.loop-index.index ≡ min limit file.narches =
     omega (arith, c.loop-index.auto.index-end, c.loop-index-test.false, c.min-index-end.ensures) in
-    record {
+    λ same. record {
       count = refl;
       table = record {
+        readable = rw c.in-Ok.ensures refl;
         container = c.in_ok-container_faults.ensures.told;
-        entries = rw all at c.loop-index.invariant.0;
+        entries = rw all at (c.loop-index.invariant.0 same);
         cut = refl;
       };
     }
@@ -61,4 +72,7 @@ returns-clause-told g c =
 pub returns-in-Err-clause-told : goal.returns-in-Err-clause-told
 returns-in-Err-clause-told g c =
     let told = c.in_ok-no_memory-in-Err.ensures.told in
-    record { count = refl; table = rw told.0 (rw told.0 at told.1, c.in-Err.ensures) }
+    λ same. record {
+      count = refl;
+      table = rw told.0 (record { told = rw told.0 at told.1; fails = c.in-Err.ensures; container = search rules; entries = search rules; cut = refl });
+    }
