@@ -55,18 +55,18 @@ archive_held A there bytes (image slice) is opened = absurd opened
 
 module _ (name : List ℕ) (lines : ImageLines) where
   -- an image is shown by its lines
-  pub image_entry : (i : ℕ) (there : Result FatEntry Fault) (slice text : List ℕ) (whole : Bool) → there ≡ Ok (image slice) → lines slice text whole
-      → ShowsEntry name lines i there (record { text = arch_line i ++ text; said = []; whole = whole })
-  image_entry i there slice text whole is of_image =
-      let shown : Shown = record { text = arch_line i ++ text; said = []; whole = whole } in
-      subst (λ (x : Result FatEntry Fault). ShowsEntry name lines i x shown) (sym is) (an_image slice text whole of_image)
+  pub image_entry : (left i : ℕ) (there : Result FatEntry Fault) (slice text : List ℕ) (whole : Bool) (rest : ℕ) → there ≡ Ok (image slice)
+      → lines left slice text whole rest → ShowsEntry name lines left i there (record { text = arch_line i ++ text; said = []; whole = whole; left = rest })
+  image_entry left i there slice text whole rest is of_image =
+      let shown : Shown = record { text = arch_line i ++ text; said = []; whole = whole; left = rest } in
+      subst (λ (x : Result FatEntry Fault). ShowsEntry name lines left i x shown) (sym is) (an_image slice text whole rest of_image)
 
   -- an archive is shown as such
-  pub archive_entry : (i : ℕ) (there : Result FatEntry Fault) (slice : List ℕ) → there ≡ Ok (archive slice)
-      → ShowsEntry name lines i there (record { text = arch_line i ++ codes "archive\n"; said = []; whole = true })
-  archive_entry i there slice is =
-      let shown : Shown = record { text = arch_line i ++ codes "archive\n"; said = []; whole = true } in
-      subst (λ (x : Result FatEntry Fault). ShowsEntry name lines i x shown) (sym is) (an_archive slice)
+  pub archive_entry : (left i : ℕ) (there : Result FatEntry Fault) (slice : List ℕ) → there ≡ Ok (archive slice)
+      → ShowsEntry name lines left i there (record { text = arch_line i ++ codes "archive\n"; said = []; whole = true; left = left })
+  archive_entry left i there slice is =
+      let shown : Shown = record { text = arch_line i ++ codes "archive\n"; said = []; whole = true; left = left } in
+      subst (λ (x : Result FatEntry Fault). ShowsEntry name lines left i x shown) (sym is) (an_archive slice)
 
 -- a list of items ends in the last one
 items_from-last : {A : Type 0} (item : ℕ → A) (first count : ℕ) → items_from item first (count + 1) ≡ items_from item first count ++ item (first + count) ∷ []
@@ -81,12 +81,14 @@ items_from-last item first (suc count) =
     ∙ ap (λ (n : ℕ). item first ∷ (items_from item (first + 1) count ++ item n ∷ [])) same
 
 -- one more entry is shown
-pub one_more : (name : List ℕ) (lines : ImageLines) (file : FatFile) (i : ℕ) (front last : Shown) → ShowsEntries name lines (first_entries file i) front
-    → ShowsEntry name lines i (entry_at file i) last → ShowsEntries name lines (first_entries file (i + 1)) (both front last)
-one_more name lines file i front last before one =
+pub one_more : (name : List ℕ) (lines : ImageLines) (limit : ℕ) (file : FatFile) (i left : ℕ) (front last : Shown)
+    → ShowsEntries name lines limit (first_entries file i) front → front.left ≡ left → ShowsEntry name lines left i (entry_at file i) last
+    → ShowsEntries name lines limit (first_entries file (i + 1)) (both front last)
+one_more name lines limit file i left front last before is one =
     let entry = entry_at file i in
     let number : i ≡ length (first_entries file i) = sym (length-items_from (entry_at file) 0 i) in
     let at_last : 0 + i ≡ i = omega arith in
     let ends = items_from-last (entry_at file) 0 i ∙ ap (λ (n : ℕ). first_entries file i ++ entry_at file n ∷ []) at_last in
-    subst (λ (entries : List (Result FatEntry Fault)). ShowsEntries name lines entries (both front last)) (sym ends)
-    (more (first_entries file i) entry front last before (subst (λ (n : ℕ). ShowsEntry name lines n entry last) number one))
+    let over = subst (λ (n : ℕ). ShowsEntry name lines n i entry last) (sym is) one in
+    subst (λ (entries : List (Result FatEntry Fault)). ShowsEntries name lines limit entries (both front last)) (sym ends)
+    (more (first_entries file i) entry front last before (subst (λ (n : ℕ). ShowsEntry name lines front.left n entry last) number over))

@@ -14,23 +14,35 @@ use Rattle.goblin_mach.specs.File.{HasFatMagic}
 use Rattle.goblin_mach.specs.View.{ViewFault, Tells}
 use Rattle.mach_show.specs.Headings.{arch_line}
 
--- What a program's lines of an image are: a relation of the bytes at whose front the image opens, the text, and whether that is whole.
+-- What a program's lines of an image are, of which no more than `left` may be told: a relation of that number, the bytes at whose front the
+-- image opens, the text, whether that is whole, and how many more may be told behind it.
 abbrev pub ImageLines : Type 1
-ImageLines = (bytes text : List ℕ) → (whole : Bool) → Type 0
+ImageLines = (left : ℕ) → (bytes text : List ℕ) → (whole : Bool) → (rest : ℕ) → Type 0
 
--- what is shown: the text on the output, what is said on the error output, and whether nothing was refused and each image is whole
+-- those of a program that has no limit
+abbrev pub without_limit : (List ℕ → List ℕ → Bool → Type 0) → ImageLines
+without_limit lines = λ left bytes text whole rest. lines bytes text whole
+
+-- what is shown: the text on the output, what is said on the error output, whether nothing was refused and each image is whole, and how many
+-- lines more may be told of the images behind it
 pub record Shown : Type 0 where
   pub text : List ℕ
   pub said : List ℕ
   pub whole : Bool
+  pub left : ℕ
 
 -- nothing yet
-abbrev pub nothing : Shown
-nothing = record { text = []; said = []; whole = true }
+abbrev pub nothing : (left : ℕ) → Shown
+nothing left = record { text = []; said = []; whole = true; left = left }
 
 -- one after the other
 abbrev pub both : Shown → Shown → Shown
-both first second = record { text = first.text ++ second.text; said = first.said ++ second.said; whole = first.whole && second.whole }
+both first second = record {
+  text = first.text ++ second.text;
+  said = first.said ++ second.said;
+  whole = first.whole && second.whole;
+  left = second.left;
+}
 
 -- the exit status: 1 where something is not whole
 abbrev pub status_by : (whole : Bool) → ℕ
@@ -54,39 +66,47 @@ pub record IsFatTable (bytes : List ℕ) (file : FatFile) : Type 0 where
 abbrev pub first_entries : FatFile → ℕ → List (Result FatEntry Fault)
 first_entries file n = items_from (entry_at file) 0 n
 
--- What is shown of entry i, under its line: the lines of an image, that it is an archive, or a fault that stands in it.
-pub data ShowsEntry (name : List ℕ) (lines : ImageLines) (i : ℕ) : Result FatEntry Fault → Shown → Type 0 where
-  an_image : (slice text : List ℕ) (whole : Bool) → lines slice text whole
-      → ShowsEntry name lines i (Ok (image slice)) (record { text = arch_line i ++ text; said = []; whole = whole })
+-- What is shown of entry i, under its line: the lines of an image, that it is an archive, or a fault that stands in it. Of its lines no more
+-- than `left` may be told.
+pub data ShowsEntry (name : List ℕ) (lines : ImageLines) (left i : ℕ) : Result FatEntry Fault → Shown → Type 0 where
+  an_image : (slice text : List ℕ) (whole : Bool) (rest : ℕ) → lines left slice text whole rest
+      → ShowsEntry name lines left i (Ok (image slice)) (record { text = arch_line i ++ text; said = []; whole = whole; left = rest })
   an_archive : (slice : List ℕ)
-      → ShowsEntry name lines i (Ok (archive slice)) (record { text = arch_line i ++ codes "archive\n"; said = []; whole = true })
+      → ShowsEntry name lines left i (Ok (archive slice)) (record { text = arch_line i ++ codes "archive\n"; said = []; whole = true; left = left })
   refused : (entry : Result FatEntry Fault) (e : Error) → Tells (FatEntryFault entry) e
-      → ShowsEntry name lines i entry (record {
+      → ShowsEntry name lines left i entry (record {
         text = arch_line i ++ (codes "refused: " ++ words_of e ++ codes "\n");
         said = entry_complaint name i (words_of e);
         whole = false;
+        left = left;
       })
 
--- what is shown of the first entries, in order
-pub data ShowsEntries (name : List ℕ) (lines : ImageLines) : List (Result FatEntry Fault) → Shown → Type 0 where
-  none : ShowsEntries name lines [] nothing
+-- What is shown of the first entries, in order: of each entry's lines no more may be told than those before it left of the limit.
+pub data ShowsEntries (name : List ℕ) (lines : ImageLines) (limit : ℕ) : List (Result FatEntry Fault) → Shown → Type 0 where
+  none : ShowsEntries name lines limit [] (nothing limit)
   more : (entries : List (Result FatEntry Fault)) (entry : Result FatEntry Fault) (front last : Shown)
-      → ShowsEntries name lines entries front → ShowsEntry name lines (length entries) entry last
-      → ShowsEntries name lines (entries ++ entry ∷ []) (both front last)
+      → ShowsEntries name lines limit entries front → ShowsEntry name lines front.left (length entries) entry last
+      → ShowsEntries name lines limit (entries ++ entry ∷ []) (both front last)
 
 -- What is shown of a fat file: all its entries, or those before one for which memory is refused.
-pub data ShowsFat (name : List ℕ) (lines : ImageLines) (file : FatFile) : Shown → Type 0 where
-  all_entries : (shown : Shown) → ShowsEntries name lines (first_entries file file.narches) shown → ShowsFat name lines file shown
-  cut_short : (i : ℕ) (shown : Shown) → i < file.narches → ShowsEntries name lines (first_entries file i) shown
-      → ShowsFat name lines file (record { text = shown.text; said = shown.said ++ complaint name (codes "out of memory"); whole = false })
+pub data ShowsFat (name : List ℕ) (lines : ImageLines) (limit : ℕ) (file : FatFile) : Shown → Type 0 where
+  all_entries : (shown : Shown) → ShowsEntries name lines limit (first_entries file file.narches) shown → ShowsFat name lines limit file shown
+  cut_short : (i : ℕ) (shown : Shown) → i < file.narches → ShowsEntries name lines limit (first_entries file i) shown
+      → ShowsFat name lines limit file (record {
+        text = shown.text;
+        said = shown.said ++ complaint name (codes "out of memory");
+        whole = false;
+        left = shown.left;
+      })
 
--- What is shown of a file: one image, a fat file, or why it is refused: a fault that stands in it, or want of memory.
-pub data ShowsFile (name : List ℕ) (lines : ImageLines) (bytes : List ℕ) : Shown → Type 0 where
-  one_image : (text : List ℕ) (whole : Bool) → lines bytes text whole
-      → ShowsFile name lines bytes (record { text = text; said = []; whole = whole })
-  fat_file : (file : FatFile) (shown : Shown) → IsFatTable bytes file → ShowsFat name lines file shown → ShowsFile name lines bytes shown
+-- What is shown of a file: one image, a fat file, or why it is refused: a fault that stands in it, or want of memory. The limit is that of all
+-- its images together.
+pub data ShowsFile (name : List ℕ) (lines : ImageLines) (limit : ℕ) (bytes : List ℕ) : Shown → Type 0 where
+  one_image : (text : List ℕ) (whole : Bool) (rest : ℕ) → lines limit bytes text whole rest
+      → ShowsFile name lines limit bytes (record { text = text; said = []; whole = whole; left = rest })
+  fat_file : (file : FatFile) (shown : Shown) → IsFatTable bytes file → ShowsFat name lines limit file shown → ShowsFile name lines limit bytes shown
   refused_file : (e : Error) → Stands (ViewFault bytes) e
-      → ShowsFile name lines bytes (record { text = []; said = complaint name (words_of e); whole = false })
+      → ShowsFile name lines limit bytes (record { text = []; said = complaint name (words_of e); whole = false; left = limit })
 
 -- This was written on the two outputs.
 pub record Writes (shown : Shown) (out_old out_new err_old err_new : Option (List ℕ)) : Type 0 where

@@ -13,4 +13,4 @@ mod shows;
 pub use crate::failure::Failure;
 pub use crate::heading::Heading;
 pub use crate::program::Program;
-pub use crate::shows::Shows;
+pub use crate::shows::{Outcome, Shows};

@@ -11,40 +11,43 @@ use std::alloc::Allocator;
 use std::io;
 use std::io::{BufWriter, Write};
 
-/// Shows a file, and answers the exit status: 0 where nothing was refused and each image is whole; 1 where the file or an
-/// entry of a fat one was refused, or memory, and then `err` has a line that says why, or where an image is not whole; 2
-/// where a write fails. But for that nothing is left in the buffer.
+/// Shows a file, with the limit left for its first image, and answers the exit status: 0 where nothing was refused and each
+/// image is whole; 1 where the file or an entry of a fat one was refused, or memory, and then `err` has a line that says why,
+/// or where an image is not whole; 2 where a write fails. But for that nothing is left in the buffer.
 pub fn run<S: Shows, A: Allocator + Clone, W: Write + Drop, B: Allocator, E: Write>(
     shows: &S,
+    limit: usize,
     alloc: &A,
     bytes: &[u8],
     out: &mut BufWriter<W, B>,
     err: &mut E,
 ) -> u8
     ensures status { result ≤ 2 }
-    ensures shown { result ≢ 2 → (shown : Shown) × ShowsFile S.name (S.lines shows.now) bytes.now shown × (result ≡ status_by shown.whole)
+    ensures shown { result ≢ 2 → (shown : Shown) × ShowsFile S.name (S.lines shows.now) limit bytes.now shown
+        × (result ≡ status_by shown.whole)
         × Writes shown (writer_contents W.contents out.old) (writer_contents W.contents out.new) (E.contents err.old) (E.contents err.new) }
     ensures flushed { result ≢ 2 → writer_buffer out.new ≡ [] }
 {
-    match show_all(shows, alloc, bytes, out, err) {
+    match show_all(shows, limit, alloc, bytes, out, err) {
         Ok(whole) => status(whole),
-        Err(_) => unwritten(shows.name(), err),
+        Err(_) => unwritten(shows.name(), "", err),
     }
 }
 
 // Shows a file, and writes all that was gathered.
 fn show_all<S: Shows, A: Allocator + Clone, W: Write + Drop, B: Allocator, E: Write>(
     shows: &S,
+    limit: usize,
     alloc: &A,
     bytes: &[u8],
     out: &mut BufWriter<W, B>,
     err: &mut E,
 ) -> io::Result<bool>
-    ensures shown { IfOk result (λ whole. (shown : Shown) × ShowsFile S.name (S.lines shows.now) bytes.now shown × (shown.whole ≡ whole)
+    ensures shown { IfOk result (λ whole. (shown : Shown) × ShowsFile S.name (S.lines shows.now) limit bytes.now shown × (shown.whole ≡ whole)
         × Writes shown (writer_contents W.contents out.old) (writer_contents W.contents out.new) (E.contents err.old) (E.contents err.new)) }
     ensures flushed { OnOk result (writer_buffer out.new ≡ []) }
 {
-    let whole = show(shows, alloc, bytes, out, err)?;
+    let whole = show(shows, limit, alloc, bytes, out, err)?;
     out.flush()?;
     Ok(whole)
 }

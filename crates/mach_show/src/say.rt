@@ -13,7 +13,7 @@ pub fn say<O: Write, E: Write>(name: &str, text: &str, out: &mut O, err: &mut E)
 {
     match put(text, out) {
         Ok(()) => 0,
-        Err(_) => unwritten(name, err),
+        Err(_) => unwritten(name, "", err),
     }
 }
 
@@ -25,10 +25,14 @@ fn put<O: Write>(text: &str, out: &mut O) -> io::Result<()>
     out.flush()
 }
 
-/// The status of a failed write, which `err` tells of if it can.
-pub fn unwritten<E: Write>(name: &str, err: &mut E) -> u8
+/// The status of a failed write, of which `err` tells if it can, with the name of the file, if it has one.
+pub fn unwritten<E: Write>(name: &str, file: &str, err: &mut E) -> u8
     ensures { result ≡ 2 }
 {
-    let _ = writeln!(err, "{name}: cannot write");
+    let _ = if file.is_empty() {
+        writeln!(err, "{name}: cannot write")
+    } else {
+        writeln!(err, "{name}: cannot write {file}")
+    };
     2
 }

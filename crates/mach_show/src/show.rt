@@ -15,7 +15,7 @@ ghost use Rattle.mach_show.specs.Shown.{Shown, ShowsEntry, ShowsFat, ShowsFile, 
 
 use crate::failure::Failure;
 use crate::heading::Heading;
-use crate::shows::Shows;
+use crate::shows::{Outcome, Shows};
 use goblin_mach::{Error, Mach, MachO, MultiArch, Result, SingleArch, describe};
 use std::alloc::{AllocError, Allocator};
 use std::io;
@@ -24,17 +24,18 @@ use std::io::Write;
 /// Shows a file, and answers whether nothing was refused and each image is whole.
 pub fn show<S: Shows, A: Allocator + Clone, O: Write, E: Write>(
     shows: &S,
+    limit: usize,
     alloc: &A,
     bytes: &[u8],
     out: &mut O,
     err: &mut E,
 ) -> io::Result<bool>
-    ensures { IfOk result (λ whole. (shown : Shown) × ShowsFile S.name (S.lines shows.now) bytes.now shown × (shown.whole ≡ whole)
+    ensures { IfOk result (λ whole. (shown : Shown) × ShowsFile S.name (S.lines shows.now) limit bytes.now shown × (shown.whole ≡ whole)
         × Writes shown (O.contents out.old) (O.contents out.new) (E.contents err.old) (E.contents err.new)) }
 {
     match open(alloc, bytes) {
-        Ok(Mach::Binary(image)) => show_image(shows, alloc, &image, out, err),
-        Ok(Mach::Fat(container)) => show_entries(shows, alloc, &container, out, err),
+        Ok(Mach::Binary(image)) => show_image(shows, limit, alloc, &image, out, err),
+        Ok(Mach::Fat(container)) => show_entries(shows, limit, alloc, &container, out, err),
         Err(error) => refuse_file(shows, &error, err),
     }
 }
@@ -54,17 +55,18 @@ fn open<'a, A: Allocator + Clone>(alloc: &A, bytes: &'a [u8]) -> Result<Mach<'a,
 // Shows the one image of a file.
 fn show_image<S: Shows, A: Allocator + Clone, O: Write, E: Write>(
     shows: &S,
+    limit: usize,
     alloc: &A,
     image: &MachO<'_, A>,
     out: &mut O,
     err: &mut E,
 ) -> io::Result<bool>
     ensures { (bytes : List ℕ) → IsImage bytes 0 image.now
-        → IfOk result (λ whole. (shown : Shown) × ShowsFile S.name (S.lines shows.now) bytes shown × (shown.whole ≡ whole)
+        → IfOk result (λ whole. (shown : Shown) × ShowsFile S.name (S.lines shows.now) limit bytes shown × (shown.whole ≡ whole)
         × Writes shown (O.contents out.old) (O.contents out.new) (E.contents err.old) (E.contents err.new)) }
 {
-    match shows.show(alloc, image, Heading::None, out) {
-        Ok(whole) => Ok(whole),
+    match shows.show(alloc, image, Heading::None, limit, out) {
+        Ok(outcome) => Ok(outcome.whole),
         Err(Failure::Memory) => refuse_file(shows, &Error::Memory(AllocError), err),
         Err(Failure::Unwritten(error)) => Err(error),
     }
@@ -73,18 +75,24 @@ fn show_image<S: Shows, A: Allocator + Clone, O: Write, E: Write>(
 // Shows the entries of a fat file, up to one for which memory is refused, and answers whether all of them are whole.
 fn show_entries<S: Shows, A: Allocator + Clone, O: Write, E: Write>(
     shows: &S,
+    limit: usize,
     alloc: &A,
     container: &MultiArch<'_, A>,
     out: &mut O,
     err: &mut E,
 ) -> io::Result<bool>
-    ensures { IfOk result (λ whole. (shown : Shown) × ShowsFat S.name (S.lines shows.now) (file_held container.now) shown × (shown.whole ≡ whole)
+    ensures { IfOk result (λ whole. (shown : Shown) × ShowsFat S.name (S.lines shows.now) limit (file_held container.now) shown
+        × (shown.whole ≡ whole)
         × Writes shown (O.contents out.old) (O.contents out.new) (E.contents err.old) (E.contents err.new)) }
 {
     let mut whole = true;
+    let mut left = limit;
     'entries: for index in 0..container.narches {
-        match show_entry(shows, alloc, container, index, out, err) {
-            Ok(shown) => whole &= shown,
+        match show_entry(shows, left, alloc, container, index, out, err) {
+            Ok(outcome) => {
+                whole &= outcome.whole;
+                left = outcome.left;
+            }
             Err(Failure::Memory) => return refuse_file(shows, &Error::Memory(AllocError), err),
             Err(Failure::Unwritten(error)) => return Err(error),
         }
@@ -92,31 +100,33 @@ fn show_entries<S: Shows, A: Allocator + Clone, O: Write, E: Write>(
     Ok(whole)
 }
 
-// Shows an entry under its line, and answers whether it is whole.
+// Shows an entry under its line, and answers whether it is whole, and how many lines are left.
 fn show_entry<S: Shows, A: Allocator + Clone, O: Write, E: Write>(
     shows: &S,
+    left: usize,
     alloc: &A,
     container: &MultiArch<'_, A>,
     index: usize,
     out: &mut O,
     err: &mut E,
-) -> std::result::Result<bool, Failure>
-    ensures shown { IfOk result (λ whole. (shown : Shown)
-        × ShowsEntry S.name (S.lines shows.now) index (entry_at (file_held container.now) index) shown × (shown.whole ≡ whole)
+) -> std::result::Result<Outcome, Failure>
+    ensures shown { IfOk result (λ outcome. (shown : Shown)
+        × ShowsEntry S.name (S.lines shows.now) left index (entry_at (file_held container.now) index) shown
+        × (shown.whole ≡ outcome.whole) × (shown.left ≡ outcome.left)
         × Writes shown (O.contents out.old) (O.contents out.new) (E.contents err.old) (E.contents err.new)) }
-    ensures memory { IfErr result (IfMemory (Writes nothing (O.contents out.old) (O.contents out.new) (E.contents err.old) (E.contents err.new))) }
+    ensures memory { IfErr result (IfMemory (Writes (nothing left) (O.contents out.old) (O.contents out.new) (E.contents err.old) (E.contents err.new))) }
 {
     match container.get(index) {
-        Ok(SingleArch::MachO(image)) => shows.show(alloc, &image, Heading::Arch(index), out),
+        Ok(SingleArch::MachO(image)) => shows.show(alloc, &image, Heading::Arch(index), left, out),
         Ok(SingleArch::Archive(_)) => {
             writeln!(out, "arch {index}")?;
             writeln!(out, "archive")?;
-            Ok(true)
+            Ok(Outcome { whole: true, left })
         }
         Err(error) => {
             let error = told(error)?;
             refuse_entry(shows, index, &error, out, err)?;
-            Ok(false)
+            Ok(Outcome { whole: false, left })
         }
     }
 }

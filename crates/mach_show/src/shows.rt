@@ -6,6 +6,15 @@ use goblin_mach::MachO;
 use std::alloc::Allocator;
 use std::io::Write;
 
+/// What came of an image that was shown.
+#[derive(Clone, Copy, Drop)]
+pub struct Outcome {
+    /// Whether it is whole.
+    pub whole: bool,
+    /// How many lines more may be told of the images behind it.
+    pub left: usize,
+}
+
 /// A program's call: what it is to show of an image.
 pub trait Shows {
     ghost use Rattle.std.specs.Prelude.{◌≡◌, ◌++◌, [], ℕ, List, IfOk, IfErr};
@@ -15,7 +24,7 @@ pub trait Shows {
     ghost use Rattle.mach_show.specs.Failures.{IfMemory};
     ghost use Rattle.mach_show.specs.Shown.{ImageLines};
 
-    // The program's name, and which text is that of an image.
+    // The program's name, and which text is that of an image of which so many lines may be told.
     ghost name: { List ℕ };
 
     ghost lines: { Self → ImageLines };
@@ -24,15 +33,18 @@ pub trait Shows {
     fn name(&self) -> &'static str
         ensures { result.now ≡ name };
 
-    /// Shows an image under its heading, and answers whether it is whole. What memory it takes is taken before the heading.
+    /// Shows an image under its heading, of its lines no more than `left`, and answers whether it is whole, and how many are left.
+    /// What memory it takes is taken before the heading.
     fn show<A: Allocator + Clone, O: Write>(
         &self,
         alloc: &A,
         image: &MachO<'_, A>,
         heading: Heading,
+        left: usize,
         out: &mut O,
-    ) -> Result<bool, Failure>
-        ensures shown { (bytes : List ℕ) → IsImage bytes 0 image.now → IfOk result (λ whole. (text : List ℕ) × lines self.now bytes text whole
+    ) -> Result<Outcome, Failure>
+        ensures shown { (bytes : List ℕ) → IsImage bytes 0 image.now
+            → IfOk result (λ outcome. (text : List ℕ) × lines self.now left bytes text outcome.whole outcome.left
             × Appends (O.contents out.old) (O.contents out.new) (heading_text heading ++ text)) }
         ensures memory { IfErr result (IfMemory (Appends (O.contents out.old) (O.contents out.new) [])) };
 }

@@ -15,95 +15,63 @@ mod run;
 mod tests;
 mod text;
 
+use mach_show::Program;
 use place::is_same_file;
-use run::{run_extract, run_list, say};
-use std::io::{BufWriter, ErrorKind};
+use run::{NAME, run_extract, run_list};
+use std::io;
+use std::io::BufWriter;
 use std::process::ExitCode;
-use std::{env, fs, io};
 
-const USAGE: &str = "usage: machfat list FILE
+const PROGRAM: Program = Program {
+    name: NAME,
+    usage: "usage: machfat list FILE
        machfat extract FILE INDEX OUT
        machfat --help | --version
-";
-
-const VERSION: &str = "machfat 0.1.0\n";
+",
+    version: "machfat 0.1.0\n",
+};
 
 fn main(rt: HostRuntime) -> ExitCode {
-    let status = match env::args(&rt) {
-        Ok(args) => match args.collect::<Vec<String>>(rt.alloc()) {
-            Ok(args) => start(&rt, args.as_slice()),
-            Err(_) => out_of_memory(&rt),
-        },
-        Err(error) if error.kind() == ErrorKind::OutOfMemory => out_of_memory(&rt),
-        Err(_) => bad_usage(&rt),
-    };
-    ExitCode::from(status)
+    ExitCode::from(match start(&rt) {
+        Ok(status) | Err(status) => status,
+    })
 }
 
-// Does what the arguments ask for; the first is the program's name.
-fn start(rt: &HostRuntime, args: &[String]) -> u8 {
-    match args {
-        [_, word] if word.as_str() == "--help" => {
-            say(USAGE, &mut io::writer(rt), &mut rt.stderr())
-        }
-        [_, word] if word.as_str() == "--version" => {
-            say(VERSION, &mut io::writer(rt), &mut rt.stderr())
-        }
+// Does what the words ask for.
+fn start(rt: &HostRuntime) -> Result<u8, u8> {
+    let words = PROGRAM.words(rt)?;
+    match words.as_slice() {
         [_, word, file] if word.as_str() == "list" => list_file(rt, file),
         [_, word, file, index, target] if word.as_str() == "extract" => {
             match index.parse::<usize>() {
                 Ok(index) => extract_entry(rt, file, index, target),
-                Err(_) => bad_usage(rt),
+                Err(_) => Err(PROGRAM.bad_usage(rt)),
             }
         }
-        _ => bad_usage(rt),
+        _ => Err(PROGRAM.bad_usage(rt)),
     }
 }
 
-fn list_file(rt: &HostRuntime, file: &str) -> u8 {
-    let bytes = match fs::read(rt, file) {
-        Ok(bytes) => bytes,
-        Err(error) => return unreadable(rt, &error, file),
-    };
+fn list_file(rt: &HostRuntime, file: &str) -> Result<u8, u8> {
+    let bytes = PROGRAM.read(rt, file)?;
     let Ok(mut lines) = BufWriter::new(rt.alloc(), io::writer(rt)) else {
-        return out_of_memory(rt);
+        return Err(PROGRAM.out_of_memory(rt));
     };
-    run_list(rt.alloc(), bytes.as_slice(), &mut lines, &mut rt.stderr())
+    Ok(run_list(rt.alloc(), bytes.as_slice(), &mut lines, &mut rt.stderr()))
 }
 
-fn extract_entry(rt: &HostRuntime, file: &str, index: usize, target: &str) -> u8 {
+fn extract_entry(rt: &HostRuntime, file: &str, index: usize, target: &str) -> Result<u8, u8> {
     if is_same_file(rt, file, target) {
         let _ = rt.eprintln(format_args!("machfat: {file} and {target} are one file"));
-        return 2;
+        return Err(2);
     }
-    let bytes = match fs::read(rt, file) {
-        Ok(bytes) => bytes,
-        Err(error) => return unreadable(rt, &error, file),
-    };
-    run_extract(
+    let bytes = PROGRAM.read(rt, file)?;
+    Ok(run_extract(
         rt,
         rt.alloc(),
         bytes.as_slice(),
         index,
         target,
         &mut rt.stderr(),
-    )
-}
-
-fn bad_usage(rt: &impl Eprint) -> u8 {
-    let _ = rt.eprint(USAGE);
-    2
-}
-
-fn unreadable(rt: &impl Eprint, error: &io::Error, file: &str) -> u8 {
-    if error.kind() == ErrorKind::OutOfMemory {
-        return out_of_memory(rt);
-    }
-    let _ = rt.eprintln(format_args!("machfat: cannot read {file}"));
-    2
-}
-
-fn out_of_memory(rt: &impl Eprint) -> u8 {
-    let _ = rt.eprintln("machfat: out of memory");
-    1
+    ))
 }

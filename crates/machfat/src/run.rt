@@ -1,6 +1,6 @@
 //! What the program's words do, and its exit status.
 
-ghost use Rattle.std.specs.Prelude.{◌≡◌, ◌≢◌, ◌≤◌, [], ℕ, List, IsOk, OnOk, IfErr, Err};
+ghost use Rattle.std.specs.Prelude.{◌≡◌, ◌≤◌, [], ℕ, List, IsOk, OnOk, IfErr, Err};
 ghost use Rattle.std.specs.Io.Buffered.{writer_buffer, writer_contents};
 ghost use Rattle.std.specs.Io.KnownBytes.{Appends};
 ghost use Rattle.mach_headers.specs.declared.fat.FatArch.{FatArch};
@@ -13,10 +13,13 @@ ghost use Rattle.machfat.specs.declared.refusal.Refusal.{Refusal};
 use crate::entry::{entry_bytes, list};
 use crate::place::place_entry;
 use crate::refusal::Failure;
+use mach_show::say::unwritten;
 use std::alloc::{Allocator, Global};
-use std::io;
 use std::io::{BufWriter, Write};
 use std::rt::Files;
+
+/// The program's name.
+pub const NAME: &str = "machfat";
 
 /// Prints the records of a fat file, and answers the exit status: 0; 1 where the file or memory is refused, and
 /// then `err` has a line that says why and `out` nothing; 2 where a write fails. At 0 nothing is left in the buffer.
@@ -98,37 +101,6 @@ pub fn status<E: Write>(answer: Result<(), Failure>, target: &str, err: &mut E) 
             Ok(()) => 1,
             Err(_) => 2,
         },
-        Err(Failure::Unwritten) => unwritten(target, err),
+        Err(Failure::Unwritten) => unwritten(NAME, target, err),
     }
-}
-
-/// Prints a text, and answers the exit status: 0, or 2 where the write fails.
-pub fn say<O: Write, E: Write>(text: &str, out: &mut O, err: &mut E) -> u8
-    ensures status { result ≢ 0 → result ≡ 2 }
-    ensures said { result ≡ 0 → Appends (O.contents out.old) (O.contents out.new) text.now }
-{
-    match put(text, out) {
-        Ok(()) => 0,
-        Err(_) => unwritten("", err),
-    }
-}
-
-// Writes a text, and all that was gathered.
-fn put<O: Write>(text: &str, out: &mut O) -> io::Result<()>
-    ensures { OnOk result (Appends (O.contents out.old) (O.contents out.new) text.now) }
-{
-    out.write_all(text.as_bytes())?;
-    out.flush()
-}
-
-// The status of a failed write, which `err` tells of if it can.
-fn unwritten<E: Write>(target: &str, err: &mut E) -> u8
-    ensures { result ≡ 2 }
-{
-    let _ = if target.is_empty() {
-        writeln!(err, "machfat: cannot write")
-    } else {
-        writeln!(err, "machfat: cannot write {target}")
-    };
-    2
 }

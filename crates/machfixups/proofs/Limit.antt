@@ -78,7 +78,7 @@ goes_over limit rows rest left whole old new t goes none is =
     let told : take limit rows ≡ goes.front = take_all limit rows few ∙ all in
     record {
       lines = rw is.1 (subst (λ (xs : List (Result PointerRow Fault)). WritesRowLines xs whole old new) (sym told) goes.lines);
-      left = is.0 ∙ omega (arith, goes.count, many);
+      rest = is.0 ∙ omega (arith, goes.count, many);
       more = is.2 ∙ sym (le-ltb limit (length rows) few);
     }
 
@@ -95,25 +95,25 @@ goes_cut limit rows all left whole old new t item rest goes is none said =
     ap (λ xs. take limit xs) are ∙ take-append-le limit goes.front (item ∷ rest) (omega (arith, front)) ∙ take_all limit goes.front (omega (arith, front)) in
     record {
       lines = rw said.1 (subst (λ (xs : List (Result PointerRow Fault)). WritesRowLines xs whole old new) (sym told) goes.lines);
-      left = said.0 ∙ omega (arith, many, front);
+      rest = said.0 ∙ omega (arith, many, front);
       more = said.2 ∙ sym (lt-ltb limit (length rows) (omega (arith, many, front)));
     }
 
 -- ---- both lists of an image
 
-pub told_both : (limit : ℕ) (first second : List (Result PointerRow Fault)) (one two : Told) (more final : Bool) (old middle after new : Option (List ℕ))
-    → WritesFirstRows limit first old middle one → WritesFirstRows one.left second middle after two → more ≡ (one.more || two.more)
+pub told_both : (limit left : ℕ) (first second : List (Result PointerRow Fault)) (one two : Told) (more final : Bool) (old middle after new : Option (List ℕ))
+    → WritesFirstRows left first old middle one → WritesFirstRows one.left second middle after two → more ≡ (one.more || two.more)
     → Appends after new (line_of_more limit more)
-    → final ≡ ((one.whole && two.whole) && not more) → WritesTold limit (first ++ second) final old new
-told_both limit first second one two more final old middle after new a b is line said =
-    let long : nat_lt limit (length (first ++ second)) ≡ more =
-    more_both limit first second
-    ∙ ap (λ (n : ℕ). nat_lt limit (length first) || nat_lt n (length second)) (sym a.left)
+    → final ≡ ((one.whole && two.whole) && not more) → WritesTold limit left (first ++ second) final two.left old new
+told_both limit left first second one two more final old middle after new a b is line said =
+    let long : nat_lt left (length (first ++ second)) ≡ more =
+    more_both left first second
+    ∙ ap (λ (n : ℕ). nat_lt left (length first) || nat_lt n (length second)) (sym a.rest)
     ∙ ap (λ (x : Bool). x || nat_lt one.left (length second)) (sym a.more)
     ∙ ap (λ (y : Bool). one.more || y) (sym b.more) ∙ sym is in
-    let both = lines_both (take limit first) (take one.left second) one.whole two.whole (one.whole && two.whole) old middle after a.lines b.lines refl in
-    let told : take limit first ++ take one.left second ≡ take limit (first ++ second) =
-    ap (λ (n : ℕ). take limit first ++ take n second) a.left ∙ sym (take_both limit first second) in
+    let both = lines_both (take left first) (take one.left second) one.whole two.whole (one.whole && two.whole) old middle after a.lines b.lines refl in
+    let told : take left first ++ take one.left second ≡ take left (first ++ second) =
+    ap (λ (n : ℕ). take left first ++ take n second) a.rest ∙ sym (take_both left first second) in
     let lines = subst (λ (xs : List (Result PointerRow Fault)). WritesRowLines xs (one.whole && two.whole) old after) told both in
     record {
       text = lines.text ++ line_of_more limit more;
@@ -123,6 +123,7 @@ told_both limit first second one two more final old middle after new a b is line
         are_lines = lines.lines;
         is_text = ap (λ (m : Bool). lines.text ++ line_of_more limit m) (sym long);
         is_whole = said ∙ ap (λ (m : Bool). (one.whole && two.whole) && not m) (sym long);
+        is_rest = omega (arith, a.rest, b.rest, length-append first second);
       };
       written = Appends-both old after new lines.text (line_of_more limit more) lines.written line;
     }

@@ -13,9 +13,9 @@ use Rattle.machfixups.specs.Parts.{parts_of}
 use Rattle.machfixups.specs.Rows.{rows_in_order, readable_table}
 
 -- The text is the lines of the image at the front of the bytes: one for each bind of its opcodes, in order, then one for
--- each fixup of its chains, over its segments; of all of them the first `limit`, and where there are more, a line that says
--- so. It is whole where there are no more and none is missing.
-pub record AreImagePointerLines (limit : ℕ) (bytes : List ℕ) (text : List ℕ) (whole : Bool) : Type 0 where
+-- each fixup of its chains, over its segments; of all of them the first ones, as many as are left of the limit, and where there
+-- are more, a line that says so. It is whole where there are no more and none is missing. `rest` are left behind it.
+pub record AreImagePointerLines (limit left : ℕ) (bytes : List ℕ) (text : List ℕ) (whole : Bool) (rest : ℕ) : Type 0 where
   pub opens : Opens bytes 0
   pub segments : List SegmentView
   pub has_segments : HasSegments bytes 0 segments
@@ -25,4 +25,4 @@ pub record AreImagePointerLines (limit : ℕ) (bytes : List ℕ) (text : List �
   pub has_chained : HasChainedFixups bytes 0 chained
   pub fixups : List (Result Fixup Fault)
   pub has_fixups : HasFixups bytes 0 fixups
-  pub lines : AreLinesTo limit (rows_in_order (parts_of segments) (readable_table chained) bindings fixups) text whole
+  pub lines : AreLinesTo limit left (rows_in_order (parts_of segments) (readable_table chained) bindings fixups) text whole rest

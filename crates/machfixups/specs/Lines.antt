@@ -95,23 +95,24 @@ limit_line limit = codes "limit: " ++ (decimal limit ++ codes " of them are told
 abbrev pub line_of_more : ℕ → (more : Bool) → List ℕ
 line_of_more limit more = if more then limit_line limit else []
 
--- The text is the lines of the first `limit` of these rows, and behind them, exactly where there are more rows than that,
--- a line that says so. It is whole where there are no more, and none is missing.
-pub record AreLinesTo (limit : ℕ) (rows : List (Result PointerRow Fault)) (text : List ℕ) (whole : Bool) : Type 0 where
+-- The text is the lines of the first of these rows, as many as are left of the limit, and behind them, exactly where there are more rows than
+-- that, a line that says so. It is whole where there are no more, and none is missing. Each row told is one less that is left.
+pub record AreLinesTo (limit left : ℕ) (rows : List (Result PointerRow Fault)) (text : List ℕ) (whole : Bool) (rest : ℕ) : Type 0 where
   pub lines : List ℕ
   pub is_read : Bool
-  pub are_lines : AreRowLines (take limit rows) lines is_read
-  pub is_text : text ≡ lines ++ line_of_more limit (nat_lt limit (length rows))
-  pub is_whole : whole ≡ (is_read && not (nat_lt limit (length rows)))
+  pub are_lines : AreRowLines (take left rows) lines is_read
+  pub is_text : text ≡ lines ++ line_of_more limit (nat_lt left (length rows))
+  pub is_whole : whole ≡ (is_read && not (nat_lt left (length rows)))
+  pub is_rest : rest ≡ left - length rows
 
 -- What was written is such lines.
-pub record WritesTold (limit : ℕ) (rows : List (Result PointerRow Fault)) (whole : Bool) (old new : Option (List ℕ)) : Type 0 where
+pub record WritesTold (limit left : ℕ) (rows : List (Result PointerRow Fault)) (whole : Bool) (rest : ℕ) (old new : Option (List ℕ)) : Type 0 where
   pub text : List ℕ
-  pub lines : AreLinesTo limit rows text whole
+  pub lines : AreLinesTo limit left rows text whole rest
   pub written : Appends old new text
 
--- The lines of the first `limit` rows were written, and this is what is known then.
-pub record WritesFirstRows (limit : ℕ) (rows : List (Result PointerRow Fault)) (old new : Option (List ℕ)) (t : Told) : Type 0 where
-  pub lines : WritesRowLines (take limit rows) t.whole old new
-  pub left : t.left ≡ limit - length rows
-  pub more : t.more ≡ nat_lt limit (length rows)
+-- The lines of the first rows were written, no more than `left`, and this is what is known then.
+pub record WritesFirstRows (left : ℕ) (rows : List (Result PointerRow Fault)) (old new : Option (List ℕ)) (t : Told) : Type 0 where
+  pub lines : WritesRowLines (take left rows) t.whole old new
+  pub rest : t.left ≡ left - length rows
+  pub more : t.more ≡ nat_lt left (length rows)

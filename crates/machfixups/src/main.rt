@@ -1,6 +1,6 @@
 //! Prints what dyld corrects of a Mach-O file, a line each: the binds of the bind opcodes in order, then the fixups of
-//! the chains in order; of a fat file those of each entry, under a line that says which. Of each image it prints at most
-//! as many as `--limit` says, and where there are more, a line that says so.
+//! the chains in order; of a fat file those of each entry, under a line that says which. Of a file it prints at most as many
+//! of them as `--limit` says, and behind those of an image that has more, a line that says so.
 //!
 //! A line has the address, the names of the segment and of the section, and what is asked for: `bind` with the ordinal
 //! of the library, the addend, flags and the symbol's name; `rebase` with the address that moves with the image, and
@@ -56,7 +56,7 @@ fn start(rt: &HostRuntime) -> Result<u8, u8> {
     }
 }
 
-// Shows a file, of each image `limit` lines at most.
+// Shows a file, `limit` binds and fixups of it at most.
 fn show_file(rt: &HostRuntime, limit: usize, file: &str) -> Result<u8, u8> {
     let bytes = PROGRAM.read(rt, file)?;
     let Ok(mut lines) = BufWriter::new(rt.alloc(), io::writer(rt)) else {

@@ -21,11 +21,12 @@ use crate::parts::Part;
 use crate::row::{Row, binding_row, fixup_row};
 use goblin_mach::chained_fixups::ChainedFixups;
 use goblin_mach::{FixupIterator, MachO, OpcodeBindingIterator, describe, laws};
+use mach_show::Outcome;
 use std::alloc::Allocator;
 use std::io;
 use std::io::Write;
 
-/// How many lines of an image are printed, where no other limit is given.
+/// How many binds and fixups of a file are told, where no other limit is given.
 pub const DEFAULT_LIMIT: usize = 10_000_000;
 
 /// What was printed of a list that ends at a limit.
@@ -65,26 +66,32 @@ impl Told {
 
 /// Prints exactly a line for each bind of the opcodes that the image has in its bytes, in order, and then one for each
 /// fixup of its chains, and answers whether all of them can be read. Where one can't its line says why. Of all of them
-/// it prints the first `limit`, and where there are more, a line that says so; then they are not all read.
+/// it prints the first `left`, and where there are more, a line that says that `limit` are told; then they are not all read.
+/// Each line is one less that is left for the images behind.
 pub fn print_fixups<A: Allocator, B: Allocator, O: Write>(
     image: &MachO<'_, A>,
     parts: &[Part<'_, B>],
     limit: usize,
+    left: usize,
     out: &mut O,
-) -> io::Result<bool>
+) -> io::Result<Outcome>
     ensures { (bytes : List ℕ) (o : ℕ) → IsImage bytes o image.now
-        → IfOk result (λ whole. (bindings : List (Result Binding Fault)) × HasOpcodeBindings bytes o bindings
+        → IfOk result (λ outcome. (bindings : List (Result Binding Fault)) × HasOpcodeBindings bytes o bindings
         × (chained : Result (Option Fixups) Fault) × HasChainedFixups bytes o chained
         × (fixups : List (Result Fixup Fault)) × HasFixups bytes o fixups
-        × WritesTold limit (rows_in_order (parts_seen parts.now) (readable_table chained) bindings fixups) whole (O.contents out.old) (O.contents out.new)) }
+        × WritesTold limit left (rows_in_order (parts_seen parts.now) (readable_table chained) bindings fixups) outcome.whole outcome.left
+        (O.contents out.old) (O.contents out.new)) }
 {
     laws::strict_image_is_lossy(image);
-    let binds = print_bindings(image.opcode_bindings(), parts, limit, out)?;
+    let binds = print_bindings(image.opcode_bindings(), parts, left, out)?;
     let table = table_of(image);
     let chains = print_chains(image.fixups(), parts, &table, binds.left, out)?;
     let more = binds.more | chains.more;
     print_more(limit, more, out)?;
-    Ok(binds.whole & chains.whole & !more)
+    Ok(Outcome {
+        whole: binds.whole & chains.whole & !more,
+        left: chains.left,
+    })
 }
 
 // Prints that there are more than the limit, where that is so.

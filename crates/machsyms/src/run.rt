@@ -2,13 +2,13 @@
 
 ghost use Rattle.std.specs.Prelude.{◌≡◌, ◌≢◌, ◌≤◌, [], codes};
 ghost use Rattle.std.specs.Io.Buffered.{writer_buffer, writer_contents};
-ghost use Rattle.mach_show.specs.Shown.{Shown, ShowsFile, Writes, status_by};
+ghost use Rattle.mach_show.specs.Shown.{Shown, ShowsFile, Writes, status_by, without_limit};
 ghost use Rattle.machsyms.specs.ImageLines.{AreImageSymbolLines};
 
 use crate::letters::section_letters;
 use crate::print::print_symbols;
 use goblin_mach::MachO;
-use mach_show::{Failure, Heading, Shows};
+use mach_show::{Failure, Heading, Outcome, Shows};
 use std::alloc::Allocator;
 use std::io::{BufWriter, Write};
 
@@ -22,7 +22,7 @@ struct SymbolsOf;
 impl Shows for SymbolsOf {
     ghost name = { codes "machsyms" };
 
-    ghost lines = { λ _. AreImageSymbolLines };
+    ghost lines = { λ _. without_limit AreImageSymbolLines };
 
     fn name(&self) -> &'static str {
         NAME
@@ -33,11 +33,13 @@ impl Shows for SymbolsOf {
         alloc: &A,
         image: &MachO<'_, A>,
         heading: Heading,
+        left: usize,
         out: &mut O,
-    ) -> Result<bool, Failure> {
+    ) -> Result<Outcome, Failure> {
         let letters = section_letters(alloc.clone()?, image)?;
         write!(out, "{heading}")?;
-        Ok(print_symbols(image, &letters, out)?)
+        let whole = print_symbols(image, &letters, out)?;
+        Ok(Outcome { whole, left })
     }
 }
 
@@ -52,9 +54,10 @@ pub fn run<A: Allocator + Clone, W: Write + Drop, B: Allocator, E: Write>(
     err: &mut E,
 ) -> u8
     ensures status { result ≤ 2 }
-    ensures shown { result ≢ 2 → (shown : Shown) × ShowsFile (codes "machsyms") AreImageSymbolLines bytes.now shown × (result ≡ status_by shown.whole)
+    ensures shown { result ≢ 2 → (shown : Shown) × ShowsFile (codes "machsyms") (without_limit AreImageSymbolLines) 0 bytes.now shown
+        × (result ≡ status_by shown.whole)
         × Writes shown (writer_contents W.contents out.old) (writer_contents W.contents out.new) (E.contents err.old) (E.contents err.new) }
     ensures flushed { result ≢ 2 → writer_buffer out.new ≡ [] }
 {
-    mach_show::run::run(&SymbolsOf, &alloc, bytes, out, err)
+    mach_show::run::run(&SymbolsOf, 0, &alloc, bytes, out, err)
 }

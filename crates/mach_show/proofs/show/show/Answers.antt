@@ -22,7 +22,7 @@ returns-in-Err g c =
     let e = c.in-Err.error in
     IfOk-weaker c.refuse_file.result _ _
     (λ whole told. (
-      record { text = []; said = complaint g.S.Shows.name (words_of e); whole = false },
+      record { text = []; said = complaint g.S.Shows.name (words_of e); whole = false; left = c.args.limit },
       refused_file e c.in-Err.ensures.refused,
       sym told.0,
       record { text = Appends-none _; said = told.1 },

@@ -8,7 +8,7 @@ use Rattle.mach_show.proofs.Showing.{Appends-nothing, one_more}
 use Rattle.mach_show.proofs.show.show_entries.Goals as goal
 
 pub entries-init : goal.entries-init
-entries-init g c = (nothing, none, refl, record { text = Appends-none _; said = Appends-none _ })
+entries-init g c = (nothing c.args.limit, none, refl, refl, record { text = Appends-none _; said = Appends-none _ })
 
 pub entries-preserved : goal.entries-preserved
 entries-preserved g c =
@@ -16,11 +16,12 @@ entries-preserved g c =
     let before = c.entries.invariant in
     let last = c.in-Ok.ensures.shown in (
       both before.0 last.0,
-      one_more g.S.Shows.name (g.S.Shows.lines c.args.shows.now) file c.entries.index before.0 last.0 before.1 last.1,
+      one_more g.S.Shows.name (g.S.Shows.lines c.args.shows.now) c.args.limit file c.entries.index c.entries.left before.0 last.0 before.1 before.3 last.1,
       ap (λ first. first && last.0.whole) before.2 ∙ ap (λ second. c.entries.whole && second) last.2,
+      last.3,
       record {
-        text = Appends-both _ _ _ before.0.text last.0.text before.3.text last.3.text;
-        said = Appends-both _ _ _ before.0.said last.0.said before.3.said last.3.said;
+        text = Appends-both _ _ _ before.0.text last.0.text before.4.text last.4.text;
+        said = Appends-both _ _ _ before.0.said last.0.said before.4.said last.4.said;
       },
     )
 
@@ -31,12 +32,12 @@ returns-in-Err-Memory g c =
     let kept = rw (c.in-Err-Memory.is, c.in-Err-Memory.field-0-is) at c.show_entry.ensures.memory in
     IfOk-weaker c.refuse_file.result _ _
     (λ whole told. (
-      record { text = before.0.text; said = before.0.said ++ reason; whole = false },
+      record { text = before.0.text; said = before.0.said ++ reason; whole = false; left = before.0.left },
       cut_short c.entries.index before.0 c.entries-test.true before.1,
       sym told.0,
       record {
-        text = Appends-nothing _ _ _ before.0.text before.3.text kept.text;
-        said = Appends-both _ _ _ before.0.said reason (Appends-nothing _ _ _ before.0.said before.3.said kept.said) told.1;
+        text = Appends-nothing _ _ _ before.0.text before.4.text kept.text;
+        said = Appends-both _ _ _ before.0.said reason (Appends-nothing _ _ _ before.0.said before.4.said kept.said) told.1;
       },
     ))
     c.refuse_file.ensures
@@ -46,5 +47,5 @@ returns g c =
     let file = file_held c.args.container.now in
     let before = c.entries.invariant in
     let all : c.entries.index ≡ file.narches = omega (arith, c.entries-test.false, c.entries.auto.index-end) in
-    let shown = λ (n : ℕ). ShowsEntries g.S.Shows.name (g.S.Shows.lines c.args.shows.now) (first_entries file n) before.0 in
-    (before.0, all_entries before.0 (subst shown all before.1), before.2, before.3)
+    let shown = λ (n : ℕ). ShowsEntries g.S.Shows.name (g.S.Shows.lines c.args.shows.now) c.args.limit (first_entries file n) before.0 in
+    (before.0, all_entries before.0 (subst shown all before.1), before.2, before.4)

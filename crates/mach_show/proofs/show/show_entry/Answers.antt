@@ -15,9 +15,10 @@ returns-in-Ok-MachO-clause-shown g c =
     let opened = rw (c.in-Ok-MachO.is, c.in-Ok-MachO.field-0-is) at c.get.ensures.opened in
     let held = image_held _ c.in-Ok-MachO.image opened.0 opened.1 opened.2 in
     IfOk-weaker c.show.result _ _
-    (λ whole told. (
-      record { text = arch_line i ++ told.0; said = []; whole = whole },
-      image_entry _ _ i _ held.0 told.0 whole held.1 told.1,
+    (λ outcome told. (
+      record { text = arch_line i ++ told.0; said = []; whole = outcome.whole; left = outcome.left },
+      image_entry _ _ c.args.left i _ held.0 told.0 outcome.whole outcome.left held.1 told.1,
+      refl,
       refl,
       record { text = told.2; said = Appends-none _ },
     ))
@@ -34,8 +35,9 @@ returns-in_ok-writeln-in-Ok-Archive-2-clause-shown g c =
     let i = c.args.index in
     let opened = rw (c.in-Ok-Archive.is, c.in-Ok-Archive.field-0-is) at c.get.ensures.opened in
     let held = archive_held g.row.A.Denot _ c.in-Ok-Archive.field-0-0 opened.0 opened.1 opened.2 in (
-      record { text = arch_line i ++ codes "archive\n"; said = []; whole = true },
-      archive_entry g.S.Shows.name (g.S.Shows.lines c.args.shows.now) i (entry_at (file_held c.args.container.now) i) held.0 held.1,
+      record { text = arch_line i ++ codes "archive\n"; said = []; whole = true; left = c.args.left },
+      archive_entry g.S.Shows.name (g.S.Shows.lines c.args.shows.now) c.args.left i (entry_at (file_held c.args.container.now) i) held.0 held.1,
+      refl,
       refl,
       record {
         text = Appends-both _ _ _ _ _ c.in_ok-writeln-in-Ok-Archive.ensures.bytes c.in_ok-writeln-in-Ok-Archive-2.ensures.bytes;
@@ -50,6 +52,7 @@ returns-in_ok-refuse_entry-in-Err-clause-shown g c =
     let stands = rw (sym told.0) at c.in-Err.ensures.refused in (
       _,
       refused entry c.in_ok-error-in-Err.error (told_of (FatEntryFault entry) c.in_ok-error-in-Err.error told.1 stands),
+      refl,
       refl,
       record { text = c.in_ok-refuse_entry-in-Err.ensures.text; said = c.in_ok-refuse_entry-in-Err.ensures.said },
     )

@@ -9,8 +9,8 @@ use Rattle.mach_show.proofs.show.show_image.Goals as goal
 pub returns-in-Ok : goal.returns-in-Ok
 returns-in-Ok g c = λ bytes opened.
     let told = c.in-Ok.ensures.shown bytes opened in (
-      record { text = told.0; said = []; whole = c.in-Ok.whole },
-      one_image told.0 c.in-Ok.whole told.1,
+      record { text = told.0; said = []; whole = c.in-Ok.outcome.whole; left = c.in-Ok.outcome.left },
+      one_image told.0 c.in-Ok.outcome.whole c.in-Ok.outcome.left told.1,
       refl,
       record { text = told.2; said = Appends-none _ },
     )
@@ -20,7 +20,7 @@ returns-in-Err-Memory g c = λ bytes opened.
     let kept = rw (c.in-Err-Memory.is, c.in-Err-Memory.field-0-is) at c.show.ensures.memory in
     IfOk-weaker c.refuse_file.result _ _
     (λ whole told. (
-      record { text = []; said = complaint g.S.Shows.name (codes "out of memory"); whole = false },
+      record { text = []; said = complaint g.S.Shows.name (codes "out of memory"); whole = false; left = c.args.limit },
       refused_file (errors.Memory alloc_error) tt,
       sym told.0,
       record { text = kept; said = told.1 },

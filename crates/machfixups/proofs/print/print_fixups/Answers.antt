@@ -28,5 +28,5 @@ returns g c = λ bytes o opened.
       has_chained_fixups bytes o m p,
       fixups,
       has_fixups bytes o m p fixups c.fixups.ensures,
-      told_both c.args.limit _ _ one two _ _ _ _ _ _ c.in_ok-binds.ensures chains refl c.in_ok-print_more.ensures refl,
+      told_both c.args.limit c.args.left _ _ one two _ _ _ _ _ _ c.in_ok-binds.ensures chains refl c.in_ok-print_more.ensures refl,
     )

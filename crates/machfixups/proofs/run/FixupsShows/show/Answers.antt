@@ -9,11 +9,12 @@ use Rattle.machfixups.proofs.run.FixupsShows.show.Goals as goal
 pub returns-clause-shown : goal.returns-clause-shown
 returns-clause-shown g c = λ bytes opened.
     let limit = c.args.self.now.limit in
-    let whole = c.in_ok-print_fixups.field-0 in
+    let outcome = c.in_ok-print_fixups.field-0 in
     let known = c.in_ok-parts.ensures bytes 0 opened in
     let listed = c.in_ok-print_fixups.ensures bytes 0 opened in
     let lines = listed.6 in
-    let over = λ (parts : List Part). AreLinesTo limit (rows_in_order parts (readable_table listed.2) listed.0 listed.4) lines.text whole in (
+    let rows = λ (parts : List Part). rows_in_order parts (readable_table listed.2) listed.0 listed.4 in
+    let over = λ (parts : List Part). AreLinesTo limit c.args.left (rows parts) lines.text outcome.whole outcome.left in (
       lines.text,
       record {
         opens = (opened.ctx, commands_held c.args.image.now, opened.opens);

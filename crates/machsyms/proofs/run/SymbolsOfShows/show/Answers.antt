@@ -7,9 +7,9 @@ use Rattle.machsyms.proofs.run.SymbolsOfShows.show.Goals as goal
 pub returns-clause-shown : goal.returns-clause-shown
 returns-clause-shown g c = λ bytes opened.
     let m = c.args.image.now in
-    let whole = c.in_ok-print_symbols.field-0 in
+    let whole = c.in_ok-whole.whole in
     let lettered = c.in_ok-letters.ensures bytes 0 opened in
-    let listed = c.in_ok-print_symbols.ensures.listed bytes 0 opened in
+    let listed = c.in_ok-whole.ensures.listed bytes 0 opened in
     let lines = listed.2 in (
       lines.text,
       record {
