@@ -24,7 +24,7 @@ pub trait Shows {
     ghost use Rattle.mach_show.specs.Failures.{IfMemory};
     ghost use Rattle.mach_show.specs.Shown.{ImageLines};
 
-    // The program's name, and which text is that of an image of which so many lines may be told.
+    // The program's name, and which text is that of an image of which a number of lines may be told.
     ghost name: { List ℕ };
 
     ghost lines: { Self → ImageLines };

@@ -27,7 +27,7 @@ record UpTo (t : Trie) (root k : ℕ) (found : List Entry) : Type 0 where
   few : length met ≤ length found
 
 module _ {t : Trie} {root : ℕ} where
-  -- so many steps come to one place
+  -- as many steps come to one place
   one_reading : {n m : ℕ} {found met : List Entry} {left ahead_then : List Ahead} (u : Unfolds t root n found left) (v : Unfolds t root m met ahead_then)
       → steps u ≡ steps v → (found ≡ met) × (left ≡ ahead_then)
   one_reading nothing_read nothing_read e = (refl, refl)
