@@ -1,16 +1,19 @@
 -- The first lines of a list, up to a limit.
-use Rattle.std.proofs.Common.{◌≡◌, ◌≤◌, ◌+◌, ◌-◌, ◌++◌, ◌∷◌, [], ◌∙◌, ℕ, zero, suc, List, Option, Result, Bool, true, false, refl, sym, ap, subst, length}
-use Rattle.std.proofs.Common.{take, arith}
+use Rattle.std.proofs.Common.{◌≡◌, ◌≤◌, ◌+◌, ◌-◌, ◌++◌, ◌∷◌, [], ◌∙◌, ℕ, zero, suc, List, Option, Result, Ok, Err, Bool, true, false, refl, sym, ap, subst}
+use Rattle.std.proofs.Common.{length, take, arith}
 use Rattle.std.specs.Prelude.{◌&&◌, ◌||◌, not, nat_lt}
 use Rattle.std.proofs.lemmas.Bool.{le-ltb, lt-ltb, ltb-true, ltb-false}
 use Rattle.std.proofs.lemmas.List.{append-nil, append_assoc, length-append, take-append-le, take_all}
+use Rattle.std.proofs.lemmas.List.Folds.{list_all-append}
 use Rattle.std.specs.Io.KnownBytes.{Appends}
+use Rattle.std.specs.List.{list_all}
 use Rattle.std.specs.Result.{is_ok}
 use Rattle.mach_base.proofs.Written.{Appends-both}
 use Rattle.mach_base.specs.Fault.{Fault}
 use Rattle.mach_base.specs.declared.error.Error.{Error}
-use Rattle.machfixups.proofs.Written.{no_lines, line_more, lines_both}
-use Rattle.machfixups.specs.Lines.{row_line, line_of_more, WritesFirstRows, WritesRowLines, WritesTold}
+use Rattle.mach_show.proofs.Lines.{no_lines, line_more, lines_both}
+use Rattle.mach_show.specs.Lines.{WritesLines}
+use Rattle.machfixups.specs.Lines.{row_line, line_of_more, WritesFirstRows, WritesTold}
 use Rattle.machfixups.specs.Rows.{PointerRow, row_read}
 use Rattle.machfixups.specs.declared.print.Told.{Told}
 use Rattle.machfixups.specs.declared.row.Row as declared
@@ -47,15 +50,21 @@ more_both n xs ys = more_by n xs ys (nat_lt n (length xs)) refl
 
 -- ---- a list that is gone over
 
+all-one : (answer : Result declared.Row Error) → is_ok answer ≡ list_all is_ok (row_read answer ∷ [])
+all-one (Ok r) = refl
+all-one (Err e) = refl
+
 -- The rows begin with some whose lines were written, with `rest` behind them, and `left` lines more may be written.
 pub record Goes (limit : ℕ) (rows rest : List (Result PointerRow Fault)) (left : ℕ) (whole : Bool) (old new : Option (List ℕ)) : Type 0 where
   pub front : List (Result PointerRow Fault)
   pub are : rows ≡ front ++ rest
   pub count : left + length front ≡ limit
-  pub lines : WritesRowLines front whole old new
+  pub lines : WritesLines row_read row_line front old new
+  pub is_whole : whole ≡ list_all is_ok front
 
 pub goes_init : (limit : ℕ) (rows rest : List (Result PointerRow Fault)) (known : Option (List ℕ)) → rows ≡ rest → Goes limit rows rest limit true known known
-goes_init limit rows rest known same = record { front = []; are = same; count = omega arith; lines = no_lines known }
+goes_init limit rows rest known same =
+    record { front = []; are = same; count = omega arith; lines = no_lines row_read row_line known; is_whole = refl }
 
 pub goes_on : (limit : ℕ) (rows all rest : List (Result PointerRow Fault)) (left : ℕ) (whole one : Bool) (answer : Result declared.Row Error)
     (old middle new : Option (List ℕ)) → Goes limit rows all left whole old middle → all ≡ row_read answer ∷ rest → 1 ≤ left → one ≡ is_ok answer
@@ -65,8 +74,21 @@ goes_on limit rows all rest left whole one answer old middle new goes is some ok
       front = goes.front ++ item ∷ [];
       are = goes.are ∙ ap (λ back. goes.front ++ back) is ∙ sym (append_assoc goes.front (item ∷ []) rest);
       count = omega (arith, goes.count, some, length-append goes.front (item ∷ []));
-      lines = line_more goes.front whole one (whole && one) answer old middle new goes.lines ok refl line;
+      lines = line_more row_read row_line goes.front answer old middle new goes.lines line;
+      is_whole = ap (λ w. w && one) goes.is_whole ∙ ap (λ w. list_all is_ok goes.front && w) (ok ∙ all-one answer)
+          ∙ sym (list_all-append is_ok goes.front (item ∷ []));
     }
+
+-- where the rows that were gone over are the first `limit` of all
+told_of : (limit : ℕ) (rows rest : List (Result PointerRow Fault)) (left : ℕ) (whole : Bool) (old new : Option (List ℕ)) (t : Told)
+    (goes : Goes limit rows rest left whole old new) → take limit rows ≡ goes.front → t.whole ≡ whole → t.left ≡ limit - length rows
+    → t.more ≡ nat_lt limit (length rows) → WritesFirstRows limit rows old new t
+told_of limit rows rest left whole old new t goes told is count more = record {
+  lines = subst (λ (xs : List (Result PointerRow Fault)). WritesLines row_read row_line xs old new) (sym told) goes.lines;
+  whole = is ∙ goes.is_whole ∙ ap (list_all is_ok) (sym told);
+  rest = count;
+  more = more;
+}
 
 -- to the end of the list
 pub goes_over : (limit : ℕ) (rows rest : List (Result PointerRow Fault)) (left : ℕ) (whole : Bool) (old new : Option (List ℕ)) (t : Told)
@@ -75,12 +97,8 @@ goes_over limit rows rest left whole old new t goes none is =
     let all : rows ≡ goes.front = goes.are ∙ ap (λ back. goes.front ++ back) none ∙ append-nil goes.front in
     let many : length rows ≡ length goes.front = ap length all in
     let few : length rows ≤ limit = omega (arith, goes.count, many) in
-    let told : take limit rows ≡ goes.front = take_all limit rows few ∙ all in
-    record {
-      lines = rw is.1 (subst (λ (xs : List (Result PointerRow Fault)). WritesRowLines xs whole old new) (sym told) goes.lines);
-      rest = is.0 ∙ omega (arith, goes.count, many);
-      more = is.2 ∙ sym (le-ltb limit (length rows) few);
-    }
+    told_of limit rows rest left whole old new t goes (take_all limit rows few ∙ all) is.1 (is.0 ∙ omega (arith, goes.count, many))
+    (is.2 ∙ sym (le-ltb limit (length rows) few))
 
 -- to the limit, with an item behind it
 pub goes_cut : (limit : ℕ) (rows all : List (Result PointerRow Fault)) (left : ℕ) (whole : Bool) (old new : Option (List ℕ)) (t : Told)
@@ -93,11 +111,8 @@ goes_cut limit rows all left whole old new t item rest goes is none said =
     let front : length goes.front ≡ limit = omega (arith, goes.count, none) in
     let told : take limit rows ≡ goes.front =
     ap (λ xs. take limit xs) are ∙ take-append-le limit goes.front (item ∷ rest) (omega (arith, front)) ∙ take_all limit goes.front (omega (arith, front)) in
-    record {
-      lines = rw said.1 (subst (λ (xs : List (Result PointerRow Fault)). WritesRowLines xs whole old new) (sym told) goes.lines);
-      rest = said.0 ∙ omega (arith, many, front);
-      more = said.2 ∙ sym (lt-ltb limit (length rows) (omega (arith, many, front)));
-    }
+    told_of limit rows all left whole old new t goes told said.1 (said.0 ∙ omega (arith, many, front))
+    (said.2 ∙ sym (lt-ltb limit (length rows) (omega (arith, many, front))))
 
 -- ---- both lists of an image
 
@@ -106,23 +121,27 @@ pub told_both : (limit left : ℕ) (first second : List (Result PointerRow Fault
     → Appends after new (line_of_more limit more)
     → final ≡ ((one.whole && two.whole) && not more) → WritesTold limit left (first ++ second) final two.left old new
 told_both limit left first second one two more final old middle after new a b is line said =
-    let long : nat_lt left (length (first ++ second)) ≡ more =
+    let rows = first ++ second in
+    let long : nat_lt left (length rows) ≡ more =
     more_both left first second
     ∙ ap (λ (n : ℕ). nat_lt left (length first) || nat_lt n (length second)) (sym a.rest)
     ∙ ap (λ (x : Bool). x || nat_lt one.left (length second)) (sym a.more)
     ∙ ap (λ (y : Bool). one.more || y) (sym b.more) ∙ sym is in
-    let both = lines_both (take left first) (take one.left second) one.whole two.whole (one.whole && two.whole) old middle after a.lines b.lines refl in
-    let told : take left first ++ take one.left second ≡ take left (first ++ second) =
+    let told : take left first ++ take one.left second ≡ take left rows =
     ap (λ (n : ℕ). take left first ++ take n second) a.rest ∙ sym (take_both left first second) in
-    let lines = subst (λ (xs : List (Result PointerRow Fault)). WritesRowLines xs (one.whole && two.whole) old after) told both in
+    let lines =
+    subst (λ (xs : List (Result PointerRow Fault)). WritesLines row_read row_line xs old after) told
+    (lines_both row_read row_line (take left first) (take one.left second) old middle after a.lines b.lines) in
+    let whole : (one.whole && two.whole) ≡ list_all is_ok (take left rows) =
+    ap (λ (w : Bool). w && two.whole) a.whole ∙ ap (λ (w : Bool). list_all is_ok (take left first) && w) b.whole
+    ∙ sym (list_all-append is_ok (take left first) (take one.left second)) ∙ ap (list_all is_ok) told in
     record {
       text = lines.text ++ line_of_more limit more;
       lines = record {
         lines = lines.text;
-        is_read = one.whole && two.whole;
         are_lines = lines.lines;
         is_text = ap (λ (m : Bool). lines.text ++ line_of_more limit m) (sym long);
-        is_whole = said ∙ ap (λ (m : Bool). (one.whole && two.whole) && not m) (sym long);
+        is_whole = said ∙ ap (λ (w : Bool). w && not more) whole ∙ ap (λ (m : Bool). list_all is_ok (take left rows) && not m) (sym long);
         is_rest = omega (arith, a.rest, b.rest, length-append first second);
       };
       written = Appends-both old after new lines.text (line_of_more limit more) lines.written line;

@@ -4,12 +4,13 @@ use Rattle.std.specs.Prelude.{Ok, Err}
 use Rattle.std.specs.Prelude.{if◌then◌else◌}
 use Rattle.std.specs.Fmt.{digits, decimal, signed_decimal}
 use Rattle.std.specs.Io.KnownBytes.{Appends}
-use Rattle.std.specs.List.{flat_map, list_all}
+use Rattle.std.specs.List.{list_all}
 use Rattle.std.specs.Result.{is_ok}
 use Rattle.mach_base.specs.Fault.{Fault}
 use Rattle.mach_base.specs.Words.{words_of}
 use Rattle.mach_base.specs.declared.error.Error.{Error}
 use Rattle.mach_chained.specs.Pointers.{Auth}
+use Rattle.mach_show.specs.Lines.{AreLines, WritesLines}
 use Rattle.machfixups.specs.Rows.{PointerPlace, PointerBind, Action, binds, rebases, is_value, PointerRow, row_view, row_read}
 use Rattle.machfixups.specs.declared.print.Told.{Told}
 use Rattle.machfixups.specs.declared.row.Row as declared
@@ -72,20 +73,6 @@ abbrev pub row_line : Result declared.Row Error → List ℕ
 row_line (Ok r) = row_text (row_view r) ++ codes "\n"
 row_line (Err e) = codes "unreadable: " ++ words_of e ++ codes "\n"
 
--- The text is a line for each of these rows, in order; one that is missing is an error that reports its fault. It is
--- whole where none is missing.
-pub record AreRowLines (rows : List (Result PointerRow Fault)) (text : List ℕ) (whole : Bool) : Type 0 where
-  pub answers : List (Result declared.Row Error)
-  pub are_rows : map row_read answers ≡ rows
-  pub is_text : text ≡ flat_map row_line answers
-  pub is_whole : whole ≡ list_all is_ok rows
-
--- What was written is such lines.
-pub record WritesRowLines (rows : List (Result PointerRow Fault)) (whole : Bool) (old new : Option (List ℕ)) : Type 0 where
-  pub text : List ℕ
-  pub lines : AreRowLines rows text whole
-  pub written : Appends old new text
-
 -- ---- where there is a limit
 
 -- the line behind the last one that is told, where there are more
@@ -95,14 +82,14 @@ limit_line limit = codes "limit: " ++ (decimal limit ++ codes " of them are told
 abbrev pub line_of_more : ℕ → (more : Bool) → List ℕ
 line_of_more limit more = if more then limit_line limit else []
 
--- The text is the lines of the first of these rows, as many as are left of the limit, and behind them, exactly where there are more rows than
--- that, a line that says so. It is whole where there are no more, and none is missing. Each row told is one less that is left.
+-- The text is the lines of the first of these rows, as many as are left of the limit, in order; one that is missing is an error that reports its
+-- fault. Behind them stands, exactly where there are more rows than that, a line that says so. It is whole where there are no more, and none is
+-- missing. Each row told is one less that is left.
 pub record AreLinesTo (limit left : ℕ) (rows : List (Result PointerRow Fault)) (text : List ℕ) (whole : Bool) (rest : ℕ) : Type 0 where
   pub lines : List ℕ
-  pub is_read : Bool
-  pub are_lines : AreRowLines (take left rows) lines is_read
+  pub are_lines : AreLines row_read row_line (take left rows) lines
   pub is_text : text ≡ lines ++ line_of_more limit (nat_lt left (length rows))
-  pub is_whole : whole ≡ (is_read && not (nat_lt left (length rows)))
+  pub is_whole : whole ≡ (list_all is_ok (take left rows) && not (nat_lt left (length rows)))
   pub is_rest : rest ≡ left - length rows
 
 -- What was written is such lines.
@@ -113,6 +100,7 @@ pub record WritesTold (limit left : ℕ) (rows : List (Result PointerRow Fault))
 
 -- The lines of the first rows were written, no more than `left`, and this is what is known then.
 pub record WritesFirstRows (left : ℕ) (rows : List (Result PointerRow Fault)) (old new : Option (List ℕ)) (t : Told) : Type 0 where
-  pub lines : WritesRowLines (take left rows) t.whole old new
+  pub lines : WritesLines row_read row_line (take left rows) old new
+  pub whole : t.whole ≡ list_all is_ok (take left rows)
   pub rest : t.left ≡ left - length rows
   pub more : t.more ≡ nat_lt left (length rows)

@@ -1,10 +1,9 @@
 -- The lines that are printed of symbols, as `nm -a -p` prints them.
-use Rattle.std.specs.Prelude.{◌≡◌, ◌==◌, ℕ, ◌-◌, ◌^◌, List, [], ◌++◌, codes, map, Bool, true, false, ◌&&◌, Option, Some, None, option_map, Result, Ok, Err}
+use Rattle.std.specs.Prelude.{◌≡◌, ◌==◌, ℕ, ◌-◌, ◌^◌, List, [], ◌++◌, codes, Bool, true, false, ◌&&◌, Option, Some, None, option_map, Result, Ok, Err}
 use Rattle.std.specs.Prelude.{if◌then◌else◌}
 use Rattle.std.specs.Char.{encode_utf8}
 use Rattle.std.specs.Fmt.{decimal, digits, padded, padded_integral, format_spec}
 use Rattle.std.specs.Io.KnownBytes.{Appends}
-use Rattle.std.specs.List.{flat_map}
 use Rattle.std.specs.Borrow.{Bor}
 use Rattle.mach_base.specs.Fault.{Fault}
 use Rattle.mach_base.specs.declared.error.Error.{Error}
@@ -12,6 +11,7 @@ use Rattle.mach_symbols.specs.Symbols.{SymbolTable, begun_of, type_of, is_stab}
 use Rattle.mach_symbols.specs.SymbolViews.{symbol_read}
 use Rattle.mach_image.specs.Subjects.{symbols_in}
 use Rattle.mach_symbols.specs.declared.symbols.nlist.Nlist.{Nlist}
+use Rattle.mach_show.specs.Lines.{AreLines}
 use Rattle.machsyms.specs.Letters.{is_local, symbol_letter}
 use Rattle.machsyms.specs.Stabs.{stab_name}
 use Rattle.mach_base.specs.Words.{words_of}
@@ -63,16 +63,8 @@ symbol_line is_64 sections (Ok found) = symbol_text is_64 sections found.0.now f
 symbol_line is_64 sections (Err e) = codes "unreadable: " ++ words_of e ++ codes "\n"
 
 -- The text is a line for each of these symbols, in order; an unreadable one is an error that reports its fault.
-pub record AreSymbolLines (is_64 : Bool) (sections : List ℕ) (symbols : List (Result (List ℕ × Nlist) Fault)) (text : List ℕ) : Type 0 where
-  pub answers : List (Result (Bor (List ℕ) × Nlist) Error)
-  pub are_symbols : map symbol_read answers ≡ symbols
-  pub is_text : text ≡ flat_map (symbol_line is_64 sections) answers
-
--- What was written is such lines.
-pub record WritesSymbolLines (is_64 : Bool) (sections : List ℕ) (symbols : List (Result (List ℕ × Nlist) Fault)) (old new : Option (List ℕ)) : Type 0 where
-  pub text : List ℕ
-  pub lines : AreSymbolLines is_64 sections symbols text
-  pub written : Appends old new text
+abbrev pub AreSymbolLines : (is_64 : Bool) → List ℕ → List (Result (List ℕ × Nlist) Fault) → List ℕ → Type 0
+AreSymbolLines is_64 sections symbols text = AreLines symbol_read (symbol_line is_64 sections) symbols text
 
 -- how many symbols of a table have no byte of their record within the bytes
 abbrev pub past_the_end : Option SymbolTable → ℕ

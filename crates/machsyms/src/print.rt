@@ -3,10 +3,11 @@
 ghost use Rattle.std.specs.Prelude.{ℕ, List, Option, Some, IfOk, OnOk};
 ghost use Rattle.std.specs.Io.KnownBytes.{Appends};
 ghost use Rattle.mach_symbols.specs.Symbols.{SymbolTable, symbols_of};
-ghost use Rattle.mach_symbols.specs.SymbolViews.{table_of};
+ghost use Rattle.mach_symbols.specs.SymbolViews.{symbol_read, table_of};
 ghost use Rattle.mach_image.specs.Facts.{HasSymbolTable};
 ghost use Rattle.mach_image.specs.OpenImage.{IsImage};
-ghost use Rattle.machsyms.specs.Lines.{past_line, symbol_line, WritesSymbolLines, WritesTable};
+ghost use Rattle.mach_show.specs.Lines.{WritesLines};
+ghost use Rattle.machsyms.specs.Lines.{past_line, symbol_line, WritesTable};
 
 use crate::text::SymbolText;
 use goblin_mach::symbols::{Nlist, Symbols};
@@ -66,7 +67,8 @@ fn print_begun<O: Write>(
     table: &Symbols<'_>,
     out: &mut O,
 ) -> io::Result<()>
-    ensures { OnOk result (WritesSymbolLines is_64 sections.now (symbols_of (table_of table.now)) (O.contents out.old) (O.contents out.new)) }
+    ensures { OnOk result (WritesLines symbol_read (symbol_line is_64 sections.now) (symbols_of (table_of table.now)) (O.contents out.old)
+        (O.contents out.new)) }
 {
     'symbols: for symbol in table {
         print_symbol(is_64, sections, &symbol, out)?;
