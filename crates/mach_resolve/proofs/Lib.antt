@@ -12,3 +12,4 @@ pub mod Found
 pub mod Firsts
 pub mod Printed
 pub mod Reports
+pub mod Counts

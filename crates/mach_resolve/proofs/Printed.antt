@@ -31,14 +31,14 @@ said_push (x ∷ ns) n =
     ap (λ t. said_line (note_text x) ++ t) (said_push ns n) ∙ sym (append_assoc (said_line (note_text x)) (said_lines ns) (said_line (note_text n)))
 
 -- one more entry, behind the others
-pub entries_push : (k : ℕ) (os : List Outcome) (o : Outcome)
-    → entries_text k (os ++ o ∷ []) ≡ entries_text k os ++ (entry_heading (k + length os) ++ entry_text o)
-entries_push k [] o =
-    append-nil (entry_heading k ++ entry_text o) ∙ ap (λ (i : ℕ). entry_heading i ++ entry_text o) (omega arith)
-entries_push k (x ∷ os) o =
-    ap (λ t. entry_heading k ++ entry_text x ++ t)
-    (entries_push (k + 1) os o ∙ ap (λ (i : ℕ). entries_text (k + 1) os ++ (entry_heading i ++ entry_text o)) (omega arith))
-    ∙ sym (append_assoc (entry_heading k ++ entry_text x) (entries_text (k + 1) os) (entry_heading (k + length (x ∷ os)) ++ entry_text o))
+pub entries_push : (limit k : ℕ) (os : List Outcome) (o : Outcome)
+    → entries_text limit k (os ++ o ∷ []) ≡ entries_text limit k os ++ (entry_heading (k + length os) ++ entry_text limit o)
+entries_push limit k [] o =
+    append-nil (entry_heading k ++ entry_text limit o) ∙ ap (λ (i : ℕ). entry_heading i ++ entry_text limit o) (omega arith)
+entries_push limit k (x ∷ os) o =
+    ap (λ t. entry_heading k ++ entry_text limit x ++ t)
+    (entries_push limit (k + 1) os o ∙ ap (λ (i : ℕ). entries_text limit (k + 1) os ++ (entry_heading i ++ entry_text limit o)) (omega arith))
+    ∙ sym (append_assoc (entry_heading k ++ entry_text limit x) (entries_text limit (k + 1) os) (entry_heading (k + length (x ∷ os)) ++ entry_text limit o))
 
 -- where there is no text, nothing is written
 pub nothing_written : (known : Option (List ℕ)) (text : List ℕ) → text ≡ [] → Appends known known text

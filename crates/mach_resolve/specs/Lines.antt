@@ -1,5 +1,5 @@
 -- The lines that are printed, and what is said of libraries that do not count and of refused files.
-use Rattle.std.specs.Prelude.{◌==◌, ◌+◌, ℕ, Option, Some, None, Bool, true, false, List, [], ◌∷◌, ◌++◌, codes, if◌then◌else◌}
+use Rattle.std.specs.Prelude.{◌==◌, ◌+◌, ℕ, Bool, true, false, List, [], ◌∷◌, ◌++◌, codes, if◌then◌else◌}
 use Rattle.std.specs.Fmt.{digits, decimal}
 use Rattle.mach_base.specs.Words.{words_of}
 use Rattle.mach_base.specs.declared.error.Error.{Error}
@@ -58,14 +58,13 @@ abbrev pub lines_of : List Answer → List ℕ
 lines_of [] = []
 lines_of (a ∷ others) = answer_text a ++ codes "\n" ++ lines_of others
 
--- that there are more bindings than these
-abbrev pub cut_text : Option ℕ → List ℕ
-cut_text None = []
-cut_text (Some limit) = codes "limit: " ++ (decimal limit ++ codes " of them are told, and there are more\n")
+-- that there are more bindings than the limit, if there are
+abbrev pub more_text : ℕ → Bool → List ℕ
+more_text limit more = if more then codes "limit: " ++ (decimal limit ++ codes " of them are told, and there are more\n") else []
 
 -- the answers of a program, and behind them that there are more bindings, if there are
-abbrev pub resolved_text : List Answer → Option ℕ → List ℕ
-resolved_text answers cut = lines_of answers ++ cut_text cut
+abbrev pub resolved_text : ℕ → List Answer → Bool → List ℕ
+resolved_text limit answers more = lines_of answers ++ more_text limit more
 
 -- a file by its number
 abbrev pub file_text : ℕ → List ℕ
@@ -95,34 +94,34 @@ said_lines [] = []
 said_lines (n ∷ notes) = said_line (note_text n) ++ said_lines notes
 
 -- what is printed of an entry
-abbrev pub entry_text : Outcome → List ℕ
-entry_text (answered answers notes cut) = resolved_text answers cut
-entry_text archive = codes "archive\n"
-entry_text (refused file e) = codes "refused: " ++ refusal_text file e ++ codes "\n"
+abbrev pub entry_text : ℕ → Outcome → List ℕ
+entry_text limit (answered answers notes more) = resolved_text limit answers more
+entry_text limit archive = codes "archive\n"
+entry_text limit (refused file e) = codes "refused: " ++ refusal_text file e ++ codes "\n"
 
 -- the line under which entry i stands
 abbrev pub entry_heading : ℕ → List ℕ
 entry_heading i = codes "arch " ++ decimal i ++ codes "\n"
 
 -- entries from number i on, each under its line
-abbrev pub entries_text : ℕ → List Outcome → List ℕ
-entries_text i [] = []
-entries_text i (o ∷ others) = entry_heading i ++ entry_text o ++ entries_text (i + 1) others
+abbrev pub entries_text : ℕ → ℕ → List Outcome → List ℕ
+entries_text limit i [] = []
+entries_text limit i (o ∷ others) = entry_heading i ++ entry_text limit o ++ entries_text limit (i + 1) others
 
 -- what is printed of one program: where it is refused, nothing
-abbrev pub one_text : Outcome → List ℕ
-one_text (answered answers notes cut) = resolved_text answers cut
-one_text archive = codes "archive\n"
-one_text (refused file e) = []
+abbrev pub one_text : ℕ → Outcome → List ℕ
+one_text limit (answered answers notes more) = resolved_text limit answers more
+one_text limit archive = codes "archive\n"
+one_text limit (refused file e) = []
 
 -- what is printed of a program
-abbrev pub printed : Report → List ℕ
-printed (one o) = one_text o
-printed (entries outcomes) = entries_text 0 outcomes
-printed (nothing cputype) = []
+abbrev pub printed : ℕ → Report → List ℕ
+printed limit (one o) = one_text limit o
+printed limit (entries outcomes) = entries_text limit 0 outcomes
+printed limit (nothing cputype) = []
 
 abbrev pub notes_of : Outcome → List Note
-notes_of (answered answers notes cut) = notes
+notes_of (answered answers notes more) = notes
 notes_of archive = []
 notes_of (refused file e) = []
 
@@ -138,7 +137,7 @@ notes_in (nothing cputype) = []
 
 -- why nothing is printed of one program
 abbrev pub said_refusal : Outcome → List ℕ
-said_refusal (answered answers notes cut) = []
+said_refusal (answered answers notes more) = []
 said_refusal archive = []
 said_refusal (refused file e) = said_line (refusal_text file e)
 

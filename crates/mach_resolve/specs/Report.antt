@@ -1,6 +1,6 @@
 -- What is told of a program: of one image, or of each entry of a fat one.
-use Rattle.std.specs.Prelude.{◌≡◌, ◌≢◌, ◌&&◌, ℕ, not, is_some, Bool, true, false, List, Option, Some, None, Ok, Err}
-use Rattle.std.specs.List.{AllZip, list_all}
+use Rattle.std.specs.Prelude.{◌≡◌, ◌≢◌, ◌-◌, ◌&&◌, ℕ, not, length, sum_by, Bool, true, false, List, [], ◌∷◌, Option, Some, None, Ok, Err}
+use Rattle.std.specs.List.{list_all}
 use Rattle.mach_base.specs.Fault.{Fault}
 use Rattle.mach_base.specs.declared.error.Error.{Error}
 use Rattle.mach_headers.specs.declared.fat.FatArch.{FatArch}
@@ -15,17 +15,23 @@ use Rattle.mach_resolve.specs.Given.{GivenFile}
 use Rattle.mach_resolve.specs.Note.{Note}
 use Rattle.mach_resolve.specs.Resolved.{IsResolved, ResolveFault}
 
--- what is told of one program: its answers, with notes, and how many they are, where it has more bindings; that it is an archive; or why a file, by
--- its number, is refused
+-- what is told of one program: its answers, with notes, and whether it has more bindings; that it is an archive; or why a file, by its number, is
+-- refused
 pub data Outcome : Type 0 where
-  answered : (answers : List Answer) (notes : List Note) (cut : Option ℕ) → Outcome
+  answered : (answers : List Answer) (notes : List Note) (more : Bool) → Outcome
   archive : Outcome
   refused : (file : ℕ) → Error → Outcome
 
--- the outcome for an image
+-- how many bindings are answered
+abbrev pub answer_count : Outcome → ℕ
+answer_count (answered answers notes more) = length answers
+answer_count archive = 0
+answer_count (refused file e) = 0
+
+-- the outcome for an image, of which at most `limit` bindings are answered
 pub data IsOutcome (limit : ℕ) (program : GivenFile) (libraries : List GivenFile) : Outcome → Type 0 where
-  resolved : (answers : List Answer) (notes : List Note) (cut : Option ℕ) → IsResolved limit program libraries answers notes cut
-      → IsOutcome limit program libraries (answered answers notes cut)
+  resolved : (answers : List Answer) (notes : List Note) (more : Bool) → IsResolved limit program libraries answers notes more
+      → IsOutcome limit program libraries (answered answers notes more)
   fault : (file : ℕ) (e : Error) → Tells (ResolveFault limit program libraries file) e → IsOutcome limit program libraries (refused file e)
 
 -- the outcome for an entry of a fat program: an archive, by its first bytes, or an image
@@ -37,9 +43,13 @@ pub data IsEntryOutcome (limit : ℕ) (program : GivenFile) (libraries : List Gi
 abbrev pub entry_of_program : GivenFile → FatArch → GivenFile
 entry_of_program program arch = record { path = program.path; bytes = entry_bytes program.bytes arch }
 
--- one outcome for each record, in order
+-- one outcome for each record, in order, each within what those before it leave of `limit` bindings
 abbrev pub AreEntryOutcomes : ℕ → GivenFile → List GivenFile → List FatArch → List Outcome → Type 0
-AreEntryOutcomes limit program libraries arches outcomes = AllZip (λ arch o. IsEntryOutcome limit (entry_of_program program arch) libraries o) arches outcomes
+AreEntryOutcomes limit program libraries [] [] = Unit {0}
+AreEntryOutcomes limit program libraries [] (o ∷ outcomes) = ⊥
+AreEntryOutcomes limit program libraries (arch ∷ arches) [] = ⊥
+AreEntryOutcomes limit program libraries (arch ∷ arches) (o ∷ outcomes) =
+    IsEntryOutcome limit (entry_of_program program arch) libraries o × AreEntryOutcomes (limit - answer_count o) program libraries arches outcomes
 
 -- a fault stands where a program is opened as a whole: where the file is opened, or in the table of a fat one
 pub data ProgramFault (bytes : List ℕ) : Fault → Type 0 where
@@ -52,13 +62,20 @@ pub data Report : Type 0 where
   entries : List Outcome → Report
   nothing : (cputype : ℕ) → Report
 
+-- how many bindings are answered, of all images
+abbrev pub answers_in : Report → ℕ
+answers_in (one o) = answer_count o
+answers_in (entries outcomes) = sum_by answer_count outcomes
+answers_in (nothing cputype) = 0
+
 -- it is the one outcome of which this holds
 abbrev pub IsOneOf : (Outcome → Type 0) → Report → Type 0
 IsOneOf Holds (one o) = Holds o
 IsOneOf Holds (entries outcomes) = ⊥
 IsOneOf Holds (nothing cputype) = ⊥
 
--- What is told of a program, where all of it is asked for, or what it has for a cpu; of each image the first `limit` bindings are answered.
+-- What is told of a program, where all of it is asked for, or what it has for a cpu; of the bindings of its images, in order, the first `limit` are
+-- answered.
 pub data IsProgramReport (limit : ℕ) (program : GivenFile) (libraries : List GivenFile) : Option ℕ → Report → Type 0 where
   image : (cputype : ℕ) (o : Outcome) → IsOfCpu program.bytes cputype → IsOutcome limit program libraries o
       → IsProgramReport limit program libraries None (one o)
@@ -75,7 +92,7 @@ pub data IsProgramReport (limit : ℕ) (program : GivenFile) (libraries : List G
 
 -- whether all is answered and settled, and nothing is refused
 abbrev pub is_whole : Outcome → Bool
-is_whole (answered answers notes cut) = list_all is_settled answers && not (is_some cut)
+is_whole (answered answers notes more) = list_all is_settled answers && not more
 is_whole archive = true
 is_whole (refused file e) = false
 

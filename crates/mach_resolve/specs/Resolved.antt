@@ -1,5 +1,5 @@
 -- A program and its libraries, resolved.
-use Rattle.std.specs.Prelude.{◌≡◌, ◌<◌, ℕ, List, ◌∷◌, ◌++◌, map, take, length, nat_lt, unwrap_or, Option, Some, None, Result, Ok, Err, if◌then◌else◌}
+use Rattle.std.specs.Prelude.{◌≡◌, ◌<◌, ℕ, List, ◌∷◌, ◌++◌, map, take, length, nat_lt, unwrap_or, Bool, Result, Ok, Err}
 use Rattle.mach_base.specs.Context.{pointer_size}
 use Rattle.mach_base.specs.Fault.{Fault}
 use Rattle.mach_segments.specs.Bindings.{Binding}
@@ -17,10 +17,6 @@ use Rattle.mach_resolve.specs.Answers.{Program, Answer, AreAnswers}
 use Rattle.mach_resolve.specs.Given.{GivenFile, Gathered, GathersAll, GivenFault, may_be_absent}
 use Rattle.mach_resolve.specs.Note.{Note}
 
--- how many of some items are told, where there are more
-abbrev pub cut_at : {X : Type 0} → ℕ → List X → Option ℕ
-cut_at limit items = if nat_lt limit (length items) then Some limit else None
-
 -- The bytes are this program: they open; its name is its own, or its path; and this is all that dyld binds of it.
 pub record IsProgram (g : GivenFile) (p : Program) (items : List (Result Binding Fault)) : Type 0 where
   pub opens : Opens g.bytes 0
@@ -29,8 +25,8 @@ pub record IsProgram (g : GivenFile) (p : Program) (items : List (Result Binding
   pub bindings_are : HasBindings g.bytes 0 items
 
 -- These are the answers for the first `limit` bindings of a program, in order, among the program and some libraries, these are the
--- notes of libraries that do not count, and this is how many are answered, where there are more.
-pub record IsResolved (limit : ℕ) (program : GivenFile) (libraries : List GivenFile) (answers : List Answer) (notes : List Note) (cut : Option ℕ) : Type 0 where
+-- notes of libraries that do not count, and this is whether it has more bindings.
+pub record IsResolved (limit : ℕ) (program : GivenFile) (libraries : List GivenFile) (answers : List Answer) (notes : List Note) (more : Bool) : Type 0 where
   pub files : List File
   pub gathered : GathersAll program libraries (record { files = files; notes = notes })
   pub known : Program
@@ -39,7 +35,7 @@ pub record IsResolved (limit : ℕ) (program : GivenFile) (libraries : List Give
   pub bindings : List Binding
   pub are_first : take limit items ≡ map (λ b. Ok b) bindings
   pub are_answers : AreAnswers files known bindings answers
-  pub cut_is : cut ≡ cut_at limit items
+  pub more_is : more ≡ nat_lt limit (length items)
 
 -- why a program is refused: a fault of its bindings is one of the first `limit`
 pub data ResolveFault (limit : ℕ) (program : GivenFile) (libraries : List GivenFile) : ℕ → Fault → Type 0 where
@@ -55,12 +51,12 @@ abbrev pub HoldsItems : {A : Type 0} → MachO A → List (Result Binding Fault)
 HoldsItems m items =
     AreImageBindings (binds_held m) (chained_held m) (pointer_size (ctx_held m).container) (texts m.libs.items) (segments_held m) items
 
--- These are its first `limit` bindings, and this is how many, where there are more.
-pub record HoldsFirst {A : Type 0} (limit : ℕ) (m : MachO A) (bindings : List Binding) (cut : Option ℕ) : Type 0 where
+-- These are its first `limit` bindings, and this is whether it has more.
+pub record HoldsFirst {A : Type 0} (limit : ℕ) (m : MachO A) (bindings : List Binding) (more : Bool) : Type 0 where
   pub items : List (Result Binding Fault)
   pub holds : HoldsItems m items
   pub are_first : take limit items ≡ map (λ b. Ok b) bindings
-  pub cut_is : cut ≡ cut_at limit items
+  pub more_is : more ≡ nat_lt limit (length items)
 
 -- a fault stands in one of its first `limit` bindings, or in the trie of a file
 pub data AnswerFault {A : Type 0} (limit : ℕ) (files : List File) (m : MachO A) : ℕ → Fault → Type 0 where

@@ -111,7 +111,7 @@ abbrev pub gathered_seen : {A : Type 0} → Gathered A → gathered.Gathered
 gathered_seen g = record { files = files_seen g.files; notes = map note_seen g.notes.items }
 
 abbrev pub outcome_seen : {A : Type 0} → Outcome A → report.Outcome
-outcome_seen (Answered resolved) = report.answered (map answer_seen resolved.answers.items) (map note_seen resolved.notes.items) resolved.cut
+outcome_seen (Answered resolved) = report.answered (map answer_seen resolved.answers.items) (map note_seen resolved.notes.items) resolved.more
 outcome_seen Archive = report.archive
 outcome_seen (Refused file e) = report.refused file e
 

@@ -1,11 +1,12 @@
 //! What is told of a program: of one image, or of each entry of a fat one.
 
-ghost use Rattle.std.specs.Prelude.{◌≡◌, map, Some, None, IfOk, IfErr};
+ghost use Rattle.std.specs.Prelude.{◌≡◌, ◌≤◌, map, Some, None, IfOk, IfErr};
 ghost use Rattle.std.specs.List.{list_all};
 ghost use Rattle.goblin_mach.specs.File.{IsFatMach};
 ghost use Rattle.mach_resolve.specs.Cpu.{IsOfCpu};
 ghost use Rattle.mach_resolve.specs.Opened.{given_seen};
-ghost use Rattle.mach_resolve.specs.Report.{entry_of_program, IsOneOf, IsOutcome, IsEntryOutcome, AreEntryOutcomes, IsProgramReport, is_whole, all_whole};
+ghost use Rattle.mach_resolve.specs.Report.{entry_of_program, IsOneOf, IsOutcome, IsEntryOutcome, AreEntryOutcomes, IsProgramReport, answer_count};
+ghost use Rattle.mach_resolve.specs.Report.{answers_in, is_whole, all_whole};
 ghost use Rattle.mach_resolve.specs.Seen.{outcome_seen, report_seen, IsOutcomeOfFailure};
 ghost use Rattle.mach_resolve.specs.declared.failure.Failure.TheVariants as failures;
 
@@ -45,11 +46,19 @@ impl<'a, A: Allocator> Outcome<'a, A> {
         ensures { result ≡ is_whole (outcome_seen self.now) }
     {
         match self {
-            Outcome::Answered(resolved) => {
-                all_settled(&resolved.answers) && resolved.cut.is_none()
-            }
+            Outcome::Answered(resolved) => { all_settled(&resolved.answers) && !resolved.more }
             Outcome::Archive => true,
             Outcome::Refused { .. } => false,
+        }
+    }
+
+    // How many bindings are answered.
+    fn answer_count(&self) -> usize
+        ensures { result ≡ answer_count (outcome_seen self.now) }
+    {
+        match self {
+            Outcome::Answered(resolved) => resolved.answers.len(),
+            Outcome::Archive | Outcome::Refused { .. } => 0,
         }
     }
 }
@@ -125,7 +134,8 @@ fn entry_outcome<'a, A: Allocator + Copy>(
     }
 }
 
-// The outcomes for the entries of a fat program, by their records, in order.
+// The outcomes for the entries of a fat program, by their records, in order, each within what those before it leave of
+// `limit` bindings.
 fn entry_outcomes<'a, A: Allocator + Copy>(
     alloc: A,
     limit: usize,
@@ -137,9 +147,13 @@ fn entry_outcomes<'a, A: Allocator + Copy>(
     ensures memory { IfErr result (λ failure. failure ≡ failures.Memory) }
 {
     let mut outcomes = Vec::new(alloc);
+    let mut left = limit;
     'arches: for arch in arches {
-        match entry_outcome(alloc, limit, program, arch, libraries) {
-            Ok(outcome) => outcomes.push(outcome)?,
+        match entry_outcome(alloc, left, program, arch, libraries) {
+            Ok(outcome) => {
+                left -= outcome.answer_count();
+                outcomes.push(outcome)?;
+            }
             Err(failure) => return Err(failure),
         }
     }
@@ -232,7 +246,8 @@ fn report_image<'a, A: Allocator + Copy>(
     }
 }
 
-/// What is told of a program: of all of it, or of what it has for a cpu that is wanted. Only memory can be wanting.
+/// What is told of a program: of all of it, or of what it has for a cpu that is wanted. Of the bindings of its images, in
+/// order, the first `limit` are answered. Only memory can be wanting.
 pub fn report_on<'a, A: Allocator + Copy>(
     alloc: A,
     wanted: Option<u32>,
@@ -241,6 +256,7 @@ pub fn report_on<'a, A: Allocator + Copy>(
     libraries: &[Given<'a>],
 ) -> Result<Report<'a, A>, Failure>
     ensures told { IfOk result (λ r. IsProgramReport limit (given_seen program.entry) (map given_seen libraries.now) wanted (report_seen r)) }
+    ensures few { IfOk result (λ r. answers_in (report_seen r) ≤ limit) }
     ensures memory { IfErr result (λ failure. failure ≡ failures.Memory) }
 {
     match Mach::parse(alloc, program.bytes) {

@@ -19,7 +19,7 @@ use crate::note::Note;
 use goblin_mach::{MachO, laws};
 use std::alloc::Allocator;
 
-// An answer for each of the first `limit` bindings of an image, in order; and the limit, where there are more.
+// An answer for each of the first `limit` bindings of an image, in order; and whether there are more.
 fn answer_all<'a, A: Allocator + Copy>(
     alloc: A,
     limit: usize,
@@ -27,7 +27,7 @@ fn answer_all<'a, A: Allocator + Copy>(
     all: &[usize],
     program: &Program<'a, A>,
     image: &MachO<'a, A>,
-) -> Result<(Vec<Answer<'a>, A>, Option<usize>), Failure>
+) -> Result<(Vec<Answer<'a>, A>, bool), Failure>
     ensures answered { (met : Met) → IsBehindAll (files_seen files.now) met → met.places ≡ all.now
         → IfOk result (λ v. (bindings : List Binding) × HoldsFirst limit image.now bindings v.1
         × AreAnswers (files_seen files.now) (program_seen program.now) bindings (map answer_seen v.0.items)) }
@@ -36,7 +36,7 @@ fn answer_all<'a, A: Allocator + Copy>(
     let mut answers = Vec::new(alloc);
     'bindings: for item in image.bindings() {
         if answers.len() >= limit {
-            return Ok((answers, Some(limit)));
+            return Ok((answers, true));
         }
         match item {
             Ok(binding) => match answer_for(alloc, files, all, program, binding) {
@@ -46,7 +46,7 @@ fn answer_all<'a, A: Allocator + Copy>(
             Err(error) => return Err(Failure::refused(0, error)),
         }
     }
-    Ok((answers, None))
+    Ok((answers, false))
 }
 
 /// A program, resolved.
@@ -54,8 +54,8 @@ fn answer_all<'a, A: Allocator + Copy>(
 pub struct Resolved<'a, A: Allocator> {
     /// The answers for its bindings, in order.
     pub answers: Vec<Answer<'a>, A>,
-    /// How many bindings are answered, where there are more.
-    pub cut: Option<usize>,
+    /// Whether it has more bindings.
+    pub more: bool,
     /// Notes of the libraries that count for nothing.
     pub notes: Vec<Note<'a>, A>,
 }
@@ -71,7 +71,7 @@ pub fn resolve<'a, A: Allocator + Copy>(
 ) -> Result<Resolved<'a, A>, Failure>
     ensures resolved { IfOk result
         (λ r. IsResolved limit (given_seen program.entry) (map given_seen libraries.now) (map answer_seen r.answers.items)
-        (map note_seen r.notes.items) r.cut) }
+        (map note_seen r.notes.items) r.more) }
     ensures refused { IfErr result (IsFailure (ResolveFault limit (given_seen program.entry) (map given_seen libraries.now))) }
 {
     let image = match MachO::parse(alloc, program.bytes, 0) {
@@ -92,9 +92,9 @@ pub fn resolve<'a, A: Allocator + Copy>(
     laws::libraries_by_kind_of_image(&image);
     laws::bindings_of_image(&image);
     match answer_all(alloc, limit, &files, all.places.as_slice(), &known, &image) {
-        Ok((answers, cut)) => Ok(Resolved {
+        Ok((answers, more)) => Ok(Resolved {
             answers,
-            cut,
+            more,
             notes,
         }),
         Err(failure) => Err(failure),

@@ -3,7 +3,7 @@
 ghost use Rattle.std.specs.Prelude.{◌≡◌, ◌≢◌, ◌≤◌, ◌⊎◌, ◌++◌, [], map, codes, IfOk, OnOk};
 ghost use Rattle.std.specs.Io.Buffered.{writer_buffer, writer_contents};
 ghost use Rattle.std.specs.Io.KnownBytes.{Appends};
-ghost use Rattle.mach_resolve.specs.Lines.{lines_of, cut_text, resolved_text, entry_text, entry_heading, entries_text, one_text, printed, notes_in};
+ghost use Rattle.mach_resolve.specs.Lines.{lines_of, more_text, resolved_text, entry_text, entry_heading, entries_text, one_text, printed, notes_in};
 ghost use Rattle.mach_resolve.specs.Lines.{all_notes, said_refusal, said_first, said_lines, said_of_report, notes_of};
 ghost use Rattle.mach_resolve.specs.Note.{all_noted};
 ghost use Rattle.mach_resolve.specs.Opened.{given_seen};
@@ -22,8 +22,8 @@ use std::alloc::{AllocFailed, Allocator};
 use std::io;
 use std::io::{BufWriter, Write};
 
-/// Resolves a program, or what it has for a cpu that is wanted, of each image at most `limit` bindings, and answers the
-/// exit status: 0 where each binding is settled; 1 where one is not, or an image has more, or a file is refused; 2 for
+/// Resolves a program, or what it has for a cpu that is wanted, of all its images together the first `limit` bindings, and
+/// answers the exit status: 0 where each binding is settled; 1 where one is not, or there are more, or a file is refused; 2 for
 /// want of memory, and where a write fails. But for that nothing is left in the buffer. The lines of one image are written
 /// whole or not at all. Notes, and why nothing is printed, go to `err`.
 pub fn run<'a, A: Allocator + Copy, W: Write + Drop, B: Allocator, E: Write>(
@@ -72,73 +72,91 @@ fn tell<'a, A: Allocator + Copy, W: Write + Drop, B: Allocator, E: Write>(
         Err(failure) => return Err(failure),
     };
     let notes = notes_in(alloc, &report)?;
-    print_report(&report, out)?;
+    print_report(limit, &report, out)?;
     say(&report, &notes, err)?;
     Ok(report.is_whole())
 }
 
 // Prints what is told of a program, and sees to it that it is written.
 fn print_report<A: Allocator, W: Write + Drop, B: Allocator>(
+    limit: usize,
     report: &Report<'_, A>,
     out: &mut BufWriter<W, B>,
 ) -> io::Result<()>
-    ensures printed { OnOk result (Appends (writer_contents W.contents out.old) (writer_contents W.contents out.new) (printed (report_seen report.now))) }
+    ensures printed { OnOk result (Appends (writer_contents W.contents out.old) (writer_contents W.contents out.new) (printed limit (report_seen report.now))) }
     ensures flushed { OnOk result (writer_buffer out.new ≡ []) }
 {
-    print_whole(report, out)?;
+    print_whole(limit, report, out)?;
     out.flush()
 }
 
 // Prints what is told of a program.
-fn print_whole<A: Allocator, O: Write>(report: &Report<'_, A>, out: &mut O) -> io::Result<()>
-    ensures { OnOk result (Appends (O.contents out.old) (O.contents out.new) (printed (report_seen report.now))) }
+fn print_whole<A: Allocator, O: Write>(
+    limit: usize,
+    report: &Report<'_, A>,
+    out: &mut O,
+) -> io::Result<()>
+    ensures { OnOk result (Appends (O.contents out.old) (O.contents out.new) (printed limit (report_seen report.now))) }
 {
     match report {
-        Report::One(outcome) => print_one(outcome, out),
-        Report::Entries(outcomes) => print_entries(outcomes, out),
+        Report::One(outcome) => print_one(limit, outcome, out),
+        Report::Entries(outcomes) => print_entries(limit, outcomes, out),
         Report::Nothing(_) => Ok(()),
     }
 }
 
 // Prints what is told of one program: where it is refused, nothing.
-fn print_one<A: Allocator, O: Write>(outcome: &Outcome<'_, A>, out: &mut O) -> io::Result<()>
-    ensures { OnOk result (Appends (O.contents out.old) (O.contents out.new) (one_text (outcome_seen outcome.now))) }
+fn print_one<A: Allocator, O: Write>(
+    limit: usize,
+    outcome: &Outcome<'_, A>,
+    out: &mut O,
+) -> io::Result<()>
+    ensures { OnOk result (Appends (O.contents out.old) (O.contents out.new) (one_text limit (outcome_seen outcome.now))) }
 {
     match outcome {
-        Outcome::Answered(resolved) => print_resolved(resolved, out),
+        Outcome::Answered(resolved) => print_resolved(limit, resolved, out),
         Outcome::Archive => writeln!(out, "archive"),
         Outcome::Refused { .. } => Ok(()),
     }
 }
 
 // Prints what is told of the entries of a fat program, each under its line.
-fn print_entries<A: Allocator, O: Write>(outcomes: &[Outcome<'_, A>], out: &mut O) -> io::Result<()>
-    ensures { OnOk result (Appends (O.contents out.old) (O.contents out.new) (entries_text 0 (map outcome_seen outcomes.now))) }
+fn print_entries<A: Allocator, O: Write>(
+    limit: usize,
+    outcomes: &[Outcome<'_, A>],
+    out: &mut O,
+) -> io::Result<()>
+    ensures { OnOk result (Appends (O.contents out.old) (O.contents out.new) (entries_text limit 0 (map outcome_seen outcomes.now))) }
 {
     'outcomes: for (index, outcome) in outcomes.iter().enumerate() {
-        print_entry(index, outcome, out)?;
+        print_entry(limit, index, outcome, out)?;
     }
     Ok(())
 }
 
 // Prints what is told of an entry, under its line.
 fn print_entry<A: Allocator, O: Write>(
+    limit: usize,
     index: usize,
     outcome: &Outcome<'_, A>,
     out: &mut O,
 ) -> io::Result<()>
-    ensures { OnOk result (Appends (O.contents out.old) (O.contents out.new) (entry_heading index ++ entry_text (outcome_seen outcome.now))) }
+    ensures { OnOk result (Appends (O.contents out.old) (O.contents out.new) (entry_heading index ++ entry_text limit (outcome_seen outcome.now))) }
 {
     writeln!(out, "arch {index}")?;
-    print_outcome(outcome, out)
+    print_outcome(limit, outcome, out)
 }
 
 // Prints what is told of one program.
-fn print_outcome<A: Allocator, O: Write>(outcome: &Outcome<'_, A>, out: &mut O) -> io::Result<()>
-    ensures { OnOk result (Appends (O.contents out.old) (O.contents out.new) (entry_text (outcome_seen outcome.now))) }
+fn print_outcome<A: Allocator, O: Write>(
+    limit: usize,
+    outcome: &Outcome<'_, A>,
+    out: &mut O,
+) -> io::Result<()>
+    ensures { OnOk result (Appends (O.contents out.old) (O.contents out.new) (entry_text limit (outcome_seen outcome.now))) }
 {
     match outcome {
-        Outcome::Answered(resolved) => print_resolved(resolved, out),
+        Outcome::Answered(resolved) => print_resolved(limit, resolved, out),
         Outcome::Archive => writeln!(out, "archive"),
         Outcome::Refused { file, error } => {
             let refusal = RefusalText { file: *file, error };
@@ -148,20 +166,26 @@ fn print_outcome<A: Allocator, O: Write>(outcome: &Outcome<'_, A>, out: &mut O) 
 }
 
 // Prints a line for each answer, in order, and behind them that there are more bindings, if there are.
-fn print_resolved<A: Allocator, O: Write>(resolved: &Resolved<'_, A>, out: &mut O) -> io::Result<()>
-    ensures { OnOk result (Appends (O.contents out.old) (O.contents out.new) (resolved_text (map answer_seen resolved.now.answers.items) resolved.now.cut)) }
+fn print_resolved<A: Allocator, O: Write>(
+    limit: usize,
+    resolved: &Resolved<'_, A>,
+    out: &mut O,
+) -> io::Result<()>
+    ensures { OnOk result (Appends (O.contents out.old) (O.contents out.new)
+        (resolved_text limit (map answer_seen resolved.now.answers.items) resolved.now.more)) }
 {
     print_answers(&resolved.answers, out)?;
-    print_cut(resolved.cut, out)
+    print_more(limit, resolved.more, out)
 }
 
-// Prints that there are more bindings than were answered, if there are.
-fn print_cut<O: Write>(cut: Option<usize>, out: &mut O) -> io::Result<()>
-    ensures { OnOk result (Appends (O.contents out.old) (O.contents out.new) (cut_text cut)) }
+// Prints that there are more bindings than the limit, if there are.
+fn print_more<O: Write>(limit: usize, more: bool, out: &mut O) -> io::Result<()>
+    ensures { OnOk result (Appends (O.contents out.old) (O.contents out.new) (more_text limit more)) }
 {
-    match cut {
-        Some(limit) => writeln!(out, "limit: {limit} of them are told, and there are more"),
-        None => Ok(()),
+    if more {
+        writeln!(out, "limit: {limit} of them are told, and there are more")
+    } else {
+        Ok(())
     }
 }
 

@@ -13,7 +13,7 @@ pub struct Asked<'b> {
     pub libraries: &'b [String],
 }
 
-/// So many bindings of one image are answered where no other limit is given.
+/// So many bindings are answered where no other limit is given.
 pub const DEFAULT_LIMIT: usize = 10_000_000;
 
 /// What some words ask for, if they do: options, then a program, then libraries. The options are `--cputype` and a cpu,

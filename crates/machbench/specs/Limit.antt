@@ -17,6 +17,19 @@ ends_at_limit calls.Symbols = true
 ends_at_limit calls.Relocations = true
 ends_at_limit calls.LinkView = false
 
+-- a call that lists the imports of all images
+abbrev pub lists_imports : Call → Bool
+lists_imports calls.Parse = false
+lists_imports calls.Exports = false
+lists_imports calls.FindExport = false
+lists_imports calls.Imports = true
+lists_imports calls.ImportsOneByOne = false
+lists_imports calls.Bindings = false
+lists_imports calls.Fixups = false
+lists_imports calls.Symbols = false
+lists_imports calls.Relocations = false
+lists_imports calls.LinkView = true
+
 -- the items that were counted, and those that may be gone over yet, are within a limit
 abbrev pub IsWithin : ℕ → Work → Type 0
 IsWithin limit work = work.items + work.left ≤ limit

@@ -1,7 +1,8 @@
 //! The calls that are timed, and what a run of each is.
 
-ghost use Rattle.std.specs.Prelude.{◌≡◌, ◌≤◌, ◌+◌, ◌-◌, ◌%◌, ◌^◌, false, true, length, ℕ, OnOk, IfOk, List, Result};
-ghost use Rattle.machbench.specs.Limit.{ends_at_limit, IsWithin};
+ghost use Rattle.std.specs.Prelude.{◌≡◌, ◌≤◌, ◌+◌, ◌-◌, ◌%◌, ◌^◌, false, true, length, ℕ, OnOk, IfOk, List, Result, Ok};
+ghost use Rattle.machbench.specs.Imports.{HasImportCount, HaveImportCount, Counts};
+ghost use Rattle.machbench.specs.Limit.{ends_at_limit, lists_imports, IsWithin};
 ghost use Rattle.mach_base.specs.Fault.{Fault};
 ghost use Rattle.goblin_mach.specs.FatEntry.{FatEntry};
 ghost use Rattle.goblin_mach.specs.View.{HasEntries};
@@ -66,6 +67,13 @@ impl Call {
             Call::Relocations => "relocations",
             Call::LinkView => "link_view",
         }
+    }
+
+    // Whether the call lists the imports of all images.
+    fn lists_imports(self) -> bool
+        ensures { result ≡ lists_imports self }
+    {
+        matches!(self, Call::Imports | Call::LinkView)
     }
 }
 
@@ -202,9 +210,11 @@ fn exports_of<'a, A: Allocator + Clone>(
 }
 
 // Counts the imports of all images, up to the limit.
-fn count_imports<A: Allocator>(limit: usize, images: &[MachO<'_, A>]) -> Work {
+fn count_imports<A: Allocator>(limit: usize, images: &[MachO<'_, A>]) -> Work
+    ensures { (count : ℕ) × HaveImportCount images.now count × Counts limit count result }
+{
     let mut work = Work::new(limit);
-    for image in images {
+    'images: for image in images {
         work.count_imports(image);
     }
     work
@@ -217,6 +227,7 @@ impl<'a, A: Allocator + Clone> Subject<'a, A> {
     pub fn open(alloc: A, limit: usize, bytes: &'a [u8]) -> Result<Subject<'a, A>>
         ensures opens { OnOk result ((entries : List (Result FatEntry Fault)) × HasEntries bytes.now entries) }
         ensures limit { IfOk result (λ subject. subject.limit ≡ limit) }
+        ensures counted { IfOk result (λ subject. (count : ℕ) × HaveImportCount subject.images.items count × Counts limit count subject.imports) }
     {
         let images = images_of(alloc.clone()?, bytes)?;
         let exports = exports_of(alloc.clone()?, &images)?;
@@ -231,14 +242,18 @@ impl<'a, A: Allocator + Clone> Subject<'a, A> {
         })
     }
 
-    /// Runs a call once. One that lists imports is not run where there are more than may be gone over.
+    /// Runs a call once. One that lists imports is not run where there are more than may be gone over: the answer is then
+    /// what was counted of them.
     pub fn run(&self, call: Call) -> Result<Work>
         ensures few { ends_at_limit call ≡ true → IfOk result (λ work. work.items ≤ self.now.limit) }
+        ensures unlisted { lists_imports call ≡ true → self.now.imports.more ≡ true → result ≡ Ok self.now.imports }
     {
+        if self.imports.more && call.lists_imports() {
+            return Ok(self.imports);
+        }
         match call {
             Call::Parse => self.parse(),
             Call::FindExport => self.find_exports(),
-            Call::Imports | Call::LinkView if self.imports.more => Ok(self.imports),
             Call::LinkView => self.link_view(),
             _ => self.each_image(call),
         }
@@ -330,8 +345,10 @@ impl Work {
     }
 
     // Counts the imports of an image, up to the limit.
-    fn count_imports<A: Allocator>(&mut self, image: &MachO<'_, A>) {
-        for _ in image.iter_imports() {
+    fn count_imports<A: Allocator>(&mut self, image: &MachO<'_, A>)
+        ensures { (count : ℕ) × HasImportCount image.now count × ((limit before : ℕ) → Counts limit before self.old → Counts limit (before + count) self.new) }
+    {
+        'imports: for _ in image.iter_imports() {
             if !self.takes() {
                 return;
             }

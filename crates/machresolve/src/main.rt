@@ -2,7 +2,8 @@
 //! its opcodes, and for those of its chains. Of a fat program it says so for each entry, or for the first of the cpu
 //! that is wanted; a fat library stands for its first entry of the program's cpu. A library is known by its own name
 //! (LC_ID_DYLIB), or by its path where it has none; the first of several of one name counts. Names are compared as texts.
-//! Of each image at most as many bindings are answered as `--limit` says; where it has more, a line says so.
+//! Of all images of the program together at most as many bindings are answered as `--limit` says; of an image that has
+//! more than what is left, a line says so.
 #![tactic(auto)]
 
 use mach_resolve::reading::{out_of_memory, read};

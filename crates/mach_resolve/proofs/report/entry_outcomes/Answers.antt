@@ -1,20 +1,39 @@
-use Rattle.std.proofs.Common.{◌∙◌, ◌+◌, ◌++◌, ◌∷◌, [], map, take, sym, ap, subst}
+use Rattle.std.proofs.Common.{◌≡◌, ◌∙◌, ◌+◌, ◌-◌, ◌++◌, ◌∷◌, [], ℕ, map, take, get_or, sym, ap, subst, arith}
+use Rattle.std.specs.Prelude.{sum_by}
 use Rattle.std.proofs.lemmas.List.{map_push, take_more}
+use Rattle.std.proofs.lemmas.List.Sums.{sum_by_push}
 use Rattle.mach_resolve.specs.Opened.{given_seen}
-use Rattle.mach_resolve.specs.Report.{entry_of_program, IsEntryOutcome, AreEntryOutcomes}
+use Rattle.mach_resolve.specs.Report.{answer_count, entry_of_program, IsEntryOutcome, AreEntryOutcomes}
 use Rattle.mach_resolve.specs.Seen.{outcome_seen}
-use Rattle.mach_resolve.proofs.Found.{all_zip_push}
+use Rattle.mach_resolve.proofs.Counts.{entry_few, outcomes_push}
 use Rattle.mach_resolve.proofs.report.entry_outcomes.Goals as goal
+
+pub overflow_sub-left : goal.overflow_sub-left
+overflow_sub-left g c =
+    let p = given_seen c.args.program in
+    let ls = map given_seen c.args.libraries.now in
+    let o = outcome_seen c.in-Ok.outcome in
+    omega (
+      arith,
+      entry_few c.arches.left (entry_of_program p (get_or c.args.arches.now c.arches.arch-index _)) ls o c.in-Ok.ensures.told,
+      c.answer_count-left.ensures,
+    )
 
 pub arches-preserved : goal.arches-preserved
 arches-preserved g c =
+    let limit = c.args.limit in
     let p = given_seen c.args.program in
     let ls = map given_seen c.args.libraries.now in
     let arches = c.args.arches.now in
     let i = c.arches.arch-index in
-    let os = c.arches.outcomes.items in
-    let o = c.in-Ok.outcome in
-    subst (AreEntryOutcomes c.args.limit p ls (take (i + 1) arches)) (sym (ap (map outcome_seen) c.in_ok-push-in-Ok.ensures.items ∙ map_push outcome_seen os o))
-    (subst (λ xs. AreEntryOutcomes c.args.limit p ls xs (map outcome_seen os ++ outcome_seen o ∷ [])) (sym (take_more arches i _ c.arches-test.true))
-    (all_zip_push (λ arch x. IsEntryOutcome c.args.limit (entry_of_program p arch) ls x) (take i arches) (map outcome_seen os) _
-    (outcome_seen o) c.arches.invariant c.in-Ok.ensures.told))
+    let os = map outcome_seen c.arches.outcomes.items in
+    let o = outcome_seen c.in-Ok.outcome in
+    let before = c.arches.invariant in
+    let all = ap (map outcome_seen) c.in_ok-push-in-Ok.ensures.items ∙ map_push outcome_seen c.arches.outcomes.items c.in-Ok.outcome in
+    let is = subst (λ (n : ℕ). IsEntryOutcome n (entry_of_program p (get_or arches i _)) ls o) before.1 c.in-Ok.ensures.told in
+    let more : sum_by answer_count (os ++ o ∷ []) ≡ sum_by answer_count os + answer_count o = sum_by_push answer_count os o in (
+      subst (AreEntryOutcomes limit p ls (take (i + 1) arches)) (sym all)
+          (subst (λ xs. AreEntryOutcomes limit p ls xs (os ++ o ∷ [])) (sym (take_more arches i _ c.arches-test.true))
+          (outcomes_push limit p ls (take i arches) os _ o before.0 is)),
+      omega (arith, before.1, c.answer_count-left.ensures, more, ap (sum_by answer_count) all),
+    )

@@ -55,7 +55,7 @@ returns-in-Ok-answer_all-clause-resolved g c =
       bindings = answered.0;
       are_first = first.are_first;
       are_answers = answered.2;
-      cut_is = first.cut_is;
+      more_is = first.more_is;
     }
 
 pub returns-clause-refused : goal.returns-clause-refused

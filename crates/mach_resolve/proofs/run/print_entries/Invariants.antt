@@ -6,4 +6,4 @@ use Rattle.mach_resolve.proofs.run.print_entries.Given as goal
 
 abbrev pub invariant-outcomes : goal.invariant-outcomes
 invariant-outcomes g l =
-    Appends (g.O.Write.contents l.fn.out) (g.O.Write.contents l.out) (entries_text 0 (map outcome_seen (take l.index l.outcomes)))
+    Appends (g.O.Write.contents l.fn.out) (g.O.Write.contents l.out) (entries_text l.limit 0 (map outcome_seen (take l.index l.outcomes)))

@@ -5,4 +5,4 @@ use Rattle.mach_resolve.proofs.Printed.{nothing_written}
 use Rattle.mach_resolve.proofs.run.print_one.Goals as goal
 
 pub returns-in-Refused : goal.returns-in-Refused
-returns-in-Refused g c = nothing_written (g.O.Write.contents c.args.out.now) _ (ap (λ x. one_text (outcome_seen x)) c.in-Refused.is)
+returns-in-Refused g c = nothing_written (g.O.Write.contents c.args.out.now) _ (ap (λ x. one_text c.args.limit (outcome_seen x)) c.in-Refused.is)

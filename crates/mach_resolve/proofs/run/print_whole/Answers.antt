@@ -5,4 +5,4 @@ use Rattle.mach_resolve.proofs.Printed.{nothing_written}
 use Rattle.mach_resolve.proofs.run.print_whole.Goals as goal
 
 pub returns-in-Nothing : goal.returns-in-Nothing
-returns-in-Nothing g c = nothing_written (g.O.Write.contents c.args.out.now) _ (ap (λ x. printed (report_seen x)) c.in-Nothing.is)
+returns-in-Nothing g c = nothing_written (g.O.Write.contents c.args.out.now) _ (ap (λ x. printed c.args.limit (report_seen x)) c.in-Nothing.is)
