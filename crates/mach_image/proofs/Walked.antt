@@ -4,14 +4,14 @@ use Rattle.mach_base.specs.Fault.{Fault}
 use Rattle.mach_tries.specs.Trie.{Entry}
 use Rattle.mach_tries.specs.Lists.{Lists, nothing, a_node}
 use Rattle.mach_tries.specs.TrieFault.{TrieFault, at_node, met_again}
-use Rattle.mach_tries.specs.TrieRange.{TrieRange, empty_range, trie_there, ListsExports, ExportsFault}
+use Rattle.mach_tries.specs.TrieRange.{TrieRange, empty_range, trie_there, ListsExports, ExportsFault, ExportsEnd}
 use Rattle.mach_base.specs.Text.{texts}
-use Rattle.mach_image.specs.Facts.{HasExports, HasExportsFault}
+use Rattle.mach_image.specs.Facts.{HasExports, HasExportsFault, HasExportsEnd}
 use Rattle.mach_image.specs.Modes.{InBothModes}
 use Rattle.mach_image.specs.OpenImage.{trie_held}
 use Rattle.mach_image.specs.Subjects.{ListsImageExports, ImageExportsFault, trie_or_empty}
 use Rattle.mach_image.specs.declared.macho.MachO.{MachO}
-use Rattle.mach_image.proofs.ImageFacts.{both_modes, exports_are, exports_fail}
+use Rattle.mach_image.proofs.ImageFacts.{both_modes, exports_are, exports_fail, facts_are}
 
 empty_list : (libs : List (List ℕ)) (list : List Entry) → Lists (trie_there empty_range libs) 0 [] list → list ≡ []
 empty_list libs _ (nothing past) = refl
@@ -39,3 +39,8 @@ pub walked_to_fault : {A : Type 0} (m : MachO A)
     → InBothModes m (λ bytes o. (f : Fault) → ExportsFault (trie_or_empty (trie_held m)) (texts m.libs.items) f → HasExportsFault bytes o f)
 walked_to_fault m =
     both_modes m _ (λ bytes o p f s. ((exports_fail m).lossy bytes o p f).1 (walked_fault (trie_held m) (texts m.libs.items) f s))
+
+pub walked_to_end : {A : Type 0} (m : MachO A)
+    → InBothModes m (λ bytes o. (found : List Entry) (f : Fault) → ExportsEnd (trie_or_empty (trie_held m)) (texts m.libs.items) found f
+    → HasExportsEnd bytes o found f)
+walked_to_end m = both_modes m _ (λ bytes o p found f s. (facts_are bytes o m p (λ q. ExportsEnd (trie_or_empty q.trie) q.libs found f)).1 s)

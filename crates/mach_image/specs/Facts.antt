@@ -9,6 +9,7 @@ use Rattle.mach_symbols.specs.Symbols.{SymbolTable}
 use Rattle.mach_symbols.specs.declared.symbols.nlist.Nlist.{Nlist}
 use Rattle.mach_binds.specs.Imports.{Import}
 use Rattle.mach_tries.specs.Trie as trie
+use Rattle.mach_tries.specs.TrieRange.{ExportsEnd}
 use Rattle.mach_chained.specs.Fixups.{Fixup}
 use Rattle.mach_chained.specs.Header.{Fixups}
 use Rattle.mach_segments.specs.Bindings.{Binding}
@@ -22,7 +23,7 @@ use Rattle.mach_headers.specs.Magic.{cputype_at}
 use Rattle.mach_image.specs.Readings.{read_of}
 use Rattle.mach_image.specs.Relocations.{RelocatedSection, relocated_sections_in}
 use Rattle.mach_image.specs.Subjects.{binds_in, ListsImageImports, ImageImportsFault, AreImageBindItems, lossy_segments_in, trie_in, ListsImageExports}
-use Rattle.mach_image.specs.Subjects.{ImageExportsFault, own_name_in, libs_in, run_path_by, table_in, symbols_in}
+use Rattle.mach_image.specs.Subjects.{ImageExportsFault, own_name_in, libs_in, run_path_by, table_in, symbols_in, trie_or_empty}
 
 -- An image opens at o, in lossy mode at least, and this holds of its context and its commands.
 pub record OfImage (bytes : List ℕ) (o : ℕ) (Holds : Ctx → List Command → Type 0) : Type 0 where
@@ -79,6 +80,10 @@ HasExports bytes o list = OfImage bytes o (λ ctx cs. ListsImageExports (trie_in
 -- a fault stands in its trie
 abbrev pub HasExportsFault : List ℕ → ℕ → Fault → Type 0
 HasExportsFault bytes o f = OfImage bytes o (λ ctx cs. ImageExportsFault (trie_in bytes cs) (libs_in bytes cs) f)
+
+-- behind these exports a walk of its trie ends, for this fault
+abbrev pub HasExportsEnd : List ℕ → ℕ → List trie.Entry → Fault → Type 0
+HasExportsEnd bytes o found f = OfImage bytes o (λ ctx cs. ExportsEnd (trie_or_empty (trie_in bytes cs)) (libs_in bytes cs) found f)
 
 -- what it exports a name as, by the paths of its last trie, over its libraries: none where no path has the name
 abbrev pub HasExportOf : List ℕ → ℕ → List ℕ → Option trie.Info → Type 0

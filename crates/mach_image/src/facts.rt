@@ -12,8 +12,8 @@ ghost use Rattle.mach_image.specs.Bindings.{AreImageBindings};
 ghost use Rattle.mach_image.specs.Fixups.{AreImageFixups, base_held, chained_held};
 ghost use Rattle.mach_image.specs.Facts.{HasCommands, HasSymbols, HasSegments, HasRelocations, HasName, HasLibraries, HasRunPaths, HasEntryPoint};
 ghost use Rattle.mach_image.specs.Facts.{HasExports, HasExportsFault, HasImports, HasImportsFault, HasImportItems, HasChainedFixups, HasBase, HasFixups};
-ghost use Rattle.mach_image.specs.Facts.{HasBindings};
-ghost use Rattle.mach_tries.specs.TrieRange.{ListsExports, ExportsFault};
+ghost use Rattle.mach_image.specs.Facts.{HasBindings, HasExportsEnd};
+ghost use Rattle.mach_tries.specs.TrieRange.{ListsExports, ExportsFault, ExportsEnd};
 ghost use Rattle.mach_image.specs.Subjects.{ListsImageImports, ImageImportsFault, AreImageBindItems, ListsImageExports, ImageExportsFault, trie_or_empty};
 ghost use Rattle.mach_image.specs.Subjects.{symbols_held};
 ghost use Rattle.mach_image.specs.Modes.{InBothModes, Agrees, HoldsAs};
@@ -106,12 +106,14 @@ pub fn exports_of_image<A: Allocator>(image: &MachO<'_, A>)
 {}
 
 /// What a walk of `MachO::walk_exports` says at its end, or by an error, is so of the bytes: what it gave is
-/// the list of the image's exports, or the fault stands in its trie.
+/// the list of the image's exports, or the fault stands in its trie, and a walk ends there for it.
 pub fn walked_exports_of_image<A: Allocator>(image: &MachO<'_, A>)
     ensures listed { InBothModes image.now (λ bytes o. (list : List trie.Entry)
         → ListsExports (trie_or_empty (trie_held image.now)) (texts image.now.libs.items) list → HasExports bytes o list) }
     ensures faults { InBothModes image.now (λ bytes o. (fault : Fault)
         → ExportsFault (trie_or_empty (trie_held image.now)) (texts image.now.libs.items) fault → HasExportsFault bytes o fault) }
+    ensures cut { InBothModes image.now (λ bytes o. (found : List trie.Entry) (fault : Fault)
+        → ExportsEnd (trie_or_empty (trie_held image.now)) (texts image.now.libs.items) found fault → HasExportsEnd bytes o found fault) }
 {}
 
 /// The imports that `MachO::imports` lists, and the faults that it reports, are those of the bytes.

@@ -1,7 +1,8 @@
 -- The marks of a walk or a search: of each place to which a path was followed.
 use Rattle.mach_tries.proofs.Names.{◌≡◌, ◌<◌, ◌≤◌, ◌+◌, ◌-◌, ℕ, zero, suc, Bool, true, false, cond, List, [], ◌∷◌, inl, inr, length, set, get_or, replicate}
 use Rattle.mach_tries.proofs.Names.{refl, sym, ap, subst, ◌∙◌, arith, cases_eq, length-set, length-replicate, get_or-set_same, get_or-set_other, sum_by-set}
-use Rattle.mach_tries.proofs.Names.{Trie, Leads, IsAmong, AreMarked, unmarked}
+use Rattle.mach_tries.proofs.Names.{Trie, Entry, Leads, IsAmong, AreMarked, MarksThoseRead, ComesNext, WasRead, Ahead, Unfolds, unmarked}
+use Rattle.mach_tries.proofs.OneReading.{one_comes_next}
 use Rattle.mach_tries.proofs.TriePaths.{leads_to_one}
 
 pub not_both : {b : Bool} → b ≡ true → b ≡ false → ⊥
@@ -65,3 +66,44 @@ module _ {t : Trie} {root from : ℕ} {marks : List Bool} {paths : List (List �
           | inr other ↦ (let old = h.met o (sym (get_or-set_other marks (at - from) o true false other) ∙ is) in (old.0, inr old.1, old.2))
         ];
       }
+
+-- ---- the marks of what was read
+
+pub none_read : (t : Trie) (root n : ℕ) → MarksThoseRead t root (replicate n false) 0
+none_read t root n = record {
+  once = λ fewer start less comes was. omega arith;
+  marked = λ start was. absurd (let less = was.1 in omega arith);
+  met = λ o is. absurd (not_both is (all_clear n o));
+}
+
+-- the node that comes next is marked and read
+pub one_read : {t : Trie} {root n : ℕ} {marks : List Bool} {found : List Entry} {x : Ahead} {others : List Ahead} → MarksThoseRead t root marks n
+    → Unfolds t root n found (x ∷ others) → x.start < t.upto → root ≤ x.start → x.start - root < length marks
+    → get_or marks (x.start - root) false ≡ false → MarksThoseRead t root (set marks (x.start - root) true) (suc n)
+one_read {t} {root} {n} {marks} {found} {x} {others} h read inside low within clear = record {
+  once = λ fewer start less comes was. elim (cases_eq fewer n) [
+    | inl last ↦ (
+        let same = one_comes_next (subst (λ (k : ℕ). ComesNext t root k start) last comes) read inside in
+        let marked = h.marked start (subst (λ (k : ℕ). WasRead t root k start) last was) in
+        not_both (subst (λ (z : ℕ). get_or marks (z - root) false ≡ true) same marked) clear)
+    | inr old ↦ h.once fewer start (omega arith) comes was
+  ];
+  marked = λ start was. elim (cases_eq was.0 n) [
+    | inl last ↦ (
+        let same = one_comes_next (subst (λ (k : ℕ). ComesNext t root k start) last was.2) read inside in
+        subst (λ (z : ℕ). get_or (set marks (x.start - root) true) (z - root) false ≡ true) (sym same)
+        (get_or-set_same marks (x.start - root) true false within))
+    | inr old ↦ (let less = was.1 in keeps_mark marks (x.start - root) (start - root) within (h.marked start (was.0, omega arith, was.2)))
+  ];
+  met = λ o is. elim (cases_eq o (x.start - root)) [
+    | inl here ↦ (
+        let same : x.start ≡ root + o = omega arith in (
+          n,
+          omega arith,
+          subst (λ (z : ℕ). ComesNext t root n z) same (record { inside = inside; met = found; name = x.name; others = others; read = read }),
+        ))
+    | inr other ↦ (
+        let old = h.met o (sym (get_or-set_other marks (x.start - root) o true false other) ∙ is) in
+        let less = old.1 in (old.0, omega arith, old.2))
+  ];
+}

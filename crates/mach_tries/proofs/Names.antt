@@ -34,12 +34,13 @@ pub use Rattle.mach_tries.specs.Paths.{StartsFrom, Leads, Before, Path, IsTree}
 pub use Rattle.mach_tries.specs.TerminalPaths.{EndsWith, IsTerminal, BelongsTo, EachBelongs, AreInOrder, ListsPaths}
 pub use Rattle.mach_tries.specs.Trie.{Branch, Info, Node, Entry, Trie, IsNode, entry, own_entries, regular, stub}
 pub use Rattle.mach_tries.specs.TrieFault.{TrieFault, at_node, met_again}
-pub use Rattle.mach_tries.specs.TrieRange.{TrieRange, trie_there, ListsExports, ExportsFault, range_in}
+pub use Rattle.mach_tries.specs.TrieRange.{TrieRange, trie_there, ListsExports, ExportsFault, ExportsEnd, range_in}
 pub use Rattle.mach_tries.specs.TrieRows.{back_to_root, shared_node, children_at_the_end, exports_vector, terminal_with_child, a_stub, kind_3_with_reexport_bit}
 pub use Rattle.mach_tries.specs.TrieRows.{kind_1_with_stub_bit, ladder_of_40}
 pub use Rattle.mach_tries.specs.Visits.{AreApart, Visits}
 pub use Rattle.mach_tries.specs.Unfolds.{Ahead, ahead, to_root, Unfolds, nothing_read, passed, node_read, IsCutBy}
-pub use Rattle.mach_tries.specs.Reading.{AreLed, IsBeside, AreBeside, AreLastFirst, GoesOnFromOne, HasRead, AreMarked, AreAhead, IsReadSoFar}
+pub use Rattle.mach_tries.specs.Unfolds.{ComesNext, WasRead, IsEndOfWalk}
+pub use Rattle.mach_tries.specs.Reading.{AreLed, IsBeside, AreBeside, AreLastFirst, GoesOnFromOne, HasRead, AreMarked, MarksThoseRead, AreAhead, IsReadSoFar}
 pub use Rattle.mach_tries.specs.WalkState.{Holds, HasListed, IsAtBranch, IsBetween, HasFound, IsWalk, IsRefusedWalk, unmarked, work}
 pub use Rattle.mach_tries.specs.WalkState.{work_ahead}
 pub use Rattle.mach_tries.specs.Views.{branch_of, branches_of, IsReadable, branches_in, info_in, node_with_first, trie_range_of, source_trie}

@@ -2,7 +2,7 @@
 use Rattle.mach_tries.proofs.Names.{◌≡◌, ℕ, List, [], ◌∷◌, ◌++◌, refl, sym, ap, subst, ◌∙◌, arith, append_assoc, inl, inr, Branch, Node, Trie, Entry}
 use Rattle.mach_tries.proofs.Names.{own_entries, Lists, BranchesList, nothing, a_node, one_more, ListBegins, BranchesBegin, none_yet, node_begun}
 use Rattle.mach_tries.proofs.Names.{no_further, one_begun, one_whole, source_trie, HasFound}
-use Rattle.mach_tries.proofs.Names.{Source, TrieRange, trie_there, ListsExports, ExportsFault, HasListed, IsTree, TrieFault, Error, Stands, Stands-in, fault_in}
+use Rattle.mach_tries.proofs.Names.{Source, TrieRange, trie_there, ListsExports, ExportsFault, ExportsEnd, HasListed, IsTree, TrieFault, Error, Stands, Stands-in, fault_in, IsEndOfWalk}
 use Rattle.mach_tries.proofs.TriePaths.{same_node}
 use Rattle.mach_tries.proofs.TrieRelation.{one_list}
 use Rattle.mach_tries.proofs.Unfoldings.{met_begins}
@@ -55,6 +55,11 @@ module _ (s : Source) (t : TrieRange) (libs : List (List ℕ)) (same : source_tr
   pub fault_there : (e : Error) → Stands (fault_in s) e → Stands (ExportsFault t libs) e
   fault_there e stands = Stands-in (fault_in s) (ExportsFault t libs) e
       (λ f k. subst (λ (x : Trie). TrieFault x t.from f) same (subst (λ (r : ℕ). TrieFault (source_trie s) r f) from k)) stands
+
+  pub end_there : (found : List Entry) (e : Error) → Stands (IsEndOfWalk (source_trie s) s.from found) e
+      → Stands (ExportsEnd t libs found) e
+  end_there found e stands = Stands-in (IsEndOfWalk (source_trie s) s.from found) (ExportsEnd t libs found) e
+      (λ f k. subst (λ (x : Trie). IsEndOfWalk x t.from found f) same (subst (λ (r : ℕ). IsEndOfWalk (source_trie s) r found f) from k)) stands
 
   pub begun_there : {found : List Entry} → ListBegins (source_trie s) s.from [] found → ListBegins (trie_there t libs) t.from [] found
   begun_there {found} b =

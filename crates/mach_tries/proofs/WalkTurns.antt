@@ -1,9 +1,9 @@
 -- The state of a walk, turn by turn.
 use Rattle.mach_tries.proofs.Names.{◌≡◌, ◌<◌, ◌≤◌, ◌+◌, ◌-◌, ◌*◌, ℕ, suc, Bool, true, false, cond, List, [], ◌∷◌, ◌++◌, inl, inr, length, take, set, get_or}
 use Rattle.mach_tries.proofs.Names.{refl, sym, ap, subst, ◌∙◌, arith, replicate, reverse, reverse-append, sum_by-cons, cases_eq, Ok, Err, Option, Some}
-use Rattle.mach_tries.proofs.Names.{None, IfSome, Error, Fault, malformed, Info, Node, Trie, Branch, Entry, own_entries, nothing, IsUtf8, texts}
+use Rattle.mach_tries.proofs.Names.{None, IfSome, Error, Fault, malformed, ◌⊎◌, Info, Node, Trie, Branch, Entry, own_entries, nothing, IsUtf8, texts}
 use Rattle.mach_tries.proofs.Names.{Leads, Path, IsAmong, branch_at, source_trie, node_in, fault_in, trie_range_of, at_node, met_again, AreApart, Visits}
-use Rattle.mach_tries.proofs.Names.{Ahead, ahead, HasRead, AreMarked, Holds, HasListed, IsRefusedWalk, IsAtBranch, HasFound, unmarked, work}
+use Rattle.mach_tries.proofs.Names.{Ahead, ahead, HasRead, AreMarked, WasRead, IsEndOfWalk, Holds, HasListed, IsRefusedWalk, IsAtBranch, HasFound, unmarked, work}
 use Rattle.mach_tries.proofs.Names.{branch_of, branches_of, branches_in, IsReadable, Source, Open}
 use Rattle.std.proofs.lemmas.List.{take_all}
 use Rattle.mach_tries.specs.declared.walk.Walker.{Walker}
@@ -94,6 +94,7 @@ starts s inside name marks o os none left len bottom = rw (none, bottom) (record
   count = refl;
   met = reading.begins _ refl;
   marked = mark.none_marked (source_trie s) s.from s.from;
+  known = mark.none_read (source_trie s) s.from (s.upto - s.from);
   more = tt;
 })
 
@@ -124,6 +125,7 @@ module _ {s : Source} {name : List ℕ} {marks : List Bool} {o : Open} {found : 
       count = h.count;
       met = h.met;
       marked = h.marked;
+      known = h.known;
       more = h.more.1;
     },
     h.more.0,
@@ -144,6 +146,7 @@ module _ {s : Source} {name : List ℕ} {marks : List Bool} {o : Open} {found : 
       count = h.count;
       met = subst (λ (x : List Ahead). HasRead (source_trie s) s.from h.paths h.others x) (nodes.left_is h.is_read some first) h.met;
       marked = h.marked;
+      known = h.known;
       more = h.more;
     }
 
@@ -179,6 +182,7 @@ module _ {s : Source} {name : List ℕ} {marks : List Bool} {x : Ahead} {o : Ope
         count = h.count;
         met = met.1;
         marked = h.marked;
+        known = h.known;
         more = h.more;
       }
 
@@ -191,6 +195,27 @@ module _ {s : Source} {name : List ℕ} {marks : List Bool} {x : Ahead} {o : Ope
     met is is_on =
         let old = mark.met h.marked path lead low (sym is ∙ is_on) in
         met_again old.0 path x.start old.2 lead inside (reading.path_differs h.met old.0 old.1)
+
+    -- there the walk ends, as it does at a node that is malformed
+    ends : (f : Fault) → (node_in s x.start ≡ Err f) ⊎ (WasRead (source_trie s) s.from n x.start × (f ≡ malformed))
+        → IsEndOfWalk (source_trie s) s.from found f
+    ends f why = record {
+      nodes = n;
+      next = x;
+      others = h.is_read.left;
+      read = h.is_read.read;
+      inside = inside;
+      once = h.known.once;
+      why = why;
+    }
+
+    pub ends_again : {marked : Bool} → marked ≡ get_or marks (x.start - s.from) false → marked ≡ true → IsEndOfWalk (source_trie s) s.from found malformed
+    ends_again is is_on =
+        let same : s.from + (x.start - s.from) ≡ x.start = let from = low in omega arith in
+        ends malformed (inr (subst (λ (z : ℕ). WasRead (source_trie s) s.from n z) same (h.known.met (x.start - s.from) (sym is ∙ is_on)), refl))
+
+    pub ends_at_node : (f : Fault) → node_in s x.start ≡ Err f → IsEndOfWalk (source_trie s) s.from found f
+    ends_at_node f bad = ends f (inl bad)
 
     pub clear : {marked : Bool} → marked ≡ get_or marks (x.start - s.from) false → marked ≡ false → get_or marks (x.start - s.from) false ≡ false
     clear is is_off = sym is ∙ is_off
@@ -227,6 +252,7 @@ module _ {s : Source} {name : List ℕ} {marks : List Bool} {x : Ahead} {o : Ope
               count = ap suc h.count;
               met = subst (λ (y : List Branch). HasRead (source_trie s) s.from (met.0 ∷ h.paths) met.1 (ahead x.name y ++ h.is_read.left)) none met.3;
               marked = mark.one_marked h.marked met.0 met.2 low inside off;
+              known = mark.one_read h.known h.is_read.read inside low within off;
               more = h.more;
             })
 
@@ -251,6 +277,7 @@ module _ {s : Source} {name : List ℕ} {marks : List Bool} {x : Ahead} {o : Ope
               count = ap suc h.count;
               met = met.3;
               marked = mark.one_marked h.marked met.0 met.2 low inside off;
+              known = mark.one_read h.known h.is_read.read inside low within off;
               more = elim (cases_eq o.left 0) [
                 | inl none ↦ rw (dropped none) h.more
                 | inr some ↦ rw (kept (omega arith)) (omega arith, h.more)
@@ -286,10 +313,12 @@ visits_so_far w f = elim f [
 ]
 
 -- a refusal, counted from an earlier state
-pub refused_from : {s s' : Source} {n m old mid new : ℕ} {e : Error} → s' ≡ s → IsRefusedWalk s' m mid new e → mid + n ≡ old + m → IsRefusedWalk s n old new e
-refused_from {n} {m} {old} {mid} {new} {e} same r grew =
-    subst (λ (x : Source). IsRefusedWalk x n old new e) same (record {
+pub refused_from : {s s' : Source} {found : List Entry} {n m old mid new : ℕ} {e : Error} → s' ≡ s → IsRefusedWalk s' found m mid new e
+    → mid + n ≡ old + m → IsRefusedWalk s found n old new e
+refused_from {found = found} {n} {m} {old} {mid} {new} {e} same r grew =
+    subst (λ (x : Source). IsRefusedWalk x found n old new e) same (record {
       fault = r.fault;
+      ends = r.ends;
       visited = r.visited;
       visits = r.visits;
       few_visits = r.few_visits;

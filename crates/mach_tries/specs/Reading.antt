@@ -7,7 +7,7 @@ use Rattle.mach_tries.specs.Trie.{Trie, Entry}
 use Rattle.mach_tries.specs.Nodes.{branches_at}
 use Rattle.mach_tries.specs.Paths.{Leads, Path, Before}
 use Rattle.mach_tries.specs.TrieRange.{TrieRange, trie_there}
-use Rattle.mach_tries.specs.Unfolds.{Ahead, ahead, Unfolds}
+use Rattle.mach_tries.specs.Unfolds.{Ahead, ahead, Unfolds, AreReadOnce, WasRead}
 use Rattle.mach_tries.specs.Visits.{AreApart}
 use Rattle.mach_tries.specs.declared.walk.Open.{Open}
 
@@ -55,6 +55,12 @@ pub record AreMarked (t : Trie) (root from : ℕ) (marks : List Bool) (paths : L
   pub apart : AreApart t root paths
   pub marked : (p : List ℕ) (at : ℕ) → IsAmong p paths → Leads t p root at → get_or marks (at - from) false ≡ true
   pub met : (o : ℕ) → get_or marks o false ≡ true → (p : List ℕ) × IsAmong p paths × Leads t p root (from + o)
+
+-- This many nodes were read, none of them twice, and those are what is marked.
+pub record MarksThoseRead (t : Trie) (root : ℕ) (marks : List Bool) (nodes : ℕ) : Type 0 where
+  pub once : AreReadOnce t root nodes
+  pub marked : (start : ℕ) → WasRead t root nodes start → get_or marks (start - root) false ≡ true
+  pub met : (o : ℕ) → get_or marks o false ≡ true → WasRead t root nodes (root + o)
 
 -- ---- open nodes
 

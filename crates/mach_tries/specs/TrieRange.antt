@@ -7,6 +7,7 @@ use Rattle.mach_tries.specs.Lists.{Lists}
 use Rattle.mach_tries.specs.Paths.{IsTree}
 use Rattle.mach_tries.specs.Nodes.{trie_of}
 use Rattle.mach_tries.specs.TrieFault.{TrieFault}
+use Rattle.mach_tries.specs.Unfolds.{IsEndOfWalk}
 
 -- a range of some bytes in which a trie lies, with the root at its start
 pub record TrieRange : Type 0 where
@@ -40,3 +41,7 @@ ListsExports t libs list = IsTree (trie_there t libs) t.from × Lists (trie_ther
 
 abbrev pub ExportsFault : TrieRange → List (List ℕ) → Fault → Type 0
 ExportsFault t libs f = TrieFault (trie_there t libs) t.from f
+
+-- behind these exports a walk of that trie ends, for this fault
+abbrev pub ExportsEnd : TrieRange → List (List ℕ) → List Entry → Fault → Type 0
+ExportsEnd t libs found f = IsEndOfWalk (trie_there t libs) t.from found f

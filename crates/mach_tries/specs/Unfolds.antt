@@ -47,3 +47,32 @@ pub record IsCutBy (t : Trie) (root : ℕ) (found : List Entry) (f : Fault) : Ty
   pub read : Unfolds t root nodes found (next ∷ others)
   pub inside : next.start < t.upto
   pub why : (t.node next.start ≡ Err f) ⊎ ((nodes ≡ t.upto - root) × (f ≡ malformed))
+
+-- ---- where a walk ends that reads no node twice
+
+-- Behind this many nodes comes the one that begins here.
+pub record ComesNext (t : Trie) (root nodes start : ℕ) : Type 0 where
+  pub inside : start < t.upto
+  pub met : List Entry
+  pub name : List ℕ
+  pub others : List Ahead
+  pub read : Unfolds t root nodes met (record { name = name; start = start } ∷ others)
+
+-- the node that begins here is one of these: it comes next behind fewer
+abbrev pub WasRead : Trie → ℕ → ℕ → ℕ → Type 0
+WasRead t root nodes start = (fewer : ℕ) × (fewer < nodes) × ComesNext t root fewer start
+
+-- none of these nodes is read twice
+abbrev pub AreReadOnce : Trie → ℕ → ℕ → Type 0
+AreReadOnce t root nodes = (fewer start : ℕ) → fewer < nodes → ComesNext t root fewer start → WasRead t root fewer start → ⊥
+
+-- These exports were met, of nodes of which no two are one, and there the walk ends, for this fault: the node that comes next is
+-- malformed, or it was read before.
+pub record IsEndOfWalk (t : Trie) (root : ℕ) (found : List Entry) (f : Fault) : Type 0 where
+  pub nodes : ℕ
+  pub next : Ahead
+  pub others : List Ahead
+  pub read : Unfolds t root nodes found (next ∷ others)
+  pub inside : next.start < t.upto
+  pub once : AreReadOnce t root nodes
+  pub why : (t.node next.start ≡ Err f) ⊎ (WasRead t root nodes next.start × (f ≡ malformed))

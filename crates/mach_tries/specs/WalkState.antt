@@ -9,8 +9,8 @@ use Rattle.mach_tries.specs.Trie.{Entry, entry}
 use Rattle.mach_tries.specs.Lists.{Lists}
 use Rattle.mach_tries.specs.Paths.{IsTree}
 use Rattle.mach_tries.specs.Visits.{Visits}
-use Rattle.mach_tries.specs.Unfolds.{Ahead}
-use Rattle.mach_tries.specs.Reading.{HasRead, AreMarked, IsReadSoFar, branches_left}
+use Rattle.mach_tries.specs.Unfolds.{Ahead, IsEndOfWalk}
+use Rattle.mach_tries.specs.Reading.{HasRead, AreMarked, MarksThoseRead, IsReadSoFar, branches_left}
 use Rattle.mach_tries.specs.Exports.{info_of}
 use Rattle.mach_tries.specs.Views.{trie_range_of, source_trie, fault_in}
 use Rattle.mach_tries.specs.declared.info.ExportInfo.{ExportInfo}
@@ -31,6 +31,7 @@ pub record Holds (s : Source) (name : List ℕ) (marks : List Bool) (next : List
   pub count : n ≡ length paths
   pub met : HasRead (source_trie s) s.from paths others (next ++ is_read.left)
   pub marked : AreMarked (source_trie s) s.from s.from marks paths
+  pub known : MarksThoseRead (source_trie s) s.from marks n
   pub more : HaveMore os
 
 -- all is listed
@@ -61,9 +62,10 @@ HasFound found n w = IsAtBranch found n w ⊎ ((w.over ≡ true) × HasListed w.
 abbrev pub IsWalk : {A : Type 0} → Walker A → Type 0
 IsWalk w = w.over ≡ false → ∥ ((found : List Entry) × (n : ℕ) × HasFound found n w) ∥₁
 
--- why a walk that had visited n nodes is refused, and how the count of visits grew
-pub record IsRefusedWalk (s : Source) (n old new : ℕ) (e : Error) : Type 0 where
+-- why a walk that had found these exports by n visits is refused, and how the count of visits grew
+pub record IsRefusedWalk (s : Source) (found : List Entry) (n old new : ℕ) (e : Error) : Type 0 where
   pub fault : Stands (fault_in s) e
+  pub ends : Stands (IsEndOfWalk (source_trie s) s.from found) e
   pub visited : ℕ
   pub visits : Visits {X = ℕ} {E = ℕ} (source_trie s) s.from 0 visited (Err 0)
   pub few_visits : visited ≤ s.upto - s.from
@@ -73,7 +75,7 @@ pub record IsRefusedWalk (s : Source) (n old new : ℕ) (e : Error) : Type 0 whe
 abbrev pub StepGives : {A : Type 0} → List Entry → ℕ → ℕ → ℕ → Source → Option (Result ExportInfo Error) → Walker A → Type 0
 StepGives found n old new s None w = (m : ℕ) × HasListed s found m × HasFound found m w × (new + n ≡ old + m)
 StepGives found n old new s (Some (Ok info)) w = (m : ℕ) × HasFound (found ++ entry w.name.items (info_of info) ∷ []) m w × (new + n ≡ old + m)
-StepGives found n old new s (Some (Err e)) w = IsRefusedWalk s n old new e
+StepGives found n old new s (Some (Err e)) w = IsRefusedWalk s found n old new e
 
 -- ---- what is left to do: marks to be set, and the branches of the open nodes
 

@@ -4,7 +4,7 @@ use Rattle.std.specs.Borrow.{Bor}
 use Rattle.mach_base.specs.Answer.{Stands}
 use Rattle.mach_base.specs.declared.error.Error.{Error}
 use Rattle.mach_tries.specs.Trie.{Entry, entry}
-use Rattle.mach_tries.specs.TrieRange.{TrieRange, trie_there, ListsExports, ExportsFault}
+use Rattle.mach_tries.specs.TrieRange.{TrieRange, trie_there, ListsExports, ExportsFault, ExportsEnd}
 use Rattle.mach_tries.specs.Exports.{info_of}
 use Rattle.mach_tries.specs.Views.{source_trie}
 use Rattle.mach_tries.specs.WalkState.{HasFound, work_ahead}
@@ -28,6 +28,12 @@ abbrev pub SaysOfTrie : {X : Type 0} → TrieRange → List (List ℕ) → List 
 SaysOfTrie t libs found None = ListsExports t libs found
 SaysOfTrie t libs found (Some (Ok x)) = Unit {0}
 SaysOfTrie t libs found (Some (Err e)) = Stands (ExportsFault t libs) e
+
+-- an error is the fault for which a walk of the trie ends behind these exports
+abbrev pub SaysWhereItEnds : {X : Type 0} → TrieRange → List (List ℕ) → List Entry → Option (Result X Error) → Type 0
+SaysWhereItEnds t libs found None = Unit {0}
+SaysWhereItEnds t libs found (Some (Ok x)) = Unit {0}
+SaysWhereItEnds t libs found (Some (Err e)) = Stands (ExportsEnd t libs found) e
 
 -- how a walk goes on behind an answer: over after an error and at the end, else with one export more given and less to do
 abbrev pub GoesOn : {A : Type 0} → ExportWalk A → Option (Result (Bor (List ℕ) × ExportInfo) Error) → ExportWalk A → Type 0

@@ -23,7 +23,7 @@ impl<'a, 'b, A: Allocator> ExportWalk<'a, 'b, A> {
     ghost use Rattle.std.specs.Prelude.{⊤};
     ghost use Rattle.std.specs.Borrow.{sem};
     ghost use Rattle.mach_tries.specs.contracts.export_walk.ExportWalk.{the_row};
-    ghost use Rattle.mach_tries.specs.Walks.{HasGiven, GivesNoMore, SaysOfTrie, GoesOn};
+    ghost use Rattle.mach_tries.specs.Walks.{HasGiven, GivesNoMore, SaysOfTrie, SaysWhereItEnds, GoesOn};
     ghost use mathlib.Core.Option.{none};
     ghost use denote.Follow.{follows_so};
     ghost use mir.Syntax.{named};
@@ -34,6 +34,8 @@ impl<'a, 'b, A: Allocator> ExportWalk<'a, 'b, A> {
     pub fn next(&mut self) -> Option<Result<(&str, ExportInfo<'a>)>>
         ensures says { (t : TrieRange) (libs : List (List ℕ)) (found : List Entry) → HasGiven t libs found self.old
             → SaysOfTrie t libs found result }
+        ensures cut { (t : TrieRange) (libs : List (List ℕ)) (found : List Entry) → HasGiven t libs found self.old
+            → SaysWhereItEnds t libs found result }
         ensures begun { (t : TrieRange) (libs : List (List ℕ)) (found : List Entry) → HasGiven t libs found self.old
             → ListBegins (trie_there t libs) t.from [] found }
         ensures over { GivesNoMore self.old → IsNone result }

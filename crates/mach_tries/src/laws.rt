@@ -9,7 +9,7 @@ ghost use Rattle.mach_tries.specs.TrieFault.{TrieFault};
 ghost use Rattle.mach_tries.specs.TerminalPaths.{AreInOrder, ListsPaths};
 ghost use Rattle.mach_base.specs.Among.{IsAmong};
 ghost use Rattle.mach_tries.specs.TrieRange.{TrieRange, trie_there, ListsExports, ExportsFault};
-ghost use Rattle.mach_tries.specs.Unfolds.{IsNextNode};
+ghost use Rattle.mach_tries.specs.Unfolds.{IsNextNode, IsEndOfWalk};
 ghost use Rattle.mach_tries.specs.Visits.{Visits};
 ghost use Rattle.mach_tries.specs.LookUp.{FaultOnWay, LookUpVisits};
 
@@ -59,6 +59,12 @@ pub fn exports_of_terminal_paths()
 pub fn one_next_node()
     ensures { (t : Trie) (root : ℕ) (found : List Entry) (m n : List ℕ) (a b : ℕ) (v w : Node) (x y : Info) → IsNextNode t root found m a
         → IsNextNode t root found n b → IsNode t a v → v.own ≡ Some x → IsNode t b w → w.own ≡ Some y → (m ≡ n) × (a ≡ b) }
+{}
+
+/// A walk that reads no node of a trie twice ends in one place, for one fault.
+pub fn one_end_of_walk()
+    ensures { (t : Trie) (root : ℕ) (found met : List Entry) (f g : Fault) → IsEndOfWalk t root found f → IsEndOfWalk t root met g
+        → (found ≡ met) × (f ≡ g) }
 {}
 
 /// Where a fault stands in the trie of a range, it has no list of exports.

@@ -176,7 +176,7 @@ impl<'a, 'b, A: Allocator> Walker<'a, 'b, A> {
         ensures found { IfOk result (λ own. (found : List Entry) (n : ℕ) → IsAtBranch found n self.old → (m : ℕ)
             × HasFound (found ++ own_entries self.new.name.items (info_in own)) m self.new × (steps.new + n ≡ steps.old + m)) }
         ensures refused { IfErr result (λ e. (found : List Entry) (n : ℕ) → IsAtBranch found n self.old
-            → IsRefusedWalk self.old.source n steps.old steps.new e) }
+            → IsRefusedWalk self.old.source found n steps.old steps.new e) }
         ensures utf8 { IfOk result (λ own. IfSome own (λ _. IsUtf8 self.new.name.items)) }
         ensures less { OnOk result (work_ahead self.new < work_ahead self.old) }
     {

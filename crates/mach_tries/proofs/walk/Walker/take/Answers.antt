@@ -1,6 +1,6 @@
 use Rattle.mach_tries.proofs.Names.{◌≡◌, ◌+◌, ◌-◌, ◌++◌, ◌∙◌, refl, sym, ap, subst, arith, ℕ, suc, List, length, reverse, take, inl, append-nil}
 use Rattle.mach_tries.proofs.Names.{err_from_is_err_and, IsUtf8, Stands-reported, Entry, own_entries, fault_in, info_in, fault_of, HasFound, node_in}
-use Rattle.mach_tries.proofs.Names.{node_with_first}
+use Rattle.mach_tries.proofs.Names.{node_with_first, source_trie, IsEndOfWalk}
 use Rattle.std.proofs.Math.Logic.{∥∥₁_elim, ∥∥₁_map}
 use Rattle.std.proofs.Math.Bridge.{le_prop}
 use Rattle.std.proofs.Props.{props}
@@ -39,6 +39,7 @@ overflow_sub-start-2 g c = ∥∥₁_elim c.requires le_prop (λ r. turn.low r.2
 pub returns-then-is_marked-clause-refused : goal.returns-then-is_marked-clause-refused
 returns-then-is_marked-clause-refused g c = λ found n at. record {
   fault = turn.met at.1 (omega arith) c.is_marked.ensures c.if-is_marked.true;
+  ends = turn.ends_again at.1 (omega arith) c.is_marked.ensures c.if-is_marked.true;
   visited = n;
   visits = turn.visits at.1;
   few_visits = turn.few at.1;
@@ -50,6 +51,7 @@ returns-in_err-extend_from_slice-clause-refused g c =
     let p = err_from_is_err_and c.from_residual.result c.from_residual.ensures.1 in
     rw (p.1, p.2) (λ found n at. record {
       fault = tt;
+      ends = tt;
       visited = n;
       visits = turn.visits at.1;
       few_visits = turn.few at.1;
@@ -64,6 +66,8 @@ returns-in_err-own-clause-refused g c =
     record {
       fault = Stands-reported (fault_in c.args.self.now.source) c.in_err-own.field-0.0
           (turn.child_fault at.1 (omega arith) (fault_of c.in_err-own.field-0.0) c.in_err-own.ensures.node);
+      ends = Stands-reported (IsEndOfWalk (source_trie c.args.self.now.source) c.args.self.now.source.from found) c.in_err-own.field-0.0
+          (turn.ends_at_node at.1 (omega arith) (fault_of c.in_err-own.field-0.0) c.in_err-own.ensures.node);
       visited = suc n;
       visits = turn.child_visits at.1 (omega arith) off refl;
       few_visits = turn.few_with_child at.1 (omega arith) off refl;
@@ -126,6 +130,7 @@ returns-in_err-keep_below-clause-refused g c =
     let off = turn.clear at.1 (omega arith) c.is_marked.ensures c.if-is_marked.false in
     record {
       fault = tt;
+      ends = tt;
       visited = suc n;
       visits = turn.child_visits at.1 (omega arith) off refl;
       few_visits = turn.few_with_child at.1 (omega arith) off refl;
