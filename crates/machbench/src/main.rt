@@ -25,7 +25,7 @@ over in a second. Of a call at most N items are gone over, 10000000 where no lim
 call has more, a last line says so, and the status is 1.
 ";
 
-const VERSION: &str = "machbench 0.1.0\n";
+const VERSION: &str = "machbench 0.2.0\n";
 
 fn main(rt: HostRuntime) -> ExitCode {
     let status = match env::args(&rt) {

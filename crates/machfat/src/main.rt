@@ -28,7 +28,7 @@ const PROGRAM: Program = Program {
        machfat extract FILE INDEX OUT
        machfat --help | --version
 ",
-    version: "machfat 0.1.0\n",
+    version: "machfat 0.2.0\n",
 };
 
 fn main(rt: HostRuntime) -> ExitCode {

@@ -33,7 +33,7 @@ use std::process::ExitCode;
 const PROGRAM: Program = Program {
     name: NAME,
     usage: "usage: machfixups [--limit N] FILE\n       machfixups --help | --version\n",
-    version: "machfixups 0.1.0\n",
+    version: "machfixups 0.2.0\n",
 };
 
 fn main(rt: HostRuntime) -> ExitCode {

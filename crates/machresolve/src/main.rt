@@ -15,7 +15,7 @@ use std::{env, io};
 
 const USAGE: &str = "usage: machresolve [--cputype 0xN] [--limit N] PROGRAM LIBRARY..";
 
-const VERSION: &str = "machresolve 0.1.0";
+const VERSION: &str = "machresolve 0.2.0";
 
 fn main(rt: HostRuntime) -> ExitCode {
     let status = match env::args(&rt) {

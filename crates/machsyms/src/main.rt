@@ -30,7 +30,7 @@ use std::process::ExitCode;
 const PROGRAM: Program = Program {
     name: NAME,
     usage: "usage: machsyms FILE\n       machsyms --help | --version\n",
-    version: "machsyms 0.1.0\n",
+    version: "machsyms 0.2.0\n",
 };
 
 fn main(rt: HostRuntime) -> ExitCode {
