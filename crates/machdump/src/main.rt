@@ -9,10 +9,7 @@ use std::io::BufWriter;
 use std::process::ExitCode;
 use std::{env, fs, io};
 
-const USAGE: &str =
-    "usage: machdump commands|exports|imports FILE\n       machdump --help | --version";
-
-const VERSION: &str = "machdump 0.2.0";
+const USAGE: &str = "usage: machdump commands|exports|imports FILE";
 
 fn main(rt: HostRuntime) -> ExitCode {
     let alloc = rt.alloc();
@@ -22,11 +19,8 @@ fn main(rt: HostRuntime) -> ExitCode {
     let Ok(args) = args.collect::<Vec<String>>(alloc) else {
         return bad_usage(&rt);
     };
-    let (word, file) = match args.as_slice() {
-        [_, word] if word.as_str() == "--help" => return say(&rt, USAGE),
-        [_, word] if word.as_str() == "--version" => return say(&rt, VERSION),
-        [_, word, file] => (word, file),
-        _ => return bad_usage(&rt),
+    let [_, word, file] = args.as_slice() else {
+        return bad_usage(&rt);
     };
     let Some(word) = Word::parse(word.as_str()) else {
         return bad_usage(&rt);
@@ -41,14 +35,6 @@ fn main(rt: HostRuntime) -> ExitCode {
     };
     let status = run(alloc, word, bytes.as_slice(), &mut lines, &mut rt.stderr());
     ExitCode::from(status)
-}
-
-// Prints a line; where the write fails the status says so.
-fn say(rt: &impl Print, line: &str) -> ExitCode {
-    match rt.println(line) {
-        Ok(()) => ExitCode::SUCCESS,
-        Err(_) => ExitCode::from(2),
-    }
 }
 
 fn bad_usage(rt: &impl Eprint) -> ExitCode {
