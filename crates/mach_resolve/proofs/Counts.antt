@@ -1,5 +1,5 @@
 -- How many bindings are answered: of an image, and of all images of a program.
-use Rattle.std.proofs.Common.{◌≡◌, ◌∙◌, ◌≤◌, ◌+◌, ◌-◌, ◌++◌, ◌∷◌, [], ℕ, List, Option, Ok, length, take, ap, subst, arith}
+use Rattle.std.proofs.Common.{◌≡◌, ◌∙◌, ◌≤◌, ◌-◌, ◌++◌, ◌∷◌, [], ℕ, List, Option, Ok, length, take, ap, subst, arith}
 use Rattle.std.specs.Prelude.{sum_by}
 use Rattle.std.proofs.lemmas.List.{length-map, length-take}
 use Rattle.std.proofs.lemmas.List.Sums.{sum_by-cons}
@@ -48,8 +48,7 @@ report_few limit p ls wanted r (no_entry cputype finds) = omega arith
 report_few limit p ls wanted r (unopened e told) = omega arith
 report_few limit p ls wanted r (unfound cputype e told) = omega arith
 
--- one entry more, within what those before it leave
-pub outcomes_push : (limit : ℕ) (p : GivenFile) (ls : List GivenFile) (arches : List FatArch) (os : List Outcome) (arch : FatArch) (o : Outcome)
+outcomes_push : (limit : ℕ) (p : GivenFile) (ls : List GivenFile) (arches : List FatArch) (os : List Outcome) (arch : FatArch) (o : Outcome)
     → AreEntryOutcomes limit p ls arches os → IsEntryOutcome (limit - sum_by answer_count os) (entry_of_program p arch) ls o
     → AreEntryOutcomes limit p ls (arches ++ arch ∷ []) (os ++ o ∷ [])
 outcomes_push limit p ls [] [] arch o all is = (subst (λ (n : ℕ). IsEntryOutcome n (entry_of_program p arch) ls o) (omega arith) is, tt)
@@ -60,3 +59,10 @@ outcomes_push limit p ls (a ∷ arches) (x ∷ os) arch o all is = (
   outcomes_push (limit - answer_count x) p ls arches os arch o all.1
       (subst (λ (n : ℕ). IsEntryOutcome n (entry_of_program p arch) ls o) (omega (arith, sum_by-cons answer_count x os)) is),
 )
+
+-- one entry more, within what those before it leave
+pub outcomes_more : (limit left : ℕ) (p : GivenFile) (ls : List GivenFile) (arches : List FatArch) (os : List Outcome) (arch : FatArch) (o : Outcome)
+    → left ≡ limit - sum_by answer_count os → AreEntryOutcomes limit p ls arches os → IsEntryOutcome left (entry_of_program p arch) ls o
+    → AreEntryOutcomes limit p ls (arches ++ arch ∷ []) (os ++ o ∷ [])
+outcomes_more limit left p ls arches os arch o rest all is =
+    outcomes_push limit p ls arches os arch o all (subst (λ (n : ℕ). IsEntryOutcome n (entry_of_program p arch) ls o) rest is)

@@ -1,11 +1,11 @@
-use Rattle.std.proofs.Common.{◌≡◌, ◌∙◌, ◌+◌, ◌-◌, ◌++◌, ◌∷◌, [], ℕ, map, take, get_or, sym, ap, subst, arith}
+use Rattle.std.proofs.Common.{◌≡◌, ◌∙◌, ◌+◌, ◌++◌, ◌∷◌, [], map, take, get_or, sym, ap, subst, arith}
 use Rattle.std.specs.Prelude.{sum_by}
 use Rattle.std.proofs.lemmas.List.{map_push, take_more}
 use Rattle.std.proofs.lemmas.List.Sums.{sum_by_push}
 use Rattle.mach_resolve.specs.Opened.{given_seen}
-use Rattle.mach_resolve.specs.Report.{answer_count, entry_of_program, IsEntryOutcome, AreEntryOutcomes}
+use Rattle.mach_resolve.specs.Report.{answer_count, entry_of_program, AreEntryOutcomes}
 use Rattle.mach_resolve.specs.Seen.{outcome_seen}
-use Rattle.mach_resolve.proofs.Counts.{entry_few, outcomes_push}
+use Rattle.mach_resolve.proofs.Counts.{entry_few, outcomes_more}
 use Rattle.mach_resolve.proofs.report.entry_outcomes.Goals as goal
 
 pub overflow_sub-left : goal.overflow_sub-left
@@ -28,12 +28,10 @@ arches-preserved g c =
     let i = c.arches.arch-index in
     let os = map outcome_seen c.arches.outcomes.items in
     let o = outcome_seen c.in-Ok.outcome in
-    let before = c.arches.invariant in
     let all = ap (map outcome_seen) c.in_ok-push-in-Ok.ensures.items ∙ map_push outcome_seen c.arches.outcomes.items c.in-Ok.outcome in
-    let is = subst (λ (n : ℕ). IsEntryOutcome n (entry_of_program p (get_or arches i _)) ls o) before.1 c.in-Ok.ensures.told in
     let more : sum_by answer_count (os ++ o ∷ []) ≡ sum_by answer_count os + answer_count o = sum_by_push answer_count os o in (
       subst (AreEntryOutcomes limit p ls (take (i + 1) arches)) (sym all)
           (subst (λ xs. AreEntryOutcomes limit p ls xs (os ++ o ∷ [])) (sym (take_more arches i _ c.arches-test.true))
-          (outcomes_push limit p ls (take i arches) os _ o before.0 is)),
-      omega (arith, before.1, c.answer_count-left.ensures, more, ap (sum_by answer_count) all),
+          (outcomes_more limit c.arches.left p ls (take i arches) os _ o c.arches.invariant.1 c.arches.invariant.0 c.in-Ok.ensures.told)),
+      omega (arith, c.arches.invariant.1, c.answer_count-left.ensures, more, ap (sum_by answer_count) all),
     )
