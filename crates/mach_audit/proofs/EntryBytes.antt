@@ -1,17 +1,16 @@
 -- What the bytes of an entry of a fat file say of the entry.
-use Rattle.std.proofs.Common.{◌≡◌, ◌<◌, ◌≤◌, ◌∙◌, ◌/◌, ◌∷◌, ◌++◌, [], ℕ, zero, suc, Bool, true, false, cond, nat_le, nat_lt, List, map, length, take, drop}
+use Rattle.std.proofs.Common.{◌≡◌, ◌<◌, ◌≤◌, ◌∙◌, ◌/◌, ◌∷◌, ◌++◌, [], ℕ, suc, Bool, true, false, cond, nat_le, List, map, length, take, drop}
 use Rattle.std.proofs.Common.{Option, Some, None, Result, Ok, Err, slice_get, refl, sym, ap, subst, arith}
-use Rattle.std.specs.Prelude.{◌==◌, nat_eq, codes, option_map}
+use Rattle.std.specs.Prelude.{◌==◌, codes, option_map}
 use Rattle.std.specs.Cmp.Lexicographic.{same_text}
 use Rattle.std.proofs.lemmas.Bool.{le-leb, leb-true, lt-leb, lt-ltb, true≢false, false≢true}
 use Rattle.std.proofs.lemmas.List.{length-take-le}
 use Rattle.std.proofs.lemmas.Option.{slice_get-map}
 use Rattle.mach_base.proofs.Binds.{bind_ok, same_ok}
 use Rattle.mach_base.proofs.ItemLists.{slice_get-items}
-use Rattle.mach_base.specs.Answer.{◌>>=◌}
 use Rattle.mach_base.specs.Fault.{Fault, malformed, too_short}
 use Rattle.mach_base.specs.Items.{all_read}
-use Rattle.mach_base.specs.Number.{number, number_at}
+use Rattle.mach_base.specs.Number.{number}
 use Rattle.mach_base.specs.declared.context.Ctx.{Ctx}
 use Rattle.mach_base.specs.declared.context.Endian.TheVariants.{Big, Little}
 use Rattle.mach_base.specs.declared.hint.Hint.TheVariants as hints
@@ -21,7 +20,7 @@ use Rattle.mach_headers.specs.declared.fat.FatArch.{FatArch}
 use Rattle.mach_image.specs.Image.{LossyOpens}
 use Rattle.goblin_mach.proofs.FatEntries.{entry_at-record}
 use Rattle.goblin_mach.proofs.FatMagics.{fat_magic-other}
-use Rattle.goblin_mach.specs.FatEntry.{FatEntry, archive, image, entry_by, fat_entry_of, entry_at}
+use Rattle.goblin_mach.specs.FatEntry.{image, entry_by, fat_entry_of, entry_at}
 use Rattle.goblin_mach.specs.FatFile.{FatFile, arch_at, archs_of, arches_in}
 use Rattle.goblin_mach.specs.File.{HasFatMagic}
 use Rattle.mach_audit.specs.Report.{named_bytes}

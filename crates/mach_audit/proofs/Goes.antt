@@ -1,6 +1,6 @@
 -- A count that goes over a list, item by item.
 use Rattle.std.proofs.Common.{◌≡◌, ◌<◌, ◌≤◌, ◌+◌, ◌-◌, ◌^◌, arith, min, take, length, get_or, ◌++◌, ◌∷◌, [], ◌∙◌, ℕ, List, map, refl, sym, ap}
-use Rattle.std.proofs.Common.{subst, Option, Result, Ok, Err}
+use Rattle.std.proofs.Common.{subst, inl, inr, Option, Result, Ok, Err}
 use Rattle.std.specs.Prelude.{IsTrue, option_map}
 use Rattle.std.specs.Result.{result_err}
 use Rattle.std.proofs.lemmas.Bool.{ltb-true}
@@ -14,13 +14,14 @@ use Rattle.mach_binds.specs.declared.imports.Import.{Import}
 use Rattle.mach_segments.specs.Bindings.{binding_read}
 use Rattle.mach_base.specs.Items.{read_as}
 use Rattle.mach_segments.specs.declared.binding.Binding.{Binding}
-use Rattle.mach_tries.specs.Trie.{Entry}
-use Rattle.mach_tries.specs.Lists.{ListBegins}
-use Rattle.mach_tries.specs.TrieRange.{TrieRange, trie_there}
+use Rattle.mach_tries.specs.Trie.{Entry, Trie}
+use Rattle.mach_tries.specs.TrieRange.{TrieRange}
+use Rattle.mach_tries.specs.Views.{source_trie}
 use Rattle.mach_tries.specs.Walks.{HasGiven}
 use Rattle.mach_tries.specs.declared.export_walk.ExportWalk.{ExportWalk}
-use Rattle.mach_tries.proofs.TrieBegins.{found_begins, begun_there}
+use Rattle.mach_tries.proofs.TrieBegins.{listed_there}
 use Rattle.goblin_mach.specs.View.{IsTold}
+use Rattle.mach_audit.specs.Sound.{WalkMeets, AreExportItems, all_exports, past_limit}
 use Rattle.mach_audit.specs.Told.{FaultAt, HasMet, fault_read_at, faults_from, faults_each}
 use Rattle.mach_audit.specs.declared.report.Place.{Place}
 use Rattle.mach_audit.specs.declared.report.Place.TheVariants as places
@@ -221,10 +222,17 @@ export_long limit found t met cut =
     let long = ltb-true limit (length (faults_from places.Export 0 (entries_ok found))) (sym met.tells.cut ∙ cut) in
     omega (arith, long, length_from places.Export 0 (entries_ok found), length-map found as_item)
 
--- what a walk has given is a beginning of the list
-pub given_begins : {A : Type 0} (t : TrieRange) (libs : List (List ℕ)) (found : List Entry) (w : ExportWalk A) → HasGiven t libs found w
-    → ListBegins (trie_there t libs) t.from [] found
-given_begins t libs found w h = begun_there w.walker.source t libs h.0 h.1 (found_begins found w.walker h.3)
+-- what a walk has given, where that is more than the limit
+pub given_more : {A : Type 0} (limit : ℕ) (t : TrieRange) (libs : List (List ℕ)) (found : List Entry) (w : ExportWalk A) → HasGiven t libs found w
+    → limit < length found → AreExportItems limit t libs (entries_ok found)
+given_more limit t libs found w h long = elim h.3 [
+  | inl at ↦ (
+      let s = w.walker.source in
+      let walk : WalkMeets (source_trie s) s.from found =
+      record { nodes = h.2; left = _; read = at.1.is_read.read; once = at.1.known.once } in
+      past_limit found (subst (λ (x : Trie). WalkMeets x t.from found) h.0 (subst (λ (r : ℕ). WalkMeets (source_trie s) r found) h.1 walk)) long)
+  | inr over ↦ all_exports found (listed_there w.walker.source t libs h.0 h.1 over.1)
+]
 
 -- the fault of an error that is no want of memory
 pub stands_of : (P : Fault → Type 0) (e : Error) → IsTold e → Stands P e → P (fault_of e)

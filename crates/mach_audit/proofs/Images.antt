@@ -13,6 +13,7 @@ use Rattle.mach_base.specs.Text.{texts}
 use Rattle.mach_binds.specs.Imports.{Import, BindRanges, input_in}
 use Rattle.mach_tries.specs.Trie as trie
 use Rattle.mach_tries.proofs.TrieBegins.{prefix_of, whole_list}
+use Rattle.mach_tries.proofs.Unfoldings.{met_begins}
 use Rattle.mach_tries.specs.TrieRange.{TrieRange, trie_there, ListsExports, ExportsFault}
 use Rattle.mach_chained.specs.Fixups.{Fixup}
 use Rattle.mach_segments.specs.Bindings.{Binding}
@@ -156,9 +157,9 @@ module _ (limit : ℕ) (t : TrieRange) (libs : List (List ℕ)) where
   items_within list _ law lists (all_exports other is) =
       let front = prefix_of (trie_there t libs) t.from [] other list (whole_list (trie_there t libs) t.from [] other is.1) lists.1 in
       omega (arith, length-map other as_item, within_front other list front.0 front.1)
-  items_within list _ law lists (up_to_fault found f begins fault) = absurd (law t libs f list fault lists)
-  items_within list _ law lists (past_limit found begins long) =
-      let front = prefix_of (trie_there t libs) t.from [] found list begins lists.1 in
+  items_within list _ law lists (up_to_fault found f ends fault) = absurd (law t libs f list fault lists)
+  items_within list _ law lists (past_limit found walk long) =
+      let front = prefix_of (trie_there t libs) t.from [] found list (met_begins walk.read) lists.1 in
       omega (arith, length-map found as_item, within_front found list front.0 front.1)
 
   module _ {A : Type 0} (q : Part A) where
@@ -172,10 +173,10 @@ module _ (limit : ℕ) (t : TrieRange) (libs : List (List ℕ)) where
     list_met _ (all_exports list lists) tells none whole =
         let items = map as_item list in
         (list, lists, omega (arith, length-map list as_item, short items tells whole))
-    list_met _ (up_to_fault found f begins fault) tells none whole =
+    list_met _ (up_to_fault found f ends fault) tells none whole =
         let items = map as_item found ++ Err f ∷ [] in
         absurd (not_all_ok found f (told_sound limit items (faults_from places.Export 0 items) (plain_from places.Export 0 items) q tells none whole))
-    list_met _ (past_limit found begins long) tells none whole =
+    list_met _ (past_limit found walk long) tells none whole =
         let items = map as_item found in
         absurd (omega (arith, long, length-map found as_item, short items tells whole))
 
@@ -185,8 +186,8 @@ module _ (limit : ℕ) (t : TrieRange) (libs : List (List ℕ)) where
     fault_met _ (all_exports list lists) tells some =
         let items = map as_item list in
         absurd (told_faulty limit items (faults_from places.Export 0 items) (plain_from places.Export 0 items) q tells some (oks_all list))
-    fault_met _ (up_to_fault found f begins fault) tells some = (f, fault)
-    fault_met _ (past_limit found begins long) tells some =
+    fault_met _ (up_to_fault found f ends fault) tells some = (f, fault)
+    fault_met _ (past_limit found walk long) tells some =
         let items = map as_item found in
         absurd (told_faulty limit items (faults_from places.Export 0 items) (plain_from places.Export 0 items) q tells some (oks_all found))
 

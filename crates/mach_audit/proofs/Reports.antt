@@ -87,10 +87,10 @@ told_opens limit bytes parts tells = let has = tells.sections.1 in (has.ctx, has
 -- ---- entries
 
 no_entry_fault : (f g : Fault) → FatEntryFault (Err f) g → g ≡ f
-no_entry_fault f _ (no_entry f) = refl
+no_entry_fault f _ (no_entry _) = refl
 
 image_fault : (slice : List ℕ) (f : Fault) → FatEntryFault (Ok (image slice)) f → ImageFault slice 0 f
-image_fault slice _ (no_image slice f fault) = fault
+image_fault slice _ (no_image _ f fault) = fault
 
 archive_fault : (slice : List ℕ) (f : Fault) → FatEntryFault (Ok (archive slice)) f → ⊥
 archive_fault slice f fault = elim fault [ ]
@@ -123,10 +123,10 @@ pub entry_told : {A B : Type 0} (limit : ℕ) (entry : Result FatEntry Fault) (e
 entry_told limit entry (archive slice) m parts is opened told = absurd opened
 entry_told limit entry (image slice) m parts is opened told = rw is ((opened.ctx, commands_held m, opened.opens), told slice opened)
 
-pub archive_told : {A B : Type 0} (limit : ℕ) (entry : Result FatEntry Fault) (e : FatEntry) (bytes : Bor (List ℕ)) → entry ≡ Ok e
+pub archive_told : (A B : Type 0) (limit : ℕ) (entry : Result FatEntry Fault) (e : FatEntry) (bytes : Bor (List ℕ)) → entry ≡ Ok e
     → IsEntry {A = A} e (arches.Archive bytes) → IsEntryReport {A = B} limit entry entries.Archive
-archive_told limit entry (archive slice) bytes is opened = rw is tt
-archive_told limit entry (image slice) bytes is opened = absurd opened
+archive_told A B limit entry (archive slice) bytes is opened = rw is tt
+archive_told A B limit entry (image slice) bytes is opened = absurd opened
 
 -- one entry more
 items_from-last : {A : Type 0} (item : ℕ → A) (first count : ℕ) → items_from item first (count + 1) ≡ items_from item first count ++ item (first + count) ∷ []

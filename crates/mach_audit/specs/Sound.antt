@@ -4,9 +4,9 @@ use Rattle.std.specs.List.{list_all, flat_map}
 use Rattle.mach_base.specs.Fault.{Fault}
 use Rattle.mach_base.specs.declared.context.Ctx.{Ctx}
 use Rattle.mach_binds.specs.Imports.{Import}
-use Rattle.mach_tries.specs.Lists.{ListBegins}
 use Rattle.mach_tries.specs.Trie as trie
-use Rattle.mach_tries.specs.TrieRange.{TrieRange, trie_there, ListsExports, ExportsFault}
+use Rattle.mach_tries.specs.TrieRange.{TrieRange, trie_there, ListsExports, ExportsFault, ExportsEnd}
+use Rattle.mach_tries.specs.Unfolds.{Ahead, Unfolds, AreReadOnce}
 use Rattle.mach_chained.specs.Fixups.{Fixup}
 use Rattle.mach_segments.specs.Bindings.{Binding}
 use Rattle.mach_segments.specs.Relocation.{relocations_at}
@@ -44,14 +44,20 @@ all_relocations ctx bytes segments = flat_map (λ s. flat_map (relocations_by ct
 abbrev pub HasAllRelocations : List ℕ → ℕ → List (Result RelocationInfo Fault) → Type 0
 HasAllRelocations bytes o items = OfImage bytes o (λ ctx cs. items ≡ all_relocations ctx bytes (lossy_segments_in ctx bytes cs))
 
--- What is met of the exports of a trie, up to one item more than `limit`: all of them; or those before a fault, and the fault; or one more
--- than `limit`.
+-- These exports are met first in a walk of a trie from this root on, by nodes of which no two are one.
+pub record WalkMeets (t : trie.Trie) (root : ℕ) (found : List trie.Entry) : Type 0 where
+  pub nodes : ℕ
+  pub left : List Ahead
+  pub read : Unfolds t root nodes found left
+  pub once : AreReadOnce t root nodes
+
+-- What is met of the exports of a trie, up to more than `limit`: all of them; or those before the fault for which a walk of it ends, and that fault; or
+-- more than `limit` that a walk meets first.
 pub data AreExportItems (limit : ℕ) (t : TrieRange) (libs : List (List ℕ)) : List (Result trie.Entry Fault) → Type 0 where
   all_exports : (list : List trie.Entry) → ListsExports t libs list → AreExportItems limit t libs (map Ok list)
-  up_to_fault : (found : List trie.Entry) (f : Fault) → ListBegins (trie_there t libs) t.from [] found → ExportsFault t libs f
+  up_to_fault : (found : List trie.Entry) (f : Fault) → ExportsEnd t libs found f → ExportsFault t libs f
       → AreExportItems limit t libs (map Ok found ++ Err f ∷ [])
-  past_limit : (found : List trie.Entry) → ListBegins (trie_there t libs) t.from [] found → limit < length found
-      → AreExportItems limit t libs (map Ok found)
+  past_limit : (found : List trie.Entry) → WalkMeets (trie_there t libs) t.from found → limit < length found → AreExportItems limit t libs (map Ok found)
 
 -- what is met of the exports of an image
 abbrev pub HasExportItems : ℕ → List ℕ → ℕ → List (Result trie.Entry Fault) → Type 0

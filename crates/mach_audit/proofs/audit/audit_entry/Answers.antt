@@ -8,7 +8,7 @@ use Rattle.mach_audit.proofs.audit.audit_entry.Goals as goal
 pub returns-in-Ok-Archive-clause-told : goal.returns-in-Ok-Archive-clause-told
 returns-in-Ok-Archive-clause-told g c = λ here.
     let opened = rw c.in-Ok-Archive.field-0-is at c.in-Ok-Archive.ensures.opened in
-    archive_told c.args.limit (entry_at (file_held c.args.container.now) c.args.index) opened.0 _ opened.1 opened.2
+    archive_told _ _ c.args.limit (entry_at (file_held c.args.container.now) c.args.index) opened.0 _ opened.1 opened.2
 
 pub returns-in_ok-parts-in-Ok-MachO-clause-told : goal.returns-in_ok-parts-in-Ok-MachO-clause-told
 returns-in_ok-parts-in-Ok-MachO-clause-told g c = λ here.

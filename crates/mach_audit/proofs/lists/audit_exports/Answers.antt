@@ -4,11 +4,11 @@ use Rattle.mach_base.specs.Fault.{Fault, fault_of}
 use Rattle.mach_base.specs.Text.{texts}
 use Rattle.mach_tries.specs.Exports.{info_of}
 use Rattle.mach_tries.specs.Trie.{Entry, entry}
-use Rattle.mach_tries.specs.TrieRange.{ExportsFault}
+use Rattle.mach_tries.specs.TrieRange.{ExportsFault, ExportsEnd}
 use Rattle.mach_image.specs.OpenImage.{trie_held}
 use Rattle.mach_image.specs.Subjects.{trie_or_empty}
-use Rattle.mach_audit.proofs.Goes.{entries_ok, ok_more, export_more, export_small, export_long, given_begins, next_number, stands_of}
-use Rattle.mach_audit.specs.Sound.{all_exports, up_to_fault, past_limit}
+use Rattle.mach_audit.proofs.Goes.{entries_ok, ok_more, export_more, export_small, export_long, given_more, next_number, stands_of}
+use Rattle.mach_audit.specs.Sound.{all_exports, up_to_fault}
 use Rattle.mach_audit.specs.Told.{HasMet, faults_from}
 use Rattle.mach_audit.specs.declared.report.Place.TheVariants as places
 use Rattle.mach_audit.proofs.lists.audit_exports.Goals as goal
@@ -26,11 +26,13 @@ returns-in-Err-clause-told g c =
     let f = fault_of c.in-Err.error in
     let says = rw (c.in-Some.is ∙ ap Some c.in-Err.is) at (c.next.ensures.says t libs found.0 found.1) in
     let stands = stands_of (ExportsFault t libs) c.in-Err.error (rw told.0 at told.1) says in
+    let cut = rw (c.in-Some.is ∙ ap Some c.in-Err.is) at (c.next.ensures.cut t libs found.0 found.1) in
+    let ends = stands_of (ExportsEnd t libs found.0) c.in-Err.error (rw told.0 at told.1) cut in
     let met = export_more c.args.limit c.exports.index found.0 (Err f) (Some (places.Export c.exports.index, f)) c.exports.tally c.take.new.self
     found.2 found.3 refl (rw told.0 at c.in_ok-take-in-Err.ensures.met) in
     rw c.part.ensures (record {
       items = entries_ok found.0 ++ Err f ∷ [];
-      met = up_to_fault found.0 f (c.next.ensures.begun t libs found.0 found.1) stands;
+      met = up_to_fault found.0 f ends stands;
       tells = met.tells;
     })
 
@@ -51,7 +53,7 @@ returns-then-not-branch-clause-told g c =
     (sym (ok_more found.0 one)) one_more in
     rw c.part-then-not-branch.ensures (record {
       items = entries_ok all;
-      met = past_limit all (given_begins t libs all c.next.follows.lender-at-none (goes.1 t libs found.0 found.1))
+      met = given_more c.args.limit t libs all c.next.follows.lender-at-none (goes.1 t libs found.0 found.1)
           (export_long c.args.limit all tally met (c.in_ok-take-in-Ok-export.ensures.over c.if-not-branch.true));
       tells = met.tells;
     })
