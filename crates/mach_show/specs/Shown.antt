@@ -1,6 +1,5 @@
 -- What a program shows of a file: the lines on its output, and on its error output why a file or an entry is refused.
 use Rattle.std.specs.Prelude.{◌≡◌, ℕ, ◌<◌, List, [], ◌∷◌, ◌++◌, codes, length, Bool, true, false, ◌&&◌, Option, Result, Ok, IsOk}
-use Rattle.std.specs.Prelude.{if◌then◌else◌}
 use Rattle.std.specs.Fmt.{decimal}
 use Rattle.std.specs.Io.KnownBytes.{Appends}
 use Rattle.mach_base.specs.Answer.{Stands}
@@ -12,6 +11,7 @@ use Rattle.goblin_mach.specs.FatEntry.{FatEntry, archive, image, entry_at, FatEn
 use Rattle.goblin_mach.specs.FatFile.{FatFile, fat_file_in, arches_in}
 use Rattle.goblin_mach.specs.File.{HasFatMagic}
 use Rattle.goblin_mach.specs.View.{ViewFault, Tells}
+use Rattle.mach_show.specs.Foreigners.{refused_words}
 use Rattle.mach_show.specs.Headings.{arch_line}
 
 -- What a program's lines of an image are, of which no more than `left` may be told: a relation of that number, the bytes at whose front the
@@ -44,17 +44,13 @@ both first second = record {
   left = second.left;
 }
 
--- the exit status: 1 where something is not whole
-abbrev pub status_by : (whole : Bool) → ℕ
-status_by whole = if whole then 0 else 1
-
--- the line on the error output by which the program of this name says why the file is refused
+-- the line on the error output that says why a file is refused, or no more is shown of it; `names` are those of the program and of the file
 abbrev pub complaint : List ℕ → List ℕ → List ℕ
-complaint name words = name ++ (codes ": " ++ (words ++ codes "\n"))
+complaint names words = names ++ (codes ": " ++ (words ++ codes "\n"))
 
 -- the line on the error output that says why entry i is refused
 abbrev pub entry_complaint : List ℕ → ℕ → List ℕ → List ℕ
-entry_complaint name i words = name ++ (codes ": arch " ++ (decimal i ++ (codes ": " ++ (words ++ codes "\n"))))
+entry_complaint names i words = names ++ (codes ": arch " ++ (decimal i ++ (codes ": " ++ (words ++ codes "\n"))))
 
 -- The bytes are a fat file whose table lies in them.
 pub record IsFatTable (bytes : List ℕ) (file : FatFile) : Type 0 where
@@ -68,45 +64,45 @@ first_entries file n = items_from (entry_at file) 0 n
 
 -- What is shown of entry i, under its line: the lines of an image, that it is an archive, or a fault that stands in it. Of its lines no more
 -- than `left` may be told.
-pub data ShowsEntry (name : List ℕ) (lines : ImageLines) (left i : ℕ) : Result FatEntry Fault → Shown → Type 0 where
+pub data ShowsEntry (names : List ℕ) (lines : ImageLines) (left i : ℕ) : Result FatEntry Fault → Shown → Type 0 where
   an_image : (slice text : List ℕ) (whole : Bool) (rest : ℕ) → lines left slice text whole rest
-      → ShowsEntry name lines left i (Ok (image slice)) (record { text = arch_line i ++ text; said = []; whole = whole; left = rest })
+      → ShowsEntry names lines left i (Ok (image slice)) (record { text = arch_line i ++ text; said = []; whole = whole; left = rest })
   an_archive : (slice : List ℕ)
-      → ShowsEntry name lines left i (Ok (archive slice)) (record { text = arch_line i ++ codes "archive\n"; said = []; whole = true; left = left })
+      → ShowsEntry names lines left i (Ok (archive slice)) (record { text = arch_line i ++ codes "archive\n"; said = []; whole = true; left = left })
   refused : (entry : Result FatEntry Fault) (e : Error) → Tells (FatEntryFault entry) e
-      → ShowsEntry name lines left i entry (record {
+      → ShowsEntry names lines left i entry (record {
         text = arch_line i ++ (codes "refused: " ++ words_of e ++ codes "\n");
-        said = entry_complaint name i (words_of e);
+        said = entry_complaint names i (words_of e);
         whole = false;
         left = left;
       })
 
 -- What is shown of the first entries, in order: of each entry's lines no more may be told than those before it left of the limit.
-pub data ShowsEntries (name : List ℕ) (lines : ImageLines) (limit : ℕ) : List (Result FatEntry Fault) → Shown → Type 0 where
-  none : ShowsEntries name lines limit [] (nothing limit)
+pub data ShowsEntries (names : List ℕ) (lines : ImageLines) (limit : ℕ) : List (Result FatEntry Fault) → Shown → Type 0 where
+  none : ShowsEntries names lines limit [] (nothing limit)
   more : (entries : List (Result FatEntry Fault)) (entry : Result FatEntry Fault) (front last : Shown)
-      → ShowsEntries name lines limit entries front → ShowsEntry name lines front.left (length entries) entry last
-      → ShowsEntries name lines limit (entries ++ entry ∷ []) (both front last)
+      → ShowsEntries names lines limit entries front → ShowsEntry names lines front.left (length entries) entry last
+      → ShowsEntries names lines limit (entries ++ entry ∷ []) (both front last)
 
 -- What is shown of a fat file: all its entries, or those before one for which memory is refused.
-pub data ShowsFat (name : List ℕ) (lines : ImageLines) (limit : ℕ) (file : FatFile) : Shown → Type 0 where
-  all_entries : (shown : Shown) → ShowsEntries name lines limit (first_entries file file.narches) shown → ShowsFat name lines limit file shown
-  cut_short : (i : ℕ) (shown : Shown) → i < file.narches → ShowsEntries name lines limit (first_entries file i) shown
-      → ShowsFat name lines limit file (record {
+pub data ShowsFat (names : List ℕ) (lines : ImageLines) (limit : ℕ) (file : FatFile) : Shown → Type 0 where
+  all_entries : (shown : Shown) → ShowsEntries names lines limit (first_entries file file.narches) shown → ShowsFat names lines limit file shown
+  cut_short : (i : ℕ) (shown : Shown) → i < file.narches → ShowsEntries names lines limit (first_entries file i) shown
+      → ShowsFat names lines limit file (record {
         text = shown.text;
-        said = shown.said ++ complaint name (codes "out of memory");
+        said = shown.said ++ complaint names (codes "out of memory");
         whole = false;
         left = shown.left;
       })
 
 -- What is shown of a file: one image, a fat file, or why it is refused: a fault that stands in it, or want of memory. The limit is that of all
 -- its images together.
-pub data ShowsFile (name : List ℕ) (lines : ImageLines) (limit : ℕ) (bytes : List ℕ) : Shown → Type 0 where
+pub data ShowsFile (names : List ℕ) (lines : ImageLines) (limit : ℕ) (bytes : List ℕ) : Shown → Type 0 where
   one_image : (text : List ℕ) (whole : Bool) (rest : ℕ) → lines limit bytes text whole rest
-      → ShowsFile name lines limit bytes (record { text = text; said = []; whole = whole; left = rest })
-  fat_file : (file : FatFile) (shown : Shown) → IsFatTable bytes file → ShowsFat name lines limit file shown → ShowsFile name lines limit bytes shown
+      → ShowsFile names lines limit bytes (record { text = text; said = []; whole = whole; left = rest })
+  fat_file : (file : FatFile) (shown : Shown) → IsFatTable bytes file → ShowsFat names lines limit file shown → ShowsFile names lines limit bytes shown
   refused_file : (e : Error) → Stands (ViewFault bytes) e
-      → ShowsFile name lines limit bytes (record { text = []; said = complaint name (words_of e); whole = false; left = limit })
+      → ShowsFile names lines limit bytes (record { text = []; said = complaint names (refused_words bytes e); whole = false; left = limit })
 
 -- This was written on the two outputs.
 pub record Writes (shown : Shown) (out_old out_new err_old err_new : Option (List ℕ)) : Type 0 where

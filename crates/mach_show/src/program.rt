@@ -1,7 +1,10 @@
 //! A program's call: its words and its files.
 
+use crate::call::{Call, Request, understand};
+use crate::misuse::Misuse;
 use crate::say::say;
-use std::io::ErrorKind;
+use std::alloc::{AllocError, Global};
+use std::io::{ErrorKind, Read};
 use std::{env, fs, io};
 
 /// What a program says of itself.
@@ -13,52 +16,72 @@ pub struct Program {
     pub usage: &'static str,
     /// What `--version` prints.
     pub version: &'static str,
+    /// Whether it has `--limit`.
+    pub has_limit: bool,
+    /// The words that it knows: its options, and what it is to do.
+    pub known: &'static [&'static str],
 }
 
 impl Program {
-    /// The words of a call, of which the first is the program's name. Where they can't be had, or ask for `--help` or
-    /// `--version`, that is told, and the error is the exit status.
+    /// The words of a call, of which the first is the program's name. Where they can't be had, that is told, and the error is the exit status.
     pub fn words(&self, rt: &HostRuntime) -> Result<Vec<String>, u8> {
         let words = match env::args(rt) {
             Ok(args) => args.collect::<Vec<String>>(rt.alloc()),
             Err(error) if error.kind() == ErrorKind::OutOfMemory => {
                 return Err(self.out_of_memory(rt));
             }
-            Err(_) => return Err(self.bad_usage(rt)),
+            Err(_) => return Err(self.bad_usage(rt, Misuse::NoText)),
         };
         let Ok(words) = words else {
             return Err(self.out_of_memory(rt));
         };
-        match self.asked(words.as_slice()) {
-            Some(text) => Err(say(self.name, text, &mut io::writer(rt), &mut rt.stderr())),
-            None => Ok(words),
+        Ok(words)
+    }
+
+    /// What the words of a call are for. Where they ask for `--help` or `--version`, or for nothing that is understood, that is told, and the
+    /// error is the exit status.
+    pub fn call<'a>(&self, rt: &HostRuntime, words: &'a [String]) -> Result<Call<'a, Global>, u8> {
+        let behind = words.get(1..).unwrap_or(&[]);
+        match understand(rt.alloc(), self.has_limit, behind) {
+            Ok(Request::Help) => Err(self.say(rt, self.usage)),
+            Ok(Request::Version) => Err(self.say(rt, self.version)),
+            Ok(Request::Call(call)) => Ok(call),
+            Ok(Request::Nothing(misuse)) => Err(self.bad_usage(rt, misuse)),
+            Err(AllocError) => Err(self.out_of_memory(rt)),
         }
     }
 
-    // The text that the words ask for, if they ask for one.
-    fn asked(&self, words: &[String]) -> Option<&'static str> {
-        match words {
-            [_, word] if word.as_str() == "--help" => Some(self.usage),
-            [_, word] if word.as_str() == "--version" => Some(self.version),
-            _ => None,
-        }
+    // Prints a text, and answers the exit status.
+    fn say(&self, rt: &HostRuntime, text: &str) -> u8 {
+        say(self.name, text, &mut io::writer(rt), &mut rt.stderr())
     }
 
-    /// The bytes of a file. Where they can't be had, it is told why, and the error is the exit status.
+    /// The bytes of a file; those of standard input, where its name is `-`. Where they can't be had, it is told why, and the error is the
+    /// exit status.
     pub fn read(&self, rt: &HostRuntime, file: &str) -> Result<Vec<u8>, u8> {
-        match fs::read(rt, file) {
+        let name = self.name;
+        match bytes_of(rt, file) {
             Ok(bytes) => Ok(bytes),
-            Err(error) if error.kind() == ErrorKind::OutOfMemory => Err(self.out_of_memory(rt)),
-            Err(_) => {
-                let name = self.name;
-                let _ = rt.eprintln(format_args!("{name}: cannot read {file}"));
+            Err(error) if error.kind() == ErrorKind::OutOfMemory => {
+                let _ = rt.eprintln(format_args!("{name}: {file}: out of memory"));
+                Err(1)
+            }
+            Err(error) => {
+                let _ = rt.eprintln(format_args!("{name}: {file}: {error}"));
                 Err(2)
             }
         }
     }
 
-    /// The status of words that ask for nothing, with how the program is called.
-    pub fn bad_usage(&self, rt: &impl Eprint) -> u8 {
+    /// The status of words that ask for nothing, with what is wrong and how the program is called.
+    pub fn bad_usage(&self, rt: &HostRuntime, misuse: Misuse<'_>) -> u8 {
+        let name = self.name;
+        let _ = match misuse.meant(rt.alloc(), self.known) {
+            Ok(Some(word)) => {
+                rt.eprintln(format_args!("{name}: {misuse}; did you mean '{word}'?"))
+            }
+            _ => rt.eprintln(format_args!("{name}: {misuse}")),
+        };
         let _ = rt.eprint(self.usage);
         2
     }
@@ -69,4 +92,14 @@ impl Program {
         let _ = rt.eprintln(format_args!("{name}: out of memory"));
         1
     }
+}
+
+// The bytes of a file, or of standard input.
+fn bytes_of(rt: &HostRuntime, file: &str) -> io::Result<Vec<u8>> {
+    if file != "-" {
+        return fs::read(rt, file);
+    }
+    let mut bytes = Vec::new(rt.alloc());
+    rt.stdin().read_to_end(&mut bytes)?;
+    Ok(bytes)
 }

@@ -1,10 +1,11 @@
 //! What a program writes of a file, and its exit status.
 
-ghost use Rattle.std.specs.Prelude.{◌≡◌, ◌≢◌, ◌≤◌, [], IfOk, OnOk};
+ghost use Rattle.std.specs.Prelude.{◌≡◌, ◌≤◌, [], IfOk, OnOk};
 ghost use Rattle.std.specs.Io.Buffered.{writer_buffer, writer_contents};
-ghost use Rattle.mach_show.specs.Shown.{Shown, ShowsFile, Writes, status_by};
+ghost use Rattle.mach_show.specs.Shown.{Shown, ShowsFile, Writes};
+ghost use Rattle.mach_show.specs.Statuses.{IsStatus, status_by};
 
-use crate::say::unwritten;
+use crate::say::failed;
 use crate::show::show;
 use crate::shows::Shows;
 use std::alloc::Allocator;
@@ -13,7 +14,7 @@ use std::io::{BufWriter, Write};
 
 /// Shows a file, with the limit left for its first image, and answers the exit status: 0 where nothing was refused and each
 /// image is whole; 1 where the file or an entry of a fat one was refused, or memory, and then `err` has a line that says why,
-/// or where an image is not whole; 2 where a write fails. But for that nothing is left in the buffer.
+/// or where an image is not whole; 2 or 141 where a write fails (`failed`). But for that nothing is left in the buffer.
 pub fn run<S: Shows, A: Allocator + Clone, W: Write + Drop, B: Allocator, E: Write>(
     shows: &S,
     limit: usize,
@@ -22,15 +23,15 @@ pub fn run<S: Shows, A: Allocator + Clone, W: Write + Drop, B: Allocator, E: Wri
     out: &mut BufWriter<W, B>,
     err: &mut E,
 ) -> u8
-    ensures status { result ≤ 2 }
-    ensures shown { result ≢ 2 → (shown : Shown) × ShowsFile S.name (S.lines shows.now) limit bytes.now shown
+    ensures status { IsStatus result }
+    ensures shown { result ≤ 1 → (shown : Shown) × ShowsFile (S.names shows.now) (S.lines shows.now) limit bytes.now shown
         × (result ≡ status_by shown.whole)
         × Writes shown (writer_contents W.contents out.old) (writer_contents W.contents out.new) (E.contents err.old) (E.contents err.new) }
-    ensures flushed { result ≢ 2 → writer_buffer out.new ≡ [] }
+    ensures flushed { result ≤ 1 → writer_buffer out.new ≡ [] }
 {
     match show_all(shows, limit, alloc, bytes, out, err) {
         Ok(whole) => status(whole),
-        Err(_) => unwritten(shows.name(), "", err),
+        Err(error) => failed(shows.names().program, "", error, err),
     }
 }
 
@@ -43,7 +44,7 @@ fn show_all<S: Shows, A: Allocator + Clone, W: Write + Drop, B: Allocator, E: Wr
     out: &mut BufWriter<W, B>,
     err: &mut E,
 ) -> io::Result<bool>
-    ensures shown { IfOk result (λ whole. (shown : Shown) × ShowsFile S.name (S.lines shows.now) limit bytes.now shown × (shown.whole ≡ whole)
+    ensures shown { IfOk result (λ whole. (shown : Shown) × ShowsFile (S.names shows.now) (S.lines shows.now) limit bytes.now shown × (shown.whole ≡ whole)
         × Writes shown (writer_contents W.contents out.old) (writer_contents W.contents out.new) (E.contents err.old) (E.contents err.new)) }
     ensures flushed { OnOk result (writer_buffer out.new ≡ []) }
 {

@@ -9,11 +9,13 @@ ghost use Rattle.goblin_mach.specs.FatEntry.{entry_at};
 ghost use Rattle.goblin_mach.specs.FatFile.{file_held};
 ghost use Rattle.goblin_mach.specs.View.{ViewFault, IsTold};
 ghost use Rattle.mach_show.specs.Failures.{IfMemory};
+ghost use Rattle.mach_show.specs.Foreigners.{refused_words};
 ghost use Rattle.mach_show.specs.Headings.{arch_line};
 ghost use Rattle.mach_show.specs.Held.{IsSubject};
 ghost use Rattle.mach_show.specs.Shown.{Shown, ShowsEntry, ShowsFat, ShowsFile, Writes, complaint, entry_complaint, nothing};
 
 use crate::failure::Failure;
+use crate::foreign::refused_kind;
 use crate::heading::Heading;
 use crate::shows::{Outcome, Shows};
 use goblin_mach::{Error, Mach, MachO, MultiArch, Result, SingleArch, describe};
@@ -30,13 +32,13 @@ pub fn show<S: Shows, A: Allocator + Clone, O: Write, E: Write>(
     out: &mut O,
     err: &mut E,
 ) -> io::Result<bool>
-    ensures { IfOk result (λ whole. (shown : Shown) × ShowsFile S.name (S.lines shows.now) limit bytes.now shown × (shown.whole ≡ whole)
+    ensures { IfOk result (λ whole. (shown : Shown) × ShowsFile (S.names shows.now) (S.lines shows.now) limit bytes.now shown × (shown.whole ≡ whole)
         × Writes shown (O.contents out.old) (O.contents out.new) (E.contents err.old) (E.contents err.new)) }
 {
     match open(alloc, bytes) {
         Ok(Mach::Binary(image)) => show_image(shows, limit, alloc, &image, out, err),
         Ok(Mach::Fat(container)) => show_entries(shows, limit, alloc, &container, out, err),
-        Err(error) => refuse_file(shows, &error, err),
+        Err(error) => refuse_file(shows, bytes, &error, err),
     }
 }
 
@@ -62,12 +64,12 @@ fn show_image<S: Shows, A: Allocator + Clone, O: Write, E: Write>(
     err: &mut E,
 ) -> io::Result<bool>
     ensures { (bytes : List ℕ) → IsImage bytes 0 image.now
-        → IfOk result (λ whole. (shown : Shown) × ShowsFile S.name (S.lines shows.now) limit bytes shown × (shown.whole ≡ whole)
+        → IfOk result (λ whole. (shown : Shown) × ShowsFile (S.names shows.now) (S.lines shows.now) limit bytes shown × (shown.whole ≡ whole)
         × Writes shown (O.contents out.old) (O.contents out.new) (E.contents err.old) (E.contents err.new)) }
 {
     match shows.show(alloc, image, Heading::None, limit, out) {
         Ok(outcome) => Ok(outcome.whole),
-        Err(Failure::Memory) => refuse_file(shows, &Error::Memory(AllocError), err),
+        Err(Failure::Memory) => refuse(shows, &Error::Memory(AllocError), err),
         Err(Failure::Unwritten(error)) => Err(error),
     }
 }
@@ -81,7 +83,7 @@ fn show_entries<S: Shows, A: Allocator + Clone, O: Write, E: Write>(
     out: &mut O,
     err: &mut E,
 ) -> io::Result<bool>
-    ensures { IfOk result (λ whole. (shown : Shown) × ShowsFat S.name (S.lines shows.now) limit (file_held container.now) shown
+    ensures { IfOk result (λ whole. (shown : Shown) × ShowsFat (S.names shows.now) (S.lines shows.now) limit (file_held container.now) shown
         × (shown.whole ≡ whole)
         × Writes shown (O.contents out.old) (O.contents out.new) (E.contents err.old) (E.contents err.new)) }
 {
@@ -93,7 +95,7 @@ fn show_entries<S: Shows, A: Allocator + Clone, O: Write, E: Write>(
                 whole &= outcome.whole;
                 left = outcome.left;
             }
-            Err(Failure::Memory) => return refuse_file(shows, &Error::Memory(AllocError), err),
+            Err(Failure::Memory) => return refuse(shows, &Error::Memory(AllocError), err),
             Err(Failure::Unwritten(error)) => return Err(error),
         }
     }
@@ -111,7 +113,7 @@ fn show_entry<S: Shows, A: Allocator + Clone, O: Write, E: Write>(
     err: &mut E,
 ) -> std::result::Result<Outcome, Failure>
     ensures shown { IfOk result (λ outcome. (shown : Shown)
-        × ShowsEntry S.name (S.lines shows.now) left index (entry_at (file_held container.now) index) shown
+        × ShowsEntry (S.names shows.now) (S.lines shows.now) left index (entry_at (file_held container.now) index) shown
         × (shown.whole ≡ outcome.whole) × (shown.left ≡ outcome.left)
         × Writes shown (O.contents out.old) (O.contents out.new) (E.contents err.old) (E.contents err.new)) }
     ensures memory { IfErr result (IfMemory (Writes (nothing left) (O.contents out.old) (O.contents out.new) (E.contents err.old) (E.contents err.new))) }
@@ -151,19 +153,38 @@ fn refuse_entry<S: Shows, O: Write, E: Write>(
 ) -> io::Result<()>
     ensures text { OnOk result (Appends (O.contents out.old) (O.contents out.new)
         (arch_line index ++ (codes "refused: " ++ words_of error.now ++ codes "\n"))) }
-    ensures said { OnOk result (Appends (E.contents err.old) (E.contents err.new) (entry_complaint S.name index (words_of error.now))) }
+    ensures said { OnOk result (Appends (E.contents err.old) (E.contents err.new) (entry_complaint (S.names shows.now) index (words_of error.now))) }
 {
-    let (name, words) = (shows.name(), describe(error));
+    let (names, words) = (shows.names(), describe(error));
     writeln!(out, "arch {index}")?;
     writeln!(out, "refused: {words}")?;
-    writeln!(err, "{name}: arch {index}: {words}")
+    writeln!(err, "{names}: arch {index}: {words}")
 }
 
-// Says why a file is refused, or what comes behind in it; so it is not whole.
-fn refuse_file<S: Shows, E: Write>(shows: &S, error: &Error, err: &mut E) -> io::Result<bool>
-    ensures { IfOk result (λ whole. (whole ≡ false) × Appends (E.contents err.old) (E.contents err.new) (complaint S.name (words_of error.now))) }
+// Says why a file is refused: what it is, where it is none of Mach-O's. So it is not whole.
+fn refuse_file<S: Shows, E: Write>(
+    shows: &S,
+    bytes: &[u8],
+    error: &Error,
+    err: &mut E,
+) -> io::Result<bool>
+    ensures { IfOk result (λ whole. (whole ≡ false)
+        × Appends (E.contents err.old) (E.contents err.new) (complaint (S.names shows.now) (refused_words bytes.now error.now))) }
 {
-    let (name, words) = (shows.name(), describe(error));
-    writeln!(err, "{name}: {words}")?;
+    let Some(kind) = refused_kind(bytes, error) else {
+        return refuse(shows, error, err);
+    };
+    let names = shows.names();
+    writeln!(err, "{names}: {kind}")?;
+    Ok(false)
+}
+
+// Says why no more is shown of a file; so it is not whole.
+fn refuse<S: Shows, E: Write>(shows: &S, error: &Error, err: &mut E) -> io::Result<bool>
+    ensures { IfOk result (λ whole. (whole ≡ false)
+        × Appends (E.contents err.old) (E.contents err.new) (complaint (S.names shows.now) (words_of error.now))) }
+{
+    let (names, words) = (shows.names(), describe(error));
+    writeln!(err, "{names}: {words}")?;
     Ok(false)
 }

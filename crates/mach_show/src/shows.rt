@@ -2,6 +2,7 @@
 
 use crate::failure::Failure;
 use crate::heading::Heading;
+use crate::names::Names;
 use goblin_mach::MachO;
 use std::alloc::Allocator;
 use std::io::Write;
@@ -20,18 +21,19 @@ pub trait Shows {
     ghost use Rattle.std.specs.Prelude.{◌≡◌, ◌++◌, [], ℕ, List, IfOk, IfErr};
     ghost use Rattle.std.specs.Io.KnownBytes.{Appends};
     ghost use Rattle.mach_image.specs.OpenImage.{IsImage};
+    ghost use Rattle.mach_show.specs.Names.{names_text};
     ghost use Rattle.mach_show.specs.Headings.{heading_text};
     ghost use Rattle.mach_show.specs.Failures.{IfMemory};
     ghost use Rattle.mach_show.specs.Shown.{ImageLines};
 
-    // The program's name, and which text is that of an image of which a number of lines may be told.
-    ghost name: { List ℕ };
+    // What complaints of the file begin with, and which text is that of an image of which a number of lines may be told.
+    ghost names: { Self → List ℕ };
 
     ghost lines: { Self → ImageLines };
 
-    /// The program's name, with which its complaints begin.
-    fn name(&self) -> &'static str
-        ensures { result.now ≡ name };
+    /// The names of the program and of the file, with which complaints begin.
+    fn names(&self) -> Names<'_>
+        ensures { names_text result.program.now result.file.now ≡ names self.now };
 
     /// Shows an image under its heading, of its lines no more than `left`, and answers whether it is whole, and how many are left.
     /// What memory it takes is taken before the heading.

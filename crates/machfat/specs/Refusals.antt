@@ -1,28 +1,40 @@
 -- Why the program refuses a file or an entry, and what it says of it.
-use Rattle.std.specs.Prelude.{ℕ, List, ◌++◌, codes}
+use Rattle.std.specs.Prelude.{◌≡◌, ℕ, List, ◌++◌, codes, Some}
 use Rattle.std.specs.Fmt.{decimal}
 use Rattle.mach_base.specs.Answer.{Stands}
 use Rattle.mach_base.specs.Words.{words_of}
+use Rattle.mach_base.specs.declared.error.Error.{Error}
 use Rattle.mach_image.specs.Image.{Opens}
 use Rattle.goblin_mach.specs.View.{ViewFault}
+use Rattle.mach_show.specs.Foreigners.{foreign_words, refused_kind}
+use Rattle.mach_show.specs.Names.{names_text}
+use Rattle.mach_show.specs.Shown.{complaint}
+use Rattle.mach_show.specs.declared.foreign.Foreign as declared
 use Rattle.machfat.specs.declared.refusal.Failure.TheVariants as failures
 use Rattle.machfat.specs.declared.refusal.Failure.{Failure}
-use Rattle.machfat.specs.declared.refusal.Refusal.TheVariants.{Refused, NotFat, NoEntry, OutOfFile}
+use Rattle.machfat.specs.declared.refusal.Refusal.TheVariants.{Refused, Foreign, NotFat, NoEntry, OutOfFile}
 use Rattle.machfat.specs.declared.refusal.Refusal.{Refusal}
 
 abbrev pub refusal_words : Refusal → List ℕ
 refusal_words (Refused e) = words_of e
+refusal_words (Foreign kind) = foreign_words kind
 refusal_words NotFat = codes "not a fat file"
 refusal_words (NoEntry i) = codes "no entry " ++ decimal i
 refusal_words (OutOfFile i) = codes "entry " ++ (decimal i ++ codes " is out of the file")
 
--- the line on the error output
-abbrev pub refusal_line : Refusal → List ℕ
-refusal_line refusal = codes "machfat: " ++ refusal_words refusal ++ codes "\n"
+-- the line on the error output, with the file's name
+abbrev pub refusal_line : List ℕ → Refusal → List ℕ
+refusal_line file refusal = complaint (names_text (codes "machfat") file) (refusal_words refusal)
+
+-- The bytes are of this kind, which is none of Mach-O's, and do not open for this error.
+pub record IsForeign (bytes : List ℕ) (kind : declared.Foreign) (e : Error) : Type 0 where
+  pub stands : Stands (ViewFault bytes) e
+  pub shows : refused_kind bytes e ≡ Some kind
 
 -- Why there is no list: a fault that stands where the file is opened or in its table, want of memory, or that it is an image.
 abbrev pub RefusesList : List ℕ → Refusal → Type 0
 RefusesList bytes (Refused e) = Stands (ViewFault bytes) e
+RefusesList bytes (Foreign kind) = (e : Error) × IsForeign bytes kind e
 RefusesList bytes NotFat = Opens bytes 0
 RefusesList bytes (NoEntry i) = ⊥
 RefusesList bytes (OutOfFile i) = ⊥
@@ -30,4 +42,4 @@ RefusesList bytes (OutOfFile i) = ⊥
 -- the refusal, if it is one, is as P says
 abbrev pub IsRefusal : (Refusal → Type 0) → Failure → Type 0
 IsRefusal P (failures.Refused refusal) = P refusal
-IsRefusal P failures.Unwritten = Unit {0}
+IsRefusal P (failures.Unwritten e) = Unit {0}

@@ -2,8 +2,10 @@
 
 ghost use Rattle.std.specs.Prelude.{ℕ, List, IfOk, IfErr, OnOk};
 ghost use Rattle.std.specs.Io.KnownBytes.{Appends};
+ghost use Rattle.mach_base.specs.Answer.{Stands};
 ghost use Rattle.mach_headers.specs.declared.fat.FatArch.{FatArch};
 ghost use Rattle.goblin_mach.specs.FatFile.{file_held};
+ghost use Rattle.goblin_mach.specs.View.{ViewFault};
 ghost use Rattle.machfat.specs.Entry.{IsFatFile, HasRecords, IsRecordOf, IsEntryOf};
 ghost use Rattle.machfat.specs.Lines.{record_line, lines_from};
 ghost use Rattle.machfat.specs.Refusals.{RefusesList, IsRefusal};
@@ -11,7 +13,8 @@ ghost use Rattle.machfat.specs.Refusals.{RefusesList, IsRefusal};
 use crate::refusal::{Failure, Refusal};
 use crate::text::RecordText;
 use goblin_mach::fat::{FatArch, SIZEOF_FAT_ARCH, SIZEOF_FAT_HEADER};
-use goblin_mach::{Mach, MultiArch};
+use goblin_mach::{Error, Mach, MultiArch};
+use mach_show::refused_kind;
 use std::alloc::Allocator;
 use std::io;
 use std::io::Write;
@@ -21,9 +24,20 @@ fn fat_file<A: Allocator + Clone>(alloc: A, bytes: &[u8]) -> Result<MultiArch<'_
     ensures fat { IfOk result (λ m. IsFatFile bytes.now (file_held m)) }
     ensures refused { IfErr result (RefusesList bytes.now) }
 {
-    match Mach::parse(alloc, bytes)? {
-        Mach::Fat(container) => Ok(container),
-        Mach::Binary(_) => Err(Refusal::NotFat),
+    match Mach::parse(alloc, bytes) {
+        Ok(Mach::Fat(container)) => Ok(container),
+        Ok(Mach::Binary(_)) => Err(Refusal::NotFat),
+        Err(error) => Err(refusal(bytes, error)),
+    }
+}
+
+// Why a file that doesn't open for this error is refused.
+fn refusal(bytes: &[u8], error: Error) -> Refusal
+    ensures { Stands (ViewFault bytes.now) error → RefusesList bytes.now result }
+{
+    match refused_kind(bytes, &error) {
+        Some(kind) => Refusal::Foreign(kind),
+        None => Refusal::Refused(error),
     }
 }
 

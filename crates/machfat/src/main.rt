@@ -15,7 +15,7 @@ mod run;
 mod tests;
 mod text;
 
-use mach_show::Program;
+use mach_show::{Misuse, Program, Round};
 use place::is_same_file;
 use run::{NAME, run_extract, run_list};
 use std::io;
@@ -24,11 +24,13 @@ use std::process::ExitCode;
 
 const PROGRAM: Program = Program {
     name: NAME,
-    usage: "usage: machfat list FILE
+    usage: "usage: machfat list FILE..
        machfat extract FILE INDEX OUT
-       machfat --help | --version
+       machfat -h | --help | --version
 ",
     version: "machfat 0.2.0\n",
+    has_limit: false,
+    known: &["list", "extract", "--help", "--version"],
 };
 
 fn main(rt: HostRuntime) -> ExitCode {
@@ -40,24 +42,36 @@ fn main(rt: HostRuntime) -> ExitCode {
 // Does what the words ask for.
 fn start(rt: &HostRuntime) -> Result<u8, u8> {
     let words = PROGRAM.words(rt)?;
-    match words.as_slice() {
-        [_, word, file] if word.as_str() == "list" => list_file(rt, file),
-        [_, word, file, index, target] if word.as_str() == "extract" => {
-            match index.parse::<usize>() {
-                Ok(index) => extract_entry(rt, file, index, target),
-                Err(_) => Err(PROGRAM.bad_usage(rt)),
-            }
+    let call = PROGRAM.call(rt, &words)?;
+    match call.words.as_slice() {
+        [] => Err(PROGRAM.bad_usage(rt, Misuse::Missing("word"))),
+        [word, files @ ..] if *word == "list" => list_files(rt, files),
+        [word, file, index, target] if *word == "extract" => match index.parse::<usize>() {
+            Ok(index) => extract_entry(rt, file, index, target),
+            Err(_) => Err(PROGRAM.bad_usage(rt, Misuse::NoNumber(index))),
+        },
+        [word, ..] if *word == "extract" => {
+            Err(PROGRAM.bad_usage(rt, Misuse::Missing("FILE, INDEX and OUT")))
         }
-        _ => Err(PROGRAM.bad_usage(rt)),
+        [word, ..] => Err(PROGRAM.bad_usage(rt, Misuse::UnknownWord(word))),
     }
 }
 
-fn list_file(rt: &HostRuntime, file: &str) -> Result<u8, u8> {
-    let bytes = PROGRAM.read(rt, file)?;
+// Lists the entries of files in order, and answers the worst status.
+fn list_files(rt: &HostRuntime, files: &[&str]) -> Result<u8, u8> {
+    if files.is_empty() {
+        return Err(PROGRAM.bad_usage(rt, Misuse::Missing("FILE")));
+    }
     let Ok(mut lines) = BufWriter::new(rt.alloc(), io::writer(rt)) else {
         return Err(PROGRAM.out_of_memory(rt));
     };
-    Ok(run_list(rt.alloc(), bytes.as_slice(), &mut lines, &mut rt.stderr()))
+    let mut round = Round::new(PROGRAM, files.len());
+    for file in files {
+        if let Some(bytes) = round.begin(rt, file, &mut lines)? {
+            round.end(run_list(rt.alloc(), file, &bytes, &mut lines, &mut rt.stderr()))?;
+        }
+    }
+    Ok(round.worst)
 }
 
 fn extract_entry(rt: &HostRuntime, file: &str, index: usize, target: &str) -> Result<u8, u8> {
@@ -69,7 +83,8 @@ fn extract_entry(rt: &HostRuntime, file: &str, index: usize, target: &str) -> Re
     Ok(run_extract(
         rt,
         rt.alloc(),
-        bytes.as_slice(),
+        file,
+        &bytes,
         index,
         target,
         &mut rt.stderr(),

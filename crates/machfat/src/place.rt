@@ -7,11 +7,11 @@ ghost use Rattle.machfat.specs.Same.{is_one_file, is_one_node};
 
 use crate::refusal::Failure;
 use std::alloc::Global;
-use std::fs;
 use std::fs::{File, OpenFile};
 use std::io::{ErrorKind, Write};
 use std::os::unix::fs::MetadataExt;
 use std::rt::Files;
+use std::{fs, io};
 
 // How many names are tried for a file that is not whole yet.
 const NAMES: usize = 100;
@@ -72,7 +72,7 @@ pub fn place_entry<R: Files>(
     ensures { OnOk result (WasWritten R.File.contents entry.now) }
 {
     if !is_free(files, target) {
-        return Err(Failure::Unwritten);
+        return Err(taken());
     }
     let (name, file) = new_file(files, alloc, target)?;
     match complete(files, entry, file, name.as_str(), target) {
@@ -99,10 +99,15 @@ fn new_file<R: Files>(files: &R, alloc: Global, path: &str) -> Result<(String, R
         match File::create_new(files, name.as_str()) {
             Ok(file) => return Ok((name, file)),
             Err(error) if error.kind() == ErrorKind::AlreadyExists => {}
-            Err(_) => return Err(Failure::Unwritten),
+            Err(error) => return Err(Failure::Unwritten(error)),
         }
     }
-    Err(Failure::Unwritten)
+    Err(taken())
+}
+
+// The failure where a name is taken.
+fn taken() -> Failure {
+    Failure::Unwritten(io::Error::from(ErrorKind::AlreadyExists))
 }
 
 // Writes an entry to a file, down to the disk.

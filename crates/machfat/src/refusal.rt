@@ -5,6 +5,7 @@ ghost use Rattle.machfat.specs.declared.refusal.Refusal.TheVariants as refusals;
 ghost use Rattle.machfat.specs.declared.refusal.Failure.TheVariants as failures;
 
 use goblin_mach::{Error, describe};
+use mach_show::Foreign;
 use std::alloc::AllocError;
 use std::fmt::{Display, Formatter, Write};
 use std::{fmt, io};
@@ -14,6 +15,8 @@ use std::{fmt, io};
 pub enum Refusal {
     /// The library refuses it.
     Refused(Error),
+    /// The library refuses it, and its first bytes say what it is.
+    Foreign(Foreign),
     /// It is one image.
     NotFat,
     /// It has no entry of this index.
@@ -39,6 +42,7 @@ impl Display for Refusal {
     fn fmt<W: Write>(&self, f: &mut Formatter<W>) -> fmt::Result {
         match self {
             Refusal::Refused(error) => write!(f, "{}", describe(error)),
+            Refusal::Foreign(kind) => write!(f, "{kind}"),
             Refusal::NotFat => write!(f, "not a fat file"),
             Refusal::NoEntry(index) => write!(f, "no entry {index}"),
             Refusal::OutOfFile(index) => write!(f, "entry {index} is out of the file"),
@@ -52,7 +56,7 @@ pub enum Failure {
     /// There is nothing to write.
     Refused(Refusal),
     /// A write failed.
-    Unwritten,
+    Unwritten(io::Error),
 }
 
 impl From<Refusal> for Failure {
@@ -70,9 +74,9 @@ impl From<AllocError> for Failure {
 }
 
 impl From<io::Error> for Failure {
-    ghost from_gives = { λ _ failure. failure ≡ failures.Unwritten };
+    ghost from_gives = { λ error failure. failure ≡ failures.Unwritten error };
 
-    fn from(_error: io::Error) -> Failure {
-        Failure::Unwritten
+    fn from(error: io::Error) -> Failure {
+        Failure::Unwritten(error)
     }
 }

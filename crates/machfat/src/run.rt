@@ -4,6 +4,7 @@ ghost use Rattle.std.specs.Prelude.{◌≡◌, ◌≤◌, [], ℕ, List, IsOk, O
 ghost use Rattle.std.specs.Io.Buffered.{writer_buffer, writer_contents};
 ghost use Rattle.std.specs.Io.KnownBytes.{Appends};
 ghost use Rattle.mach_headers.specs.declared.fat.FatArch.{FatArch};
+ghost use Rattle.mach_show.specs.Statuses.{IsStatus};
 ghost use Rattle.machfat.specs.Entry.{HasRecords, IsEntryOf, WasWritten};
 ghost use Rattle.machfat.specs.Lines.{lines_from};
 ghost use Rattle.machfat.specs.Refusals.{RefusesList, IsRefusal, refusal_line};
@@ -12,8 +13,9 @@ ghost use Rattle.machfat.specs.declared.refusal.Refusal.{Refusal};
 
 use crate::entry::{entry_bytes, list};
 use crate::place::place_entry;
-use crate::refusal::Failure;
-use mach_show::say::unwritten;
+use crate::refusal::{Failure, Refusal};
+use mach_show::Names;
+use mach_show::say::failed;
 use std::alloc::{Allocator, Global};
 use std::io::{BufWriter, Write};
 use std::rt::Files;
@@ -22,21 +24,22 @@ use std::rt::Files;
 pub const NAME: &str = "machfat";
 
 /// Prints the records of a fat file, and answers the exit status: 0; 1 where the file or memory is refused, and
-/// then `err` has a line that says why and `out` nothing; 2 where a write fails. At 0 nothing is left in the buffer.
+/// then `err` has a line that says why and `out` nothing; 2 or 141 where a write fails. At 0 nothing is left in the buffer.
 pub fn run_list<A: Allocator + Clone, W: Write + Drop, B: Allocator, E: Write>(
     alloc: A,
+    file: &str,
     bytes: &[u8],
     out: &mut BufWriter<W, B>,
     err: &mut E,
 ) -> u8
-    ensures status { result ≤ 2 }
+    ensures status { IsStatus result }
     ensures listed { result ≡ 0 → (records : List FatArch) × HasRecords bytes.now records
         × Appends (writer_contents W.contents out.old) (writer_contents W.contents out.new) (lines_from bytes.now 0 records) }
     ensures flushed { result ≡ 0 → writer_buffer out.new ≡ [] }
     ensures refused { result ≡ 1 → (refusal : Refusal) × RefusesList bytes.now refusal
-        × Appends (E.contents err.old) (E.contents err.new) (refusal_line refusal) }
+        × Appends (E.contents err.old) (E.contents err.new) (refusal_line file.now refusal) }
 {
-    status(list_all(alloc, bytes, out), "", err)
+    status(list_all(alloc, bytes, out), file, "", err)
 }
 
 // Prints the list, and hands on all that was gathered.
@@ -56,20 +59,26 @@ fn list_all<A: Allocator + Clone, W: Write + Drop, B: Allocator>(
 }
 
 /// Writes an entry to a file, and answers the exit status: 0; 1 where there is no such entry, or for want of
-/// memory, and then `err` has a line that says why; 2 where the file can't be written. The file is whole, or as
+/// memory, and then `err` has a line that says why; 2 or 141 where the file can't be written. The file is whole, or as
 /// it was before.
 pub fn run_extract<R: Files, E: Write>(
     files: &R,
     alloc: Global,
+    file: &str,
     bytes: &[u8],
     index: usize,
     target: &str,
     err: &mut E,
 ) -> u8
-    ensures status { result ≤ 2 }
+    ensures status { IsStatus result }
     ensures extracted { result ≡ 0 → (entry : List ℕ) × IsEntryOf bytes.now index entry × WasWritten R.File.contents entry }
 {
-    status(extract(files, alloc, bytes, index, target), target, err)
+    status(
+        extract(files, alloc, bytes, index, target),
+        file,
+        target,
+        err,
+    )
 }
 
 // Writes an entry to a file. No file is made where there is no such entry.
@@ -87,20 +96,33 @@ fn extract<R: Files>(
     Ok(())
 }
 
-/// The exit status of an answer, whose reason goes to `err`; of a failed write with the name of the file, if it
+/// The exit status of an answer of a file, whose reason goes to `err`; of a failed write with the name of the target, if it
 /// has one.
-pub fn status<E: Write>(answer: Result<(), Failure>, target: &str, err: &mut E) -> u8
-    ensures bound { result ≤ 2 }
+pub fn status<E: Write>(answer: Result<(), Failure>, file: &str, target: &str, err: &mut E) -> u8
+    ensures bound { IsStatus result }
     ensures only { result ≡ 0 → IsOk answer }
     ensures refused { result ≡ 1 → (refusal : Refusal) × (answer ≡ Err (failures.Refused refusal))
-        × Appends (E.contents err.old) (E.contents err.new) (refusal_line refusal) }
+        × Appends (E.contents err.old) (E.contents err.new) (refusal_line file.now refusal) }
 {
     match answer {
         Ok(()) => 0,
-        Err(Failure::Refused(refusal)) => match writeln!(err, "machfat: {refusal}") {
-            Ok(()) => 1,
-            Err(_) => 2,
-        },
-        Err(Failure::Unwritten) => unwritten(NAME, target, err),
+        Err(Failure::Refused(refusal)) => refused(file, &refusal, err),
+        Err(Failure::Unwritten(error)) => failed(NAME, target, error, err),
+    }
+}
+
+// The status of a refusal, which is told.
+fn refused<E: Write>(file: &str, refusal: &Refusal, err: &mut E) -> u8
+    ensures bound { IsStatus result }
+    ensures not_zero { 1 ≤ result }
+    ensures told { result ≡ 1 → Appends (E.contents err.old) (E.contents err.new) (refusal_line file.now refusal.now) }
+{
+    let names = Names {
+        program: NAME,
+        file,
+    };
+    match writeln!(err, "{names}: {refusal}") {
+        Ok(()) => 1,
+        Err(error) => failed(NAME, "", error, err),
     }
 }

@@ -29,7 +29,7 @@ fn want_of_memory(rt: HostRuntime) -> Result<(), Fail> {
         let heap = LocalHeap::new(rt.alloc(), 64 * size)?;
         let mut lines = BufWriter::new(rt.alloc(), Vec::new(rt.alloc()))?;
         let mut reasons = Vec::new(rt.alloc());
-        let answer = run_list(&heap, &whole, &mut lines, &mut reasons);
+        let answer = run_list(&heap, "c", &whole, &mut lines, &mut reasons);
         if answer == 0 {
             same(&rt, lines.get_ref().as_slice(), LINES.as_bytes());
             listed = listed.saturating_add(1);
@@ -38,7 +38,7 @@ fn want_of_memory(rt: HostRuntime) -> Result<(), Fail> {
             same(
                 &rt,
                 reasons.as_slice(),
-                b"machfat: out of memory\n".as_slice(),
+                b"machfat: c: out of memory\n".as_slice(),
             );
             same_at(&rt, size, lines.get_ref().is_empty(), true);
             refused = refused.saturating_add(1);
@@ -86,7 +86,7 @@ fn failed_extracts(rt: HostRuntime) -> Result<(), Fail> {
             renames: left < ARCHIVE.len(),
         };
         let mut reasons = Vec::new(alloc);
-        let answer = run_extract(&files, alloc, &whole, 1, out, &mut reasons);
+        let answer = run_extract(&files, alloc, "c", &whole, 1, out, &mut reasons);
         same_at(&rt, left, answer, 2);
         same_at(&rt, left, reasons.as_slice(), said.as_bytes());
         same(&rt, fs::read(&rt, out)?.as_slice(), b"before".as_slice());
@@ -98,7 +98,7 @@ fn failed_extracts(rt: HostRuntime) -> Result<(), Fail> {
     let mut reasons = Vec::new(alloc);
     same(
         &rt,
-        run_extract(&rt, alloc, &whole, 1, place, &mut reasons),
+        run_extract(&rt, alloc, "c", &whole, 1, place, &mut reasons),
         2,
     );
     fs::remove_dir_all(&rt, &folder)?;

@@ -23,7 +23,7 @@ mod run;
 mod tests;
 mod text;
 
-use mach_show::Program;
+use mach_show::{Misuse, Program, Round};
 use print::DEFAULT_LIMIT;
 use run::{NAME, run};
 use std::io;
@@ -32,8 +32,10 @@ use std::process::ExitCode;
 
 const PROGRAM: Program = Program {
     name: NAME,
-    usage: "usage: machfixups [--limit N] FILE\n       machfixups --help | --version\n",
+    usage: "usage: machfixups [--limit N] FILE..\n       machfixups -h | --help | --version\n",
     version: "machfixups 0.2.0\n",
+    has_limit: true,
+    known: &["--help", "--limit", "--version"],
 };
 
 fn main(rt: HostRuntime) -> ExitCode {
@@ -45,28 +47,30 @@ fn main(rt: HostRuntime) -> ExitCode {
 // Does what the words ask for.
 fn start(rt: &HostRuntime) -> Result<u8, u8> {
     let words = PROGRAM.words(rt)?;
-    match words.as_slice() {
-        [_, flag] if flag.as_str() == "--limit" => Err(PROGRAM.bad_usage(rt)),
-        [_, file] => show_file(rt, DEFAULT_LIMIT, file),
-        [_, flag, number, file] if flag.as_str() == "--limit" => match number.parse::<usize>() {
-            Ok(limit) => show_file(rt, limit, file),
-            Err(_) => Err(PROGRAM.bad_usage(rt)),
-        },
-        _ => Err(PROGRAM.bad_usage(rt)),
-    }
+    let call = PROGRAM.call(rt, &words)?;
+    show_files(rt, call.limit.unwrap_or(DEFAULT_LIMIT), &call.words)
 }
 
-// Shows a file, `limit` binds and fixups of it at most.
-fn show_file(rt: &HostRuntime, limit: usize, file: &str) -> Result<u8, u8> {
-    let bytes = PROGRAM.read(rt, file)?;
+// Shows files in order, `limit` binds and fixups of each at most, and answers the worst status.
+fn show_files(rt: &HostRuntime, limit: usize, files: &[&str]) -> Result<u8, u8> {
+    if files.is_empty() {
+        return Err(PROGRAM.bad_usage(rt, Misuse::Missing("FILE")));
+    }
     let Ok(mut lines) = BufWriter::new(rt.alloc(), io::writer(rt)) else {
         return Err(PROGRAM.out_of_memory(rt));
     };
-    Ok(run(
-        rt.alloc(),
-        limit,
-        bytes.as_slice(),
-        &mut lines,
-        &mut rt.stderr(),
-    ))
+    let mut round = Round::new(PROGRAM, files.len());
+    for file in files {
+        if let Some(bytes) = round.begin(rt, file, &mut lines)? {
+            round.end(run(
+                rt.alloc(),
+                limit,
+                file,
+                &bytes,
+                &mut lines,
+                &mut rt.stderr(),
+            ))?;
+        }
+    }
+    Ok(round.worst)
 }

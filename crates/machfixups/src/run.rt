@@ -1,14 +1,16 @@
 //! What the program shows of an image and of a file, and its exit status.
 
-ghost use Rattle.std.specs.Prelude.{◌≡◌, ◌≢◌, ◌≤◌, [], codes};
+ghost use Rattle.std.specs.Prelude.{◌≡◌, ◌≤◌, [], codes};
 ghost use Rattle.std.specs.Io.Buffered.{writer_buffer, writer_contents};
-ghost use Rattle.mach_show.specs.Shown.{Shown, ShowsFile, Writes, status_by};
+ghost use Rattle.mach_show.specs.Names.{names_text};
+ghost use Rattle.mach_show.specs.Shown.{Shown, ShowsFile, Writes};
+ghost use Rattle.mach_show.specs.Statuses.{IsStatus, status_by};
 ghost use Rattle.machfixups.specs.ImageLines.{AreImagePointerLines};
 
 use crate::parts::image_parts;
 use crate::print::print_fixups;
 use goblin_mach::MachO;
-use mach_show::{Failure, Heading, Outcome, Shows};
+use mach_show::{Failure, Heading, Names, Outcome, Shows};
 use std::alloc::Allocator;
 use std::io::{BufWriter, Write};
 
@@ -17,17 +19,21 @@ pub const NAME: &str = "machfixups";
 
 // The binds and fixups of the images of a file, `limit` of them at most.
 #[derive(Clone, Copy)]
-struct Fixups {
+struct Fixups<'a> {
+    file: &'a str,
     limit: usize,
 }
 
-impl Shows for Fixups {
-    ghost name = { codes "machfixups" };
+impl Shows for Fixups<'_> {
+    ghost names = { λ asked. names_text (codes "machfixups") asked.file.now };
 
     ghost lines = { λ asked. AreImagePointerLines asked.limit };
 
-    fn name(&self) -> &'static str {
-        NAME
+    fn names(&self) -> Names<'_> {
+        Names {
+            program: NAME,
+            file: self.file,
+        }
     }
 
     fn show<A: Allocator + Clone, O: Write>(
@@ -47,19 +53,20 @@ impl Shows for Fixups {
 /// Shows the binds and fixups of a file, of all its images together at most `limit` of them, and answers the exit status: 0 where
 /// nothing was refused; 1 where the file or an entry of a fat one was, or memory, and then `err` has a line that says why,
 /// or where a bind or a fixup can't be read, and then its line says why, or where an image has more of them than are left of the
-/// limit, and then a line behind them says so; 2 where a write fails. But for that nothing is left in the buffer.
+/// limit, and then a line behind them says so; 2 or 141 where a write fails. But for that nothing is left in the buffer.
 pub fn run<A: Allocator + Clone, W: Write + Drop, B: Allocator, E: Write>(
     alloc: A,
     limit: usize,
+    file: &str,
     bytes: &[u8],
     out: &mut BufWriter<W, B>,
     err: &mut E,
 ) -> u8
-    ensures status { result ≤ 2 }
-    ensures shown { result ≢ 2 → (shown : Shown) × ShowsFile (codes "machfixups") (AreImagePointerLines limit) limit bytes.now shown
-        × (result ≡ status_by shown.whole)
+    ensures status { IsStatus result }
+    ensures shown { result ≤ 1 → (shown : Shown)
+        × ShowsFile (names_text (codes "machfixups") file.now) (AreImagePointerLines limit) limit bytes.now shown × (result ≡ status_by shown.whole)
         × Writes shown (writer_contents W.contents out.old) (writer_contents W.contents out.new) (E.contents err.old) (E.contents err.new) }
-    ensures flushed { result ≢ 2 → writer_buffer out.new ≡ [] }
+    ensures flushed { result ≤ 1 → writer_buffer out.new ≡ [] }
 {
-    mach_show::run::run(&Fixups { limit }, limit, &alloc, bytes, out, err)
+    mach_show::run::run(&Fixups { file, limit }, limit, &alloc, bytes, out, err)
 }

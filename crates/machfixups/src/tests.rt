@@ -86,7 +86,7 @@ fn want_of_memory(rt: HostRuntime) -> Result<(), Fail> {
         let heap = LocalHeap::new(rt.alloc(), 64 * size)?;
         let mut out = BufWriter::new(rt.alloc(), Vec::new(rt.alloc()))?;
         let mut reasons = Vec::new(rt.alloc());
-        let answer = run(&heap, DEFAULT_LIMIT, &fat, &mut out, &mut reasons);
+        let answer = run(&heap, DEFAULT_LIMIT, "fat", &fat, &mut out, &mut reasons);
         let out = out.get_ref();
         if answer == 0 {
             same(&rt, out.as_slice(), LINES.as_bytes());
@@ -96,7 +96,7 @@ fn want_of_memory(rt: HostRuntime) -> Result<(), Fail> {
             same(
                 &rt,
                 reasons.as_slice(),
-                b"machfixups: out of memory\n".as_slice(),
+                b"machfixups: fat: out of memory\n".as_slice(),
             );
             same_at(&rt, size, LINES.as_bytes().starts_with(out), true);
             refused = refused.saturating_add(1);

@@ -1,5 +1,6 @@
 -- The lines of a table.
-use Rattle.std.proofs.Common.{◌≡◌, ◌++◌, ℕ, List, Option, Bool, refl}
+use Rattle.std.proofs.Common.{◌≡◌, ◌++◌, ℕ, List, Option, Bool, refl, sym}
+use Rattle.std.proofs.lemmas.List.{append-nil}
 use Rattle.std.specs.Prelude.{◌==◌, Some, None, true}
 use Rattle.std.specs.Io.KnownBytes.{Appends}
 use Rattle.mach_base.proofs.Written.{Appends-both}
@@ -11,10 +12,13 @@ use Rattle.machsyms.specs.Lines.{symbol_line, past_line, past_the_end, WritesTab
 
 -- an image without a table
 pub no_table : (is_64 : Bool) (sections : List ℕ) (known : Option (List ℕ)) → WritesTable is_64 sections None true known known
-unfolding no_lines
 no_table is_64 sections known =
     let nothing = no_lines symbol_read (symbol_line is_64 sections) known in
-    record { text = []; lines = record { front = []; lines = nothing.lines; is_text = refl; is_whole = refl }; written = nothing.written }
+    record {
+      text = nothing.text;
+      lines = record { front = nothing.text; lines = nothing.lines; is_text = sym (append-nil nothing.text); is_whole = refl };
+      written = nothing.written;
+    }
 
 -- the symbols of a table that begin within the bytes, and then the line of the others
 pub table_lines : (is_64 : Bool) (sections : List ℕ) (t : SymbolTable) (whole : Bool) (old middle new : Option (List ℕ))

@@ -21,7 +21,7 @@ mod stabs;
 mod tests;
 mod text;
 
-use mach_show::Program;
+use mach_show::{Misuse, Program, Round};
 use run::{NAME, run};
 use std::io;
 use std::io::BufWriter;
@@ -29,8 +29,10 @@ use std::process::ExitCode;
 
 const PROGRAM: Program = Program {
     name: NAME,
-    usage: "usage: machsyms FILE\n       machsyms --help | --version\n",
+    usage: "usage: machsyms FILE..\n       machsyms -h | --help | --version\n",
     version: "machsyms 0.2.0\n",
+    has_limit: false,
+    known: &["--help", "--version"],
 };
 
 fn main(rt: HostRuntime) -> ExitCode {
@@ -42,12 +44,23 @@ fn main(rt: HostRuntime) -> ExitCode {
 // Does what the words ask for.
 fn start(rt: &HostRuntime) -> Result<u8, u8> {
     let words = PROGRAM.words(rt)?;
-    let [_, file] = words.as_slice() else {
-        return Err(PROGRAM.bad_usage(rt));
-    };
-    let bytes = PROGRAM.read(rt, file)?;
+    let call = PROGRAM.call(rt, &words)?;
+    show_files(rt, &call.words)
+}
+
+// Shows files in order, and answers the worst status.
+fn show_files(rt: &HostRuntime, files: &[&str]) -> Result<u8, u8> {
+    if files.is_empty() {
+        return Err(PROGRAM.bad_usage(rt, Misuse::Missing("FILE")));
+    }
     let Ok(mut lines) = BufWriter::new(rt.alloc(), io::writer(rt)) else {
         return Err(PROGRAM.out_of_memory(rt));
     };
-    Ok(run(rt.alloc(), bytes.as_slice(), &mut lines, &mut rt.stderr()))
+    let mut round = Round::new(PROGRAM, files.len());
+    for file in files {
+        if let Some(bytes) = round.begin(rt, file, &mut lines)? {
+            round.end(run(rt.alloc(), file, &bytes, &mut lines, &mut rt.stderr()))?;
+        }
+    }
+    Ok(round.worst)
 }

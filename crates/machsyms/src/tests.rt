@@ -22,7 +22,7 @@ fn want_of_memory(rt: HostRuntime) -> Result<(), Fail> {
         let heap = LocalHeap::new(rt.alloc(), 64 * size)?;
         let mut lines = BufWriter::new(rt.alloc(), Vec::new(rt.alloc()))?;
         let mut reasons = Vec::new(rt.alloc());
-        let answer = run(&heap, &whole, &mut lines, &mut reasons);
+        let answer = run(&heap, "c", &whole, &mut lines, &mut reasons);
         if answer == 0 {
             same(&rt, lines.get_ref().as_slice(), LINES.as_bytes());
             shown = shown.saturating_add(1);
@@ -31,7 +31,7 @@ fn want_of_memory(rt: HostRuntime) -> Result<(), Fail> {
             same(
                 &rt,
                 reasons.as_slice(),
-                b"machsyms: out of memory\n".as_slice(),
+                b"machsyms: c: out of memory\n".as_slice(),
             );
             same_at(
                 &rt,

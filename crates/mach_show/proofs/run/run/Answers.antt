@@ -1,5 +1,5 @@
 use Rattle.std.proofs.Common.{sym, ap, ◌∙◌}
-use Rattle.mach_show.specs.Shown.{status_by}
+use Rattle.mach_show.specs.Statuses.{status_by}
 use Rattle.mach_show.proofs.run.run.Goals as goal
 
 pub returns-in-Ok-clause-shown : goal.returns-in-Ok-clause-shown

@@ -1,8 +1,8 @@
 use Rattle.std.proofs.Common.{[], false, sym}
 use Rattle.std.proofs.lemmas.Result.{IfOk-weaker}
 use Rattle.mach_base.proofs.Written.{Appends-none}
-use Rattle.mach_base.specs.Words.{words_of}
 use Rattle.goblin_mach.specs.FatFile.{file_held}
+use Rattle.mach_show.specs.Foreigners.{refused_words}
 use Rattle.mach_show.specs.Shown.{complaint, fat_file, refused_file}
 use Rattle.mach_show.proofs.show.show.Goals as goal
 
@@ -22,7 +22,7 @@ returns-in-Err g c =
     let e = c.in-Err.error in
     IfOk-weaker c.refuse_file.result _ _
     (λ whole told. (
-      record { text = []; said = complaint g.S.Shows.name (words_of e); whole = false; left = c.args.limit },
+      record { text = []; said = complaint (g.S.Shows.names c.args.shows.now) (refused_words c.args.bytes.now e); whole = false; left = c.args.limit },
       refused_file e c.in-Err.ensures.refused,
       sym told.0,
       record { text = Appends-none _; said = told.1 },

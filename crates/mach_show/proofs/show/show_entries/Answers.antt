@@ -16,7 +16,8 @@ entries-preserved g c =
     let before = c.entries.invariant in
     let last = c.in-Ok.ensures.shown in (
       both before.0 last.0,
-      one_more g.S.Shows.name (g.S.Shows.lines c.args.shows.now) c.args.limit file c.entries.index c.entries.left before.0 last.0 before.1 before.3 last.1,
+      one_more (g.S.Shows.names c.args.shows.now) (g.S.Shows.lines c.args.shows.now)
+          c.args.limit file c.entries.index c.entries.left before.0 last.0 before.1 before.3 last.1,
       ap (λ first. first && last.0.whole) before.2 ∙ ap (λ second. c.entries.whole && second) last.2,
       last.3,
       record {
@@ -28,9 +29,9 @@ entries-preserved g c =
 pub returns-in-Err-Memory : goal.returns-in-Err-Memory
 returns-in-Err-Memory g c =
     let before = c.entries.invariant in
-    let reason = complaint g.S.Shows.name (codes "out of memory") in
+    let reason = complaint (g.S.Shows.names c.args.shows.now) (codes "out of memory") in
     let kept = rw (c.in-Err-Memory.is, c.in-Err-Memory.field-0-is) at c.show_entry.ensures.memory in
-    IfOk-weaker c.refuse_file.result _ _
+    IfOk-weaker c.refuse.result _ _
     (λ whole told. (
       record { text = before.0.text; said = before.0.said ++ reason; whole = false; left = before.0.left },
       cut_short c.entries.index before.0 c.entries-test.true before.1,
@@ -40,12 +41,12 @@ returns-in-Err-Memory g c =
         said = Appends-both _ _ _ before.0.said reason (Appends-nothing _ _ _ before.0.said before.4.said kept.said) told.1;
       },
     ))
-    c.refuse_file.ensures
+    c.refuse.ensures
 
 pub returns : goal.returns
 returns g c =
     let file = file_held c.args.container.now in
     let before = c.entries.invariant in
     let all : c.entries.index ≡ file.narches = omega (arith, c.entries-test.false, c.entries.auto.index-end) in
-    let shown = λ (n : ℕ). ShowsEntries g.S.Shows.name (g.S.Shows.lines c.args.shows.now) c.args.limit (first_entries file n) before.0 in
+    let shown = λ (n : ℕ). ShowsEntries (g.S.Shows.names c.args.shows.now) (g.S.Shows.lines c.args.shows.now) c.args.limit (first_entries file n) before.0 in
     (before.0, all_entries before.0 (subst shown all before.1), before.2, before.4)

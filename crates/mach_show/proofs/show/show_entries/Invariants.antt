@@ -5,6 +5,6 @@ use Rattle.mach_show.proofs.show.show_entries.Given as goal
 
 abbrev pub invariant-entries : goal.invariant-entries
 invariant-entries g l =
-    (shown : Shown) × ShowsEntries g.S.Shows.name (g.S.Shows.lines l.shows) l.limit (first_entries (file_held l.container) l.index) shown
+    (shown : Shown) × ShowsEntries (g.S.Shows.names l.shows) (g.S.Shows.lines l.shows) l.limit (first_entries (file_held l.container) l.index) shown
     × (shown.whole ≡ l.whole) × (shown.left ≡ l.left)
     × Writes shown (g.O.Write.contents l.fn.out) (g.O.Write.contents l.out) (g.E.Write.contents l.fn.err) (g.E.Write.contents l.err)

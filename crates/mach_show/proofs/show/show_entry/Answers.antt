@@ -36,7 +36,8 @@ returns-in_ok-writeln-in-Ok-Archive-2-clause-shown g c =
     let opened = rw (c.in-Ok-Archive.is, c.in-Ok-Archive.field-0-is) at c.get.ensures.opened in
     let held = archive_held g.row.A.Denot _ c.in-Ok-Archive.field-0-0 opened.0 opened.1 opened.2 in (
       record { text = arch_line i ++ codes "archive\n"; said = []; whole = true; left = c.args.left },
-      archive_entry g.S.Shows.name (g.S.Shows.lines c.args.shows.now) c.args.left i (entry_at (file_held c.args.container.now) i) held.0 held.1,
+      archive_entry (g.S.Shows.names c.args.shows.now) (g.S.Shows.lines c.args.shows.now) c.args.left i
+          (entry_at (file_held c.args.container.now) i) held.0 held.1,
       refl,
       refl,
       record {

@@ -18,11 +18,11 @@ returns-in-Ok g c = λ bytes opened.
 pub returns-in-Err-Memory : goal.returns-in-Err-Memory
 returns-in-Err-Memory g c = λ bytes opened.
     let kept = rw (c.in-Err-Memory.is, c.in-Err-Memory.field-0-is) at c.show.ensures.memory in
-    IfOk-weaker c.refuse_file.result _ _
+    IfOk-weaker c.refuse.result _ _
     (λ whole told. (
-      record { text = []; said = complaint g.S.Shows.name (codes "out of memory"); whole = false; left = c.args.limit },
+      record { text = []; said = complaint (g.S.Shows.names c.args.shows.now) (codes "out of memory"); whole = false; left = c.args.limit },
       refused_file (errors.Memory alloc_error) tt,
       sym told.0,
       record { text = kept; said = told.1 },
     ))
-    c.refuse_file.ensures
+    c.refuse.ensures
