@@ -1,2 +1,2 @@
 mod Runs
-pub mod Imports
+mod Imports

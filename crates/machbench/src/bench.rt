@@ -102,7 +102,7 @@ pub fn bench<C: Clock, A: Allocator + Clone, O: Write>(
         more |= work.more;
     }
     if more {
-        writeln!(out, "limit: {limit} of them are told, and there are more")?;
+        writeln!(out, "limit: {limit} items of a call, and there are more")?;
     }
     Ok(!more)
 }

@@ -1,7 +1,8 @@
 //! The calls that are timed, and what a run of each is.
 
-ghost use Rattle.std.specs.Prelude.{◌≡◌, ◌≤◌, ◌+◌, ◌-◌, ◌%◌, ◌^◌, false, true, length, ℕ, OnOk, IfOk, List, Result, Ok};
-ghost use Rattle.machbench.specs.Imports.{HasImportCount, HaveImportCount, Counts};
+ghost use Rattle.std.specs.Prelude.{◌≡◌, ◌≤◌, ◌+◌, ◌-◌, ◌%◌, ◌^◌, false, true, length, nat_lt, sum, ℕ, OnOk, IfOk, List, Result, Ok};
+ghost use Rattle.mach_binds.specs.BindLeft.{imports_left};
+ghost use Rattle.machbench.specs.Imports.{HasImportCount, HaveImportCounts, Counts};
 ghost use Rattle.machbench.specs.Limit.{ends_at_limit, lists_imports, IsWithin};
 ghost use Rattle.mach_base.specs.Fault.{Fault};
 ghost use Rattle.goblin_mach.specs.FatEntry.{FatEntry};
@@ -9,7 +10,7 @@ ghost use Rattle.goblin_mach.specs.View.{HasEntries};
 
 use goblin_mach::chained_fixups::FixupKind;
 use goblin_mach::exports::Export;
-use goblin_mach::imports::Import;
+use goblin_mach::imports::{BindIterator, Import};
 use goblin_mach::{Error, LinkView, Mach, MachO, MultiArch, Result, SingleArch, link_view};
 use std::alloc::Allocator;
 
@@ -189,9 +190,10 @@ pub struct Subject<'a, A: Allocator> {
     bytes: &'a [u8],
     /// How many items a run of a call goes over at most.
     pub limit: usize,
-    images: Vec<MachO<'a, A>, A>,
-    // What was counted of the imports of all images.
-    imports: Work,
+    /// The image, or those entries of a fat file that open as one.
+    pub images: Vec<MachO<'a, A>, A>,
+    /// What was counted of the imports of all images.
+    pub imports: Work,
     // The exports of each image, whose names are looked up.
     exports: Vec<Vec<Export<'a, A>, A>, A>,
     alloc: A,
@@ -211,7 +213,7 @@ fn exports_of<'a, A: Allocator + Clone>(
 
 // Counts the imports of all images, up to the limit.
 fn count_imports<A: Allocator>(limit: usize, images: &[MachO<'_, A>]) -> Work
-    ensures { (count : ℕ) × HaveImportCount images.now count × Counts limit count result }
+    ensures { (counts : List ℕ) × HaveImportCounts images.now counts × Counts limit (sum counts) result }
 {
     let mut work = Work::new(limit);
     'images: for image in images {
@@ -227,7 +229,9 @@ impl<'a, A: Allocator + Clone> Subject<'a, A> {
     pub fn open(alloc: A, limit: usize, bytes: &'a [u8]) -> Result<Subject<'a, A>>
         ensures opens { OnOk result ((entries : List (Result FatEntry Fault)) × HasEntries bytes.now entries) }
         ensures limit { IfOk result (λ subject. subject.limit ≡ limit) }
-        ensures counted { IfOk result (λ subject. (count : ℕ) × HaveImportCount subject.images.items count × Counts limit count subject.imports) }
+        ensures counted { IfOk result (λ subject. (counts : List ℕ) × HaveImportCounts subject.images.items counts
+            × (subject.imports.more ≡ nat_lt limit (sum counts))) }
+        ensures given { IfOk result (λ subject. subject.imports.items ≡ 0) }
     {
         let images = images_of(alloc.clone()?, bytes)?;
         let exports = exports_of(alloc.clone()?, &images)?;
@@ -348,7 +352,14 @@ impl Work {
     fn count_imports<A: Allocator>(&mut self, image: &MachO<'_, A>)
         ensures { (count : ℕ) × HasImportCount image.now count × ((limit before : ℕ) → Counts limit before self.old → Counts limit (before + count) self.new) }
     {
-        'imports: for _ in image.iter_imports() {
+        self.count(image.iter_imports());
+    }
+
+    // Counts imports, up to the limit.
+    fn count(&mut self, imports: BindIterator<'_, '_>)
+        ensures { (limit before : ℕ) → Counts limit before self.old → Counts limit (before + length (imports_left imports.entry)) self.new }
+    {
+        'imports: for _ in imports {
             if !self.takes() {
                 return;
             }

@@ -21,8 +21,9 @@ const HELP: &str = "usage: machbench [--limit N] FILE
 Times calls of goblin_mach on a Mach-O file, or on all images of a fat one, each for about half
 a second. A line has the call, how many items a run of it gives, the nanoseconds of an item by
 the least and by the median of all runs, and the megabytes of the file that the least run goes
-over in a second. Of a call at most N items are gone over, 10000000 where no limit is given; where a
-call has more, a last line says so, and the status is 1.
+over in a second. A call that goes over items one at a time ends behind N of them, 10000000 where
+no limit is given, and one that lists imports is not run where there are more. Where a call has
+more, a last line says so, and the status is 1.
 ";
 
 const VERSION: &str = "machbench 0.2.0\n";

@@ -116,7 +116,7 @@ fixups       nothing in this file
 symbols              1 items    1000.0 ns least    2000.0 ns median     440 MB/s
 relocations          1 items    1000.0 ns least    2000.0 ns median     440 MB/s
 link_view    more than 1 items
-limit: 1 of them are told, and there are more
+limit: 1 items of a call, and there are more
 ";
 
 const UNTYPED: &str = "machbench: malformed: a bind has a name, a segment and a type\n";

@@ -1,6 +1,7 @@
-use Rattle.std.proofs.Common.{ℕ, take}
-use Rattle.machbench.specs.Imports.{HaveImportCount, Counts}
+use Rattle.std.proofs.Common.{ℕ, List, take}
+use Rattle.std.specs.Prelude.{sum}
+use Rattle.machbench.specs.Imports.{HaveImportCounts, Counts}
 use Rattle.machbench.proofs.calls.count_imports.Given as goal
 
 abbrev pub invariant-images : goal.invariant-images
-invariant-images g l = (count : ℕ) × HaveImportCount (take l.image-index l.images) count × Counts l.limit count l.work
+invariant-images g l = (counts : List ℕ) × HaveImportCounts (take l.image-index l.images) counts × Counts l.limit (sum counts) l.work

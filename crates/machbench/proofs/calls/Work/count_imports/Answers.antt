@@ -1,0 +1,8 @@
+use Rattle.std.proofs.Common.{length, refl}
+use Rattle.mach_binds.specs.BindLeft.{imports_left}
+use Rattle.machbench.proofs.calls.Work.count_imports.Goals as goal
+
+pub returns : goal.returns
+returns g c =
+    let items = imports_left c.iter_imports.result in
+    (length items, record { items = items; are_items = c.iter_imports.ensures; count_is = refl }, c.count.ensures)
