@@ -3,6 +3,7 @@ pub mod Foreigners
 pub mod Headings
 pub mod Held
 pub mod Lines
+pub mod Misuses
 pub mod Names
 pub mod Shown
 pub mod Statuses

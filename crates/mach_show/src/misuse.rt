@@ -21,6 +21,11 @@ pub enum Misuse<'a> {
 }
 
 impl Display for Misuse<'_> {
+    ghost use Rattle.std.specs.Prelude.{Some};
+    ghost use Rattle.mach_show.specs.Misuses.{misuse_words};
+
+    ghost output = { λ misuse. Some (misuse_words misuse) };
+
     fn fmt<W: Write>(&self, f: &mut Formatter<W>) -> fmt::Result {
         match self {
             Misuse::UnknownOption(word) => write!(f, "unknown option '{word}'"),

@@ -1,6 +1,6 @@
 //! The files of a call, one behind the other.
 
-ghost use Rattle.std.specs.Prelude.{◌≡◌, ◌≤◌, ◌++◌, codes, max, IsOk, IfErr, OnOk};
+ghost use Rattle.std.specs.Prelude.{◌≡◌, ◌≤◌, ◌++◌, codes, max, IsOk, IfErr, OnOk, Err};
 ghost use Rattle.std.specs.Io.KnownBytes.{Appends};
 ghost use Rattle.mach_show.specs.Statuses.{IsUnwritten};
 
@@ -61,7 +61,7 @@ impl Round {
     pub fn end(&mut self, status: u8) -> Result<(), u8>
         ensures on { status ≤ 1 → IsOk result }
         ensures worst { OnOk result (self.new.worst ≡ max self.old.worst status) }
-        ensures over { IfErr result (λ s. s ≡ status) }
+        ensures over { 2 ≤ status → result ≡ Err status }
     {
         if status > 1 {
             return Err(status);
