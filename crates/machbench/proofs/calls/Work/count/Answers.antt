@@ -12,5 +12,6 @@ imports-preserved c =
       λ (limit before : ℕ) counts.
           let same : before + front + 1 ≡ before + (front + 1) = omega arith in
           subst (λ (n : ℕ). Counts limit n c.takes.new.self) same
-          (counts_one limit (before + front) c.imports.self c.takes.new.self (c.imports.invariant.2 limit before counts) taken.0 taken.1 c.takes.ensures.kept.0),
+          (counts_one limit (before + front) c.imports.self c.takes.new.self (c.imports.invariant.2 limit before counts)
+          taken.0 taken.1 c.takes.ensures.kept.0),
     )
