@@ -2,7 +2,8 @@
 use Rattle.mach_tries.proofs.Names.{◌≡◌, ℕ, List, [], ◌∷◌, ◌++◌, refl, sym, ap, subst, ◌∙◌, arith, append_assoc, inl, inr, Branch, Node, Trie, Entry}
 use Rattle.mach_tries.proofs.Names.{own_entries, Lists, BranchesList, nothing, a_node, one_more, ListBegins, BranchesBegin, none_yet, node_begun}
 use Rattle.mach_tries.proofs.Names.{no_further, one_begun, one_whole, source_trie, HasFound}
-use Rattle.mach_tries.proofs.Names.{Source, TrieRange, trie_there, ListsExports, ExportsFault, ExportsEnd, HasListed, IsTree, TrieFault, Error, Stands, Stands-in, fault_in, IsEndOfWalk}
+use Rattle.mach_tries.proofs.Names.{Source, TrieRange, trie_there, ListsExports, ExportsFault, ExportsEnd, HasListed, IsTree, TrieFault, Error, Stands}
+use Rattle.mach_tries.proofs.Names.{Stands-in, fault_in, IsEndOfWalk}
 use Rattle.mach_tries.proofs.TriePaths.{same_node}
 use Rattle.mach_tries.proofs.TrieRelation.{one_list}
 use Rattle.mach_tries.proofs.Unfoldings.{met_begins}

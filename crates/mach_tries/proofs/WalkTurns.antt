@@ -3,7 +3,8 @@ use Rattle.mach_tries.proofs.Names.{◌≡◌, ◌<◌, ◌≤◌, ◌+◌, ◌-
 use Rattle.mach_tries.proofs.Names.{refl, sym, ap, subst, ◌∙◌, arith, replicate, reverse, reverse-append, sum_by-cons, cases_eq, Ok, Err, Option, Some}
 use Rattle.mach_tries.proofs.Names.{None, IfSome, Error, Fault, malformed, ◌⊎◌, Info, Node, Trie, Branch, Entry, own_entries, nothing, IsUtf8, texts}
 use Rattle.mach_tries.proofs.Names.{Leads, Path, IsAmong, branch_at, source_trie, node_in, fault_in, trie_range_of, at_node, met_again, AreApart, Visits}
-use Rattle.mach_tries.proofs.Names.{Ahead, ahead, HasRead, AreMarked, WasRead, IsEndOfWalk, Holds, HasListed, IsRefusedWalk, IsAtBranch, HasFound, unmarked, work}
+use Rattle.mach_tries.proofs.Names.{Ahead, ahead, HasRead, AreMarked, WasRead, IsEndOfWalk, Holds, HasListed, IsRefusedWalk, IsAtBranch, HasFound, unmarked}
+use Rattle.mach_tries.proofs.Names.{work}
 use Rattle.mach_tries.proofs.Names.{branch_of, branches_of, branches_in, IsReadable, Source, Open}
 use Rattle.std.proofs.lemmas.List.{take_all}
 use Rattle.mach_tries.specs.declared.walk.Walker.{Walker}
