@@ -154,7 +154,7 @@ VM_PROT_EXECUTE u32 0x4 running
 
 # The numbers of goblin_mach_c that no constant of it names: where each stands in its sources, and its name in C.
 NUMBERS = {
-    "find.rt": [(r"None => gm_export \{[^}]*kind: (\d+)", "GM_NO_EXPORT"), (r"::Regular \{[^}]*\}\) => gm_export \{[^}]*kind: (\d+)", "GM_ADDRESS"),
+    "find.rt": [(r"fn no_export\(\)[^}]*\}[^}]*kind: (\d+)", "GM_NO_EXPORT"), (r"::Regular \{[^}]*\} => gm_export \{[^}]*kind: (\d+)", "GM_ADDRESS"),
                 (r"::Reexport \{.*?kind: (\d+)", "GM_REEXPORTED"), (r"::Stub \{.*?kind: (\d+)", "GM_STUB")],
     "fixups.rt": [(r"FixupKind::Rebase [^=]*=> \((\d+),", "GM_REBASE"), (r"FixupKind::Bind [^=]*=> \((\d+),", "GM_BIND"),
                   (r"FixupKind::Value [^=]*=> \((\d+),", "GM_NUMBER")],
