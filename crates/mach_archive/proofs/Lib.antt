@@ -1,0 +1,7 @@
+pub mod Digits
+pub mod HeadersRead
+pub mod MembersRead
+pub mod MemberLaws
+pub mod SymbolsRead
+pub mod SymbolLaws
+pub mod ArchiveLaws

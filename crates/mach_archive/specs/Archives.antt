@@ -1,0 +1,106 @@
+-- The front of an archive (`ar.h`, ARMAG; `ranlib.h`, SYMDEF): what form it has, its index, its names, and where members begin.
+use Rattle.std.specs.Prelude.{◌==◌, ◌||◌, ℕ, List, [], ◌∷◌, ◌++◌, length, Option, Some, None, option_map, is_some, Result, Ok, Err, nat_le, nat_lt}
+use Rattle.std.specs.Prelude.{if◌then◌else◌, codes}
+use Rattle.std.specs.Str.{bytes_eq}
+use Rattle.mach_base.specs.declared.context.Endian.TheVariants.{Big}
+use Rattle.mach_base.specs.Answer.{◌>>=◌}
+use Rattle.mach_base.specs.Fault.{Fault, malformed, bad_magic}
+use Rattle.mach_base.specs.Number.{slice_at, number}
+use Rattle.mach_base.specs.Text.{is_zero}
+use Rattle.mach_archive.specs.declared.archive.ArchiveKind.{ArchiveKind}
+use Rattle.mach_archive.specs.declared.archive.ArchiveKind.TheVariants.{Gnu, Bsd}
+use Rattle.mach_archive.specs.Fields.{is_space, without_end, word_of}
+use Rattle.mach_archive.specs.MemberHeaders.{MemberHeader, member_header_at, name_field, next_header}
+use Rattle.mach_archive.specs.Members.{LongNames, MemberView, member_of, body_of, long_name_of}
+
+-- an index: how many bytes a number has there, and its bytes
+pub record ArchiveIndexView : Type 0 where
+  pub width : ℕ
+  pub table : List ℕ
+
+pub record ArchiveView : Type 0 where
+  pub bytes : List ℕ
+  pub index : Option ArchiveIndexView
+  pub names : LongNames
+  pub begin : ℕ
+
+-- the form: that of GNU has a list of names, which may be empty
+abbrev pub archive_kind : LongNames → ArchiveKind
+archive_kind (Some names) = Gnu
+archive_kind None = Bsd
+
+-- the numbers' width in the index of a name
+abbrev pub bsd_width : List ℕ → Option ℕ
+bsd_width name =
+    if bytes_eq name (codes "__.SYMDEF") || bytes_eq name (codes "__.SYMDEF SORTED") then Some 4
+    else (if bytes_eq name (codes "__.SYMDEF_64") || bytes_eq name (codes "__.SYMDEF_64 SORTED") then Some 8 else None)
+
+abbrev pub gnu_width : List ℕ → Option ℕ
+gnu_width word = if bytes_eq word (codes "/") then Some 4 else (if bytes_eq word (codes "/SYM64/") then Some 8 else None)
+
+-- the long name less the zeros at its end, or else the name field less its spaces
+abbrev pub index_name_by : Option (List ℕ) → List ℕ → List ℕ
+index_name_by (Some long) field = without_end is_zero long
+index_name_by None field = without_end is_space field
+
+abbrev pub index_name : List ℕ → MemberHeader → List ℕ
+index_name bytes h = index_name_by (long_name_of bytes h) (name_field h.fields)
+
+-- the index that a member is, if its numbers have a width
+abbrev pub index_of : List ℕ → MemberHeader → Option ℕ → Option ArchiveIndexView
+index_of bytes h width = option_map (λ w. record { width = w; table = body_of bytes h }) width
+
+-- behind a member that is an index, or else where it stands
+abbrev pub behind_index : MemberHeader → Option ℕ → ℕ
+behind_index h width = if is_some width then next_header h else h.place
+
+-- BSD's form, by the first header
+abbrev pub bsd_archive : List ℕ → MemberHeader → ArchiveView
+bsd_archive bytes h =
+    let width = bsd_width (index_name bytes h) in
+    record { bytes = bytes; index = index_of bytes h width; names = None; begin = behind_index h width }
+
+-- the names that stand at a place, and the place behind them; or none, and the place
+abbrev pub names_or_none : List ℕ → MemberHeader → List ℕ × ℕ
+names_or_none bytes h =
+    if bytes_eq (word_of (name_field h.fields)) (codes "//") then (body_of bytes h, next_header h) else ([], h.place)
+
+abbrev pub names_at : List ℕ → ℕ → Result (List ℕ × ℕ) Fault
+names_at bytes from =
+    if nat_le (length bytes) from then Ok ([], from) else member_header_at bytes from >>= (λ h. Ok (names_or_none bytes h))
+
+-- GNU's form, by the first header: the index, then the names, then members
+abbrev pub gnu_archive : List ℕ → MemberHeader → Result ArchiveView Fault
+gnu_archive bytes h =
+    let width = gnu_width (word_of (name_field h.fields)) in
+    names_at bytes (behind_index h width)
+    >>= (λ found. Ok (record { bytes = bytes; index = index_of bytes h width; names = Some found.0; begin = found.1 }))
+
+abbrev pub archive_by : List ℕ → MemberHeader → Result ArchiveView Fault
+archive_by bytes h =
+    if is_some h.long || is_some (bsd_width (index_name bytes h)) then Ok (bsd_archive bytes h) else gnu_archive bytes h
+
+-- an archive of no member
+abbrev pub empty_archive : List ℕ → ArchiveView
+empty_archive bytes = record { bytes = bytes; index = None; names = Some []; begin = 8 }
+
+-- behind the magic
+abbrev pub archive_behind_magic : List ℕ → Result ArchiveView Fault
+archive_behind_magic bytes =
+    if length bytes == 8 then Ok (empty_archive bytes) else member_header_at bytes 8 >>= archive_by bytes
+
+-- what the magic says: members that are other files aren't read
+abbrev pub archive_by_magic : List ℕ → List ℕ → Result ArchiveView Fault
+archive_by_magic bytes magic =
+    if bytes_eq magic (codes "!<thin>" ++ 0x0a ∷ []) then Err malformed
+    else (if bytes_eq magic (codes "!<arch>" ++ 0x0a ∷ []) then archive_behind_magic bytes
+    else Err (bad_magic (number Big 4 magic)))
+
+-- the archive that some bytes are, or why they are none
+unfoldable pub archive_in : List ℕ → Result ArchiveView Fault
+archive_in bytes = slice_at 8 bytes 0 >>= archive_by_magic bytes
+
+-- the member whose header stands at a place, which is behind the magic
+abbrev pub archive_member_at : ArchiveView → ℕ → Result MemberView Fault
+archive_member_at a place =
+    if nat_lt place 8 then Err malformed else member_header_at a.bytes place >>= (λ h. Ok (member_of a.bytes a.names h))

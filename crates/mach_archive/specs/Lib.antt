@@ -1,0 +1,11 @@
+pub mod Fields
+pub mod MemberHeaders
+pub mod Members
+pub mod MemberNames
+pub mod Archives
+pub mod IndexTables
+pub mod IndexSymbols
+pub mod Widths
+pub mod FoundSymbols
+pub mod TableViews
+pub mod ArchiveViews

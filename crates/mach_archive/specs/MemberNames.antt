@@ -1,0 +1,57 @@
+-- Names of members: short ones, and long ones of both forms.
+use Rattle.std.specs.Prelude.{◌==◌, ◌||◌, ℕ, ◌+◌, ◌-◌, Bool, List, length, take, drop, Option, Some, None, Result, Ok, Err, nat_eq, nat_lt}
+use Rattle.std.specs.Prelude.{if◌then◌else◌, codes}
+use Rattle.std.specs.List.{before_first, starts_with, ends_with}
+use Rattle.std.specs.Str.{bytes_eq, is_utf8}
+use Rattle.mach_base.specs.Answer.{◌>>=◌}
+use Rattle.mach_base.specs.Fault.{Fault, malformed, bad_input}
+use Rattle.mach_base.specs.Sums.{found_or_malformed}
+use Rattle.mach_base.specs.Text.{is_zero}
+use Rattle.mach_archive.specs.Fields.{is_space, without_end, word_of, numeral}
+use Rattle.mach_archive.specs.MemberHeaders.{name_field}
+use Rattle.mach_archive.specs.Members.{LongNames, MemberView}
+
+abbrev pub is_newline : ℕ → Bool
+is_newline b = b == 0x0a
+
+abbrev pub is_slash : ℕ → Bool
+is_slash b = b == 0x2f
+
+-- the line that stands at a place, up to its end, which is there
+abbrev pub line_at : List ℕ → ℕ → Result (List ℕ) Fault
+line_at names n =
+    let line = before_first is_newline (drop n names) in
+    if nat_lt (n + length line) (length names) then Ok line else Err malformed
+
+-- bytes that end with a slash, without it
+abbrev pub before_slash : List ℕ → Result (List ℕ) Fault
+before_slash line = if ends_with nat_eq line (codes "/") then Ok (take (length line - 1) line) else Err malformed
+
+-- a name field in GNU's form: `/` and `//`, which are no names of files; the place of a long name; or a name up to its slash
+abbrev pub gnu_name : List ℕ → List ℕ → Result (List ℕ) Fault
+gnu_name names field =
+    let word = word_of field in
+    if bytes_eq word (codes "/") || bytes_eq word (codes "//") then Ok word
+    else (if starts_with nat_eq field (codes "/") then
+    (found_or_malformed (numeral 10 (drop 1 word)) >>= line_at names) >>= before_slash
+    else Ok (without_end is_space (before_first is_slash field)))
+
+-- a name field, by the form of the archive
+abbrev pub short_name : LongNames → List ℕ → Result (List ℕ) Fault
+short_name None field = Ok (word_of field)
+short_name (Some names) field = gnu_name names field
+
+-- a long name less the zeros at its end, or else the short one
+abbrev pub name_by : Option (List ℕ) → LongNames → List ℕ → Result (List ℕ) Fault
+name_by (Some long) names field = Ok (without_end is_zero long)
+name_by None names field = short_name names field
+
+abbrev pub member_name_bytes : MemberView → Result (List ℕ) Fault
+member_name_bytes m = name_by m.long m.names (name_field m.fields)
+
+-- bytes that are UTF-8
+abbrev pub text_or_fault : List ℕ → Result (List ℕ) Fault
+text_or_fault name = if is_utf8 name then Ok name else Err (bad_input (length name))
+
+abbrev pub member_name : MemberView → Result (List ℕ) Fault
+member_name m = member_name_bytes m >>= text_or_fault

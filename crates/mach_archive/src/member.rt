@@ -1,0 +1,174 @@
+//! A member of an archive, and its name.
+
+ghost use Rattle.std.specs.Prelude.{◌≡◌, ◌≤◌, ◌+◌, Option, option_map, unwrap_or, length};
+ghost use Rattle.mach_base.specs.Answer.{Reads};
+ghost use Rattle.mach_archive.specs.ArchiveViews.{header_view, member_view, names_view};
+ghost use Rattle.mach_archive.specs.Fields.{field_number};
+ghost use Rattle.mach_archive.specs.MemberHeaders.{name_field, date_field, uid_field, gid_field, mode_field};
+ghost use Rattle.mach_archive.specs.MemberNames.{gnu_name, line_at, before_slash, name_by, member_name, member_name_bytes};
+ghost use Rattle.mach_archive.specs.Members.{member_of};
+
+use crate::field::{number_in, number_of, trimmed, up_to, word};
+use crate::header::{Header, SIZE};
+use mach_base::{ByteCount, Error, Result, ScrollError};
+use std::fmt;
+
+/// A member of an archive: a file among its bytes.
+#[derive(Clone, Copy)]
+pub struct Member<'a> {
+    /// The place of its header in the archive.
+    pub offset: usize,
+    /// The place of its bytes, behind the header and a long name.
+    pub start: usize,
+    /// Its bytes, without a long name.
+    pub bytes: &'a [u8],
+    // The header, the long name if there is one, and the archive's names, where it has GNU's form.
+    fields: &'a [u8; SIZE],
+    long: Option<&'a [u8]>,
+    names: Option<&'a [u8]>,
+}
+
+impl<'a> Member<'a> {
+    /// The member of a header that was read in these bytes.
+    pub(crate) fn of(bytes: &'a [u8], names: Option<&'a [u8]>, header: &Header<'a>) -> Member<'a>
+        requires room { header.now.place + 60 + header.now.size ≤ length bytes.now }
+        requires long { unwrap_or header.now.long 0 ≤ header.now.size }
+        ensures { member_view result ≡ member_of bytes.now (names_view names.entry) (header_view header.now) }
+    {
+        Member {
+            offset: header.place,
+            start: header.start(),
+            bytes: header.body(bytes),
+            fields: header.fields,
+            long: header.long_name(bytes),
+            names,
+        }
+    }
+
+    /// Its name. It is `Malformed` where a header in GNU's form speaks of a long name that isn't there; the
+    /// member's bytes can be read none the less.
+    pub fn name_bytes(&self) -> Result<&'a [u8]>
+        ensures { Reads (λ name. name.now) result (member_name_bytes (member_view self.now)) }
+    {
+        let fields = self.fields;
+        let field = &fields[..16];
+        match (self.long, self.names) {
+            (Some(long), _) => Ok(trimmed(long, 0)),
+            (None, None) => Ok(word(field)),
+            (None, Some(names)) => gnu_name(names, field),
+        }
+    }
+
+    /// Its name as a text. It is refused as `name_bytes` refuses it, and with `BadInput` of its length where it isn't
+    /// UTF-8.
+    pub fn name(&self) -> Result<&'a str>
+        ensures { Reads (λ name. name.now) result (member_name (member_view self.now)) }
+    {
+        let name = self.name_bytes()?;
+        match str::from_utf8(name) {
+            Ok(text) => Ok(text),
+            Err(_) => Err(Error::Scroll(ScrollError::BadInput {
+                size: name.len(),
+                msg: "a member's name is UTF-8",
+            })),
+        }
+    }
+
+    /// When the file was changed, in seconds from 1970, if the field is a number.
+    pub fn date(&self) -> Option<u64>
+        ensures { result ≡ field_number 10 (date_field (member_view self.now).fields) }
+    {
+        let fields = self.fields;
+        number_in(&fields[16..28], 10)
+    }
+
+    /// The number of the file's owner, if the field is a number.
+    pub fn uid(&self) -> Option<u64>
+        ensures { result ≡ field_number 10 (uid_field (member_view self.now).fields) }
+    {
+        let fields = self.fields;
+        number_in(&fields[28..34], 10)
+    }
+
+    /// The number of the file's group, if the field is a number.
+    pub fn gid(&self) -> Option<u64>
+        ensures { result ≡ field_number 10 (gid_field (member_view self.now).fields) }
+    {
+        let fields = self.fields;
+        number_in(&fields[34..40], 10)
+    }
+
+    /// The file's kind and permissions, if the field is a number: its digits are octal.
+    pub fn mode(&self) -> Option<u64>
+        ensures { result ≡ field_number 8 (mode_field (member_view self.now).fields) }
+    {
+        let fields = self.fields;
+        number_in(&fields[40..48], 8)
+    }
+}
+
+impl fmt::Debug for Member<'_> {
+    /// Where it stands; of the bytes only how many they are.
+    fn fmt<W: fmt::Write>(&self, f: &mut fmt::Formatter<W>) -> fmt::Result {
+        f.debug_struct("Member")
+            .field("offset", &self.offset)
+            .field("start", &self.start)
+            .field("bytes", &ByteCount(self.bytes))
+            .finish()
+    }
+}
+
+// The name that a field of 16 bytes says in GNU's form.
+fn gnu_name<'a>(names: &'a [u8], field: &'a [u8]) -> Result<&'a [u8]>
+    requires { length field.now ≤ 16 }
+    ensures { Reads (λ name. name.now) result (gnu_name names.now field.now) }
+{
+    let word = word(field);
+    if word == b"/".as_slice() || word == b"//".as_slice() {
+        return Ok(word);
+    }
+    if !field.starts_with(b"/") {
+        return Ok(trimmed(up_to(field, b'/'), b' '));
+    }
+    let Some(place) = number_of(digits_of(word), 10) else {
+        return Err(Error::Malformed("a long name has a place"));
+    };
+    before_slash(line_at(names, place as usize)?)
+}
+
+// A word behind its first byte, if it has one.
+fn digits_of(word: &[u8]) -> &[u8]
+    ensures digits { result.now ≡ drop 1 word.now }
+    ensures within { length result.now ≤ length word.now }
+{
+    match word {
+        [_, digits @ ..] => digits,
+        [] => word,
+    }
+}
+
+// The line that stands at a place among the names.
+fn line_at(names: &[u8], place: usize) -> Result<&[u8]>
+    ensures { Reads (λ line. line.now) result (line_at names.now place) }
+{
+    if place < names.len() {
+        let rest = &names[place..];
+        let line = up_to(rest, b'\n');
+        if line.len() < rest.len() {
+            return Ok(line);
+        }
+    }
+    Err(Error::Malformed("a long name ends with its line"))
+}
+
+// A line that ends with a slash, without it.
+fn before_slash(line: &[u8]) -> Result<&[u8]>
+    ensures { Reads (λ name. name.now) result (before_slash line.now) }
+{
+    match line.strip_suffix(b"/") {
+        Some(name) => Ok(name),
+        None => Err(Error::Malformed("a long name ends with a slash")),
+    }
+}
+
+ghost use Rattle.std.specs.Prelude.{drop};

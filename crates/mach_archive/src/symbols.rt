@@ -1,0 +1,154 @@
+//! The symbols of an index, one at a time.
+
+ghost use Rattle.std.specs.Prelude.{◌≡◌, ◌<◌, ◌+◌, ◌-◌, Ok, Err, IfOk, OnOk, IfErr, option_map, length};
+ghost use Rattle.mach_base.specs.Answer.{Reads};
+ghost use Rattle.mach_archive.specs.ArchiveViews.{archive_symbol_read, archive_symbol_view, archive_symbols_left, table_left};
+ghost use Rattle.mach_archive.specs.IndexSymbols.{AreIndexSymbols, ended_text, first_named, index_symbol_at, behind_symbol, symbol_name_place, symbol_member};
+ghost use Rattle.mach_archive.specs.IndexTables.{index_table};
+ghost use Rattle.mach_archive.specs.TableViews.{index_table_view, index_view};
+ghost use Rattle.mach_archive.specs.Widths.{number_width};
+
+use crate::archive::ArchiveKind;
+use crate::field::up_to;
+use crate::table::{Index, Table};
+use mach_base::{ByteCount, Error, Result};
+use std::fmt;
+
+/// A symbol of an index: where it is defined.
+#[derive(Clone, Copy, Debug)]
+pub struct ArchiveSymbol<'a> {
+    /// The symbol's name.
+    pub name: &'a [u8],
+    /// The place of a member's header. Whether one stands there isn't tested.
+    pub member: u64,
+}
+
+/// The symbols of an index in the table's order, up to the first whose name has a fault; then its error; then nothing
+/// more. It takes no memory.
+#[derive(Clone, Copy)]
+pub struct ArchiveSymbols<'a> {
+    // What is left of the table.
+    pub(crate) table: Table<'a>,
+}
+
+// The text from a place on up to a zero, which has to be there.
+#[inline(always)]
+fn ended_text(names: &[u8], place: usize) -> Result<&[u8]>
+    ensures text { Reads (λ text. text.now) result (ended_text names.now place) }
+    ensures within { IfOk result (λ text. place + length text.now < length names.now) }
+{
+    if place < names.len() {
+        let rest = &names[place..];
+        let text = up_to(rest, 0);
+        if text.len() < rest.len() {
+            return Ok(text);
+        }
+    }
+    Err(Error::Malformed("a symbol's name ends with a zero"))
+}
+
+// The first symbol of a table.
+#[tactic(auto, unfolding(crate::specs::IndexSymbols::index_symbol_at))]
+#[inline(always)]
+fn first<'a>(table: &Table<'a>) -> Result<ArchiveSymbol<'a>>
+    requires { 0 < table.now.count }
+    ensures symbol { archive_symbol_read result ≡ index_symbol_at (index_table_view table.now) 0 }
+    ensures within { IfOk result (λ s. table.now.kind ≡ Gnu → length s.name.now < length table.now.names.now) }
+{
+    let name = ended_text(table.names, table.name_place())?;
+    Ok(ArchiveSymbol {
+        name,
+        member: table.member(),
+    })
+}
+
+// What is left of a table behind its first symbol.
+#[inline(always)]
+fn behind<'a>(table: &Table<'a>, name: &[u8]) -> Table<'a>
+    requires some { 0 < table.now.count }
+    requires within { table.now.kind ≡ Gnu → length name.now < length table.now.names.now }
+    ensures { index_table_view result ≡ behind_symbol (index_table_view table.now) name.now }
+{
+    let size = table.width.bytes();
+    let (records, names) = match table.kind {
+        ArchiveKind::Gnu => (&table.records[size..], &table.names[name.len() + 1..]),
+        ArchiveKind::Bsd => (&table.records[2 * size..], table.names),
+    };
+    Table {
+        kind: table.kind,
+        le: table.le,
+        width: table.width,
+        count: table.count - 1,
+        records,
+        names,
+    }
+}
+
+impl<'a> ArchiveSymbols<'a> {
+    /// The symbols of an index in the form of its archive.
+    pub(crate) fn new(kind: ArchiveKind, index: &Index<'a>) -> Result<ArchiveSymbols<'a>>
+        ensures table { Reads table_left result (index_table kind (index_view index.now)) }
+        ensures items { IfOk result (λ it. AreIndexSymbols (table_left it) 0 (archive_symbols_left it)) }
+    {
+        Ok(ArchiveSymbols {
+            table: Table::read(kind, index)?,
+        })
+    }
+
+    /// The first symbol of a name, or the fault before it.
+    pub(crate) fn find(mut self, name: &[u8]) -> Result<Option<ArchiveSymbol<'a>>>
+        ensures { Reads (option_map archive_symbol_view) result (first_named name.now (archive_symbols_left self.entry)) }
+    {
+        'symbols: loop {
+            match self.next() {
+                None => return Ok(None),
+                Some(Ok(symbol)) => {
+                    if symbol.name == name {
+                        return Ok(Some(symbol));
+                    }
+                }
+                Some(Err(e)) => return Err(e),
+            }
+        }
+    }
+}
+
+impl<'a> Iterator for ArchiveSymbols<'a> {
+    type Item = Result<ArchiveSymbol<'a>>;
+
+    ghost use Rattle.std.specs.Iterator.{YieldsFirstBy, item_count};
+
+    ghost next_gives = { YieldsFirstBy archive_symbol_read archive_symbols_left };
+
+    ghost remaining = { item_count archive_symbols_left };
+
+    #[inline(always)]
+    fn next(&mut self) -> Option<Result<ArchiveSymbol<'a>>> {
+        if self.table.count == 0 {
+            return None;
+        }
+        match first(&self.table) {
+            Ok(symbol) => {
+                self.table = behind(&self.table, symbol.name);
+                Some(Ok(symbol))
+            }
+            Err(e) => {
+                self.table = self.table.none();
+                Some(Err(e))
+            }
+        }
+    }
+}
+
+impl fmt::Debug for ArchiveSymbols<'_> {
+    /// How many symbols are left; of the bytes only how many they are.
+    fn fmt<W: fmt::Write>(&self, f: &mut fmt::Formatter<W>) -> fmt::Result {
+        f.debug_struct("ArchiveSymbols")
+            .field("kind", &self.table.kind)
+            .field("left", &self.table.count)
+            .field("names", &ByteCount(self.table.names))
+            .finish()
+    }
+}
+
+ghost use Rattle.mach_archive.specs.declared.archive.ArchiveKind.TheVariants.{Gnu};
