@@ -1,0 +1,6 @@
+pub mod CodePromise
+pub mod Four
+pub mod NumberedLists
+pub mod Promise
+pub mod SpecialPromise
+pub mod ToldNone
