@@ -36,7 +36,8 @@ pub use mach_segments::laws::{
 };
 pub use mach_symbols::laws::{symbols_by_number, symbols_counted};
 pub use mach_tries::laws::{
-    beginning_of_the_list, blocked_root_has_no_list, exports_of_terminal_paths,
-    faulty_tries_have_no_list, lists_within_levels, one_list, other_roots_have_lists,
+    beginning_of_the_list, blocked_root_has_no_list, exports_of_terminal_paths, faults_on_way,
+    faulty_tries_have_no_list, lists_within_levels, look_up_visits_in_a_tree,
+    look_up_visits_within_nodes, one_end_of_walk, one_list, one_next_node, other_roots_have_lists,
     other_tries_have_a_list, visits_of_paths, visits_within_nodes,
 };
