@@ -31,10 +31,12 @@ int main(int argc, char **argv) {
     rewind(file);
     if (!bytes || fread(bytes, 1, len, file) != len) return 2;
     gm_fat_entry entries[8];
-    size_t n = gm_fat_entries(bytes, len, 0, entries, 8);
-    int bad = n ? 0 : show(bytes, len);
-    for (size_t i = 0; i < n; i++)
-        if (entries[i].offset <= len && entries[i].size <= len - entries[i].offset)
-            bad |= show(bytes + entries[i].offset, entries[i].size);
-    return bad;
+    size_t first = 0;
+    int bad = 0;
+    for (size_t n; (n = gm_fat_entries(bytes, len, first, entries, 8)); first += n)
+        for (size_t i = 0; i < n; i++) {
+            const gm_fat_entry *e = &entries[i];
+            bad |= e->code != GM_OK || e->offset > len || e->size > len - e->offset || show(bytes + e->offset, e->size);
+        }
+    return first ? bad : show(bytes, len);
 }

@@ -1,5 +1,5 @@
-/* The thin C side of goblin_mach: NULL where a length is 0, and the caller's memory. Nothing proves this file; README says what
-   is trusted in it. Every other line of the library is Rattle, proved. */
+/* The thin C side of goblin_mach: NULL where a length is 0, the caller's memory, and names of numbers. Nothing proves this file; docs/PROVED.md says
+   what is trusted in it. Every other line of the library is Rattle, proved. */
 #include "goblin_mach.h"
 #include <stdlib.h>
 #include <string.h>
@@ -33,7 +33,7 @@ tried rattle_realloc(void *block, size_t kept, size_t size, size_t align) {
     return grown;
 }
 
-/* ---- an arena: blocks one behind the other; the last is given back, and all of it once no block is left */
+/* ---- an arena: blocks one behind the other, of which none is taken back before the last, and then all are */
 
 static void *arena_take(void *self, size_t size) {
     gm_arena *a = self;

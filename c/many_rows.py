@@ -1,10 +1,12 @@
 #!/usr/bin/env python3
 """many_rows.py FOLDER: writes an image with 1,000 symbols, imports and exports and 200 sections into FOLDER/many, and the lines that the examples of
-docs/C.md print of it into FOLDER/symbols, commands, sections, imports, bindings, exports, faults and memory."""
+docs/C.md print of it into FOLDER/symbols, commands, sections, imports, bindings, exports, faults and memory; and a fat file of 20 entries, each of them
+that image, into FOLDER/fat."""
 import struct
 import sys
 
 COUNT = 1000
+ENTRIES = 20
 SEGMENTS, SECTIONS = 10, 20  # so many segments with so many sections each, of four bytes each
 
 
@@ -81,6 +83,8 @@ lines = {
 }
 with open(folder + "/many", "wb") as file:
     file.write(data)
+with open(folder + "/fat", "wb") as file:
+    file.write(struct.pack(">2I", 0xCAFEBABE, ENTRIES) + struct.pack(">5I", 0x01000007, 3, 8 + 20 * ENTRIES, len(data), 0) * ENTRIES + data)
 for name, wanted in lines.items():
     with open(folder + "/" + name, "w") as file:
         file.write("".join(line + "\n" for line in wanted))

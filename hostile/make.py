@@ -14,6 +14,7 @@ MANY = 0xFFFFFFFF
 
 # Load commands, by their numbers in mach-o/loader.h.
 SEGMENT, SYMTAB, DYSYMTAB, DYLIB, ID_DYLIB, TWOLEVEL_HINTS, SEGMENT_64 = 0x1, 0x2, 0xB, 0xC, 0xD, 0x16, 0x19
+THREAD, UNIXTHREAD, PREBOUND_DYLIB, LINKER_OPTION, ENCRYPTION_INFO_64 = 0x4, 0x5, 0x10, 0x2D, 0x2C
 DYLD_INFO_ONLY, FUNCTION_STARTS, DATA_IN_CODE, NOTE, BUILD_VERSION = 0x80000022, 0x26, 0x29, 0x31, 0x32
 EXPORTS_TRIE, CHAINED_FIXUPS, RPATH, MAIN = 0x80000033, 0x80000034, 0x8000001C, 0x80000028
 PROGRAM, LIBRARY = 2, 6
@@ -93,6 +94,12 @@ def symbol_table(count, tail):
     at = begin(commands)
     fixed = [segment(b"__LINKEDIT", 0x1000, 0x1000, at, len(tail)), words(SYMTAB, 24, at, count, at + 16, len(tail) - 16)]
     return image(fixed, tail)
+
+
+def full_info(command):
+    """Bind opcodes and the like, of which each range is as long as can be said."""
+    fixed = 48
+    return image([words(command, fixed, *[begin(fixed), MANY] * 5)], bytes(16))
 
 
 def dynamic_symbols():
@@ -243,6 +250,13 @@ def files(size):
         "relocations_2_32": image([segment(b"__DATA", sections=1, body=section(0, MANY, 0))], kind=1),
         "tools_2_32": image([words(BUILD_VERSION, 24, 1, 0, 0, MANY)]),
         "hints_2_32": image([words(TWOLEVEL_HINTS, 16, 0, MANY)]),
+        "strings_2_32": image([words(SYMTAB, 24, begin(24), 1, begin(24) + 16, MANY)], one),
+        "info_2_32": full_info(DYLD_INFO_ONLY),
+        "thread_2_32": image([words(THREAD, 16, 4, MANY), words(UNIXTHREAD, 16, 4, MANY)], kind=PROGRAM),
+        "modules_2_32": image([words(PREBOUND_DYLIB, 24, 20, MANY, 20, 0)]),
+        "options_2_32": image([words(LINKER_OPTION, 16, MANY, 0)], kind=1),
+        "encrypted_2_32": image([words(ENCRYPTION_INFO_64, 24, 0, MANY, 1, 0)]),
+        "file_bytes_2_64": image([segment(b"__TEXT", 0, 2**64 - 1, 0, 2**64 - 1)]),
         "data_in_code_2_32": image([words(DATA_IN_CODE, 16, 0, MANY)]),
         "trie_2_32": image([words(EXPORTS_TRIE, 16, 0, MANY)]),
         "trie_branches_255": image([words(EXPORTS_TRIE, 16, 48, 4)], b"\0\xff\0\0"),

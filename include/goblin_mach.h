@@ -289,11 +289,12 @@ const char *gm_layout_rule(uint32_t rule);
 const char *gm_layout_part(uint32_t part);
 
 /* The faults from number `first` on, and how many were written to *count: those of the file that begins with the image, and places count
-   from there. It opens the image again, and takes memory while it runs. A refusal leaves the array and *count as they were. */
+   from there. It opens the image again, and takes memory while it runs. With a `cap` of 0 it is refused with GM_NO_ROWS. A refusal leaves the
+   array and *count as they were. */
 uint32_t gm_layout_faults(const uint8_t *bytes, size_t len, const gm_image *image, size_t first, gm_layout_fault *out, size_t cap, size_t *count,
                           const gm_memory *memory, gm_error *error);
 
-/* The same of the table of a fat file: none where the bytes are none. GM_NO_MEMORY is its one refusal. */
+/* The same of the table of a fat file: none where the bytes are none. Where `cap` is not 0, GM_NO_MEMORY is its one refusal. */
 uint32_t gm_container_faults(const uint8_t *bytes, size_t len, size_t first, gm_layout_fault *out, size_t cap, size_t *count,
                              const gm_memory *memory, gm_error *error);
 

@@ -20,7 +20,8 @@ SECONDS = 600
 
 
 def has(*names):
-    return all(importlib.util.find_spec(name) is not None for name in names)
+    """Whether there are modules of these names. A folder is none, as build/ of the repository."""
+    return all(spec is not None and spec.origin is not None for spec in map(importlib.util.find_spec, names))
 
 
 def run(*words, **more):
