@@ -1,0 +1,2 @@
+pub mod AsSigned
+pub mod SignedFacts

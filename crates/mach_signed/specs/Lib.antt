@@ -1,0 +1,2 @@
+pub mod SignedImages
+pub mod SignedFacts

@@ -1,0 +1,16 @@
+-- What the bytes say of the signature of the image that opens at a place.
+use Rattle.std.specs.Prelude.{◌≡◌, ℕ, List, Option, Result}
+use Rattle.mach_base.specs.Fault.{Fault}
+use Rattle.mach_image.specs.Facts.{OfImage}
+use Rattle.mach_image.specs.Subjects.{lossy_segments_in}
+use Rattle.mach_sign.specs.AsSigned.{SignatureFaultSeen}
+use Rattle.mach_sign.specs.SuperBlob.{SuperBlob}
+use Rattle.mach_signed.specs.SignedImages.{image_signature, image_faults}
+
+-- its signature, if it has one, or why it can't be read
+abbrev pub HasSignature : List ℕ → ℕ → Result (Option SuperBlob) Fault → Type 0
+HasSignature bytes o found = OfImage bytes o (λ ctx cs. found ≡ image_signature bytes cs)
+
+-- what of it isn't as it was signed
+abbrev pub HasSignatureFaults : List ℕ → ℕ → Result (Option (List SignatureFaultSeen)) Fault → Type 0
+HasSignatureFaults bytes o found = OfImage bytes o (λ ctx cs. found ≡ image_faults bytes cs (lossy_segments_in ctx bytes cs))

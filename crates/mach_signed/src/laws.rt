@@ -1,0 +1,28 @@
+//! Laws between an image that was opened and the bytes that it was opened in.
+
+ghost use Rattle.std.specs.Prelude.{◌≡◌, ◌↔◌, [], ℕ, List, Some, Ok};
+ghost use Rattle.mach_image.specs.Modes.{HoldsAs};
+ghost use Rattle.mach_image.specs.OpenImage.{bytes_held, commands_held, segments_held};
+ghost use Rattle.mach_load.specs.Command.{Command};
+ghost use Rattle.mach_segments.specs.Segment.{SegmentView};
+ghost use Rattle.mach_signed.specs.SignedFacts.{HasSignature, HasSignatureFaults};
+ghost use Rattle.mach_signed.specs.SignedImages.{image_signature, image_faults, IsImageAsSigned};
+
+use mach_image::macho::MachO;
+use std::alloc::Allocator;
+
+/// What `code_signature` answers is what the bytes say.
+pub fn signature_of_image<A: Allocator>(image: &MachO<'_, A>)
+    ensures { HoldsAs image.now HasSignature (image_signature (bytes_held image.now) (commands_held image.now)) }
+{}
+
+/// What `signature_faults` answers is what the bytes say.
+pub fn signature_faults_of_image<A: Allocator>(image: &MachO<'_, A>)
+    ensures { HoldsAs image.now HasSignatureFaults (image_faults (bytes_held image.now) (commands_held image.now) (segments_held image.now)) }
+{}
+
+/// An image has a signature without a fault exactly where it is as it was signed.
+pub fn image_as_signed()
+    ensures { (bytes : List ℕ) (cs : List Command) (segments : List SegmentView)
+        → (image_faults bytes cs segments ≡ Ok (Some [])) ↔ IsImageAsSigned bytes cs segments }
+{}

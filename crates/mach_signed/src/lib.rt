@@ -1,0 +1,11 @@
+//! The code signature of an image: what its command brings, and what isn't as it was signed.
+#![tactic(auto)]
+
+pub mod laws;
+mod place;
+mod plist;
+mod signed;
+
+pub use crate::place::signature_place;
+pub use crate::plist::info_plist;
+pub use crate::signed::{code_signature, signature_faults};

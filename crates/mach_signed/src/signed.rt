@@ -1,0 +1,50 @@
+//! The signature of an image, and what isn't as it was signed.
+
+ghost use Rattle.std.specs.Prelude.{◌≡◌, option_map};
+ghost use Rattle.mach_base.specs.Answer.{Reads};
+ghost use Rattle.mach_image.specs.OpenImage.{bytes_held, commands_held, segments_held};
+ghost use Rattle.mach_sign.specs.DirectoryViews.{slot_read};
+ghost use Rattle.mach_sign.specs.FaultViews.{signature_faults_left};
+ghost use Rattle.mach_sign.specs.SignViews.{signature_view};
+ghost use Rattle.mach_signed.specs.SignedImages.{image_signature, image_faults, plist_of};
+
+use crate::place::signature_place;
+use crate::plist::info_plist;
+use mach_base::Result;
+use mach_image::macho::MachO;
+use mach_sign::{CodeSignature, SignatureFaults};
+use std::alloc::Allocator;
+
+/// The code signature of an image: that of the first `LC_CODE_SIGNATURE` among the commands that it holds; none without one. Opening
+/// an image tests nothing of it. Errors as those of `mach_sign::code_signature`. It takes no memory.
+pub fn code_signature<'a, A: Allocator>(image: &MachO<'a, A>) -> Result<Option<CodeSignature<'a>>>
+    ensures { Reads (option_map signature_view) result (image_signature (bytes_held image.now) (commands_held image.now)) }
+{
+    let Some((dataoff, datasize)) = signature_place(image.load_commands.as_slice()) else {
+        return Ok(None);
+    };
+    let signature = mach_sign::code_signature(image.bytes(), dataoff, datasize)?;
+    Ok(Some(signature))
+}
+
+// The section that the signature of an image seals as its Info.plist.
+fn image_plist<'a, A: Allocator>(image: &MachO<'a, A>) -> Option<&'a [u8]>
+    ensures { slot_read result ≡ plist_of (bytes_held image.now) (segments_held image.now) }
+{
+    info_plist(image.bytes(), image.segments.sections())
+}
+
+/// What of an image isn't as it was signed, in order; none where no command brings a signature. There is nothing exactly where all
+/// is as signed. Errors as those of `code_signature`. It takes no memory, and hashes the image at most once for each of four directories.
+pub fn signature_faults<'a, A: Allocator>(
+    image: &MachO<'a, A>,
+) -> Result<Option<SignatureFaults<'a>>>
+    ensures { Reads (option_map signature_faults_left) result (image_faults (bytes_held image.now) (commands_held image.now) (segments_held image.now)) }
+{
+    let Some((dataoff, datasize)) = signature_place(image.load_commands.as_slice()) else {
+        return Ok(None);
+    };
+    let bytes = image.bytes();
+    let faults = mach_sign::signature_faults(bytes, dataoff, datasize, image_plist(image))?;
+    Ok(Some(faults))
+}
