@@ -11,4 +11,5 @@ returns g c =
     let m = c.args.image.now in
     c.info_plist.ensures
     ∙ ap (λ bytes. plist_bytes bytes (plist_in_segments (sections_in c.sections.result))) c.bytes.ensures
-    ∙ ap (λ listed. plist_bytes (bytes_held m) (plist_in_segments listed)) (c.sections.ensures ∙ sym (map-map sections_of segment_view (segments_in m.segments)))
+    ∙ ap (λ listed. plist_bytes (bytes_held m) (plist_in_segments listed))
+    (c.sections.ensures ∙ sym (map-map sections_of segment_view (segments_in m.segments)))
