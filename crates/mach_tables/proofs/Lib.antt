@@ -1,0 +1,5 @@
+pub mod StartsRead
+pub mod StartLaws
+pub mod ListsRead
+pub mod OptionsRead
+pub mod ToolsRead

@@ -1,0 +1,10 @@
+mod data_in_code;
+mod large;
+mod made;
+mod notes;
+mod options;
+mod prefixes;
+mod same;
+mod starts;
+mod text;
+mod tools;
