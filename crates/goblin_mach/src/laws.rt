@@ -31,10 +31,17 @@ pub use mach_image::facts::{
 pub use mach_image::laws::{lossy_agrees, new_header_recognised, one_chain, strict_opens_lossily};
 pub use mach_image::libraries::{libraries_by_ordinal, libraries_in_libs};
 pub use mach_image::macho::look_up::export_by_list_and_paths;
+pub use mach_image::table_facts::{
+    build_tools_of_image, data_in_code_of_image, function_starts_of_image, linker_options_of_image,
+    notes_of_image,
+};
 pub use mach_segments::laws::{
     bits_together, relocations_by_number, section_written_and_read, sections_by_number,
 };
 pub use mach_symbols::laws::{symbols_by_number, symbols_counted};
+pub use mach_tables::laws::{
+    data_in_code_by_number, starts_are_one_list, starts_are_sums, starts_ascend,
+};
 pub use mach_tries::laws::{
     beginning_of_the_list, blocked_root_has_no_list, exports_of_terminal_paths, faults_on_way,
     faulty_tries_have_no_list, lists_within_levels, look_up_visits_in_a_tree,

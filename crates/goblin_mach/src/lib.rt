@@ -32,6 +32,10 @@ pub use mach_records::{constants, cputype};
 pub use mach_segments::binding::{Binding, Provider};
 pub use mach_segments::{relocation, segment};
 pub use mach_symbols::symbols;
+pub use mach_tables::{
+    BuildToolIterator, DataInCodeIterator, FunctionStartIterator, FunctionStarts,
+    LinkerOptionIterator, Note, NoteIterator,
+};
 pub use mach_tries::exports;
 
 /// Chained fixups: what the data of `LC_DYLD_CHAINED_FIXUPS` and the pointers of the segments hold.

@@ -10,7 +10,6 @@ use Rattle.mach_segments.specs.Segment.{SegmentView}
 use Rattle.mach_symbols.specs.SymbolViews.{table_of}
 use Rattle.mach_tries.specs.Exports.{text_in}
 use Rattle.mach_base.specs.Text.{texts}
-use Rattle.mach_tries.specs.Trie as trie
 use Rattle.mach_image.specs.EntryPoint.{entry_point_in}
 use Rattle.mach_image.specs.ImageFacts.{Facts, facts_in, facts_held, HasFacts, OfFacts}
 use Rattle.mach_image.specs.Facts.{OfImage, HasCommands, HasSymbols, HasSegments, HasRelocations, HasName, HasLibraries, HasRunPaths, HasEntryPoint}

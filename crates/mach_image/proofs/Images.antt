@@ -1,11 +1,10 @@
 -- No fault stands where an image opens.
-use Rattle.std.proofs.Common.{◌≡◌, ℕ, ◌+◌, ◌≤◌, inl, inr, List, length, Option, Some, None, Result, Ok, Err, IsOk, true, false, nat_le, sym, ap, subst, ◌∙◌}
+use Rattle.std.proofs.Common.{◌≡◌, ℕ, ◌+◌, ◌≤◌, inl, inr, List, length, Option, Some, None, Result, Ok, Err, IsOk, sym, ap, subst, ◌∙◌}
 use Rattle.std.proofs.Common.{arith}
-use Rattle.std.proofs.lemmas.Bool.{le-leb, lt-leb}
 use Rattle.std.specs.Prelude.{IfErr}
 use Rattle.mach_base.specs.declared.context.Ctx.{Ctx}
 use Rattle.mach_base.specs.declared.error.Error.{Error}
-use Rattle.mach_base.specs.Answer.{◌>>=◌, Stands, IsOkUnlessMemory}
+use Rattle.mach_base.specs.Answer.{Stands, IsOkUnlessMemory}
 use Rattle.mach_base.specs.Fault.{Fault}
 use Rattle.mach_base.proofs.Binds.{same_ok}
 use Rattle.mach_base.proofs.Faults.{Stands-in}
@@ -17,7 +16,7 @@ use Rattle.mach_image.specs.Image.{HasHeader, CountsFit, HasChain, HasFront, Ope
 use Rattle.mach_image.specs.Image.{short_header, too_many_commands, broken_chain, unknown_thread, no_entry_point, IsUnreadable, segment, library, id, run_path}
 use Rattle.mach_image.specs.Image.{table, ImageFault, of_lossy, unreadable}
 use Rattle.mach_image.specs.Subjects.{segment_by, library_by, id_by, run_path_by, table_by}
-use Rattle.mach_headers.specs.Magic.{magic_at, ctx_of, cputype_at}
+use Rattle.mach_headers.specs.Magic.{magic_at, cputype_at}
 use Rattle.mach_image.specs.Readings.{Reading, AllRead, IsUnread}
 use Rattle.mach_image.proofs.Chains.{broken-excludes_chain, among-front, same_chain}
 use Rattle.mach_image.proofs.CommandReadings.{unread-excludes_all}

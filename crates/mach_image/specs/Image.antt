@@ -1,9 +1,7 @@
 -- When an image opens, and the faults that stand where it doesn't (`mach-o/loader.h`).
 use Rattle.std.specs.Prelude.{◌≡◌, ℕ, ◌+◌, ◌/◌, ◌<◌, ◌≤◌, ◌⊎◌, List, length, codes, Some, None, Ok, Err, IsOk}
 use Rattle.mach_base.specs.declared.context.Ctx.{Ctx}
-use Rattle.mach_base.specs.declared.context.Endian.TheVariants.{Big}
 use Rattle.mach_base.specs.Fault.{Fault, malformed, bad_magic, too_short}
-use Rattle.mach_base.specs.Number.{number_at}
 use Rattle.mach_load.specs.Command.{Command}
 use Rattle.mach_headers.specs.Header.{header_size}
 use Rattle.mach_image.specs.Chain.{IsChain, IsBroken}

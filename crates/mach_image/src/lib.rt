@@ -18,3 +18,5 @@ pub mod opened;
 pub mod readings;
 pub mod relocations;
 pub mod subjects;
+pub mod table_facts;
+pub mod table_places;
