@@ -5,7 +5,7 @@ use Rattle.mach_binds.proofs.Names.{◌∙◌, cond, append_assoc, pos, filter_m
 use Rattle.mach_binds.proofs.Names.{Instruction, done, library, symbol, addend, segment, advance, binds, Placed, is_done, nearer_than, nearest_or, last_setting}
 use Rattle.mach_binds.proofs.Names.{library_in, flags_in, symbol_name_in, addend_in, segment_in, offset_in, sets_segment, advances, advance_in, sequence_of}
 use Rattle.mach_binds.proofs.Names.{done_after, bind_after, binds_at, all_from}
-use Rattle.mach_binds.specs.Instructions.{nothing}
+use Rattle.mach_binds.specs.Instructions.{nothing, strong}
 use Rattle.mach_binds.specs.BindLast.{IsSilent, IsLast, found, behind_done, at_start, KeepsSegment, IsSince, set_at, done_at, from_start, IsNoDone, IsSequence}
 use Rattle.mach_binds.specs.BindLast.{after_done, no_done, LooksBack, AddsBinds}
 use Rattle.mach_binds.proofs.BindTotal.{onto, all_from-append}
@@ -97,6 +97,7 @@ reached_step pointer ps back place after (addend n) h = goes_on pointer ps back 
 reached_step pointer ps back place after (advance n) h = goes_on pointer ps back _ refl refl refl h
 reached_step pointer ps back place after (binds count skip) h = goes_on pointer ps back _ refl refl refl h
 reached_step pointer ps back place after nothing h = goes_on pointer ps back _ refl refl refl h
+reached_step pointer ps back place after (strong flags name) h = goes_on pointer ps back _ refl refl refl h
 
 reached_from : (pointer : ℕ) (back : List Placed) → Reached pointer (reverse back) back
 reached_from pointer [] = record { offset = 0; since = []; is_since = from_start tt; same_offset = refl; same_advances = refl }

@@ -1,8 +1,9 @@
 -- What one step of an iterator over two streams leaves of the places of names and the numbers of libraries.
 use Rattle.mach_binds.proofs.Names.{◌≡◌, ℕ, suc, ◌+◌, ◌-◌, ◌<◌, ◌≤◌, List, [], ◌∷◌, ◌++◌, Bool, true, false, Ok, refl, sym, ap, ◌∙◌, cond}
 use Rattle.mach_binds.proofs.Names.{append-nil, replicate, bind_ok, same_ok, Instruction, done, library, symbol, addend, segment, advance, binds}
-use Rattle.mach_binds.proofs.Names.{Range, Placed, Reader, Moves, State, executed, executed_by, start_of, reading_from, all_from, count_in}
-use Rattle.mach_binds.specs.Instructions.{nothing}
+use Rattle.mach_binds.proofs.Names.{Range, Placed, Reader, Moves, State, executed, executed_by, start_of, reading_from, all_from}
+use Rattle.mach_binds.specs.Instructions.{nothing, strong}
+use Rattle.mach_binds.specs.Binds.{rows_in}
 use Rattle.mach_binds.specs.Sites.{AreSites, Site, no_site, site_after, site_behind, site_by, sites_at, sites_from, sites_in}
 unfoldable use Rattle.mach_binds.specs.Sites.{sites_run, sites_of}
 use Rattle.mach_binds.proofs.BindReading.{reads_next, nothing_left, reading_longest}
@@ -19,19 +20,13 @@ same_site back place after (segment i n) = refl
 same_site back place after (advance n) = refl
 same_site back place after (binds count skip) = refl
 same_site back place after nothing = refl
-
-same_sites : (back : List Placed) (place after : ℕ) (i : Instruction) →
-    replicate (count_in (record { place = place; instruction = i; after = after })) (site_after (place + 1) i (site_behind back))
-    ≡ sites_at back (record { place = place; instruction = i; after = after })
-same_sites back place after (binds count skip) = refl
-same_sites back place after _ = refl
+same_site back place after (strong flags name) = refl
 
 runs_back : (back ps : List Placed) → sites_run (site_behind back) ps ≡ all_from sites_at back ps
 unfolding sites_run all_from
 runs_back back [] = refl
 runs_back back (p ∷ ps) =
-    ap (λ l. l ++ sites_run (site_after (p.place + 1) p.instruction (site_behind back)) ps) (same_sites back p.place p.after p.instruction)
-    ∙ ap (λ s. sites_at back p ++ sites_run s ps) (same_site back p.place p.after p.instruction)
+    ap (λ s. replicate (rows_in p) s ++ sites_run s ps) (same_site back p.place p.after p.instruction)
     ∙ ap (λ l. sites_at back p ++ l) (runs_back (p ∷ back) ps)
 
 module _ (reader : Range → Reader) (lazy : Range) where

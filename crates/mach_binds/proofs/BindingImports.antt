@@ -10,7 +10,7 @@ use Rattle.mach_binds.proofs.Names.{is_done, nearer_than, nearest_or, last_setti
 use Rattle.std.proofs.lemmas.List.Elements.{filter_map-append}
 use Rattle.mach_binds.specs.Binds.{done_is, segment_is, library_of, symbol_name_of, flags_of, addend_of, segment_of, segment_offset_of, advance_of, count_of}
 use Rattle.mach_binds.specs.Streams.{reader_of}
-use Rattle.mach_binds.specs.Instructions.{nothing}
+use Rattle.mach_binds.specs.Instructions.{nothing, strong}
 use Rattle.mach_segments.specs.Bindings.{Provider, of_library}
 unfoldable use Rattle.mach_segments.specs.Bindings.{provider_of}
 use Rattle.mach_segments.specs.Bindings.{Binding}
@@ -191,6 +191,7 @@ alike {A} {B} f g h (p ∷ ps) e =
 
 name_alike : (i : Instruction) → flags_of i ≡ None → symbol_name_of i ≡ None
 name_alike (symbol flags name) e = absurd (cc)
+name_alike (strong flags name) e = absurd (cc)
 name_alike _ e = refl
 
 offset_alike : (i : Instruction) → segment_offset_of i ≡ None → segment_of i ≡ None

@@ -50,7 +50,7 @@ unfolding spot_of
 spot_parts pointer segments k offset spot e =
     spot_by (holding_all pointer offset) spot_at segments k offset spot (λ s h e. (held_all pointer offset s h e).1) e
 
-spot_lies : (pointer : ℕ) (segments : List SegmentView) (k offset : ℕ) (spot : ℕ × ℕ) → spot_of pointer segments k offset ≡ Ok spot
+pub spot_lies : (pointer : ℕ) (segments : List SegmentView) (k offset : ℕ) (spot : ℕ × ℕ) → spot_of pointer segments k offset ≡ Ok spot
     → LiesWhole segments k spot.1 pointer
 spot_lies pointer segments k offset spot e =
     let p = spot_parts pointer segments k offset spot e in

@@ -12,6 +12,7 @@ use Rattle.mach_binds.specs.BindingsLeft.{binding_rules, given_now, first_extra,
 use Rattle.mach_binds.specs.declared.bindings.Extra.{Extra}
 use Rattle.mach_binds.proofs.BindSettings.{one_binds, tied_at_start}
 use Rattle.mach_binds.proofs.BindingSet.{set_or, setting-step, ordinal_after}
+use Rattle.mach_binds.proofs.BindQuiet.{binding_quiet}
 use Rattle.mach_binds.proofs.BindingOpcodes.{at_byte, next_nothing, next_ordinal, no_done}
 
 -- ---- what is set
@@ -104,6 +105,7 @@ same_library x r m back g own t = ap (λ q. binding_of x q (bind_after x.pointer
 pub bindings_at_start : (x : Input) (r : Range) (ps : List Placed) → AllStandBy (reader_by binding_rules x r) r.upto ps
     → run binding_rules x r (fresh r.is_lazy 0) (first_extra r.is_lazy) ps ≡ bindings_in x r ps
 bindings_at_start x r ps stand =
-    tied_at_start binding_rules x r (λ back. binding_of x (last_given x.bytes r.is_lazy back)) (Tied x r) (next_given x r)
+    tied_at_start binding_rules x r (λ back. binding_of x (last_given x.bytes r.is_lazy back)) (Tied x r)
+    (λ p s. binding_quiet r x.pointer x.bytes p.place (p.instruction, p.after) s.read) (next_given x r)
     (λ m back place count skip after own t. same_library x r m back (last_given x.bytes r.is_lazy (one_binds place count skip after ∷ back)) own t)
     (first_extra r.is_lazy) ps stand refl

@@ -1,9 +1,9 @@
 -- What comes of the turns of one instruction, and whether all of them lie in a segment.
-use Rattle.mach_binds.proofs.Names.{◌≡◌, ℕ, zero, suc, ◌+◌, ◌-◌, ◌*◌, ◌%◌, ◌^◌, ◌<◌, ◌≤◌, List, [], ◌∷◌, ◌++◌, map, Bool, true, false, Option, Some, None}
+use Rattle.mach_binds.proofs.Names.{◌≡◌, ℕ, zero, suc, ◌+◌, ◌-◌, ◌*◌, ◌%◌, ◌^◌, ◌<◌, ◌≤◌, List, [], ◌∷◌, ◌++◌, map, true, false, Some, None}
 use Rattle.mach_binds.proofs.Names.{Result, Ok, Err, refl, sym, ap, subst, ◌∙◌, arith, cond, append_assoc, Fault, malformed, Bind, Input, Range, State}
-use Rattle.mach_binds.proofs.Names.{◌>>=◌, slice_get}
-use Rattle.mach_binds.proofs.Names.{Rules, reader_by, reading_from, fault_item, upto_fault, SegmentView, found_or_malformed, sum_of, length, cases_lt, inl}
-use Rattle.mach_binds.proofs.Names.{inr, ltb-true}
+use Rattle.mach_binds.proofs.Names.{slice_get}
+use Rattle.mach_binds.proofs.Names.{Rules, reader_by, reading_from, fault_item, upto_fault, SegmentView, length, cases_lt, inl}
+use Rattle.mach_binds.proofs.Names.{inr}
 unfoldable use Rattle.mach_binds.specs.Machine.{strides, after_strides, moved, items_of, rest_of, run, reads_of, start_of}
 use Rattle.std.proofs.lemmas.Bool.{le-leb, lt-leb, lt-ltb, le-ltb}
 use Rattle.std.proofs.Math.Nat.{mod-eq_of_lt, mod-lt, le-min}
@@ -14,7 +14,7 @@ use Rattle.mach_binds.specs.BindingFaults.{has_fault, highest_offset}
 unfoldable use Rattle.mach_binds.specs.BindingFaults.{offset_at}
 use Rattle.mach_binds.specs.Bindings.{SetBefore, is_complete, binding_with}
 unfoldable use Rattle.mach_binds.specs.Bindings.{spot_of, binding_of}
-use Rattle.mach_segments.specs.Bindings.{Binding, Provider, provider_of}
+use Rattle.mach_segments.specs.Bindings.{Provider, provider_of}
 
 -- ---- faults among items
 

@@ -2,9 +2,10 @@ pub mod Names
 pub mod BindReading
 pub mod BindListed
 pub mod BindModulus
+pub mod BindQuiet
 pub mod BindSettings
 pub mod BindSteps
-mod StreamStops
+pub mod StreamStops
 pub mod StreamStarts
 pub mod BindLists
 pub mod BindTotal

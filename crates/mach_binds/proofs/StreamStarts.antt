@@ -6,6 +6,8 @@ use Rattle.mach_binds.proofs.Names.{Rules, ReadsForward, reader_by, ReadAhead, r
 use Rattle.mach_binds.proofs.Names.{items_of, reads_of}
 use Rattle.std.proofs.lemmas.List.Elements.{All-nil, All-cons, All-head, All-tail, All-append}
 use Rattle.mach_binds.proofs.BindReading.{reading_longest, one_longest}
+use Rattle.mach_binds.specs.Faults.{AreItemsAlone}
+use Rattle.mach_binds.proofs.Names.{append-nil, add-zero}
 
 -- ---- at the start, by what comes of the instructions of a range
 
@@ -59,7 +61,47 @@ module _ {M A : Type 0} (u : Rules M A) (laws : ReadsForward u) (x : Input) (mad
       reads_are ∙ start_reads,
     )
 
+-- ---- one stream alone
+
+module _ {M A : Type 0} (u : Rules M A) (laws : ReadsForward u) (x : Input) (lazy r : Range) (last : r.is_lazy ≡ true) (m : M)
+    (made : List Placed → List (Result A Fault))
+    (comes : (ps : List Placed) → AllStandBy (reader_by u x r) r.upto ps → run u x r (fresh r.is_lazy 0) m ps ≡ made ps) where
+  abbrev alone : ReadAhead
+  alone = reading_from (reader_by u x r) r.upto r.from
+
+  alone_longest : IsLongestBy (reader_by u x r) r alone.read alone.stop
+  alone_longest = reading_longest (reader_by u x r) (laws.moves r x.pointer x.bytes) r
+
+  alone_rest : rest_of u x m (start_of r) ≡ made alone.read ++ fault_item alone.stop
+  unfolding rest_of strides after_strides
+  alone_rest = ap (λ items. items ++ fault_item alone.stop) (comes alone.read alone_longest.beginning.stand)
+
+  alone_items : items_of u x lazy m (start_of r) ≡ upto_fault (made alone.read ++ fault_item alone.stop)
+  unfolding items_of
+  alone_items =
+      let rest = rest_of u x (u.first true) (start_of lazy) in
+      ap (λ (t : Bool). upto_fault (rest_of u x m (start_of r) ++ cond t [] rest)) last ∙ ap upto_fault (append-nil (rest_of u x m (start_of r)))
+      ∙ ap upto_fault alone_rest
+
+  alone_reads : reads_of u x lazy (start_of r) ≡ length alone.read
+  unfolding reads_of
+  alone_reads =
+      ap (λ (t : Bool). length alone.read + cond t 0 (length (reading_from (reader_by u x lazy) lazy.upto lazy.from).read)) last
+      ∙ add-zero (length alone.read)
+
+  -- what is left at the start is that of the stream
+  pub starts_alone : (items : List (Result A Fault)) (reads : ℕ) → items ≡ items_of u x lazy m (start_of r) → reads ≡ reads_of u x lazy (start_of r)
+      → (ps : List Placed) × AreItemsAlone (reader_by u x r) made r ps items × (reads ≡ length ps)
+  starts_alone items reads is reads_are =
+      (alone.read, record { stop = alone.stop; longest = alone_longest; are = is ∙ alone_items }, reads_are ∙ alone_reads)
+
 -- ---- there is one list of items
+
+pub one_list_alone : {A : Type 0} (reader : Reader) (made : List Placed → List (Result A Fault)) (r : Range) (ps qs : List Placed)
+    (items others : List (Result A Fault)) → AreItemsAlone reader made r ps items → AreItemsAlone reader made r qs others → items ≡ others
+one_list_alone {A} reader made r ps qs items others a b =
+    let same = one_longest reader r ps qs a.stop b.stop a.longest b.longest in
+    a.are ∙ ap (λ ys. upto_fault (made ys ++ fault_item a.stop)) same.0 ∙ ap (λ s. upto_fault (made qs ++ fault_item s)) same.1 ∙ sym b.are
 
 module _ {A : Type 0} (reader : Range → Reader) (made : Range → List Placed → List (Result A Fault)) (non_lazy lazy : Range) where
   abbrev all_items : List Placed → List Placed → Option Fault → Option Fault → List (Result A Fault)
@@ -93,6 +135,10 @@ module _ {A : Type 0} (P : A → Type 0) where
   of_upto [] h = All-nil OfItem
   of_upto (Ok i ∷ a) h = All-cons OfItem (Ok i) (upto_fault a) (All-head OfItem (Ok i) a h) (of_upto a (All-tail OfItem (Ok i) a h))
   of_upto (Err f ∷ a) h = All-cons OfItem (Err f) [] tt (All-nil OfItem)
+
+  -- that of the items of one stream
+  pub of_one : (a : List (Result A Fault)) (s : Option Fault) → All OfItem a → All OfItem (upto_fault (a ++ fault_item s))
+  of_one a s h = of_upto _ (All-append OfItem a (fault_item s) h (of_fault s))
 
   -- that of the items of both streams
   pub of_both : (a b : List (Result A Fault)) (s t : Option Fault) → All OfItem a → All OfItem b

@@ -2,7 +2,6 @@
 use Rattle.std.specs.Prelude.{◌+◌, ◌-◌, ◌%◌, ◌^◌, ℕ, zero, suc, min, Bool, true, false, List, [], ◌∷◌, map, Result, Ok, Err}
 use Rattle.mach_base.specs.Fault.{Fault}
 use Rattle.mach_segments.specs.Segment.{SegmentView}
-use Rattle.mach_binds.specs.Binds.{Bind}
 use Rattle.mach_binds.specs.BindingsLeft.{binding_rules}
 use Rattle.mach_binds.specs.Machine.{Rules, input_of, bind_of, strides, opcodes_left}
 use Rattle.mach_binds.specs.declared.bindings.OpcodeBindingIterator.{OpcodeBindingIterator}

@@ -1,7 +1,7 @@
 -- The binds of a list of instructions, as dyld makes them, each read off by looking back over the list.
 use Rattle.std.specs.Prelude.{◌+◌, ◌-◌, ◌*◌, ◌%◌, ◌^◌, ℕ, ℤ, pos, List, [], ◌∷◌, ◌++◌, map, Bool, true, false, Option, Some, None, if◌then◌else◌}
 use Rattle.std.specs.List.{filter_map, range_with_len}
-use Rattle.mach_binds.specs.Instructions.{Instruction, done, library, symbol, addend, segment, advance, binds}
+use Rattle.mach_binds.specs.Instructions.{Instruction, done, library, symbol, addend, segment, advance, binds, strong}
 use Rattle.mach_binds.specs.Streams.{Placed, Range}
 
 -- ---- one instruction
@@ -29,6 +29,7 @@ library_in p = library_of p.instruction
 
 abbrev pub symbol_name_of : Instruction → Option (List ℕ)
 symbol_name_of (symbol flags name) = Some name
+symbol_name_of (strong flags name) = Some name
 symbol_name_of _ = None
 
 abbrev pub symbol_name_in : Placed → Option (List ℕ)
@@ -36,6 +37,7 @@ symbol_name_in p = symbol_name_of p.instruction
 
 abbrev pub flags_of : Instruction → Option ℕ
 flags_of (symbol flags name) = Some flags
+flags_of (strong flags name) = Some flags
 flags_of _ = None
 
 abbrev pub flags_in : Placed → Option ℕ
@@ -69,6 +71,19 @@ count_of _ = 0
 
 abbrev pub count_in : Placed → ℕ
 count_in p = count_of p.instruction
+
+-- whether it gives a row of its own that is no bind
+abbrev pub strong_is : Instruction → Bool
+strong_is (strong flags name) = true
+strong_is _ = false
+
+-- how many rows it gives: that one, or its binds
+abbrev pub row_count : Instruction → ℕ
+row_count (strong flags name) = 1
+row_count i = count_of i
+
+abbrev pub rows_in : Placed → ℕ
+rows_in p = row_count p.instruction
 
 -- how far it advances after each of its binds
 abbrev pub stride_of : ℕ → Instruction → ℕ

@@ -18,3 +18,10 @@ pub record AreItems {A : Type 0} (reader : Range → Reader) (made : Range → L
   pub longest : IsLongestBy (reader non_lazy) non_lazy ps stop
   pub lazy_longest : IsLongestBy (reader lazy) lazy qs lazy_stop
   pub are : items ≡ upto_fault (made non_lazy ps ++ fault_item stop ++ made lazy qs ++ fault_item lazy_stop)
+
+-- these are the items of one stream alone, whose longest beginning is given: what comes of it, up to the first fault
+pub record AreItemsAlone {A : Type 0} (reader : Reader) (made : List Placed → List (Result A Fault)) (r : Range) (ps : List Placed)
+    (items : List (Result A Fault)) : Type 0 where
+  pub stop : Option Fault
+  pub longest : IsLongestBy reader r ps stop
+  pub are : items ≡ upto_fault (made ps ++ fault_item stop)

@@ -6,9 +6,9 @@ use Rattle.mach_base.specs.Answer.{◌>>=◌}
 use Rattle.mach_base.specs.Fault.{Fault, malformed, fault_item}
 use Rattle.mach_segments.specs.Segment.{segment_view}
 use Rattle.mach_binds.specs.Instructions as instructions
-use Rattle.mach_binds.specs.Instructions.{done, library, symbol, addend, segment, advance, binds, nothing, byte_at}
+use Rattle.mach_binds.specs.Instructions.{done, library, symbol, addend, segment, advance, binds, nothing, strong, byte_at}
 use Rattle.mach_binds.specs.Streams.{Input, Range, Placed, Reader}
-use Rattle.mach_binds.specs.Binds.{Bind, count_of, stride_of, count_in, stride_in}
+use Rattle.mach_binds.specs.Binds.{Bind, row_count, stride_of, rows_in, stride_in}
 use Rattle.mach_binds.specs.Faults.{upto_fault}
 use Rattle.mach_base.specs.Text.{texts}
 use Rattle.mach_binds.specs.NamePlaces.{NameStands}
@@ -96,6 +96,7 @@ set_by (segment number offset) end b = record b { segment = number; offset = off
 set_by (advance by) end b = moved by b
 set_by (binds count skip) end b = b
 set_by nothing end b = b
+set_by (strong flags name) end b = record b { flags = flags; name = name }
 
 -- a number of binds, each a stride further than the one before
 unfoldable pub strides : Bind → ℕ → ℕ → List Bind
@@ -112,15 +113,15 @@ run u x r b m [] = []
 run u x r b m (p ∷ ps) =
     let c = set_by p.instruction (p.after - r.from) b in
     let n = set_after u (byte_at x.bytes p.place) m in
-    map (λ d. u.makes x d n) (strides c (stride_in x.pointer p) (count_in p))
-    ++ run u x r (after_strides c (stride_in x.pointer p) (count_in p)) n ps
+    map (λ d. u.makes x d n) (strides c (stride_in x.pointer p) (rows_in p))
+    ++ run u x r (after_strides c (stride_in x.pointer p) (rows_in p)) n ps
 
 -- ---- the state of an iterator
 
 pub record State : Type 0 where
   pub range : Range
   pub settings : Bind
-  -- the binds that the last instruction still makes, and how far it advances after each
+  -- the rows that the last instruction still gives, and how far it advances after each
   pub count : ℕ
   pub stride : ℕ
   pub place : ℕ
@@ -135,7 +136,7 @@ unfoldable pub executed : ℕ → instructions.Instruction → ℕ → State →
 executed pointer i after s = record {
   range = s.range;
   settings = set_by i (after - s.range.from) s.settings;
-  count = count_of i;
+  count = row_count i;
   stride = stride_of pointer i % 2 ^ 64;
   place = after;
   ended = s.ended;

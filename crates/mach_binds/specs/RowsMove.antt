@@ -59,7 +59,7 @@ past_then : {A V : Type 0} (place : ℕ) (r : Result (A × ℕ) Fault) (f : A ×
 past_then place (Ok x) f h k = λ found e. let first = h x refl in let rest = k x found e in omega (arith, first, rest)
 past_then place (Err g) f h k = past_none g place
 
-past_with_uleb : (make : ℕ → Instruction) (bytes : List ℕ) (place : ℕ) → Past place (with_uleb make bytes place)
+pub past_with_uleb : (make : ℕ → Instruction) (bytes : List ℕ) (place : ℕ) → Past place (with_uleb make bytes place)
 unfolding with_uleb
 past_with_uleb make bytes place = past_then place (uleb_at bytes place) _ (past_uleb bytes place) (λ x. past_here (make x.0) x.1 x.1 (omega arith))
 
@@ -73,7 +73,7 @@ past_symbol flags bytes place = λ found e.
     let b = bind_ok (text_at bytes place) (λ (name : List ℕ). Ok (symbol flags name, place + length name + 1)) found e in
     past_here (symbol flags b.0) place (place + length b.0 + 1) (omega arith) found b.2
 
-past_times : (bytes : List ℕ) (place : ℕ) → Past place (times_at bytes place)
+pub past_times : (bytes : List ℕ) (place : ℕ) → Past place (times_at bytes place)
 unfolding times_at
 past_times bytes place =
     past_then place (uleb_at bytes place) _ (past_uleb bytes place)

@@ -2,8 +2,8 @@
 use Rattle.std.specs.Prelude.{◌≡◌, ◌+◌, ◌-◌, ◌^◌, ℕ, List, [], ◌∷◌, ◌++◌, Option, Some, None, Result, Ok, replicate, if◌then◌else◌}
 use Rattle.mach_base.specs.Answer.{◌>>=◌}
 use Rattle.mach_base.specs.Fault.{Fault}
-use Rattle.mach_binds.specs.Binds.{all_from, count_in, last_setting, library_in}
-use Rattle.mach_binds.specs.Instructions.{Instruction, done, library, symbol}
+use Rattle.mach_binds.specs.Binds.{all_from, rows_in, last_setting, library_in}
+use Rattle.mach_binds.specs.Instructions.{Instruction, done, library, symbol, strong}
 use Rattle.mach_binds.specs.Machine.{Rules, State, input_of, lazy_of, reader_by, reading_from, state_of}
 use Rattle.mach_binds.specs.Streams.{IsLongestBy, Placed, Range, Reader}
 use Rattle.mach_binds.specs.declared.imports.settings.Settings.{Settings}
@@ -19,6 +19,7 @@ pub record Site : Type 0 where
 -- a name stands behind the opcode of the instruction that sets it
 abbrev pub place_by : Instruction → ℕ → Option ℕ
 place_by (symbol flags name) operands = Some operands
+place_by (strong flags name) operands = Some operands
 place_by _ operands = None
 
 abbrev pub name_place_in : Placed → Option ℕ
@@ -29,7 +30,7 @@ abbrev pub site_behind : List Placed → Site
 site_behind back = record { name_place = last_setting (2 ^ 64 - 1) name_place_in back; library = last_setting 0 library_in back }
 
 abbrev pub sites_at : List Placed → Placed → List Site
-sites_at back p = replicate (count_in p) (site_behind back)
+sites_at back p = replicate (rows_in p) (site_behind (p ∷ back))
 
 -- those of the binds of the first instructions of a range
 abbrev pub sites_in : List Placed → List Site
@@ -56,6 +57,7 @@ abbrev pub site_after : ℕ → Instruction → Site → Site
 site_after operands done s = no_site
 site_after operands (library number) s = record { name_place = s.name_place; library = number }
 site_after operands (symbol flags name) s = record { name_place = operands; library = s.library }
+site_after operands (strong flags name) s = record { name_place = operands; library = s.library }
 site_after operands _ s = s
 
 -- that after what was read, if anything was
@@ -66,7 +68,7 @@ unfoldable pub sites_run : Site → List Placed → List Site
 sites_run s [] = []
 sites_run s (p ∷ ps) =
     let t = site_after (p.place + 1) p.instruction s in
-    replicate (count_in p) t ++ sites_run t ps
+    replicate (rows_in p) t ++ sites_run t ps
 
 -- those of a range that is read from a place on
 abbrev pub sites_from : (Range → Reader) → Site → Range → ℕ → List Site

@@ -1,5 +1,5 @@
 -- The streams of instructions that bind symbols, as dyld reads them.
-use Rattle.std.specs.Prelude.{◌≡◌, ◌<◌, ◌≤◌, ◌+◌, ℕ, List, [], ◌∷◌, length, Option, Some, None, Result, Ok, Err, Bool}
+use Rattle.std.specs.Prelude.{◌≡◌, ◌<◌, ◌≤◌, ◌+◌, ℕ, List, [], ◌∷◌, length, Option, Some, None, Result, Ok, Err, Bool, true}
 use Rattle.std.specs.List.{AllByRecursion}
 use Rattle.mach_base.specs.Fault.{Fault}
 use Rattle.mach_segments.specs.Segment.{SegmentView}
@@ -18,6 +18,10 @@ pub record Range : Type 0 where
   pub from : ℕ
   pub upto : ℕ
   pub is_lazy : Bool
+
+-- one that is read as the later of two, or alone
+abbrev pub last_range : ℕ → ℕ → Range
+last_range from upto = record { from = from; upto = upto; is_lazy = true }
 
 -- an instruction, its place and the place after it
 pub record Placed : Type 0 where

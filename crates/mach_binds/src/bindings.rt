@@ -60,10 +60,10 @@ impl<'a> BindInterpreter<'a> {
     }
 }
 
-// Where an offset in a segment lies in the file and in memory, if a pointer there lies in the segment.
+/// Where an offset in a segment lies in the file and in memory, if a pointer there lies in the segment.
 #[tactic(auto, using(mach_segments::proofs::SegmentViews::segment_seen), unfolding(crate::specs::Bindings::spot_of))]
 #[inline(always)]
-fn spot(pointer: u8, segments: &[Segment<'_>], number: u8, offset: u64) -> Option<(u64, u64)>
+pub fn spot(pointer: u8, segments: &[Segment<'_>], number: u8, offset: u64) -> Option<(u64, u64)>
     ensures { MatchOption result (spot_of pointer (map segment_view segments.now) number offset ≡ Err malformed)
         (λ s. spot_of pointer (map segment_view segments.now) number offset ≡ Ok s) }
 {
@@ -101,9 +101,9 @@ fn highest(is_lazy: bool) -> Opcode
     }
 }
 
-// Whether `len` bytes from the offset on lie in a segment of that size.
+/// Whether `len` bytes from the offset on lie in a segment of that size.
 #[inline(always)]
-fn holds_all(size: u64, offset: u64, len: u8) -> bool
+pub fn holds_all(size: u64, offset: u64, len: u8) -> bool
     ensures { result ≡ nat_le (offset + len) size }
 {
     match offset.checked_add(u64::from(len)) {

@@ -97,8 +97,8 @@ impl fmt::Debug for BindInterpreter<'_> {
     }
 }
 
-// How many bytes a pointer has.
-pub(crate) fn pointer_len(ctx: Ctx) -> u8
+/// How many bytes a pointer has.
+pub fn pointer_len(ctx: Ctx) -> u8
     ensures { result ≡ pointer_size ctx.container }
 {
     match ctx.container {

@@ -5,4 +5,5 @@ pub mod bind_opcodes;
 pub mod bindings;
 pub mod imports;
 pub mod laws;
+pub mod machine;
 mod turns;

@@ -6,8 +6,9 @@ ghost use Rattle.std.specs.Iterator.{YieldsFirstBy};
 ghost use Rattle.mach_base.specs.Fault.{Fault, malformed};
 ghost use Rattle.mach_binds.specs.Instructions.{byte_at};
 ghost use Rattle.mach_binds.specs.NamePlaces.{NameStands};
-ghost use Rattle.mach_binds.specs.Streams.{Range};
+ghost use Rattle.mach_binds.specs.Streams.{Range, last_range};
 ghost use Rattle.mach_binds.specs.Machine.{Rules, ReadsForward, range_of, state_of, bind_of, input_of, executed_by, items_left, opcodes_left};
+ghost use Rattle.mach_binds.specs.Machine.{items_of, reads_of, start_of};
 ghost use Rattle.mach_binds.specs.Machine.{StopsFor, IsNextUnreadable, MakesNothing, IsAtEnd, IsMadeBy, Keeps, Fails, HasEnded, item_read};
 ghost use Rattle.mach_binds.specs.Sites.{site_by, site_in, sites_left};
 
@@ -118,6 +119,21 @@ impl<'a, 'b, M: Makes<'a>> Stream<'a, 'b, M> {
                 ended: true,
                 ..State::start(0, 0, true)
             },
+            more,
+        }
+    }
+
+    /// One stream alone from its start, with these settings beside those of a bind. It is read as the later one of two.
+    #[tactic(auto, unfolding(crate::specs::Machine::items_left, crate::specs::Machine::opcodes_left))]
+    pub fn alone(source: Source<'a, 'b>, from: usize, upto: usize, more: M) -> Self
+        ensures items { items_left M.rules result ≡ items_of M.rules (input_of source.entry) (last_range from upto) more (start_of (last_range from upto)) }
+        ensures reads { opcodes_left M.rules result ≡ reads_of M.rules (input_of source.entry) (last_range from upto) (start_of (last_range from upto)) }
+    {
+        Stream {
+            source,
+            lazy_from: from,
+            lazy_upto: upto,
+            state: State::start(from, upto, true),
             more,
         }
     }
@@ -298,6 +314,33 @@ impl<'a, 'b, M: Makes<'a>> Stream<'a, 'b, M> {
         error
     }
 
+    /// The next item, or the fault that ends them, with the opcodes that are read added to a count: where a fault comes at
+    /// most one more than can be read. The count never falls.
+    #[inline(always)]
+    pub fn next_counted(
+        &mut self,
+        steps: &mut Steps,
+    ) -> Option<std::result::Result<M::Item, M::Why>>
+        ensures items { YieldsFirstBy (item_read M.seen M.fault) (items_left M.rules) self.old result self.new }
+        ensures end { IfNone result (HasEnded M.rules self.new) }
+        ensures fault { IfSome result (λ item. OnErr item (HasEnded M.rules self.new)) }
+        ensures none { IfNone result (steps.new ≡ steps.old + opcodes_left M.rules self.old) }
+        ensures reads { IfSome result (λ item. OnOk item
+            (steps.new + opcodes_left M.rules self.new ≡ steps.old + opcodes_left M.rules self.old)) }
+        ensures bounded { IfSome result (λ item. OnErr item
+            (steps.new ≤ steps.old + opcodes_left M.rules self.old + 1)) }
+        ensures kept { steps.old ≤ steps.new }
+        ensures keeps { Keeps self.old self.new }
+        ensures bound { IfSome result (λ item. IfOk item (λ i. IsMadeBy M.rules self.new (M.seen i))) }
+        ensures site { IfSome result (λ item. OnOk item (sites_left M.rules self.old ≡ site_in self.new.state.settings ∷ sites_left M.rules self.new)) }
+    {
+        match self.step(steps) {
+            None => None,
+            Some(Ok(item)) => Some(Ok(item)),
+            Some(Err(stop)) => Some(Err(self.end_at(stop))),
+        }
+    }
+
     /// The next item, or the fault that ends them.
     #[inline(always)]
     pub fn next_item(&mut self) -> Option<std::result::Result<M::Item, M::Why>>
@@ -308,10 +351,6 @@ impl<'a, 'b, M: Makes<'a>> Stream<'a, 'b, M> {
         ensures bound { IfSome result (λ item. IfOk item (λ i. IsMadeBy M.rules self.new (M.seen i))) }
         ensures site { IfSome result (λ item. OnOk item (sites_left M.rules self.old ≡ site_in self.new.state.settings ∷ sites_left M.rules self.new)) }
     {
-        match self.step(&mut Steps::new()) {
-            None => None,
-            Some(Ok(item)) => Some(Ok(item)),
-            Some(Err(stop)) => Some(Err(self.end_at(stop))),
-        }
+        self.next_counted(&mut Steps::new())
     }
 }

@@ -1,4 +1,4 @@
-use Rattle.mach_binds.proofs.Names.{◌≡◌, ◌∙◌, ◌<◌, ◌++◌, sym, ap, arith, true, false, length, length-append, length-map, input_of, lazy_of, state_of}
+use Rattle.mach_binds.proofs.Names.{◌≡◌, ◌∙◌, ◌<◌, sym, ap, arith, true, false, length, length-append, length-map, input_of, lazy_of, state_of}
 use Rattle.mach_binds.proofs.Names.{bind_of, items_left}
 use Rattle.std.specs.Prelude.{not}
 use Rattle.mach_binds.specs.BindingFaults.{has_fault, still_made}

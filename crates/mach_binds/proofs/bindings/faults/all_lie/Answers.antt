@@ -1,8 +1,7 @@
-use Rattle.mach_binds.proofs.Names.{◌≡◌, ◌∙◌, ◌-◌, ◌+◌, ◌*◌, ◌%◌, ◌^◌, ◌<◌, ◌≤◌, map, ap, sym, subst, refl, arith, true, false, cases_lt, inl, inr, ℕ, Bool}
+use Rattle.mach_binds.proofs.Names.{◌≡◌, ◌<◌, ◌≤◌, map, subst, refl, true, false, cases_lt, inl, inr, Bool}
 use Rattle.std.specs.Prelude.{not}
 use Rattle.mach_segments.specs.Segment.{segment_view}
-use Rattle.mach_binds.specs.BindingFaults.{highest_offset, offset_at}
-use Rattle.mach_binds.specs.Turns.{AnyBelow, turn_place}
+use Rattle.mach_binds.specs.BindingFaults.{offset_at}
 use Rattle.mach_binds.proofs.BindingTurns.{no_segment, too_small, spot_inside, spot_outside, ring_out, out_ring}
 use Rattle.mach_binds.proofs.bindings.faults.all_lie.Goals as goal
 

@@ -1,4 +1,3 @@
-use Rattle.std.proofs.Common.{◌≡◌}
 use Rattle.std.specs.Prelude.{◌↔◌}
 use Rattle.mach_binds.specs.Turns.{AnyBelow, IsRing}
 use Rattle.mach_binds.proofs.turns.Turns.any_below.Given as goal

@@ -1,7 +1,6 @@
-use Rattle.std.proofs.Common.{◌-◌, ◌%◌, ap, subst, sym}
+use Rattle.std.proofs.Common.{◌-◌, ◌%◌, subst, sym}
 use Rattle.std.specs.Prelude.{◌↔◌}
 use Rattle.mach_binds.specs.Turns.{AnyBelow}
-use Rattle.mach_binds.specs.declared.turns.Turns.{Turns}
 use Rattle.mach_binds.proofs.Rings.{turned_same}
 use Rattle.mach_binds.proofs.turns.Turns.shorter.Goals as goal
 

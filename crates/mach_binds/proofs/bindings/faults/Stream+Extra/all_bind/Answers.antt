@@ -1,4 +1,4 @@
-use Rattle.mach_binds.proofs.Names.{◌≡◌, ◌∙◌, sym, ap, refl, true, false, Bool, malformed, Bind, Result, Fault, input_of, bind_of}
+use Rattle.mach_binds.proofs.Names.{◌≡◌, ◌∙◌, sym, refl, true, false, Bool, malformed, Bind, Result, Fault, input_of, bind_of}
 use Rattle.std.specs.Prelude.{not}
 use Rattle.mach_segments.specs.Bindings.{Binding, provider_view}
 use Rattle.mach_binds.specs.BindingFaults.{has_fault, still_made, offset_at}

@@ -1,8 +1,8 @@
-use Rattle.mach_binds.proofs.Names.{◌≡◌, Bool, ◌∙◌, refl, ap, Bind, State, input_of, lazy_of, state_of, bind_of, items_left, opcodes_left}
-use Rattle.mach_binds.proofs.Names.{reads_of, items_of, after_strides, moved, ◌++◌, sym}
+use Rattle.mach_binds.proofs.Names.{Bool, ◌∙◌, refl, ap, Bind, State, input_of, lazy_of, state_of, bind_of, items_left, opcodes_left}
+use Rattle.mach_binds.proofs.Names.{reads_of, items_of, after_strides, ◌++◌, sym}
 use Rattle.mach_binds.specs.BindingsLeft.{binding_rules}
 use Rattle.mach_binds.specs.BindingFaults.{still_made}
-use Rattle.mach_binds.proofs.BindingTurns.{passed, pass_items, behind_all}
+use Rattle.mach_binds.proofs.BindingTurns.{pass_items, behind_all}
 use Rattle.mach_binds.proofs.bindings.faults.Stream+Extra.pass.Goals as goal
 
 pub returns-clause-items : goal.returns-clause-items

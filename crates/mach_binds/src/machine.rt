@@ -1,0 +1,7 @@
+//! The machine of streams, for instances of it in other crates: imports and bindings are two.
+
+pub use crate::imports::instruction::instruction_error;
+pub use crate::imports::settings::Settings;
+pub use crate::imports::source::Source;
+pub use crate::imports::state::State;
+pub use crate::imports::stream::{Makes, Stop, Stream};

@@ -1,0 +1,5 @@
+pub mod StreamReading
+pub mod StreamSettings
+pub mod WeakRun
+pub mod RebaseRun
+pub mod StreamLaws
