@@ -7,7 +7,8 @@ use Rattle.mach_base.specs.declared.context.Ctx.{Ctx}
 use Rattle.mach_base.specs.declared.error.Error.{Error}
 use Rattle.mach_base.specs.Items.{items_from}
 use Rattle.mach_base.proofs.ItemLists.{items_from-first}
-use Rattle.mach_rules.specs.Laid.{in_front, placed_section_at, sections_from}
+use Rattle.mach_rules.specs.Laid.{placed_section_at, sections_from}
+use Rattle.mach_segments.specs.SectionRecord.{in_front}
 use Rattle.mach_rules.specs.PartsLeft.{TakesSection}
 use Rattle.mach_rules.specs.declared.parts.PlacedSection.{PlacedSection}
 use Rattle.mach_rules.specs.declared.parts.PlacedSegment.{PlacedSegment}

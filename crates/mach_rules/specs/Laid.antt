@@ -1,26 +1,20 @@
 -- What the rules read of an image (`mach-o/loader.h`): its bytes, its header and its commands, and what follows from them.
-use Rattle.std.specs.Prelude.{◌==◌, ℕ, ◌+◌, ◌-◌, ◌||◌, Bool, List, [], ◌∷◌, length, map}
-use Rattle.std.specs.Prelude.{min, nat_lt, option_map, filter_map, flat_map, Option, Some, None, Result, Ok, Err}
+use Rattle.std.specs.Prelude.{◌==◌, ℕ, ◌+◌, ◌-◌, ◌||◌, Bool, List, [], length, map}
+use Rattle.std.specs.Prelude.{min, nat_lt, option_map, filter_map, flat_map, Option, Some, None, Result, Ok}
 use Rattle.std.specs.Prelude.{if◌then◌else◌}
 use Rattle.std.specs.List.{last_or}
 use Rattle.mach_base.specs.Answer.{◌>>=◌}
 use Rattle.mach_base.specs.Fault.{Fault}
-use Rattle.mach_base.specs.Record.{record_at}
-use Rattle.mach_base.specs.declared.context.Container.{Container}
-use Rattle.mach_base.specs.declared.context.Container.TheVariants.{Little, Big}
 use Rattle.mach_base.specs.declared.context.Ctx.{Ctx}
-use Rattle.mach_base.specs.declared.context.Endian.{Endian}
 use Rattle.mach_load.specs.Command.{Command, cmdsize_of}
 use Rattle.mach_load.specs.Subjects.{segment_command_by}
 use Rattle.mach_load.specs.Variants.{command_of}
 use Rattle.mach_headers.specs.Header.{header_size, header_in}
 use Rattle.mach_base.specs.Items.{items_from}
 use Rattle.mach_segments.specs.Section.{section_place}
+use Rattle.mach_segments.specs.SectionRecord.{in_front, section_record_at}
 use Rattle.mach_segments.specs.Segment.{widened}
 use Rattle.mach_headers.specs.declared.header.Header.{Header}
-use Rattle.mach_records.specs.Segments.{section32_fields, section32_of_values, section64_fields, section64_of_values}
-use Rattle.mach_records.specs.declared.segments.Section32.{Section32}
-use Rattle.mach_records.specs.declared.segments.Section64.{Section64}
 use Rattle.mach_rules.specs.declared.layout.Layout.{Layout}
 use Rattle.mach_rules.specs.declared.parts.PlacedSection.{PlacedSection}
 use Rattle.mach_rules.specs.declared.parts.PlacedSegment.{PlacedSegment}
@@ -105,40 +99,11 @@ segments_of laid = filter_map placed_segment_of laid.commands
 
 -- ---- sections
 
--- the section of a 32-bit image in the wider form
-abbrev pub wider_section : Section32 → Section64
-wider_section s =
-    record {
-      sectname = s.sectname;
-      segname = s.segname;
-      addr = s.addr;
-      size = s.size;
-      offset = s.offset;
-      align = s.align;
-      reloff = s.reloff;
-      nreloc = s.nreloc;
-      flags = s.flags;
-      reserved1 = s.reserved1;
-      reserved2 = s.reserved2;
-      reserved3 = 0;
-    }
-
--- the section at a place, or why there is none
-abbrev pub section_record_at : Container → Endian → List ℕ → ℕ → Result Section64 Fault
-section_record_at Little le bytes place = record_at le section32_fields bytes place >>= (λ vs. Ok (wider_section (section32_of_values vs)))
-section_record_at Big le bytes place = record_at le section64_fields bytes place >>= (λ vs. Ok (section64_of_values vs))
-
 -- section k of a segment, with its number from 1
 abbrev pub placed_section_at : Ctx → List ℕ → PlacedSegment → ℕ → Result PlacedSection Fault
 placed_section_at ctx bytes s k =
     section_record_at ctx.container ctx.le bytes (section_place ctx.container s.place k)
     >>= (λ found. Ok (record { segment = s; number = k + 1; section = found }))
-
--- those in front of the first that isn't there
-abbrev pub in_front : {X : Type 0} → List (Result X Fault) → List X
-in_front [] = []
-in_front (Ok x ∷ items) = x ∷ in_front items
-in_front (Err f ∷ items) = []
 
 -- the sections of a segment from number k on: its command says how many there are, and those count that lie in the bytes
 abbrev pub sections_from : Ctx → List ℕ → PlacedSegment → ℕ → List PlacedSection

@@ -3,15 +3,15 @@
 ghost use Rattle.std.specs.Prelude.{◌≡◌, ◌+◌, ◌<◌, ◌^◌, IfSome, filter_map, flat_map, map};
 ghost use Rattle.mach_base.specs.Answer.{Reads};
 ghost use Rattle.mach_load.specs.Variants.{command_of};
-ghost use Rattle.mach_segments.specs.Section.{section_place};
 ghost use Rattle.mach_segments.specs.Segment.{widened};
 ghost use Rattle.mach_rules.specs.Laid as defined;
 ghost use Rattle.mach_rules.specs.PartsLeft.{placed_segments_left, placed_sections_left, TakesSection};
 
 use crate::rules::Items;
-use mach_base::{Container, Ctx, Record, Result};
+use mach_base::{Ctx, Result};
 use mach_load::{CommandVariant, LoadCommand};
-use mach_records::{Section32, Section64, SegmentCommand32, SegmentCommand64};
+use mach_records::{Section64, SegmentCommand32, SegmentCommand64};
+use mach_segments::segment::{place_of, section_at};
 use std::slice::Iter;
 
 /// A segment's command in the wider form, and where it stands.
@@ -117,47 +117,6 @@ impl<'b> Items for SegmentIterator<'b> {
     fn take_next(&mut self) -> Option<PlacedSegment> {
         self.next()
     }
-}
-
-// The section of a 32-bit image in the wider form.
-fn widen_section(s: &Section32) -> Section64
-    ensures { result ≡ defined.wider_section s.now }
-{
-    Section64 {
-        sectname: s.sectname,
-        segname: s.segname,
-        addr: u64::from(s.addr),
-        size: u64::from(s.size),
-        offset: s.offset,
-        align: s.align,
-        reloff: s.reloff,
-        nreloc: s.nreloc,
-        flags: s.flags,
-        reserved1: s.reserved1,
-        reserved2: s.reserved2,
-        reserved3: 0,
-    }
-}
-
-// The section at a place, in the wider form.
-fn section_at(bytes: &[u8], ctx: Ctx, place: usize) -> Result<Section64>
-    ensures { Reads (λ s. s) result (defined.section_record_at ctx.container ctx.le bytes.now place) }
-{
-    match ctx.container {
-        Container::Little => Ok(widen_section(&Section32::read(bytes, place, ctx.le)?)),
-        Container::Big => Section64::read(bytes, place, ctx.le),
-    }
-}
-
-// Where section k of the segment whose command stands at a place is.
-fn place_of(ctx: Ctx, segment: usize, k: u32) -> usize
-    ensures { result ≡ section_place ctx.container segment k }
-{
-    let (front, each) = match ctx.container {
-        Container::Little => (SegmentCommand32::SIZE, Section32::SIZE),
-        Container::Big => (SegmentCommand64::SIZE, Section64::SIZE),
-    };
-    segment.saturating_add(front + k as usize * each)
 }
 
 // Section k of a segment.

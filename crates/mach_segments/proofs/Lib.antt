@@ -1,1 +1,2 @@
 pub mod SegmentViews
+pub mod NumberedSections

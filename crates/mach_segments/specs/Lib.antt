@@ -8,3 +8,5 @@ pub mod Segment
 pub mod Segments
 pub mod SegmentLending
 pub mod Bindings
+pub mod SectionRecord
+pub mod NumberedLeft

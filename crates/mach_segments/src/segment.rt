@@ -10,15 +10,21 @@ mod conversions;
 mod debug;
 pub mod laws;
 mod list;
+mod numbered;
+mod readable;
 mod relocations;
 mod section;
 mod sections;
 
 use crate::segment::conversions::{command_len, widen};
 pub use crate::segment::list::SegmentSections;
+pub use crate::segment::numbered::{
+    NumberedSection, NumberedSections, section_at, section_of, widen_section,
+};
+pub use crate::segment::readable::{ReadableSections, section_holding};
 pub use crate::segment::relocations::RelocationIterator;
 pub use crate::segment::section::{Section, SectionData};
-pub use crate::segment::sections::SectionIterator;
+pub use crate::segment::sections::{SectionIterator, place_of};
 use mach_base::{Container, Ctx, Result, bytes_at, read_text};
 use mach_records::{LC_SEGMENT, LC_SEGMENT_64, SegmentCommand32, SegmentCommand64};
 use std::alloc::{Allocator, Global};

@@ -19,8 +19,8 @@ pub struct SectionIterator<'a> {
     ctx: Ctx,
 }
 
-// Where section `number` stands behind the command at an offset.
-fn place_of(ctx: Ctx, offset: usize, number: u32) -> usize
+/// Where section `number` stands behind the command at an offset.
+pub fn place_of(ctx: Ctx, offset: usize, number: u32) -> usize
     ensures { result ≡ section_place ctx.container offset number }
 {
     let behind = command_len(ctx.container) + number as usize * Section::size_with(&ctx);

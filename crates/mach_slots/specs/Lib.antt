@@ -1,0 +1,7 @@
+pub mod IndirectSymbols
+pub mod SlotSections
+pub mod Slots
+pub mod SlotViews
+pub mod SlotsLeft
+pub mod SlotLookUp
+pub mod SlotPlaces

@@ -1,0 +1,125 @@
+//! The slots of an image, one at a time.
+
+ghost use Rattle.std.specs.Prelude.{◌≡◌, ◌∷◌, ◌++◌, [], Err, OnOk, IfErr, IfOk, MatchOption, flat_map, map};
+ghost use Rattle.mach_base.specs.Fault.{fault_of};
+ghost use Rattle.mach_segments.specs.Segment.{segment_view};
+ghost use Rattle.mach_slots.specs.SlotViews.{slot_tables_of};
+ghost use Rattle.mach_slots.specs.Slots.{slots_of, read_slots};
+ghost use Rattle.mach_slots.specs.SlotsLeft.{symbol_slot_read, open_slots_left, slots_left};
+
+use crate::indirect::IndirectSymbols;
+use crate::kind::SlotRun;
+use crate::slot::SymbolSlot;
+use crate::source::SlotSource;
+use mach_base::{Ctx, Endian, Result};
+use mach_segments::segment::{NumberedSection, NumberedSections, Segment};
+
+/// The slots of an image's sections in order, each with its symbol. An error stands in the place of its slot, or of
+/// the slots of a section from the first that has no address or no entry on, or of a section that can't be read. It
+/// takes no memory.
+#[derive(Clone, Copy)]
+pub struct SlotIterator<'a, 'b> {
+    source: SlotSource<'a, 'b>,
+    sections: NumberedSections<'a, 'b>,
+    // The section whose slots come now, and how many of them came.
+    run: Option<SlotRun>,
+    next_slot: u64,
+}
+
+impl<'a, 'b> SlotIterator<'a, 'b> {
+    /// Those of the sections of some segments.
+    pub fn new(source: SlotSource<'a, 'b>, segments: &'b [Segment<'a>]) -> Self
+        ensures { slots_left result ≡ slots_of (slot_tables_of source.entry) (map segment_view segments.now) }
+    {
+        SlotIterator {
+            source,
+            sections: NumberedSections::new(segments),
+            run: None,
+            next_slot: 0,
+        }
+    }
+
+    // The next slot of the section that is open.
+    #[inline(always)]
+    fn take(&mut self) -> Option<Result<SymbolSlot<'a>>>
+        ensures open { MatchOption result (open_slots_left self.old ≡ [])
+            (λ item. open_slots_left self.old ≡ symbol_slot_read item ∷ open_slots_left self.new) }
+        ensures sections { self.new.sections ≡ self.old.sections }
+        ensures source { self.new.source ≡ self.old.source }
+    {
+        let run = self.run?;
+        if self.next_slot >= run.count {
+            return None;
+        }
+        match self.source.entry(&run, self.next_slot) {
+            Ok(entry) => {
+                self.next_slot += 1;
+                Some(self.source.slot(&run, &entry))
+            }
+            Err(e) => {
+                self.run = None;
+                Some(Err(e))
+            }
+        }
+    }
+
+    // Opens the next section.
+    fn open(&mut self, section: &NumberedSection) -> Result<()>
+        ensures opened { IfOk result (λ _. open_slots_left self.new ≡ read_slots (slot_tables_of self.old.source) section.now) }
+        ensures refused { IfErr result (λ e. read_slots (slot_tables_of self.old.source) section.now ≡ Err (fault_of e) ∷ []) }
+        ensures closed { IfErr result (λ _. open_slots_left self.new ≡ []) }
+        ensures sections { self.new.sections ≡ self.old.sections }
+        ensures source { self.new.source ≡ self.old.source }
+    {
+        self.run = None;
+        self.next_slot = 0;
+        match SlotRun::of(self.source.ctx, section) {
+            Ok(run) => {
+                self.run = run;
+                Ok(())
+            }
+            Err(e) => Err(e),
+        }
+    }
+}
+
+impl Default for SlotIterator<'_, '_> {
+    ghost is_default = { λ it. slots_left it ≡ [] };
+
+    /// No slots.
+    fn default() -> Self {
+        let source = SlotSource {
+            indirect: IndirectSymbols::new(&[], 0, 0, Endian::Little),
+            symbols: None,
+            ctx: Ctx::default(),
+        };
+        SlotIterator::new(source, &[])
+    }
+}
+
+impl<'a, 'b> Iterator for SlotIterator<'a, 'b> {
+    type Item = Result<SymbolSlot<'a>>;
+
+    ghost use Rattle.std.specs.Iterator.{YieldsFirstBy, item_count};
+
+    ghost next_gives = { YieldsFirstBy symbol_slot_read slots_left };
+
+    ghost remaining = { item_count slots_left };
+
+    fn next(&mut self) -> Option<Result<SymbolSlot<'a>>> {
+        'sections: loop {
+            if let Some(item) = self.take() {
+                return Some(item);
+            }
+            self.run = None;
+            match self.sections.next() {
+                None => return None,
+                Some(Ok(section)) => match self.open(&section) {
+                    Ok(()) => {}
+                    Err(e) => return Some(Err(e)),
+                },
+                Some(Err(e)) => return Some(Err(e)),
+            }
+        }
+    }
+}
