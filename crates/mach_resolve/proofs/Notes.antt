@@ -71,7 +71,6 @@ tells_more P Q (Memory e) more t = t
 pub fails_more : (P Q : ℕ → Fault → Type 0) (x : Failure) → ((n : ℕ) (f : Fault) → P n f → Q n f) → IsFailure P x → IsFailure Q x
 fails_more P Q (failures.Refused file error) more t = tells_more (P file) (Q file) error (more file) t
 fails_more P Q failures.Memory more t = tt
-fails_more P Q failures.Unwritten more t = t
 
 -- a fault that stands among some stands among more
 pub stands_more : (P Q : Fault → Type 0) (e : Error) → ((f : Fault) → P f → Q f) → Stands P e → Stands Q e

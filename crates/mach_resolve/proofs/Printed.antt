@@ -8,7 +8,7 @@ use Rattle.mach_resolve.specs.Answers.{Answer}
 use Rattle.mach_resolve.specs.Follow.{not_given}
 use Rattle.mach_resolve.specs.Note.{Note}
 use Rattle.mach_resolve.specs.Report.{Outcome}
-use Rattle.mach_resolve.specs.Lines.{place_text, answer_text, lines_of, entry_heading, entry_text, entries_text, note_text, said_line, said_lines}
+use Rattle.mach_resolve.specs.Lines.{ResolveCall, place_text, answer_text, lines_of, entry_heading, entry_text, entries_text, note_text, said_line, said_lines}
 
 pub lines_push : (xs : List Answer) (a : Answer) → lines_of (xs ++ a ∷ []) ≡ lines_of xs ++ (answer_text a ++ codes "\n")
 lines_push [] a = append-nil (answer_text a ++ codes "\n")
@@ -25,20 +25,21 @@ gap_text library reexported =
     sym (append_assoc (front ++ codes " re-exports ") reexported (codes ", which is not given")
     ∙ (append_assoc front (codes " re-exports ") tail ∙ append_assoc (codes "not found; ") library (codes " re-exports " ++ tail)))
 
-pub said_push : (ns : List Note) (n : Note) → said_lines (ns ++ n ∷ []) ≡ said_lines ns ++ said_line (note_text n)
-said_push [] n = append-nil (said_line (note_text n))
-said_push (x ∷ ns) n =
-    ap (λ t. said_line (note_text x) ++ t) (said_push ns n) ∙ sym (append_assoc (said_line (note_text x)) (said_lines ns) (said_line (note_text n)))
+pub said_push : (call : ResolveCall) (ns : List Note) (n : Note) → said_lines call (ns ++ n ∷ []) ≡ said_lines call ns ++ said_line (note_text call n)
+said_push call [] n = append-nil (said_line (note_text call n))
+said_push call (x ∷ ns) n =
+    ap (λ t. said_line (note_text call x) ++ t) (said_push call ns n)
+    ∙ sym (append_assoc (said_line (note_text call x)) (said_lines call ns) (said_line (note_text call n)))
 
 -- one more entry, behind the others
-pub entries_push : (limit k : ℕ) (os : List Outcome) (o : Outcome)
-    → entries_text limit k (os ++ o ∷ []) ≡ entries_text limit k os ++ (entry_heading (k + length os) ++ entry_text limit o)
-entries_push limit k [] o =
-    append-nil (entry_heading k ++ entry_text limit o) ∙ ap (λ (i : ℕ). entry_heading i ++ entry_text limit o) (omega arith)
-entries_push limit k (x ∷ os) o =
-    ap (λ t. entry_heading k ++ entry_text limit x ++ t)
-    (entries_push limit (k + 1) os o ∙ ap (λ (i : ℕ). entries_text limit (k + 1) os ++ (entry_heading i ++ entry_text limit o)) (omega arith))
-    ∙ sym (append_assoc (entry_heading k ++ entry_text limit x) (entries_text limit (k + 1) os) (entry_heading (k + length (x ∷ os)) ++ entry_text limit o))
+pub entries_push : (call : ResolveCall) (k : ℕ) (os : List Outcome) (o : Outcome)
+    → entries_text call k (os ++ o ∷ []) ≡ entries_text call k os ++ (entry_heading (k + length os) ++ entry_text call o)
+entries_push call k [] o =
+    append-nil (entry_heading k ++ entry_text call o) ∙ ap (λ (i : ℕ). entry_heading i ++ entry_text call o) (omega arith)
+entries_push call k (x ∷ os) o =
+    ap (λ t. entry_heading k ++ entry_text call x ++ t)
+    (entries_push call (k + 1) os o ∙ ap (λ (i : ℕ). entries_text call (k + 1) os ++ (entry_heading i ++ entry_text call o)) (omega arith))
+    ∙ sym (append_assoc (entry_heading k ++ entry_text call x) (entries_text call (k + 1) os) (entry_heading (k + length (x ∷ os)) ++ entry_text call o))
 
 -- where there is no text, nothing is written
 pub nothing_written : (known : Option (List ℕ)) (text : List ℕ) → text ≡ [] → Appends known known text

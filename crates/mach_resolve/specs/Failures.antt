@@ -16,4 +16,3 @@ told_as file error = failures.Refused file error
 abbrev pub IsFailure : (ℕ → Fault → Type 0) → Failure → Type 0
 IsFailure FaultAt (failures.Refused file error) = Tells (FaultAt file) error
 IsFailure FaultAt failures.Memory = Unit {0}
-IsFailure FaultAt failures.Unwritten = ⊥

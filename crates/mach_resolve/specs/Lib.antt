@@ -11,5 +11,6 @@ pub mod Seen
 pub mod Opened
 pub mod Resolved
 pub mod Report
+pub mod Refusals
 pub mod Lines
 pub mod Runs

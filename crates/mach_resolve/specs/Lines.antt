@@ -1,11 +1,12 @@
 -- The lines that are printed, and what is said of libraries that do not count and of refused files.
-use Rattle.std.specs.Prelude.{◌==◌, ◌+◌, ℕ, Bool, true, false, List, [], ◌∷◌, ◌++◌, codes, if◌then◌else◌}
+use Rattle.std.specs.Prelude.{◌+◌, ℕ, Bool, true, false, List, [], ◌∷◌, ◌++◌, codes, get_or, if◌then◌else◌}
 use Rattle.std.specs.Fmt.{digits, decimal}
-use Rattle.mach_base.specs.Words.{words_of}
 use Rattle.mach_base.specs.declared.error.Error.{Error}
 use Rattle.mach_segments.specs.Bindings.{Provider, of_library, itself, main_executable, flat, weak_lookup}
 use Rattle.mach_resolve.specs.Follow.{SymbolPlace, found, leads_back, no_library, missing, not_given, not_found, no_main}
 use Rattle.mach_resolve.specs.Answers.{Answer}
+use Rattle.mach_resolve.specs.Given.{GivenFile}
+use Rattle.mach_resolve.specs.Refusals.{told_words}
 use Rattle.mach_resolve.specs.Note.{Note, given_before, nothing_for, all_noted}
 use Rattle.mach_resolve.specs.Report.{Outcome, answered, archive, refused, Report, one, entries, nothing}
 
@@ -66,59 +67,65 @@ more_text limit more = if more then codes "limit: " ++ (decimal limit ++ codes "
 abbrev pub resolved_text : ℕ → List Answer → Bool → List ℕ
 resolved_text limit answers more = lines_of answers ++ more_text limit more
 
--- a file by its number
-abbrev pub file_text : ℕ → List ℕ
-file_text file = if file == 0 then codes "the program" else codes "library " ++ decimal file
+-- what is asked of a run: a program and libraries, of which at most `limit` bindings are answered
+pub record ResolveCall : Type 0 where
+  pub limit : ℕ
+  pub program : GivenFile
+  pub libraries : List GivenFile
+
+-- the file of a number: the program, which is file 0, or a library
+abbrev pub file_at : ResolveCall → ℕ → GivenFile
+file_at call number = get_or (call.program ∷ call.libraries) number call.program
 
 -- why a file is refused
-abbrev pub refusal_text : ℕ → Error → List ℕ
-refusal_text file e = file_text file ++ codes ": " ++ words_of e
+abbrev pub refusal_text : GivenFile → Error → List ℕ
+refusal_text file e = file.path ++ (codes ": " ++ told_words file.bytes e)
 
 abbrev pub nothing_words : ℕ → List ℕ
 nothing_words cputype = codes "nothing for cputype 0x" ++ digits 16 false cputype
 
 -- a file has nothing for a cpu
-abbrev pub nothing_text : ℕ → ℕ → List ℕ
-nothing_text file cputype = file_text file ++ codes ": " ++ nothing_words cputype
+abbrev pub nothing_text : GivenFile → ℕ → List ℕ
+nothing_text file cputype = file.path ++ (codes ": " ++ nothing_words cputype)
 
-abbrev pub note_text : Note → List ℕ
-note_text (given_before library name) = file_text library ++ codes ": " ++ name ++ codes " is given before"
-note_text (nothing_for library cputype) = nothing_text library cputype
+abbrev pub note_text : ResolveCall → Note → List ℕ
+note_text call (given_before library name) = (file_at call library).path ++ (codes ": " ++ (name ++ codes " is given before"))
+note_text call (nothing_for library cputype) = nothing_text (file_at call library) cputype
 
 -- a line that is said
 abbrev pub said_line : List ℕ → List ℕ
 said_line text = codes "machresolve: " ++ text ++ codes "\n"
 
-abbrev pub said_lines : List Note → List ℕ
-said_lines [] = []
-said_lines (n ∷ notes) = said_line (note_text n) ++ said_lines notes
+abbrev pub said_lines : ResolveCall → List Note → List ℕ
+said_lines call [] = []
+said_lines call (n ∷ notes) = said_line (note_text call n) ++ said_lines call notes
 
 -- what is printed of an entry
-abbrev pub entry_text : ℕ → Outcome → List ℕ
-entry_text limit (answered answers notes more) = resolved_text limit answers more
-entry_text limit archive = codes "archive\n"
-entry_text limit (refused file e) = codes "refused: " ++ refusal_text file e ++ codes "\n"
+abbrev pub entry_text : ResolveCall → Outcome → List ℕ
+entry_text call (answered answers notes more) = resolved_text call.limit answers more
+entry_text call archive = codes "archive\n"
+entry_text call (refused file e) = codes "refused: " ++ (refusal_text (file_at call file) e ++ codes "\n")
 
 -- the line under which entry i stands
 abbrev pub entry_heading : ℕ → List ℕ
 entry_heading i = codes "arch " ++ decimal i ++ codes "\n"
 
 -- entries from number i on, each under its line
-abbrev pub entries_text : ℕ → ℕ → List Outcome → List ℕ
-entries_text limit i [] = []
-entries_text limit i (o ∷ others) = entry_heading i ++ entry_text limit o ++ entries_text limit (i + 1) others
+abbrev pub entries_text : ResolveCall → ℕ → List Outcome → List ℕ
+entries_text call i [] = []
+entries_text call i (o ∷ others) = entry_heading i ++ entry_text call o ++ entries_text call (i + 1) others
 
 -- what is printed of one program: where it is refused, nothing
-abbrev pub one_text : ℕ → Outcome → List ℕ
-one_text limit (answered answers notes more) = resolved_text limit answers more
-one_text limit archive = codes "archive\n"
-one_text limit (refused file e) = []
+abbrev pub one_text : ResolveCall → Outcome → List ℕ
+one_text call (answered answers notes more) = resolved_text call.limit answers more
+one_text call archive = codes "archive\n"
+one_text call (refused file e) = []
 
 -- what is printed of a program
-abbrev pub printed : ℕ → Report → List ℕ
-printed limit (one o) = one_text limit o
-printed limit (entries outcomes) = entries_text limit 0 outcomes
-printed limit (nothing cputype) = []
+abbrev pub printed : ResolveCall → Report → List ℕ
+printed call (one o) = one_text call o
+printed call (entries outcomes) = entries_text call 0 outcomes
+printed call (nothing cputype) = []
 
 abbrev pub notes_of : Outcome → List Note
 notes_of (answered answers notes more) = notes
@@ -136,17 +143,17 @@ notes_in (entries outcomes) = all_notes [] outcomes
 notes_in (nothing cputype) = []
 
 -- why nothing is printed of one program
-abbrev pub said_refusal : Outcome → List ℕ
-said_refusal (answered answers notes more) = []
-said_refusal archive = []
-said_refusal (refused file e) = said_line (refusal_text file e)
+abbrev pub said_refusal : ResolveCall → Outcome → List ℕ
+said_refusal call (answered answers notes more) = []
+said_refusal call archive = []
+said_refusal call (refused file e) = said_line (refusal_text (file_at call file) e)
 
 -- why nothing is printed
-abbrev pub said_first : Report → List ℕ
-said_first (one o) = said_refusal o
-said_first (entries outcomes) = []
-said_first (nothing cputype) = said_line (nothing_text 0 cputype)
+abbrev pub said_first : ResolveCall → Report → List ℕ
+said_first call (one o) = said_refusal call o
+said_first call (entries outcomes) = []
+said_first call (nothing cputype) = said_line (nothing_text call.program cputype)
 
 -- what is said of a program
-abbrev pub said_of_report : Report → List ℕ
-said_of_report r = said_first r ++ said_lines (notes_in r)
+abbrev pub said_of_report : ResolveCall → Report → List ℕ
+said_of_report call r = said_first call r ++ said_lines call (notes_in r)

@@ -1,6 +1,12 @@
--- What a file as it was given means.
+-- What a file as it was given means, and a call.
+use Rattle.std.specs.Prelude.{map}
 use Rattle.mach_resolve.specs.Given as given
+use Rattle.mach_resolve.specs.Lines.{ResolveCall}
+use Rattle.mach_resolve.specs.declared.call.Call.{Call}
 use Rattle.mach_resolve.specs.declared.given.Given.{Given}
 
 abbrev pub given_seen : Given → given.GivenFile
 given_seen g = record { path = g.path.now; bytes = g.bytes.now }
+
+abbrev pub call_seen : Call → ResolveCall
+call_seen c = record { limit = c.limit; program = given_seen c.program; libraries = map given_seen c.libraries.now }

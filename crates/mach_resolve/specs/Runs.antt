@@ -16,5 +16,5 @@ pub record Runs (wanted : Option ℕ) (limit : ℕ) (program : GivenFile) (libra
   pub is_report : IsProgramReport limit program libraries wanted report
   pub few : answers_in report ≤ limit
   pub status_is : status ≡ run_status (all_whole report)
-  pub text : Appends out_old out_new (printed limit report)
-  pub told : Appends err_old err_new (said_of_report report)
+  pub text : Appends out_old out_new (printed (record { limit = limit; program = program; libraries = libraries }) report)
+  pub told : Appends err_old err_new (said_of_report (record { limit = limit; program = program; libraries = libraries }) report)

@@ -4,21 +4,16 @@ ghost use Rattle.std.specs.Prelude.{◌≡◌};
 ghost use Rattle.mach_resolve.specs.Failures.{told_as};
 ghost use Rattle.mach_resolve.specs.declared.failure.Failure.TheVariants as failures;
 
-use crate::lines::RefusalText;
 use goblin_mach::Error;
 use std::alloc::{AllocError, AllocFailed};
-use std::io::Write;
-use std::{fmt, io};
 
-/// Why no lines, or not all of them, were printed.
+/// Why a program was not resolved.
 #[derive(Drop)]
 pub enum Failure {
     /// A file was refused: the program, which is file 0, or a library by its number.
     Refused { file: usize, error: Error },
     /// Memory was refused.
     Memory,
-    /// A line was not written.
-    Unwritten,
 }
 
 impl Failure {
@@ -46,26 +41,5 @@ impl<T: Drop> From<AllocFailed<T>> for Failure {
 
     fn from(_error: AllocFailed<T>) -> Failure {
         Failure::Memory
-    }
-}
-
-impl From<io::Error> for Failure {
-    ghost from_gives = { λ _ failure. failure ≡ failures.Unwritten };
-
-    fn from(_error: io::Error) -> Failure {
-        Failure::Unwritten
-    }
-}
-
-impl fmt::Display for Failure {
-    fn fmt<W: fmt::Write>(&self, f: &mut fmt::Formatter<W>) -> fmt::Result {
-        match self {
-            Failure::Refused { file, error } => {
-                let refusal = RefusalText { file: *file, error };
-                write!(f, "{refusal}")
-            }
-            Failure::Memory => write!(f, "out of memory"),
-            Failure::Unwritten => write!(f, "cannot write"),
-        }
     }
 }

@@ -7,6 +7,7 @@
 
 mod answers;
 mod behind;
+mod call;
 mod failure;
 mod file;
 mod files;
@@ -14,7 +15,7 @@ mod follow;
 mod given;
 mod lines;
 mod note;
-pub mod reading;
+mod refusal;
 mod report;
 mod resolve;
 pub mod run;
@@ -22,4 +23,4 @@ mod special;
 mod words;
 
 pub use crate::given::Given;
-pub use crate::words::{Asked, DEFAULT_LIMIT, cputype_in, read_words};
+pub use crate::words::{DEFAULT_LIMIT, Mistake, Words, cputype_in};

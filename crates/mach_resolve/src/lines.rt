@@ -1,14 +1,17 @@
-//! Answers, notes and refusals as they are printed.
+//! Answers and notes as they are printed.
 
 ghost use Rattle.std.specs.Prelude.{◌≡◌, Some};
 ghost use Rattle.mach_segments.specs.Bindings.{provider_view};
-ghost use Rattle.mach_resolve.specs.Lines.{provider_text, place_text, front_text, answer_text, file_text, refusal_text, nothing_words, nothing_text, note_text};
+ghost use Rattle.mach_resolve.specs.Lines.{provider_text, place_text, front_text, answer_text, nothing_words, nothing_text, note_text};
+ghost use Rattle.mach_resolve.specs.Opened.{call_seen, given_seen};
 ghost use Rattle.mach_resolve.specs.Seen.{place_seen, answer_seen, note_seen};
 
 use crate::answers::Answer;
+use crate::call::Call;
 use crate::follow::Place;
+use crate::given::Given;
 use crate::note::Note;
-use goblin_mach::{Error, Provider, describe};
+use goblin_mach::Provider;
 use std::fmt;
 use std::fmt::{Display, Formatter, Write};
 
@@ -86,41 +89,6 @@ impl<'a> Display for Answer<'a> {
     }
 }
 
-// A file by its number.
-#[derive(Clone, Copy)]
-struct FileText(usize);
-
-impl Display for FileText {
-    ghost output = { λ t. Some (file_text t.0) };
-
-    fn fmt<W: Write>(&self, f: &mut Formatter<W>) -> fmt::Result {
-        let number = self.0;
-        if number == 0 {
-            write!(f, "the program")
-        } else {
-            write!(f, "library {number}")
-        }
-    }
-}
-
-/// Why a file is refused.
-#[derive(Clone, Copy)]
-pub struct RefusalText<'b> {
-    /// The number of the file, the program's being 0.
-    pub file: usize,
-    pub error: &'b Error,
-}
-
-impl<'b> Display for RefusalText<'b> {
-    ghost output = { λ t. Some (refusal_text t.file t.error.now) };
-
-    fn fmt<W: Write>(&self, f: &mut Formatter<W>) -> fmt::Result {
-        let file = FileText(self.file);
-        let words = describe(self.error);
-        write!(f, "{file}: {words}")
-    }
-}
-
 // That nothing is there for a cpu.
 #[derive(Clone, Copy)]
 struct NothingWords(u32);
@@ -136,34 +104,40 @@ impl Display for NothingWords {
 
 /// A file that has nothing for a cpu.
 #[derive(Clone, Copy)]
-pub struct NothingText {
-    /// The number of the file, the program's being 0.
-    pub file: usize,
+pub struct NothingText<'a> {
+    pub file: Given<'a>,
     pub cputype: u32,
 }
 
-impl Display for NothingText {
-    ghost output = { λ t. Some (nothing_text t.file t.cputype) };
+impl Display for NothingText<'_> {
+    ghost output = { λ t. Some (nothing_text (given_seen t.file) t.cputype) };
 
     fn fmt<W: Write>(&self, f: &mut Formatter<W>) -> fmt::Result {
-        let file = FileText(self.file);
+        let path = self.file.path;
         let words = NothingWords(self.cputype);
-        write!(f, "{file}: {words}")
+        write!(f, "{path}: {words}")
     }
 }
 
-impl<'a> Display for Note<'a> {
-    ghost output = { λ n. Some (note_text (note_seen n)) };
+/// A note of a run.
+#[derive(Clone, Copy)]
+pub struct NoteText<'a, 'b> {
+    pub call: Call<'a, 'b>,
+    pub note: Note<'a>,
+}
+
+impl Display for NoteText<'_, '_> {
+    ghost output = { λ t. Some (note_text (call_seen t.call) (note_seen t.note)) };
 
     fn fmt<W: Write>(&self, f: &mut Formatter<W>) -> fmt::Result {
-        match *self {
+        match self.note {
             Note::GivenBefore { library, name } => {
-                let library = FileText(library);
-                write!(f, "{library}: {name} is given before")
+                let path = self.call.file_at(library).path;
+                write!(f, "{path}: {name} is given before")
             }
             Note::NothingFor { library, cputype } => {
                 let nothing = NothingText {
-                    file: library,
+                    file: self.call.file_at(library),
                     cputype,
                 };
                 write!(f, "{nothing}")

@@ -93,7 +93,7 @@ fn refusal<'a, A: Allocator>(failure: Failure) -> Result<Outcome<'a, A>, Failure
 {
     match failure {
         Failure::Refused { file, error } => Ok(Outcome::Refused { file, error }),
-        Failure::Memory | Failure::Unwritten => Err(failure),
+        Failure::Memory => Err(failure),
     }
 }
 

@@ -1,30 +1,37 @@
 //! What the program prints, and its exit status.
 
-ghost use Rattle.std.specs.Prelude.{◌≡◌, ◌≢◌, ◌≤◌, ◌⊎◌, ◌++◌, [], map, codes, IfOk, OnOk};
+ghost use Rattle.std.specs.Prelude.{◌≡◌, ◌≤◌, ◌++◌, [], map, IfOk, OnOk};
 ghost use Rattle.std.specs.Io.Buffered.{writer_buffer, writer_contents};
 ghost use Rattle.std.specs.Io.KnownBytes.{Appends};
 ghost use Rattle.mach_resolve.specs.Lines.{lines_of, more_text, resolved_text, entry_text, entry_heading, entries_text, one_text, printed, notes_in};
 ghost use Rattle.mach_resolve.specs.Lines.{all_notes, said_refusal, said_first, said_lines, said_of_report, notes_of};
 ghost use Rattle.mach_resolve.specs.Note.{all_noted};
-ghost use Rattle.mach_resolve.specs.Opened.{given_seen};
+ghost use Rattle.mach_resolve.specs.Opened.{call_seen, given_seen};
+ghost use Rattle.mach_show.specs.Statuses.{IsStatus};
 ghost use Rattle.mach_resolve.specs.Runs.{run_status, Runs};
 ghost use Rattle.mach_resolve.specs.Seen.{answer_seen, note_seen, outcome_seen, report_seen};
 
 use crate::answers::Answer;
-use crate::failure::Failure;
+use crate::call::Call;
 use crate::given::Given;
-use crate::lines::{NothingText, RefusalText};
+use crate::lines::{NoteText, NothingText};
 use crate::note::{Note, Notes, note_all};
+use crate::refusal::RefusalText;
 use crate::report::{Outcome, Report, report_on};
 use crate::resolve::Resolved;
 use indexmap::IndexSet;
+use mach_show::Failure;
+use mach_show::say::failed;
 use std::alloc::{AllocFailed, Allocator};
 use std::io;
 use std::io::{BufWriter, Write};
 
+/// The program's name.
+pub const NAME: &str = "machresolve";
+
 /// Resolves a program, or what it has for a cpu that is wanted, of all its images together the first `limit` bindings, and
 /// answers the exit status: 0 where each binding is settled; 1 where one is not, or there are more, or a file is refused; 2 for
-/// want of memory, and where a write fails. But for that nothing is left in the buffer. The lines of one image are written
+/// want of memory; 2 or 141 where a write fails. But for that nothing is left in the buffer. The lines of one image are written
 /// whole or not at all. Notes, and why nothing is printed, go to `err`.
 pub fn run<'a, A: Allocator + Copy, W: Write + Drop, B: Allocator, E: Write>(
     alloc: A,
@@ -35,14 +42,15 @@ pub fn run<'a, A: Allocator + Copy, W: Write + Drop, B: Allocator, E: Write>(
     out: &mut BufWriter<W, B>,
     err: &mut E,
 ) -> u8
-    ensures status { result ≤ 2 }
-    ensures runs { result ≢ 2 → Runs wanted limit (given_seen program.entry) (map given_seen libraries.now) result
+    ensures status { IsStatus result }
+    ensures runs { result ≤ 1 → Runs wanted limit (given_seen program.entry) (map given_seen libraries.now) result
         (writer_contents W.contents out.old) (writer_contents W.contents out.new) (E.contents err.old) (E.contents err.new) }
-    ensures flushed { result ≢ 2 → writer_buffer out.new ≡ [] }
+    ensures flushed { result ≤ 1 → writer_buffer out.new ≡ [] }
 {
     match tell(alloc, wanted, limit, program, libraries, out, err) {
         Ok(whole) => status(whole),
-        Err(failure) => fail(&failure, err),
+        Err(Failure::Memory) => out_of_memory(err),
+        Err(Failure::Unwritten(error)) => failed(NAME, "", error, err),
     }
 }
 
@@ -67,54 +75,61 @@ fn tell<'a, A: Allocator + Copy, W: Write + Drop, B: Allocator, E: Write>(
         (writer_contents W.contents out.old) (writer_contents W.contents out.new) (E.contents err.old) (E.contents err.new)) }
     ensures flushed { OnOk result (writer_buffer out.new ≡ []) }
 {
-    let report = match report_on(alloc, wanted, limit, program, libraries) {
-        Ok(report) => report,
-        Err(failure) => return Err(failure),
+    let call = Call {
+        limit,
+        program,
+        libraries,
     };
-    let notes = notes_in(alloc, &report)?;
-    print_report(limit, &report, out)?;
-    say(&report, &notes, err)?;
+    let Ok(report) = report_on(alloc, wanted, limit, program, libraries) else {
+        return Err(Failure::Memory);
+    };
+    let Ok(notes) = notes_in(alloc, &report) else {
+        return Err(Failure::Memory);
+    };
+    print_report(&call, &report, out)?;
+    say(&call, &report, &notes, err)?;
     Ok(report.is_whole())
 }
 
 // Prints what is told of a program, and sees to it that it is written.
 fn print_report<A: Allocator, W: Write + Drop, B: Allocator>(
-    limit: usize,
+    call: &Call<'_, '_>,
     report: &Report<'_, A>,
     out: &mut BufWriter<W, B>,
 ) -> io::Result<()>
-    ensures printed { OnOk result (Appends (writer_contents W.contents out.old) (writer_contents W.contents out.new) (printed limit (report_seen report.now))) }
+    ensures printed { OnOk result (Appends (writer_contents W.contents out.old) (writer_contents W.contents out.new)
+        (printed (call_seen call.now) (report_seen report.now))) }
     ensures flushed { OnOk result (writer_buffer out.new ≡ []) }
 {
-    print_whole(limit, report, out)?;
+    print_whole(call, report, out)?;
     out.flush()
 }
 
 // Prints what is told of a program.
 fn print_whole<A: Allocator, O: Write>(
-    limit: usize,
+    call: &Call<'_, '_>,
     report: &Report<'_, A>,
     out: &mut O,
 ) -> io::Result<()>
-    ensures { OnOk result (Appends (O.contents out.old) (O.contents out.new) (printed limit (report_seen report.now))) }
+    ensures { OnOk result (Appends (O.contents out.old) (O.contents out.new) (printed (call_seen call.now) (report_seen report.now))) }
 {
     match report {
-        Report::One(outcome) => print_one(limit, outcome, out),
-        Report::Entries(outcomes) => print_entries(limit, outcomes, out),
+        Report::One(outcome) => print_one(call, outcome, out),
+        Report::Entries(outcomes) => print_entries(call, outcomes, out),
         Report::Nothing(_) => Ok(()),
     }
 }
 
 // Prints what is told of one program: where it is refused, nothing.
 fn print_one<A: Allocator, O: Write>(
-    limit: usize,
+    call: &Call<'_, '_>,
     outcome: &Outcome<'_, A>,
     out: &mut O,
 ) -> io::Result<()>
-    ensures { OnOk result (Appends (O.contents out.old) (O.contents out.new) (one_text limit (outcome_seen outcome.now))) }
+    ensures { OnOk result (Appends (O.contents out.old) (O.contents out.new) (one_text (call_seen call.now) (outcome_seen outcome.now))) }
 {
     match outcome {
-        Outcome::Answered(resolved) => print_resolved(limit, resolved, out),
+        Outcome::Answered(resolved) => print_resolved(call.limit, resolved, out),
         Outcome::Archive => writeln!(out, "archive"),
         Outcome::Refused { .. } => Ok(()),
     }
@@ -122,44 +137,47 @@ fn print_one<A: Allocator, O: Write>(
 
 // Prints what is told of the entries of a fat program, each under its line.
 fn print_entries<A: Allocator, O: Write>(
-    limit: usize,
+    call: &Call<'_, '_>,
     outcomes: &[Outcome<'_, A>],
     out: &mut O,
 ) -> io::Result<()>
-    ensures { OnOk result (Appends (O.contents out.old) (O.contents out.new) (entries_text limit 0 (map outcome_seen outcomes.now))) }
+    ensures { OnOk result (Appends (O.contents out.old) (O.contents out.new) (entries_text (call_seen call.now) 0 (map outcome_seen outcomes.now))) }
 {
     'outcomes: for (index, outcome) in outcomes.iter().enumerate() {
-        print_entry(limit, index, outcome, out)?;
+        print_entry(call, index, outcome, out)?;
     }
     Ok(())
 }
 
 // Prints what is told of an entry, under its line.
 fn print_entry<A: Allocator, O: Write>(
-    limit: usize,
+    call: &Call<'_, '_>,
     index: usize,
     outcome: &Outcome<'_, A>,
     out: &mut O,
 ) -> io::Result<()>
-    ensures { OnOk result (Appends (O.contents out.old) (O.contents out.new) (entry_heading index ++ entry_text limit (outcome_seen outcome.now))) }
+    ensures { OnOk result (Appends (O.contents out.old) (O.contents out.new) (entry_heading index ++ entry_text (call_seen call.now) (outcome_seen outcome.now))) }
 {
     writeln!(out, "arch {index}")?;
-    print_outcome(limit, outcome, out)
+    print_outcome(call, outcome, out)
 }
 
 // Prints what is told of one program.
 fn print_outcome<A: Allocator, O: Write>(
-    limit: usize,
+    call: &Call<'_, '_>,
     outcome: &Outcome<'_, A>,
     out: &mut O,
 ) -> io::Result<()>
-    ensures { OnOk result (Appends (O.contents out.old) (O.contents out.new) (entry_text limit (outcome_seen outcome.now))) }
+    ensures { OnOk result (Appends (O.contents out.old) (O.contents out.new) (entry_text (call_seen call.now) (outcome_seen outcome.now))) }
 {
     match outcome {
-        Outcome::Answered(resolved) => print_resolved(limit, resolved, out),
+        Outcome::Answered(resolved) => print_resolved(call.limit, resolved, out),
         Outcome::Archive => writeln!(out, "archive"),
         Outcome::Refused { file, error } => {
-            let refusal = RefusalText { file: *file, error };
+            let refusal = RefusalText {
+                file: call.file_at(*file),
+                error,
+            };
             writeln!(out, "refused: {refusal}")
         }
     }
@@ -243,27 +261,32 @@ fn note_outcome<'a, A: Allocator + Copy>(
 
 // Says what is said of a program: why nothing is printed, and the notes.
 fn say<'a, A: Allocator, E: Write>(
+    call: &Call<'a, '_>,
     report: &Report<'a, A>,
     notes: &Notes<'a, A>,
     err: &mut E,
 ) -> io::Result<()>
     ensures { map note_seen notes.now.keys ≡ notes_in (report_seen report.now)
-        → OnOk result (Appends (E.contents err.old) (E.contents err.new) (said_of_report (report_seen report.now))) }
+        → OnOk result (Appends (E.contents err.old) (E.contents err.new) (said_of_report (call_seen call.now) (report_seen report.now))) }
 {
-    say_first(report, err)?;
-    say_notes(notes.as_slice(), err)
+    say_first(call, report, err)?;
+    say_notes(call, notes.as_slice(), err)
 }
 
 // Says why nothing is printed, if that is so.
-fn say_first<A: Allocator, E: Write>(report: &Report<'_, A>, err: &mut E) -> io::Result<()>
-    ensures { OnOk result (Appends (E.contents err.old) (E.contents err.new) (said_first (report_seen report.now))) }
+fn say_first<A: Allocator, E: Write>(
+    call: &Call<'_, '_>,
+    report: &Report<'_, A>,
+    err: &mut E,
+) -> io::Result<()>
+    ensures { OnOk result (Appends (E.contents err.old) (E.contents err.new) (said_first (call_seen call.now) (report_seen report.now))) }
 {
     match report {
-        Report::One(outcome) => say_refusal(outcome, err),
+        Report::One(outcome) => say_refusal(call, outcome, err),
         Report::Entries(_) => Ok(()),
         Report::Nothing(cputype) => {
             let nothing = NothingText {
-                file: 0,
+                file: call.program,
                 cputype: *cputype,
             };
             writeln!(err, "machresolve: {nothing}")
@@ -272,52 +295,44 @@ fn say_first<A: Allocator, E: Write>(report: &Report<'_, A>, err: &mut E) -> io:
 }
 
 // Says why one program is refused, if it is.
-fn say_refusal<A: Allocator, E: Write>(outcome: &Outcome<'_, A>, err: &mut E) -> io::Result<()>
-    ensures { OnOk result (Appends (E.contents err.old) (E.contents err.new) (said_refusal (outcome_seen outcome.now))) }
+fn say_refusal<A: Allocator, E: Write>(
+    call: &Call<'_, '_>,
+    outcome: &Outcome<'_, A>,
+    err: &mut E,
+) -> io::Result<()>
+    ensures { OnOk result (Appends (E.contents err.old) (E.contents err.new) (said_refusal (call_seen call.now) (outcome_seen outcome.now))) }
 {
     match outcome {
         Outcome::Answered(_) => Ok(()),
         Outcome::Archive => Ok(()),
         Outcome::Refused { file, error } => {
-            let refusal = RefusalText { file: *file, error };
+            let refusal = RefusalText {
+                file: call.file_at(*file),
+                error,
+            };
             writeln!(err, "machresolve: {refusal}")
         }
     }
 }
 
 // Says some notes, a line each.
-fn say_notes<E: Write>(notes: &[Note<'_>], err: &mut E) -> io::Result<()>
-    ensures { OnOk result (Appends (E.contents err.old) (E.contents err.new) (said_lines (map note_seen notes.now))) }
+fn say_notes<'a, E: Write>(call: &Call<'a, '_>, notes: &[Note<'a>], err: &mut E) -> io::Result<()>
+    ensures { OnOk result (Appends (E.contents err.old) (E.contents err.new) (said_lines (call_seen call.now) (map note_seen notes.now))) }
 {
     'notes: for note in notes {
-        writeln!(err, "machresolve: {note}")?;
+        let text = NoteText {
+            call: *call,
+            note: *note,
+        };
+        writeln!(err, "machresolve: {text}")?;
     }
     Ok(())
 }
 
-// Says on `err` what was the matter, if that can be written, and answers the exit status.
-fn fail<E: Write>(failure: &Failure, err: &mut E) -> u8
+// The status where memory is refused, of which `err` tells if it can: not 1, which says that a binding isn't settled.
+fn out_of_memory<E: Write>(err: &mut E) -> u8
     ensures { result ≡ 2 }
 {
-    let _ = writeln!(err, "machresolve: {failure}");
+    let _ = writeln!(err, "machresolve: out of memory");
     2
-}
-
-/// Prints a line, and answers the exit status: 0; 2 where the write fails, and then `err` says so.
-pub fn run_line<O: Write, E: Write>(line: &str, out: &mut O, err: &mut E) -> u8
-    ensures status { (result ≡ 0) ⊎ (result ≡ 2) }
-    ensures printed { result ≡ 0 → Appends (O.contents out.old) (O.contents out.new) (line.now ++ codes "\n") }
-{
-    match print_line(line, out) {
-        Ok(()) => 0,
-        Err(_) => fail(&Failure::Unwritten, err),
-    }
-}
-
-// Prints a line.
-fn print_line<O: Write>(line: &str, out: &mut O) -> io::Result<()>
-    ensures { OnOk result (Appends (O.contents out.old) (O.contents out.new) (line.now ++ codes "\n")) }
-{
-    writeln!(out, "{line}")?;
-    out.flush()
 }

@@ -1,55 +1,69 @@
-//! What the words of the command line ask for.
+//! What the words of the command line ask for, beside what all programs know.
 
-/// What is asked for.
-#[derive(Clone, Copy)]
-pub struct Asked<'b> {
-    /// The cpu that is wanted, if not all are.
-    pub wanted: Option<u32>,
-    /// How many bindings of one image are answered at most.
-    pub limit: usize,
-    /// The program's path.
-    pub program: &'b str,
-    /// The paths of the libraries.
-    pub libraries: &'b [String],
-}
+use mach_show::Misuse;
+use std::alloc::{AllocError, AllocFailed, Global};
 
 /// So many bindings are answered where no other limit is given.
 pub const DEFAULT_LIMIT: usize = 10_000_000;
 
-/// What some words ask for, if they do: options, then a program, then libraries. The options are `--cputype` and a cpu,
-/// and `--limit` and a number.
-pub fn read_words(words: &[String]) -> Option<Asked<'_>> {
-    let mut wanted = None;
-    let mut limit = DEFAULT_LIMIT;
-    let mut rest = words;
-    for _ in 0..words.len() {
-        match rest {
-            [flag, cputype, behind @ ..] if flag.as_str() == "--cputype" => {
-                wanted = Some(cputype_in(cputype)?);
-                rest = behind;
-            }
-            [flag, number, behind @ ..] if flag.as_str() == "--limit" => {
-                limit = number.parse::<usize>().ok()?;
-                rest = behind;
-            }
-            _ => break,
-        }
-    }
-    match rest {
-        [flag] if is_option(flag) => None,
-        [program, libraries @ ..] => Some(Asked {
-            wanted,
-            limit,
-            program,
-            libraries,
-        }),
-        [] => None,
+/// The words of a call without `--cputype` and the cpu behind it, and that cpu; of several the last one counts. Behind `--` no word is an option.
+#[derive(Drop)]
+pub struct Words {
+    pub others: Vec<String>,
+    /// The cpu that is wanted, if not all are.
+    pub wanted: Option<u32>,
+}
+
+/// Why words can't be taken apart.
+#[derive(Clone, Copy)]
+pub enum Mistake {
+    /// What is wrong with them.
+    Misuse(Misuse<'static>),
+    /// Memory is refused.
+    Memory,
+}
+
+impl From<AllocError> for Mistake {
+    fn from(_error: AllocError) -> Mistake {
+        Mistake::Memory
     }
 }
 
-// Whether a word is an option, which has a word of its own behind it.
-fn is_option(word: &str) -> bool {
-    matches!(word, "--cputype" | "--limit")
+impl From<AllocFailed<String>> for Mistake {
+    fn from(_error: AllocFailed<String>) -> Mistake {
+        Mistake::Memory
+    }
+}
+
+// That the cpu is no number, or missing.
+const NO_CPU: Mistake = Mistake::Misuse(Misuse::Missing("0xN behind --cputype"));
+
+impl Words {
+    /// Takes words apart.
+    pub fn of(alloc: Global, words: Vec<String>) -> Result<Words, Mistake> {
+        let mut others = Vec::new(alloc);
+        let mut wanted = None;
+        let mut is_cpu = false;
+        let mut is_plain = false;
+        'words: for word in words {
+            if is_cpu {
+                let Some(cputype) = cputype_in(&word) else {
+                    return Err(NO_CPU);
+                };
+                wanted = Some(cputype);
+                is_cpu = false;
+            } else if !is_plain && word.as_str() == "--cputype" {
+                is_cpu = true;
+            } else {
+                is_plain |= word.as_str() == "--";
+                others.push(word)?;
+            }
+        }
+        if is_cpu {
+            return Err(NO_CPU);
+        }
+        Ok(Words { others, wanted })
+    }
 }
 
 /// The cpu of a word: `0x`, and 1 to 8 hexadecimal digits.

@@ -6,83 +6,83 @@
 //! more than what is left, a line says so.
 #![tactic(auto)]
 
-use mach_resolve::reading::{out_of_memory, read};
-use mach_resolve::run::{run, run_line};
-use mach_resolve::{Asked, Given, read_words};
+use mach_resolve::run::{NAME, run};
+use mach_resolve::{DEFAULT_LIMIT, Given, Mistake, Words};
+use mach_show::{Misuse, Program};
+use std::io;
 use std::io::BufWriter;
 use std::process::ExitCode;
-use std::{env, io};
 
-const USAGE: &str = "usage: machresolve [--cputype 0xN] [--limit N] PROGRAM LIBRARY..";
-
-const VERSION: &str = "machresolve 0.2.0";
+const PROGRAM: Program = Program {
+    name: NAME,
+    usage: "usage: machresolve [--cputype 0xN] [--limit N] PROGRAM LIBRARY..
+       machresolve -h | --help | --version
+",
+    version: "machresolve 0.2.0\n",
+    has_limit: true,
+    known: &["--cputype", "--help", "--limit", "--version"],
+};
 
 fn main(rt: HostRuntime) -> ExitCode {
-    let status = match env::args(&rt) {
-        Ok(args) => match args.collect::<Vec<String>>(rt.alloc()) {
-            Ok(args) => start(&rt, args.as_slice()),
-            Err(_) => out_of_memory(&rt),
-        },
-        Err(error) if error.kind() == io::ErrorKind::OutOfMemory => out_of_memory(&rt),
-        Err(_) => bad_usage(&rt),
-    };
-    ExitCode::from(status)
+    ExitCode::from(match start(&rt) {
+        Ok(status) => status,
+        // Status 1 says that a binding isn't settled, so want of memory is 2 here.
+        Err(1) => 2,
+        Err(status) => status,
+    })
 }
 
-// Does what the arguments ask for; the first is the program's name.
-fn start(rt: &HostRuntime, args: &[String]) -> u8 {
-    match args {
-        [_, word] if word.as_str() == "--help" => {
-            run_line(USAGE, &mut io::writer(rt), &mut rt.stderr())
-        }
-        [_, word] if word.as_str() == "--version" => {
-            run_line(VERSION, &mut io::writer(rt), &mut rt.stderr())
-        }
-        [_, words @ ..] => match read_words(words) {
-            Some(asked) => match resolve_files(rt, asked) {
-                Ok(status) | Err(status) => status,
-            },
-            None => bad_usage(rt),
-        },
-        [] => bad_usage(rt),
+// Does what the words ask for; the error is the exit status where nothing was resolved.
+fn start(rt: &HostRuntime) -> Result<u8, u8> {
+    let Words { others, wanted } = match Words::of(rt.alloc(), PROGRAM.words(rt)?) {
+        Ok(words) => words,
+        Err(Mistake::Misuse(misuse)) => return Err(PROGRAM.bad_usage(rt, misuse)),
+        Err(Mistake::Memory) => return Err(PROGRAM.out_of_memory(rt)),
+    };
+    let call = PROGRAM.call(rt, &others)?;
+    let limit = call.limit.unwrap_or(DEFAULT_LIMIT);
+    match call.words.as_slice() {
+        [] => Err(PROGRAM.bad_usage(rt, Misuse::Missing("PROGRAM"))),
+        [program, libraries @ ..] => resolve_files(rt, wanted, limit, program, libraries),
     }
 }
 
-fn bad_usage(rt: &impl Eprint) -> u8 {
-    let _ = rt.eprintln(USAGE);
-    2
-}
-
-// Resolves a program over libraries, and answers the exit status; Err where not all could be read.
-fn resolve_files(rt: &HostRuntime, asked: Asked<'_>) -> Result<u8, u8> {
-    let bytes = read(rt, asked.program)?;
+// Resolves a program over libraries.
+fn resolve_files(
+    rt: &HostRuntime,
+    wanted: Option<u32>,
+    limit: usize,
+    program: &str,
+    libraries: &[&str],
+) -> Result<u8, u8> {
+    let bytes = PROGRAM.read(rt, program)?;
     let mut contents = Vec::new(rt.alloc());
-    for library in asked.libraries {
-        if contents.push(read(rt, library)?).is_err() {
-            return Err(out_of_memory(rt));
+    for library in libraries {
+        if contents.push(PROGRAM.read(rt, library)?).is_err() {
+            return Err(PROGRAM.out_of_memory(rt));
         }
     }
     let mut given = Vec::new(rt.alloc());
-    for (path, bytes) in asked.libraries.iter().zip(contents.iter()) {
+    for (path, bytes) in libraries.iter().zip(contents.iter()) {
         let library = Given {
-            path: path.as_str(),
+            path,
             bytes: bytes.as_slice(),
         };
         if given.push(library).is_err() {
-            return Err(out_of_memory(rt));
+            return Err(PROGRAM.out_of_memory(rt));
         }
     }
     let Ok(mut out) = BufWriter::new(rt.alloc(), io::writer(rt)) else {
-        return Err(out_of_memory(rt));
+        return Err(PROGRAM.out_of_memory(rt));
     };
     let program = Given {
-        path: asked.program,
+        path: program,
         bytes: bytes.as_slice(),
     };
     Ok(run(
         rt.alloc(),
-        asked.wanted,
-        asked.limit,
+        wanted,
+        limit,
         program,
         given.as_slice(),
         &mut out,

@@ -1,9 +1,10 @@
 use Rattle.std.proofs.Common.{map, take}
 use Rattle.std.specs.Io.KnownBytes.{Appends}
 use Rattle.mach_resolve.specs.Lines.{entries_text}
+use Rattle.mach_resolve.specs.Opened.{call_seen}
 use Rattle.mach_resolve.specs.Seen.{outcome_seen}
 use Rattle.mach_resolve.proofs.run.print_entries.Given as goal
 
 abbrev pub invariant-outcomes : goal.invariant-outcomes
 invariant-outcomes g l =
-    Appends (g.O.Write.contents l.fn.out) (g.O.Write.contents l.out) (entries_text l.limit 0 (map outcome_seen (take l.index l.outcomes)))
+    Appends (g.O.Write.contents l.fn.out) (g.O.Write.contents l.out) (entries_text (call_seen l.call) 0 (map outcome_seen (take l.index l.outcomes)))

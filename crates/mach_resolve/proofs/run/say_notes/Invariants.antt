@@ -1,8 +1,10 @@
 use Rattle.std.proofs.Common.{map, take}
 use Rattle.std.specs.Io.KnownBytes.{Appends}
 use Rattle.mach_resolve.specs.Lines.{said_lines}
+use Rattle.mach_resolve.specs.Opened.{call_seen}
 use Rattle.mach_resolve.specs.Seen.{note_seen}
 use Rattle.mach_resolve.proofs.run.say_notes.Given as goal
 
 abbrev pub invariant-notes : goal.invariant-notes
-invariant-notes g l = Appends (g.E.Write.contents l.fn.err) (g.E.Write.contents l.err) (said_lines (map note_seen (take l.note-index l.notes)))
+invariant-notes g l =
+    Appends (g.E.Write.contents l.fn.err) (g.E.Write.contents l.err) (said_lines (call_seen l.call) (map note_seen (take l.note-index l.notes)))

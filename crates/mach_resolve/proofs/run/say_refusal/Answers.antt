@@ -1,11 +1,14 @@
 use Rattle.std.proofs.Common.{ap}
 use Rattle.mach_resolve.specs.Lines.{said_refusal}
+use Rattle.mach_resolve.specs.Opened.{call_seen}
 use Rattle.mach_resolve.specs.Seen.{outcome_seen}
 use Rattle.mach_resolve.proofs.Printed.{nothing_written}
 use Rattle.mach_resolve.proofs.run.say_refusal.Goals as goal
 
 pub returns-in-Answered : goal.returns-in-Answered
-returns-in-Answered g c = nothing_written (g.E.Write.contents c.args.err.now) _ (ap (λ x. said_refusal (outcome_seen x)) c.in-Answered.is)
+returns-in-Answered g c =
+    nothing_written (g.E.Write.contents c.args.err.now) _ (ap (λ x. said_refusal (call_seen c.args.call.now) (outcome_seen x)) c.in-Answered.is)
 
 pub returns-in-Archive : goal.returns-in-Archive
-returns-in-Archive g c = nothing_written (g.E.Write.contents c.args.err.now) _ (ap (λ x. said_refusal (outcome_seen x)) c.in-Archive.is)
+returns-in-Archive g c =
+    nothing_written (g.E.Write.contents c.args.err.now) _ (ap (λ x. said_refusal (call_seen c.args.call.now) (outcome_seen x)) c.in-Archive.is)
