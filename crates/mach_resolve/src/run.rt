@@ -156,7 +156,8 @@ fn print_entry<A: Allocator, O: Write>(
     outcome: &Outcome<'_, A>,
     out: &mut O,
 ) -> io::Result<()>
-    ensures { OnOk result (Appends (O.contents out.old) (O.contents out.new) (entry_heading index ++ entry_text (call_seen call.now) (outcome_seen outcome.now))) }
+    ensures { OnOk result (Appends (O.contents out.old) (O.contents out.new)
+        (entry_heading index ++ entry_text (call_seen call.now) (outcome_seen outcome.now))) }
 {
     writeln!(out, "arch {index}")?;
     print_outcome(call, outcome, out)
