@@ -1,12 +1,9 @@
 //! What the tables of an image say, as short texts.
 
-use crate::tests::made::{BASE, commands};
-use mach_base::{Error, LE, Result as Read, ScrollError};
+use goblin_mach::MachO;
+use mach_base::{Error, Result as Read, ScrollError};
 use mach_load::{CommandVariant, LoadCommand};
 use mach_records::LinkeditDataCommand;
-use mach_tables::{
-    BuildToolIterator, DataInCodeIterator, FunctionStarts, LinkerOptionIterator, NoteIterator,
-};
 use std::alloc::{AllocError, Global};
 use std::fmt::Write;
 use std::test::Fail;
@@ -40,35 +37,31 @@ pub fn places(
     (starts, entries)
 }
 
-/// The starts of functions.
+/// The starts of functions of an image.
 pub fn starts_text(alloc: Global, bytes: &[u8]) -> Result<String, Fail> {
     let mut text = String::new(alloc);
-    let found = commands(alloc, bytes)?;
-    if let Some(c) = places(found.as_slice()).0 {
-        for item in FunctionStarts::new(bytes, &c).iter(BASE) {
-            match item {
-                Ok(address) => write!(&mut text, "{address:#x}; ")?,
-                Err(e) => write_error(&mut text, &e)?,
-            }
+    let image = MachO::parse(alloc, bytes, 0)?;
+    for item in image.function_starts() {
+        match item {
+            Ok(address) => write!(&mut text, "{address:#x}; ")?,
+            Err(e) => write_error(&mut text, &e)?,
         }
     }
     Ok(text)
 }
 
-/// The entries of data among code.
+/// Its entries of data among code.
 pub fn data_text(alloc: Global, bytes: &[u8]) -> Result<String, Fail> {
     let mut text = String::new(alloc);
-    let found = commands(alloc, bytes)?;
-    if let Some(c) = places(found.as_slice()).1 {
-        for item in DataInCodeIterator::new(bytes, &c, LE) {
-            match item {
-                Ok(entry) => write!(
-                    &mut text,
-                    "{:#x} {} {}; ",
-                    entry.offset, entry.length, entry.kind
-                )?,
-                Err(e) => write_error(&mut text, &e)?,
-            }
+    let image = MachO::parse(alloc, bytes, 0)?;
+    for item in image.data_in_code() {
+        match item {
+            Ok(entry) => write!(
+                &mut text,
+                "{:#x} {} {}; ",
+                entry.offset, entry.length, entry.kind
+            )?,
+            Err(e) => write_error(&mut text, &e)?,
         }
     }
     Ok(text)
@@ -81,21 +74,21 @@ fn write_option(text: &mut String, item: Read<(usize, &str)>) -> Result<(), Allo
     }
 }
 
-/// The options for the linker.
+/// Its options for the linker.
 pub fn options_text(alloc: Global, bytes: &[u8]) -> Result<String, Fail> {
     let mut text = String::new(alloc);
-    let found = commands(alloc, bytes)?;
-    for item in LinkerOptionIterator::new(bytes, found.as_slice()) {
+    let image = MachO::parse(alloc, bytes, 0)?;
+    for item in image.linker_options() {
         write_option(&mut text, item)?;
     }
     Ok(text)
 }
 
-/// The tools.
+/// Its tools.
 pub fn tools_text(alloc: Global, bytes: &[u8]) -> Result<String, Fail> {
     let mut text = String::new(alloc);
-    let found = commands(alloc, bytes)?;
-    for item in BuildToolIterator::new(bytes, found.as_slice(), LE) {
+    let image = MachO::parse(alloc, bytes, 0)?;
+    for item in image.build_tools() {
         match item {
             Ok((number, tool)) => {
                 write!(&mut text, "{number} {} {:#x}; ", tool.tool, tool.version)?;
@@ -106,11 +99,11 @@ pub fn tools_text(alloc: Global, bytes: &[u8]) -> Result<String, Fail> {
     Ok(text)
 }
 
-/// The notes.
+/// Its notes.
 pub fn notes_text(alloc: Global, bytes: &[u8]) -> Result<String, Fail> {
     let mut text = String::new(alloc);
-    let found = commands(alloc, bytes)?;
-    for item in NoteIterator::new(bytes, found.as_slice()) {
+    let image = MachO::parse(alloc, bytes, 0)?;
+    for item in image.notes() {
         match item {
             Ok(note) => {
                 write!(&mut text, "[{}]", note.owner)?;
