@@ -18,3 +18,4 @@ pub mod ExportedOrNot
 pub mod NamedExports
 pub mod Walked
 pub mod TableFacts
+pub mod StreamFacts

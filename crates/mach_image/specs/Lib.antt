@@ -18,3 +18,6 @@ pub mod ImageFacts
 pub mod BindingLaws
 pub mod Tables
 pub mod TableFacts
+pub mod ImageStreams
+pub mod RebasesLeft
+pub mod StreamFacts
