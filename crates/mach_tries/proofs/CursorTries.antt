@@ -1,5 +1,5 @@
 -- What a cursor has given of the trie that it goes over.
-use Rattle.mach_tries.proofs.Names.{◌≡◌, ◌<◌, ◌≤◌, ◌-◌, length, Some, ℕ, List, [], ◌⊎◌, refl, arith, inl, inr, malformed, Entry, ExportsFault}
+use Rattle.mach_tries.proofs.Names.{◌≡◌, ◌<◌, ◌≤◌, ◌-◌, length, Some, ℕ, List, [], ◌⊎◌, refl, ap, arith, inl, inr, malformed, Entry, ExportsFault}
 use Rattle.mach_tries.proofs.Names.{ListBegins, TrieRange, ListsExports, trie_there, Unfolds, nothing_read, passed, Open}
 use Rattle.mach_tries.proofs.Starts.{starts_from}
 use Rattle.mach_tries.proofs.Readings.{reading, tree_or_twice, cut_stands}
@@ -50,6 +50,10 @@ module _ {t : TrieRange} {libs : List (List ℕ)} {c : TrieCursor} {name : List 
   too_far on far (at_root phase at) = let k = at.kept.visits in omega arith
   too_far on far (between n phase kept k) = let k = kept.visits in omega arith
   too_far on far (all_met n phase read) = omega arith
+
+-- one that was over goes over no more branches
+pub ended : {c d : TrieCursor} {name name' : List ℕ} {stack stack' : List Open} → d.phase ≤ 1 → 1 < c.phase → IsAsBefore c d name name' stack stack' → ⊥
+ended on over before = let same = ap (λ (x : TrieCursor). x.phase) before.same_cursor in omega (arith, on, over, same)
 
 -- a cursor that has given nothing yet
 module _ (t : TrieRange) (libs : List (List ℕ)) (c : TrieCursor) (name : List ℕ) (stack : List Open) where

@@ -129,6 +129,7 @@ impl TrieCursor {
         ensures less { (most : ℕ) → IfNone result (work_of most self.new stack.now < work_of most self.old stack.now) }
         ensures depth { self.new.depth ≤ self.old.depth }
         ensures stopped { IsStopped result → ⊥ }
+        ensures over { (e : Error) → result ≡ Some (next.Refused e) → 1 < self.new.phase }
         ensures placed { (bytes : List ℕ) (libs : List (List ℕ)) (from : ℕ) → StandsAt bytes libs from self.new.node result }
     {
         if self.depth == 0 {
@@ -206,6 +207,7 @@ impl TrieCursor {
         ensures long { (n : ℕ) → result ≡ Some (next.NameTooLong n) → (n ≡ min (rest.name_len + length (branch_of branch.entry).label) (2 ^ 64 - 1))
             × (length name.old < rest.name_len + length (branch_of branch.entry).label) }
         ensures placed { StandsAt source.now.bytes.now (texts source.now.libs.now) source.now.from self.new.node result }
+        ensures over { (e : Error) → result ≡ Some (next.Refused e) → 1 < self.new.phase }
         ensures full { result ≡ Some next.StackTooShort → length stack.old ≤ self.old.depth }
         ensures less { IfNone result (work_of (length source.now.bytes.now) self.new stack.new
             ≤ cursor_work (length source.now.bytes.now) self.old.visits_left (rest ∷ below self.old stack.old)) }
@@ -258,6 +260,7 @@ impl TrieCursor {
         ensures stopped { IsStopped result → IsAsBefore self.old self.new name.old name.new stack.old stack.new }
         ensures full { IsFull source.now.bytes.now source.now.from self.new name.new stack.new result }
         ensures placed { StandsAt source.now.bytes.now (texts source.now.libs.now) source.now.from self.new.node result }
+        ensures over { (e : Error) → result ≡ Some (next.Refused e) → 1 < self.new.phase }
         ensures less { IfNone result (work_of (length source.now.bytes.now) self.new stack.new < work_of (length source.now.bytes.now) self.old stack.old) }
         ensures depth { self.new.depth ≤ length stack.new }
         ensures name_len { length name.new ≡ length name.old }
@@ -286,6 +289,7 @@ impl TrieCursor {
         ensures stopped { IsStopped result → IsAsBefore self.old self.new name.old name.new stack.old stack.new }
         ensures full { IsFull source.now.bytes.now source.now.from self.new name.new stack.new result }
         ensures placed { StandsAt source.now.bytes.now (texts source.now.libs.now) source.now.from self.new.node result }
+        ensures over { (e : Error) → result ≡ Some (next.Refused e) → 1 < self.new.phase }
         ensures less { IfNone result (work_of (length source.now.bytes.now) self.new stack.new < work_of (length source.now.bytes.now) self.old stack.old) }
         ensures depth { self.new.depth ≤ length stack.new }
         ensures name_len { length name.new ≡ length name.old }
@@ -351,6 +355,8 @@ impl<'a> ExportTrie<'a> {
             → ListBegins (trie_there self.now (texts libs.now)) self.now.from [] found }
         ensures full { IsFull self.now.bytes self.now.from cursor.new name.new stack.new (Some result) }
         ensures placed { StandsAt self.now.bytes (texts libs.now) self.now.from cursor.new.node (Some result) }
+        ensures refused { (e : Error) → result ≡ next.Refused e → 1 < cursor.new.phase }
+        ensures over { 1 < cursor.old.phase → (result ≡ next.End) × IsAsBefore cursor.old cursor.new name.old name.new stack.old stack.new }
         ensures name_len { length name.new ≡ length name.old }
         ensures stack_len { length stack.new ≡ length stack.old }
     {

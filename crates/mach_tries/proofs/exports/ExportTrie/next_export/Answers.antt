@@ -3,7 +3,7 @@ use Rattle.mach_tries.specs.CursorState.{HasCome, TurnGives, IsFull}
 use Rattle.mach_base.specs.Text.{texts}
 use Rattle.mach_tries.specs.TrieRange.{TrieRange}
 use Rattle.mach_tries.specs.declared.cursor.NextExport.{NextExport}
-use Rattle.mach_tries.proofs.CursorTries.{next_gives, over_gives, too_deep, too_far, begins_there}
+use Rattle.mach_tries.proofs.CursorTries.{next_gives, over_gives, too_deep, too_far, begins_there, ended}
 use Rattle.mach_tries.proofs.exports.ExportTrie.next_export.Goals as goal
 use Rattle.mach_tries.proofs.exports.ExportTrie.next_export.Goals.{else-cursor-le-ON_THE_WAY-via-then-cursor-le-ON_THE_WAY+else-cursor-stack}
 use Rattle.mach_tries.proofs.exports.ExportTrie.next_export.Goals.{else-cursor-le-ON_THE_WAY-via-else-cursor-le-ON_THE_WAY}
@@ -32,6 +32,7 @@ turns-init c = record {
   name_len = refl;
   stack_len = refl;
   gives = λ found given. given;
+  stays = λ over. record { same_cursor = refl; same_name = refl; same_stack = refl };
 }
 
 pub returns-in-Some-clause-gives : goal.returns-in-Some-clause-gives
@@ -63,6 +64,7 @@ turns-preserved c = record {
       let turn = subst (λ (t : TrieRange). HasCome t (texts c.args.libs.now) c.turns.cursor c.turns.name c.turns.stack found
       → HasCome t (texts c.args.libs.now) c.turn.new.self c.turn.new.name c.turn.new.stack found) c.self.view_is (c.in_default.ensures.gives found) in
       turn come;
+  stays = λ over. absurd (ended (omega (arith, c.turns-test.true)) over (c.turns.invariant.stays over));
 }
 
 pub returns-clause-gives : goal.returns-clause-gives
@@ -75,3 +77,9 @@ pub returns-in-Some-clause-full : goal.returns-in-Some-clause-full
 returns-in-Some-clause-full c =
     subst (λ (t : TrieRange). IsFull t.bytes t.from c.turn.new.self c.turn.new.name c.turn.new.stack (Some c.in-Some.given)) c.self.view_is
     c.in-Some.ensures.full
+
+pub returns-in-Some-clause-over : goal.returns-in-Some-clause-over
+returns-in-Some-clause-over c = λ over. absurd (ended (omega (arith, c.turns-test.true)) over (c.turns.invariant.stays over))
+
+pub returns-clause-over : goal.returns-clause-over
+returns-clause-over c = λ over. (refl, c.turns.invariant.stays over)

@@ -1,5 +1,5 @@
-use Rattle.mach_tries.proofs.Names.{◌≡◌, ◌≤◌, List, Entry, length, texts}
-use Rattle.mach_tries.specs.CursorState.{work_of}
+use Rattle.mach_tries.proofs.Names.{◌≡◌, ◌<◌, ◌≤◌, List, Entry, length, texts}
+use Rattle.mach_tries.specs.CursorState.{IsAsBefore, work_of}
 use Rattle.mach_tries.specs.Cursors.{HasGivenTo}
 use Rattle.mach_tries.proofs.exports.ExportTrie.next_export.Given as goal
 
@@ -10,6 +10,7 @@ invariant-turns l = record {
   stack_len : length l.stack ≡ length l.fn.stack;
   gives : (found : List Entry) → HasGivenTo l.self (texts l.libs) l.fn.cursor l.fn.name l.fn.stack found
       → HasGivenTo l.self (texts l.libs) l.cursor l.name l.stack found;
+  stays : 1 < l.fn.cursor.phase → IsAsBefore l.fn.cursor l.cursor l.fn.name l.name l.fn.stack l.stack;
 }
 
 abbrev pub decreases-turns : goal.decreases-turns
