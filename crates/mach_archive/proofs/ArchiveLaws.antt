@@ -1,5 +1,5 @@
 -- Laws of archives: where members begin, and that each is found at its place.
-use Rattle.std.proofs.Common.{◌≡◌, ◌==◌, ◌||◌, ℕ, ◌+◌, ◌<◌, ◌≤◌, ◌∷◌, ◌++◌, Bool, true, false, cond, List, [], length, take, drop, Option, Some, None}
+use Rattle.std.proofs.Common.{◌≡◌, ◌==◌, ◌||◌, ℕ, ◌≤◌, ◌∷◌, ◌++◌, Bool, true, false, cond, List, [], length, Option, Some, None}
 use Rattle.std.proofs.Common.{Result, Ok, Err, is_some, nat_le, nat_lt, codes, inl, inr, refl, sym, ap, subst, ◌∙◌, arith}
 use Rattle.std.specs.Str.{bytes_eq}
 use Rattle.std.proofs.lemmas.Bool.{le-ltb}
