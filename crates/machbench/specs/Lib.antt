@@ -1,3 +1,4 @@
-pub mod Limit
+pub mod Failures
 pub mod Imports
+pub mod Limit
 pub mod Median

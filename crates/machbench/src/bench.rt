@@ -7,67 +7,17 @@ ghost use Rattle.goblin_mach.specs.View.{HasEntries};
 ghost use Rattle.machbench.specs.Limit.{ends_at_limit};
 
 use crate::calls::{Call, Subject, Work};
+use crate::failure::Failure;
 use crate::times::{Times, per_item, shown_tenths, speed};
-use goblin_mach::{Error, describe};
-use std::alloc::{AllocError, AllocFailed, Allocator};
-use std::fmt::{Display, Formatter};
+use std::alloc::{AllocError, Allocator};
 use std::io::Write;
 use std::time::{Clock, Duration, Instant};
-use std::{fmt, io};
 
 // How many milliseconds a call is timed.
 const ENOUGH: u64 = 500;
 
 // The most runs of a call that are timed.
 const MOST_RUNS: usize = 1_000_000;
-
-/// Why there is no table.
-#[derive(Debug, Drop)]
-pub enum Failure {
-    /// The file is refused, or a call on it is.
-    Refused(Error),
-    /// Two runs of a call differ.
-    Differs,
-    /// The clock can't be read.
-    NoClock,
-    /// A line can't be written.
-    Unwritten,
-}
-
-impl Display for Failure {
-    fn fmt<W: fmt::Write>(&self, f: &mut Formatter<W>) -> fmt::Result {
-        match self {
-            Failure::Refused(error) => write!(f, "{}", describe(error)),
-            Failure::Differs => f.write_str("two runs differ"),
-            Failure::NoClock => f.write_str("cannot read the clock"),
-            Failure::Unwritten => f.write_str("cannot write"),
-        }
-    }
-}
-
-impl From<Error> for Failure {
-    fn from(error: Error) -> Failure {
-        Failure::Refused(error)
-    }
-}
-
-impl From<AllocError> for Failure {
-    fn from(error: AllocError) -> Failure {
-        Failure::Refused(Error::from(error))
-    }
-}
-
-impl From<AllocFailed<u64>> for Failure {
-    fn from(_refused: AllocFailed<u64>) -> Failure {
-        Failure::from(AllocError)
-    }
-}
-
-impl From<io::Error> for Failure {
-    fn from(_error: io::Error) -> Failure {
-        Failure::Unwritten
-    }
-}
 
 /// Prints the line of each call on a file, as soon as it is known, and answers whether all items were gone over; where
 /// not, a last line says so.

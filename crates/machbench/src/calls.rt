@@ -1,18 +1,21 @@
 //! The calls that are timed, and what a run of each is.
 
-ghost use Rattle.std.specs.Prelude.{◌≡◌, ◌≤◌, ◌+◌, ◌-◌, ◌%◌, ◌^◌, false, true, length, nat_lt, sum, ℕ, OnOk, IfOk, List, Result, Ok};
+ghost use Rattle.std.specs.Prelude.{◌≡◌, ◌≤◌, ◌+◌, ◌-◌, ◌%◌, ◌^◌, false, true, length, nat_lt, sum, ℕ, OnOk, IfOk, IfErr, List, Result, Ok};
 ghost use Rattle.mach_binds.specs.BindLeft.{imports_left};
 ghost use Rattle.machbench.specs.Imports.{HasImportCount, HaveImportCounts, Counts};
 ghost use Rattle.machbench.specs.Limit.{ends_at_limit, lists_imports, IsWithin};
+ghost use Rattle.mach_base.specs.Answer.{Stands};
 ghost use Rattle.mach_base.specs.Fault.{Fault};
 ghost use Rattle.goblin_mach.specs.FatEntry.{FatEntry};
-ghost use Rattle.goblin_mach.specs.View.{HasEntries};
+ghost use Rattle.goblin_mach.specs.View.{HasEntries, ViewFault};
+ghost use Rattle.machbench.specs.Failures.{IfUnopened};
 
+use crate::failure::Failure;
 use goblin_mach::chained_fixups::FixupKind;
 use goblin_mach::exports::Export;
 use goblin_mach::imports::{BindIterator, Import};
 use goblin_mach::{Error, LinkView, Mach, MachO, MultiArch, Result, SingleArch, link_view};
-use std::alloc::Allocator;
+use std::alloc::{AllocError, Allocator};
 
 /// A call that is timed.
 #[derive(Clone, Copy, Debug, PartialEq)]
@@ -153,7 +156,8 @@ impl Work {
 
 // The images of a file.
 fn images_of<'a, A: Allocator + Clone>(alloc: A, bytes: &'a [u8]) -> Result<Vec<MachO<'a, A>, A>>
-    ensures { OnOk result ((entries : List (Result FatEntry Fault)) × HasEntries bytes.now entries) }
+    ensures opened { OnOk result ((entries : List (Result FatEntry Fault)) × HasEntries bytes.now entries) }
+    ensures refused { IfErr result (Stands (ViewFault bytes.now)) }
 {
     let mut images = Vec::new(alloc.clone()?);
     match Mach::parse(alloc, bytes)? {
@@ -173,11 +177,11 @@ fn images_of<'a, A: Allocator + Clone>(alloc: A, bytes: &'a [u8]) -> Result<Vec<
 fn add_images<'a, A: Allocator + Clone>(
     images: &mut Vec<MachO<'a, A>, A>,
     container: &MultiArch<'a, A>,
-) -> Result<()> {
+) -> std::result::Result<(), AllocError> {
     for entry in container {
         match entry {
             Ok(SingleArch::MachO(image)) => images.push(image)?,
-            Err(Error::Memory(refused)) => return Err(Error::Memory(refused)),
+            Err(Error::Memory(refused)) => return Err(refused),
             Ok(SingleArch::Archive(_)) | Err(_) => {}
         }
     }
@@ -226,14 +230,22 @@ impl<'a, A: Allocator + Clone> Subject<'a, A> {
     /// The file of these bytes, with its images and their exports. A fat file whose table does not lie in the
     /// bytes is refused; of its entries those are left out that are no image or don't open. A run of a call goes over at
     /// most `limit` items.
-    pub fn open(alloc: A, limit: usize, bytes: &'a [u8]) -> Result<Subject<'a, A>>
+    pub fn open(
+        alloc: A,
+        limit: usize,
+        bytes: &'a [u8],
+    ) -> std::result::Result<Subject<'a, A>, Failure>
         ensures opens { OnOk result ((entries : List (Result FatEntry Fault)) × HasEntries bytes.now entries) }
         ensures limit { IfOk result (λ subject. subject.limit ≡ limit) }
         ensures counted { IfOk result (λ subject. (counts : List ℕ) × HaveImportCounts subject.images.items counts
             × (subject.imports.more ≡ nat_lt limit (sum counts))) }
         ensures given { IfOk result (λ subject. subject.imports.items ≡ 0) }
+        ensures unopened { IfErr result (IfUnopened (Stands (ViewFault bytes.now))) }
     {
-        let images = images_of(alloc.clone()?, bytes)?;
+        let images = match images_of(alloc.clone()?, bytes) {
+            Ok(images) => images,
+            Err(error) => return Err(Failure::Unopened(error)),
+        };
         let exports = exports_of(alloc.clone()?, &images)?;
         let imports = count_imports(limit, &images);
         Ok(Subject {

@@ -119,7 +119,10 @@ link_view    more than 1 items
 limit: 1 items of a call, and there are more
 ";
 
-const UNTYPED: &str = "machbench: malformed: a bind has a name, a segment and a type\n";
+const UNTYPED: &str = "machbench: a.out: malformed: a bind has a name, a segment and a type\n";
+
+// The name of the file.
+const FILE: &str = "a.out";
 
 // What is said of a failed write.
 const UNWRITTEN: &[u8] = b"machbench: cannot write\n";
@@ -141,6 +144,7 @@ fn shows(rt: &impl Abort, alloc: Global, bytes: &[u8], wanted: &Wanted<'_>) -> R
         &Steps::new(),
         alloc,
         wanted.limit,
+        FILE,
         bytes,
         &mut lines,
         &mut reasons,
@@ -207,6 +211,7 @@ fn no_clock(rt: HostRuntime) -> Result<(), Fail> {
         &Broken,
         alloc,
         DEFAULT_LIMIT,
+        FILE,
         &FILE_B,
         &mut BufWriter::new(alloc, Vec::new(alloc))?,
         &mut reasons,
@@ -215,7 +220,7 @@ fn no_clock(rt: HostRuntime) -> Result<(), Fail> {
     same(
         &rt,
         reasons.as_slice(),
-        b"machbench: cannot read the clock\n".as_slice(),
+        b"machbench: a.out: cannot read the clock\n".as_slice(),
     );
     Ok(())
 }
@@ -231,12 +236,13 @@ fn failed_writes(rt: HostRuntime) -> Result<(), Fail> {
             &Steps::new(),
             alloc,
             DEFAULT_LIMIT,
+            FILE,
             &whole,
             &mut out,
             &mut reasons,
         );
         let said = if left < TABLE.len() { UNWRITTEN } else { b"" };
-        same_at(&rt, left, answer == 2, left < TABLE.len());
+        same_at(&rt, left, answer, if left < TABLE.len() { 2 } else { 0 });
         same_at(&rt, left, reasons.as_slice(), said);
     }
     Ok(())
@@ -255,6 +261,7 @@ fn want_of_memory(rt: HostRuntime) -> Result<(), Fail> {
             &Steps::new(),
             &heap,
             DEFAULT_LIMIT,
+            FILE,
             &whole,
             &mut lines,
             &mut reasons,
@@ -267,7 +274,7 @@ fn want_of_memory(rt: HostRuntime) -> Result<(), Fail> {
             same(
                 &rt,
                 reasons.as_slice(),
-                b"machbench: out of memory\n".as_slice(),
+                b"machbench: a.out: out of memory\n".as_slice(),
             );
             refused = refused.saturating_add(1);
         }

@@ -1,19 +1,34 @@
 use Rattle.std.proofs.Common.{[], ◌∷◌, Ok, IsOk, refl}
+use Rattle.std.proofs.lemmas.Result.{err_from_is_err_and}
+use Rattle.mach_base.proofs.Faults.{Stands-in, Stands-failed}
 use Rattle.goblin_mach.specs.FatEntry.{entries_of, image}
 use Rattle.goblin_mach.specs.FatFile.{arches_in, file_held}
-use Rattle.goblin_mach.specs.View.{fat_table}
+use Rattle.goblin_mach.specs.View.{ViewFault, fat_table, of_file, of_table}
 use Rattle.goblin_mach.proofs.WholeFiles.{entries_of_image}
 use Rattle.machbench.proofs.calls.images_of.Goals as goal
 
-pub returns-in_ok-push-in-Binary : goal.returns-in_ok-push-in-Binary
-returns-in_ok-push-in-Binary g c =
+pub returns-in_ok-push-in-Binary-clause-opened : goal.returns-in_ok-push-in-Binary-clause-opened
+returns-in_ok-push-in-Binary-clause-opened g c =
     let bytes = c.args.bytes.now in
     let opened = rw c.in-Binary.is at c.in_ok-image.ensures.opened in
     (Ok (image bytes) ∷ [], entries_of_image bytes (opened.ctx, _, opened.opens))
 
-pub returns-in_ok-add_images-in-Fat : goal.returns-in_ok-add_images-in-Fat
-returns-in_ok-add_images-in-Fat g c =
+pub returns-in_ok-add_images-in-Fat-clause-opened : goal.returns-in_ok-add_images-in-Fat-clause-opened
+returns-in_ok-add_images-in-Fat-clause-opened g c =
     let file = file_held c.in-Fat.container in
     let fat = rw c.in-Fat.is at c.in_ok-image.ensures.opened in
     let table : IsOk (arches_in file) = rw c.in_ok-arches-in-Fat.ensures refl in
     (entries_of file, fat_table file fat.magic fat.file table)
+
+pub returns-in_err-image-clause-refused : goal.returns-in_err-image-clause-refused
+returns-in_err-image-clause-refused g c =
+    let p = err_from_is_err_and c.from_residual-in_err-image.result c.from_residual-in_err-image.ensures.1 in
+    rw (p.1, p.2) (Stands-in _ (ViewFault c.args.bytes.now) c.in_err-image.field-0.0 of_file c.in_err-image.ensures.refused)
+
+pub returns-in_err-arches-in-Fat-clause-refused : goal.returns-in_err-arches-in-Fat-clause-refused
+returns-in_err-arches-in-Fat-clause-refused g c =
+    let file = file_held c.in-Fat.container in
+    let fat = rw c.in-Fat.is at c.in_ok-image.ensures.opened in
+    let p = err_from_is_err_and c.from_residual-in_err-arches-in-Fat.result c.from_residual-in_err-arches-in-Fat.ensures.1 in
+    rw (p.1, p.2) (Stands-failed (ViewFault c.args.bytes.now) c.in_err-arches-in-Fat.field-0.0 (arches_in file)
+    (λ f bad. of_table file f fat.magic fat.file bad) c.in_err-arches-in-Fat.ensures)
