@@ -16,3 +16,5 @@ pub mod BindingsLeft
 pub mod Facts
 pub mod ImageFacts
 pub mod BindingLaws
+pub mod ImageSlots
+pub mod SlotFacts

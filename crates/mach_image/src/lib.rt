@@ -17,4 +17,5 @@ pub mod once;
 pub mod opened;
 pub mod readings;
 pub mod relocations;
+pub mod slot_facts;
 pub mod subjects;
