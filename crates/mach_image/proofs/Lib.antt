@@ -19,3 +19,4 @@ pub mod NamedExports
 pub mod Walked
 pub mod TableFacts
 pub mod StreamFacts
+pub mod SlotFacts

@@ -21,3 +21,5 @@ pub mod TableFacts
 pub mod ImageStreams
 pub mod RebasesLeft
 pub mod StreamFacts
+pub mod ImageSlots
+pub mod SlotFacts

@@ -18,6 +18,7 @@ pub mod opened;
 pub mod readings;
 pub mod rebases;
 pub mod relocations;
+pub mod slot_facts;
 pub mod stream_facts;
 pub mod subjects;
 pub mod table_facts;
