@@ -1,3 +1,4 @@
+pub mod Complaints
 pub mod Failures
 pub mod Foreigners
 pub mod Headings
@@ -5,5 +6,6 @@ pub mod Held
 pub mod Lines
 pub mod Misuses
 pub mod Names
+pub mod Rounds
 pub mod Shown
 pub mod Statuses

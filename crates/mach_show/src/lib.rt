@@ -3,6 +3,7 @@
 #![tactic(auto)]
 
 mod call;
+mod complaint;
 mod failure;
 mod foreign;
 mod heading;
@@ -16,6 +17,7 @@ mod show;
 mod shows;
 
 pub use crate::call::Call;
+pub use crate::complaint::{Complaint, Trouble};
 pub use crate::failure::Failure;
 pub use crate::foreign::{Foreign, foreign_kind, refused_kind};
 pub use crate::heading::Heading;

@@ -1,7 +1,13 @@
 //! A program's call: its words and its files.
 
+ghost use Rattle.std.specs.Prelude.{◌≡◌, IfErr};
+ghost use Rattle.mach_show.specs.Rounds.{IsUnread};
+ghost use Rattle.mach_show.specs.Statuses.{IsStatus};
+
 use crate::call::{Call, Request, understand};
+use crate::complaint::{Complaint, Trouble};
 use crate::misuse::Misuse;
+use crate::names::Names;
 use crate::say::say;
 use std::alloc::{AllocError, Global};
 use std::io::{ErrorKind, Read};
@@ -24,7 +30,9 @@ pub struct Program {
 
 impl Program {
     /// The words of a call, of which the first is the program's name. Where they can't be had, that is told, and the error is the exit status.
-    pub fn words(&self, rt: &HostRuntime) -> Result<Vec<String>, u8> {
+    pub fn words(&self, rt: &HostRuntime) -> Result<Vec<String>, u8>
+        ensures { IfErr result IsUnread }
+    {
         let words = match env::args(rt) {
             Ok(args) => args.collect::<Vec<String>>(rt.alloc()),
             Err(error) if error.kind() == ErrorKind::OutOfMemory => {
@@ -40,7 +48,9 @@ impl Program {
 
     /// What the words of a call are for. Where they ask for `--help` or `--version`, or for nothing that is understood, that is told, and the
     /// error is the exit status.
-    pub fn call<'a>(&self, rt: &HostRuntime, words: &'a [String]) -> Result<Call<'a, Global>, u8> {
+    pub fn call<'a>(&self, rt: &HostRuntime, words: &'a [String]) -> Result<Call<'a, Global>, u8>
+        ensures { IfErr result IsStatus }
+    {
         let behind = words.get(1..).unwrap_or(&[]);
         match understand(rt.alloc(), self.has_limit, behind) {
             Ok(Request::Help) => Err(self.say(rt, self.usage)),
@@ -52,45 +62,58 @@ impl Program {
     }
 
     // Prints a text, and answers the exit status.
-    fn say(&self, rt: &HostRuntime, text: &str) -> u8 {
+    fn say(&self, rt: &HostRuntime, text: &str) -> u8
+        ensures { IsStatus result }
+    {
         say(self.name, text, &mut io::writer(rt), &mut rt.stderr())
     }
 
     /// The bytes of a file; those of standard input, where its name is `-`. Where they can't be had, it is told why, and the error is the
     /// exit status.
-    pub fn read(&self, rt: &HostRuntime, file: &str) -> Result<Vec<u8>, u8> {
-        let name = self.name;
+    pub fn read(&self, rt: &HostRuntime, file: &str) -> Result<Vec<u8>, u8>
+        ensures { IfErr result IsUnread }
+    {
+        let names = Names {
+            program: self.name,
+            file,
+        };
         match bytes_of(rt, file) {
             Ok(bytes) => Ok(bytes),
             Err(error) if error.kind() == ErrorKind::OutOfMemory => {
-                let _ = rt.eprintln(format_args!("{name}: {file}: out of memory"));
+                let _ = rt.eprintln(format_args!("{names}: out of memory"));
                 Err(1)
             }
             Err(error) => {
-                let _ = rt.eprintln(format_args!("{name}: {file}: {error}"));
+                let _ = rt.eprintln(format_args!("{names}: {error}"));
                 Err(2)
             }
         }
     }
 
     /// The status of words that ask for nothing, with what is wrong and how the program is called.
-    pub fn bad_usage(&self, rt: &HostRuntime, misuse: Misuse<'_>) -> u8 {
-        let name = self.name;
-        let _ = match misuse.meant(rt.alloc(), self.known) {
-            Ok(Some(word)) => {
-                rt.eprintln(format_args!("{name}: {misuse}; did you mean '{word}'?"))
-            }
-            _ => rt.eprintln(format_args!("{name}: {misuse}")),
-        };
+    pub fn bad_usage(&self, rt: &HostRuntime, misuse: Misuse<'_>) -> u8
+        ensures { result ≡ 2 }
+    {
+        let meant = misuse.meant(rt.alloc(), self.known).unwrap_or(None);
+        self.complain(rt, Trouble::Misused(misuse, meant));
         let _ = rt.eprint(self.usage);
         2
     }
 
     /// The status where memory is refused, which is told.
-    pub fn out_of_memory(&self, rt: &impl Eprint) -> u8 {
-        let name = self.name;
-        let _ = rt.eprintln(format_args!("{name}: out of memory"));
+    pub fn out_of_memory(&self, rt: &impl Eprint) -> u8
+        ensures { result ≡ 1 }
+    {
+        self.complain(rt, Trouble::Memory);
         1
+    }
+
+    // Says what is wrong, if it can.
+    fn complain(&self, rt: &impl Eprint, trouble: Trouble<'_>) {
+        let _ = rt.eprintln(Complaint {
+            program: self.name,
+            trouble,
+        });
     }
 }
 

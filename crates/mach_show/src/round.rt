@@ -1,7 +1,8 @@
 //! The files of a call, one behind the other.
 
-ghost use Rattle.std.specs.Prelude.{◌≡◌, ◌≤◌, ◌++◌, codes, max, IsOk, IfErr, OnOk, Err};
+ghost use Rattle.std.specs.Prelude.{◌≡◌, ◌≤◌, max, nat_lt, IsOk, IfOk, IfErr, OnOk, Err};
 ghost use Rattle.std.specs.Io.KnownBytes.{Appends};
+ghost use Rattle.mach_show.specs.Rounds.{Begins, IsSameCall, title_text};
 ghost use Rattle.mach_show.specs.Statuses.{IsUnwritten};
 
 use crate::program::Program;
@@ -12,10 +13,10 @@ use std::io::Write;
 /// The files of a call, one behind the other.
 #[derive(Clone, Copy)]
 pub struct Round {
-    // What is called.
-    program: Program,
-    // Whether each file stands under its name.
-    is_titled: bool,
+    /// What is called.
+    pub program: Program,
+    /// Whether each file stands under its name.
+    pub is_titled: bool,
     /// The worst status so far.
     pub worst: u8,
 }
@@ -23,7 +24,9 @@ pub struct Round {
 impl Round {
     /// Before the first of this number of files.
     pub fn new(program: Program, files: usize) -> Round
-        ensures { result.worst ≡ 0 }
+        ensures program { result.program ≡ program }
+        ensures is_titled { result.is_titled ≡ nat_lt 1 files }
+        ensures worst { result.worst ≡ 0 }
     {
         Round {
             program,
@@ -40,7 +43,9 @@ impl Round {
         file: &str,
         out: &mut W,
     ) -> Result<Option<Vec<u8>>, u8>
-        ensures { IfErr result (λ status. IsUnwritten status) }
+        ensures same { IsSameCall self.old self.new }
+        ensures begun { IfOk result (Begins file.now self.old self.new (W.contents out.old) (W.contents out.new)) }
+        ensures unwritten { IfErr result (λ status. IsUnwritten status) }
     {
         let bytes = match self.program.read(rt, file) {
             Ok(bytes) => bytes,
@@ -49,16 +54,15 @@ impl Round {
                 return Ok(None);
             }
         };
-        if self.is_titled {
-            if let Err(error) = title(file, out) {
-                return Err(failed(self.program.name, "", error, &mut rt.stderr()));
-            }
+        match title(self.is_titled, file, out) {
+            Ok(()) => Ok(Some(bytes)),
+            Err(error) => Err(failed(self.program.name, "", error, &mut rt.stderr())),
         }
-        Ok(Some(bytes))
     }
 
     /// Takes the status of a file. Behind a failed write there is no other: the error is the exit status.
     pub fn end(&mut self, status: u8) -> Result<(), u8>
+        ensures same { IsSameCall self.old self.new }
         ensures on { status ≤ 1 → IsOk result }
         ensures worst { OnOk result (self.new.worst ≡ max self.old.worst status) }
         ensures over { 2 ≤ status → result ≡ Err status }
@@ -72,15 +76,19 @@ impl Round {
 
     // Keeps the worse of two statuses.
     fn note(&mut self, status: u8)
-        ensures { self.new.worst ≡ max self.old.worst status }
+        ensures same { IsSameCall self.old self.new }
+        ensures worst { self.new.worst ≡ max self.old.worst status }
     {
         self.worst = self.worst.max(status);
     }
 }
 
-// Writes the name under which a file stands, as `nm` does.
-fn title<O: Write>(file: &str, out: &mut O) -> io::Result<()>
-    ensures { OnOk result (Appends (O.contents out.old) (O.contents out.new) (codes "\n" ++ (file.now ++ codes ":\n"))) }
+// Writes the name under which a file stands, as `nm` does, where there are several.
+fn title<O: Write>(is_titled: bool, file: &str, out: &mut O) -> io::Result<()>
+    ensures { OnOk result (Appends (O.contents out.old) (O.contents out.new) (title_text is_titled file.now)) }
 {
-    writeln!(out, "\n{file}:")
+    if is_titled {
+        writeln!(out, "\n{file}:")?;
+    }
+    Ok(())
 }

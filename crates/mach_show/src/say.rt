@@ -5,6 +5,7 @@ ghost use Rattle.std.specs.Io.KnownBytes.{Appends};
 ghost use Rattle.std.specs.IoError.{error_kind};
 ghost use Rattle.mach_show.specs.Statuses.{IsUnwritten};
 
+use crate::complaint::{Complaint, Trouble};
 use std::io;
 use std::io::{ErrorKind, Write};
 
@@ -48,10 +49,10 @@ pub fn failed<E: Write>(name: &str, file: &str, error: io::Error, err: &mut E) -
 fn unwritten<E: Write>(name: &str, file: &str, err: &mut E) -> u8
     ensures { result ≡ 2 }
 {
-    let _ = if file.is_empty() {
-        writeln!(err, "{name}: cannot write")
-    } else {
-        writeln!(err, "{name}: cannot write {file}")
+    let complaint = Complaint {
+        program: name,
+        trouble: Trouble::Unwritten(file),
     };
+    let _ = writeln!(err, "{complaint}");
     2
 }
