@@ -8,8 +8,8 @@ abbrev pub title_text : (is_titled : Bool) → List ℕ → List ℕ
 title_text is_titled file = if is_titled then codes "\n" ++ (file ++ codes ":\n") else []
 
 -- the status of what can't be read: 1 for want of memory, else 2
-abbrev pub IsUnread : ℕ → Type 0
-IsUnread status = (status ≡ 1) ⊎ (status ≡ 2)
+abbrev pub IsUnreadStatus : ℕ → Type 0
+IsUnreadStatus status = (status ≡ 1) ⊎ (status ≡ 2)
 
 -- It is the same call: of a program, and of several files or not.
 pub record IsSameCall (old new : Round) : Type 0 where
@@ -20,4 +20,4 @@ pub record IsSameCall (old new : Round) : Type 0 where
 -- and this counts as one of the statuses of files that can't be read.
 abbrev pub Begins : {A : Type 0} (file : List ℕ) (old new : Round) (out_old out_new : Option (List ℕ)) → Option A → Type 0
 Begins file old new out_old out_new (Some bytes) = (new.worst ≡ old.worst) × Appends out_old out_new (title_text old.is_titled file)
-Begins file old new out_old out_new None = (status : ℕ) × IsUnread status × (new.worst ≡ max old.worst status) × Appends out_old out_new []
+Begins file old new out_old out_new None = (status : ℕ) × IsUnreadStatus status × (new.worst ≡ max old.worst status) × Appends out_old out_new []

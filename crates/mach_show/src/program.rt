@@ -1,7 +1,7 @@
 //! A program's call: its words and its files.
 
 ghost use Rattle.std.specs.Prelude.{◌≡◌, IfErr};
-ghost use Rattle.mach_show.specs.Rounds.{IsUnread};
+ghost use Rattle.mach_show.specs.Rounds.{IsUnreadStatus};
 ghost use Rattle.mach_show.specs.Statuses.{IsStatus};
 
 use crate::call::{Call, Request, understand};
@@ -31,7 +31,7 @@ pub struct Program {
 impl Program {
     /// The words of a call, of which the first is the program's name. Where they can't be had, that is told, and the error is the exit status.
     pub fn words(&self, rt: &HostRuntime) -> Result<Vec<String>, u8>
-        ensures { IfErr result IsUnread }
+        ensures { IfErr result IsUnreadStatus }
     {
         let words = match env::args(rt) {
             Ok(args) => args.collect::<Vec<String>>(rt.alloc()),
@@ -71,7 +71,7 @@ impl Program {
     /// The bytes of a file; those of standard input, where its name is `-`. Where they can't be had, it is told why, and the error is the
     /// exit status.
     pub fn read(&self, rt: &HostRuntime, file: &str) -> Result<Vec<u8>, u8>
-        ensures { IfErr result IsUnread }
+        ensures { IfErr result IsUnreadStatus }
     {
         let names = Names {
             program: self.name,
