@@ -1,0 +1,7 @@
+mod large;
+mod made;
+mod providers;
+mod same;
+mod sections;
+mod slots;
+mod text;
