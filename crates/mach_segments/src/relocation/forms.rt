@@ -1,7 +1,7 @@
 //! The two forms of relocations, by cpu and byte order.
 
 ghost use Rattle.std.specs.Prelude.{◌≡◌, ◌<◌};
-ghost use Rattle.mach_segments.specs.RelocationForms.{address_word, has_bit, plain_form, relocation_form, scattered_form, scatters};
+ghost use Rattle.mach_segments.specs.RelocationForms.{address_word, bit_is_one, plain_form, relocation_form, scattered_form, scatters};
 
 use crate::relocation::RelocationInfo;
 use mach_base::Endian;
@@ -43,7 +43,7 @@ pub enum Relocation {
 // Whether a bit is 1.
 fn has_bit(number: u32, bit: u32) -> bool
     requires { bit < 32 }
-    ensures { result ≡ has_bit bit number }
+    ensures { result ≡ bit_is_one bit number }
 {
     (number >> bit) & 1 == 1
 }
