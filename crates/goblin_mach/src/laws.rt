@@ -31,8 +31,16 @@ pub use mach_image::facts::{
 pub use mach_image::laws::{lossy_agrees, new_header_recognised, one_chain, strict_opens_lossily};
 pub use mach_image::libraries::{libraries_by_ordinal, libraries_in_libs};
 pub use mach_image::macho::look_up::export_by_list_and_paths;
+pub use mach_image::slot_facts::{
+    indirect_symbols_of_image, numbered_section_of_image, provider_of_image, section_at_of_image,
+    slot_at_of_image, slots_of_image,
+};
 pub use mach_segments::laws::{
     bits_together, relocations_by_number, section_written_and_read, sections_by_number,
+};
+pub use mach_slots::laws::{
+    indirect_symbols_by_number, slots_are_found_at_their_addresses, slots_are_no_more_than_entries,
+    slots_lie_in_their_section,
 };
 pub use mach_symbols::laws::{symbols_by_number, symbols_counted};
 pub use mach_tries::laws::{

@@ -44,6 +44,14 @@ pub mod chained_fixups {
     };
 }
 
+/// Indirect symbols, and the stubs and pointers that stand for symbols.
+pub mod slots {
+    pub use mach_slots::{
+        IndirectSymbol, IndirectSymbolIterator, IndirectSymbols, SlotIterator, SlotKind,
+        SlotSource, SlotSymbol, SymbolSlot, symbol_slot_at,
+    };
+}
+
 /// Load commands: their records, constants and names.
 pub mod load_command {
     pub use mach_load::CommandVariant;
