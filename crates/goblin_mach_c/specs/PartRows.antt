@@ -1,5 +1,6 @@
 -- What the commands of an image say as C sees it: segments, libraries and run paths.
 use Rattle.std.specs.Prelude.{ℕ, List, [], ◌∷◌, length, Option, Some, None, Result, Ok, Err}
+use Rattle.mach_base.specs.declared.context.Endian.TheVariants.{Little}
 use Rattle.mach_base.specs.Fault.{Fault}
 use Rattle.mach_load.specs.Command.{Command}
 use Rattle.mach_segments.specs.Segment.{SegmentView}
@@ -78,7 +79,7 @@ library_row c l =
 
 -- the library that a command brings in, if it does, and its name can be read
 abbrev pub library_row_by : List ℕ → Command → Option gm_library
-library_row_by bytes c = shown (library_row c) (named_by bytes c)
+library_row_by bytes c = shown (library_row c) (named_by Little bytes c)
 
 -- the libraries of an image, the one of ordinal 1 first
 abbrev pub library_rows : List ℕ → gm_image → List gm_library

@@ -1,5 +1,6 @@
 mod callers;
 mod large;
+mod libraries;
 mod made;
 mod providers;
 mod same;
