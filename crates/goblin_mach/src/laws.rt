@@ -31,8 +31,17 @@ pub use mach_image::facts::{
 pub use mach_image::laws::{lossy_agrees, new_header_recognised, one_chain, strict_opens_lossily};
 pub use mach_image::libraries::{libraries_by_ordinal, libraries_in_libs};
 pub use mach_image::macho::look_up::export_by_list_and_paths;
+pub use mach_image::stream_facts::{
+    fixups_are_told_once, no_weak_binds_without_opcodes, one_list_of_image_rebases,
+    one_list_of_image_weak_binds, rebases_are_fixups_without_opcodes, rebases_of_image,
+    weak_binds_of_image,
+};
 pub use mach_segments::laws::{
     bits_together, relocations_by_number, section_written_and_read, sections_by_number,
+};
+pub use mach_streams::laws::{
+    adds_rebases, adds_weak_binds, finds_last_rebase_set, finds_last_weak_set, one_list_of_rebases,
+    one_list_of_weak_binds, rebases_lie_in_segments, weak_binds_lie_in_segments,
 };
 pub use mach_symbols::laws::{symbols_by_number, symbols_counted};
 pub use mach_tries::laws::{

@@ -27,10 +27,15 @@ pub use mach_image::exported::find_export;
 pub use mach_image::fixups::FixupIterator;
 pub use mach_image::libraries::{Library, LibraryIterator, LibraryKind};
 pub use mach_image::macho::MachO;
+pub use mach_image::rebases::RebaseIterator;
 pub use mach_image::subjects::{id_place, library_place, run_path_place};
 pub use mach_records::{constants, cputype};
 pub use mach_segments::binding::{Binding, Provider};
 pub use mach_segments::{relocation, segment};
+pub use mach_streams::{
+    OpcodeRebaseIterator, Rebase, RebaseKind, RebaseStream, WeakBind, WeakBindIterator,
+    WeakBindStream, rebase_opcodes,
+};
 pub use mach_symbols::symbols;
 pub use mach_tries::exports;
 

@@ -17,3 +17,4 @@ pub mod OneList
 pub mod ExportedOrNot
 pub mod NamedExports
 pub mod Walked
+pub mod StreamFacts

@@ -36,7 +36,7 @@ module _ (one : OneListOfFixups) where
       let same = one x ps qs stop other are be in
       is ∙ ap (λ (rs : List PlacedFixup). fixup_items rs stop) same.0 ∙ ap (fixup_items qs) same.1 ∙ sym so
 
-  one_fixups : (chained : Result (Option Fixups) Fault) (segments : List SegmentView) (items others : List (Result Fixup Fault))
+  pub one_fixups : (chained : Result (Option Fixups) Fault) (segments : List SegmentView) (items others : List (Result Fixup Fault))
       → AreImageFixups chained segments items → AreImageFixups chained segments others → items ≡ others
   one_fixups (Err f) segments items others h k = h ∙ sym k
   one_fixups (Ok None) segments items others h k = h ∙ sym k

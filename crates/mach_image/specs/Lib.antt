@@ -16,3 +16,6 @@ pub mod BindingsLeft
 pub mod Facts
 pub mod ImageFacts
 pub mod BindingLaws
+pub mod ImageStreams
+pub mod RebasesLeft
+pub mod StreamFacts

@@ -16,5 +16,8 @@ pub mod macho;
 pub mod once;
 pub mod opened;
 pub mod readings;
+pub mod rebases;
 pub mod relocations;
+pub mod stream_facts;
 pub mod subjects;
+pub mod weak_binds;

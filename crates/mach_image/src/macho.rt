@@ -15,6 +15,7 @@ ghost use Rattle.mach_image.specs.Subjects.{ListsImageImports, ImageImportsFault
 mod debug;
 mod dyld;
 pub mod look_up;
+mod streams;
 
 use crate::fields::Fields;
 use crate::opened::Opened;
