@@ -4,8 +4,7 @@ ghost use Rattle.std.specs.Prelude.{◌≡◌, ◌++◌, [], option_map};
 ghost use Rattle.std.specs.Iterator.{YieldsFirstBy};
 ghost use Rattle.mach_binds.specs.Bindings.{upto_fault};
 ghost use Rattle.mach_chained.specs.WalkViews.{fixup_view};
-ghost use Rattle.mach_streams.specs.RebasesLeft as opcodes;
-ghost use Rattle.mach_streams.specs.RebasesLeft.{rebase_read, rebase_view};
+ghost use Rattle.mach_streams.specs.RebasesLeft.{opcode_rebases_left, rebase_read, rebase_view};
 ghost use Rattle.mach_image.specs.FixupsLeft.{image_fixups_left};
 ghost use Rattle.mach_image.specs.ImageStreams.{rebase_in, rebase_stream_by, rebases_among};
 ghost use Rattle.mach_image.specs.RebasesLeft.{chain_rebases_left, all_rebases_left, rebases_left};
@@ -104,7 +103,7 @@ impl<'a, 'b> RebaseIterator<'a, 'b> {
     /// Those of the opcodes, and then those among the fixups.
     #[tactic(auto, unfolding(crate::specs::RebasesLeft::rebases_left, crate::specs::RebasesLeft::all_rebases_left, crate::specs::RebasesLeft::chain_rebases_left))]
     pub(crate) fn over(opcodes: OpcodeRebaseIterator<'a, 'b>, fixups: FixupIterator<'a, 'b>) -> Self
-        ensures { rebases_left result ≡ upto_fault (opcodes.opcode_rebases_left opcodes.entry ++ rebases_among (image_fixups_left fixups.entry)) }
+        ensures { rebases_left result ≡ upto_fault (opcode_rebases_left opcodes.entry ++ rebases_among (image_fixups_left fixups.entry)) }
     {
         RebaseIterator {
             opcodes,
