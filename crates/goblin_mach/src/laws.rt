@@ -33,8 +33,8 @@ pub use mach_image::libraries::{libraries_by_ordinal, libraries_in_libs};
 pub use mach_image::macho::look_up::export_by_list_and_paths;
 pub use mach_image::stream_facts::{
     fixups_are_told_once, no_weak_binds_without_opcodes, one_list_of_image_rebases,
-    one_list_of_image_weak_binds, rebases_are_fixups_without_opcodes, rebases_of_image,
-    weak_binds_of_image,
+    one_list_of_image_weak_binds, rebases_are_fixups_without_opcodes, rebases_come_of_fixups,
+    rebases_of_image, weak_binds_of_image,
 };
 pub use mach_segments::laws::{
     bits_together, relocations_by_number, section_written_and_read, sections_by_number,

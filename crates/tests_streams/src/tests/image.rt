@@ -54,11 +54,11 @@ pub fn image(alloc: Global, stream: &[u8]) -> Result<Vec<u8>, AllocError> {
 // A segment of 0x1000 bytes in memory, with its data.
 fn segment(bytes: &[u8], place: usize, size: usize) -> Segment<'_> {
     let mut segment = Segment::new(context(true), &[]);
-    segment.vmaddr = 0x1_0000_0000 + place as u64;
+    segment.vmaddr = (place as u64).wrapping_add(0x1_0000_0000);
     segment.vmsize = 0x1000;
     segment.fileoff = place as u64;
     segment.filesize = size as u64;
-    segment.bytes = bytes.get(place..place + size).unwrap_or(&[]);
+    segment.bytes = bytes.get(place..place.saturating_add(size)).unwrap_or(&[]);
     segment
 }
 
@@ -101,7 +101,7 @@ fn weak_text(alloc: Global, row: &WeakBind<'_>) -> Result<String, AllocError> {
     if binding.is_lazy {
         text.push_str(" lazy")?;
     }
-    if binding.offset != binding.address - 0x1_0000_0000 {
+    if binding.offset != binding.address.wrapping_sub(0x1_0000_0000) {
         text.push_str(" elsewhere")?;
     }
     Ok(text)
@@ -118,7 +118,10 @@ fn rebase_text(alloc: Global, rebase: &Rebase) -> Result<String, AllocError> {
     if rebase.auth.is_some() {
         text.push_str(" signed")?;
     }
-    if u64::from(rebase.segment) * 0x1000 + rebase.offset != rebase.address - 0x1_0000_0000 {
+    let place = rebase
+        .offset
+        .wrapping_add(u64::from(rebase.segment) * 0x1000);
+    if place != rebase.address.wrapping_sub(0x1_0000_0000) {
         text.push_str(" elsewhere")?;
     }
     Ok(text)

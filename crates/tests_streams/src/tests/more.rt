@@ -37,7 +37,7 @@ fn weak_binds_for_ever(rt: HostRuntime) -> Result<(), Fail> {
     Ok(())
 }
 
-// 511 pointers of the second segment, one opcode, and then one past its end.
+// All 512 pointers of the second segment by one opcode, and then one past its end.
 #[test]
 fn many_rebases(rt: HostRuntime) -> Result<(), Fail> {
     let alloc = rt.alloc();
@@ -51,12 +51,10 @@ fn many_rebases(rt: HostRuntime) -> Result<(), Fail> {
     let stream = RebaseStream::new(bytes.as_slice(), &command);
     let mut rebases = stream.iter(&segments, context(true));
     let mut steps = Steps::new();
-    let mut count = 0;
-    for _ in 0..512 {
+    for turn in 0..512u64 {
         match rebases.next_counted(&mut steps) {
             Some(Ok(rebase)) => {
-                assert_eq!(rt; rebase.address, 0x1_0000_1000 + count * 8);
-                count += 1;
+                assert_eq!(rt; rebase.address, 0x1_0000_1000 + turn * 8);
             }
             _ => assert!(rt; false),
         }
