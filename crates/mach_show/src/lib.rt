@@ -4,6 +4,7 @@
 
 mod call;
 mod complaint;
+mod cpu;
 mod failure;
 mod foreign;
 mod heading;
@@ -18,6 +19,7 @@ mod shows;
 
 pub use crate::call::Call;
 pub use crate::complaint::{Complaint, Trouble};
+pub use crate::cpu::{Arch, Cpu};
 pub use crate::failure::Failure;
 pub use crate::foreign::{Foreign, foreign_kind, refused_kind};
 pub use crate::heading::Heading;
