@@ -1,4 +1,4 @@
-use Rattle.std.proofs.Common.{◌||◌, ◌∙◌, get_or, sym, ap}
+use Rattle.std.proofs.Common.{◌∙◌, sym, ap}
 use Rattle.std.proofs.lemmas.List.{take_all}
 use Rattle.std.proofs.lemmas.List.Folds.{list_any_at, list_any_more}
 use Rattle.std.specs.List.{list_any}
@@ -11,10 +11,8 @@ returns-then-takes_entry c =
 
 pub archs-preserved : goal.archs-preserved
 archs-preserved c =
-    let asked = is_asked c.args.self.now in
-    list_any_more asked c.args.archs.now c.archs.arch-index _ c.archs-test.true
-    ∙ ap (λ before. before || asked (get_or c.args.archs.now c.archs.arch-index _)) c.archs.invariant
-    ∙ sym c.takes_entry.ensures ∙ c.if-takes_entry.false
+    let later = list_any_more (is_asked c.args.self.now) c.args.archs.now c.archs.arch-index _ c.archs-test.true in
+    (rw c.archs.invariant at later) ∙ sym c.takes_entry.ensures ∙ c.if-takes_entry.false
 
 pub returns : goal.returns
 returns c =
