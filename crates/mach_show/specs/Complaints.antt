@@ -1,5 +1,5 @@
 -- What a program complains of, of its call and not of a file's bytes, in a line that its name begins.
-use Rattle.std.specs.Prelude.{◌==◌, ℕ, List, ◌++◌, codes, length, if◌then◌else◌, Option, Some, None}
+use Rattle.std.specs.Prelude.{◌==◌, ℕ, List, [], ◌++◌, codes, length, if◌then◌else◌, Option, Some, None}
 use Rattle.std.specs.Borrow.{Bor}
 use Rattle.mach_show.specs.Misuses.{misuse_words}
 use Rattle.mach_show.specs.declared.complaint.Complaint.{Complaint}
