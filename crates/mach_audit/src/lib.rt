@@ -14,5 +14,4 @@ mod tally;
 mod text;
 mod verdict;
 
-pub use crate::options::{Format, Options, Request, read_words};
-pub use crate::report::Failure;
+pub use crate::options::{DEFAULT_LIMIT, Format, Mistake, Options, Words};
