@@ -6,10 +6,10 @@ ghost use Rattle.mach_show.specs.Statuses.{IsStatus};
 use crate::options::Options;
 use crate::run::{Call, run};
 use mach_show::say::failed;
-use mach_show::{Failure, Names, Program};
+use mach_show::{Failure, Names, Program, Progress};
 use std::alloc::Allocator;
 use std::io;
-use std::io::{BufWriter, Write};
+use std::io::{BufWriter, IsTerminal, Write};
 
 /// Audits files, and then those that lists name, one a line; each is printed under its name where there are several. Answers the
 /// worst exit status of all: 0 where each is sound; 1 where one isn't; 2 where one could not be read or audited, which is told;
@@ -44,6 +44,7 @@ fn audit_all<W: Write + Drop, B: Allocator, E: Write>(
     ensures status { IfOk result (λ status. status ≤ 2) }
 {
     let heading = files.len() > 1 || !lists.is_empty();
+    let mut progress = Progress::new(rt, rt.stderr().is_terminal());
     let mut worst = 0u8;
     'files: for name in files {
         let call = Call {
@@ -51,11 +52,11 @@ fn audit_all<W: Write + Drop, B: Allocator, E: Write>(
             name,
             heading,
         };
-        let status = audit_file(program, rt, call, out, err)?;
+        let status = audit_file(program, rt, &mut progress, call, out, err)?;
         worst = worst.max(status);
     }
     'lists: for list in lists {
-        let status = audit_listed(program, rt, options, list, out, err)?;
+        let status = audit_listed(program, rt, &mut progress, options, list, out, err)?;
         worst = worst.max(status);
     }
     Ok(worst)
@@ -65,6 +66,7 @@ fn audit_all<W: Write + Drop, B: Allocator, E: Write>(
 fn audit_listed<W: Write + Drop, B: Allocator, E: Write>(
     program: &Program,
     rt: &HostRuntime,
+    progress: &mut Progress,
     options: Options,
     list: &str,
     out: &mut BufWriter<W, B>,
@@ -85,7 +87,7 @@ fn audit_listed<W: Write + Drop, B: Allocator, E: Write>(
                     name,
                     heading: true,
                 };
-                audit_file(program, rt, call, out, err)?
+                audit_file(program, rt, progress, call, out, err)?
             }
             Err(_) => complain(program, list, "a name is no text", err),
         };
@@ -98,12 +100,18 @@ fn audit_listed<W: Write + Drop, B: Allocator, E: Write>(
 fn audit_file<W: Write + Drop, B: Allocator, E: Write>(
     program: &Program,
     rt: &HostRuntime,
+    progress: &mut Progress,
     call: Call<'_>,
     out: &mut BufWriter<W, B>,
     err: &mut E,
 ) -> io::Result<u8>
     ensures status { IfOk result (λ status. status ≤ 2) }
 {
+    let names = Names {
+        program: program.name,
+        file: call.name,
+    };
+    progress.tell(rt, names, err);
     let Ok(bytes) = program.read(rt, call.name) else {
         return Ok(2);
     };

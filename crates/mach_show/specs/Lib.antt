@@ -7,3 +7,4 @@ pub mod Misuses
 pub mod Names
 pub mod Shown
 pub mod Statuses
+pub mod Steps

@@ -8,9 +8,9 @@
 
 use mach_resolve::run::{NAME, run};
 use mach_resolve::{DEFAULT_LIMIT, Given, Mistake, Words};
-use mach_show::{Misuse, Program};
+use mach_show::{Misuse, Names, Program, Progress};
 use std::io;
-use std::io::BufWriter;
+use std::io::{BufWriter, IsTerminal};
 use std::process::ExitCode;
 
 const PROGRAM: Program = Program {
@@ -47,6 +47,16 @@ fn start(rt: &HostRuntime) -> Result<u8, u8> {
     }
 }
 
+// The bytes of a file, of which it is told on a terminal that it is read, where reading takes long.
+fn read(rt: &HostRuntime, progress: &mut Progress, file: &str) -> Result<Vec<u8>, u8> {
+    let names = Names {
+        program: NAME,
+        file,
+    };
+    progress.tell(rt, names, &mut rt.stderr());
+    PROGRAM.read(rt, file)
+}
+
 // Resolves a program over libraries.
 fn resolve_files(
     rt: &HostRuntime,
@@ -55,10 +65,11 @@ fn resolve_files(
     program: &str,
     libraries: &[&str],
 ) -> Result<u8, u8> {
-    let bytes = PROGRAM.read(rt, program)?;
+    let mut progress = Progress::new(rt, rt.stderr().is_terminal());
+    let bytes = read(rt, &mut progress, program)?;
     let mut contents = Vec::new(rt.alloc());
     for library in libraries {
-        if contents.push(PROGRAM.read(rt, library)?).is_err() {
+        if contents.push(read(rt, &mut progress, library)?).is_err() {
             return Err(PROGRAM.out_of_memory(rt));
         }
     }

@@ -8,11 +8,13 @@ use crate::tests::same::{same, same_at};
 use linked_list_allocator::LocalHeap;
 use mach_audit::run::{Call, run};
 use mach_audit::{Format, Mistake, Options, Words};
-use mach_show::Failure;
+use mach_show::{Failure, Names, Progress};
 use std::alloc::{AllocError, Global};
+use std::cell::Cell;
 use std::io::BufWriter;
 use std::process::Abort;
 use std::test::Fail;
+use std::time::{Clock, Duration};
 
 // A writer that takes so many bytes.
 #[derive(Drop)]
@@ -217,5 +219,54 @@ fn long_names_in_little_memory(rt: HostRuntime) -> Result<(), Fail> {
     }
     let text = std::str::from_utf8(out.get_ref().as_slice())?;
     same(&rt, text.contains("  exports: ok\n"), true);
+    Ok(())
+}
+
+// A clock that goes on by these milliseconds, one reading after the other.
+#[derive(Drop)]
+struct Steps {
+    readings: Cell<usize>,
+    time: Cell<u64>,
+}
+
+const STEPS: [u64; 7] = [0, 1999, 1, 1000, 999, 1, 0];
+
+impl Clock for Steps {
+    fn monotonic(&self) -> std::io::Result<Duration> {
+        let reading = self.readings.get();
+        self.readings.set(reading.wrapping_add(1));
+        let time = self.time.get().wrapping_add(STEPS[reading % 7]);
+        self.time.set(time);
+        Ok(Duration::from_millis(time))
+    }
+
+    fn since_1970(&self) -> std::io::Result<Duration> {
+        Err(std::io::Error::from(std::io::ErrorKind::Unsupported))
+    }
+}
+
+// What is told of six files.
+fn told_of_six(alloc: Global, is_terminal: bool) -> Result<String, Fail> {
+    let clock = Steps {
+        readings: Cell::new(0),
+        time: Cell::new(0),
+    };
+    let mut err = Vec::new(alloc);
+    let mut progress = Progress::new(&clock, is_terminal);
+    for file in ["a", "b", "c", "d", "e", "f"] {
+        let names = Names { program: "p", file };
+        progress.tell(&clock, names, &mut err);
+    }
+    let text = std::str::from_utf8(err.as_slice())?;
+    Ok(String::from_str(alloc, text)?)
+}
+
+// A file is told that is begun two seconds after the call, or after the last one that was told, and on a terminal alone.
+#[test]
+fn progress(rt: HostRuntime) -> Result<(), Fail> {
+    let on = told_of_six(rt.alloc(), true)?;
+    same(&rt, on.as_str(), "p: file 2: b\np: file 5: e\n");
+    let off = told_of_six(rt.alloc(), false)?;
+    same(&rt, off.as_str(), "");
     Ok(())
 }
