@@ -2,6 +2,7 @@ pub mod Relocation
 pub mod RelocationName
 pub mod RelocationItems
 pub mod RelocationWhole
+pub mod RelocationForms
 pub mod Section
 pub mod SectionItems
 pub mod Segment

@@ -4,9 +4,11 @@ ghost use Rattle.std.specs.Prelude.{◌≡◌, ◌<◌, ◌↔◌, IsTrue};
 ghost use Rattle.mach_segments.specs.Relocation.{bits_from};
 ghost use Rattle.mach_segments.specs.RelocationName.{relocation_name};
 
+mod forms;
 pub mod laws;
 mod types;
 
+pub use crate::relocation::forms::Relocation;
 pub use crate::relocation::types::{
     ARM_RELOC_BR24, ARM_RELOC_HALF, ARM_RELOC_HALF_SECTDIFF, ARM_RELOC_LOCAL_SECTDIFF,
     ARM_RELOC_PAIR, ARM_RELOC_PB_LA_PTR, ARM_RELOC_SECTDIFF, ARM_RELOC_VANILLA,
