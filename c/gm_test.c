@@ -41,7 +41,7 @@ LIST(relocations, gm_relocation, gm_relocations(OF, g->section.reloff, g->sectio
 LIST(symbols, gm_symbol, gm_symbols(OF, first, rows, cap),
      fprintf(to, "%0*" PRIx64 " %x %zu %x %u ", g->image.is_64 ? 16 : 8, r->value, r->n_type, r->section, r->desc, r->code); text(to, g, r->name, r->name_len))
 LIST(libraries, gm_library, gm_libraries(OF, first, rows, cap),
-     fprintf(to, "%u %u %x %x ", r->kind, r->timestamp, r->current_version, r->compatibility_version); text(to, g, r->name, r->name_len))
+     fprintf(to, "%u %u %x %x %u ", r->kind, r->timestamp, r->current_version, r->compatibility_version, r->attributes); text(to, g, r->name, r->name_len))
 /* memory that is refused at a request, and that is counted */
 
 typedef struct { size_t asked, refused, held; } counted;
@@ -609,6 +609,26 @@ static int kind_of(uint32_t cmd) {
     }
 }
 
+/* four bytes in the image's order */
+static uint32_t word_at(const given *g, const uint8_t *at) {
+    uint32_t n = 0;
+    for (int i = 0; i < 4; i++) n |= (uint32_t)at[g->image.is_little_endian ? i : 3 - i] << 8 * i;
+    return n;
+}
+
+/* how the library of a command is used: by its four bytes at 24, where it is a struct dylib_use_command, else by its number */
+static uint32_t used_by(const given *g, const gm_command *c) {
+    const uint8_t *at = g->bytes + c->offset;
+    int may = (c->cmd == GM_LC_LOAD_DYLIB || c->cmd == GM_LC_LOAD_WEAK_DYLIB) && c->size >= 28;
+    if (may && word_at(g, at + 8) == 28 && word_at(g, at + 12) == 0x1a741800) return word_at(g, at + 24) & 15;
+    switch (c->cmd) {
+    case GM_LC_LOAD_WEAK_DYLIB: return GM_USED_WEAK;
+    case GM_LC_REEXPORT_DYLIB: return GM_USED_REEXPORT;
+    case GM_LC_LOAD_UPWARD_DYLIB: return GM_USED_UPWARD;
+    default: return 0;
+    }
+}
+
 static void constants_of_commands(const given *g) {
     size_t segments = 0, libraries = 0, run_paths = 0;
     gm_command c;
@@ -619,6 +639,7 @@ static void constants_of_commands(const given *g) {
         run_paths += c.cmd == GM_LC_RPATH;
         int kind = kind_of(c.cmd);
         if (kind >= 0 && (gm_libraries(OF, libraries++, &l, 1) != 1 || l.kind != (uint32_t)kind)) DIE("command %zu isn't of library %zu", i, libraries);
+        if (kind >= 0 && l.attributes != used_by(g, &c)) DIE("library %zu is used in another way", libraries);
     }
     if (segments != g->image.segments || libraries != g->image.libraries || run_paths != g->image.run_paths) DIE("commands of other numbers than the lists");
 }

@@ -112,8 +112,13 @@ typedef struct gm_symbol {
 size_t gm_symbols(const uint8_t *bytes, size_t len, const gm_image *image, size_t first, gm_symbol *out, size_t cap);
 
 /* ---- its libraries, the one of ordinal 1 first: the name of one is `name_len` bytes at bytes + name */
-typedef struct gm_library { size_t name, name_len; uint32_t kind, timestamp, current_version, compatibility_version; } gm_library;
+typedef struct gm_library {
+    size_t name, name_len;
+    uint32_t kind, timestamp, current_version, compatibility_version; /* kind: that of its command's number */
+    uint32_t attributes, reserved; /* how it is used: GM_USED_WEAK and those behind it, added up */
+} gm_library;
 enum { GM_REQUIRED, GM_WEAK, GM_REEXPORT, GM_UPWARD, GM_LAZY };
+enum { GM_USED_WEAK = 1, GM_USED_REEXPORT = 2, GM_USED_UPWARD = 4, GM_USED_DELAYED = 8 };
 size_t gm_libraries(const uint8_t *bytes, size_t len, const gm_image *image, size_t first, gm_library *out, size_t cap);
 
 /* ---- the paths on which its libraries are sought: each is `path_len` bytes at bytes + path */
@@ -850,7 +855,9 @@ GM_FIELD(gm_library, kind, 16, 4);
 GM_FIELD(gm_library, timestamp, 20, 4);
 GM_FIELD(gm_library, current_version, 24, 4);
 GM_FIELD(gm_library, compatibility_version, 28, 4);
-GM_SIZE(gm_library, 32);
+GM_FIELD(gm_library, attributes, 32, 4);
+GM_FIELD(gm_library, reserved, 36, 4);
+GM_SIZE(gm_library, 40);
 GM_FIELD(gm_listed_export, name, 0, 8);
 GM_FIELD(gm_listed_export, name_len, 8, 8);
 GM_FIELD(gm_listed_export, library, 16, 8);
@@ -930,6 +937,10 @@ GM_IS(GM_WEAK, 1);
 GM_IS(GM_REEXPORT, 2);
 GM_IS(GM_UPWARD, 3);
 GM_IS(GM_LAZY, 4);
+GM_IS(GM_USED_WEAK, 1);
+GM_IS(GM_USED_REEXPORT, 2);
+GM_IS(GM_USED_UPWARD, 4);
+GM_IS(GM_USED_DELAYED, 8);
 GM_IS(GM_LOSSY, 1);
 /* ---- end */
 #undef GM_ASSERT

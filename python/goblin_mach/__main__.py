@@ -33,7 +33,8 @@ def _symbols(image: Image) -> Iterator[str]:
 
 def _libraries(image: Image) -> Iterator[str]:
     for library in image.libraries():
-        yield (f"{goblin_mach.KINDS.index(library.kind)} {library.timestamp} {library.current_version:x} {library.compatibility_version:x} "
+        used = library.is_weak + 2 * library.is_reexport + 4 * library.is_upward + 8 * library.is_delayed
+        yield (f"{goblin_mach.KINDS.index(library.kind)} {library.timestamp} {library.current_version:x} {library.compatibility_version:x} {used} "
                f"{library.name}")
 
 

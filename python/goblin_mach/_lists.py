@@ -72,8 +72,9 @@ def ids(held: Held, raws: Raws, first: int) -> List[str]:
 
 def libraries(held: Held, raws: Raws, first: int) -> List[Library]:
     return [
-        Library(ordinal, held.text(name, size), KINDS[kind], timestamp, current_version, compatibility_version)
-        for ordinal, (name, size, kind, timestamp, current_version, compatibility_version) in enumerate(raws, first + 1)
+        Library(ordinal, held.text(name, size), KINDS[kind], timestamp, current_version, compatibility_version,
+                used & 1 != 0, used & 2 != 0, used & 4 != 0, used & 8 != 0)
+        for ordinal, (name, size, kind, timestamp, current_version, compatibility_version, used, _) in enumerate(raws, first + 1)
     ]
 
 

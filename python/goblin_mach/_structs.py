@@ -68,7 +68,7 @@ class gm_symbol(ctypes.Structure):
 
 
 class gm_library(ctypes.Structure):
-    _fields_ = _sizes("name name_len") + _u32("kind timestamp current_version compatibility_version")
+    _fields_ = _sizes("name name_len") + _u32("kind timestamp current_version compatibility_version attributes reserved")
 
 
 class gm_run_path(ctypes.Structure):

@@ -225,7 +225,8 @@ class Symbol(NamedTuple):
 
 @_readable
 class Library(NamedTuple):
-    """A library that the image brings in: `kind` is "required", "weak", "reexport", "upward" or "lazy"."""
+    """A library that the image brings in: `kind`, by its command's number, is "required", "weak", "reexport", "upward" or "lazy". How it is
+    used is in the last four, which go by the command's flags where it has some."""
 
     ordinal: int
     name: str
@@ -233,6 +234,10 @@ class Library(NamedTuple):
     timestamp: int
     current_version: int
     compatibility_version: int
+    is_weak: bool
+    is_reexport: bool
+    is_upward: bool
+    is_delayed: bool
 
 
 @_readable

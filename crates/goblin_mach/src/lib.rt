@@ -25,7 +25,7 @@ pub use mach_image::bindings::BindingIterator;
 pub use mach_image::command_iterator::CommandIterator;
 pub use mach_image::exported::find_export;
 pub use mach_image::fixups::FixupIterator;
-pub use mach_image::libraries::{Library, LibraryIterator, LibraryKind};
+pub use mach_image::libraries::{Library, LibraryAttributes, LibraryIterator, LibraryKind};
 pub use mach_image::macho::MachO;
 pub use mach_image::rebases::RebaseIterator;
 pub use mach_image::subjects::{id_place, library_place, run_path_place};

@@ -17,3 +17,4 @@ pub mod BoundChains
 pub mod PlacedBindings
 pub mod BeginsThere
 pub mod FoundExports
+mod LibraryRows

@@ -1,10 +1,12 @@
 -- What the commands of an image say as C sees it: segments, libraries and run paths.
-use Rattle.std.specs.Prelude.{ℕ, List, [], ◌∷◌, length, Option, Some, None, Result, Ok, Err}
+use Rattle.std.specs.Prelude.{ℕ, List, [], ◌∷◌, length, Bool, bit_or, Option, Some, None, Result, Ok, Err, if◌then◌else◌}
+use Rattle.mach_base.specs.declared.context.Endian.{Endian}
 use Rattle.mach_base.specs.Fault.{Fault}
 use Rattle.mach_load.specs.Command.{Command}
 use Rattle.mach_segments.specs.Segment.{SegmentView}
 use Rattle.mach_image.specs.Libraries.{NamedLibrary, named_by}
 use Rattle.mach_image.specs.Subjects.{id_by, lossy_segment_by, name_place, run_path_by}
+use Rattle.mach_image.specs.declared.libraries.LibraryAttributes.{LibraryAttributes}
 use Rattle.mach_image.specs.declared.libraries.LibraryKind.{LibraryKind}
 use Rattle.mach_image.specs.declared.libraries.LibraryKind.TheVariants.{Required, Weak, Reexport, Upward, Lazy}
 use Rattle.goblin_mach_c.specs.CommandRows.{commands_seen}
@@ -64,6 +66,15 @@ library_kind_number Reexport = 2
 library_kind_number Upward = 3
 library_kind_number Lazy = 4
 
+-- a number where something holds, else 0
+abbrev pub number_where : Bool → ℕ → ℕ
+number_where holds n = if holds then n else 0
+
+-- the number of how a library is used
+abbrev pub attributes_number : LibraryAttributes → ℕ
+attributes_number a =
+    bit_or (bit_or (bit_or (number_where a.is_weak 1) (number_where a.is_reexport 2)) (number_where a.is_upward 4)) (number_where a.is_delayed 8)
+
 -- A library: its name stands at `name`, and has `name_len` bytes.
 abbrev pub library_row : Command → NamedLibrary → gm_library
 library_row c l =
@@ -74,15 +85,17 @@ library_row c l =
       timestamp = l.timestamp;
       current_version = l.current_version;
       compatibility_version = l.compatibility_version;
+      attributes = attributes_number l.attributes;
+      reserved = 0;
     }
 
 -- the library that a command brings in, if it does, and its name can be read
-abbrev pub library_row_by : List ℕ → Command → Option gm_library
-library_row_by bytes c = shown (library_row c) (named_by bytes c)
+abbrev pub library_row_by : Endian → List ℕ → Command → Option gm_library
+library_row_by le bytes c = shown (library_row c) (named_by le bytes c)
 
 -- the libraries of an image, the one of ordinal 1 first
 abbrev pub library_rows : List ℕ → gm_image → List gm_library
-library_rows bytes image = rows_of (library_row_by bytes) (commands_seen bytes image)
+library_rows bytes image = rows_of (library_row_by (ctx_seen image).le bytes) (commands_seen bytes image)
 
 -- A run path: it stands at `path` and has `path_len` bytes.
 abbrev pub run_path_row : Command → List ℕ → gm_run_path

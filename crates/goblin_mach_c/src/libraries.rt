@@ -1,18 +1,16 @@
 //! The libraries of an image, read in place.
 
-ghost use Rattle.std.specs.Prelude.{◌≡◌, drop, option_map};
-ghost use Rattle.mach_load.specs.Variants.{command_of};
-ghost use Rattle.mach_image.specs.Libraries.{dylib_of_values, library_kind};
+ghost use Rattle.std.specs.Prelude.{◌≡◌, drop};
 ghost use Rattle.goblin_mach_c.specs.Fill.{Fills};
-ghost use Rattle.goblin_mach_c.specs.PartRows.{library_kind_number, library_row_by, library_rows};
+ghost use Rattle.goblin_mach_c.specs.PartRows.{attributes_number, library_kind_number, library_row_by, library_rows, number_where};
 
 use crate::commands::Commands;
-use crate::images::gm_image;
+use crate::images::{ctx_of, gm_image};
 use crate::picked::{Pick, Picked};
 use crate::rows::{fill, skip};
-use mach_base::read_text;
-use mach_load::{CommandVariant, LoadCommand};
-use mach_records::Dylib;
+use mach_base::{Endian, read_text};
+use mach_image::libraries::{LibraryAttributes, LibraryKind, brought};
+use mach_load::LoadCommand;
 
 /// `LC_LOAD_DYLIB`: the image needs it.
 pub const GM_REQUIRED: u32 = 0;
@@ -29,6 +27,18 @@ pub const GM_UPWARD: u32 = 3;
 /// `LC_LAZY_LOAD_DYLIB`: it is to be loaded when it is first used.
 pub const GM_LAZY: u32 = 4;
 
+/// The library may be missing.
+pub const GM_USED_WEAK: u32 = 1;
+
+/// What the library exports the image exports as well.
+pub const GM_USED_REEXPORT: u32 = 2;
+
+/// The library may need the image in turn.
+pub const GM_USED_UPWARD: u32 = 4;
+
+/// The library is set up when it is first used.
+pub const GM_USED_DELAYED: u32 = 8;
+
 /// A library that an image brings in. Its name stands at `name`, and has `name_len` bytes.
 #[derive(Clone, Copy)]
 #[repr(C)]
@@ -40,33 +50,52 @@ pub struct gm_library {
     pub timestamp: u32,
     pub current_version: u32,
     pub compatibility_version: u32,
+    /// How it is used: `GM_USED_WEAK` and those behind it, added up.
+    pub attributes: u32,
+    pub reserved: u32,
 }
 
-// The number of the kind of the library that a command brings in, and its struct dylib, if it brings one in.
-#[inline(always)]
-fn brought(command: &LoadCommand) -> Option<(u32, Dylib)>
-    ensures { let c = command_of command.now in result ≡ option_map (λ kind. (library_kind_number kind, dylib_of_values c.values)) (library_kind c.kind) }
+// The number of a kind.
+fn kind_number(kind: LibraryKind) -> u32
+    ensures { result ≡ library_kind_number kind }
 {
-    match &command.command {
-        CommandVariant::LoadDylib(c) => Some((GM_REQUIRED, c.dylib)),
-        CommandVariant::LoadWeakDylib(c) => Some((GM_WEAK, c.dylib)),
-        CommandVariant::ReexportDylib(c) => Some((GM_REEXPORT, c.dylib)),
-        CommandVariant::LoadUpwardDylib(c) => Some((GM_UPWARD, c.dylib)),
-        CommandVariant::LazyLoadDylib(c) => Some((GM_LAZY, c.dylib)),
-        _ => None,
+    match kind {
+        LibraryKind::Required => GM_REQUIRED,
+        LibraryKind::Weak => GM_WEAK,
+        LibraryKind::Reexport => GM_REEXPORT,
+        LibraryKind::Upward => GM_UPWARD,
+        LibraryKind::Lazy => GM_LAZY,
     }
+}
+
+// A number where something holds, else 0.
+fn number_where(holds: bool, number: u32) -> u32
+    ensures { result ≡ number_where holds number }
+{
+    if holds { number } else { 0 }
+}
+
+// The number of attributes.
+fn attributes_number(attributes: LibraryAttributes) -> u32
+    ensures { result ≡ attributes_number attributes }
+{
+    number_where(attributes.is_weak, GM_USED_WEAK)
+        | number_where(attributes.is_reexport, GM_USED_REEXPORT)
+        | number_where(attributes.is_upward, GM_USED_UPWARD)
+        | number_where(attributes.is_delayed, GM_USED_DELAYED)
 }
 
 // The libraries of some bytes.
 #[derive(Clone, Copy)]
 struct Libraries<'a> {
     bytes: &'a [u8],
+    le: Endian,
 }
 
 impl<'a> Pick for Libraries<'a> {
     type Row = gm_library;
 
-    ghost picked = { λ s c. library_row_by s.bytes.now c };
+    ghost picked = { λ s c. library_row_by s.le s.bytes.now c };
 
     #[inline(always)]
     fn pick(&self, command: &LoadCommand) -> Option<gm_library> {
@@ -76,10 +105,14 @@ impl<'a> Pick for Libraries<'a> {
             Ok(name) => Some(gm_library {
                 name: place,
                 name_len: name.len(),
-                kind,
+                kind: kind_number(kind),
                 timestamp: dylib.timestamp,
                 current_version: dylib.current_version,
                 compatibility_version: dylib.compatibility_version,
+                attributes: attributes_number(LibraryAttributes::of(
+                    self.bytes, self.le, command, kind,
+                )),
+                reserved: 0,
             }),
             Err(_) => None,
         }
@@ -99,7 +132,10 @@ pub extern "C" fn gmr_libraries(
 {
     let mut rows = Picked {
         commands: Commands::of(bytes, image),
-        what: Libraries { bytes },
+        what: Libraries {
+            bytes,
+            le: ctx_of(image).le,
+        },
     };
     skip(&mut rows, first);
     fill(&mut rows, out)

@@ -116,8 +116,8 @@ module _ {A : Type 0} (m : MachO A) where
   pub libraries_are : HoldsAs m HasLibraries (texts m.libs.items)
   libraries_are = said_of m (λ libs f. libs ≡ f.libs)
 
-  pub libraries_by_kind_are : HoldsAs m HasLibrariesByKind (libraries_in (bytes_held m) (commands_held m))
-  libraries_by_kind_are = said_of m (λ libraries f. libraries ≡ libraries_in f.bytes f.commands)
+  pub libraries_by_kind_are : HoldsAs m HasLibrariesByKind (libraries_in (ctx_held m).le (bytes_held m) (commands_held m))
+  libraries_by_kind_are = said_of m (λ libraries f. libraries ≡ libraries_in f.ctx.le f.bytes f.commands)
 
   pub run_paths_are : HoldsAs m HasRunPaths (texts m.rpaths.items)
   run_paths_are = said_of m (λ paths f. paths ≡ f.run_paths)

@@ -12,7 +12,7 @@ use Rattle.mach_image.specs.declared.libraries.LibraryKind.{LibraryKind}
 use Rattle.mach_image.specs.declared.macho.MachO.{MachO}
 use Rattle.mach_image.proofs.ImageFacts.{both_modes}
 use Rattle.mach_image.specs.Modes.{InBothModes}
-use Rattle.mach_image.specs.OpenImage.{commands_held, bytes_held}
+use Rattle.mach_image.specs.OpenImage.{commands_held, bytes_held, ctx_held}
 use Rattle.mach_base.specs.Text.{texts}
 use Rattle.std.specs.Option.{is_some}
 use Rattle.std.proofs.lemmas.Option.{slice_get-map}
@@ -21,7 +21,9 @@ use Rattle.mach_base.specs.Text.{text_at}
 use Rattle.mach_load.specs.Subjects.{is_library}
 use Rattle.mach_image.specs.Subjects.{name_place, library_by, libs_in, own_name_in}
 use Rattle.mach_image.specs.Libraries.{NamedLibrary, LibraryView, of_ordinal, by_ordinal, counted_from, libraries_in, named_by, named_library, library_kind}
-use Rattle.mach_image.specs.Libraries.{dylib_of_values}
+use Rattle.mach_image.specs.Libraries.{dylib_of_values, library_attributes}
+use Rattle.mach_base.specs.declared.context.Endian.{Endian}
+use Rattle.mach_image.specs.declared.libraries.LibraryAttributes.{LibraryAttributes}
 use Rattle.mach_image.specs.Readings.{Reading, read_of, keep}
 
 few_kept : {V : Type 0} (found : Option (Result V Fault)) (vs : List V) → length (keep found vs) ≤ length vs + 1
@@ -47,9 +49,9 @@ counted n (l ∷ m ∷ ls) le =
     (ap (λ (k : ℕ). counted_from k (m ∷ ls)) (after_one n (omega (arith, le))) ∙ counted (n + 1) (m ∷ ls) (omega (arith, le)))
 
 -- and some commands name no more libraries than there are of them
-pub counted_commands : (bytes : List ℕ) (cs : List Command) → length cs < 2 ^ 64
-    → counted_from 1 (read_of (named_by bytes) cs) ≡ libraries_in bytes cs
-counted_commands bytes cs lt = counted 1 (read_of (named_by bytes) cs) (omega (arith, lt, few-read (named_by bytes) cs))
+pub counted_commands : (le : Endian) (bytes : List ℕ) (cs : List Command) → length cs < 2 ^ 64
+    → counted_from 1 (read_of (named_by le bytes) cs) ≡ libraries_in le bytes cs
+counted_commands le bytes cs lt = counted 1 (read_of (named_by le bytes) cs) (omega (arith, lt, few-read (named_by le bytes) cs))
 
 -- the commands that bring a library in are those that do so in some way
 five : (k : kind.Kind) → is_library k ≡ is_some (library_kind k)
@@ -112,30 +114,32 @@ five kind.unimplemented = refl
 abbrev names : List NamedLibrary → List (List ℕ)
 names ls = map (λ (l : NamedLibrary). l.name) ls
 
-one_name : (d : Dylib) (o : Option LibraryKind) (r : Result (List ℕ) Fault) (ls : List NamedLibrary) (ns : List (List ℕ)) → names ls ≡ ns
-    → names (keep (option_map (λ kind. r >>= λ name. Ok (named_library kind d name)) o) ls) ≡ keep (if is_some o then Some r else None) ns
-one_name d None r ls ns same = same
-one_name d (Some kind) (Ok name) ls ns same = ap (λ (xs : List (List ℕ)). name ∷ xs) same
-one_name d (Some kind) (Err f) ls ns same = same
+one_name : (d : Dylib) (a : LibraryKind → LibraryAttributes) (o : Option LibraryKind) (r : Result (List ℕ) Fault)
+    → (ls : List NamedLibrary) (ns : List (List ℕ)) → names ls ≡ ns
+    → names (keep (option_map (λ kind. r >>= λ name. Ok (named_library kind (a kind) d name)) o) ls) ≡ keep (if is_some o then Some r else None) ns
+one_name d a None r ls ns same = same
+one_name d a (Some kind) (Ok name) ls ns same = ap (λ (xs : List (List ℕ)). name ∷ xs) same
+one_name d a (Some kind) (Err f) ls ns same = same
 
 -- they have the names that `libs` has
-same_names : (bytes : List ℕ) (cs : List Command) → names (read_of (named_by bytes) cs) ≡ read_of (library_by bytes) cs
-same_names bytes [] = refl
-same_names bytes (c ∷ cs) =
+same_names : (le : Endian) (bytes : List ℕ) (cs : List Command) → names (read_of (named_by le bytes) cs) ≡ read_of (library_by bytes) cs
+same_names le bytes [] = refl
+same_names le bytes (c ∷ cs) =
     let name = text_at bytes (name_place c) in
     let rest = read_of (library_by bytes) cs in
-    one_name (dylib_of_values c.values) (library_kind c.kind) name (read_of (named_by bytes) cs) rest (same_names bytes cs)
+    let named = read_of (named_by le bytes) cs in
+    one_name (dylib_of_values c.values) (library_attributes le bytes c) (library_kind c.kind) name named rest (same_names le bytes cs)
     ∙ ap (λ (b : Bool). keep (if b then Some name else None) rest) (sym (five c.kind))
 
 numbered_names : (n : ℕ) (ls : List NamedLibrary) → map (λ (l : LibraryView). l.name) (by_ordinal n ls) ≡ names ls
 numbered_names n [] = refl
 numbered_names n (l ∷ ls) = ap (λ (xs : List (List ℕ)). l.name ∷ xs) (numbered_names (n + 1) ls)
 
-pub libs_by_name : (bytes : List ℕ) (cs : List Command)
-    → libs_in bytes cs ≡ unwrap_or (own_name_in bytes cs) (codes "self") ∷ map (λ (l : LibraryView). l.name) (libraries_in bytes cs)
-libs_by_name bytes cs =
+pub libs_by_name : (le : Endian) (bytes : List ℕ) (cs : List Command)
+    → libs_in bytes cs ≡ unwrap_or (own_name_in bytes cs) (codes "self") ∷ map (λ (l : LibraryView). l.name) (libraries_in le bytes cs)
+libs_by_name le bytes cs =
     ap (λ (xs : List (List ℕ)). unwrap_or (own_name_in bytes cs) (codes "self") ∷ xs)
-    (sym (numbered_names 1 (read_of (named_by bytes) cs) ∙ same_names bytes cs))
+    (sym (numbered_names 1 (read_of (named_by le bytes) cs) ∙ same_names le bytes cs))
 
 -- and their ordinals are their places, counted from one on
 numbered : (n : ℕ) (ls : List NamedLibrary) (k : ℕ) (l : LibraryView) → slice_get (by_ordinal n ls) k ≡ Some l → l.ordinal ≡ n + k
@@ -143,22 +147,23 @@ numbered n [] k l e = absurd (cc)
 numbered n (x ∷ xs) zero l e = let same : of_ordinal n x ≡ l = cc in sym (ap (λ (v : LibraryView). v.ordinal) same) ∙ omega arith
 numbered n (x ∷ xs) (suc k) l e = numbered (n + 1) xs k l e ∙ omega arith
 
-pub ordinal_at : (bytes : List ℕ) (cs : List Command) (k : ℕ) (l : LibraryView) → slice_get (libraries_in bytes cs) k ≡ Some l → l.ordinal ≡ k + 1
-ordinal_at bytes cs k l e = numbered 1 (read_of (named_by bytes) cs) k l e ∙ omega arith
+pub ordinal_at : (le : Endian) (bytes : List ℕ) (cs : List Command) (k : ℕ) (l : LibraryView)
+    → slice_get (libraries_in le bytes cs) k ≡ Some l → l.ordinal ≡ k + 1
+ordinal_at le bytes cs k l e = numbered 1 (read_of (named_by le bytes) cs) k l e ∙ omega arith
 
 -- so that a library's name stands in `libs` at its ordinal
-pub in_libs : (bytes : List ℕ) (cs : List Command) (k : ℕ) (l : LibraryView) → slice_get (libraries_in bytes cs) k ≡ Some l
+pub in_libs : (le : Endian) (bytes : List ℕ) (cs : List Command) (k : ℕ) (l : LibraryView) → slice_get (libraries_in le bytes cs) k ≡ Some l
     → slice_get (libs_in bytes cs) l.ordinal ≡ Some l.name
-in_libs bytes cs k l e =
-    ap (λ (xs : List (List ℕ)). slice_get xs l.ordinal) (libs_by_name bytes cs)
-    ∙ ap (λ (i : ℕ). slice_get (unwrap_or (own_name_in bytes cs) (codes "self") ∷ map (λ (v : LibraryView). v.name) (libraries_in bytes cs)) i)
-    (ordinal_at bytes cs k l e ∙ add-one k)
-    ∙ slice_get-map (λ (v : LibraryView). v.name) (libraries_in bytes cs) k
+in_libs le bytes cs k l e =
+    ap (λ (xs : List (List ℕ)). slice_get xs l.ordinal) (libs_by_name le bytes cs)
+    ∙ ap (λ (i : ℕ). slice_get (unwrap_or (own_name_in bytes cs) (codes "self") ∷ map (λ (v : LibraryView). v.name) (libraries_in le bytes cs)) i)
+    (ordinal_at le bytes cs k l e ∙ add-one k)
+    ∙ slice_get-map (λ (v : LibraryView). v.name) (libraries_in le bytes cs) k
     ∙ ap (option_map (λ (v : LibraryView). v.name)) e
 
 pub in_held_libs : {A : Type 0} (m : MachO A) → InBothModes m (λ bytes o. (k : ℕ) (l : LibraryView)
-    → slice_get (libraries_in (bytes_held m) (commands_held m)) k ≡ Some l → slice_get (texts m.libs.items) l.ordinal ≡ Some l.name)
+    → slice_get (libraries_in (ctx_held m).le (bytes_held m) (commands_held m)) k ≡ Some l → slice_get (texts m.libs.items) l.ordinal ≡ Some l.name)
 in_held_libs m = both_modes m _ (λ bytes o p k l e.
     ap (λ (xs : List (List ℕ)). slice_get xs l.ordinal)
     (p.fields.libs ∙ ap (λ (bs : List ℕ). libs_in bs (commands_held m)) (sym p.fields.bytes_is))
-    ∙ in_libs (bytes_held m) (commands_held m) k l e)
+    ∙ in_libs (ctx_held m).le (bytes_held m) (commands_held m) k l e)

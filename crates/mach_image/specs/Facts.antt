@@ -63,7 +63,7 @@ HasLibraries bytes o libs = OfImage bytes o (λ ctx cs. libs ≡ libs_in bytes c
 
 -- its libraries, each with its ordinal and how it is brought in
 abbrev pub HasLibrariesByKind : List ℕ → ℕ → List LibraryView → Type 0
-HasLibrariesByKind bytes o libraries = OfImage bytes o (λ ctx cs. libraries ≡ libraries_in bytes cs)
+HasLibrariesByKind bytes o libraries = OfImage bytes o (λ ctx cs. libraries ≡ libraries_in ctx.le bytes cs)
 
 -- the paths on which its libraries are sought
 abbrev pub HasRunPaths : List ℕ → ℕ → List (List ℕ) → Type 0

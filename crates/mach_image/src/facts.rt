@@ -74,7 +74,7 @@ pub fn libraries_of_image<A: Allocator>(image: &MachO<'_, A>)
 
 /// The libraries that `MachO::libraries` gives are those of the bytes.
 pub fn libraries_by_kind_of_image<A: Allocator>(image: &MachO<'_, A>)
-    ensures { HoldsAs image.now HasLibrariesByKind (libraries_in (bytes_held image.now) (commands_held image.now)) }
+    ensures { HoldsAs image.now HasLibrariesByKind (libraries_in (ctx_held image.now).le (bytes_held image.now) (commands_held image.now)) }
 {}
 
 /// What `MachO::find_export` answers stands by the paths of the trie in the bytes.

@@ -18,7 +18,7 @@ name_said bytes path name own is has =
     record { ctx = has.ctx; cs = has.cs; opens = has.opens; holds = is ∙ ap (λ (o : Option (List ℕ)). unwrap_or o path) has.holds }
 
 absences_said : (bytes : List ℕ) (absences : List Bool) (libraries : List LibraryView) → absences ≡ may_be_absent libraries
-    → HasLibrariesByKind bytes 0 libraries → OfImage bytes 0 (λ ctx cs. absences ≡ may_be_absent (libraries_in bytes cs))
+    → HasLibrariesByKind bytes 0 libraries → OfImage bytes 0 (λ ctx cs. absences ≡ may_be_absent (libraries_in ctx.le bytes cs))
 absences_said bytes absences libraries is has =
     record { ctx = has.ctx; cs = has.cs; opens = has.opens; holds = is ∙ ap may_be_absent has.holds }
 

@@ -10,7 +10,7 @@ use Rattle.mach_image.specs.Libraries.{LibraryView}
 use Rattle.mach_resolve.specs.Opened.{given_seen}
 use Rattle.mach_resolve.specs.declared.given.Given as declared
 use Rattle.mach_resolve.specs.Note.{Note, given_before}
-use Rattle.mach_resolve.specs.Given.{GivenFile, Adds, counts, again, is_named, reexported, is_reexport, is_weak_kind, NumberedFault, OpenFault}
+use Rattle.mach_resolve.specs.Given.{GivenFile, Adds, counts, again, is_named, reexported, NumberedFault, OpenFault}
 use Rattle.mach_resolve.specs.Given.{LibraryFault, FaultFor, of_program, of_library}
 use Rattle.mach_resolve.specs.Seen.{file_seen, note_seen}
 use Rattle.mach_resolve.specs.declared.note.Note as noted
@@ -75,7 +75,7 @@ adds_known items kept notes more n f same pushed is there =
 
 -- one more library that was gone over
 pub reexported_more : (all : List (List ℕ)) (names pushed : List (Bor (List ℕ))) (l : LibraryView) (ls left : List LibraryView) (name : Bor (List ℕ))
-    → all ≡ map (λ t. t.now) names ++ reexported left → left ≡ l ∷ ls → is_reexport l.kind ≡ true → name.now ≡ l.name → pushed ≡ names ++ name ∷ []
+    → all ≡ map (λ t. t.now) names ++ reexported left → left ≡ l ∷ ls → l.attributes.is_reexport ≡ true → name.now ≡ l.name → pushed ≡ names ++ name ∷ []
     → all ≡ map (λ t. t.now) pushed ++ reexported ls
 reexported_more all names pushed l ls left name so_far is on same more =
     let texts = map (λ (t : Bor (List ℕ)). t.now) names in
@@ -87,17 +87,17 @@ reexported_more all names pushed l ls left name so_far is on same more =
     so_far ∙ (ap (λ (xs : List (List ℕ)). texts ++ xs) next ∙ (two ∙ ap (λ (xs : List (List ℕ)). xs ++ reexported ls) three))
 
 pub reexported_same : (all front : List (List ℕ)) (l : LibraryView) (ls left : List LibraryView) → all ≡ front ++ reexported left → left ≡ l ∷ ls
-    → is_reexport l.kind ≡ false → all ≡ front ++ reexported ls
+    → l.attributes.is_reexport ≡ false → all ≡ front ++ reexported ls
 reexported_same all front l ls left so_far is off =
     so_far ∙ ap (λ (xs : List (List ℕ)). front ++ xs) (ap reexported is ∙ ap (λ (b : Bool). if b then l.name ∷ reexported ls else reexported ls) off)
 
 pub absent_more : (all : List Bool) (front pushed : List Bool) (l : LibraryView) (ls left : List LibraryView) (b : Bool)
-    → all ≡ front ++ map (λ l. is_weak_kind l.kind) left → left ≡ l ∷ ls → b ≡ is_weak_kind l.kind → pushed ≡ front ++ b ∷ []
-    → all ≡ pushed ++ map (λ l. is_weak_kind l.kind) ls
+    → all ≡ front ++ map (λ l. l.attributes.is_weak) left → left ≡ l ∷ ls → b ≡ l.attributes.is_weak → pushed ≡ front ++ b ∷ []
+    → all ≡ pushed ++ map (λ l. l.attributes.is_weak) ls
 absent_more all front pushed l ls left b so_far is same more =
-    let rest = map (λ (l : LibraryView). is_weak_kind l.kind) ls in
-    so_far ∙ (ap (λ (xs : List LibraryView). front ++ map (λ l. is_weak_kind l.kind) xs) is
-    ∙ (sym (append_assoc front (is_weak_kind l.kind ∷ []) rest)
+    let rest = map (λ (l : LibraryView). l.attributes.is_weak) ls in
+    so_far ∙ (ap (λ (xs : List LibraryView). front ++ map (λ l. l.attributes.is_weak) xs) is
+    ∙ (sym (append_assoc front (l.attributes.is_weak ∷ []) rest)
     ∙ ap (λ (xs : List Bool). xs ++ rest) (ap (λ (x : Bool). front ++ x ∷ []) (sym same) ∙ sym more)))
 
 -- a fault of the program

@@ -19,28 +19,14 @@ pub record GivenFile : Type 0 where
   pub path : List ℕ
   pub bytes : List ℕ
 
-abbrev pub is_reexport : LibraryKind → Bool
-is_reexport Required = false
-is_reexport Weak = false
-is_reexport Reexport = true
-is_reexport Upward = false
-is_reexport Lazy = false
-
-abbrev pub is_weak_kind : LibraryKind → Bool
-is_weak_kind Required = false
-is_weak_kind Weak = true
-is_weak_kind Reexport = false
-is_weak_kind Upward = false
-is_weak_kind Lazy = false
-
 -- the names of those that are re-exported as a whole, in order
 abbrev pub reexported : List LibraryView → List (List ℕ)
 reexported [] = []
-reexported (l ∷ ls) = if is_reexport l.kind then l.name ∷ reexported ls else reexported ls
+reexported (l ∷ ls) = if l.attributes.is_reexport then l.name ∷ reexported ls else reexported ls
 
 -- by ordinal, the image itself first, whether a library may be absent
 abbrev pub may_be_absent : List LibraryView → List Bool
-may_be_absent ls = false ∷ map (λ l. is_weak_kind l.kind) ls
+may_be_absent ls = false ∷ map (λ l. l.attributes.is_weak) ls
 
 -- The file of this number is what these bytes say: the image at 0, which opens; it is known by its own name, or by
 -- its path where it has none.
@@ -49,7 +35,7 @@ pub record IsFile (number : ℕ) (g : GivenFile) (f : File) : Type 0 where
   pub number_is : f.number ≡ number
   pub name : OfImage g.bytes 0 (λ ctx cs. f.name ≡ unwrap_or (own_name_in g.bytes cs) g.path)
   pub main : OfImage g.bytes 0 (λ ctx cs. (h : Header) × IsHeader ctx g.bytes 0 h × (f.is_main ≡ (h.filetype == 2)))
-  pub reexports : OfImage g.bytes 0 (λ ctx cs. f.reexports ≡ reexported (libraries_in g.bytes cs))
+  pub reexports : OfImage g.bytes 0 (λ ctx cs. f.reexports ≡ reexported (libraries_in ctx.le g.bytes cs))
   pub trie : OfImage g.bytes 0 (λ ctx cs. (f.trie ≡ trie_in g.bytes cs) × (f.libs ≡ libs_in g.bytes cs))
 
 -- whether a file of this name is among them

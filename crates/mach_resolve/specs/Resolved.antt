@@ -21,7 +21,7 @@ use Rattle.mach_resolve.specs.Note.{Note}
 pub record IsProgram (g : GivenFile) (p : Program) (items : List (Result Binding Fault)) : Type 0 where
   pub opens : Opens g.bytes 0
   pub name : OfImage g.bytes 0 (λ ctx cs. p.name ≡ unwrap_or (own_name_in g.bytes cs) g.path)
-  pub absences : OfImage g.bytes 0 (λ ctx cs. p.may_be_absent ≡ may_be_absent (libraries_in g.bytes cs))
+  pub absences : OfImage g.bytes 0 (λ ctx cs. p.may_be_absent ≡ may_be_absent (libraries_in ctx.le g.bytes cs))
   pub bindings_are : HasBindings g.bytes 0 items
 
 -- These are the answers for the first `limit` bindings of a program, in order, among the program and some libraries, these are the

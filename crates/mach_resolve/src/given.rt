@@ -3,11 +3,11 @@
 ghost use Rattle.std.specs.Prelude.{◌≡◌, ℕ, List, None, map, IfOk, IfErr, IfSome, IfNone};
 ghost use Rattle.mach_base.specs.Text.{texts};
 ghost use Rattle.mach_image.specs.Libraries.{libraries_in};
-ghost use Rattle.mach_image.specs.OpenImage.{IsImage, bytes_held, commands_held};
+ghost use Rattle.mach_image.specs.OpenImage.{IsImage, bytes_held, commands_held, ctx_held};
 ghost use Rattle.goblin_mach.specs.File.{IsFatMach};
 ghost use Rattle.mach_resolve.specs.Failures.{IsFailure};
 ghost use Rattle.mach_resolve.specs.Cpu.{HasFor};
-ghost use Rattle.mach_resolve.specs.Given.{IsFile, IsLibrary, only, Adds, AddsLibrary, GathersFor, is_reexport, is_weak_kind, reexported, may_be_absent};
+ghost use Rattle.mach_resolve.specs.Given.{IsFile, IsLibrary, only, Adds, AddsLibrary, GathersFor, reexported, may_be_absent};
 ghost use Rattle.mach_resolve.specs.Given.{NumberedFault, OpenFault, LibraryFault, FaultFor};
 ghost use Rattle.mach_resolve.specs.Seen.{file_seen, gathered_seen};
 ghost use Rattle.mach_resolve.specs.Opened.{given_seen};
@@ -16,7 +16,7 @@ use crate::failure::Failure;
 use crate::file::{File, Files};
 use crate::note::Note;
 use goblin_mach::header::MH_EXECUTE;
-use goblin_mach::{LibraryKind, Mach, MachO, MultiArch, laws};
+use goblin_mach::{Mach, MachO, MultiArch, laws};
 use indexmap::IndexSet;
 use std::alloc::{AllocError, Allocator};
 
@@ -27,36 +27,16 @@ pub struct Given<'a> {
     pub bytes: &'a [u8],
 }
 
-fn is_reexport(kind: LibraryKind) -> bool
-    ensures { result ≡ is_reexport kind }
-{
-    match kind {
-        LibraryKind::Reexport => true,
-        LibraryKind::Required | LibraryKind::Weak | LibraryKind::Upward | LibraryKind::Lazy =>
-            false,
-    }
-}
-
-fn is_weak(kind: LibraryKind) -> bool
-    ensures { result ≡ is_weak_kind kind }
-{
-    match kind {
-        LibraryKind::Weak => true,
-        LibraryKind::Required | LibraryKind::Reexport | LibraryKind::Upward | LibraryKind::Lazy =>
-            false,
-    }
-}
-
 // The libraries that an image re-exports as a whole, in order.
 fn reexports_of<'a, A: Allocator + Copy>(
     alloc: A,
     image: &MachO<'a, A>,
 ) -> Result<Vec<&'a str, A>, AllocError>
-    ensures { IfOk result (λ v. texts v.items ≡ reexported (libraries_in (bytes_held image.now) (commands_held image.now))) }
+    ensures { IfOk result (λ v. texts v.items ≡ reexported (libraries_in (ctx_held image.now).le (bytes_held image.now) (commands_held image.now))) }
 {
     let mut names = Vec::new(alloc);
     'libraries: for library in image.libraries() {
-        if is_reexport(library.kind) {
+        if library.attributes.is_reexport {
             names.push(library.name)?;
         }
     }
@@ -68,12 +48,12 @@ pub fn absences_of<'a, A: Allocator + Copy>(
     alloc: A,
     image: &MachO<'a, A>,
 ) -> Result<Vec<bool, A>, AllocError>
-    ensures { IfOk result (λ v. v.items ≡ may_be_absent (libraries_in (bytes_held image.now) (commands_held image.now))) }
+    ensures { IfOk result (λ v. v.items ≡ may_be_absent (libraries_in (ctx_held image.now).le (bytes_held image.now) (commands_held image.now))) }
 {
     let mut absences = Vec::new(alloc);
     absences.push(false)?;
     'libraries: for library in image.libraries() {
-        absences.push(is_weak(library.kind))?;
+        absences.push(library.attributes.is_weak)?;
     }
     Ok(absences)
 }

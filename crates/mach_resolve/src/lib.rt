@@ -23,4 +23,4 @@ mod special;
 mod words;
 
 pub use crate::given::Given;
-pub use crate::words::{DEFAULT_LIMIT, Mistake, Words, cputype_in};
+pub use crate::words::{DEFAULT_LIMIT, Mistake, Words};

@@ -1,6 +1,6 @@
 //! What the words of the command line ask for, beside what all programs know.
 
-use mach_show::Misuse;
+use mach_show::{Misuse, cputype_in};
 use std::alloc::{AllocError, AllocFailed, Global};
 
 /// So many bindings are answered where no other limit is given.
@@ -64,13 +64,4 @@ impl Words {
         }
         Ok(Words { others, wanted })
     }
-}
-
-/// The cpu of a word: `0x`, and 1 to 8 hexadecimal digits.
-pub fn cputype_in(word: &str) -> Option<u32> {
-    let digits = word.strip_prefix("0x")?;
-    if digits.len() > 8 || digits.starts_with('+') {
-        return None;
-    }
-    u32::from_str_radix(digits, 16).ok()
 }

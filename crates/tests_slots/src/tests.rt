@@ -1,4 +1,5 @@
 mod large;
+mod libraries;
 mod made;
 mod providers;
 mod same;

@@ -10,7 +10,7 @@ ghost use Rattle.mach_tries.specs.TrieRange.{trie_there};
 ghost use Rattle.mach_image.specs.Facts.{HasExports, HasExportOf};
 ghost use Rattle.mach_image.specs.Libraries.{libraries_in, libraries_left};
 ghost use Rattle.mach_image.specs.LookUp.{StandsInImage, IsListedAs};
-ghost use Rattle.mach_image.specs.OpenImage.{trie_held, bytes_held, commands_held};
+ghost use Rattle.mach_image.specs.OpenImage.{trie_held, bytes_held, commands_held, ctx_held};
 ghost use Rattle.mach_image.specs.Subjects.{ListsImageExports, ImageExportsFault, trie_or_empty};
 
 use crate::libraries::LibraryIterator;
@@ -24,9 +24,9 @@ impl<'a, A: Allocator> MachO<'a, A> {
     /// its name, and how it is brought in. In lossy mode one whose name can't be read is left out, and those behind it
     /// move down, as in `libs`. It takes no memory.
     pub fn libraries<'b>(&'b self) -> LibraryIterator<'a, 'b>
-        ensures { libraries_left result ≡ libraries_in (bytes_held self.now) (commands_held self.now) }
+        ensures { libraries_left result ≡ libraries_in (ctx_held self.now).le (bytes_held self.now) (commands_held self.now) }
     {
-        LibraryIterator::new(self.bytes, self.load_commands.as_slice())
+        LibraryIterator::new(self.bytes, self.ctx.le, self.load_commands.as_slice())
     }
 
     /// What the image exports a name as, over the libraries that it holds at the call: the first export of that name

@@ -1,10 +1,10 @@
 use Rattle.std.proofs.Common.{◌≡◌, ◌++◌, map}
 use Rattle.mach_image.specs.Libraries.{libraries_in, libraries_left}
-use Rattle.mach_image.specs.OpenImage.{bytes_held, commands_held}
-use Rattle.mach_resolve.specs.Given.{may_be_absent, is_weak_kind}
+use Rattle.mach_image.specs.OpenImage.{bytes_held, commands_held, ctx_held}
+use Rattle.mach_resolve.specs.Given.{may_be_absent}
 use Rattle.mach_resolve.proofs.given.absences_of.Given as goal
 
 abbrev pub invariant-libraries : goal.invariant-libraries
 invariant-libraries g l =
-    may_be_absent (libraries_in (bytes_held l.image) (commands_held l.image)) ≡ l.absences.items ++ map (λ x. is_weak_kind x.kind)
+    may_be_absent (libraries_in (ctx_held l.image).le (bytes_held l.image) (commands_held l.image)) ≡ l.absences.items ++ map (λ x. x.attributes.is_weak)
     (libraries_left l.library-iterator)

@@ -1,7 +1,7 @@
 use Rattle.std.proofs.Common.{map, refl, sym, subst}
 use Rattle.mach_image.specs.Image.{ImageFault}
 use Rattle.mach_image.specs.Libraries.{libraries_in}
-use Rattle.mach_image.specs.OpenImage.{bytes_held, commands_held}
+use Rattle.mach_image.specs.OpenImage.{bytes_held, commands_held, ctx_held}
 use Rattle.mach_tries.specs.Exports.{text_in}
 use Rattle.mach_resolve.specs.Failures.{IsFailure}
 use Rattle.mach_resolve.specs.Answers.{Program}
@@ -38,7 +38,7 @@ returns-in-Ok-answer_all-clause-resolved g c =
     let m = c.in-Ok.image in
     let is = c.in-Ok.ensures.opened in
     let known : Program = record { name = c.unwrap_or.result.now; may_be_absent = c.in_ok-absences_of.field-0.items } in
-    let libraries = libraries_in (bytes_held m) (commands_held m) in
+    let libraries = libraries_in (ctx_held m).le (bytes_held m) (commands_held m) in
     let answered = c.in-Ok-answer_all.ensures.answered (met_seen c.in_ok-all.all) c.in_ok-all.ensures (sym c.as_slice.ensures.value) in
     let first = answered.1 in
     record {

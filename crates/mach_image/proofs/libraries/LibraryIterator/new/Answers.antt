@@ -12,5 +12,5 @@ returns c =
     let bytes = c.args.bytes.now in
     let rest = iter_rest c.iter.result in
     let few = c.iter.ensures.bound in
-    counted_commands bytes (map command_of rest) (omega (arith, few, length-map rest command_of))
-    ∙ ap (λ (xs : List LoadCommand). libraries_in bytes (map command_of xs)) c.iter.ensures.rest
+    counted_commands c.args.le bytes (map command_of rest) (omega (arith, few, length-map rest command_of))
+    ∙ ap (λ (xs : List LoadCommand). libraries_in c.args.le bytes (map command_of xs)) c.iter.ensures.rest
