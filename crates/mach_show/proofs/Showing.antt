@@ -1,25 +1,26 @@
 -- What is shown of an entry and of entries in order.
-use Rattle.std.proofs.Common.{◌≡◌, ◌++◌, ◌∷◌, [], ◌∙◌, ℕ, ◌+◌, zero, suc, List, Option, Result, Ok, sym, ap, subst, length, arith}
+use Rattle.std.proofs.Common.{◌≡◌, ◌++◌, [], ℕ, ◌+◌, ◌<◌, List, Option, Result, Ok, sym, subst, length, take, get_or, arith}
 use Rattle.std.specs.Prelude.{Bool, true, codes}
 use Rattle.std.specs.Borrow.{Bor}
 use Rattle.std.specs.Io.KnownBytes.{Appends}
-use Rattle.std.proofs.lemmas.List.{append-nil}
+use Rattle.std.proofs.lemmas.List.{append-nil, length-take-le, take_more}
 use Rattle.mach_base.proofs.Written.{Appends-both}
 use Rattle.mach_base.specs.Answer.{Stands}
 use Rattle.mach_base.specs.declared.error.Error.{Error}
 use Rattle.mach_base.specs.declared.error.Error.TheVariants as errors
 use Rattle.mach_base.specs.Fault.{Fault}
-use Rattle.mach_base.specs.Items.{items_from}
-use Rattle.mach_base.proofs.ItemLists.{length-items_from}
-use Rattle.mach_image.specs.OpenImage.{IsImage}
+use Rattle.mach_headers.specs.declared.fat.FatArch.{FatArch}
+use Rattle.mach_image.specs.OpenImage.{IsImage, commands_held}
 use Rattle.mach_image.specs.declared.macho.MachO.{MachO}
 use Rattle.goblin_mach.specs.FatEntry.{FatEntry, image, archive, entry_at, IsEntry}
 use Rattle.goblin_mach.specs.FatFile.{FatFile}
 use Rattle.goblin_mach.specs.View.{IsTold, Tells}
 use Rattle.goblin_mach.specs.declared.fat_file.entry.SingleArch.TheVariants as single
+use Rattle.mach_show.specs.Cpus.{is_of_cpu, IsTaken}
+use Rattle.mach_show.specs.declared.cpu.Cpu.{Cpu}
 use Rattle.mach_show.specs.Failures.{IfMemory}
 use Rattle.mach_show.specs.Headings.{arch_line}
-use Rattle.mach_show.specs.Shown.{ImageLines, Shown, both, ShowsEntry, an_image, an_archive, ShowsEntries, more, first_entries}
+use Rattle.mach_show.specs.Shown.{ImageLines, Shown, both, ShowsEntry, an_image, an_archive, ShowsAsked, ShowsEntries, more}
 use Rattle.mach_show.specs.declared.failure.Failure.{Failure}
 use Rattle.mach_show.specs.declared.failure.Failure.TheVariants as failures
 
@@ -68,27 +69,25 @@ module _ (name : List ℕ) (lines : ImageLines) where
       let shown : Shown = record { text = arch_line i ++ codes "archive\n"; said = []; whole = true; left = left } in
       subst (λ (x : Result FatEntry Fault). ShowsEntry name lines left i x shown) (sym is) (an_archive slice)
 
--- a list of items ends in the last one
-items_from-last : {A : Type 0} (item : ℕ → A) (first count : ℕ) → items_from item first (count + 1) ≡ items_from item first count ++ item (first + count) ∷ []
-items_from-last item first zero =
-    let same : first ≡ first + 0 = omega arith in
-    ap (λ (n : ℕ). item n ∷ []) same
-items_from-last item first (suc count) =
-    let later : suc count + 1 ≡ suc (count + 1) = omega arith in
-    let same : first + 1 + count ≡ first + suc count = omega arith in
-    ap (λ (n : ℕ). items_from item first n) later
-    ∙ ap (λ (rest : List _). item first ∷ rest) (items_from-last item (first + 1) count)
-    ∙ ap (λ (n : ℕ). item first ∷ (items_from item (first + 1) count ++ item n ∷ [])) same
+-- one more record's entry is shown
+pub one_more : (cpu : Cpu) (names : List ℕ) (lines : ImageLines) (limit : ℕ) (file : FatFile) (archs : List FatArch) (i left : ℕ) (d : FatArch)
+    (front last : Shown) → i < length archs → ShowsEntries cpu names lines limit file (take i archs) front → front.left ≡ left
+    → ShowsAsked cpu names lines left i (get_or archs i d) (entry_at file i) last
+    → ShowsEntries cpu names lines limit file (take (i + 1) archs) (both front last)
+one_more cpu names lines limit file archs i left d front last below before is one =
+    let arch = get_or archs i d in
+    let number : length (take i archs) ≡ i = length-take-le i archs (omega (arith, below)) in
+    let over = subst (λ (n : ℕ). ShowsAsked cpu names lines n i arch (entry_at file i) last) (sym is) one in
+    let at_end = subst (λ (n : ℕ). ShowsAsked cpu names lines front.left n arch (entry_at file n) last) (sym number) over in
+    subst (λ (some : List FatArch). ShowsEntries cpu names lines limit file some (both front last)) (sym (take_more archs i d below))
+    (more (take i archs) arch front last before at_end)
 
--- one more entry is shown
-pub one_more : (name : List ℕ) (lines : ImageLines) (limit : ℕ) (file : FatFile) (i left : ℕ) (front last : Shown)
-    → ShowsEntries name lines limit (first_entries file i) front → front.left ≡ left → ShowsEntry name lines left i (entry_at file i) last
-    → ShowsEntries name lines limit (first_entries file (i + 1)) (both front last)
-one_more name lines limit file i left front last before is one =
-    let entry = entry_at file i in
-    let number : i ≡ length (first_entries file i) = sym (length-items_from (entry_at file) 0 i) in
-    let at_last : 0 + i ≡ i = omega arith in
-    let ends = items_from-last (entry_at file) 0 i ∙ ap (λ (n : ℕ). first_entries file i ++ entry_at file n ∷ []) at_last in
-    let over = subst (λ (n : ℕ). ShowsEntry name lines n i entry last) (sym is) one in
-    subst (λ (entries : List (Result FatEntry Fault)). ShowsEntries name lines limit entries (both front last)) (sym ends)
-    (more (first_entries file i) entry front last before (subst (λ (n : ℕ). ShowsEntry name lines front.left n entry last) number over))
+-- an image is asked for, or not, by its header
+pub taken_of : {A : Type 0} (cpu : Cpu) (bytes : List ℕ) (m : MachO A) (taken : Bool) → IsImage bytes 0 m
+    → is_of_cpu cpu m.header.cputype m.header.cpusubtype ≡ taken → IsTaken cpu bytes taken
+taken_of cpu bytes m taken opened is = record {
+  ctx = opened.ctx;
+  cs = commands_held m;
+  opens = opened.opens.lossy;
+  holds = (m.header, opened.fields.header, is);
+}

@@ -2,11 +2,11 @@
 use Rattle.std.specs.Prelude.{ℕ, List}
 use Rattle.mach_image.specs.OpenImage.{IsImage}
 use Rattle.goblin_mach.specs.FatFile.{file_held}
-use Rattle.goblin_mach.specs.declared.mach.Mach.TheVariants.{Binary, Fat}
-use Rattle.goblin_mach.specs.declared.mach.Mach.{Mach}
 use Rattle.mach_show.specs.Shown.{IsFatTable}
+use Rattle.mach_show.specs.declared.show.Subject.{Subject}
+use Rattle.mach_show.specs.declared.show.Subject.TheVariants.{Image, Fat}
 
 -- it is what the bytes open as
-abbrev pub IsSubject : {A : Type 0} → List ℕ → Mach A → Type 0
-IsSubject bytes (Binary m) = IsImage bytes 0 m
-IsSubject bytes (Fat container) = IsFatTable bytes (file_held container)
+abbrev pub IsSubject : {A : Type 0} → List ℕ → Subject A → Type 0
+IsSubject bytes (Image m) = IsImage bytes 0 m
+IsSubject bytes (Fat container records) = IsFatTable bytes (file_held container) records.items

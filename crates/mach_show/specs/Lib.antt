@@ -1,4 +1,5 @@
 pub mod Complaints
+pub mod Cpus
 pub mod Failures
 pub mod Foreigners
 pub mod Headings

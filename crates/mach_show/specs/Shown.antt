@@ -1,16 +1,18 @@
 -- What a program shows of a file: the lines on its output, and on its error output why a file or an entry is refused.
-use Rattle.std.specs.Prelude.{◌≡◌, ℕ, ◌<◌, List, [], ◌∷◌, ◌++◌, codes, length, Bool, true, false, ◌&&◌, Option, Result, Ok, IsOk}
+use Rattle.std.specs.Prelude.{◌≡◌, ℕ, ◌<◌, List, [], ◌∷◌, ◌++◌, codes, length, take, Bool, true, false, ◌&&◌, Option, Result, Ok}
 use Rattle.std.specs.Fmt.{decimal}
 use Rattle.std.specs.Io.KnownBytes.{Appends}
 use Rattle.mach_base.specs.Answer.{Stands}
 use Rattle.mach_base.specs.Fault.{Fault}
-use Rattle.mach_base.specs.Items.{items_from}
 use Rattle.mach_base.specs.Words.{words_of}
 use Rattle.mach_base.specs.declared.error.Error.{Error}
+use Rattle.mach_headers.specs.declared.fat.FatArch.{FatArch}
 use Rattle.goblin_mach.specs.FatEntry.{FatEntry, archive, image, entry_at, FatEntryFault}
 use Rattle.goblin_mach.specs.FatFile.{FatFile, fat_file_in, arches_in}
 use Rattle.goblin_mach.specs.File.{HasFatMagic}
 use Rattle.goblin_mach.specs.View.{ViewFault, Tells}
+use Rattle.mach_show.specs.Cpus.{is_asked, misses, IsTaken, no_entry_words, other_words}
+use Rattle.mach_show.specs.declared.cpu.Cpu.{Cpu}
 use Rattle.mach_show.specs.Foreigners.{refused_words}
 use Rattle.mach_show.specs.Headings.{arch_line}
 
@@ -52,15 +54,11 @@ complaint names words = names ++ (codes ": " ++ (words ++ codes "\n"))
 abbrev pub entry_complaint : List ℕ → ℕ → List ℕ → List ℕ
 entry_complaint names i words = names ++ (codes ": arch " ++ (decimal i ++ (codes ": " ++ (words ++ codes "\n"))))
 
--- The bytes are a fat file whose table lies in them.
-pub record IsFatTable (bytes : List ℕ) (file : FatFile) : Type 0 where
+-- The bytes are a fat file whose table lies in them, and these are its records.
+pub record IsFatTable (bytes : List ℕ) (file : FatFile) (archs : List FatArch) : Type 0 where
   pub magic : HasFatMagic bytes
   pub is_file : fat_file_in bytes ≡ Ok file
-  pub table : IsOk (arches_in file)
-
--- the first n entries of a fat file
-abbrev pub first_entries : FatFile → ℕ → List (Result FatEntry Fault)
-first_entries file n = items_from (entry_at file) 0 n
+  pub table : arches_in file ≡ Ok archs
 
 -- What is shown of entry i, under its line: the lines of an image, that it is an archive, or a fault that stands in it. Of its lines no more
 -- than `left` may be told.
@@ -77,32 +75,44 @@ pub data ShowsEntry (names : List ℕ) (lines : ImageLines) (left i : ℕ) : Res
         left = left;
       })
 
--- What is shown of the first entries, in order: of each entry's lines no more may be told than those before it left of the limit.
-pub data ShowsEntries (names : List ℕ) (lines : ImageLines) (limit : ℕ) : List (Result FatEntry Fault) → Shown → Type 0 where
-  none : ShowsEntries names lines limit [] (nothing limit)
-  more : (entries : List (Result FatEntry Fault)) (entry : Result FatEntry Fault) (front last : Shown)
-      → ShowsEntries names lines limit entries front → ShowsEntry names lines front.left (length entries) entry last
-      → ShowsEntries names lines limit (entries ++ entry ∷ []) (both front last)
+-- What is shown of entry i by its record: that of the entry, where its cpu is asked for, else nothing.
+pub data ShowsAsked (cpu : Cpu) (names : List ℕ) (lines : ImageLines) (left i : ℕ) (arch : FatArch) (entry : Result FatEntry Fault) : Shown → Type 0 where
+  asked : (shown : Shown) → is_asked cpu arch ≡ true → ShowsEntry names lines left i entry shown → ShowsAsked cpu names lines left i arch entry shown
+  other_cpu : is_asked cpu arch ≡ false → ShowsAsked cpu names lines left i arch entry (nothing left)
 
--- What is shown of a fat file: all its entries, or those before one for which memory is refused.
-pub data ShowsFat (names : List ℕ) (lines : ImageLines) (limit : ℕ) (file : FatFile) : Shown → Type 0 where
-  all_entries : (shown : Shown) → ShowsEntries names lines limit (first_entries file file.narches) shown → ShowsFat names lines limit file shown
-  cut_short : (i : ℕ) (shown : Shown) → i < file.narches → ShowsEntries names lines limit (first_entries file i) shown
-      → ShowsFat names lines limit file (record {
+-- What is shown of the entries of the first records, in order: of each entry's lines no more may be told than those before it left of the limit.
+pub data ShowsEntries (cpu : Cpu) (names : List ℕ) (lines : ImageLines) (limit : ℕ) (file : FatFile) : List FatArch → Shown → Type 0 where
+  none : ShowsEntries cpu names lines limit file [] (nothing limit)
+  more : (archs : List FatArch) (arch : FatArch) (front last : Shown) → ShowsEntries cpu names lines limit file archs front
+      → ShowsAsked cpu names lines front.left (length archs) arch (entry_at file (length archs)) last
+      → ShowsEntries cpu names lines limit file (archs ++ arch ∷ []) (both front last)
+
+-- What is shown of a fat file of these records: all its entries that are asked for, or those before one for which memory is refused; or that none
+-- is there.
+pub data ShowsFat (cpu : Cpu) (names : List ℕ) (lines : ImageLines) (limit : ℕ) (file : FatFile) (archs : List FatArch) : Shown → Type 0 where
+  all_entries : (shown : Shown) → misses cpu archs ≡ false → ShowsEntries cpu names lines limit file archs shown
+      → ShowsFat cpu names lines limit file archs shown
+  cut_short : (i : ℕ) (shown : Shown) → misses cpu archs ≡ false → i < length archs → ShowsEntries cpu names lines limit file (take i archs) shown
+      → ShowsFat cpu names lines limit file archs (record {
         text = shown.text;
         said = shown.said ++ complaint names (codes "out of memory");
         whole = false;
         left = shown.left;
       })
+  no_entry : misses cpu archs ≡ true
+      → ShowsFat cpu names lines limit file archs (record { text = []; said = complaint names (no_entry_words cpu); whole = false; left = limit })
 
--- What is shown of a file: one image, a fat file, or why it is refused: a fault that stands in it, or want of memory. The limit is that of all
--- its images together.
-pub data ShowsFile (names : List ℕ) (lines : ImageLines) (limit : ℕ) (bytes : List ℕ) : Shown → Type 0 where
-  one_image : (text : List ℕ) (whole : Bool) (rest : ℕ) → lines limit bytes text whole rest
-      → ShowsFile names lines limit bytes (record { text = text; said = []; whole = whole; left = rest })
-  fat_file : (file : FatFile) (shown : Shown) → IsFatTable bytes file → ShowsFat names lines limit file shown → ShowsFile names lines limit bytes shown
+-- What is shown of a file: one image, if it is for a cpu that is asked for, a fat file, or why it is refused: a fault that stands in it, or want of
+-- memory. The limit is that of all its images together.
+pub data ShowsFile (cpu : Cpu) (names : List ℕ) (lines : ImageLines) (limit : ℕ) (bytes : List ℕ) : Shown → Type 0 where
+  one_image : (text : List ℕ) (whole : Bool) (rest : ℕ) → IsTaken cpu bytes true → lines limit bytes text whole rest
+      → ShowsFile cpu names lines limit bytes (record { text = text; said = []; whole = whole; left = rest })
+  other_image : IsTaken cpu bytes false
+      → ShowsFile cpu names lines limit bytes (record { text = []; said = complaint names (other_words cpu); whole = false; left = limit })
+  fat_file : (file : FatFile) (archs : List FatArch) (shown : Shown) → IsFatTable bytes file archs
+      → ShowsFat cpu names lines limit file archs shown → ShowsFile cpu names lines limit bytes shown
   refused_file : (e : Error) → Stands (ViewFault bytes) e
-      → ShowsFile names lines limit bytes (record { text = []; said = complaint names (refused_words bytes e); whole = false; left = limit })
+      → ShowsFile cpu names lines limit bytes (record { text = []; said = complaint names (refused_words bytes e); whole = false; left = limit })
 
 -- This was written on the two outputs.
 pub record Writes (shown : Shown) (out_old out_new err_old err_new : Option (List ℕ)) : Type 0 where

@@ -4,6 +4,7 @@
 
 mod call;
 mod complaint;
+mod cpu;
 mod failure;
 mod foreign;
 mod heading;
@@ -16,8 +17,9 @@ pub mod say;
 mod show;
 mod shows;
 
-pub use crate::call::Call;
+pub use crate::call::{Call, cputype_in};
 pub use crate::complaint::{Complaint, Trouble};
+pub use crate::cpu::{Arch, Cpu};
 pub use crate::failure::Failure;
 pub use crate::foreign::{Foreign, foreign_kind, refused_kind};
 pub use crate::heading::Heading;

@@ -14,6 +14,8 @@ pub enum Misuse<'a> {
     UnknownWord(&'a str),
     /// What is to be a number is none.
     NoNumber(&'a str),
+    /// What is to be a cpu is none that is known.
+    NoCpu(&'a str),
     /// A word is missing, which stands for this.
     Missing(&'static str),
     /// A word is no text.
@@ -31,6 +33,7 @@ impl Display for Misuse<'_> {
             Misuse::UnknownOption(word) => write!(f, "unknown option '{word}'"),
             Misuse::UnknownWord(word) => write!(f, "unknown word '{word}'"),
             Misuse::NoNumber(word) => write!(f, "'{word}' is no number"),
+            Misuse::NoCpu(word) => write!(f, "'{word}' is no cpu"),
             Misuse::NoText => write!(f, "a word is no text"),
             Misuse::Missing(what) => write!(f, "no {what} is given"),
         }

@@ -24,6 +24,8 @@ pub struct Program {
     pub version: &'static str,
     /// Whether it has `--limit`.
     pub has_limit: bool,
+    /// Whether it has `--arch` and `--cputype`.
+    pub has_cpu: bool,
     /// The words that it knows: its options, and what it is to do.
     pub known: &'static [&'static str],
 }
@@ -52,7 +54,7 @@ impl Program {
         ensures { IfErr result IsStatus }
     {
         let behind = words.get(1..).unwrap_or(&[]);
-        match understand(rt.alloc(), self.has_limit, behind) {
+        match understand(rt.alloc(), self.has_limit, self.has_cpu, behind) {
             Ok(Request::Help) => Err(self.say(rt, self.usage)),
             Ok(Request::Version) => Err(self.say(rt, self.version)),
             Ok(Request::Call(call)) => Ok(call),

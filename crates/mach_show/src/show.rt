@@ -12,51 +12,79 @@ ghost use Rattle.mach_show.specs.Failures.{IfMemory};
 ghost use Rattle.mach_show.specs.Foreigners.{refused_words};
 ghost use Rattle.mach_show.specs.Headings.{arch_line};
 ghost use Rattle.mach_show.specs.Held.{IsSubject};
-ghost use Rattle.mach_show.specs.Shown.{Shown, ShowsEntry, ShowsFat, ShowsFile, Writes, complaint, entry_complaint, nothing};
+ghost use Rattle.mach_show.specs.Cpus.{misses, no_entry_words, other_words};
+ghost use Rattle.mach_show.specs.Shown.{Shown, ShowsAsked, ShowsEntry, ShowsFat, ShowsFile, Writes, complaint, entry_complaint, nothing};
 
+use crate::cpu::Cpu;
 use crate::failure::Failure;
 use crate::foreign::refused_kind;
 use crate::heading::Heading;
 use crate::shows::{Outcome, Shows};
+use goblin_mach::fat::FatArch;
 use goblin_mach::{Error, Mach, MachO, MultiArch, Result, SingleArch, describe};
 use std::alloc::{AllocError, Allocator};
 use std::io;
 use std::io::Write;
 
-/// Shows a file, and answers whether nothing was refused and each image is whole.
+// What was opened of a file.
+#[derive(Drop)]
+enum Subject<'a, A: Allocator> {
+    // Its one image.
+    Image(MachO<'a, A>),
+    // A fat file, with its table.
+    Fat(MultiArch<'a, A>, Vec<FatArch, A>),
+}
+
+/// Shows the images of a file that are asked for, and answers whether nothing was refused and each of them is whole.
 pub fn show<S: Shows, A: Allocator + Clone, O: Write, E: Write>(
     shows: &S,
+    cpu: Cpu,
     limit: usize,
     alloc: &A,
     bytes: &[u8],
     out: &mut O,
     err: &mut E,
 ) -> io::Result<bool>
-    ensures { IfOk result (λ whole. (shown : Shown) × ShowsFile (S.names shows.now) (S.lines shows.now) limit bytes.now shown × (shown.whole ≡ whole)
+    ensures { IfOk result (λ whole. (shown : Shown) × ShowsFile cpu (S.names shows.now) (S.lines shows.now) limit bytes.now shown × (shown.whole ≡ whole)
         × Writes shown (O.contents out.old) (O.contents out.new) (E.contents err.old) (E.contents err.new)) }
 {
     match open(alloc, bytes) {
-        Ok(Mach::Binary(image)) => show_image(shows, limit, alloc, &image, out, err),
-        Ok(Mach::Fat(container)) => show_entries(shows, limit, alloc, &container, out, err),
+        Ok(Subject::Image(image)) => show_image(shows, cpu, limit, alloc, &image, out, err),
+        Ok(Subject::Fat(container, records)) => {
+            show_fat(
+                shows,
+                cpu,
+                limit,
+                alloc,
+                &container,
+                records.as_slice(),
+                out,
+                err,
+            )
+        }
         Err(error) => refuse_file(shows, bytes, &error, err),
     }
 }
 
 // Opens a file, a fat one with its table.
-fn open<'a, A: Allocator + Clone>(alloc: &A, bytes: &'a [u8]) -> Result<Mach<'a, A>>
+fn open<'a, A: Allocator + Clone>(alloc: &A, bytes: &'a [u8]) -> Result<Subject<'a, A>>
     ensures held { IfOk result (IsSubject bytes.now) }
     ensures refused { IfErr result (Stands (ViewFault bytes.now)) }
 {
     let file = Mach::parse(alloc.clone()?, bytes)?;
-    if let Mach::Fat(container) = &file {
-        container.arches()?;
+    match file {
+        Mach::Binary(image) => Ok(Subject::Image(image)),
+        Mach::Fat(container) => {
+            let records = container.arches()?;
+            Ok(Subject::Fat(container, records))
+        }
     }
-    Ok(file)
 }
 
-// Shows the one image of a file.
+// Shows the one image of a file, if it is asked for.
 fn show_image<S: Shows, A: Allocator + Clone, O: Write, E: Write>(
     shows: &S,
+    cpu: Cpu,
     limit: usize,
     alloc: &A,
     image: &MachO<'_, A>,
@@ -64,9 +92,12 @@ fn show_image<S: Shows, A: Allocator + Clone, O: Write, E: Write>(
     err: &mut E,
 ) -> io::Result<bool>
     ensures { (bytes : List ℕ) → IsImage bytes 0 image.now
-        → IfOk result (λ whole. (shown : Shown) × ShowsFile (S.names shows.now) (S.lines shows.now) limit bytes shown × (shown.whole ≡ whole)
+        → IfOk result (λ whole. (shown : Shown) × ShowsFile cpu (S.names shows.now) (S.lines shows.now) limit bytes shown × (shown.whole ≡ whole)
         × Writes shown (O.contents out.old) (O.contents out.new) (E.contents err.old) (E.contents err.new)) }
 {
+    if !cpu.takes(image.header.cputype, image.header.cpusubtype) {
+        return refuse_other(shows, cpu, err);
+    }
     match shows.show(alloc, image, Heading::None, limit, out) {
         Ok(outcome) => Ok(outcome.whole),
         Err(Failure::Memory) => refuse(shows, &Error::Memory(AllocError), err),
@@ -74,23 +105,46 @@ fn show_image<S: Shows, A: Allocator + Clone, O: Write, E: Write>(
     }
 }
 
-// Shows the entries of a fat file, up to one for which memory is refused, and answers whether all of them are whole.
-fn show_entries<S: Shows, A: Allocator + Clone, O: Write, E: Write>(
+// Shows the entries of a fat file that are asked for, if it has one.
+fn show_fat<S: Shows, A: Allocator + Clone, O: Write, E: Write>(
     shows: &S,
+    cpu: Cpu,
     limit: usize,
     alloc: &A,
     container: &MultiArch<'_, A>,
+    records: &[FatArch],
     out: &mut O,
     err: &mut E,
 ) -> io::Result<bool>
-    ensures { IfOk result (λ whole. (shown : Shown) × ShowsFat (S.names shows.now) (S.lines shows.now) limit (file_held container.now) shown
-        × (shown.whole ≡ whole)
+    ensures { IfOk result (λ whole. (shown : Shown)
+        × ShowsFat cpu (S.names shows.now) (S.lines shows.now) limit (file_held container.now) records.now shown × (shown.whole ≡ whole)
+        × Writes shown (O.contents out.old) (O.contents out.new) (E.contents err.old) (E.contents err.new)) }
+{
+    if cpu.misses(records) {
+        return refuse_all(shows, cpu, err);
+    }
+    show_entries(shows, cpu, limit, alloc, container, records, out, err)
+}
+
+// Shows the entries of a fat file that are asked for, up to one for which memory is refused, and answers whether all of them are whole.
+fn show_entries<S: Shows, A: Allocator + Clone, O: Write, E: Write>(
+    shows: &S,
+    cpu: Cpu,
+    limit: usize,
+    alloc: &A,
+    container: &MultiArch<'_, A>,
+    records: &[FatArch],
+    out: &mut O,
+    err: &mut E,
+) -> io::Result<bool>
+    ensures { misses cpu records.now ≡ false → IfOk result (λ whole. (shown : Shown)
+        × ShowsFat cpu (S.names shows.now) (S.lines shows.now) limit (file_held container.now) records.now shown × (shown.whole ≡ whole)
         × Writes shown (O.contents out.old) (O.contents out.new) (E.contents err.old) (E.contents err.new)) }
 {
     let mut whole = true;
     let mut left = limit;
-    'entries: for index in 0..container.narches {
-        match show_entry(shows, left, alloc, container, index, out, err) {
+    'entries: for (index, arch) in records.iter().enumerate() {
+        match show_asked(shows, cpu, left, alloc, container, index, arch, out, err) {
             Ok(outcome) => {
                 whole &= outcome.whole;
                 left = outcome.left;
@@ -100,6 +154,30 @@ fn show_entries<S: Shows, A: Allocator + Clone, O: Write, E: Write>(
         }
     }
     Ok(whole)
+}
+
+// Shows the entry of a record, if it is asked for, and answers whether it is whole, and how many lines are left.
+fn show_asked<S: Shows, A: Allocator + Clone, O: Write, E: Write>(
+    shows: &S,
+    cpu: Cpu,
+    left: usize,
+    alloc: &A,
+    container: &MultiArch<'_, A>,
+    index: usize,
+    arch: &FatArch,
+    out: &mut O,
+    err: &mut E,
+) -> std::result::Result<Outcome, Failure>
+    ensures shown { IfOk result (λ outcome. (shown : Shown)
+        × ShowsAsked cpu (S.names shows.now) (S.lines shows.now) left index arch.now (entry_at (file_held container.now) index) shown
+        × (shown.whole ≡ outcome.whole) × (shown.left ≡ outcome.left)
+        × Writes shown (O.contents out.old) (O.contents out.new) (E.contents err.old) (E.contents err.new)) }
+    ensures memory { IfErr result (IfMemory (Writes (nothing left) (O.contents out.old) (O.contents out.new) (E.contents err.old) (E.contents err.new))) }
+{
+    if !cpu.takes_entry(arch) {
+        return Ok(Outcome { whole: true, left });
+    }
+    show_entry(shows, left, alloc, container, index, out, err)
 }
 
 // Shows an entry under its line, and answers whether it is whole, and how many lines are left.
@@ -186,5 +264,25 @@ fn refuse<S: Shows, E: Write>(shows: &S, error: &Error, err: &mut E) -> io::Resu
 {
     let (names, words) = (shows.names(), describe(error));
     writeln!(err, "{names}: {words}")?;
+    Ok(false)
+}
+
+// Says that the one image of a file is not asked for; so it is not whole.
+fn refuse_other<S: Shows, E: Write>(shows: &S, cpu: Cpu, err: &mut E) -> io::Result<bool>
+    ensures { IfOk result (λ whole. (whole ≡ false)
+        × Appends (E.contents err.old) (E.contents err.new) (complaint (S.names shows.now) (other_words cpu))) }
+{
+    let names = shows.names();
+    writeln!(err, "{names}: no image of {cpu}")?;
+    Ok(false)
+}
+
+// Says that no entry of a fat file is asked for; so it is not whole.
+fn refuse_all<S: Shows, E: Write>(shows: &S, cpu: Cpu, err: &mut E) -> io::Result<bool>
+    ensures { IfOk result (λ whole. (whole ≡ false)
+        × Appends (E.contents err.old) (E.contents err.new) (complaint (S.names shows.now) (no_entry_words cpu))) }
+{
+    let names = shows.names();
+    writeln!(err, "{names}: no entry of {cpu}")?;
     Ok(false)
 }

@@ -21,6 +21,7 @@ const PROGRAM: Program = Program {
     usage: "usage: machbench [--limit N] FILE..\n       machbench -h | --help | --version\n",
     version: "machbench 0.2.0\n",
     has_limit: true,
+    has_cpu: false,
     known: &["--help", "--limit", "--version"],
 };
 

@@ -30,6 +30,7 @@ const PROGRAM: Program = Program {
 ",
     version: "machfat 0.2.0\n",
     has_limit: false,
+    has_cpu: false,
     known: &["list", "extract", "--help", "--version"],
 };
 

@@ -23,7 +23,7 @@ mod run;
 mod tests;
 mod text;
 
-use mach_show::{Misuse, Program, Round};
+use mach_show::{Cpu, Misuse, Program, Round};
 use print::DEFAULT_LIMIT;
 use run::{NAME, run};
 use std::io;
@@ -32,10 +32,11 @@ use std::process::ExitCode;
 
 const PROGRAM: Program = Program {
     name: NAME,
-    usage: "usage: machfixups [--limit N] FILE..\n       machfixups -h | --help | --version\n",
+    usage: "usage: machfixups [--limit N] [--arch NAME | --cputype 0xN] FILE..\n       machfixups -h | --help | --version\n",
     version: "machfixups 0.2.0\n",
     has_limit: true,
-    known: &["--help", "--limit", "--version"],
+    has_cpu: true,
+    known: &["--arch", "--cputype", "--help", "--limit", "--version"],
 };
 
 fn main(rt: HostRuntime) -> ExitCode {
@@ -48,11 +49,12 @@ fn main(rt: HostRuntime) -> ExitCode {
 fn start(rt: &HostRuntime) -> Result<u8, u8> {
     let words = PROGRAM.words(rt)?;
     let call = PROGRAM.call(rt, &words)?;
-    show_files(rt, call.limit.unwrap_or(DEFAULT_LIMIT), &call.words)
+    let limit = call.limit.unwrap_or(DEFAULT_LIMIT);
+    show_files(rt, call.cpu, limit, &call.words)
 }
 
-// Shows files in order, `limit` binds and fixups of each at most, and answers the worst status.
-fn show_files(rt: &HostRuntime, limit: usize, files: &[&str]) -> Result<u8, u8> {
+// Shows of files in order the images that are asked for, `limit` binds and fixups of each at most, and answers the worst status.
+fn show_files(rt: &HostRuntime, cpu: Cpu, limit: usize, files: &[&str]) -> Result<u8, u8> {
     if files.is_empty() {
         return Err(PROGRAM.bad_usage(rt, Misuse::Missing("FILE")));
     }
@@ -64,6 +66,7 @@ fn show_files(rt: &HostRuntime, limit: usize, files: &[&str]) -> Result<u8, u8> 
         if let Some(bytes) = round.begin(rt, file, &mut lines)? {
             round.end(run(
                 rt.alloc(),
+                cpu,
                 limit,
                 file,
                 &bytes,

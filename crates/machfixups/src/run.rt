@@ -10,7 +10,7 @@ ghost use Rattle.machfixups.specs.ImageLines.{AreImagePointerLines};
 use crate::parts::image_parts;
 use crate::print::print_fixups;
 use goblin_mach::MachO;
-use mach_show::{Failure, Heading, Names, Outcome, Shows};
+use mach_show::{Cpu, Failure, Heading, Names, Outcome, Shows};
 use std::alloc::Allocator;
 use std::io::{BufWriter, Write};
 
@@ -50,12 +50,13 @@ impl Shows for Fixups<'_> {
     }
 }
 
-/// Shows the binds and fixups of a file, of all its images together at most `limit` of them, and answers the exit status: 0 where
+/// Shows the binds and fixups of the images of a file that are asked for, of all these together at most `limit` of them, and answers the exit status: 0 where
 /// nothing was refused; 1 where the file or an entry of a fat one was, or memory, and then `err` has a line that says why,
 /// or where a bind or a fixup can't be read, and then its line says why, or where an image has more of them than are left of the
 /// limit, and then a line behind them says so; 2 or 141 where a write fails. But for that nothing is left in the buffer.
 pub fn run<A: Allocator + Clone, W: Write + Drop, B: Allocator, E: Write>(
     alloc: A,
+    cpu: Cpu,
     limit: usize,
     file: &str,
     bytes: &[u8],
@@ -64,9 +65,9 @@ pub fn run<A: Allocator + Clone, W: Write + Drop, B: Allocator, E: Write>(
 ) -> u8
     ensures status { IsStatus result }
     ensures shown { result ≤ 1 → (shown : Shown)
-        × ShowsFile (names_text (codes "machfixups") file.now) (AreImagePointerLines limit) limit bytes.now shown × (result ≡ status_by shown.whole)
+        × ShowsFile cpu (names_text (codes "machfixups") file.now) (AreImagePointerLines limit) limit bytes.now shown × (result ≡ status_by shown.whole)
         × Writes shown (writer_contents W.contents out.old) (writer_contents W.contents out.new) (E.contents err.old) (E.contents err.new) }
     ensures flushed { result ≤ 1 → writer_buffer out.new ≡ [] }
 {
-    mach_show::run::run(&Fixups { file, limit }, limit, &alloc, bytes, out, err)
+    mach_show::run::run(&Fixups { file, limit }, cpu, limit, &alloc, bytes, out, err)
 }

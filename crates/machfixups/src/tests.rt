@@ -10,6 +10,7 @@ use crate::tests::files::fat_file;
 use crate::tests::same::{same, same_at};
 use goblin_mach::chained_fixups::PointerAuth;
 use linked_list_allocator::LocalHeap;
+use mach_show::Cpu;
 use std::io::BufWriter;
 use std::test::Fail;
 
@@ -86,7 +87,15 @@ fn want_of_memory(rt: HostRuntime) -> Result<(), Fail> {
         let heap = LocalHeap::new(rt.alloc(), 64 * size)?;
         let mut out = BufWriter::new(rt.alloc(), Vec::new(rt.alloc()))?;
         let mut reasons = Vec::new(rt.alloc());
-        let answer = run(&heap, DEFAULT_LIMIT, "fat", &fat, &mut out, &mut reasons);
+        let answer = run(
+            &heap,
+            Cpu::Any,
+            DEFAULT_LIMIT,
+            "fat",
+            &fat,
+            &mut out,
+            &mut reasons,
+        );
         let out = out.get_ref();
         if answer == 0 {
             same(&rt, out.as_slice(), LINES.as_bytes());

@@ -20,6 +20,7 @@ const PROGRAM: Program = Program {
 ",
     version: "machresolve 0.2.0\n",
     has_limit: true,
+    has_cpu: false,
     known: &["--cputype", "--help", "--limit", "--version"],
 };
 

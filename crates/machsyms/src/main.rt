@@ -1,5 +1,5 @@
 //! Prints the symbols of a Mach-O file, a line each, as `nm -a -p` does: the value, a letter for what the
-//! symbol is, and its name; of a fat file those of each entry, under a line that says which.
+//! symbol is, and its name; of a fat file those of each entry, or of those for one cpu, under a line that says which.
 //!
 //! Where a line differs from those of `llvm-nm`:
 //! - each symbol has a line, and one whose record or name can't be read has a line that says why; there
@@ -21,7 +21,7 @@ mod stabs;
 mod tests;
 mod text;
 
-use mach_show::{Misuse, Program, Round};
+use mach_show::{Cpu, Misuse, Program, Round};
 use run::{NAME, run};
 use std::io;
 use std::io::BufWriter;
@@ -29,10 +29,11 @@ use std::process::ExitCode;
 
 const PROGRAM: Program = Program {
     name: NAME,
-    usage: "usage: machsyms FILE..\n       machsyms -h | --help | --version\n",
+    usage: "usage: machsyms [--arch NAME | --cputype 0xN] FILE..\n       machsyms -h | --help | --version\n",
     version: "machsyms 0.2.0\n",
     has_limit: false,
-    known: &["--help", "--version"],
+    has_cpu: true,
+    known: &["--arch", "--cputype", "--help", "--version"],
 };
 
 fn main(rt: HostRuntime) -> ExitCode {
@@ -45,11 +46,11 @@ fn main(rt: HostRuntime) -> ExitCode {
 fn start(rt: &HostRuntime) -> Result<u8, u8> {
     let words = PROGRAM.words(rt)?;
     let call = PROGRAM.call(rt, &words)?;
-    show_files(rt, &call.words)
+    show_files(rt, call.cpu, &call.words)
 }
 
-// Shows files in order, and answers the worst status.
-fn show_files(rt: &HostRuntime, files: &[&str]) -> Result<u8, u8> {
+// Shows of files in order the images that are asked for, and answers the worst status.
+fn show_files(rt: &HostRuntime, cpu: Cpu, files: &[&str]) -> Result<u8, u8> {
     if files.is_empty() {
         return Err(PROGRAM.bad_usage(rt, Misuse::Missing("FILE")));
     }
@@ -59,7 +60,7 @@ fn show_files(rt: &HostRuntime, files: &[&str]) -> Result<u8, u8> {
     let mut round = Round::new(PROGRAM, files.len());
     for file in files {
         if let Some(bytes) = round.begin(rt, file, &mut lines)? {
-            round.end(run(rt.alloc(), file, &bytes, &mut lines, &mut rt.stderr()))?;
+            round.end(run(rt.alloc(), cpu, file, &bytes, &mut lines, &mut rt.stderr()))?;
         }
     }
     Ok(round.worst)

@@ -10,7 +10,7 @@ ghost use Rattle.machsyms.specs.ImageLines.{AreImageSymbolLines};
 use crate::letters::section_letters;
 use crate::print::print_symbols;
 use goblin_mach::MachO;
-use mach_show::{Failure, Heading, Names, Outcome, Shows};
+use mach_show::{Cpu, Failure, Heading, Names, Outcome, Shows};
 use std::alloc::Allocator;
 use std::io::{BufWriter, Write};
 
@@ -50,22 +50,23 @@ impl Shows for SymbolsOf<'_> {
     }
 }
 
-/// Shows the symbols of a file, and answers the exit status: 0 where nothing was refused and no symbol is past the end;
+/// Shows the symbols of the images of a file that are asked for, and answers the exit status: 0 where nothing was refused and no symbol is past the end;
 /// 1 where the file or an entry of a fat one was refused, or memory, and then `err` has a line that says why, or where
 /// a table goes past the end of the bytes, and then `out` has a line that says how many symbols do; 2 or 141 where a write
 /// fails, and but for that nothing is left in the buffer. A symbol that can't be read is a line like others.
 pub fn run<A: Allocator + Clone, W: Write + Drop, B: Allocator, E: Write>(
     alloc: A,
+    cpu: Cpu,
     file: &str,
     bytes: &[u8],
     out: &mut BufWriter<W, B>,
     err: &mut E,
 ) -> u8
     ensures status { IsStatus result }
-    ensures shown { result ≤ 1 → (shown : Shown) × ShowsFile (names_text (codes "machsyms") file.now) (without_limit AreImageSymbolLines) 0 bytes.now shown
+    ensures shown { result ≤ 1 → (shown : Shown) × ShowsFile cpu (names_text (codes "machsyms") file.now) (without_limit AreImageSymbolLines) 0 bytes.now shown
         × (result ≡ status_by shown.whole)
         × Writes shown (writer_contents W.contents out.old) (writer_contents W.contents out.new) (E.contents err.old) (E.contents err.new) }
     ensures flushed { result ≤ 1 → writer_buffer out.new ≡ [] }
 {
-    mach_show::run::run(&SymbolsOf { file }, 0, &alloc, bytes, out, err)
+    mach_show::run::run(&SymbolsOf { file }, cpu, 0, &alloc, bytes, out, err)
 }

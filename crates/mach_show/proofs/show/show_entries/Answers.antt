@@ -1,9 +1,11 @@
-use Rattle.std.proofs.Common.{◌≡◌, ◌++◌, ◌∙◌, ℕ, false, refl, sym, ap, subst, arith}
+use Rattle.std.proofs.Common.{List, ◌++◌, ◌∙◌, false, refl, sym, ap, subst}
+use Rattle.std.proofs.lemmas.List.{take_all}
 use Rattle.std.proofs.lemmas.Result.{IfOk-weaker}
 use Rattle.std.specs.Prelude.{◌&&◌, codes}
 use Rattle.mach_base.proofs.Written.{Appends-none, Appends-both}
+use Rattle.mach_headers.specs.declared.fat.FatArch.{FatArch}
 use Rattle.goblin_mach.specs.FatFile.{file_held}
-use Rattle.mach_show.specs.Shown.{both, complaint, nothing, none, ShowsEntries, first_entries, all_entries, cut_short}
+use Rattle.mach_show.specs.Shown.{both, complaint, nothing, none, ShowsEntries, all_entries, cut_short}
 use Rattle.mach_show.proofs.Showing.{Appends-nothing, one_more}
 use Rattle.mach_show.proofs.show.show_entries.Goals as goal
 
@@ -16,8 +18,8 @@ entries-preserved g c =
     let before = c.entries.invariant in
     let last = c.in-Ok.ensures.shown in (
       both before.0 last.0,
-      one_more (g.S.Shows.names c.args.shows.now) (g.S.Shows.lines c.args.shows.now)
-          c.args.limit file c.entries.index c.entries.left before.0 last.0 before.1 before.3 last.1,
+      one_more c.args.cpu (g.S.Shows.names c.args.shows.now) (g.S.Shows.lines c.args.shows.now) c.args.limit file c.args.records.now c.entries.index
+          c.entries.left _ before.0 last.0 c.entries-test.true before.1 before.3 last.1,
       ap (λ first. first && last.0.whole) before.2 ∙ ap (λ second. c.entries.whole && second) last.2,
       last.3,
       record {
@@ -27,14 +29,14 @@ entries-preserved g c =
     )
 
 pub returns-in-Err-Memory : goal.returns-in-Err-Memory
-returns-in-Err-Memory g c =
+returns-in-Err-Memory g c = λ there.
     let before = c.entries.invariant in
     let reason = complaint (g.S.Shows.names c.args.shows.now) (codes "out of memory") in
-    let kept = rw (c.in-Err-Memory.is, c.in-Err-Memory.field-0-is) at c.show_entry.ensures.memory in
+    let kept = rw (c.in-Err-Memory.is, c.in-Err-Memory.field-0-is) at c.show_asked.ensures.memory in
     IfOk-weaker c.refuse.result _ _
     (λ whole told. (
       record { text = before.0.text; said = before.0.said ++ reason; whole = false; left = before.0.left },
-      cut_short c.entries.index before.0 c.entries-test.true before.1,
+      cut_short c.entries.index before.0 there c.entries-test.true before.1,
       sym told.0,
       record {
         text = Appends-nothing _ _ _ before.0.text before.4.text kept.text;
@@ -44,9 +46,12 @@ returns-in-Err-Memory g c =
     c.refuse.ensures
 
 pub returns : goal.returns
-returns g c =
-    let file = file_held c.args.container.now in
+returns g c = λ there.
+    let records = c.args.records.now in
     let before = c.entries.invariant in
-    let all : c.entries.index ≡ file.narches = omega (arith, c.entries-test.false, c.entries.auto.index-end) in
-    let shown = λ (n : ℕ). ShowsEntries (g.S.Shows.names c.args.shows.now) (g.S.Shows.lines c.args.shows.now) c.args.limit (first_entries file n) before.0 in
-    (before.0, all_entries before.0 (subst shown all before.1), before.2, before.4)
+    let all = take_all c.entries.index records c.entries-test.false in
+    let names = g.S.Shows.names c.args.shows.now in
+    let lines = g.S.Shows.lines c.args.shows.now in
+    let file = file_held c.args.container.now in
+    let shown = λ (some : List FatArch). ShowsEntries c.args.cpu names lines c.args.limit file some before.0 in
+    (before.0, all_entries before.0 there (subst shown all before.1), before.2, before.4)
