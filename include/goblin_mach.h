@@ -654,7 +654,7 @@ const char *gm_platform_name(uint32_t platform);                      /* "MACOS"
 #define GM_BIND_IMMEDIATE_MASK UINT8_C(0x0f) /* the half of a byte that is the immediate */
 #define GM_BIND_OPCODE_MASK    UINT8_C(0xf0) /* the half of a byte that is the opcode */
 /* the opcodes */
-#define GM_BIND_OPCODE_DONE                             UINT8_C(0x00) /* set the fresh values */
+#define GM_BIND_OPCODE_DONE                             UINT8_C(0x00) /* to `imports` the fresh values; to `bindings` the end of the non-lazy stream */
 #define GM_BIND_OPCODE_SET_DYLIB_ORDINAL_IMM            UINT8_C(0x10) /* the library is the immediate */
 #define GM_BIND_OPCODE_SET_DYLIB_ORDINAL_ULEB           UINT8_C(0x20) /* the library is a ULEB128 number */
 #define GM_BIND_OPCODE_SET_DYLIB_SPECIAL_IMM            UINT8_C(0x30) /* the library is a special one, which no import shows */

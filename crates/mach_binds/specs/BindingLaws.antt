@@ -15,7 +15,8 @@ use Rattle.mach_segments.specs.Bindings.{Provider, of_library, itself, main_exec
 use Rattle.mach_segments.specs.Bindings.{Binding}
 use Rattle.mach_binds.specs.Bindings.{SetBefore, binding_of, ordinal_in, last_ordinal, bindings_at, bindings_in, AreBindings}
 
--- the ordinal of a bind is the one that was set last after the last DONE before it, or 0
+-- the ordinal of a bind is the one that was set last before it, or 0: `IsLast` goes back to the last DONE, of which streams of bindings have none
+-- (`bindings_row` reads an opcode 0x00 as `nothing`)
 abbrev pub FindsLastOrdinal : Type 0
 FindsLastOrdinal = (bytes : List ℕ) (ps : List Placed) → IsLast (pos 0) (ordinal_in bytes) ps (last_ordinal bytes (reverse ps))
 

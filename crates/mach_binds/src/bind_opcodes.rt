@@ -36,7 +36,7 @@ pub const BIND_OPCODE_MASK: u8 = 0xf0;
 /// The half of a byte that is the immediate.
 pub const BIND_IMMEDIATE_MASK: u8 = 0x0f;
 
-/// Set the fresh values.
+/// To `imports` the fresh values; to `bindings` the end of the non-lazy stream.
 pub const BIND_OPCODE_DONE: u8 = 0x00;
 
 /// The library is the immediate.
