@@ -1,0 +1,4 @@
+pub mod Pairs
+pub mod Laid
+pub mod Files
+pub mod Firsts

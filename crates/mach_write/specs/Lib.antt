@@ -1,0 +1,6 @@
+pub mod Entries
+pub mod FatRecords
+pub mod FatForms
+pub mod FatWrites
+pub mod CreatedEntries
+pub mod CreatedOrder

@@ -1,0 +1,1 @@
+//! Laws of fat files that are written.
