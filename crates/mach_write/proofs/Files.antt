@@ -1,5 +1,5 @@
 -- What a file of entries is, by each of the tests.
-use Rattle.std.proofs.Common.{◌≡◌, ℕ, Bool, true, false, List, ◌++◌, length, Result, Ok, Err, IfOk, MatchResult, refl, sym, ap, ◌∙◌, append_assoc}
+use Rattle.std.proofs.Common.{◌≡◌, ℕ, true, false, List, ◌++◌, length, Result, Ok, Err, IfOk, MatchResult, refl, sym, ap, ◌∙◌, append_assoc}
 use Rattle.std.specs.List.{list_any}
 use Rattle.mach_write.specs.Entries.{FatEntryView, are_of_one_cpu, any_two}
 use Rattle.mach_write.specs.FatForms.{FatForm, table_end, fat_front, fat_records, fat_contents, fat_bytes}

@@ -1,5 +1,5 @@
 -- Entries one behind the other: what is said of those from one on, and of it and those behind it.
-use Rattle.std.proofs.Common.{◌≡◌, ◌&&◌, ◌||◌, ℕ, ◌+◌, ◌^◌, ◌<◌, ◌≤◌, Bool, true, false, List, [], ◌∷◌, ◌++◌, length, drop, replicate, get_or, refl, sym, ap, ◌∙◌, arith, append_assoc}
+use Rattle.std.proofs.Common.{◌≡◌, ◌&&◌, ◌||◌, ℕ, ◌+◌, ◌^◌, ◌<◌, ◌≤◌, Bool, true, false, List, [], ◌∷◌, ◌++◌, length, drop, replicate, get_or, refl, sym, ap, ◌∙◌, append_assoc}
 use Rattle.std.specs.List.{list_any}
 use Rattle.std.proofs.lemmas.Bool.{and_parts, or_parts, leb-true, ltb-true, ltb-false, and_left}
 use Rattle.std.proofs.lemmas.List.{at_drop_more, drop_all}
@@ -65,8 +65,8 @@ ends_more from es i d inside = at_drop_more (λ (xs : List FatEntry). fat_end fr
 
 pub records_more : (form : FatForm) (from : ℕ) (es : List FatEntry) (i : ℕ) (d : FatEntry) (out : List ℕ) → i < length es
     → let e = fat_entry_view (get_or es i d) in
-      out ++ fat_records form from (left_at es i)
-      ≡ (out ++ spelling Big form.fields (form.values e (place_behind from e))) ++ fat_records form (end_behind from e) (left_at es (i + 1))
+    out ++ fat_records form from (left_at es i)
+    ≡ (out ++ spelling Big form.fields (form.values e (place_behind from e))) ++ fat_records form (end_behind from e) (left_at es (i + 1))
 records_more form from es i d out inside =
     let e = fat_entry_view (get_or es i d) in
     ap (λ (xs : List ℕ). out ++ xs) (at_drop_more (λ (xs : List FatEntry). fat_records form from (entry_views xs)) es i d inside)
@@ -74,8 +74,8 @@ records_more form from es i d out inside =
 
 pub contents_more : (from : ℕ) (es : List FatEntry) (i : ℕ) (d : FatEntry) (out : List ℕ) → i < length es
     → let e = fat_entry_view (get_or es i d) in
-      out ++ fat_contents from (left_at es i)
-      ≡ ((out ++ replicate (gap_behind from e.align) 0) ++ e.bytes) ++ fat_contents (end_behind from e) (left_at es (i + 1))
+    out ++ fat_contents from (left_at es i)
+    ≡ ((out ++ replicate (gap_behind from e.align) 0) ++ e.bytes) ++ fat_contents (end_behind from e) (left_at es (i + 1))
 contents_more from es i d out inside =
     let e = fat_entry_view (get_or es i d) in
     let zeros = replicate (gap_behind from e.align) 0 in

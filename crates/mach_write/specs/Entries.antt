@@ -1,5 +1,5 @@
 -- The entries that a fat file is made of.
-use Rattle.std.specs.Prelude.{◌==◌, ◌&&◌, ◌||◌, ℕ, ◌+◌, ◌*◌, ◌^◌, Bool, false, List, [], ◌∷◌, map, Option, Some, None}
+use Rattle.std.specs.Prelude.{◌≡◌, ◌++◌, true, ◌==◌, ◌&&◌, ◌||◌, ℕ, ◌+◌, ◌*◌, ◌^◌, Bool, false, List, [], ◌∷◌, map, Option, Some, None}
 use Rattle.std.specs.List.{list_any}
 use Rattle.mach_headers.specs.Cpu.{kind_of_cpu}
 use Rattle.mach_write.specs.declared.entry.FatEntry.{FatEntry}
@@ -38,3 +38,13 @@ is_last (Some last) n = last == n
 abbrev pub any_again : Option ℕ → List ℕ → Bool
 any_again last [] = false
 any_again last (n ∷ ns) = is_last last n || any_again (Some n) ns
+
+-- two items of a list, the second behind the first, pass
+pub record HasTwo {A : Type 0} (test : A → A → Bool) (xs : List A) : Type 0 where
+  pub before : List A
+  pub first : A
+  pub between : List A
+  pub second : A
+  pub after : List A
+  pub is : xs ≡ before ++ first ∷ (between ++ second ∷ after)
+  pub passes : test first second ≡ true

@@ -1,5 +1,5 @@
 -- The record of an entry in a fat file of 64 bits (`mach-o/fat.h`, struct fat_arch_64).
-use Rattle.std.specs.Prelude.{ℕ, List, [], ◌∷◌}
+use Rattle.std.specs.Prelude.{List, [], ◌∷◌}
 use Rattle.mach_base.specs.Record.{Field, num, Value, number_is, number_among}
 use Rattle.mach_write.specs.declared.arch64.FatArch64.{FatArch64}
 

@@ -2,5 +2,6 @@ pub mod Entries
 pub mod FatRecords
 pub mod FatForms
 pub mod FatWrites
+pub mod FatReads
 pub mod CreatedEntries
 pub mod CreatedOrder

@@ -74,9 +74,7 @@ impl FatArch64 {
         ensures { result.now ≡ part_of bytes.now self.now.offset self.now.size }
     {
         match self.offset.checked_add(self.size) {
-            Some(end) => bytes
-                .get(self.offset as usize..end as usize)
-                .unwrap_or(&[]),
+            Some(end) => bytes.get(self.offset as usize..end as usize).unwrap_or(&[]),
             None => &[],
         }
     }

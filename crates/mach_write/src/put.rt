@@ -51,10 +51,7 @@ pub(crate) fn end_of<R: FatRecord>(from: usize, entries: &[FatEntry<'_>]) -> Opt
 }
 
 // Adds a record.
-fn put<R: Record, A: Allocator>(
-    out: &mut Vec<u8, A>,
-    held: R,
-) -> Result<(), AllocError>
+fn put<R: Record, A: Allocator>(out: &mut Vec<u8, A>, held: R) -> Result<(), AllocError>
     requires { R.SIZE ≤ 32 }
     ensures { OnOk result (out.new.items ≡ out.old.items ++ spelling Big R.fields (R.values held)) }
 {

@@ -50,19 +50,13 @@ fn write_by<R: FatRecord, A: Allocator>(alloc: A, entries: &[FatEntry<'_>]) -> R
         (λ e. RefusesFat e (fat_file_of R.form (entry_views entries.now))) }
 {
     if any_far_aligned(entries) {
-        return Err(Error::Malformed(
-            "an entry of a fat file is aligned to 2^15 at most",
-        ));
+        return Err(Error::Malformed("an entry of a fat file is aligned to 2^15 at most"));
     }
     if any_two_of_one_cpu(&alloc, entries)? {
-        return Err(Error::Malformed(
-            "two entries of a fat file are for two cpus",
-        ));
+        return Err(Error::Malformed("two entries of a fat file are for two cpus"));
     }
     let Some((from, end)) = ends_of::<R>(entries) else {
-        return Err(Error::Malformed(
-            "a record holds its entry's place and length",
-        ));
+        return Err(Error::Malformed("a record holds its entry's place and length"));
     };
     write_all::<R, A>(alloc, from, end, entries)
 }

@@ -1,8 +1,6 @@
-use Rattle.std.proofs.Common.{◌≡◌, ℕ, false, List, refl, sym, ◌∙◌}
-use Rattle.std.specs.List.{list_any}
+use Rattle.std.proofs.Common.{refl, sym, ◌∙◌}
 use Rattle.mach_write.specs.Entries.{entry_views}
 use Rattle.mach_write.specs.FatWrites.{far_aligned, one_cpu_twice, too_far, is_far_aligned}
-use Rattle.mach_write.specs.declared.entry.FatEntry.{FatEntry}
 use Rattle.mach_write.proofs.Laid.{any_of_views}
 use Rattle.mach_write.proofs.Files.{file_far, file_twice, file_too_far, file_answered}
 use Rattle.mach_write.proofs.write.write_by.Goals as goal
@@ -11,7 +9,7 @@ pub returns-then-any_far_aligned : goal.returns-then-any_far_aligned
 returns-then-any_far_aligned g c = (
   far_aligned,
   file_far g.R.FatRecord.form (entry_views c.args.entries.now)
-  (sym (any_of_views is_far_aligned c.args.entries.now) ∙ (sym c.any_far_aligned.ensures ∙ c.if-any_far_aligned.true)),
+      (sym (any_of_views is_far_aligned c.args.entries.now) ∙ (sym c.any_far_aligned.ensures ∙ c.if-any_far_aligned.true)),
   refl,
 )
 
@@ -26,8 +24,8 @@ pub returns-then-branch : goal.returns-then-branch
 returns-then-branch g c = (
   one_cpu_twice,
   file_twice g.R.FatRecord.form (entry_views c.args.entries.now)
-  (sym (any_of_views is_far_aligned c.args.entries.now) ∙ (sym c.any_far_aligned.ensures ∙ c.if-any_far_aligned.false))
-  (sym c.in_ok-any_two_of_one_cpu.ensures ∙ c.if-branch.true),
+      (sym (any_of_views is_far_aligned c.args.entries.now) ∙ (sym c.any_far_aligned.ensures ∙ c.if-any_far_aligned.false))
+      (sym c.in_ok-any_two_of_one_cpu.ensures ∙ c.if-branch.true),
   refl,
 )
 
@@ -35,8 +33,8 @@ pub returns-in_default : goal.returns-in_default
 returns-in_default g c = (
   too_far,
   file_too_far g.R.FatRecord.form (entry_views c.args.entries.now)
-  (sym (any_of_views is_far_aligned c.args.entries.now) ∙ (sym c.any_far_aligned.ensures ∙ c.if-any_far_aligned.false))
-  (sym c.in_ok-any_two_of_one_cpu.ensures ∙ c.if-branch.false) c.in_default.ensures,
+      (sym (any_of_views is_far_aligned c.args.entries.now) ∙ (sym c.any_far_aligned.ensures ∙ c.if-any_far_aligned.false))
+      (sym c.in_ok-any_two_of_one_cpu.ensures ∙ c.if-branch.false) c.in_default.ensures,
   refl,
 )
 
