@@ -21,13 +21,13 @@ fn images(rt: HostRuntime) -> Result<(), Fail> {
     test_created(&rt, alloc, &X86_64, "0x1000007, 0x3, 2^12, 32 bytes")?;
     test_created(&rt, alloc, &ARM64, "0x100000c, 0x0, 2^14, 32 bytes")?;
     test_created(&rt, alloc, &POWERPC, "0x12, 0x0, 2^12, 28 bytes")?;
+    test_created(&rt, alloc, b"hello", "bad magic 0x68656c6c")?;
     test_created(
         &rt,
         alloc,
-        b"hello",
-        "bad magic 0x68656c6c",
+        &X86_64[..24],
+        "28 bytes are wanted and 24 are left",
     )?;
-    test_created(&rt, alloc, &X86_64[..24], "28 bytes are wanted and 24 are left")?;
     test_created(&rt, alloc, &X86_64[..28], "0x1000007, 0x3, 2^12, 28 bytes")?;
     test_created(&rt, alloc, &[], "offset 0 is past the end")?;
     test_created(&rt, alloc, b"abc", "4 bytes are wanted and 3 are left")?;
@@ -48,11 +48,26 @@ fn archives(rt: HostRuntime) -> Result<(), Fail> {
     let later = archive(alloc, &[&X86_64, &X86_64, &ARM64])?;
     test_created(&rt, alloc, later.as_slice(), apart)?;
     let text = archive(alloc, &[b"xy"])?;
-    test_created(&rt, alloc, text.as_slice(), "malformed: a member is an image")?;
+    test_created(
+        &rt,
+        alloc,
+        text.as_slice(),
+        "malformed: a member is an image",
+    )?;
     let none = archive(alloc, &[])?;
-    test_created(&rt, alloc, none.as_slice(), "malformed: an archive has a member")?;
+    test_created(
+        &rt,
+        alloc,
+        none.as_slice(),
+        "malformed: an archive has a member",
+    )?;
     let cut = archive(alloc, &[&X86_64, &X86_64[..24]])?;
-    test_created(&rt, alloc, cut.as_slice(), "28 bytes are wanted and 24 are left")?;
+    test_created(
+        &rt,
+        alloc,
+        cut.as_slice(),
+        "28 bytes are wanted and 24 are left",
+    )?;
     test_created(
         &rt,
         alloc,

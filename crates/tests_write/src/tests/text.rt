@@ -13,7 +13,10 @@ fn write_record(
     align: u32,
     slice: &[u8],
 ) -> Result<(), AllocError> {
-    write!(text, "0x{cputype:x}, 0x{cpusubtype:x} at {offset}, {size} bytes, 2^{align}, ")?;
+    write!(
+        text,
+        "0x{cputype:x}, 0x{cpusubtype:x} at {offset}, {size} bytes, 2^{align}, "
+    )?;
     write!(text, "slice of {}; ", slice.len())
 }
 
@@ -93,8 +96,7 @@ pub fn written64_text(alloc: Global, entries: &[FatEntry<'_>]) -> Result<String,
 /// The entry that a file becomes.
 pub fn created_text(alloc: Global, file: &[u8]) -> Result<String, AllocError> {
     match FatEntry::of(file) {
-        Ok(entry) => format!(
-            in alloc;
+        Ok(entry) => format!(in alloc;
             "0x{:x}, 0x{:x}, 2^{}, {} bytes",
             entry.cputype,
             entry.cpusubtype,

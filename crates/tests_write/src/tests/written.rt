@@ -34,7 +34,10 @@ fn test_written(
 fn none_and_one(rt: HostRuntime) -> Result<(), Fail> {
     let alloc = rt.alloc();
     let file = write_fat(alloc, &[])?;
-    assert_eq!(rt; file.as_slice(), [0xca, 0xfe, 0xba, 0xbe, 0, 0, 0, 0].as_slice());
+    assert_eq!(rt;
+        file.as_slice(),
+        [0xca, 0xfe, 0xba, 0xbe, 0, 0, 0, 0].as_slice()
+    );
     test_written(
         &rt,
         alloc,
@@ -55,19 +58,28 @@ fn two(rt: HostRuntime) -> Result<(), Fail> {
     test_written(
         &rt,
         alloc,
-        &[entry(0x100_0007, 3, 0, &X86_64), entry(0x100_000c, 0, 0, &ARM64)],
+        &[
+            entry(0x100_0007, 3, 0, &X86_64),
+            entry(0x100_000c, 0, 0, &ARM64),
+        ],
         "112 bytes: cafebabe, 0x1000007, 0x3 at 48, 32 bytes, 2^0, slice of 32; 0x100000c, 0x0 at 80, 32 bytes, 2^0, slice of 32; ",
     )?;
     test_written(
         &rt,
         alloc,
-        &[entry(0x100_000c, 0, 14, &ARM64), entry(0x100_0007, 3, 12, &X86_64)],
+        &[
+            entry(0x100_000c, 0, 14, &ARM64),
+            entry(0x100_0007, 3, 12, &X86_64),
+        ],
         "20512 bytes: cafebabe, 0x100000c, 0x0 at 16384, 32 bytes, 2^14, slice of 32; 0x1000007, 0x3 at 20480, 32 bytes, 2^12, slice of 32; ",
     )?;
     test_written(
         &rt,
         alloc,
-        &[entry(0x100_0007, 3, 0, &X86_64), entry(0x100_0007, 8, 0, &X86_64)],
+        &[
+            entry(0x100_0007, 3, 0, &X86_64),
+            entry(0x100_0007, 8, 0, &X86_64),
+        ],
         "112 bytes: cafebabe, 0x1000007, 0x3 at 48, 32 bytes, 2^0, slice of 32; 0x1000007, 0x8 at 80, 32 bytes, 2^0, slice of 32; ",
     )
 }
@@ -76,9 +88,18 @@ fn two(rt: HostRuntime) -> Result<(), Fail> {
 fn of_64_bits(rt: HostRuntime) -> Result<(), Fail> {
     let alloc = rt.alloc();
     for (align, want) in [
-        (5, "96 bytes: cafebabf, 0x1000007, 0x3 at 64, 32 bytes, 2^5, slice of 32; "),
-        (12, "4128 bytes: cafebabf, 0x1000007, 0x3 at 4096, 32 bytes, 2^12, slice of 32; "),
-        (0, "72 bytes: cafebabf, 0x1000007, 0x3 at 40, 32 bytes, 2^0, slice of 32; "),
+        (
+            5,
+            "96 bytes: cafebabf, 0x1000007, 0x3 at 64, 32 bytes, 2^5, slice of 32; ",
+        ),
+        (
+            12,
+            "4128 bytes: cafebabf, 0x1000007, 0x3 at 4096, 32 bytes, 2^12, slice of 32; ",
+        ),
+        (
+            0,
+            "72 bytes: cafebabf, 0x1000007, 0x3 at 40, 32 bytes, 2^0, slice of 32; ",
+        ),
     ] {
         let text = written64_text(alloc, &[entry(0x100_0007, 3, align, &X86_64)])?;
         assert_eq!(rt; text.as_str(), want);
@@ -108,11 +129,20 @@ fn refused(rt: HostRuntime) -> Result<(), Fail> {
 #[test]
 fn bytes_and_zeros(rt: HostRuntime) -> Result<(), Fail> {
     let alloc = rt.alloc();
-    let file = write_fat(alloc, &[entry(7, 3, 0, &[1, 2, 3]), entry(8, 4, 3, &[4, 5])])?;
+    let file = write_fat(
+        alloc,
+        &[entry(7, 3, 0, &[1, 2, 3]), entry(8, 4, 3, &[4, 5])],
+    )?;
     let bytes = file.as_slice();
     same(&rt, bytes.len(), 58);
-    assert_eq!(rt; &bytes[8..28], [0, 0, 0, 7, 0, 0, 0, 3, 0, 0, 0, 48, 0, 0, 0, 3, 0, 0, 0, 0].as_slice());
-    assert_eq!(rt; &bytes[28..48], [0, 0, 0, 8, 0, 0, 0, 4, 0, 0, 0, 56, 0, 0, 0, 2, 0, 0, 0, 3].as_slice());
+    assert_eq!(rt;
+        &bytes[8..28],
+        [0, 0, 0, 7, 0, 0, 0, 3, 0, 0, 0, 48, 0, 0, 0, 3, 0, 0, 0, 0].as_slice()
+    );
+    assert_eq!(rt;
+        &bytes[28..48],
+        [0, 0, 0, 8, 0, 0, 0, 4, 0, 0, 0, 56, 0, 0, 0, 2, 0, 0, 0, 3].as_slice()
+    );
     assert_eq!(rt; &bytes[48..], [1, 2, 3, 0, 0, 0, 0, 0, 4, 5].as_slice());
     Ok(())
 }
