@@ -8,7 +8,7 @@ use Rattle.mach_base.specs.Record.{spelling}
 use Rattle.mach_base.specs.declared.context.Endian.TheVariants.{Big}
 use Rattle.mach_write.specs.declared.entry.FatEntry.{FatEntry}
 use Rattle.mach_write.specs.Entries.{FatEntryView, fat_entry_view, entry_views}
-use Rattle.mach_write.specs.FatForms.{FatForm, gap_behind, place_behind, end_behind, fat_end, fat_records, fat_contents}
+use Rattle.mach_write.specs.FatForms.{FatForm, gap_behind, fat_place_behind, end_behind, fat_end, fat_records, fat_contents}
 use Rattle.mach_write.specs.FatWrites.{is_far_aligned, can_lie, all_can_lie}
 
 -- those from index i on
@@ -20,7 +20,7 @@ none_left F es i past = ap (λ (xs : List FatEntry). F (entry_views xs)) (drop_a
 
 -- one that lies where it can
 pub record Lies (form : FatForm) (from : ℕ) (e : FatEntryView) : Type 0 where
-  pub place : place_behind from e ≤ form.most
+  pub place : fat_place_behind from e ≤ form.most
   pub len : length e.bytes ≤ form.most
   pub end : end_behind from e < 2 ^ 64
 
@@ -67,11 +67,11 @@ ends_more from es i d inside = at_drop_more (λ (xs : List FatEntry). fat_end fr
 pub records_more : (form : FatForm) (from : ℕ) (es : List FatEntry) (i : ℕ) (d : FatEntry) (out : List ℕ) → i < length es
     → let e = fat_entry_view (get_or es i d) in
     out ++ fat_records form from (left_at es i)
-    ≡ (out ++ spelling Big form.fields (form.values e (place_behind from e))) ++ fat_records form (end_behind from e) (left_at es (i + 1))
+    ≡ (out ++ spelling Big form.fields (form.values e (fat_place_behind from e))) ++ fat_records form (end_behind from e) (left_at es (i + 1))
 records_more form from es i d out inside =
     let e = fat_entry_view (get_or es i d) in
     ap (λ (xs : List ℕ). out ++ xs) (at_drop_more (λ (xs : List FatEntry). fat_records form from (entry_views xs)) es i d inside)
-    ∙ sym (append_assoc out (spelling Big form.fields (form.values e (place_behind from e))) (fat_records form (end_behind from e) (left_at es (i + 1))))
+    ∙ sym (append_assoc out (spelling Big form.fields (form.values e (fat_place_behind from e))) (fat_records form (end_behind from e) (left_at es (i + 1))))
 
 pub contents_more : (from : ℕ) (es : List FatEntry) (i : ℕ) (d : FatEntry) (out : List ℕ) → i < length es
     → let e = fat_entry_view (get_or es i d) in

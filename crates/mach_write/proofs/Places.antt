@@ -5,7 +5,7 @@ use Rattle.std.proofs.lemmas.List.{length-append, length-replicate}
 use Rattle.std.proofs.lemmas.Nat.{pow_pos, div-add-mod'}
 use Rattle.std.proofs.Math.Nat.{mod-lt, mod_self, mod-eq_of_lt, add-mod_right, mul-mod_left}
 use Rattle.mach_write.specs.Entries.{FatEntryView}
-use Rattle.mach_write.specs.FatForms.{gap_behind, place_behind, end_behind, fat_end, fat_contents}
+use Rattle.mach_write.specs.FatForms.{gap_behind, fat_place_behind, end_behind, fat_end, fat_contents}
 
 gap_fills : (from unit : ℕ) → 0 < unit → (from + (unit - from % unit) % unit) % unit ≡ 0
 gap_fills from unit some = elim (cases_eq (from % unit) 0) [
@@ -43,11 +43,11 @@ fat_end-append from [] fs = refl
 fat_end-append from (e ∷ es) fs = fat_end-append (end_behind from e) es fs
 
 -- an entry stands behind all before it
-pub stands_behind : (from : ℕ) (before : List FatEntryView) (e : FatEntryView) → from ≤ place_behind (fat_end from before) e
+pub stands_behind : (from : ℕ) (before : List FatEntryView) (e : FatEntryView) → from ≤ fat_place_behind (fat_end from before) e
 stands_behind from before e = let ends = ends_behind from before in omega (arith, ends)
 
 pub stand_apart : (from : ℕ) (before between : List FatEntryView) (e f : FatEntryView)
-    → end_behind (fat_end from before) e ≤ place_behind (fat_end from (before ++ e ∷ between)) f
+    → end_behind (fat_end from before) e ≤ fat_place_behind (fat_end from (before ++ e ∷ between)) f
 stand_apart from before between e f =
     let whole : fat_end from (before ++ e ∷ between) ≡ fat_end (end_behind (fat_end from before) e) between = fat_end-append from before (e ∷ between) in
     let behind = ends_behind (end_behind (fat_end from before) e) between in

@@ -12,7 +12,7 @@ use Rattle.mach_base.specs.declared.context.Endian.TheVariants.{Big}
 use Rattle.mach_base.proofs.Spelled.{length-spelling, record_at-spelling, values-back}
 use Rattle.mach_headers.specs.Fat.{part_of, fat_header_fields}
 use Rattle.mach_write.specs.Entries.{FatEntryView, are_of_one_cpu, any_two}
-use Rattle.mach_write.specs.FatForms.{FatForm, gap_behind, place_behind, end_behind, table_end, fat_front, fat_records, fat_contents, fat_bytes, fat_end}
+use Rattle.mach_write.specs.FatForms.{FatForm, gap_behind, fat_place_behind, end_behind, table_end, fat_front, fat_records, fat_contents, fat_bytes, fat_end}
 use Rattle.mach_write.specs.FatReads.{HaveNumbers, record_said, records_said, records_of, entry_of_record, entries_of_records}
 use Rattle.mach_write.specs.FatWrites.{far_aligned, one_cpu_twice, too_far, is_far_aligned, can_lie, all_can_lie, can_be_said, fat_file_of}
 use Rattle.mach_write.proofs.Forms.{HoldsEntries}
@@ -21,7 +21,7 @@ use Rattle.mach_write.proofs.Places.{length-contents}
 -- each record holds what it says
 abbrev AllSay : FatForm → ℕ → List FatEntryView → Type 0
 AllSay form from [] = Unit {0}
-AllSay form from (e ∷ es) = AllFit form.fields (form.values e (place_behind from e)) × AllSay form (end_behind from e) es
+AllSay form from (e ∷ es) = AllFit form.fields (form.values e (fat_place_behind from e)) × AllSay form (end_behind from e) es
 
 abbrev made_of : ℕ → ℕ → ℕ → List ℕ → FatEntryView
 made_of a b c ds = record { cputype = a; cpusubtype = b; align = c; bytes = ds }
@@ -48,14 +48,14 @@ module _ (form : FatForm) (holds : HoldsEntries form) where
       let both = and_parts (can_lie form from e) (all_can_lie form (end_behind from e) es) lie in
       let parts = and_parts _ _ both.0 in
       let most = and_parts _ _ parts.0 in (
-        holds.fits e (place_behind from e) numbers.0 numbers.1 (ltb-false 15 e.align aligned.0) (leb-true _ _ most.0) (leb-true _ _ most.1),
+        holds.fits e (fat_place_behind from e) numbers.0 numbers.1 (ltb-false 15 e.align aligned.0) (leb-true _ _ most.0) (leb-true _ _ most.1),
         all_say (end_behind from e) es numbers.2 aligned.1 both.1,
       )
 
   length-records : (from : ℕ) (es : List FatEntryView) → AllSay form from es → length (fat_records form from es) ≡ size form.fields * length es
   length-records from [] say = omega arith
   length-records from (e ∷ es) say =
-      let vs = form.values e (place_behind from e) in
+      let vs = form.values e (fat_place_behind from e) in
       let later = length-records (end_behind from e) es say.1 in
       let more : size form.fields * suc (length es) ≡ size form.fields * length es + size form.fields = mul-suc (size form.fields) (length es) in
       omega (
@@ -72,7 +72,7 @@ module _ (form : FatForm) (holds : HoldsEntries form) where
       → all_read (items_from (record_said form whole) k (length es)) ≡ Ok (records_of form from es)
   records_back whole k from front rest [] is len say = refl
   records_back whole k from front rest (e ∷ es) is len say =
-      let vs = form.values e (place_behind from e) in
+      let vs = form.values e (fat_place_behind from e) in
       let spelled = spelling Big form.fields vs in
       let later = fat_records form (end_behind from e) es in
       let at : whole ≡ front ++ (spelled ++ (later ++ rest)) = is ∙ ap (λ (xs : List ℕ). front ++ xs) (append_assoc spelled later rest) in
@@ -94,7 +94,7 @@ module _ (form : FatForm) (holds : HoldsEntries form) where
       → length before ≡ from → entries_of_records whole (records_of form from es) ≡ es
   entries_back whole from before [] is len = refl
   entries_back whole from before (e ∷ es) is len =
-      let place = place_behind from e in
+      let place = fat_place_behind from e in
       let vs = form.values e place in
       let zeros : List ℕ = replicate (gap_behind from e.align) 0 in
       let later = fat_contents (end_behind from e) es in

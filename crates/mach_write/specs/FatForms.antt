@@ -39,16 +39,16 @@ abbrev pub gap_behind : ℕ → ℕ → ℕ
 gap_behind from align = (2 ^ align - from % 2 ^ align) % 2 ^ align
 
 -- the place of an entry behind those that end at `from`, and where it ends
-abbrev pub place_behind : ℕ → FatEntryView → ℕ
-place_behind from e = from + gap_behind from e.align
+abbrev pub fat_place_behind : ℕ → FatEntryView → ℕ
+fat_place_behind from e = from + gap_behind from e.align
 
 abbrev pub end_behind : ℕ → FatEntryView → ℕ
-end_behind from e = place_behind from e + length e.bytes
+end_behind from e = fat_place_behind from e + length e.bytes
 
 -- the places of entries, the first of which stands behind those that end at `from`, and where the last one ends
 abbrev pub fat_places : ℕ → List FatEntryView → List ℕ
 fat_places from [] = []
-fat_places from (e ∷ es) = place_behind from e ∷ fat_places (end_behind from e) es
+fat_places from (e ∷ es) = fat_place_behind from e ∷ fat_places (end_behind from e) es
 
 abbrev pub fat_end : ℕ → List FatEntryView → ℕ
 fat_end from [] = from
@@ -58,7 +58,7 @@ fat_end from (e ∷ es) = fat_end (end_behind from e) es
 abbrev pub fat_records : FatForm → ℕ → List FatEntryView → List ℕ
 fat_records form from [] = []
 fat_records form from (e ∷ es) =
-    spelling Big form.fields (form.values e (place_behind from e)) ++ fat_records form (end_behind from e) es
+    spelling Big form.fields (form.values e (fat_place_behind from e)) ++ fat_records form (end_behind from e) es
 
 -- the entries' bytes, each behind its zeros
 abbrev pub fat_contents : ℕ → List FatEntryView → List ℕ

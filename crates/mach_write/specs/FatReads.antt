@@ -7,7 +7,7 @@ use Rattle.mach_base.specs.Record.{Value, number_among, record_at, size}
 use Rattle.mach_base.specs.declared.context.Endian.TheVariants.{Big}
 use Rattle.mach_headers.specs.Fat.{part_of}
 use Rattle.mach_write.specs.Entries.{FatEntryView}
-use Rattle.mach_write.specs.FatForms.{FatForm, place_behind, end_behind}
+use Rattle.mach_write.specs.FatForms.{FatForm, fat_place_behind, end_behind}
 
 -- cputypes and cpusubtypes are numbers of 32 bits
 abbrev pub HaveNumbers : List FatEntryView → Type 0
@@ -25,7 +25,7 @@ records_said form file = all_read (items_from (record_said form file) 0 (number 
 -- the values of the records of entries, the first of which stands behind those that end at `from`
 abbrev pub records_of : FatForm → ℕ → List FatEntryView → List (List Value)
 records_of form from [] = []
-records_of form from (e ∷ es) = form.values e (place_behind from e) ∷ records_of form (end_behind from e) es
+records_of form from (e ∷ es) = form.values e (fat_place_behind from e) ∷ records_of form (end_behind from e) es
 
 -- the entry that a record says, with the bytes that lie at its place
 abbrev pub entry_of_record : List ℕ → List Value → FatEntryView

@@ -4,7 +4,7 @@ use Rattle.std.specs.List.{list_any}
 use Rattle.mach_base.specs.declared.error.Error.{Error}
 use Rattle.mach_base.specs.declared.error.Error.TheVariants as errors
 use Rattle.mach_write.specs.Entries.{FatEntryView, are_of_one_cpu, any_two}
-use Rattle.mach_write.specs.FatForms.{FatForm, table_end, place_behind, end_behind, fat_bytes}
+use Rattle.mach_write.specs.FatForms.{FatForm, table_end, fat_place_behind, end_behind, fat_bytes}
 
 -- why entries are refused: the power of two of an alignment is above 15; two entries are for one cpu; or a place, a length or the
 -- count is more than the file can say
@@ -24,7 +24,7 @@ is_far_aligned e = nat_lt 15 e.align
 -- whether a record holds the place and the length of an entry behind those that end at `from`, and its end is a number of 64 bits
 abbrev pub can_lie : FatForm → ℕ → FatEntryView → Bool
 can_lie form from e =
-    (nat_le (place_behind from e) form.most && nat_le (length e.bytes) form.most) && nat_lt (end_behind from e) (2 ^ 64)
+    (nat_le (fat_place_behind from e) form.most && nat_le (length e.bytes) form.most) && nat_lt (end_behind from e) (2 ^ 64)
 
 -- the same of entries one behind the other
 abbrev pub all_can_lie : FatForm → ℕ → List FatEntryView → Bool

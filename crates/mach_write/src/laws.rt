@@ -5,7 +5,7 @@ ghost use Rattle.mach_base.specs.Number.{number};
 ghost use Rattle.mach_base.specs.Record.{Value};
 ghost use Rattle.mach_base.specs.declared.context.Endian.TheVariants.{Big};
 ghost use Rattle.mach_write.specs.Entries.{FatEntryView, HasTwo, any_two, are_of_one_cpu};
-ghost use Rattle.mach_write.specs.FatForms.{fat_form_32, fat_form_64, table_end, gap_behind, place_behind, end_behind, fat_end};
+ghost use Rattle.mach_write.specs.FatForms.{fat_form_32, fat_form_64, table_end, gap_behind, fat_place_behind, end_behind, fat_end};
 ghost use Rattle.mach_write.specs.FatReads.{HaveNumbers, records_said, records_of, entries_of_records};
 ghost use Rattle.mach_write.specs.FatWrites.{fat_file_of};
 
@@ -39,9 +39,9 @@ pub fn places_are_multiples()
 /// No entry lies in the table, and of two the first ends where the second begins or before.
 #[tactic(auto, using(crate::proofs::Places::stands_behind, crate::proofs::Places::stand_apart))]
 pub fn entries_stand_apart()
-    ensures table { (from : ℕ) (before : List FatEntryView) (e : FatEntryView) → from ≤ place_behind (fat_end from before) e }
+    ensures table { (from : ℕ) (before : List FatEntryView) (e : FatEntryView) → from ≤ fat_place_behind (fat_end from before) e }
     ensures entries { (from : ℕ) (before between : List FatEntryView) (e f : FatEntryView)
-        → end_behind (fat_end from before) e ≤ place_behind (fat_end from (before ++ e ∷ between)) f }
+        → end_behind (fat_end from before) e ≤ fat_place_behind (fat_end from (before ++ e ∷ between)) f }
 {}
 
 /// Entries are refused for one cpu exactly where two of them stand, one behind the other, that are of one.

@@ -5,7 +5,7 @@ ghost use Rattle.std.specs.List.{list_any};
 ghost use Rattle.mach_base.specs.Record.{spelling};
 ghost use Rattle.mach_base.specs.declared.context.Endian.TheVariants.{Big};
 ghost use Rattle.mach_write.specs.Entries.{entry_views, fat_entry_view};
-ghost use Rattle.mach_write.specs.FatForms.{gap_behind, place_behind, end_behind, fat_front, fat_records, fat_contents, fat_end};
+ghost use Rattle.mach_write.specs.FatForms.{gap_behind, fat_place_behind, end_behind, fat_front, fat_records, fat_contents, fat_end};
 ghost use Rattle.mach_write.specs.FatWrites.{is_far_aligned, can_lie, all_can_lie};
 
 use crate::entry::FatEntry;
