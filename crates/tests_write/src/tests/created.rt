@@ -1,6 +1,6 @@
 //! Files, and the entries that they become.
 
-use crate::tests::made::{ARM64, POWERPC, X86_64, archive};
+use crate::tests::made::{ARM64, POWERPC, X86_64, archive, front};
 use crate::tests::text::{created_text, written_text};
 use crate::tests::written::entry;
 use mach_write::{FatEntry, fat_order};
@@ -71,7 +71,7 @@ fn archives(rt: HostRuntime) -> Result<(), Fail> {
     test_created(
         &rt,
         alloc,
-        &one.as_slice()[..99],
+        front(one.as_slice(), 99),
         "32 bytes are wanted and 31 are left",
     )
 }
@@ -129,7 +129,7 @@ fn order(rt: HostRuntime) -> Result<(), Fail> {
     fat_order(alloc, &mut entries)?;
     let mut text = String::new(alloc);
     for entry in &entries {
-        text.push(char::from(entry.bytes[0]))?;
+        text.push(entry.bytes.first().map_or('?', |name| char::from(*name)))?;
     }
     assert_eq!(rt; text.as_str(), "egcdhbfa");
     Ok(())

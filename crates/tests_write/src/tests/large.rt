@@ -67,7 +67,7 @@ fn places_of_32_bits(rt: HostRuntime) -> Result<(), Fail> {
         Err(Error::Malformed(_)) => {}
         _ => return Err(Fail::from("a place has 32 bits")),
     }
-    match write_fat(&heap, &entries.as_slice()[..4096]) {
+    match write_fat(&heap, entries.as_slice().get(..4096).unwrap_or(&[])) {
         Err(Error::Memory(_)) => {}
         _ => return Err(Fail::from("no place has more than 32 bits")),
     }

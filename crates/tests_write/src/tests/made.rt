@@ -19,6 +19,11 @@ pub const POWERPC: [u8; 28] = [
     0xfe, 0xed, 0xfa, 0xce, 0, 0, 0, 18, 0, 0, 0, 0, 0, 0, 0, 2, 0, 0, 0, 0, 0, 0, 0, 0, 0, 0, 0, 0,
 ];
 
+/// The first of some bytes, or all of them.
+pub fn front(bytes: &[u8], len: usize) -> &[u8] {
+    bytes.get(..len).unwrap_or(bytes)
+}
+
 // A text, filled up with spaces.
 fn push_field(bytes: &mut Vec<u8>, text: &str, width: usize) -> Result<(), AllocError> {
     bytes.extend_from_slice(text.as_bytes())?;

@@ -86,7 +86,10 @@ fn of_an_order(rt: HostRuntime) -> std::result::Result<(), Fail> {
         let mut many = entries(rt.alloc(), 30)?;
         let answer = fat_order(&heap, many.as_mut_slice());
         // What is refused stays as it was.
-        let first = many.as_slice()[0].cpusubtype as usize;
+        let first = many
+            .as_slice()
+            .first()
+            .map_or(0, |entry| entry.cpusubtype as usize);
         let answer = match answer {
             Ok(()) => Ok(first),
             Err(e) => {

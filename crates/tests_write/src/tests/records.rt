@@ -1,6 +1,6 @@
 //! The record of 64 bits, where it is cut, and where what it says isn't there.
 
-use crate::tests::made::X86_64;
+use crate::tests::made::{X86_64, front};
 use crate::tests::same::same;
 use crate::tests::written::entry;
 use mach_base::{Error, ScrollError};
@@ -29,14 +29,14 @@ fn numbers(rt: HostRuntime) -> Result<(), Fail> {
 #[test]
 fn cut(rt: HostRuntime) -> Result<(), Fail> {
     let file = write_fat64(rt.alloc(), &[entry(0x100_0007, 3, 3, &X86_64)])?;
-    match FatArch64::parse(&file.as_slice()[..39], 8) {
+    match FatArch64::parse(front(file.as_slice(), 39), 8) {
         Err(Error::Scroll(ScrollError::TooBig { size, len })) => {
             same(&rt, size, 32);
             same(&rt, len, 31);
         }
         _ => return Err(Fail::from("39 bytes hold no record")),
     }
-    match FatArch64::parse(&file.as_slice()[..40], 40) {
+    match FatArch64::parse(front(file.as_slice(), 40), 40) {
         Err(Error::Scroll(ScrollError::BadOffset(place))) => same(&rt, place, 40),
         _ => return Err(Fail::from("40 bytes hold one record")),
     }

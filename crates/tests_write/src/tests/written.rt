@@ -136,13 +136,16 @@ fn bytes_and_zeros(rt: HostRuntime) -> Result<(), Fail> {
     let bytes = file.as_slice();
     same(&rt, bytes.len(), 58);
     assert_eq!(rt;
-        &bytes[8..28],
+        bytes.get(8..28).unwrap_or(&[]),
         [0, 0, 0, 7, 0, 0, 0, 3, 0, 0, 0, 48, 0, 0, 0, 3, 0, 0, 0, 0].as_slice()
     );
     assert_eq!(rt;
-        &bytes[28..48],
+        bytes.get(28..48).unwrap_or(&[]),
         [0, 0, 0, 8, 0, 0, 0, 4, 0, 0, 0, 56, 0, 0, 0, 2, 0, 0, 0, 3].as_slice()
     );
-    assert_eq!(rt; &bytes[48..], [1, 2, 3, 0, 0, 0, 0, 0, 4, 5].as_slice());
+    assert_eq!(rt;
+        bytes.get(48..).unwrap_or(&[]),
+        [1, 2, 3, 0, 0, 0, 0, 0, 4, 5].as_slice()
+    );
     Ok(())
 }
