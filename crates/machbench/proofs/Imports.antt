@@ -1,6 +1,7 @@
 -- What is known of a count of imports.
-use Rattle.std.proofs.Common.{◌≡◌, ◌∙◌, ◌+◌, ◌≤◌, ℕ, sym, arith}
-use Rattle.std.proofs.lemmas.Bool.{le-ltb}
+use Rattle.std.specs.Prelude.{Bool, true, false, not, nat_lt}
+use Rattle.std.proofs.Common.{◌≡◌, ◌∙◌, ◌+◌, ◌≤◌, ℕ, refl, sym, arith}
+use Rattle.std.proofs.lemmas.Bool.{le-ltb, ltb-false}
 use Rattle.machbench.specs.Imports.{Counts}
 use Rattle.machbench.specs.declared.calls.Work.{Work}
 
@@ -13,3 +14,13 @@ counts_one limit count old new is left more items =
       more ∙ (is.1 ∙ (le-ltb limit count (omega (arith, below)) ∙ sym (le-ltb limit (count + 1) below))),
       items ∙ is.2,
     )
+
+-- where all was gone over, those that were counted are within the limit
+pub few : (limit count : ℕ) (counted more : Bool) → counted ≡ nat_lt limit count → (counted ≡ true → more ≡ true) → not more ≡ true → count ≤ limit
+few limit count true more is follows whole = absurd (let is_more = follows refl in cc (is_more, whole))
+few limit count false more is follows whole = ltb-false limit count (sym is)
+
+-- where not all was gone over, there is more
+pub less_is_more : (more : Bool) → more ≡ false → not more ≡ false → ⊥
+less_is_more true is less = absurd (cc (is))
+less_is_more false is less = absurd (cc (less))

@@ -1,5 +1,7 @@
 -- How many items a run of a call goes over.
-use Rattle.std.specs.Prelude.{◌≤◌, ◌+◌, ℕ, Bool, true, false}
+use Rattle.std.specs.Prelude.{◌≤◌, ◌+◌, ◌++◌, ℕ, List, Option, Bool, true, false, codes}
+use Rattle.std.specs.Io.KnownBytes.{Appends}
+use Rattle.std.specs.Fmt.{decimal}
 use Rattle.machbench.specs.declared.calls.Call.{Call}
 use Rattle.machbench.specs.declared.calls.Call.TheVariants as calls
 use Rattle.machbench.specs.declared.calls.Work.{Work}
@@ -33,3 +35,11 @@ lists_imports calls.LinkView = true
 -- the items that were counted, and those that may be gone over yet, are within a limit
 abbrev pub IsWithin : ℕ → Work → Type 0
 IsWithin limit work = work.items + work.left ≤ limit
+
+-- the last line, where a call has more items than the limit
+abbrev pub line_of_the_limit : ℕ → List ℕ
+line_of_the_limit limit = codes "limit: " ++ (decimal limit ++ codes " items of a call, and there are more\n")
+
+-- what was written ends with that line
+abbrev pub EndsWithLimit : ℕ → Option (List ℕ) → Option (List ℕ) → Type 0
+EndsWithLimit limit old new = (front : List ℕ) × Appends old new (front ++ line_of_the_limit limit)

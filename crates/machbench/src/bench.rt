@@ -1,15 +1,15 @@
 //! The lines that are printed, and the runs behind them.
 
-ghost use Rattle.std.specs.Prelude.{◌≡◌, ◌≤◌, true, OnOk, IfOk, List, Result};
-ghost use Rattle.mach_base.specs.Fault.{Fault};
-ghost use Rattle.goblin_mach.specs.FatEntry.{FatEntry};
-ghost use Rattle.goblin_mach.specs.View.{HasEntries};
-ghost use Rattle.machbench.specs.Limit.{ends_at_limit};
+ghost use Rattle.std.specs.Prelude.{◌≡◌, ◌≤◌, ℕ, List, true, false, IfOk, OnOk};
+ghost use Rattle.std.specs.Io.KnownBytes.{Appends};
+ghost use Rattle.machbench.specs.Imports.{HasFewImports};
+ghost use Rattle.machbench.specs.Limit.{ends_at_limit, line_of_the_limit, EndsWithLimit};
 
 use crate::calls::{Call, Subject, Work};
 use crate::failure::Failure;
 use crate::times::{Times, per_item, shown_tenths, speed};
 use std::alloc::{AllocError, Allocator};
+use std::io;
 use std::io::Write;
 use std::time::{Clock, Duration, Instant};
 
@@ -28,41 +28,47 @@ pub fn bench<C: Clock, A: Allocator + Clone, O: Write>(
     bytes: &[u8],
     out: &mut O,
 ) -> Result<bool, Failure>
-    ensures { OnOk result ((entries : List (Result FatEntry Fault)) × HasEntries bytes.now entries) }
+    ensures few { IfOk result (λ whole. whole ≡ true → HasFewImports limit bytes.now) }
+    ensures limit { IfOk result (λ whole. whole ≡ false → EndsWithLimit limit (O.contents out.old) (O.contents out.new)) }
 {
     let subject = Subject::open(alloc.clone()?, limit, bytes)?;
-    let mut more = false;
-    for call in Call::ALL {
+    let mut more = subject.imports.more;
+    'calls: for call in Call::ALL {
         let (work, times) = timed(clock, &alloc, &subject, call)?;
-        let name = call.name();
-        match times {
-            Some(times) => {
-                let row = Row {
-                    call,
-                    items: work.items,
-                    times,
-                };
-                let line = row.line(&alloc, bytes.len() as u64)?;
-                writeln!(out, "{line}")?;
-            }
-            None if work.more => writeln!(out, "{name:12} more than {limit} items")?,
-            None => writeln!(out, "{name:12} nothing in this file")?,
-        }
+        let line = Line {
+            call,
+            work,
+            times,
+            limit,
+            bytes: bytes.len() as u64,
+        };
+        line.write(&alloc, out)?;
         out.flush()?;
         more |= work.more;
     }
     if more {
-        writeln!(out, "limit: {limit} items of a call, and there are more")?;
+        write_limit(limit, out)?;
     }
     Ok(!more)
 }
 
+// Writes the line behind calls of which one has more items.
+fn write_limit<O: Write>(limit: usize, out: &mut O) -> io::Result<()>
+    ensures { OnOk result (Appends (O.contents out.old) (O.contents out.new) (line_of_the_limit limit)) }
+{
+    writeln!(out, "limit: {limit} items of a call, and there are more")
+}
+
 // What is printed of a call.
 #[derive(Clone, Copy)]
-struct Row {
+struct Line {
     call: Call,
-    items: u64,
-    times: Times,
+    work: Work,
+    // None where it gives no item.
+    times: Option<Times>,
+    limit: usize,
+    // How many bytes the file has.
+    bytes: u64,
 }
 
 // Runs a call for about half a second, and answers what one run does; no times where it gives no item.
@@ -105,17 +111,33 @@ fn nanos(duration: Duration) -> u64 {
     u64::try_from(duration.as_nanos()).unwrap_or(u64::MAX)
 }
 
-impl Row {
-    // The line of the call: items, tenths of a nanosecond an item, megabytes a second.
-    fn line<'b, A: Allocator>(
+impl Line {
+    // Writes the line.
+    fn write<A: Allocator, O: Write>(&self, alloc: &A, out: &mut O) -> Result<(), Failure>
+        ensures { OnOk result ((line : List ℕ) × Appends (O.contents out.old) (O.contents out.new) line) }
+    {
+        let (name, limit) = (self.call.name(), self.limit);
+        match &self.times {
+            Some(times) => {
+                let row = self.row(alloc, times)?;
+                writeln!(out, "{row}")?;
+            }
+            None if self.work.more => writeln!(out, "{name:12} more than {limit} items")?,
+            None => writeln!(out, "{name:12} nothing in this file")?,
+        }
+        Ok(())
+    }
+
+    // Items, tenths of a nanosecond an item, megabytes a second.
+    fn row<'b, A: Allocator>(
         &self,
         alloc: &'b A,
-        bytes: u64,
+        times: &Times,
     ) -> Result<String<&'b A>, AllocError> {
-        let (name, items) = (self.call.name(), self.items);
-        let least = shown_tenths(alloc, per_item(self.times.least, items))?;
-        let median = shown_tenths(alloc, per_item(self.times.median, items))?;
-        let speed = speed(bytes, self.times.least);
+        let (name, items) = (self.call.name(), self.work.items);
+        let least = shown_tenths(alloc, per_item(times.least, items))?;
+        let median = shown_tenths(alloc, per_item(times.median, items))?;
+        let speed = speed(self.bytes, times.least);
         format!(in alloc;
             "{name:12} {items:9} items {least:>9} ns least {median:>9} ns median {speed:>7} MB/s"
         )

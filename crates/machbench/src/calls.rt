@@ -1,20 +1,22 @@
 //! The calls that are timed, and what a run of each is.
 
 ghost use Rattle.std.specs.Prelude.{◌≡◌, ◌≤◌, ◌+◌, ◌-◌, ◌%◌, ◌^◌, false, true, length, nat_lt, sum, ℕ, OnOk, IfOk, IfErr, List, Result, Ok};
+ghost use Rattle.std.specs.List.{AllZip};
 ghost use Rattle.mach_binds.specs.BindLeft.{imports_left};
-ghost use Rattle.machbench.specs.Imports.{HasImportCount, HaveImportCounts, Counts};
+ghost use Rattle.machbench.specs.Imports.{AreImagesOf, HasImportCount, HasImportsInAll, Counts};
 ghost use Rattle.machbench.specs.Limit.{ends_at_limit, lists_imports, IsWithin};
 ghost use Rattle.mach_base.specs.Answer.{Stands};
 ghost use Rattle.mach_base.specs.Fault.{Fault};
-ghost use Rattle.goblin_mach.specs.FatEntry.{FatEntry};
-ghost use Rattle.goblin_mach.specs.View.{HasEntries, ViewFault};
+ghost use Rattle.goblin_mach.specs.FatEntry.{FatEntry, entries_of};
+ghost use Rattle.goblin_mach.specs.FatFile.{file_held};
+ghost use Rattle.goblin_mach.specs.View.{HasEntries, IsTold, ViewFault};
 ghost use Rattle.machbench.specs.Failures.{IfUnopened};
 
 use crate::failure::Failure;
 use goblin_mach::chained_fixups::FixupKind;
 use goblin_mach::exports::Export;
 use goblin_mach::imports::{BindIterator, Import};
-use goblin_mach::{Error, LinkView, Mach, MachO, MultiArch, Result, SingleArch, link_view};
+use goblin_mach::{Error, LinkView, Mach, MachO, MultiArch, Result, SingleArch, laws, link_view};
 use std::alloc::{AllocError, Allocator};
 
 /// A call that is timed.
@@ -156,36 +158,48 @@ impl Work {
 
 // The images of a file.
 fn images_of<'a, A: Allocator + Clone>(alloc: A, bytes: &'a [u8]) -> Result<Vec<MachO<'a, A>, A>>
-    ensures opened { OnOk result ((entries : List (Result FatEntry Fault)) × HasEntries bytes.now entries) }
+    ensures opened { IfOk result (λ images. (entries : List (Result FatEntry Fault)) × HasEntries bytes.now entries × AreImagesOf entries images.items) }
     ensures refused { IfErr result (Stands (ViewFault bytes.now)) }
 {
-    let mut images = Vec::new(alloc.clone()?);
-    match Mach::parse(alloc, bytes)? {
+    match Mach::parse(alloc.clone()?, bytes)? {
         Mach::Binary(image) => {
+            let mut images = Vec::new(alloc);
             images.push(image)?;
             Ok(images)
         }
         Mach::Fat(container) => {
             container.arches()?;
-            add_images(&mut images, &container)?;
-            Ok(images)
+            Ok(images_in(alloc, &container)?)
         }
     }
 }
 
-// Adds the images of a fat file that open.
-fn add_images<'a, A: Allocator + Clone>(
-    images: &mut Vec<MachO<'a, A>, A>,
+// The images of a fat file that open.
+fn images_in<'a, A: Allocator + Clone>(
+    alloc: A,
     container: &MultiArch<'a, A>,
-) -> std::result::Result<(), AllocError> {
-    for entry in container {
+) -> std::result::Result<Vec<MachO<'a, A>, A>, AllocError>
+    ensures { IfOk result (λ images. AreImagesOf (entries_of (file_held container.now)) images.items) }
+{
+    let mut images = Vec::new(alloc);
+    'entries: for entry in container {
         match entry {
             Ok(SingleArch::MachO(image)) => images.push(image)?,
-            Err(Error::Memory(refused)) => return Err(refused),
-            Ok(SingleArch::Archive(_)) | Err(_) => {}
+            Ok(SingleArch::Archive(_)) => {}
+            Err(error) => unless_memory(error)?,
         }
     }
-    Ok(())
+    Ok(images)
+}
+
+// Nothing, or want of memory where that is the error.
+fn unless_memory(error: Error) -> std::result::Result<(), AllocError>
+    ensures { OnOk result (IsTold error) }
+{
+    match error {
+        Error::Memory(refused) => Err(refused),
+        _ => Ok(()),
+    }
 }
 
 /// A file whose calls are timed.
@@ -217,7 +231,7 @@ fn exports_of<'a, A: Allocator + Clone>(
 
 // Counts the imports of all images, up to the limit.
 fn count_imports<A: Allocator>(limit: usize, images: &[MachO<'_, A>]) -> Work
-    ensures { (counts : List ℕ) × HaveImportCounts images.now counts × Counts limit (sum counts) result }
+    ensures { (counts : List ℕ) × AllZip HasImportCount images.now counts × Counts limit (sum counts) result }
 {
     let mut work = Work::new(limit);
     'images: for image in images {
@@ -235,10 +249,8 @@ impl<'a, A: Allocator + Clone> Subject<'a, A> {
         limit: usize,
         bytes: &'a [u8],
     ) -> std::result::Result<Subject<'a, A>, Failure>
-        ensures opens { OnOk result ((entries : List (Result FatEntry Fault)) × HasEntries bytes.now entries) }
         ensures limit { IfOk result (λ subject. subject.limit ≡ limit) }
-        ensures counted { IfOk result (λ subject. (counts : List ℕ) × HaveImportCounts subject.images.items counts
-            × (subject.imports.more ≡ nat_lt limit (sum counts))) }
+        ensures counted { IfOk result (λ subject. (count : ℕ) × HasImportsInAll bytes.now count × (subject.imports.more ≡ nat_lt limit count)) }
         ensures given { IfOk result (λ subject. subject.imports.items ≡ 0) }
         ensures unopened { IfErr result (IfUnopened (Stands (ViewFault bytes.now))) }
     {
@@ -364,6 +376,7 @@ impl Work {
     fn count_imports<A: Allocator>(&mut self, image: &MachO<'_, A>)
         ensures { (count : ℕ) × HasImportCount image.now count × ((limit before : ℕ) → Counts limit before self.old → Counts limit (before + count) self.new) }
     {
+        laws::import_items_of_image(image);
         self.count(image.iter_imports());
     }
 

@@ -1,15 +1,14 @@
 //! What the program prints of a file, and its exit status.
 
-ghost use Rattle.std.specs.Prelude.{◌≡◌, ◌≢◌, ◌≤◌, [], codes, OnOk, List, Result};
-ghost use Rattle.std.specs.Io.Buffered.{writer_buffer};
+ghost use Rattle.std.specs.Prelude.{◌≡◌, ◌≢◌, ◌≤◌, ◌⊎◌, [], codes, OnOk};
+ghost use Rattle.std.specs.Io.Buffered.{writer_buffer, writer_contents};
 ghost use Rattle.std.specs.Io.KnownBytes.{Appends};
-ghost use Rattle.mach_base.specs.Fault.{Fault};
-ghost use Rattle.goblin_mach.specs.FatEntry.{FatEntry};
-ghost use Rattle.goblin_mach.specs.View.{HasEntries};
 ghost use Rattle.mach_show.specs.Names.{names_text};
 ghost use Rattle.mach_show.specs.Shown.{complaint};
 ghost use Rattle.mach_show.specs.Statuses.{IsStatus};
-ghost use Rattle.machbench.specs.Failures.{failure_words};
+ghost use Rattle.machbench.specs.Failures.{IsComplained, failure_words};
+ghost use Rattle.machbench.specs.Imports.{HasFewImports};
+ghost use Rattle.machbench.specs.Limit.{EndsWithLimit};
 
 use crate::bench::bench;
 use crate::failure::{Failure, Words};
@@ -40,7 +39,9 @@ pub fn run<C: Clock, A: Allocator + Clone, W: Write + Drop, B: Allocator, E: Wri
     err: &mut E,
 ) -> u8
     ensures status { IsStatus result }
-    ensures timed { result ≡ 0 → (entries : List (Result FatEntry Fault)) × HasEntries bytes.now entries }
+    ensures timed { result ≡ 0 → HasFewImports limit bytes.now }
+    ensures told { result ≡ 1 → EndsWithLimit limit (writer_contents W.contents out.old) (writer_contents W.contents out.new)
+        ⊎ IsComplained bytes.now (names_text (codes "machbench") file.now) (E.contents err.old) (E.contents err.new) }
     ensures flushed { result ≤ 1 → writer_buffer out.new ≡ [] }
 {
     let timed = bench(clock, alloc, limit, bytes, out);

@@ -5,4 +5,4 @@ use Rattle.machbench.proofs.calls.Work.count_imports.Goals as goal
 pub returns : goal.returns
 returns g c =
     let items = imports_left c.iter_imports.result in
-    (length items, record { items = items; are_items = c.iter_imports.ensures; count_is = refl }, c.count.ensures)
+    (length items, record { items = items; are_items = λ slice is. (c.import_items_of_image.ensures.strict slice 0 is items).1 c.iter_imports.ensures; count_is = refl }, c.count.ensures)
