@@ -14,7 +14,7 @@ use Rattle.mach_base.specs.Items.{read_as}
 use Rattle.mach_base.specs.declared.error.Error.{Error}
 use Rattle.mach_show.proofs.Lines.{no_lines, line_more}
 use Rattle.mach_show.specs.Lines.{WritesLines}
-use Rattle.mach_show.specs.Listings.{text_read, text_answer, told_line, cut_line, WritesFirstLines, WritesRows}
+use Rattle.mach_show.specs.Listings.{text_read, text_answer, told_line, cut_line, CountsRows, WritesFirstLines, WritesRows}
 use Rattle.mach_show.specs.declared.listing.Told.{Told}
 
 -- a row's text, as it was answered, is that of the row
@@ -106,3 +106,58 @@ rows_and_cut word limit left rows t old middle new told cut = record {
   };
   written = Appends-both old middle new told.lines.text (cut_line limit t.more) told.lines.written cut;
 }
+
+-- ---- a list whose rows are counted
+
+-- The rows begin with some that were gone over, with `rest` behind them, and `left` more may be.
+pub record Passes (limit : ℕ) (rows rest : List (Result (List ℕ) Fault)) (left : ℕ) (whole : Bool) : Type 0 where
+  pub front : List (Result (List ℕ) Fault)
+  pub are : rows ≡ front ++ rest
+  pub count : left + length front ≡ limit
+  pub is_whole : whole ≡ list_all is_ok front
+
+module _ (limit : ℕ) where
+  pub passes_init : (rows rest : List (Result (List ℕ) Fault)) → rows ≡ rest → Passes limit rows rest limit true
+  passes_init rows rest same = record { front = []; are = same; count = omega arith; is_whole = refl }
+
+  pub passes_on : {R : Type 0} (text : R → List ℕ) (rows all rest : List (Result (List ℕ) Fault)) (left : ℕ) (whole one : Bool) (answer : Result R Error)
+      → Passes limit rows all left whole → all ≡ read_as text answer ∷ rest → 1 ≤ left → one ≡ is_ok answer
+      → Passes limit rows rest (left - 1) (whole && one)
+  passes_on text rows all rest left whole one answer passes is some ok =
+      let item = read_as text answer in record {
+        front = passes.front ++ item ∷ [];
+        are = passes.are ∙ ap (λ back. passes.front ++ back) is ∙ sym (append_assoc passes.front (item ∷ []) rest);
+        count = omega (arith, passes.count, some, length-append passes.front (item ∷ []));
+        is_whole = ap (λ w. w && one) passes.is_whole ∙ ap (λ w. list_all is_ok passes.front && w) (ok ∙ all-one text answer)
+            ∙ sym (list_all-append is_ok passes.front (item ∷ []));
+      }
+
+  -- to the end of the list
+  pub passes_over : (rows rest : List (Result (List ℕ) Fault)) (left : ℕ) (whole : Bool) (t : Told) → Passes limit rows rest left whole → rest ≡ []
+      → (t.left ≡ left) × (t.whole ≡ whole) × (t.more ≡ false) → CountsRows limit rows t
+  passes_over rows rest left whole t passes none is =
+      let all : rows ≡ passes.front = passes.are ∙ ap (λ back. passes.front ++ back) none ∙ append-nil passes.front in
+      let many : length rows ≡ length passes.front = ap length all in
+      let few : length rows ≤ limit = omega (arith, passes.count, many) in
+      record {
+        whole = is.1 ∙ passes.is_whole ∙ ap (list_all is_ok) (sym (take_all limit rows few ∙ all));
+        rest = is.0 ∙ omega (arith, passes.count, many);
+        more = is.2 ∙ sym (le-ltb limit (length rows) few);
+      }
+
+  -- to the limit, with an item behind it
+  pub passes_cut : (rows all : List (Result (List ℕ) Fault)) (left : ℕ) (whole : Bool) (t : Told) (item : Result (List ℕ) Fault)
+      (rest : List (Result (List ℕ) Fault)) → Passes limit rows all left whole → all ≡ item ∷ rest → left ≡ 0
+      → (t.left ≡ 0) × (t.whole ≡ whole) × (t.more ≡ true) → CountsRows limit rows t
+  passes_cut rows all left whole t item rest passes is none said =
+      let are : rows ≡ passes.front ++ item ∷ rest = passes.are ∙ ap (λ back. passes.front ++ back) is in
+      let many : length rows ≡ length passes.front + length (item ∷ rest) = ap length are ∙ length-append passes.front (item ∷ rest) in
+      let front : length passes.front ≡ limit = omega (arith, passes.count, none) in
+      let told : take limit rows ≡ passes.front =
+      ap (λ xs. take limit xs) are ∙ take-append-le limit passes.front (item ∷ rest) (omega (arith, front))
+      ∙ take_all limit passes.front (omega (arith, front)) in
+      record {
+        whole = said.1 ∙ passes.is_whole ∙ ap (list_all is_ok) (sym told);
+        rest = said.0 ∙ omega (arith, many, front);
+        more = said.2 ∙ sym (lt-ltb limit (length rows) (omega (arith, many, front)));
+      }

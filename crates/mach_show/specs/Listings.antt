@@ -48,6 +48,12 @@ pub record AreFirstLines (word : List ℕ) (limit left : ℕ) (rows : List (Resu
   pub is_whole : whole ≡ (list_all is_ok (take left rows) && not (nat_lt left (length rows)))
   pub is_rest : rest ≡ left - length rows
 
+-- The first rows were gone over, no more than `left`, and this is what is known then.
+pub record CountsRows (left : ℕ) (rows : List (Result (List ℕ) Fault)) (t : Told) : Type 0 where
+  pub whole : t.whole ≡ list_all is_ok (take left rows)
+  pub rest : t.left ≡ left - length rows
+  pub more : t.more ≡ nat_lt left (length rows)
+
 -- The lines of the first rows were written, no more than `left`, and this is what is known then.
 pub record WritesRows (word : List ℕ) (left : ℕ) (rows : List (Result (List ℕ) Fault)) (old new : Option (List ℕ)) (t : Told) : Type 0 where
   pub lines : WritesLines text_read (told_line word) (take left rows) old new

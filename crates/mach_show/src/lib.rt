@@ -24,7 +24,7 @@ pub use crate::cpu::{Arch, Cpu};
 pub use crate::failure::Failure;
 pub use crate::foreign::{Foreign, foreign_kind, refused_kind};
 pub use crate::heading::Heading;
-pub use crate::listing::{Listing, Told, print_cut, print_listing, print_rows};
+pub use crate::listing::{Listing, Told, count_rows, print_cut, print_listing, print_rows};
 pub use crate::misuse::Misuse;
 pub use crate::names::Names;
 pub use crate::program::Program;

@@ -3,7 +3,7 @@
 ghost use Rattle.std.specs.Prelude.{◌≡◌, IfOk, OnOk};
 ghost use Rattle.std.specs.Io.KnownBytes.{Appends};
 ghost use Rattle.std.specs.Result.{is_ok};
-ghost use Rattle.mach_show.specs.Listings.{cut_line, text_answer, told_line, WritesFirstLines, WritesRows};
+ghost use Rattle.mach_show.specs.Listings.{cut_line, text_answer, told_line, CountsRows, WritesFirstLines, WritesRows};
 
 use crate::shows::Outcome;
 use goblin_mach::describe;
@@ -33,12 +33,12 @@ pub trait Listing {
         ensures { OnOk result (Appends (O.contents out.old) (O.contents out.new) (text row.now)) };
 }
 
-/// What was printed of a list that ends at a limit.
+/// How far a list was gone over that ends at a limit.
 #[derive(Clone, Copy, Drop)]
 pub struct Told {
     /// How many lines more there may be.
     pub left: usize,
-    /// Whether all that was printed can be read.
+    /// Whether all that was gone over can be read.
     pub whole: bool,
     /// Whether the list has more than that.
     pub more: bool,
@@ -102,6 +102,30 @@ pub fn print_rows<L: Listing, O: Write>(
         whole,
         more: false,
     })
+}
+
+/// Goes over the first rows of a list, up to a limit, and prints nothing.
+pub fn count_rows<L: Listing>(list: &mut L, limit: usize) -> Told
+    ensures { CountsRows limit (L.left list.old) result }
+{
+    let mut left = limit;
+    let mut whole = true;
+    'rows: while let Some(row) = list.next_row() {
+        let Some(rest) = left.checked_sub(1) else {
+            return Told {
+                left: 0,
+                whole,
+                more: true,
+            };
+        };
+        left = rest;
+        whole &= row.is_ok();
+    }
+    Told {
+        left,
+        whole,
+        more: false,
+    }
 }
 
 // Prints the line of a row, and answers whether there is one.
