@@ -3,4 +3,5 @@ pub mod RowTexts
 pub mod NumberedNotes
 pub mod ProvidedSymbols
 pub mod Rows
+pub mod Counts
 pub mod ImageLines

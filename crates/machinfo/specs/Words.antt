@@ -30,3 +30,17 @@ word_among (w ∷ others) text = if bytes_eq text w.spelling then Some w.word el
 
 abbrev pub word_named : List ℕ → Option Word
 word_named text = word_among list_words text
+
+-- how a word is spelled
+abbrev pub spelling_of : Word → List ℕ
+spelling_of Starts = codes "starts"
+spelling_of Slots = codes "slots"
+spelling_of Indirect = codes "indirect"
+spelling_of Data = codes "data"
+spelling_of Options = codes "options"
+spelling_of Tools = codes "tools"
+spelling_of Notes = codes "notes"
+spelling_of Providers = codes "providers"
+spelling_of Libraries = codes "libraries"
+spelling_of Rebases = codes "rebases"
+spelling_of Weak = codes "weak"

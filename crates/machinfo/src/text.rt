@@ -173,8 +173,8 @@ impl Display for ProvidedText<'_> {
     }
 }
 
-// A word, where something is so.
-fn said_if(is_so: bool, word: &'static str) -> &'static str
+/// A word, where something is so.
+pub fn said_if(is_so: bool, word: &'static str) -> &'static str
     ensures { result.now ≡ said_if is_so word.now }
 {
     if is_so { word } else { "" }

@@ -1,7 +1,7 @@
 //! The words that ask for a list.
 
 ghost use Rattle.std.specs.Prelude.{◌≡◌};
-ghost use Rattle.machinfo.specs.Words.{word_named};
+ghost use Rattle.machinfo.specs.Words.{spelling_of, word_named};
 
 /// What is to be listed of an image.
 #[derive(Clone, Copy, PartialEq)]
@@ -48,6 +48,25 @@ impl Word {
             "rebases" => Some(Word::Rebases),
             "weak" => Some(Word::Weak),
             _ => None,
+        }
+    }
+
+    /// The text that it is.
+    pub fn name(self) -> &'static str
+        ensures { result.now ≡ spelling_of self }
+    {
+        match self {
+            Word::Starts => "starts",
+            Word::Slots => "slots",
+            Word::Indirect => "indirect",
+            Word::Data => "data",
+            Word::Options => "options",
+            Word::Tools => "tools",
+            Word::Notes => "notes",
+            Word::Providers => "providers",
+            Word::Libraries => "libraries",
+            Word::Rebases => "rebases",
+            Word::Weak => "weak",
         }
     }
 }
