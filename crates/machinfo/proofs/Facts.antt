@@ -25,8 +25,8 @@ use Rattle.mach_image.proofs.TableFacts.{function_starts_are, data_in_code_are, 
 use Rattle.mach_show.specs.Listings.{hex_text}
 use Rattle.machinfo.specs.NumberedNotes.{NumberedNoteView, numbered_notes_from}
 use Rattle.machinfo.specs.ProvidedSymbols.{ProvidedView, provided_in}
-use Rattle.machinfo.specs.RowTexts.{data_text, indirect_text, option_text, tool_text, note_row_text, slot_text, provided_text, library_row_text, rebase_row_text}
-use Rattle.machinfo.specs.RowTexts.{weak_row_text}
+use Rattle.machinfo.specs.RowTexts.{data_text, indirect_text, option_text, tool_text, note_row_text, slot_text, provided_text}
+use Rattle.machinfo.specs.RowTexts.{library_row_text, rebase_row_text, weak_row_text}
 use Rattle.machinfo.specs.Rows.{HasRows, told_all, all_told}
 use Rattle.machinfo.specs.declared.word.Word.TheVariants as words
 

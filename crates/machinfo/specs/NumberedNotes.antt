@@ -31,12 +31,12 @@ abbrev pub note_place_of : Command → ℕ
 note_place_of c = place_in_range (note_range c.kind c.values)
 
 -- the note of a command of a number, whose bytes lie in this range, if it is one
-abbrev pub noted : List ℕ → ℕ → Command → Option (ℕ × ℕ) → Option (Result NumberedNoteView Fault)
-noted bytes number c None = None
-noted bytes number c (Some range) = Some (note_at bytes c.offset range.0 range.1 >>= (λ note. Ok (numbered_note number range.0 note)))
+abbrev pub note_in_range : List ℕ → ℕ → Command → Option (ℕ × ℕ) → Option (Result NumberedNoteView Fault)
+note_in_range bytes number c None = None
+note_in_range bytes number c (Some range) = Some (note_at bytes c.offset range.0 range.1 >>= (λ note. Ok (numbered_note number range.0 note)))
 
 abbrev pub noted_by : List ℕ → ℕ → Command → Option (Result NumberedNoteView Fault)
-noted_by bytes number c = noted bytes number c (note_range c.kind c.values)
+noted_by bytes number c = note_in_range bytes number c (note_range c.kind c.values)
 
 -- an item, if there is one, before others
 abbrev pub led_by : {X : Type 0} → Option X → List X → List X

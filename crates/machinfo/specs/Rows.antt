@@ -15,8 +15,8 @@ use Rattle.mach_image.specs.TableFacts.{HasFunctionStarts, HasDataInCode, HasLin
 use Rattle.mach_show.specs.Listings.{hex_text, told_by}
 use Rattle.machinfo.specs.NumberedNotes.{HasNumberedNotes, notes_numbered_left, numbered_note_view}
 use Rattle.machinfo.specs.ProvidedSymbols.{HasProvidedSymbols, provided_left, provided_view}
-use Rattle.machinfo.specs.RowTexts.{data_text, indirect_text, option_text, tool_text, note_row_text, slot_text, provided_text, library_row_text, rebase_row_text}
-use Rattle.machinfo.specs.RowTexts.{weak_row_text}
+use Rattle.machinfo.specs.RowTexts.{data_text, indirect_text, option_text, tool_text, note_row_text, slot_text, provided_text}
+use Rattle.machinfo.specs.RowTexts.{library_row_text, rebase_row_text, weak_row_text}
 use Rattle.machinfo.specs.declared.list.ImageList.{ImageList}
 use Rattle.machinfo.specs.declared.list.ImageList.TheVariants as lists
 use Rattle.machinfo.specs.declared.row.Row.{Row}

@@ -10,7 +10,8 @@ ghost use Rattle.mach_streams.specs.WeakBindsLeft.{weak_bind_view};
 ghost use Rattle.machinfo.specs.NumberedNotes.{numbered_note_view};
 ghost use Rattle.machinfo.specs.ProvidedSymbols.{provided_view};
 ghost use Rattle.machinfo.specs.RowTexts.{data_text, indirect_text, option_text, tool_text, note_row_text, slot_kind_text, slot_owner_text, slot_text};
-ghost use Rattle.machinfo.specs.RowTexts.{giver_text, provided_text, said_if, library_row_text, key_word, signing_text, rebased_text, rebase_row_text, weak_row_text};
+ghost use Rattle.machinfo.specs.RowTexts.{giver_text, provided_text, said_if, library_row_text, key_word, signing_text};
+ghost use Rattle.machinfo.specs.RowTexts.{rebased_text, rebase_row_text, weak_row_text};
 ghost use Rattle.machinfo.specs.RowTexts.{weak_flag, weak_place_text};
 
 use crate::notes::NumberedNote;
