@@ -1,3 +1,4 @@
 mod Asking
 pub mod Lines
+mod Listings
 mod Showing

@@ -5,6 +5,7 @@ pub mod Foreigners
 pub mod Headings
 pub mod Held
 pub mod Lines
+pub mod Listings
 pub mod Misuses
 pub mod Names
 pub mod Rounds

@@ -1,0 +1,7 @@
+pub mod Words
+pub mod RowTexts
+pub mod NumberedNotes
+pub mod ProvidedSymbols
+pub mod Rows
+pub mod Counts
+pub mod ImageLines

@@ -1,0 +1,258 @@
+//! What is said of an image in front of its counts. That it is so is tested, and no clause says it.
+
+use crate::text::LibraryText;
+use goblin_mach::MachO;
+use goblin_mach::header::{filetype_to_str, flag_to_str};
+use goblin_mach::load_command::{
+    BuildVersionCommand, CommandVariant, LoadCommand, PLATFORM_BRIDGEOS, PLATFORM_DRIVERKIT,
+    PLATFORM_IOS, PLATFORM_IOSSIMULATOR, PLATFORM_MACCATALYST, PLATFORM_MACOS, PLATFORM_TVOS,
+    PLATFORM_TVOSSIMULATOR, PLATFORM_VISIONOS, PLATFORM_VISIONOSSIMULATOR, PLATFORM_WATCHOS,
+    PLATFORM_WATCHOSSIMULATOR,
+};
+use goblin_mach::segment::Segment;
+use mach_show::{Arch, Cpu};
+use std::alloc::{AllocError, Allocator};
+use std::fmt;
+use std::fmt::{Display, Formatter, Write};
+
+// The cpus that have a name.
+const NAMES: [&str; 18] = [
+    "i386", "x86_64", "x86_64h", "armv4t", "armv5e", "xscale", "armv6", "armv6m", "armv7",
+    "armv7em", "armv7k", "armv7m", "armv7s", "arm64", "arm64e", "arm64_32", "ppc", "ppc64",
+];
+
+// A version of 16, 8 and 8 bits.
+#[derive(Clone, Copy)]
+struct VersionText(u32);
+
+impl Display for VersionText {
+    fn fmt<W: Write>(&self, f: &mut Formatter<W>) -> fmt::Result {
+        let (major, minor, patch) = (self.0 >> 16, self.0 >> 8 & 0xff, self.0 & 0xff);
+        write!(f, "{major}.{minor}.{patch}")
+    }
+}
+
+// What is allowed of a segment.
+#[derive(Clone, Copy)]
+struct RightsText(u32);
+
+impl Display for RightsText {
+    fn fmt<W: Write>(&self, f: &mut Formatter<W>) -> fmt::Result {
+        let read = if self.0 & 1 != 0 { "r" } else { "-" };
+        let write = if self.0 & 2 != 0 { "w" } else { "-" };
+        let execute = if self.0 & 4 != 0 { "x" } else { "-" };
+        write!(f, "{read}{write}{execute}")
+    }
+}
+
+/// What is said of an image in front of its counts.
+pub fn front_of<A: Allocator>(alloc: A, image: &MachO<'_, A>) -> Result<String<A>, AllocError> {
+    let mut text = String::new(alloc);
+    add_kind(&mut text, image)?;
+    'commands: for command in &image.load_commands {
+        add_command(&mut text, command)?;
+    }
+    add_tools(&mut text, image)?;
+    if image.entry != 0 {
+        let entry = image.entry;
+        writeln!(text, "entry: 0x{entry:x}")?;
+    }
+    add_flags(&mut text, image.header.flags)?;
+    'segments: for segment in image.segments.as_slice() {
+        add_segment(&mut text, segment)?;
+    }
+    add_libraries(&mut text, image)?;
+    add_state(&mut text, image)?;
+    Ok(text)
+}
+
+// The kind of the file, the cpu, and the name as a library.
+fn add_kind<A: Allocator>(text: &mut String<A>, image: &MachO<'_, A>) -> Result<(), AllocError> {
+    let header = &image.header;
+    let kind = filetype_to_str(header.filetype);
+    writeln!(text, "kind: {kind}")?;
+    let (cputype, cpusubtype) = (header.cputype, header.cpusubtype);
+    match cpu_name(cputype, cpusubtype) {
+        Some(name) => writeln!(text, "cpu: {name}")?,
+        None => writeln!(
+            text,
+            "cpu: cputype 0x{cputype:x}, cpusubtype 0x{cpusubtype:x}"
+        )?,
+    }
+    if let Some(name) = image.name {
+        writeln!(text, "name: {name}")?;
+    }
+    Ok(())
+}
+
+// The name of the cpu of these numbers, if it has one.
+fn cpu_name(cputype: u32, cpusubtype: u32) -> Option<&'static str> {
+    'names: for name in &NAMES {
+        if let Some(arch) = Arch::named(name) {
+            if Cpu::Arch(arch).takes(cputype, cpusubtype) {
+                return Some(arch.name);
+            }
+        }
+    }
+    None
+}
+
+// What a command says, if it is told.
+fn add_command<A: Allocator>(
+    text: &mut String<A>,
+    command: &LoadCommand,
+) -> Result<(), AllocError> {
+    match &command.command {
+        CommandVariant::Uuid(c) => add_uuid(text, &c.uuid),
+        CommandVariant::BuildVersion(c) => add_platform(text, c),
+        CommandVariant::VersionMinMacosx(c) => add_versions(text, "macos", c.version, c.sdk),
+        CommandVariant::VersionMinIphoneos(c) => add_versions(text, "ios", c.version, c.sdk),
+        CommandVariant::VersionMinTvos(c) => add_versions(text, "tvos", c.version, c.sdk),
+        CommandVariant::VersionMinWatchos(c) => add_versions(text, "watchos", c.version, c.sdk),
+        _ => Ok(()),
+    }
+}
+
+// The number of an image, in five groups.
+fn add_uuid<A: Allocator>(text: &mut String<A>, uuid: &[u8; 16]) -> Result<(), AllocError> {
+    text.push_str("uuid: ")?;
+    'bytes: for (number, byte) in uuid.iter().enumerate() {
+        if number == 4 || number == 6 || number == 8 || number == 10 {
+            text.push_str("-")?;
+        }
+        write!(text, "{byte:02X}")?;
+    }
+    text.push_str("\n")
+}
+
+// The platform of a command.
+fn add_platform<A: Allocator>(
+    text: &mut String<A>,
+    c: &BuildVersionCommand,
+) -> Result<(), AllocError> {
+    let name = match c.platform {
+        PLATFORM_MACOS => "macos",
+        PLATFORM_IOS => "ios",
+        PLATFORM_TVOS => "tvos",
+        PLATFORM_WATCHOS => "watchos",
+        PLATFORM_BRIDGEOS => "bridgeos",
+        PLATFORM_MACCATALYST => "maccatalyst",
+        PLATFORM_IOSSIMULATOR => "ios-simulator",
+        PLATFORM_TVOSSIMULATOR => "tvos-simulator",
+        PLATFORM_WATCHOSSIMULATOR => "watchos-simulator",
+        PLATFORM_DRIVERKIT => "driverkit",
+        PLATFORM_VISIONOS => "visionos",
+        PLATFORM_VISIONOSSIMULATOR => "visionos-simulator",
+        _ => "unknown",
+    };
+    add_versions(text, name, c.minos, c.sdk)
+}
+
+// A platform, and the versions that are asked for.
+fn add_versions<A: Allocator>(
+    text: &mut String<A>,
+    name: &str,
+    least: u32,
+    sdk: u32,
+) -> Result<(), AllocError> {
+    let (least, sdk) = (VersionText(least), VersionText(sdk));
+    writeln!(text, "platform: {name} {least}, sdk {sdk}")
+}
+
+// The tools of the build, up to one that can't be read.
+fn add_tools<A: Allocator>(text: &mut String<A>, image: &MachO<'_, A>) -> Result<(), AllocError> {
+    'tools: for found in image.build_tools() {
+        let Ok((_, tool)) = found else {
+            return Ok(());
+        };
+        let (number, version) = (tool.tool, VersionText(tool.version));
+        writeln!(text, "tool: {number} {version}")?;
+    }
+    Ok(())
+}
+
+// The names of the bits of a header.
+fn add_flags<A: Allocator>(text: &mut String<A>, flags: u32) -> Result<(), AllocError> {
+    text.push_str("flags:")?;
+    'bits: for bit in 0..32u32 {
+        let flag = flags & 1u32.wrapping_shl(bit);
+        if flag != 0 {
+            let name = flag_to_str(flag);
+            match name.strip_prefix("MH_") {
+                Some(name) => write!(text, " {name}")?,
+                None => write!(text, " 0x{flag:x}")?,
+            }
+        }
+    }
+    text.push_str("\n")
+}
+
+// A segment and its sections.
+fn add_segment<A: Allocator>(
+    text: &mut String<A>,
+    segment: &Segment<'_>,
+) -> Result<(), AllocError> {
+    let name = segment.name().unwrap_or("-");
+    let (address, size, rights) = (segment.vmaddr, segment.vmsize, RightsText(segment.initprot));
+    writeln!(text, "segment: {name} 0x{address:x} 0x{size:x} {rights}")?;
+    'sections: for item in segment {
+        match item {
+            Ok((section, _)) => {
+                let name = section.name().unwrap_or("-");
+                let (address, size) = (section.addr, section.size);
+                writeln!(text, "section: {name} 0x{address:x} 0x{size:x}")?;
+            }
+            Err(_) => writeln!(text, "section: unreadable")?,
+        }
+    }
+    Ok(())
+}
+
+// The libraries with their versions, and where they are sought.
+fn add_libraries<A: Allocator>(
+    text: &mut String<A>,
+    image: &MachO<'_, A>,
+) -> Result<(), AllocError> {
+    'libraries: for library in image.libraries() {
+        let version = VersionText(library.current_version);
+        let least = VersionText(library.compatibility_version);
+        let library = LibraryText(library);
+        writeln!(text, "library: {library} {version}, at least {least}")?;
+    }
+    'paths: for path in &image.rpaths {
+        writeln!(text, "run path: {path}")?;
+    }
+    Ok(())
+}
+
+// Whether the image is signed, encrypted and stripped, and how many symbols it has.
+fn add_state<A: Allocator>(text: &mut String<A>, image: &MachO<'_, A>) -> Result<(), AllocError> {
+    let mut is_signed = false;
+    let mut is_encrypted = false;
+    let mut has_local = false;
+    'commands: for command in &image.load_commands {
+        match &command.command {
+            CommandVariant::CodeSignature(_) => is_signed = true,
+            CommandVariant::EncryptionInfo32(c) => is_encrypted |= c.cryptid != 0,
+            CommandVariant::EncryptionInfo64(c) => is_encrypted |= c.cryptid != 0,
+            CommandVariant::Dysymtab(c) => has_local |= c.nlocalsym != 0,
+            _ => {}
+        }
+    }
+    let signed = yes_or_no(is_signed);
+    let encrypted = yes_or_no(is_encrypted);
+    let stripped = yes_or_no(!has_local);
+    writeln!(text, "signed: {signed}")?;
+    writeln!(text, "encrypted: {encrypted}")?;
+    writeln!(text, "stripped: {stripped}")?;
+    let symbols = match &image.symbols {
+        Some(table) => table.len(),
+        None => 0,
+    };
+    writeln!(text, "symbols: {symbols}")
+}
+
+// A word.
+fn yes_or_no(is_so: bool) -> &'static str {
+    if is_so { "yes" } else { "no" }
+}

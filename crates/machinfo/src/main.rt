@@ -1,0 +1,110 @@
+//! Prints what a Mach-O image is, and how many items its lists have; or with a word one list of what it says, a line an item: its function starts, stubs and pointers, indirect symbols, data among code,
+//! options for the linker, tools, notes, providers of symbols, libraries, rebases or weak binds; of a fat file that of each entry, or of those for
+//! one cpu, under a line that says which. Of a file it prints at most as many rows as `--limit` says, and behind those of an image that
+//! has more, a line that says so. A row that can't be told is a line that says why.
+#![tactic(auto)]
+
+mod counts;
+mod front;
+mod list;
+mod notes;
+mod providers;
+mod row;
+mod run;
+mod text;
+mod word;
+
+use mach_show::{Cpu, Misuse, Program, Round};
+use run::{DEFAULT_LIMIT, NAME, run_list, run_summary};
+use std::alloc::Allocator;
+use std::io;
+use std::io::{BufWriter, Write};
+use std::process::ExitCode;
+use word::Word;
+
+const PROGRAM: Program = Program {
+    name: NAME,
+    usage: "usage: machinfo [--limit N] [--arch NAME | --cputype 0xN] [WORD] FILE..\n       machinfo -h | --help | --version\n\
+        WORD: starts, slots, indirect, data, options, tools, notes, providers, libraries, rebases, weak\n",
+    version: "machinfo 0.2.0\n",
+    has_limit: true,
+    has_cpu: true,
+    known: &[
+        "--arch",
+        "--cputype",
+        "--help",
+        "--limit",
+        "--version",
+        "data",
+        "indirect",
+        "libraries",
+        "notes",
+        "options",
+        "providers",
+        "rebases",
+        "slots",
+        "starts",
+        "tools",
+        "weak",
+    ],
+};
+
+fn main(rt: HostRuntime) -> ExitCode {
+    ExitCode::from(match start(&rt) {
+        Ok(status) | Err(status) => status,
+    })
+}
+
+// Does what the words ask for.
+fn start(rt: &HostRuntime) -> Result<u8, u8> {
+    let words = PROGRAM.words(rt)?;
+    let call = PROGRAM.call(rt, &words)?;
+    let limit = call.limit.unwrap_or(DEFAULT_LIMIT);
+    show_files(rt, call.cpu, limit, &call.words)
+}
+
+// The list for which the first of some words asks, if it does.
+fn word_of(words: &[&str]) -> Option<Word> {
+    let first = words.first()?;
+    Word::named(first)
+}
+
+// Shows of files in order what the images are that are asked for, or where a word stands before them the list for which it asks, and answers the worst
+// status.
+fn show_files(rt: &HostRuntime, cpu: Cpu, limit: usize, words: &[&str]) -> Result<u8, u8> {
+    let word = word_of(words);
+    let begin = if word.is_some() { 1 } else { 0 };
+    let Some(files) = words.get(begin..) else {
+        return Err(PROGRAM.bad_usage(rt, Misuse::Missing("FILE")));
+    };
+    if files.is_empty() {
+        return Err(PROGRAM.bad_usage(rt, Misuse::Missing("FILE")));
+    }
+    let Ok(mut lines) = BufWriter::new(rt.alloc(), io::writer(rt)) else {
+        return Err(PROGRAM.out_of_memory(rt));
+    };
+    let mut round = Round::new(PROGRAM, files.len());
+    for file in files {
+        if let Some(bytes) = round.begin(rt, file, &mut lines)? {
+            round.end(show_file(rt, word, cpu, limit, file, &bytes, &mut lines))?;
+        }
+    }
+    Ok(round.worst)
+}
+
+// The status of a file, of which a list is shown, or what its images are.
+fn show_file<W: Write + Drop, B: Allocator>(
+    rt: &HostRuntime,
+    word: Option<Word>,
+    cpu: Cpu,
+    limit: usize,
+    file: &str,
+    bytes: &[u8],
+    out: &mut BufWriter<W, B>,
+) -> u8 {
+    let err = &mut rt.stderr();
+    match word {
+        Some(word) => run_list(rt.alloc(), word, cpu, limit, file, bytes, out, err),
+        None => run_summary(rt.alloc(), cpu, limit, file, bytes, out, err),
+    }
+}

@@ -1,0 +1,165 @@
+//! What the program shows of an image and of a file, and its exit status.
+
+ghost use Rattle.std.specs.Prelude.{◌≡◌, ◌≤◌, [], codes};
+ghost use Rattle.std.specs.Io.Buffered.{writer_buffer, writer_contents};
+ghost use Rattle.mach_show.specs.Names.{names_text};
+ghost use Rattle.mach_show.specs.Shown.{Shown, ShowsFile, Writes};
+ghost use Rattle.mach_show.specs.Statuses.{IsStatus, status_by};
+ghost use Rattle.machinfo.specs.ImageLines.{AreImageListLines, AreImageSummaryLines};
+
+use crate::counts::print_counts;
+use crate::front::front_of;
+use crate::list::ImageList;
+use crate::word::Word;
+use goblin_mach::MachO;
+use mach_show::{Cpu, Failure, Heading, Names, Outcome, Shows, print_listing};
+use std::alloc::Allocator;
+use std::io::{BufWriter, Write};
+
+/// The program's name.
+pub const NAME: &str = "machinfo";
+
+/// How many rows of a file are told, where no other limit is given.
+pub const DEFAULT_LIMIT: usize = 10_000_000;
+
+// The rows of a list of the images of a file, `limit` of them at most.
+#[derive(Clone, Copy)]
+struct ListOf<'a> {
+    file: &'a str,
+    word: Word,
+    limit: usize,
+}
+
+impl Shows for ListOf<'_> {
+    ghost names = { λ asked. names_text (codes "machinfo") asked.file.now };
+
+    ghost lines = { λ asked. AreImageListLines asked.word asked.limit };
+
+    fn names(&self) -> Names<'_> {
+        Names {
+            program: NAME,
+            file: self.file,
+        }
+    }
+
+    fn show<A: Allocator + Clone, O: Write>(
+        &self,
+        _alloc: &A,
+        image: &MachO<'_, A>,
+        heading: Heading,
+        left: usize,
+        out: &mut O,
+    ) -> Result<Outcome, Failure> {
+        let mut list = ImageList::of(self.word, image);
+        write!(out, "{heading}")?;
+        Ok(print_listing(&mut list, "refused", self.limit, left, out)?)
+    }
+}
+
+// What is said of the images of a file, with at most `limit` items of a list counted.
+#[derive(Clone, Copy)]
+struct SummaryOf<'a> {
+    file: &'a str,
+    limit: usize,
+}
+
+impl Shows for SummaryOf<'_> {
+    ghost names = { λ asked. names_text (codes "machinfo") asked.file.now };
+
+    ghost lines = { λ asked. AreImageSummaryLines asked.limit };
+
+    fn names(&self) -> Names<'_> {
+        Names {
+            program: NAME,
+            file: self.file,
+        }
+    }
+
+    fn show<A: Allocator + Clone, O: Write>(
+        &self,
+        alloc: &A,
+        image: &MachO<'_, A>,
+        heading: Heading,
+        left: usize,
+        out: &mut O,
+    ) -> Result<Outcome, Failure> {
+        let front = front_of(alloc.clone()?, image)?;
+        write!(out, "{heading}")?;
+        write!(out, "{front}")?;
+        let words = [
+            Word::Starts,
+            Word::Slots,
+            Word::Indirect,
+            Word::Data,
+            Word::Options,
+            Word::Tools,
+            Word::Notes,
+            Word::Providers,
+            Word::Libraries,
+            Word::Rebases,
+            Word::Weak,
+        ];
+        let whole = print_counts(&words, image, self.limit, out)?;
+        Ok(Outcome { whole, left })
+    }
+}
+
+/// Says of the images of a file that are asked for what they are, and how many items each of their lists has, of which it goes over `limit` at most, and
+/// answers the exit status: 0 where nothing was refused; 1 where the file or an entry of a fat one was, or memory, and then `err` has a line that says
+/// why, or where an item can't be read, or a list has more than the limit; 2 or 141 where a write fails. But for that nothing is left in the buffer.
+pub fn run_summary<A: Allocator + Clone, W: Write + Drop, B: Allocator, E: Write>(
+    alloc: A,
+    cpu: Cpu,
+    limit: usize,
+    file: &str,
+    bytes: &[u8],
+    out: &mut BufWriter<W, B>,
+    err: &mut E,
+) -> u8
+    ensures status { IsStatus result }
+    ensures shown { result ≤ 1 → (shown : Shown)
+        × ShowsFile cpu (names_text (codes "machinfo") file.now) (AreImageSummaryLines limit) limit bytes.now shown × (result ≡ status_by shown.whole)
+        × Writes shown (writer_contents W.contents out.old) (writer_contents W.contents out.new) (E.contents err.old) (E.contents err.new) }
+    ensures flushed { result ≤ 1 → writer_buffer out.new ≡ [] }
+{
+    mach_show::run::run(
+        &SummaryOf { file, limit },
+        cpu,
+        limit,
+        &alloc,
+        bytes,
+        out,
+        err,
+    )
+}
+
+/// Shows the list for which a word asks of the images of a file that are asked for, of all these together at most `limit` rows, and answers the exit
+/// status: 0 where nothing was refused; 1 where the file or an entry of a fat one was, or memory, and then `err` has a line that says why,
+/// or where a row can't be told, and then its line says why, or where an image has more of them than are left of the limit, and then a line
+/// behind them says so; 2 or 141 where a write fails. But for that nothing is left in the buffer.
+pub fn run_list<A: Allocator + Clone, W: Write + Drop, B: Allocator, E: Write>(
+    alloc: A,
+    word: Word,
+    cpu: Cpu,
+    limit: usize,
+    file: &str,
+    bytes: &[u8],
+    out: &mut BufWriter<W, B>,
+    err: &mut E,
+) -> u8
+    ensures status { IsStatus result }
+    ensures shown { result ≤ 1 → (shown : Shown)
+        × ShowsFile cpu (names_text (codes "machinfo") file.now) (AreImageListLines word limit) limit bytes.now shown × (result ≡ status_by shown.whole)
+        × Writes shown (writer_contents W.contents out.old) (writer_contents W.contents out.new) (E.contents err.old) (E.contents err.new) }
+    ensures flushed { result ≤ 1 → writer_buffer out.new ≡ [] }
+{
+    mach_show::run::run(
+        &ListOf { file, word, limit },
+        cpu,
+        limit,
+        &alloc,
+        bytes,
+        out,
+        err,
+    )
+}
