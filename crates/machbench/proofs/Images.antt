@@ -20,8 +20,8 @@ abbrev pub Completes : {A : Type 0} → List (Result FatEntry Fault) → List (R
 Completes {A} all left found = (rest : List (MachO A)) → AreImagesOf left rest → AreImagesOf all (found ++ rest)
 
 -- an entry that opened as an image
-pub one_more_image : {A : Type 0} (all left : List (Result FatEntry Fault)) (found : List (MachO A)) (entry : Result FatEntry Fault) (e : FatEntry) (m : MachO A)
-    → entry ≡ Ok e → IsEntry e (single.MachO m) → Completes all (entry ∷ left) found → Completes all left (found ++ m ∷ [])
+pub one_more_image : {A : Type 0} (all left : List (Result FatEntry Fault)) (found : List (MachO A)) (entry : Result FatEntry Fault) (e : FatEntry)
+    (m : MachO A) → entry ≡ Ok e → IsEntry e (single.MachO m) → Completes all (entry ∷ left) found → Completes all left (found ++ m ∷ [])
 one_more_image all left found entry (archive slice) m e_is bad goes = elim bad [ ]
 one_more_image {A} all left found entry (image slice) m e_is is goes = λ rest images.
     let with_it : AreImagesOf (entry ∷ left) (m ∷ rest) =
@@ -34,8 +34,8 @@ pub no_more_image : {A : Type 0} (all left : List (Result FatEntry Fault)) (foun
     → Completes all (entry ∷ left) found → Completes all left found
 no_more_image all left found entry none goes = λ rest images. goes rest (left_out entry left rest none images)
 
-pub archive_is_none : (A : Type 0) (entry : Result FatEntry Fault) (e : FatEntry) (bytes : Bor (List ℕ)) → entry ≡ Ok e → IsEntry {A = A} e (single.Archive bytes)
-    → ¬ (OpensAsImage entry)
+pub archive_is_none : (A : Type 0) (entry : Result FatEntry Fault) (e : FatEntry) (bytes : Bor (List ℕ)) → entry ≡ Ok e
+    → IsEntry {A = A} e (single.Archive bytes) → ¬ (OpensAsImage entry)
 archive_is_none A entry (archive slice) bytes e_is is = λ opens. subst OpensAsImage e_is opens
 archive_is_none A entry (image slice) bytes e_is bad = elim bad [ ]
 

@@ -2,7 +2,7 @@
 
 ghost use Rattle.std.specs.Prelude.{◌≡◌, ℕ, List};
 ghost use Rattle.mach_image.specs.OpenImage.{IsImage};
-ghost use Rattle.machinfo.specs.Rows.{HasRows, row_shown, rows_left};
+ghost use Rattle.machinfo.specs.Rows.{HasRows, row_shown, listed_rows_left};
 
 use crate::notes::NumberedNotes;
 use crate::providers::ProvidedSymbols;
@@ -37,7 +37,7 @@ pub enum ImageList<'a, 'b, A: Allocator> {
 impl<'a, 'b, A: Allocator> ImageList<'a, 'b, A> {
     /// The list of an image for which a word asks.
     pub fn of(word: Word, image: &'b MachO<'a, A>) -> Self
-        ensures { (bytes : List ℕ) (o : ℕ) → IsImage bytes o image.now → HasRows word bytes o (rows_left result) }
+        ensures { (bytes : List ℕ) (o : ℕ) → IsImage bytes o image.now → HasRows word bytes o (listed_rows_left result) }
     {
         match word {
             Word::Starts => ImageList::Starts(image.function_starts()),
@@ -60,7 +60,7 @@ impl<'a, A: Allocator> Listing for ImageList<'a, '_, A> {
 
     ghost text = { row_shown };
 
-    ghost left = { rows_left };
+    ghost left = { listed_rows_left };
 
     fn next_row(&mut self) -> Option<Result<Row<'a>>> {
         match self {

@@ -8,7 +8,8 @@ pub entries-preserved-in-Continue-1 : goal.entries-preserved-in-Continue-1
 entries-preserved-in-Continue-1 g c =
     let step = c.in-Some.ensures.steps in
     let is_entry = rw (c.in-Ok-MachO.is, c.in-Ok-MachO.field-0-is) at step.2.opened in
-    rw c.in_ok-push-in-Ok-MachO.ensures.items (one_more_image (entries_of (file_held c.args.container.now)) (entries_left c.next.new.self) c.entries.images.items
+    let all = entries_of (file_held c.args.container.now) in
+    rw c.in_ok-push-in-Ok-MachO.ensures.items (one_more_image all (entries_left c.next.new.self) c.entries.images.items
     step.0 is_entry.0 c.in-Ok-MachO.image is_entry.1 is_entry.2 (rw step.1 at c.entries.invariant))
 
 pub entries-preserved-in-Ok-Archive : goal.entries-preserved-in-Ok-Archive
