@@ -14,7 +14,7 @@ use Rattle.mach_base.specs.declared.error.Error.{Error}
 use Rattle.mach_show.proofs.Lines.{no_lines, line_more, lines_both}
 use Rattle.mach_show.specs.Lines.{WritesLines}
 use Rattle.machfixups.specs.Lines.{row_line, line_of_more, WritesFirstRows, WritesTold}
-use Rattle.machfixups.specs.Rows.{PointerRow, row_read}
+use Rattle.machfixups.specs.Rows.{PointerRow, picked, row_read}
 use Rattle.machfixups.specs.declared.print.Told.{Told}
 use Rattle.machfixups.specs.declared.row.Row as declared
 
@@ -114,35 +114,42 @@ goes_cut limit rows all left whole old new t item rest goes is none said =
     told_of limit rows all left whole old new t goes told said.1 (said.0 ∙ omega (arith, many, front))
     (said.2 ∙ sym (lt-ltb limit (length rows) (omega (arith, many, front))))
 
--- ---- both lists of an image
+-- ---- the lists of an image, one behind the other
 
-pub told_both : (limit left : ℕ) (first second : List (Result PointerRow Fault)) (one two : Told) (more final : Bool) (old middle after new : Option (List ℕ))
-    → WritesFirstRows left first old middle one → WritesFirstRows one.left second middle after two → more ≡ (one.more || two.more)
-    → Appends after new (line_of_more limit more)
-    → final ≡ ((one.whole && two.whole) && not more) → WritesTold limit left (first ++ second) final two.left old new
-told_both limit left first second one two more final old middle after new a b is line said =
-    let rows = first ++ second in
-    let long : nat_lt left (length rows) ≡ more =
-    more_both left first second
-    ∙ ap (λ (n : ℕ). nat_lt left (length first) || nat_lt n (length second)) (sym a.rest)
-    ∙ ap (λ (x : Bool). x || nat_lt one.left (length second)) (sym a.more)
-    ∙ ap (λ (y : Bool). one.more || y) (sym b.more) ∙ sym is in
-    let told : take left first ++ take one.left second ≡ take left rows =
+-- of a list that isn't shown
+pub told_unless : (limit : ℕ) (is_shown : Bool) (rows : List (Result PointerRow Fault)) (known : Option (List ℕ)) (t : Told) → is_shown ≡ false
+    → (t.left ≡ limit) × (t.whole ≡ true) × (t.more ≡ false) → WritesFirstRows limit (picked is_shown rows) known known t
+told_unless limit true rows known t off is = absurd (cc)
+told_unless limit false rows known t off is = goes_over limit [] [] limit true known known t (goes_init limit [] [] known refl) refl is
+
+pub told_then : (left : ℕ) (first second : List (Result PointerRow Fault)) (one two t : Told) (old middle new : Option (List ℕ))
+    → WritesFirstRows left first old middle one → WritesFirstRows one.left second middle new two
+    → (t.left ≡ two.left) × (t.whole ≡ (one.whole && two.whole)) × (t.more ≡ (one.more || two.more)) → WritesFirstRows left (first ++ second) old new t
+told_then left first second one two t old middle new a b is =
+    let told : take left first ++ take one.left second ≡ take left (first ++ second) =
     ap (λ (n : ℕ). take left first ++ take n second) a.rest ∙ sym (take_both left first second) in
-    let lines =
-    subst (λ (xs : List (Result PointerRow Fault)). WritesLines row_read row_line xs old after) told
-    (lines_both row_read row_line (take left first) (take one.left second) old middle after a.lines b.lines) in
-    let whole : (one.whole && two.whole) ≡ list_all is_ok (take left rows) =
-    ap (λ (w : Bool). w && two.whole) a.whole ∙ ap (λ (w : Bool). list_all is_ok (take left first) && w) b.whole
-    ∙ sym (list_all-append is_ok (take left first) (take one.left second)) ∙ ap (list_all is_ok) told in
     record {
-      text = lines.text ++ line_of_more limit more;
-      lines = record {
-        lines = lines.text;
-        are_lines = lines.lines;
-        is_text = ap (λ (m : Bool). lines.text ++ line_of_more limit m) (sym long);
-        is_whole = said ∙ ap (λ (w : Bool). w && not more) whole ∙ ap (λ (m : Bool). list_all is_ok (take left rows) && not m) (sym long);
-        is_rest = omega (arith, a.rest, b.rest, length-append first second);
-      };
-      written = Appends-both old after new lines.text (line_of_more limit more) lines.written line;
+      lines = subst (λ (xs : List (Result PointerRow Fault)). WritesLines row_read row_line xs old new) told
+          (lines_both row_read row_line (take left first) (take one.left second) old middle new a.lines b.lines);
+      whole = is.1 ∙ ap (λ (w : Bool). w && two.whole) a.whole ∙ ap (λ (w : Bool). list_all is_ok (take left first) && w) b.whole
+          ∙ sym (list_all-append is_ok (take left first) (take one.left second)) ∙ ap (list_all is_ok) told;
+      rest = omega (arith, is.0, a.rest, b.rest, length-append first second);
+      more = is.2 ∙ ap (λ (x : Bool). x || two.more) a.more ∙ ap (λ (y : Bool). nat_lt left (length first) || y) b.more
+          ∙ ap (λ (n : ℕ). nat_lt left (length first) || nat_lt n (length second)) a.rest ∙ sym (more_both left first second);
     }
+
+-- and then the line that says that there are more
+pub told_last : (limit left : ℕ) (rows : List (Result PointerRow Fault)) (t : Told) (final : Bool) (old middle new : Option (List ℕ))
+    → WritesFirstRows left rows old middle t → Appends middle new (line_of_more limit t.more) → final ≡ (t.whole && not t.more)
+    → WritesTold limit left rows final t.left old new
+told_last limit left rows t final old middle new a line is = record {
+  text = a.lines.text ++ line_of_more limit t.more;
+  lines = record {
+    lines = a.lines.text;
+    are_lines = a.lines.lines;
+    is_text = ap (λ (m : Bool). a.lines.text ++ line_of_more limit m) a.more;
+    is_whole = is ∙ ap (λ (w : Bool). w && not t.more) a.whole ∙ ap (λ (m : Bool). list_all is_ok (take left rows) && not m) a.more;
+    is_rest = a.rest;
+  };
+  written = Appends-both old middle new a.lines.text (line_of_more limit t.more) a.lines.written line;
+}

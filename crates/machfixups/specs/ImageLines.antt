@@ -1,28 +1,26 @@
 -- The lines that the program shows of an image.
 use Rattle.std.specs.Prelude.{ℕ, List, Bool, Option, Result}
 use Rattle.mach_base.specs.Fault.{Fault}
-use Rattle.mach_segments.specs.Bindings.{Binding}
 use Rattle.mach_segments.specs.Segment.{SegmentView}
-use Rattle.mach_chained.specs.Fixups.{Fixup}
 use Rattle.mach_chained.specs.Header.{Fixups}
-use Rattle.mach_image.specs.Facts.{HasSegments, HasChainedFixups, HasFixups}
+use Rattle.mach_image.specs.Facts.{HasSegments, HasChainedFixups}
 use Rattle.mach_image.specs.Image.{Opens}
 use Rattle.machfixups.specs.Lines.{AreLinesTo}
-use Rattle.machfixups.specs.OpcodeBindings.{HasOpcodeBindings}
+use Rattle.machfixups.specs.Lists.{PointerLists, HasPointerLists}
 use Rattle.machfixups.specs.Parts.{parts_of}
 use Rattle.machfixups.specs.Rows.{rows_in_order, readable_table}
+use Rattle.machfixups.specs.declared.rows.Picks.{Picks}
 
--- The text is the lines of the image at the front of the bytes: one for each bind of its opcodes, in order, then one for
--- each fixup of its chains, over its segments; of all of them the first ones, as many as are left of the limit, and where there
--- are more, a line that says so. It is whole where there are no more and none is missing. `rest` are left behind it.
-pub record AreImagePointerLines (limit left : ℕ) (bytes : List ℕ) (text : List ℕ) (whole : Bool) (rest : ℕ) : Type 0 where
+-- The text is the lines of the image at the front of the bytes: one for each rebase of its opcodes, in order, then one for each of their binds,
+-- then one for each row of its weak binds, then one for each fixup of its chains, of the lists that are picked, over its segments; of all of
+-- them the first ones, as many as are left of the limit, and where there are more, a line that says so. It is whole where there are no more and
+-- none is missing. `rest` are left behind it.
+pub record AreImagePointerLines (picks : Picks) (limit left : ℕ) (bytes : List ℕ) (text : List ℕ) (whole : Bool) (rest : ℕ) : Type 0 where
   pub opens : Opens bytes 0
   pub segments : List SegmentView
   pub has_segments : HasSegments bytes 0 segments
-  pub bindings : List (Result Binding Fault)
-  pub has_bindings : HasOpcodeBindings bytes 0 bindings
+  pub lists : PointerLists
+  pub has_lists : HasPointerLists bytes 0 lists
   pub chained : Result (Option Fixups) Fault
   pub has_chained : HasChainedFixups bytes 0 chained
-  pub fixups : List (Result Fixup Fault)
-  pub has_fixups : HasFixups bytes 0 fixups
-  pub lines : AreLinesTo limit left (rows_in_order (parts_of segments) (readable_table chained) bindings fixups) text whole rest
+  pub lines : AreLinesTo limit left (rows_in_order picks (parts_of segments) (readable_table chained) lists) text whole rest

@@ -1,5 +1,6 @@
 pub mod Parts
+pub mod Lists
 pub mod Rows
+pub mod RowsLeft
 pub mod Lines
-pub mod OpcodeBindings
 pub mod ImageLines

@@ -1,4 +1,4 @@
--- The lines that are printed of binds and fixups.
+-- The lines that are printed of rebases, binds and fixups.
 use Rattle.std.specs.Prelude.{◌≡◌, ◌==◌, ◌&&◌, ◌-◌, ℕ, List, [], ◌++◌, codes, take, length, nat_lt, Bool, true, false, not, Option, Some, None, Result}
 use Rattle.std.specs.Prelude.{Ok, Err}
 use Rattle.std.specs.Prelude.{if◌then◌else◌}
@@ -11,7 +11,10 @@ use Rattle.mach_base.specs.Words.{words_of}
 use Rattle.mach_base.specs.declared.error.Error.{Error}
 use Rattle.mach_chained.specs.Pointers.{Auth}
 use Rattle.mach_show.specs.Lines.{AreLines, WritesLines}
-use Rattle.machfixups.specs.Rows.{PointerPlace, PointerBind, Action, binds, rebases, is_value, PointerRow, row_view, row_read}
+use Rattle.mach_streams.specs.declared.rebases.RebaseKind.{RebaseKind}
+use Rattle.mach_streams.specs.declared.rebases.RebaseKind.TheVariants.{Pointer, TextAbsolute32, TextRelative32}
+use Rattle.machfixups.specs.Rows.{PointerPlace, PointerBind, Action, binds, binds_weakly, rebases, is_value, PointerRow, corrects, is_strong}
+use Rattle.machfixups.specs.Rows.{row_view, row_read}
 use Rattle.machfixups.specs.declared.print.Told.{Told}
 use Rattle.machfixups.specs.declared.row.Row as declared
 
@@ -50,23 +53,30 @@ flags_text true false (Some a) = codes "weak," ++ auth_text a
 flags_text false true (Some a) = codes "lazy," ++ auth_text a
 flags_text true true (Some a) = codes "weak,lazy," ++ auth_text a
 
+-- the addend, the flags and the name
 abbrev pub bind_text : PointerBind → List ℕ
-bind_text b =
-    codes "bind " ++ signed_decimal b.ordinal ++ codes " " ++ signed_decimal b.addend ++ codes " "
-    ++ flags_text b.is_weak b.is_lazy b.auth ++ codes " " ++ b.name
+bind_text b = signed_decimal b.addend ++ codes " " ++ flags_text b.is_weak b.is_lazy b.auth ++ codes " " ++ b.name
+
+-- what is corrected, where it is no pointer
+abbrev pub rebase_kind_text : RebaseKind → List ℕ
+rebase_kind_text Pointer = []
+rebase_kind_text TextAbsolute32 = codes " text-absolute"
+rebase_kind_text TextRelative32 = codes " text-relative"
 
 -- a rebase has flags where its pointer is signed
-abbrev pub rebase_text : ℕ → Option Auth → List ℕ
-rebase_text target None = codes "rebase " ++ hex target
-rebase_text target (Some a) = codes "rebase " ++ hex target ++ codes " " ++ auth_text a
+abbrev pub signed_text : Option Auth → List ℕ
+signed_text None = []
+signed_text (Some a) = codes " " ++ auth_text a
 
 abbrev pub action_text : Action → List ℕ
-action_text (binds b) = bind_text b
-action_text (rebases target auth) = rebase_text target auth
+action_text (binds b) = codes "bind " ++ signed_decimal b.ordinal ++ codes " " ++ bind_text b
+action_text (binds_weakly b) = codes "weak " ++ bind_text b
+action_text (rebases target kind auth) = codes "rebase " ++ hex target ++ rebase_kind_text kind ++ signed_text auth
 action_text (is_value number) = codes "value " ++ hex number
 
 abbrev pub row_text : PointerRow → List ℕ
-row_text r = pointer_place_text r.place ++ codes " " ++ action_text r.action
+row_text (corrects place action) = pointer_place_text place ++ codes " " ++ action_text action
+row_text (is_strong name) = codes "- - - strong " ++ name
 
 -- The line of a row as it was answered: the row, or why there is none.
 abbrev pub row_line : Result declared.Row Error → List ℕ

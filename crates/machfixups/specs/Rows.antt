@@ -1,5 +1,6 @@
--- What is shown of each bind of the opcodes and of each fixup of the chains.
-use Rattle.std.specs.Prelude.{ℕ, ℤ, pos, negsuc, ◌+ℤ◌, List, codes, map, ◌++◌, Bool, false, Option, Some, None, option_map, Result, Ok, Err, slice_get}
+-- What is shown of each rebase, bind and weak bind of the opcodes and of each fixup of the chains.
+use Rattle.std.specs.Prelude.{ℕ, ℤ, pos, negsuc, ◌+ℤ◌, List, [], codes, map, ◌++◌, slice_get, Bool, false, not, ◌||◌, if◌then◌else◌}
+use Rattle.std.specs.Prelude.{Option, Some, None, option_map, Result, Ok, Err}
 use Rattle.mach_base.specs.Answer.{◌>>=◌}
 use Rattle.mach_base.specs.Fault.{Fault, malformed}
 use Rattle.mach_base.specs.declared.error.Error.{Error}
@@ -12,12 +13,19 @@ use Rattle.mach_chained.specs.PointerViews.{auth_seen}
 use Rattle.mach_chained.specs.Views.{fixups_view}
 use Rattle.mach_chained.specs.declared.header.ChainedFixups.{ChainedFixups}
 use Rattle.mach_chained.specs.Pointers.{KindOfFixup, rebase, bind, value, Auth}
+use Rattle.mach_streams.specs.Rebases.{Rebase}
+use Rattle.mach_streams.specs.WeakBinds.{WeakBind, strong_name, weakly_bound}
+use Rattle.mach_streams.specs.declared.rebases.RebaseKind.{RebaseKind}
+use Rattle.mach_streams.specs.declared.rebases.RebaseKind.TheVariants.{Pointer}
+use Rattle.machfixups.specs.Lists.{PointerLists}
 use Rattle.machfixups.specs.Parts.{Part, part_with, section_with}
 use Rattle.machfixups.specs.declared.row.Action as declared_action
 use Rattle.machfixups.specs.declared.row.Action.TheVariants as variants
 use Rattle.machfixups.specs.declared.row.Bind as declared_bind
 use Rattle.machfixups.specs.declared.row.Place as declared_place
 use Rattle.machfixups.specs.declared.row.Row as declared
+use Rattle.machfixups.specs.declared.row.Row.TheVariants as rows
+use Rattle.machfixups.specs.declared.rows.Picks.{Picks}
 
 -- where a pointer lies: its address, and the names that are shown of its segment and its section
 pub record PointerPlace : Type 0 where
@@ -35,22 +43,32 @@ pub record PointerBind : Type 0 where
   pub is_lazy : Bool
   pub auth : Option Auth
 
--- what is asked for: a symbol's address, an address that moves with the image, or a number
+-- what is asked for: a symbol's address, that of the definition which all images share, an address that moves with the image, or a number
 pub data Action : Type 0 where
   binds : PointerBind → Action
-  rebases : (target : ℕ) → Option Auth → Action
+  binds_weakly : PointerBind → Action
+  rebases : (target : ℕ) → RebaseKind → Option Auth → Action
   is_value : ℕ → Action
 
-pub record PointerRow : Type 0 where
-  pub place : PointerPlace
-  pub action : Action
+-- a place with what is asked for there, or a name that the image defines itself and not weakly
+pub data PointerRow : Type 0 where
+  corrects : PointerPlace → Action → PointerRow
+  is_strong : (name : List ℕ) → PointerRow
 
 -- the place of an address in a segment, if there is one
 abbrev pub place_in : Option Part → ℕ → PointerPlace
 place_in None address = record { address = address; segment = codes "-"; section = codes "-" }
 place_in (Some p) address = record { address = address; segment = p.name; section = section_with address p.sections }
 
--- ---- binds of the opcodes
+-- what is asked for at an address, in the first segment that holds it
+abbrev pub row_by_address : List Part → ℕ → Action → PointerRow
+row_by_address parts address action = corrects (place_in (part_with address parts) address) action
+
+-- what is asked for at an address, in the segment of a number
+abbrev pub row_by_segment : List Part → (segment address : ℕ) → Action → PointerRow
+row_by_segment parts segment address action = corrects (place_in (slice_get parts segment) address) action
+
+-- ---- rebases and binds of the opcodes
 
 abbrev pub ordinal_of : Provider → ℤ
 ordinal_of (of_library ordinal name) = pos ordinal
@@ -69,12 +87,18 @@ bind_of_binding b = record {
   auth = None;
 }
 
--- that of a bind of the opcodes, in the first segment that holds its address
+-- that of a bind, in the first segment that holds its address
 abbrev pub row_of_binding : List Part → Binding → PointerRow
-row_of_binding parts b = record {
-  place = place_in (part_with b.address parts) b.address;
-  action = binds (bind_of_binding b);
-}
+row_of_binding parts b = row_by_address parts b.address (binds (bind_of_binding b))
+
+-- that of a rebase, in its segment
+abbrev pub row_of_rebase : List Part → Rebase → PointerRow
+row_of_rebase parts r = row_by_segment parts r.segment r.address (rebases r.target r.kind r.auth)
+
+-- that of a strong name; that of a weak bind, in the first segment that holds its address
+abbrev pub row_of_weak : List Part → WeakBind → PointerRow
+row_of_weak parts (strong_name name) = is_strong name
+row_of_weak parts (weakly_bound b) = row_by_address parts b.address (binds_weakly (bind_of_binding b))
 
 -- ---- fixups of the chains
 
@@ -95,17 +119,21 @@ bind_of_import i inline auth = record {
 }
 
 abbrev pub action_of : Option Fixups → KindOfFixup → Option Auth → Result Action Fault
-action_of table (rebase target) auth = Ok (rebases target auth)
+action_of table (rebase target) auth = Ok (rebases target Pointer auth)
 action_of table (value number) auth = Ok (is_value number)
 action_of table (bind import inline) auth = import_in table import >>= (λ i. Ok (binds (bind_of_import i inline auth)))
 
 -- that of a fixup, in its segment
 abbrev pub row_of_fixup : List Part → Option Fixups → Fixup → Result PointerRow Fault
-row_of_fixup parts table f =
-    action_of table f.kind f.auth
-    >>= (λ action. Ok (record { place = place_in (slice_get parts f.segment) f.address; action = action }))
+row_of_fixup parts table f = action_of table f.kind f.auth >>= (λ action. Ok (row_by_segment parts f.segment f.address action))
 
 -- ---- all rows
+
+abbrev pub row_for_rebase : List Part → Result Rebase Fault → Result PointerRow Fault
+row_for_rebase parts item = item >>= (λ r. Ok (row_of_rebase parts r))
+
+abbrev pub row_for_weak : List Part → Result WeakBind Fault → Result PointerRow Fault
+row_for_weak parts item = item >>= (λ w. Ok (row_of_weak parts w))
 
 abbrev pub row_for_binding : List Part → Result Binding Fault → Result PointerRow Fault
 row_for_binding parts item = item >>= (λ b. Ok (row_of_binding parts b))
@@ -118,9 +146,30 @@ abbrev pub readable_table : Result (Option Fixups) Fault → Option Fixups
 readable_table (Ok table) = table
 readable_table (Err f) = None
 
--- a row for each bind of the opcodes in order, then one for each fixup of the chains, or why there is none
-abbrev pub rows_in_order : List Part → Option Fixups → List (Result Binding Fault) → List (Result Fixup Fault) → List (Result PointerRow Fault)
-rows_in_order parts table bindings fixups = map (row_for_binding parts) bindings ++ map (row_for_fixup parts table) fixups
+-- the lists that are shown: all, where none is asked for
+abbrev pub none_asked : Picks → Bool
+none_asked p = not (p.rebases || p.binds || p.weak || p.chains)
+
+abbrev pub shown_picks : Picks → Picks
+shown_picks p = record {
+  rebases = p.rebases || none_asked p;
+  binds = p.binds || none_asked p;
+  weak = p.weak || none_asked p;
+  chains = p.chains || none_asked p;
+}
+
+-- the rows of a list, if it is shown
+abbrev pub picked : Bool → List (Result PointerRow Fault) → List (Result PointerRow Fault)
+picked is_shown rows = if is_shown then rows else []
+
+-- A row, or why there is none, for each rebase of the opcodes in order, then for each of their binds, then for each weak bind, and then for
+-- each fixup of the chains: of the lists that are shown.
+abbrev pub rows_in_order : Picks → List Part → Option Fixups → PointerLists → List (Result PointerRow Fault)
+rows_in_order p parts table lists =
+    picked (shown_picks p).rebases (map (row_for_rebase parts) lists.rebases)
+    ++ (picked (shown_picks p).binds (map (row_for_binding parts) lists.bindings)
+    ++ (picked (shown_picks p).weak (map (row_for_weak parts) lists.weak_binds)
+    ++ picked (shown_picks p).chains (map (row_for_fixup parts table) lists.fixups)))
 
 -- ---- what the code's values stand for
 
@@ -142,11 +191,13 @@ bind_view b = record {
 
 abbrev pub action_view : declared_action.Action → Action
 action_view (variants.Bind b) = binds (bind_view b)
-action_view (variants.Rebase target auth) = rebases target (auth_seen auth)
+action_view (variants.Weak b) = binds_weakly (bind_view b)
+action_view (variants.Rebase target kind auth) = rebases target kind (auth_seen auth)
 action_view (variants.Value number) = is_value number
 
 abbrev pub row_view : declared.Row → PointerRow
-row_view r = record { place = place_view r.place; action = action_view r.action }
+row_view (rows.At place action) = corrects (place_view place) (action_view action)
+row_view (rows.Strong name) = is_strong name.now
 
 -- a row, as it was answered
 abbrev pub row_read : Result declared.Row Error → Result PointerRow Fault

@@ -1,16 +1,19 @@
-//! Prints what dyld corrects of a Mach-O file, a line each: the binds of the bind opcodes in order, then the fixups of
-//! the chains in order; of a fat file those of each entry, under a line that says which. Of a file it prints at most as many
-//! of them as `--limit` says, and behind those of an image that has more, a line that says so.
+//! Prints what dyld corrects of a Mach-O file, a line each: the rebases of the opcodes in order, then the binds of the bind
+//! opcodes, then the weak binds, then the fixups of the chains, or those of these lists that are asked for; of a fat file those
+//! of each entry, under a line that says which. Of a file it prints at most as many of them as `--limit` says, and behind those
+//! of an image that has more, a line that says so.
 //!
 //! A line has the address, the names of the segment and of the section, and what is asked for: `bind` with the ordinal
-//! of the library, the addend, flags and the symbol's name; `rebase` with the address that moves with the image, and
-//! flags where the pointer is signed; or `value` with a number.
+//! of the library, the addend, flags and the symbol's name; `weak` with addend, flags and name; `rebase` with the address
+//! that moves with the image, and flags where the pointer is signed; or `value` with a number. A name that the image
+//! defines itself and not weakly has a line `- - - strong`.
 //!
-//! Where lines differ from those of `llvm-objdump --bind --lazy-bind --dyld-info`:
+//! Where lines differ from those of `llvm-objdump --rebase --bind --lazy-bind --weak-bind --dyld-info`:
 //! - a library is shown by its ordinal, as it stands there: 0 is the image itself, -1 the main executable, -2 any image,
 //!   -3 the weak look-up;
+//! - of a rebase of the opcodes the target is shown, and its type where it is no pointer;
+//! - a count of 0 gives no line, and a place has its segment though it lies in no section whole;
 //! - an addend is shown in decimal, with its sign, and it is that of the table and that of the pointer together;
-//! - the opcodes for rebases and those for weak binds are not shown;
 //! - a bind or a fixup that can't be read has a line that says why, and those behind it in the opcodes or in the chains
 //!   can't be read, unless it is a bind whose import alone can't be.
 #![tactic(auto)]
@@ -18,25 +21,42 @@
 mod parts;
 mod print;
 mod row;
+mod rows;
 mod run;
 #[cfg(test)]
 mod tests;
 mod text;
+mod words;
 
 use mach_show::{Cpu, Misuse, Program, Round};
 use print::DEFAULT_LIMIT;
+use rows::Picks;
 use run::{NAME, run};
 use std::io;
 use std::io::BufWriter;
 use std::process::ExitCode;
+use words::take_picks;
+
+const USAGE: &str =
+    "usage: machfixups [--rebases] [--binds] [--weak] [--chains] [--limit N] [--arch NAME | --cputype 0xN] FILE..\n       machfixups -h | --help | --version\n";
 
 const PROGRAM: Program = Program {
     name: NAME,
-    usage: "usage: machfixups [--limit N] [--arch NAME | --cputype 0xN] FILE..\n       machfixups -h | --help | --version\n",
+    usage: USAGE,
     version: "machfixups 0.2.0\n",
     has_limit: true,
     has_cpu: true,
-    known: &["--arch", "--cputype", "--help", "--limit", "--version"],
+    known: &[
+        "--arch",
+        "--binds",
+        "--chains",
+        "--cputype",
+        "--help",
+        "--limit",
+        "--rebases",
+        "--version",
+        "--weak",
+    ],
 };
 
 fn main(rt: HostRuntime) -> ExitCode {
@@ -48,13 +68,23 @@ fn main(rt: HostRuntime) -> ExitCode {
 // Does what the words ask for.
 fn start(rt: &HostRuntime) -> Result<u8, u8> {
     let words = PROGRAM.words(rt)?;
+    let Ok((picks, words)) = take_picks(rt.alloc(), words) else {
+        return Err(PROGRAM.out_of_memory(rt));
+    };
     let call = PROGRAM.call(rt, &words)?;
     let limit = call.limit.unwrap_or(DEFAULT_LIMIT);
-    show_files(rt, call.cpu, limit, &call.words)
+    show_files(rt, call.cpu, picks, limit, &call.words)
 }
 
-// Shows of files in order the images that are asked for, `limit` binds and fixups of each at most, and answers the worst status.
-fn show_files(rt: &HostRuntime, cpu: Cpu, limit: usize, files: &[&str]) -> Result<u8, u8> {
+// Shows of files in order the images that are asked for, of the lists that are picked, `limit` lines of each file at most, and answers the
+// worst status.
+fn show_files(
+    rt: &HostRuntime,
+    cpu: Cpu,
+    picks: Picks,
+    limit: usize,
+    files: &[&str],
+) -> Result<u8, u8> {
     if files.is_empty() {
         return Err(PROGRAM.bad_usage(rt, Misuse::Missing("FILE")));
     }
@@ -67,6 +97,7 @@ fn show_files(rt: &HostRuntime, cpu: Cpu, limit: usize, files: &[&str]) -> Resul
             round.end(run(
                 rt.alloc(),
                 cpu,
+                picks,
                 limit,
                 file,
                 &bytes,

@@ -1,32 +1,30 @@
-//! The lines of an image's binds and fixups.
+//! The lines of what dyld corrects of an image.
 
-ghost use Rattle.std.specs.Prelude.{◌≡◌, ℕ, List, Option, Result, map, false, true, IfOk, OnOk};
+ghost use Rattle.std.specs.Prelude.{◌≡◌, ℕ, List, Option, Result, false, true, ◌&&◌, ◌||◌, IfOk, OnOk};
 ghost use Rattle.std.specs.Io.KnownBytes.{Appends};
 ghost use Rattle.std.specs.Result.{is_ok};
 ghost use Rattle.mach_base.specs.Fault.{Fault};
-ghost use Rattle.mach_chained.specs.Fixups.{Fixup};
 ghost use Rattle.mach_chained.specs.Header.{Fixups};
-ghost use Rattle.mach_binds.specs.BindingsLeft.{opcode_bindings_left};
-ghost use Rattle.mach_segments.specs.Bindings.{Binding};
-ghost use Rattle.mach_image.specs.Facts.{HasChainedFixups, HasFixups};
+ghost use Rattle.mach_image.specs.Facts.{HasChainedFixups};
 ghost use Rattle.mach_image.specs.Fixups.{chained_held};
-ghost use Rattle.mach_image.specs.FixupsLeft.{image_fixups_left};
 ghost use Rattle.mach_image.specs.OpenImage.{IsImage};
 ghost use Rattle.machfixups.specs.Lines.{row_line, line_of_more, WritesFirstRows, WritesTold};
+ghost use Rattle.machfixups.specs.Lists.{PointerLists, HasPointerLists};
 ghost use Rattle.machfixups.specs.Parts.{parts_seen};
-ghost use Rattle.machfixups.specs.Rows.{row_for_binding, row_for_fixup, rows_in_order, readable_table, fixups_table_seen};
-ghost use Rattle.machfixups.specs.OpcodeBindings.{HasOpcodeBindings};
+ghost use Rattle.machfixups.specs.Rows.{rows_in_order, picked, readable_table, fixups_table_seen};
+ghost use Rattle.machfixups.specs.RowsLeft.{rows_left, rows_of_items};
 
 use crate::parts::Part;
-use crate::row::{Row, binding_row, fixup_row};
+use crate::row::Row;
+use crate::rows::{Items, Picks, Rows};
 use goblin_mach::chained_fixups::ChainedFixups;
-use goblin_mach::{FixupIterator, MachO, OpcodeBindingIterator, describe, laws};
+use goblin_mach::{MachO, describe, laws};
 use mach_show::Outcome;
 use std::alloc::Allocator;
 use std::io;
 use std::io::Write;
 
-/// How many binds and fixups of a file are told, where no other limit is given.
+/// How many lines of a file are told, where no other limit is given.
 pub const DEFAULT_LIMIT: usize = 10_000_000;
 
 /// What was printed of a list that ends at a limit.
@@ -62,35 +60,55 @@ impl Told {
             more: true,
         }
     }
+
+    // What was printed of a list, and of another behind it with what the first left.
+    fn then(self, next: Told) -> Told
+        ensures { (result.left ≡ next.left) × (result.whole ≡ (self.whole && next.whole)) × (result.more ≡ (self.more || next.more)) }
+    {
+        Told {
+            left: next.left,
+            whole: self.whole & next.whole,
+            more: self.more | next.more,
+        }
+    }
 }
 
-/// Prints exactly a line for each bind of the opcodes that the image has in its bytes, in order, and then one for each
-/// fixup of its chains, and answers whether all of them can be read. Where one can't its line says why. Of all of them
-/// it prints the first `left`, and where there are more, a line that says that `limit` are told; then they are not all read.
-/// Each line is one less that is left for the images behind.
+/// Prints exactly a line for each rebase of the opcodes that the image has in its bytes, in order, then one for each of their binds, one for
+/// each row of its weak binds, and one for each fixup of its chains, of the lists that are picked, and answers whether all of them can be
+/// read. Where one can't its line says why. Of all of them it prints the first `left`, and where there are more, a line that says that
+/// `limit` are told; then they are not all read. Each line is one less that is left for the images behind.
 pub fn print_fixups<A: Allocator, B: Allocator, O: Write>(
     image: &MachO<'_, A>,
     parts: &[Part<'_, B>],
+    picks: Picks,
     limit: usize,
     left: usize,
     out: &mut O,
 ) -> io::Result<Outcome>
     ensures { (bytes : List ℕ) (o : ℕ) → IsImage bytes o image.now
-        → IfOk result (λ outcome. (bindings : List (Result Binding Fault)) × HasOpcodeBindings bytes o bindings
+        → IfOk result (λ outcome. (lists : PointerLists) × HasPointerLists bytes o lists
         × (chained : Result (Option Fixups) Fault) × HasChainedFixups bytes o chained
-        × (fixups : List (Result Fixup Fault)) × HasFixups bytes o fixups
-        × WritesTold limit left (rows_in_order (parts_seen parts.now) (readable_table chained) bindings fixups) outcome.whole outcome.left
+        × WritesTold limit left (rows_in_order picks (parts_seen parts.now) (readable_table chained) lists) outcome.whole outcome.left
         (O.contents out.old) (O.contents out.new)) }
 {
     laws::strict_image_is_lossy(image);
-    let binds = print_bindings(image.opcode_bindings(), parts, left, out)?;
     let table = table_of(image);
-    let chains = print_chains(image.fixups(), parts, &table, binds.left, out)?;
-    let more = binds.more | chains.more;
-    print_more(limit, more, out)?;
+    let picks = picks.shown();
+    let items = Items::Rebases(image.opcode_rebases());
+    let rebases = print_list(picks.rebases, parts, &table, items, left, out)?;
+    let items = Items::Binds(image.opcode_bindings());
+    let binds = print_list(picks.binds, parts, &table, items, rebases.left, out)?;
+    let items = Items::Weak(image.weak_binds());
+    let weak = print_list(picks.weak, parts, &table, items, binds.left, out)?;
+    let items = Items::Chains(image.fixups());
+    let chains = print_list(picks.chains, parts, &table, items, weak.left, out)?;
+    let last = weak.then(chains);
+    let rest = binds.then(last);
+    let told = rebases.then(rest);
+    print_more(limit, told.more, out)?;
     Ok(Outcome {
-        whole: binds.whole & chains.whole & !more,
-        left: chains.left,
+        whole: told.whole & !told.more,
+        left: told.left,
     })
 }
 
@@ -114,48 +132,44 @@ fn table_of<'a, A: Allocator>(image: &MachO<'a, A>) -> Option<ChainedFixups<'a>>
     }
 }
 
-// Prints a line for each bind of the opcodes, up to the limit.
-fn print_bindings<B: Allocator, O: Write>(
-    bindings: OpcodeBindingIterator<'_, '_>,
-    parts: &[Part<'_, B>],
+// Prints a line for each row of a list, if it is shown, up to the limit.
+fn print_list<'a, B: Allocator, O: Write>(
+    is_shown: bool,
+    parts: &[Part<'a, B>],
+    table: &Option<ChainedFixups<'a>>,
+    items: Items<'a, '_>,
     limit: usize,
     out: &mut O,
 ) -> io::Result<Told>
-    ensures { IfOk result (WritesFirstRows limit (map (row_for_binding (parts_seen parts.now)) (opcode_bindings_left bindings.entry)) (O.contents out.old)
-        (O.contents out.new)) }
-{
-    let mut left = limit;
-    let mut whole = true;
-    'bindings: for binding in bindings {
-        let Some(rest) = left.checked_sub(1) else {
-            return Ok(Told::cut(whole));
-        };
-        left = rest;
-        let row = binding_row(parts, binding);
-        whole &= print_row(&row, out)?;
-    }
-    Ok(Told::all(left, whole))
-}
-
-// Prints a line for each fixup of the chains, up to the limit.
-fn print_chains<B: Allocator, O: Write>(
-    fixups: FixupIterator<'_, '_>,
-    parts: &[Part<'_, B>],
-    table: &Option<ChainedFixups<'_>>,
-    limit: usize,
-    out: &mut O,
-) -> io::Result<Told>
-    ensures { IfOk result (WritesFirstRows limit (map (row_for_fixup (parts_seen parts.now) (fixups_table_seen table.now)) (image_fixups_left fixups.entry))
+    ensures { IfOk result (WritesFirstRows limit (picked is_shown (rows_of_items (parts_seen parts.now) (fixups_table_seen table.now) items.entry))
         (O.contents out.old) (O.contents out.new)) }
 {
+    if !is_shown {
+        return Ok(Told::all(limit, true));
+    }
+    let rows = Rows {
+        parts,
+        table,
+        items,
+    };
+    print_rows(rows, limit, out)
+}
+
+// Prints a line for each row of a list, up to the limit.
+fn print_rows<B: Allocator, O: Write>(
+    rows: Rows<'_, '_, '_, B>,
+    limit: usize,
+    out: &mut O,
+) -> io::Result<Told>
+    ensures { IfOk result (WritesFirstRows limit (rows_left rows.entry) (O.contents out.old) (O.contents out.new)) }
+{
     let mut left = limit;
     let mut whole = true;
-    'fixups: for fixup in fixups {
+    'rows: for row in rows {
         let Some(rest) = left.checked_sub(1) else {
             return Ok(Told::cut(whole));
         };
         left = rest;
-        let row = fixup_row(parts, table, fixup);
         whole &= print_row(&row, out)?;
     }
     Ok(Told::all(left, whole))

@@ -1,18 +1,21 @@
-//! What is shown of each bind of the opcodes and of each fixup of the chains.
+//! What is shown of each rebase, bind and weak bind of the opcodes and of each fixup of the chains.
 
 ghost use Rattle.std.specs.Prelude.{◌≡◌, ℤ, option_map, slice_get};
 ghost use Rattle.mach_base.specs.Answer.{Reads};
+ghost use Rattle.mach_streams.specs.RebasesLeft.{rebase_read};
+ghost use Rattle.mach_streams.specs.WeakBindsLeft.{weak_bind_read};
 ghost use Rattle.mach_segments.specs.Bindings.{binding_view, binding_read, provider_view};
 ghost use Rattle.mach_chained.specs.PointerViews.{kind_view, auth_seen};
 ghost use Rattle.mach_chained.specs.Views.{import_view};
 ghost use Rattle.mach_chained.specs.WalkViews.{fixup_view, fixup_read};
 ghost use Rattle.machfixups.specs.Parts.{part_with, part_view, parts_seen};
-ghost use Rattle.machfixups.specs.Rows.{place_in, ordinal_of, row_of_binding, import_in, action_of, bind_of_import, row_of_fixup, row_for_binding};
-ghost use Rattle.machfixups.specs.Rows.{row_for_fixup, place_view, bind_view, action_view, row_view, row_read, fixups_table_seen};
+ghost use Rattle.machfixups.specs.Rows.{place_in, ordinal_of, bind_of_binding, row_by_address, row_by_segment, import_in, action_of, bind_of_import};
+ghost use Rattle.machfixups.specs.Rows.{row_for_binding, row_for_rebase, row_for_weak, row_for_fixup, place_view, bind_view, action_view, row_view};
+ghost use Rattle.machfixups.specs.Rows.{row_of_fixup, row_read, fixups_table_seen};
 
 use crate::parts::{Part, part_with};
 use goblin_mach::chained_fixups::{ChainedFixups, ChainedImport, Fixup, FixupKind, PointerAuth};
-use goblin_mach::{Binding, Error, Provider, Result};
+use goblin_mach::{Binding, Error, Provider, Rebase, RebaseKind, Result, WeakBind};
 use std::alloc::Allocator;
 
 /// Where a pointer lies.
@@ -42,20 +45,28 @@ pub struct Bind<'a> {
 pub enum Action<'a> {
     /// The address of a symbol.
     Bind(Bind<'a>),
+    /// The address of the definition that all images share.
+    Weak(Bind<'a>),
     /// An address that moves with the image.
     Rebase {
         target: u64,
+        kind: RebaseKind,
         auth: Option<PointerAuth>,
     },
     /// A number.
     Value(u32),
 }
 
-/// A bind of the opcodes, or a fixup of the chains.
+/// A rebase, a bind or a weak bind of the opcodes, or a fixup of the chains.
 #[derive(Clone, Copy)]
-pub struct Row<'b, 'a> {
-    pub place: Place<'b>,
-    pub action: Action<'a>,
+pub enum Row<'b, 'a> {
+    /// A place, and what is asked for there.
+    At {
+        place: Place<'b>,
+        action: Action<'a>,
+    },
+    /// A name that the image defines itself, and not weakly.
+    Strong(&'a str),
 }
 
 // The place of an address in a segment, if there is one.
@@ -89,24 +100,47 @@ fn ordinal_of(provider: &Provider<'_>) -> i128
     }
 }
 
-// What is shown of a bind of the opcodes, in the first segment that holds its address.
-fn row_of_binding<'b, 'a, A: Allocator>(
-    parts: &'b [Part<'_, A>],
-    binding: &Binding<'a>,
-) -> Row<'b, 'a>
-    ensures { row_view result ≡ row_of_binding (parts_seen parts.now) (binding_view binding.now) }
+// What a bind of the opcodes asks for.
+fn bind_of_binding<'a>(binding: &Binding<'a>) -> Bind<'a>
+    ensures { bind_view result ≡ bind_of_binding (binding_view binding.now) }
 {
-    let bind = Bind {
+    Bind {
         name: binding.name,
         ordinal: ordinal_of(&binding.provider),
         addend: i128::from(binding.addend),
         is_weak: binding.is_weak,
         is_lazy: binding.is_lazy,
         auth: None,
-    };
-    Row {
-        place: place_in(part_with(binding.address, parts), binding.address),
-        action: Action::Bind(bind),
+    }
+}
+
+// What is asked for at an address, in the first segment that holds it.
+fn row_by_address<'b, 'a, A: Allocator>(
+    parts: &'b [Part<'_, A>],
+    address: u64,
+    action: Action<'a>,
+) -> Row<'b, 'a>
+    ensures { row_view result ≡ row_by_address (parts_seen parts.now) address (action_view action.entry) }
+{
+    Row::At {
+        place: place_in(part_with(address, parts), address),
+        action,
+    }
+}
+
+// What is asked for at an address, in the segment of a number.
+fn row_by_segment<'b, 'a, A: Allocator>(
+    parts: &'b [Part<'_, A>],
+    segment: u32,
+    address: u64,
+    action: Action<'a>,
+) -> Row<'b, 'a>
+    ensures { row_view result ≡ row_by_segment (parts_seen parts.now) segment address (action_view action.entry) }
+{
+    let part = parts.get(segment as usize);
+    Row::At {
+        place: place_in(part, address),
+        action,
     }
 }
 
@@ -144,7 +178,11 @@ fn action_of<'a>(table: &Option<ChainedFixups<'a>>, fixup: &Fixup) -> Result<Act
 {
     let auth = fixup.auth;
     match fixup.kind {
-        FixupKind::Rebase { target } => Ok(Action::Rebase { target, auth }),
+        FixupKind::Rebase { target } => Ok(Action::Rebase {
+            target,
+            kind: RebaseKind::Pointer,
+            auth,
+        }),
         FixupKind::Value { value } => Ok(Action::Value(value)),
         FixupKind::Bind { import, addend } => {
             let found = import_in(table, import)?;
@@ -162,24 +200,51 @@ fn row_of_fixup<'b, 'a, A: Allocator>(
     ensures { Reads row_view result (row_of_fixup (parts_seen parts.now) (fixups_table_seen table.now) (fixup_view fixup.now)) }
 {
     let action = action_of(table, fixup)?;
-    let part = parts.get(fixup.segment as usize);
-    Ok(Row {
-        place: place_in(part, fixup.address),
-        action,
-    })
+    Ok(row_by_segment(parts, fixup.segment, fixup.address, action))
 }
 
-/// What is shown of an item of the opcodes.
+/// What is shown of an item of the opcodes that rebase: its place is in its own segment.
+pub fn rebase_row<'b, 'a, A: Allocator>(
+    parts: &'b [Part<'_, A>],
+    item: Result<Rebase>,
+) -> Result<Row<'b, 'a>>
+    ensures { row_read result ≡ row_for_rebase (parts_seen parts.now) (rebase_read item) }
+{
+    let rebase = item?;
+    let action = Action::Rebase {
+        target: rebase.target,
+        kind: rebase.kind,
+        auth: rebase.auth,
+    };
+    Ok(row_by_segment(parts, rebase.segment, rebase.address, action))
+}
+
+/// What is shown of an item of the opcodes that bind weakly.
+pub fn weak_row<'b, 'a, A: Allocator>(
+    parts: &'b [Part<'_, A>],
+    item: Result<WeakBind<'a>>,
+) -> Result<Row<'b, 'a>>
+    ensures { row_read result ≡ row_for_weak (parts_seen parts.now) (weak_bind_read item.entry) }
+{
+    match item? {
+        WeakBind::Strong { name } => Ok(Row::Strong(name)),
+        WeakBind::Bind(binding) => {
+            let action = Action::Weak(bind_of_binding(&binding));
+            Ok(row_by_address(parts, binding.address, action))
+        }
+    }
+}
+
+/// What is shown of an item of the opcodes that bind: its place is in the first segment that holds its address.
 pub fn binding_row<'b, 'a, A: Allocator>(
     parts: &'b [Part<'_, A>],
     item: Result<Binding<'a>>,
 ) -> Result<Row<'b, 'a>>
     ensures { row_read result ≡ row_for_binding (parts_seen parts.now) (binding_read item.entry) }
 {
-    match item {
-        Ok(binding) => Ok(row_of_binding(parts, &binding)),
-        Err(error) => Err(error),
-    }
+    let binding = item?;
+    let action = Action::Bind(bind_of_binding(&binding));
+    Ok(row_by_address(parts, binding.address, action))
 }
 
 /// What is shown of an item of the chains.

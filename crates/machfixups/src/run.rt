@@ -9,6 +9,7 @@ ghost use Rattle.machfixups.specs.ImageLines.{AreImagePointerLines};
 
 use crate::parts::image_parts;
 use crate::print::print_fixups;
+use crate::rows::Picks;
 use goblin_mach::MachO;
 use mach_show::{Cpu, Failure, Heading, Names, Outcome, Shows};
 use std::alloc::Allocator;
@@ -17,17 +18,18 @@ use std::io::{BufWriter, Write};
 /// The program's name.
 pub const NAME: &str = "machfixups";
 
-// The binds and fixups of the images of a file, `limit` of them at most.
+// What dyld corrects of the images of a file, of the lists that are picked, `limit` lines at most.
 #[derive(Clone, Copy)]
 struct Fixups<'a> {
     file: &'a str,
+    picks: Picks,
     limit: usize,
 }
 
 impl Shows for Fixups<'_> {
     ghost names = { λ asked. names_text (codes "machfixups") asked.file.now };
 
-    ghost lines = { λ asked. AreImagePointerLines asked.limit };
+    ghost lines = { λ asked. AreImagePointerLines asked.picks asked.limit };
 
     fn names(&self) -> Names<'_> {
         Names {
@@ -46,17 +48,18 @@ impl Shows for Fixups<'_> {
     ) -> Result<Outcome, Failure> {
         let parts = image_parts(alloc, image)?;
         write!(out, "{heading}")?;
-        Ok(print_fixups(image, &parts, self.limit, left, out)?)
+        Ok(print_fixups(image, &parts, self.picks, self.limit, left, out)?)
     }
 }
 
-/// Shows the binds and fixups of the images of a file that are asked for, of all these together at most `limit` of them, and answers the exit status: 0 where
-/// nothing was refused; 1 where the file or an entry of a fat one was, or memory, and then `err` has a line that says why,
-/// or where a bind or a fixup can't be read, and then its line says why, or where an image has more of them than are left of the
-/// limit, and then a line behind them says so; 2 or 141 where a write fails. But for that nothing is left in the buffer.
+/// Shows what dyld corrects of the images of a file that are asked for, of the lists that are picked, of all these together at most `limit` lines, and
+/// answers the exit status: 0 where nothing was refused; 1 where the file or an entry of a fat one was, or memory, and then `err` has a line that says
+/// why, or where an item can't be read, and then its line says why, or where an image has more of them than are left of the limit, and then a line
+/// behind them says so; 2 or 141 where a write fails. But for that nothing is left in the buffer.
 pub fn run<A: Allocator + Clone, W: Write + Drop, B: Allocator, E: Write>(
     alloc: A,
     cpu: Cpu,
+    picks: Picks,
     limit: usize,
     file: &str,
     bytes: &[u8],
@@ -65,9 +68,10 @@ pub fn run<A: Allocator + Clone, W: Write + Drop, B: Allocator, E: Write>(
 ) -> u8
     ensures status { IsStatus result }
     ensures shown { result ≤ 1 → (shown : Shown)
-        × ShowsFile cpu (names_text (codes "machfixups") file.now) (AreImagePointerLines limit) limit bytes.now shown × (result ≡ status_by shown.whole)
+        × ShowsFile cpu (names_text (codes "machfixups") file.now) (AreImagePointerLines picks limit) limit bytes.now shown × (result ≡ status_by shown.whole)
         × Writes shown (writer_contents W.contents out.old) (writer_contents W.contents out.new) (E.contents err.old) (E.contents err.new) }
     ensures flushed { result ≤ 1 → writer_buffer out.new ≡ [] }
 {
-    mach_show::run::run(&Fixups { file, limit }, cpu, limit, &alloc, bytes, out, err)
+    let asked = Fixups { file, picks, limit };
+    mach_show::run::run(&asked, cpu, limit, &alloc, bytes, out, err)
 }

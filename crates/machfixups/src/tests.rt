@@ -5,6 +5,7 @@ mod same;
 
 use crate::print::DEFAULT_LIMIT;
 use crate::row::{Action, Bind};
+use crate::rows::Picks;
 use crate::run::run;
 use crate::tests::files::fat_file;
 use crate::tests::same::{same, same_at};
@@ -90,6 +91,7 @@ fn want_of_memory(rt: HostRuntime) -> Result<(), Fail> {
         let answer = run(
             &heap,
             Cpu::Any,
+            Picks::NONE,
             DEFAULT_LIMIT,
             "fat",
             &fat,

@@ -1,11 +1,12 @@
-//! Binds and fixups as they are printed.
+//! Rebases, binds and fixups as they are printed.
 
 ghost use Rattle.std.specs.Prelude.{◌≡◌, Some};
 ghost use Rattle.mach_chained.specs.PointerViews.{auth_view, auth_seen};
-ghost use Rattle.machfixups.specs.Lines.{pointer_place_text, key_text, address_text, auth_text, flags_text, bind_text, action_text, row_text};
+ghost use Rattle.machfixups.specs.Lines.{pointer_place_text, key_text, address_text, auth_text, flags_text, bind_text, rebase_kind_text, action_text, row_text};
 ghost use Rattle.machfixups.specs.Rows.{place_view, bind_view, action_view, row_view};
 
 use crate::row::{Action, Bind, Place, Row};
+use goblin_mach::RebaseKind;
 use goblin_mach::chained_fixups::PointerAuth;
 use std::fmt;
 use std::fmt::{Display, Formatter, Write};
@@ -90,21 +91,33 @@ impl Display for FlagsText {
 impl Display for Bind<'_> {
     ghost output = { λ t. Some (bind_text (bind_view t)) };
 
+    /// The addend, the flags and the name.
     fn fmt<W: Write>(&self, f: &mut Formatter<W>) -> fmt::Result {
         let Bind {
             name,
-            ordinal,
             addend,
             is_weak,
             is_lazy,
             auth,
+            ..
         } = *self;
         let flags = FlagsText {
             is_weak,
             is_lazy,
             auth,
         };
-        write!(f, "bind {ordinal} {addend} {flags} {name}")
+        write!(f, "{addend} {flags} {name}")
+    }
+}
+
+// What is corrected, where it is no pointer.
+fn kind_text(kind: RebaseKind) -> &'static str
+    ensures { result.now ≡ rebase_kind_text kind }
+{
+    match kind {
+        RebaseKind::Pointer => "",
+        RebaseKind::TextAbsolute32 => " text-absolute",
+        RebaseKind::TextRelative32 => " text-relative",
     }
 }
 
@@ -113,14 +126,19 @@ impl Display for Action<'_> {
 
     fn fmt<W: Write>(&self, f: &mut Formatter<W>) -> fmt::Result {
         match self {
-            Action::Bind(bind) => write!(f, "{bind}"),
-            Action::Rebase { target, auth: None } => write!(f, "rebase 0x{target:x}"),
-            Action::Rebase {
-                target,
-                auth: Some(auth),
-            } => {
+            Action::Bind(bind) => {
+                let ordinal = bind.ordinal;
+                write!(f, "bind {ordinal} {bind}")
+            }
+            Action::Weak(bind) => write!(f, "weak {bind}"),
+            Action::Rebase { target, kind, auth } => {
+                let kind = kind_text(*kind);
+                write!(f, "rebase 0x{target:x}{kind}")?;
+                let Some(auth) = auth else {
+                    return Ok(());
+                };
                 let auth = AuthText(*auth);
-                write!(f, "rebase 0x{target:x} {auth}")
+                write!(f, " {auth}")
             }
             Action::Value(number) => write!(f, "value 0x{number:x}"),
         }
@@ -131,8 +149,9 @@ impl Display for Row<'_, '_> {
     ghost output = { λ t. Some (row_text (row_view t)) };
 
     fn fmt<W: Write>(&self, f: &mut Formatter<W>) -> fmt::Result {
-        let place = self.place;
-        let action = self.action;
-        write!(f, "{place} {action}")
+        match self {
+            Row::At { place, action } => write!(f, "{place} {action}"),
+            Row::Strong(name) => write!(f, "- - - strong {name}"),
+        }
     }
 }

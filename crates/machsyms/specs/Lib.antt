@@ -1,4 +1,6 @@
 pub mod Letters
 pub mod Stabs
+pub mod Asked
+pub mod Order
 pub mod Lines
 pub mod ImageLines

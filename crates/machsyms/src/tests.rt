@@ -3,6 +3,7 @@
 mod files;
 mod same;
 
+use crate::asked::{Asked, Order};
 use crate::run::run;
 use crate::tests::files::file_c;
 use crate::tests::same::{same, same_at};
@@ -23,7 +24,18 @@ fn want_of_memory(rt: HostRuntime) -> Result<(), Fail> {
         let heap = LocalHeap::new(rt.alloc(), 64 * size)?;
         let mut lines = BufWriter::new(rt.alloc(), Vec::new(rt.alloc()))?;
         let mut reasons = Vec::new(rt.alloc());
-        let answer = run(&heap, Cpu::Any, "c", &whole, &mut lines, &mut reasons);
+        let answer = run(
+            &heap,
+            Cpu::Any,
+            Asked {
+                order: Order::Name,
+                ..Asked::ALL
+            },
+            "c",
+            &whole,
+            &mut lines,
+            &mut reasons,
+        );
         if answer == 0 {
             same(&rt, lines.get_ref().as_slice(), LINES.as_bytes());
             shown = shown.saturating_add(1);

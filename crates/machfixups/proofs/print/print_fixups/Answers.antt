@@ -1,32 +1,47 @@
-use Rattle.std.proofs.Common.{Option, refl, subst, map}
+use Rattle.std.proofs.Common.{◌++◌, List, Option, Result, map, refl, subst}
+use Rattle.mach_base.specs.Fault.{Fault}
 use Rattle.mach_chained.specs.Header.{Fixups}
 use Rattle.mach_binds.specs.BindingsLeft.{opcode_bindings_left}
+use Rattle.mach_streams.specs.RebasesLeft.{opcode_rebases_left}
+use Rattle.mach_streams.specs.WeakBindsLeft.{weak_binds_left}
 use Rattle.mach_image.specs.Fixups.{chained_held}
 use Rattle.mach_image.specs.FixupsLeft.{image_fixups_left}
 use Rattle.machfixups.specs.Lines.{WritesFirstRows}
+use Rattle.machfixups.specs.Lists.{PointerLists}
 use Rattle.machfixups.specs.Parts.{parts_seen}
-use Rattle.machfixups.specs.Rows.{row_for_fixup}
-use Rattle.machfixups.proofs.Facts.{has_opcode_bindings, has_chained_fixups, has_fixups}
-use Rattle.machfixups.proofs.Limit.{told_both}
+use Rattle.machfixups.specs.Rows.{PointerRow, picked, row_for_rebase, row_for_binding, row_for_weak, row_for_fixup, fixups_table_seen, shown_picks}
+use Rattle.machfixups.specs.declared.rows.Picks.{Picks}
+use Rattle.machfixups.proofs.Facts.{has_chained_fixups, has_lists}
+use Rattle.machfixups.proofs.Limit.{told_then, told_last}
 use Rattle.machfixups.proofs.print.print_fixups.Goals as goal
 
 pub returns : goal.returns
 returns g c = λ bytes o opened.
     let m = c.args.image.now in
     let p = c.strict_image_is_lossy.ensures bytes o opened in
-    let binds = opcode_bindings_left c.opcode_bindings.result in
-    let fixups = image_fixups_left c.fixups.result in
-    let one = c.in_ok-binds.binds in
-    let two = c.in_ok-chains.chains in
-    let chains =
-    subst (λ (t : Option Fixups). WritesFirstRows one.left (map (row_for_fixup (parts_seen c.args.parts.now) t) fixups)
-    (g.O.Write.contents c.print_bindings.new.out)
-    (g.O.Write.contents c.print_chains.new.out) two) c.table_of-table.ensures c.in_ok-chains.ensures in (
-      binds,
-      has_opcode_bindings bytes o m p binds c.opcode_bindings.ensures,
+    let lists : PointerLists = record {
+      rebases = opcode_rebases_left c.opcode_rebases.result;
+      bindings = opcode_bindings_left c.opcode_bindings.result;
+      weak_binds = weak_binds_left c.weak_binds.result;
+      fixups = image_fixups_left c.fixups.result;
+    } in
+    let parts = parts_seen c.args.parts.now in
+    let rows : Picks → Option Fixups → List (Result PointerRow Fault) = λ p t.
+    picked p.rebases (map (row_for_rebase parts) lists.rebases) ++ (picked p.binds (map (row_for_binding parts) lists.bindings)
+    ++ (picked p.weak (map (row_for_weak parts) lists.weak_binds) ++ picked p.chains (map (row_for_fixup parts t) lists.fixups))) in
+    let last = told_then c.in_ok-binds.binds.left _ _ c.in_ok-weak.weak c.in_ok-chains.chains c.then-last.result _ _ _
+    c.in_ok-weak.ensures c.in_ok-chains.ensures c.then-last.ensures in
+    let rest = told_then c.in_ok-rebases.rebases.left _ _ c.in_ok-binds.binds c.then-last.result c.then-rest.result _ _ _
+    c.in_ok-binds.ensures last c.then-rest.ensures in
+    let all = told_then c.args.left _ _ c.in_ok-rebases.rebases c.then-rest.result c.then-told.result _ _ _
+    c.in_ok-rebases.ensures rest c.then-told.ensures in
+    let asked = subst (λ (p : Picks). WritesFirstRows c.args.left (rows p (fixups_table_seen c.table_of-table.result)) (g.O.Write.contents c.args.out.now)
+    (g.O.Write.contents c.print_list-4.new.out) c.then-told.result) c.shown-picks.ensures all in
+    let told = subst (λ (t : Option Fixups). WritesFirstRows c.args.left (rows (shown_picks c.args.picks) t) (g.O.Write.contents c.args.out.now)
+    (g.O.Write.contents c.print_list-4.new.out) c.then-told.result) c.table_of-table.ensures asked in (
+      lists,
+      has_lists bytes o m p lists c.opcode_rebases.ensures c.opcode_bindings.ensures c.weak_binds.ensures c.fixups.ensures,
       chained_held m,
       has_chained_fixups bytes o m p,
-      fixups,
-      has_fixups bytes o m p fixups c.fixups.ensures,
-      told_both c.args.limit c.args.left _ _ one two _ _ _ _ _ _ c.in_ok-binds.ensures chains refl c.in_ok-print_more.ensures refl,
+      told_last c.args.limit c.args.left _ c.then-told.result _ _ _ _ told c.in_ok-print_more.ensures refl,
     )

@@ -12,20 +12,18 @@ returns-clause-shown g c = λ bytes opened.
     let outcome = c.in_ok-print_fixups.field-0 in
     let known = c.in_ok-parts.ensures bytes 0 opened in
     let listed = c.in_ok-print_fixups.ensures bytes 0 opened in
-    let lines = listed.6 in
-    let rows = λ (parts : List Part). rows_in_order parts (readable_table listed.2) listed.0 listed.4 in
+    let lines = listed.4 in
+    let rows = λ (parts : List Part). rows_in_order c.args.self.now.picks parts (readable_table listed.2) listed.0 in
     let over = λ (parts : List Part). AreLinesTo limit c.args.left (rows parts) lines.text outcome.whole outcome.left in (
       lines.text,
       record {
         opens = (opened.ctx, commands_held c.args.image.now, opened.opens);
         segments = known.0;
         has_segments = known.1;
-        bindings = listed.0;
-        has_bindings = listed.1;
+        lists = listed.0;
+        has_lists = listed.1;
         chained = listed.2;
         has_chained = listed.3;
-        fixups = listed.4;
-        has_fixups = listed.5;
         lines = subst over (ap parts_seen c.deref.ensures.value ∙ known.2) lines.lines;
       },
       Appends-both _ _ _ _ lines.text c.in_ok-write.ensures.bytes lines.written,

@@ -1,0 +1,40 @@
+//! The words of a call that pick lists.
+
+use crate::rows::Picks;
+use std::alloc::{AllocError, Allocator};
+
+impl Picks {
+    // Takes a word, and answers whether it picks a list.
+    fn take(&mut self, word: &str) -> bool {
+        match word {
+            "--rebases" => self.rebases = true,
+            "--binds" => self.binds = true,
+            "--weak" => self.weak = true,
+            "--chains" => self.chains = true,
+            _ => return false,
+        }
+        true
+    }
+}
+
+/// The lists that the words of a call pick, and all other words, in order. The first word is the program's name; a word behind `--`, or behind
+/// an option that has one behind it, picks none.
+pub fn take_picks<A: Allocator>(
+    alloc: A,
+    words: Vec<String>,
+) -> Result<(Picks, Vec<String, A>), AllocError> {
+    let mut picks = Picks::NONE;
+    let mut others = Vec::new(alloc);
+    let mut is_taken = true;
+    let mut is_plain = false;
+    'words: for word in words {
+        let text = word.as_str();
+        if !is_taken && !is_plain && picks.take(text) {
+            continue;
+        }
+        is_taken = !is_taken && matches!(text, "--limit" | "--arch" | "--cputype");
+        is_plain = is_plain || text == "--";
+        others.push(word)?;
+    }
+    Ok((picks, others))
+}
