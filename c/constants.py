@@ -55,6 +55,7 @@ GROUPS = [
     ("bits 0 to 23 of `info`", r"R_ABS"),
     ("platforms, of GM_LC_BUILD_VERSION", r"PLATFORM_\w+"),
     ("tools, of GM_LC_BUILD_VERSION", r"TOOL_\w+"),
+    ("`kind` of a gm_data_in_code_entry", r"DICE_KIND_\w+"),
     ("the opcodes of binds: the halves of a byte", r"BIND_(OPCODE|IMMEDIATE)_MASK"),
     ("the opcodes", r"BIND_OPCODE_\w+"),
     ("the immediates of GM_BIND_OPCODE_SET_TYPE_IMM", r"BIND_TYPE_\w+"),
@@ -133,6 +134,11 @@ S_ATTR_DEBUG u32 0x02000000 for a debugger
 S_ATTR_SOME_INSTRUCTIONS u32 0x00000400 some instructions
 S_ATTR_EXT_RELOC u32 0x00000200 it has external relocations
 S_ATTR_LOC_RELOC u32 0x00000100 it has local relocations
+DICE_KIND_DATA u16 1 data
+DICE_KIND_JUMP_TABLE8 u16 2 jump tables of 8 bits
+DICE_KIND_JUMP_TABLE16 u16 3 jump tables of 16 bits
+DICE_KIND_JUMP_TABLE32 u16 4 jump tables of 32 bits
+DICE_KIND_ABS_JUMP_TABLE32 u16 5 jump tables of 32 bits with absolute addresses
 
 mach-o/nlist.h
 N_ARM_THUMB_DEF u16 0x0008 it is Thumb code

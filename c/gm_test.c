@@ -112,6 +112,26 @@ BEHIND(bindings, gm_binding, gm_binding_cursor)
 LIST(bindings, gm_binding, bindings(g, first, rows, cap),
      fprintf(to, "%u %u %" PRIu64 " %" PRIx64 " %" PRId64 " %u %u 0x%" PRIx64 " ", r->code, r->provider, r->library, r->offset, r->addend, r->is_weak,
              r->is_lazy, r->address); text(to, g, r->name, r->name_len))
+BEHIND(function_starts, gm_function_start, gm_start_cursor)
+LIST(function_starts, gm_function_start, function_starts(g, first, rows, cap), fprintf(to, "%" PRIx64 " %u", r->address, r->code))
+LIST(data_in_code, gm_data_in_code_entry, gm_data_in_code(OF, first, rows, cap), fprintf(to, "%x %u %u %u", r->offset, r->length, r->kind, r->code))
+LIST(indirect_symbols, gm_indirect_symbol, gm_indirect_symbols(OF, first, rows, cap), fprintf(to, "%u %u %u", r->kind, r->symbol, r->code))
+static size_t slots(const given *g, size_t first, gm_slot *rows, size_t cap) {
+    size_t count = SIZE_MAX;
+    gm_error e;
+    uint32_t code = gm_slots(OF, first, rows, cap, &count, NULL, &e);
+    if (code && (count != SIZE_MAX || code != e.code)) DIE("a refusal changed the count, or has another code");
+    return code ? 0 : count;
+}
+LIST(slots, gm_slot, slots(g, first, rows, cap),
+     fprintf(to, "%" PRIx64 " %" PRIu64 " %zu %u %u %u %u %u %u ", r->address, r->len, r->segment, r->section, r->kind, r->index, r->owner, r->symbol, r->code);
+     text(to, g, r->name, r->name_len))
+LIST(linker_options, gm_linker_option, gm_linker_options(OF, first, rows, cap),
+     fprintf(to, "%zx %u ", r->command, r->code); text(to, g, r->text, r->text_len))
+LIST(build_tools, gm_build_tool, gm_build_tools(OF, first, rows, cap), fprintf(to, "%zx %u %x %u", r->command, r->tool, r->version, r->code))
+LIST(notes, gm_note, gm_notes(OF, first, rows, cap),
+     if (r->size && (r->place > g->len || r->size > g->len - r->place)) DIE("a note stands outside of the bytes");
+     fprintf(to, "%zx %zu %u ", r->command, r->size, r->code); text(to, g, r->owner, r->owner_len))
 LIST(run_paths, gm_run_path, gm_run_paths(OF, first, rows, cap), text(to, g, r->path, r->path_len))
 LIST(ids, gm_id, gm_ids(OF, first, rows, cap), text(to, g, r->name, r->name_len))
 
@@ -158,7 +178,9 @@ typedef struct {
 static const list lists[] = {ONE(commands, gm_command), ONE(segments, gm_segment), ONE(symbols, gm_symbol), ONE(libraries, gm_library),
                              ONE(run_paths, gm_run_path), ONE(fixups, gm_fixup), ONE(imports, gm_import), ONE(bindings, gm_binding), ONE(entries, gm_fat_entry),
                              ONE(sections, gm_section), ONE(relocations, gm_relocation), ONE(layout, gm_layout_fault),
-                              ONE(table, gm_layout_fault), ONE(ids, gm_id)};
+                              ONE(table, gm_layout_fault), ONE(ids, gm_id), ONE(function_starts, gm_function_start),
+                             ONE(data_in_code, gm_data_in_code_entry), ONE(indirect_symbols, gm_indirect_symbol), ONE(slots, gm_slot),
+                             ONE(linker_options, gm_linker_option), ONE(build_tools, gm_build_tool), ONE(notes, gm_note)};
 enum { LISTS = sizeof lists / sizeof *lists, LIMIT = 400 };
 
 static const list *named(const char *name) {
@@ -556,6 +578,241 @@ static void counts(const given *g) {
     }
 }
 
+/* four bytes in the image's order */
+static uint32_t word_at(const given *g, const uint8_t *at) {
+    uint32_t n = 0;
+    for (int i = 0; i < 4; i++) n |= (uint32_t)at[g->image.is_little_endian ? i : 3 - i] << 8 * i;
+    return n;
+}
+
+/* ---- the tables of commands, read here once more by the format's words alone */
+
+/* whether so many bytes stand at a place */
+static bool stand(const given *g, uint64_t at, uint64_t size) { return at <= g->len && size <= g->len - at; }
+
+/* the last command of a number, or one of no size */
+static gm_command last_command(const given *g, uint32_t cmd) {
+    gm_command c, last = {0};
+    for (size_t i = 0; gm_commands(OF, i, &c, 1); i++)
+        if (c.cmd == cmd) last = c;
+    return last;
+}
+
+/* the address of the first segment that is named __TEXT */
+static uint64_t base_by_segments(const given *g) {
+    gm_segment s;
+    for (size_t i = 0; gm_segments(OF, i, &s, 1); i++)
+        if (!memcmp(s.name, "__TEXT\0\0\0\0\0\0\0\0\0\0", 16)) return s.vmaddr;
+    return 0;
+}
+
+static void starts_by_bytes(const given *g) {
+    gm_command c = last_command(g, GM_LC_FUNCTION_STARTS);
+    uint64_t at = c.size ? word_at(g, g->bytes + c.offset + 8) : 0, upto = c.size ? at + word_at(g, g->bytes + c.offset + 12) : 0;
+    uint64_t address = base_by_segments(g);
+    gm_start_cursor cursor = {0};
+    gm_function_start r;
+    size_t count;
+    for (;;) {
+        if (gm_function_starts(OF, &cursor, &r, 1, &count, NULL, NULL)) DIE("functions of an image that opened");
+        if (!count) break;
+        uint64_t number = 0, place = at;
+        int shift = 0;
+        for (; place < g->len && place < upto && g->bytes[place] & 128 && shift < 70; place++, shift += 7)
+            number |= shift < 64 ? (uint64_t)(g->bytes[place] & 127) << shift : 0;
+        bool is_cut = place >= g->len || place >= upto || shift > 63 || (shift == 63 && g->bytes[place] > 1);
+        if (!is_cut) number |= (uint64_t)g->bytes[place] << shift;
+        if (is_cut || address + number < address) {
+            if (r.code == GM_OK || r.address) DIE("a function by a number that can't be read");
+            if (gm_function_starts(OF, &cursor, &r, 1, &count, NULL, NULL) || count) DIE("functions behind a fault");
+            return;
+        }
+        address += number;
+        if (!number || r.code || r.address != address) DIE("a function at %" PRIx64 ", and not at %" PRIx64, r.address, address);
+        at = place + 1;
+    }
+    if (at < upto && at < g->len && g->bytes[at]) DIE("functions that end too early");
+}
+
+static void data_by_bytes(const given *g) {
+    gm_command c = last_command(g, GM_LC_DATA_IN_CODE);
+    uint64_t at = c.size ? word_at(g, g->bytes + c.offset + 8) : 0, n = c.size ? word_at(g, g->bytes + c.offset + 12) / 8 : 0;
+    gm_data_in_code_entry r;
+    for (uint64_t k = 0; k < n && k < LIMIT; k++) {
+        if (gm_data_in_code(OF, k, &r, 1) != 1) DIE("too few data among code");
+        if ((r.code == GM_OK) != stand(g, at + 8 * k, 8)) DIE("data among code that stand elsewhere");
+        if (r.code ? r.offset || r.length || r.kind : r.offset != word_at(g, g->bytes + at + 8 * k)) DIE("other data among code");
+        const uint8_t *e = g->bytes + at + 8 * k + 4;
+        uint32_t both = g->image.is_little_endian ? r.length | (uint32_t)r.kind << 16 : r.kind | (uint32_t)r.length << 16;
+        if (!r.code && both != word_at(g, e)) DIE("data among code of another length or kind");
+    }
+    if (gm_data_in_code(OF, n, &r, 1)) DIE("too many data among code");
+}
+
+static void indirect_by_bytes(const given *g) {
+    gm_command c = last_command(g, GM_LC_DYSYMTAB);
+    uint64_t at = c.size ? word_at(g, g->bytes + c.offset + 56) : 0, n = c.size ? word_at(g, g->bytes + c.offset + 60) : 0;
+    gm_indirect_symbol r;
+    for (uint64_t k = 0; k < n && k < LIMIT; k++) {
+        if (gm_indirect_symbols(OF, k, &r, 1) != 1) DIE("too few indirect symbols");
+        if ((r.code == GM_OK) != stand(g, at + 4 * k, 4)) DIE("indirect symbols that stand elsewhere");
+        uint32_t word = r.code ? 0 : word_at(g, g->bytes + at + 4 * k);
+        uint32_t kind = word == 0x80000000 ? GM_INDIRECT_LOCAL : word == 0x40000000 ? GM_INDIRECT_ABSOLUTE
+            : word == 0xc0000000 ? GM_INDIRECT_LOCAL_ABSOLUTE : GM_INDIRECT_SYMBOL;
+        if (r.kind != kind || r.symbol != (kind == GM_INDIRECT_SYMBOL ? word : 0)) DIE("another indirect symbol");
+    }
+    if (gm_indirect_symbols(OF, n, &r, 1)) DIE("too many indirect symbols");
+}
+
+/* options, tools and notes, command by command: options and tools end with the first fault */
+static void lists_by_bytes(const given *g) {
+    size_t options = 0, tools = 0, notes = 0;
+    bool options_end = false, tools_end = false;
+    gm_command c;
+    for (size_t i = 0; gm_commands(OF, i, &c, 1); i++) {
+        const uint8_t *at = g->bytes + c.offset;
+        size_t end = c.offset + c.size < g->len ? c.offset + c.size : g->len;
+        if (c.cmd == GM_LC_LINKER_OPTION) {
+            size_t text = c.offset + 12;
+            for (uint32_t k = 0; k < word_at(g, at + 8) && !options_end; k++) {
+                gm_linker_option r;
+                if (gm_linker_options(OF, options++, &r, 1) != 1) DIE("too few options");
+                size_t size = text < end ? strnlen((const char *)g->bytes + text, end - text) : 0;
+                options_end = r.code != GM_OK;
+                if (!options_end && (text + size >= end || r.command != c.offset || r.text != text || r.text_len != size)) DIE("another option");
+                if (options_end && (r.command || r.text || r.text_len)) DIE("an option that can't be read, and is told");
+                text += size + 1;
+            }
+        }
+        if (c.cmd == GM_LC_BUILD_VERSION)
+            for (uint64_t k = 0; k < word_at(g, at + 20) && !tools_end; k++) {
+                gm_build_tool r;
+                if (gm_build_tools(OF, tools++, &r, 1) != 1) DIE("too few tools");
+                tools_end = 24 + 8 * k + 8 > c.size || !stand(g, c.offset + 24 + 8 * k, 8);
+                if (tools_end != (r.code != GM_OK)) DIE("a tool that lies elsewhere");
+                if (!tools_end && (r.command != c.offset || r.tool != word_at(g, at + 24 + 8 * k) || r.version != word_at(g, at + 28 + 8 * k)))
+                    DIE("another tool");
+            }
+        if (c.cmd == GM_LC_NOTE) {
+            gm_note r;
+            if (gm_notes(OF, notes++, &r, 1) != 1 || r.command != c.offset) DIE("too few notes");
+            if (r.code == GM_OK && (r.owner != c.offset + 8 || r.owner_len != strnlen((const char *)at + 8, 16))) DIE("another owner of a note");
+            if (r.code == GM_OK && r.size && !stand(g, r.place, r.size)) DIE("a note that lies elsewhere");
+        }
+    }
+    gm_linker_option o;
+    gm_build_tool t;
+    gm_note n;
+    if (gm_linker_options(OF, options, &o, 1) || gm_build_tools(OF, tools, &t, 1) || gm_notes(OF, notes, &n, 1)) DIE("too many options, tools or notes");
+}
+
+/* what a slot of a section is to be, of entry k of the indirect symbols: false ends the section */
+static bool slot_by_bytes(const given *g, const gm_slot *r, uint64_t address, uint64_t len, uint64_t k, uint32_t kind) {
+    gm_indirect_symbol entry;
+    if (gm_indirect_symbols(OF, k, &entry, 1) != 1 || entry.code || address < len) {
+        if (r->code == GM_OK || r->address || r->kind) DIE("a slot of no entry");
+        return false;
+    }
+    gm_symbol symbol;
+    bool named = entry.kind == GM_INDIRECT_SYMBOL;
+    if (named && (gm_symbols(OF, entry.symbol, &symbol, 1) != 1 || symbol.code)) {
+        if (r->code == GM_OK || r->address || r->kind) DIE("a slot of no symbol");
+        return true;
+    }
+    if (r->code || r->address != address - len || r->len != len || r->kind != kind || r->index != k || r->owner != entry.kind) DIE("another slot");
+    if (named ? r->symbol != entry.symbol || r->name != symbol.name || r->name_len != symbol.name_len : r->symbol || r->name || r->name_len)
+        DIE("a slot of another symbol");
+    return true;
+}
+
+static void slots_by_bytes(const given *g) {
+    static gm_slot rows[LIMIT];
+    size_t many = slots(g, 0, rows, LIMIT), n = 0, width = g->image.is_64 ? 80 : 68;
+    bool has_table = last_command(g, GM_LC_DYSYMTAB).size;
+    gm_segment segment;
+    gm_section s;
+    for (size_t i = 0; has_table && gm_segments(OF, i, &segment, 1); i++)
+        for (size_t k = 0; n < many && gm_sections(OF, segment.command, segment.sections, k, &s, 1); k++) {
+            const uint8_t *record = g->bytes + segment.command + (g->image.is_64 ? 72 : 56) + k * width;
+            if (!stand(g, (uint64_t)(record - g->bytes), width)) { if (!rows[n++].code) DIE("a slot of no section"); continue; }
+            uint32_t type = word_at(g, record + (g->image.is_64 ? 64 : 56)) & 0xff;
+            uint32_t first = word_at(g, record + (g->image.is_64 ? 68 : 60)), stub = word_at(g, record + (g->image.is_64 ? 72 : 64));
+            uint32_t kind = type == GM_S_NON_LAZY_SYMBOL_POINTERS ? GM_SLOT_POINTER : type == GM_S_LAZY_SYMBOL_POINTERS ? GM_SLOT_LAZY_POINTER
+                : type == GM_S_SYMBOL_STUBS ? GM_SLOT_STUB : type == GM_S_LAZY_DYLIB_SYMBOL_POINTERS ? GM_SLOT_LAZY_LIBRARY_POINTER
+                : type == GM_S_THREAD_LOCAL_VARIABLE_POINTERS ? GM_SLOT_THREAD_LOCAL_POINTER : GM_NO_SLOT;
+            uint64_t len = kind == GM_SLOT_STUB ? stub : g->image.is_64 ? 8 : 4;
+            uint64_t size = g->image.is_64 ? word_at(g, record + 40) | (uint64_t)word_at(g, record + 44) << 32 : word_at(g, record + 36);
+            if (g->image.is_64 && s.code == GM_OK) size = s.size;
+            if (!kind || !size) continue;
+            if (!len) { if (rows[n++].code != GM_MALFORMED) DIE("a stub of no size"); continue; }
+            uint64_t addr = s.code == GM_OK ? s.addr : 0;
+            for (uint64_t j = 0; s.code == GM_OK && j < size / len && n < many; j++) {
+                if (rows[n].code == GM_OK && (rows[n].segment != i || rows[n].section != k)) DIE("a slot of another section");
+                if (!slot_by_bytes(g, &rows[n++], addr + (j + 1) * len, len, (uint64_t)first + j, kind)) break;
+            }
+            if (s.code != GM_OK) return; /* (of those that lie partly in the file the rows stand in the tests of the library) */
+        }
+    if (n != many) DIE("%zu slots, and not %zu", many, n);
+    for (n = 0; n < many; n++) {
+        gm_slot again;
+        gm_found_section in;
+        gm_error e;
+        if (rows[n].code) continue;
+        uint64_t within = rows[n].address + rows[n].len - 1;
+        if (gm_section_at(OF, within, &in, NULL, &e) || !in.is_found) DIE("a slot in no section");
+        if (in.segment != rows[n].segment || in.number != rows[n].section) continue;
+        if (gm_slot_at(OF, within, &again, NULL, &e) || memcmp(&again, &rows[n], sizeof again)) DIE("another slot of an address");
+    }
+}
+
+/* sections by their number and by an address: the first, the last and one more; and providers of all symbols */
+static void finds_by_bytes(const given *g) {
+    gm_segment segment;
+    gm_section s;
+    gm_symbol symbol;
+    gm_found_section found;
+    gm_provider p;
+    gm_error e;
+    size_t number = 1;
+    for (size_t i = 0; gm_segments(OF, i, &segment, 1); i++)
+        for (size_t k = 0; k < LIMIT && gm_sections(OF, segment.command, segment.sections, k, &s, 1); k++, number++) {
+            uint32_t code = gm_section_of(OF, number, &found, NULL, &e);
+            if (code ? code != e.code : !found.is_found || found.segment != i || found.number != k) DIE("section %zu", number);
+            if (code || s.code) continue;
+            if (memcmp(found.name, s.name, 16) || memcmp(found.segment_name, s.segment, 16) || found.addr != s.addr || found.size != s.size
+                || found.offset != s.offset || found.align != s.align || found.reloff != s.reloff || found.nreloc != s.nreloc || found.flags != s.flags)
+                DIE("section %zu has other numbers", number);
+            if (!s.size || s.addr + s.size < s.addr) continue;
+            if (gm_section_at(OF, s.addr, &found, NULL, &e) || !found.is_found || found.addr > s.addr || s.addr - found.addr >= found.size)
+                DIE("section %zu isn't found by its address", number);
+        }
+    gm_found_section none;
+    if (gm_section_of(OF, 0, &none, NULL, &e) || none.is_found) DIE("section 0");
+    if (gm_section_of(OF, SIZE_MAX, &none, NULL, &e) || none.is_found) DIE("a section past the last");
+    for (size_t i = 0; i < LIMIT && gm_symbols(OF, i, &symbol, 1); i++) {
+        gm_symbol_provider(&g->image, &symbol, &p);
+        uint32_t type = symbol.n_type & GM_N_TYPE, ordinal = symbol.desc >> 8;
+        bool told = g->image.flags & GM_MH_TWOLEVEL && !(symbol.n_type & GM_N_STAB) && ((type == GM_N_UNDF && !symbol.value) || type == GM_N_PBUD);
+        uint32_t by = ordinal == GM_SELF_LIBRARY_ORDINAL ? GM_OF_ITSELF : ordinal == GM_DYNAMIC_LOOKUP_ORDINAL ? GM_OF_ANY
+            : ordinal == GM_EXECUTABLE_ORDINAL ? GM_OF_PROGRAM : GM_OF_LIBRARY;
+        bool past = by == GM_OF_LIBRARY && ordinal > g->image.libraries;
+        gm_provider wanted = {told && by == GM_OF_LIBRARY && !past ? ordinal : 0, told ? by : 0, told, told && past ? GM_MALFORMED : GM_OK, 0};
+        if (memcmp(&p, &wanted, sizeof p)) DIE("symbol %zu is given by another", i);
+    }
+}
+
+static void check_tables(const given *g) {
+    static const char *const names[] = {"function_starts", "data_in_code", "indirect_symbols", "slots", "linker_options", "build_tools", "notes"};
+    for (size_t i = 0; i < sizeof names / sizeof *names; i++) same_in_batches(named(names[i]), g);
+    function_starts_refused(g);
+    starts_by_bytes(g);
+    data_by_bytes(g);
+    indirect_by_bytes(g);
+    lists_by_bytes(g);
+    slots_by_bytes(g);
+    finds_by_bytes(g);
+}
+
 static void check(const uint8_t *bytes, size_t len) {
     given g = {.bytes = bytes, .len = len};
     same_in_batches(named("entries"), &g);
@@ -573,6 +830,7 @@ static void check(const uint8_t *bytes, size_t len) {
         check_parts(&g);
         same_in_batches(named("layout"), &g);
         same_in_batches(named("ids"), &g);
+        check_tables(&g);
         check_exports(&g);
         fixups_refused(&g);
         imports_refused(&g);
@@ -607,13 +865,6 @@ static int kind_of(uint32_t cmd) {
     case GM_LC_LAZY_LOAD_DYLIB: return GM_LAZY;
     default: return -1;
     }
-}
-
-/* four bytes in the image's order */
-static uint32_t word_at(const given *g, const uint8_t *at) {
-    uint32_t n = 0;
-    for (int i = 0; i < 4; i++) n |= (uint32_t)at[g->image.is_little_endian ? i : 3 - i] << 8 * i;
-    return n;
 }
 
 /* how the library of a command is used: by its four bytes at 24, where it is a struct dylib_use_command, else by its number */
@@ -791,6 +1042,15 @@ static void damage(const uint8_t *bytes, size_t len) {
     char library[4], target[4];
     gm_find_export(bytes, len, &g.image, "a", chance() % 2, &found, library, chance() % 5, target, chance() % 5, NULL, &e);
     damage_walk(&g);
+    gm_slot slot;
+    gm_found_section section;
+    gm_provider provider;
+    gm_symbol symbol = {0};
+    make_up(&symbol, sizeof symbol, len);
+    gm_slot_at(bytes, len, &g.image, made_up(len), &slot, NULL, &e);
+    gm_section_at(bytes, len, &g.image, made_up(len), &section, NULL, &e);
+    gm_section_of(bytes, len, &g.image, made_up(len), &section, NULL, &e);
+    gm_symbol_provider(&g.image, &symbol, &provider);
     for (size_t i = 0; i < LISTS; i++) {
         size_t first = chance() % 2 ? 0 : made_up(len), cap = chance() % 5;
         uint8_t *out = malloc(cap * lists[i].size + !cap);
@@ -964,10 +1224,13 @@ static void check_edges(void) {
     gm_fixup_cursor f = {0};
     gm_bind_cursor i = {0};
     gm_binding_cursor b = {0};
+    gm_start_cursor s = {0};
     size_t count = 5;
     const uint32_t codes[] = {gm_fixups(g.bytes, g.len, &g.image, &f, NULL, 0, &count, NULL, &e),
                               gm_imports(g.bytes, g.len, &g.image, &i, NULL, 0, &count, NULL, &e),
                               gm_bindings(g.bytes, g.len, &g.image, &b, NULL, 0, &count, NULL, NULL),
+                              gm_function_starts(g.bytes, g.len, &g.image, &s, NULL, 0, &count, NULL, NULL),
+                              gm_slots(g.bytes, g.len, &g.image, 0, NULL, 0, &count, NULL, NULL),
                               gm_layout_faults(g.bytes, g.len, &g.image, 0, NULL, 0, &count, NULL, &e),
                               gm_container_faults(g.bytes, g.len, 0, NULL, 0, &count, NULL, NULL)};
     for (size_t n = 0; n < sizeof codes / sizeof *codes; n++)

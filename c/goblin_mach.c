@@ -94,6 +94,11 @@ ROWS(symbols, gm_symbol)
 ROWS(libraries, gm_library)
 ROWS(run_paths, gm_run_path)
 ROWS(ids, gm_id)
+ROWS(data_in_code, gm_data_in_code_entry)
+ROWS(indirect_symbols, gm_indirect_symbol)
+ROWS(linker_options, gm_linker_option)
+ROWS(build_tools, gm_build_tool)
+ROWS(notes, gm_note)
 
 size_t gmr_sections(const uint8_t *, size_t, const gm_image *, size_t, uint32_t, size_t, gm_section *, size_t);
 size_t gm_sections(const uint8_t *bytes, size_t len, const gm_image *image, size_t command, uint32_t sections, size_t first, gm_section *out, size_t cap) {
@@ -114,7 +119,21 @@ size_t gm_relocations(const uint8_t *bytes, size_t len, const gm_image *image, u
 BEHIND(fixups, gm_fixup, gm_fixup_cursor *)
 BEHIND(imports, gm_import, gm_bind_cursor *)
 BEHIND(bindings, gm_binding, gm_binding_cursor *)
+BEHIND(function_starts, gm_function_start, gm_start_cursor *)
 BEHIND(layout_faults, gm_layout_fault, size_t)
+BEHIND(slots, gm_slot, size_t)
+
+/* what is sought of an image by a number */
+#define SOUGHT(name, number, row) \
+    uint32_t gmr_##name(const uint8_t *, size_t, const gm_image *, number, row *, gm_error *); \
+    uint32_t gm_##name(const uint8_t *bytes, size_t len, const gm_image *image, number by, row *found, const gm_memory *memory, gm_error *error) \
+        WITH_MEMORY(gmr_##name(BYTES, len, image, by, found, TOLD))
+SOUGHT(slot_at, uint64_t, gm_slot)
+SOUGHT(section_at, uint64_t, gm_found_section)
+SOUGHT(section_of, size_t, gm_found_section)
+
+void gmr_symbol_provider(const gm_image *, const gm_symbol *, gm_provider *);
+void gm_symbol_provider(const gm_image *image, const gm_symbol *symbol, gm_provider *found) { gmr_symbol_provider(image, symbol, found); }
 
 uint32_t gmr_find_export(const uint8_t *, size_t, const gm_image *, const char *, size_t, gm_export *, char *, size_t, char *, size_t, gm_error *);
 uint32_t gm_find_export(const uint8_t *bytes, size_t len, const gm_image *image, const char *name, size_t name_len, gm_export *found,

@@ -33,6 +33,11 @@ NUMBERED(symbols, gm_symbol, gm_symbols(OF, first, rows, ROWS))
 NUMBERED(libraries, gm_library, gm_libraries(OF, first, rows, ROWS))
 NUMBERED(run_paths, gm_run_path, gm_run_paths(OF, first, rows, ROWS))
 NUMBERED(ids, gm_id, gm_ids(OF, first, rows, ROWS))
+NUMBERED(data_in_code, gm_data_in_code_entry, gm_data_in_code(OF, first, rows, ROWS))
+NUMBERED(indirect_symbols, gm_indirect_symbol, gm_indirect_symbols(OF, first, rows, ROWS))
+NUMBERED(linker_options, gm_linker_option, gm_linker_options(OF, first, rows, ROWS))
+NUMBERED(build_tools, gm_build_tool, gm_build_tools(OF, first, rows, ROWS))
+NUMBERED(notes, gm_note, gm_notes(OF, first, rows, ROWS))
 
 /* the sections of all segments, and the relocations of all sections */
 static size_t inner(const given *g, int relocations) {
@@ -69,12 +74,35 @@ static size_t relocations(const given *g) { return inner(g, 1); }
 BEHIND(fixups, gm_fixup, gm_fixup_cursor)
 BEHIND(imports, gm_import, gm_bind_cursor)
 BEHIND(bindings, gm_binding, gm_binding_cursor)
+BEHIND(function_starts, gm_function_start, gm_start_cursor)
 
 static size_t layout(const given *g) {
     static gm_layout_fault rows[ROWS];
     size_t found = 0, n;
     gm_error e;
     while (goes_on() && !gm_layout_faults(OF, found, rows, ROWS, &n, NULL, &e) && n) found += n;
+    return found;
+}
+static size_t slots(const given *g) {
+    static gm_slot rows[ROWS];
+    size_t found = 0, n;
+    gm_error e;
+    while (goes_on() && !gm_slots(OF, found, rows, ROWS, &n, NULL, &e) && n) found += n;
+    return found;
+}
+
+/* what is sought by an address or a number: addresses of some order, and numbers up to as many */
+static size_t slot_at(const given *g) {
+    gm_slot slot;
+    gm_found_section section;
+    gm_error e;
+    size_t found = 0;
+    for (size_t k = 0; goes_on(); k++) {
+        uint64_t address = k < 64 ? (uint64_t)1 << k : 8 * (uint64_t)k;
+        found += !gm_slot_at(OF, address, &slot, NULL, &e) && slot.kind != GM_NO_SLOT;
+        found += !gm_section_at(OF, address, &section, NULL, &e) && section.is_found;
+        found += !gm_section_of(OF, k, &section, NULL, &e) && section.is_found;
+    }
     return found;
 }
 static size_t container(const given *g) {
@@ -131,7 +159,8 @@ static size_t open_all(const given *g) {
 #define CALL(name) {#name, name}
 static const struct { const char *name; size_t (*call)(const given *); } all[] = {
     CALL(entries), CALL(container), CALL(open_all), CALL(commands), CALL(segments), CALL(sections), CALL(relocations), CALL(symbols), CALL(libraries),
-    CALL(run_paths), CALL(ids), CALL(find), CALL(exports), CALL(tree), CALL(fixups), CALL(imports), CALL(bindings), CALL(layout)};
+    CALL(run_paths), CALL(ids), CALL(data_in_code), CALL(indirect_symbols), CALL(linker_options), CALL(build_tools), CALL(notes), CALL(find), CALL(exports),
+    CALL(tree), CALL(fixups), CALL(imports), CALL(bindings), CALL(function_starts), CALL(slots), CALL(slot_at), CALL(layout)};
 
 int main(int count, char **words) {
     given g = {0};

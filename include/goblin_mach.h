@@ -130,6 +130,103 @@ size_t gm_run_paths(const uint8_t *bytes, size_t len, const gm_image *image, siz
 typedef struct gm_id { size_t name, name_len; } gm_id;
 size_t gm_ids(const uint8_t *bytes, size_t len, const gm_image *image, size_t first, gm_id *out, size_t cap);
 
+/* ---- where its functions begin (LC_FUNCTION_STARTS), in the order of their addresses, before sliding */
+typedef struct gm_function_start {
+    uint64_t address;
+    uint32_t code, reserved; /* code: GM_OK, or why they can't be read further */
+} gm_function_start;
+typedef struct gm_start_cursor { size_t place; uint64_t address; uint32_t stage, reserved; } gm_start_cursor;
+uint32_t gm_function_starts(const uint8_t *bytes, size_t len, const gm_image *image, gm_start_cursor *cursor, gm_function_start *out, size_t cap,
+                            size_t *count, const gm_memory *memory, gm_error *error);
+
+/* ---- the data among its code (LC_DATA_IN_CODE): `length` bytes, `offset` behind the image's first byte in memory; of an object file behind address 0 */
+typedef struct gm_data_in_code_entry {
+    uint32_t offset;
+    uint16_t length, kind; /* kind: a GM_DICE_KIND_ number */
+    uint32_t code;         /* GM_OK, or why it can't be read */
+} gm_data_in_code_entry;
+size_t gm_data_in_code(const uint8_t *bytes, size_t len, const gm_image *image, size_t first, gm_data_in_code_entry *out, size_t cap);
+
+/* ---- its table of indirect symbols: whose the pointers and stubs are that count from a section's place in it */
+typedef struct gm_indirect_symbol {
+    uint32_t kind, symbol; /* symbol: of GM_INDIRECT_SYMBOL the number of gm_symbols, else 0 */
+    uint32_t code;         /* GM_OK, or why it can't be read */
+} gm_indirect_symbol;
+enum { GM_INDIRECT_SYMBOL, GM_INDIRECT_LOCAL, GM_INDIRECT_ABSOLUTE, GM_INDIRECT_LOCAL_ABSOLUTE };
+size_t gm_indirect_symbols(const uint8_t *bytes, size_t len, const gm_image *image, size_t first, gm_indirect_symbol *out, size_t cap);
+
+/* ---- its options for the linker (LC_LINKER_OPTION), of an object file: each is `text_len` bytes at bytes + text, of the command at `command` */
+typedef struct gm_linker_option {
+    size_t command, text, text_len;
+    uint32_t code, reserved; /* code: GM_OK; or why it can't be read, and then none comes behind it */
+} gm_linker_option;
+size_t gm_linker_options(const uint8_t *bytes, size_t len, const gm_image *image, size_t first, gm_linker_option *out, size_t cap);
+
+/* ---- the tools that it was built with (LC_BUILD_VERSION), of the command at `command` */
+typedef struct gm_build_tool {
+    size_t command;
+    uint32_t tool, version;  /* a GM_TOOL_ number, and X.Y.Z in 16, 8 and 8 bits */
+    uint32_t code, reserved; /* code: GM_OK; or why it can't be read, and then none comes behind it */
+} gm_build_tool;
+size_t gm_build_tools(const uint8_t *bytes, size_t len, const gm_image *image, size_t first, gm_build_tool *out, size_t cap);
+
+/* ---- its notes (LC_NOTE), of the command at `command`: the owner's name is `owner_len` bytes at bytes + owner, and the note is `size` bytes at
+   bytes + place. One of no bytes may be said to stand anywhere. */
+typedef struct gm_note {
+    size_t command, owner, owner_len;
+    uint64_t place;
+    size_t size;
+    uint32_t code, reserved; /* code: GM_OK, or why it can't be read */
+} gm_note;
+size_t gm_notes(const uint8_t *bytes, size_t len, const gm_image *image, size_t first, gm_note *out, size_t cap);
+
+/* ---- its slots: the stubs and the pointers that stand for symbols, `len` bytes at `address` in memory, in section number `section` of segment
+   number `segment` */
+typedef struct gm_slot {
+    uint64_t address, len;
+    size_t segment, name, name_len; /* of GM_INDIRECT_SYMBOL: its symbol's name is `name_len` bytes at bytes + name */
+    uint32_t section, kind;         /* kind: GM_SLOT_POINTER and those behind it */
+    uint32_t index, owner, symbol;  /* the number of its entry among gm_indirect_symbols, and what the entry says: `kind` and `symbol` there */
+    uint32_t code;                  /* GM_OK, or why it can't be read, and those behind it in its section, where they have no entry */
+} gm_slot;
+enum { GM_NO_SLOT, GM_SLOT_POINTER, GM_SLOT_LAZY_POINTER, GM_SLOT_STUB, GM_SLOT_LAZY_LIBRARY_POINTER, GM_SLOT_THREAD_LOCAL_POINTER };
+
+/* The slots from number `first` on, and how many were written to *count. It opens the image again, takes memory while it runs, and goes over the
+   slots before `first`: ask for many at a time. With a `cap` of 0 it is refused with GM_NO_ROWS. A refusal leaves the array and *count. */
+uint32_t gm_slots(const uint8_t *bytes, size_t len, const gm_image *image, size_t first, gm_slot *out, size_t cap, size_t *count,
+                  const gm_memory *memory, gm_error *error);
+
+/* Seeks the slot in which an address lies: one of kind GM_NO_SLOT where there is none. It opens the image again, and takes memory while it runs.
+   Refused also where that slot can't be read; a refusal leaves *slot. */
+uint32_t gm_slot_at(const uint8_t *bytes, size_t len, const gm_image *image, uint64_t address, gm_slot *slot, const gm_memory *memory, gm_error *error);
+
+/* ---- who gives an undefined symbol, as the linker wrote it down in images with GM_MH_TWOLEVEL: a number of the symbol alone, which dyld need not
+   go by. `is_told` is 0 of any other symbol, and all else then. */
+typedef struct gm_provider {
+    uint64_t library;           /* the ordinal of a library, and else 0 */
+    uint32_t provider, is_told; /* GM_OF_LIBRARY, GM_OF_ITSELF, GM_OF_PROGRAM or GM_OF_ANY; 0 or 1 */
+    uint32_t code, reserved;    /* code: GM_OK, or GM_MALFORMED where the ordinal is past the last library */
+} gm_provider;
+void gm_symbol_provider(const gm_image *image, const gm_symbol *symbol, gm_provider *found);
+
+/* ---- a section that is sought: number `number` of segment number `segment`, with all that its record says; all 0 where `is_found` is 0 */
+typedef struct gm_found_section {
+    uint8_t name[16], segment_name[16];
+    uint64_t addr, size;
+    size_t segment;
+    uint32_t number, offset, align, reloff, nreloc, flags;
+    uint32_t reserved1, reserved2; /* of pointers and stubs: their place among gm_indirect_symbols; of stubs how many bytes each has */
+    uint32_t is_found, reserved;
+} gm_found_section;
+
+/* The first section in which an address lies, among those that are in the bytes; and the one that `section` of a gm_symbol means, counted from 1
+   over all segments. Both open the image again, and take memory while they run. A refusal leaves *section; the second is also refused where that
+   section isn't in the bytes. */
+uint32_t gm_section_at(const uint8_t *bytes, size_t len, const gm_image *image, uint64_t address, gm_found_section *section, const gm_memory *memory,
+                       gm_error *error);
+uint32_t gm_section_of(const uint8_t *bytes, size_t len, const gm_image *image, size_t number, gm_found_section *section, const gm_memory *memory,
+                       gm_error *error);
+
 /* ---- one name among its exports: addresses count from the image's start */
 typedef struct gm_export {
     uint64_t address, resolver, flags;
@@ -650,6 +747,12 @@ const char *gm_platform_name(uint32_t platform);                      /* "MACOS"
 #define GM_TOOL_SWIFT UINT32_C(2)
 #define GM_TOOL_LD    UINT32_C(3)
 #define GM_TOOL_LLD   UINT32_C(4)
+/* `kind` of a gm_data_in_code_entry */
+#define GM_DICE_KIND_DATA             UINT16_C(1) /* data */
+#define GM_DICE_KIND_JUMP_TABLE8      UINT16_C(2) /* jump tables of 8 bits */
+#define GM_DICE_KIND_JUMP_TABLE16     UINT16_C(3) /* jump tables of 16 bits */
+#define GM_DICE_KIND_JUMP_TABLE32     UINT16_C(4) /* jump tables of 32 bits */
+#define GM_DICE_KIND_ABS_JUMP_TABLE32 UINT16_C(5) /* jump tables of 32 bits with absolute addresses */
 /* the opcodes of binds: the halves of a byte */
 #define GM_BIND_IMMEDIATE_MASK UINT8_C(0x0f) /* the half of a byte that is the immediate */
 #define GM_BIND_OPCODE_MASK    UINT8_C(0xf0) /* the half of a byte that is the opcode */
@@ -751,10 +854,21 @@ GM_SIZE(gm_binding, 64);
 GM_FIELD(gm_binding_cursor, opcodes, 0, 104);
 GM_FIELD(gm_binding_cursor, chains, 104, 40);
 GM_SIZE(gm_binding_cursor, 144);
+GM_FIELD(gm_build_tool, command, 0, 8);
+GM_FIELD(gm_build_tool, tool, 8, 4);
+GM_FIELD(gm_build_tool, version, 12, 4);
+GM_FIELD(gm_build_tool, code, 16, 4);
+GM_FIELD(gm_build_tool, reserved, 20, 4);
+GM_SIZE(gm_build_tool, 24);
 GM_FIELD(gm_command, offset, 0, 8);
 GM_FIELD(gm_command, size, 8, 8);
 GM_FIELD(gm_command, cmd, 16, 4);
 GM_SIZE(gm_command, 24);
+GM_FIELD(gm_data_in_code_entry, offset, 0, 4);
+GM_FIELD(gm_data_in_code_entry, length, 4, 2);
+GM_FIELD(gm_data_in_code_entry, kind, 6, 2);
+GM_FIELD(gm_data_in_code_entry, code, 8, 4);
+GM_SIZE(gm_data_in_code_entry, 12);
 GM_FIELD(gm_error, code, 0, 4);
 GM_FIELD(gm_error, text, 4, 124);
 GM_SIZE(gm_error, 128);
@@ -804,6 +918,26 @@ GM_SIZE(gm_fixup, 64);
 GM_FIELD(gm_fixup_cursor, chains, 0, 32);
 GM_FIELD(gm_fixup_cursor, stage, 32, 4);
 GM_SIZE(gm_fixup_cursor, 40);
+GM_FIELD(gm_found_section, name, 0, 16);
+GM_FIELD(gm_found_section, segment_name, 16, 16);
+GM_FIELD(gm_found_section, addr, 32, 8);
+GM_FIELD(gm_found_section, size, 40, 8);
+GM_FIELD(gm_found_section, segment, 48, 8);
+GM_FIELD(gm_found_section, number, 56, 4);
+GM_FIELD(gm_found_section, offset, 60, 4);
+GM_FIELD(gm_found_section, align, 64, 4);
+GM_FIELD(gm_found_section, reloff, 68, 4);
+GM_FIELD(gm_found_section, nreloc, 72, 4);
+GM_FIELD(gm_found_section, flags, 76, 4);
+GM_FIELD(gm_found_section, reserved1, 80, 4);
+GM_FIELD(gm_found_section, reserved2, 84, 4);
+GM_FIELD(gm_found_section, is_found, 88, 4);
+GM_FIELD(gm_found_section, reserved, 92, 4);
+GM_SIZE(gm_found_section, 96);
+GM_FIELD(gm_function_start, address, 0, 8);
+GM_FIELD(gm_function_start, code, 8, 4);
+GM_FIELD(gm_function_start, reserved, 12, 4);
+GM_SIZE(gm_function_start, 16);
 GM_FIELD(gm_id, name, 0, 8);
 GM_FIELD(gm_id, name_len, 8, 8);
 GM_SIZE(gm_id, 16);
@@ -839,6 +973,10 @@ GM_FIELD(gm_import, is_weak, 64, 4);
 GM_FIELD(gm_import, is_lazy, 68, 4);
 GM_FIELD(gm_import, code, 72, 4);
 GM_SIZE(gm_import, 80);
+GM_FIELD(gm_indirect_symbol, kind, 0, 4);
+GM_FIELD(gm_indirect_symbol, symbol, 4, 4);
+GM_FIELD(gm_indirect_symbol, code, 8, 4);
+GM_SIZE(gm_indirect_symbol, 12);
 GM_FIELD(gm_layout_fault, found, 0, 8);
 GM_FIELD(gm_layout_fault, limit, 8, 8);
 GM_FIELD(gm_layout_fault, command, 16, 8);
@@ -858,16 +996,36 @@ GM_FIELD(gm_library, compatibility_version, 28, 4);
 GM_FIELD(gm_library, attributes, 32, 4);
 GM_FIELD(gm_library, reserved, 36, 4);
 GM_SIZE(gm_library, 40);
+GM_FIELD(gm_linker_option, command, 0, 8);
+GM_FIELD(gm_linker_option, text, 8, 8);
+GM_FIELD(gm_linker_option, text_len, 16, 8);
+GM_FIELD(gm_linker_option, code, 24, 4);
+GM_FIELD(gm_linker_option, reserved, 28, 4);
+GM_SIZE(gm_linker_option, 32);
 GM_FIELD(gm_listed_export, name, 0, 8);
 GM_FIELD(gm_listed_export, name_len, 8, 8);
 GM_FIELD(gm_listed_export, library, 16, 8);
 GM_FIELD(gm_listed_export, target, 24, 8);
 GM_FIELD(gm_listed_export, what, 32, 48);
 GM_SIZE(gm_listed_export, 80);
+GM_FIELD(gm_note, command, 0, 8);
+GM_FIELD(gm_note, owner, 8, 8);
+GM_FIELD(gm_note, owner_len, 16, 8);
+GM_FIELD(gm_note, place, 24, 8);
+GM_FIELD(gm_note, size, 32, 8);
+GM_FIELD(gm_note, code, 40, 4);
+GM_FIELD(gm_note, reserved, 44, 4);
+GM_SIZE(gm_note, 48);
 GM_FIELD(gm_open_node, left, 0, 8);
 GM_FIELD(gm_open_node, place, 8, 8);
 GM_FIELD(gm_open_node, name_len, 16, 8);
 GM_SIZE(gm_open_node, 24);
+GM_FIELD(gm_provider, library, 0, 8);
+GM_FIELD(gm_provider, provider, 8, 4);
+GM_FIELD(gm_provider, is_told, 12, 4);
+GM_FIELD(gm_provider, code, 16, 4);
+GM_FIELD(gm_provider, reserved, 20, 4);
+GM_SIZE(gm_provider, 24);
 GM_FIELD(gm_relocation, address, 0, 4);
 GM_FIELD(gm_relocation, info, 4, 4);
 GM_FIELD(gm_relocation, code, 8, 4);
@@ -899,6 +1057,22 @@ GM_FIELD(gm_segment, initprot, 68, 4);
 GM_FIELD(gm_segment, sections, 72, 4);
 GM_FIELD(gm_segment, flags, 76, 4);
 GM_SIZE(gm_segment, 80);
+GM_FIELD(gm_slot, address, 0, 8);
+GM_FIELD(gm_slot, len, 8, 8);
+GM_FIELD(gm_slot, segment, 16, 8);
+GM_FIELD(gm_slot, name, 24, 8);
+GM_FIELD(gm_slot, name_len, 32, 8);
+GM_FIELD(gm_slot, section, 40, 4);
+GM_FIELD(gm_slot, kind, 44, 4);
+GM_FIELD(gm_slot, index, 48, 4);
+GM_FIELD(gm_slot, owner, 52, 4);
+GM_FIELD(gm_slot, symbol, 56, 4);
+GM_FIELD(gm_slot, code, 60, 4);
+GM_SIZE(gm_slot, 64);
+GM_FIELD(gm_start_cursor, place, 0, 8);
+GM_FIELD(gm_start_cursor, address, 8, 8);
+GM_FIELD(gm_start_cursor, stage, 16, 4);
+GM_SIZE(gm_start_cursor, 24);
 GM_FIELD(gm_symbol, value, 0, 8);
 GM_FIELD(gm_symbol, name, 8, 8);
 GM_FIELD(gm_symbol, name_len, 16, 8);
@@ -932,6 +1106,10 @@ GM_IS(GM_STUB, 3);
 GM_IS(GM_REBASE, 0);
 GM_IS(GM_BIND, 1);
 GM_IS(GM_NUMBER, 2);
+GM_IS(GM_INDIRECT_SYMBOL, 0);
+GM_IS(GM_INDIRECT_LOCAL, 1);
+GM_IS(GM_INDIRECT_ABSOLUTE, 2);
+GM_IS(GM_INDIRECT_LOCAL_ABSOLUTE, 3);
 GM_IS(GM_REQUIRED, 0);
 GM_IS(GM_WEAK, 1);
 GM_IS(GM_REEXPORT, 2);
@@ -942,6 +1120,12 @@ GM_IS(GM_USED_REEXPORT, 2);
 GM_IS(GM_USED_UPWARD, 4);
 GM_IS(GM_USED_DELAYED, 8);
 GM_IS(GM_LOSSY, 1);
+GM_IS(GM_NO_SLOT, 0);
+GM_IS(GM_SLOT_POINTER, 1);
+GM_IS(GM_SLOT_LAZY_POINTER, 2);
+GM_IS(GM_SLOT_STUB, 3);
+GM_IS(GM_SLOT_LAZY_LIBRARY_POINTER, 4);
+GM_IS(GM_SLOT_THREAD_LOCAL_POINTER, 5);
 /* ---- end */
 #undef GM_ASSERT
 #undef GM_WIDTH

@@ -205,6 +205,10 @@ class Closed(Case):
             "layout_faults": one.layout_faults, "find_export": lambda: [one.find_export("_a")],
             "exports_are_a_tree": lambda: [one.exports_are_a_tree()], "name": lambda: [one.name],
             "sections": lambda: one.sections(part), "relocations": lambda: one.relocations(section), "data": lambda: [one.data],
+            "function_starts": one.function_starts, "data_in_code": one.data_in_code, "indirect_symbols": one.indirect_symbols,
+            "linker_options": one.linker_options, "build_tools": one.build_tools, "notes": one.notes, "symbol_slots": one.symbol_slots,
+            "slot_at": lambda: [one.slot_at(0)], "section_at": lambda: [one.section_at(0)], "section_of": lambda: [one.section_of(0)],
+            "symbol_provider": lambda: [one.symbol_provider(goblin_mach.Symbol("_a", 0, 0, 1, 0, None))],
         }
         numbers = {"error", "arch", "cpu_type", "cpu_subtype", "file_type", "header_flags"}
         public = {name for name in dir(goblin_mach.Image) if name[0] != "_"} - numbers

@@ -38,6 +38,42 @@ def _libraries(image: Image) -> Iterator[str]:
                f"{library.name}")
 
 
+def _function_starts(image: Image) -> Iterator[str]:
+    for f in image.function_starts():
+        yield f"{f.address:x} {code_of(f.error)}"
+
+
+def _data_in_code(image: Image) -> Iterator[str]:
+    for d in image.data_in_code():
+        yield f"{d.offset:x} {d.length} {d.kind} {code_of(d.error)}"
+
+
+def _indirect_symbols(image: Image) -> Iterator[str]:
+    for i in image.indirect_symbols():
+        yield f"{goblin_mach.INDIRECT.index(i.kind)} {i.symbol or 0} {code_of(i.error)}"
+
+
+def _slots(image: Image) -> Iterator[str]:
+    for s in image.symbol_slots():
+        yield (f"{s.address:x} {s.len} {s.segment} {s.section} {goblin_mach.SLOTS.index(s.kind)} {s.index} {goblin_mach.INDIRECT.index(s.owner)} "
+               f"{s.symbol or 0} {code_of(s.error)} {s.name or ''}")
+
+
+def _linker_options(image: Image) -> Iterator[str]:
+    for o in image.linker_options():
+        yield f"{o.command:x} {code_of(o.error)} {o.text}"
+
+
+def _build_tools(image: Image) -> Iterator[str]:
+    for t in image.build_tools():
+        yield f"{t.command:x} {t.tool} {t.version:x} {code_of(t.error)}"
+
+
+def _notes(image: Image) -> Iterator[str]:
+    for n in image.notes():
+        yield f"{n.command:x} {len(n.data)} {code_of(n.error)} {n.owner}"
+
+
 def _fixups(image: Image) -> Iterator[str]:
     for f in image.fixups():
         yield (f"{f.address:x} {f.offset:x} {f.target:x} {f.segment} {goblin_mach.FIXUPS.index(f.kind)} {f.import_number} {f.addend} "
@@ -74,6 +110,13 @@ LINES: Dict[str, Callable[[Image], Iterator[str]]] = {
     "libraries": _libraries,
     "run_paths": lambda image: iter(image.run_paths()),
     "ids": lambda image: iter(image.ids()),
+    "function_starts": _function_starts,
+    "data_in_code": _data_in_code,
+    "indirect_symbols": _indirect_symbols,
+    "slots": _slots,
+    "linker_options": _linker_options,
+    "build_tools": _build_tools,
+    "notes": _notes,
     "fixups": _fixups,
     "exports": _exports,
     "imports": _imports,

@@ -5,7 +5,7 @@ from __future__ import annotations
 import ctypes
 import glob
 import os
-from ctypes import POINTER, c_char_p, c_size_t, c_uint32, c_void_p
+from ctypes import POINTER, c_char_p, c_size_t, c_uint32, c_uint64, c_void_p
 from typing import Any, Dict, List, Sequence, Tuple
 
 from . import _structs as s
@@ -58,14 +58,21 @@ def _prototypes() -> Dict[str, Tuple[Any, List[Any]]]:
         "gm_find_export": (c_uint32, [*held, image, c_char_p, c_size_t, POINTER(s.gm_export), c_void_p, c_size_t, c_void_p, c_size_t, c_void_p, error]),
         "gm_exports": (c_uint32, [*held, image, POINTER(s.gm_export_walk), POINTER(s.gm_export_room), POINTER(s.gm_export_batch), c_void_p, error]),
         "gm_exports_are_a_tree": (c_uint32, [*held, image, c_void_p, error]),
+        "gm_slots": (c_uint32, [*held, image, *by_number, count, c_void_p, error]),
+        "gm_slot_at": (c_uint32, [*held, image, c_uint64, POINTER(s.gm_slot), c_void_p, error]),
+        "gm_section_at": (c_uint32, [*held, image, c_uint64, POINTER(s.gm_found_section), c_void_p, error]),
+        "gm_section_of": (c_uint32, [*held, image, c_size_t, POINTER(s.gm_found_section), c_void_p, error]),
+        "gm_symbol_provider": (None, [image, POINTER(s.gm_symbol), POINTER(s.gm_provider)]),
         "gm_layout_faults": (c_uint32, [*held, image, *by_number, count, c_void_p, error]),
         "gm_container_faults": (c_uint32, [*held, *by_number, count, c_void_p, error]),
         "gm_layout_rule": (c_char_p, [c_uint32]),
         "gm_layout_part": (c_char_p, [c_uint32]),
     }
-    for name in ("commands", "segments", "symbols", "libraries", "run_paths", "ids"):
+    for name in ("commands", "segments", "symbols", "libraries", "run_paths", "ids",
+                 "data_in_code", "indirect_symbols", "linker_options", "build_tools", "notes"):
         calls["gm_" + name] = c_size_t, [*held, image, *by_number]
-    for name, cursor in (("fixups", s.gm_fixup_cursor), ("imports", s.gm_bind_cursor), ("bindings", s.gm_binding_cursor)):
+    for name, cursor in (("fixups", s.gm_fixup_cursor), ("imports", s.gm_bind_cursor), ("bindings", s.gm_binding_cursor),
+                         ("function_starts", s.gm_start_cursor)):
         calls["gm_" + name] = c_uint32, [*held, image, POINTER(cursor), c_void_p, c_size_t, count, c_void_p, error]
     return calls
 

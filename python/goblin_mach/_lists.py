@@ -10,11 +10,16 @@ from ._library import lib
 from ._memory import Held
 from ._rows import Kind
 from .errors import ERRORS
-from .items import Binding, Command, FatEntry, Fixup, Import, LayoutFault, Library, Owner, Relocation, Section, Segment, Symbol
+from .items import (
+    Binding, BuildTool, Command, DataInCode, FatEntry, Fixup, FunctionStart, Import, IndirectSymbol, LayoutFault, Library, LinkerOption, Note, Owner,
+    NumberedSection, Relocation, Section, Segment, Symbol, SymbolProvider, SymbolSlot,
+)
 
 FIXUPS = ("rebase", "bind", "number")
 PROVIDERS = ("library", "itself", "program", "any", "any weak")
 KINDS = ("required", "weak", "reexport", "upward", "lazy")
+SLOTS = ("none", "pointer", "lazy pointer", "stub", "lazy library pointer", "thread-local pointer")
+INDIRECT = ("symbol", "local", "absolute", "local absolute")
 
 Raws = Iterable[Tuple[Any, ...]]
 _new = tuple.__new__  # of a NamedTuple: the fields as one tuple, at a third of the time
@@ -105,6 +110,58 @@ def bindings(held: Held, raws: Raws, first: int) -> List[Binding]:
     ]
 
 
+def function_starts(held: Held, raws: Raws, first: int) -> List[FunctionStart]:
+    return [_new(FunctionStart, (address, _error(code) if code else None)) for address, code, _ in raws]
+
+
+def data_in_code(held: Held, raws: Raws, first: int) -> List[DataInCode]:
+    return [_new(DataInCode, (offset, length, kind, _error(code) if code else None)) for offset, length, kind, code in raws]
+
+
+def indirect_symbols(held: Held, raws: Raws, first: int) -> List[IndirectSymbol]:
+    return [
+        IndirectSymbol(INDIRECT[kind], None if kind or code else symbol, _error(code) if code else None)
+        for kind, symbol, code in raws
+    ]
+
+
+def linker_options(held: Held, raws: Raws, first: int) -> List[LinkerOption]:
+    return [LinkerOption(held.text(text, size), command, _error(code)) for command, text, size, code, _ in raws]
+
+
+def build_tools(held: Held, raws: Raws, first: int) -> List[BuildTool]:
+    return [BuildTool(tool, version, command, _error(code)) for command, tool, version, code, _ in raws]
+
+
+def notes(held: Held, raws: Raws, first: int) -> List[Note]:
+    view = held.view
+    return [
+        Note(held.text(owner, owner_len), view[place:place + size] if size else view[:0], command, _error(code))
+        for command, owner, owner_len, place, size, code, _ in raws
+    ]
+
+
+def slots(held: Held, raws: Raws, first: int) -> List[SymbolSlot]:
+    return [
+        SymbolSlot(address, size, segment, section, SLOTS[kind], index, INDIRECT[owner], None if owner or code else symbol,
+                   held.text(name, name_len) if not owner and not code else None, _error(code))
+        for address, size, segment, name, name_len, section, kind, index, owner, symbol, code in raws
+    ]
+
+
+def provider(found: s.gm_provider) -> Optional[SymbolProvider]:
+    """Who gives a symbol, if the linker wrote it down."""
+    return SymbolProvider(PROVIDERS[found.provider], found.library, _error(found.code)) if found.is_told else None
+
+
+def numbered_section(found: s.gm_found_section) -> Optional[NumberedSection]:
+    """A section that was sought, if it was found."""
+    if not found.is_found:
+        return None
+    return NumberedSection(found.segment, found.number, _name(bytes(found.name)), _name(bytes(found.segment_name)), found.addr, found.size, found.offset,
+                           found.align, found.reloff, found.nreloc, found.flags, found.reserved1, found.reserved2)
+
+
 @lru_cache(maxsize=None)
 def _rule(number: int) -> str:
     return str(lib.gm_layout_rule(number).decode())
@@ -131,6 +188,13 @@ SYMBOLS = Kind(lib.gm_symbols, s.gm_symbol, symbols)
 LIBRARIES = Kind(lib.gm_libraries, s.gm_library, libraries)
 RUN_PATHS = Kind(lib.gm_run_paths, s.gm_run_path, run_paths)
 IDS = Kind(lib.gm_ids, s.gm_id, ids)
+DATA_IN_CODE = Kind(lib.gm_data_in_code, s.gm_data_in_code_entry, data_in_code)
+INDIRECT_SYMBOLS = Kind(lib.gm_indirect_symbols, s.gm_indirect_symbol, indirect_symbols)
+LINKER_OPTIONS = Kind(lib.gm_linker_options, s.gm_linker_option, linker_options)
+BUILD_TOOLS = Kind(lib.gm_build_tools, s.gm_build_tool, build_tools)
+NOTES = Kind(lib.gm_notes, s.gm_note, notes)
+SLOTS_BY_NUMBER = Kind(lib.gm_slots, s.gm_slot, slots)
+FUNCTION_STARTS_BEHIND = Kind(lib.gm_function_starts, s.gm_function_start, function_starts)
 FIXUPS_BEHIND = Kind(lib.gm_fixups, s.gm_fixup, fixups)
 IMPORTS_BEHIND = Kind(lib.gm_imports, s.gm_import, imports)
 BINDINGS_BEHIND = Kind(lib.gm_bindings, s.gm_binding, bindings)

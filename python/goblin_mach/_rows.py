@@ -36,6 +36,10 @@ class Kind(Generic[T]):
         """The items of the first `count` rows of an array, whose numbers begin with `first`."""
         return self.decode(held, self.row.iter_unpack(memoryview(array)[:count * self.row.size]), first)
 
+    def items_of(self, held: Held, row: ctypes.Structure) -> List[T]:
+        """The item of one row, as a list."""
+        return self.decode(held, self.row.iter_unpack(bytes(row)), 0)
+
 
 class Rows(Generic[T]):
     """A list whose items stand at numbers of their own. It is an iterator over them, and is gone over once. Beside that `len` says how many there are,
@@ -127,7 +131,7 @@ def rows_behind(kind: Kind[T], live: Callable[[], Held], numbers: Any, cursor: c
         first += BATCH
 
 
-def all_faults(kind: Kind[T], live: Callable[[], Held], given: Sequence[Any] = ()) -> Iterator[T]:
+def in_growing_batches(kind: Kind[T], live: Callable[[], Held], given: Sequence[Any] = ()) -> Iterator[T]:
     """The items of a list of which each call seeks all: so batches double."""
     held, first, cap = live(), 0, BATCH
     life = held.life

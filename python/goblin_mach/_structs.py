@@ -79,6 +79,51 @@ class gm_id(ctypes.Structure):
     _fields_ = _sizes("name name_len")
 
 
+class gm_function_start(ctypes.Structure):
+    _fields_ = _u64("address") + _u32("code reserved")
+
+
+class gm_start_cursor(ctypes.Structure):
+    _fields_ = _sizes("place") + _u64("address") + _u32("stage reserved")
+
+
+class gm_data_in_code_entry(ctypes.Structure):
+    _fields_ = [("offset", c_uint32), ("length", c_uint16), ("kind", c_uint16), ("code", c_uint32)]
+
+
+class gm_indirect_symbol(ctypes.Structure):
+    _fields_ = _u32("kind symbol code")
+
+
+class gm_linker_option(ctypes.Structure):
+    _fields_ = _sizes("command text text_len") + _u32("code reserved")
+
+
+class gm_build_tool(ctypes.Structure):
+    _fields_ = _sizes("command") + _u32("tool version code reserved")
+
+
+class gm_note(ctypes.Structure):
+    _fields_ = _sizes("command owner owner_len") + _u64("place") + _sizes("size") + _u32("code reserved")
+
+
+class gm_slot(ctypes.Structure):
+    _fields_ = _u64("address len") + _sizes("segment name name_len") + _u32("section kind index owner symbol code")
+
+
+class gm_provider(ctypes.Structure):
+    _fields_ = _u64("library") + _u32("provider is_told code reserved")
+
+
+class gm_found_section(ctypes.Structure):
+    _fields_ = (
+        [("name", c_uint8 * 16), ("segment_name", c_uint8 * 16)]
+        + _u64("addr size")
+        + _sizes("segment")
+        + _u32("number offset align reloff nreloc flags reserved1 reserved2 is_found reserved")
+    )
+
+
 class gm_export(ctypes.Structure):
     _fields_ = _u64("address resolver flags") + _sizes("library_len target_len") + _u32("kind reserved")
 

@@ -364,6 +364,16 @@ class Tool(Number):
     LLD = 4
 
 
+class DataKind(Number):
+    """DICE_KIND_, of mach-o/loader.h: what data among code is (LC_DATA_IN_CODE)."""
+
+    DATA = 1
+    JUMP_TABLE8 = 2
+    JUMP_TABLE16 = 3
+    JUMP_TABLE32 = 4
+    ABS_JUMP_TABLE32 = 5
+
+
 def cpu_subtype(cputype: int, cpusubtype: int) -> CpuSubtype:
     """A cpu's subtype, without its capabilities."""
     return CPU_SUBTYPES.get(cputype, CpuSubtype).of(cpusubtype & 0xFFFFFF)

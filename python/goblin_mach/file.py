@@ -11,7 +11,7 @@ from typing import TYPE_CHECKING, Any, Dict, Iterator, List, Optional, Sequence,
 
 from . import _lists
 from ._memory import Held, Life
-from ._rows import Rows, all_faults
+from ._rows import Rows, in_growing_batches
 from .enums import Mode
 from .image import Image
 from .items import FatEntry, LayoutFault
@@ -35,7 +35,7 @@ def fat_entries(data: Union[ReadableBuffer, Held]) -> Rows[FatEntry]:
 
 def container_faults(data: Union[ReadableBuffer, Held]) -> Iterator[LayoutFault]:
     """The faults of the table of a fat file; none where the bytes are no fat file."""
-    return all_faults(_lists.CONTAINER_FAULTS, _held(data).live)
+    return in_growing_batches(_lists.CONTAINER_FAULTS, _held(data).live)
 
 
 def _mapped(path: Any) -> Union[mmap.mmap, bytes]:

@@ -3,20 +3,30 @@
 from __future__ import annotations
 
 import ctypes
-from typing import TYPE_CHECKING, Iterator, List, Optional, Tuple, Union
+from typing import TYPE_CHECKING, Any, Callable, Iterator, List, Optional, Tuple, Union
 
 from . import _exports, _lists
 from . import _structs as s
 from ._arch import arch_name
 from ._library import lib, refused
 from ._memory import Held
-from ._rows import Rows, all_faults, rows_behind
+from ._rows import Rows, in_growing_batches, rows_behind
 from .enums import CpuSubtype, CpuType, ErrorCode, FileType, HeaderFlags, Mode, cpu_subtype
 from .errors import Refused, again, code_of
-from .items import Binding, Command, Export, FatEntry, Fixup, Import, LayoutFault, Library, Relocation, Section, Segment, Symbol
+from .items import (
+    Binding, BuildTool, Command, DataInCode, Export, FatEntry, Fixup, FunctionStart, Import, IndirectSymbol, LayoutFault, Library, LinkerOption, Note,
+    NumberedSection, Relocation, Section, Segment, Symbol, SymbolProvider, SymbolSlot,
+)
 
 if TYPE_CHECKING:
     from _typeshed import ReadableBuffer
+
+
+def _bits64(number: int) -> int:
+    """A number as C takes it. One that has no 64 bits would be cut."""
+    if not 0 <= number < 1 << 64:
+        raise ValueError(f"{number:#x} is no number of 64 bits")
+    return number
 
 
 class Image:
@@ -149,6 +159,62 @@ class Image:
             pass
         return name
 
+    def function_starts(self) -> Iterator[FunctionStart]:
+        """Where its functions begin (LC_FUNCTION_STARTS); the last may be the error that ends them."""
+        return rows_behind(_lists.FUNCTION_STARTS_BEHIND, self._live, self._pointer, s.gm_start_cursor())
+
+    def data_in_code(self) -> Rows[DataInCode]:
+        """The data among its code (LC_DATA_IN_CODE). An entry that can't be read has an `error`."""
+        return Rows(_lists.DATA_IN_CODE, self._live, (self._pointer,))
+
+    def indirect_symbols(self) -> Rows[IndirectSymbol]:
+        """Its table of indirect symbols. An entry that can't be read has an `error`."""
+        return Rows(_lists.INDIRECT_SYMBOLS, self._live, (self._pointer,))
+
+    def symbol_slots(self) -> Iterator[SymbolSlot]:
+        """Its stubs and pointers that stand for symbols, section by section. One that can't be read has an `error`."""
+        return in_growing_batches(_lists.SLOTS_BY_NUMBER, self._live, (self._pointer,))
+
+    def slot_at(self, address: int) -> Optional[SymbolSlot]:
+        """The stub or pointer in which an address lies, or None. One that can't be read raises `Refused`."""
+        held, found, error = self._live(), s.gm_slot(), s.gm_error()
+        if lib.gm_slot_at(held.at, held.len, self._pointer, _bits64(address), ctypes.byref(found), None, ctypes.byref(error)):
+            raise refused(error)
+        return next(iter(_lists.SLOTS_BY_NUMBER.items_of(held, found))) if found.kind else None
+
+    def symbol_provider(self, symbol: Symbol) -> Optional[SymbolProvider]:
+        """Who gives an undefined symbol, as the linker wrote it down, or None where it didn't. An ordinal past the last library is an `error`."""
+        self._live()
+        given, found = s.gm_symbol(value=symbol.value, section=symbol.section, desc=symbol.desc, n_type=symbol.n_type), s.gm_provider()
+        lib.gm_symbol_provider(self._pointer, ctypes.byref(given), ctypes.byref(found))
+        return _lists.provider(found)
+
+    def section_at(self, address: int) -> Optional[NumberedSection]:
+        """The first section in which an address lies, or None."""
+        return self._section(lib.gm_section_at, _bits64(address))
+
+    def section_of(self, number: int) -> Optional[NumberedSection]:
+        """The section that `section` of a symbol means, counted from 1 over all segments, or None. One that isn't in the bytes raises `Refused`."""
+        return self._section(lib.gm_section_of, _bits64(number))
+
+    def _section(self, call: Callable[..., Any], by: int) -> Optional[NumberedSection]:
+        held, found, error = self._live(), s.gm_found_section(), s.gm_error()
+        if call(held.at, held.len, self._pointer, by, ctypes.byref(found), None, ctypes.byref(error)):
+            raise refused(error)
+        return _lists.numbered_section(found)
+
+    def linker_options(self) -> Rows[LinkerOption]:
+        """Its options for the linker (LC_LINKER_OPTION); the last may be the error that ends them."""
+        return Rows(_lists.LINKER_OPTIONS, self._live, (self._pointer,))
+
+    def build_tools(self) -> Rows[BuildTool]:
+        """The tools that it was built with (LC_BUILD_VERSION); the last may be the error that ends them."""
+        return Rows(_lists.BUILD_TOOLS, self._live, (self._pointer,))
+
+    def notes(self) -> Rows[Note]:
+        """Its notes (LC_NOTE). One that can't be read has an `error`."""
+        return Rows(_lists.NOTES, self._live, (self._pointer,))
+
     def fixups(self) -> Iterator[Fixup]:
         """The fixups of its chains (LC_DYLD_CHAINED_FIXUPS); the last may be the error that ends them."""
         return rows_behind(_lists.FIXUPS_BEHIND, self._live, self._pointer, s.gm_fixup_cursor())
@@ -181,7 +247,7 @@ class Image:
 
     def layout_faults(self) -> Iterator[LayoutFault]:
         """What lies where the format and its readers don't allow it, of the file that begins with the image."""
-        return all_faults(_lists.LAYOUT_FAULTS, self._live, (self._pointer,))
+        return in_growing_batches(_lists.LAYOUT_FAULTS, self._live, (self._pointer,))
 
     def _place(self) -> Tuple[object, ...]:
         """Which image it is: two of one place in the same bytes, opened in the same mode, are equal."""

@@ -7,7 +7,7 @@ from typing import Any, NamedTuple, Optional, Type, TypeVar
 
 from ._arch import arch_name
 from .enums import (
-    CpuSubtype, CpuType, LoadCommand, Protection, SectionAttributes, SectionType, SegmentFlags, cpu_subtype,
+    CpuSubtype, CpuType, DataKind, LoadCommand, Protection, SectionAttributes, SectionType, SegmentFlags, Tool, cpu_subtype,
 )
 from .symbol_enums import (
     ExportFlags, ExportKind, ReferenceType, RelocationType, Stab, SymbolDescription, SymbolType, relocation_type,
@@ -286,6 +286,135 @@ class Binding(NamedTuple):
     addend: int
     is_weak: bool
     is_lazy: bool
+    error: Optional[str]
+
+
+@_readable
+class FunctionStart(NamedTuple):
+    """Where a function begins: its address in memory, before sliding."""
+
+    address: int
+    error: Optional[str]
+
+
+@_readable
+class DataInCode(NamedTuple):
+    """Data among code: `length` bytes, `offset` behind the image's first byte in memory (of an object file behind address 0)."""
+
+    offset: int
+    length: int
+    kind: int
+    error: Optional[str]
+
+    @property
+    def data_kind(self) -> DataKind:
+        """`kind` by its name."""
+        return DataKind.of(self.kind)
+
+
+@_readable
+class IndirectSymbol(NamedTuple):
+    """An entry of the table of indirect symbols: `kind` is "symbol", whose number among `symbols` is `symbol`, or "local", "absolute" or "local
+    absolute", where no symbol says whose a pointer is."""
+
+    kind: str
+    symbol: Optional[int]
+    error: Optional[str]
+
+
+@_readable
+class SymbolSlot(NamedTuple):
+    """A stub or a pointer that stands for a symbol: `len` bytes at `address`, in section number `section` of segment number `segment`. `kind` is "pointer",
+    "lazy pointer", "stub", "lazy library pointer" or "thread-local pointer"; `owner` is what entry `index` of the table of indirect symbols says, "symbol",
+    "local", "absolute" or "local absolute"; of a symbol `symbol` is its number and `name` its name."""
+
+    address: int
+    len: int
+    segment: int
+    section: int
+    kind: str
+    index: int  # type: ignore[assignment]  # of a tuple it would be a method
+    owner: str
+    symbol: Optional[int]
+    name: Optional[str]
+    error: Optional[str]
+
+
+@_readable
+class SymbolProvider(NamedTuple):
+    """Who gives an undefined symbol, as the linker wrote it down: "library" (by its ordinal), "itself", "program" or "any"."""
+
+    provider: str
+    library: int
+    error: Optional[str]
+
+
+@_readable
+class NumberedSection(NamedTuple):
+    """A section that was sought: number `number` of segment number `segment`. Of pointers and stubs `reserved1` is their place in the table of indirect
+    symbols, and of stubs `reserved2` is how many bytes each has."""
+
+    segment: int
+    number: int
+    name: bytes
+    segment_name: bytes
+    addr: int
+    size: int
+    offset: int
+    align: int
+    reloff: int
+    nreloc: int
+    flags: int
+    reserved1: int
+    reserved2: int
+
+    @property
+    def type(self) -> SectionType:
+        """The low 8 bits of `flags` by their name."""
+        return SectionType.of(self.flags & 0xFF)
+
+    @property
+    def attributes(self) -> SectionAttributes:
+        """The other bits of `flags` by their names."""
+        return SectionAttributes.of(self.flags & 0xFFFFFF00)
+
+
+@_readable
+class LinkerOption(NamedTuple):
+    """An option for the linker, of the load command at `command`. Behind one with an `error` none comes."""
+
+    text: str
+    command: int
+    error: Optional[str]
+
+
+@_readable
+class BuildTool(NamedTuple):
+    """A tool that the image was built with, of the load command at `command`. Behind one with an `error` none comes."""
+
+    tool: int
+    version: int
+    command: int
+    error: Optional[str]
+
+    @property
+    def build_tool(self) -> Tool:
+        """`tool` by its name."""
+        return Tool.of(self.tool)
+
+    @property
+    def version_text(self) -> str:
+        """`version` as X.Y.Z."""
+        return f"{self.version >> 16}.{self.version >> 8 & 255}.{self.version & 255}"
+
+
+@_readable
+class Note(NamedTuple):
+    """Bytes of some tool's own, by the load command at `command`."""
+
+    owner: str
+    data: memoryview
+    command: int
     error: Optional[str]
 
 

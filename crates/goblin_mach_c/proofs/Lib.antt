@@ -4,6 +4,11 @@ pub mod OpenedImage
 pub mod FatCodes
 pub mod SymbolTexts
 pub mod OpenedLists
+pub mod OpenedTables
+pub mod LastSaid
+pub mod ListedParts
+pub mod ItemRowsMade
+pub mod StartPlaces
 pub mod ListedExports
 pub mod WalkedTries
 pub mod TrieBytes

@@ -5,18 +5,27 @@ ghost use Rattle.mach_base.specs.Fault.{Fault};
 ghost use Rattle.mach_chained.specs.Fixups.{Fixup};
 ghost use Rattle.mach_binds.specs.Imports.{Import};
 ghost use Rattle.mach_image.specs.Facts.{HasBindings, HasFixups, HasImportItems};
+ghost use Rattle.mach_image.specs.TableFacts.{HasFunctionStarts};
 ghost use Rattle.mach_segments.specs.Bindings.{Binding};
 ghost use Rattle.goblin_mach_c.specs.BindingsBehind.{HasBindingsBehind};
 ghost use Rattle.goblin_mach_c.specs.declared.bindings.gm_binding_cursor.{gm_binding_cursor};
 ghost use Rattle.goblin_mach_c.specs.FixupsBehind.{HasFixupsBehind};
 ghost use Rattle.goblin_mach_c.specs.ImportsBehind.{HasImportsBehind};
 ghost use Rattle.goblin_mach_c.specs.declared.imports.gm_bind_cursor.{gm_bind_cursor};
+ghost use Rattle.goblin_mach_c.specs.StartsBehind.{HasStartsBehind};
 ghost use Rattle.goblin_mach_c.specs.declared.fixups.gm_fixup_cursor.{gm_fixup_cursor};
+ghost use Rattle.goblin_mach_c.specs.declared.starts.gm_start_cursor.{gm_start_cursor};
 
 /// At stage 0 the fixups behind a cursor are all those of the image.
 pub fn fixups_begin_at_the_start()
     ensures { (bytes : List ℕ) (o : ℕ) (c : gm_fixup_cursor) → c.stage ≡ 0 → (items : List (Result Fixup Fault))
         → HasFixupsBehind bytes o c items ↔ HasFixups bytes o items }
+{}
+
+/// At stage 0 the functions behind a cursor are all those of the image.
+pub fn starts_begin_at_the_start()
+    ensures { (bytes : List ℕ) (o : ℕ) (c : gm_start_cursor) → c.stage ≡ 0 → (items : List (Result ℕ Fault))
+        → HasStartsBehind bytes o c items ↔ HasFunctionStarts bytes o items }
 {}
 
 /// At stage 0 the imports behind a cursor are all those of the image.

@@ -8,6 +8,10 @@ ghost use Rattle.mach_tries.specs.Trie.{Entry};
 ghost use Rattle.mach_tries.specs.declared.walk.Open.{Open};
 ghost use Rattle.mach_image.specs.Facts.{HasCommands, HasExports, HasSegments, HasSymbols};
 ghost use Rattle.mach_image.specs.Image.{LossyOpens};
+ghost use Rattle.mach_image.specs.SlotFacts.{HasIndirectSymbols};
+ghost use Rattle.mach_image.specs.TableFacts.{HasDataInCode};
+ghost use Rattle.mach_records.specs.declared.linkedit.DataInCodeEntry.{DataInCodeEntry};
+ghost use Rattle.mach_slots.specs.declared.indirect.IndirectSymbol.{IndirectSymbol};
 ghost use Rattle.goblin_mach.specs.FatFile.{arch_at};
 ghost use Rattle.goblin_mach_c.specs.CommandRows.{commands_seen};
 ghost use Rattle.goblin_mach_c.specs.ExportWalk.{HasWalked};
@@ -16,6 +20,7 @@ ghost use Rattle.goblin_mach_c.specs.Opened.{IsOpened};
 ghost use Rattle.goblin_mach_c.specs.PartRows.{segment_row, segment_rows};
 ghost use Rattle.goblin_mach_c.specs.Say.{AllSay};
 ghost use Rattle.goblin_mach_c.specs.SymbolRows.{SaysSymbol, symbol_rows};
+ghost use Rattle.goblin_mach_c.specs.TableRows.{data_in_code_row, data_in_code_rows, indirect_row, indirect_rows};
 ghost use Rattle.goblin_mach_c.specs.declared.exports.gm_export_walk.{gm_export_walk};
 ghost use Rattle.goblin_mach_c.specs.declared.images.gm_image.{gm_image};
 
@@ -27,6 +32,14 @@ pub fn lists_of_opened()
         → (segments : List SegmentView) × HasSegments bytes o segments × (segment_rows bytes c ≡ map segment_row segments) }
     ensures symbols { (bytes : List ℕ) (o : ℕ) (c : gm_image) → IsOpened bytes o c
         → (symbols : List (Result (List ℕ × Nlist) Fault)) × HasSymbols bytes o symbols × AllSay (SaysSymbol c.names_at) symbols (symbol_rows bytes c) }
+{}
+
+/// The data among code that its numbers say are the image's, and so are the indirect symbols.
+pub fn tables_of_opened()
+    ensures data_in_code { (bytes : List ℕ) (o : ℕ) (c : gm_image) → IsOpened bytes o c
+        → (items : List (Result DataInCodeEntry Fault)) × HasDataInCode bytes o items × (data_in_code_rows bytes c ≡ map data_in_code_row items) }
+    ensures indirect { (bytes : List ℕ) (o : ℕ) (c : gm_image) → IsOpened bytes o c
+        → (items : List (Result IndirectSymbol Fault)) × HasIndirectSymbols bytes o items × (indirect_rows bytes c ≡ map indirect_row items) }
 {}
 
 /// The record of an entry of a fat file is told without a code where it lies whole in the bytes, and else with that of a short read.

@@ -1,0 +1,23 @@
+-- The functions behind a cursor, by what is left of the numbers.
+use Rattle.std.proofs.Common.{◌≡◌, ◌∙◌, ◌+◌, ℕ, List, [], take, Some, None, Result, sym, subst, arith}
+use Rattle.mach_base.specs.Fault.{Fault}
+use Rattle.mach_tables.specs.FunctionStarts.{AreStartsBehind, starts_behind}
+use Rattle.mach_tables.proofs.StartsRead.{none_left, starts_are}
+use Rattle.mach_image.specs.Tables.{AreStartsAt}
+use Rattle.goblin_mach_c.specs.Stage.{Stage, start, under_way, over}
+use Rattle.goblin_mach_c.specs.StartsBehind.{AreStartsAtStage}
+use Rattle.goblin_mach_c.specs.declared.starts.gm_start_cursor.{gm_start_cursor}
+
+-- none where no command places any, at whatever stage
+pub none_at_stage : (s : Stage) (c : gm_start_cursor) (bytes : List ℕ) (base : ℕ) (items : List (Result ℕ Fault)) → items ≡ []
+    → AreStartsAtStage s c bytes None base items
+none_at_stage start c bytes base items e = e
+none_at_stage under_way c bytes base items e = e ∙ sym (none_left [] 0 c.place c.address (omega arith))
+none_at_stage over c bytes base items e = e
+
+-- from the first number on they are all
+pub all_from_first : (bytes : List ℕ) (off size base : ℕ) (items : List (Result ℕ Fault))
+    → items ≡ starts_behind (take (off + size) bytes) (off + size) off base → AreStartsAt bytes (Some (off, size)) base items
+all_from_first bytes off size base items e =
+    subst (λ (l : List (Result ℕ Fault)). AreStartsBehind (take (off + size) bytes) (off + size) off base l) (sym e)
+    (starts_are (take (off + size) bytes) (off + size) off base)

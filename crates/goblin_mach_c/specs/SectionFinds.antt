@@ -1,0 +1,59 @@
+-- A section that was sought as C sees it.
+use Rattle.std.specs.Prelude.{◌≡◌, ◌⊎◌, ℕ, List, replicate, Option, Some, None, Ok, Err}
+use Rattle.mach_base.specs.Fault.{Fault}
+use Rattle.mach_segments.specs.declared.segment.numbered.NumberedSection.{NumberedSection}
+use Rattle.mach_image.specs.SlotFacts.{HasSectionAt, HasSectionOf}
+use Rattle.goblin_mach_c.specs.Opened.{FaultIn, lossy_mode}
+use Rattle.goblin_mach_c.specs.declared.images.gm_image.{gm_image}
+use Rattle.goblin_mach_c.specs.declared.section_finds.gm_found_section.{gm_found_section}
+
+-- a section, or that there is none
+abbrev pub found_section_row : Option NumberedSection → gm_found_section
+found_section_row (Some n) =
+    record {
+      name = n.section.sectname;
+      segment_name = n.section.segname;
+      addr = n.section.addr;
+      size = n.section.size;
+      segment = n.segment;
+      number = n.number;
+      offset = n.section.offset;
+      align = n.section.align;
+      reloff = n.section.reloff;
+      nreloc = n.section.nreloc;
+      flags = n.section.flags;
+      reserved1 = n.section.reserved1;
+      reserved2 = n.section.reserved2;
+      is_found = 1;
+      reserved = 0;
+    }
+found_section_row None =
+    record {
+      name = replicate 16 0;
+      segment_name = replicate 16 0;
+      addr = 0;
+      size = 0;
+      segment = 0;
+      number = 0;
+      offset = 0;
+      align = 0;
+      reloff = 0;
+      nreloc = 0;
+      flags = 0;
+      reserved1 = 0;
+      reserved2 = 0;
+      is_found = 0;
+      reserved = 0;
+    }
+
+-- the row is that of the first section of the image at o in which an address lies
+abbrev pub FindsSectionAt : List ℕ → ℕ → ℕ → gm_found_section → Type 0
+FindsSectionAt bytes o a row = (found : Option NumberedSection) × HasSectionAt bytes o a found × (row ≡ found_section_row found)
+
+-- that of its section of a number
+abbrev pub FindsSectionOf : List ℕ → ℕ → ℕ → gm_found_section → Type 0
+FindsSectionOf bytes o n row = (found : Option NumberedSection) × HasSectionOf bytes o n (Ok found) × (row ≡ found_section_row found)
+
+-- a fault of opening, or the section's own
+abbrev pub SectionFaultIn : List ℕ → gm_image → ℕ → Fault → Type 0
+SectionFaultIn bytes c n f = FaultIn (lossy_mode c.is_lossy) bytes c.offset f ⊎ HasSectionOf bytes c.offset n (Err f)

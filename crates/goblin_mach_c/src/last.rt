@@ -1,0 +1,21 @@
+//! What the last command of a subject says, read in place.
+
+ghost use Rattle.std.specs.Prelude.{◌≡◌, option_map};
+ghost use Rattle.mach_image.specs.Readings.{last_of, read_of};
+ghost use Rattle.goblin_mach_c.specs.CommandRows.{commands_seen};
+
+use crate::commands::Commands;
+use crate::images::gm_image;
+use mach_image::readings::{Subject, put_readable};
+
+/// What the last readable command of a subject says, among those of an image.
+pub fn last_said<S: Subject>(bytes: &[u8], image: &gm_image, subject: &S) -> Option<S::Value>
+    ensures { option_map S.seen result ≡ last_of (read_of (S.reading subject.now) (commands_seen bytes.now image.now)) }
+{
+    let mut commands = Commands::of(bytes, image);
+    let mut last = None;
+    'said: while let Some(command) = commands.next_in_place() {
+        put_readable(&mut last, subject, &command);
+    }
+    last
+}

@@ -1,0 +1,97 @@
+//! Who gives an undefined symbol, as the linker wrote it down: by numbers alone.
+
+ghost use Rattle.std.specs.Prelude.{◌≡◌, Some};
+ghost use Rattle.mach_image.specs.ImageSlots.{bind_ordinal_of, names_library, symbol_provider_of};
+ghost use Rattle.mach_segments.specs.Bindings.{provider_of};
+ghost use Rattle.goblin_mach_c.specs.ProviderRows.{nameless, provider_row, provider_row_of, symbol_record_seen};
+
+use crate::errors::{GM_MALFORMED, GM_OK};
+use crate::images::gm_image;
+use crate::symbols::gm_symbol;
+use mach_headers::header::MH_TWOLEVEL;
+use mach_symbols::symbols::{N_PBUD, N_UNDF, Nlist};
+
+/// Who gives a symbol: a library by its ordinal, or another one.
+#[derive(Clone, Copy)]
+#[repr(C)]
+pub struct gm_provider {
+    /// The ordinal of the library, and else 0.
+    pub library: u64,
+    /// As of a binding: 0 a library, 1 the image itself, 2 the program, 3 any image.
+    pub provider: u32,
+    /// Whether the linker wrote it down: 0 or 1. Where it didn't, the rest is 0.
+    pub is_told: u32,
+    /// `GM_OK`, or `GM_MALFORMED` where the ordinal is past the last library.
+    pub code: u32,
+    pub reserved: u32,
+}
+
+// The record of a symbol, but for the place of its name.
+fn record_of(symbol: &gm_symbol) -> Nlist
+    ensures { result ≡ symbol_record_seen symbol.now }
+{
+    Nlist {
+        n_strx: 0,
+        n_type: symbol.n_type,
+        n_sect: symbol.section,
+        n_desc: symbol.desc,
+        n_value: symbol.value,
+    }
+}
+
+// Whether the linker wrote down of a symbol which library gives it.
+fn has_library(flags: u32, symbol: &Nlist) -> bool
+    ensures { result ≡ names_library flags symbol.now }
+{
+    if flags & MH_TWOLEVEL == 0 || symbol.is_stab() {
+        return false;
+    }
+    let kind = symbol.get_type();
+    kind == N_UNDF && symbol.n_value == 0 || kind == N_PBUD
+}
+
+// The row of a provider.
+fn told(provider: u32, library: u64, code: u32) -> gm_provider
+    ensures { result ≡ provider_row_of provider library code }
+{
+    gm_provider {
+        library,
+        provider,
+        is_told: 1,
+        code,
+        reserved: 0,
+    }
+}
+
+// The provider of an ordinal, in an image of so many libraries.
+#[tactic(auto, unfolding(mach_segments::specs::Bindings::provider_of))]
+fn provider_in(libraries: usize, ordinal: u16) -> gm_provider
+    ensures { result ≡ provider_row (Some (provider_of (nameless libraries) (bind_ordinal_of ordinal))) }
+{
+    match ordinal {
+        0 => told(1, 0, GM_OK),
+        0xff => told(2, 0, GM_OK),
+        0xfe => told(3, 0, GM_OK),
+        _ if ordinal as usize <= libraries => told(0, u64::from(ordinal), GM_OK),
+        _ => told(0, 0, GM_MALFORMED),
+    }
+}
+
+/// Who gives a symbol of an image, as the linker wrote it down, is written to `found`.
+#[unsafe(no_mangle)]
+pub extern "C" fn gmr_symbol_provider(image: &gm_image, symbol: &gm_symbol, found: &mut gm_provider)
+    ensures { found.new ≡ provider_row (symbol_provider_of image.now.flags (nameless image.now.libraries) (symbol_record_seen symbol.now)) }
+{
+    let record = record_of(symbol);
+    if has_library(image.flags, &record) {
+        *found = provider_in(image.libraries, symbol.desc >> 8);
+    } else {
+        *found = gm_provider {
+            library: 0,
+            provider: 0,
+            is_told: 0,
+            code: GM_OK,
+            reserved: 0,
+        };
+    }
+}

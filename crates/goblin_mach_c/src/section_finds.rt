@@ -1,0 +1,135 @@
+//! The section of an address, and that of a symbol's number.
+
+ghost use Rattle.std.specs.Prelude.{◌≡◌, ◌≢◌};
+ghost use Rattle.goblin_mach_c.specs.Codes.{IsRefusalCode};
+ghost use Rattle.goblin_mach_c.specs.Opened.{FaultIn, lossy_mode};
+ghost use Rattle.goblin_mach_c.specs.SectionFinds.{FindsSectionAt, FindsSectionOf, SectionFaultIn, found_section_row};
+
+use crate::errors::{GM_OK, gm_error, refuse};
+use crate::images::gm_image;
+use crate::open::open;
+use mach_image::slot_facts::{numbered_section_of_image, section_at_of_image};
+use mach_segments::segment::NumberedSection;
+use std::alloc::Global;
+
+/// A section that was sought, number `number` of segment `segment`, with all of its record. Where `is_found` is 0 there is none, and all is 0.
+#[derive(Clone, Copy)]
+#[repr(C)]
+pub struct gm_found_section {
+    pub name: [u8; 16],
+    pub segment_name: [u8; 16],
+    pub addr: u64,
+    pub size: u64,
+    pub segment: usize,
+    pub number: u32,
+    pub offset: u32,
+    pub align: u32,
+    pub reloff: u32,
+    pub nreloc: u32,
+    pub flags: u32,
+    pub reserved1: u32,
+    pub reserved2: u32,
+    pub is_found: u32,
+    pub reserved: u32,
+}
+
+// A section that was sought as C sees it.
+fn row_of(found: &Option<NumberedSection>) -> gm_found_section
+    ensures { result ≡ found_section_row found.now }
+{
+    match found {
+        Some(it) => gm_found_section {
+            name: it.section.sectname,
+            segment_name: it.section.segname,
+            addr: it.section.addr,
+            size: it.section.size,
+            segment: it.segment,
+            number: it.number,
+            offset: it.section.offset,
+            align: it.section.align,
+            reloff: it.section.reloff,
+            nreloc: it.section.nreloc,
+            flags: it.section.flags,
+            reserved1: it.section.reserved1,
+            reserved2: it.section.reserved2,
+            is_found: 1,
+            reserved: 0,
+        },
+        None => gm_found_section {
+            name: [0; 16],
+            segment_name: [0; 16],
+            addr: 0,
+            size: 0,
+            segment: 0,
+            number: 0,
+            offset: 0,
+            align: 0,
+            reloff: 0,
+            nreloc: 0,
+            flags: 0,
+            reserved1: 0,
+            reserved2: 0,
+            is_found: 0,
+            reserved: 0,
+        },
+    }
+}
+
+/// Seeks the first section of an image in which an address lies, and writes it to `section`. Those that aren't in the bytes are passed over.
+/// It opens the image again, and takes memory for its commands while it runs. A refusal leaves `section`.
+#[unsafe(no_mangle)]
+pub extern "C" fn gmr_section_at(
+    alloc: Global,
+    bytes: &[u8],
+    image: &gm_image,
+    address: u64,
+    section: &mut gm_found_section,
+    error: &mut gm_error,
+) -> u32
+    ensures found { result ≡ 0 → FindsSectionAt bytes.now image.now.offset address section.new }
+    ensures refused { result ≢ 0 → IsRefusalCode (FaultIn (lossy_mode image.now.is_lossy) bytes.now image.now.offset) result }
+    ensures kept { result ≢ 0 → section.new ≡ section.old }
+    ensures told { result ≢ 0 → error.new.code ≡ result }
+    ensures quiet { result ≡ 0 → error.new ≡ error.old }
+{
+    match open(alloc, bytes, image.offset, image.is_lossy != 0) {
+        Ok(found) => {
+            section_at_of_image(&found);
+            *section = row_of(&found.section_at(address));
+            GM_OK
+        }
+        Err(why) => refuse(&why, error),
+    }
+}
+
+/// Seeks the section that the number of a symbol means, counted from 1 over all segments, and writes it to `section`. It opens the image again,
+/// and takes memory for its commands while it runs. Refused also where the section isn't in the bytes; a refusal leaves `section`.
+#[unsafe(no_mangle)]
+pub extern "C" fn gmr_section_of(
+    alloc: Global,
+    bytes: &[u8],
+    image: &gm_image,
+    number: usize,
+    section: &mut gm_found_section,
+    error: &mut gm_error,
+) -> u32
+    ensures found { result ≡ 0 → FindsSectionOf bytes.now image.now.offset number section.new }
+    ensures refused { result ≢ 0 → IsRefusalCode (SectionFaultIn bytes.now image.now number) result }
+    ensures kept { result ≢ 0 → section.new ≡ section.old }
+    ensures told { result ≢ 0 → error.new.code ≡ result }
+    ensures quiet { result ≡ 0 → error.new ≡ error.old }
+{
+    match open(alloc, bytes, image.offset, image.is_lossy != 0) {
+        Ok(found) => {
+            numbered_section_of_image(&found);
+            match found.section_of(number) {
+                Ok(here) => {
+                    *section = row_of(&here);
+                    GM_OK
+                }
+                Err(why) => refuse(&why, error),
+            }
+        }
+        Err(why) => refuse(&why, error),
+    }
+}

@@ -1,0 +1,3 @@
+pub mod Ranges
+pub mod WeakBindsBehind
+pub mod RebasesBehind

@@ -1,0 +1,115 @@
+"""Tests of the lists that tables of commands, sections and opcodes have, on the two images that c/tables_image.py writes: `c/check` runs it."""
+
+import os
+import subprocess
+import sys
+import tempfile
+import unittest
+
+import goblin_mach
+from goblin_mach import BuildTool, DataInCode, DataKind, FunctionStart, IndirectSymbol, LinkerOption, Refused, SymbolProvider, Tool
+
+TOP = os.path.dirname(os.path.dirname(os.path.abspath(__file__)))
+
+
+class Tables(unittest.TestCase):
+    def setUp(self):
+        room = tempfile.TemporaryDirectory()
+        self.addCleanup(room.cleanup)
+        subprocess.run([sys.executable, os.path.join(TOP, "c/tables_image.py"), room.name], check=True)
+        self.images = {}
+        for name in ("tables", "tables32"):
+            file = goblin_mach.open(os.path.join(room.name, name + ".macho"))
+            self.addCleanup(file.close)
+            self.images[8 if name == "tables" else 4] = file[0]
+
+    def of_both(self):
+        for width, image in self.images.items():
+            with self.subTest(width=width):
+                yield width, image
+
+    def commands(self, image, number):
+        return [each.offset for each in image.commands() if each.cmd == number]
+
+    def test_function_starts(self):
+        for _, image in self.of_both():
+            self.assertEqual(list(image.function_starts()), [FunctionStart(address, None) for address in (0x1008, 0x1018, 0x1024)])
+
+    def test_data_in_code(self):
+        for _, image in self.of_both():
+            found = image.data_in_code()
+            self.assertEqual(found[:], [DataInCode(0, 8, 1, None), DataInCode(0x20, 4, 4, None)])
+            self.assertEqual([each.data_kind for each in found], [DataKind.DATA, DataKind.JUMP_TABLE32])
+
+    def test_indirect_symbols(self):
+        for _, image in self.of_both():
+            wanted = [("symbol", 0), ("symbol", 1), ("symbol", 3), ("symbol", 0), ("local", None), ("absolute", None), ("local absolute", None), ("symbol", 2)]
+            self.assertEqual(image.indirect_symbols()[:], [IndirectSymbol(kind, symbol, None) for kind, symbol in wanted])
+
+    def test_linker_options(self):
+        for _, image in self.of_both():
+            first, second = self.commands(image, 0x2D)
+            wanted = [LinkerOption("-framework", first, None), LinkerOption("Cocoa", first, None), LinkerOption("-lc", second, None)]
+            self.assertEqual(image.linker_options()[:], wanted)
+
+    def test_build_tools(self):
+        for _, image in self.of_both():
+            (command,) = self.commands(image, 0x32)
+            found = image.build_tools()[:]
+            self.assertEqual(found, [BuildTool(3, 0x4500000, command, None), BuildTool(1, 0x120000, command, None)])
+            self.assertEqual([(each.build_tool, each.version_text) for each in found], [(Tool.LD, "1104.0.0"), (Tool.CLANG, "18.0.0")])
+
+    def test_notes(self):
+        for _, image in self.of_both():
+            found = [(each.owner, bytes(each.data), each.command, each.error is None) for each in image.notes()]
+            first, second, third = self.commands(image, 0x31)
+            self.assertEqual(found, [("owner", b"note", first, True), ("sixteen bytes, 1", b"", second, True), ("", b"", third, False)])
+
+    def test_slots(self):
+        for p, image in self.of_both():
+            stub = 0x1020
+            wanted = [(stub, 6, "stub", "_a"), (stub + 6, 6, "stub", "_b"), (stub + 12, 6, "stub", "_d"), (0x2000 + 8 * p, p, "lazy pointer", "_a"),
+                      (0x2000 + 9 * p, p, "lazy pointer", None), (0x2000 + 10 * p, p, "pointer", None), (0x2000 + 11 * p, p, "pointer", None),
+                      (0x2000 + 12 * p, p, "thread-local pointer", "_c"), (0x2000 + 13 * p, p, "pointer", "_c")]
+            found = list(image.symbol_slots())
+            self.assertEqual([(each.address, each.len, each.kind, each.name) for each in found[:-1]], wanted)
+            self.assertEqual([each.owner for each in found[3:7]], ["symbol", "local", "absolute", "local absolute"])
+            self.assertEqual([each.symbol for each in found[:5]], [0, 1, 3, 0, None])
+            self.assertIsNotNone(found[-1].error)
+            for each in found[:-1]:
+                self.assertEqual(image.slot_at(each.address + each.len - 1), each)
+            self.assertIsNone(image.slot_at(stub + 18))
+            self.assertIsNone(image.slot_at(0))
+            with self.assertRaises(Refused):
+                image.slot_at(0x2000 + 14 * p)
+            with self.assertRaises(ValueError):
+                image.slot_at(1 << 64)
+
+    def test_who_gives_a_symbol(self):
+        for _, image in self.of_both():
+            found = {each.name: image.symbol_provider(each) for each in image.symbols()}
+            wanted = {"_a": SymbolProvider("library", 1, None), "_b": SymbolProvider("library", 2, None), "_c": None, "_d": SymbolProvider("any", 0, None),
+                      "_e": SymbolProvider("program", 0, None), "_s": SymbolProvider("itself", 0, None), "_m": None}
+            self.assertIsNotNone(found.pop("_z").error)
+            self.assertEqual(found, wanted)
+
+    def test_sections_that_are_sought(self):
+        for p, image in self.of_both():
+            found = image.section_at(0x1020)
+            self.assertEqual((found.segment, found.number, found.name, found.segment_name, found.reserved2), (0, 1, b"__stubs", b"__TEXT", 6))
+            self.assertEqual(found.type.name, "SYMBOL_STUBS")
+            self.assertEqual(image.section_of(2), found)
+            self.assertEqual(image.section_of(4), image.section_at(0x2000 + 8 * p))
+            self.assertEqual([image.section_at(0), image.section_at((1 << 64) - 1), image.section_of(0), image.section_of(9)], [None] * 4)
+            with self.assertRaises(ValueError):
+                image.section_of(-1)
+
+    def test_lists_of_an_image_that_has_none(self):
+        image = goblin_mach.Image(b"\xcf\xfa\xed\xfe\x07\x00\x00\x01" + bytes(24))
+        lists = (image.function_starts(), image.data_in_code(), image.indirect_symbols(), image.linker_options(), image.build_tools(), image.notes(),
+                 image.symbol_slots())
+        self.assertEqual([list(each) for each in lists], [[]] * len(lists))
+
+
+if __name__ == "__main__":
+    unittest.main()
