@@ -1,0 +1,7 @@
+pub mod Entries
+pub mod FatRecords
+pub mod FatForms
+pub mod FatWrites
+pub mod FatReads
+pub mod CreatedEntries
+pub mod CreatedOrder

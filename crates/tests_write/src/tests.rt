@@ -1,0 +1,8 @@
+mod created;
+mod large;
+mod made;
+mod memory;
+mod records;
+mod same;
+mod text;
+mod written;
