@@ -167,6 +167,8 @@ NUMBERS = {
     "bindings.rt": [(r"Provider::Library [^=]*=> \((\d+),", "GM_OF_LIBRARY"), (r"Provider::Itself => \((\d+),", "GM_OF_ITSELF"),
                     (r"Provider::MainExecutable => \((\d+),", "GM_OF_PROGRAM"), (r"Provider::Flat => \((\d+),", "GM_OF_ANY"),
                     (r"Provider::WeakLookup => \((\d+),", "GM_OF_ANY_WEAK")],
+    "rebases.rt": [(r"RebaseKind::Pointer => (\d+),", "GM_REBASE_POINTER"), (r"RebaseKind::TextAbsolute32 => (\d+),", "GM_REBASE_TEXT_ABSOLUTE"),
+                   (r"RebaseKind::TextRelative32 => (\d+),", "GM_REBASE_TEXT_RELATIVE")],
 }
 
 # The functions of names, each with its argument: the function of the sources whose names it gives, or the constant whose group it

@@ -112,6 +112,14 @@ BEHIND(bindings, gm_binding, gm_binding_cursor)
 LIST(bindings, gm_binding, bindings(g, first, rows, cap),
      fprintf(to, "%u %u %" PRIu64 " %" PRIx64 " %" PRId64 " %u %u 0x%" PRIx64 " ", r->code, r->provider, r->library, r->offset, r->addend, r->is_weak,
              r->is_lazy, r->address); text(to, g, r->name, r->name_len))
+BEHIND(weak_binds, gm_weak_bind, gm_bind_cursor)
+LIST(weak_binds, gm_weak_bind, weak_binds(g, first, rows, cap),
+     fprintf(to, "%u %u %" PRIx64 " %" PRId64 " %u 0x%" PRIx64 " ", r->code, r->is_strong, r->offset, r->addend, r->is_weak, r->address);
+     text(to, g, r->name, r->name_len))
+BEHIND(rebases, gm_rebase, gm_rebase_cursor)
+LIST(rebases, gm_rebase, rebases(g, first, rows, cap),
+     fprintf(to, "%" PRIx64 " %" PRIx64 " %" PRIx64 " %u %u %u %u %u %u %u", r->address, r->offset, r->target, r->segment, r->kind, r->is_signed, r->key,
+             r->diversity, r->is_address_diverse, r->code))
 BEHIND(function_starts, gm_function_start, gm_start_cursor)
 LIST(function_starts, gm_function_start, function_starts(g, first, rows, cap), fprintf(to, "%" PRIx64 " %u", r->address, r->code))
 LIST(data_in_code, gm_data_in_code_entry, gm_data_in_code(OF, first, rows, cap), fprintf(to, "%x %u %u %u", r->offset, r->length, r->kind, r->code))
@@ -178,7 +186,8 @@ typedef struct {
 static const list lists[] = {ONE(commands, gm_command), ONE(segments, gm_segment), ONE(symbols, gm_symbol), ONE(libraries, gm_library),
                              ONE(run_paths, gm_run_path), ONE(fixups, gm_fixup), ONE(imports, gm_import), ONE(bindings, gm_binding), ONE(entries, gm_fat_entry),
                              ONE(sections, gm_section), ONE(relocations, gm_relocation), ONE(layout, gm_layout_fault),
-                              ONE(table, gm_layout_fault), ONE(ids, gm_id), ONE(function_starts, gm_function_start),
+                              ONE(table, gm_layout_fault), ONE(ids, gm_id), ONE(weak_binds, gm_weak_bind), ONE(rebases, gm_rebase),
+                             ONE(function_starts, gm_function_start),
                              ONE(data_in_code, gm_data_in_code_entry), ONE(indirect_symbols, gm_indirect_symbol), ONE(slots, gm_slot),
                              ONE(linker_options, gm_linker_option), ONE(build_tools, gm_build_tool), ONE(notes, gm_note)};
 enum { LISTS = sizeof lists / sizeof *lists, LIMIT = 400 };
@@ -634,6 +643,235 @@ static void starts_by_bytes(const given *g) {
     if (at < upto && at < g->len && g->bytes[at]) DIE("functions that end too early");
 }
 
+/* ---- the rebases and the weak binds, opcode by opcode */
+
+typedef struct {
+    uint64_t at, upto, offset, name, name_len;
+    int64_t addend;
+    uint32_t segment, kind, flags;
+    bool has_segment, has_name;
+} opcodes;
+
+/* the opcodes whose place and size stand at a number of the command */
+static opcodes opcodes_of(const given *g, size_t number) {
+    gm_command c = last_command(g, GM_LC_DYLD_INFO), only = last_command(g, GM_LC_DYLD_INFO_ONLY);
+    if (only.offset > c.offset) c = only;
+    opcodes o = {0};
+    if (!c.size) return o;
+    o.at = word_at(g, g->bytes + c.offset + number);
+    o.upto = o.at + word_at(g, g->bytes + c.offset + number + 4);
+    return o;
+}
+
+static bool has_byte(const given *g, const opcodes *o) { return o->at < g->len && o->at < o->upto; }
+
+/* a number of 7 bits a byte; false where it is cut, or has more than 64 bits */
+static bool leb(const given *g, opcodes *o, bool is_signed, uint64_t *n) {
+    *n = 0;
+    for (int shift = 0;; shift += 7) {
+        if (!has_byte(g, o)) return false;
+        uint8_t byte = g->bytes[o->at++];
+        if (shift == 63 && byte > 1 && !(is_signed && byte == 127)) return false;
+        if (shift == 63 && is_signed && byte == 1) return false;
+        *n |= (uint64_t)(byte & 127) << shift;
+        if (byte < 128) {
+            if (is_signed && byte & 64 && shift < 57) *n |= ~(uint64_t)0 << (shift + 7);
+            return true;
+        }
+    }
+}
+
+/* the segment in which a pointer lies whole, if one was set and it does; all sums have 64 bits */
+static bool lies(const given *g, const opcodes *o, uint64_t p, gm_segment *s) {
+    if (!o->has_segment || !o->kind || o->kind > 3 || gm_segments(OF, o->segment, s, 1) != 1) return false;
+    return o->offset <= s->vmsize && p <= s->vmsize - o->offset && s->vmaddr + o->offset >= s->vmaddr;
+}
+
+/* the number in so many bytes of a segment's memory: its data, and zeros behind them */
+static uint64_t in_memory(const given *g, const gm_segment *s, uint64_t offset, uint64_t width) {
+    uint64_t n = 0;
+    for (uint64_t i = 0; i < width; i++) {
+        uint64_t byte = offset + i < s->data_len ? g->bytes[s->fileoff + offset + i] : 0;
+        n |= byte << 8 * (g->image.is_little_endian ? i : width - 1 - i);
+    }
+    return n;
+}
+
+static bool next_rebase(const given *g, gm_rebase_cursor *at, gm_rebase *r) {
+    size_t count;
+    if (gm_rebases(OF, at, r, 1, &count, NULL, NULL)) DIE("rebases of an image that opened");
+    return count == 1;
+}
+
+/* the end, or a fault, of this code or of any where UINT32_MAX is said, and the end */
+static void ends_rebases(const given *g, gm_rebase_cursor *at, uint32_t code) {
+    gm_rebase r, none = {0};
+    if (code) {
+        if (!next_rebase(g, at, &r) || !r.code || (code != UINT32_MAX && r.code != code)) DIE("rebases that go on behind a fault");
+        none.code = r.code;
+        if (memcmp(&r, &none, sizeof r)) DIE("a fault of rebases with numbers");
+    }
+    if (next_rebase(g, at, &r)) DIE("too many rebases");
+}
+
+/* whether the rebase by what was set is given; a fault where there is none */
+static bool is_rebased(const given *g, const opcodes *o, uint64_t p, gm_rebase_cursor *at) {
+    gm_segment s;
+    gm_rebase r;
+    if (!lies(g, o, p, &s)) return false;
+    gm_rebase wanted = {s.vmaddr + o->offset, o->offset, in_memory(g, &s, o->offset, o->kind == 1 ? p : 4), o->segment, o->kind, 0, 0, 0, 0, 0, 0};
+    if (!next_rebase(g, at, &r) || memcmp(&r, &wanted, sizeof r)) DIE("another rebase than at %" PRIx64, wanted.address);
+    return true;
+}
+
+/* executes an opcode of rebases: how many come, and how far it advances behind each; false where it can't be read */
+static bool rebase_opcode(const given *g, opcodes *o, uint64_t p, uint64_t *count, uint64_t *stride) {
+    uint64_t n = 0, skip = 0;
+    if (!has_byte(g, o)) return false;
+    uint8_t byte = g->bytes[o->at++], imm = byte & 15;
+    *count = 0;
+    switch (byte >> 4) {
+    case 0: o->at = o->upto; return true;
+    case 1: o->kind = imm; return true;
+    case 2:
+        if (!leb(g, o, false, &n)) return false;
+        o->segment = imm, o->offset = n, o->has_segment = true;
+        return true;
+    case 3:
+        if (!leb(g, o, false, &n)) return false;
+        o->offset += n;
+        return true;
+    case 4: o->offset += imm * p; return true;
+    case 5: *count = imm, *stride = p; return true;
+    case 6: *stride = p; return leb(g, o, false, count);
+    case 7: *count = 1; break;
+    case 8:
+        if (!leb(g, o, false, count)) return false;
+        break;
+    default: return false;
+    }
+    if (!leb(g, o, false, &skip)) return false;
+    *stride = skip + p;
+    return true;
+}
+
+static void rebases_by_bytes(const given *g) {
+    opcodes o = opcodes_of(g, 8);
+    gm_rebase_cursor at = {0};
+    gm_fixup_cursor chains = {0};
+    uint64_t p = g->image.is_64 ? 8 : 4, count, stride = 0;
+    size_t told = 0, n;
+    while (o.at < o.upto) {
+        if (!rebase_opcode(g, &o, p, &count, &stride)) return ends_rebases(g, &at, UINT32_MAX);
+        for (uint64_t k = 0; k < count; k++, o.offset += stride) {
+            if (told++ == LIMIT) return;
+            if (!is_rebased(g, &o, p, &at)) return ends_rebases(g, &at, GM_MALFORMED);
+        }
+    }
+    gm_fixup f;
+    gm_rebase r;
+    while (!gm_fixups(OF, &chains, &f, 1, &n, NULL, NULL) && n && told++ < LIMIT) {
+        if (f.code) return ends_rebases(g, &at, f.code);
+        if (f.kind != GM_REBASE) continue;
+        gm_rebase wanted = {f.address, f.offset, f.target, f.segment, GM_REBASE_POINTER, f.is_signed, f.key, f.diversity, f.is_address_diverse, 0, 0};
+        if (!next_rebase(g, &at, &r) || memcmp(&r, &wanted, sizeof r)) DIE("another rebase of the chains than at %" PRIx64, f.address);
+    }
+    if (told < LIMIT) ends_rebases(g, &at, GM_OK);
+}
+
+static bool next_weak(const given *g, gm_bind_cursor *at, gm_weak_bind *w) {
+    size_t count;
+    if (gm_weak_binds(OF, at, w, 1, &count, NULL, NULL)) DIE("weak binds of an image that opened");
+    return count == 1;
+}
+
+/* the end, or a fault and the end */
+static void ends_weak(const given *g, gm_bind_cursor *at, bool is_fault) {
+    gm_weak_bind w, none = {0};
+    if (is_fault) {
+        if (!next_weak(g, at, &w) || !w.code) DIE("weak binds that go on behind a fault");
+        none.code = w.code;
+        if (memcmp(&w, &none, sizeof w)) DIE("a fault of weak binds with numbers");
+    }
+    if (next_weak(g, at, &w)) DIE("too many weak binds");
+}
+
+/* the name behind an opcode, up to its zero byte; of bytes that may be no UTF-8 the library says whether they are */
+static bool weak_name(const given *g, opcodes *o, uint32_t flags, gm_bind_cursor *at) {
+    bool plain = true;
+    uint64_t name = o->at;
+    for (; has_byte(g, o) && g->bytes[o->at]; o->at++) plain = plain && g->bytes[o->at] < 128;
+    if (!has_byte(g, o)) return false;
+    gm_bind_cursor again = *at;
+    gm_weak_bind w;
+    if (!plain && next_weak(g, &again, &w) && w.code) return false;
+    o->name = name, o->name_len = o->at++ - name, o->flags = flags, o->has_name = true;
+    if (!(flags & 8)) return true;
+    gm_weak_bind wanted = {0, 0, 0, o->name_len ? name : 0, o->name_len, 1, 0, 0, 0};
+    if (!next_weak(g, at, &w) || memcmp(&w, &wanted, sizeof w)) DIE("another name than at %" PRIx64, name);
+    return true;
+}
+
+static bool is_weakly_bound(const given *g, const opcodes *o, uint64_t p, gm_bind_cursor *at) {
+    gm_segment s;
+    gm_weak_bind w;
+    if (!o->has_name || !lies(g, o, p, &s) || s.fileoff + o->offset < s.fileoff) return false;
+    gm_weak_bind wanted = {s.vmaddr + o->offset, s.fileoff + o->offset, o->addend, o->name_len ? o->name : 0, o->name_len, 0, o->flags & 1, 0, 0};
+    if (!next_weak(g, at, &w) || memcmp(&w, &wanted, sizeof w)) DIE("another weak bind than at %" PRIx64, wanted.address);
+    return true;
+}
+
+/* executes an opcode of weak binds */
+static bool weak_opcode(const given *g, opcodes *o, uint64_t p, uint64_t *count, uint64_t *stride, gm_bind_cursor *at) {
+    uint64_t n = 0;
+    if (!has_byte(g, o)) return false;
+    uint8_t byte = g->bytes[o->at++], imm = byte & 15;
+    *count = 0;
+    switch (byte >> 4) {
+    case 0: o->at = o->upto; return true;
+    case 4: return weak_name(g, o, imm, at);
+    case 5: o->kind = imm; return true;
+    case 6:
+        if (!leb(g, o, true, &n)) return false;
+        memcpy(&o->addend, &n, 8);
+        return true;
+    case 7:
+        if (!leb(g, o, false, &n)) return false;
+        o->segment = imm, o->offset = n, o->has_segment = true;
+        return true;
+    case 8:
+        if (!leb(g, o, false, &n)) return false;
+        o->offset += n;
+        return true;
+    case 9: *count = 1, *stride = p; return true;
+    case 10: *count = 1; break;
+    case 11: *count = 1, *stride = imm * p + p; return true;
+    case 12:
+        if (!leb(g, o, false, count)) return false;
+        break;
+    default: return false;
+    }
+    if (!leb(g, o, false, &n)) return false;
+    *stride = n + p;
+    return true;
+}
+
+static void weak_binds_by_bytes(const given *g) {
+    opcodes o = opcodes_of(g, 24);
+    gm_bind_cursor at = {0};
+    uint64_t p = g->image.is_64 ? 8 : 4, count, stride = 0;
+    size_t told = 0;
+    while (o.at < o.upto) {
+        if (told++ == LIMIT) return;
+        if (!weak_opcode(g, &o, p, &count, &stride, &at)) return ends_weak(g, &at, true);
+        for (uint64_t k = 0; k < count; k++, o.offset += stride) {
+            if (told++ == LIMIT) return;
+            if (!is_weakly_bound(g, &o, p, &at)) return ends_weak(g, &at, true);
+        }
+    }
+    ends_weak(g, &at, false);
+}
+
 static void data_by_bytes(const given *g) {
     gm_command c = last_command(g, GM_LC_DATA_IN_CODE);
     uint64_t at = c.size ? word_at(g, g->bytes + c.offset + 8) : 0, n = c.size ? word_at(g, g->bytes + c.offset + 12) / 8 : 0;
@@ -802,9 +1040,14 @@ static void finds_by_bytes(const given *g) {
 }
 
 static void check_tables(const given *g) {
-    static const char *const names[] = {"function_starts", "data_in_code", "indirect_symbols", "slots", "linker_options", "build_tools", "notes"};
+    static const char *const names[] = {"weak_binds", "rebases", "function_starts", "data_in_code", "indirect_symbols", "slots", "linker_options", "build_tools",
+                                        "notes"};
     for (size_t i = 0; i < sizeof names / sizeof *names; i++) same_in_batches(named(names[i]), g);
+    weak_binds_refused(g);
+    rebases_refused(g);
     function_starts_refused(g);
+    weak_binds_by_bytes(g);
+    rebases_by_bytes(g);
     starts_by_bytes(g);
     data_by_bytes(g);
     indirect_by_bytes(g);
@@ -1224,11 +1467,15 @@ static void check_edges(void) {
     gm_fixup_cursor f = {0};
     gm_bind_cursor i = {0};
     gm_binding_cursor b = {0};
+    gm_bind_cursor w = {0};
+    gm_rebase_cursor r = {0};
     gm_start_cursor s = {0};
     size_t count = 5;
     const uint32_t codes[] = {gm_fixups(g.bytes, g.len, &g.image, &f, NULL, 0, &count, NULL, &e),
                               gm_imports(g.bytes, g.len, &g.image, &i, NULL, 0, &count, NULL, &e),
                               gm_bindings(g.bytes, g.len, &g.image, &b, NULL, 0, &count, NULL, NULL),
+                              gm_weak_binds(g.bytes, g.len, &g.image, &w, NULL, 0, &count, NULL, NULL),
+                              gm_rebases(g.bytes, g.len, &g.image, &r, NULL, 0, &count, NULL, NULL),
                               gm_function_starts(g.bytes, g.len, &g.image, &s, NULL, 0, &count, NULL, NULL),
                               gm_slots(g.bytes, g.len, &g.image, 0, NULL, 0, &count, NULL, NULL),
                               gm_layout_faults(g.bytes, g.len, &g.image, 0, NULL, 0, &count, NULL, &e),

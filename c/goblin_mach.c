@@ -119,6 +119,8 @@ size_t gm_relocations(const uint8_t *bytes, size_t len, const gm_image *image, u
 BEHIND(fixups, gm_fixup, gm_fixup_cursor *)
 BEHIND(imports, gm_import, gm_bind_cursor *)
 BEHIND(bindings, gm_binding, gm_binding_cursor *)
+BEHIND(weak_binds, gm_weak_bind, gm_bind_cursor *)
+BEHIND(rebases, gm_rebase, gm_rebase_cursor *)
 BEHIND(function_starts, gm_function_start, gm_start_cursor *)
 BEHIND(layout_faults, gm_layout_fault, size_t)
 BEHIND(slots, gm_slot, size_t)

@@ -74,6 +74,8 @@ static size_t relocations(const given *g) { return inner(g, 1); }
 BEHIND(fixups, gm_fixup, gm_fixup_cursor)
 BEHIND(imports, gm_import, gm_bind_cursor)
 BEHIND(bindings, gm_binding, gm_binding_cursor)
+BEHIND(weak_binds, gm_weak_bind, gm_bind_cursor)
+BEHIND(rebases, gm_rebase, gm_rebase_cursor)
 BEHIND(function_starts, gm_function_start, gm_start_cursor)
 
 static size_t layout(const given *g) {
@@ -160,7 +162,8 @@ static size_t open_all(const given *g) {
 static const struct { const char *name; size_t (*call)(const given *); } all[] = {
     CALL(entries), CALL(container), CALL(open_all), CALL(commands), CALL(segments), CALL(sections), CALL(relocations), CALL(symbols), CALL(libraries),
     CALL(run_paths), CALL(ids), CALL(data_in_code), CALL(indirect_symbols), CALL(linker_options), CALL(build_tools), CALL(notes), CALL(find), CALL(exports),
-    CALL(tree), CALL(fixups), CALL(imports), CALL(bindings), CALL(function_starts), CALL(slots), CALL(slot_at), CALL(layout)};
+    CALL(tree), CALL(fixups), CALL(imports), CALL(bindings), CALL(weak_binds), CALL(rebases), CALL(function_starts), CALL(slots), CALL(slot_at),
+    CALL(layout)};
 
 int main(int count, char **words) {
     given g = {0};

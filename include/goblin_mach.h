@@ -338,6 +338,35 @@ enum { GM_OF_LIBRARY, GM_OF_ITSELF, GM_OF_PROGRAM, GM_OF_ANY, GM_OF_ANY_WEAK };
 typedef struct gm_binding_cursor { gm_bind_cursor opcodes; gm_fixup_cursor chains; } gm_binding_cursor;
 uint32_t gm_bindings(const uint8_t *bytes, size_t len, const gm_image *image, gm_binding_cursor *cursor, gm_binding *out, size_t cap, size_t *count,
                      const gm_memory *memory, gm_error *error);
+
+/* ---- what dyld binds weakly of it, by the weak binds of LC_DYLD_INFO, as images of C++ have them: names that the image defines itself and
+   not weakly, and places that take the definition of a name that all images share, whatever was bound there before. The name of one is
+   `name_len` bytes at bytes + name. */
+typedef struct gm_weak_bind {
+    uint64_t address, offset; /* of the pointer to bind: in memory, and in the file */
+    int64_t addend;
+    size_t name, name_len;
+    uint32_t is_strong;      /* 1 where the image defines the name itself: then no place is bound, and 0 stands in the other numbers */
+    uint32_t is_weak;        /* whether the symbol may be missing: 0 or 1 */
+    uint32_t code, reserved; /* code: GM_OK, or why they can't be read further */
+} gm_weak_bind;
+uint32_t gm_weak_binds(const uint8_t *bytes, size_t len, const gm_image *image, gm_bind_cursor *cursor, gm_weak_bind *out, size_t cap, size_t *count,
+                       const gm_memory *memory, gm_error *error);
+
+/* ---- what dyld rebases of it, by the opcodes of LC_DYLD_INFO and then by the chains: places in memory whose number it corrects by how far
+   the image was moved, each at `address`, `offset` bytes behind the start of segment number `segment` */
+typedef struct gm_rebase {
+    uint64_t address, offset;
+    uint64_t target; /* the number that stands there before it is corrected */
+    uint32_t segment, kind;
+    uint32_t is_signed, key, diversity, is_address_diverse; /* how the pointer is signed on arm64e */
+    uint32_t code, reserved; /* code: GM_OK, or why they can't be read further */
+} gm_rebase;
+enum { GM_REBASE_POINTER = 1, GM_REBASE_TEXT_ABSOLUTE, GM_REBASE_TEXT_RELATIVE };
+typedef struct gm_rebase_cursor { gm_bind_cursor opcodes; gm_fixup_cursor chains; } gm_rebase_cursor;
+uint32_t gm_rebases(const uint8_t *bytes, size_t len, const gm_image *image, gm_rebase_cursor *cursor, gm_rebase *out, size_t cap, size_t *count,
+                    const gm_memory *memory, gm_error *error);
+
 /* ---- the faults of its layout, rule by rule: what of the file lies where the format and its readers don't allow it. docs/C.md
    says what `found` and `limit` of each rule are. */
 typedef struct gm_layout_fault {
@@ -1026,6 +1055,21 @@ GM_FIELD(gm_provider, is_told, 12, 4);
 GM_FIELD(gm_provider, code, 16, 4);
 GM_FIELD(gm_provider, reserved, 20, 4);
 GM_SIZE(gm_provider, 24);
+GM_FIELD(gm_rebase, address, 0, 8);
+GM_FIELD(gm_rebase, offset, 8, 8);
+GM_FIELD(gm_rebase, target, 16, 8);
+GM_FIELD(gm_rebase, segment, 24, 4);
+GM_FIELD(gm_rebase, kind, 28, 4);
+GM_FIELD(gm_rebase, is_signed, 32, 4);
+GM_FIELD(gm_rebase, key, 36, 4);
+GM_FIELD(gm_rebase, diversity, 40, 4);
+GM_FIELD(gm_rebase, is_address_diverse, 44, 4);
+GM_FIELD(gm_rebase, code, 48, 4);
+GM_FIELD(gm_rebase, reserved, 52, 4);
+GM_SIZE(gm_rebase, 56);
+GM_FIELD(gm_rebase_cursor, opcodes, 0, 104);
+GM_FIELD(gm_rebase_cursor, chains, 104, 40);
+GM_SIZE(gm_rebase_cursor, 144);
 GM_FIELD(gm_relocation, address, 0, 4);
 GM_FIELD(gm_relocation, info, 4, 4);
 GM_FIELD(gm_relocation, code, 8, 4);
@@ -1081,6 +1125,16 @@ GM_FIELD(gm_symbol, code, 32, 4);
 GM_FIELD(gm_symbol, desc, 36, 2);
 GM_FIELD(gm_symbol, n_type, 38, 1);
 GM_SIZE(gm_symbol, 40);
+GM_FIELD(gm_weak_bind, address, 0, 8);
+GM_FIELD(gm_weak_bind, offset, 8, 8);
+GM_FIELD(gm_weak_bind, addend, 16, 8);
+GM_FIELD(gm_weak_bind, name, 24, 8);
+GM_FIELD(gm_weak_bind, name_len, 32, 8);
+GM_FIELD(gm_weak_bind, is_strong, 40, 4);
+GM_FIELD(gm_weak_bind, is_weak, 44, 4);
+GM_FIELD(gm_weak_bind, code, 48, 4);
+GM_FIELD(gm_weak_bind, reserved, 52, 4);
+GM_SIZE(gm_weak_bind, 56);
 GM_IS(GM_OF_LIBRARY, 0);
 GM_IS(GM_OF_ITSELF, 1);
 GM_IS(GM_OF_PROGRAM, 2);
@@ -1120,6 +1174,9 @@ GM_IS(GM_USED_REEXPORT, 2);
 GM_IS(GM_USED_UPWARD, 4);
 GM_IS(GM_USED_DELAYED, 8);
 GM_IS(GM_LOSSY, 1);
+GM_IS(GM_REBASE_POINTER, 1);
+GM_IS(GM_REBASE_TEXT_ABSOLUTE, 2);
+GM_IS(GM_REBASE_TEXT_RELATIVE, 3);
 GM_IS(GM_NO_SLOT, 0);
 GM_IS(GM_SLOT_POINTER, 1);
 GM_IS(GM_SLOT_LAZY_POINTER, 2);

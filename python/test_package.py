@@ -213,7 +213,7 @@ class Lists(made.Case):
 
     def test_that_go_on_from_where_they_stopped_have_no_length(self):
         image = goblin_mach.Image(made.with_exports())
-        for each in (image.exports(), image.imports(), image.bindings(), image.fixups(), image.layout_faults()):
+        for each in (image.exports(), image.imports(), image.bindings(), image.weak_binds(), image.rebases(), image.fixups(), image.layout_faults()):
             with self.assertRaises(TypeError):
                 len(each)
 

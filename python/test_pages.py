@@ -59,7 +59,7 @@ class Pages(unittest.TestCase):
 
 # Names that the page leaves to their table: the subtypes and relocation types of each cpu, and constants of the lists' words.
 UNTOLD = {name for name in goblin_mach.__all__ if re.match(r"\w+(Subtype|Relocation)$", name)} | {
-    "ERRORS", "NO_MEMORY", "BATCH", "FIXUPS", "PROVIDERS", "KINDS", "INDIRECT", "SLOTS", "EXPORTS", "Mode",
+    "ERRORS", "NO_MEMORY", "BATCH", "FIXUPS", "PROVIDERS", "REBASES", "KINDS", "INDIRECT", "SLOTS", "EXPORTS", "Mode",
 }
 ITEMS = [item for item in map(vars(goblin_mach).get, goblin_mach.__all__) if isinstance(item, type) and issubclass(item, tuple)]
 

@@ -7,7 +7,7 @@ import tempfile
 import unittest
 
 import goblin_mach
-from goblin_mach import BuildTool, DataInCode, DataKind, FunctionStart, IndirectSymbol, LinkerOption, Refused, SymbolProvider, Tool
+from goblin_mach import BuildTool, DataInCode, DataKind, FunctionStart, IndirectSymbol, LinkerOption, Rebase, Refused, SymbolProvider, Tool, WeakBind
 
 TOP = os.path.dirname(os.path.dirname(os.path.abspath(__file__)))
 
@@ -16,6 +16,7 @@ class Tables(unittest.TestCase):
     def setUp(self):
         room = tempfile.TemporaryDirectory()
         self.addCleanup(room.cleanup)
+        self.room = room.name
         subprocess.run([sys.executable, os.path.join(TOP, "c/tables_image.py"), room.name], check=True)
         self.images = {}
         for name in ("tables", "tables32"):
@@ -34,6 +35,45 @@ class Tables(unittest.TestCase):
     def test_function_starts(self):
         for _, image in self.of_both():
             self.assertEqual(list(image.function_starts()), [FunctionStart(address, None) for address in (0x1008, 0x1018, 0x1024)])
+
+    def test_weak_binds(self):
+        for p, image in self.of_both():
+            data = image.segments()[1]
+            wanted = [WeakBind("_c", True, 0, 0, 0, False, None)] + [
+                WeakBind(name, False, 0x2000 + k * p, data.fileoff + k * p, addend, addend != 0, None)
+                for name, k, addend in (("_a", 1, 0), ("_a", 2, 0), ("_b", 4, -1), ("_b", 5, -1))
+            ]
+            self.assertEqual(list(image.weak_binds()), wanted)
+
+    def test_rebases(self):
+        for p, image in self.of_both():
+            wanted = [Rebase(0x2000 + k * p, 1, k * p, "pointer", 0x1000 + 8 * k, False, 0, 0, False, None) for k in (0, 1, 3, 4, 5, 7, 9)]
+            self.assertEqual(list(image.rebases()), wanted)
+
+    def test_rebases_of_chains(self):
+        with goblin_mach.open(os.path.join(TOP, "crates/machfixups/data/chains.macho")) as file:
+            told = 0
+            for image in file:
+                fixed = [each for each in image.fixups() if each.kind == "rebase" or each.error]
+                wanted = [Rebase(f.address, f.segment, f.offset, "none" if f.error else "pointer", f.target, f.is_signed, f.key, f.diversity,
+                                 f.is_address_diverse, f.error) for f in fixed]
+                self.assertEqual(list(image.rebases()), wanted)
+                told += len(wanted)
+            self.assertEqual(told, 5)
+
+    def test_faults_of_opcodes(self):
+        with open(os.path.join(self.room, "tables.macho"), "rb") as file:
+            whole = bytearray(file.read())
+        image = self.images[8]
+        (command,) = self.commands(image, 0x80000022)
+        for words, number, call in (("an opcode that is none", 8, "rebases"), ("a name of no provider", 24, "weak_binds")):
+            with self.subTest(words):
+                data = bytearray(whole)
+                at = int.from_bytes(data[command + number:command + number + 4], "little")
+                data[at] = 0x10 if number == 24 else 0x90
+                found = list(getattr(goblin_mach.Image(bytes(data)), call)())
+                self.assertEqual([each.error is None for each in found], [False])
+                self.assertEqual(found[0].address, 0)
 
     def test_data_in_code(self):
         for _, image in self.of_both():
@@ -107,7 +147,7 @@ class Tables(unittest.TestCase):
     def test_lists_of_an_image_that_has_none(self):
         image = goblin_mach.Image(b"\xcf\xfa\xed\xfe\x07\x00\x00\x01" + bytes(24))
         lists = (image.function_starts(), image.data_in_code(), image.indirect_symbols(), image.linker_options(), image.build_tools(), image.notes(),
-                 image.symbol_slots())
+                 image.symbol_slots(), image.weak_binds(), image.rebases())
         self.assertEqual([list(each) for each in lists], [[]] * len(lists))
 
 

@@ -15,7 +15,7 @@ that are no UTF-8 stand as surrogates, as `os.fsdecode` has them. It needs no pa
 from __future__ import annotations
 
 from ._exports import EXPORTS
-from ._lists import FIXUPS, INDIRECT, KINDS, PROVIDERS, SLOTS
+from ._lists import FIXUPS, INDIRECT, KINDS, PROVIDERS, REBASES, SLOTS
 from ._rows import BATCH, Rows
 from .enums import (
     CPU_SUBTYPES, Arm64_32Subtype, Arm64Subtype, ArmSubtype, CpuSubtype, CpuType, DataKind, ErrorCode, FileType, HeaderFlags, LoadCommand, Mode,
@@ -25,9 +25,10 @@ from .errors import ERRORS, Refused
 from .file import File, container_faults, fat_entries, open, parse
 from .image import Image
 from .items import (
-    Binding, BuildTool, Command, DataInCode, Export, FatEntry, Fixup, FunctionStart, Import, IndirectSymbol, LayoutFault, Library, LinkerOption, Note,
-    NumberedSection, Owner, Relocation, Section, Segment, Symbol, SymbolProvider, SymbolSlot,
+    BuildTool, Command, DataInCode, Export, FatEntry, FunctionStart, IndirectSymbol, LayoutFault, Library, LinkerOption, Note, NumberedSection, Owner,
+    Relocation, Section, Segment, Symbol, SymbolProvider, SymbolSlot,
 )
+from .pointers import Binding, Fixup, Import, Rebase, WeakBind
 from .symbol_enums import (
     RELOCATION_TYPES, Arm64Relocation, ArmRelocation, ExportFlags, ExportKind, GenericRelocation, PowerPcRelocation, ReferenceType, RelocationType,
     Stab, SymbolDescription, SymbolType, X86_64Relocation,
@@ -41,8 +42,9 @@ NO_MEMORY = ErrorCode.NO_MEMORY
 __all__ = [
     "open", "parse", "fat_entries", "container_faults", "File", "Image", "Rows", "Refused",
     "FatEntry", "Command", "Segment", "Section", "Relocation", "Symbol", "Library", "Fixup", "Import", "Binding", "Export", "Owner", "LayoutFault",
+    "WeakBind", "Rebase",
     "FunctionStart", "DataInCode", "IndirectSymbol", "SymbolSlot", "SymbolProvider", "NumberedSection", "LinkerOption", "BuildTool", "Note",
-    "Mode", "STRICT", "LOSSY", "ErrorCode", "ERRORS", "NO_MEMORY", "BATCH", "FIXUPS", "PROVIDERS", "KINDS", "INDIRECT", "SLOTS", "EXPORTS",
+    "Mode", "STRICT", "LOSSY", "ErrorCode", "ERRORS", "NO_MEMORY", "BATCH", "FIXUPS", "PROVIDERS", "REBASES", "KINDS", "INDIRECT", "SLOTS", "EXPORTS",
     "CpuType", "CpuSubtype", "CPU_SUBTYPES", "X86Subtype", "X86_64Subtype", "ArmSubtype", "Arm64Subtype", "Arm64_32Subtype", "PowerPcSubtype",
     "FileType", "HeaderFlags", "LoadCommand", "Protection", "SegmentFlags", "SectionType", "SectionAttributes", "Platform", "Tool", "DataKind",
     "SymbolType", "Stab", "ReferenceType", "SymbolDescription", "ExportKind", "ExportFlags",

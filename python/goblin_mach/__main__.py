@@ -98,6 +98,17 @@ def _bindings(image: Image) -> Iterator[str]:
                f"0x{b.address:x} {b.name}")
 
 
+def _weak_binds(image: Image) -> Iterator[str]:
+    for w in image.weak_binds():
+        yield f"{code_of(w.error)} {int(w.is_strong)} {w.offset:x} {w.addend} {int(w.is_weak)} 0x{w.address:x} {w.name}"
+
+
+def _rebases(image: Image) -> Iterator[str]:
+    for r in image.rebases():
+        yield (f"{r.address:x} {r.offset:x} {r.target:x} {r.segment} {goblin_mach.REBASES.index(r.kind)} {int(r.is_signed)} {r.key} {r.diversity} "
+               f"{int(r.is_address_diverse)} {code_of(r.error)}")
+
+
 def _layout(image: Image) -> Iterator[str]:
     for fault in image.layout_faults():
         yield str(fault)
@@ -121,6 +132,8 @@ LINES: Dict[str, Callable[[Image], Iterator[str]]] = {
     "exports": _exports,
     "imports": _imports,
     "bindings": _bindings,
+    "weak_binds": _weak_binds,
+    "rebases": _rebases,
     "layout": _layout,
 }
 """For each word what is printed of an image."""

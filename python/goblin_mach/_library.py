@@ -72,7 +72,7 @@ def _prototypes() -> Dict[str, Tuple[Any, List[Any]]]:
                  "data_in_code", "indirect_symbols", "linker_options", "build_tools", "notes"):
         calls["gm_" + name] = c_size_t, [*held, image, *by_number]
     for name, cursor in (("fixups", s.gm_fixup_cursor), ("imports", s.gm_bind_cursor), ("bindings", s.gm_binding_cursor),
-                         ("function_starts", s.gm_start_cursor)):
+                         ("weak_binds", s.gm_bind_cursor), ("rebases", s.gm_rebase_cursor), ("function_starts", s.gm_start_cursor)):
         calls["gm_" + name] = c_uint32, [*held, image, POINTER(cursor), c_void_p, c_size_t, count, c_void_p, error]
     return calls
 

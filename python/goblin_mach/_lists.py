@@ -11,11 +11,13 @@ from ._memory import Held
 from ._rows import Kind
 from .errors import ERRORS
 from .items import (
-    Binding, BuildTool, Command, DataInCode, FatEntry, Fixup, FunctionStart, Import, IndirectSymbol, LayoutFault, Library, LinkerOption, Note, Owner,
-    NumberedSection, Relocation, Section, Segment, Symbol, SymbolProvider, SymbolSlot,
+    BuildTool, Command, DataInCode, FatEntry, FunctionStart, IndirectSymbol, LayoutFault, Library, LinkerOption, Note, NumberedSection, Owner,
+    Relocation, Section, Segment, Symbol, SymbolProvider, SymbolSlot,
 )
+from .pointers import Binding, Fixup, Import, Rebase, WeakBind
 
 FIXUPS = ("rebase", "bind", "number")
+REBASES = ("none", "pointer", "absolute32", "relative32")
 PROVIDERS = ("library", "itself", "program", "any", "any weak")
 KINDS = ("required", "weak", "reexport", "upward", "lazy")
 SLOTS = ("none", "pointer", "lazy pointer", "stub", "lazy library pointer", "thread-local pointer")
@@ -110,6 +112,23 @@ def bindings(held: Held, raws: Raws, first: int) -> List[Binding]:
     ]
 
 
+def weak_binds(held: Held, raws: Raws, first: int) -> List[WeakBind]:
+    view, new = held.view, _new
+    return [
+        new(WeakBind, (str(view[name:name + length], "utf-8", _ESCAPED), strong != 0, address, offset, addend, weak != 0,
+                       _error(code) if code else None))
+        for address, offset, addend, name, length, strong, weak, code, _ in raws
+    ]
+
+
+def rebases(held: Held, raws: Raws, first: int) -> List[Rebase]:
+    new = _new
+    return [
+        new(Rebase, (address, segment, offset, REBASES[kind], target, signed != 0, key, diversity, diverse != 0, _error(code) if code else None))
+        for address, offset, target, segment, kind, signed, key, diversity, diverse, code, _ in raws
+    ]
+
+
 def function_starts(held: Held, raws: Raws, first: int) -> List[FunctionStart]:
     return [_new(FunctionStart, (address, _error(code) if code else None)) for address, code, _ in raws]
 
@@ -198,5 +217,7 @@ FUNCTION_STARTS_BEHIND = Kind(lib.gm_function_starts, s.gm_function_start, funct
 FIXUPS_BEHIND = Kind(lib.gm_fixups, s.gm_fixup, fixups)
 IMPORTS_BEHIND = Kind(lib.gm_imports, s.gm_import, imports)
 BINDINGS_BEHIND = Kind(lib.gm_bindings, s.gm_binding, bindings)
+WEAK_BINDS_BEHIND = Kind(lib.gm_weak_binds, s.gm_weak_bind, weak_binds)
+REBASES_BEHIND = Kind(lib.gm_rebases, s.gm_rebase, rebases)
 LAYOUT_FAULTS = Kind(lib.gm_layout_faults, s.gm_layout_fault, layout_faults)
 CONTAINER_FAULTS = Kind(lib.gm_container_faults, s.gm_layout_fault, layout_faults)

@@ -192,6 +192,23 @@ class gm_binding_cursor(ctypes.Structure):
     _fields_ = [("opcodes", gm_bind_cursor), ("chains", gm_fixup_cursor)]
 
 
+class gm_weak_bind(ctypes.Structure):
+    _fields_ = (
+        _u64("address offset")
+        + [("addend", c_int64)]
+        + _sizes("name name_len")
+        + _u32("is_strong is_weak code reserved")
+    )
+
+
+class gm_rebase(ctypes.Structure):
+    _fields_ = _u64("address offset target") + _u32("segment kind is_signed key diversity is_address_diverse code reserved")
+
+
+class gm_rebase_cursor(ctypes.Structure):
+    _fields_ = [("opcodes", gm_bind_cursor), ("chains", gm_fixup_cursor)]
+
+
 class gm_layout_fault(ctypes.Structure):
     _fields_ = _u64("found limit command index other_command other_index") + _u32("rule part other_part")
 

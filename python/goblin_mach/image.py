@@ -14,9 +14,10 @@ from ._rows import Rows, in_growing_batches, rows_behind
 from .enums import CpuSubtype, CpuType, ErrorCode, FileType, HeaderFlags, Mode, cpu_subtype
 from .errors import Refused, again, code_of
 from .items import (
-    Binding, BuildTool, Command, DataInCode, Export, FatEntry, Fixup, FunctionStart, Import, IndirectSymbol, LayoutFault, Library, LinkerOption, Note,
-    NumberedSection, Relocation, Section, Segment, Symbol, SymbolProvider, SymbolSlot,
+    BuildTool, Command, DataInCode, Export, FatEntry, FunctionStart, IndirectSymbol, LayoutFault, Library, LinkerOption, Note, NumberedSection,
+    Relocation, Section, Segment, Symbol, SymbolProvider, SymbolSlot,
 )
+from .pointers import Binding, Fixup, Import, Rebase, WeakBind
 
 if TYPE_CHECKING:
     from _typeshed import ReadableBuffer
@@ -33,8 +34,8 @@ class Image:
     """An image in some bytes, which stay as they are while it is used. `error` is None; of an entry of a fat file that can't be opened it
     is the `Refused` that says why, its numbers are 0, and each of its lists raises it.
 
-    Lists are iterators. Those whose items stand at numbers of their own also have `len`, indices and slices (`Rows`); those of exports, fixups, imports
-    and bindings go on from where they stopped, and have none of these."""
+    Lists are iterators. Those whose items stand at numbers of their own also have `len`, indices and slices (`Rows`); those of exports, fixups, imports,
+    bindings, weak binds, rebases, function starts and slots go on from where they stopped, and have none of these."""
 
     error: Optional[Refused] = None
     offset: int
@@ -226,6 +227,14 @@ class Image:
     def bindings(self) -> Iterator[Binding]:
         """What dyld binds of it, by opcodes and then by chains; the last may be the error that ends them."""
         return rows_behind(_lists.BINDINGS_BEHIND, self._live, self._pointer, s.gm_binding_cursor())
+
+    def weak_binds(self) -> Iterator[WeakBind]:
+        """What dyld binds weakly of it, by the weak binds of LC_DYLD_INFO; the last may be the error that ends them."""
+        return rows_behind(_lists.WEAK_BINDS_BEHIND, self._live, self._pointer, s.gm_bind_cursor())
+
+    def rebases(self) -> Iterator[Rebase]:
+        """What dyld rebases of it, by opcodes and then by chains; the last may be the error that ends them."""
+        return rows_behind(_lists.REBASES_BEHIND, self._live, self._pointer, s.gm_rebase_cursor())
 
     def exports(self) -> Iterator[Export]:
         """All exports, in the order of the trie. A fault of the trie raises `Refused` behind those that stand before it."""

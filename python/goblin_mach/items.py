@@ -27,13 +27,13 @@ def _words(item: Any) -> str:
     return f"{type(item).__name__}({', '.join(f'{name}={_shown(value)}' for name, value in zip(item._fields, item))})"
 
 
-def _readable(item: Item) -> Item:
+def readable(item: Item) -> Item:
     """Gives a kind of item a `repr` to be read."""
     setattr(item, "__repr__", _words)
     return item
 
 
-@_readable
+@readable
 class FatEntry(NamedTuple):
     """A record of a fat file: where an image lies in it. `align` is a power of 2."""
 
@@ -60,7 +60,7 @@ class FatEntry(NamedTuple):
         return cpu_subtype(self.cputype, self.cpusubtype)
 
 
-@_readable
+@readable
 class Command(NamedTuple):
     """A load command: `size` bytes from `offset` on."""
 
@@ -74,7 +74,7 @@ class Command(NamedTuple):
         return LoadCommand.of(self.cmd)
 
 
-@_readable
+@readable
 class Segment(NamedTuple):
     """A segment. `data` are its bytes: all of them, or none where they are not all in the file. `command` is the place of its load command."""
 
@@ -106,7 +106,7 @@ class Segment(NamedTuple):
         return SegmentFlags.of(self.flags)
 
 
-@_readable
+@readable
 class Section(NamedTuple):
     """A section of a segment. `align` is a power of 2. `data` are its bytes: all of them, or none."""
 
@@ -133,7 +133,7 @@ class Section(NamedTuple):
         return SectionAttributes.of(self.flags & 0xFFFFFF00)
 
 
-@_readable
+@readable
 class Relocation(NamedTuple):
     """A relocation of a section: at `address`, and the rest in the bits of `info`. Scattered relocations are not told apart."""
 
@@ -171,7 +171,7 @@ class Relocation(NamedTuple):
         return relocation_type(cputype, self.type_number)
 
 
-@_readable
+@readable
 class Symbol(NamedTuple):
     """A symbol. One that can't be read, or whose name can't, has an `error`."""
 
@@ -223,7 +223,7 @@ class Symbol(NamedTuple):
         return self.desc >> 8 if self.is_undefined else None
 
 
-@_readable
+@readable
 class Library(NamedTuple):
     """A library that the image brings in: `kind`, by its command's number, is "required", "weak", "reexport", "upward" or "lazy". How it is
     used is in the last four, which go by the command's flags where it has some."""
@@ -240,56 +240,7 @@ class Library(NamedTuple):
     is_delayed: bool
 
 
-@_readable
-class Fixup(NamedTuple):
-    """A pointer to be corrected. `kind` is "rebase", "bind" or "number"; `target` of a rebase is an address, `import_number` of a bind counts from 0."""
-
-    address: int
-    segment: int
-    offset: int
-    kind: str
-    target: int
-    import_number: int
-    addend: int
-    is_signed: bool
-    key: int
-    diversity: int
-    is_address_diverse: bool
-    error: Optional[str]
-
-
-@_readable
-class Import(NamedTuple):
-    """A symbol that the image takes from a library, whose ordinal is `library`: 0 is the image itself. `offset` is a place in the file."""
-
-    name: str
-    library: int
-    address: int
-    offset: int
-    addend: int
-    size: int
-    start_of_sequence_offset: int
-    is_weak: bool
-    is_lazy: bool
-    error: Optional[str]
-
-
-@_readable
-class Binding(NamedTuple):
-    """A place that takes a symbol's address from a provider: "library" (by its ordinal), "itself", "program", "any" or "any weak"."""
-
-    name: str
-    provider: str
-    library: int
-    address: int
-    offset: int
-    addend: int
-    is_weak: bool
-    is_lazy: bool
-    error: Optional[str]
-
-
-@_readable
+@readable
 class FunctionStart(NamedTuple):
     """Where a function begins: its address in memory, before sliding."""
 
@@ -297,7 +248,7 @@ class FunctionStart(NamedTuple):
     error: Optional[str]
 
 
-@_readable
+@readable
 class DataInCode(NamedTuple):
     """Data among code: `length` bytes, `offset` behind the image's first byte in memory (of an object file behind address 0)."""
 
@@ -312,7 +263,7 @@ class DataInCode(NamedTuple):
         return DataKind.of(self.kind)
 
 
-@_readable
+@readable
 class IndirectSymbol(NamedTuple):
     """An entry of the table of indirect symbols: `kind` is "symbol", whose number among `symbols` is `symbol`, or "local", "absolute" or "local
     absolute", where no symbol says whose a pointer is."""
@@ -322,7 +273,7 @@ class IndirectSymbol(NamedTuple):
     error: Optional[str]
 
 
-@_readable
+@readable
 class SymbolSlot(NamedTuple):
     """A stub or a pointer that stands for a symbol: `len` bytes at `address`, in section number `section` of segment number `segment`. `kind` is "pointer",
     "lazy pointer", "stub", "lazy library pointer" or "thread-local pointer"; `owner` is what entry `index` of the table of indirect symbols says, "symbol",
@@ -340,7 +291,7 @@ class SymbolSlot(NamedTuple):
     error: Optional[str]
 
 
-@_readable
+@readable
 class SymbolProvider(NamedTuple):
     """Who gives an undefined symbol, as the linker wrote it down: "library" (by its ordinal), "itself", "program" or "any"."""
 
@@ -349,7 +300,7 @@ class SymbolProvider(NamedTuple):
     error: Optional[str]
 
 
-@_readable
+@readable
 class NumberedSection(NamedTuple):
     """A section that was sought: number `number` of segment number `segment`. Of pointers and stubs `reserved1` is their place in the table of indirect
     symbols, and of stubs `reserved2` is how many bytes each has."""
@@ -379,7 +330,7 @@ class NumberedSection(NamedTuple):
         return SectionAttributes.of(self.flags & 0xFFFFFF00)
 
 
-@_readable
+@readable
 class LinkerOption(NamedTuple):
     """An option for the linker, of the load command at `command`. Behind one with an `error` none comes."""
 
@@ -388,7 +339,7 @@ class LinkerOption(NamedTuple):
     error: Optional[str]
 
 
-@_readable
+@readable
 class BuildTool(NamedTuple):
     """A tool that the image was built with, of the load command at `command`. Behind one with an `error` none comes."""
 
@@ -408,7 +359,7 @@ class BuildTool(NamedTuple):
         return f"{self.version >> 16}.{self.version >> 8 & 255}.{self.version & 255}"
 
 
-@_readable
+@readable
 class Note(NamedTuple):
     """Bytes of some tool's own, by the load command at `command`."""
 
@@ -418,7 +369,7 @@ class Note(NamedTuple):
     error: Optional[str]
 
 
-@_readable
+@readable
 class Export(NamedTuple):
     """What a name is exported as: `kind` is "address", "re-export" or "stub". Addresses count from the image's start."""
 
@@ -444,7 +395,7 @@ class Export(NamedTuple):
 NUMBERED = ("section", "relocations", "slice", "imports", "symbol ranges")
 
 
-@_readable
+@readable
 class Owner(NamedTuple):
     """Whose a range or a fault is: a part, the place of its command or record, and its number there, or 0."""
 
@@ -457,7 +408,7 @@ class Owner(NamedTuple):
         return f"{self.part}{number} at 0x{self.command:x}"
 
 
-@_readable
+@readable
 class LayoutFault(NamedTuple):
     """A fault of layout, of the rule with this plain name: what is there and what it breaks, as docs/C.md says of the rule."""
 

@@ -5,9 +5,12 @@ use Rattle.mach_base.specs.Fault.{Fault}
 use Rattle.mach_chained.specs.Header.{Fixups}
 use Rattle.mach_image.specs.Fixups.{chained_in, chained_place_in}
 use Rattle.mach_image.specs.ImageFacts.{Facts}
+use Rattle.mach_image.specs.ImageStreams.{rebase_stream_in, weak_stream_in}
 use Rattle.goblin_mach_c.specs.BindingPlaces.{data_place}
 use Rattle.goblin_mach_c.specs.BindingsBehind.{BindingSource}
 use Rattle.goblin_mach_c.specs.ImportsBehind.{Binds}
+use Rattle.goblin_mach_c.specs.RebasesBehind.{RebaseSource}
+use Rattle.goblin_mach_c.specs.WeakBindsBehind.{WeakSource}
 
 abbrev pub binds_by : Facts → Binds
 binds_by f = record { ranges = f.binds; pointer = pointer_size f.ctx.container; libs = f.libs; segments = f.segments }
@@ -17,3 +20,15 @@ chains_by f = chained_in f.ctx f.bytes f.commands
 
 abbrev pub source_by : Facts → BindingSource
 source_by f = record { bytes = f.bytes; binds = binds_by f; chained = chains_by f; chains_at = data_place (chained_place_in f.commands) }
+
+abbrev pub weak_source_by : Facts → WeakSource
+weak_source_by f = record { bytes = f.bytes; stream = weak_stream_in f.bytes f.commands; pointer = pointer_size f.ctx.container; segments = f.segments }
+
+abbrev pub rebase_source_by : Facts → RebaseSource
+rebase_source_by f = record {
+  stream = rebase_stream_in f.bytes f.commands;
+  chained = chains_by f;
+  le = f.ctx.le;
+  pointer = pointer_size f.ctx.container;
+  segments = f.segments;
+}

@@ -17,6 +17,8 @@ pub mod WalkedLists
 pub mod Said
 pub mod HeldBinds
 pub mod BoundNames
+pub mod FrontStreams
+pub mod StreamStages
 pub mod FactsBehind
 pub mod BoundChains
 pub mod PlacedBindings

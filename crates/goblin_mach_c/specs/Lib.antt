@@ -25,4 +25,8 @@ pub mod ImportsBehind
 pub mod BindingRows
 pub mod BindingPlaces
 pub mod BindingsBehind
+pub mod WeakRows
+pub mod WeakBindsBehind
+pub mod RebaseRows
+pub mod RebasesBehind
 pub mod LayoutRows

@@ -5,15 +5,21 @@ ghost use Rattle.mach_base.specs.Fault.{Fault};
 ghost use Rattle.mach_chained.specs.Fixups.{Fixup};
 ghost use Rattle.mach_binds.specs.Imports.{Import};
 ghost use Rattle.mach_image.specs.Facts.{HasBindings, HasFixups, HasImportItems};
+ghost use Rattle.mach_image.specs.StreamFacts.{HasRebases, HasWeakBinds};
 ghost use Rattle.mach_image.specs.TableFacts.{HasFunctionStarts};
 ghost use Rattle.mach_segments.specs.Bindings.{Binding};
+ghost use Rattle.mach_streams.specs.Rebases.{Rebase};
+ghost use Rattle.mach_streams.specs.WeakBinds.{WeakBind};
 ghost use Rattle.goblin_mach_c.specs.BindingsBehind.{HasBindingsBehind};
 ghost use Rattle.goblin_mach_c.specs.declared.bindings.gm_binding_cursor.{gm_binding_cursor};
 ghost use Rattle.goblin_mach_c.specs.FixupsBehind.{HasFixupsBehind};
 ghost use Rattle.goblin_mach_c.specs.ImportsBehind.{HasImportsBehind};
 ghost use Rattle.goblin_mach_c.specs.declared.imports.gm_bind_cursor.{gm_bind_cursor};
+ghost use Rattle.goblin_mach_c.specs.RebasesBehind.{HasRebasesBehind};
 ghost use Rattle.goblin_mach_c.specs.StartsBehind.{HasStartsBehind};
+ghost use Rattle.goblin_mach_c.specs.WeakBindsBehind.{HasWeakBindsBehind};
 ghost use Rattle.goblin_mach_c.specs.declared.fixups.gm_fixup_cursor.{gm_fixup_cursor};
+ghost use Rattle.goblin_mach_c.specs.declared.rebases.gm_rebase_cursor.{gm_rebase_cursor};
 ghost use Rattle.goblin_mach_c.specs.declared.starts.gm_start_cursor.{gm_start_cursor};
 
 /// At stage 0 the fixups behind a cursor are all those of the image.
@@ -38,4 +44,16 @@ pub fn imports_begin_at_the_start()
 pub fn bindings_begin_at_the_start()
     ensures { (bytes : List ℕ) (o : ℕ) (c : gm_binding_cursor) → c.opcodes.stage ≡ 0 → c.chains.stage ≡ 0
         → (items : List (Result Binding Fault)) → HasBindingsBehind bytes o c items ↔ HasBindings bytes o items }
+{}
+
+/// At stage 0 the weak binds behind a cursor are all those of the image.
+pub fn weak_binds_begin_at_the_start()
+    ensures { (bytes : List ℕ) (o : ℕ) (c : gm_bind_cursor) → c.stage ≡ 0 → (items : List (Result WeakBind Fault))
+        → HasWeakBindsBehind bytes o c items ↔ HasWeakBinds bytes o items }
+{}
+
+/// At stage 0 of both parts the rebases behind a cursor are all those of the image.
+pub fn rebases_begin_at_the_start()
+    ensures { (bytes : List ℕ) (o : ℕ) (c : gm_rebase_cursor) → c.opcodes.stage ≡ 0 → c.chains.stage ≡ 0
+        → (items : List (Result Rebase Fault)) → HasRebasesBehind bytes o c items ↔ HasRebases bytes o items }
 {}

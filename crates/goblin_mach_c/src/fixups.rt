@@ -47,9 +47,9 @@ pub struct gm_fixup {
     pub code: u32,
 }
 
-// The four numbers of how a pointer is signed.
+/// The four numbers of how a pointer is signed.
 #[inline(always)]
-fn signing(auth: Option<PointerAuth>) -> (u32, u32, u32, u32)
+pub fn signing(auth: Option<PointerAuth>) -> (u32, u32, u32, u32)
     ensures signed { result.0 ≡ rows.is_signed (auth_seen auth) }
     ensures key { result.1 ≡ rows.key_of (auth_seen auth) }
     ensures diversity { result.2 ≡ rows.diversity_of (auth_seen auth) }

@@ -1,0 +1,105 @@
+/* What programs-check loads into a program by LD_PRELOAD, where a row asks for memory, a clock or renames that fail. The environment says which:
+     SCARCE_GROWTH=N, N..   the Nth growth of memory is refused, or the Nth and all behind it
+     SCARCE_CLOCK=STEP,..   each reading of the monotonic clock is so many nanoseconds later than the one before, by these steps, over and over
+     SCARCE_CLOCK=none      that clock can't be read
+     SCARCE_RENAMES=none    no file can be renamed
+     SCARCE_TOLD=FD         here a letter is written once the first growth, reading or rename has met with that: g, c or r
+   A growth is a call of the C library's allocator that comes from the program's own code, which the return address tells. What the C library asks for
+   by itself, before `main` or within a call, is neither counted nor refused. */
+#define _GNU_SOURCE
+#include <errno.h>
+#include <fcntl.h>
+#include <link.h>
+#include <stdbool.h>
+#include <stdint.h>
+#include <stdlib.h>
+#include <string.h>
+#include <sys/syscall.h>
+#include <time.h>
+#include <unistd.h>
+
+extern void *__libc_malloc(size_t), *__libc_calloc(size_t, size_t), *__libc_realloc(void *, size_t), *__libc_memalign(size_t, size_t);
+
+enum { MOST = 16 };
+static uintptr_t own_from, own_upto;
+static uint64_t refused, growths, now, steps[MOST];
+static size_t count, readings;
+static bool all_behind, no_clock, no_renames;
+static int told = -1;
+
+/* Where the program's own code lies: the first object of all is the program. */
+static int find_own(struct dl_phdr_info *info, size_t size, void *nothing) {
+    (void)size, (void)nothing;
+    for (int i = 0; i < info->dlpi_phnum; i++) {
+        const ElfW(Phdr) *part = &info->dlpi_phdr[i];
+        if (part->p_type != PT_LOAD || !(part->p_flags & PF_X)) continue;
+        uintptr_t from = info->dlpi_addr + part->p_vaddr;
+        if (own_upto == 0 || from < own_from) own_from = from;
+        if (from + part->p_memsz > own_upto) own_upto = from + part->p_memsz;
+    }
+    return 1;
+}
+
+__attribute__((constructor)) static void begin(void) {
+    const char *growth = getenv("SCARCE_GROWTH"), *clock = getenv("SCARCE_CLOCK"), *renames = getenv("SCARCE_RENAMES"), *fd = getenv("SCARCE_TOLD");
+    char *rest;
+    dl_iterate_phdr(find_own, NULL);
+    if (growth) refused = strtoull(growth, &rest, 10), all_behind = *rest == '.';
+    no_clock = clock && strcmp(clock, "none") == 0;
+    no_renames = renames != NULL;
+    for (; clock && !no_clock && *clock && count < MOST; clock = *rest ? rest + 1 : rest) steps[count++] = strtoull(clock, &rest, 10);
+    if (fd) told = atoi(fd);
+}
+
+static void tell(char letter) {
+    static char before[3];
+    char *free_place = memchr(before, 0, sizeof before);
+    if (told < 0 || !free_place || memchr(before, letter, sizeof before)) return;
+    *free_place = letter;
+    if (write(told, &letter, 1) < 0) told = -1;
+}
+
+/* Whether a call of the allocator that returns to this address is refused. */
+static bool is_refused(void *back) {
+    uintptr_t at = (uintptr_t)back;
+    if (at < own_from || at >= own_upto) return false;
+    growths++;
+    if (refused == 0 || growths < refused || (growths > refused && !all_behind)) return false;
+    tell('g');
+    errno = ENOMEM;
+    return true;
+}
+
+#define REFUSED is_refused(__builtin_return_address(0))
+
+void *malloc(size_t size) { return REFUSED ? NULL : __libc_malloc(size); }
+void *calloc(size_t items, size_t size) { return REFUSED ? NULL : __libc_calloc(items, size); }
+void *realloc(void *block, size_t size) { return REFUSED ? NULL : __libc_realloc(block, size); }
+void *aligned_alloc(size_t align, size_t size) { return REFUSED ? NULL : __libc_memalign(align, size); }
+
+int posix_memalign(void **block, size_t align, size_t size) {
+    *block = REFUSED ? NULL : __libc_memalign(align, size);
+    return *block ? 0 : ENOMEM;
+}
+
+int clock_gettime(clockid_t clock, struct timespec *time) {
+    if (clock != CLOCK_MONOTONIC || (!no_clock && count == 0)) return (int)syscall(SYS_clock_gettime, clock, time);
+    tell('c');
+    if (no_clock) return errno = EINVAL, -1;
+    now += steps[readings++ % count];
+    time->tv_sec = (time_t)(now / 1000000000);
+    time->tv_nsec = (long)(now % 1000000000);
+    return 0;
+}
+
+static int renamed(long answer) {
+    if (!no_renames) return (int)answer;
+    tell('r');
+    return errno = EACCES, -1;
+}
+
+#define AT(call) renamed(no_renames ? 0 : syscall call)
+
+int rename(const char *from, const char *to) { return AT((SYS_renameat2, AT_FDCWD, from, AT_FDCWD, to, 0)); }
+int renameat(int there, const char *from, int here, const char *to) { return AT((SYS_renameat2, there, from, here, to, 0)); }
+int renameat2(int there, const char *from, int here, const char *to, unsigned how) { return AT((SYS_renameat2, there, from, here, to, how)); }

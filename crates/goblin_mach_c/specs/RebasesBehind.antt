@@ -1,0 +1,137 @@
+-- How far the rebases of an image were given, and those that come behind.
+use Rattle.std.specs.Prelude.{◌≡◌, ◌++◌, ◌∷◌, ℕ, List, [], Option, Some, None, Result, Ok, Err, map, drop}
+use Rattle.std.specs.declared.alloc.Global.{Global}
+use Rattle.mach_base.specs.Context.{pointer_size}
+use Rattle.mach_base.specs.Fault.{Fault, fault_of}
+use Rattle.mach_base.specs.declared.context.Ctx.{Ctx}
+use Rattle.mach_base.specs.declared.context.Endian.{Endian}
+use Rattle.mach_base.specs.declared.error.Error.{Error}
+use Rattle.mach_load.specs.Command.{Command}
+use Rattle.mach_segments.specs.Segment.{SegmentView}
+use Rattle.mach_chained.specs.Fixups.{Fixup}
+use Rattle.mach_chained.specs.FixupsLeft as walk
+use Rattle.mach_chained.specs.Header.{Fixups}
+use Rattle.mach_binds.specs.Bindings.{upto_fault}
+use Rattle.mach_binds.specs.declared.imports.cursor.BindCursor.{BindCursor}
+use Rattle.mach_streams.specs.Cut.{CutStream, cut_input, cut_range}
+use Rattle.mach_streams.specs.Rebases.{Rebase}
+use Rattle.mach_streams.specs.RebasesLeft.{rebase_view}
+use Rattle.mach_streams.specs.declared.rebases.Rebase as declared
+use Rattle.mach_image.specs.Facts.{OfImage}
+use Rattle.mach_image.specs.Fixups.{chained_held, chained_in}
+use Rattle.mach_image.specs.ImageStreams.{AreRebasesByOpcodes, rebase_stream_in, rebases_among}
+use Rattle.mach_image.specs.OpenImage.{bytes_held, commands_held, ctx_held, segments_held}
+use Rattle.mach_image.specs.Subjects.{lossy_segments_in}
+use Rattle.mach_image.specs.declared.macho.MachO.{MachO}
+use Rattle.mach_cursors.specs.RebaseCursors.{IsOverRebases, opcode_rebases_behind, rebase_walk_left}
+use Rattle.mach_cursors.specs.declared.rebases.RebaseWalk.{RebaseWalk}
+use Rattle.goblin_mach_c.specs.Fill.{Fills}
+use Rattle.goblin_mach_c.specs.FixupsBehind.{AreFixupsBehind, AreFixupRowsOver, fixup_rows_left}
+use Rattle.goblin_mach_c.specs.RebaseRows.{rebase_seen}
+use Rattle.goblin_mach_c.specs.Stage.{Stage, start, under_way, over, stage_of}
+use Rattle.goblin_mach_c.specs.declared.fixups.ChainWalk.{ChainWalk}
+use Rattle.goblin_mach_c.specs.declared.rebases.RebaseRows.{RebaseRows}
+use Rattle.goblin_mach_c.specs.declared.rebases.gm_rebase.{gm_rebase}
+use Rattle.goblin_mach_c.specs.declared.rebases.gm_rebase_cursor.{gm_rebase_cursor}
+
+-- What rebases are read from: the stream of opcodes, the chains, the byte order, how many bytes a pointer has, and the segments.
+pub record RebaseSource : Type 0 where
+  pub stream : Option CutStream
+  pub chained : Result (Option Fixups) Fault
+  pub le : Endian
+  pub pointer : ℕ
+  pub segments : List SegmentView
+
+-- that of an image that is held
+abbrev pub rebase_source_of : MachO Global → RebaseSource
+rebase_source_of m = record {
+  stream = rebase_stream_in (bytes_held m) (commands_held m);
+  chained = chained_held m;
+  le = (ctx_held m).le;
+  pointer = pointer_size (ctx_held m).container;
+  segments = segments_held m;
+}
+
+-- that of the commands of some bytes
+abbrev pub rebase_source_there : Ctx → List ℕ → List Command → RebaseSource
+rebase_source_there ctx bytes cs = record {
+  stream = rebase_stream_in bytes cs;
+  chained = chained_in ctx bytes cs;
+  le = ctx.le;
+  pointer = pointer_size ctx.container;
+  segments = lossy_segments_in ctx bytes cs;
+}
+
+-- ---- the rebases behind a cursor
+
+-- those behind a place of the opcodes; none where there are none
+abbrev pub opcodes_rebased : BindCursor → Option CutStream → RebaseSource → List (Result Rebase Fault)
+opcodes_rebased c None x = []
+opcodes_rebased c (Some s) x = opcode_rebases_behind (cut_input s x.pointer x.segments) (cut_range s) c
+
+-- these rebases of the opcodes come at a stage: at the start all of them
+abbrev pub AreRebasesAtStage : Stage → BindCursor → RebaseSource → List (Result Rebase Fault) → Type 0
+AreRebasesAtStage start c x items = AreRebasesByOpcodes x.stream x.le x.pointer x.segments items
+AreRebasesAtStage under_way c x items = items ≡ opcodes_rebased c x.stream x
+AreRebasesAtStage over c x items = items ≡ []
+
+-- These rebases come behind a cursor: those of the opcodes and then those among the fixups of the chains behind its two parts, up
+-- to the first fault.
+pub record AreRebasesBehind (c : gm_rebase_cursor) (x : RebaseSource) (items : List (Result Rebase Fault)) : Type 0 where
+  pub by_opcodes : List (Result Rebase Fault)
+  pub fixups : List (Result Fixup Fault)
+  pub opcodes : AreRebasesAtStage (stage_of c.opcodes.stage) c.opcodes.binds x by_opcodes
+  pub chains : AreFixupsBehind c.chains x.chained x.segments fixups
+  pub are : items ≡ upto_fault (by_opcodes ++ rebases_among fixups)
+
+-- ---- what is written
+
+-- The rows of the rebases behind a cursor were written, as many as there are and fit, and behind the new cursor come the others.
+pub record AreRebasesWritten (x : RebaseSource) (before after : gm_rebase_cursor) (old new : List gm_rebase) (n : ℕ) : Type 0 where
+  pub items : List (Result Rebase Fault)
+  pub behind : AreRebasesBehind before x items
+  pub rows : Fills (map rebase_seen items) old new n
+  pub rest : AreRebasesBehind after x (drop n items)
+
+-- these rebases of the image at o come behind a cursor
+abbrev pub HasRebasesBehind : List ℕ → ℕ → gm_rebase_cursor → List (Result Rebase Fault) → Type 0
+HasRebasesBehind bytes o c items = OfImage bytes o (λ ctx cs. AreRebasesBehind c (rebase_source_there ctx bytes cs) items)
+
+-- the rows of the rebases of the image at o were written
+abbrev pub WritesRebases : List ℕ → ℕ → (before after : gm_rebase_cursor) → (old new : List gm_rebase) → ℕ → Type 0
+WritesRebases bytes o before after old new n = OfImage bytes o (λ ctx cs. AreRebasesWritten (rebase_source_there ctx bytes cs) before after old new n)
+
+-- ---- what is left to the rows
+
+abbrev pub opcodes_left_by : Option RebaseWalk → List (Result Rebase Fault)
+opcodes_left_by None = []
+opcodes_left_by (Some it) = rebase_walk_left it
+
+-- those of a walk along the chains
+abbrev pub rebased_left : ChainWalk → List (Result Rebase Fault)
+rebased_left it = rebases_among (walk.fixups_left it.fixups)
+
+abbrev pub chains_rebased : RebaseRows → List (Result Rebase Fault)
+chains_rebased it = rebases_among (fixup_rows_left it.fixups)
+
+-- all of them, whether or not a fault stands among them
+abbrev pub all_rebase_rows_left : RebaseRows → List (Result Rebase Fault)
+all_rebase_rows_left it = opcodes_left_by it.opcodes ++ chains_rebased it
+
+abbrev pub rebase_rows_left : RebaseRows → List (Result Rebase Fault)
+rebase_rows_left it = upto_fault (all_rebase_rows_left it)
+
+abbrev pub IsOverOpcodes : RebaseSource → Option RebaseWalk → Type 0
+IsOverOpcodes x None = Unit {0}
+IsOverOpcodes x (Some it) = (s : CutStream) × (x.stream ≡ Some s) × IsOverRebases (cut_input s x.pointer x.segments) (cut_range s) it
+
+-- the rows are read from this
+pub record AreRebaseRowsOver (x : RebaseSource) (it : RebaseRows) : Type 0 where
+  pub opcodes : IsOverOpcodes x it.opcodes
+  pub fixups : AreFixupRowsOver (record { chained = x.chained; segments = x.segments }) it.fixups
+
+-- what comes first, and what is left behind it; behind an error nothing matters
+abbrev pub RebaseFirst : List (Result Rebase Fault) → Option (Result declared.Rebase Error) → List (Result Rebase Fault) → Type 0
+RebaseFirst before None after = (before ≡ []) × (after ≡ [])
+RebaseFirst before (Some (Ok r)) after = before ≡ Ok (rebase_view r) ∷ after
+RebaseFirst before (Some (Err e)) after = (rest : List (Result Rebase Fault)) × (before ≡ Err (fault_of e) ∷ rest)

@@ -1,0 +1,141 @@
+-- How far the weak binds of an image were given, and those that come behind.
+use Rattle.std.specs.Prelude.{◌≡◌, ℕ, List, [], Option, Some, None, Result, drop, take}
+use Rattle.std.specs.declared.alloc.Global.{Global}
+use Rattle.mach_base.specs.Context.{pointer_size}
+use Rattle.mach_base.specs.Fault.{Fault}
+use Rattle.mach_base.specs.declared.context.Ctx.{Ctx}
+use Rattle.mach_load.specs.Command.{Command}
+use Rattle.mach_segments.specs.Segment.{SegmentView}
+use Rattle.mach_binds.specs.Sites.{Site}
+use Rattle.mach_binds.specs.Streams.{Input}
+use Rattle.mach_binds.specs.declared.imports.cursor.BindCursor.{BindCursor}
+use Rattle.mach_streams.specs.Cut.{CutStream, cut_input, cut_range}
+use Rattle.mach_streams.specs.WeakBinds.{WeakBind}
+use Rattle.mach_image.specs.Facts.{OfImage}
+use Rattle.mach_image.specs.ImageStreams.{AreImageWeakBinds, weak_stream_in}
+use Rattle.mach_image.specs.OpenImage.{bytes_held, commands_held, ctx_held, segments_held}
+use Rattle.mach_image.specs.Subjects.{lossy_segments_in}
+use Rattle.mach_image.specs.declared.macho.MachO.{MachO}
+use Rattle.mach_cursors.specs.WeakCursors.{AreWeakSites, IsOverWeakBinds, weak_binds_behind, weak_sites_behind, weak_sites_left, weak_walk_left}
+use Rattle.mach_cursors.specs.declared.weak_binds.WeakBindWalk.{WeakBindWalk}
+use Rattle.goblin_mach_c.specs.BindingPlaces.{places_of}
+use Rattle.goblin_mach_c.specs.Say.{FillsBy}
+use Rattle.goblin_mach_c.specs.Sited.{placed}
+use Rattle.goblin_mach_c.specs.Stage.{Stage, start, under_way, over, stage_of}
+use Rattle.goblin_mach_c.specs.WeakRows.{IsWeakRow}
+use Rattle.goblin_mach_c.specs.declared.imports.gm_bind_cursor.{gm_bind_cursor}
+use Rattle.goblin_mach_c.specs.declared.weak_binds.WeakRows.{WeakRows}
+use Rattle.goblin_mach_c.specs.declared.weak_binds.gm_weak_bind.{gm_weak_bind}
+
+-- What weak binds are read from: the bytes, the stream of opcodes in them, how many bytes a pointer has, and the segments.
+pub record WeakSource : Type 0 where
+  pub bytes : List ℕ
+  pub stream : Option CutStream
+  pub pointer : ℕ
+  pub segments : List SegmentView
+
+-- that of an image that is held
+abbrev pub weak_source_of : MachO Global → WeakSource
+weak_source_of m = record {
+  bytes = bytes_held m;
+  stream = weak_stream_in (bytes_held m) (commands_held m);
+  pointer = pointer_size (ctx_held m).container;
+  segments = segments_held m;
+}
+
+-- that of the commands of some bytes
+abbrev pub weak_source_there : Ctx → List ℕ → List Command → WeakSource
+weak_source_there ctx bytes cs = record {
+  bytes = bytes;
+  stream = weak_stream_in bytes cs;
+  pointer = pointer_size ctx.container;
+  segments = lossy_segments_in ctx bytes cs;
+}
+
+abbrev pub weak_input : WeakSource → CutStream → Input
+weak_input x s = cut_input s x.pointer x.segments
+
+-- ---- the weak binds behind a cursor
+
+-- those behind a place of the stream; none where there is no stream
+abbrev pub weak_behind : BindCursor → Option CutStream → WeakSource → List (Result WeakBind Fault)
+weak_behind c None x = []
+weak_behind c (Some s) x = weak_binds_behind (weak_input x s) (cut_range s) c
+
+-- these weak binds come at a stage: at the start all of them
+abbrev pub AreWeakBindsAtStage : Stage → BindCursor → WeakSource → List (Result WeakBind Fault) → Type 0
+AreWeakBindsAtStage start c x items = AreImageWeakBinds x.stream x.pointer x.segments items
+AreWeakBindsAtStage under_way c x items = items ≡ weak_behind c x.stream x
+AreWeakBindsAtStage over c x items = items ≡ []
+
+-- these come behind a cursor
+abbrev pub AreWeakBindsBehind : gm_bind_cursor → WeakSource → List (Result WeakBind Fault) → Type 0
+AreWeakBindsBehind c x items = AreWeakBindsAtStage (stage_of c.stage) c.binds x items
+
+-- ---- where their names stand
+
+abbrev pub weak_sites_of : BindCursor → Option CutStream → WeakSource → List Site
+weak_sites_of c None x = []
+weak_sites_of c (Some s) x = weak_sites_behind (weak_input x s) (cut_range s) c
+
+-- of all of them
+abbrev pub AreAllWeakSites : Option CutStream → WeakSource → List Site → Type 0
+AreAllWeakSites None x sites = sites ≡ []
+AreAllWeakSites (Some s) x sites = AreWeakSites (weak_input x s) (cut_range s) sites
+
+abbrev pub AreWeakSitesAtStage : Stage → BindCursor → WeakSource → List Site → Type 0
+AreWeakSitesAtStage start c x sites = AreAllWeakSites x.stream x sites
+AreWeakSitesAtStage under_way c x sites = sites ≡ weak_sites_of c x.stream x
+AreWeakSitesAtStage over c x sites = sites ≡ []
+
+abbrev pub AreWeakSitesBehind : gm_bind_cursor → WeakSource → List Site → Type 0
+AreWeakSitesBehind c x sites = AreWeakSitesAtStage (stage_of c.stage) c.binds x sites
+
+-- ---- what is written
+
+-- these weak binds come behind a cursor, each with the place of its own name
+pub record AreWeakPlacedBehind (c : gm_bind_cursor) (x : WeakSource) (items : List (Result (WeakBind × ℕ) Fault)) : Type 0 where
+  pub rows : List (Result WeakBind Fault)
+  pub sites : List Site
+  pub behind : AreWeakBindsBehind c x rows
+  pub sites_behind : AreWeakSitesBehind c x sites
+  pub are : items ≡ placed rows (places_of sites)
+
+-- The rows of the weak binds behind a cursor were written, as many as there are and fit, and behind the new cursor come the
+-- others.
+pub record AreWeakBindsWritten (x : WeakSource) (before after : gm_bind_cursor) (old new : List gm_weak_bind) (n : ℕ) : Type 0 where
+  pub items : List (Result (WeakBind × ℕ) Fault)
+  pub behind : AreWeakPlacedBehind before x items
+  pub rows : FillsBy (IsWeakRow x.bytes) items old new n
+  pub rest : AreWeakPlacedBehind after x (drop n items)
+
+-- these weak binds of the image at o come behind a cursor
+abbrev pub HasWeakBindsBehind : List ℕ → ℕ → gm_bind_cursor → List (Result WeakBind Fault) → Type 0
+HasWeakBindsBehind bytes o c items = OfImage bytes o (λ ctx cs. AreWeakBindsBehind c (weak_source_there ctx bytes cs) items)
+
+-- the rows of the weak binds of the image at o were written
+abbrev pub WritesWeakBinds : List ℕ → ℕ → (before after : gm_bind_cursor) → (old new : List gm_weak_bind) → ℕ → Type 0
+WritesWeakBinds bytes o before after old new n = OfImage bytes o (λ ctx cs. AreWeakBindsWritten (weak_source_there ctx bytes cs) before after old new n)
+
+-- ---- what is left to the rows
+
+abbrev pub weak_left_by : Option WeakBindWalk → List (Result WeakBind Fault)
+weak_left_by None = []
+weak_left_by (Some it) = weak_walk_left it
+
+abbrev pub weak_sites_by : Option WeakBindWalk → List Site
+weak_sites_by None = []
+weak_sites_by (Some it) = weak_sites_left it
+
+abbrev pub weak_rows_left : WeakRows → List (Result (WeakBind × ℕ) Fault)
+weak_rows_left it = placed (weak_left_by it.walk) (places_of (weak_sites_by it.walk))
+
+-- the walk goes over a stream that is the front of the bytes
+abbrev pub IsOverWeak : WeakSource → Option WeakBindWalk → Type 0
+IsOverWeak x None = Unit {0}
+IsOverWeak x (Some it) =
+    (s : CutStream) × (n : ℕ) × (x.stream ≡ Some s) × (s.bytes ≡ take n x.bytes) × IsOverWeakBinds (weak_input x s) (cut_range s) it
+
+-- the rows are read from this
+abbrev pub AreWeakRowsOver : WeakSource → WeakRows → Type 0
+AreWeakRowsOver x it = IsOverWeak x it.walk

@@ -1,0 +1,320 @@
+//! What dyld rebases of an image: by its opcodes, and then by its chains.
+
+ghost use Rattle.std.specs.Prelude.{◌≡◌, ◌≢◌, ◌<◌, [], Err, Ok, Result, length, option_map};
+ghost use Rattle.mach_base.specs.Fault.{Fault, fault_of};
+ghost use Rattle.mach_chained.specs.FixupCursors.{IsOverFixups};
+ghost use Rattle.mach_chained.specs.Fixups.{FixupInput};
+ghost use Rattle.mach_chained.specs.WalkViews.{fixup_view};
+ghost use Rattle.mach_streams.specs.Rebases as defined;
+ghost use Rattle.mach_streams.specs.RebasesLeft.{rebase_view};
+ghost use Rattle.mach_image.specs.ImageStreams.{rebase_in};
+ghost use Rattle.goblin_mach_c.specs.Codes.{IsRefusalCode};
+ghost use Rattle.goblin_mach_c.specs.Opened.{FaultIn, lossy_mode};
+ghost use Rattle.goblin_mach_c.specs.RebaseRows.{rebase_kind_number, rebase_seen};
+ghost use Rattle.goblin_mach_c.specs.RebasesBehind.{AreRebaseRowsOver, AreRebasesAtStage, AreRebasesBehind, IsOverOpcodes, RebaseFirst, RebaseSource};
+ghost use Rattle.goblin_mach_c.specs.RebasesBehind.{WritesRebases, all_rebase_rows_left, chains_rebased, opcodes_left_by, rebase_rows_left};
+ghost use Rattle.goblin_mach_c.specs.RebasesBehind.{rebase_source_of, rebased_left};
+ghost use Rattle.goblin_mach_c.specs.Stage.{stage_of};
+
+use crate::errors::{GM_OK, code_of, gm_error, refuse, refuse_no_rows};
+use crate::fixups::{ChainWalk, FixupRows, gm_fixup_cursor, signing};
+use crate::images::gm_image;
+use crate::imports::{gm_bind_cursor, over};
+use crate::items::{ItemRows, fill_items};
+use crate::open::open;
+use goblin_mach::MachO;
+use goblin_mach::chained_fixups::{Fixup, FixupKind};
+use mach_base::{Error, Result, Steps};
+use mach_cursors::RebaseWalk;
+use mach_cursors::range::rebase_range;
+use mach_streams::{Rebase, RebaseKind};
+use std::alloc::Global;
+
+/// A place in memory whose number dyld corrects by how far the image was moved: at `address`, `offset` bytes behind the start of
+/// segment `segment`.
+#[derive(Clone, Copy)]
+#[repr(C)]
+pub struct gm_rebase {
+    pub address: u64,
+    pub offset: u64,
+    /// The number that stands there before it is corrected.
+    pub target: u64,
+    pub segment: u32,
+    /// 1 a pointer, 2 an absolute address of 32 bits in code, 3 a relative one.
+    pub kind: u32,
+    /// Whether the pointer is signed, and how: 0 or 1, the key, what is mixed in, and 0 or 1 for the address.
+    pub is_signed: u32,
+    pub key: u32,
+    pub diversity: u32,
+    pub is_address_diverse: u32,
+    /// `GM_OK`, or why the rebases can't be read further.
+    pub code: u32,
+    pub reserved: u32,
+}
+
+/// How far the rebases of an image were given: numbers alone, which go with the bytes and the image. All zero is the start.
+#[derive(Clone, Copy)]
+#[repr(C)]
+pub struct gm_rebase_cursor {
+    /// How far those of the opcodes were given.
+    pub opcodes: gm_bind_cursor,
+    /// How far the fixups of the chains have been gone over.
+    pub chains: gm_fixup_cursor,
+}
+
+// The number of a kind.
+#[inline(always)]
+fn kind_number(kind: RebaseKind) -> u32
+    ensures { result ≡ rebase_kind_number kind }
+{
+    match kind {
+        RebaseKind::Pointer => 1,
+        RebaseKind::TextAbsolute32 => 2,
+        RebaseKind::TextRelative32 => 3,
+    }
+}
+
+// Why the rebases can't be read further, as C sees it.
+fn refused_row(why: &Error) -> gm_rebase
+    ensures { result ≡ rebase_seen (Err (fault_of why.now)) }
+{
+    gm_rebase {
+        address: 0,
+        offset: 0,
+        target: 0,
+        segment: 0,
+        kind: 0,
+        is_signed: 0,
+        key: 0,
+        diversity: 0,
+        is_address_diverse: 0,
+        code: code_of(why),
+        reserved: 0,
+    }
+}
+
+// A rebase as C sees it.
+#[inline(always)]
+fn row_of(rebase: &Rebase) -> gm_rebase
+    ensures { result ≡ rebase_seen (Ok (rebase_view rebase.now)) }
+{
+    let (is_signed, key, diversity, is_address_diverse) = signing(rebase.auth);
+    gm_rebase {
+        address: rebase.address,
+        offset: rebase.offset,
+        target: rebase.target,
+        segment: rebase.segment,
+        kind: kind_number(rebase.kind),
+        is_signed,
+        key,
+        diversity,
+        is_address_diverse,
+        code: GM_OK,
+        reserved: 0,
+    }
+}
+
+// The rebase that a fixup is, if it is one.
+#[inline(always)]
+fn rebase_of(fixup: &Fixup) -> Option<Rebase>
+    ensures { option_map rebase_view result ≡ rebase_in (fixup_view fixup.now) }
+{
+    match fixup.kind {
+        FixupKind::Rebase { target } => Some(Rebase {
+            segment: fixup.segment,
+            offset: fixup.offset,
+            address: fixup.address,
+            target,
+            kind: RebaseKind::Pointer,
+            auth: fixup.auth,
+        }),
+        FixupKind::Bind { .. } => None,
+        FixupKind::Value { .. } => None,
+    }
+}
+
+// The next rebase of the chains, or the fault that ends them.
+fn next_rebased(walk: &mut ChainWalk<'_, '_>) -> Option<Result<Rebase>>
+    ensures items { RebaseFirst (rebased_left walk.old) result (rebased_left walk.new) }
+    ensures over { (x : FixupInput) → IsOverFixups x walk.old.fixups → IsOverFixups x walk.new.fixups }
+    ensures chained { walk.new.chained ≡ walk.old.chained }
+{
+    'fixups: loop {
+        let fixup = match walk.fixups.next_counted(&mut Steps::new()) {
+            None => return None,
+            Some(Ok(fixup)) => fixup,
+            Some(Err(why)) => return Some(Err(why)),
+        };
+        match rebase_of(&fixup) {
+            None => {}
+            Some(rebase) => return Some(Ok(rebase)),
+        }
+    }
+}
+
+/// What is left of the rebases of an image: those of its opcodes, and the fixups of its chains.
+#[derive(Drop)]
+struct RebaseRows<'a, 'b> {
+    opcodes: Option<RebaseWalk<'a, 'b>>,
+    fixups: FixupRows<'a, 'b>,
+}
+
+impl<'a, 'b> RebaseRows<'a, 'b> {
+    // The next rebase of the chains, or the fault that ends them.
+    fn next_of_chains(&mut self) -> Option<Result<Rebase>>
+        ensures items { RebaseFirst (chains_rebased self.old) result (chains_rebased self.new) }
+        ensures opcodes { self.new.opcodes ≡ self.old.opcodes }
+        ensures over { (x : RebaseSource) → AreRebaseRowsOver x self.old → AreRebaseRowsOver x self.new }
+    {
+        match &mut self.fixups {
+            FixupRows::Unread(told) => {
+                let why = told.take()?;
+                Some(Err(why))
+            }
+            FixupRows::Chains(walk) => next_rebased(walk),
+        }
+    }
+
+    // The next rebase, or the next fault.
+    #[inline(always)]
+    fn step(&mut self) -> Option<Result<Rebase>>
+        ensures items { RebaseFirst (all_rebase_rows_left self.old) result (all_rebase_rows_left self.new) }
+        ensures over { (x : RebaseSource) → AreRebaseRowsOver x self.old → AreRebaseRowsOver x self.new }
+    {
+        if let Some(opcodes) = &mut self.opcodes {
+            if let Some(item) = opcodes.next_rebase() {
+                return Some(item);
+            }
+        }
+        self.opcodes = None;
+        self.next_of_chains()
+    }
+
+    // Leaves nothing.
+    fn end(&mut self)
+        ensures left { rebase_rows_left self.new ≡ [] }
+        ensures over { (x : RebaseSource) → AreRebaseRowsOver x self.old → AreRebaseRowsOver x self.new }
+    {
+        self.opcodes = None;
+        self.fixups = FixupRows::Unread(None);
+    }
+}
+
+impl<'a, 'b> ItemRows for RebaseRows<'a, 'b> {
+    type Row = gm_rebase;
+
+    ghost Source = { RebaseSource };
+
+    ghost Item = { Result defined.Rebase Fault };
+
+    ghost left = { rebase_rows_left };
+
+    ghost IsOver = { AreRebaseRowsOver };
+
+    ghost Says = { λ _ item row. row ≡ rebase_seen item };
+
+    #[inline(always)]
+    fn next(&mut self) -> Option<gm_rebase> {
+        match self.step()? {
+            Ok(rebase) => Some(row_of(&rebase)),
+            Err(why) => {
+                self.end();
+                Some(refused_row(&why))
+            }
+        }
+    }
+}
+
+// The rebases of an image's opcodes behind a cursor.
+fn opcodes_behind<'a, 'b>(
+    image: &'b MachO<'a, Global>,
+    cursor: &gm_bind_cursor,
+) -> Option<RebaseWalk<'a, 'b>>
+    ensures items { AreRebasesAtStage (stage_of cursor.now.stage) cursor.now.binds (rebase_source_of image.now) (opcodes_left_by result) }
+    ensures over { IsOverOpcodes (rebase_source_of image.now) result }
+{
+    let bytes = image.bytes();
+    let Some(range) = rebase_range(bytes, image.load_commands.as_slice()) else {
+        return None;
+    };
+    let segments = image.segments.as_slice();
+    let ctx = image.ctx();
+    match cursor.stage {
+        0 => Some(RebaseWalk::start(&range, segments, ctx)),
+        1 => Some(RebaseWalk::behind(&range, segments, ctx, &cursor.binds)),
+        _ => None,
+    }
+}
+
+// A cursor of those that are left.
+fn opcode_cursor(opcodes: &Option<RebaseWalk<'_, '_>>) -> gm_bind_cursor
+    ensures { (x : RebaseSource) → IsOverOpcodes x opcodes.now
+        → AreRebasesAtStage (stage_of result.stage) result.binds x (opcodes_left_by opcodes.now) }
+{
+    match opcodes {
+        None => over(),
+        Some(opcodes) => gm_bind_cursor {
+            binds: opcodes.cursor(),
+            stage: 1,
+        },
+    }
+}
+
+impl<'a, 'b> RebaseRows<'a, 'b> {
+    // Those behind a cursor.
+    fn behind(image: &'b MachO<'a, Global>, cursor: &gm_rebase_cursor) -> Self
+        ensures items { AreRebasesBehind cursor.now (rebase_source_of image.now) (rebase_rows_left result) }
+        ensures over { AreRebaseRowsOver (rebase_source_of image.now) result }
+    {
+        RebaseRows {
+            opcodes: opcodes_behind(image, &cursor.opcodes),
+            fixups: FixupRows::behind(image, &cursor.chains),
+        }
+    }
+
+    // A cursor of those that are left.
+    fn cursor(&self) -> gm_rebase_cursor
+        ensures { (x : RebaseSource) → AreRebaseRowsOver x self.now → AreRebasesBehind result x (rebase_rows_left self.now) }
+    {
+        gm_rebase_cursor {
+            opcodes: opcode_cursor(&self.opcodes),
+            chains: self.fixups.cursor(),
+        }
+    }
+}
+
+/// Writes what dyld rebases of an image behind a cursor, by its opcodes and then by its chains, as much as there is and fits, and how
+/// many to `count`, and moves the cursor behind them. The last may be the error that ends them. It opens the image again, and takes
+/// memory for its commands while it runs. A refusal leaves the array, the count and the cursor.
+#[unsafe(no_mangle)]
+pub extern "C" fn gmr_rebases(
+    alloc: Global,
+    bytes: &[u8],
+    image: &gm_image,
+    cursor: &mut gm_rebase_cursor,
+    out: &mut [gm_rebase],
+    count: &mut usize,
+    error: &mut gm_error,
+) -> u32
+    ensures written { result ≡ 0 → WritesRebases bytes.now image.now.offset cursor.old cursor.new out.old out.new count.new }
+    ensures refused { result ≢ 0 → 0 < length out.old → IsRefusalCode (FaultIn (lossy_mode image.now.is_lossy) bytes.now image.now.offset) result }
+    ensures no_rows { length out.old ≡ 0 → result ≡ 6 }
+    ensures array { result ≢ 0 → out.new ≡ out.old }
+    ensures count { result ≢ 0 → count.new ≡ count.old }
+    ensures cursor { result ≢ 0 → cursor.new ≡ cursor.old }
+    ensures told { result ≢ 0 → error.new.code ≡ result }
+    ensures quiet { result ≡ 0 → error.new ≡ error.old }
+{
+    if out.is_empty() {
+        return refuse_no_rows(error);
+    }
+    match open(alloc, bytes, image.offset, image.is_lossy != 0) {
+        Ok(found) => {
+            let mut rows = RebaseRows::behind(&found, cursor);
+            *count = fill_items(&mut rows, out);
+            *cursor = rows.cursor();
+            GM_OK
+        }
+        Err(why) => refuse(&why, error),
+    }
+}

@@ -1,0 +1,3 @@
+pub mod AloneSites
+pub mod WeakNames
+pub mod SameMore

@@ -1,0 +1,4 @@
+pub mod Ranges
+pub mod SitesAlone
+pub mod WeakCursors
+pub mod RebaseCursors

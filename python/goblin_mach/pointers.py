@@ -1,0 +1,87 @@
+"""What the dynamic linker writes into an image's memory, an item each, in the manner of `items`."""
+
+from __future__ import annotations
+
+from typing import NamedTuple, Optional
+
+from .items import readable
+
+
+@readable
+class Fixup(NamedTuple):
+    """A pointer to be corrected. `kind` is "rebase", "bind" or "number"; `target` of a rebase is an address, `import_number` of a bind counts from 0."""
+
+    address: int
+    segment: int
+    offset: int
+    kind: str
+    target: int
+    import_number: int
+    addend: int
+    is_signed: bool
+    key: int
+    diversity: int
+    is_address_diverse: bool
+    error: Optional[str]
+
+
+@readable
+class Import(NamedTuple):
+    """A symbol that the image takes from a library, whose ordinal is `library`: 0 is the image itself. `offset` is a place in the file."""
+
+    name: str
+    library: int
+    address: int
+    offset: int
+    addend: int
+    size: int
+    start_of_sequence_offset: int
+    is_weak: bool
+    is_lazy: bool
+    error: Optional[str]
+
+
+@readable
+class Binding(NamedTuple):
+    """A place that takes a symbol's address from a provider: "library" (by its ordinal), "itself", "program", "any" or "any weak"."""
+
+    name: str
+    provider: str
+    library: int
+    address: int
+    offset: int
+    addend: int
+    is_weak: bool
+    is_lazy: bool
+    error: Optional[str]
+
+
+@readable
+class WeakBind(NamedTuple):
+    """A place that takes the definition of a name that all images share, whatever was bound there before; or, where `is_strong`, a name that the image
+    defines itself and not weakly: then it has no place. `offset` is a place in the file."""
+
+    name: str
+    is_strong: bool
+    address: int
+    offset: int
+    addend: int
+    is_weak: bool
+    error: Optional[str]
+
+
+@readable
+class Rebase(NamedTuple):
+    """A place in memory whose number dyld corrects by how far the image was moved: `target` stands there before that. `kind` is "pointer", or of 32 bits
+    in code "absolute32" or "relative32", and "none" of a fault."""
+
+    address: int
+    segment: int
+    offset: int
+    kind: str
+    target: int
+    is_signed: bool
+    key: int
+    diversity: int
+    is_address_diverse: bool
+    error: Optional[str]
