@@ -1,25 +1,31 @@
 -- The lines that the program shows of an image.
-use Rattle.std.specs.Prelude.{◌≡◌, ℕ, List, Bool, Option, IsTrue, ◌↔◌}
+use Rattle.std.specs.Prelude.{◌≡◌, ℕ, List, [], Bool, Option, Some, None, IsTrue, ◌↔◌}
 use Rattle.mach_base.specs.declared.context.Container.TheVariants.{Big}
-use Rattle.mach_segments.specs.Segment.{SegmentView}
-use Rattle.mach_symbols.specs.Symbols.{SymbolTable}
-use Rattle.mach_image.specs.Facts.{OfImage, HasSegments, HasSymbolTable}
+use Rattle.mach_symbols.specs.Symbols.{SymbolTable, begun_of}
+use Rattle.mach_image.specs.ImageFacts.{Facts, HasFacts}
 use Rattle.mach_image.specs.Image.{Opens}
-use Rattle.machsyms.specs.Letters.{letters_of}
 use Rattle.machsyms.specs.Lines.{AreTableLines}
+use Rattle.machsyms.specs.Order.{AreKeysInOrder, gone_over}
+use Rattle.machsyms.specs.Setting.{setting_of}
+use Rattle.machsyms.specs.declared.asked.Asked.{Asked}
+use Rattle.machsyms.specs.declared.asked.Sorting.{Sorting}
+use Rattle.machsyms.specs.declared.order.SortKey.{SortKey}
 
--- the image at o of the bytes has 64 bits, or 32
-abbrev pub HasWidth : List ℕ → ℕ → (is_64 : Bool) → Type 0
-HasWidth bytes o is_64 = OfImage bytes o (λ ctx cs. IsTrue is_64 ↔ (ctx.container ≡ Big))
+-- These are the keys of the symbols that a table has within the bytes, in an order that sorts them; none are where they stay as they stand.
+abbrev pub AreImageKeys : Option Sorting → Option SymbolTable → List SortKey → Type 0
+AreImageKeys None table keys = keys ≡ []
+AreImageKeys (Some sorting) None keys = keys ≡ []
+AreImageKeys (Some sorting) (Some t) keys = AreKeysInOrder sorting (begun_of t) keys
 
--- The text is the lines of the image at the front of the bytes: one for each symbol of its table whose record begins within the
--- bytes, in order, with the letters of its sections, and one for all others. It is whole where there are no others.
-pub record AreImageSymbolLines (bytes : List ℕ) (text : List ℕ) (whole : Bool) : Type 0 where
+-- The text is the lines of the image at the front of the bytes: one for each symbol that is asked for of those of its table whose records begin
+-- within the bytes, in the order that is asked for, with the letters of its sections, and one for all whose records don't. It is whole where
+-- there are none of these.
+pub record AreImageSymbolLines (a : Asked) (bytes : List ℕ) (text : List ℕ) (whole : Bool) : Type 0 where
   pub opens : Opens bytes 0
+  pub facts : Facts
+  pub has_facts : HasFacts bytes 0 facts
   pub is_64 : Bool
-  pub has_width : HasWidth bytes 0 is_64
-  pub segments : List SegmentView
-  pub has_segments : HasSegments bytes 0 segments
-  pub table : Option SymbolTable
-  pub has_table : HasSymbolTable bytes 0 table
-  pub lines : AreTableLines is_64 (letters_of segments) table text whole
+  pub has_width : IsTrue is_64 ↔ (facts.ctx.container ≡ Big)
+  pub keys : List SortKey
+  pub in_order : AreImageKeys a.sorting facts.symbols keys
+  pub lines : AreTableLines a (setting_of is_64 facts) (gone_over a.sorting keys) facts.symbols text whole

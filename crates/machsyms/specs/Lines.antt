@@ -1,4 +1,4 @@
--- The lines that are printed of symbols, as `nm -a -p` prints them.
+-- The lines that are printed of symbols, as `nm` prints them.
 use Rattle.std.specs.Prelude.{◌≡◌, ◌==◌, ℕ, ◌-◌, ◌^◌, List, [], ◌++◌, codes, Bool, true, false, ◌&&◌, Option, Some, None, option_map, Result, Ok, Err}
 use Rattle.std.specs.Prelude.{if◌then◌else◌}
 use Rattle.std.specs.Char.{encode_utf8}
@@ -7,13 +7,17 @@ use Rattle.std.specs.Io.KnownBytes.{Appends}
 use Rattle.std.specs.Borrow.{Bor}
 use Rattle.mach_base.specs.Fault.{Fault}
 use Rattle.mach_base.specs.declared.error.Error.{Error}
-use Rattle.mach_symbols.specs.Symbols.{SymbolTable, begun_of, type_of, is_stab}
+use Rattle.mach_symbols.specs.Symbols.{SymbolTable, begun_of, is_stab}
 use Rattle.mach_symbols.specs.SymbolViews.{symbol_read}
-use Rattle.mach_image.specs.Subjects.{symbols_in}
 use Rattle.mach_symbols.specs.declared.symbols.nlist.Nlist.{Nlist}
 use Rattle.mach_show.specs.Lines.{AreLines}
-use Rattle.machsyms.specs.Letters.{is_local, symbol_letter}
+use Rattle.machsyms.specs.Asked.{is_elsewhere, takes}
+use Rattle.machsyms.specs.Letters.{symbol_letter}
+use Rattle.machsyms.specs.Setting.{SymbolSetting}
 use Rattle.machsyms.specs.Stabs.{stab_name}
+use Rattle.machsyms.specs.declared.asked.Asked.{Asked}
+use Rattle.machsyms.specs.declared.asked.Form.{Form}
+use Rattle.machsyms.specs.declared.asked.Form.TheVariants.{Letters, Names, Hexadecimal}
 use Rattle.mach_base.specs.Words.{words_of}
 
 -- a number in `width` hexadecimal digits, zeros before it
@@ -23,13 +27,6 @@ padded_hex width n = padded_integral (format_spec 32 0 4 width (2 ^ 64 - 1)) fal
 -- a text with blanks before it, up to a width
 abbrev pub right : ℕ → List ℕ → List ℕ
 right width text = padded (format_spec 32 3 0 width (2 ^ 64 - 1)) text
-
--- another image defines it: of type N_UNDF, known outside the image, and without a value
-abbrev pub is_elsewhere : Nlist → Bool
-is_elsewhere s =
-    if is_stab s then false
-    else (if is_local s then false
-    else (type_of s.n_type == 0) && (s.n_value == 0))
 
 -- the value that is printed, if any is
 abbrev pub value_shown : Nlist → Option ℕ
@@ -53,18 +50,38 @@ kind_text sections s =
     if is_stab s then codes "- " ++ padded_hex 2 s.n_sect ++ codes " " ++ padded_hex 4 s.n_desc ++ codes " " ++ stab_text s.n_type (stab_name s.n_type)
     else encode_utf8 (symbol_letter sections s)
 
--- a symbol with its name, over the letters of the image's sections
-abbrev pub symbol_text : (is_64 : Bool) → List ℕ → List ℕ → Nlist → List ℕ
-symbol_text is_64 sections name s = value_text is_64 (value_shown s) ++ codes " " ++ kind_text sections s ++ codes " " ++ name
+-- a symbol with its name
+abbrev pub symbol_text : SymbolSetting → List ℕ → Nlist → List ℕ
+symbol_text w name s = value_text w.is_64 (value_shown s) ++ codes " " ++ kind_text w.letters s ++ codes " " ++ name
 
--- The line of a symbol as it was answered: the symbol, or that it can't be read, and why.
-abbrev pub symbol_line : (is_64 : Bool) → List ℕ → Result (Bor (List ℕ) × Nlist) Error → List ℕ
-symbol_line is_64 sections (Ok found) = symbol_text is_64 sections found.0.now found.1 ++ codes "\n"
-symbol_line is_64 sections (Err e) = codes "unreadable: " ++ words_of e ++ codes "\n"
+-- the fields of its record but the value: type, section, flags, and the place of its name
+abbrev pub fields_text : Nlist → List ℕ
+fields_text s =
+    padded_hex 2 s.n_type ++ codes " " ++ padded_hex 2 s.n_sect ++ codes " " ++ padded_hex 4 s.n_desc ++ codes " " ++ padded_hex 8 s.n_strx
 
--- The text is a line for each of these symbols, in order; an unreadable one is an error that reports its fault.
-abbrev pub AreSymbolLines : (is_64 : Bool) → List ℕ → List (Result (List ℕ × Nlist) Fault) → List ℕ → Type 0
-AreSymbolLines is_64 sections symbols text = AreLines symbol_read (symbol_line is_64 sections) symbols text
+-- a symbol in the form that is asked for
+abbrev pub form_text : Form → SymbolSetting → List ℕ → Nlist → List ℕ
+form_text Letters w name s = symbol_text w name s
+form_text Names w name s = name
+form_text Hexadecimal w name s = value_text w.is_64 (Some s.n_value) ++ codes " " ++ fields_text s ++ codes " " ++ name
+
+-- the name of the file before a line, if it is asked for
+abbrev pub file_text : Option (Bor (List ℕ)) → List ℕ
+file_text None = []
+file_text (Some file) = file.now ++ codes ": "
+
+-- The text of a symbol as it was answered: the symbol, or that it can't be read, and why.
+abbrev pub symbol_answer_text : Form → SymbolSetting → Result (Bor (List ℕ) × Nlist) Error → List ℕ
+symbol_answer_text form w (Ok found) = form_text form w found.0.now found.1
+symbol_answer_text form w (Err e) = codes "unreadable: " ++ words_of e
+
+-- its line, if it is asked for; else nothing
+abbrev pub asked_line : Asked → SymbolSetting → Result (Bor (List ℕ) × Nlist) Error → List ℕ
+asked_line a w answer = if takes a (symbol_read answer) then file_text a.file ++ (symbol_answer_text a.form w answer ++ codes "\n") else []
+
+-- The text is a line for each of these symbols that is asked for, in order; an unreadable one is an error that reports its fault.
+abbrev pub AreSymbolLines : Asked → SymbolSetting → List (Result (List ℕ × Nlist) Fault) → List ℕ → Type 0
+AreSymbolLines a w symbols text = AreLines symbol_read (asked_line a w) symbols text
 
 -- how many symbols of a table have no byte of their record within the bytes
 abbrev pub past_the_end : Option SymbolTable → ℕ
@@ -75,16 +92,23 @@ past_the_end (Some t) = t.nsyms - (begun_of t).nsyms
 abbrev pub past_line : ℕ → List ℕ
 past_line n = if n == 0 then [] else decimal n ++ codes " more symbols past the end\n"
 
--- The text is a line for each symbol of the table whose record begins within the bytes, in order, and one for all others. It is whole where
--- there are no others.
-pub record AreTableLines (is_64 : Bool) (sections : List ℕ) (table : Option SymbolTable) (text : List ℕ) (whole : Bool) : Type 0 where
+-- The symbols of a table, as a list goes over those of the table.
+abbrev pub symbols_over : (SymbolTable → List (Result (List ℕ × Nlist) Fault)) → Option SymbolTable → List (Result (List ℕ × Nlist) Fault)
+symbols_over list None = []
+symbols_over list (Some t) = list t
+
+-- The text is a line for each symbol that is asked for of those of the table whose records begin within the bytes, as they are listed, and one
+-- for all whose records don't. It is whole where there are none of these.
+pub record AreTableLines (a : Asked) (w : SymbolSetting) (list : SymbolTable → List (Result (List ℕ × Nlist) Fault))
+    (table : Option SymbolTable) (text : List ℕ) (whole : Bool) : Type 0 where
   pub front : List ℕ
-  pub lines : AreSymbolLines is_64 sections (symbols_in (option_map begun_of table)) front
+  pub lines : AreSymbolLines a w (symbols_over list (option_map begun_of table)) front
   pub is_text : text ≡ front ++ past_line (past_the_end table)
   pub is_whole : whole ≡ (past_the_end table == 0)
 
 -- What was written is such lines.
-pub record WritesTable (is_64 : Bool) (sections : List ℕ) (table : Option SymbolTable) (whole : Bool) (old new : Option (List ℕ)) : Type 0 where
+pub record WritesTable (a : Asked) (w : SymbolSetting) (list : SymbolTable → List (Result (List ℕ × Nlist) Fault))
+    (table : Option SymbolTable) (whole : Bool) (old new : Option (List ℕ)) : Type 0 where
   pub text : List ℕ
-  pub lines : AreTableLines is_64 sections table text whole
+  pub lines : AreTableLines a w list table text whole
   pub written : Appends old new text

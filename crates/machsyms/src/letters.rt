@@ -1,28 +1,24 @@
 //! The letters by which `nm` tells what a symbol is.
 
-ghost use Rattle.std.specs.Prelude.{◌≡◌, ◌++◌, ◌≤◌, ℕ, List, length, take, map, OnOk, IfOk};
+ghost use Rattle.std.specs.Prelude.{◌≡◌, ◌++◌, ◌≤◌, length, take, map, OnOk, IfOk};
 ghost use Rattle.mach_base.specs.Items.{read_as};
 ghost use Rattle.mach_segments.specs.SectionItems.{section_read};
-ghost use Rattle.mach_segments.specs.Segment.{SegmentView, segment_view, sections_of};
-ghost use Rattle.mach_image.specs.Facts.{HasSegments};
-ghost use Rattle.mach_image.specs.OpenImage.{IsImage};
+ghost use Rattle.mach_segments.specs.Segment.{segment_view, sections_of};
+ghost use Rattle.mach_image.specs.OpenImage.{segments_held};
 ghost use Rattle.machsyms.specs.Letters.{section_letter, item_letter, letters_of, symbol_letter, type_letter, letter_at, is_called, is_name};
 
+use goblin_mach::MachO;
 use goblin_mach::segment::{Section, SectionData, Segment};
 use goblin_mach::symbols::{MAX_SECT, N_ABS, N_EXT, N_INDR, N_SECT, N_UNDF, Nlist};
-use goblin_mach::{MachO, laws};
 use std::alloc::{AllocError, Allocator};
 
-/// A letter for each section that the image has in its bytes, over all segments in order, as many as a
-/// symbol can name.
+/// A letter for each section of the segments that the image holds, over all segments in order, as many as a symbol can name.
 pub fn section_letters<A: Allocator, B: Allocator>(
     alloc: B,
     image: &MachO<'_, A>,
 ) -> Result<Vec<char, B>, AllocError>
-    ensures { (bytes : List ℕ) (o : ℕ) → IsImage bytes o image.now → IfOk result (λ v. (segments : List SegmentView) × HasSegments bytes o segments
-        × (v.items ≡ letters_of segments)) }
+    ensures { IfOk result (λ v. v.items ≡ letters_of (segments_held image.now)) }
 {
-    laws::segments_of_image(image);
     letters_held(alloc, image.segments.as_slice())
 }
 

@@ -1,5 +1,6 @@
 //! Prints the symbols of a Mach-O file, a line each, as `nm -a -p` does: the value, a letter for what the
 //! symbol is, and its name; of a fat file those of each entry, or of those for one cpu, under a line that says which.
+//! Words of `nm` ask for some of them, for another order, and for lines in another form.
 //!
 //! Where a line differs from those of `llvm-nm`:
 //! - each symbol has a line, and one whose record or name can't be read has a line that says why; there
@@ -13,27 +14,44 @@
 //! - files that `llvm-nm` refuses as malformed are printed wherever the library opens them.
 #![tactic(auto)]
 
+mod asked;
 mod letters;
+mod order;
 mod print;
 mod run;
+mod setting;
 mod stabs;
-#[cfg(test)]
-mod tests;
 mod text;
+mod words;
 
 use mach_show::{Cpu, Misuse, Program, Round};
 use run::{NAME, run};
 use std::io;
 use std::io::BufWriter;
 use std::process::ExitCode;
+use words::{Letters, asked_of, names_files, take_letters};
 
 const PROGRAM: Program = Program {
     name: NAME,
-    usage: "usage: machsyms [--arch NAME | --cputype 0xN] FILE..\n       machsyms -h | --help | --version\n",
+    usage: "usage: machsyms [-AUagjnoprux] [--arch NAME | --cputype 0xN] FILE..\n       machsyms -h | --help | --version\n",
     version: "machsyms 0.2.0\n",
     has_limit: false,
     has_cpu: true,
-    known: &["--arch", "--cputype", "--help", "--version"],
+    known: &[
+        "--arch",
+        "--cputype",
+        "--debug-syms",
+        "--defined-only",
+        "--extern-only",
+        "--format=just-symbols",
+        "--help",
+        "--no-sort",
+        "--numeric-sort",
+        "--print-file-name",
+        "--reverse-sort",
+        "--undefined-only",
+        "--version",
+    ],
 };
 
 fn main(rt: HostRuntime) -> ExitCode {
@@ -45,12 +63,20 @@ fn main(rt: HostRuntime) -> ExitCode {
 // Does what the words ask for.
 fn start(rt: &HostRuntime) -> Result<u8, u8> {
     let words = PROGRAM.words(rt)?;
+    let Ok((letters, words)) = take_letters(rt.alloc(), words) else {
+        return Err(PROGRAM.out_of_memory(rt));
+    };
     let call = PROGRAM.call(rt, &words)?;
-    show_files(rt, call.cpu, &call.words)
+    show_files(rt, call.cpu, letters, &call.words)
 }
 
 // Shows of files in order the images that are asked for, and answers the worst status.
-fn show_files(rt: &HostRuntime, cpu: Cpu, files: &[&str]) -> Result<u8, u8> {
+fn show_files(
+    rt: &HostRuntime,
+    cpu: Cpu,
+    letters: Option<Letters>,
+    files: &[&str],
+) -> Result<u8, u8> {
     if files.is_empty() {
         return Err(PROGRAM.bad_usage(rt, Misuse::Missing("FILE")));
     }
@@ -58,9 +84,18 @@ fn show_files(rt: &HostRuntime, cpu: Cpu, files: &[&str]) -> Result<u8, u8> {
         return Err(PROGRAM.out_of_memory(rt));
     };
     let mut round = Round::new(PROGRAM, files.len());
+    round.is_titled &= !names_files(letters);
     for file in files {
         if let Some(bytes) = round.begin(rt, file, &mut lines)? {
-            round.end(run(rt.alloc(), cpu, file, &bytes, &mut lines, &mut rt.stderr()))?;
+            round.end(run(
+                rt.alloc(),
+                cpu,
+                asked_of(letters, file),
+                file,
+                &bytes,
+                &mut lines,
+                &mut rt.stderr(),
+            ))?;
         }
     }
     Ok(round.worst)

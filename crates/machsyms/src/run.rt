@@ -1,32 +1,38 @@
 //! What the program shows of an image and of a file, and its exit status.
 
-ghost use Rattle.std.specs.Prelude.{◌≡◌, ◌≤◌, [], codes};
+ghost use Rattle.std.specs.Prelude.{◌≡◌, ◌≤◌, [], codes, option_map, IfOk};
 ghost use Rattle.std.specs.Io.Buffered.{writer_buffer, writer_contents};
+ghost use Rattle.mach_symbols.specs.SymbolViews.{table_of};
 ghost use Rattle.mach_show.specs.Names.{names_text};
 ghost use Rattle.mach_show.specs.Shown.{Shown, ShowsFile, Writes, without_limit};
 ghost use Rattle.mach_show.specs.Statuses.{IsStatus, status_by};
-ghost use Rattle.machsyms.specs.ImageLines.{AreImageSymbolLines};
+ghost use Rattle.machsyms.specs.ImageLines.{AreImageSymbolLines, AreImageKeys};
 
+use crate::asked::{Asked, Sorting};
 use crate::letters::section_letters;
+use crate::order::{SortKey, keys_in_order};
 use crate::print::print_symbols;
-use goblin_mach::MachO;
+use crate::setting::Setting;
+use goblin_mach::symbols::Symbols;
+use goblin_mach::{MachO, laws};
 use mach_show::{Cpu, Failure, Heading, Names, Outcome, Shows};
-use std::alloc::Allocator;
+use std::alloc::{AllocError, Allocator};
 use std::io::{BufWriter, Write};
 
 /// The program's name.
 pub const NAME: &str = "machsyms";
 
-// The symbols of the images of a file.
+// What is asked for of the symbols of the images of a file.
 #[derive(Clone, Copy)]
 struct SymbolsOf<'a> {
     file: &'a str,
+    asked: Asked<'a>,
 }
 
 impl Shows for SymbolsOf<'_> {
     ghost names = { λ asked. names_text (codes "machsyms") asked.file.now };
 
-    ghost lines = { λ _. without_limit AreImageSymbolLines };
+    ghost lines = { λ s. without_limit (AreImageSymbolLines s.asked) };
 
     fn names(&self) -> Names<'_> {
         Names {
@@ -43,30 +49,52 @@ impl Shows for SymbolsOf<'_> {
         left: usize,
         out: &mut O,
     ) -> Result<Outcome, Failure> {
+        laws::facts_of_image(image);
         let letters = section_letters(alloc.clone()?, image)?;
+        let keys = keys_of_image(alloc.clone()?, self.asked.sorting, &image.symbols)?;
+        let setting = Setting::new(image, &letters);
         write!(out, "{heading}")?;
-        let whole = print_symbols(image, &letters, out)?;
+        let whole = print_symbols(&self.asked, &setting, &keys, &image.symbols, out)?;
         Ok(Outcome { whole, left })
     }
 }
 
-/// Shows the symbols of the images of a file that are asked for, and answers the exit status: 0 where nothing was refused and no symbol is past the end;
-/// 1 where the file or an entry of a fat one was refused, or memory, and then `err` has a line that says why, or where
-/// a table goes past the end of the bytes, and then `out` has a line that says how many symbols do; 2 or 141 where a write
-/// fails, and but for that nothing is left in the buffer. A symbol that can't be read is a line like others.
+// The keys of the symbols of a table, if there is one, in the order that is asked for; none where they stay as they stand there.
+fn keys_of_image<'a, A: Allocator>(
+    alloc: A,
+    sorting: Option<Sorting>,
+    table: &Option<Symbols<'a>>,
+) -> Result<Vec<SortKey<'a>, A>, AllocError>
+    ensures { IfOk result (λ v. AreImageKeys sorting (option_map table_of table.now) v.items) }
+{
+    let Some(sorting) = sorting else {
+        return Ok(Vec::new(alloc));
+    };
+    match table {
+        Some(table) => keys_in_order(alloc, sorting, &table.begun()),
+        None => Ok(Vec::new(alloc)),
+    }
+}
+
+/// Shows what is asked for of the symbols of the images of a file that are asked for, and answers the exit status: 0 where nothing was
+/// refused and no symbol is past the end; 1 where the file or an entry of a fat one was refused, or memory, and then `err` has a line that
+/// says why, or where a table goes past the end of the bytes, and then `out` has a line that says how many symbols do; 2 or 141 where a
+/// write fails, and but for that nothing is left in the buffer. A symbol that can't be read is a line like others.
 pub fn run<A: Allocator + Clone, W: Write + Drop, B: Allocator, E: Write>(
     alloc: A,
     cpu: Cpu,
+    asked: Asked<'_>,
     file: &str,
     bytes: &[u8],
     out: &mut BufWriter<W, B>,
     err: &mut E,
 ) -> u8
     ensures status { IsStatus result }
-    ensures shown { result ≤ 1 → (shown : Shown) × ShowsFile cpu (names_text (codes "machsyms") file.now) (without_limit AreImageSymbolLines) 0 bytes.now shown
+    ensures shown { result ≤ 1 → (shown : Shown)
+        × ShowsFile cpu (names_text (codes "machsyms") file.now) (without_limit (AreImageSymbolLines asked.entry)) 0 bytes.now shown
         × (result ≡ status_by shown.whole)
         × Writes shown (writer_contents W.contents out.old) (writer_contents W.contents out.new) (E.contents err.old) (E.contents err.new) }
     ensures flushed { result ≤ 1 → writer_buffer out.new ≡ [] }
 {
-    mach_show::run::run(&SymbolsOf { file }, cpu, 0, &alloc, bytes, out, err)
+    mach_show::run::run(&SymbolsOf { file, asked }, cpu, 0, &alloc, bytes, out, err)
 }

@@ -1,39 +1,90 @@
 //! A symbol as it is printed.
 
 ghost use Rattle.std.specs.Prelude.{◌≡◌, Some};
-ghost use Rattle.machsyms.specs.Lines.{symbol_text, value_text, value_shown, kind_text, stab_text, padded_hex};
+ghost use Rattle.machsyms.specs.Lines.{form_text, file_text, value_text, value_shown, kind_text, stab_text, padded_hex};
+ghost use Rattle.machsyms.specs.Setting.{setting_view};
 
+use crate::asked::{Form, is_elsewhere};
 use crate::letters::symbol_letter;
+use crate::setting::Setting;
 use crate::stabs::stab_name;
-use goblin_mach::symbols::{N_EXT, N_UNDF, Nlist};
+use goblin_mach::symbols::Nlist;
 use std::fmt;
 use std::fmt::{Display, Formatter, Write};
 
-/// A symbol as it is printed: its value, what it is, and its name.
+/// The name of the file before a line, if it is asked for.
+#[derive(Clone, Copy)]
+pub struct FileText<'a>(pub Option<&'a str>);
+
+impl<'a> Display for FileText<'a> {
+    ghost output = { λ t. Some (file_text t.0) };
+
+    fn fmt<W: Write>(&self, f: &mut Formatter<W>) -> fmt::Result {
+        match self.0 {
+            Some(name) => write!(f, "{name}: "),
+            None => Ok(()),
+        }
+    }
+}
+
+/// A symbol as it is printed, in a form.
 #[derive(Clone, Copy)]
 pub struct SymbolText<'a> {
-    /// Whether the image has 64 bits.
-    pub is_64: bool,
-    /// A letter for each section of the image.
-    pub sections: &'a [char],
+    pub form: Form,
+    pub setting: &'a Setting<'a>,
     pub name: &'a str,
     pub symbol: &'a Nlist,
 }
 
 impl<'a> Display for SymbolText<'a> {
-    ghost output = { λ t. Some (symbol_text t.is_64 t.sections.now t.name.now t.symbol.now) };
+    ghost output = { λ t. Some (form_text t.form (setting_view t.setting.now) t.name.now t.symbol.now) };
 
     fn fmt<W: Write>(&self, f: &mut Formatter<W>) -> fmt::Result {
-        let value = ValueText {
-            is_64: self.is_64,
-            value: value_shown(self.symbol),
-        };
-        let kind = KindText {
-            sections: self.sections,
-            symbol: self.symbol,
-        };
-        let name = self.name;
-        write!(f, "{value} {kind} {name}")
+        let (name, symbol) = (self.name, self.symbol);
+        let is_64 = self.setting.is_64;
+        match self.form {
+            Form::Names => write!(f, "{name}"),
+            Form::Letters => {
+                let value = ValueText {
+                    is_64,
+                    value: value_shown(symbol),
+                };
+                let kind = KindText {
+                    sections: self.setting.letters,
+                    symbol,
+                };
+                write!(f, "{value} {kind} {name}")
+            }
+            Form::Hexadecimal => {
+                let value = ValueText {
+                    is_64,
+                    value: Some(symbol.n_value),
+                };
+                let fields = FieldsText(symbol);
+                write!(f, "{value} {fields} {name}")
+            }
+        }
+    }
+}
+
+// The other fields of a symbol's record.
+#[derive(Clone, Copy)]
+struct FieldsText<'a>(&'a Nlist);
+
+impl<'a> Display for FieldsText<'a> {
+    ghost use Rattle.machsyms.specs.Lines.{fields_text};
+
+    ghost output = { λ t. Some (fields_text t.0.now) };
+
+    fn fmt<W: Write>(&self, f: &mut Formatter<W>) -> fmt::Result {
+        let Nlist {
+            n_strx,
+            n_type,
+            n_sect,
+            n_desc,
+            ..
+        } = *self.0;
+        write!(f, "{n_type:02x} {n_sect:02x} {n_desc:04x} {n_strx:08x}")
     }
 }
 
@@ -41,11 +92,7 @@ impl<'a> Display for SymbolText<'a> {
 fn value_shown(symbol: &Nlist) -> Option<u64>
     ensures { result ≡ value_shown symbol.now }
 {
-    let is_elsewhere = !symbol.is_stab()
-        && symbol.n_type & N_EXT != 0
-        && symbol.get_type() == N_UNDF
-        && symbol.n_value == 0;
-    if is_elsewhere {
+    if is_elsewhere(symbol) {
         None
     } else {
         Some(symbol.n_value)

@@ -1,17 +1,9 @@
-use Rattle.std.proofs.Common.{map, refl, ap, ◌∙◌}
+use Rattle.std.proofs.Common.{map, ap, ◌∙◌}
 use Rattle.std.proofs.lemmas.Result.{IfOk-weaker}
 use Rattle.mach_segments.specs.Segment.{segment_view}
-use Rattle.mach_image.specs.OpenImage.{segments_held}
 use Rattle.machsyms.specs.Letters.{letters_of}
 use Rattle.machsyms.proofs.letters.section_letters.Goals as goal
 
 pub returns : goal.returns
-returns g c = λ bytes o opened.
-    let segments = segments_held c.args.image.now in
-    IfOk-weaker c.letters_held.result _ _
-    (λ v is. (
-      segments,
-      (c.segments_of_image.ensures.strict bytes o opened segments).1 refl,
-      is ∙ ap (λ held. letters_of (map segment_view held)) c.as_slice.ensures,
-    ))
-    c.letters_held.ensures
+returns g c =
+    IfOk-weaker c.letters_held.result _ _ (λ v is. is ∙ ap (λ held. letters_of (map segment_view held)) c.as_slice.ensures) c.letters_held.ensures

@@ -4,10 +4,11 @@ use Rattle.mach_symbols.specs.SymbolViews.{symbol_read, symbols_left, table_of}
 use Rattle.mach_symbols.specs.declared.symbols.nlist.Nlist.{Nlist}
 use Rattle.mach_symbols.specs.Symbols.{symbols_of}
 use Rattle.mach_show.specs.Lines.{WritesLines}
-use Rattle.machsyms.specs.Lines.{symbol_line}
+use Rattle.machsyms.specs.Lines.{asked_line}
+use Rattle.machsyms.specs.Setting.{setting_view}
 use Rattle.machsyms.proofs.print.print_begun.Given as goal
 
 abbrev pub invariant-symbols : goal.invariant-symbols
 invariant-symbols g l =
     (done : List (Result (List ℕ × Nlist) Fault)) × (symbols_of (table_of l.table) ≡ done ++ symbols_left l.symbol-iterator)
-    × WritesLines symbol_read (symbol_line l.is_64 l.sections) done (g.O.Write.contents l.fn.out) (g.O.Write.contents l.out)
+    × WritesLines symbol_read (asked_line l.asked (setting_view l.setting)) done (g.O.Write.contents l.fn.out) (g.O.Write.contents l.out)

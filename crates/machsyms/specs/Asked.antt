@@ -1,0 +1,28 @@
+-- Which symbols are asked for (`mach-o/nlist.h`).
+use Rattle.std.specs.Prelude.{◌==◌, ℕ, List, Bool, true, false, not, ◌&&◌, ◌||◌, Result, Ok, Err, if◌then◌else◌}
+use Rattle.mach_base.specs.Fault.{Fault}
+use Rattle.mach_symbols.specs.Symbols.{type_of, is_stab}
+use Rattle.mach_symbols.specs.declared.symbols.nlist.Nlist.{Nlist}
+use Rattle.machsyms.specs.Letters.{is_local}
+use Rattle.machsyms.specs.declared.asked.Asked.{Asked}
+
+-- another image defines it: of type N_UNDF, known outside the image, and without a value
+abbrev pub is_elsewhere : Nlist → Bool
+is_elsewhere s =
+    if is_stab s then false
+    else (if is_local s then false
+    else (type_of s.n_type == 0) && (s.n_value == 0))
+
+-- Entries for a debugger are asked for by a word of their own; the others leave out what isn't known outside the image, what the image
+-- defines, and what it doesn't.
+abbrev pub takes_symbol : Asked → Nlist → Bool
+takes_symbol a s =
+    (a.has_stabs || not (is_stab s))
+    && ((not a.is_external || not (is_local s))
+    && ((not a.is_undefined || is_elsewhere s)
+    && (not a.is_defined || not (is_elsewhere s))))
+
+-- one that can't be read is always asked for
+abbrev pub takes : Asked → Result (List ℕ × Nlist) Fault → Bool
+takes a (Ok found) = takes_symbol a found.1
+takes a (Err f) = true

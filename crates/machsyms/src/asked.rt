@@ -1,0 +1,89 @@
+//! Which symbols are asked for, in which order, and in which form.
+
+ghost use Rattle.std.specs.Prelude.{◌≡◌};
+ghost use Rattle.mach_symbols.specs.SymbolViews.{symbol_read};
+ghost use Rattle.machsyms.specs.Asked.{is_elsewhere, takes};
+
+use goblin_mach::symbols::{N_EXT, N_UNDF, Nlist};
+
+/// What symbols are sorted by.
+#[derive(Clone, Copy)]
+pub enum SortedBy {
+    /// By name, and then by value.
+    Name,
+    /// Those that another image defines first; then by value, and then by name.
+    Address,
+}
+
+/// How symbols are sorted. Those of which this says nothing stay as they stand in the table.
+#[derive(Clone, Copy)]
+pub struct Sorting {
+    pub by: SortedBy,
+    /// From the last one on.
+    pub is_reversed: bool,
+}
+
+/// What a line has.
+#[derive(Clone, Copy)]
+pub enum Form {
+    /// The value, a letter and the name.
+    Letters,
+    /// The name.
+    Names,
+    /// The fields of the record in hexadecimal, and the name.
+    Hexadecimal,
+}
+
+/// What is asked for of the symbols of an image.
+#[derive(Clone, Copy)]
+pub struct Asked<'a> {
+    /// Entries for a debugger, too.
+    pub has_stabs: bool,
+    /// Only those that are known outside the image.
+    pub is_external: bool,
+    /// Only those that another image defines.
+    pub is_undefined: bool,
+    /// Only those that no other image defines.
+    pub is_defined: bool,
+    /// How they are sorted; where that isn't given, they stand as in the table.
+    pub sorting: Option<Sorting>,
+    pub form: Form,
+    /// The name of the file before each line.
+    pub file: Option<&'a str>,
+}
+
+impl Asked<'_> {
+    /// All symbols as they stand, entries for a debugger among them.
+    pub const ALL: Asked<'static> = Asked {
+        has_stabs: true,
+        is_external: false,
+        is_undefined: false,
+        is_defined: false,
+        sorting: None,
+        form: Form::Letters,
+        file: None,
+    };
+
+    /// Whether a symbol is asked for. One that can't be read always is.
+    pub fn takes(&self, answer: &goblin_mach::Result<(&str, Nlist)>) -> bool
+        ensures { result ≡ takes self.now (symbol_read answer.now) }
+    {
+        let Ok((_, symbol)) = answer else {
+            return true;
+        };
+        (self.has_stabs || !symbol.is_stab())
+            && (!self.is_external || symbol.n_type & N_EXT != 0)
+            && (!self.is_undefined || is_elsewhere(symbol))
+            && (!self.is_defined || !is_elsewhere(symbol))
+    }
+}
+
+/// Whether another image defines a symbol: it is known outside of this one, has the type N_UNDF, and no value.
+pub fn is_elsewhere(symbol: &Nlist) -> bool
+    ensures { result ≡ is_elsewhere symbol.now }
+{
+    !symbol.is_stab()
+        && symbol.n_type & N_EXT != 0
+        && symbol.get_type() == N_UNDF
+        && symbol.n_value == 0
+}

@@ -1,0 +1,148 @@
+//! The words of a call that say what is asked for, as those of `nm`.
+
+use crate::asked::{Asked, Form, SortedBy, Sorting};
+use std::alloc::{AllocError, Allocator};
+
+/// What the letters of such words say.
+#[derive(Clone, Copy)]
+pub struct Letters {
+    asked: Asked<'static>,
+    sorting: Sorting,
+    is_plain: bool,
+    is_hexadecimal: bool,
+    has_file: bool,
+}
+
+impl Letters {
+    // Of a call that has such words, before the first of them.
+    const NONE: Letters = Letters {
+        asked: Asked {
+            has_stabs: false,
+            ..Asked::ALL
+        },
+        sorting: Sorting {
+            by: SortedBy::Name,
+            is_reversed: false,
+        },
+        is_plain: false,
+        is_hexadecimal: false,
+        has_file: false,
+    };
+
+    // Takes a letter, and answers whether it says something.
+    fn take(&mut self, letter: char) -> bool {
+        match letter {
+            'a' => self.asked.has_stabs = true,
+            'g' => self.asked.is_external = true,
+            'u' => self.asked.is_undefined = true,
+            'U' => self.asked.is_defined = true,
+            'n' => self.sorting.by = SortedBy::Address,
+            'r' => self.sorting.is_reversed = true,
+            'p' => self.is_plain = true,
+            'j' => self.asked.form = Form::Names,
+            'x' => self.is_hexadecimal = true,
+            'A' | 'o' => self.has_file = true,
+            _ => return false,
+        }
+        true
+    }
+
+    // These with what a word says, if it has letters that say something behind a dash, and nothing else, or is the long name of one.
+    fn with(self, word: &str) -> Option<Letters> {
+        let mut letters = self;
+        if let Some(letter) = letter_named(word) {
+            return if letters.take(letter) {
+                Some(letters)
+            } else {
+                None
+            };
+        }
+        let behind = word.strip_prefix('-')?;
+        'letters: for letter in behind.chars() {
+            if !letters.take(letter) {
+                return None;
+            }
+        }
+        if behind.is_empty() {
+            return None;
+        }
+        Some(letters)
+    }
+
+    // What they ask for of a file.
+    fn asked<'a>(&self, file: &'a str) -> Asked<'a> {
+        let asked = self.asked;
+        Asked {
+            sorting: if self.is_plain {
+                None
+            } else {
+                Some(self.sorting)
+            },
+            form: match asked.form {
+                Form::Letters if asked.is_undefined => Form::Names,
+                Form::Letters if self.is_hexadecimal => Form::Hexadecimal,
+                form => form,
+            },
+            file: if self.has_file { Some(file) } else { None },
+            ..asked
+        }
+    }
+}
+
+// The letter that a long name stands for.
+fn letter_named(name: &str) -> Option<char> {
+    Some(match name {
+        "--debug-syms" => 'a',
+        "--extern-only" => 'g',
+        "--undefined-only" => 'u',
+        "--defined-only" => 'U',
+        "--numeric-sort" => 'n',
+        "--reverse-sort" => 'r',
+        "--no-sort" => 'p',
+        "--format=just-symbols" => 'j',
+        "--print-file-name" => 'A',
+        _ => return None,
+    })
+}
+
+/// What is asked for of a file: all symbols as they stand, where no word says otherwise.
+pub fn asked_of<'a>(letters: Option<Letters>, file: &'a str) -> Asked<'a> {
+    match letters {
+        Some(letters) => letters.asked(file),
+        None => Asked::ALL,
+    }
+}
+
+/// Whether each line has the name of its file before it.
+pub fn names_files(letters: Option<Letters>) -> bool {
+    match letters {
+        Some(letters) => letters.has_file,
+        None => false,
+    }
+}
+
+/// What the words of a call say, if any do, and all other words, in order. The first word is the program's name; a word behind `--`, or behind
+/// an option that has one behind it, says nothing of this.
+pub fn take_letters<A: Allocator>(
+    alloc: A,
+    words: Vec<String>,
+) -> Result<(Option<Letters>, Vec<String, A>), AllocError> {
+    let mut letters = None;
+    let mut others = Vec::new(alloc);
+    let mut is_taken = true;
+    let mut is_plain = false;
+    'words: for word in words {
+        let text = word.as_str();
+        if !is_taken && !is_plain {
+            let before = letters.unwrap_or(Letters::NONE);
+            if let Some(more) = before.with(text) {
+                letters = Some(more);
+                continue;
+            }
+        }
+        is_taken = !is_taken && matches!(text, "--arch" | "--cputype");
+        is_plain = is_plain || text == "--";
+        others.push(word)?;
+    }
+    Ok((letters, others))
+}
