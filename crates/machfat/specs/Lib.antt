@@ -1,4 +1,5 @@
 pub mod Entry
 pub mod Lines
+pub mod Made
 pub mod Refusals
 pub mod Same

@@ -14,6 +14,7 @@ use crate::refusal::{Failure, Refusal};
 use crate::text::RecordText;
 use goblin_mach::fat::{FatArch, SIZEOF_FAT_ARCH, SIZEOF_FAT_HEADER};
 use goblin_mach::{Error, Mach, MultiArch};
+use mach_fat::EntryRefusal;
 use mach_show::refused_kind;
 use std::alloc::Allocator;
 use std::io;
@@ -89,7 +90,7 @@ fn record_of<A: Allocator + Clone>(alloc: A, bytes: &[u8], index: usize) -> Resu
 {
     let container = fat_file(alloc, bytes)?;
     if index >= container.narches {
-        return Err(Refusal::NoEntry(index));
+        return Err(Refusal::Entries(EntryRefusal::NoEntry(index)));
     }
     let before = index.saturating_mul(SIZEOF_FAT_ARCH);
     let arch = FatArch::parse(bytes, before.saturating_add(SIZEOF_FAT_HEADER))?;
@@ -108,6 +109,6 @@ pub fn entry_bytes<A: Allocator + Clone>(
     let start = arch.offset as usize;
     match bytes.get(start..start + arch.size as usize) {
         Some(entry) => Ok(entry),
-        None => Err(Refusal::OutOfFile(index)),
+        None => Err(Refusal::Entries(EntryRefusal::OutOfFile(index))),
     }
 }

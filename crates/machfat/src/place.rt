@@ -1,9 +1,10 @@
-//! An entry as a file of its own.
+//! Bytes as a file of their own.
 
-ghost use Rattle.std.specs.Prelude.{◌≡◌, Option, OnOk};
+ghost use Rattle.std.specs.Prelude.{◌≡◌, Option, MatchOption, OnOk, IfErr};
 ghost use Rattle.std.specs.Io.KnownBytes.{Appends};
 ghost use Rattle.machfat.specs.Entry.{WasWritten};
-ghost use Rattle.machfat.specs.Same.{is_one_file, is_one_node};
+ghost use Rattle.machfat.specs.Refusals.{IsRefusal, IsWant};
+ghost use Rattle.machfat.specs.Same.{is_one_file, is_one_node, AreOther, IsSame};
 
 use crate::refusal::Failure;
 use std::alloc::Global;
@@ -30,6 +31,18 @@ pub fn is_same_file<R: Files>(files: &R, one: &str, other: &str) -> bool
     let here = node_of(files, one);
     let there = node_of(files, other);
     is_one_file(one, other, here, there)
+}
+
+/// The first of some paths that leads to the file of another, if there is one.
+pub fn first_same<'a, R: Files>(files: &R, paths: &[&'a str], other: &str) -> Option<&'a str>
+    ensures { MatchOption result (AreOther paths.now other.now) (λ path. IsSame path.now other.now) }
+{
+    'paths: for path in paths {
+        if is_same_file(files, path, other) {
+            return Some(path);
+        }
+    }
+    None
 }
 
 // What the system knows the file of a path by, if it says so.
@@ -60,22 +73,23 @@ fn is_one_node(here: Option<Node>, there: Option<Node>) -> bool
     }
 }
 
-/// Writes an entry's bytes under another name beside the target, and renames it once it is whole. Until then the
+/// Writes bytes under another name beside the target, and renames it once it is whole. Until then the
 /// target is as it was, and where a step fails it stays so and nothing is left beside it. No file is made where
 /// something other than a plain file has the target's name.
-pub fn place_entry<R: Files>(
+pub fn place_file<R: Files>(
     files: &R,
     alloc: Global,
-    entry: &[u8],
+    bytes: &[u8],
     target: &str,
 ) -> Result<(), Failure>
-    ensures { OnOk result (WasWritten R.File.contents entry.now) }
+    ensures written { OnOk result (WasWritten R.File.contents bytes.now) }
+    ensures refused { IfErr result (IsRefusal IsWant) }
 {
     if !is_free(files, target) {
         return Err(taken());
     }
     let (name, file) = new_file(files, alloc, target)?;
-    match complete(files, entry, file, name.as_str(), target) {
+    match complete(files, bytes, file, name.as_str(), target) {
         Ok(()) => Ok(()),
         Err(failure) => {
             let _ = fs::remove_file(files, name.as_str());
@@ -93,7 +107,9 @@ fn is_free<R: Files>(files: &R, path: &str) -> bool {
 }
 
 // Makes a file of a new name beside a path.
-fn new_file<R: Files>(files: &R, alloc: Global, path: &str) -> Result<(String, R::File), Failure> {
+fn new_file<R: Files>(files: &R, alloc: Global, path: &str) -> Result<(String, R::File), Failure>
+    ensures { IfErr result (IsRefusal IsWant) }
+{
     for number in 0..NAMES {
         let name = format!(in alloc; "{path}.{number}.part")?;
         match File::create_new(files, name.as_str()) {
@@ -106,31 +122,35 @@ fn new_file<R: Files>(files: &R, alloc: Global, path: &str) -> Result<(String, R
 }
 
 // The failure where a name is taken.
-fn taken() -> Failure {
+fn taken() -> Failure
+    ensures { IsRefusal IsWant result }
+{
     Failure::Unwritten(io::Error::from(ErrorKind::AlreadyExists))
 }
 
-// Writes an entry to a file, down to the disk.
-fn fill<F: Write + OpenFile>(entry: &[u8], file: &mut F) -> Result<(), Failure>
-    ensures { OnOk result (Appends (F.contents file.old) (F.contents file.new) entry.now) }
+// Writes bytes to a file, down to the disk.
+fn fill<F: Write + OpenFile>(bytes: &[u8], file: &mut F) -> Result<(), Failure>
+    ensures written { OnOk result (Appends (F.contents file.old) (F.contents file.new) bytes.now) }
+    ensures refused { IfErr result (IsRefusal IsWant) }
 {
-    file.write_all(entry)?;
+    file.write_all(bytes)?;
     file.flush()?;
     file.sync_all()?;
     Ok(())
 }
 
-// Writes an entry to a new file, closes it, and gives it the name of the target.
+// Writes bytes to a new file, closes it, and gives it the name of the target.
 fn complete<R: Files>(
     files: &R,
-    entry: &[u8],
+    bytes: &[u8],
     mut file: R::File,
     name: &str,
     target: &str,
 ) -> Result<(), Failure>
-    ensures { OnOk result (WasWritten R.File.contents entry.now) }
+    ensures written { OnOk result (WasWritten R.File.contents bytes.now) }
+    ensures refused { IfErr result (IsRefusal IsWant) }
 {
-    fill(entry, &mut file)?;
+    fill(bytes, &mut file)?;
     drop(file);
     fs::rename(files, name, target)?;
     Ok(())

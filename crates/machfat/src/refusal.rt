@@ -5,6 +5,7 @@ ghost use Rattle.machfat.specs.declared.refusal.Refusal.TheVariants as refusals;
 ghost use Rattle.machfat.specs.declared.refusal.Failure.TheVariants as failures;
 
 use goblin_mach::{Error, describe};
+use mach_fat::EntryRefusal;
 use mach_show::Foreign;
 use std::alloc::AllocError;
 use std::fmt::{Display, Formatter, Write};
@@ -19,10 +20,8 @@ pub enum Refusal {
     Foreign(Foreign),
     /// It is one image.
     NotFat,
-    /// It has no entry of this index.
-    NoEntry(usize),
-    /// The entry of this index is not in the file.
-    OutOfFile(usize),
+    /// Its entries are refused, or it has none of those that are asked for.
+    Entries(EntryRefusal),
 }
 
 impl From<Error> for Refusal {
@@ -30,6 +29,14 @@ impl From<Error> for Refusal {
 
     fn from(error: Error) -> Refusal {
         Refusal::Refused(error)
+    }
+}
+
+impl From<EntryRefusal> for Refusal {
+    ghost from_gives = { λ entries refusal. refusal ≡ refusals.Entries entries };
+
+    fn from(entries: EntryRefusal) -> Refusal {
+        Refusal::Entries(entries)
     }
 }
 
@@ -44,8 +51,7 @@ impl Display for Refusal {
             Refusal::Refused(error) => write!(f, "{}", describe(error)),
             Refusal::Foreign(kind) => write!(f, "{kind}"),
             Refusal::NotFat => write!(f, "not a fat file"),
-            Refusal::NoEntry(index) => write!(f, "no entry {index}"),
-            Refusal::OutOfFile(index) => write!(f, "entry {index} is out of the file"),
+            Refusal::Entries(refusal) => write!(f, "{refusal}"),
         }
     }
 }
@@ -68,6 +74,10 @@ impl From<Refusal> for Failure {
 }
 
 impl From<AllocError> for Failure {
+    ghost use Rattle.mach_base.specs.declared.error.Error.TheVariants as errors;
+
+    ghost from_gives = { λ error failure. failure ≡ failures.Refused (refusals.Refused (errors.Memory error)) };
+
     fn from(error: AllocError) -> Failure {
         Failure::Refused(Refusal::from(Error::from(error)))
     }

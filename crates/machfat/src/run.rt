@@ -12,7 +12,7 @@ ghost use Rattle.machfat.specs.declared.refusal.Failure.TheVariants as failures;
 ghost use Rattle.machfat.specs.declared.refusal.Refusal.{Refusal};
 
 use crate::entry::{entry_bytes, list};
-use crate::place::place_entry;
+use crate::place::place_file;
 use crate::refusal::{Failure, Refusal};
 use mach_show::Names;
 use mach_show::say::failed;
@@ -92,7 +92,7 @@ fn extract<R: Files>(
     ensures { OnOk result ((entry : List ℕ) × IsEntryOf bytes.now index entry × WasWritten R.File.contents entry) }
 {
     let entry = entry_bytes(alloc, bytes, index)?;
-    place_entry(files, alloc, entry, target)?;
+    place_file(files, alloc, entry, target)?;
     Ok(())
 }
 
@@ -111,8 +111,8 @@ pub fn status<E: Write>(answer: Result<(), Failure>, file: &str, target: &str, e
     }
 }
 
-// The status of a refusal, which is told.
-fn refused<E: Write>(file: &str, refusal: &Refusal, err: &mut E) -> u8
+/// The status of a refusal, which is told.
+pub fn refused<E: Write>(file: &str, refusal: &Refusal, err: &mut E) -> u8
     ensures bound { IsStatus result }
     ensures not_zero { 1 ≤ result }
     ensures told { result ≡ 1 → Appends (E.contents err.old) (E.contents err.new) (refusal_line file.now refusal.now) }

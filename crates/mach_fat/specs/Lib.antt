@@ -1,0 +1,4 @@
+pub mod FatTables
+pub mod Unfit
+pub mod EntriesRead
+pub mod Creates

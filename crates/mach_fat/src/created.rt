@@ -1,0 +1,113 @@
+//! A fat file that is made of files.
+
+ghost use Rattle.std.specs.Prelude.{◌≡◌, ◌++◌, List, Ok, OnOk, IfOk, IfErr};
+ghost use Rattle.mach_write.specs.Entries.{FatEntryView, entry_views};
+ghost use Rattle.mach_fat.specs.Creates.{IsFileInOrder, RefusesInOrder, IsCreated, RefusesCreate, RefusesFiles, entries_of_files, texts_now};
+ghost use Rattle.mach_fat.specs.EntriesRead.{file_entries};
+ghost use Rattle.mach_fat.specs.FatTables.{form_of};
+ghost use Rattle.mach_fat.specs.Unfit.{RefusesAs};
+
+use crate::entries::file_entries;
+use crate::form::Form;
+use crate::refusal::EntryRefusal;
+use mach_base::{Error, Result};
+use mach_write::{FatEntry, fat_order};
+use std::alloc::Allocator;
+
+/// A file that is refused.
+#[derive(Debug, Drop)]
+pub struct FileRefusal {
+    /// Its index among the files.
+    pub file: usize,
+    /// Why it is refused.
+    pub why: EntryRefusal,
+}
+
+/// Why a fat file isn't created.
+#[derive(Debug, Drop)]
+pub enum CreateRefusal {
+    /// One of the files is refused.
+    OfFile(FileRefusal),
+    /// The entries together are refused, or memory was.
+    OfAll(Error),
+}
+
+impl From<FileRefusal> for CreateRefusal {
+    ghost from_gives = { λ file refusal. refusal ≡ refusals.OfFile file };
+
+    ghost use Rattle.mach_fat.specs.declared.created.CreateRefusal.TheVariants as refusals;
+
+    fn from(file: FileRefusal) -> CreateRefusal {
+        CreateRefusal::OfFile(file)
+    }
+}
+
+impl From<Error> for CreateRefusal {
+    ghost from_gives = { λ error refusal. refusal ≡ refusals.OfAll error };
+
+    ghost use Rattle.mach_fat.specs.declared.created.CreateRefusal.TheVariants as refusals;
+
+    fn from(error: Error) -> CreateRefusal {
+        CreateRefusal::OfAll(error)
+    }
+}
+
+// Adds the entries of a file to those of the files before it.
+fn add_entries<'a, 'b, A: Allocator>(
+    alloc: &'b A,
+    entries: &mut Vec<FatEntry<'a>, &'b A>,
+    bytes: &'a [u8],
+) -> std::result::Result<(), EntryRefusal>
+    ensures added { OnOk result ((es : List FatEntryView) × (file_entries bytes.now ≡ Ok es)
+        × (entry_views entries.new.items ≡ entry_views entries.old.items ++ es)) }
+    ensures refused { IfErr result (λ refusal. RefusesAs refusal (file_entries bytes.now)) }
+{
+    let mut more = file_entries(alloc, bytes)?;
+    entries.append(&mut more)?;
+    Ok(())
+}
+
+// The entries of some files, one file behind the other.
+fn entries_of_files<'a, 'b, A: Allocator>(
+    alloc: &'b A,
+    files: &[&'a [u8]],
+) -> std::result::Result<Vec<FatEntry<'a>, &'b A>, FileRefusal>
+    ensures entries { IfOk result (λ entries. entries_of_files 0 (texts_now files.now) ≡ Ok (entry_views entries.items)) }
+    ensures refused { IfErr result (λ refusal. RefusesFiles refusal (entries_of_files 0 (texts_now files.now))) }
+{
+    let mut entries = Vec::new(alloc);
+    for (file, bytes) in files.iter().enumerate() {
+        if let Err(why) = add_entries(alloc, &mut entries, bytes) {
+            return Err(FileRefusal { file, why });
+        }
+    }
+    Ok(entries)
+}
+
+/// The fat file of entries, in the order of one that is created.
+pub(crate) fn write_in_order<'b, A: Allocator>(
+    alloc: &'b A,
+    form: Form,
+    entries: &mut [FatEntry<'_>],
+) -> Result<Vec<u8, &'b A>>
+    ensures written { IfOk result (λ file. IsFileInOrder (form_of form) entries.old file.items) }
+    ensures refused { IfErr result (RefusesInOrder (form_of form) entries.old) }
+{
+    fat_order(alloc, entries)?;
+    form.write(alloc, entries)
+}
+
+/// The fat file that is made of files, in this order: of a fat file its entries are taken, in order, and any other becomes one. The
+/// first file that is refused refuses it; then the entries together.
+pub fn create<'b, A: Allocator>(
+    alloc: &'b A,
+    form: Form,
+    files: &[&[u8]],
+) -> std::result::Result<Vec<u8, &'b A>, CreateRefusal>
+    ensures created { IfOk result (λ file. IsCreated (form_of form) (texts_now files.now) file.items) }
+    ensures refused { IfErr result (RefusesCreate (form_of form) (texts_now files.now)) }
+{
+    let mut entries = entries_of_files(alloc, files)?;
+    let file = write_in_order(alloc, form, entries.as_mut_slice())?;
+    Ok(file)
+}
