@@ -35,12 +35,15 @@ pub fn code_signature(image: &[u8], dataoff: u32, datasize: u32) -> Result<CodeS
     CodeSignature::parse(bytes)
 }
 
-// An image with its signature.
+/// An image with its signature.
 #[derive(Clone, Copy)]
 pub struct SignedBytes<'a> {
+    /// The bytes of the image.
     pub image: &'a [u8],
+    /// Where the signature begins.
     pub dataoff: u32,
     pub signature: CodeSignature<'a>,
+    /// The section `__info_plist` of `__TEXT`, where the image has one.
     pub plist: Option<&'a [u8]>,
 }
 
@@ -199,9 +202,9 @@ impl<'a> SignedBytes<'a> {
         Current { slot, faults }
     }
 
-    // All that isn't as it was signed.
+    /// All that isn't as it was signed, in order.
     #[tactic(auto, unfolding(crate::specs::FaultViews::signature_faults_left, crate::specs::FaultViews::current_left))]
-    fn faults(&self) -> SignatureFaults<'a>
+    pub fn faults(&self) -> SignatureFaults<'a>
         ensures { signature_faults_left result ≡ defined.signature_faults_of (signed_view self.now) }
     {
         let (refused, directories) = match self.signature.directory() {

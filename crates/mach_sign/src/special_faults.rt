@@ -15,16 +15,17 @@ use crate::signature::CodeSignature;
 use crate::slots::is_outside;
 use mach_base::Result;
 
-// Whether a slot seals nothing: it is all zeros.
-fn is_unsealing(slot: &[u8]) -> bool
+/// Whether a slot seals nothing: it is all zeros.
+pub fn is_unsealing(slot: &[u8]) -> bool
     ensures { result ≡ defined.is_unsealing slot.now }
 {
     slot.iter().all(|byte| *byte == 0)
 }
 
-// What stands there to be sealed by a slot.
+/// What stands there to be sealed by a special slot: the first blob of the slot, with its head; or of slot 1 without one `plist`,
+/// the section `__info_plist` of `__TEXT`.
 #[tactic(auto, unfolding(crate::specs::SpecialFaults::component_of))]
-fn component<'a>(
+pub fn component<'a>(
     signature: &CodeSignature<'a>,
     plist: Option<&'a [u8]>,
     slot: u32,
@@ -72,6 +73,21 @@ impl<'a> SpecialSlots<'a> {
             }
         }
     }
+
+    // What is wrong with a slot.
+    #[tactic(auto, unfolding(crate::specs::SpecialFaults::special_fault))]
+    fn slot_fault(&self, number: u32) -> Option<SpecialFault>
+        ensures { result ≡ defined.special_fault (directory_view self.now.directory) (signature_view self.now.signature) (slot_read self.now.plist) number }
+    {
+        let slot = self.directory.special_slot(number)?;
+        if number <= 11 {
+            return self.sealed_fault(number, slot);
+        }
+        if is_unsealing(slot) {
+            return None;
+        }
+        Some(SpecialFault::Unknown { slot: number })
+    }
 }
 
 impl<'a> Numbered for SpecialSlots<'a> {
@@ -92,19 +108,10 @@ impl<'a> Numbered for SpecialSlots<'a> {
         self.directory.head.n_special_slots
     }
 
-    #[tactic(auto, unfolding(crate::specs::SpecialFaults::special_fault))]
     fn tell(&self, number: u32) -> Option<SpecialFault> {
         // (the number is below the count, so that of the slot is one of 32 bits)
         let _count = self.directory.head.n_special_slots;
-        let number = number + 1;
-        let slot = self.directory.special_slot(number)?;
-        if number <= 11 {
-            return self.sealed_fault(number, slot);
-        }
-        if is_unsealing(slot) {
-            return None;
-        }
-        Some(SpecialFault::Unknown { slot: number })
+        self.slot_fault(number + 1)
     }
 }
 
@@ -170,6 +177,23 @@ impl<'a> Iterator for SpecialFaults<'a> {
 }
 
 impl<'a> CodeDirectory<'a> {
+    /// What is wrong with one special slot; slots count from 1. `plist` as for `special_faults`.
+    pub fn special_fault(
+        &self,
+        signature: &CodeSignature<'a>,
+        plist: Option<&'a [u8]>,
+        number: u32,
+    ) -> Option<SpecialFault>
+        ensures { result ≡ defined.special_fault (directory_view self.now) (signature_view signature.now) (slot_read plist.entry) number }
+    {
+        let slots = SpecialSlots {
+            directory: *self,
+            signature: *signature,
+            plist,
+        };
+        slots.slot_fault(number)
+    }
+
     /// What is wrong with what this directory seals beside the code, in order. `plist` is the section `__info_plist` of
     /// `__TEXT`, where the image has one. There is nothing exactly where each slot seals what is there.
     pub fn special_faults(

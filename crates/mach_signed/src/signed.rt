@@ -27,8 +27,8 @@ pub fn code_signature<'a, A: Allocator>(image: &MachO<'a, A>) -> Result<Option<C
     Ok(Some(signature))
 }
 
-// The section that the signature of an image seals as its Info.plist.
-fn image_plist<'a, A: Allocator>(image: &MachO<'a, A>) -> Option<&'a [u8]>
+/// The section that the signature of an image seals as its Info.plist, if it has one and its bytes are in the file.
+pub fn image_plist<'a, A: Allocator>(image: &MachO<'a, A>) -> Option<&'a [u8]>
     ensures { slot_read result ≡ plist_of (bytes_held image.now) (segments_held image.now) }
 {
     info_plist(image.bytes(), image.segments.sections())

@@ -1,0 +1,7 @@
+pub mod Written
+pub mod FlagWords
+pub mod Whole
+pub mod SignedFacts
+pub mod Lacking
+pub mod Few
+pub mod Opened

@@ -1,0 +1,38 @@
+-- The signature that an image holds is that of the bytes that it was opened in, and so is whether the image is as it was signed.
+use Rattle.std.proofs.Common.{◌≡◌, ◌∙◌, ℕ, List, [], Bool, Option, Some, Result, Ok, refl, sym}
+use Rattle.std.specs.Prelude.{◌↔◌, IsTrue}
+use Rattle.mach_base.specs.Fault.{Fault}
+use Rattle.mach_image.specs.OpenImage.{IsImage, bytes_held, commands_held, segments_held}
+use Rattle.mach_image.specs.declared.macho.MachO.{MachO}
+use Rattle.mach_image.proofs.ImageFacts.{facts_are, strict-lossy}
+use Rattle.mach_sign.specs.AsSigned.{SignedImage}
+use Rattle.mach_signed.specs.SignedImages.{image_signature, signature_place_in, IsImageAsSigned}
+use Rattle.mach_signed.proofs.AsSigned.{as_signed}
+use Rattle.machsign.specs.Entitlements.{entitlements_of, HasEntitlements}
+use Rattle.machsign.specs.ImageLines.{image_signed, HasSigned, HoldsAsSigned}
+use Rattle.machsign.specs.Signatures.{AreSignatureLines}
+use Rattle.machsign.proofs.Whole.{faults_are_by, whole_untold, untold_whole}
+
+module _ {A : Type 0} (m : MachO A) (bytes : List ℕ) (p : IsImage bytes 0 m) where
+  abbrev pub held : Result (Option SignedImage) Fault
+  held = image_signed (bytes_held m) (commands_held m) (segments_held m)
+
+  pub signed_is : HasSigned bytes 0 held
+  signed_is = (facts_are bytes 0 m (strict-lossy bytes 0 m p) (λ f. held ≡ image_signed f.bytes f.commands f.segments)).1 refl
+
+  -- so are its entitlements
+  pub entitlements_are : (found : Option (List ℕ)) → found ≡ entitlements_of (image_signature (bytes_held m) (commands_held m))
+      → HasEntitlements bytes 0 found
+  entitlements_are found is = (facts_are bytes 0 m (strict-lossy bytes 0 m p) (λ f. found ≡ entitlements_of (image_signature f.bytes f.commands))).1 is
+
+  abbrev held_as_signed : HoldsAsSigned bytes 0 ↔ IsImageAsSigned (bytes_held m) (commands_held m) (segments_held m)
+  held_as_signed = facts_are bytes 0 m (strict-lossy bytes 0 m p) (λ f. IsImageAsSigned f.bytes f.commands f.segments)
+
+  -- lines of it are whole exactly where it is as it was signed
+  pub whole_as_signed : (text : List ℕ) (whole : Bool) → AreSignatureLines held text whole → IsTrue whole ↔ HoldsAsSigned bytes 0
+  whole_as_signed text whole lines =
+      let faults = faults_are_by (bytes_held m) (segments_held m) (signature_place_in (commands_held m)) in
+      let signed = as_signed (bytes_held m) (commands_held m) (segments_held m) in (
+        (λ h. held_as_signed.1 (signed.0 (faults ∙ whole_untold held text whole lines h))),
+        (λ h. untold_whole held text whole lines (sym faults ∙ signed.1 (held_as_signed.0 h))),
+      )

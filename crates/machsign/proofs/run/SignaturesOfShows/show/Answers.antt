@@ -1,0 +1,19 @@
+use Rattle.mach_base.proofs.Written.{Appends-both}
+use Rattle.mach_image.specs.OpenImage.{commands_held}
+use Rattle.machsign.proofs.SignedFacts.{held, signed_is, whole_as_signed}
+use Rattle.machsign.proofs.run.SignaturesOfShows.show.Goals as goal
+
+pub returns-clause-shown : goal.returns-clause-shown
+returns-clause-shown g c = λ bytes opened.
+    let m = c.args.image.now in
+    let listed = c.in_ok-whole.ensures in (
+      listed.text,
+      record {
+        opens = (opened.ctx, commands_held m, opened.opens);
+        there = held m bytes opened;
+        has_signed = signed_is m bytes opened;
+        lines = listed.lines;
+        as_signed = whole_as_signed m bytes opened listed.text _ listed.lines;
+      },
+      Appends-both _ _ _ _ listed.text c.in_ok-write.ensures.bytes listed.written,
+    )

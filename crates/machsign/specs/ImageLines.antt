@@ -1,0 +1,38 @@
+-- The lines that the program shows of an image.
+use Rattle.std.specs.Prelude.{◌≡◌, ◌↔◌, ℕ, List, Bool, IsTrue, Option, Some, None, Result, Ok}
+use Rattle.mach_base.specs.Answer.{◌>>=◌}
+use Rattle.mach_base.specs.Fault.{Fault}
+use Rattle.mach_load.specs.Command.{Command}
+use Rattle.mach_segments.specs.Segment.{SegmentView}
+use Rattle.mach_image.specs.Facts.{OfImage}
+use Rattle.mach_image.specs.Image.{Opens}
+use Rattle.mach_image.specs.Subjects.{lossy_segments_in}
+use Rattle.mach_sign.specs.AsSigned.{SignedImage, signature_in}
+use Rattle.mach_signed.specs.SignedImages.{signature_place_in, plist_of, IsImageAsSigned}
+use Rattle.machsign.specs.Signatures.{AreSignatureLines}
+
+-- the signature that lies at a place, if one does, with the bytes of its image
+abbrev pub signed_there : List ℕ → Option (ℕ × ℕ) → (plist : Option (List ℕ)) → Result (Option SignedImage) Fault
+signed_there bytes None plist = Ok None
+signed_there bytes (Some place) plist =
+    signature_in bytes place.0 place.1 >>= (λ s. Ok (Some (record { bytes = bytes; dataoff = place.0; signature = s; plist = plist })))
+
+-- that of an image
+abbrev pub image_signed : List ℕ → List Command → List SegmentView → Result (Option SignedImage) Fault
+image_signed bytes cs segments = signed_there bytes (signature_place_in cs) (plist_of bytes segments)
+
+-- The image at o of the bytes has this signature, if it has one.
+abbrev pub HasSigned : List ℕ → ℕ → Result (Option SignedImage) Fault → Type 0
+HasSigned bytes o there = OfImage bytes o (λ ctx cs. there ≡ image_signed bytes cs (lossy_segments_in ctx bytes cs))
+
+-- The image at o of the bytes is as it was signed.
+abbrev pub HoldsAsSigned : List ℕ → ℕ → Type 0
+HoldsAsSigned bytes o = OfImage bytes o (λ ctx cs. IsImageAsSigned bytes cs (lossy_segments_in ctx bytes cs))
+
+-- The text is the lines of the signature of the image at the front of the bytes. It is whole exactly where the image is as it was signed.
+pub record AreImageSignatureLines (bytes : List ℕ) (text : List ℕ) (whole : Bool) : Type 0 where
+  pub opens : Opens bytes 0
+  pub there : Result (Option SignedImage) Fault
+  pub has_signed : HasSigned bytes 0 there
+  pub lines : AreSignatureLines there text whole
+  pub as_signed : IsTrue whole ↔ HoldsAsSigned bytes 0

@@ -1,0 +1,6 @@
+pub mod Flags
+pub mod Texts
+pub mod Blocks
+pub mod Signatures
+pub mod ImageLines
+pub mod Entitlements

@@ -1,0 +1,30 @@
+//! The signature of an image, with the bytes that it is of.
+
+ghost use Rattle.std.specs.Prelude.{◌≡◌, Option};
+ghost use Rattle.std.specs.Option.{option_map};
+ghost use Rattle.mach_base.specs.Answer.{Reads};
+ghost use Rattle.mach_image.specs.OpenImage.{bytes_held, commands_held, segments_held};
+ghost use Rattle.mach_sign.specs.FaultViews.{signed_view};
+ghost use Rattle.machsign.specs.ImageLines.{image_signed};
+
+use goblin_mach::{MachO, Result};
+use mach_sign::{SignedBytes, code_signature};
+use mach_signed::{image_plist, signature_place};
+use std::alloc::Allocator;
+
+/// The signature of an image, if it has one, with the bytes that it is of.
+pub fn signed_image<'a, A: Allocator>(image: &MachO<'a, A>) -> Result<Option<SignedBytes<'a>>>
+    ensures { Reads (option_map signed_view) result (image_signed (bytes_held image.now) (commands_held image.now) (segments_held image.now)) }
+{
+    let Some((dataoff, datasize)) = signature_place(image.load_commands.as_slice()) else {
+        return Ok(None);
+    };
+    let bytes = image.bytes();
+    let signature = code_signature(bytes, dataoff, datasize)?;
+    Ok(Some(SignedBytes {
+        image: bytes,
+        dataoff,
+        signature,
+        plist: image_plist(image),
+    }))
+}

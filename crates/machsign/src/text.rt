@@ -1,0 +1,147 @@
+//! What is said of a code directory on its first line, and a version.
+
+ghost use Rattle.std.specs.Prelude.{◌≤◌, Some};
+ghost use Rattle.machsign.specs.Blocks.{head_front, segment_front, shape_text, slot_front};
+ghost use Rattle.machsign.specs.Texts.{blob_text, hash_name, pages_text, runtime_text};
+
+use mach_sign::{DirectoryHead, HashType, SlotName};
+use std::fmt;
+use std::fmt::{Display, Formatter, Write};
+
+// The name of a hash.
+#[derive(Clone, Copy)]
+struct HashName(HashType);
+
+impl Display for HashName {
+    ghost output = { λ t. Some (hash_name t.0) };
+
+    fn fmt<W: Write>(&self, f: &mut Formatter<W>) -> fmt::Result {
+        match self.0 {
+            HashType::Sha1 => f.write_str("sha1"),
+            HashType::Sha256 => f.write_str("sha256"),
+            HashType::Sha256Truncated => f.write_str("sha256-truncated"),
+            HashType::Sha384 => f.write_str("sha384"),
+        }
+    }
+}
+
+// How many bytes a page has, by the power of 2; 0 is any number.
+#[derive(Clone, Copy)]
+struct PagesText {
+    power: u8,
+    ghost within: { power ≤ 31 },
+}
+
+impl Display for PagesText {
+    ghost output = { λ t. Some (pages_text t.power) };
+
+    fn fmt<W: Write>(&self, f: &mut Formatter<W>) -> fmt::Result {
+        if self.power == 0 {
+            return f.write_str("pages of any size");
+        }
+        let size = 1u64 << self.power;
+        write!(f, "pages of {size}")
+    }
+}
+
+/// What is said of a directory before its flags: its version.
+#[derive(Clone, Copy)]
+pub struct HeadFront(pub u32);
+
+impl Display for HeadFront {
+    ghost output = { λ t. Some (head_front t.0) };
+
+    fn fmt<W: Write>(&self, f: &mut Formatter<W>) -> fmt::Result {
+        let version = self.0;
+        write!(f, "code directory: version 0x{version:x}, flags ")
+    }
+}
+
+/// What is said of an executable segment before its flags: where it stands.
+#[derive(Clone, Copy)]
+pub struct SegmentFront {
+    pub base: u64,
+    /// Where it ends; the highest number where that has more than 64 bits.
+    pub end: u64,
+}
+
+impl Display for SegmentFront {
+    ghost output = { λ t. Some (segment_front t.base t.end) };
+
+    fn fmt<W: Write>(&self, f: &mut Formatter<W>) -> fmt::Result {
+        let (start, end) = (self.base, self.end);
+        write!(f, "  executable: 0x{start:x}..0x{end:x}, flags ")
+    }
+}
+
+/// What is said of a directory behind its flags.
+#[derive(Clone, Copy)]
+pub struct ShapeText {
+    pub hash: HashType,
+    pub head: DirectoryHead,
+    /// How many bytes of the image are covered.
+    pub limit: u64,
+    ghost within: { head.page_size ≤ 31 },
+}
+
+impl Display for ShapeText {
+    ghost output = { λ t. Some (shape_text t.hash t.head t.limit) };
+
+    fn fmt<W: Write>(&self, f: &mut Formatter<W>) -> fmt::Result {
+        let (hash, head, limit) = (HashName(self.hash), self.head, self.limit);
+        let (special, slots, platform) = (head.n_special_slots, head.n_code_slots, head.platform);
+        let pages = PagesText {
+            power: head.page_size,
+        };
+        write!(
+            f,
+            ", {hash}, {special} special slots, {slots} code slots, {pages}, limit 0x{limit:x}, platform {platform}"
+        )
+    }
+}
+
+/// What stands before what is said of a special slot: its name.
+#[derive(Clone, Copy)]
+pub struct SlotFront(pub u32);
+
+impl Display for SlotFront {
+    ghost output = { λ t. Some (slot_front t.0) };
+
+    fn fmt<W: Write>(&self, f: &mut Formatter<W>) -> fmt::Result {
+        let name = SlotName(self.0);
+        write!(f, "  {name}: ")
+    }
+}
+
+/// A blob that is no directory: its slot, and how many bytes it has behind its head.
+#[derive(Clone, Copy)]
+pub struct BlobText {
+    pub slot: u32,
+    pub len: usize,
+}
+
+impl Display for BlobText {
+    ghost output = { λ t. Some (blob_text t.slot t.len) };
+
+    fn fmt<W: Write>(&self, f: &mut Formatter<W>) -> fmt::Result {
+        let (name, len) = (SlotName(self.slot), self.len);
+        if self.slot == 0x10000 {
+            write!(f, "{name}: {len} bytes, not verified")
+        } else {
+            write!(f, "{name}: {len} bytes")
+        }
+    }
+}
+
+/// The version of a runtime, of 16, 8 and 8 bits.
+#[derive(Clone, Copy)]
+pub struct RuntimeText(pub u32);
+
+impl Display for RuntimeText {
+    ghost output = { λ t. Some (runtime_text t.0) };
+
+    fn fmt<W: Write>(&self, f: &mut Formatter<W>) -> fmt::Result {
+        let (major, minor, patch) = (self.0 >> 16, (self.0 >> 8) & 0xff, self.0 & 0xff);
+        write!(f, "{major}.{minor}.{patch}")
+    }
+}

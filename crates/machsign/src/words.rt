@@ -1,0 +1,26 @@
+//! The word of a call that asks for entitlements.
+
+use std::alloc::{AllocError, Allocator};
+
+/// Whether the words of a call ask for entitlements, and all other words, in order. The first word is the program's name; a word behind `--`, or
+/// behind an option that has one behind it, asks for none.
+pub fn take_entitlements<A: Allocator>(
+    alloc: A,
+    words: Vec<String>,
+) -> Result<(bool, Vec<String, A>), AllocError> {
+    let mut are_asked = false;
+    let mut others = Vec::new(alloc);
+    let mut is_taken = true;
+    let mut is_plain = false;
+    'words: for word in words {
+        let text = word.as_str();
+        if !is_taken && !is_plain && text == "--entitlements" {
+            are_asked = true;
+            continue;
+        }
+        is_taken = !is_taken && matches!(text, "--arch" | "--cputype");
+        is_plain = is_plain || text == "--";
+        others.push(word)?;
+    }
+    Ok((are_asked, others))
+}
