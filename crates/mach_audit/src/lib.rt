@@ -6,6 +6,7 @@ mod audit;
 pub mod files;
 mod json;
 mod layout_text;
+mod listed;
 mod lists;
 mod options;
 mod report;
@@ -14,5 +15,4 @@ mod tally;
 mod text;
 mod verdict;
 
-pub use crate::options::{Format, Options, Request, read_words};
-pub use crate::report::Failure;
+pub use crate::options::{DEFAULT_LIMIT, Format, Mistake, Options, Words};

@@ -1,4 +1,7 @@
-//! What the words of a call ask for.
+//! What the words of a call ask for, beside what all programs know.
+
+use mach_show::Misuse;
+use std::alloc::{AllocError, AllocFailed, Global};
 
 /// The form in which a file is reported.
 #[derive(Clone, Copy, Debug)]
@@ -20,65 +23,71 @@ pub struct Options {
     pub limit: usize,
 }
 
-/// What is asked for.
-#[derive(Clone, Copy, Debug)]
-pub enum Request<'a> {
-    /// How the program is called.
-    Help,
-    /// Its version.
-    Version,
-    /// An audit of these files.
-    Audit(Options, &'a [String]),
-    /// Nothing that is understood.
-    Nothing,
-}
-
 /// So many items of one list are gone over where no other limit is given.
 pub const DEFAULT_LIMIT: usize = 10_000_000;
 
-/// What the words behind the program's name ask for.
-pub fn read_words(words: &[String]) -> Request<'_> {
-    match words {
-        [word] if word.as_str() == "--help" => Request::Help,
-        [word] if word.as_str() == "--version" => Request::Version,
-        _ => asked_audit(words),
+/// The words of a call without `--quiet`, `--json` and `--names`, and what these ask for. Behind `--` no word is an option.
+#[derive(Drop)]
+pub struct Words {
+    pub others: Vec<String>,
+    /// The form that is asked for last.
+    pub format: Format,
+    /// The files behind `--names`, in order.
+    pub lists: Vec<String>,
+}
+
+/// Why words can't be taken apart.
+#[derive(Clone, Copy)]
+pub enum Mistake {
+    /// What is wrong with them.
+    Misuse(Misuse<'static>),
+    /// Memory is refused.
+    Memory,
+}
+
+impl From<AllocError> for Mistake {
+    fn from(_error: AllocError) -> Mistake {
+        Mistake::Memory
     }
 }
 
-// The audit that some words ask for: options, and behind them one file at least. Behind `--` there are files alone.
-fn asked_audit(words: &[String]) -> Request<'_> {
-    let mut options = Options {
-        format: Format::Text,
-        limit: DEFAULT_LIMIT,
-    };
-    let mut taken = 0usize;
-    let mut limit_next = false;
-    'words: for word in words {
-        if limit_next {
-            let Ok(limit) = word.parse::<usize>() else {
-                return Request::Nothing;
-            };
-            options.limit = limit;
-            limit_next = false;
-        } else {
+impl From<AllocFailed<String>> for Mistake {
+    fn from(_error: AllocFailed<String>) -> Mistake {
+        Mistake::Memory
+    }
+}
+
+impl Words {
+    /// Takes words apart.
+    pub fn of(alloc: Global, words: Vec<String>) -> Result<Words, Mistake> {
+        let mut others = Vec::new(alloc);
+        let mut lists = Vec::new(alloc);
+        let mut format = Format::Text;
+        let mut is_list = false;
+        let mut is_plain = false;
+        'words: for word in words {
+            if is_list {
+                lists.push(word)?;
+                is_list = false;
+                continue;
+            }
             match word.as_str() {
-                "--quiet" => options.format = Format::Quiet,
-                "--json" => options.format = Format::Json,
-                "--limit" => limit_next = true,
-                "--" => return asked_files(options, words.get(taken.saturating_add(1)..)),
-                other if other.starts_with("--") => return Request::Nothing,
-                _ => return asked_files(options, words.get(taken..)),
+                "--quiet" if !is_plain => format = Format::Quiet,
+                "--json" if !is_plain => format = Format::Json,
+                "--names" if !is_plain => is_list = true,
+                other => {
+                    is_plain |= other == "--";
+                    others.push(word)?;
+                }
             }
         }
-        taken = taken.saturating_add(1);
-    }
-    Request::Nothing
-}
-
-// An audit of some files, if there are any.
-fn asked_files(options: Options, files: Option<&[String]>) -> Request<'_> {
-    match files {
-        Some([]) | None => Request::Nothing,
-        Some(files) => Request::Audit(options, files),
+        if is_list {
+            return Err(Mistake::Misuse(Misuse::Missing("FILE behind --names")));
+        }
+        Ok(Words {
+            others,
+            format,
+            lists,
+        })
     }
 }

@@ -1,6 +1,7 @@
 //! What an audit says of a file.
 
-ghost use Rattle.std.specs.Prelude.{◌≡◌, IfOk, IfErr, IsOk};
+ghost use Rattle.std.specs.Prelude.{◌≡◌, option_copied, IfOk, IfErr, IsOk};
+ghost use Rattle.mach_audit.specs.Foreign.{refusal_in};
 ghost use Rattle.mach_audit.specs.declared.report.Failure.TheVariants as failures;
 ghost use Rattle.goblin_mach.specs.View.{IsTold};
 
@@ -172,4 +173,17 @@ pub enum Report<A: Allocator = Global> {
     Image(ImageReport<A>),
     /// It is a fat file.
     Fat(FatReport<A>),
+}
+
+impl<A: Allocator> Report<A> {
+    /// Why the file as a whole is refused, if it is: it opens in no mode, or is a fat file whose table can't be read.
+    pub fn refusal(&self) -> Option<&Error>
+        ensures { option_copied result ≡ refusal_in self.now }
+    {
+        match self {
+            Report::Image(ImageReport::Refused(error)) => Some(error),
+            Report::Fat(fat) => fat.table.as_ref(),
+            Report::Image(_) => None,
+        }
+    }
 }

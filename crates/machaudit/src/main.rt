@@ -2,44 +2,65 @@
 #![tactic(auto)]
 
 use mach_audit::files::run_files;
-use mach_audit::run::run_line;
-use mach_audit::{Request, read_words};
+use mach_audit::run::NAME;
+use mach_audit::{DEFAULT_LIMIT, Mistake, Options, Words};
+use mach_show::{Misuse, Program};
+use std::io;
 use std::io::BufWriter;
 use std::process::ExitCode;
-use std::{env, io};
 
-const USAGE: &str =
-    "usage: machaudit [--quiet | --json] [--limit N] FILE..\n       machaudit --help | --version\nFILE may be -, for names on standard input, one a line";
-
-const VERSION: &str = "machaudit 0.2.0";
+const PROGRAM: Program = Program {
+    name: NAME,
+    usage: "usage: machaudit [--quiet | --json] [--limit N] [--names FILE] FILE..
+       machaudit -h | --help | --version
+",
+    version: "machaudit 0.2.0\n",
+    has_limit: true,
+    has_cpu: false,
+    known: &[
+        "--help",
+        "--json",
+        "--limit",
+        "--names",
+        "--quiet",
+        "--version",
+    ],
+};
 
 fn main(rt: HostRuntime) -> ExitCode {
-    let Ok(args) = env::args(&rt) else {
-        return bad_usage(&rt);
-    };
-    let Ok(args) = args.collect::<Vec<String>>(rt.alloc()) else {
-        return out_of_memory(&rt);
-    };
-    let words = args.as_slice().get(1..).unwrap_or(&[]);
-    let Ok(mut lines) = BufWriter::new(rt.alloc(), io::writer(&rt)) else {
-        return out_of_memory(&rt);
-    };
-    ExitCode::from(match read_words(words) {
-        Request::Help => run_line(USAGE, &mut lines, &mut rt.stderr()),
-        Request::Version => run_line(VERSION, &mut lines, &mut rt.stderr()),
-        Request::Audit(options, files) => {
-            run_files(&rt, options, files, &mut lines, &mut rt.stderr())
-        }
-        Request::Nothing => return bad_usage(&rt),
+    ExitCode::from(match start(&rt) {
+        Ok(status) => status,
+        // Status 1 says that a file isn't sound, so want of memory is 2 here.
+        Err(1) => 2,
+        Err(status) => status,
     })
 }
 
-fn bad_usage(rt: &impl Eprint) -> ExitCode {
-    let _ = rt.eprintln(USAGE);
-    ExitCode::from(2)
-}
-
-fn out_of_memory(rt: &impl Eprint) -> ExitCode {
-    let _ = rt.eprintln("machaudit: out of memory");
-    ExitCode::from(2)
+// Does what the words ask for; the error is the exit status where nothing was audited.
+fn start(rt: &HostRuntime) -> Result<u8, u8> {
+    let words = match Words::of(rt.alloc(), PROGRAM.words(rt)?) {
+        Ok(words) => words,
+        Err(Mistake::Misuse(misuse)) => return Err(PROGRAM.bad_usage(rt, misuse)),
+        Err(Mistake::Memory) => return Err(PROGRAM.out_of_memory(rt)),
+    };
+    let call = PROGRAM.call(rt, &words.others)?;
+    if call.words.is_empty() && words.lists.is_empty() {
+        return Err(PROGRAM.bad_usage(rt, Misuse::Missing("FILE")));
+    }
+    let options = Options {
+        format: words.format,
+        limit: call.limit.unwrap_or(DEFAULT_LIMIT),
+    };
+    let Ok(mut lines) = BufWriter::new(rt.alloc(), io::writer(rt)) else {
+        return Err(PROGRAM.out_of_memory(rt));
+    };
+    Ok(run_files(
+        &PROGRAM,
+        rt,
+        options,
+        &call.words,
+        &words.lists,
+        &mut lines,
+        &mut rt.stderr(),
+    ))
 }

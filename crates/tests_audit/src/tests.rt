@@ -7,7 +7,8 @@ use crate::tests::files::{FILE_A, library};
 use crate::tests::same::{same, same_at};
 use linked_list_allocator::LocalHeap;
 use mach_audit::run::{Call, run};
-use mach_audit::{Failure, Format, Options, Request, read_words};
+use mach_audit::{Format, Mistake, Options, Words};
+use mach_show::Failure;
 use std::alloc::{AllocError, Global};
 use std::io::BufWriter;
 use std::process::Abort;
@@ -46,7 +47,7 @@ fn call_of(format: Format, limit: usize) -> Call<'static> {
 // The status of an audit, and what it prints.
 fn audited_as(alloc: Global, call: Call<'_>, bytes: &[u8]) -> Result<(u8, String), Fail> {
     let mut out = BufWriter::new(alloc, Vec::new(alloc))?;
-    let Ok(status) = run(&alloc, alloc, call, bytes, &mut out) else {
+    let Ok(status) = run(&alloc, alloc, call, bytes, &mut out, &mut Vec::new(alloc)) else {
         return Err(Fail::from("an audit that was not ended"));
     };
     let text = std::str::from_utf8(out.get_ref().as_slice())?;
@@ -68,8 +69,8 @@ fn failing_writes(rt: &impl Abort, alloc: Global, file: &[u8], format: Format) -
     let whole = audited_as(alloc, call, file)?.1.len();
     for left in 0..=whole {
         let mut full = BufWriter::new(alloc, Full { left })?;
-        let unwritten = match run(&alloc, alloc, call, file, &mut full) {
-            Err(Failure::Unwritten) => true,
+        let unwritten = match run(&alloc, alloc, call, file, &mut full, &mut Vec::new(alloc)) {
+            Err(Failure::Unwritten(_)) => true,
             Ok(_) | Err(Failure::Memory) => false,
         };
         same_at(rt, left, unwritten, left < whole);
@@ -87,37 +88,48 @@ fn a_failed_write(rt: HostRuntime) -> Result<(), Fail> {
     Ok(())
 }
 
-// Words of a call, and what they ask for: the form, the limit, and how many files.
+// Words of a call; the others, the form, and how many lists of names.
 const WORDS: [(&[&str], &str); 12] = [
-    (&["--help"], "help"),
-    (&["--version"], "version"),
-    (&["a"], "text 10000000 1"),
-    (&["--quiet", "a", "b"], "quiet 10000000 2"),
-    (&["--json", "--limit", "7", "a"], "json 7 1"),
-    (&["--limit", "0", "--", "--json"], "text 0 1"),
-    (&["-"], "text 10000000 1"),
-    (&[], "nothing"),
-    (&["--limit", "x", "a"], "nothing"),
-    (&["--limit"], "nothing"),
-    (&["--other", "a"], "nothing"),
-    (&["--"], "nothing"),
+    (&["p", "--help"], "p --help text 0"),
+    (&["p", "a"], "p a text 0"),
+    (&["p", "--quiet", "a", "b"], "p a b quiet 0"),
+    (
+        &["p", "--json", "--limit", "7", "a"],
+        "p --limit 7 a json 0",
+    ),
+    (&["p", "a", "--quiet", "--json"], "p a json 0"),
+    (&["p", "--", "--json"], "p -- --json text 0"),
+    (&["p", "--names", "--json"], "p text 1"),
+    (&["p", "--names", "-", "a", "--names", "b"], "p a text 2"),
+    (&["p", "--", "--names"], "p -- --names text 0"),
+    (&["p", "a", "--names"], "no FILE behind --names is given"),
+    (&["p", "--names", "--"], "p text 1"),
+    (&[], "text 0"),
 ];
 
 // What is asked for, in words.
-fn asked_for(alloc: Global, request: Request<'_>) -> Result<String, Fail> {
-    let text = match request {
-        Request::Help => String::from_str(alloc, "help")?,
-        Request::Version => String::from_str(alloc, "version")?,
-        Request::Nothing => String::from_str(alloc, "nothing")?,
-        Request::Audit(options, files) => {
-            let format = match options.format {
+fn asked_for(alloc: Global, words: Vec<String>) -> Result<String, Fail> {
+    let mut text = String::new(alloc);
+    match Words::of(alloc, words) {
+        Ok(words) => {
+            for other in &words.others {
+                text.push_str(other)?;
+                text.push_str(" ")?;
+            }
+            text.push_str(match words.format {
                 Format::Text => "text",
                 Format::Quiet => "quiet",
                 Format::Json => "json",
-            };
-            format!(in alloc; "{format} {} {}", options.limit, files.len())?
+            })?;
+            let count = format!(in alloc; " {}", words.lists.len())?;
+            text.push_str(&count)?;
         }
-    };
+        Err(Mistake::Misuse(misuse)) => {
+            let words = format!(in alloc; "{misuse}")?;
+            text.push_str(&words)?;
+        }
+        Err(Mistake::Memory) => text.push_str("out of memory")?,
+    }
     Ok(text)
 }
 
@@ -129,8 +141,8 @@ fn words_of_a_call(rt: HostRuntime) -> Result<(), Fail> {
         for word in *words {
             given.push(String::from_str(alloc, word)?)?;
         }
-        let request = asked_for(alloc, read_words(given.as_slice()))?;
-        same_at(&rt, number, request.as_str(), *text);
+        let asked = asked_for(alloc, given)?;
+        same_at(&rt, number, asked.as_str(), *text);
     }
     Ok(())
 }
@@ -145,7 +157,14 @@ fn refused_memory(rt: HostRuntime) -> Result<(), Fail> {
         let heap = LocalHeap::new(rt.alloc(), 64 * size)?;
         let call = call_of(Format::Text, 1000);
         let mut full = BufWriter::new(rt.alloc(), Full { left: usize::MAX })?;
-        match run(&&heap, rt.alloc(), call, &file, &mut full) {
+        match run(
+            &&heap,
+            rt.alloc(),
+            call,
+            &file,
+            &mut full,
+            &mut Vec::new(rt.alloc()),
+        ) {
             Ok(status) => {
                 same_at(&rt, size, status, 0);
                 sound = sound.saturating_add(1);
@@ -154,7 +173,7 @@ fn refused_memory(rt: HostRuntime) -> Result<(), Fail> {
                 same_at(&rt, size, sound, 0);
                 refused = refused.saturating_add(1);
             }
-            Err(Failure::Unwritten) => return Err(Fail::from("unwritten")),
+            Err(Failure::Unwritten(_)) => return Err(Fail::from("unwritten")),
         }
     }
     same(&rt, refused > 2, true);
@@ -184,7 +203,16 @@ fn long_names_in_little_memory(rt: HostRuntime) -> Result<(), Fail> {
     let heap = LocalHeap::new(rt.alloc(), 40_000)?;
     let mut out = BufWriter::new(rt.alloc(), Vec::new(rt.alloc()))?;
     let call = call_of(Format::Text, 1000);
-    if run(&&heap, rt.alloc(), call, &file, &mut out).is_err() {
+    if run(
+        &&heap,
+        rt.alloc(),
+        call,
+        &file,
+        &mut out,
+        &mut Vec::new(rt.alloc()),
+    )
+    .is_err()
+    {
         return Err(Fail::from("an audit that was not ended"));
     }
     let text = std::str::from_utf8(out.get_ref().as_slice())?;

@@ -1,18 +1,27 @@
+use Rattle.mach_audit.proofs.Refusals.{whole_refusal}
 use Rattle.mach_audit.proofs.Verdicts.{status_bound, status_sound, status_whole, status_faulty}
+use Rattle.mach_audit.specs.Foreign.{refusal_in}
 use Rattle.mach_audit.specs.Verdicts.{verdict_of_report}
 use Rattle.mach_audit.proofs.run.run.Goals as goal
 
 pub returns-clause-bounds : goal.returns-clause-bounds
-returns-clause-bounds g c = rw (c.status.ensures, c.verdict.ensures) (status_bound (verdict_of_report c.in_ok-report.report))
+returns-clause-bounds g c = rw (c.status.ensures, c.verdict.ensures) (status_bound (verdict_of_report c.in-Ok.report))
 
 pub returns-clause-sound : goal.returns-clause-sound
 returns-clause-sound g c = λ zero.
-    status_sound (verdict_of_report c.in_ok-report.report) c.in_ok-report.ensures.judged (rw (c.status.ensures, c.verdict.ensures) at zero)
+    status_sound (verdict_of_report c.in-Ok.report) c.in-Ok.ensures.judged (rw (c.status.ensures, c.verdict.ensures) at zero)
 
 pub returns-clause-whole : goal.returns-clause-whole
 returns-clause-whole g c = λ zero.
-    status_whole (verdict_of_report c.in_ok-report.report) c.in_ok-report.ensures.judged (rw (c.status.ensures, c.verdict.ensures) at zero)
+    status_whole (verdict_of_report c.in-Ok.report) c.in-Ok.ensures.judged (rw (c.status.ensures, c.verdict.ensures) at zero)
 
 pub returns-clause-faulty : goal.returns-clause-faulty
 returns-clause-faulty g c = λ one.
-    status_faulty (verdict_of_report c.in_ok-report.report) c.in_ok-report.ensures.judged (rw (c.status.ensures, c.verdict.ensures) at one)
+    status_faulty (verdict_of_report c.in-Ok.report) c.in-Ok.ensures.judged (rw (c.status.ensures, c.verdict.ensures) at one)
+
+pub returns-clause-said : goal.returns-clause-said
+returns-clause-said g c = record {
+  refusal = refusal_in c.in-Ok.report;
+  is_refusal = whole_refusal _ c.args.bytes.now c.in-Ok.report c.in-Ok.ensures.told;
+  said = c.in_ok-say_refusal.ensures;
+}
