@@ -6,8 +6,6 @@ mod bench;
 mod calls;
 mod failure;
 mod run;
-#[cfg(test)]
-mod tests;
 mod times;
 
 use mach_show::{Misuse, Program, Round};

@@ -23,8 +23,6 @@ mod print;
 mod row;
 mod rows;
 mod run;
-#[cfg(test)]
-mod tests;
 mod text;
 mod words;
 
