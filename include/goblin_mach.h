@@ -397,7 +397,9 @@ typedef struct gm_layout_fault {
     X(ID_UNEXPECTED, "id unexpected") X(BINDS, "binds") X(CHAINED_FIXUPS, "chained fixups") X(IMPORT_LIBRARY, "import library") \
     X(IMPORT_NAME, "import name") X(RECORDS_OUT_OF_FILE, "records out of file") X(SLICE_OUT_OF_FILE, "slice out of file") \
     X(SLICE_IN_RECORDS, "slice in records") X(SLICE_ALIGNMENT, "slice alignment") X(SLICE_UNALIGNED, "slice unaligned") \
-    X(SLICE_AGAIN, "slice again") X(SLICE_OF_OTHER_CPU, "slice of other cpu") X(SLICES_SHARE, "slices share")
+    X(SLICE_AGAIN, "slice again") X(SLICE_OF_OTHER_CPU, "slice of other cpu") X(SLICES_SHARE, "slices share") \
+    X(REBASES, "rebases") X(WEAK_BINDS, "weak binds") X(FUNCTION_STARTS, "function starts") X(DATA_OUT_OF_CODE, "data out of code") \
+    X(DATA_SHARED, "data shared")
 #define GM_LAYOUT_PARTS(X) \
     X(HEADER, "header") X(COMMAND, "command") X(TEXT, "text") X(SEGMENT, "segment") X(SECTION, "section") X(RELOCATIONS, "relocations") \
     X(SYMBOLS, "symbols") X(SYMBOL_RANGES, "symbol ranges") X(STRINGS, "strings") X(TABLE_OF_CONTENTS, "table of contents") \

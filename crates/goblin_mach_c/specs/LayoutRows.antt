@@ -70,6 +70,11 @@ rule_number rule.SliceUnaligned = 54
 rule_number rule.SliceAgain = 55
 rule_number rule.SliceOfOtherCpu = 56
 rule_number rule.SlicesShare = 57
+rule_number rule.Rebases = 58
+rule_number rule.WeakBinds = 59
+rule_number rule.FunctionStarts = 60
+rule_number rule.DataOutOfCode = 61
+rule_number rule.DataShared = 62
 
 -- the number of a part; 0 is none
 abbrev pub part_number : Part → ℕ

@@ -104,6 +104,11 @@ fn rule_number(rule: Rule) -> u32
         Rule::SliceAgain => 55,
         Rule::SliceOfOtherCpu => 56,
         Rule::SlicesShare => 57,
+        Rule::Rebases => 58,
+        Rule::WeakBinds => 59,
+        Rule::FunctionStarts => 60,
+        Rule::DataOutOfCode => 61,
+        Rule::DataShared => 62,
     }
 }
 

@@ -65,8 +65,9 @@ HasExportItems limit bytes o items = OfImage bytes o (λ ctx cs. AreExportItems 
 
 -- The image at 0 opens strictly, so that its segments have their data; its layout has no fault; the sections of all its segments, all its relocations
 -- and all its symbols can be read; its exports and its imports have lists; and all fixups of its chains are there, and all
--- that dyld binds of it by the opcodes of the non-lazy and the lazy range and by chains. Nothing is said of rebase opcodes, of weak binds and of signatures but
--- that their ranges lie where they may.
+-- that dyld binds of it by the opcodes of the non-lazy and the lazy range and by chains. That its layout has no fault says, too, that its rebases by
+-- opcodes, its weak binds and its function starts can be read to their ends (`AreListFaults`), and that no data in code share bytes with the entry before or
+-- lie in front of what may be executed or behind it. Nothing is said of signatures but that their range lies where it may.
 pub record IsSoundImage (bytes : List ℕ) : Type 0 where
   pub opens : Opens bytes 0
   pub layout : HasLayoutFaults bytes []

@@ -8,10 +8,11 @@ ghost use Rattle.goblin_mach.specs.FatEntry.{entry_at, fat_entry_of};
 ghost use Rattle.goblin_mach.specs.FatFile.{file_held};
 ghost use Rattle.mach_image.specs.OpenImage.{IsImage, IsLossyImage};
 ghost use Rattle.goblin_mach.specs.View.{IsTold};
-ghost use Rattle.mach_layout.specs.Bindings.{AreBindFaults};
+ghost use Rattle.mach_image.specs.ImageFacts.{facts_held};
 ghost use Rattle.mach_rules.specs.Containers.{AreContainerFaults};
 ghost use Rattle.mach_rules.specs.Faults.{AreLayoutFaults};
 ghost use Rattle.mach_layout.specs.Held.{laid_held};
+ghost use Rattle.mach_layout.specs.ListFaults.{AreListFaults};
 ghost use Rattle.mach_audit.specs.Report.{IsFileReport, IsEntryReport, IsFatReport, TellsImage, TellsLossily, named_bytes, reason_of};
 ghost use Rattle.mach_audit.specs.Sound.{IsSound, IsSoundEntry, IsSoundFat, IsSoundImage, IsLong, IsLongEntry, IsLongFat, HasLongList};
 ghost use Rattle.mach_audit.specs.Told.{TellsRelocations, relocation_faults};
@@ -53,7 +54,7 @@ fn audit_layout<A: Allocator, B: Allocator + Clone>(
     alloc: B,
     image: &MachO<'_, A>,
 ) -> Result<Vec<LayoutFault, B>, Failure>
-    ensures told { IfOk result (λ v. AreLayoutFaults (laid_held image.now) (AreBindFaults image.now) v.items) }
+    ensures told { IfOk result (λ v. AreLayoutFaults (laid_held image.now) (AreListFaults (facts_held image.now)) v.items) }
     ensures memory { IfErr result (λ failure. failure ≡ failures.Memory) }
 {
     match layout_faults(alloc, image) {

@@ -19,6 +19,6 @@ pub mod BindingOpcodes
 pub mod BindingSet
 mod BindingReading
 mod Rings
-mod BindingTurns
+pub mod BindingTurns
 pub mod BindingLaws
 pub mod BindingImports

@@ -1,9 +1,11 @@
--- Whether a fault stands among bindings, and the binds that one instruction makes.
+-- Whether a fault stands among items, and what comes of the binds that one instruction makes.
 use Rattle.std.specs.Prelude.{◌+◌, ◌-◌, ◌%◌, ◌^◌, ℕ, zero, suc, min, Bool, true, false, List, [], ◌∷◌, map, Result, Ok, Err}
 use Rattle.mach_base.specs.Fault.{Fault}
 use Rattle.mach_segments.specs.Segment.{SegmentView}
 use Rattle.mach_binds.specs.BindingsLeft.{binding_rules}
+use Rattle.mach_binds.specs.Binds.{Bind}
 use Rattle.mach_binds.specs.Machine.{Rules, input_of, bind_of, strides, opcodes_left}
+use Rattle.mach_binds.specs.Streams.{Input}
 use Rattle.mach_binds.specs.declared.bindings.OpcodeBindingIterator.{OpcodeBindingIterator}
 use Rattle.mach_binds.specs.declared.imports.stream.Stream.{Stream}
 
@@ -17,9 +19,13 @@ has_fault (Err f ∷ items) = true
 abbrev pub binding_reads_left : OpcodeBindingIterator → ℕ
 binding_reads_left it = opcodes_left binding_rules it.stream
 
+-- what comes of so many binds, each a stride further than the one before
+abbrev pub made_by : {M A : Type 0} → Rules M A → Input → Bind → M → (stride count : ℕ) → List (Result A Fault)
+made_by u x b m stride count = map (λ d. u.makes x d m) (strides b stride count)
+
 -- what comes of the binds that the last instruction still makes
 abbrev pub still_made : {M A : Type 0} → Rules M A → Stream M → List (Result A Fault)
-still_made u it = map (λ d. u.makes (input_of it.source) d it.more) (strides (bind_of it.state.settings) it.state.stride it.state.count)
+still_made u it = made_by u (input_of it.source) (bind_of it.state.settings) it.more it.state.stride it.state.count
 
 -- the offset of turn j, where the first turn is at an offset, and each next one a stride further
 unfoldable pub offset_at : ℕ → ℕ → ℕ → ℕ

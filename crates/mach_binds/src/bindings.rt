@@ -20,6 +20,7 @@ ghost use Rattle.mach_binds.specs.BindingsLeft.{ordinal_now, given_now, special_
 mod faults;
 
 use crate::bind_opcodes::*;
+pub use crate::bindings::faults::{all_lie, segment_at};
 use crate::imports::BindInterpreter;
 use crate::imports::instruction::instruction_error;
 use crate::imports::settings::Settings;

@@ -4,6 +4,7 @@
 pub mod bind_opcodes;
 pub mod bindings;
 pub mod imports;
+mod judging;
 pub mod laws;
 pub mod machine;
 mod turns;

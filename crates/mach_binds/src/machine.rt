@@ -5,3 +5,5 @@ pub use crate::imports::settings::Settings;
 pub use crate::imports::source::Source;
 pub use crate::imports::state::State;
 pub use crate::imports::stream::{Makes, Stop, Stream};
+pub use crate::judging::JudgesAll;
+pub use crate::turns::none_above;

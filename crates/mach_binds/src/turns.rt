@@ -1,6 +1,7 @@
 //! Whether one of many places on a ring, each a step behind the one before it, lies at its start.
 
-ghost use Rattle.std.specs.Prelude.{◌≡◌, ◌<◌, ◌≤◌, ◌+◌, ◌-◌, ◌*◌, ◌/◌, ◌^◌, ◌↔◌, ℕ, IsTrue};
+ghost use Rattle.std.specs.Prelude.{◌≡◌, ◌<◌, ◌≤◌, ◌+◌, ◌-◌, ◌*◌, ◌/◌, ◌^◌, ◌↔◌, ℕ, IsTrue, true, false};
+ghost use Rattle.mach_binds.specs.BindingFaults.{offset_at};
 ghost use Rattle.mach_binds.specs.Turns.{AnyBelow, IsRing, last_turn_place};
 
 /// So many places on a ring, counted from 0: the first, and each next one a step further.
@@ -78,4 +79,20 @@ impl Turns {
         }
         false
     }
+}
+
+/// Whether none of `count` offsets is above a highest one: the first of them, and each next one a stride further, modulo 2^64.
+pub fn none_above(highest: u64, offset: u64, stride: u64, count: u64) -> bool
+    ensures yes { result ≡ true → (j : ℕ) → j < count → offset_at offset stride j ≤ highest }
+    ensures no { result ≡ false → (j : ℕ) × (j < count) × (highest < offset_at offset stride j) }
+{
+    // The offsets above the highest are moved to the start of the ring.
+    let above = u64::MAX - highest;
+    let turns = Turns {
+        count: u128::from(count),
+        first: u128::from(offset.wrapping_add(above)),
+        step: u128::from(stride),
+        size: 1 << 64,
+    };
+    !turns.any_below(u128::from(above))
 }

@@ -1,3 +1,3 @@
 pub mod Held
-pub mod Bindings
+pub mod ListFaults
 pub mod Facts

@@ -2,19 +2,21 @@
 
 ghost use Rattle.std.specs.Prelude.{◌≡◌, IfOk, OnOk};
 ghost use Rattle.mach_base.specs.Answer.{IsOkUnlessMemory};
-ghost use Rattle.mach_layout.specs.Bindings.{AreBindFaults};
+ghost use Rattle.mach_image.specs.ImageFacts.{facts_held};
 ghost use Rattle.mach_layout.specs.Held.{laid_held};
+ghost use Rattle.mach_layout.specs.ListFaults.{AreListFaults};
 ghost use Rattle.mach_rules.specs.Claims.{claims_of};
 ghost use Rattle.mach_rules.specs.ClaimsLeft.{claims_left};
 ghost use Rattle.mach_rules.specs.Faults.{AreLayoutFaults, AddsSymbols};
 ghost use Rattle.mach_rules.specs.Laid.{laid_of};
 
-use crate::bindings::bind_faults;
 use crate::layout::layout_of;
+use crate::lists::list_faults;
 use mach_base::Result;
 use mach_image::macho::MachO;
 use mach_rules::{
-    ClaimIterator, Layout, LayoutFault, add_sections, add_segments, add_symbols, fixup_faults,
+    ClaimIterator, Layout, LayoutFault, add_sections, add_segments, add_symbols, data_faults,
+    fixup_faults,
 };
 use std::alloc::Allocator;
 
@@ -27,18 +29,19 @@ pub fn claims<'a, 'b, A: Allocator>(image: &'b MachO<'a, A>) -> ClaimIterator<'a
     layout_of(image).claims()
 }
 
-// Adds those of the symbols, of the entry, of texts, of what dyld binds, and of fixups.
+// Adds those of the symbols, of the entry, of texts, of the image's lists, of fixups, and of data among code.
 fn add_all_symbols<A: Allocator, B: Allocator>(
     faults: &mut Vec<LayoutFault, B>,
     image: &MachO<'_, A>,
     layout: &Layout<'_, '_>,
 ) -> Result<()>
-    ensures told { OnOk result (AddsSymbols (laid_of layout.now) (AreBindFaults image.now) faults.old.items faults.new.items) }
+    ensures told { OnOk result (AddsSymbols (laid_of layout.now) (AreListFaults (facts_held image.now)) faults.old.items faults.new.items) }
     ensures only { IsOkUnlessMemory result }
 {
     add_symbols(faults, layout)?;
-    bind_faults(faults, image)?;
+    list_faults(faults, image)?;
     fixup_faults(faults, layout)?;
+    data_faults(faults, layout)?;
     Ok(())
 }
 
@@ -49,7 +52,7 @@ pub fn layout_faults<A: Allocator, B: Allocator + Clone>(
     alloc: B,
     image: &MachO<'_, A>,
 ) -> Result<Vec<LayoutFault, B>>
-    ensures listed { IfOk result (λ v. AreLayoutFaults (laid_held image.now) (AreBindFaults image.now) v.items) }
+    ensures listed { IfOk result (λ v. AreLayoutFaults (laid_held image.now) (AreListFaults (facts_held image.now)) v.items) }
     ensures only { IsOkUnlessMemory result }
 {
     let layout = layout_of(image);

@@ -2,9 +2,10 @@
 
 ghost use Rattle.std.specs.Prelude.{◌≡◌, ◌↔◌, ℕ, List};
 ghost use Rattle.mach_image.specs.OpenImage.{IsImage, IsLossyImage};
-ghost use Rattle.mach_layout.specs.Bindings.{AreBindFaults};
+ghost use Rattle.mach_image.specs.ImageFacts.{facts_held};
 ghost use Rattle.mach_layout.specs.Facts.{HasClaims, HasLayoutFaults};
 ghost use Rattle.mach_layout.specs.Held.{laid_held};
+ghost use Rattle.mach_layout.specs.ListFaults.{AreListFaults};
 ghost use Rattle.mach_rules.specs.Claims.{claims_of};
 ghost use Rattle.mach_rules.specs.Faults.{AreLayoutFaults};
 ghost use Rattle.mach_rules.specs.declared.claim.Claim.{Claim};
@@ -23,9 +24,9 @@ pub fn claims_of_image<A: Allocator>(image: &MachO<'_, A>)
 /// The faults that `layout_faults` lists are those of the bytes.
 pub fn layout_faults_of_image<A: Allocator>(image: &MachO<'_, A>)
     ensures strict { (bytes : List ℕ) → IsImage bytes 0 image.now → (list : List LayoutFault)
-        → HasLayoutFaults bytes list ↔ AreLayoutFaults (laid_held image.now) (AreBindFaults image.now) list }
+        → HasLayoutFaults bytes list ↔ AreLayoutFaults (laid_held image.now) (AreListFaults (facts_held image.now)) list }
     ensures lossy { (bytes : List ℕ) → IsLossyImage bytes 0 image.now → (list : List LayoutFault)
-        → HasLayoutFaults bytes list ↔ AreLayoutFaults (laid_held image.now) (AreBindFaults image.now) list }
+        → HasLayoutFaults bytes list ↔ AreLayoutFaults (laid_held image.now) (AreListFaults (facts_held image.now)) list }
 {}
 
 /// An image has one list of faults of its layout: where it has one, it has no other.
@@ -33,4 +34,7 @@ pub fn one_list_of_layout_faults()
     ensures { (bytes : List ℕ) (list others : List LayoutFault) → HasLayoutFaults bytes list → HasLayoutFaults bytes others → list ≡ others }
 {
     mach_binds::laws::one_list_of_bindings();
+    mach_streams::laws::one_list_of_rebases();
+    mach_streams::laws::one_list_of_weak_binds();
+    mach_tables::laws::starts_are_one_list();
 }

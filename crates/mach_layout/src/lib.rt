@@ -2,10 +2,10 @@
 //! each part claims, and every fault of the image's layout.
 #![tactic(auto)]
 
-mod bindings;
 mod faults;
 pub mod laws;
 mod layout;
+mod lists;
 
 pub use crate::faults::{claims, layout_faults};
 pub use crate::layout::layout_of;

@@ -1,6 +1,7 @@
 -- The faults of the layout of an image: those of each rule, in order.
 use Rattle.std.specs.Prelude.{◌≡◌, ◌++◌, List, []}
 use Rattle.mach_rules.specs.Commands.{command_faults, text_faults}
+use Rattle.mach_rules.specs.DataInCode.{data_faults}
 use Rattle.mach_rules.specs.Entry.{entry_faults}
 use Rattle.mach_rules.specs.Fixups.{fixup_faults}
 use Rattle.mach_rules.specs.Header.{segment_order_faults}
@@ -31,16 +32,16 @@ pub record AddsSections (laid : Laid) (old new : List LayoutFault) : Type 0 wher
   pub joined : new
       ≡ old ++ section_faults laid ++ sections ++ claims ++ claim_faults laid ++ encrypted_faults laid
 
--- behind some faults those of the symbols, of the entry, of texts, of what dyld binds, which are these, and of fixups
-pub record AddsSymbols (laid : Laid) (AreBinds : List LayoutFault → Type 0) (old new : List LayoutFault) : Type 0 where
-  pub binds : List LayoutFault
-  pub are_binds : AreBinds binds
-  pub joined : new ≡ old ++ symbol_faults laid ++ entry_faults laid ++ text_faults laid ++ binds ++ fixup_faults laid
+-- behind some faults those of the symbols, of the entry, of texts, of the image's lists, which are these, of fixups, and of data among code
+pub record AddsSymbols (laid : Laid) (AreOfLists : List LayoutFault → Type 0) (old new : List LayoutFault) : Type 0 where
+  pub of_lists : List LayoutFault
+  pub are_of_lists : AreOfLists of_lists
+  pub joined : new ≡ old ++ symbol_faults laid ++ entry_faults laid ++ text_faults laid ++ of_lists ++ fixup_faults laid ++ data_faults laid
 
--- the faults of the layout of an image, of which those of what dyld binds are these
-pub record AreLayoutFaults (laid : Laid) (AreBinds : List LayoutFault → Type 0) (list : List LayoutFault) : Type 0 where
+-- the faults of the layout of an image, of which those of its lists are these
+pub record AreLayoutFaults (laid : Laid) (AreOfLists : List LayoutFault → Type 0) (list : List LayoutFault) : Type 0 where
   pub of_segments : List LayoutFault
   pub of_sections : List LayoutFault
   pub segments : AddsSegments laid [] of_segments
   pub sections : AddsSections laid of_segments of_sections
-  pub symbols : AddsSymbols laid AreBinds of_sections list
+  pub symbols : AddsSymbols laid AreOfLists of_sections list

@@ -20,4 +20,6 @@ pub mod Ranges
 pub mod Words
 pub mod Containers
 pub mod Faults
-pub mod Binds
+pub mod Lists
+pub mod DataInCode
+pub mod DataViews

@@ -65,8 +65,8 @@ fn entry_place(cputype: u32, command: &CommandVariant) -> Option<EntryPlace>
     }
 }
 
-// Whether a segment may be executed at first.
-fn is_code(segment: &PlacedSegment) -> bool
+/// Whether a segment may be executed at first.
+pub fn is_code(segment: &PlacedSegment) -> bool
     ensures { result ≡ defined.is_code segment.now }
 {
     segment.command.initprot & VM_PROT_EXECUTE != 0

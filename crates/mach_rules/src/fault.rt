@@ -116,15 +116,31 @@ pub enum Rule {
     /// What is no library says its name as one. `found`: the file type; `limit`: 0.
     IdUnexpected,
 
-    // ---- what dyld binds and fixes up
+    // ---- the lists that an image gives one at a time
     /// What dyld binds by opcodes can't be read to its end. `found`: 0; `limit`: 0.
     Binds,
+    /// What dyld rebases by opcodes can't be read to its end. `found`: 0; `limit`: 0.
+    Rebases,
+    /// What dyld binds weakly can't be read to its end. `found`: 0; `limit`: 0.
+    WeakBinds,
+    /// The starts of functions can't be read to their end. `found`: 0; `limit`: 0.
+    FunctionStarts,
+
+    // ---- chained fixups
     /// The data of chained fixups can't be read. `found`: the field's value; `limit`: its bound.
     ChainedFixups,
     /// The library of an import is none of the image. `found`: the ordinal; `limit`: the number of libraries.
     ImportLibrary,
     /// The name of an import isn't in the data. `found`: where it begins; `limit`: where the data end.
     ImportName,
+
+    // ---- data among code
+    /// Data among code is out of what may be executed. `found`: where it begins; `limit`: where the last segment that may be
+    /// executed ends, 0 where there is none.
+    DataOutOfCode,
+    /// Data among code has bytes of the entry before it. `found`: where it begins, counted from the image's first byte in
+    /// memory; `limit`: where that entry ends. `other`: that entry.
+    DataShared,
 
     // ---- a fat file
     /// The records of a fat file pass its end. `found`: where they end; `limit`: the bytes of the file.

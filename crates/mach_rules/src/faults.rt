@@ -1,4 +1,4 @@
-//! The faults of the layout of an image, but for those of what dyld binds by opcodes.
+//! The faults of the layout of an image, but for those of the lists that it gives one at a time.
 
 ghost use Rattle.std.specs.Prelude.{◌≡◌, ◌++◌, OnOk};
 ghost use Rattle.mach_base.specs.Answer.{IsOkUnlessMemory};

@@ -8,7 +8,7 @@ ghost use Rattle.mach_rules.specs.FixupViews.{data_view};
 ghost use Rattle.mach_base.specs.Number.{number_at};
 
 mod imports;
-mod starts;
+pub mod starts;
 
 use crate::asked::{Wanted, last_wanted};
 use crate::fault::{LayoutFault, Owner, Part, Rule};
@@ -81,8 +81,8 @@ impl FixupData<'_> {
     }
 }
 
-// The data that a command places, where they lie in the file.
-fn data_of<'a>(layout: &Layout<'a, '_>, placed: &PlacedFixups) -> Option<FixupData<'a>>
+/// The data that a command places, where they lie in the file.
+pub fn data_of<'a>(layout: &Layout<'a, '_>, placed: &PlacedFixups) -> Option<FixupData<'a>>
     ensures { option_map data_view result ≡ defined.data_of (laid_of layout.now) placed.now }
 {
     let (start, size) = (placed.dataoff, placed.datasize);

@@ -1,14 +1,14 @@
 //! The rules by which the parts of a Mach-O image lie, over its bytes, its header and its commands: which range of the file
-//! each part claims, and every fault of the layout but those of what dyld binds by opcodes; and the faults of a fat file's table.
+//! each part claims, and every fault of the layout but those of the lists that an image gives one at a time; and the faults of a fat file's table.
 //! `mach_layout` asks them of an image.
 #![tactic(auto)]
 
 mod asked;
-mod binds;
 mod claim;
 mod claiming;
 mod commands;
 mod containers;
+mod data;
 mod entry;
 mod fault;
 mod faults;
@@ -17,21 +17,23 @@ mod header;
 pub mod laws;
 mod layout;
 mod libraries;
+mod lists;
 mod parts;
 mod ranges;
-mod rules;
+pub mod rules;
 mod sections;
 mod segments;
 mod sweep;
 mod symbols;
 mod words;
 
-pub use crate::binds::binds_fault;
 pub use crate::claim::Claim;
 pub use crate::claiming::ClaimIterator;
 pub use crate::containers::container_faults;
+pub use crate::data::data_faults;
 pub use crate::fault::{LayoutFault, Owner, Part, Rule};
 pub use crate::faults::{add_sections, add_segments, add_symbols};
 pub use crate::fixups::fixup_faults;
 pub use crate::layout::Layout;
+pub use crate::lists::{function_starts_fault, opcodes_fault};
 pub use crate::parts::{PlacedSection, PlacedSegment, SectionIterator, SegmentIterator};

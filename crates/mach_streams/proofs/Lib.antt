@@ -3,3 +3,4 @@ pub mod StreamSettings
 pub mod WeakRun
 pub mod RebaseRun
 pub mod StreamLaws
+mod StreamTurns

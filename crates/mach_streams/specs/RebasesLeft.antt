@@ -1,10 +1,11 @@
 -- The rules of rebases, and what is left to an iterator over them. Callers don't need it: the contract of `iter` says that
 -- the items at the start are those of the definitions.
-use Rattle.std.specs.Prelude.{◌==◌, ℕ, List, true, false, Result, if◌then◌else◌, bit_and}
+use Rattle.std.specs.Prelude.{◌==◌, ◌-◌, ◌^◌, ℕ, List, min, true, false, Result, if◌then◌else◌, bit_and}
 use Rattle.mach_base.specs.Fault.{Fault, fault_of}
 use Rattle.mach_base.specs.declared.error.Error.{Error}
 use Rattle.mach_base.specs.declared.context.Endian.{Endian}
 use Rattle.mach_base.specs.declared.context.Endian.TheVariants.{Little}
+use Rattle.mach_segments.specs.Segment.{SegmentView}
 use Rattle.mach_chained.specs.PointerViews.{auth_seen}
 use Rattle.mach_binds.specs.Machine.{Rules, HasEnded, items_left, item_read, opcodes_left}
 use Rattle.mach_streams.specs.Rebases.{Rebase, RebaseSet, gives_rebase_segment, rebase_of, rebase_opcode_at}
@@ -59,3 +60,7 @@ rebase_reads_left it = opcodes_left rebase_rules it.stream
 -- it has ended: nothing is left, and it stays so
 abbrev pub HasEndedRebases : OpcodeRebaseIterator → Type 0
 HasEndedRebases it = HasEnded rebase_rules it.stream
+
+-- the highest offset at which a segment holds a pointer, at an address of 64 bits
+abbrev pub highest_rebase : ℕ → SegmentView → ℕ
+highest_rebase pointer s = min (s.command.vmsize - pointer) (2 ^ 64 - 1 - s.command.vmaddr)

@@ -18,6 +18,7 @@ ghost use Rattle.mach_streams.specs.Rebases as defined;
 ghost use Rattle.mach_streams.specs.Rebases.{AreOpcodeRebases, rebase_kind_of, rebase_opcode_at, rebase_row, rebase_width};
 ghost use Rattle.mach_streams.specs.RebasesLeft.{HasEndedRebases, first_rebasing, opcode_rebases_left, rebase_read, rebase_reads_left, rebasing_after};
 
+mod faults;
 mod memory;
 
 use crate::cut::Cut;

@@ -15,6 +15,8 @@ ghost use Rattle.mach_streams.specs.WeakBinds as defined;
 ghost use Rattle.mach_streams.specs.WeakBinds.{AreWeakBinds, is_weak_complete, weak_name_at, weak_opcode_at};
 ghost use Rattle.mach_streams.specs.WeakBindsLeft.{HasEndedWeakBinds, first_weak, set_now, weak_after, weak_bind_read, weak_binds_left, weak_reads_left};
 
+mod faults;
+
 use crate::cut::Cut;
 use mach_base::{ByteCount, Ctx, Error, Result, ScrollError, Steps, quick_text, read_text};
 use mach_binds::bind_opcodes::*;

@@ -3,6 +3,7 @@
 mod commands;
 mod containers;
 mod fixups;
+mod lists;
 mod ranges;
 mod segments;
 mod symbols;

@@ -1,24 +1,24 @@
-//! Whether a fault stands among bindings. An instruction may make 2^64 - 1 binds: they are judged at once, by where the places of
-//! its turns lie, so that the work goes by the instructions and not by the binds.
+//! Whether a fault stands among bindings: those of one instruction are judged at once, by where the places of its turns lie.
 
-ghost use Rattle.std.specs.Prelude.{◌≡◌, ◌+◌, ◌<◌, ◌≤◌, ◌^◌, ◌++◌, ℕ, Ok, Err, map, true, false, not, slice_get, IfSome, IfNone};
+ghost use Rattle.std.specs.Prelude.{◌≡◌, ◌+◌, ◌<◌, ◌≤◌, ◌^◌, ℕ, Ok, Err, map, true, false, slice_get, IfSome, IfNone};
 ghost use Rattle.mach_base.specs.Fault.{malformed};
 ghost use Rattle.mach_segments.specs.Segment.{segment_view};
 ghost use Rattle.mach_binds.specs.Bindings.{spot_of};
 ghost use Rattle.mach_binds.specs.BindingFaults as defined;
-ghost use Rattle.mach_binds.specs.BindingFaults.{has_fault, still_made, offset_at, binding_reads_left};
-ghost use Rattle.mach_binds.specs.BindingsLeft.{binding_rules, opcode_bindings_left};
-ghost use Rattle.mach_binds.specs.Machine.{items_left, opcodes_left};
+ghost use Rattle.mach_binds.specs.BindingFaults.{has_fault, offset_at, binding_reads_left};
+ghost use Rattle.mach_binds.specs.BindingsLeft.{opcode_bindings_left};
 
 use crate::bindings::{Extra, OpcodeBindingIterator};
-use crate::imports::stream::Stream;
-use crate::turns::Turns;
+use crate::imports::settings::Settings;
+use crate::imports::source::Source;
+use crate::judging::JudgesAll;
+use crate::turns::none_above;
 use mach_base::Steps;
 use mach_segments::segment::Segment;
 
-// The segment of a number.
+/// The segment of a number.
 #[tactic(auto, using(mach_segments::proofs::SegmentViews::segment_seen))]
-fn segment_at<'a, 'b>(segments: &'b [Segment<'a>], number: u8) -> Option<&'b Segment<'a>>
+pub fn segment_at<'a, 'b>(segments: &'b [Segment<'a>], number: u8) -> Option<&'b Segment<'a>>
     ensures some { IfSome result (λ s. slice_get (map segment_view segments.now) number ≡ Some (segment_view s.now)) }
     ensures none { IfNone result (slice_get (map segment_view segments.now) number ≡ None) }
 {
@@ -38,9 +38,9 @@ fn highest_offset(pointer: u8, segment: &Segment<'_>) -> Option<u64>
     Some(room.min(in_file.min(address)))
 }
 
-// Whether each of `count` turns, the first at an offset and each next one a stride further, modulo 2^64, is at a place of
-// a segment where a pointer lies in it.
-fn all_lie(
+/// Whether each of `count` turns, the first at an offset and each next one a stride further, modulo 2^64, is at a place of
+/// a segment where a pointer lies in it.
+pub fn all_lie(
     pointer: u8,
     segments: &[Segment<'_>],
     number: u8,
@@ -60,47 +60,32 @@ fn all_lie(
     let Some(highest) = highest_offset(pointer, segment) else {
         return false;
     };
-    // The offsets above the highest are moved to the start of the ring.
-    let above = u64::MAX - highest;
-    let turns = Turns {
-        count: u128::from(count),
-        first: u128::from(offset.wrapping_add(above)),
-        step: u128::from(stride),
-        size: 1 << 64,
-    };
-    !turns.any_below(u128::from(above))
+    none_above(highest, offset, stride, count)
 }
 
-impl Stream<'_, '_, Extra> {
-    // Whether each bind that the last instruction still makes has a binding.
-    fn all_bind(&self) -> bool
-        requires { 0 < self.now.state.count }
-        ensures { has_fault (still_made binding_rules self.now) ≡ not result }
-    {
-        let settings = &self.state.settings;
-        if !self.more.is_complete(settings.library) {
+impl<'a> JudgesAll<'a> for Extra {
+    fn all_make(
+        self,
+        source: &Source<'a, '_>,
+        settings: &Settings<'a>,
+        stride: u64,
+        count: u64,
+    ) -> bool {
+        if !self.is_complete(settings.library) {
             return false;
         }
-        let Some(_) = self.more.provider(self.source.libs, settings.library) else {
+        let Some(_) = self.provider(source.libs, settings.library) else {
             return false;
         };
-        let (segments, number) = (self.source.segments, settings.segment);
-        let (offset, stride, count) = (settings.offset, self.state.stride, self.state.count);
-        all_lie(self.source.pointer, segments, number, offset, stride, count)
-    }
-
-    // Goes on behind them.
-    fn pass(&mut self)
-        requires on { self.old.state.ended ≡ false }
-        requires some { 0 < self.old.state.count }
-        ensures on { self.new.state.ended ≡ false }
-        ensures items { has_fault (still_made binding_rules self.old) ≡ false
-            → items_left binding_rules self.old ≡ still_made binding_rules self.old ++ items_left binding_rules self.new }
-        ensures reads { opcodes_left binding_rules self.new ≡ opcodes_left binding_rules self.old }
-    {
-        let by = self.state.stride.wrapping_mul(self.state.count);
-        self.state.settings.advance(by);
-        self.state.count = 0;
+        let (number, offset) = (settings.segment, settings.offset);
+        all_lie(
+            source.pointer,
+            source.segments,
+            number,
+            offset,
+            stride,
+            count,
+        )
     }
 }
 
@@ -119,18 +104,6 @@ impl OpcodeBindingIterator<'_, '_> {
         ensures bounded { steps.new ≤ steps.old + binding_reads_left self.entry + 1 }
         ensures kept { steps.old ≤ steps.new }
     {
-        let mut stream = self.stream;
-        'instructions: while !stream.state.ended {
-            match stream.arrive(steps) {
-                Ok(true) => {}
-                Ok(false) => return false,
-                Err(_) => return true,
-            }
-            if !stream.all_bind() {
-                return true;
-            }
-            stream.pass();
-        }
-        false
+        self.stream.has_fault_counted(steps)
     }
 }

@@ -135,8 +135,8 @@ fn is_text(segment: &PlacedSegment) -> bool
     segment.command.segname.starts_with(b"__TEXT\0")
 }
 
-// What offsets of segments count from: the address of the first segment named `__TEXT`.
-fn text_address(layout: &Layout<'_, '_>) -> u64
+/// What offsets of segments count from: the address of the first segment named `__TEXT`.
+pub fn text_address(layout: &Layout<'_, '_>) -> u64
     ensures { result ≡ defined.text_address (laid_of layout.now) }
 {
     'segments: for segment in layout.segments() {

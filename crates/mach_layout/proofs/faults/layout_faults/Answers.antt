@@ -1,5 +1,6 @@
 use Rattle.std.proofs.Common.{List, subst}
-use Rattle.mach_layout.specs.Bindings.{AreBindFaults}
+use Rattle.mach_image.specs.ImageFacts.{facts_held}
+use Rattle.mach_layout.specs.ListFaults.{AreListFaults}
 use Rattle.mach_rules.specs.Faults.{AreLayoutFaults, AddsSegments}
 use Rattle.mach_rules.specs.Laid.{Laid, laid_of}
 use Rattle.mach_rules.specs.declared.fault.LayoutFault.{LayoutFault}
@@ -8,7 +9,7 @@ use Rattle.mach_layout.proofs.faults.layout_faults.Goals as goal
 pub returns-clause-listed : goal.returns-clause-listed
 returns-clause-listed g c =
     let laid = laid_of c.layout_of-layout.result in
-    subst (λ (here : Laid). AreLayoutFaults here (AreBindFaults c.args.image.now) c.add_all_symbols.new.faults.items) c.layout_of-layout.ensures
+    subst (λ (here : Laid). AreLayoutFaults here (AreListFaults (facts_held c.args.image.now)) c.add_all_symbols.new.faults.items) c.layout_of-layout.ensures
     (record {
       of_segments = c.add_segments.new.faults.items;
       of_sections = c.add_sections.new.faults.items;

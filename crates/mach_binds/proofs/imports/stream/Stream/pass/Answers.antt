@@ -1,13 +1,13 @@
 use Rattle.mach_binds.proofs.Names.{Bool, ◌∙◌, refl, ap, Bind, State, input_of, lazy_of, state_of, bind_of, items_left, opcodes_left}
 use Rattle.mach_binds.proofs.Names.{reads_of, items_of, after_strides, ◌++◌, sym}
-use Rattle.mach_binds.specs.BindingsLeft.{binding_rules}
 use Rattle.mach_binds.specs.BindingFaults.{still_made}
 use Rattle.mach_binds.proofs.BindingTurns.{pass_items, behind_all}
-use Rattle.mach_binds.proofs.bindings.faults.Stream+Extra.pass.Goals as goal
+use Rattle.mach_binds.proofs.imports.stream.Stream.pass.Goals as goal
 
 pub returns-clause-items : goal.returns-clause-items
 unfolding items_left
-returns-clause-items c = λ none.
+returns-clause-items g c = λ none.
+    let u = g.M.Makes.rules in
     let it = c.args.self.now in
     let s = state_of it.state in
     let b = c.advance.ensures.moved ∙ behind_all (bind_of it.state.settings) it.state.stride it.state.count c.requires.some in
@@ -20,10 +20,10 @@ returns-clause-items c = λ none.
       ended = it.state.ended;
     } in
     let after = after_strides (bind_of it.state.settings) it.state.stride it.state.count in
-    pass_items binding_rules (input_of it.source) (lazy_of it) it.more s c.requires.on none
-    ∙ ap (λ t. still_made binding_rules it ++ items_of binding_rules (input_of it.source) (lazy_of it) it.more t)
+    pass_items u (input_of it.source) (lazy_of it) it.more s c.requires.on none
+    ∙ ap (λ t. still_made u it ++ items_of u (input_of it.source) (lazy_of it) it.more t)
     (sym (ap (with_bind c.advance.new.self.is_lazy) b ∙ ap (λ l. with_bind l after) c.advance.ensures.same))
 
 pub returns-clause-reads : goal.returns-clause-reads
 unfolding opcodes_left reads_of
-returns-clause-reads c = rw c.advance.ensures.same refl
+returns-clause-reads g c = rw c.advance.ensures.same refl

@@ -1,0 +1,66 @@
+//! Whether a fault stands among rebases: those of one instruction are judged at once.
+
+ghost use Rattle.std.specs.Prelude.{◌≡◌, ◌+◌, ◌<◌, ◌≤◌, ◌^◌, IfSome, IfNone};
+ghost use Rattle.mach_segments.specs.Segment.{segment_view};
+ghost use Rattle.mach_binds.specs.BindingFaults.{has_fault};
+ghost use Rattle.mach_streams.specs.RebasesLeft.{highest_rebase, opcode_rebases_left, rebase_reads_left};
+
+use crate::rebases::{OpcodeRebaseIterator, RebaseKind, Rebasing};
+use mach_base::Steps;
+use mach_binds::bindings::segment_at;
+use mach_binds::machine::{JudgesAll, Settings, Source, none_above};
+use mach_segments::segment::Segment;
+
+// The highest offset at which a segment holds a pointer, at an address of 64 bits; None where it is smaller than one.
+fn highest_offset(pointer: u8, segment: &Segment<'_>) -> Option<u64>
+    ensures some { IfSome result (λ h. h ≡ highest_rebase pointer (segment_view segment.now)) }
+    ensures large { IfSome result (λ h. pointer ≤ segment.now.vmsize) }
+    ensures small { IfSome result (λ h. segment.now.vmaddr < 2 ^ 64) }
+    ensures none { IfNone result (segment.now.vmsize < pointer) }
+{
+    let room = segment.vmsize.checked_sub(u64::from(pointer))?;
+    Some(room.min(u64::MAX - segment.vmaddr))
+}
+
+impl<'a> JudgesAll<'a> for Rebasing {
+    fn all_make(
+        self,
+        source: &Source<'a, '_>,
+        settings: &Settings<'a>,
+        stride: u64,
+        count: u64,
+    ) -> bool {
+        if !self.has_segment {
+            return false;
+        }
+        let Some(_) = RebaseKind::of(self.kind) else {
+            return false;
+        };
+        let Some(segment) = segment_at(source.segments, settings.segment) else {
+            return false;
+        };
+        let Some(highest) = highest_offset(source.pointer, segment) else {
+            return false;
+        };
+        none_above(highest, settings.offset, stride, count)
+    }
+}
+
+impl OpcodeRebaseIterator<'_, '_> {
+    /// Whether a fault stands among the rebases that are left. It takes no memory, and of each opcode a bounded time: so it is
+    /// linear in the bytes of the stream, however many rebases there are.
+    pub fn has_fault(self) -> bool
+        ensures { result ≡ has_fault (opcode_rebases_left self.entry) }
+    {
+        self.has_fault_counted(&mut Steps::new())
+    }
+
+    /// The same, with the opcodes that are read added to a count: at most those that can be read, and one more.
+    pub fn has_fault_counted(self, steps: &mut Steps) -> bool
+        ensures fault { result ≡ has_fault (opcode_rebases_left self.entry) }
+        ensures bounded { steps.new ≤ steps.old + rebase_reads_left self.entry + 1 }
+        ensures kept { steps.old ≤ steps.new }
+    {
+        self.stream.has_fault_counted(steps)
+    }
+}
