@@ -76,6 +76,7 @@ pub use mach_image::stream_facts::no_weak_binds_without_opcodes;
 pub use mach_image::stream_facts::one_list_of_image_rebases;
 pub use mach_image::stream_facts::one_list_of_image_weak_binds;
 pub use mach_image::stream_facts::rebases_are_fixups_without_opcodes;
+pub use mach_image::stream_facts::rebases_come_of_fixups;
 pub use mach_image::stream_facts::rebases_of_image;
 pub use mach_image::stream_facts::weak_binds_of_image;
 pub use mach_image::table_facts::build_tools_of_image;

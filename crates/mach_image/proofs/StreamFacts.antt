@@ -1,13 +1,13 @@
 -- Facts on the rebases and the weak binds of an image, and what holds of them.
-use Rattle.std.proofs.Common.{◌≡◌, ◌++◌, ℕ, List, [], ◌∷◌, map, Option, Some, None, Result, Ok, Err, refl, sym, ap, subst, ◌∙◌}
+use Rattle.std.proofs.Common.{◌≡◌, ◌++◌, ℕ, List, [], ◌∷◌, Option, Some, None, Result, Ok, Err, refl, sym, ap, subst, inl, inr, ◌∙◌}
+use Rattle.mach_base.proofs.Binds.{same_ok}
+use Rattle.mach_base.specs.Among.{IsAmong}
 use Rattle.mach_base.specs.Context.{pointer_size}
-use Rattle.mach_base.specs.Fault.{Fault, fault_item}
-use Rattle.mach_base.specs.declared.context.Ctx.{Ctx}
+use Rattle.mach_base.specs.Fault.{Fault}
 use Rattle.mach_base.specs.declared.context.Endian.{Endian}
-use Rattle.mach_load.specs.Command.{Command}
 use Rattle.mach_segments.specs.Segment.{SegmentView}
 use Rattle.mach_binds.specs.Bindings.{upto_fault}
-use Rattle.mach_chained.specs.Bindings.{binding_by, binding_in, chained_binding_of}
+use Rattle.mach_chained.specs.Bindings.{binding_by, chained_binding_of}
 use Rattle.mach_chained.specs.Chained.{PlacedFixup, fixup_items}
 use Rattle.mach_chained.specs.Fixups.{FixupInput, Fixup}
 use Rattle.mach_chained.specs.Header.{Fixups}
@@ -23,7 +23,7 @@ use Rattle.mach_image.specs.ImageStreams.{rebase_stream_in, weak_stream_in}
 use Rattle.mach_image.specs.Modes.{Agrees}
 use Rattle.mach_image.specs.OpenImage.{bytes_held, commands_held, ctx_held, segments_held}
 use Rattle.mach_image.specs.StreamFacts.{HasRebases, HasWeakBinds, HasOneListOfRebases, HasOneListOfWeakBinds, HasNoWeakBindsThen, HasRebasesOfFixups}
-use Rattle.mach_image.specs.StreamFacts.{IsToldOnce, told_nowhere, told_as_rebase, told_as_binding, EachIsToldOnce}
+use Rattle.mach_image.specs.StreamFacts.{IsToldOnce, told_nowhere, told_as_rebase, told_as_binding, EachIsToldOnce, RebasesComeOfFixups}
 use Rattle.mach_image.specs.Subjects.{lossy_segments_in}
 use Rattle.mach_image.specs.declared.macho.MachO.{MachO}
 use Rattle.mach_image.proofs.ImageFacts.{one_image, said_of}
@@ -142,3 +142,40 @@ told_by x libs f (value number) e = told_nowhere number e (ap (rebase_by f) e) (
 
 pub told_once : EachIsToldOnce
 told_once x libs f = told_by x libs f f.kind refl
+
+-- ---- all of them
+
+abbrev OfOne : List (Result Fixup Fault) → Rebase → Type 0
+OfOne fixups r = (f : Fixup) × IsAmong (Ok f) fixups × (rebase_in f ≡ Some r)
+
+further : (x : Result Fixup Fault) (items : List (Result Fixup Fault)) (r : Rebase) → OfOne items r → OfOne (x ∷ items) r
+further x items r h = (h.0, inr h.1, h.2)
+
+by_own : (f : Fixup) (items : List (Result Fixup Fault)) (r : Rebase) → (IsAmong (Ok r) (rebases_among items) → OfOne items r)
+    → (own : Option Rebase) → rebase_in f ≡ own → IsAmong (Ok r) (rebases_before own (rebases_among items)) → OfOne (Ok f ∷ items) r
+by_own f items r rest None e h = further (Ok f) items r (rest h)
+by_own f items r rest (Some s) e (inl same) = (f, inl refl, e ∙ ap (λ (q : Rebase). Some q) (sym (same_ok same)))
+by_own f items r rest (Some s) e (inr h) = further (Ok f) items r (rest h)
+
+comes_of : (fixups : List (Result Fixup Fault)) (r : Rebase) → IsAmong (Ok r) (rebases_among fixups) → OfOne fixups r
+comes_of [] r h = absurd h
+comes_of (Err g ∷ items) r (inl e) = absurd (cc)
+comes_of (Err g ∷ items) r (inr h) = further (Err g) items r (comes_of items r h)
+comes_of (Ok f ∷ items) r h = by_own f items r (λ k. comes_of items r k) (rebase_in f) refl h
+
+later : (own : Option Rebase) (items : List (Result Rebase Fault)) (r : Rebase) → IsAmong (Ok r) items → IsAmong (Ok r) (rebases_before own items)
+later None items r h = h
+later (Some s) items r h = inr h
+
+is_told : (fixups : List (Result Fixup Fault)) (f : Fixup) (r : Rebase) → IsAmong (Ok f) fixups → rebase_in f ≡ Some r
+    → IsAmong (Ok r) (rebases_among fixups)
+is_told [] f r h e = absurd h
+is_told (Err g ∷ items) f r (inl h) e = absurd (cc)
+is_told (Err g ∷ items) f r (inr h) e = inr (is_told items f r h e)
+is_told (Ok x ∷ items) f r (inl h) e =
+    let own : rebase_in x ≡ Some r = ap rebase_in (sym (same_ok h)) ∙ e in
+    subst (λ (o : Option Rebase). IsAmong (Ok r) (rebases_before o (rebases_among items))) (sym own) (inl refl)
+is_told (Ok x ∷ items) f r (inr h) e = later (rebase_in x) (rebases_among items) r (is_told items f r h e)
+
+pub come_of_fixups : RebasesComeOfFixups
+come_of_fixups fixups r = (λ h. comes_of fixups r h, λ h. is_told fixups h.0 r h.1 h.2)

@@ -1,5 +1,6 @@
 -- What the bytes say of the rebases and the weak binds of the image that opens at a place, and what holds of them.
-use Rattle.std.specs.Prelude.{◌≡◌, ℕ, List, [], Some, None, Result}
+use Rattle.std.specs.Prelude.{◌≡◌, ◌↔◌, ℕ, List, [], Some, None, Result, Ok}
+use Rattle.mach_base.specs.Among.{IsAmong}
 use Rattle.mach_base.specs.Context.{pointer_size}
 use Rattle.mach_base.specs.Fault.{Fault}
 use Rattle.mach_segments.specs.Bindings.{Binding}
@@ -57,3 +58,9 @@ pub data IsToldOnce (x : FixupInput) (libs : List (List ℕ)) (f : Fixup) : Type
 
 abbrev pub EachIsToldOnce : Type 0
 EachIsToldOnce = (x : FixupInput) (libs : List (List ℕ)) (f : Fixup) → IsToldOnce x libs f
+
+-- the rebases among some fixups are those that come of them, and no others
+abbrev pub RebasesComeOfFixups : Type 0
+RebasesComeOfFixups =
+    (fixups : List (Result Fixup Fault)) (r : Rebase)
+    → IsAmong (Ok r) (rebases_among fixups) ↔ ((f : Fixup) × IsAmong (Ok f) fixups × (rebase_in f ≡ Some r))

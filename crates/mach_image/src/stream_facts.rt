@@ -6,7 +6,7 @@ ghost use Rattle.mach_image.specs.ImageStreams.{AreImageRebases, AreImageWeakBin
 ghost use Rattle.mach_image.specs.Modes.{Agrees};
 ghost use Rattle.mach_image.specs.OpenImage.{bytes_held, commands_held, ctx_held, segments_held};
 ghost use Rattle.mach_image.specs.StreamFacts.{HasRebases, HasWeakBinds, HasOneListOfRebases, HasOneListOfWeakBinds, HasNoWeakBindsThen, HasRebasesOfFixups};
-ghost use Rattle.mach_image.specs.StreamFacts.{EachIsToldOnce};
+ghost use Rattle.mach_image.specs.StreamFacts.{EachIsToldOnce, RebasesComeOfFixups};
 
 use crate::macho::MachO;
 use std::alloc::Allocator;
@@ -56,4 +56,9 @@ pub fn rebases_are_fixups_without_opcodes()
 /// other.
 pub fn fixups_are_told_once()
     ensures { EachIsToldOnce }
+{}
+
+/// The rebases among fixups are those that come of them, and no others.
+pub fn rebases_come_of_fixups()
+    ensures { RebasesComeOfFixups }
 {}

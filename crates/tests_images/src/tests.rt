@@ -10,5 +10,6 @@ mod libraries;
 mod look_up;
 mod prefixes;
 mod same;
+mod streams;
 mod symbols;
 mod view;
