@@ -14,12 +14,14 @@ const STREAMS: [u8; 16] = [
 
 // File D, whose command says that the streams stand behind it.
 fn with_streams(alloc: Global) -> Result<Vec<u8>, AllocError> {
+    let mut file = FILE_D;
+    file[216..220].copy_from_slice(&436u32.to_le_bytes());
+    file[220..224].copy_from_slice(&4u32.to_le_bytes());
+    file[232..236].copy_from_slice(&440u32.to_le_bytes());
+    file[236..240].copy_from_slice(&12u32.to_le_bytes());
     let mut bytes = Vec::new(alloc);
-    bytes.extend_from_slice(&FILE_D)?;
+    bytes.extend_from_slice(&file)?;
     bytes.extend_from_slice(&STREAMS)?;
-    for (place, number) in [(216, 436u32), (220, 4), (232, 440), (236, 12)] {
-        bytes[place..place + 4].copy_from_slice(&number.to_le_bytes());
-    }
     Ok(bytes)
 }
 
