@@ -7,7 +7,7 @@ use Rattle.mach_base.specs.Fault.{Fault, malformed, bad_magic, too_short, fault_
 use Rattle.mach_base.specs.declared.error.Error.TheVariants as errors
 use Rattle.mach_base.specs.Items.{items_from, all_read}
 use Rattle.mach_write.specs.Entries.{FatEntryView}
-use Rattle.mach_fat.specs.EntriesRead.{slice_of, entry_with, entry_before, entry_read_by, entries_by, file_entries}
+use Rattle.mach_fat.specs.EntriesRead.{slice_of, entry_with, entry_ahead, entry_read_by, entries_by, file_entries}
 use Rattle.mach_fat.specs.Creates.{UnfitFile, entries_before, entries_of_files, texts_now, RefusesFiles}
 use Rattle.mach_fat.specs.Unfit.{Unfit, unread, no_such_entry, out_of_file, overlap, no_such_cpu, RefusesAs}
 use Rattle.mach_fat.specs.declared.refusal.EntryRefusal.{EntryRefusal}
@@ -67,9 +67,9 @@ module _ {A : Type 0} (item : ℕ → Result A Fault) (n : ℕ) where
       ∙ ap (λ count. before found (all_read (items_from item i count))) (let none : n - i ≡ 0 = omega (arith, past) in none)
       ∙ before_all found
 
-entry_before_is : (e : FatEntryView) (rest : Result (List FatEntryView) Unfit) → entry_before e rest ≡ before (e ∷ []) rest
-entry_before_is e (Ok es) = refl
-entry_before_is e (Err why) = refl
+entry_ahead_is : (e : FatEntryView) (rest : Result (List FatEntryView) Unfit) → entry_ahead e rest ≡ before (e ∷ []) rest
+entry_ahead_is e (Ok es) = refl
+entry_ahead_is e (Err why) = refl
 
 -- the entries of records, one of which was found
 module _ (bytes : List ℕ) (records : List EntryRecord) where
@@ -83,7 +83,7 @@ module _ (bytes : List ℕ) (records : List EntryRecord) where
       gathered
       ∙ ap (before found) (at_drop_more (λ rs. entries_by bytes i rs) records i d inside)
       ∙ ap (λ there. before found (entry_read_by i r there rest)) is
-      ∙ ap (before found) (entry_before_is (entry_with r slice) rest)
+      ∙ ap (before found) (entry_ahead_is (entry_with r slice) rest)
       ∙ before_both found (entry_with r slice ∷ []) rest
       ∙ ap (λ xs. before xs rest) (sym more)
 

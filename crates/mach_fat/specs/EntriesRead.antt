@@ -18,13 +18,13 @@ abbrev pub entry_with : EntryRecord → List ℕ → FatEntryView
 entry_with r bytes = record { cputype = r.cputype; cpusubtype = r.cpusubtype; align = r.align; bytes = bytes }
 
 -- an entry before those behind it
-abbrev pub entry_before : FatEntryView → Result (List FatEntryView) Unfit → Result (List FatEntryView) Unfit
-entry_before e (Ok es) = Ok (e ∷ es)
-entry_before e (Err why) = Err why
+abbrev pub entry_ahead : FatEntryView → Result (List FatEntryView) Unfit → Result (List FatEntryView) Unfit
+entry_ahead e (Ok es) = Ok (e ∷ es)
+entry_ahead e (Err why) = Err why
 
 -- entry i, if its bytes are there, and those behind it
 abbrev pub entry_read_by : ℕ → EntryRecord → Option (List ℕ) → Result (List FatEntryView) Unfit → Result (List FatEntryView) Unfit
-entry_read_by i r (Some slice) rest = entry_before (entry_with r slice) rest
+entry_read_by i r (Some slice) rest = entry_ahead (entry_with r slice) rest
 entry_read_by i r None rest = Err (out_of_file i)
 
 -- the entries of records, numbered from i on, or the first that isn't in the file
