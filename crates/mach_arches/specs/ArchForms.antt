@@ -11,12 +11,13 @@ use Rattle.mach_arches.specs.FatRecords.{fat_arch_64_fields, fat_arch_64_of_valu
 use Rattle.mach_arches.specs.declared.arch64.FatArch64.{FatArch64}
 
 -- What the records of a table are: how many bytes each has, its fields, the record of their values, and what a record says of its
--- entry: the cpu, its place and its length.
+-- entry: the cpu and its kind, its place and its length.
 pub record ArchForm (R : Type 0) : Type 0 where
   pub stride : ℕ
   pub fields : List Field
   pub of_values : List Value → R
   pub cputype : R → ℕ
+  pub cpusubtype : R → ℕ
   pub offset : R → ℕ
   pub size : R → ℕ
 
@@ -28,6 +29,7 @@ arch_form_32 =
       fields = fat_arch_fields;
       of_values = fat_arch_of_values;
       cputype = λ a. a.cputype;
+      cpusubtype = λ a. a.cpusubtype;
       offset = λ a. a.offset;
       size = λ a. a.size;
     }
@@ -39,6 +41,7 @@ arch_form_64 =
       fields = fat_arch_64_fields;
       of_values = fat_arch_64_of_values;
       cputype = λ a. a.cputype;
+      cpusubtype = λ a. a.cpusubtype;
       offset = λ a. a.offset;
       size = λ a. a.size;
     }

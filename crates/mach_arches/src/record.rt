@@ -19,6 +19,14 @@ pub trait ArchRecord: Record {
     fn entry_cpu(&self) -> CpuType
         ensures { result ≡ arch_form.cputype self.now };
 
+    /// The kind of this cpu, and its capabilities in the top 8 bits.
+    fn entry_cpu_kind(&self) -> u32
+        ensures { result ≡ arch_form.cpusubtype self.now };
+
+    /// The entry's place in the file.
+    fn entry_offset(&self) -> u64
+        ensures { result ≡ arch_form.offset self.now };
+
     /// The entry's bytes, where they lie in the file; else none.
     fn entry_slice<'a>(&self, bytes: &'a [u8]) -> &'a [u8]
         ensures { result.now ≡ part_of bytes.now (arch_form.offset self.now) (arch_form.size self.now) };
@@ -37,6 +45,14 @@ impl ArchRecord for FatArch {
         self.cputype
     }
 
+    fn entry_cpu_kind(&self) -> u32 {
+        self.cpusubtype
+    }
+
+    fn entry_offset(&self) -> u64 {
+        u64::from(self.offset)
+    }
+
     fn entry_slice<'a>(&self, bytes: &'a [u8]) -> &'a [u8] {
         self.slice(bytes)
     }
@@ -51,6 +67,14 @@ impl ArchRecord for FatArch64 {
 
     fn entry_cpu(&self) -> CpuType {
         self.cputype
+    }
+
+    fn entry_cpu_kind(&self) -> u32 {
+        self.cpusubtype
+    }
+
+    fn entry_offset(&self) -> u64 {
+        self.offset
     }
 
     fn entry_slice<'a>(&self, bytes: &'a [u8]) -> &'a [u8] {

@@ -56,6 +56,13 @@ impl<'a, R: ArchRecord, A: Allocator> FatTable<'a, R, A> {
         })
     }
 
+    /// The bytes of the file.
+    pub fn bytes(&self) -> &'a [u8]
+        ensures { result.now ≡ (file_held self.now).bytes }
+    {
+        self.bytes
+    }
+
     /// The records of all entries in order, each or its error.
     pub fn iter_arches(&self) -> ArchIterator<'a, R>
         ensures items { archs_left_in R.arch_form result ≡ archs_in R.arch_form (file_held self.now) }

@@ -1,0 +1,5 @@
+mod files;
+mod made;
+mod same;
+mod tables;
+mod text;
