@@ -25,8 +25,8 @@ pub enum Input<'a, A: Allocator = Global> {
     Archive(Archive<'a>),
 }
 
-// Whether the bytes begin as an archive does, or as one whose members are other files.
-fn begins_archive(bytes: &[u8]) -> bool
+/// Whether the bytes begin as an archive does, or as one whose members are other files.
+pub(crate) fn begins_archive(bytes: &[u8]) -> bool
     ensures { result ≡ begins_any_archive bytes.now }
 {
     bytes.starts_with(b"!<arch>\n") || bytes.starts_with(b"!<thin>\n")

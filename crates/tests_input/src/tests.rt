@@ -1,4 +1,5 @@
 mod files;
+mod items;
 mod made;
 mod same;
 mod tables;

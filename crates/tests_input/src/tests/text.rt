@@ -1,7 +1,7 @@
 //! What files and their tables are, as short texts.
 
 use goblin_mach::{FatArch64, Mach, MultiArch64, Result as Read, SingleArch, describe};
-use mach_input::Input;
+use mach_input::{Content, Input, InputItem};
 use std::alloc::{AllocError, Global};
 use std::fmt::Write;
 
@@ -108,6 +108,54 @@ pub fn table_text(
             Err(error) => write!(&mut text, "{}", describe(&error))?,
         },
         (Err(error), _) => write!(&mut text, "{}", describe(&error))?,
+    }
+    Ok(text)
+}
+
+// Where an item stands, and what stands there: of what may be an image, whether it opens.
+fn push_item(alloc: Global, text: &mut String, item: &InputItem<'_>) -> Result<(), AllocError> {
+    if let Some(index) = item.place.entry {
+        write!(text, "entry {index} ")?;
+    }
+    if let Some(cpu) = item.place.cpu {
+        write!(text, "of 0x{:x}, 0x{:x} ", cpu.cputype, cpu.cpusubtype)?;
+    }
+    write!(text, "at {}: ", item.place.offset)?;
+    match &item.content {
+        Ok(content) => push_content(alloc, text, content),
+        Err(error) => write!(text, "{}; ", describe(error)),
+    }
+}
+
+fn push_content(
+    alloc: Global,
+    text: &mut String,
+    content: &Content<'_>,
+) -> Result<(), AllocError> {
+    match content {
+        Content::File(bytes) => write!(text, "{} bytes", bytes.len())?,
+        Content::NoMember => return write!(text, "no member; "),
+        Content::Member(member) => match member.name() {
+            Ok(name) => write!(text, "{name} at {}, {} bytes", member.start, member.bytes.len())?,
+            Err(error) => write!(text, "{}", describe(&error))?,
+        },
+    }
+    match content.open(alloc) {
+        Ok(image) => write!(text, ", image 0x{:x}; ", image.header.cputype),
+        Err(error) => write!(text, ", {}; ", describe(&error)),
+    }
+}
+
+/// What is within a file.
+pub fn items_text(alloc: Global, bytes: &[u8]) -> Result<String, AllocError> {
+    let mut text = String::new(alloc);
+    match Input::parse(alloc, bytes) {
+        Ok(input) => {
+            for item in input.images() {
+                push_item(alloc, &mut text, &item)?;
+            }
+        }
+        Err(error) => write!(&mut text, "{}", describe(&error))?,
     }
     Ok(text)
 }
