@@ -11,9 +11,7 @@ use crate::record::EntryRecord;
 use mach_base::{Error, Result};
 use mach_headers::fat::{FAT_MAGIC, FatArch, FatHeader, SIZEOF_FAT_ARCH, SIZEOF_FAT_HEADER};
 use mach_headers::magic::peek;
-use mach_write::{
-    FAT_MAGIC_64, FatArch64, FatEntry, SIZEOF_FAT_ARCH_64, write_fat, write_fat64,
-};
+use mach_write::{FAT_MAGIC_64, FatArch64, FatEntry, SIZEOF_FAT_ARCH_64, write_fat, write_fat64};
 use std::alloc::Allocator;
 
 /// How many bits a place and a length have in a fat file's table.

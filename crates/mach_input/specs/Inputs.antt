@@ -27,6 +27,7 @@ HasFat64Magic bytes = number_at Big 4 bytes 0 ≡ Ok 0xcafe_babf
 
 -- they are a fat file of 64 bits, whose header has 8 bytes
 pub record IsFat64 (bytes : List ℕ) : Type 0 where
+  pub no_archive : begins_any_archive bytes ≡ false
   pub magic : HasFat64Magic bytes
   pub header : 8 ≤ length bytes
 
@@ -50,7 +51,7 @@ pub data InputFault (bytes : List ℕ) : Fault → Type 0 where
 -- What they are: the archive, the fat file of 64 bits with the count of its header, or what `Mach::parse` opens.
 abbrev pub IsInput : {A : Type 0} → List ℕ → Input A → Type 0
 IsInput bytes (Archive a) = (begins_any_archive bytes ≡ true) × (archive_in bytes ≡ Ok (archive_of a))
-IsInput bytes (Fat64 m) = HasFat64Magic bytes × (fat_file_in bytes ≡ Ok (file_held m))
+IsInput bytes (Fat64 m) = (begins_any_archive bytes ≡ false) × HasFat64Magic bytes × (fat_file_in bytes ≡ Ok (file_held m))
 IsInput bytes (Fat m) = IsNeither bytes × IsMach IsImage bytes (files.Fat m)
 IsInput bytes (Image m) = IsNeither bytes × IsMach IsImage bytes (files.Binary m)
 

@@ -1,12 +1,12 @@
 -- The items that an iterator has yet to give.
-use Rattle.std.specs.Prelude.{ℕ, ◌-◌, List, [], ◌++◌, Option, Some, None, Result, Ok}
-use Rattle.mach_base.specs.Fault.{Fault}
+use Rattle.std.specs.Prelude.{ℕ, ◌-◌, List, [], ◌∷◌, ◌++◌, Option, Some, None, Result, Ok, Err}
+use Rattle.mach_base.specs.Fault.{Fault, fault_of}
 use Rattle.mach_base.specs.Items.{read_as}
 use Rattle.mach_arches.specs.ArchForms.{ArchForm, arch_form_32, arch_form_64}
 use Rattle.mach_archive.specs.ArchiveViews.{archive_of, members_left}
 use Rattle.mach_archive.specs.Members.{MemberView}
 use Rattle.mach_archive.specs.declared.members.Members.{Members}
-use Rattle.mach_input.specs.Items.{ItemView, content_view, member_items, items_of_archive, items_of_whole, items_of_entries, too_many, alone}
+use Rattle.mach_input.specs.Items.{ItemView, content_view, item_at, member_items, items_of_archive, items_of_whole, items_of_entries, too_many, alone}
 use Rattle.mach_input.specs.declared.images.Entries.{Entries}
 use Rattle.mach_input.specs.declared.images.Entries.TheVariants as entries
 use Rattle.mach_input.specs.declared.images.Images.{Images}
@@ -19,6 +19,12 @@ use Rattle.mach_input.specs.declared.item.Place.{Place}
 -- an item as it was given
 abbrev pub item_read : InputItem → ItemView
 item_read item = record { place = item.place; content = read_as content_view item.content }
+
+-- those of what stands at a place
+abbrev pub whole_items : Place → Whole → List ItemView
+whole_items place (wholes.Bytes bytes) = items_of_whole place bytes.now
+whole_items place (wholes.Archive a) = items_of_archive place (Ok (archive_of a))
+whole_items place (wholes.Refused e) = item_at place (Err (fault_of e)) ∷ []
 
 -- those of a table from one entry on
 abbrev pub items_of_table : {R : Type 0} → ArchForm R → Table → List ItemView
@@ -37,5 +43,9 @@ abbrev pub members_begun : Option Members → List (Result MemberView Fault)
 members_begun None = []
 members_begun (Some it) = members_left it
 
+-- those of an archive that was begun
+abbrev pub begun_items : Images → List ItemView
+begun_items it = member_items it.place (members_begun it.members)
+
 abbrev pub items_left : Images → List ItemView
-items_left it = member_items it.place (members_begun it.members) ++ entries_items it.entries
+items_left it = begun_items it ++ entries_items it.entries

@@ -1,10 +1,11 @@
 //! What is within a file, one item after the other.
 
-ghost use Rattle.std.specs.Prelude.{◌≡◌, ◌∷◌, ◌++◌, [], ℕ, List, Some, None, IfSome, IfNone};
-ghost use Rattle.mach_archive.specs.ArchiveViews.{archive_of};
+ghost use Rattle.std.specs.Prelude.{◌≡◌, ◌∷◌, ◌++◌, ◌/◌, [], ℕ, List, Ok, None, MatchOption, length, nat_le, true, false};
+ghost use Rattle.mach_archive.specs.ArchiveViews.{archive_of, member_read};
+ghost use Rattle.goblin_mach.specs.FatFile.{file_held};
 ghost use Rattle.mach_input.specs.Inputs.{IsInput};
-ghost use Rattle.mach_input.specs.Items.{items_in, member_items};
-ghost use Rattle.mach_input.specs.ItemsLeft.{item_read, items_left, items_of_table, entries_items, members_begun};
+ghost use Rattle.mach_input.specs.Items.{items_in, item_at, member_content, items_of_archive};
+ghost use Rattle.mach_input.specs.ItemsLeft.{item_read, items_left, begun_items, items_of_table, entries_items, whole_items};
 
 use crate::input::{Input, begins_archive};
 use crate::item::{Content, EntryCpu, InputItem, Place};
@@ -63,7 +64,9 @@ const ALONE: Place = Place {
 
 impl<'a> Images<'a> {
     // Those of a file, no member of which was given.
-    fn of(entries: Entries<'a>) -> Images<'a> {
+    fn of(entries: Entries<'a>) -> Images<'a>
+        ensures { items_left result ≡ entries_items entries }
+    {
         Images {
             entries,
             place: ALONE,
@@ -72,7 +75,10 @@ impl<'a> Images<'a> {
     }
 
     // The next member of the archive whose members are given.
-    fn next_member(&mut self) -> Option<InputItem<'a>> {
+    fn next_member(&mut self) -> Option<InputItem<'a>>
+        ensures given { MatchOption result (begun_items self.old ≡ []) (λ item. begun_items self.old ≡ item_read item ∷ begun_items self.new) }
+        ensures kept { self.new.entries ≡ self.old.entries }
+    {
         match &mut self.members {
             Some(members) => Some(member_item(self.place, members.next()?)),
             None => None,
@@ -80,7 +86,11 @@ impl<'a> Images<'a> {
     }
 
     // The first item of what stands at a place; the members behind it are left.
-    fn begin(&mut self, place: Place, whole: Whole<'a>) -> InputItem<'a> {
+    fn begin(&mut self, place: Place, whole: Whole<'a>) -> InputItem<'a>
+        requires { self.old.members ≡ None }
+        ensures given { whole_items place whole ≡ item_read result ∷ begun_items self.new }
+        ensures kept { self.new.entries ≡ self.old.entries }
+    {
         match whole {
             Whole::Refused(error) => InputItem {
                 place,
@@ -102,7 +112,10 @@ impl<'a> Images<'a> {
     }
 
     // The first item of an archive.
-    fn begin_archive(&mut self, place: Place, archive: Archive<'a>) -> InputItem<'a> {
+    fn begin_archive(&mut self, place: Place, archive: Archive<'a>) -> InputItem<'a>
+        ensures given { items_of_archive place (Ok (archive_of archive)) ≡ item_read result ∷ begun_items self.new }
+        ensures kept { self.new.entries ≡ self.old.entries }
+    {
         let mut members = archive.members();
         let first = members.next();
         self.place = place;
@@ -118,7 +131,9 @@ impl<'a> Images<'a> {
 }
 
 // The item of a member of the archive that stands at a place.
-fn member_item<'a>(place: Place, member: Result<Member<'a>>) -> InputItem<'a> {
+fn member_item<'a>(place: Place, member: Result<Member<'a>>) -> InputItem<'a>
+    ensures { item_read result ≡ item_at place (member_content (member_read member)) }
+{
     InputItem {
         place,
         content: match member {
@@ -130,7 +145,10 @@ fn member_item<'a>(place: Place, member: Result<Member<'a>>) -> InputItem<'a> {
 
 impl<'a> Table<'a> {
     // The next entry, with where it stands.
-    fn next<R: ArchRecord>(&mut self) -> Option<(Place, Whole<'a>)> {
+    fn next<R: ArchRecord>(&mut self) -> Option<(Place, Whole<'a>)>
+        ensures { MatchOption result ((items_of_table R.arch_form self.old ≡ []) × (items_of_table R.arch_form self.new ≡ []))
+            (λ found. items_of_table R.arch_form self.old ≡ whole_items found.0 found.1 ++ items_of_table R.arch_form self.new) }
+    {
         if self.index >= self.narches {
             return None;
         }
@@ -162,7 +180,10 @@ impl<'a> Table<'a> {
 
 impl<'a> Entries<'a> {
     // What is next, with where it stands.
-    fn next(&mut self) -> Option<(Place, Whole<'a>)> {
+    fn next(&mut self) -> Option<(Place, Whole<'a>)>
+        ensures { MatchOption result ((entries_items self.old ≡ []) × (entries_items self.new ≡ []))
+            (λ found. entries_items self.old ≡ whole_items found.0 found.1 ++ entries_items self.new) }
+    {
         match self {
             Entries::None => None,
             Entries::Narrow(table) => table.next::<FatArch>(),
@@ -187,7 +208,11 @@ impl<'a> Entries<'a> {
 }
 
 // The entries of a fat file.
-fn table_of<'a, R: ArchRecord, A: Allocator>(file: &FatTable<'a, R, A>) -> Option<Table<'a>> {
+fn table_of<'a, R: ArchRecord, A: Allocator>(file: &FatTable<'a, R, A>) -> Option<Table<'a>>
+    ensures { let f = file_held file.now in MatchOption result (nat_le f.narches (length f.bytes / R.arch_form.stride) ≡ false)
+        (λ table. (nat_le f.narches (length f.bytes / R.arch_form.stride) ≡ true)
+        × (table.bytes.now ≡ f.bytes) × (table.index ≡ 0) × (table.narches ≡ f.narches)) }
+{
     if has_room_for::<R>(file.bytes(), file.narches) {
         Some(Table {
             bytes: file.bytes(),
@@ -201,7 +226,9 @@ fn table_of<'a, R: ArchRecord, A: Allocator>(file: &FatTable<'a, R, A>) -> Optio
 
 impl<'a, A: Allocator> Input<'a, A> {
     /// What is within the file, one item after the other.
-    pub fn images(&self) -> Images<'a> {
+    pub fn images(&self) -> Images<'a>
+        ensures { (bytes : List ℕ) → IsInput bytes self.now → items_left result ≡ items_in bytes }
+    {
         Images::of(match self {
             Input::Image(image) => Entries::Image(image.bytes()),
             Input::Archive(archive) => Entries::Archive(*archive),
@@ -219,6 +246,12 @@ impl<'a, A: Allocator> Input<'a, A> {
 
 impl<'a> Iterator for Images<'a> {
     type Item = InputItem<'a>;
+
+    ghost use Rattle.std.specs.Iterator.{YieldsFirstBy, item_count};
+
+    ghost next_gives = { YieldsFirstBy item_read items_left };
+
+    ghost remaining = { item_count items_left };
 
     fn next(&mut self) -> Option<InputItem<'a>> {
         if let Some(item) = self.next_member() {

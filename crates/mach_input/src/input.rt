@@ -4,7 +4,7 @@ ghost use Rattle.std.specs.Prelude.{◌≡◌, ◌↔◌, IfOk, IfErr, IsOk, IsT
 ghost use Rattle.mach_base.specs.Answer.{Stands, IsOkUnlessMemory};
 ghost use Rattle.mach_archive.specs.Archives.{archive_in};
 ghost use Rattle.goblin_mach.specs.File.{IsFat};
-ghost use Rattle.mach_input.specs.Inputs.{begins_any_archive, HasFat64Magic, IsFat64, InputOpens, InputFault};
+ghost use Rattle.mach_input.specs.Inputs.{begins_any_archive, HasFat64Magic, IsFat64, IsNeither, InputOpens, InputFault};
 
 use goblin_mach::{FAT_MAGIC_64, Mach, MachO, MultiArch, MultiArch64, peek};
 use mach_archive::Archive;
@@ -52,7 +52,7 @@ impl<'a, A: Allocator + Clone> Input<'a, A> {
         ensures opened { IfOk result (IsInput bytes.now) }
         ensures only { InputOpens bytes.now → IsOkUnlessMemory result }
         ensures archive { begins_any_archive bytes.now ≡ true → IsOk (archive_in bytes.now) → IsOk result }
-        ensures fat { IsFat bytes.now → IsOk result }
+        ensures fat { IsNeither bytes.now → IsFat bytes.now → IsOk result }
         ensures fat_64 { IsFat64 bytes.now → IsOk result }
         ensures refused { IfErr result (Stands (InputFault bytes.now)) }
     {

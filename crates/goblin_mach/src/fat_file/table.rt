@@ -32,10 +32,7 @@ pub type MultiArch<'a, A = Global> = FatTable<'a, FatArch, A>;
 pub type MultiArch64<'a, A = Global> = FatTable<'a, FatArch64, A>;
 
 // The record of an entry, or the error of reading it, as one of another type.
-fn about<R: ArchRecord, E: From<Error>>(
-    bytes: &[u8],
-    index: usize,
-) -> std::result::Result<R, E>
+fn about<R: ArchRecord, E: From<Error>>(bytes: &[u8], index: usize) -> std::result::Result<R, E>
     ensures { IsAbout R.arch_form E.from_gives bytes.now index result }
 {
     Ok(read_arch::<R>(bytes, index)?)
@@ -206,8 +203,7 @@ impl<'a, 'b, R: ArchRecord, A: Allocator + Clone> Iterator for EntryIterator<'a,
 }
 
 impl<'a, 'b, R: ArchRecord, A: Allocator + Clone> ExactSizeIterator
-    for EntryIterator<'a, 'b, R, A>
-{
+    for EntryIterator<'a, 'b, R, A> {
     /// How many entries are left.
     fn len(&self) -> usize {
         self.file.narches.saturating_sub(self.index)

@@ -20,10 +20,7 @@ fn rows(rt: HostRuntime) -> Result<(), Fail> {
             [Piece::Bytes(b"!<thin>\n"), none, none],
             "malformed: an archive holds its members",
         ),
-        (
-            [Piece::Front64(0), none, none],
-            "fat of 0 by 64 bits: ",
-        ),
+        ([Piece::Front64(0), none, none], "fat of 0 by 64 bits: "),
         (
             [Piece::Bytes(b"\xca\xfe\xba\xbf"), none, none],
             "8 bytes are wanted and 4 are left",

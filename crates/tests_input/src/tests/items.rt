@@ -5,14 +5,11 @@ use crate::tests::text::items_text;
 use std::test::Fail;
 
 // The header of a member of 32 bytes, of one of bitcode, and of one that is cut.
-const IMAGE: &[u8] =
-    b"i.o/            0           0     0     644     32        `\n";
+const IMAGE: &[u8] = b"i.o/            0           0     0     644     32        `\n";
 
-const BITCODE: &[u8] =
-    b"b.o/            0           0     0     644     4         `\nBC\xc0\xde";
+const BITCODE: &[u8] = b"b.o/            0           0     0     644     4         `\nBC\xc0\xde";
 
-const CUT: &[u8] =
-    b"c.o/            0           0     0     644     9         `\nxy";
+const CUT: &[u8] = b"c.o/            0           0     0     644     9         `\nxy";
 
 #[test]
 fn of_one_file(rt: HostRuntime) -> Result<(), Fail> {
@@ -89,7 +86,11 @@ fn of_tables_cut(rt: HostRuntime) -> Result<(), Fail> {
             "at 0: 1 arches do not fit the file; ",
         ),
         (
-            [Piece::Front64(2), Piece::Record64(7, 3, 0, 0, 0, 0), Piece::Bytes(&[0; 24])],
+            [
+                Piece::Front64(2),
+                Piece::Record64(7, 3, 0, 0, 0, 0),
+                Piece::Bytes(&[0; 24]),
+            ],
             "entry 0 of 0x7, 0x3 at 0: 0 bytes, offset 0 is past the end; \
              entry 1 at 0: 32 bytes are wanted and 24 are left; ",
         ),

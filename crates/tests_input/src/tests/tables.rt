@@ -25,7 +25,10 @@ fn records(rt: HostRuntime) -> Result<(), Fail> {
     let alloc = rt.alloc();
     let [front, record, image] = ONE;
     for (pieces, want) in [
-        ([Piece::Front64(0), Piece::Bytes(&[]), Piece::Bytes(&[])], ""),
+        (
+            [Piece::Front64(0), Piece::Bytes(&[]), Piece::Bytes(&[])],
+            "",
+        ),
         (
             [front, record, image],
             "0x1000007, 0x3 at 40, 32 bytes, 2^3, slice of 32; ",
@@ -43,15 +46,15 @@ fn records(rt: HostRuntime) -> Result<(), Fail> {
             "0x7, 0x3 at 18446744073709551608, 16 bytes, 2^0, slice of 0; ",
         ),
         (
-            [
-                front,
-                Piece::Record64(7, 3, 40, 1, 0, 0),
-                Piece::Bytes(&[]),
-            ],
+            [front, Piece::Record64(7, 3, 40, 1, 0, 0), Piece::Bytes(&[])],
             "0x7, 0x3 at 40, 1 bytes, 2^0, slice of 0; ",
         ),
         (
-            [Piece::Bytes(b"\xca\xfe\xba\xbf\0\0\0"), Piece::Bytes(&[]), Piece::Bytes(&[])],
+            [
+                Piece::Bytes(b"\xca\xfe\xba\xbf\0\0\0"),
+                Piece::Bytes(&[]),
+                Piece::Bytes(&[]),
+            ],
             "8 bytes are wanted and 7 are left",
         ),
     ] {
@@ -119,7 +122,10 @@ fn shown(rt: HostRuntime) -> Result<(), Fail> {
     let one = made(alloc, &ONE)?;
     let file = MultiArch64::new(alloc, &one)?;
     let text = format!(in alloc; "{file:?}")?;
-    assert_eq!(rt; text.as_str(), "MultiArch64 { narches: 1, bytes: 72 bytes }");
+    assert_eq!(rt;
+        text.as_str(),
+        "MultiArch64 { narches: 1, bytes: 72 bytes }"
+    );
     let text = format!(in alloc; "{:?}", file.iter_arches())?;
     assert_eq!(rt;
         text.as_str(),

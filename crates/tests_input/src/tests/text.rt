@@ -56,11 +56,7 @@ pub fn mach_text(alloc: Global, bytes: &[u8]) -> Result<String, AllocError> {
 }
 
 // A record, with how many bytes it has in the file.
-fn push_record(
-    text: &mut String,
-    file: &[u8],
-    found: &Read<FatArch64>,
-) -> Result<(), AllocError> {
+fn push_record(text: &mut String, file: &[u8], found: &Read<FatArch64>) -> Result<(), AllocError> {
     match found {
         Ok(arch) => {
             write!(text, "0x{:x}, 0x{:x} ", arch.cputype, arch.cpusubtype)?;
@@ -91,11 +87,7 @@ pub fn records_text(alloc: Global, bytes: &[u8]) -> Result<String, AllocError> {
 }
 
 /// All records at once, or the first of a cpu.
-pub fn table_text(
-    alloc: Global,
-    bytes: &[u8],
-    cputype: Option<u32>,
-) -> Result<String, AllocError> {
+pub fn table_text(alloc: Global, bytes: &[u8], cputype: Option<u32>) -> Result<String, AllocError> {
     let mut text = String::new(alloc);
     match (MultiArch64::new(alloc, bytes), cputype) {
         (Ok(file), None) => match file.arches() {
@@ -127,16 +119,17 @@ fn push_item(alloc: Global, text: &mut String, item: &InputItem<'_>) -> Result<(
     }
 }
 
-fn push_content(
-    alloc: Global,
-    text: &mut String,
-    content: &Content<'_>,
-) -> Result<(), AllocError> {
+fn push_content(alloc: Global, text: &mut String, content: &Content<'_>) -> Result<(), AllocError> {
     match content {
         Content::File(bytes) => write!(text, "{} bytes", bytes.len())?,
         Content::NoMember => return write!(text, "no member; "),
         Content::Member(member) => match member.name() {
-            Ok(name) => write!(text, "{name} at {}, {} bytes", member.start, member.bytes.len())?,
+            Ok(name) => write!(
+                text,
+                "{name} at {}, {} bytes",
+                member.start,
+                member.bytes.len()
+            )?,
             Err(error) => write!(text, "{}", describe(&error))?,
         },
     }
