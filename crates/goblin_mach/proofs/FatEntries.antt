@@ -81,5 +81,6 @@ pub entry_in-record : {R : Type 0} (form : ArchForm R) (file : FatFile) (i : ℕ
     → arch_in form file.bytes i ≡ found
     → entry_in form file i ≡ (found >>= λ arch. fat_entry_of (part_of file.bytes (form.offset arch) (form.size arch)))
 entry_in-record {R} form file i found inside is =
-    ap (λ (b : Bool). cond b (arch_in form file.bytes i >>= λ arch. fat_entry_of (part_of file.bytes (form.offset arch) (form.size arch))) (Err malformed)) inside
+    ap (λ (b : Bool). cond b (arch_in form file.bytes i >>= λ arch. fat_entry_of (part_of file.bytes (form.offset arch) (form.size arch))) (Err malformed))
+    inside
     ∙ ap (λ (r : Result R Fault). r >>= λ arch. fat_entry_of (part_of file.bytes (form.offset arch) (form.size arch))) is

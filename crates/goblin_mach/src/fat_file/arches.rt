@@ -17,7 +17,7 @@ pub struct ArchIterator<'a, R> {
     bytes: &'a [u8],
     index: usize,
     narches: usize,
-    record: PhantomData<R>,
+    rows: PhantomData<R>,
 }
 
 /// The records of a fat file.
@@ -38,7 +38,7 @@ impl<'a, R: ArchRecord> ArchIterator<'a, R> {
             bytes,
             index: 0,
             narches,
-            record: PhantomData,
+            rows: PhantomData,
         }
     }
 }

@@ -22,7 +22,7 @@ pub struct FatTable<'a, R, A: Allocator = Global> {
     pub narches: usize,
     bytes: &'a [u8],
     alloc: A,
-    record: PhantomData<R>,
+    rows: PhantomData<R>,
 }
 
 /// A fat file: images and archives for several cpus, one behind the other.
@@ -49,7 +49,7 @@ impl<'a, R: ArchRecord, A: Allocator> FatTable<'a, R, A> {
             narches: header.nfat_arch as usize,
             bytes,
             alloc,
-            record: PhantomData,
+            rows: PhantomData,
         })
     }
 

@@ -20,7 +20,7 @@ returns-in_err-arch g c =
     let file = file_held c.args.self.now in
     let e = c.in_err-arch.field-0.0 in
     let bad = rw c.in_err-arch.was at c.in-Some.ensures.steps in
-    let fit = sym c.has_room_for.ensures ∙ c.if-has_room_for.true in
+    let fit = sym c.has_room_for.ensures ∙ c.if-not-has_room_for.false in
     let none = arches-refused form file c.arches.arches.items (archs_left_in form c.arches.arch-iterator) fit c.arches.invariant (fault_of e) _ bad in
     exit_gives _ _ e c.from_residual-in_err-arch.ensures.1 (table_in form file) (FailsAs-read e (table_in form file) none)
 
@@ -33,6 +33,6 @@ arches-preserved g c =
 pub returns : goal.returns
 returns g c =
     let form = g.R.ArchRecord.arch_form in
-    let fit = sym c.has_room_for.ensures ∙ c.if-has_room_for.true in
+    let fit = sym c.has_room_for.ensures ∙ c.if-not-has_room_for.false in
     arches-whole form (file_held c.args.self.now) c.arches.arches.items (archs_left_in form c.arches.arch-iterator) fit c.arches.invariant
     c.in-None.ensures.steps.0
