@@ -5,9 +5,11 @@ ghost use Rattle.mach_base.specs.declared.context.Endian.TheVariants.{Big};
 ghost use Rattle.mach_base.specs.Fault.{Fault};
 ghost use Rattle.mach_base.specs.Number.{number};
 ghost use Rattle.mach_headers.specs.declared.fat.FatArch.{FatArch};
-ghost use Rattle.mach_arches.specs.ArchForms.{ArchForm, arch_in};
+ghost use Rattle.mach_arches.specs.ArchForms.{arch_in};
 ghost use Rattle.goblin_mach.specs.FatEntry.{FatEntry, entry_at, entries_of, entry_in, entries_in};
 ghost use Rattle.goblin_mach.specs.FatFile.{FatFile, fat_file_in, arch_at, archs_of, archs_in};
+
+use mach_arches::ArchRecord;
 
 /// The records of a fat file go by their number: there are as many as it is said to have entries, and
 /// record k is the one at its own place, whatever the others are.
@@ -27,13 +29,11 @@ pub fn entries_by_number()
 {}
 
 /// Both of the table of any form of records, as that of 64 bits.
-pub fn tables_by_number()
-    ensures records { (R : Type 0) (form : ArchForm R) (file : FatFile) → length (archs_in form file) ≡ file.narches }
-    ensures record_item { (R : Type 0) (form : ArchForm R) (file : FatFile) (k : ℕ) → k < file.narches
-        → slice_get (archs_in form file) k ≡ Some (arch_in form file.bytes k) }
-    ensures entries { (R : Type 0) (form : ArchForm R) (file : FatFile) → length (entries_in form file) ≡ file.narches }
-    ensures entry_item { (R : Type 0) (form : ArchForm R) (file : FatFile) (k : ℕ) → k < file.narches
-        → slice_get (entries_in form file) k ≡ Some (entry_in form file k) }
+pub fn tables_by_number<R: ArchRecord>()
+    ensures records { (file : FatFile) → length (archs_in R.arch_form file) ≡ file.narches }
+    ensures record_item { (file : FatFile) (k : ℕ) → k < file.narches → slice_get (archs_in R.arch_form file) k ≡ Some (arch_in R.arch_form file.bytes k) }
+    ensures entries { (file : FatFile) → length (entries_in R.arch_form file) ≡ file.narches }
+    ensures entry_item { (file : FatFile) (k : ℕ) → k < file.narches → slice_get (entries_in R.arch_form file) k ≡ Some (entry_in R.arch_form file k) }
 {}
 
 /// The fat file of some bytes is those bytes, with the count of their header, which has 8 bytes.

@@ -4,9 +4,9 @@ use Rattle.goblin_mach.specs.FatEntry.{entry_in}
 use Rattle.goblin_mach.proofs.fat_file.laws.tables_by_number.Goals as goal
 
 pub returns : goal.returns
-returns c = record {
-  records = λ R form file. length-items_from (arch_in form file.bytes) 0 file.narches;
-  record_item = λ R form file. slice_get-items (arch_in form file.bytes) file.narches;
-  entries = λ R form file. length-items_from (entry_in form file) 0 file.narches;
-  entry_item = λ R form file. slice_get-items (entry_in form file) file.narches;
+returns g c = record {
+  records = λ file. length-items_from (arch_in g.R.ArchRecord.arch_form file.bytes) 0 file.narches;
+  record_item = λ file. slice_get-items (arch_in g.R.ArchRecord.arch_form file.bytes) file.narches;
+  entries = λ file. length-items_from (entry_in g.R.ArchRecord.arch_form file) 0 file.narches;
+  entry_item = λ file. slice_get-items (entry_in g.R.ArchRecord.arch_form file) file.narches;
 }
