@@ -1,5 +1,5 @@
 -- No fault stands where a file opens, and which of the three kinds it is.
-use Rattle.std.proofs.Common.{◌≡◌, ℕ, List, Result, Ok, Err, true, false, refl, sym, ◌∙◌}
+use Rattle.std.proofs.Common.{◌≡◌, ℕ, List, Result, Ok, Err, true, false, refl, sym, ◌∙◌, subst}
 use Rattle.std.specs.Prelude.{IsOk, IfErr}
 use Rattle.mach_base.specs.declared.error.Error.{Error}
 use Rattle.mach_base.specs.Answer.{Stands, IsOkUnlessMemory}
@@ -13,7 +13,7 @@ use Rattle.goblin_mach.specs.declared.mach.Mach.{Mach}
 use Rattle.goblin_mach.specs.declared.mach.Mach.TheVariants as files
 use Rattle.goblin_mach.proofs.Files.{header-there, fault-excludes_mach}
 use Rattle.mach_input.specs.Inputs.{begins_any_archive, HasFat64Magic, IsNeither, InputOpens, InputFault, opens_archive, opens_fat_64, opens_mach}
-use Rattle.mach_input.specs.Inputs.{of_archive, of_fat_64, of_mach, IsInput, input_of}
+use Rattle.mach_input.specs.Inputs.{of_archive, of_fat_64, of_mach, IsInput, IsOfMach, input_of}
 use Rattle.mach_input.specs.declared.input.Input.{Input}
 use Rattle.mach_input.specs.declared.input.Input.TheVariants as inputs
 
@@ -52,12 +52,15 @@ faults_as_mach bytes _ neither (of_archive f is bad) = absurd (one_kind bytes is
 faults_as_mach bytes _ neither (of_fat_64 f other magic bad) = absurd (neither.no_fat_64 magic)
 faults_as_mach bytes _ neither (of_mach f same fault) = fault
 
-pub held_as_mach : {A : Type 0} (bytes : List ℕ) (x : Input A) → IsNeither bytes → IsInput bytes x → (m : Mach A) × (x ≡ input_of m) × IsMach IsImage bytes m
+pub held_as_mach : {A : Type 0} (bytes : List ℕ) (x : Input A) → IsNeither bytes → IsInput bytes x → IsOfMach bytes x
 held_as_mach bytes (inputs.Archive a) neither is = absurd (one_kind bytes is.0 neither.no_archive)
 held_as_mach bytes (inputs.Fat64 m) neither is = absurd (neither.no_fat_64 is.1)
 held_as_mach bytes (inputs.Fat m) neither is = (files.Fat m, refl, is.1)
 held_as_mach bytes (inputs.Image m) neither is = (files.Binary m, refl, is.1)
 
-pub given_as_mach : {A : Type 0} (bytes : List ℕ) (m : Mach A) → IsNeither bytes → IsMach IsImage bytes m → IsInput bytes (input_of m)
+given_as_mach : {A : Type 0} (bytes : List ℕ) (m : Mach A) → IsNeither bytes → IsMach IsImage bytes m → IsInput bytes (input_of m)
 given_as_mach bytes (files.Fat m) neither is = (neither, is)
 given_as_mach bytes (files.Binary m) neither is = (neither, is)
+
+pub mach_as_held : {A : Type 0} (bytes : List ℕ) (x : Input A) → IsNeither bytes → IsOfMach bytes x → IsInput bytes x
+mach_as_held {A} bytes x neither of = subst (λ (y : Input A). IsInput bytes y) (sym of.1) (given_as_mach bytes of.0 neither of.2)

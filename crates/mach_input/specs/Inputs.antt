@@ -59,3 +59,7 @@ IsInput bytes (Image m) = IsNeither bytes × IsMach IsImage bytes (files.Binary 
 abbrev pub input_of : {A : Type 0} → Mach A → Input A
 input_of (files.Fat m) = Fat m
 input_of (files.Binary m) = Image m
+
+-- it is what `Mach::parse` opens
+abbrev pub IsOfMach : {A : Type 0} → List ℕ → Input A → Type 0
+IsOfMach {A} bytes x = (m : Mach A) × (x ≡ input_of m) × IsMach IsImage bytes m

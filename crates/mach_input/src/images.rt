@@ -1,10 +1,11 @@
 //! What is within a file, one item after the other.
 
-ghost use Rattle.std.specs.Prelude.{◌≡◌, ◌∷◌, ◌++◌, ◌/◌, [], ℕ, List, Ok, None, MatchOption, length, nat_le, true, false};
+ghost use Rattle.std.specs.Prelude.{◌≡◌, ◌∷◌, ◌++◌, ◌/◌, [], ℕ, List, Ok, Err, None, MatchOption, length, nat_le, true, false};
 ghost use Rattle.mach_archive.specs.ArchiveViews.{archive_of, member_read};
 ghost use Rattle.goblin_mach.specs.FatFile.{file_held};
 ghost use Rattle.mach_input.specs.Inputs.{IsInput};
-ghost use Rattle.mach_input.specs.Items.{items_in, item_at, member_content, items_of_archive};
+ghost use Rattle.mach_base.specs.Fault.{fault_of};
+ghost use Rattle.mach_input.specs.Items.{items_in, item_at, member_content, items_of_archive, items_of_whole};
 ghost use Rattle.mach_input.specs.ItemsLeft.{item_read, items_left, begun_items, items_of_table, entries_items, whole_items};
 
 use crate::input::{Input, begins_archive};
@@ -65,7 +66,7 @@ const ALONE: Place = Place {
 impl<'a> Images<'a> {
     // Those of a file, no member of which was given.
     fn of(entries: Entries<'a>) -> Images<'a>
-        ensures { items_left result ≡ entries_items entries }
+        ensures { items_left result ≡ entries_items entries.entry }
     {
         Images {
             entries,
@@ -88,32 +89,37 @@ impl<'a> Images<'a> {
     // The first item of what stands at a place; the members behind it are left.
     fn begin(&mut self, place: Place, whole: Whole<'a>) -> InputItem<'a>
         requires { self.old.members ≡ None }
-        ensures given { whole_items place whole ≡ item_read result ∷ begun_items self.new }
+        ensures given { whole_items place whole.entry ≡ item_read result ∷ begun_items self.new }
         ensures kept { self.new.entries ≡ self.old.entries }
     {
         match whole {
-            Whole::Refused(error) => InputItem {
-                place,
-                content: Err(error),
-            },
+            Whole::Refused(error) => refused(place, error),
             Whole::Archive(archive) => self.begin_archive(place, archive),
-            Whole::Bytes(bytes) if begins_archive(bytes) => match Archive::parse(bytes) {
-                Ok(archive) => self.begin_archive(place, archive),
-                Err(error) => InputItem {
-                    place,
-                    content: Err(error),
-                },
-            },
-            Whole::Bytes(bytes) => InputItem {
+            Whole::Bytes(bytes) => self.begin_bytes(place, bytes),
+        }
+    }
+
+    // The first item of bytes that are no fat file.
+    fn begin_bytes(&mut self, place: Place, bytes: &'a [u8]) -> InputItem<'a>
+        requires { self.old.members ≡ None }
+        ensures given { items_of_whole place bytes.now ≡ item_read result ∷ begun_items self.new }
+        ensures kept { self.new.entries ≡ self.old.entries }
+    {
+        if !begins_archive(bytes) {
+            return InputItem {
                 place,
                 content: Ok(Content::File(bytes)),
-            },
+            };
+        }
+        match Archive::parse(bytes) {
+            Ok(archive) => self.begin_archive(place, archive),
+            Err(error) => refused(place, error),
         }
     }
 
     // The first item of an archive.
     fn begin_archive(&mut self, place: Place, archive: Archive<'a>) -> InputItem<'a>
-        ensures given { items_of_archive place (Ok (archive_of archive)) ≡ item_read result ∷ begun_items self.new }
+        ensures given { items_of_archive place (Ok (archive_of archive.entry)) ≡ item_read result ∷ begun_items self.new }
         ensures kept { self.new.entries ≡ self.old.entries }
     {
         let mut members = archive.members();
@@ -130,9 +136,19 @@ impl<'a> Images<'a> {
     }
 }
 
+// The item of what can't be read.
+fn refused<'a>(place: Place, error: Error) -> InputItem<'a>
+    ensures { item_read result ≡ item_at place (Err (fault_of error.entry)) }
+{
+    InputItem {
+        place,
+        content: Err(error),
+    }
+}
+
 // The item of a member of the archive that stands at a place.
 fn member_item<'a>(place: Place, member: Result<Member<'a>>) -> InputItem<'a>
-    ensures { item_read result ≡ item_at place (member_content (member_read member)) }
+    ensures { item_read result ≡ item_at place (member_content (member_read member.entry)) }
 {
     InputItem {
         place,
