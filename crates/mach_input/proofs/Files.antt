@@ -12,7 +12,7 @@ use Rattle.goblin_mach.specs.File.{MachOpens, MachFault, IsMach}
 use Rattle.goblin_mach.specs.declared.mach.Mach.{Mach}
 use Rattle.goblin_mach.specs.declared.mach.Mach.TheVariants as files
 use Rattle.goblin_mach.proofs.Files.{header-there, fault-excludes_mach}
-use Rattle.mach_input.specs.Inputs.{begins_any_archive, HasFat64Magic, IsNeither, InputOpens, InputFault, opens_archive, opens_fat_64, opens_mach}
+use Rattle.mach_input.specs.Inputs.{begins_any_archive, IsNeither, InputOpens, InputFault, opens_archive, opens_fat_64, opens_mach}
 use Rattle.mach_input.specs.Inputs.{of_archive, of_fat_64, of_mach, IsInput, IsOfMach, input_of}
 use Rattle.mach_input.specs.declared.input.Input.{Input}
 use Rattle.mach_input.specs.declared.input.Input.TheVariants as inputs

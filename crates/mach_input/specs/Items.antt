@@ -1,6 +1,6 @@
 -- What is within a file, as a list: the image that it is; of a fat file each entry; of an archive, also of one that is an entry, each
 -- member. What can't be read is an item that says why.
-use Rattle.std.specs.Prelude.{◌==◌, ℕ, zero, suc, ◌+◌, ◌-◌, ◌/◌, List, [], ◌∷◌, ◌++◌, map, length, codes, nat_le, Option, Some, None, Result, Ok, Err}
+use Rattle.std.specs.Prelude.{◌==◌, ℕ, zero, suc, ◌+◌, ◌-◌, ◌/◌, List, [], ◌∷◌, ◌++◌, map, length, codes, nat_le, Some, None, Result, Ok, Err}
 use Rattle.std.specs.Prelude.{if◌then◌else◌}
 use Rattle.mach_base.specs.declared.context.Endian.TheVariants.{Big}
 use Rattle.mach_base.specs.Fault.{Fault, too_short}
@@ -14,7 +14,6 @@ use Rattle.goblin_mach.specs.FatFile.{FatFile, fat_file_in}
 use Rattle.mach_input.specs.Inputs.{begins_any_archive}
 use Rattle.mach_input.specs.declared.item.Content.{Content}
 use Rattle.mach_input.specs.declared.item.Content.TheVariants as contents
-use Rattle.mach_input.specs.declared.item.EntryCpu.{EntryCpu}
 use Rattle.mach_input.specs.declared.item.Place.{Place}
 
 -- what stands somewhere: the bytes of a file or of an entry, a member of an archive, or an archive that has none

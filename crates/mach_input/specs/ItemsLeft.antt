@@ -1,5 +1,5 @@
 -- The items that an iterator has yet to give.
-use Rattle.std.specs.Prelude.{ℕ, ◌-◌, List, [], ◌∷◌, ◌++◌, Option, Some, None, Result, Ok, Err}
+use Rattle.std.specs.Prelude.{◌-◌, List, [], ◌∷◌, ◌++◌, Option, Some, None, Result, Ok, Err}
 use Rattle.mach_base.specs.Fault.{Fault, fault_of}
 use Rattle.mach_base.specs.Items.{read_as}
 use Rattle.mach_arches.specs.ArchForms.{ArchForm, arch_form_32, arch_form_64}

@@ -138,7 +138,7 @@ impl<'a> Images<'a> {
 
 // The item of what can't be read.
 fn refused<'a>(place: Place, error: Error) -> InputItem<'a>
-    ensures { item_read result ≡ item_at place (Err (fault_of error.entry)) }
+    ensures { item_read result ≡ item_at place (Err (fault_of error)) }
 {
     InputItem {
         place,
