@@ -32,7 +32,11 @@ pub fn input_text(alloc: Global, bytes: &[u8]) -> Result<String, AllocError> {
             }
         }
         Ok(Input::Archive(archive)) => {
-            write!(&mut text, "archive of {}", archive.members().count())?;
+            let mut count = 0usize;
+            for _ in archive.members() {
+                count = count.saturating_add(1);
+            }
+            write!(&mut text, "archive of {count}")?;
         }
         Err(error) => write!(&mut text, "{}", describe(&error))?,
     }
