@@ -16,6 +16,8 @@ use Rattle.mach_segments.specs.declared.segment.section.Section.{Section}
 use Rattle.mach_image.specs.EntryPoint.{is_text_name}
 use Rattle.mach_image.specs.Readings.{Reading, read_of, first_of}
 use Rattle.mach_sign.specs.AsSigned.{SignedImage, SignatureFaultSeen, signature_in, faults_in, IsAsSigned}
+use Rattle.mach_sign.specs.Chosen.{directory_of}
+use Rattle.mach_sign.specs.Directories.{Directory}
 use Rattle.mach_sign.specs.SuperBlob.{SuperBlob}
 
 -- ---- where it lies
@@ -40,6 +42,14 @@ signature_there bytes (Some place) = signature_in bytes place.0 place.1 >>= (λ 
 
 abbrev pub image_signature : List ℕ → List Command → Result (Option SuperBlob) Fault
 image_signature bytes cs = signature_there bytes (signature_place_in cs)
+
+-- its code directory that counts, if there is a signature
+abbrev pub directory_there : Option SuperBlob → Result (Option Directory) Fault
+directory_there None = Ok None
+directory_there (Some s) = directory_of s >>= (λ d. Ok (Some d))
+
+abbrev pub image_directory : List ℕ → List Command → Result (Option Directory) Fault
+image_directory bytes cs = image_signature bytes cs >>= directory_there
 
 -- ---- what it seals as Info.plist
 

@@ -5,8 +5,8 @@ ghost use Rattle.mach_image.specs.Modes.{HoldsAs};
 ghost use Rattle.mach_image.specs.OpenImage.{bytes_held, commands_held, segments_held};
 ghost use Rattle.mach_load.specs.Command.{Command};
 ghost use Rattle.mach_segments.specs.Segment.{SegmentView};
-ghost use Rattle.mach_signed.specs.SignedFacts.{HasSignature, HasSignatureFaults};
-ghost use Rattle.mach_signed.specs.SignedImages.{image_signature, image_faults, IsImageAsSigned};
+ghost use Rattle.mach_signed.specs.SignedFacts.{HasSignature, HasCodeDirectory, HasSignatureFaults};
+ghost use Rattle.mach_signed.specs.SignedImages.{image_signature, image_directory, image_faults, IsImageAsSigned};
 
 use mach_image::macho::MachO;
 use std::alloc::Allocator;
@@ -14,6 +14,11 @@ use std::alloc::Allocator;
 /// What `code_signature` answers is what the bytes say.
 pub fn signature_of_image<A: Allocator>(image: &MachO<'_, A>)
     ensures { HoldsAs image.now HasSignature (image_signature (bytes_held image.now) (commands_held image.now)) }
+{}
+
+/// What `code_directory` answers is what the bytes say.
+pub fn directory_of_image<A: Allocator>(image: &MachO<'_, A>)
+    ensures { HoldsAs image.now HasCodeDirectory (image_directory (bytes_held image.now) (commands_held image.now)) }
 {}
 
 /// What `signature_faults` answers is what the bytes say.

@@ -3,7 +3,7 @@ use Rattle.std.specs.Prelude.{◌≡◌, ◌==◌, ℕ, List, [], ◌∷◌, ◌
 use Rattle.std.specs.Io.KnownBytes.{Appends}
 use Rattle.mach_base.specs.Named.{Named}
 use Rattle.mach_sign.specs.SignWords.{hexadecimal}
-use Rattle.machsign.specs.declared.flags.FlagWord.{FlagWord}
+use Rattle.mach_sign_text.specs.declared.flags.FlagWord.{FlagWord}
 
 -- a bit and its word
 abbrev pub flag_named : FlagWord → Named

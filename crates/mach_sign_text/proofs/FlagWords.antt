@@ -3,8 +3,8 @@ use Rattle.std.proofs.Common.{◌≡◌, ◌++◌, ◌∷◌, ◌∙◌, ◌+◌
 use Rattle.std.proofs.lemmas.List.{append_assoc, at_drop_more}
 use Rattle.std.specs.Prelude.{◌==◌, bit_and, bit_xor}
 use Rattle.mach_base.specs.Named.{Named}
-use Rattle.machsign.specs.Flags.{before_text, flag_named, flag_words_text}
-use Rattle.machsign.specs.declared.flags.FlagWord.{FlagWord}
+use Rattle.mach_sign_text.specs.Flags.{before_text, flag_named, flag_words_text}
+use Rattle.mach_sign_text.specs.declared.flags.FlagWord.{FlagWord}
 
 module _ (first : Bool) (x : Named) (words : List Named) (rest : ℕ) where
   abbrev there : List ℕ

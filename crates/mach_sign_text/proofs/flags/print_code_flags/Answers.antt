@@ -2,8 +2,8 @@ use Rattle.std.proofs.Common.{ℕ, List, subst}
 use Rattle.std.specs.Prelude.{OnOk}
 use Rattle.std.specs.Io.KnownBytes.{Appends}
 use Rattle.mach_base.specs.Named.{Named}
-use Rattle.machsign.specs.Flags.{code_flags, worded_flags_text}
-use Rattle.machsign.proofs.flags.print_code_flags.Goals as goal
+use Rattle.mach_sign_text.specs.Flags.{code_flags, worded_flags_text}
+use Rattle.mach_sign_text.proofs.flags.print_code_flags.Goals as goal
 
 pub returns : goal.returns
 returns g c =

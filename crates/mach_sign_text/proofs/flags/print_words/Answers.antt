@@ -3,10 +3,10 @@ use Rattle.std.proofs.lemmas.List.{at_drop_all}
 use Rattle.std.proofs.lemmas.Result.{on_ok_weaker}
 use Rattle.std.specs.Io.KnownBytes.{Appends}
 use Rattle.mach_base.proofs.Written.{Appends-none, Appends-both}
-use Rattle.machsign.specs.Flags.{flag_named, flag_words_text}
-use Rattle.machsign.specs.declared.flags.FlagWord.{FlagWord}
-use Rattle.machsign.proofs.FlagWords.{words_more}
-use Rattle.machsign.proofs.flags.print_words.Goals as goal
+use Rattle.mach_sign_text.specs.Flags.{flag_named, flag_words_text}
+use Rattle.mach_sign_text.specs.declared.flags.FlagWord.{FlagWord}
+use Rattle.mach_sign_text.proofs.FlagWords.{words_more}
+use Rattle.mach_sign_text.proofs.flags.print_words.Goals as goal
 
 pub words-init : goal.words-init
 words-init g c = ([], Appends-none (g.O.Write.contents c.args.out.now), refl)

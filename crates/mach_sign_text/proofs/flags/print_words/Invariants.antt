@@ -1,7 +1,7 @@
 use Rattle.std.proofs.Common.{◌≡◌, ◌++◌, ℕ, List, map, drop, true}
 use Rattle.std.specs.Io.KnownBytes.{Appends}
-use Rattle.machsign.specs.Flags.{flag_named, flag_words_text}
-use Rattle.machsign.proofs.flags.print_words.Given as goal
+use Rattle.mach_sign_text.specs.Flags.{flag_named, flag_words_text}
+use Rattle.mach_sign_text.proofs.flags.print_words.Given as goal
 
 abbrev pub invariant-words : goal.invariant-words
 invariant-words g l =

@@ -2,7 +2,7 @@
 
 ghost use Rattle.std.specs.Prelude.{◌≡◌, OnOk};
 ghost use Rattle.std.specs.Io.KnownBytes.{Appends};
-ghost use Rattle.machsign.specs.Texts.{bytes_text, escaped_byte, escaped_text, is_escaped};
+ghost use Rattle.mach_sign_text.specs.Names.{bytes_text, escaped_byte, escaped_text, is_escaped};
 
 use std::io;
 use std::io::Write;

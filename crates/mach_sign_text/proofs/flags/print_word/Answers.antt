@@ -1,8 +1,8 @@
 use Rattle.std.proofs.Common.{[], ◌++◌, ◌∙◌, sym}
 use Rattle.mach_base.proofs.Written.{Appends-none, Appends-both}
-use Rattle.machsign.specs.Flags.{before_text, flag_named}
-use Rattle.machsign.proofs.FlagWords.{word_absent, word_there}
-use Rattle.machsign.proofs.flags.print_word.Goals as goal
+use Rattle.mach_sign_text.specs.Flags.{before_text, flag_named}
+use Rattle.mach_sign_text.proofs.FlagWords.{word_absent, word_there}
+use Rattle.mach_sign_text.proofs.flags.print_word.Goals as goal
 
 pub returns-then-is_clear : goal.returns-then-is_clear
 returns-then-is_clear g c = record {

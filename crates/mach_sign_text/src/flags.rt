@@ -2,8 +2,8 @@
 
 ghost use Rattle.std.specs.Prelude.{◌≡◌, ◌==◌, bit_and, map, true, IfOk, OnOk};
 ghost use Rattle.std.specs.Io.KnownBytes.{Appends};
-ghost use Rattle.machsign.specs.Flags.{before_text, flag_named, worded_flags_text, flag_words_text, other_flags_text, WritesWord};
-ghost use Rattle.machsign.specs.Flags as defined;
+ghost use Rattle.mach_sign_text.specs.Flags.{before_text, flag_named, worded_flags_text, flag_words_text, other_flags_text, WritesWord};
+ghost use Rattle.mach_sign_text.specs.Flags as defined;
 
 use std::io;
 use std::io::Write;
