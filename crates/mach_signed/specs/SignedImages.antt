@@ -97,3 +97,12 @@ pub record IsImageAsSigned (bytes : List ℕ) (cs : List Command) (segments : Li
   pub signature : SuperBlob
   pub reads : signature_in bytes place.0 place.1 ≡ Ok signature
   pub holds : IsAsSigned (record { bytes = bytes; dataoff = place.0; signature = signature; plist = plist_of bytes segments })
+
+-- whether no fault is told of a signature that is there, or why it can't be read
+abbrev pub are_untold : Option (List SignatureFaultSeen) → Bool
+are_untold None = false
+are_untold (Some []) = true
+are_untold (Some (f ∷ fs)) = false
+
+abbrev pub is_as_signed : Result (Option (List SignatureFaultSeen)) Fault → Result Bool Fault
+is_as_signed faults = faults >>= (λ faults. Ok (are_untold faults))

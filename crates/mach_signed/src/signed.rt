@@ -6,7 +6,8 @@ ghost use Rattle.mach_image.specs.OpenImage.{bytes_held, commands_held, segments
 ghost use Rattle.mach_sign.specs.DirectoryViews.{directory_view, slot_read};
 ghost use Rattle.mach_sign.specs.FaultViews.{signature_faults_left};
 ghost use Rattle.mach_sign.specs.SignViews.{signature_view};
-ghost use Rattle.mach_signed.specs.SignedImages.{image_signature, image_directory, image_faults, plist_of};
+ghost use Rattle.mach_signed.specs.SignedImages.{image_signature, image_directory, image_faults, plist_of, are_untold};
+ghost use Rattle.mach_signed.specs.SignedImages as defined;
 
 use crate::place::signature_place;
 use crate::plist::info_plist;
@@ -59,4 +60,23 @@ pub fn signature_faults<'a, A: Allocator>(
     let bytes = image.bytes();
     let faults = mach_sign::signature_faults(bytes, dataoff, datasize, image_plist(image))?;
     Ok(Some(faults))
+}
+
+// Whether no fault is told of a signature, if there is one.
+fn are_untold(faults: Option<SignatureFaults<'_>>) -> bool
+    ensures { result ≡ are_untold (option_map signature_faults_left faults.entry) }
+{
+    match faults {
+        Some(mut faults) => faults.next().is_none(),
+        None => false,
+    }
+}
+
+/// Whether an image has a signature, and is as it was signed. Errors as those of `code_signature`. It takes no memory.
+pub fn is_as_signed<A: Allocator>(image: &MachO<'_, A>) -> Result<bool>
+    ensures { Reads (λ is. is) result
+        (defined.is_as_signed (image_faults (bytes_held image.now) (commands_held image.now) (segments_held image.now))) }
+{
+    let faults = signature_faults(image)?;
+    Ok(are_untold(faults))
 }
