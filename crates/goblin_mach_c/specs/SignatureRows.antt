@@ -80,8 +80,8 @@ signature_row (Some x) = directory_row x
 signature_row None = no_signature
 
 -- the row of the image at o was written
-abbrev pub WritesSignature : List ℕ → ℕ → gm_signature → Type 0
-WritesSignature bytes o row = (found : Option SignedDirectoryThere) × HasSignedDirectory bytes o (Ok found) × (row ≡ signature_row found)
+abbrev pub WritesSignatureRow : List ℕ → ℕ → gm_signature → Type 0
+WritesSignatureRow bytes o row = (found : Option SignedDirectoryThere) × HasSignedDirectory bytes o (Ok found) × (row ≡ signature_row found)
 
 -- a fault of opening, or that of the signature or of its directories
 abbrev pub DirectoryFaultIn : List ℕ → gm_image → Fault → Type 0

@@ -8,7 +8,7 @@ ghost use Rattle.mach_sign_places.specs.Places.{signed_directory_view};
 ghost use Rattle.goblin_mach_c.specs.Codes.{IsRefusalCode};
 ghost use Rattle.goblin_mach_c.specs.Fill.{Fills};
 ghost use Rattle.goblin_mach_c.specs.SignatureRows as rows;
-ghost use Rattle.goblin_mach_c.specs.SignatureRows.{SaysAsSigned, SignatureFaultIn, WritesSignature, WritesSignatureFaults};
+ghost use Rattle.goblin_mach_c.specs.SignatureRows.{SaysAsSigned, SignatureFaultIn, WritesSignatureRow, WritesSignatureFaults};
 
 use crate::errors::{GM_OK, code_of, gm_error, refuse, refuse_no_rows};
 use crate::images::gm_image;
@@ -69,8 +69,7 @@ fn row_of(it: &SignedDirectory<'_>) -> gm_signature
 {
     let (identifier, identifier_len, identifier_code) = text_numbers(it.identifier_place());
     let (team, team_len, team_code) = text_numbers(it.team_place());
-    let (entitlements, entitlements_len, entitlements_code) =
-        text_numbers(it.entitlements_place());
+    let (entitlements, entitlements_len, entitlements_code) = text_numbers(it.entitlements_place());
     let head = &it.directory.head;
     gm_signature {
         limit: it.directory.code_limit(),
@@ -141,7 +140,7 @@ pub extern "C" fn gmr_code_signature(
     signature: &mut gm_signature,
     error: &mut gm_error,
 ) -> u32
-    ensures found { result ≡ 0 → WritesSignature bytes.now image.now.offset signature.new }
+    ensures found { result ≡ 0 → WritesSignatureRow bytes.now image.now.offset signature.new }
     ensures refused { result ≢ 0 → IsRefusalCode (rows.DirectoryFaultIn bytes.now image.now) result }
     ensures kept { result ≢ 0 → signature.new ≡ signature.old }
     ensures told { result ≢ 0 → error.new.code ≡ result }

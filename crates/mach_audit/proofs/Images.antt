@@ -365,5 +365,5 @@ module _ {A : Type 0} (bytes : List ℕ) (m : MachO A) (p : IsImage bytes 0 m) (
       })
       (λ s. ((s.layout, s.signature), ((s.sections, s.relocations), (s.symbols, (s.exports, (s.imports, (s.fixups, s.bindings)))))))
       long_list long_part
-      (both_judged _ _ (beside (both_judged _ _ layout signature)) (both_judged _ _ read (both_judged _ _ symbols (both_judged _ _ exports (both_judged _ _ imports
-      (both_judged _ _ fixups bindings))))))
+      (both_judged _ _ (beside (both_judged _ _ layout signature)) (both_judged _ _ read (both_judged _ _ symbols (both_judged _ _ exports
+      (both_judged _ _ imports (both_judged _ _ fixups bindings))))))

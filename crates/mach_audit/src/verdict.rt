@@ -87,7 +87,9 @@ impl<A: Allocator> Parts<A> {
         let named = self.symbols.verdict().and(linked);
         let readable = self.read_verdict().and(named);
         let signed = self.signature.verdict();
-        layout_verdict(self.layout.as_slice()).and(signed).and(readable)
+        layout_verdict(self.layout.as_slice())
+            .and(signed)
+            .and(readable)
     }
 
     // Whether the sections and the relocations are sound.

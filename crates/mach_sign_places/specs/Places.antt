@@ -71,18 +71,18 @@ directory_start x = place_after x.dataoff (place_if_any x.signature (first_direc
 
 -- ---- names and entitlements: where they stand in the image, and how many bytes they have
 
-abbrev pub name_place : SignedDirectoryThere → (at : ℕ) → Option (List ℕ) → Option (ℕ × ℕ)
-name_place x at name = option_map (λ text. (place_after (directory_start x) at, length text)) name
+abbrev pub placed_name : SignedDirectoryThere → (at : ℕ) → Option (List ℕ) → Option (ℕ × ℕ)
+placed_name x at name = option_map (λ text. (place_after (directory_start x) at, length text)) name
 
 abbrev pub identifier_place : SignedDirectoryThere → Result (Option (ℕ × ℕ)) Fault
-identifier_place x = identifier_of x.directory >>= (λ name. Ok (name_place x x.directory.head.ident_offset name))
+identifier_place x = identifier_of x.directory >>= (λ name. Ok (placed_name x x.directory.head.ident_offset name))
 
 abbrev pub offset_or_zero : Option ℕ → ℕ
 offset_or_zero None = 0
 offset_or_zero (Some at) = at
 
 abbrev pub team_place : SignedDirectoryThere → Result (Option (ℕ × ℕ)) Fault
-team_place x = team_of x.directory >>= (λ name. Ok (name_place x (offset_or_zero x.directory.team_offset) name))
+team_place x = team_of x.directory >>= (λ name. Ok (placed_name x (offset_or_zero x.directory.team_offset) name))
 
 -- behind the 8 bytes of head of the first blob of slot 5
 abbrev pub content_place : SignedDirectoryThere → BlobThere → ℕ × ℕ

@@ -30,16 +30,16 @@ directory_said d =
     ++ (said_name (codes "identifier") (identifier_of d) ++ (said_name (codes "team") (team_of d) ++ signature_flags_line d.head.flags))
 
 -- an answer in words: that there is no signature, what the directory says, or why that can't be told
-abbrev pub signed_text : Result (Option CodeDirectory) Error → List ℕ
-signed_text (Ok None) = codes "signed: no\n"
-signed_text (Ok (Some d)) = directory_said (directory_view d)
-signed_text (Err e) = codes "signed: refused: " ++ (words_of e ++ codes "\n")
+abbrev pub signature_answer_text : Result (Option CodeDirectory) Error → List ℕ
+signature_answer_text (Ok None) = codes "signed: no\n"
+signature_answer_text (Ok (Some d)) = directory_said (directory_view d)
+signature_answer_text (Err e) = codes "signed: refused: " ++ (words_of e ++ codes "\n")
 
 -- The text says what is there, or has the words of an error that reports why it can't be told.
 pub record AreSignedLines (there : Result (Option Directory) Fault) (text : List ℕ) : Type 0 where
   pub answer : Result (Option CodeDirectory) Error
   pub reads : Reads (option_map directory_view) answer there
-  pub is_text : text ≡ signed_text answer
+  pub is_text : text ≡ signature_answer_text answer
 
 -- What was written is such lines.
 pub record WritesSignedLines (there : Result (Option Directory) Fault) (old new : Option (List ℕ)) : Type 0 where

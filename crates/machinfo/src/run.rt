@@ -108,9 +108,10 @@ impl Shows for SummaryOf<'_> {
     }
 }
 
-/// Says of the images of a file that are asked for what they are, how they are signed, and how many items each of their lists has, of which it goes over `limit` at most, and
-/// answers the exit status: 0 where nothing was refused; 1 where the file or an entry of a fat one was, or memory, and then `err` has a line that says
-/// why, or where an item can't be read, or a list has more than the limit; 2 or 141 where a write fails. But for that nothing is left in the buffer.
+/// Says of the images of a file that are asked for what they are, how they are signed, and how many items each of their lists has, of which it goes over
+/// `limit` at most, and answers the exit status: 0 where nothing was refused; 1 where the file or an entry of a fat one was, or memory, and then `err` has a
+/// line that says why, or where an item can't be read, or a list has more than the limit; 2 or 141 where a write fails. But for that nothing is left in
+/// the buffer.
 pub fn run_summary<A: Allocator + Clone, W: Write + Drop, B: Allocator, E: Write>(
     alloc: A,
     cpu: Cpu,

@@ -9,7 +9,7 @@ ghost use Rattle.mach_image.specs.OpenImage.{bytes_held, commands_held};
 ghost use Rattle.mach_sign.specs.Directories.{identifier_of, team_of};
 ghost use Rattle.mach_sign.specs.DirectoryViews.{directory_view};
 ghost use Rattle.mach_signed.specs.SignedImages.{image_directory};
-ghost use Rattle.machinfo.specs.Signed.{directory_said, said_name, signature_flags_line, signed_line, signed_text, WritesSignedLines};
+ghost use Rattle.machinfo.specs.Signed.{directory_said, said_name, signature_flags_line, signed_line, signature_answer_text, WritesSignedLines};
 
 use goblin_mach::{Error, MachO, describe};
 use mach_sign::CodeDirectory;
@@ -33,7 +33,7 @@ fn print_answer<O: Write>(
     answer: &goblin_mach::Result<Option<CodeDirectory<'_>>>,
     out: &mut O,
 ) -> io::Result<()>
-    ensures { OnOk result (Appends (O.contents out.old) (O.contents out.new) (signed_text answer.now)) }
+    ensures { OnOk result (Appends (O.contents out.old) (O.contents out.new) (signature_answer_text answer.now)) }
 {
     match answer {
         Ok(Some(directory)) => print_directory(directory, out),
