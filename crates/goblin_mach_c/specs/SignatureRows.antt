@@ -1,5 +1,6 @@
 -- The code signature of an image as C sees it. The kinds of faults are the numbers of `goblin_mach.h` (GM_SIGNATURE_BLOB and those behind it).
 use Rattle.std.specs.Prelude.{◌≡◌, ◌⊎◌, ◌↔◌, ℕ, List, [], map, drop, replicate, Bool, IsTrue, Option, Some, None, Result, Ok, Err}
+use Rattle.std.specs.Option.{option_map}
 use Rattle.mach_base.specs.Fault.{Fault}
 use Rattle.mach_sign.specs.AsSigned.{SignatureFaultSeen, blob_refused, wrong_magic, directory_refused, of_first, of_alternate}
 use Rattle.mach_sign.specs.AsSigned.{DirectoryFaultSeen, identifier_refused, team_refused, short, of_code, of_special}
@@ -128,8 +129,7 @@ fault_rows (Some faults) = map signature_fault_row faults
 
 -- what is left to the rows
 abbrev pub fault_rows_by : Option SignatureFaults → List gm_signature_fault
-fault_rows_by None = []
-fault_rows_by (Some it) = map signature_fault_row (signature_faults_left it)
+fault_rows_by faults = fault_rows (option_map signature_faults_left faults)
 
 abbrev pub signature_rows_left : SignatureRows → List gm_signature_fault
 signature_rows_left it = fault_rows_by it.faults
