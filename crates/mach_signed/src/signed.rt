@@ -67,7 +67,10 @@ fn are_untold(faults: Option<SignatureFaults<'_>>) -> bool
     ensures { result ≡ are_untold (option_map signature_faults_left faults.entry) }
 {
     match faults {
-        Some(mut faults) => faults.next().is_none(),
+        Some(mut faults) => match faults.next() {
+            Some(_) => false,
+            None => true,
+        },
         None => false,
     }
 }
