@@ -60,15 +60,15 @@ abbrev Found : Type 0
 Found = Result (Option (List SignatureFaultSeen)) Fault
 
 true_untold : (found : Found) (is : Bool) → is_as_signed found ≡ Ok is → IsTrue is → found ≡ Ok (Some [])
-true_untold (Ok None) is e yes = absurd (cc)
-true_untold (Ok (Some [])) is e yes = refl
-true_untold (Ok (Some (f ∷ fs))) is e yes = absurd (cc)
-true_untold (Err f) is e yes = absurd (cc)
+true_untold (Ok None) is e said = absurd (cc)
+true_untold (Ok (Some [])) is e said = refl
+true_untold (Ok (Some (f ∷ fs))) is e said = absurd (cc)
+true_untold (Err f) is e said = absurd (cc)
 
 pub as_signed_said : (bytes : List ℕ) (cs : List Command) (segments : List SegmentView) (is : Bool) → is_as_signed (image_faults bytes cs segments) ≡ Ok is
     → IsTrue is ↔ IsImageAsSigned bytes cs segments
 as_signed_said bytes cs segments is e = (
-  (λ yes. (as_signed bytes cs segments).0 (true_untold (image_faults bytes cs segments) is e yes)),
+  (λ said. (as_signed bytes cs segments).0 (true_untold (image_faults bytes cs segments) is e said)),
   (λ holds. sym (same_ok (sym (ap is_as_signed ((as_signed bytes cs segments).1 holds)) ∙ e))),
 )
 

@@ -28,7 +28,7 @@ module _ {A : Type 0} (m : MachO A) where
       (λ bytes o p is said.
       let held = as_signed_said (bytes_held m) (commands_held m) (segments_held m) is said in
       let there = facts_are bytes o m p (λ f. IsImageAsSigned f.bytes f.commands f.segments) in
-      ((λ yes. there.1 (held.0 yes)), (λ holds. held.1 (there.0 holds))))
+      ((λ is_so. there.1 (held.0 is_so)), (λ holds. held.1 (there.0 holds))))
 
   -- and why that can't be told
   pub refusal_is : InBothModes m (λ bytes o. (f : Fault) → is_as_signed (image_faults (bytes_held m) (commands_held m) (segments_held m)) ≡ Err f
