@@ -27,7 +27,7 @@ use Rattle.mach_image.specs.OpenImage.{IsImage, commands_held, segments_held, tr
 use Rattle.mach_image.specs.Subjects.{ListsImageImports, ListsImageExports, AreImageBindItems, symbols_held, trie_or_empty}
 use Rattle.mach_image.specs.declared.macho.MachO.{MachO}
 use Rattle.mach_audit.proofs.Goes.{as_item}
-use Rattle.mach_audit.proofs.Signed.{signature_judged_by}
+use Rattle.mach_audit.proofs.SoundlySigned.{signature_judged_by}
 use Rattle.mach_audit.proofs.Told.{plain, faults_in, plain_from, plain_each, cut_is, told_sound, told_faulty, told_long, told_short}
 use Rattle.mach_audit.proofs.Verdicts.{number, sound_judged, faulty_judged, part_judged, both_judged, judged_as}
 use Rattle.mach_audit.specs.Sound.{IsSoundImage, HasLongList, of_sections, of_relocations, of_symbols, of_exports, of_imports}
