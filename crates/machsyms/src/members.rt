@@ -81,6 +81,6 @@ fn write_listed<'a, O: Write>(
 {
     let mut symbols = AskedSymbols::of(*asked, keys, table);
     let count = count_of(asked.sorting, keys, table);
-    let _told = print_array(&mut symbols, count, out)?;
+    print_array(&mut symbols, count, out)?;
     Ok(())
 }
