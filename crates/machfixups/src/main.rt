@@ -18,6 +18,7 @@
 //!   can't be read, unless it is a bind whose import alone can't be.
 #![tactic(auto)]
 
+mod json;
 mod members;
 mod object;
 mod parts;
@@ -28,11 +29,12 @@ mod run;
 mod text;
 mod words;
 
+use json::run_json;
 use mach_json::take_json;
 use mach_show::{Cpu, Misuse, Program, Round};
 use print::DEFAULT_LIMIT;
 use rows::Picks;
-use run::{NAME, run, run_json};
+use run::{NAME, run};
 use std::alloc::Allocator;
 use std::io;
 use std::io::{BufWriter, Write};

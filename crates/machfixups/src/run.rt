@@ -5,11 +5,8 @@ ghost use Rattle.std.specs.Io.Buffered.{writer_buffer, writer_contents};
 ghost use Rattle.mach_show.specs.Names.{names_text};
 ghost use Rattle.mach_show.specs.Shown.{Shown, ShowsFile, Writes};
 ghost use Rattle.mach_show.specs.Statuses.{IsStatus, status_by};
-ghost use Rattle.mach_json.specs.Documents.{IsDocument};
 ghost use Rattle.machfixups.specs.ImageLines.{AreImagePointerLines};
-ghost use Rattle.machfixups.specs.JsonImages.{AreImagePointerMembers};
 
-use crate::members::write_members;
 use crate::parts::image_parts;
 use crate::print::print_fixups;
 use crate::rows::Picks;
@@ -55,39 +52,6 @@ impl Shows for Fixups<'_> {
     }
 }
 
-// The same, as JSON.
-#[derive(Clone, Copy)]
-struct Objects<'a> {
-    file: &'a str,
-    picks: Picks,
-}
-
-impl Shows for Objects<'_> {
-    ghost names = { λ asked. names_text (codes "machfixups") asked.file.now };
-
-    ghost lines = { λ asked. AreImagePointerMembers asked.picks };
-
-    fn names(&self) -> Names<'_> {
-        Names {
-            program: NAME,
-            file: self.file,
-        }
-    }
-
-    fn show<A: Allocator + Clone, O: Write>(
-        &self,
-        alloc: &A,
-        image: &MachO<'_, A>,
-        heading: Heading,
-        left: usize,
-        out: &mut O,
-    ) -> Result<Outcome, Failure> {
-        let parts = image_parts(alloc, image)?;
-        write!(out, "{heading}")?;
-        Ok(write_members(image, &parts, self.picks, left, out)?)
-    }
-}
-
 /// Shows what dyld corrects of the images of a file that are asked for, of the lists that are picked, of all these together at most `limit` lines, and
 /// answers the exit status: 0 where nothing was refused; 1 where the file or an entry of a fat one was, or memory, and then `err` has a line that says
 /// why, or where an item can't be read, and then its line says why, or where an image has more of them than are left of the limit, and then a line
@@ -110,27 +74,4 @@ pub fn run<A: Allocator + Clone, W: Write + Drop, B: Allocator, E: Write>(
 {
     let asked = Fixups { file, picks, limit };
     mach_show::run::run(&asked, cpu, limit, &alloc, bytes, out, err)
-}
-
-/// The same as JSON, an object of the file on a line: with an object for each item of the lists that are picked, and for each image whether it has
-/// more of them than are left of the limit.
-pub fn run_json<A: Allocator + Clone, W: Write + Drop, B: Allocator, E: Write>(
-    alloc: A,
-    cpu: Cpu,
-    picks: Picks,
-    limit: usize,
-    file: &str,
-    bytes: &[u8],
-    out: &mut BufWriter<W, B>,
-    err: &mut E,
-) -> u8
-    ensures status { IsStatus result }
-    ensures shown { result ≤ 1 → (shown : Shown)
-        × IsDocument cpu (names_text (codes "machfixups") file.now) file.now (AreImagePointerMembers picks) limit bytes.now shown
-        × (result ≡ status_by shown.whole)
-        × Writes shown (writer_contents W.contents out.old) (writer_contents W.contents out.new) (E.contents err.old) (E.contents err.new) }
-    ensures flushed { result ≤ 1 → writer_buffer out.new ≡ [] }
-{
-    let objects = Objects { file, picks };
-    mach_json::run::run(&objects, file, cpu, limit, &alloc, bytes, out, err)
 }

@@ -15,6 +15,7 @@
 #![tactic(auto)]
 
 mod asked;
+mod json;
 mod letters;
 mod listed;
 mod members;
@@ -27,9 +28,10 @@ mod text;
 mod words;
 
 use asked::Asked;
+use json::run_json;
 use mach_json::take_json;
 use mach_show::{Cpu, Misuse, Program, Round};
-use run::{NAME, run, run_json};
+use run::{NAME, run};
 use std::alloc::Allocator;
 use std::io;
 use std::io::{BufWriter, Write};

@@ -6,13 +6,10 @@ ghost use Rattle.mach_symbols.specs.SymbolViews.{table_of};
 ghost use Rattle.mach_show.specs.Names.{names_text};
 ghost use Rattle.mach_show.specs.Shown.{Shown, ShowsFile, Writes, without_limit};
 ghost use Rattle.mach_show.specs.Statuses.{IsStatus, status_by};
-ghost use Rattle.mach_json.specs.Documents.{IsDocument};
 ghost use Rattle.machsyms.specs.ImageLines.{AreImageSymbolLines, AreImageKeys};
-ghost use Rattle.machsyms.specs.JsonSymbols.{AreImageSymbolMembers};
 
 use crate::asked::{Asked, Sorting};
 use crate::letters::section_letters;
-use crate::members::write_members;
 use crate::order::{SortKey, keys_in_order};
 use crate::print::print_symbols;
 use crate::setting::Setting;
@@ -62,43 +59,8 @@ impl Shows for SymbolsOf<'_> {
     }
 }
 
-// The same, as JSON.
-#[derive(Clone, Copy)]
-struct ObjectsOf<'a> {
-    file: &'a str,
-    asked: Asked<'a>,
-}
-
-impl Shows for ObjectsOf<'_> {
-    ghost names = { λ asked. names_text (codes "machsyms") asked.file.now };
-
-    ghost lines = { λ s. without_limit (AreImageSymbolMembers s.asked) };
-
-    fn names(&self) -> Names<'_> {
-        Names {
-            program: NAME,
-            file: self.file,
-        }
-    }
-
-    fn show<A: Allocator + Clone, O: Write>(
-        &self,
-        alloc: &A,
-        image: &MachO<'_, A>,
-        heading: Heading,
-        left: usize,
-        out: &mut O,
-    ) -> Result<Outcome, Failure> {
-        laws::facts_of_image(image);
-        let keys = keys_of_image(alloc.clone()?, self.asked.sorting, &image.symbols)?;
-        write!(out, "{heading}")?;
-        let whole = write_members(&self.asked, &keys, &image.symbols, out)?;
-        Ok(Outcome { whole, left })
-    }
-}
-
-// The keys of the symbols of a table, if there is one, in the order that is asked for; none where they stay as they stand there.
-fn keys_of_image<'a, A: Allocator>(
+/// The keys of the symbols of a table, if there is one, in the order that is asked for; none where they stay as they stand there.
+pub fn keys_of_image<'a, A: Allocator>(
     alloc: A,
     sorting: Option<Sorting>,
     table: &Option<Symbols<'a>>,
@@ -135,26 +97,4 @@ pub fn run<A: Allocator + Clone, W: Write + Drop, B: Allocator, E: Write>(
     ensures flushed { result ≤ 1 → writer_buffer out.new ≡ [] }
 {
     mach_show::run::run(&SymbolsOf { file, asked }, cpu, 0, &alloc, bytes, out, err)
-}
-
-/// The same as JSON, an object of the file on a line: with an object for each symbol that is asked for, in the order that is asked for, and how many
-/// are past the end. The form and the name of the file before each line have no part in it.
-pub fn run_json<A: Allocator + Clone, W: Write + Drop, B: Allocator, E: Write>(
-    alloc: A,
-    cpu: Cpu,
-    asked: Asked<'_>,
-    file: &str,
-    bytes: &[u8],
-    out: &mut BufWriter<W, B>,
-    err: &mut E,
-) -> u8
-    ensures status { IsStatus result }
-    ensures shown { result ≤ 1 → (shown : Shown)
-        × IsDocument cpu (names_text (codes "machsyms") file.now) file.now (without_limit (AreImageSymbolMembers asked.entry)) 0 bytes.now shown
-        × (result ≡ status_by shown.whole)
-        × Writes shown (writer_contents W.contents out.old) (writer_contents W.contents out.new) (E.contents err.old) (E.contents err.new) }
-    ensures flushed { result ≤ 1 → writer_buffer out.new ≡ [] }
-{
-    let objects = ObjectsOf { file, asked };
-    mach_json::run::run(&objects, file, cpu, 0, &alloc, bytes, out, err)
 }

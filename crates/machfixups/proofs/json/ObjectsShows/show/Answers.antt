@@ -5,7 +5,7 @@ use Rattle.mach_json.specs.JsonArrays.{AreListMembers}
 use Rattle.machfixups.specs.JsonRows.{pointer_members}
 use Rattle.machfixups.specs.Parts.{Part, parts_seen}
 use Rattle.machfixups.specs.Rows.{readable_table}
-use Rattle.machfixups.proofs.run.ObjectsShows.show.Goals as goal
+use Rattle.machfixups.proofs.json.ObjectsShows.show.Goals as goal
 
 pub returns-clause-shown : goal.returns-clause-shown
 returns-clause-shown g c = λ bytes opened.

@@ -5,7 +5,7 @@ use Rattle.mach_image.specs.OpenImage.{commands_held}
 use Rattle.machsyms.specs.JsonSymbols.{AreSymbolMembers}
 use Rattle.machsyms.specs.Order.{gone_over}
 use Rattle.machsyms.specs.declared.order.SortKey.{SortKey}
-use Rattle.machsyms.proofs.run.ObjectsOfShows.show.Goals as goal
+use Rattle.machsyms.proofs.json.ObjectsOfShows.show.Goals as goal
 
 pub returns-clause-shown : goal.returns-clause-shown
 returns-clause-shown g c = λ bytes opened.
