@@ -16,7 +16,7 @@ use Rattle.mach_base.specs.declared.error.Error.{Error}
 use Rattle.mach_show.specs.Listings.{text_read, text_answer, CountsRows}
 use Rattle.mach_show.specs.declared.listing.Told.{Told}
 use Rattle.mach_json.specs.JsonArrays.{behind_comma, with_commas, comma_before, row_object, array_member, lists_end, IsArrayOf, WritesArray}
-use Rattle.mach_json.specs.JsonArrays.{WritesAllRows, WritesMember, WritesMembers, WritesObjects, NamedRows, AreMembers, last_member, then_members}
+use Rattle.mach_json.specs.JsonArrays.{WritesAllRows, WritesMember, WritesMembers, WritesObjects, NamedRows, AreArrayMembers, last_member, then_members}
 use Rattle.mach_json.specs.JsonArrays.{WritesListMembers}
 
 -- ---- elements
@@ -185,9 +185,9 @@ pub one_list : (left : ℕ) (l : NamedRows) (t : Told) (old new : Option (List �
     → WritesMembers left (l ∷ []) old new t
 one_list left l t old new m = record {
   text = array_member l.name m.text;
-  members = subst (λ (whole : Bool). AreMembers left (l ∷ []) (array_member l.name m.text) whole t.more t.left) (sym m.counts.whole)
-      (subst (λ (more : Bool). AreMembers left (l ∷ []) (array_member l.name m.text) (list_all is_ok (take left l.rows)) more t.left) (sym m.counts.more)
-      (subst (λ (rest : ℕ). AreMembers left (l ∷ []) (array_member l.name m.text) (list_all is_ok (take left l.rows)) (nat_lt left (length l.rows)) rest)
+  members = subst (λ (whole : Bool). AreArrayMembers left (l ∷ []) (array_member l.name m.text) whole t.more t.left) (sym m.counts.whole)
+      (subst (λ (more : Bool). AreArrayMembers left (l ∷ []) (array_member l.name m.text) (list_all is_ok (take left l.rows)) more t.left) (sym m.counts.more)
+      (subst (λ (rest : ℕ). AreArrayMembers left (l ∷ []) (array_member l.name m.text) (list_all is_ok (take left l.rows)) (nat_lt left (length l.rows)) rest)
       (sym m.counts.rest) (last_member left l m.text m.array)));
   written = m.written;
 }
@@ -200,14 +200,14 @@ list_then left l ls one two t old middle new m others is =
     let text = array_member l.name m.text ++ others.text in
     let all = list_all is_ok (take left l.rows) in
     let over = nat_lt left (length l.rows) in
-    let behind = subst (λ (n : ℕ). AreMembers n ls others.text two.whole two.more two.left) m.counts.rest others.members in
+    let behind = subst (λ (n : ℕ). AreArrayMembers n ls others.text two.whole two.more two.left) m.counts.rest others.members in
     let both = then_members left l m.text ls others.text two.whole two.more two.left m.array behind in
     let whole : (all && two.whole) ≡ t.whole = ap (λ (w : Bool). w && two.whole) (sym m.counts.whole) ∙ sym is.1 in
     let more : (over || two.more) ≡ t.more = ap (λ (x : Bool). x || two.more) (sym m.counts.more) ∙ sym is.2 in record {
       text = text;
-      members = subst (λ (w : Bool). AreMembers left (l ∷ ls) text w t.more t.left) whole
-          (subst (λ (x : Bool). AreMembers left (l ∷ ls) text (all && two.whole) x t.left) more
-          (subst (λ (rest : ℕ). AreMembers left (l ∷ ls) text (all && two.whole) (over || two.more) rest) (sym is.0) both));
+      members = subst (λ (w : Bool). AreArrayMembers left (l ∷ ls) text w t.more t.left) whole
+          (subst (λ (x : Bool). AreArrayMembers left (l ∷ ls) text (all && two.whole) x t.left) more
+          (subst (λ (rest : ℕ). AreArrayMembers left (l ∷ ls) text (all && two.whole) (over || two.more) rest) (sym is.0) both));
       written = Appends-both old middle new (array_member l.name m.text) others.text m.written others.written;
     }
 
@@ -221,7 +221,7 @@ lists_written left lists t whole rest old middle new m is count last = record {
     front = m.text;
     readable = t.whole;
     more = t.more;
-    members = subst (λ (n : ℕ). AreMembers left lists m.text t.whole t.more n) (sym count) m.members;
+    members = subst (λ (n : ℕ). AreArrayMembers left lists m.text t.whole t.more n) (sym count) m.members;
     is_text = refl;
     is_whole = is;
   };

@@ -92,11 +92,11 @@ abbrev pub document_of : (kind name : List ℕ) → List (List ℕ) → List ℕ
 document_of kind name objects = codes "{\"images\":[" ++ (with_commas objects ++ document_end kind name)
 
 -- the object of a file of which nothing is shown, and why
-abbrev pub refusal_text : (name words : List ℕ) → List ℕ
-refusal_text name words = codes "{\"error\":\"" ++ (words ++ (codes "\",\"images\":[],\"name\":" ++ (json_string name ++ codes "}\n")))
+abbrev pub refusal_object : (name words : List ℕ) → List ℕ
+refusal_object name words = codes "{\"error\":\"" ++ (words ++ (codes "\",\"images\":[],\"name\":" ++ (json_string name ++ codes "}\n")))
 
 abbrev pub refused_for : (names name words : List ℕ) (left : ℕ) → Shown
-refused_for names name words left = record { text = refusal_text name words; said = complaint names words; whole = false; left = left }
+refused_for names name words left = record { text = refusal_object name words; said = complaint names words; whole = false; left = left }
 
 -- The text is the object of a file: of one image, if it is for a cpu that is asked for, or of a fat file with the objects of its entries that are
 -- asked for; or why nothing is shown of it. The limit is that of all its images together.
@@ -128,8 +128,8 @@ pub record WritesEntries (shown : EntryObjects) (out_old out_new err_old err_new
   pub said : Appends err_old err_new shown.said
 
 -- the words by which nothing is shown of a file
-abbrev pub refusal_words : Refusal → List ℕ
-refusal_words (refusals.Kind kind) = foreign_words kind
-refusal_words (refusals.Fault words) = words_of (described words)
-refusal_words (refusals.OtherImage cpu) = other_words cpu
-refusal_words (refusals.NoEntry cpu) = no_entry_words cpu
+abbrev pub told_refusal : Refusal → List ℕ
+told_refusal (refusals.Kind kind) = foreign_words kind
+told_refusal (refusals.Fault words) = words_of (described words)
+told_refusal (refusals.OtherImage cpu) = other_words cpu
+told_refusal (refusals.NoEntry cpu) = no_entry_words cpu

@@ -78,17 +78,18 @@ pub record WritesMember (name : List ℕ) (left : ℕ) (rows : List (Result (Lis
 
 -- The text is a member for each of these lists, in order: of all their rows in order the first ones, no more than `left`. It is whole where none
 -- of these is missing; and there are more rows than that, or not. Each row told is one less that is left.
-pub data AreMembers : (left : ℕ) → List NamedRows → (text : List ℕ) → (whole more : Bool) → (rest : ℕ) → Type 0 where
+pub data AreArrayMembers : (left : ℕ) → List NamedRows → (text : List ℕ) → (whole more : Bool) → (rest : ℕ) → Type 0 where
   last_member : (left : ℕ) (l : NamedRows) (array : List ℕ) → IsArrayOf (take left l.rows) array
-      → AreMembers left (l ∷ []) (array_member l.name array) (list_all is_ok (take left l.rows)) (nat_lt left (length l.rows)) (left - length l.rows)
+      → AreArrayMembers left (l ∷ []) (array_member l.name array) (list_all is_ok (take left l.rows)) (nat_lt left (length l.rows)) (left - length l.rows)
   then_members : (left : ℕ) (l : NamedRows) (array : List ℕ) (ls : List NamedRows) (text : List ℕ) (whole more : Bool) (rest : ℕ)
-      → IsArrayOf (take left l.rows) array → AreMembers (left - length l.rows) ls text whole more rest
-      → AreMembers left (l ∷ ls) (array_member l.name array ++ text) (list_all is_ok (take left l.rows) && whole) (nat_lt left (length l.rows) || more) rest
+      → IsArrayOf (take left l.rows) array → AreArrayMembers (left - length l.rows) ls text whole more rest
+      → AreArrayMembers left (l ∷ ls) (array_member l.name array ++ text) (list_all is_ok (take left l.rows) && whole)
+      (nat_lt left (length l.rows) || more) rest
 
 -- Such members were written, and this is what is known then.
 pub record WritesMembers (left : ℕ) (lists : List NamedRows) (old new : Option (List ℕ)) (t : Told) : Type 0 where
   pub text : List ℕ
-  pub members : AreMembers left lists text t.whole t.more t.left
+  pub members : AreArrayMembers left lists text t.whole t.more t.left
   pub written : Appends old new text
 
 -- what stands behind the members of the lists of an image: whether there are more rows than the limit
@@ -101,7 +102,7 @@ pub record AreListMembers (left : ℕ) (lists : List NamedRows) (text : List ℕ
   pub front : List ℕ
   pub readable : Bool
   pub more : Bool
-  pub members : AreMembers left lists front readable more rest
+  pub members : AreArrayMembers left lists front readable more rest
   pub is_text : text ≡ front ++ lists_end more
   pub is_whole : whole ≡ (readable && not more)
 

@@ -7,6 +7,6 @@ use Rattle.mach_json.specs.declared.document.Subject.{Subject}
 use Rattle.mach_json.specs.declared.document.Subject.TheVariants.{Image, Fat}
 
 -- it is what the bytes open as
-abbrev pub IsOpened : {A : Type 0} → List ℕ → Subject A → Type 0
-IsOpened bytes (Image m) = IsImage bytes 0 m
-IsOpened bytes (Fat container records) = IsFatTable bytes (file_held container) records.items
+abbrev pub IsOpenSubject : {A : Type 0} → List ℕ → Subject A → Type 0
+IsOpenSubject bytes (Image m) = IsImage bytes 0 m
+IsOpenSubject bytes (Fat container records) = IsFatTable bytes (file_held container) records.items

@@ -10,7 +10,7 @@ ghost use Rattle.goblin_mach.specs.View.{ViewFault};
 ghost use Rattle.mach_show.specs.Cpus.{misses};
 ghost use Rattle.mach_show.specs.Shown.{IsFatTable, Shown, Writes};
 ghost use Rattle.mach_json.specs.Documents.{document_end, AreEntryObjects, EntryObjects, IsDocument, IsEntryObject, IsImageObject, WritesEntries};
-ghost use Rattle.mach_json.specs.Opened.{IsOpened};
+ghost use Rattle.mach_json.specs.Opened.{IsOpenSubject};
 
 use crate::array::comma_before;
 use crate::refusal::{ObjectFront, Refusal, refusal_of, refuse, refuse_entry, refuse_members};
@@ -68,7 +68,7 @@ pub fn show<S: Shows, A: Allocator + Clone, O: Write, E: Write>(
 
 // Opens a file, a fat one with its table.
 fn open<'a, A: Allocator + Clone>(alloc: &A, bytes: &'a [u8]) -> Result<Subject<'a, A>>
-    ensures held { IfOk result (IsOpened bytes.now) }
+    ensures held { IfOk result (IsOpenSubject bytes.now) }
     ensures refused { IfErr result (Stands (ViewFault bytes.now)) }
 {
     let file = Mach::parse(alloc.clone()?, bytes)?;

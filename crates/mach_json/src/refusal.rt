@@ -6,7 +6,7 @@ ghost use Rattle.mach_base.specs.Words.{words_of};
 ghost use Rattle.mach_show.specs.Foreigners.{refused_words};
 ghost use Rattle.mach_show.specs.Shown.{complaint, entry_complaint};
 ghost use Rattle.mach_show.specs.declared.heading.Heading.TheVariants as headings;
-ghost use Rattle.mach_json.specs.Documents.{object_front, refusal_text, refusal_words};
+ghost use Rattle.mach_json.specs.Documents.{object_front, refusal_object, told_refusal};
 ghost use Rattle.mach_json.specs.JsonArrays.{error_end};
 
 use crate::text::JsonString;
@@ -32,7 +32,7 @@ pub enum Refusal<'a> {
 impl Display for Refusal<'_> {
     ghost use Rattle.std.specs.Prelude.{Some};
 
-    ghost output = { λ refusal. Some (refusal_words refusal) };
+    ghost output = { λ refusal. Some (told_refusal refusal) };
 
     fn fmt<W: fmt::Write>(&self, f: &mut Formatter<W>) -> fmt::Result {
         match self {
@@ -46,7 +46,7 @@ impl Display for Refusal<'_> {
 
 /// Why a file is refused for this error: for what it is, where it is none of Mach-O's.
 pub fn refusal_of<'a>(bytes: &[u8], error: &'a Error) -> Refusal<'a>
-    ensures { refusal_words result ≡ refused_words bytes.now error.now }
+    ensures { told_refusal result ≡ refused_words bytes.now error.now }
 {
     match refused_kind(bytes, error) {
         Some(kind) => Refusal::Kind(kind),
@@ -80,8 +80,8 @@ pub fn refuse<S: Shows, O: Write, E: Write>(
     err: &mut E,
 ) -> io::Result<bool>
     ensures { IfOk result (λ whole. (whole ≡ false)
-        × Appends (O.contents out.old) (O.contents out.new) (refusal_text name.now (refusal_words refusal))
-        × Appends (E.contents err.old) (E.contents err.new) (complaint (S.names shows.now) (refusal_words refusal))) }
+        × Appends (O.contents out.old) (O.contents out.new) (refusal_object name.now (told_refusal refusal))
+        × Appends (E.contents err.old) (E.contents err.new) (complaint (S.names shows.now) (told_refusal refusal))) }
 {
     let (names, name) = (shows.names(), JsonString(name));
     writeln!(

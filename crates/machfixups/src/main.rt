@@ -42,7 +42,8 @@ use std::process::ExitCode;
 use words::take_picks;
 
 const USAGE: &str =
-    "usage: machfixups [--rebases] [--binds] [--weak] [--chains] [--json] [--limit N] [--arch NAME | --cputype 0xN] FILE..\n       machfixups -h | --help | --version\n";
+    "usage: machfixups [--rebases] [--binds] [--weak] [--chains] [--json] [--limit N] \
+    [--arch NAME | --cputype 0xN] FILE..\n       machfixups -h | --help | --version\n";
 
 const PROGRAM: Program = Program {
     name: NAME,

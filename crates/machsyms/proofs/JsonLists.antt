@@ -10,7 +10,7 @@ use Rattle.mach_symbols.specs.Symbols.{SymbolTable, begun_of}
 use Rattle.mach_symbols.specs.declared.symbols.nlist.Nlist.{Nlist}
 use Rattle.mach_json.specs.JsonArrays.{WritesAllRows}
 use Rattle.machsyms.specs.Asked.{takes}
-use Rattle.machsyms.specs.JsonSymbols.{asked_objects, symbol_told, symbols_front, WritesSymbolMembers}
+use Rattle.machsyms.specs.JsonSymbols.{asked_objects, symbol_told, before_symbols, WritesSymbolMembers}
 use Rattle.machsyms.specs.Lines.{past_the_end}
 use Rattle.machsyms.specs.declared.asked.Asked.{Asked}
 
@@ -39,25 +39,25 @@ module _ (a : Asked) where
 
   module _ (list : SymbolTable → List (Result (List ℕ × Nlist) Fault)) where
     -- an image without a table
-    pub no_members : (old middle new : Option (List ℕ)) → Appends old middle (symbols_front 0) → Appends middle new (codes "[]")
+    pub no_members : (old middle new : Option (List ℕ)) → Appends old middle (before_symbols 0) → Appends middle new (codes "[]")
         → WritesSymbolMembers a list None true old new
     no_members old middle new front last = record {
-      text = symbols_front 0 ++ codes "[]";
+      text = before_symbols 0 ++ codes "[]";
       members = record {
         array = codes "[]";
         is_array = record { answers = []; are_rows = refl; is_text = refl };
         is_text = refl;
         is_whole = refl;
       };
-      written = Appends-both old middle new (symbols_front 0) (codes "[]") front last;
+      written = Appends-both old middle new (before_symbols 0) (codes "[]") front last;
     }
 
     -- those of a table
-    pub table_members : (t : SymbolTable) (whole : Bool) (old middle new : Option (List ℕ)) → Appends old middle (symbols_front (past_the_end (Some t)))
+    pub table_members : (t : SymbolTable) (whole : Bool) (old middle new : Option (List ℕ)) → Appends old middle (before_symbols (past_the_end (Some t)))
         → WritesAllRows (asked_objects a (list (begun_of t))) middle new → whole ≡ (past_the_end (Some t) == 0)
         → WritesSymbolMembers a list (Some t) whole old new
     table_members t whole old middle new front rows is = record {
-      text = symbols_front (past_the_end (Some t)) ++ rows.text;
+      text = before_symbols (past_the_end (Some t)) ++ rows.text;
       members = record { array = rows.text; is_array = rows.array; is_text = refl; is_whole = is };
-      written = Appends-both old middle new (symbols_front (past_the_end (Some t))) rows.text front rows.written;
+      written = Appends-both old middle new (before_symbols (past_the_end (Some t))) rows.text front rows.written;
     }

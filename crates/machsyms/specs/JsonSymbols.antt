@@ -42,8 +42,8 @@ abbrev pub asked_objects : Asked → List (Result (List ℕ × Nlist) Fault) →
 asked_objects a symbols = map symbol_told (filter (takes a) symbols)
 
 -- what stands before the symbols, of which n begin past the end
-abbrev pub symbols_front : ℕ → List ℕ
-symbols_front n = codes "\"kind\":\"image\",\"past_the_end\":" ++ (decimal n ++ codes ",\"symbols\":")
+abbrev pub before_symbols : ℕ → List ℕ
+before_symbols n = codes "\"kind\":\"image\",\"past_the_end\":" ++ (decimal n ++ codes ",\"symbols\":")
 
 -- The text has an object for each symbol that is asked for of those of the table whose records begin within the bytes, as they are listed, and how
 -- many symbols' don't. It is whole where there are none of these.
@@ -51,7 +51,7 @@ pub record AreSymbolMembers (a : Asked) (list : SymbolTable → List (Result (Li
     (whole : Bool) : Type 0 where
   pub array : List ℕ
   pub is_array : IsArrayOf (asked_objects a (symbols_over list (option_map begun_of table))) array
-  pub is_text : text ≡ symbols_front (past_the_end table) ++ array
+  pub is_text : text ≡ before_symbols (past_the_end table) ++ array
   pub is_whole : whole ≡ (past_the_end table == 0)
 
 -- What was written is such members.

@@ -4,7 +4,7 @@ ghost use Rattle.std.specs.Prelude.{◌≡◌, Some, None, true, option_map, IfO
 ghost use Rattle.std.specs.Io.KnownBytes.{Appends};
 ghost use Rattle.mach_symbols.specs.SymbolViews.{table_of};
 ghost use Rattle.mach_json.specs.JsonArrays.{WritesAllRows};
-ghost use Rattle.machsyms.specs.JsonSymbols.{asked_objects, symbols_front, WritesSymbolMembers};
+ghost use Rattle.machsyms.specs.JsonSymbols.{asked_objects, before_symbols, WritesSymbolMembers};
 ghost use Rattle.machsyms.specs.Order.{gone_over};
 
 use crate::asked::Asked;
@@ -61,7 +61,7 @@ fn write_none<O: Write>(asked: &Asked<'_>, keys: &[SortKey<'_>], out: &mut O) ->
 
 // Writes what stands before the symbols, of which so many begin past the end.
 fn write_front<O: Write>(past: usize, out: &mut O) -> io::Result<()>
-    ensures { OnOk result (Appends (O.contents out.old) (O.contents out.new) (symbols_front past)) }
+    ensures { OnOk result (Appends (O.contents out.old) (O.contents out.new) (before_symbols past)) }
 {
     write!(
         out,

@@ -4,7 +4,7 @@ use Rattle.std.specs.Io.KnownBytes.{Appends}
 use Rattle.goblin_mach.specs.FatFile.{file_held}
 use Rattle.mach_show.specs.Foreigners.{refused_words}
 use Rattle.mach_show.specs.Shown.{IsFatTable, complaint}
-use Rattle.mach_json.specs.Documents.{of_refused_file, refusal_text, refused_for}
+use Rattle.mach_json.specs.Documents.{of_refused_file, refusal_object, refused_for}
 use Rattle.mach_json.proofs.document.show.Goals as goal
 
 pub returns-in-Ok-Image : goal.returns-in-Ok-Image
@@ -22,7 +22,7 @@ returns-in-Err g c =
     let name = c.args.name.now in
     let words = refused_words c.args.bytes.now c.in-Err.error in
     let is = c.refusal_of-refusal.ensures in
-    let out = λ (w : List ℕ). Appends (g.O.Write.contents c.args.out.now) (g.O.Write.contents c.refuse.new.out) (refusal_text name w) in
+    let out = λ (w : List ℕ). Appends (g.O.Write.contents c.args.out.now) (g.O.Write.contents c.refuse.new.out) (refusal_object name w) in
     let err = λ (w : List ℕ). Appends (g.E.Write.contents c.args.err.now) (g.E.Write.contents c.refuse.new.err) (complaint names w) in
     IfOk-weaker c.refuse.result _ _
     (λ whole told. (
