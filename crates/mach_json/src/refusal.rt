@@ -80,8 +80,8 @@ pub fn refuse<S: Shows, O: Write, E: Write>(
     err: &mut E,
 ) -> io::Result<bool>
     ensures { IfOk result (λ whole. (whole ≡ false)
-        × Appends (O.contents out.old) (O.contents out.new) (refusal_object name.now (told_refusal refusal))
-        × Appends (E.contents err.old) (E.contents err.new) (complaint (S.names shows.now) (told_refusal refusal))) }
+        × Appends (O.contents out.old) (O.contents out.new) (refusal_object name.now (told_refusal refusal.entry))
+        × Appends (E.contents err.old) (E.contents err.new) (complaint (S.names shows.now) (told_refusal refusal.entry))) }
 {
     let (names, name) = (shows.names(), JsonString(name));
     writeln!(
