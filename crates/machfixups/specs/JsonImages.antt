@@ -6,11 +6,12 @@ use Rattle.mach_chained.specs.Header.{Fixups}
 use Rattle.mach_image.specs.Facts.{HasSegments, HasChainedFixups}
 use Rattle.mach_image.specs.Image.{Opens}
 use Rattle.mach_json.specs.JsonArrays.{AreListMembers}
-use Rattle.machfixups.specs.JsonRows.{pointer_members, pointer_told}
+use Rattle.machfixups.specs.JsonRows.{pointer_members, pointer_object, pointer_told}
 use Rattle.machfixups.specs.Lists.{PointerLists, HasPointerLists}
 use Rattle.machfixups.specs.Parts.{parts_of}
-use Rattle.machfixups.specs.Rows.{readable_table}
+use Rattle.machfixups.specs.Rows.{readable_table, row_view}
 use Rattle.machfixups.specs.RowsLeft.{rows_left}
+use Rattle.machfixups.specs.declared.row.Row.{Row}
 use Rattle.machfixups.specs.declared.rows.Picks.{Picks}
 use Rattle.machfixups.specs.declared.rows.Rows as over
 
@@ -31,3 +32,7 @@ pub record AreImagePointerMembers (picks : Picks) (left : ℕ) (bytes : List ℕ
 -- the objects of the rows that are left
 abbrev pub objects_left : {A : Type 0} → over.Rows A → List (Result (List ℕ) Fault)
 objects_left rows = map pointer_told (rows_left rows)
+
+-- the object of a row that is there
+abbrev pub pointer_row_text : Row → List ℕ
+pointer_row_text row = pointer_object (row_view row)

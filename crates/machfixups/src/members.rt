@@ -1,16 +1,17 @@
 //! The members of the object of an image: what dyld corrects of it.
 
-ghost use Rattle.std.specs.Prelude.{◌≡◌, ℕ, List, Option, Result, map, IfOk};
+ghost use Rattle.std.specs.Prelude.{◌≡◌, ℕ, List, Option, Result, map, IfOk, OnOk};
+ghost use Rattle.std.specs.Io.KnownBytes.{Appends};
 ghost use Rattle.mach_base.specs.Fault.{Fault};
 ghost use Rattle.mach_chained.specs.Header.{Fixups};
 ghost use Rattle.mach_image.specs.Facts.{HasChainedFixups};
 ghost use Rattle.mach_image.specs.OpenImage.{IsImage};
 ghost use Rattle.mach_json.specs.JsonArrays.{WritesListMembers, WritesMember};
-ghost use Rattle.machfixups.specs.JsonImages.{objects_left};
-ghost use Rattle.machfixups.specs.JsonRows.{pointer_members, pointer_object, pointer_told};
+ghost use Rattle.machfixups.specs.JsonImages.{objects_left, pointer_row_text};
+ghost use Rattle.machfixups.specs.JsonRows.{pointer_members, pointer_told};
 ghost use Rattle.machfixups.specs.Lists.{PointerLists, HasPointerLists};
 ghost use Rattle.machfixups.specs.Parts.{parts_seen};
-ghost use Rattle.machfixups.specs.Rows.{fixups_table_seen, picked, readable_table, row_view};
+ghost use Rattle.machfixups.specs.Rows.{fixups_table_seen, picked, readable_table};
 ghost use Rattle.machfixups.specs.RowsLeft.{rows_of_items};
 
 use crate::object::PointerObject;
@@ -29,7 +30,7 @@ use std::io::Write;
 impl<'p, 'a, A: Allocator> Listing for Rows<'p, 'a, '_, A> {
     type Row = Row<'p, 'a>;
 
-    ghost text = { λ row. pointer_object (row_view row) };
+    ghost text = { pointer_row_text };
 
     ghost left = { objects_left };
 
@@ -40,7 +41,9 @@ impl<'p, 'a, A: Allocator> Listing for Rows<'p, 'a, '_, A> {
         }
     }
 
-    fn write_row<O: Write>(row: &Row<'p, 'a>, out: &mut O) -> io::Result<()> {
+    fn write_row<O: Write>(row: &Row<'p, 'a>, out: &mut O) -> io::Result<()>
+        ensures { OnOk result (Appends (O.contents out.old) (O.contents out.new) (pointer_row_text row.now)) }
+    {
         let object = PointerObject(row);
         write!(out, "{object}")
     }

@@ -1,11 +1,12 @@
 //! The symbols that are asked for, one at a time.
 
-ghost use Rattle.std.specs.Prelude.{◌≡◌, Some, length};
+ghost use Rattle.std.specs.Prelude.{◌≡◌, Some, length, OnOk};
+ghost use Rattle.std.specs.Io.KnownBytes.{Appends};
 ghost use Rattle.std.specs.Iterator.{YieldsFirstBy};
 ghost use Rattle.mach_base.specs.Items.{read_as};
 ghost use Rattle.mach_symbols.specs.SymbolViews.{symbol_read, table_of};
-ghost use Rattle.machsyms.specs.JsonSymbols.{asked_objects, symbol_object, symbol_told};
-ghost use Rattle.machsyms.specs.Listed.{asked_left, keyed_left, source_left};
+ghost use Rattle.machsyms.specs.JsonSymbols.{asked_objects, symbol_told};
+ghost use Rattle.machsyms.specs.Listed.{asked_left, keyed_left, source_left, symbol_row_text};
 ghost use Rattle.machsyms.specs.Order.{gone_over};
 
 use crate::asked::{Asked, Sorting};
@@ -82,7 +83,7 @@ pub struct SymbolRow<'a> {
 }
 
 impl Display for SymbolRow<'_> {
-    ghost output = { λ row. Some (symbol_object row.name.now row.symbol) };
+    ghost output = { λ row. Some (symbol_row_text row) };
 
     fn fmt<W: fmt::Write>(&self, f: &mut Formatter<W>) -> fmt::Result {
         let name = JsonString(self.name);
@@ -102,7 +103,7 @@ impl Display for SymbolRow<'_> {
 
 // A symbol with its name, as it was answered.
 fn row_of<'a>(answer: goblin_mach::Result<(&'a str, Nlist)>) -> goblin_mach::Result<SymbolRow<'a>>
-    ensures { read_as (λ row. symbol_object row.name.now row.symbol) result ≡ symbol_told (symbol_read answer.entry) }
+    ensures { read_as symbol_row_text result ≡ symbol_told (symbol_read answer.entry) }
 {
     match answer {
         Ok((name, symbol)) => Ok(SymbolRow { name, symbol }),
@@ -132,7 +133,7 @@ impl<'s, 'k, 'a> AskedSymbols<'s, 'k, 'a> {
 impl<'a> Listing for AskedSymbols<'_, '_, 'a> {
     type Row = SymbolRow<'a>;
 
-    ghost text = { λ row. symbol_object row.name.now row.symbol };
+    ghost text = { symbol_row_text };
 
     ghost left = { asked_left };
 
@@ -145,7 +146,9 @@ impl<'a> Listing for AskedSymbols<'_, '_, 'a> {
         None
     }
 
-    fn write_row<O: Write>(row: &SymbolRow<'a>, out: &mut O) -> io::Result<()> {
+    fn write_row<O: Write>(row: &SymbolRow<'a>, out: &mut O) -> io::Result<()>
+        ensures { OnOk result (Appends (O.contents out.old) (O.contents out.new) (symbol_row_text row.now)) }
+    {
         write!(out, "{row}")
     }
 }
