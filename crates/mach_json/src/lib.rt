@@ -6,9 +6,11 @@ mod array;
 mod document;
 mod refusal;
 pub mod run;
+mod terminal;
 mod text;
 mod words;
 
 pub use crate::array::{print_array, print_empty, print_end, print_member, then};
+pub use crate::terminal::ForTerminal;
 pub use crate::text::JsonString;
 pub use crate::words::take_json;
