@@ -1,3 +1,4 @@
+pub mod Refusals
 pub mod Gathered
 pub mod Totals
 pub mod Tables
