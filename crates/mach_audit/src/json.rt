@@ -2,11 +2,11 @@
 
 ghost use Rattle.std.specs.Prelude.{◌≡◌};
 
-use crate::layout_text::{Counts, fault_text, owner_text};
+use crate::layout_text::Counts;
 use crate::report::{EntryReport, FatReport, Finding, ImageReport, Part, Parts, Report};
 use crate::verdict::Verdict;
 use goblin_mach::{Error, describe};
-use mach_layout::LayoutFault;
+use mach_layout::{Evidence, LayoutFault};
 use serde_json::{Value, json};
 use std::alloc::{AllocError, Allocator, Global};
 
@@ -89,8 +89,8 @@ fn add_refusal(
 // A fault of layout.
 fn layout_value(alloc: Global, fault: LayoutFault) -> Result<Value, AllocError> {
     let place = format!(in alloc; "0x{:x}", fault.owner.command)?;
-    let owner = format!(in alloc; "{}", owner_text(fault.owner))?;
-    let words = format!(in alloc; "{}", fault_text(fault))?;
+    let owner = format!(in alloc; "{}", fault.owner)?;
+    let words = format!(in alloc; "{}", Evidence(fault))?;
     fault_value(
         alloc,
         fault.rule.words(),

@@ -4,7 +4,7 @@ use Rattle.mach_base.specs.Fault.{Fault, malformed, bad_magic, too_short, fault_
 use Rattle.mach_base.specs.declared.error.Error.TheVariants as errors
 use Rattle.mach_fat.specs.Changes.{of_file}
 use Rattle.mach_fat.specs.Creates.{UnfitFile, RefusesFiles}
-use Rattle.mach_fat.specs.Unfit.{Unfit, unread, not_fat, no_such_entry, out_of_file, overlap, no_such_cpu, RefusesBy, RefusesAs, if_there}
+use Rattle.mach_fat.specs.Unfit.{Unfit, unread, not_fat, no_such_entry, out_of_file, overlap, no_such_cpu, RefusesBy, RefusesAs, if_fit}
 use Rattle.mach_fat.specs.declared.refusal.EntryRefusal.{EntryRefusal}
 use Rattle.mach_fat.specs.declared.refusal.EntryRefusal.TheVariants as refusals
 
@@ -28,6 +28,6 @@ pub refused_file : {A : Type 0} (i : ℕ) (why : EntryRefusal) (there : Result A
 refused_file i why there = refused_as (λ u. u) (λ u. record { file = i; why = u }) why there (of_file i there) (λ u is. ap (of_file i) is)
 
 pub refused_first : {A B : Type 0} (i : ℕ) (why : EntryRefusal) (there : Result A Unfit) (next : A → Result B UnfitFile) → RefusesAs why there
-    → RefusesFiles (record { file = i; why = why }) (if_there next (of_file i there))
+    → RefusesFiles (record { file = i; why = why }) (if_fit next (of_file i there))
 refused_first i why there next =
-    refused_as (λ u. u) (λ u. record { file = i; why = u }) why there (if_there next (of_file i there)) (λ u is. ap (λ x. if_there next (of_file i x)) is)
+    refused_as (λ u. u) (λ u. record { file = i; why = u }) why there (if_fit next (of_file i there)) (λ u is. ap (λ x. if_fit next (of_file i x)) is)

@@ -61,7 +61,7 @@ abbrev pub RefusesInOrder : FatForm → List FatEntry → Error → Type 0
 RefusesInOrder form given e = Stands (λ f. ⊥) e ⊎ HasNoFileInOrder form given e
 
 -- The fat file of some entries, which are there, in that order.
-pub record IsMadeOf (form : FatForm) (there : Result (List FatEntryView) UnfitFile) (file : List ℕ) : Type 0 where
+pub record IsFileOf (form : FatForm) (there : Result (List FatEntryView) UnfitFile) (file : List ℕ) : Type 0 where
   pub given : List FatEntry
   pub are_entries : there ≡ Ok (entry_views given)
   pub is_file : IsFileInOrder form given file
@@ -74,7 +74,7 @@ pub record RefusesEntries (form : FatForm) (there : Result (List FatEntryView) U
 
 -- The fat file that is created of some files: that of all their entries.
 abbrev pub IsCreated : FatForm → List (List ℕ) → List ℕ → Type 0
-IsCreated form files file = IsMadeOf form (entries_of_files 0 files) file
+IsCreated form files file = IsFileOf form (entries_of_files 0 files) file
 
 -- Why none is created: one of the files is refused, or there is none of all their entries; or want of memory.
 abbrev pub RefusesCreate : FatForm → List (List ℕ) → MakeRefusal → Type 0

@@ -7,7 +7,8 @@ use Rattle.mach_base.specs.Words.{words_of}
 use Rattle.mach_fat.specs.declared.refusal.EntryRefusal.{EntryRefusal}
 use Rattle.mach_fat.specs.declared.refusal.EntryRefusal.TheVariants.{Unread, NotFat, NoEntry, OutOfFile, Overlap, NoCpu}
 
--- what is wrong: they can't be read; the file is one image; none has this index; that of an index isn't in the file; they have more bytes than the file; none is for a cpu
+-- what is wrong: they can't be read; the file is one image; none has this index; that of an index isn't in the file; they have more bytes
+-- than the file; none is for a cpu
 pub data Unfit : Type 0 where
   unread : Fault → Unfit
   not_fat : Unfit
@@ -17,9 +18,9 @@ pub data Unfit : Type 0 where
   no_such_cpu : ℕ → Unfit
 
 -- what follows from what is there, or why nothing is there
-abbrev pub if_there : {A B E : Type 0} → (A → Result B E) → Result A E → Result B E
-if_there next (Ok x) = next x
-if_there next (Err e) = Err e
+abbrev pub if_fit : {A B E : Type 0} → (A → Result B E) → Result A E → Result B E
+if_fit next (Ok x) = next x
+if_fit next (Err e) = Err e
 
 -- what was read, or that it can't be
 abbrev pub if_read : {A : Type 0} → Result A Fault → Result A Unfit

@@ -1,6 +1,6 @@
 //! An entry of a fat file that is asked for by its cpu.
 
-ghost use Rattle.mach_fat.specs.Changes.{first_of_cpu, slice_or_out, thin_entry_in};
+ghost use Rattle.mach_fat.specs.Changes.{first_for_cpu, slice_or_out, thin_entry_in};
 ghost use Rattle.mach_fat.specs.EntriesRead.{slice_of};
 ghost use Rattle.mach_fat.specs.Unfit.{AnswersAs};
 
@@ -24,12 +24,12 @@ fn slice_or_out<'a>(
 }
 
 // The bytes of the first entry of a cputype among records.
-fn first_of_cpu<'a>(
+fn first_for_cpu<'a>(
     bytes: &'a [u8],
     cputype: u32,
     records: &[EntryRecord],
 ) -> Result<&'a [u8], EntryRefusal>
-    ensures { AnswersAs (λ slice. slice.now) result (first_of_cpu bytes.now cputype 0 records.now) }
+    ensures { AnswersAs (λ slice. slice.now) result (first_for_cpu bytes.now cputype 0 records.now) }
 {
     for (index, record) in records.iter().enumerate() {
         if record.cputype == cputype {
@@ -49,5 +49,5 @@ pub fn thin_entry<'a, A: Allocator>(
 {
     let form = Form::of_fat(bytes)?;
     let records = form.records(alloc, bytes)?;
-    first_of_cpu(bytes, cputype, records.as_slice())
+    first_for_cpu(bytes, cputype, records.as_slice())
 }

@@ -14,6 +14,7 @@ mod refusal;
 mod run;
 mod text;
 mod thin;
+mod verify;
 
 use mach_fat::Form;
 use mach_show::{Misuse, Program, Round, cputype_in};
@@ -25,9 +26,17 @@ use std::io;
 use std::io::BufWriter;
 use std::process::ExitCode;
 use thin::run_thin;
+use verify::run_verify;
 
 // The option by which a fat file of 64 bits is created.
 const WIDE: &str = "--fat64";
+
+// What is printed of a file.
+#[derive(Clone, Copy)]
+enum Shown {
+    Records,
+    Faults,
+}
 
 const PROGRAM: Program = Program {
     name: NAME,
@@ -37,6 +46,7 @@ const PROGRAM: Program = Program {
        machfat create [--fat64] OUT FILE..
        machfat replace FILE NEW OUT
        machfat remove FILE INDEX OUT
+       machfat verify FILE..
        machfat -h | --help | --version
 ",
     version: "machfat 0.2.0\n",
@@ -49,6 +59,7 @@ const PROGRAM: Program = Program {
         "create",
         "replace",
         "remove",
+        "verify",
         "--help",
         "--version",
     ],
@@ -69,7 +80,8 @@ fn start(rt: &HostRuntime) -> Result<u8, u8> {
         [word, given @ ..] if *word == "create" => create_file(rt, form_for(is_wide), given),
         _ if is_wide => Err(PROGRAM.bad_usage(rt, Misuse::UnknownOption(WIDE))),
         [] => Err(PROGRAM.bad_usage(rt, Misuse::Missing("word"))),
-        [word, files @ ..] if *word == "list" => list_files(rt, files),
+        [word, files @ ..] if *word == "list" => show_files(rt, Shown::Records, files),
+        [word, files @ ..] if *word == "verify" => show_files(rt, Shown::Faults, files),
         [word, given @ ..] => write_file(rt, word, given),
     }
 }
@@ -85,8 +97,8 @@ fn write_file(rt: &HostRuntime, word: &str, given: &[&str]) -> Result<u8, u8> {
     }
 }
 
-// Lists the entries of files in order, and answers the worst status.
-fn list_files(rt: &HostRuntime, files: &[&str]) -> Result<u8, u8> {
+// Prints what is asked for of files in order, and answers the worst status.
+fn show_files(rt: &HostRuntime, shown: Shown, files: &[&str]) -> Result<u8, u8> {
     if files.is_empty() {
         return Err(PROGRAM.bad_usage(rt, Misuse::Missing("FILE")));
     }
@@ -96,7 +108,11 @@ fn list_files(rt: &HostRuntime, files: &[&str]) -> Result<u8, u8> {
     let mut round = Round::new(PROGRAM, files.len());
     for file in files {
         if let Some(bytes) = round.begin(rt, file, &mut lines)? {
-            round.end(run_list(rt.alloc(), file, &bytes, &mut lines, &mut rt.stderr()))?;
+            let status = match shown {
+                Shown::Records => run_list(rt.alloc(), file, &bytes, &mut lines, &mut rt.stderr()),
+                Shown::Faults => run_verify(rt.alloc(), file, &bytes, &mut lines, &mut rt.stderr()),
+            };
+            round.end(status)?;
         }
     }
     Ok(round.worst)
