@@ -11,7 +11,7 @@ use Rattle.mach_fat.specs.Creates.{UnfitFile, entries_before, entries_of_files, 
 use Rattle.mach_fat.specs.Unfit.{Unfit, out_of_file, RefusesAs}
 use Rattle.mach_fat.specs.declared.refusal.EntryRefusal.{EntryRefusal}
 use Rattle.mach_fat.specs.declared.record.EntryRecord.{EntryRecord}
-use Rattle.mach_fat.proofs.Refusals.{refused_as}
+use Rattle.mach_fat.proofs.Refusals.{refused_as, unfit_file}
 
 -- some items before others
 abbrev pub before : {A E : Type 0} → List A → Result (List A) E → Result (List A) E
@@ -131,7 +131,7 @@ module _ (files : List (Bor (List ℕ))) where
       → RefusesAs why (file_entries (get_or files i d).now)
       → RefusesFiles (record { file = i; why = why }) (entries_of_files 0 (texts_now files))
   files_refuse found i d why inside gathered =
-      refused_as (λ u. u) (λ u. record { file = i; why = u }) why (file_entries (get_or files i d).now) (entries_of_files 0 (texts_now files))
+      refused_as (λ u. u) (unfit_file i) why (file_entries (get_or files i d).now) (entries_of_files 0 (texts_now files))
       (λ u is. files_refused found i d u inside gathered is)
 
   pub files_all : (found : List FatEntryView) (i : ℕ) → length files ≤ i

@@ -1,4 +1,5 @@
 pub mod Refusals
 pub mod Gathered
+pub mod Changed
 pub mod Totals
 pub mod Tables

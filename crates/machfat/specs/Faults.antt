@@ -6,10 +6,14 @@ use Rattle.mach_rules.specs.Containers.{AreContainerFaults}
 use Rattle.mach_rules.specs.Texts.{fault_text}
 use Rattle.mach_rules.specs.declared.fault.LayoutFault.{LayoutFault}
 
+-- the line of a fault
+abbrev pub table_fault_line : LayoutFault → List ℕ
+table_fault_line fault = fault_text fault ++ codes "\n"
+
 -- the lines of faults, one behind the other
 abbrev pub fault_lines : List LayoutFault → List ℕ
 fault_lines [] = []
-fault_lines (fault ∷ faults) = fault_text fault ++ codes "\n" ++ fault_lines faults
+fault_lines (fault ∷ faults) = table_fault_line fault ++ fault_lines faults
 
 -- whether there is none
 abbrev pub is_faultless : List LayoutFault → Bool

@@ -51,11 +51,11 @@ pub fn run_create<R: Files, E: Write>(
 }
 
 /// Writes the fat file that another one becomes where a file takes the place of each entry for its cpu, and answers the exit status as
-/// `run_create` does. The names are those of the fat file and of the other one.
+/// `run_create` does. `both` are the names of the fat file and of the other one.
 pub fn run_replace<R: Files, E: Write>(
     files: &R,
     alloc: Global,
-    names: &[&str],
+    both: &[&str],
     bytes: &[u8],
     new: &[u8],
     target: &str,
@@ -63,25 +63,25 @@ pub fn run_replace<R: Files, E: Write>(
 ) -> u8
     ensures status { IsStatus result }
     ensures replaced { result ≡ 0 → (made : List ℕ) × IsReplaced bytes.now new.now made × WasWritten R.File.contents made }
-    ensures apart { result ≡ 0 → AreOther names.now target.now }
+    ensures apart { result ≡ 0 → AreOther both.now target.now }
     ensures refused { result ≡ 1 → (refusal : MakeRefusal) × RefusesReplace bytes.now new.now refusal
-        × Appends (E.contents err.old) (E.contents err.new) (make_line names.now target.now refusal) }
+        × Appends (E.contents err.old) (E.contents err.new) (make_line both.now target.now refusal) }
 {
-    if let Some(name) = first_same(files, names, target) {
+    if let Some(name) = first_same(files, both, target) {
         return one_file(name, target, err);
     }
     match replace(&alloc, bytes, new) {
         Ok(made) => place_made(files, alloc, made.as_slice(), target, err),
-        Err(refusal) => refuse(names, target, refusal, err),
+        Err(refusal) => refuse(both, target, refusal, err),
     }
 }
 
-/// Writes the fat file that another one becomes without the entry of an index, and answers the exit status as `run_create` does. The
-/// name of the fat file is the only one.
+/// Writes the fat file that another one becomes without the entry of an index, and answers the exit status as `run_create` does. `only` has
+/// the name of the fat file.
 pub fn run_remove<R: Files, E: Write>(
     files: &R,
     alloc: Global,
-    names: &[&str],
+    only: &[&str],
     bytes: &[u8],
     index: usize,
     target: &str,
@@ -89,16 +89,16 @@ pub fn run_remove<R: Files, E: Write>(
 ) -> u8
     ensures status { IsStatus result }
     ensures removed { result ≡ 0 → (made : List ℕ) × IsWithout bytes.now index made × WasWritten R.File.contents made }
-    ensures apart { result ≡ 0 → AreOther names.now target.now }
+    ensures apart { result ≡ 0 → AreOther only.now target.now }
     ensures refused { result ≡ 1 → (refusal : MakeRefusal) × RefusesRemove bytes.now index refusal
-        × Appends (E.contents err.old) (E.contents err.new) (make_line names.now target.now refusal) }
+        × Appends (E.contents err.old) (E.contents err.new) (make_line only.now target.now refusal) }
 {
-    if let Some(name) = first_same(files, names, target) {
+    if let Some(name) = first_same(files, only, target) {
         return one_file(name, target, err);
     }
     match remove(&alloc, bytes, index) {
         Ok(made) => place_made(files, alloc, made.as_slice(), target, err),
-        Err(refusal) => refuse(names, target, refusal, err),
+        Err(refusal) => refuse(only, target, refusal, err),
     }
 }
 

@@ -1,6 +1,6 @@
 //! An entry of a fat file that is written by its cpu.
 
-ghost use Rattle.std.specs.Prelude.{◌≡◌, ℕ, List, Ok, OnOk, IfErr};
+ghost use Rattle.std.specs.Prelude.{◌≡◌, ℕ, List, Ok, OnOk, IfOk, IfErr};
 ghost use Rattle.std.specs.Io.KnownBytes.{Appends};
 ghost use Rattle.mach_fat.specs.Changes.{thin_entry_in};
 ghost use Rattle.mach_show.specs.Statuses.{IsStatus};
@@ -47,6 +47,15 @@ pub fn run_thin<R: Files, E: Write>(
     )
 }
 
+// The bytes of the first entry of a cputype.
+fn entry_of_cpu(alloc: Global, bytes: &[u8], cputype: u32) -> Result<&[u8], Refusal>
+    ensures found { IfOk result (λ entry. thin_entry_in bytes.now cputype ≡ Ok entry.now) }
+    ensures refused { IfErr result (RefusesThin bytes.now cputype) }
+{
+    let entry = thin_entry(alloc, bytes, cputype)?;
+    Ok(entry)
+}
+
 // Writes the first entry of a cputype to a file. No file is made where there is no such entry.
 fn thin<R: Files>(
     files: &R,
@@ -58,8 +67,7 @@ fn thin<R: Files>(
     ensures thinned { OnOk result ((entry : List ℕ) × (thin_entry_in bytes.now cputype ≡ Ok entry) × WasWritten R.File.contents entry) }
     ensures refused { IfErr result (IsRefusal (RefusesThin bytes.now cputype)) }
 {
-    match thin_entry(alloc, bytes, cputype) {
-        Ok(entry) => place_file(files, alloc, entry, target),
-        Err(why) => Err(Failure::Refused(Refusal::Entries(why))),
-    }
+    let entry = entry_of_cpu(alloc, bytes, cputype)?;
+    place_file(files, alloc, entry, target)?;
+    Ok(())
 }

@@ -5,7 +5,7 @@ ghost use Rattle.std.specs.Io.Buffered.{writer_buffer, writer_contents};
 ghost use Rattle.std.specs.Io.KnownBytes.{Appends};
 ghost use Rattle.mach_rules.specs.declared.fault.LayoutFault.{LayoutFault};
 ghost use Rattle.mach_show.specs.Statuses.{IsStatus};
-ghost use Rattle.machfat.specs.Faults.{HasFatFaults, TellsFatFaults, fault_lines, is_faultless};
+ghost use Rattle.machfat.specs.Faults.{HasFatFaults, TellsFatFaults, fault_lines, is_faultless, table_fault_line};
 ghost use Rattle.machfat.specs.Refusals.{RefusesList, IsRefusal, refusal_line};
 ghost use Rattle.machfat.specs.declared.refusal.Refusal.{Refusal};
 
@@ -72,7 +72,14 @@ fn print_faults<O: Write>(faults: &[LayoutFault], out: &mut O) -> io::Result<()>
     ensures { OnOk result (Appends (O.contents out.old) (O.contents out.new) (fault_lines faults.now)) }
 {
     'faults: for fault in faults {
-        writeln!(out, "{fault}")?;
+        print_fault(fault, out)?;
     }
     Ok(())
+}
+
+// Prints the line of a fault.
+fn print_fault<O: Write>(fault: &LayoutFault, out: &mut O) -> io::Result<()>
+    ensures { OnOk result (Appends (O.contents out.old) (O.contents out.new) (table_fault_line fault.now)) }
+{
+    writeln!(out, "{fault}")
 }
