@@ -26,7 +26,7 @@ module _ (bytes : List ℕ) (cputype : ℕ) (records : List EntryRecord) (i : �
   cpu_behind d inside other sought =
       let r = get_or records i d in
       let pick : Bool → Result (List ℕ) Unfit
-            = λ b. if b then slice_or_out i (slice_of bytes r) else first_for_cpu bytes cputype (i + 1) (drop (i + 1) records) in
+      = λ b. if b then slice_or_out i (slice_of bytes r) else first_for_cpu bytes cputype (i + 1) (drop (i + 1) records) in
       sought ∙ at_drop_more (λ rs. first_for_cpu bytes cputype i rs) records i d inside ∙ ap pick (ne_eqb r.cputype cputype other)
 
   pub cpu_here : (d : EntryRecord) → i < length records → (get_or records i d).cputype ≡ cputype
@@ -35,7 +35,7 @@ module _ (bytes : List ℕ) (cputype : ℕ) (records : List EntryRecord) (i : �
   cpu_here d inside same sought =
       let r = get_or records i d in
       let pick : Bool → Result (List ℕ) Unfit
-            = λ b. if b then slice_or_out i (slice_of bytes r) else first_for_cpu bytes cputype (i + 1) (drop (i + 1) records) in
+      = λ b. if b then slice_or_out i (slice_of bytes r) else first_for_cpu bytes cputype (i + 1) (drop (i + 1) records) in
       sought ∙ at_drop_more (λ rs. first_for_cpu bytes cputype i rs) records i d inside ∙ ap pick (eq-eqb r.cputype cputype same)
 
   pub no_cpu_behind : length records ≤ i → first_for_cpu bytes cputype 0 records ≡ first_for_cpu bytes cputype i (drop i records)
@@ -48,7 +48,7 @@ module _ (es : List FatEntry) (new : FatEntryView) where
       → replaced_among (entry_views es) new ≡ (if b then Ok (map (replaced_entry new) (entry_views es)) else Err (no_such_cpu new.cputype))
   replaced_if b is =
       let pick : Bool → Result (List FatEntryView) Unfit
-            = λ x. if x then Ok (map (replaced_entry new) (entry_views es)) else Err (no_such_cpu new.cputype) in
+      = λ x. if x then Ok (map (replaced_entry new) (entry_views es)) else Err (no_such_cpu new.cputype) in
       ap pick (sym (any_of_views (λ e. are_of_one_cpu e new) es) ∙ is)
 
   pub replaced_are : (changed : List FatEntry) → list_any (λ e. are_of_one_cpu (fat_entry_view e) new) es ≡ true
@@ -64,7 +64,7 @@ module _ (i : ℕ) (es : List FatEntry) where
       → others_among i (entry_views es) ≡ (if b then Ok (take i (entry_views es) ++ drop (i + 1) (entry_views es)) else Err (no_such_entry i))
   others_if b is =
       let pick : Bool → Result (List FatEntryView) Unfit
-            = λ x. if x then Ok (take i (entry_views es) ++ drop (i + 1) (entry_views es)) else Err (no_such_entry i) in
+      = λ x. if x then Ok (take i (entry_views es) ++ drop (i + 1) (entry_views es)) else Err (no_such_entry i) in
       ap pick is
 
   pub no_others : length es ≤ i → others_among i (entry_views es) ≡ Err (no_such_entry i)

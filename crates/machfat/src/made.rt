@@ -115,12 +115,7 @@ fn place_made<R: Files, E: Write>(
     ensures wanting { result ≡ 1 → (e : Error) × Stands (λ f. ⊥) e
         × Appends (E.contents err.old) (E.contents err.new) (refusal_line target.now (Refused e)) }
 {
-    status(
-        place_file(files, alloc, made, target),
-        target,
-        target,
-        err,
-    )
+    status(place_file(files, alloc, made, target), target, target, err)
 }
 
 // The status where nothing is made, which is told with the name of the file that is refused, or else of the one that isn't made.

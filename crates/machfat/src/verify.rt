@@ -31,7 +31,7 @@ pub fn run_verify<W: Write + Drop, B: Allocator, E: Write>(
     ensures sound { result ≡ 0 → TellsFatFaults bytes.now [] (writer_contents W.contents out.old) (writer_contents W.contents out.new) }
     ensures flushed { result ≡ 0 → writer_buffer out.new ≡ [] }
     ensures faulty { result ≡ 1 → ((fault : LayoutFault) × (faults : List LayoutFault)
-            × TellsFatFaults bytes.now (fault ∷ faults) (writer_contents W.contents out.old) (writer_contents W.contents out.new))
+        × TellsFatFaults bytes.now (fault ∷ faults) (writer_contents W.contents out.old) (writer_contents W.contents out.new))
         ⊎ ((refusal : Refusal) × RefusesList bytes.now refusal × Appends (E.contents err.old) (E.contents err.new) (refusal_line file.now refusal)) }
 {
     match verify(alloc, bytes, out) {
