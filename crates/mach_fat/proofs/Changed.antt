@@ -8,15 +8,19 @@ use Rattle.std.proofs.lemmas.List.{at_drop_more, drop_all, map-append, take-map,
 use Rattle.mach_base.specs.Answer.{Stands}
 use Rattle.mach_base.specs.declared.error.Error.{Error}
 use Rattle.mach_write.proofs.Laid.{any_of_views}
+use Rattle.mach_write.specs.CreatedEntries.{created_entry}
 use Rattle.mach_write.specs.Entries.{FatEntryView, fat_entry_view, entry_views, are_of_one_cpu}
 use Rattle.mach_write.specs.FatForms.{FatForm}
 use Rattle.mach_write.specs.declared.entry.FatEntry.{FatEntry}
-use Rattle.mach_fat.specs.Changes.{first_for_cpu, slice_or_out, fat_form_in, others_among, replaced_among, replaced_entry, replaced_in}
+use Rattle.mach_fat.proofs.Refusals.{refused_file, refused_more, refused_then}
+use Rattle.mach_fat.specs.Changes.{first_for_cpu, slice_or_out, fat_form_in, of_file, others_among, replaced_among, replaced_entry, replaced_in}
 use Rattle.mach_fat.specs.Changes.{RefusesReplaced}
-use Rattle.mach_fat.specs.Creates.{RefusesInOrder}
-use Rattle.mach_fat.specs.EntriesRead.{slice_of}
-use Rattle.mach_fat.specs.Unfit.{Unfit, no_such_cpu, no_such_entry}
+use Rattle.mach_fat.specs.Creates.{UnfitFile, RefusesFiles, RefusesInOrder}
+use Rattle.mach_fat.specs.EntriesRead.{slice_of, fat_entries_in}
+use Rattle.mach_fat.specs.Unfit.{Unfit, no_such_cpu, no_such_entry, RefusesAs, if_fit, if_read}
 use Rattle.mach_fat.specs.declared.record.EntryRecord.{EntryRecord}
+use Rattle.mach_fat.specs.declared.refusal.EntryRefusal.{EntryRefusal}
+use Rattle.mach_fat.specs.declared.refusal.FileRefusal.{FileRefusal}
 
 -- an entry is sought among records, where those in front of one are for other cpus
 module _ (bytes : List ℕ) (cputype : ℕ) (records : List EntryRecord) (i : ℕ) where
@@ -78,6 +82,41 @@ module _ (i : ℕ) (es : List FatEntry) where
       ∙ ap (λ back. Ok (entry_views (take i es) ++ back)) (drop-map fat_entry_view (i + 1) es)
       ∙ ap Ok (sym (map-append fat_entry_view (take i es) (drop (i + 1) es)))
       ∙ ap (λ xs. Ok (entry_views xs)) (sym are)
+
+-- the entries of a fat file with another file's in the place of some, step by step
+module _ (bytes new : List ℕ) (form : FatForm) where
+  abbrev behind_entries : List FatEntryView → Result (List FatEntryView) UnfitFile
+  behind_entries es = if_fit (λ e. of_file 0 (replaced_among es e)) (of_file 1 (if_read (created_entry new)))
+
+  pub fat_refused : (why : EntryRefusal) → RefusesAs why (fat_entries_in form bytes)
+      → RefusesFiles (record { file = 0; why = why }) (replaced_in bytes new form)
+  fat_refused why refuses =
+      refused_more behind_entries (record { file = 0; why = why }) (of_file 0 (fat_entries_in form bytes))
+      (refused_file 0 why (fat_entries_in form bytes) refuses)
+
+  pub new_refused : (es : List FatEntryView) (why : EntryRefusal) → fat_entries_in form bytes ≡ Ok es → RefusesAs why (if_read (created_entry new))
+      → RefusesFiles (record { file = 1; why = why }) (replaced_in bytes new form)
+  new_refused es why are refuses =
+      let refusal : FileRefusal = record { file = 1; why = why } in
+      refused_then behind_entries refusal (of_file 0 (fat_entries_in form bytes)) es (ap (of_file 0) are)
+      (refused_more (λ e. of_file 0 (replaced_among es e)) refusal (of_file 1 (if_read (created_entry new)))
+      (refused_file 1 why (if_read (created_entry new)) refuses))
+
+  pub cpu_refused : (es : List FatEntryView) (e : FatEntryView) (why : EntryRefusal) → fat_entries_in form bytes ≡ Ok es
+      → if_read (created_entry new) ≡ Ok e → RefusesAs why (replaced_among es e)
+      → RefusesFiles (record { file = 0; why = why }) (replaced_in bytes new form)
+  cpu_refused es e why are is refuses =
+      let refusal : FileRefusal = record { file = 0; why = why } in
+      refused_then behind_entries refusal (of_file 0 (fat_entries_in form bytes)) es (ap (of_file 0) are)
+      (refused_then (λ x. of_file 0 (replaced_among es x)) refusal (of_file 1 (if_read (created_entry new))) e (ap (of_file 1) is)
+      (refused_file 0 why (replaced_among es e) refuses))
+
+  pub replaced_there : (es xs : List FatEntryView) (e : FatEntryView) → fat_entries_in form bytes ≡ Ok es → if_read (created_entry new) ≡ Ok e
+      → replaced_among es e ≡ Ok xs → replaced_in bytes new form ≡ Ok xs
+  replaced_there es xs e are is replaced =
+      ap (λ there. if_fit behind_entries (of_file 0 there)) are
+      ∙ ap (λ there. if_fit (λ x. of_file 0 (replaced_among es x)) (of_file 1 there)) is
+      ∙ ap (of_file 0) replaced
 
 -- why there is no file of entries in which some are replaced
 pub refused_order : (bytes new : List ℕ) (form : FatForm) (given : List FatEntry) (e : Error) → fat_form_in bytes ≡ Ok form
