@@ -1,5 +1,5 @@
 pub mod Refusals
 pub mod Gathered
-pub mod Changed
+pub mod Replaced
 pub mod Totals
 pub mod Tables

@@ -13,11 +13,11 @@ use std::alloc::Allocator;
 fn slice_or_out<'a>(
     bytes: &'a [u8],
     index: usize,
-    record: &EntryRecord,
+    entry: &EntryRecord,
 ) -> Result<&'a [u8], EntryRefusal>
-    ensures { AnswersAs (λ slice. slice.now) result (slice_or_out index (slice_of bytes.now record.now)) }
+    ensures { AnswersAs (λ slice. slice.now) result (slice_or_out index (slice_of bytes.now entry.now)) }
 {
-    match record.slice(bytes) {
+    match entry.slice(bytes) {
         Some(slice) => Ok(slice),
         None => Err(EntryRefusal::OutOfFile(index)),
     }

@@ -2,7 +2,7 @@ use Rattle.std.proofs.Common.{ap}
 use Rattle.std.proofs.lemmas.Result.{err_from_is_err_and}
 use Rattle.mach_fat.specs.Changes.{fat_form_in, of_file, replaced_in}
 use Rattle.mach_fat.specs.FatTables.{form_of}
-use Rattle.mach_fat.proofs.Changed.{refused_order}
+use Rattle.mach_fat.proofs.Replaced.{refused_order}
 use Rattle.mach_fat.proofs.Refusals.{refused_more, refused_then}
 use Rattle.mach_fat.proofs.changed.replace.Goals as goal
 

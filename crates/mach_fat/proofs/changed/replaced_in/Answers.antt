@@ -1,6 +1,6 @@
 use Rattle.mach_write.specs.Entries.{entry_views, fat_entry_view}
 use Rattle.mach_fat.specs.FatTables.{form_of}
-use Rattle.mach_fat.proofs.Changed.{fat_refused, new_refused, cpu_refused, replaced_there}
+use Rattle.mach_fat.proofs.Replaced.{fat_refused, new_refused, cpu_refused, replaced_there}
 use Rattle.mach_fat.proofs.changed.replaced_in.Goals as goal
 
 pub returns-in-Err-clause-refused : goal.returns-in-Err-clause-refused
