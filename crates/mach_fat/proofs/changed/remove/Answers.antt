@@ -8,7 +8,7 @@ use Rattle.mach_fat.proofs.changed.remove.Goals as goal
 
 pub returns-in_err-form-clause-refused : goal.returns-in_err-form-clause-refused
 returns-in_err-form-clause-refused g c =
-    let p = err_from_is_err_and c.from_residual-in_err-form.result c.from_residual-in_err-form.ensures.1 in
+    let p = err_from_is_err_and c.from_residual.result c.from_residual.ensures.1 in
     rw (p.1, p.2) (refused_more (λ form. of_file 0 (others_in c.args.bytes.now c.args.index form)) c.in_err-form.field-0.0
     (of_file 0 (fat_form_in c.args.bytes.now)) c.in_err-form.ensures.refused)
 
