@@ -9,6 +9,8 @@
 
 mod entry;
 mod made;
+mod member_text;
+mod members;
 mod place;
 mod refusal;
 mod run;
@@ -19,6 +21,7 @@ mod verify;
 use mach_fat::Form;
 use mach_show::{Misuse, Program, Round, cputype_in};
 use made::{one_file, run_create, run_remove, run_replace};
+use members::run_members;
 use place::is_same_file;
 use run::{NAME, run_extract, run_list};
 use std::alloc::{AllocError, Global};
@@ -36,6 +39,7 @@ const WIDE: &str = "--fat64";
 enum Shown {
     Records,
     Faults,
+    Members,
 }
 
 const PROGRAM: Program = Program {
@@ -43,6 +47,7 @@ const PROGRAM: Program = Program {
     usage: "usage: machfat list FILE..
        machfat extract FILE INDEX OUT
        machfat thin FILE 0xCPUTYPE OUT
+       machfat members FILE..
        machfat create [--fat64] OUT FILE..
        machfat replace FILE NEW OUT
        machfat remove FILE INDEX OUT
@@ -56,6 +61,7 @@ const PROGRAM: Program = Program {
         "list",
         "extract",
         "thin",
+        "members",
         "create",
         "replace",
         "remove",
@@ -82,6 +88,7 @@ fn start(rt: &HostRuntime) -> Result<u8, u8> {
         [] => Err(PROGRAM.bad_usage(rt, Misuse::Missing("word"))),
         [word, files @ ..] if *word == "list" => show_files(rt, Shown::Records, files),
         [word, files @ ..] if *word == "verify" => show_files(rt, Shown::Faults, files),
+        [word, files @ ..] if *word == "members" => show_files(rt, Shown::Members, files),
         [word, given @ ..] => write_file(rt, word, given),
     }
 }
@@ -111,6 +118,13 @@ fn show_files(rt: &HostRuntime, shown: Shown, files: &[&str]) -> Result<u8, u8> 
             let status = match shown {
                 Shown::Records => run_list(rt.alloc(), file, &bytes, &mut lines, &mut rt.stderr()),
                 Shown::Faults => run_verify(rt.alloc(), file, &bytes, &mut lines, &mut rt.stderr()),
+                Shown::Members => run_members(
+                    rt.alloc(),
+                    file,
+                    &bytes,
+                    &mut lines,
+                    &mut rt.stderr(),
+                ),
             };
             round.end(status)?;
         }

@@ -61,8 +61,8 @@ impl<'a> Display for RecordText<'a> {
     }
 }
 
-// The kind of an entry, by its first 16 bytes.
-fn entry_kind(entry: &[u8]) -> &'static str
+/// The kind of an entry, by its first 16 bytes.
+pub fn entry_kind(entry: &[u8]) -> &'static str
     ensures { result.now ≡ entry_kind entry.now }
 {
     let Some(front) = take_hint_bytes(entry) else {
