@@ -121,31 +121,6 @@ fn special_ordinal(imm: u8) -> i64
     if imm == 0 { 0 } else { i64::from(imm) - 16 }
 }
 
-// Whether an opcode sets an ordinal.
-#[inline(always)]
-fn sets_ordinal(opcode: Opcode) -> bool
-    ensures { result ≡ gives_ordinal opcode }
-{
-    match opcode {
-        BIND_OPCODE_SET_DYLIB_ORDINAL_IMM
-        | BIND_OPCODE_SET_DYLIB_ORDINAL_ULEB
-        | BIND_OPCODE_SET_DYLIB_SPECIAL_IMM => true,
-        _ => false,
-    }
-}
-
-// The special ordinal after an opcode with its immediate.
-#[inline(always)]
-fn next_special(special: Option<i64>, opcode: Opcode, imm: u8) -> Option<i64>
-    ensures { result ≡ special_after special opcode imm }
-{
-    match opcode {
-        BIND_OPCODE_SET_DYLIB_SPECIAL_IMM => Some(special_ordinal(imm)),
-        BIND_OPCODE_SET_DYLIB_ORDINAL_IMM | BIND_OPCODE_SET_DYLIB_ORDINAL_ULEB => None,
-        _ => special,
-    }
-}
-
 /// The settings that dyld's binds have beside those of a bind.
 #[derive(Clone, Copy)]
 pub struct Extra {
@@ -217,20 +192,23 @@ impl<'a> Makes<'a> for Extra {
     }
 
     #[inline(always)]
-    fn set(self, byte: u8) -> Self
-        ensures { result ≡ extra_after (bit_and byte 0xf0) (bit_and byte 0x0f) self }
+    fn set(&mut self, byte: u8)
+        ensures { self.new ≡ extra_after (bit_and byte 0xf0) (bit_and byte 0x0f) self.old }
     {
-        let (opcode, imm) = (byte & BIND_OPCODE_MASK, byte & BIND_IMMEDIATE_MASK);
-        Extra {
-            special: next_special(self.special, opcode, imm),
-            kind: if opcode == BIND_OPCODE_SET_TYPE_IMM {
-                imm
-            } else {
-                self.kind
-            },
-            has_ordinal: self.has_ordinal || sets_ordinal(opcode),
-            has_name: self.has_name || opcode == BIND_OPCODE_SET_SYMBOL_TRAILING_FLAGS_IMM,
-            has_segment: self.has_segment || opcode == BIND_OPCODE_SET_SEGMENT_AND_OFFSET_ULEB,
+        let imm = byte & BIND_IMMEDIATE_MASK;
+        match byte & BIND_OPCODE_MASK {
+            BIND_OPCODE_SET_DYLIB_ORDINAL_IMM | BIND_OPCODE_SET_DYLIB_ORDINAL_ULEB => {
+                self.special = None;
+                self.has_ordinal = true;
+            }
+            BIND_OPCODE_SET_DYLIB_SPECIAL_IMM => {
+                self.special = Some(special_ordinal(imm));
+                self.has_ordinal = true;
+            }
+            BIND_OPCODE_SET_SYMBOL_TRAILING_FLAGS_IMM => self.has_name = true,
+            BIND_OPCODE_SET_TYPE_IMM => self.kind = imm,
+            BIND_OPCODE_SET_SEGMENT_AND_OFFSET_ULEB => self.has_segment = true,
+            _ => {}
         }
     }
 

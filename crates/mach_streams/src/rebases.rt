@@ -300,18 +300,13 @@ impl<'a> Makes<'a> for Rebasing {
     }
 
     #[inline(always)]
-    fn set(self, byte: u8) -> Self
-        ensures { result ≡ rebasing_after (bit_and byte 0xf0) (bit_and byte 0x0f) self }
+    fn set(&mut self, byte: u8)
+        ensures { self.new ≡ rebasing_after (bit_and byte 0xf0) (bit_and byte 0x0f) self.old }
     {
-        let (opcode, imm) = (byte & REBASE_OPCODE_MASK, byte & REBASE_IMMEDIATE_MASK);
-        Rebasing {
-            le: self.le,
-            kind: if opcode == REBASE_OPCODE_SET_TYPE_IMM {
-                imm
-            } else {
-                self.kind
-            },
-            has_segment: self.has_segment || opcode == REBASE_OPCODE_SET_SEGMENT_AND_OFFSET_ULEB,
+        match byte & REBASE_OPCODE_MASK {
+            REBASE_OPCODE_SET_TYPE_IMM => self.kind = byte & REBASE_IMMEDIATE_MASK,
+            REBASE_OPCODE_SET_SEGMENT_AND_OFFSET_ULEB => self.has_segment = true,
+            _ => {}
         }
     }
 

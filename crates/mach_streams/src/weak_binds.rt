@@ -200,19 +200,19 @@ impl<'a> Makes<'a> for WeakExtra {
     }
 
     #[inline(always)]
-    fn set(self, byte: u8) -> Self
-        ensures { result ≡ weak_after (bit_and byte 0xf0) (bit_and byte 0x0f) self }
+    fn set(&mut self, byte: u8)
+        ensures { self.new ≡ weak_after (bit_and byte 0xf0) (bit_and byte 0x0f) self.old }
     {
-        let (opcode, imm) = (byte & BIND_OPCODE_MASK, byte & BIND_IMMEDIATE_MASK);
-        WeakExtra {
-            kind: if opcode == BIND_OPCODE_SET_TYPE_IMM {
-                imm
-            } else {
-                self.kind
-            },
-            has_name: self.has_name || opcode == BIND_OPCODE_SET_SYMBOL_TRAILING_FLAGS_IMM,
-            has_segment: self.has_segment || opcode == BIND_OPCODE_SET_SEGMENT_AND_OFFSET_ULEB,
-            is_own: opcode == BIND_OPCODE_SET_SYMBOL_TRAILING_FLAGS_IMM && is_own(imm),
+        let imm = byte & BIND_IMMEDIATE_MASK;
+        self.is_own = false;
+        match byte & BIND_OPCODE_MASK {
+            BIND_OPCODE_SET_SYMBOL_TRAILING_FLAGS_IMM => {
+                self.has_name = true;
+                self.is_own = is_own(imm);
+            }
+            BIND_OPCODE_SET_TYPE_IMM => self.kind = imm,
+            BIND_OPCODE_SET_SEGMENT_AND_OFFSET_ULEB => self.has_segment = true,
+            _ => {}
         }
     }
 

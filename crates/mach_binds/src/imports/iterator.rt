@@ -46,11 +46,9 @@ impl<'a> Makes<'a> for Plain {
     }
 
     #[inline(always)]
-    fn set(self, _byte: u8) -> Self
-        ensures { result ≡ self }
-    {
-        self
-    }
+    fn set(&mut self, _byte: u8)
+        ensures { self.new ≡ self.old }
+    {}
 
     #[inline(always)]
     fn execute(state: &mut State<'a>, bytes: &'a [u8], pointer: u8, byte: u8) -> Option<()> {

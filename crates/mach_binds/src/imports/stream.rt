@@ -42,8 +42,8 @@ pub trait Makes<'a>: Copy {
         ensures { result ≡ rules.first is_lazy };
 
     /// Those after an instruction, by its opcode byte.
-    fn set(self, byte: u8) -> Self
-        ensures { result ≡ rules.set byte self };
+    fn set(&mut self, byte: u8)
+        ensures { self.new ≡ rules.set byte self.old };
 
     /// Executes the instruction that comes next, by its opcode byte; None where it can't be read. A pointer has `pointer`
     /// bytes.
@@ -179,7 +179,7 @@ impl<'a, 'b, M: Makes<'a>> Stream<'a, 'b, M> {
         };
         match M::execute(&mut self.state, bytes, self.source.pointer, byte) {
             Some(()) => {
-                self.more = self.more.set(byte);
+                self.more.set(byte);
                 Ok(())
             }
             None => Err(byte),

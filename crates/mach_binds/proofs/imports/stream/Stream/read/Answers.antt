@@ -26,7 +26,7 @@ returns-in-Some-execute-clause-items g c =
     let t = state_of c.execute.new.state in
     (after_executed u g.M.Makes.reads (input_of it.source) (lazy_of it) it.more (state_of it.state) t
     c.requires.count c.requires.on c.requires.within c.in-Some.byte c.in-Some.ensures.value c.in-Some-execute.ensures.value).items
-    ∙ ap (λ m. items_of u (input_of it.source) (lazy_of it) m t) (sym c.set-self.ensures)
+    ∙ ap (λ m. items_of u (input_of it.source) (lazy_of it) m t) (sym c.set.ensures)
 
 pub returns-in-Some-execute-clause-left : goal.returns-in-Some-execute-clause-left
 unfolding opcodes_left
