@@ -9,9 +9,9 @@ use Rattle.mach_base.specs.Answer.{◌>>=◌, Stands}
 use Rattle.mach_base.specs.Fault.{Fault, malformed, fault_of}
 use Rattle.mach_base.proofs.Faults.{Stands-reported, Stands-in}
 use Rattle.mach_headers.specs.Fat.{part_of}
-use Rattle.mach_headers.specs.declared.fat.FatArch.{FatArch}
-use Rattle.goblin_mach.specs.FatFile.{FatFile, arch_at}
-use Rattle.goblin_mach.specs.FatEntry.{FatEntry, archive, image, entry_by, fat_entry_of, entry_at, FatEntryFault, no_entry, no_image, OpensEntry}
+use Rattle.mach_arches.specs.ArchForms.{ArchForm, arch_in}
+use Rattle.goblin_mach.specs.FatFile.{FatFile}
+use Rattle.goblin_mach.specs.FatEntry.{FatEntry, archive, image, entry_by, fat_entry_of, arch_entry_in, FatEntryFault, no_entry, no_image, OpensEntry}
 use Rattle.mach_image.specs.Image.{ImageFault}
 use Rattle.mach_image.specs.OpenImage.{IsImage}
 use Rattle.mach_headers.specs.Magic.{hint_in}
@@ -73,12 +73,14 @@ entry-hinted bytes r there hint front some is =
     ∙ ap (λ (h : Hint). entry_by h bytes) is
 
 -- an entry that is below the count has a record
-pub entry_at-none : (file : FatFile) (i : ℕ) → nat_lt i file.narches ≡ false → entry_at file i ≡ Err malformed
-entry_at-none file i out =
-    ap (λ (b : Bool). cond b (arch_at file.bytes i >>= λ arch. fat_entry_of (part_of file.bytes arch.offset arch.size)) (Err malformed)) out
+pub arch_entry_in-none : {R : Type 0} (form : ArchForm R) (file : FatFile) (i : ℕ) → nat_lt i file.narches ≡ false → arch_entry_in form file i ≡ Err malformed
+arch_entry_in-none form file i out =
+    ap (λ (b : Bool). cond b (arch_in form file.bytes i >>= λ arch. fat_entry_of (part_of file.bytes (form.offset arch) (form.size arch))) (Err malformed)) out
 
-pub entry_at-record : (file : FatFile) (i : ℕ) (found : Result FatArch Fault) → nat_lt i file.narches ≡ true → arch_at file.bytes i ≡ found
-    → entry_at file i ≡ (found >>= λ arch. fat_entry_of (part_of file.bytes arch.offset arch.size))
-entry_at-record file i found inside is =
-    ap (λ (b : Bool). cond b (arch_at file.bytes i >>= λ arch. fat_entry_of (part_of file.bytes arch.offset arch.size)) (Err malformed)) inside
-    ∙ ap (λ (r : Result FatArch Fault). r >>= λ arch. fat_entry_of (part_of file.bytes arch.offset arch.size)) is
+pub arch_entry_in-record : {R : Type 0} (form : ArchForm R) (file : FatFile) (i : ℕ) (found : Result R Fault) → nat_lt i file.narches ≡ true
+    → arch_in form file.bytes i ≡ found
+    → arch_entry_in form file i ≡ (found >>= λ arch. fat_entry_of (part_of file.bytes (form.offset arch) (form.size arch)))
+arch_entry_in-record {R} form file i found inside is =
+    ap (λ (b : Bool). cond b (arch_in form file.bytes i >>= λ arch. fat_entry_of (part_of file.bytes (form.offset arch) (form.size arch))) (Err malformed))
+    inside
+    ∙ ap (λ (r : Result R Fault). r >>= λ arch. fat_entry_of (part_of file.bytes (form.offset arch) (form.size arch))) is

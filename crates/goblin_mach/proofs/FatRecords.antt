@@ -1,14 +1,15 @@
 -- The records of a fat file, gathered one by one, and what holds of each number below another.
-use Rattle.std.proofs.Common.{◌≡◌, ℕ, ◌+◌, ◌/◌, ◌<◌, ◌≤◌, List, [], ◌∷◌, ◌++◌, length, Result, Ok, Err, inl, inr, refl, sym, ap, ◌∙◌, subst, append_assoc}
+use Rattle.std.proofs.Common.{◌≡◌, ℕ, ◌+◌, ◌/◌, ◌<◌, List, [], ◌∷◌, ◌++◌, length, Result, Ok, Err, inl, inr, refl, sym, ap, ◌∙◌, subst}
+use Rattle.std.proofs.Common.{append_assoc, nat_le, true}
 use Rattle.std.proofs.Common.{arith}
-use Rattle.std.proofs.lemmas.Bool.{cases_lt, le-leb}
+use Rattle.std.proofs.lemmas.Bool.{cases_lt}
 use Rattle.std.proofs.lemmas.List.{append-nil}
 use Rattle.mach_base.specs.Answer.{◌>>=◌}
 use Rattle.mach_base.specs.Fault.{Fault}
 use Rattle.mach_base.specs.Items.{all_read}
-use Rattle.mach_headers.specs.declared.fat.FatArch.{FatArch}
+use Rattle.mach_arches.specs.ArchForms.{ArchForm}
 use Rattle.mach_base.proofs.AllRead.{onto}
-use Rattle.goblin_mach.specs.FatFile.{FatFile, archs_of, arches_in}
+use Rattle.goblin_mach.specs.FatFile.{FatFile, archs_in, arch_table_in}
 
 -- what holds below a number and of it holds below the next
 pub below-next : (P : ℕ → Type 0) (n : ℕ) → ((k : ℕ) → k < n → P k) → P n → (k : ℕ) → k < n + 1 → P k
@@ -18,33 +19,32 @@ below-next P n below here k inside = elim (cases_lt k n) [
 ]
 
 -- after none there are the same
-onto-nothing : (rest : Result (List FatArch) Fault) → onto [] rest ≡ rest
+onto-nothing : {R : Type 0} (rest : Result (List R) Fault) → onto [] rest ≡ rest
 onto-nothing (Ok xs) = refl
 onto-nothing (Err f) = refl
 
 -- at first all are left
-pub arches-first : (file : FatFile) (found : List FatArch) (left : List (Result FatArch Fault)) → found ≡ [] → left ≡ archs_of file
-    → all_read (archs_of file) ≡ onto found (all_read left)
-arches-first file found left none all = rw (none, all) (sym (onto-nothing (all_read (archs_of file))))
+pub arches-first : {R : Type 0} (form : ArchForm R) (file : FatFile) (found : List R) (left : List (Result R Fault)) → found ≡ []
+    → left ≡ archs_in form file → all_read (archs_in form file) ≡ onto found (all_read left)
+arches-first form file found left none all = rw (none, all) (sym (onto-nothing (all_read (archs_in form file))))
 
-onto-next : (found : List FatArch) (arch : FatArch) (rest : Result (List FatArch) Fault)
+onto-next : {R : Type 0} (found : List R) (arch : R) (rest : Result (List R) Fault)
     → onto found (rest >>= (λ xs. Ok (arch ∷ xs))) ≡ onto (found ++ arch ∷ []) rest
 onto-next found arch (Ok xs) = ap Ok (sym (append_assoc found (arch ∷ []) xs))
 onto-next found arch (Err f) = refl
 
 -- one that is read goes behind those before it
-pub arches-next : (all : Result (List FatArch) Fault) (found pushed : List FatArch) (arch : FatArch) (left after : List (Result FatArch Fault))
+pub arches-next : {R : Type 0} (all : Result (List R) Fault) (found pushed : List R) (arch : R) (left after : List (Result R Fault))
     → all ≡ onto found (all_read left) → left ≡ Ok arch ∷ after → pushed ≡ found ++ arch ∷ [] → all ≡ onto pushed (all_read after)
 arches-next all found pushed arch left after gathered first more =
     gathered ∙ ap (λ items. onto found (all_read items)) first ∙ onto-next found arch (all_read after) ∙ ap (λ front. onto front (all_read after)) (sym more)
 
-module _ (file : FatFile) (found : List FatArch) (left : List (Result FatArch Fault)) (fit : file.narches ≤ length file.bytes / 20)
-    (gathered : all_read (archs_of file) ≡ onto found (all_read left)) where
+module _ {R : Type 0} (form : ArchForm R) (file : FatFile) (found : List R) (left : List (Result R Fault))
+    (fit : nat_le file.narches (length file.bytes / form.stride) ≡ true) (gathered : all_read (archs_in form file) ≡ onto found (all_read left)) where
   -- where none are left these are all
-  pub arches-whole : left ≡ [] → arches_in file ≡ Ok found
-  arches-whole none =
-      rw (le-leb file.narches (length file.bytes / 20) fit) (gathered ∙ ap (λ items. onto found (all_read items)) none ∙ ap Ok (append-nil found))
+  pub arches-whole : left ≡ [] → arch_table_in form file ≡ Ok found
+  arches-whole none = rw fit (gathered ∙ ap (λ items. onto found (all_read items)) none ∙ ap Ok (append-nil found))
 
   -- one that can't be read refuses them all
-  pub arches-refused : (f : Fault) (after : List (Result FatArch Fault)) → left ≡ Err f ∷ after → arches_in file ≡ Err f
-  arches-refused f after bad = rw (le-leb file.narches (length file.bytes / 20) fit) (gathered ∙ ap (λ items. onto found (all_read items)) bad)
+  pub arches-refused : (f : Fault) (after : List (Result R Fault)) → left ≡ Err f ∷ after → arch_table_in form file ≡ Err f
+  arches-refused f after bad = rw fit (gathered ∙ ap (λ items. onto found (all_read items)) bad)

@@ -7,13 +7,15 @@ use Rattle.mach_base.specs.declared.hint.Hint.TheVariants as hints
 use Rattle.mach_base.specs.declared.hint.Hint.{Hint}
 use Rattle.mach_headers.specs.Fat.{part_of}
 use Rattle.mach_base.specs.Items.{items_from}
-use Rattle.goblin_mach.specs.FatFile.{FatFile, arch_at, file_held}
+use Rattle.mach_headers.specs.declared.fat.FatArch.{FatArch}
+use Rattle.mach_arches.specs.ArchForms.{ArchForm, arch_form_32, arch_in}
+use Rattle.goblin_mach.specs.FatFile.{FatFile, file_held}
 use Rattle.mach_image.specs.Image.{Opens, ImageFault}
 use Rattle.mach_headers.specs.Magic.{hint_in}
 use Rattle.mach_image.specs.OpenImage.{IsImage}
 use Rattle.goblin_mach.specs.declared.fat_file.entry.SingleArch.TheVariants.{MachO, Archive}
 use Rattle.goblin_mach.specs.declared.fat_file.entry.SingleArch.{SingleArch}
-use Rattle.goblin_mach.specs.declared.fat_file.multi_arch.SingleArchIterator.{SingleArchIterator}
+use Rattle.goblin_mach.specs.declared.fat_file.table.EntryIterator.{EntryIterator}
 
 -- an entry: the bytes of an archive, or the bytes at whose front an image is to open
 pub data FatEntry : Type 0 where
@@ -30,16 +32,23 @@ entry_by (hints.Unknown n) slice = Err malformed
 abbrev pub fat_entry_of : List ℕ → Result FatEntry Fault
 fat_entry_of slice = if nat_le 16 (length slice) then entry_by (hint_in (take 16 slice)) slice else Err malformed
 
--- Entry i of a fat file: it is below the count, its record is there, and its slice is an archive or
--- begins as an image.
-abbrev pub entry_at : FatFile → ℕ → Result FatEntry Fault
-entry_at file i =
-    if nat_lt i file.narches then (arch_at file.bytes i >>= λ arch. fat_entry_of (part_of file.bytes arch.offset arch.size))
+-- Entry i of a fat file, whose records are of a form: it is below the count, its record is there, and its slice is
+-- an archive or begins as an image.
+abbrev pub arch_entry_in : {R : Type 0} → ArchForm R → FatFile → ℕ → Result FatEntry Fault
+arch_entry_in form file i =
+    if nat_lt i file.narches then (arch_in form file.bytes i >>= λ arch. fat_entry_of (part_of file.bytes (form.offset arch) (form.size arch)))
     else Err malformed
 
 -- all entries, in order
+abbrev pub entries_in : {R : Type 0} → ArchForm R → FatFile → List (Result FatEntry Fault)
+entries_in form file = items_from (arch_entry_in form file) 0 file.narches
+
+-- the same of records of 20 bytes
+abbrev pub entry_at : FatFile → ℕ → Result FatEntry Fault
+entry_at file i = arch_entry_in arch_form_32 file i
+
 abbrev pub entries_of : FatFile → List (Result FatEntry Fault)
-entries_of file = items_from (entry_at file) 0 file.narches
+entries_of file = entries_in arch_form_32 file
 
 -- an entry as it was opened: an archive's bytes, or the image that opens strictly at 0 of its bytes
 abbrev pub IsEntry : {A : Type 0} → FatEntry → SingleArch A → Type 0
@@ -66,11 +75,14 @@ pub record OpensEntry {A : Type 0} (entry : Result FatEntry Fault) (answer : Res
   pub refused : IfErr answer (Stands (FatEntryFault entry))
 
 -- the entries that are left
-abbrev pub entries_left : {A : Type 0} → SingleArchIterator A → List (Result FatEntry Fault)
-entries_left it = items_from (entry_at (file_held it.file.now)) it.index (it.file.now.narches - it.index)
+abbrev pub entries_left_in : {R A : Type 0} → ArchForm R → EntryIterator R A → List (Result FatEntry Fault)
+entries_left_in form it = items_from (arch_entry_in form (file_held it.file.now)) it.index (it.file.now.narches - it.index)
+
+abbrev pub entries_left : {A : Type 0} → EntryIterator FatArch A → List (Result FatEntry Fault)
+entries_left it = entries_left_in arch_form_32 it
 
 -- the answer is the first of the entries that were left, as it opens, and the others are left now
-abbrev pub GivesEntry : {A : Type 0} → SingleArchIterator A → Option (Result (SingleArch A) Error) → SingleArchIterator A → Type 0
-GivesEntry it item after =
-    MatchOption item ((entries_left it ≡ []) × (entries_left after ≡ []))
-    (λ answer. (entry : Result FatEntry Fault) × (entries_left it ≡ entry ∷ entries_left after) × OpensEntry entry answer)
+abbrev pub GivesEntry : {R A : Type 0} → ArchForm R → EntryIterator R A → Option (Result (SingleArch A) Error) → EntryIterator R A → Type 0
+GivesEntry form it item after =
+    MatchOption item ((entries_left_in form it ≡ []) × (entries_left_in form after ≡ []))
+    (λ answer. (entry : Result FatEntry Fault) × (entries_left_in form it ≡ entry ∷ entries_left_in form after) × OpensEntry entry answer)

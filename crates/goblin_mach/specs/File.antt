@@ -5,7 +5,8 @@ use Rattle.mach_base.specs.Fault.{Fault, malformed}
 use Rattle.mach_base.specs.Number.{number_at}
 use Rattle.mach_image.specs.declared.macho.MachO.{MachO}
 use Rattle.goblin_mach.specs.FatFile.{fat_file_in, file_held}
-use Rattle.goblin_mach.specs.declared.fat_file.multi_arch.MultiArch.{MultiArch}
+use Rattle.goblin_mach.specs.declared.fat_file.table.FatTable.{FatTable}
+use Rattle.mach_headers.specs.declared.fat.FatArch.{FatArch}
 use Rattle.goblin_mach.specs.declared.mach.Mach.TheVariants.{Fat, Binary}
 use Rattle.goblin_mach.specs.declared.mach.Mach.{Mach}
 
@@ -32,7 +33,7 @@ pub data MachFault (InMode : List ℕ → ℕ → Fault → Type 0) (bytes : Lis
   of_image : (f : Fault) → ¬ (HasFatMagic bytes) → InMode bytes 0 f → MachFault InMode bytes f
 
 -- the file is a fat file, with the count of its header
-pub record IsFatMach {A : Type 0} (bytes : List ℕ) (m : MultiArch A) : Type 0 where
+pub record IsFatMach {A : Type 0} (bytes : List ℕ) (m : FatTable FatArch A) : Type 0 where
   pub magic : HasFatMagic bytes
   pub file : fat_file_in bytes ≡ Ok (file_held m)
 

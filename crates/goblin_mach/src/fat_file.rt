@@ -3,4 +3,4 @@
 pub mod arches;
 pub mod entry;
 pub mod laws;
-pub mod multi_arch;
+pub mod table;

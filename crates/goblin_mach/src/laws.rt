@@ -6,6 +6,7 @@ pub mod rows;
 pub use crate::fat_file::laws::entries_by_number;
 pub use crate::fat_file::laws::fat_file_of_bytes;
 pub use crate::fat_file::laws::records_by_number;
+pub use crate::fat_file::laws::tables_by_number;
 pub use crate::laws::links::links_of_image;
 pub use mach_base::laws::one_signed_spelling;
 pub use mach_base::laws::one_spelling;

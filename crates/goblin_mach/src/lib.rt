@@ -7,11 +7,14 @@ pub mod laws;
 mod mach;
 mod view;
 
-pub use crate::fat_file::arches::FatArchIterator;
+pub use crate::fat_file::arches::{ArchIterator, FatArch64Iterator, FatArchIterator};
 pub use crate::fat_file::entry::SingleArch;
-pub use crate::fat_file::multi_arch::{MultiArch, SingleArchIterator};
+pub use crate::fat_file::table::{
+    EntryIterator, FatTable, MultiArch, MultiArch64, SingleArch64Iterator, SingleArchIterator,
+};
 pub use crate::mach::Mach;
 pub use crate::view::{LinkView, link_view};
+pub use mach_arches::{ArchRecord, FAT_MAGIC_64, FatArch64, SIZEOF_FAT_ARCH_64};
 pub use mach_base::{
     BE, Container, Ctx, Description, Endian, Error, Hint, HintData, IntoCtx, LE, Record, Result,
     ScrollError, SizeWith, Sleb128, Steps, TryFromCtx, TryIntoCtx, Uleb128, describe, gread_with,

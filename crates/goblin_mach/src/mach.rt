@@ -5,7 +5,7 @@ ghost use Rattle.mach_base.specs.Answer.{Stands, IsOkUnlessMemory};
 ghost use Rattle.mach_image.specs.Image.{Opens, LossyOpens, ImageFault, LossyFault};
 ghost use Rattle.goblin_mach.specs.File.{IsFat, MachOpens, MachFault};
 
-use crate::fat_file::multi_arch::MultiArch;
+use crate::fat_file::table::MultiArch;
 use mach_base::{Endian, Error, Result};
 use mach_headers::fat::FAT_MAGIC;
 use mach_image::macho::MachO;

@@ -10,7 +10,7 @@ ghost use Rattle.goblin_mach.specs.File.{IsMach};
 ghost use Rattle.goblin_mach.specs.View.{HasEntries, ViewFault, LinksHeld, FaultHeld, IsTold, IsViewItem, AreViewItems};
 
 use crate::fat_file::entry::SingleArch;
-use crate::fat_file::multi_arch::MultiArch;
+use crate::fat_file::table::MultiArch;
 use crate::mach::Mach;
 use mach_base::{ByteCount, Error, Result};
 use mach_binds::imports::Import;

@@ -7,7 +7,7 @@ use Rattle.mach_headers.specs.declared.fat.FatArch.{FatArch}
 use Rattle.goblin_mach.specs.FatFile.{file_held, archs_of, first_of_cpu}
 use Rattle.mach_image.specs.OpenImage.{IsImage, commands_held}
 use Rattle.goblin_mach.specs.File.{IsFatMach}
-use Rattle.goblin_mach.specs.declared.fat_file.multi_arch.MultiArch.{MultiArch}
+use Rattle.goblin_mach.specs.declared.fat_file.table.FatTable.{FatTable}
 use Rattle.mach_image.specs.declared.macho.MachO.{MachO}
 use Rattle.mach_resolve.specs.Cpu.{IsOfCpu, entry_bytes, FindsRecord, HasFor, image, other_image, entry, of_table}
 use Rattle.mach_resolve.specs.Files.{File}
@@ -22,7 +22,7 @@ of_cpu bytes m is = record {
 }
 
 -- a record that was found in a fat file
-pub finds : {A : Type 0} (bytes : List ℕ) (m : MultiArch A) (cputype : ℕ) (found : Option FatArch) → IsFatMach bytes m
+pub finds : {A : Type 0} (bytes : List ℕ) (m : FatTable FatArch A) (cputype : ℕ) (found : Option FatArch) → IsFatMach bytes m
     → first_of_cpu cputype (archs_of (file_held m)) ≡ Ok found → FindsRecord bytes cputype found
 finds bytes m cputype found fat is = record { file = file_held m; magic = fat.magic; is_file = fat.file; is_first = is }
 
@@ -42,7 +42,7 @@ pub entry_fault : (cputype number : ℕ) (g : GivenFile) (slice : List ℕ) (arc
 entry_fault cputype number g slice arch found is n f stands = (stands.0, of_image slice (has_entry g.bytes slice cputype arch found is) stands.1)
 
 -- a fault of a table is one of the library
-pub table_fault : {A : Type 0} (cputype number : ℕ) (g : GivenFile) (m : MultiArch A) (e : Error) → IsFatMach g.bytes m
+pub table_fault : {A : Type 0} (cputype number : ℕ) (g : GivenFile) (m : FatTable FatArch A) (e : Error) → IsFatMach g.bytes m
     → first_of_cpu cputype (archs_of (file_held m)) ≡ Err (fault_of e) → Stands (NumberedFault number (LibraryFault cputype g) number) e
 table_fault cputype number g m e fat is =
     stands_as (NumberedFault number (LibraryFault cputype g) number) e (refl, unfound (of_table (file_held m) fat.magic fat.file is))

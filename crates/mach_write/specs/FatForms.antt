@@ -5,7 +5,7 @@ use Rattle.mach_base.specs.Record.{Field, Value, number_is, size, spelling}
 use Rattle.mach_base.specs.declared.context.Endian.TheVariants.{Big}
 use Rattle.mach_headers.specs.Fat.{fat_header_fields, fat_arch_fields}
 use Rattle.mach_write.specs.Entries.{FatEntryView}
-use Rattle.mach_write.specs.FatRecords.{fat_arch_64_fields}
+use Rattle.mach_arches.specs.FatRecords.{fat_arch_64_fields}
 
 -- a form: its magic, the fields of a record, their values by the entry and its place, and the largest place and length that they hold
 pub record FatForm : Type 0 where

@@ -1,5 +1,4 @@
 pub mod Entries
-pub mod FatRecords
 pub mod FatForms
 pub mod FatWrites
 pub mod FatReads

@@ -4,8 +4,8 @@ ghost use Rattle.std.specs.Prelude.{◌≡◌, ◌≤◌, ◌+◌, ◌*◌, ◌<
 ghost use Rattle.mach_write.specs.Entries.{fat_entry_view};
 ghost use Rattle.mach_write.specs.FatForms.{FatForm, fat_form_32, fat_form_64};
 
-use crate::arch64::{FAT_MAGIC_64, FatArch64};
 use crate::entry::FatEntry;
+use mach_arches::{FAT_MAGIC_64, FatArch64};
 use mach_base::Record;
 use mach_headers::fat::{FAT_MAGIC, FatArch};
 

@@ -1,7 +1,6 @@
 //! Writes fat files of 32 and of 64 bits (`mach-o/fat.h`), and makes their entries of files.
 #![tactic(auto)]
 
-pub mod arch64;
 mod cpu;
 mod cpus;
 mod entry;
@@ -11,7 +10,7 @@ mod order;
 mod put;
 mod write;
 
-pub use crate::arch64::{FAT_MAGIC_64, FatArch64, SIZEOF_FAT_ARCH_64};
 pub use crate::entry::FatEntry;
 pub use crate::order::fat_order;
 pub use crate::write::{write_fat, write_fat64};
+pub use mach_arches::{FAT_MAGIC_64, FatArch64, SIZEOF_FAT_ARCH_64};

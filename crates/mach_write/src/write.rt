@@ -7,11 +7,11 @@ ghost use Rattle.mach_base.specs.Answer.{IsOkUnlessMemory};
 ghost use Rattle.mach_write.specs.FatForms.{fat_form_32, fat_form_64, table_end, fat_end, fat_bytes};
 ghost use Rattle.mach_write.specs.FatWrites.{is_far_aligned, can_be_said, fat_file_of, RefusesFat};
 
-use crate::arch64::FatArch64;
 use crate::cpus::any_two_of_one_cpu;
 use crate::entry::FatEntry;
 use crate::form::FatRecord;
 use crate::put::{end_of, put_contents, put_front, put_records};
+use mach_arches::FatArch64;
 use mach_base::{Error, Result};
 use mach_headers::fat::FatArch;
 use std::alloc::Allocator;

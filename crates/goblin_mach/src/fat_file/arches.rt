@@ -1,100 +1,108 @@
 //! The records of a fat file, one at a time.
 
 ghost use Rattle.std.specs.Prelude.{◌≡◌, ◌<◌, ◌^◌, length};
-ghost use Rattle.mach_base.specs.Answer.{Reads};
-ghost use Rattle.goblin_mach.specs.FatFile.{arch_place, arch_at};
 
+use mach_arches::{ArchRecord, FatArch64, read_arch};
 use mach_base::{ByteCount, Result};
-use mach_headers::fat::{FatArch, SIZEOF_FAT_ARCH, SIZEOF_FAT_HEADER};
+use mach_headers::fat::FatArch;
 use std::fmt;
 use std::fmt::{Debug, Formatter, Write};
+use std::marker::PhantomData;
 
-/// The records of a fat file: exactly as many items as it is said to have entries, of which each is
+/// The records of a fat file, `R` each: exactly as many items as it is said to have entries, of which each is
 /// the record at its own place or the error of the read there.
-#[derive(Clone, Drop)]
-pub struct FatArchIterator<'a> {
+#[derive_where(Clone)]
+#[derive(Drop)]
+pub struct ArchIterator<'a, R> {
     bytes: &'a [u8],
     index: usize,
     narches: usize,
+    rows: PhantomData<R>,
 }
 
-// Where the record of an entry stands; the last place that 64 bits have where it passes them.
-fn place_of(index: usize) -> usize
-    ensures { result ≡ arch_place index }
-{
-    let before = index.saturating_mul(SIZEOF_FAT_ARCH);
-    before.saturating_add(SIZEOF_FAT_HEADER)
-}
+/// The records of a fat file.
+pub type FatArchIterator<'a> = ArchIterator<'a, FatArch>;
 
-/// The record of an entry.
-pub fn arch_at(bytes: &[u8], index: usize) -> Result<FatArch>
-    ensures { Reads (λ arch. arch) result (arch_at bytes.now index) }
-{
-    FatArch::parse(bytes, place_of(index))
-}
+/// The records of a fat file of 64 bits.
+pub type FatArch64Iterator<'a> = ArchIterator<'a, FatArch64>;
 
-impl<'a> FatArchIterator<'a> {
-    ghost use Rattle.goblin_mach.specs.FatFile.{archs_of, archs_left};
+impl<'a, R: ArchRecord> ArchIterator<'a, R> {
+    ghost use Rattle.goblin_mach.specs.FatFile.{archs_in, archs_left_in};
 
     // So many records of these bytes.
     pub(crate) fn new(bytes: &'a [u8], narches: usize) -> Self
-        ensures items { archs_left result ≡ archs_of (record { bytes = bytes.now; narches = narches }) }
-        ensures bounded { length (archs_left result) < 2 ^ 64 }
+        ensures items { archs_left_in R.arch_form result ≡ archs_in R.arch_form (record { bytes = bytes.now; narches = narches }) }
+        ensures bounded { length (archs_left_in R.arch_form result) < 2 ^ 64 }
     {
-        FatArchIterator {
+        ArchIterator {
             bytes,
             index: 0,
             narches,
+            rows: PhantomData,
         }
     }
 }
 
-impl<'a> Iterator for FatArchIterator<'a> {
-    type Item = Result<FatArch>;
+impl<'a, R: ArchRecord> Iterator for ArchIterator<'a, R> {
+    type Item = Result<R>;
 
     ghost use Rattle.std.specs.Prelude.{Some, IfSome};
     ghost use Rattle.std.specs.Iterator.{YieldsFirstBy, UpTo, item_count};
     ghost use Rattle.std.specs.Iterator.SizeHint.{IsWithinCount};
-    ghost use Rattle.goblin_mach.specs.FatFile.{arch_read, archs_left};
+    ghost use Rattle.goblin_mach.specs.FatFile.{arch_read, archs_left_in};
 
-    ghost next_gives = { YieldsFirstBy arch_read archs_left };
+    ghost next_gives = { YieldsFirstBy arch_read (archs_left_in R.arch_form) };
 
-    ghost remaining = { item_count archs_left };
+    ghost remaining = { item_count (archs_left_in R.arch_form) };
 
-    fn next(&mut self) -> Option<Result<FatArch>> {
+    fn next(&mut self) -> Option<Result<R>> {
         if self.index >= self.narches {
             return None;
         }
-        let item = arch_at(self.bytes, self.index);
+        let item = read_arch::<R>(self.bytes, self.index);
         self.index += 1;
         Some(item)
     }
 
     /// How many records are left, exactly.
     fn size_hint(&self) -> (usize, Option<usize>)
-        ensures lower { IsWithinCount result.0 (item_count archs_left self.now) }
-        ensures upper { IfSome result.1 (UpTo (item_count archs_left self.now)) }
-        ensures exact { result ≡ (length (archs_left self.now), Some (length (archs_left self.now))) }
+        ensures lower { IsWithinCount result.0 (item_count (archs_left_in R.arch_form) self.now) }
+        ensures upper { IfSome result.1 (UpTo (item_count (archs_left_in R.arch_form) self.now)) }
+        ensures exact { result ≡ (length (archs_left_in R.arch_form self.now), Some (length (archs_left_in R.arch_form self.now))) }
     {
         let left = self.len();
         (left, Some(left))
     }
 }
 
-impl<'a> ExactSizeIterator for FatArchIterator<'a> {
+impl<'a, R: ArchRecord> ExactSizeIterator for ArchIterator<'a, R> {
     /// How many records are left.
     fn len(&self) -> usize {
         self.narches.saturating_sub(self.index)
     }
 }
 
-impl Debug for FatArchIterator<'_> {
-    /// How far it has come; of the bytes only how many they are.
-    fn fmt<W: Write>(&self, f: &mut Formatter<W>) -> fmt::Result {
-        f.debug_struct("FatArchIterator")
+impl<R> ArchIterator<'_, R> {
+    // Shows it under a name.
+    fn fmt_as<W: Write>(&self, name: &'static str, f: &mut Formatter<W>) -> fmt::Result {
+        f.debug_struct(name)
             .field("bytes", &ByteCount(self.bytes))
             .field("index", &self.index)
             .field("narches", &self.narches)
             .finish()
+    }
+}
+
+impl Debug for ArchIterator<'_, FatArch> {
+    /// How far it has come; of the bytes only how many they are.
+    fn fmt<W: Write>(&self, f: &mut Formatter<W>) -> fmt::Result {
+        self.fmt_as("FatArchIterator", f)
+    }
+}
+
+impl Debug for ArchIterator<'_, FatArch64> {
+    /// How far it has come; of the bytes only how many they are.
+    fn fmt<W: Write>(&self, f: &mut Formatter<W>) -> fmt::Result {
+        self.fmt_as("FatArch64Iterator", f)
     }
 }

@@ -5,8 +5,11 @@ ghost use Rattle.mach_base.specs.declared.context.Endian.TheVariants.{Big};
 ghost use Rattle.mach_base.specs.Fault.{Fault};
 ghost use Rattle.mach_base.specs.Number.{number};
 ghost use Rattle.mach_headers.specs.declared.fat.FatArch.{FatArch};
-ghost use Rattle.goblin_mach.specs.FatEntry.{FatEntry, entry_at, entries_of};
-ghost use Rattle.goblin_mach.specs.FatFile.{FatFile, fat_file_in, arch_at, archs_of};
+ghost use Rattle.mach_arches.specs.ArchForms.{arch_in};
+ghost use Rattle.goblin_mach.specs.FatEntry.{FatEntry, entry_at, entries_of, arch_entry_in, entries_in};
+ghost use Rattle.goblin_mach.specs.FatFile.{FatFile, fat_file_in, arch_at, archs_of, archs_in};
+
+use mach_arches::ArchRecord;
 
 /// The records of a fat file go by their number: there are as many as it is said to have entries, and
 /// record k is the one at its own place, whatever the others are.
@@ -23,6 +26,14 @@ pub fn entries_by_number()
     ensures item { (file : FatFile) (k : ℕ) → k < file.narches → slice_get (entries_of file) k ≡ Some (entry_at file k) }
     ensures only { (file : FatFile) (k : ℕ) (entry : Result FatEntry Fault) → slice_get (entries_of file) k ≡ Some entry
         → (k < file.narches) × (entry_at file k ≡ entry) }
+{}
+
+/// Both of the table of any form of records, as that of 64 bits.
+pub fn tables_by_number<R: ArchRecord>()
+    ensures records { (file : FatFile) → length (archs_in R.arch_form file) ≡ file.narches }
+    ensures record_item { (file : FatFile) (k : ℕ) → k < file.narches → slice_get (archs_in R.arch_form file) k ≡ Some (arch_in R.arch_form file.bytes k) }
+    ensures entries { (file : FatFile) → length (entries_in R.arch_form file) ≡ file.narches }
+    ensures entry_item { (file : FatFile) (k : ℕ) → k < file.narches → slice_get (entries_in R.arch_form file) k ≡ Some (arch_entry_in R.arch_form file k) }
 {}
 
 /// The fat file of some bytes is those bytes, with the count of their header, which has 8 bytes.

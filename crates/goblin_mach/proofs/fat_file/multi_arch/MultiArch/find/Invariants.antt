@@ -1,6 +1,0 @@
-use Rattle.std.proofs.Common.{ℕ, ◌<◌, false}
-use Rattle.goblin_mach.specs.FatFile.{IsAsked}
-use Rattle.goblin_mach.proofs.fat_file.multi_arch.MultiArch.find.Given as goal
-
-abbrev pub invariant-entries : goal.invariant-entries
-invariant-entries g l = (k : ℕ) → k < l.index → IsAsked g.E.From.from_gives (goal.F-post g l.f) l.self.bytes.now k false

@@ -1,0 +1,23 @@
+-- The record of an entry in a fat file of 64 bits (`mach-o/fat.h`, struct fat_arch_64).
+use Rattle.std.specs.Prelude.{List, [], ◌∷◌}
+use Rattle.mach_base.specs.Record.{Field, num, Value, number_is, number_among}
+use Rattle.mach_arches.specs.declared.arch64.FatArch64.{FatArch64}
+
+abbrev pub fat_arch_64_fields : List Field
+fat_arch_64_fields = num 4 ∷ num 4 ∷ num 8 ∷ num 8 ∷ num 4 ∷ num 4 ∷ []
+
+abbrev pub fat_arch_64_values : FatArch64 → List Value
+fat_arch_64_values a =
+    number_is a.cputype ∷ number_is a.cpusubtype ∷ number_is a.offset ∷ number_is a.size ∷ number_is a.align
+    ∷ number_is a.reserved ∷ []
+
+abbrev pub fat_arch_64_of_values : List Value → FatArch64
+fat_arch_64_of_values vs =
+    record {
+      cputype = number_among vs 0;
+      cpusubtype = number_among vs 1;
+      offset = number_among vs 2;
+      size = number_among vs 3;
+      align = number_among vs 4;
+      reserved = number_among vs 5;
+    }

@@ -1,0 +1,2 @@
+pub mod FatRecords
+pub mod ArchForms

@@ -1,0 +1,6 @@
+mod files;
+mod items;
+mod made;
+mod same;
+mod tables;
+mod text;
