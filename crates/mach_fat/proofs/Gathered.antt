@@ -3,16 +3,15 @@ use Rattle.std.proofs.Common.{◌≡◌, ℕ, ◌+◌, ◌-◌, ◌<◌, ◌≤�
 use Rattle.std.proofs.Common.{zero, suc, refl, sym, ap, ◌∙◌, append_assoc, arith}
 use Rattle.std.proofs.lemmas.List.{append-nil, at_drop_more, drop_all}
 use Rattle.std.specs.Borrow.{Bor}
-use Rattle.mach_base.specs.Fault.{Fault, malformed, bad_magic, too_short, fault_of_scroll}
-use Rattle.mach_base.specs.declared.error.Error.TheVariants as errors
+use Rattle.mach_base.specs.Fault.{Fault}
 use Rattle.mach_base.specs.Items.{items_from, all_read}
 use Rattle.mach_write.specs.Entries.{FatEntryView}
 use Rattle.mach_fat.specs.EntriesRead.{slice_of, entry_with, entry_ahead, entry_read_by, entries_by, file_entries}
 use Rattle.mach_fat.specs.Creates.{UnfitFile, entries_before, entries_of_files, texts_now, RefusesFiles}
-use Rattle.mach_fat.specs.Unfit.{Unfit, unread, no_such_entry, out_of_file, overlap, no_such_cpu, RefusesAs}
+use Rattle.mach_fat.specs.Unfit.{Unfit, out_of_file, RefusesAs}
 use Rattle.mach_fat.specs.declared.refusal.EntryRefusal.{EntryRefusal}
-use Rattle.mach_fat.specs.declared.refusal.EntryRefusal.TheVariants as refusals
 use Rattle.mach_fat.specs.declared.record.EntryRecord.{EntryRecord}
+use Rattle.mach_fat.proofs.Refusals.{refused_as, unfit_file}
 
 -- some items before others
 abbrev pub before : {A E : Type 0} → List A → Result (List A) E → Result (List A) E
@@ -131,17 +130,9 @@ module _ (files : List (Bor (List ℕ))) where
       → entries_of_files 0 (texts_now files) ≡ before found (entries_of_files i (texts_now (drop i files)))
       → RefusesAs why (file_entries (get_or files i d).now)
       → RefusesFiles (record { file = i; why = why }) (entries_of_files 0 (texts_now files))
-  files_refuse found i d (refusals.Unread (errors.Malformed m)) inside gathered is = files_refused found i d (unread malformed) inside gathered is
-  files_refuse found i d (refusals.Unread (errors.BadMagic n)) inside gathered is = files_refused found i d (unread (bad_magic n)) inside gathered is
-  files_refuse found i d (refusals.Unread (errors.Scroll e)) inside gathered is =
-      files_refused found i d (unread (fault_of_scroll e)) inside gathered is
-  files_refuse found i d (refusals.Unread (errors.BufferTooShort n m)) inside gathered is =
-      files_refused found i d (unread (too_short n m.now)) inside gathered is
-  files_refuse found i d (refusals.Unread (errors.Memory e)) inside gathered is = tt
-  files_refuse found i d (refusals.NoEntry k) inside gathered is = files_refused found i d (no_such_entry k) inside gathered is
-  files_refuse found i d (refusals.OutOfFile k) inside gathered is = files_refused found i d (out_of_file k) inside gathered is
-  files_refuse found i d refusals.Overlap inside gathered is = files_refused found i d overlap inside gathered is
-  files_refuse found i d (refusals.NoCpu n) inside gathered is = files_refused found i d (no_such_cpu n) inside gathered is
+  files_refuse found i d why inside gathered =
+      refused_as (λ u. u) (unfit_file i) why (file_entries (get_or files i d).now) (entries_of_files 0 (texts_now files))
+      (λ u is. files_refused found i d u inside gathered is)
 
   pub files_all : (found : List FatEntryView) (i : ℕ) → length files ≤ i
       → entries_of_files 0 (texts_now files) ≡ before found (entries_of_files i (texts_now (drop i files)))

@@ -1,3 +1,5 @@
+pub mod Refusals
 pub mod Gathered
+pub mod Replaced
 pub mod Totals
 pub mod Tables

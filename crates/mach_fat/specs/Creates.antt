@@ -1,4 +1,4 @@
--- The fat file that is made of files.
+-- The fat file that is created of files.
 use Rattle.std.specs.Prelude.{◌≡◌, ◌⊎◌, ℕ, ◌+◌, List, [], ◌∷◌, ◌++◌, map, Result, Ok, Err}
 use Rattle.std.specs.Borrow.{Bor}
 use Rattle.std.specs.List.Sorted.{IsPermutation, IsSortedByKey, IsStableByKey}
@@ -11,9 +11,9 @@ use Rattle.mach_write.specs.FatWrites.{fat_file_of, RefusesFat}
 use Rattle.mach_write.specs.declared.entry.FatEntry.{FatEntry}
 use Rattle.mach_fat.specs.EntriesRead.{file_entries}
 use Rattle.mach_fat.specs.Unfit.{Unfit, RefusesBy}
-use Rattle.mach_fat.specs.declared.created.CreateRefusal.{CreateRefusal}
-use Rattle.mach_fat.specs.declared.created.CreateRefusal.TheVariants.{OfFile, OfAll}
-use Rattle.mach_fat.specs.declared.created.FileRefusal.{FileRefusal}
+use Rattle.mach_fat.specs.declared.refusal.FileRefusal.{FileRefusal}
+use Rattle.mach_fat.specs.declared.refusal.MakeRefusal.{MakeRefusal}
+use Rattle.mach_fat.specs.declared.refusal.MakeRefusal.TheVariants.{OfFile, OfAll}
 
 abbrev pub texts_now : List (Bor (List ℕ)) → List (List ℕ)
 texts_now files = map (λ f. f.now) files
@@ -60,19 +60,23 @@ pub record HasNoFileInOrder (form : FatForm) (given : List FatEntry) (e : Error)
 abbrev pub RefusesInOrder : FatForm → List FatEntry → Error → Type 0
 RefusesInOrder form given e = Stands (λ f. ⊥) e ⊎ HasNoFileInOrder form given e
 
--- The fat file that is created of some files: that of all their entries, in that order.
-pub record IsCreated (form : FatForm) (files : List (List ℕ)) (file : List ℕ) : Type 0 where
+-- The fat file of some entries, which are there, in that order.
+pub record IsFileOf (form : FatForm) (there : Result (List FatEntryView) UnfitFile) (file : List ℕ) : Type 0 where
   pub given : List FatEntry
-  pub are_entries : entries_of_files 0 files ≡ Ok (entry_views given)
+  pub are_entries : there ≡ Ok (entry_views given)
   pub is_file : IsFileInOrder form given file
 
--- there is none of all their entries
-pub record RefusesEntries (form : FatForm) (files : List (List ℕ)) (e : Error) : Type 0 where
+-- they are there, and there is no fat file of them
+pub record RefusesEntries (form : FatForm) (there : Result (List FatEntryView) UnfitFile) (e : Error) : Type 0 where
   pub given : List FatEntry
-  pub are_entries : entries_of_files 0 files ≡ Ok (entry_views given)
+  pub are_entries : there ≡ Ok (entry_views given)
   pub has_none : HasNoFileInOrder form given e
 
+-- The fat file that is created of some files: that of all their entries.
+abbrev pub IsCreated : FatForm → List (List ℕ) → List ℕ → Type 0
+IsCreated form files file = IsFileOf form (entries_of_files 0 files) file
+
 -- Why none is created: one of the files is refused, or there is none of all their entries; or want of memory.
-abbrev pub RefusesCreate : FatForm → List (List ℕ) → CreateRefusal → Type 0
+abbrev pub RefusesCreate : FatForm → List (List ℕ) → MakeRefusal → Type 0
 RefusesCreate form files (OfFile refusal) = RefusesFiles refusal (entries_of_files 0 files)
-RefusesCreate form files (OfAll e) = Stands (λ f. ⊥) e ⊎ RefusesEntries form files e
+RefusesCreate form files (OfAll e) = Stands (λ f. ⊥) e ⊎ RefusesEntries form (entries_of_files 0 files) e

@@ -2,3 +2,4 @@ pub mod FatTables
 pub mod Unfit
 pub mod EntriesRead
 pub mod Creates
+pub mod Changes

@@ -9,48 +9,10 @@ ghost use Rattle.mach_fat.specs.Unfit.{RefusesAs};
 
 use crate::entries::file_entries;
 use crate::form::Form;
-use crate::refusal::EntryRefusal;
+use crate::refusal::{EntryRefusal, FileRefusal, MakeRefusal};
 use mach_base::{Error, Result};
 use mach_write::{FatEntry, fat_order};
 use std::alloc::Allocator;
-
-/// A file that is refused.
-#[derive(Debug, Drop)]
-pub struct FileRefusal {
-    /// Its index among the files.
-    pub file: usize,
-    /// Why it is refused.
-    pub why: EntryRefusal,
-}
-
-/// Why a fat file isn't created.
-#[derive(Debug, Drop)]
-pub enum CreateRefusal {
-    /// One of the files is refused.
-    OfFile(FileRefusal),
-    /// The entries together are refused, or memory was.
-    OfAll(Error),
-}
-
-impl From<FileRefusal> for CreateRefusal {
-    ghost from_gives = { λ file refusal. refusal ≡ refusals.OfFile file };
-
-    ghost use Rattle.mach_fat.specs.declared.created.CreateRefusal.TheVariants as refusals;
-
-    fn from(file: FileRefusal) -> CreateRefusal {
-        CreateRefusal::OfFile(file)
-    }
-}
-
-impl From<Error> for CreateRefusal {
-    ghost from_gives = { λ error refusal. refusal ≡ refusals.OfAll error };
-
-    ghost use Rattle.mach_fat.specs.declared.created.CreateRefusal.TheVariants as refusals;
-
-    fn from(error: Error) -> CreateRefusal {
-        CreateRefusal::OfAll(error)
-    }
-}
 
 // Adds the entries of a file to those of the files before it.
 fn add_entries<'a, 'b, A: Allocator>(
@@ -103,7 +65,7 @@ pub fn create<'b, A: Allocator>(
     alloc: &'b A,
     form: Form,
     files: &[&[u8]],
-) -> std::result::Result<Vec<u8, &'b A>, CreateRefusal>
+) -> std::result::Result<Vec<u8, &'b A>, MakeRefusal>
     ensures created { IfOk result (λ file. IsCreated (form_of form) (texts_now files.now) file.items) }
     ensures refused { IfErr result (RefusesCreate (form_of form) (texts_now files.now)) }
 {

@@ -5,14 +5,16 @@ ghost use Rattle.mach_base.specs.Answer.{Reads, Gives};
 ghost use Rattle.mach_base.specs.Record.{size};
 ghost use Rattle.mach_write.specs.Entries.{entry_views};
 ghost use Rattle.mach_write.specs.FatWrites.{fat_file_of, RefusesFat};
+ghost use Rattle.mach_fat.specs.Changes.{fat_form_in};
 ghost use Rattle.mach_fat.specs.FatTables.{form_of, form_in, fat_record_in, fat_table_in};
+ghost use Rattle.mach_fat.specs.Unfit.{AnswersAs};
 
 use crate::record::EntryRecord;
+use crate::refusal::EntryRefusal;
 use mach_base::{Error, Result};
 use mach_headers::fat::{FAT_MAGIC, FatArch, FatHeader, SIZEOF_FAT_ARCH, SIZEOF_FAT_HEADER};
-use mach_headers::magic::peek;
-use mach_write::arch64::FAT_MAGIC_64;
-use mach_write::{FatArch64, FatEntry, SIZEOF_FAT_ARCH_64, write_fat, write_fat64};
+use mach_headers::magic::{parse_magic_and_ctx, peek};
+use mach_write::{FAT_MAGIC_64, FatArch64, FatEntry, SIZEOF_FAT_ARCH_64, write_fat, write_fat64};
 use std::alloc::Allocator;
 
 /// How many bits a place and a length have in a fat file's table.
@@ -31,6 +33,19 @@ impl Form {
             Ok(FAT_MAGIC) => Some(Form::Bits32),
             Ok(FAT_MAGIC_64) => Some(Form::Bits64),
             _ => None,
+        }
+    }
+
+    /// The form of a fat file; else it is one image, or `BadMagic` of the first four bytes.
+    pub fn of_fat(bytes: &[u8]) -> std::result::Result<Form, EntryRefusal>
+        ensures { AnswersAs form_of result (fat_form_in bytes.now) }
+    {
+        if let Some(form) = Form::of(bytes) {
+            return Ok(form);
+        }
+        match parse_magic_and_ctx(bytes, 0)? {
+            (_, Some(_)) => Err(EntryRefusal::NotFat),
+            (magic, None) => Err(EntryRefusal::Unread(Error::BadMagic(u64::from(magic)))),
         }
     }
 

@@ -2,7 +2,7 @@
 
 ghost use Rattle.std.specs.Prelude.{◌≡◌, option_map};
 ghost use Rattle.mach_headers.specs.Fat.{fat_arch_values};
-ghost use Rattle.mach_write.specs.FatRecords.{fat_arch_64_values};
+ghost use Rattle.mach_arches.specs.FatRecords.{fat_arch_64_values};
 ghost use Rattle.mach_write.specs.Entries.{fat_entry_view};
 ghost use Rattle.mach_fat.specs.FatTables.{record_of_values};
 ghost use Rattle.mach_fat.specs.EntriesRead.{slice_of, entry_with};

@@ -1,4 +1,4 @@
-//! Why a file's entries are refused.
+//! Why a file's entries are refused, and why no fat file is made.
 
 ghost use Rattle.std.specs.Prelude.{◌≡◌};
 ghost use Rattle.mach_fat.specs.declared.refusal.EntryRefusal.TheVariants as refusals;
@@ -13,6 +13,8 @@ use std::fmt::{Display, Formatter, Write};
 pub enum EntryRefusal {
     /// They can't be read, or memory was refused.
     Unread(Error),
+    /// The file is one image.
+    NotFat,
     /// There is no entry of this index.
     NoEntry(usize),
     /// The entry of this index is not in the file.
@@ -61,10 +63,49 @@ impl Display for EntryRefusal {
     fn fmt<W: Write>(&self, f: &mut Formatter<W>) -> fmt::Result {
         match self {
             EntryRefusal::Unread(error) => write!(f, "{}", describe(error)),
+            EntryRefusal::NotFat => write!(f, "not a fat file"),
             EntryRefusal::NoEntry(index) => write!(f, "no entry {index}"),
             EntryRefusal::OutOfFile(index) => write!(f, "entry {index} is out of the file"),
             EntryRefusal::Overlap => write!(f, "entries overlap"),
             EntryRefusal::NoCpu(cputype) => write!(f, "no entry of cputype 0x{cputype:x}"),
         }
+    }
+}
+
+/// A file that is refused.
+#[derive(Debug, Drop)]
+pub struct FileRefusal {
+    /// Its index among the files.
+    pub file: usize,
+    /// Why it is refused.
+    pub why: EntryRefusal,
+}
+
+/// Why a fat file isn't made of some files.
+#[derive(Debug, Drop)]
+pub enum MakeRefusal {
+    /// One of the files is refused.
+    OfFile(FileRefusal),
+    /// The entries together are refused, or memory was.
+    OfAll(Error),
+}
+
+impl From<FileRefusal> for MakeRefusal {
+    ghost from_gives = { λ file refusal. refusal ≡ made.OfFile file };
+
+    ghost use Rattle.mach_fat.specs.declared.refusal.MakeRefusal.TheVariants as made;
+
+    fn from(file: FileRefusal) -> MakeRefusal {
+        MakeRefusal::OfFile(file)
+    }
+}
+
+impl From<Error> for MakeRefusal {
+    ghost from_gives = { λ error refusal. refusal ≡ made.OfAll error };
+
+    ghost use Rattle.mach_fat.specs.declared.refusal.MakeRefusal.TheVariants as made;
+
+    fn from(error: Error) -> MakeRefusal {
+        MakeRefusal::OfAll(error)
     }
 }

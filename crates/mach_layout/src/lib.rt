@@ -10,6 +10,6 @@ mod lists;
 pub use crate::faults::{claims, layout_faults};
 pub use crate::layout::layout_of;
 pub use mach_rules::{
-    Claim, ClaimIterator, Layout, LayoutFault, Owner, Part, PlacedSection, PlacedSegment, Rule,
-    SectionIterator, SegmentIterator, container_faults,
+    Claim, ClaimIterator, Evidence, Layout, LayoutFault, Owner, Part, PlacedSection, PlacedSegment,
+    Rule, SectionIterator, SegmentIterator, container_faults,
 };

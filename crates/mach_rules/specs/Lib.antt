@@ -18,6 +18,7 @@ pub mod Fixups
 pub mod FixupViews
 pub mod Ranges
 pub mod Words
+pub mod Texts
 pub mod Containers
 pub mod Faults
 pub mod Lists

@@ -25,6 +25,7 @@ mod sections;
 mod segments;
 mod sweep;
 mod symbols;
+mod text;
 mod words;
 
 pub use crate::claim::Claim;
@@ -37,3 +38,4 @@ pub use crate::fixups::fixup_faults;
 pub use crate::layout::Layout;
 pub use crate::lists::{function_starts_fault, opcodes_fault};
 pub use crate::parts::{PlacedSection, PlacedSegment, SectionIterator, SegmentIterator};
+pub use crate::text::Evidence;

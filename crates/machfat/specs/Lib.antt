@@ -1,4 +1,5 @@
 pub mod Entry
+pub mod Faults
 pub mod Lines
 pub mod Made
 pub mod Refusals

@@ -1,8 +1,8 @@
--- What is said of a fat file that isn't created.
+-- What is said of a fat file that isn't made.
 use Rattle.std.specs.Prelude.{ℕ, List, [], slice_get, Option, Some, None}
 use Rattle.std.specs.Borrow.{Bor}
-use Rattle.mach_fat.specs.declared.created.CreateRefusal.{CreateRefusal}
-use Rattle.mach_fat.specs.declared.created.CreateRefusal.TheVariants.{OfFile, OfAll}
+use Rattle.mach_fat.specs.declared.refusal.MakeRefusal.{MakeRefusal}
+use Rattle.mach_fat.specs.declared.refusal.MakeRefusal.TheVariants.{OfFile, OfAll}
 use Rattle.machfat.specs.Refusals.{refusal_line}
 use Rattle.machfat.specs.declared.refusal.Refusal.TheVariants.{Refused, Entries}
 
@@ -14,7 +14,7 @@ name_or_none None = []
 abbrev pub given_name : List (Bor (List ℕ)) → ℕ → List ℕ
 given_name names i = name_or_none (slice_get names i)
 
--- the line on the error output, with the name of the file that is refused, or of the one that isn't created
-abbrev pub create_line : List (Bor (List ℕ)) → List ℕ → CreateRefusal → List ℕ
-create_line names target (OfFile refusal) = refusal_line (given_name names refusal.file) (Entries refusal.why)
-create_line names target (OfAll e) = refusal_line target (Refused e)
+-- the line on the error output, with the name of the file that is refused, or of the one that isn't made
+abbrev pub make_line : List (Bor (List ℕ)) → List ℕ → MakeRefusal → List ℕ
+make_line names target (OfFile refusal) = refusal_line (given_name names refusal.file) (Entries refusal.why)
+make_line names target (OfAll e) = refusal_line target (Refused e)

@@ -3,7 +3,8 @@ use Rattle.std.specs.Prelude.{◌≡◌, ℕ, List, ◌++◌, codes, Some}
 use Rattle.mach_base.specs.Answer.{Stands}
 use Rattle.mach_base.specs.Words.{words_of}
 use Rattle.mach_base.specs.declared.error.Error.{Error}
-use Rattle.mach_fat.specs.Unfit.{entry_refusal_words}
+use Rattle.mach_fat.specs.Changes.{thin_entry_in}
+use Rattle.mach_fat.specs.Unfit.{RefusesAs, entry_refusal_words}
 use Rattle.mach_image.specs.Image.{Opens}
 use Rattle.goblin_mach.specs.View.{ViewFault}
 use Rattle.mach_show.specs.Foreigners.{foreign_words, refused_kind}
@@ -48,3 +49,10 @@ IsWant (Refused e) = Stands (λ f. ⊥) e
 IsWant (Foreign kind) = ⊥
 IsWant NotFat = ⊥
 IsWant (Entries why) = ⊥
+
+-- Why an entry of a cputype isn't written: there is none, or its bytes aren't there; or want of memory.
+abbrev pub RefusesThin : List ℕ → ℕ → Refusal → Type 0
+RefusesThin bytes cputype (Refused e) = Stands (λ f. ⊥) e
+RefusesThin bytes cputype (Foreign kind) = ⊥
+RefusesThin bytes cputype NotFat = ⊥
+RefusesThin bytes cputype (Entries why) = RefusesAs why (thin_entry_in bytes cputype)

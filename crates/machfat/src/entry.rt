@@ -20,8 +20,8 @@ use std::alloc::Allocator;
 use std::io;
 use std::io::Write;
 
-// The fat file of the bytes.
-fn fat_file<A: Allocator + Clone>(alloc: A, bytes: &[u8]) -> Result<MultiArch<'_, A>, Refusal>
+/// The fat file of the bytes.
+pub fn fat_file<A: Allocator + Clone>(alloc: A, bytes: &[u8]) -> Result<MultiArch<'_, A>, Refusal>
     ensures fat { IfOk result (λ m. IsFatFile bytes.now (file_held m)) }
     ensures refused { IfErr result (RefusesList bytes.now) }
 {

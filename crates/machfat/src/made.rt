@@ -1,19 +1,24 @@
 //! Fat files that are made of files.
 
-ghost use Rattle.std.specs.Prelude.{◌≡◌, List, ℕ};
+ghost use Rattle.std.specs.Prelude.{◌≡◌, ◌≤◌, List, ℕ};
 ghost use Rattle.std.specs.Io.KnownBytes.{Appends};
+ghost use Rattle.mach_base.specs.Answer.{Stands};
+ghost use Rattle.mach_base.specs.declared.error.Error.{Error};
+ghost use Rattle.mach_fat.specs.Changes.{IsReplaced, IsWithout, RefusesReplace, RefusesRemove};
 ghost use Rattle.mach_fat.specs.Creates.{IsCreated, RefusesCreate, texts_now};
 ghost use Rattle.mach_fat.specs.FatTables.{form_of};
-ghost use Rattle.mach_fat.specs.declared.created.CreateRefusal.{CreateRefusal};
+ghost use Rattle.mach_fat.specs.declared.refusal.MakeRefusal.{MakeRefusal};
 ghost use Rattle.mach_show.specs.Statuses.{IsStatus};
 ghost use Rattle.machfat.specs.Entry.{WasWritten};
-ghost use Rattle.machfat.specs.Made.{given_name, create_line};
+ghost use Rattle.machfat.specs.Made.{given_name, make_line};
+ghost use Rattle.machfat.specs.Refusals.{refusal_line};
 ghost use Rattle.machfat.specs.Same.{AreOther};
+ghost use Rattle.machfat.specs.declared.refusal.Refusal.TheVariants.{Refused};
 
 use crate::place::{first_same, place_file};
 use crate::refusal::Refusal;
 use crate::run::{NAME, refused, status};
-use mach_fat::{CreateRefusal, FileRefusal, Form, create};
+use mach_fat::{FileRefusal, Form, MakeRefusal, create, remove, replace};
 use std::alloc::Global;
 use std::io::Write;
 use std::rt::Files;
@@ -33,23 +38,97 @@ pub fn run_create<R: Files, E: Write>(
     ensures status { IsStatus result }
     ensures created { result ≡ 0 → (made : List ℕ) × IsCreated (form_of form) (texts_now inputs.now) made × WasWritten R.File.contents made }
     ensures apart { result ≡ 0 → AreOther names.now target.now }
-    ensures refused { result ≡ 1 → (refusal : CreateRefusal) × RefusesCreate (form_of form) (texts_now inputs.now) refusal
-        × Appends (E.contents err.old) (E.contents err.new) (create_line names.now target.now refusal) }
+    ensures refused { result ≡ 1 → (refusal : MakeRefusal) × RefusesCreate (form_of form) (texts_now inputs.now) refusal
+        × Appends (E.contents err.old) (E.contents err.new) (make_line names.now target.now refusal) }
 {
     if let Some(name) = first_same(files, names, target) {
         return one_file(name, target, err);
     }
     match create(&alloc, form, inputs) {
-        Ok(made) => status(
-            place_file(files, alloc, made.as_slice(), target),
-            target,
-            target,
-            err,
-        ),
-        Err(CreateRefusal::OfFile(FileRefusal { file, why })) => {
+        Ok(made) => place_made(files, alloc, made.as_slice(), target, err),
+        Err(refusal) => refuse(names, target, refusal, err),
+    }
+}
+
+/// Writes the fat file that another one becomes where a file takes the place of each entry for its cpu, and answers the exit status as
+/// `run_create` does. `both` are the names of the fat file and of the other one.
+pub fn run_replace<R: Files, E: Write>(
+    files: &R,
+    alloc: Global,
+    both: &[&str],
+    bytes: &[u8],
+    new: &[u8],
+    target: &str,
+    err: &mut E,
+) -> u8
+    ensures status { IsStatus result }
+    ensures replaced { result ≡ 0 → (made : List ℕ) × IsReplaced bytes.now new.now made × WasWritten R.File.contents made }
+    ensures apart { result ≡ 0 → AreOther both.now target.now }
+    ensures refused { result ≡ 1 → (refusal : MakeRefusal) × RefusesReplace bytes.now new.now refusal
+        × Appends (E.contents err.old) (E.contents err.new) (make_line both.now target.now refusal) }
+{
+    if let Some(name) = first_same(files, both, target) {
+        return one_file(name, target, err);
+    }
+    match replace(&alloc, bytes, new) {
+        Ok(made) => place_made(files, alloc, made.as_slice(), target, err),
+        Err(refusal) => refuse(both, target, refusal, err),
+    }
+}
+
+/// Writes the fat file that another one becomes without the entry of an index, and answers the exit status as `run_create` does. `only` has
+/// the name of the fat file.
+pub fn run_remove<R: Files, E: Write>(
+    files: &R,
+    alloc: Global,
+    only: &[&str],
+    bytes: &[u8],
+    index: usize,
+    target: &str,
+    err: &mut E,
+) -> u8
+    ensures status { IsStatus result }
+    ensures removed { result ≡ 0 → (made : List ℕ) × IsWithout bytes.now index made × WasWritten R.File.contents made }
+    ensures apart { result ≡ 0 → AreOther only.now target.now }
+    ensures refused { result ≡ 1 → (refusal : MakeRefusal) × RefusesRemove bytes.now index refusal
+        × Appends (E.contents err.old) (E.contents err.new) (make_line only.now target.now refusal) }
+{
+    if let Some(name) = first_same(files, only, target) {
+        return one_file(name, target, err);
+    }
+    match remove(&alloc, bytes, index) {
+        Ok(made) => place_made(files, alloc, made.as_slice(), target, err),
+        Err(refusal) => refuse(only, target, refusal, err),
+    }
+}
+
+// Writes a file that was made, and answers the exit status.
+fn place_made<R: Files, E: Write>(
+    files: &R,
+    alloc: Global,
+    made: &[u8],
+    target: &str,
+    err: &mut E,
+) -> u8
+    ensures status { IsStatus result }
+    ensures written { result ≡ 0 → WasWritten R.File.contents made.now }
+    ensures wanting { result ≡ 1 → (e : Error) × Stands (λ f. ⊥) e
+        × Appends (E.contents err.old) (E.contents err.new) (refusal_line target.now (Refused e)) }
+{
+    status(place_file(files, alloc, made, target), target, target, err)
+}
+
+// The status where nothing is made, which is told with the name of the file that is refused, or else of the one that isn't made.
+fn refuse<E: Write>(names: &[&str], target: &str, refusal: MakeRefusal, err: &mut E) -> u8
+    ensures status { IsStatus result }
+    ensures not_zero { 1 ≤ result }
+    ensures told { result ≡ 1 → Appends (E.contents err.old) (E.contents err.new) (make_line names.now target.now refusal) }
+{
+    match refusal {
+        MakeRefusal::OfFile(FileRefusal { file, why }) => {
             refused(given_name(names, file), &Refusal::Entries(why), err)
         }
-        Err(CreateRefusal::OfAll(error)) => refused(target, &Refusal::Refused(error), err),
+        MakeRefusal::OfAll(error) => refused(target, &Refusal::Refused(error), err),
     }
 }
 

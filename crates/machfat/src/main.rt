@@ -1,9 +1,9 @@
-//! Lists the entries of a fat file, a line each, or writes the bytes of one to a file.
+//! Lists the entries of a fat file, a line each, or writes the bytes of one to a file; or makes a fat file.
 //!
 //! A line has the fields of `llvm-objdump --universal-headers`, and the kind of the entry by its first
 //! bytes. Numbers of cpus are not given names, and the capabilities stay in the top 8 bits of `cpusubtype`.
-//! An entry is asked for by its place in the list and not by its cpu, as `llvm-lipo -thin` asks; the bytes
-//! written are the same. A fat file of 32 or of 64 bits is created of files as `llvm-lipo -create` creates it. What is written
+//! An entry is asked for by its place in the list, or by its cputype. A fat file of 32 or of 64 bits is created of files as
+//! `llvm-lipo -create` creates it, an entry is replaced as by `-replace`, or removed by its place. What is written
 //! stands under another name beside the file that is asked for, and is renamed once it is whole.
 #![tactic(auto)]
 
@@ -13,31 +13,56 @@ mod place;
 mod refusal;
 mod run;
 mod text;
+mod thin;
+mod verify;
 
 use mach_fat::Form;
-use mach_show::{Misuse, Program, Round};
-use made::{one_file, run_create};
+use mach_show::{Misuse, Program, Round, cputype_in};
+use made::{one_file, run_create, run_remove, run_replace};
 use place::is_same_file;
 use run::{NAME, run_extract, run_list};
 use std::alloc::{AllocError, Global};
 use std::io;
 use std::io::BufWriter;
 use std::process::ExitCode;
+use thin::run_thin;
+use verify::run_verify;
 
 // The option by which a fat file of 64 bits is created.
 const WIDE: &str = "--fat64";
+
+// What is printed of a file.
+#[derive(Clone, Copy)]
+enum Shown {
+    Records,
+    Faults,
+}
 
 const PROGRAM: Program = Program {
     name: NAME,
     usage: "usage: machfat list FILE..
        machfat extract FILE INDEX OUT
+       machfat thin FILE 0xCPUTYPE OUT
        machfat create [--fat64] OUT FILE..
+       machfat replace FILE NEW OUT
+       machfat remove FILE INDEX OUT
+       machfat verify FILE..
        machfat -h | --help | --version
 ",
     version: "machfat 0.2.0\n",
     has_limit: false,
     has_cpu: false,
-    known: &["list", "extract", "create", "--help", "--version"],
+    known: &[
+        "list",
+        "extract",
+        "thin",
+        "create",
+        "replace",
+        "remove",
+        "verify",
+        "--help",
+        "--version",
+    ],
 };
 
 fn main(rt: HostRuntime) -> ExitCode {
@@ -55,20 +80,25 @@ fn start(rt: &HostRuntime) -> Result<u8, u8> {
         [word, given @ ..] if *word == "create" => create_file(rt, form_for(is_wide), given),
         _ if is_wide => Err(PROGRAM.bad_usage(rt, Misuse::UnknownOption(WIDE))),
         [] => Err(PROGRAM.bad_usage(rt, Misuse::Missing("word"))),
-        [word, files @ ..] if *word == "list" => list_files(rt, files),
-        [word, file, index, target] if *word == "extract" => match index.parse::<usize>() {
-            Ok(index) => extract_entry(rt, file, index, target),
-            Err(_) => Err(PROGRAM.bad_usage(rt, Misuse::NoNumber(index))),
-        },
-        [word, ..] if *word == "extract" => {
-            Err(PROGRAM.bad_usage(rt, Misuse::Missing("FILE, INDEX and OUT")))
-        }
-        [word, ..] => Err(PROGRAM.bad_usage(rt, Misuse::UnknownWord(word))),
+        [word, files @ ..] if *word == "list" => show_files(rt, Shown::Records, files),
+        [word, files @ ..] if *word == "verify" => show_files(rt, Shown::Faults, files),
+        [word, given @ ..] => write_file(rt, word, given),
     }
 }
 
-// Lists the entries of files in order, and answers the worst status.
-fn list_files(rt: &HostRuntime, files: &[&str]) -> Result<u8, u8> {
+// Writes what a word asks for of a fat file, whose name is the first of those that are given; the last is that of what is written.
+fn write_file(rt: &HostRuntime, word: &str, given: &[&str]) -> Result<u8, u8> {
+    match word {
+        "extract" => extract_entry(rt, given),
+        "thin" => thin_file(rt, given),
+        "replace" => replace_entries(rt, given),
+        "remove" => remove_entry(rt, given),
+        _ => Err(PROGRAM.bad_usage(rt, Misuse::UnknownWord(word))),
+    }
+}
+
+// Prints what is asked for of files in order, and answers the worst status.
+fn show_files(rt: &HostRuntime, shown: Shown, files: &[&str]) -> Result<u8, u8> {
     if files.is_empty() {
         return Err(PROGRAM.bad_usage(rt, Misuse::Missing("FILE")));
     }
@@ -78,7 +108,11 @@ fn list_files(rt: &HostRuntime, files: &[&str]) -> Result<u8, u8> {
     let mut round = Round::new(PROGRAM, files.len());
     for file in files {
         if let Some(bytes) = round.begin(rt, file, &mut lines)? {
-            round.end(run_list(rt.alloc(), file, &bytes, &mut lines, &mut rt.stderr()))?;
+            let status = match shown {
+                Shown::Records => run_list(rt.alloc(), file, &bytes, &mut lines, &mut rt.stderr()),
+                Shown::Faults => run_verify(rt.alloc(), file, &bytes, &mut lines, &mut rt.stderr()),
+            };
+            round.end(status)?;
         }
     }
     Ok(round.worst)
@@ -148,7 +182,19 @@ fn slices(alloc: Global, files: &[Vec<u8>]) -> Result<Vec<&[u8]>, AllocError> {
     Ok(inputs)
 }
 
-fn extract_entry(rt: &HostRuntime, file: &str, index: usize, target: &str) -> Result<u8, u8> {
+// The index that a word is.
+fn index_in(rt: &HostRuntime, word: &str) -> Result<usize, u8> {
+    match word.parse::<usize>() {
+        Ok(index) => Ok(index),
+        Err(_) => Err(PROGRAM.bad_usage(rt, Misuse::NoNumber(word))),
+    }
+}
+
+fn extract_entry(rt: &HostRuntime, given: &[&str]) -> Result<u8, u8> {
+    let [file, index, target] = given else {
+        return Err(PROGRAM.bad_usage(rt, Misuse::Missing("FILE, INDEX and OUT")));
+    };
+    let index = index_in(rt, index)?;
     if is_same_file(rt, file, target) {
         return Err(one_file(file, target, &mut rt.stderr()));
     }
@@ -157,6 +203,59 @@ fn extract_entry(rt: &HostRuntime, file: &str, index: usize, target: &str) -> Re
         rt,
         rt.alloc(),
         file,
+        &bytes,
+        index,
+        target,
+        &mut rt.stderr(),
+    ))
+}
+
+fn thin_file(rt: &HostRuntime, given: &[&str]) -> Result<u8, u8> {
+    let [file, cpu, target] = given else {
+        return Err(PROGRAM.bad_usage(rt, Misuse::Missing("FILE, 0xCPUTYPE and OUT")));
+    };
+    let Some(cputype) = cputype_in(cpu) else {
+        return Err(PROGRAM.bad_usage(rt, Misuse::NoCpu(cpu)));
+    };
+    let bytes = PROGRAM.read(rt, file)?;
+    Ok(run_thin(
+        rt,
+        rt.alloc(),
+        file,
+        &bytes,
+        cputype,
+        target,
+        &mut rt.stderr(),
+    ))
+}
+
+fn replace_entries(rt: &HostRuntime, given: &[&str]) -> Result<u8, u8> {
+    let [file, new, target] = given else {
+        return Err(PROGRAM.bad_usage(rt, Misuse::Missing("FILE, NEW and OUT")));
+    };
+    let bytes = PROGRAM.read(rt, file)?;
+    let other = PROGRAM.read(rt, new)?;
+    Ok(run_replace(
+        rt,
+        rt.alloc(),
+        &[file, new],
+        &bytes,
+        &other,
+        target,
+        &mut rt.stderr(),
+    ))
+}
+
+fn remove_entry(rt: &HostRuntime, given: &[&str]) -> Result<u8, u8> {
+    let [file, index, target] = given else {
+        return Err(PROGRAM.bad_usage(rt, Misuse::Missing("FILE, INDEX and OUT")));
+    };
+    let index = index_in(rt, index)?;
+    let bytes = PROGRAM.read(rt, file)?;
+    Ok(run_remove(
+        rt,
+        rt.alloc(),
+        &[file],
         &bytes,
         index,
         target,

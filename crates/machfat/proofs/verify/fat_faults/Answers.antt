@@ -1,0 +1,13 @@
+use Rattle.std.proofs.lemmas.Result.{err_from_is_err_and}
+use Rattle.mach_base.proofs.Faults.{Stands-in}
+use Rattle.goblin_mach.specs.View.{ViewFault}
+use Rattle.machfat.proofs.verify.fat_faults.Goals as goal
+
+pub returns-clause-faults : goal.returns-clause-faults
+returns-clause-faults c = record { magic = c.in_ok-fat_file.ensures.fat.magic; are_faults = c.in_ok-container_faults.ensures.listed }
+
+pub returns-in_err-container_faults-clause-refused : goal.returns-in_err-container_faults-clause-refused
+returns-in_err-container_faults-clause-refused c =
+    let p = err_from_is_err_and c.from_residual-in_err-container_faults.result c.from_residual-in_err-container_faults.ensures.1 in
+    rw (p.1, p.2) (Stands-in (λ f. ⊥) (ViewFault c.args.bytes.now) c.in_err-container_faults.field-0.0 (λ f none. absurd none)
+    c.in_err-container_faults.ensures.only)

@@ -1,0 +1,31 @@
+-- The lines that are printed of the faults of a fat file's layout.
+use Rattle.std.specs.Prelude.{ℕ, List, [], ◌∷◌, ◌++◌, codes, Bool, true, false, Option}
+use Rattle.std.specs.Io.KnownBytes.{Appends}
+use Rattle.goblin_mach.specs.File.{HasFatMagic}
+use Rattle.mach_rules.specs.Containers.{AreContainerFaults}
+use Rattle.mach_rules.specs.Texts.{fault_text}
+use Rattle.mach_rules.specs.declared.fault.LayoutFault.{LayoutFault}
+
+-- the line of a fault
+abbrev pub table_fault_line : LayoutFault → List ℕ
+table_fault_line fault = fault_text fault ++ codes "\n"
+
+-- the lines of faults, one behind the other
+abbrev pub fault_lines : List LayoutFault → List ℕ
+fault_lines [] = []
+fault_lines (fault ∷ faults) = table_fault_line fault ++ fault_lines faults
+
+-- whether there is none
+abbrev pub is_faultless : List LayoutFault → Bool
+is_faultless [] = true
+is_faultless (fault ∷ faults) = false
+
+-- The bytes begin as a fat file, and these are the faults of its layout.
+pub record HasFatFaults (bytes : List ℕ) (faults : List LayoutFault) : Type 0 where
+  pub magic : HasFatMagic bytes
+  pub are_faults : AreContainerFaults bytes faults
+
+-- Its layout has these faults, and what was written are their lines.
+pub record TellsFatFaults (bytes : List ℕ) (faults : List LayoutFault) (old new : Option (List ℕ)) : Type 0 where
+  pub has : HasFatFaults bytes faults
+  pub told : Appends old new (fault_lines faults)

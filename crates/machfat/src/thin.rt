@@ -1,0 +1,73 @@
+//! An entry of a fat file that is written by its cpu.
+
+ghost use Rattle.std.specs.Prelude.{◌≡◌, ℕ, List, Ok, OnOk, IfOk, IfErr};
+ghost use Rattle.std.specs.Io.KnownBytes.{Appends};
+ghost use Rattle.mach_fat.specs.Changes.{thin_entry_in};
+ghost use Rattle.mach_show.specs.Statuses.{IsStatus};
+ghost use Rattle.machfat.specs.Entry.{WasWritten};
+ghost use Rattle.machfat.specs.Refusals.{IsRefusal, RefusesThin, refusal_line};
+ghost use Rattle.machfat.specs.Same.{IsOther};
+ghost use Rattle.machfat.specs.declared.refusal.Refusal.{Refusal};
+
+use crate::made::one_file;
+use crate::place::{is_same_file, place_file};
+use crate::refusal::{Failure, Refusal};
+use crate::run::status;
+use mach_fat::thin_entry;
+use std::alloc::Global;
+use std::io::Write;
+use std::rt::Files;
+
+/// Writes the first entry of a cputype to a file, and answers the exit status: 0; 1 where there is no such entry, or for want of memory,
+/// and then `err` has a line that says why; 2 where the fat file is the target; 2 or 141 where the target can't be written. The target is
+/// whole, or as it was before.
+pub fn run_thin<R: Files, E: Write>(
+    files: &R,
+    alloc: Global,
+    file: &str,
+    bytes: &[u8],
+    cputype: u32,
+    target: &str,
+    err: &mut E,
+) -> u8
+    ensures status { IsStatus result }
+    ensures thinned { result ≡ 0 → (entry : List ℕ) × (thin_entry_in bytes.now cputype ≡ Ok entry) × WasWritten R.File.contents entry }
+    ensures apart { result ≡ 0 → IsOther file.now target.now }
+    ensures refused { result ≡ 1 → (refusal : Refusal) × RefusesThin bytes.now cputype refusal
+        × Appends (E.contents err.old) (E.contents err.new) (refusal_line file.now refusal) }
+{
+    if is_same_file(files, file, target) {
+        return one_file(file, target, err);
+    }
+    status(
+        thin(files, alloc, bytes, cputype, target),
+        file,
+        target,
+        err,
+    )
+}
+
+// The bytes of the first entry of a cputype.
+fn entry_of_cpu(alloc: Global, bytes: &[u8], cputype: u32) -> Result<&[u8], Refusal>
+    ensures found { IfOk result (λ entry. thin_entry_in bytes.now cputype ≡ Ok entry.now) }
+    ensures refused { IfErr result (RefusesThin bytes.now cputype) }
+{
+    let entry = thin_entry(alloc, bytes, cputype)?;
+    Ok(entry)
+}
+
+// Writes the first entry of a cputype to a file. No file is made where there is no such entry.
+fn thin<R: Files>(
+    files: &R,
+    alloc: Global,
+    bytes: &[u8],
+    cputype: u32,
+    target: &str,
+) -> Result<(), Failure>
+    ensures thinned { OnOk result ((entry : List ℕ) × (thin_entry_in bytes.now cputype ≡ Ok entry) × WasWritten R.File.contents entry) }
+    ensures refused { IfErr result (IsRefusal (RefusesThin bytes.now cputype)) }
+{
+    let entry = entry_of_cpu(alloc, bytes, cputype)?;
+    place_file(files, alloc, entry, target)?;
+    Ok(())
+}

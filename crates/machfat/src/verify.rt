@@ -1,0 +1,85 @@
+//! The faults of a fat file's layout.
+
+ghost use Rattle.std.specs.Prelude.{◌≡◌, ◌⊎◌, [], ◌∷◌, List, OnOk, IfOk, IfErr};
+ghost use Rattle.std.specs.Io.Buffered.{writer_buffer, writer_contents};
+ghost use Rattle.std.specs.Io.KnownBytes.{Appends};
+ghost use Rattle.mach_rules.specs.declared.fault.LayoutFault.{LayoutFault};
+ghost use Rattle.mach_show.specs.Statuses.{IsStatus};
+ghost use Rattle.machfat.specs.Faults.{HasFatFaults, TellsFatFaults, fault_lines, is_faultless, table_fault_line};
+ghost use Rattle.machfat.specs.Refusals.{RefusesList, IsRefusal, refusal_line};
+ghost use Rattle.machfat.specs.declared.refusal.Refusal.{Refusal};
+
+use crate::entry::fat_file;
+use crate::refusal::{Failure, Refusal};
+use crate::run::status;
+use mach_rules::{LayoutFault, container_faults};
+use std::alloc::{Allocator, Global};
+use std::io;
+use std::io::{BufWriter, Write};
+
+/// Prints the faults of a fat file's layout, a line each, and answers the exit status: 0 where there is none; 1 where there is one, or where
+/// the file or memory is refused, and then `err` has a line that says why and `out` nothing; 2 or 141 where a write fails. At 0 nothing is left
+/// in the buffer.
+pub fn run_verify<W: Write + Drop, B: Allocator, E: Write>(
+    alloc: Global,
+    file: &str,
+    bytes: &[u8],
+    out: &mut BufWriter<W, B>,
+    err: &mut E,
+) -> u8
+    ensures status { IsStatus result }
+    ensures sound { result ≡ 0 → TellsFatFaults bytes.now [] (writer_contents W.contents out.old) (writer_contents W.contents out.new) }
+    ensures flushed { result ≡ 0 → writer_buffer out.new ≡ [] }
+    ensures faulty { result ≡ 1 → ((fault : LayoutFault) × (faults : List LayoutFault)
+        × TellsFatFaults bytes.now (fault ∷ faults) (writer_contents W.contents out.old) (writer_contents W.contents out.new))
+        ⊎ ((refusal : Refusal) × RefusesList bytes.now refusal × Appends (E.contents err.old) (E.contents err.new) (refusal_line file.now refusal)) }
+{
+    match verify(alloc, bytes, out) {
+        Ok(true) => 0,
+        Ok(false) => 1,
+        Err(failure) => status(Err(failure), file, "", err),
+    }
+}
+
+// Prints the faults, hands on all that was gathered, and answers whether there is none.
+fn verify<W: Write + Drop, B: Allocator>(
+    alloc: Global,
+    bytes: &[u8],
+    out: &mut BufWriter<W, B>,
+) -> Result<bool, Failure>
+    ensures told { IfOk result (λ sound. (faults : List LayoutFault) × (sound ≡ is_faultless faults)
+        × TellsFatFaults bytes.now faults (writer_contents W.contents out.old) (writer_contents W.contents out.new)) }
+    ensures flushed { IfOk result (λ sound. writer_buffer out.new ≡ []) }
+    ensures refused { IfErr result (IsRefusal (RefusesList bytes.now)) }
+{
+    let faults = fat_faults(alloc, bytes)?;
+    print_faults(&faults, out)?;
+    out.flush()?;
+    Ok(faults.is_empty())
+}
+
+// The faults of a fat file's layout.
+fn fat_faults(alloc: Global, bytes: &[u8]) -> Result<Vec<LayoutFault>, Refusal>
+    ensures faults { IfOk result (λ v. HasFatFaults bytes.now v.items) }
+    ensures refused { IfErr result (RefusesList bytes.now) }
+{
+    fat_file(alloc, bytes)?;
+    Ok(container_faults(alloc, bytes)?)
+}
+
+// Prints some faults, a line each.
+fn print_faults<O: Write>(faults: &[LayoutFault], out: &mut O) -> io::Result<()>
+    ensures { OnOk result (Appends (O.contents out.old) (O.contents out.new) (fault_lines faults.now)) }
+{
+    'faults: for fault in faults {
+        print_fault(fault, out)?;
+    }
+    Ok(())
+}
+
+// Prints the line of a fault.
+fn print_fault<O: Write>(fault: &LayoutFault, out: &mut O) -> io::Result<()>
+    ensures { OnOk result (Appends (O.contents out.old) (O.contents out.new) (table_fault_line fault.now)) }
+{
+    writeln!(out, "{fault}")
+}
