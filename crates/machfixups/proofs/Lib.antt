@@ -1,2 +1,3 @@
 mod Limit
 mod Facts
+mod JsonMembers

@@ -4,3 +4,5 @@ pub mod Rows
 pub mod RowsLeft
 pub mod Lines
 pub mod ImageLines
+pub mod JsonRows
+pub mod JsonImages

@@ -1,7 +1,7 @@
 //! Prints what dyld corrects of a Mach-O file, a line each: the rebases of the opcodes in order, then the binds of the bind
 //! opcodes, then the weak binds, then the fixups of the chains, or those of these lists that are asked for; of a fat file those
 //! of each entry, under a line that says which. Of a file it prints at most as many of them as `--limit` says, and behind those
-//! of an image that has more, a line that says so.
+//! of an image that has more, a line that says so. With `--json` it writes an object a file on a line in their place.
 //!
 //! A line has the address, the names of the segment and of the section, and what is asked for: `bind` with the ordinal
 //! of the library, the addend, flags and the symbol's name; `weak` with addend, flags and name; `rebase` with the address
@@ -18,6 +18,9 @@
 //!   can't be read, unless it is a bind whose import alone can't be.
 #![tactic(auto)]
 
+mod json;
+mod members;
+mod object;
 mod parts;
 mod print;
 mod row;
@@ -26,17 +29,21 @@ mod run;
 mod text;
 mod words;
 
+use json::run_json;
+use mach_json::take_json;
 use mach_show::{Cpu, Misuse, Program, Round};
 use print::DEFAULT_LIMIT;
 use rows::Picks;
 use run::{NAME, run};
+use std::alloc::Allocator;
 use std::io;
-use std::io::BufWriter;
+use std::io::{BufWriter, Write};
 use std::process::ExitCode;
 use words::take_picks;
 
 const USAGE: &str =
-    "usage: machfixups [--rebases] [--binds] [--weak] [--chains] [--limit N] [--arch NAME | --cputype 0xN] FILE..\n       machfixups -h | --help | --version\n";
+    "usage: machfixups [--rebases] [--binds] [--weak] [--chains] [--json] [--limit N] \
+    [--arch NAME | --cputype 0xN] FILE..\n       machfixups -h | --help | --version\n";
 
 const PROGRAM: Program = Program {
     name: NAME,
@@ -50,6 +57,7 @@ const PROGRAM: Program = Program {
         "--chains",
         "--cputype",
         "--help",
+        "--json",
         "--limit",
         "--rebases",
         "--version",
@@ -66,12 +74,15 @@ fn main(rt: HostRuntime) -> ExitCode {
 // Does what the words ask for.
 fn start(rt: &HostRuntime) -> Result<u8, u8> {
     let words = PROGRAM.words(rt)?;
+    let Ok((is_json, words)) = take_json(rt.alloc(), words) else {
+        return Err(PROGRAM.out_of_memory(rt));
+    };
     let Ok((picks, words)) = take_picks(rt.alloc(), words) else {
         return Err(PROGRAM.out_of_memory(rt));
     };
     let call = PROGRAM.call(rt, &words)?;
     let limit = call.limit.unwrap_or(DEFAULT_LIMIT);
-    show_files(rt, call.cpu, picks, limit, &call.words)
+    show_files(rt, call.cpu, picks, limit, is_json, &call.words)
 }
 
 // Shows of files in order the images that are asked for, of the lists that are picked, `limit` lines of each file at most, and answers the
@@ -81,6 +92,7 @@ fn show_files(
     cpu: Cpu,
     picks: Picks,
     limit: usize,
+    is_json: bool,
     files: &[&str],
 ) -> Result<u8, u8> {
     if files.is_empty() {
@@ -90,19 +102,30 @@ fn show_files(
         return Err(PROGRAM.out_of_memory(rt));
     };
     let mut round = Round::new(PROGRAM, files.len());
+    round.is_titled &= !is_json;
     for file in files {
         if let Some(bytes) = round.begin(rt, file, &mut lines)? {
-            round.end(run(
-                rt.alloc(),
-                cpu,
-                picks,
-                limit,
-                file,
-                &bytes,
-                &mut lines,
-                &mut rt.stderr(),
-            ))?;
+            round.end(show_file(rt, is_json, cpu, picks, limit, file, &bytes, &mut lines))?;
         }
     }
     Ok(round.worst)
+}
+
+// The status of a file, of which lines are shown, or an object.
+fn show_file<W: Write + Drop, B: Allocator>(
+    rt: &HostRuntime,
+    is_json: bool,
+    cpu: Cpu,
+    picks: Picks,
+    limit: usize,
+    file: &str,
+    bytes: &[u8],
+    out: &mut BufWriter<W, B>,
+) -> u8 {
+    let err = &mut rt.stderr();
+    if is_json {
+        run_json(rt.alloc(), cpu, picks, limit, file, bytes, out, err)
+    } else {
+        run(rt.alloc(), cpu, picks, limit, file, bytes, out, err)
+    }
 }

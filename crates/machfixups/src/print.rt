@@ -122,8 +122,8 @@ fn print_more<O: Write>(limit: usize, more: bool, out: &mut O) -> io::Result<()>
     Ok(())
 }
 
-// The chained fixups of an image, if it has any that can be read.
-fn table_of<'a, A: Allocator>(image: &MachO<'a, A>) -> Option<ChainedFixups<'a>>
+/// The chained fixups of an image, if it has any that can be read.
+pub fn table_of<'a, A: Allocator>(image: &MachO<'a, A>) -> Option<ChainedFixups<'a>>
     ensures { fixups_table_seen result ≡ readable_table (chained_held image.now) }
 {
     match image.chained_fixups() {

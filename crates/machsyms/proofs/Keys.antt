@@ -1,5 +1,5 @@
 -- The keys of the symbols of a table.
-use Rattle.std.proofs.Common.{◌≡◌, ◌++◌, ◌∷◌, [], ◌∙◌, ◌+◌, ◌-◌, ◌<◌, ◌≤◌, ℕ, List, map, refl, sym, ap, arith}
+use Rattle.std.proofs.Common.{◌≡◌, ◌++◌, ◌∷◌, [], ◌∙◌, ◌+◌, ◌-◌, ◌<◌, ◌≤◌, ℕ, List, map, sym, ap, arith}
 use Rattle.std.proofs.lemmas.List.{append-nil, append_assoc, map-append}
 use Rattle.mach_base.proofs.ItemLists.{items_from-first}
 use Rattle.mach_base.specs.Items.{items_from}

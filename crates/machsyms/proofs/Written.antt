@@ -1,5 +1,5 @@
 -- The lines of a table.
-use Rattle.std.proofs.Common.{◌≡◌, ◌++◌, ◌∷◌, [], ◌∙◌, ◌+◌, ◌<◌, ℕ, List, Option, Bool, Result, take, get_or, length, map, refl, sym, ap, subst}
+use Rattle.std.proofs.Common.{◌≡◌, ◌++◌, ◌∷◌, [], ◌∙◌, ◌+◌, ◌<◌, ℕ, List, Option, Bool, Result, take, get_or, length, refl, sym, ap, subst}
 use Rattle.std.proofs.lemmas.List.{append-nil, map-append, take_more}
 use Rattle.std.specs.Prelude.{◌==◌, Some, None, true}
 use Rattle.std.specs.Borrow.{Bor}

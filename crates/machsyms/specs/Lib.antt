@@ -5,3 +5,5 @@ pub mod Asked
 pub mod Order
 pub mod Lines
 pub mod ImageLines
+pub mod JsonSymbols
+pub mod Listed

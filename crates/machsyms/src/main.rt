@@ -1,6 +1,6 @@
 //! Prints the symbols of a Mach-O file, a line each, as `nm -a -p` does: the value, a letter for what the
 //! symbol is, and its name; of a fat file those of each entry, or of those for one cpu, under a line that says which.
-//! Words of `nm` ask for some of them, for another order, and for lines in another form.
+//! Words of `nm` ask for some of them, for another order, and for lines in another form. With `--json` it writes an object a file on a line in their place.
 //!
 //! Where a line differs from those of `llvm-nm`:
 //! - each symbol has a line, and one whose record or name can't be read has a line that says why; there
@@ -15,7 +15,10 @@
 #![tactic(auto)]
 
 mod asked;
+mod json;
 mod letters;
+mod listed;
+mod members;
 mod order;
 mod print;
 mod run;
@@ -24,16 +27,20 @@ mod stabs;
 mod text;
 mod words;
 
+use asked::Asked;
+use json::run_json;
+use mach_json::take_json;
 use mach_show::{Cpu, Misuse, Program, Round};
 use run::{NAME, run};
+use std::alloc::Allocator;
 use std::io;
-use std::io::BufWriter;
+use std::io::{BufWriter, Write};
 use std::process::ExitCode;
 use words::{Letters, asked_of, names_files, take_letters};
 
 const PROGRAM: Program = Program {
     name: NAME,
-    usage: "usage: machsyms [-AUagjnoprux] [--arch NAME | --cputype 0xN] FILE..\n       machsyms -h | --help | --version\n",
+    usage: "usage: machsyms [-AUagjnoprux] [--json] [--arch NAME | --cputype 0xN] FILE..\n       machsyms -h | --help | --version\n",
     version: "machsyms 0.2.0\n",
     has_limit: false,
     has_cpu: true,
@@ -45,6 +52,7 @@ const PROGRAM: Program = Program {
         "--extern-only",
         "--format=just-symbols",
         "--help",
+        "--json",
         "--no-sort",
         "--numeric-sort",
         "--print-file-name",
@@ -63,11 +71,14 @@ fn main(rt: HostRuntime) -> ExitCode {
 // Does what the words ask for.
 fn start(rt: &HostRuntime) -> Result<u8, u8> {
     let words = PROGRAM.words(rt)?;
+    let Ok((is_json, words)) = take_json(rt.alloc(), words) else {
+        return Err(PROGRAM.out_of_memory(rt));
+    };
     let Ok((letters, words)) = take_letters(rt.alloc(), words) else {
         return Err(PROGRAM.out_of_memory(rt));
     };
     let call = PROGRAM.call(rt, &words)?;
-    show_files(rt, call.cpu, letters, &call.words)
+    show_files(rt, call.cpu, letters, is_json, &call.words)
 }
 
 // Shows of files in order the images that are asked for, and answers the worst status.
@@ -75,6 +86,7 @@ fn show_files(
     rt: &HostRuntime,
     cpu: Cpu,
     letters: Option<Letters>,
+    is_json: bool,
     files: &[&str],
 ) -> Result<u8, u8> {
     if files.is_empty() {
@@ -84,19 +96,30 @@ fn show_files(
         return Err(PROGRAM.out_of_memory(rt));
     };
     let mut round = Round::new(PROGRAM, files.len());
-    round.is_titled &= !names_files(letters);
+    round.is_titled &= !is_json && !names_files(letters);
     for file in files {
         if let Some(bytes) = round.begin(rt, file, &mut lines)? {
-            round.end(run(
-                rt.alloc(),
-                cpu,
-                asked_of(letters, file),
-                file,
-                &bytes,
-                &mut lines,
-                &mut rt.stderr(),
-            ))?;
+            let asked = asked_of(letters, file);
+            round.end(show_file(rt, is_json, cpu, asked, file, &bytes, &mut lines))?;
         }
     }
     Ok(round.worst)
+}
+
+// The status of a file, of which lines are shown, or an object.
+fn show_file<W: Write + Drop, B: Allocator>(
+    rt: &HostRuntime,
+    is_json: bool,
+    cpu: Cpu,
+    asked: Asked<'_>,
+    file: &str,
+    bytes: &[u8],
+    out: &mut BufWriter<W, B>,
+) -> u8 {
+    let err = &mut rt.stderr();
+    if is_json {
+        run_json(rt.alloc(), cpu, asked, file, bytes, out, err)
+    } else {
+        run(rt.alloc(), cpu, asked, file, bytes, out, err)
+    }
 }

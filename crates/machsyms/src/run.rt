@@ -59,8 +59,8 @@ impl Shows for SymbolsOf<'_> {
     }
 }
 
-// The keys of the symbols of a table, if there is one, in the order that is asked for; none where they stay as they stand there.
-fn keys_of_image<'a, A: Allocator>(
+/// The keys of the symbols of a table, if there is one, in the order that is asked for; none where they stay as they stand there.
+pub fn keys_of_image<'a, A: Allocator>(
     alloc: A,
     sorting: Option<Sorting>,
     table: &Option<Symbols<'a>>,

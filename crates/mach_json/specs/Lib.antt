@@ -1,0 +1,4 @@
+pub mod JsonText
+pub mod JsonArrays
+pub mod Documents
+pub mod Opened

@@ -1,0 +1,38 @@
+-- The members of the object of an image: what dyld corrects of it.
+use Rattle.std.specs.Prelude.{ℕ, List, Bool, Option, Result, map}
+use Rattle.mach_base.specs.Fault.{Fault}
+use Rattle.mach_segments.specs.Segment.{SegmentView}
+use Rattle.mach_chained.specs.Header.{Fixups}
+use Rattle.mach_image.specs.Facts.{HasSegments, HasChainedFixups}
+use Rattle.mach_image.specs.Image.{Opens}
+use Rattle.mach_json.specs.JsonArrays.{AreListMembers}
+use Rattle.machfixups.specs.JsonRows.{pointer_members, pointer_object, pointer_told}
+use Rattle.machfixups.specs.Lists.{PointerLists, HasPointerLists}
+use Rattle.machfixups.specs.Parts.{parts_of}
+use Rattle.machfixups.specs.Rows.{readable_table, row_view}
+use Rattle.machfixups.specs.RowsLeft.{rows_left}
+use Rattle.machfixups.specs.declared.row.Row.{Row}
+use Rattle.machfixups.specs.declared.rows.Picks.{Picks}
+use Rattle.machfixups.specs.declared.rows.Rows as over
+
+-- The text is the members of the image at the front of the bytes: of the lists that are picked exactly an object for each rebase of its opcodes, in
+-- order, for each of their binds, for each row of its weak binds, and for each fixup of its chains, over its segments; of all of them the first
+-- ones, as many as are left of the limit, and whether there are more. It is whole where there are no more and none is missing. `rest` are left
+-- behind it.
+pub record AreImagePointerMembers (picks : Picks) (left : ℕ) (bytes : List ℕ) (text : List ℕ) (whole : Bool) (rest : ℕ) : Type 0 where
+  pub opens : Opens bytes 0
+  pub segments : List SegmentView
+  pub has_segments : HasSegments bytes 0 segments
+  pub lists : PointerLists
+  pub has_lists : HasPointerLists bytes 0 lists
+  pub chained : Result (Option Fixups) Fault
+  pub has_chained : HasChainedFixups bytes 0 chained
+  pub members : AreListMembers left (pointer_members picks (parts_of segments) (readable_table chained) lists) text whole rest
+
+-- the objects of the rows that are left
+abbrev pub objects_left : {A : Type 0} → over.Rows A → List (Result (List ℕ) Fault)
+objects_left rows = map pointer_told (rows_left rows)
+
+-- the object of a row that is there
+abbrev pub pointer_row_text : Row → List ℕ
+pointer_row_text row = pointer_object (row_view row)

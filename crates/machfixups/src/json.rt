@@ -1,0 +1,74 @@
+//! What the program writes of an image and of a file as JSON, and its exit status.
+
+ghost use Rattle.std.specs.Prelude.{◌≡◌, ◌≤◌, [], codes};
+ghost use Rattle.std.specs.Io.Buffered.{writer_buffer, writer_contents};
+ghost use Rattle.mach_show.specs.Names.{names_text};
+ghost use Rattle.mach_show.specs.Shown.{Shown, Writes};
+ghost use Rattle.mach_show.specs.Statuses.{IsStatus, status_by};
+ghost use Rattle.mach_json.specs.Documents.{IsDocument};
+ghost use Rattle.machfixups.specs.JsonImages.{AreImagePointerMembers};
+
+use crate::members::write_members;
+use crate::parts::image_parts;
+use crate::rows::Picks;
+use crate::run::NAME;
+use goblin_mach::MachO;
+use mach_show::{Cpu, Failure, Heading, Names, Outcome, Shows};
+use std::alloc::Allocator;
+use std::io::{BufWriter, Write};
+
+// What dyld corrects of the images of a file, of the lists that are picked, as objects.
+#[derive(Clone, Copy)]
+struct Objects<'a> {
+    file: &'a str,
+    picks: Picks,
+}
+
+impl Shows for Objects<'_> {
+    ghost names = { λ asked. names_text (codes "machfixups") asked.file.now };
+
+    ghost lines = { λ asked. AreImagePointerMembers asked.picks };
+
+    fn names(&self) -> Names<'_> {
+        Names {
+            program: NAME,
+            file: self.file,
+        }
+    }
+
+    fn show<A: Allocator + Clone, O: Write>(
+        &self,
+        alloc: &A,
+        image: &MachO<'_, A>,
+        heading: Heading,
+        left: usize,
+        out: &mut O,
+    ) -> Result<Outcome, Failure> {
+        let parts = image_parts(alloc, image)?;
+        write!(out, "{heading}")?;
+        Ok(write_members(image, &parts, self.picks, left, out)?)
+    }
+}
+
+/// Writes of a file as `run` does, but as JSON, an object of the file on a line: with an object for each item of the lists that are picked, and
+/// for each image whether it has more of them than are left of the limit.
+pub fn run_json<A: Allocator + Clone, W: Write + Drop, B: Allocator, E: Write>(
+    alloc: A,
+    cpu: Cpu,
+    picks: Picks,
+    limit: usize,
+    file: &str,
+    bytes: &[u8],
+    out: &mut BufWriter<W, B>,
+    err: &mut E,
+) -> u8
+    ensures status { IsStatus result }
+    ensures shown { result ≤ 1 → (shown : Shown)
+        × IsDocument cpu (names_text (codes "machfixups") file.now) file.now (AreImagePointerMembers picks) limit bytes.now shown
+        × (result ≡ status_by shown.whole)
+        × Writes shown (writer_contents W.contents out.old) (writer_contents W.contents out.new) (E.contents err.old) (E.contents err.new) }
+    ensures flushed { result ≤ 1 → writer_buffer out.new ≡ [] }
+{
+    let objects = Objects { file, picks };
+    mach_json::run::run(&objects, file, cpu, limit, &alloc, bytes, out, err)
+}

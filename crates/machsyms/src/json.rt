@@ -1,0 +1,74 @@
+//! What the program writes of an image and of a file as JSON, and its exit status.
+
+ghost use Rattle.std.specs.Prelude.{◌≡◌, ◌≤◌, [], codes};
+ghost use Rattle.std.specs.Io.Buffered.{writer_buffer, writer_contents};
+ghost use Rattle.mach_show.specs.Names.{names_text};
+ghost use Rattle.mach_show.specs.Shown.{Shown, Writes, without_limit};
+ghost use Rattle.mach_show.specs.Statuses.{IsStatus, status_by};
+ghost use Rattle.mach_json.specs.Documents.{IsDocument};
+ghost use Rattle.machsyms.specs.JsonSymbols.{AreImageSymbolMembers};
+
+use crate::asked::Asked;
+use crate::members::write_members;
+use crate::run::{NAME, keys_of_image};
+use goblin_mach::{MachO, laws};
+use mach_show::{Cpu, Failure, Heading, Names, Outcome, Shows};
+use std::alloc::Allocator;
+use std::io::{BufWriter, Write};
+
+// What is asked for of the symbols of the images of a file, as objects.
+#[derive(Clone, Copy)]
+struct ObjectsOf<'a> {
+    file: &'a str,
+    asked: Asked<'a>,
+}
+
+impl Shows for ObjectsOf<'_> {
+    ghost names = { λ asked. names_text (codes "machsyms") asked.file.now };
+
+    ghost lines = { λ s. without_limit (AreImageSymbolMembers s.asked) };
+
+    fn names(&self) -> Names<'_> {
+        Names {
+            program: NAME,
+            file: self.file,
+        }
+    }
+
+    fn show<A: Allocator + Clone, O: Write>(
+        &self,
+        alloc: &A,
+        image: &MachO<'_, A>,
+        heading: Heading,
+        left: usize,
+        out: &mut O,
+    ) -> Result<Outcome, Failure> {
+        laws::facts_of_image(image);
+        let keys = keys_of_image(alloc.clone()?, self.asked.sorting, &image.symbols)?;
+        write!(out, "{heading}")?;
+        let whole = write_members(&self.asked, &keys, &image.symbols, out)?;
+        Ok(Outcome { whole, left })
+    }
+}
+
+/// Writes of a file as `run` does, but as JSON, an object of the file on a line: with an object for each symbol that is asked for, in the order
+/// that is asked for, and how many are past the end. The form and the name of the file before each line have no part in it.
+pub fn run_json<A: Allocator + Clone, W: Write + Drop, B: Allocator, E: Write>(
+    alloc: A,
+    cpu: Cpu,
+    asked: Asked<'_>,
+    file: &str,
+    bytes: &[u8],
+    out: &mut BufWriter<W, B>,
+    err: &mut E,
+) -> u8
+    ensures status { IsStatus result }
+    ensures shown { result ≤ 1 → (shown : Shown)
+        × IsDocument cpu (names_text (codes "machsyms") file.now) file.now (without_limit (AreImageSymbolMembers asked.entry)) 0 bytes.now shown
+        × (result ≡ status_by shown.whole)
+        × Writes shown (writer_contents W.contents out.old) (writer_contents W.contents out.new) (E.contents err.old) (E.contents err.new) }
+    ensures flushed { result ≤ 1 → writer_buffer out.new ≡ [] }
+{
+    let objects = ObjectsOf { file, asked };
+    mach_json::run::run(&objects, file, cpu, 0, &alloc, bytes, out, err)
+}

@@ -1,0 +1,164 @@
+//! The symbols that are asked for, one at a time.
+
+ghost use Rattle.std.specs.Prelude.{◌≡◌, Some, length, OnOk};
+ghost use Rattle.std.specs.Io.KnownBytes.{Appends};
+ghost use Rattle.std.specs.Iterator.{YieldsFirstBy};
+ghost use Rattle.mach_base.specs.Items.{read_as};
+ghost use Rattle.mach_symbols.specs.SymbolViews.{symbol_read, table_of};
+ghost use Rattle.machsyms.specs.JsonSymbols.{asked_objects, symbol_told};
+ghost use Rattle.machsyms.specs.Listed.{asked_left, keyed_left, source_left, symbol_row_text};
+ghost use Rattle.machsyms.specs.Order.{gone_over};
+
+use crate::asked::{Asked, Sorting};
+use crate::order::SortKey;
+use goblin_mach::symbols::{Nlist, SymbolIterator, Symbols};
+use mach_json::JsonString;
+use mach_show::Listing;
+use std::fmt::{Display, Formatter};
+use std::io::Write;
+use std::{fmt, io};
+
+// The symbols of a table by their keys, from one on.
+#[derive(Clone, Copy)]
+struct KeyedSymbols<'k, 'a> {
+    keys: &'k [SortKey<'a>],
+    table: &'k Symbols<'a>,
+    index: usize,
+}
+
+impl<'a> KeyedSymbols<'_, 'a> {
+    // The next symbol.
+    fn take_next(&mut self) -> Option<goblin_mach::Result<(&'a str, Nlist)>>
+        ensures { YieldsFirstBy symbol_read keyed_left self.old result self.new }
+    {
+        let index = self.index;
+        match self.keys.get(index) {
+            Some(key) => {
+                self.index = index + 1;
+                Some(self.table.get(key.index))
+            }
+            None => None,
+        }
+    }
+}
+
+// The symbols of a table, as they stand there or by their keys.
+#[derive(Drop)]
+enum Source<'k, 'a> {
+    Table(SymbolIterator<'a>),
+    Keys(KeyedSymbols<'k, 'a>),
+}
+
+impl<'k, 'a> Source<'k, 'a> {
+    // Those of a table in the order that is asked for.
+    fn of(sorting: Option<Sorting>, keys: &'k [SortKey<'a>], table: &'k Symbols<'a>) -> Self
+        ensures { source_left result ≡ gone_over sorting keys.now (table_of table.now) }
+    {
+        match sorting {
+            None => Source::Table(table.iter()),
+            Some(_) => Source::Keys(KeyedSymbols {
+                keys,
+                table,
+                index: 0,
+            }),
+        }
+    }
+
+    // The next symbol.
+    fn take_next(&mut self) -> Option<goblin_mach::Result<(&'a str, Nlist)>>
+        ensures { YieldsFirstBy symbol_read source_left self.old result self.new }
+    {
+        match self {
+            Source::Table(symbols) => symbols.next(),
+            Source::Keys(symbols) => symbols.take_next(),
+        }
+    }
+}
+
+/// A symbol with its name.
+#[derive(Drop)]
+pub struct SymbolRow<'a> {
+    pub name: &'a str,
+    pub symbol: Nlist,
+}
+
+impl Display for SymbolRow<'_> {
+    ghost output = { λ row. Some (symbol_row_text row) };
+
+    fn fmt<W: fmt::Write>(&self, f: &mut Formatter<W>) -> fmt::Result {
+        let name = JsonString(self.name);
+        let Nlist {
+            n_type,
+            n_sect,
+            n_desc,
+            n_value,
+            ..
+        } = &self.symbol;
+        write!(
+            f,
+            "{{\"desc\":{n_desc},\"n_type\":{n_type},\"name\":{name},\"section\":{n_sect},\"value\":{n_value}}}"
+        )
+    }
+}
+
+// A symbol with its name, as it was answered.
+fn row_of<'a>(answer: goblin_mach::Result<(&'a str, Nlist)>) -> goblin_mach::Result<SymbolRow<'a>>
+    ensures { read_as symbol_row_text result ≡ symbol_told (symbol_read answer.entry) }
+{
+    match answer {
+        Ok((name, symbol)) => Ok(SymbolRow { name, symbol }),
+        Err(error) => Err(error),
+    }
+}
+
+/// The symbols of a table that are asked for, from one on.
+#[derive(Drop)]
+pub struct AskedSymbols<'s, 'k, 'a> {
+    asked: Asked<'s>,
+    source: Source<'k, 'a>,
+}
+
+impl<'s, 'k, 'a> AskedSymbols<'s, 'k, 'a> {
+    /// Those of a table, as they stand there or by the keys.
+    pub fn of(asked: Asked<'s>, keys: &'k [SortKey<'a>], table: &'k Symbols<'a>) -> Self
+        ensures { asked_left result ≡ asked_objects asked.entry (gone_over asked.entry.sorting keys.now (table_of table.now)) }
+    {
+        AskedSymbols {
+            asked,
+            source: Source::of(asked.sorting, keys, table),
+        }
+    }
+}
+
+impl<'a> Listing for AskedSymbols<'_, '_, 'a> {
+    type Row = SymbolRow<'a>;
+
+    ghost text = { symbol_row_text };
+
+    ghost left = { asked_left };
+
+    fn next_row(&mut self) -> Option<goblin_mach::Result<SymbolRow<'a>>> {
+        'symbols: while let Some(answer) = self.source.take_next() {
+            if self.asked.takes(&answer) {
+                return Some(row_of(answer));
+            }
+        }
+        None
+    }
+
+    fn write_row<O: Write>(row: &SymbolRow<'a>, out: &mut O) -> io::Result<()>
+        ensures { OnOk result (Appends (O.contents out.old) (O.contents out.new) (symbol_row_text row.now)) }
+    {
+        write!(out, "{row}")
+    }
+}
+
+/// How many symbols are gone over.
+pub fn count_of(sorting: Option<Sorting>, keys: &[SortKey<'_>], table: &Symbols<'_>) -> usize
+    ensures { result ≡ length (gone_over sorting keys.now (table_of table.now)) }
+{
+    match sorting {
+        None => table.len(),
+        Some(_) => keys.len(),
+    }
+}
