@@ -64,6 +64,8 @@ GROUPS = [
     ("how the imports of chained fixups are laid out", r"DYLD_CHAINED_IMPORT\w*"),
     ("how the pointers of chained fixups are laid out, of those that are read", r"DYLD_CHAINED_PTR_(?!START)\w+"),
     ("where the chain of a page starts", r"DYLD_CHAINED_PTR_START_\w+"),
+    ("`hash_type` of a gm_signature", r"CS_HASHTYPE_\w+"),
+    ("the bits of `flags` of a gm_signature", r"CS_\w+"),
 ]
 
 # What no source of the library has, by the header of the format that has it.
@@ -151,6 +153,21 @@ MAX_LIBRARY_ORDINAL u8 0xfd the last one that is an ordinal
 DYNAMIC_LOOKUP_ORDINAL u8 0xfe any image
 EXECUTABLE_ORDINAL u8 0xff the main executable
 
+kern/cs_blobs.h
+CS_ADHOC u32 0x2 it is signed by no one
+CS_HARD u32 0x100 pages that aren't as they were signed are not loaded
+CS_KILL u32 0x200 the process is killed where one isn't
+CS_CHECK_EXPIRATION u32 0x400 certificates must not be expired
+CS_RESTRICT u32 0x800 dyld takes no variables of the environment
+CS_ENFORCEMENT u32 0x1000 all pages must be signed
+CS_REQUIRE_LV u32 0x2000 libraries must be the system's or of the same team
+CS_RUNTIME u32 0x10000 the hardened runtime
+CS_LINKER_SIGNED u32 0x20000 the linker signed it
+CS_HASHTYPE_SHA1 u32 1
+CS_HASHTYPE_SHA256 u32 2
+CS_HASHTYPE_SHA256_TRUNCATED u32 3 cut to 20 bytes
+CS_HASHTYPE_SHA384 u32 4
+
 mach/vm_prot.h
 VM_PROT_NONE u32 0x0 nothing
 VM_PROT_READ u32 0x1 reading
@@ -169,6 +186,12 @@ NUMBERS = {
                     (r"Provider::WeakLookup => \((\d+),", "GM_OF_ANY_WEAK")],
     "rebases.rt": [(r"RebaseKind::Pointer => (\d+),", "GM_REBASE_POINTER"), (r"RebaseKind::TextAbsolute32 => (\d+),", "GM_REBASE_TEXT_ABSOLUTE"),
                    (r"RebaseKind::TextRelative32 => (\d+),", "GM_REBASE_TEXT_RELATIVE")],
+    "signature.rt": [*((rf"{kind}\b.*?fault_row\((\d+),", f"GM_SIGNATURE_{name}") for kind, name in (
+                         ("SignatureFault::Blob", "BLOB"), ("SignatureFault::Magic", "MAGIC"), ("SignatureFault::Refused", "DIRECTORY"),
+                         ("DirectoryFault::Identifier", "IDENTIFIER"), ("DirectoryFault::Team", "TEAM"), ("DirectoryFault::Short", "SHORT"),
+                         ("CodeFault::Scattered", "SCATTERED"), ("CodeFault::Limit", "LIMIT"), ("CodeFault::Slots", "SLOTS"), ("CodeFault::Page", "PAGE"))),
+                     *((rf"SpecialFault::{kind} \{{ slot \}} => \((\d+),", f"GM_SIGNATURE_{name}") for kind, name in (
+                         ("Unknown", "UNKNOWN"), ("Unsealed", "UNSEALED"), ("Changed", "SPECIAL"), ("Absent", "ABSENT")))],
 }
 
 # The functions of names, each with its argument: the function of the sources whose names it gives, or the constant whose group it

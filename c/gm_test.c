@@ -143,6 +143,38 @@ LIST(notes, gm_note, gm_notes(OF, first, rows, cap),
 LIST(run_paths, gm_run_path, gm_run_paths(OF, first, rows, cap), text(to, g, r->path, r->path_len))
 LIST(ids, gm_id, gm_ids(OF, first, rows, cap), text(to, g, r->name, r->name_len))
 
+/* ---- the signature: one row, and what isn't as it was signed, in the words of machsign but for those of errors */
+
+static size_t signature(const given *g, size_t first, gm_signature *row, size_t cap) {
+    gm_error e;
+    gm_signature said, before;
+    if (first || !cap) return 0;
+    memset(&said, 0x5a, sizeof said);
+    before = said;
+    uint32_t code = gm_code_signature(OF, &said, NULL, &e);
+    if (code && (code != e.code || memcmp(&before, &said, sizeof before))) DIE("a refusal changed the signature, or has another code");
+    if (code || !said.is_signed) return 0;
+    *row = said;
+    return 1;
+}
+static size_t signature_faults(const given *g, size_t first, gm_signature_fault *rows, size_t cap) {
+    size_t count = SIZE_MAX;
+    gm_error e;
+    uint32_t code = gm_signature_faults(OF, first, rows, cap, &count, NULL, &e);
+    if (code && (count != SIZE_MAX || code != e.code)) DIE("a refusal changed the count, or has another code");
+    return code ? 0 : count;
+}
+static void cdhash(FILE *to, const uint8_t *hash) {
+    for (size_t i = 0; i < 20; i++) fprintf(to, "%02x", hash[i]);
+}
+LIST(signature, gm_signature, signature(g, first, rows, cap),
+     if (r->entitlements > g->len || r->entitlements_len > g->len - r->entitlements) DIE("entitlements stand outside of the bytes");
+     fprintf(to, "%x %x %u %u %" PRIx64 " %" PRIu64 " %u %u %u %zu ", r->version, r->flags, r->hash_type, r->page_size, r->limit, r->pages,
+             r->identifier_code, r->team_code, r->entitlements_code, r->entitlements_len);
+     cdhash(to, r->cdhash); fputc(' ', to); text(to, g, r->identifier, r->identifier_len); fputc(' ', to); text(to, g, r->team, r->team_len))
+LIST(signature_faults, gm_signature_fault, signature_faults(g, first, rows, cap),
+     fprintf(to, "%s %x %u %" PRIx64 " %" PRIx64 " %u", gm_signature_kind(r->kind), r->slot, r->index, r->found, r->limit, r->code))
+
 /* ---- faults of layout, of an image and of a fat file's table: the lines are those of machaudit */
 
 typedef uint32_t told(const given *g, size_t first, gm_layout_fault *out, size_t cap, size_t *count, const gm_memory *memory, gm_error *e);
@@ -189,7 +221,8 @@ static const list lists[] = {ONE(commands, gm_command), ONE(segments, gm_segment
                               ONE(table, gm_layout_fault), ONE(ids, gm_id), ONE(weak_binds, gm_weak_bind), ONE(rebases, gm_rebase),
                              ONE(function_starts, gm_function_start),
                              ONE(data_in_code, gm_data_in_code_entry), ONE(indirect_symbols, gm_indirect_symbol), ONE(slots, gm_slot),
-                             ONE(linker_options, gm_linker_option), ONE(build_tools, gm_build_tool), ONE(notes, gm_note)};
+                             ONE(linker_options, gm_linker_option), ONE(build_tools, gm_build_tool), ONE(notes, gm_note),
+                             ONE(signature, gm_signature), ONE(signature_faults, gm_signature_fault)};
 enum { LISTS = sizeof lists / sizeof *lists, LIMIT = 400 };
 
 static const list *named(const char *name) {
@@ -340,6 +373,42 @@ static void tells(told *call, const given *g) {
     size_t before_call = mallocs;
     if (call(g, 0, again, CAP, &count_again, &m, &f) != code || count_again != count) DIE("an arena changed the faults");
     if (mallocs != before_call || arena.blocks) DIE("an arena did not serve");
+    tested++;
+}
+
+/* what is said of a signature with memory that is refused at each request; what isn't as it was signed is told exactly where the image isn't */
+static void says(const given *g) {
+    gm_signature_fault all[8], again[8];
+    gm_signature said, said_again;
+    gm_error e = {0}, f = {0};
+    uint32_t is = 7, is_again;
+    size_t count = 0;
+    memset(&said, 0x5a, sizeof said);
+    memset(all, 0x5a, sizeof all);
+    const uint32_t codes[] = {gm_code_signature(OF, &said, NULL, &e), gm_is_as_signed(OF, &is, NULL, &e), gm_signature_faults(OF, 0, all, 8, &count, NULL, &e)};
+    if (codes[1] != codes[2] || (codes[1] && (is != 7 || count))) DIE("a refusal changed what is said of a signature");
+    if (!codes[1] && (is > 1 || (is && count) || (!is && !count && said.is_signed))) DIE("as signed, and faults; or neither");
+    if (!codes[0] && codes[1]) DIE("a directory of a signature that can't be read");
+    for (size_t k = 1, refused = 1; refused; k++) {
+        refused = 0;
+        for (int call = 0; call < 3; call++) {
+            counted c = {0, k, 0};
+            gm_memory m = {&c, take, give};
+            size_t count_again = 0;
+            is_again = 7;
+            memset(&said_again, 0x5a, sizeof said_again);
+            memset(again, 0x5a, sizeof again);
+            uint32_t code = call == 0 ? gm_code_signature(OF, &said_again, &m, &f)
+                          : call == 1 ? gm_is_as_signed(OF, &is_again, &m, &f) : gm_signature_faults(OF, 0, again, 8, &count_again, &m, &f);
+            if (c.held) DIE("a block was kept");
+            if (code == GM_NO_MEMORY) {
+                refused = 1;
+                if (f.code != code || is_again != 7 || count_again || *(uint8_t *)&said_again != 0x5a || *(uint8_t *)again != 0x5a)
+                    DIE("refused memory left something of a signature");
+            } else if (code != codes[call] || (call == 0 && memcmp(&said, &said_again, sizeof said)) || (call == 1 && is != is_again)
+                       || (call == 2 && (count != count_again || memcmp(all, again, sizeof all)))) DIE("memory changed what is said of a signature");
+        }
+    }
     tested++;
 }
 
@@ -1073,6 +1142,9 @@ static void check(const uint8_t *bytes, size_t len) {
         check_parts(&g);
         same_in_batches(named("layout"), &g);
         same_in_batches(named("ids"), &g);
+        same_in_batches(named("signature"), &g);
+        same_in_batches(named("signature_faults"), &g);
+        says(&g);
         check_tables(&g);
         check_exports(&g);
         fixups_refused(&g);
@@ -1355,6 +1427,8 @@ static uint8_t *read_file(const char *name, size_t *len) {
 static int print_names(void) {
     for (uint32_t n = 1; strcmp(gm_layout_rule(n), "none"); n++) printf("Rule %u %s\n", n, gm_layout_rule(n));
     for (uint32_t n = 1; strcmp(gm_layout_part(n), "none"); n++) printf("Part %u %s\n", n, gm_layout_part(n));
+    for (uint32_t n = 1; strcmp(gm_signature_kind(n), "none"); n++) printf("Kind %u %s\n", n, gm_signature_kind(n));
+    if (strcmp(gm_signature_kind(GM_SIGNATURE_NONE), "none") || strcmp(gm_signature_kind(UINT32_MAX), "none")) DIE("a number that is none has a name");
     if (strcmp(gm_layout_rule(GM_LAYOUT_NONE), "none") || strcmp(gm_layout_rule(UINT32_MAX), "none") || strcmp(gm_layout_part(GM_PART_NONE), "none")
         || strcmp(gm_layout_part(UINT32_MAX), "none")) DIE("a number that is none has a name");
     return 0;
@@ -1479,6 +1553,7 @@ static void check_edges(void) {
                               gm_function_starts(g.bytes, g.len, &g.image, &s, NULL, 0, &count, NULL, NULL),
                               gm_slots(g.bytes, g.len, &g.image, 0, NULL, 0, &count, NULL, NULL),
                               gm_layout_faults(g.bytes, g.len, &g.image, 0, NULL, 0, &count, NULL, &e),
+                              gm_signature_faults(g.bytes, g.len, &g.image, 0, NULL, 0, &count, NULL, &e),
                               gm_container_faults(g.bytes, g.len, 0, NULL, 0, &count, NULL, NULL)};
     for (size_t n = 0; n < sizeof codes / sizeof *codes; n++)
         if (codes[n] != GM_NO_ROWS || count != 5) DIE("call %zu with an array of no rows: %u", n, codes[n]);

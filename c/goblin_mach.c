@@ -124,6 +124,7 @@ BEHIND(rebases, gm_rebase, gm_rebase_cursor *)
 BEHIND(function_starts, gm_function_start, gm_start_cursor *)
 BEHIND(layout_faults, gm_layout_fault, size_t)
 BEHIND(slots, gm_slot, size_t)
+BEHIND(signature_faults, gm_signature_fault, size_t)
 
 /* what is sought of an image by a number */
 #define SOUGHT(name, number, row) \
@@ -133,6 +134,14 @@ BEHIND(slots, gm_slot, size_t)
 SOUGHT(slot_at, uint64_t, gm_slot)
 SOUGHT(section_at, uint64_t, gm_found_section)
 SOUGHT(section_of, size_t, gm_found_section)
+
+/* what is said of an image's signature */
+#define SAID(name, row) \
+    uint32_t gmr_##name(const uint8_t *, size_t, const gm_image *, row *, gm_error *); \
+    uint32_t gm_##name(const uint8_t *bytes, size_t len, const gm_image *image, row *said, const gm_memory *memory, gm_error *error) \
+        WITH_MEMORY(gmr_##name(BYTES, len, image, said, TOLD))
+SAID(code_signature, gm_signature)
+SAID(is_as_signed, uint32_t)
 
 void gmr_symbol_provider(const gm_image *, const gm_symbol *, gm_provider *);
 void gm_symbol_provider(const gm_image *image, const gm_symbol *symbol, gm_provider *found) { gmr_symbol_provider(image, symbol, found); }
@@ -166,6 +175,9 @@ uint32_t gm_container_faults(const uint8_t *bytes, size_t len, size_t first, gm_
 static const char *const rules[] = {"none", GM_LAYOUT_RULES(WORDS)}, *const parts[] = {"none", GM_LAYOUT_PARTS(WORDS)};
 const char *gm_layout_rule(uint32_t rule) { return rules[rule < sizeof rules / sizeof *rules ? rule : 0]; }
 const char *gm_layout_part(uint32_t part) { return parts[part < sizeof parts / sizeof *parts ? part : 0]; }
+
+static const char *const kinds[] = {"none", GM_SIGNATURE_KINDS(WORDS)};
+const char *gm_signature_kind(uint32_t kind) { return kinds[kind < sizeof kinds / sizeof *kinds ? kind : 0]; }
 
 const char *gm_code_name(uint32_t code) {
     static const char *const names[] = {"ok", "malformed", "bad magic", "out of the bytes, or no text", "too many", "out of memory", "no rows"};

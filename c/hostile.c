@@ -93,6 +93,20 @@ static size_t slots(const given *g) {
     return found;
 }
 
+static size_t signature_faults(const given *g) {
+    static gm_signature_fault rows[ROWS];
+    size_t found = 0, n;
+    gm_error e;
+    while (goes_on() && !gm_signature_faults(OF, found, rows, ROWS, &n, NULL, &e) && n) found += n;
+    return found;
+}
+static size_t signature(const given *g) {
+    gm_signature said;
+    uint32_t is = 0;
+    gm_error e;
+    return (!gm_code_signature(OF, &said, NULL, &e) && said.is_signed) + (!gm_is_as_signed(OF, &is, NULL, &e) && is);
+}
+
 /* what is sought by an address or a number: addresses of some order, and numbers up to as many */
 static size_t slot_at(const given *g) {
     gm_slot slot;
@@ -163,7 +177,7 @@ static const struct { const char *name; size_t (*call)(const given *); } all[] =
     CALL(entries), CALL(container), CALL(open_all), CALL(commands), CALL(segments), CALL(sections), CALL(relocations), CALL(symbols), CALL(libraries),
     CALL(run_paths), CALL(ids), CALL(data_in_code), CALL(indirect_symbols), CALL(linker_options), CALL(build_tools), CALL(notes), CALL(find), CALL(exports),
     CALL(tree), CALL(fixups), CALL(imports), CALL(bindings), CALL(weak_binds), CALL(rebases), CALL(function_starts), CALL(slots), CALL(slot_at),
-    CALL(layout)};
+    CALL(layout), CALL(signature), CALL(signature_faults)};
 
 int main(int count, char **words) {
     given g = {0};

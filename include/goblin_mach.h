@@ -431,6 +431,53 @@ uint32_t gm_layout_faults(const uint8_t *bytes, size_t len, const gm_image *imag
 uint32_t gm_container_faults(const uint8_t *bytes, size_t len, size_t first, gm_layout_fault *out, size_t cap, size_t *count,
                              const gm_memory *memory, gm_error *error);
 
+/* ---- its code signature: what the code directory that counts says, which is the one that the system takes. A text is `.._len` bytes at bytes + .., and
+   both are 0 where there is none. */
+typedef struct gm_signature {
+    uint64_t limit, pages;                                   /* so many bytes of the image are covered, and so many pages */
+    size_t identifier, identifier_len, team, team_len;
+    size_t entitlements, entitlements_len;                   /* in XML */
+    uint32_t version, flags, hash_type;                      /* flags: GM_CS_ADHOC and the like; hash_type: GM_CS_HASHTYPE_SHA256 and the like */
+    uint32_t page_size;                                      /* a page has 2 to this number of bytes; 0 is any number */
+    uint32_t identifier_code, team_code, entitlements_code;  /* GM_OK, or why the text can't be read */
+    uint32_t is_signed;                                      /* 0 or 1; where it is 0 no command brings a signature, and all is 0 */
+    uint8_t cdhash[20];                                      /* by this the system knows the code: 20 bytes of the directory's hash, by hash_type */
+    uint32_t reserved;
+} gm_signature;
+
+/* Writes it. It opens the image again, and takes memory while it runs. Refused also where the signature or one of its directories can't be read, and where two
+   directories are of one kind of hash, or there is none; a refusal leaves *signature as it was. */
+uint32_t gm_code_signature(const uint8_t *bytes, size_t len, const gm_image *image, gm_signature *signature, const gm_memory *memory, gm_error *error);
+
+/* what isn't as it was signed: of a kind, of the directory of a slot, or of a blob. docs/C.md says what `found` and `limit` of each kind are. */
+typedef struct gm_signature_fault {
+    uint64_t found, limit;
+    uint32_t kind, slot, index, code; /* index: of a blob or a page, or a special slot; code: GM_OK, or why something can't be read */
+} gm_signature_fault;
+
+/* the kinds, with their plain names */
+#define GM_SIGNATURE_KINDS(X) \
+    X(BLOB, "blob") X(MAGIC, "magic") X(DIRECTORY, "directory") X(IDENTIFIER, "identifier") X(TEAM, "team") X(SHORT, "short") \
+    X(SCATTERED, "scattered") X(LIMIT, "limit") X(SLOTS, "slots") X(PAGE, "page") X(UNKNOWN, "unknown") X(UNSEALED, "unsealed") \
+    X(SPECIAL, "special") X(ABSENT, "absent")
+#define GM_SIGNATURE_KIND(name, words) GM_SIGNATURE_##name,
+enum { GM_SIGNATURE_NONE, GM_SIGNATURE_KINDS(GM_SIGNATURE_KIND) };
+#undef GM_SIGNATURE_KIND
+
+/* the plain name of a kind; "none" of a number that is none */
+const char *gm_signature_kind(uint32_t kind);
+
+/* The faults of the signature from number `first` on, and how many were written to *count; none where no command brings a signature. It opens the image
+   again, takes memory while it runs, and hashes what is covered from the first page on: so hand in an array that takes them all where they are
+   many. With a `cap` of 0 it is refused with GM_NO_ROWS; refused also where the signature can't be read. A refusal leaves the array and *count as
+   they were. */
+uint32_t gm_signature_faults(const uint8_t *bytes, size_t len, const gm_image *image, size_t first, gm_signature_fault *out, size_t cap, size_t *count,
+                             const gm_memory *memory, gm_error *error);
+
+/* Whether the image has a signature and is as it was signed: 1, or 0, which it writes to *as_signed. It opens the image again, takes memory while it runs, and
+   hashes what is covered. Refused also where the signature can't be read; a refusal leaves *as_signed as it was. Who signed is not looked at. */
+uint32_t gm_is_as_signed(const uint8_t *bytes, size_t len, const gm_image *image, uint32_t *as_signed, const gm_memory *memory, gm_error *error);
+
 /* ---- the names of numbers; NULL of a number that has none */
 const char *gm_code_name(uint32_t code);                              /* "malformed", of a code of an error or of a row */
 const char *gm_cpu_name(uint32_t cputype, uint32_t cpusubtype);       /* "arm64e", as clang, lipo and LLVM call it */
@@ -832,6 +879,21 @@ const char *gm_platform_name(uint32_t platform);                      /* "MACOS"
 #define GM_DYLD_CHAINED_PTR_START_MULTI UINT16_C(0x8000)
 #define GM_DYLD_CHAINED_PTR_START_LAST  UINT16_C(0x8000) /* the bit of the last of several starts */
 #define GM_DYLD_CHAINED_PTR_START_NONE  UINT16_C(0xffff) /* the start of a page that has no chain */
+/* `hash_type` of a gm_signature */
+#define GM_CS_HASHTYPE_SHA1             UINT32_C(1)
+#define GM_CS_HASHTYPE_SHA256           UINT32_C(2)
+#define GM_CS_HASHTYPE_SHA256_TRUNCATED UINT32_C(3) /* cut to 20 bytes */
+#define GM_CS_HASHTYPE_SHA384           UINT32_C(4)
+/* the bits of `flags` of a gm_signature */
+#define GM_CS_ADHOC            UINT32_C(0x2) /* it is signed by no one */
+#define GM_CS_HARD             UINT32_C(0x100) /* pages that aren't as they were signed are not loaded */
+#define GM_CS_KILL             UINT32_C(0x200) /* the process is killed where one isn't */
+#define GM_CS_CHECK_EXPIRATION UINT32_C(0x400) /* certificates must not be expired */
+#define GM_CS_RESTRICT         UINT32_C(0x800) /* dyld takes no variables of the environment */
+#define GM_CS_ENFORCEMENT      UINT32_C(0x1000) /* all pages must be signed */
+#define GM_CS_REQUIRE_LV       UINT32_C(0x2000) /* libraries must be the system's or of the same team */
+#define GM_CS_RUNTIME          UINT32_C(0x10000) /* the hardened runtime */
+#define GM_CS_LINKER_SIGNED    UINT32_C(0x20000) /* the linker signed it */
 /* ---- end */
 
 /* The layout that the library gives each struct (x86-64 Linux), and its numbers: a compiler that sees other ones refuses this header. */
@@ -1103,6 +1165,32 @@ GM_FIELD(gm_segment, initprot, 68, 4);
 GM_FIELD(gm_segment, sections, 72, 4);
 GM_FIELD(gm_segment, flags, 76, 4);
 GM_SIZE(gm_segment, 80);
+GM_FIELD(gm_signature, limit, 0, 8);
+GM_FIELD(gm_signature, pages, 8, 8);
+GM_FIELD(gm_signature, identifier, 16, 8);
+GM_FIELD(gm_signature, identifier_len, 24, 8);
+GM_FIELD(gm_signature, team, 32, 8);
+GM_FIELD(gm_signature, team_len, 40, 8);
+GM_FIELD(gm_signature, entitlements, 48, 8);
+GM_FIELD(gm_signature, entitlements_len, 56, 8);
+GM_FIELD(gm_signature, version, 64, 4);
+GM_FIELD(gm_signature, flags, 68, 4);
+GM_FIELD(gm_signature, hash_type, 72, 4);
+GM_FIELD(gm_signature, page_size, 76, 4);
+GM_FIELD(gm_signature, identifier_code, 80, 4);
+GM_FIELD(gm_signature, team_code, 84, 4);
+GM_FIELD(gm_signature, entitlements_code, 88, 4);
+GM_FIELD(gm_signature, is_signed, 92, 4);
+GM_FIELD(gm_signature, cdhash, 96, 20);
+GM_FIELD(gm_signature, reserved, 116, 4);
+GM_SIZE(gm_signature, 120);
+GM_FIELD(gm_signature_fault, found, 0, 8);
+GM_FIELD(gm_signature_fault, limit, 8, 8);
+GM_FIELD(gm_signature_fault, kind, 16, 4);
+GM_FIELD(gm_signature_fault, slot, 20, 4);
+GM_FIELD(gm_signature_fault, index, 24, 4);
+GM_FIELD(gm_signature_fault, code, 28, 4);
+GM_SIZE(gm_signature_fault, 32);
 GM_FIELD(gm_slot, address, 0, 8);
 GM_FIELD(gm_slot, len, 8, 8);
 GM_FIELD(gm_slot, segment, 16, 8);
@@ -1179,6 +1267,20 @@ GM_IS(GM_LOSSY, 1);
 GM_IS(GM_REBASE_POINTER, 1);
 GM_IS(GM_REBASE_TEXT_ABSOLUTE, 2);
 GM_IS(GM_REBASE_TEXT_RELATIVE, 3);
+GM_IS(GM_SIGNATURE_BLOB, 1);
+GM_IS(GM_SIGNATURE_MAGIC, 2);
+GM_IS(GM_SIGNATURE_DIRECTORY, 3);
+GM_IS(GM_SIGNATURE_IDENTIFIER, 4);
+GM_IS(GM_SIGNATURE_TEAM, 5);
+GM_IS(GM_SIGNATURE_SHORT, 6);
+GM_IS(GM_SIGNATURE_SCATTERED, 7);
+GM_IS(GM_SIGNATURE_LIMIT, 8);
+GM_IS(GM_SIGNATURE_SLOTS, 9);
+GM_IS(GM_SIGNATURE_PAGE, 10);
+GM_IS(GM_SIGNATURE_UNKNOWN, 11);
+GM_IS(GM_SIGNATURE_UNSEALED, 12);
+GM_IS(GM_SIGNATURE_SPECIAL, 13);
+GM_IS(GM_SIGNATURE_ABSENT, 14);
 GM_IS(GM_NO_SLOT, 0);
 GM_IS(GM_SLOT_POINTER, 1);
 GM_IS(GM_SLOT_LAZY_POINTER, 2);

@@ -42,6 +42,7 @@ PREFIXES = [
     Prefix("S_ATTR_", "SectionAttributes"), Prefix("S_", "SectionType"), Prefix("SG_", "SegmentFlags"),
     Prefix("VM_PROT_ALL", ""), Prefix("VM_PROT_NONE", ""), Prefix("VM_PROT_", "Protection"),
     Prefix("PLATFORM_", "Platform"), Prefix("TOOL_", "Tool"), Prefix("DICE_KIND_", "DataKind"),
+    Prefix("CS_HASHTYPE_", "SignatureHash"), Prefix("CS_", "SignatureFlags"),
     Prefix("N_STAB", ""), Prefix("N_PEXT", ""), Prefix("N_TYPE", ""), Prefix("N_EXT", ""),
     Prefix("N_", "SymbolDescription", type="u16"), Prefix("N_", "SymbolType Stab", type="u8"),
     Prefix("REFERENCE_FLAG_", "ReferenceType"), Prefix("REFERENCED_DYNAMICALLY", "SymbolDescription"),
@@ -121,6 +122,7 @@ def differences(top: str = TOP) -> List[str]:
 COMPARED = [
     "ErrorCode", "CpuType", "FileType", "HeaderFlags", "LoadCommand", "SectionType", "Platform", "Tool", "DataKind", "SymbolType", "Stab", "ReferenceType",
     "SymbolDescription", "ExportKind", "ExportFlags", "X86_64Relocation", "GenericRelocation", "ArmRelocation", "Arm64Relocation",
+    "SignatureFlags", "SignatureHash",
 ]
 
 if __name__ == "__main__":

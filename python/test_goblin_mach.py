@@ -209,6 +209,7 @@ class Closed(Case):
             "data_in_code": one.data_in_code, "indirect_symbols": one.indirect_symbols,
             "linker_options": one.linker_options, "build_tools": one.build_tools, "notes": one.notes, "symbol_slots": one.symbol_slots,
             "slot_at": lambda: [one.slot_at(0)], "section_at": lambda: [one.section_at(0)], "section_of": lambda: [one.section_of(0)],
+            "signature": lambda: [one.signature], "signature_faults": one.signature_faults,
             "symbol_provider": lambda: [one.symbol_provider(goblin_mach.Symbol("_a", 0, 0, 1, 0, None))],
         }
         numbers = {"error", "arch", "cpu_type", "cpu_subtype", "file_type", "header_flags"}

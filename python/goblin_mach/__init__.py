@@ -19,7 +19,8 @@ from ._lists import FIXUPS, INDIRECT, KINDS, PROVIDERS, REBASES, SLOTS
 from ._rows import BATCH, Rows
 from .enums import (
     CPU_SUBTYPES, Arm64_32Subtype, Arm64Subtype, ArmSubtype, CpuSubtype, CpuType, DataKind, ErrorCode, FileType, HeaderFlags, LoadCommand, Mode,
-    Platform, PowerPcSubtype, Protection, SectionAttributes, SectionType, SegmentFlags, Tool, X86_64Subtype, X86Subtype,
+    Platform, PowerPcSubtype, Protection, SectionAttributes, SectionType, SegmentFlags, SignatureFlags, SignatureHash, Tool, X86_64Subtype,
+    X86Subtype,
 )
 from .errors import ERRORS, Refused
 from .file import File, container_faults, fat_entries, open, parse
@@ -29,6 +30,7 @@ from .items import (
     Relocation, Section, Segment, Symbol, SymbolProvider, SymbolSlot,
 )
 from .pointers import Binding, Fixup, Import, Rebase, WeakBind
+from .signature import Signature, SignatureFault
 from .symbol_enums import (
     RELOCATION_TYPES, Arm64Relocation, ArmRelocation, ExportFlags, ExportKind, GenericRelocation, PowerPcRelocation, ReferenceType, RelocationType,
     Stab, SymbolDescription, SymbolType, X86_64Relocation,
@@ -42,11 +44,12 @@ NO_MEMORY = ErrorCode.NO_MEMORY
 __all__ = [
     "open", "parse", "fat_entries", "container_faults", "File", "Image", "Rows", "Refused",
     "FatEntry", "Command", "Segment", "Section", "Relocation", "Symbol", "Library", "Fixup", "Import", "Binding", "Export", "Owner", "LayoutFault",
-    "WeakBind", "Rebase",
+    "WeakBind", "Rebase", "Signature", "SignatureFault",
     "FunctionStart", "DataInCode", "IndirectSymbol", "SymbolSlot", "SymbolProvider", "NumberedSection", "LinkerOption", "BuildTool", "Note",
     "Mode", "STRICT", "LOSSY", "ErrorCode", "ERRORS", "NO_MEMORY", "BATCH", "FIXUPS", "PROVIDERS", "REBASES", "KINDS", "INDIRECT", "SLOTS", "EXPORTS",
     "CpuType", "CpuSubtype", "CPU_SUBTYPES", "X86Subtype", "X86_64Subtype", "ArmSubtype", "Arm64Subtype", "Arm64_32Subtype", "PowerPcSubtype",
     "FileType", "HeaderFlags", "LoadCommand", "Protection", "SegmentFlags", "SectionType", "SectionAttributes", "Platform", "Tool", "DataKind",
+    "SignatureFlags", "SignatureHash",
     "SymbolType", "Stab", "ReferenceType", "SymbolDescription", "ExportKind", "ExportFlags",
     "RelocationType", "RELOCATION_TYPES", "X86_64Relocation", "GenericRelocation", "ArmRelocation", "Arm64Relocation", "PowerPcRelocation",
 ]

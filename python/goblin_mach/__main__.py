@@ -109,6 +109,20 @@ def _rebases(image: Image) -> Iterator[str]:
                f"{int(r.is_address_diverse)} {code_of(r.error)}")
 
 
+def _signature(image: Image) -> Iterator[str]:
+    found = image.signature
+    if found is not None:
+        codes = " ".join(str(code_of(found.errors.get(name))) for name in ("identifier", "team", "entitlements"))
+        power = found.page_size.bit_length() - 1 if found.page_size else 0
+        yield (f"{found.version:x} {found.flags:x} {found.hash_type} {power} {found.limit:x} {found.pages} {codes} {len(found.entitlements or b'')} "
+               f"{found.cdhash.hex()} {found.identifier or ''} {found.team or ''}")
+
+
+def _signature_faults(image: Image) -> Iterator[str]:
+    for f in image.signature_faults():
+        yield f"{f.kind} {f.slot:x} {f.number} {f.found:x} {f.limit:x} {code_of(f.error)}"
+
+
 def _layout(image: Image) -> Iterator[str]:
     for fault in image.layout_faults():
         yield str(fault)
@@ -135,6 +149,8 @@ LINES: Dict[str, Callable[[Image], Iterator[str]]] = {
     "weak_binds": _weak_binds,
     "rebases": _rebases,
     "layout": _layout,
+    "signature": _signature,
+    "signature_faults": _signature_faults,
 }
 """For each word what is printed of an image."""
 

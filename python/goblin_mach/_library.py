@@ -65,6 +65,10 @@ def _prototypes() -> Dict[str, Tuple[Any, List[Any]]]:
         "gm_symbol_provider": (None, [image, POINTER(s.gm_symbol), POINTER(s.gm_provider)]),
         "gm_layout_faults": (c_uint32, [*held, image, *by_number, count, c_void_p, error]),
         "gm_container_faults": (c_uint32, [*held, *by_number, count, c_void_p, error]),
+        "gm_code_signature": (c_uint32, [*held, image, POINTER(s.gm_signature), c_void_p, error]),
+        "gm_signature_faults": (c_uint32, [*held, image, *by_number, count, c_void_p, error]),
+        "gm_is_as_signed": (c_uint32, [*held, image, POINTER(c_uint32), c_void_p, error]),
+        "gm_signature_kind": (c_char_p, [c_uint32]),
         "gm_layout_rule": (c_char_p, [c_uint32]),
         "gm_layout_part": (c_char_p, [c_uint32]),
     }

@@ -15,6 +15,7 @@ from .items import (
     Relocation, Section, Segment, Symbol, SymbolProvider, SymbolSlot,
 )
 from .pointers import Binding, Fixup, Import, Rebase, WeakBind
+from .signature import SignatureFault
 
 FIXUPS = ("rebase", "bind", "number")
 REBASES = ("none", "pointer", "absolute32", "relative32")
@@ -198,6 +199,18 @@ def layout_faults(held: Held, raws: Raws, first: int) -> List[LayoutFault]:
     ]
 
 
+@lru_cache(maxsize=None)
+def _signature_kind(number: int) -> str:
+    return str(lib.gm_signature_kind(number).decode())
+
+
+def signature_faults(held: Held, raws: Raws, first: int) -> List[SignatureFault]:
+    return [
+        SignatureFault(_signature_kind(kind), slot, index, found, limit, _error(code))
+        for found, limit, kind, slot, index, code in raws
+    ]
+
+
 FAT_ENTRIES = Kind(lib.gm_fat_entries, s.gm_fat_entry, fat_entries)
 COMMANDS = Kind(lib.gm_commands, s.gm_command, commands)
 SEGMENTS = Kind(lib.gm_segments, s.gm_segment, segments)
@@ -220,4 +233,5 @@ BINDINGS_BEHIND = Kind(lib.gm_bindings, s.gm_binding, bindings)
 WEAK_BINDS_BEHIND = Kind(lib.gm_weak_binds, s.gm_weak_bind, weak_binds)
 REBASES_BEHIND = Kind(lib.gm_rebases, s.gm_rebase, rebases)
 LAYOUT_FAULTS = Kind(lib.gm_layout_faults, s.gm_layout_fault, layout_faults)
+SIGNATURE_FAULTS = Kind(lib.gm_signature_faults, s.gm_signature_fault, signature_faults)
 CONTAINER_FAULTS = Kind(lib.gm_container_faults, s.gm_layout_fault, layout_faults)

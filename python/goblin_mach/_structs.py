@@ -213,6 +213,19 @@ class gm_layout_fault(ctypes.Structure):
     _fields_ = _u64("found limit command index other_command other_index") + _u32("rule part other_part")
 
 
+class gm_signature(ctypes.Structure):
+    _fields_ = (
+        _u64("limit pages")
+        + _sizes("identifier identifier_len team team_len entitlements entitlements_len")
+        + _u32("version flags hash_type page_size identifier_code team_code entitlements_code is_signed")
+        + [("cdhash", c_uint8 * 20), ("reserved", c_uint32)]
+    )
+
+
+class gm_signature_fault(ctypes.Structure):
+    _fields_ = _u64("found limit") + _u32("kind slot index code")
+
+
 def _codes(kind: Any) -> str:
     """What the module `struct` calls the fields of a type, one behind the other."""
     if issubclass(kind, ctypes.Structure):

@@ -374,6 +374,29 @@ class DataKind(Number):
     ABS_JUMP_TABLE32 = 5
 
 
+class SignatureFlags(Flags):
+    """CS_, of kern/cs_blobs.h: what a code directory says of the code."""
+
+    ADHOC = 0x2
+    HARD = 0x100
+    KILL = 0x200
+    CHECK_EXPIRATION = 0x400
+    RESTRICT = 0x800
+    ENFORCEMENT = 0x1000
+    REQUIRE_LV = 0x2000
+    RUNTIME = 0x10000
+    LINKER_SIGNED = 0x20000
+
+
+class SignatureHash(Number):
+    """CS_HASHTYPE_, of kern/cs_blobs.h: how a code directory hashes."""
+
+    SHA1 = 1
+    SHA256 = 2
+    SHA256_TRUNCATED = 3
+    SHA384 = 4
+
+
 def cpu_subtype(cputype: int, cpusubtype: int) -> CpuSubtype:
     """A cpu's subtype, without its capabilities."""
     return CPU_SUBTYPES.get(cputype, CpuSubtype).of(cpusubtype & 0xFFFFFF)

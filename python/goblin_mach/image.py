@@ -6,6 +6,7 @@ import ctypes
 from typing import TYPE_CHECKING, Any, Callable, Iterator, List, Optional, Tuple, Union
 
 from . import _exports, _lists
+from . import signature as _signature
 from . import _structs as s
 from ._arch import arch_name
 from ._library import lib, refused
@@ -18,6 +19,7 @@ from .items import (
     Relocation, Section, Segment, Symbol, SymbolProvider, SymbolSlot,
 )
 from .pointers import Binding, Fixup, Import, Rebase, WeakBind
+from .signature import Signature, SignatureFault
 
 if TYPE_CHECKING:
     from _typeshed import ReadableBuffer
@@ -35,7 +37,7 @@ class Image:
     is the `Refused` that says why, its numbers are 0, and each of its lists raises it.
 
     Lists are iterators. Those whose items stand at numbers of their own also have `len`, indices and slices (`Rows`); those of exports, fixups, imports,
-    bindings, weak binds, rebases, function starts and slots go on from where they stopped, and have none of these."""
+    bindings, weak binds, rebases, function starts, slots and faults go on from where they stopped, and have none of these."""
 
     error: Optional[Refused] = None
     offset: int
@@ -257,6 +259,19 @@ class Image:
     def layout_faults(self) -> Iterator[LayoutFault]:
         """What lies where the format and its readers don't allow it, of the file that begins with the image."""
         return in_growing_batches(_lists.LAYOUT_FAULTS, self._live, (self._pointer,))
+
+    @property
+    def signature(self) -> Optional[Signature]:
+        """Its code signature, or None where no command brings one. One that can't be read raises `Refused`."""
+        held = self._live()
+        said = _signature.said_of(held, self._pointer)
+        if said is None:
+            return None
+        return Signature(held, said, lambda: _signature.as_signed(self._live(), self._pointer), self.signature_faults)
+
+    def signature_faults(self) -> Iterator[SignatureFault]:
+        """What of its signature isn't as it was signed, also where no code directory counts; nothing where there is no signature."""
+        return in_growing_batches(_lists.SIGNATURE_FAULTS, self._live, (self._pointer,))
 
     def _place(self) -> Tuple[object, ...]:
         """Which image it is: two of one place in the same bytes, opened in the same mode, are equal."""

@@ -6,6 +6,7 @@ pub mod PartRows
 pub mod Listed
 pub mod TableRows
 pub mod SectionRows
+pub mod SignatureRows
 pub mod FatRows
 pub mod Opened
 pub mod SymbolRows

@@ -1,5 +1,5 @@
 -- The tables that load commands place or hold as C sees them: data among code, indirect symbols, notes, tools, options.
-use Rattle.std.specs.Prelude.{ℕ, ◌-◌, List, map, length, take, Option, Some, None, option_map, Result, Ok, Err}
+use Rattle.std.specs.Prelude.{ℕ, ◌-◌, List, map, length, take, Option, option_map, Result, Ok, Err}
 use Rattle.mach_base.specs.Answer.{◌>>=◌}
 use Rattle.mach_base.specs.declared.context.Endian.{Endian}
 use Rattle.mach_base.specs.Fault.{Fault}
@@ -11,7 +11,6 @@ use Rattle.mach_records.specs.declared.versions.BuildToolVersion.{BuildToolVersi
 use Rattle.mach_slots.specs.declared.indirect.IndirectSymbol.{IndirectSymbol}
 use Rattle.mach_slots.specs.declared.indirect.IndirectSymbol.TheVariants.{Symbol, Local, Absolute, LocalAbsolute}
 use Rattle.mach_tables.specs.BuildTools.{ToolTable, numbered_tools, tools_of}
-use Rattle.mach_tables.specs.CommandLists.{with_number}
 use Rattle.mach_tables.specs.LinkerOptions.{OptionTexts, option_at, option_place, option_texts}
 use Rattle.mach_tables.specs.Notes.{NoteView, note_at, note_range}
 use Rattle.mach_image.specs.ImageSlots.{indirect_symbols_in, indirect_table_in}

@@ -34,6 +34,7 @@ mod run_paths;
 mod section_finds;
 mod sections;
 mod segments;
+mod signature;
 mod slots;
 mod starts;
 mod symbols;

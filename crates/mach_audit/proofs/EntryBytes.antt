@@ -8,6 +8,7 @@ use Rattle.std.proofs.lemmas.List.{length-take-le}
 use Rattle.std.proofs.lemmas.Option.{slice_get-map}
 use Rattle.mach_base.proofs.Binds.{bind_ok, same_ok}
 use Rattle.mach_base.proofs.ItemLists.{slice_get-items}
+use Rattle.mach_base.specs.Answer.{◌>>=◌}
 use Rattle.mach_base.specs.Fault.{Fault, malformed, too_short}
 use Rattle.mach_base.specs.Items.{all_read}
 use Rattle.mach_base.specs.Number.{number}
@@ -15,10 +16,10 @@ use Rattle.mach_base.specs.declared.context.Ctx.{Ctx}
 use Rattle.mach_base.specs.declared.context.Endian.TheVariants.{Big, Little}
 use Rattle.mach_base.specs.declared.hint.Hint.TheVariants as hints
 use Rattle.mach_base.specs.declared.hint.Hint.{Hint}
+use Rattle.mach_headers.specs.Fat.{part_of}
 use Rattle.mach_headers.specs.Magic.{magic_at, ctx_of, begins_archive, hint_by, hint_in}
 use Rattle.mach_headers.specs.declared.fat.FatArch.{FatArch}
 use Rattle.mach_image.specs.Image.{LossyOpens}
-use Rattle.goblin_mach.proofs.FatEntries.{entry_at-record}
 use Rattle.goblin_mach.proofs.FatMagics.{fat_magic-other}
 use Rattle.goblin_mach.specs.FatEntry.{image, entry_by, fat_entry_of, entry_at}
 use Rattle.goblin_mach.specs.FatFile.{FatFile, arch_at, archs_of, arches_in}
@@ -130,6 +131,14 @@ record_there : (found : Option FatArch) (record_is : Result FatArch Fault) → o
 record_there None r is = absurd (cc)
 record_there (Some arch) r is = (arch, refl, cc)
 
+-- the entry of a record that is there, below the count
+entry_of_record : (file : FatFile) (k : ℕ) (arch : FatArch) → k < file.narches → arch_at file.bytes k ≡ Ok arch
+    → entry_at file k ≡ fat_entry_of (part_of file.bytes arch.offset arch.size)
+entry_of_record file k arch inside is =
+    ap (λ (b : Bool). cond b (arch_at file.bytes k >>= λ a. fat_entry_of (part_of file.bytes a.offset a.size)) (Err malformed))
+    (lt-ltb k file.narches inside)
+    ∙ ap (λ (r : Result FatArch Fault). r >>= λ a. fat_entry_of (part_of file.bytes a.offset a.size)) is
+
 -- what its record names of the file is the entry
 pub named_entry : (file : FatFile) (k : ℕ) (xs : List FatArch) → k < file.narches → arches_in file ≡ Ok xs
     → fat_entry_of (named_bytes file.bytes (slice_get xs k)) ≡ entry_at file k
@@ -140,4 +149,4 @@ named_entry file k xs inside is =
     ∙ slice_get-items (arch_at file.bytes) file.narches k inside in
     let there = record_there found (arch_at file.bytes k) (sym (slice_get-map (λ (x : FatArch). Ok x) xs k) ∙ by_number) in
     ap (λ (r : Option FatArch). fat_entry_of (named_bytes file.bytes r)) there.1
-    ∙ sym (entry_at-record file k (Ok there.0) (lt-ltb k file.narches inside) there.2)
+    ∙ sym (entry_of_record file k there.0 inside there.2)

@@ -27,17 +27,21 @@ use Rattle.mach_image.specs.OpenImage.{IsImage, commands_held, segments_held, tr
 use Rattle.mach_image.specs.Subjects.{ListsImageImports, ListsImageExports, AreImageBindItems, symbols_held, trie_or_empty}
 use Rattle.mach_image.specs.declared.macho.MachO.{MachO}
 use Rattle.mach_audit.proofs.Goes.{as_item}
+use Rattle.mach_audit.proofs.SoundlySigned.{signature_judged_by}
 use Rattle.mach_audit.proofs.Told.{plain, faults_in, plain_from, plain_each, cut_is, told_sound, told_faulty, told_long, told_short}
 use Rattle.mach_audit.proofs.Verdicts.{number, sound_judged, faulty_judged, part_judged, both_judged, judged_as}
 use Rattle.mach_audit.specs.Sound.{IsSoundImage, HasLongList, of_sections, of_relocations, of_symbols, of_exports, of_imports}
 use Rattle.mach_audit.specs.Sound.{HasAllRelocations, HasExportItems, AreExportItems, all_exports, up_to_fault, past_limit}
-use Rattle.mach_audit.specs.Sound.{are_all_ok, all_sections, all_relocations, relocations_by, of_fixups, of_bindings}
+use Rattle.mach_audit.specs.Sound.{are_all_ok, all_sections, all_relocations, relocations_by, of_fixups, of_bindings, IsSoundlySigned, HasSoundSignature}
+use Rattle.mach_audit.specs.Signed.{TellsSignature}
 use Rattle.mach_audit.specs.Told.{FaultAt, TellsOf, TellsOfTrie, TellsRelocations, faults_from, section_faults_told, relocation_faults, relocation_faults_by}
-use Rattle.mach_audit.specs.Verdicts.{Judges, verdict_of, verdict_of_read, verdict_of_parts, verdict_of_layout, is_clean}
+use Rattle.mach_audit.specs.Verdicts.{Judges, verdict_of, verdict_of_read, verdict_of_parts, verdict_of_layout, verdict_of_signature, is_clean}
 use Rattle.mach_layout.specs.Facts.{HasLayoutFaults}
+use Rattle.mach_signed.specs.SignedImages.{image_faults}
 use Rattle.mach_rules.specs.declared.fault.LayoutFault.{LayoutFault}
 use Rattle.mach_audit.specs.declared.report.Part.{Part}
 use Rattle.mach_audit.specs.declared.report.Parts.{Parts}
+use Rattle.mach_audit.specs.declared.report.SignatureReport.{SignatureReport}
 use Rattle.mach_audit.specs.declared.report.Place.TheVariants as places
 use Rattle.mach_audit.specs.declared.verdict.Verdict.TheVariants.{Sound, Unended, Faulty}
 use Rattle.mach_audit.specs.declared.verdict.Verdict.{Verdict}
@@ -292,6 +296,16 @@ module _ {A : Type 0} (bytes : List ℕ) (m : MachO A) (p : IsImage bytes 0 m) (
       let one = items_of_list b pointer libs segments l.0 list.0 (held l.0 l.1) list.2 ∙ sym list.1 in
       told_short limit items faults same q tells whole (subst (λ (xs : List (Result Import Fault)). limit < length xs) one l.2))
 
+  soundly_signed : HasSoundSignature bytes 0 ↔ IsSoundlySigned (bytes_held m) (commands_held m) (segments_held m)
+  soundly_signed = facts_are bytes 0 m (strict-lossy bytes 0 m p) (λ f. IsSoundlySigned f.bytes f.commands f.segments)
+
+  pub signature_judged : {B : Type 0} (q : SignatureReport B)
+      → TellsSignature (image_faults (bytes_held m) (commands_held m) (segments_held m)) q
+      → Judges (HasSoundSignature bytes 0) ⊥ (verdict_of_signature q)
+  signature_judged q tells =
+      judged_as (verdict_of_signature q) soundly_signed.1 soundly_signed.0 (λ l. l) (λ l. l)
+      (signature_judged_by (bytes_held m) (commands_held m) (segments_held m) q tells)
+
   -- the list that is long, by its part
   abbrev pub LongByPart : Type 0
   LongByPart = ⊥ ⊎ ((((segments : List SegmentView) × HasSegments bytes 0 segments × (limit < length (all_sections segments))) ⊎ LongOf limit
@@ -333,12 +347,14 @@ module _ {A : Type 0} (bytes : List ℕ) (m : MachO A) (p : IsImage bytes 0 m) (
       → Judges ((items : List (Result Binding Fault)) × HasBindings bytes 0 items × IsTrue (are_all_ok items)) (LongOf limit (HasBindings bytes 0))
       (verdict_of parts.bindings)
       → Judges (HasLayoutFaults bytes []) ⊥ (verdict_of_layout parts.layout.items)
+      → Judges (HasSoundSignature bytes 0) ⊥ (verdict_of_signature parts.signature)
       → Judges (IsSoundImage bytes) (HasLongList limit bytes) (verdict_of_parts parts)
-  parts_judged parts read symbols exports imports fixups bindings layout =
+  parts_judged parts read symbols exports imports fixups bindings layout signature =
       judged_as (verdict_of_parts parts)
       (λ s. record {
         opens = (p.ctx, commands_held m, p.opens);
-        layout = s.0;
+        layout = s.0.0;
+        signature = s.0.1;
         sections = s.1.0.0;
         relocations = s.1.0.1;
         symbols = s.1.1.0;
@@ -347,7 +363,7 @@ module _ {A : Type 0} (bytes : List ℕ) (m : MachO A) (p : IsImage bytes 0 m) (
         fixups = s.1.1.1.1.1.0;
         bindings = s.1.1.1.1.1.1;
       })
-      (λ s. (s.layout, ((s.sections, s.relocations), (s.symbols, (s.exports, (s.imports, (s.fixups, s.bindings)))))))
+      (λ s. ((s.layout, s.signature), ((s.sections, s.relocations), (s.symbols, (s.exports, (s.imports, (s.fixups, s.bindings)))))))
       long_list long_part
-      (both_judged _ _ layout (both_judged _ _ read (both_judged _ _ symbols (both_judged _ _ exports (both_judged _ _ imports
-      (both_judged _ _ fixups bindings))))))
+      (both_judged _ _ (beside (both_judged _ _ layout signature)) (both_judged _ _ read (both_judged _ _ symbols (both_judged _ _ exports
+      (both_judged _ _ imports (both_judged _ _ fixups bindings))))))

@@ -18,6 +18,8 @@ use Rattle.mach_image.specs.Facts.{HasImportItems, HasFixups, HasBindings}
 use Rattle.mach_image.specs.Image.{ImageFault, LossyOpens}
 use Rattle.mach_image.specs.OpenImage.{IsImage, IsLossyImage, commands_held, segments_held, trie_held, ctx_held, bytes_held}
 use Rattle.mach_image.specs.Subjects.{symbols_held, trie_or_empty}
+use Rattle.mach_signed.proofs.SignedFacts.{faults_are}
+use Rattle.mach_signed.specs.SignedImages.{image_faults}
 use Rattle.mach_image.specs.declared.macho.MachO.{MachO}
 use Rattle.goblin_mach.specs.FatEntry.{FatEntry, FatEntryFault, IsEntry, archive, image, fat_entry_of, no_entry, no_image}
 use Rattle.goblin_mach.specs.declared.fat_file.entry.SingleArch.TheVariants as arches
@@ -27,6 +29,7 @@ use Rattle.goblin_mach.specs.View.{IsTold}
 use Rattle.mach_audit.proofs.EntryBytes.{image_entry, image_no_fat, same_bytes}
 use Rattle.mach_audit.proofs.Goes.{stands_of}
 use Rattle.mach_audit.specs.Report.{TellsImage, TellsLossily, IsImageReport, IsEntryReport, IsRefusedFor, reason_of}
+use Rattle.mach_audit.specs.Signed.{TellsSignature}
 use Rattle.mach_audit.specs.Told.{TellsOf, TellsOfTrie, TellsRelocations, faults_from, section_faults_told, relocation_faults}
 use Rattle.mach_audit.specs.Verdicts.{is_clean, verdict_of_image}
 use Rattle.mach_audit.specs.declared.report.EntryReport.TheVariants as entries
@@ -45,8 +48,9 @@ pub image_told : {A B : Type 0} (limit : ℕ) (bytes : List ℕ) (m : MachO A) �
     → (items : List (Result Import Fault)) × HasImportItems bytes 0 items × TellsOf limit (faults_from places.Import 0 items) q.imports
     → (items : List (Result Fixup Fault)) × HasFixups bytes 0 items × TellsOf limit (faults_from places.Fixup 0 items) q.fixups
     → (items : List (Result Binding Fault)) × HasBindings bytes 0 items × TellsOf limit (faults_from places.Binding 0 items) q.bindings
+    → TellsSignature (image_faults (bytes_held m) (commands_held m) (segments_held m)) q.signature
     → HasLayoutFaults bytes q.layout.items → TellsImage limit bytes q
-image_told limit bytes m p q sections relocations symbols exports imports fixups bindings layout = record {
+image_told limit bytes m p q sections relocations symbols exports imports fixups bindings signature layout = record {
   sections = (segments_held m, ((segments_are m).lossy bytes 0 p (segments_held m)).1 refl, sections);
   relocations =
       (facts_are bytes 0 m p (λ f. TellsRelocations limit (relocation_faults f.ctx f.bytes f.segments) (is_clean q.sections) q.relocations)).1 relocations;
@@ -55,6 +59,9 @@ image_told limit bytes m p q sections relocations symbols exports imports fixups
   imports = imports;
   fixups = fixups;
   bindings = bindings;
+  signature =
+      let there = image_faults (bytes_held m) (commands_held m) (segments_held m) in
+      (there, ((faults_are m).lossy bytes 0 p there).1 refl, signature);
   layout = layout;
 }
 

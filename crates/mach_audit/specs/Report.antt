@@ -14,6 +14,8 @@ use Rattle.mach_segments.specs.Bindings.{Binding}
 use Rattle.mach_segments.specs.Segment.{SegmentView}
 use Rattle.mach_symbols.specs.declared.symbols.nlist.Nlist.{Nlist}
 use Rattle.mach_layout.specs.Facts.{HasLayoutFaults}
+use Rattle.mach_sign.specs.AsSigned.{SignatureFaultSeen}
+use Rattle.mach_signed.specs.SignedFacts.{HasSignatureFaults}
 use Rattle.mach_image.specs.Facts.{OfImage, HasSegments, HasSymbols, HasImportItems, HasFixups, HasBindings}
 use Rattle.mach_image.specs.Image.{Opens, ImageFault, LossyOpens}
 use Rattle.mach_image.specs.Subjects.{lossy_segments_in, libs_in, trie_in, trie_or_empty}
@@ -21,6 +23,7 @@ use Rattle.goblin_mach.specs.FatEntry.{FatEntry, archive, image, entry_at}
 use Rattle.goblin_mach.specs.FatFile.{FatFile, fat_file_in, arches_in}
 use Rattle.goblin_mach.specs.File.{HasFatMagic, MachFault, MachOpens}
 use Rattle.goblin_mach.specs.View.{IsTold}
+use Rattle.mach_audit.specs.Signed.{TellsSignature}
 use Rattle.mach_audit.specs.Told.{TellsOf, TellsOfTrie, TellsRelocations, faults_from, section_faults_told, relocation_faults}
 use Rattle.mach_audit.specs.Verdicts.{is_clean}
 use Rattle.mach_audit.specs.declared.report.EntryReport.TheVariants as entries
@@ -33,7 +36,8 @@ use Rattle.mach_audit.specs.declared.report.Place.TheVariants as places
 use Rattle.mach_audit.specs.declared.report.Report.TheVariants as reports
 use Rattle.mach_audit.specs.declared.report.Report.{Report}
 
--- Each part tells what can't be read of the first `limit` items of its list, and exactly whether the list has more.
+-- Each part tells what can't be read of the first `limit` items of its list, and exactly whether the list has more; that of the signature all that isn't as
+-- it was signed; and the layout its faults.
 pub record TellsImage {A : Type 0} (limit : ℕ) (bytes : List ℕ) (p : Parts A) : Type 0 where
   pub sections : (segments : List SegmentView) × HasSegments bytes 0 segments × TellsOf limit (section_faults_told segments) p.sections
   pub relocations : OfImage bytes 0 (λ ctx cs.
@@ -43,6 +47,7 @@ pub record TellsImage {A : Type 0} (limit : ℕ) (bytes : List ℕ) (p : Parts A
   pub imports : (items : List (Result Import Fault)) × HasImportItems bytes 0 items × TellsOf limit (faults_from places.Import 0 items) p.imports
   pub fixups : (items : List (Result Fixup Fault)) × HasFixups bytes 0 items × TellsOf limit (faults_from places.Fixup 0 items) p.fixups
   pub bindings : (items : List (Result Binding Fault)) × HasBindings bytes 0 items × TellsOf limit (faults_from places.Binding 0 items) p.bindings
+  pub signature : (there : Result (Option (List SignatureFaultSeen)) Fault) × HasSignatureFaults bytes 0 there × TellsSignature there p.signature
   pub layout : HasLayoutFaults bytes p.layout.items
 
 -- What is told of some bytes as an image: of what opens strictly, its parts; of what doesn't, a fault that stands; and the parts that lossy mode reads,

@@ -1,8 +1,9 @@
 -- When a file is sound: everything in it opens and can be read.
-use Rattle.std.specs.Prelude.{◌≡◌, ◌<◌, ◌++◌, ◌∷◌, ℕ, Bool, IsTrue, is_ok, List, [], map, length, Result, Ok, Err, IsOk}
+use Rattle.std.specs.Prelude.{◌≡◌, ◌<◌, ◌++◌, ◌∷◌, ℕ, Bool, IsTrue, is_ok, List, [], map, length, Result, Ok, Err, IsOk, None}
 use Rattle.std.specs.List.{list_all, flat_map}
 use Rattle.mach_base.specs.Fault.{Fault}
 use Rattle.mach_base.specs.declared.context.Ctx.{Ctx}
+use Rattle.mach_load.specs.Command.{Command}
 use Rattle.mach_binds.specs.Imports.{Import}
 use Rattle.mach_tries.specs.Trie as trie
 use Rattle.mach_tries.specs.TrieRange.{TrieRange, trie_there, ListsExports, ExportsFault, ExportsEnd}
@@ -16,6 +17,7 @@ use Rattle.mach_segments.specs.declared.segment.section.Section.{Section}
 use Rattle.mach_symbols.specs.declared.symbols.nlist.Nlist.{Nlist}
 use Rattle.mach_rules.specs.Containers.{AreContainerFaults}
 use Rattle.mach_layout.specs.Facts.{HasLayoutFaults}
+use Rattle.mach_signed.specs.SignedImages.{signature_place_in, IsImageAsSigned}
 use Rattle.mach_image.specs.Facts.{OfImage, HasSegments, HasSymbols, HasExports, HasImports, HasImportItems, HasFixups, HasBindings}
 use Rattle.goblin_mach.specs.FatEntry.{FatEntry, archive, image, entry_at}
 use Rattle.goblin_mach.specs.FatFile.{FatFile, fat_file_in, arches_in}
@@ -63,14 +65,24 @@ pub data AreExportItems (limit : ℕ) (t : TrieRange) (libs : List (List ℕ)) :
 abbrev pub HasExportItems : ℕ → List ℕ → ℕ → List (Result trie.Entry Fault) → Type 0
 HasExportItems limit bytes o items = OfImage bytes o (λ ctx cs. AreExportItems limit (trie_or_empty (trie_in bytes cs)) (libs_in bytes cs) items)
 
--- The image at 0 opens strictly, so that its segments have their data; its layout has no fault; the sections of all its segments, all its relocations
--- and all its symbols can be read; its exports and its imports have lists; and all fixups of its chains are there, and all
--- that dyld binds of it by the opcodes of the non-lazy and the lazy range and by chains. That its layout has no fault says, too, that its rebases by
+-- No command of an image brings a signature, or the image is as it was signed.
+pub data IsSoundlySigned (bytes : List ℕ) (cs : List Command) (segments : List SegmentView) : Type 0 where
+  unsigned : signature_place_in cs ≡ None → IsSoundlySigned bytes cs segments
+  as_signed : IsImageAsSigned bytes cs segments → IsSoundlySigned bytes cs segments
+
+-- so it is with the image at a place
+abbrev pub HasSoundSignature : List ℕ → ℕ → Type 0
+HasSoundSignature bytes o = OfImage bytes o (λ ctx cs. IsSoundlySigned bytes cs (lossy_segments_in ctx bytes cs))
+
+-- The image at 0 opens strictly, so that its segments have their data; its layout has no fault; it has no signature, or is as it was signed; the sections of
+-- all its segments, all its relocations and all its symbols can be read; its exports and its imports have lists; and all fixups of its chains are there, and
+-- all that dyld binds of it by the opcodes of the non-lazy and the lazy range and by chains. That its layout has no fault says, too, that its rebases by
 -- opcodes, its weak binds and its function starts can be read to their ends (`AreListFaults`), and that no data in code share bytes with the entry before or
--- lie in front of what may be executed or behind it. Nothing is said of signatures but that their range lies where it may.
+-- lie in front of what may be executed or behind it. Nothing is said of who signed it.
 pub record IsSoundImage (bytes : List ℕ) : Type 0 where
   pub opens : Opens bytes 0
   pub layout : HasLayoutFaults bytes []
+  pub signature : HasSoundSignature bytes 0
   pub sections : (segments : List SegmentView) × HasSegments bytes 0 segments × IsTrue (are_all_ok (all_sections segments))
   pub relocations : (items : List (Result RelocationInfo Fault)) × HasAllRelocations bytes 0 items × IsTrue (are_all_ok items)
   pub symbols : (rows : List (Result (List ℕ × Nlist) Fault)) × HasSymbols bytes 0 rows × IsTrue (are_all_ok rows)

@@ -10,6 +10,8 @@ use Rattle.mach_audit.specs.declared.report.Part.{Part}
 use Rattle.mach_audit.specs.declared.report.Parts.{Parts}
 use Rattle.mach_audit.specs.declared.report.Report.TheVariants as reports
 use Rattle.mach_audit.specs.declared.report.Report.{Report}
+use Rattle.mach_audit.specs.declared.report.SignatureReport.{SignatureReport}
+use Rattle.mach_audit.specs.declared.report.SignatureReport.TheVariants as signatures
 use Rattle.mach_audit.specs.declared.verdict.Verdict.TheVariants.{Sound, Unended, Faulty}
 use Rattle.mach_audit.specs.declared.verdict.Verdict.{Verdict}
 
@@ -39,10 +41,17 @@ abbrev pub verdict_of_layout : List LayoutFault → Verdict
 verdict_of_layout [] = Sound
 verdict_of_layout (f ∷ fs) = Faulty
 
+-- that of a signature: it has faults or can't be read, or neither
+abbrev pub verdict_of_signature : {A : Type 0} → SignatureReport A → Verdict
+verdict_of_signature signatures.Unsigned = Sound
+verdict_of_signature (signatures.Unreadable e) = Faulty
+verdict_of_signature (signatures.Signed p) = if p.faults == 0 then Sound else Faulty
+
 -- that of all parts
 abbrev pub verdict_of_parts : {A : Type 0} → Parts A → Verdict
 verdict_of_parts p =
-    verdict_of_both (verdict_of_layout p.layout.items) (verdict_of_both (verdict_of_read p.sections p.relocations) (verdict_of_both (verdict_of p.symbols)
+    verdict_of_both (verdict_of_both (verdict_of_layout p.layout.items) (verdict_of_signature p.signature))
+    (verdict_of_both (verdict_of_read p.sections p.relocations) (verdict_of_both (verdict_of p.symbols)
     (verdict_of_both (verdict_of p.exports) (verdict_of_both (verdict_of p.imports) (verdict_of_both (verdict_of p.fixups) (verdict_of p.bindings))))))
 
 -- that of an image: one that doesn't open strictly is faulty

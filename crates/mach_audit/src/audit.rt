@@ -24,6 +24,7 @@ use crate::lists::{
     audit_symbols,
 };
 use crate::report::{EntryReport, Failure, FatReport, ImageReport, Part, Parts, Report, no_memory};
+use crate::signed::audit_signature;
 use goblin_mach::fat::FatArch;
 use goblin_mach::segment::Segment;
 use goblin_mach::{Ctx, Error, Mach, MachO, MultiArch, SingleArch, laws};
@@ -97,6 +98,7 @@ fn audit_parts<A: Allocator, B: Allocator + Clone>(
     let imports = audit_imports(alloc.clone()?, image.iter_imports(), limit)?;
     let fixups = audit_fixups(alloc.clone()?, image.fixups(), limit)?;
     let bindings = audit_bindings(alloc.clone()?, image.bindings(), limit)?;
+    let signature = audit_signature(alloc.clone()?, image)?;
     let layout = audit_layout(alloc.clone()?, image)?;
     layout_laws::layout_faults_of_image(image);
     layout_laws::one_list_of_layout_faults();
@@ -114,6 +116,7 @@ fn audit_parts<A: Allocator, B: Allocator + Clone>(
         imports,
         fixups,
         bindings,
+        signature,
         layout,
     })
 }

@@ -2,11 +2,16 @@
 
 ghost use Rattle.std.specs.Prelude.{◌≡◌};
 
-use crate::layout_text::{Counts, fault_text, owner_text};
-use crate::report::{EntryReport, FatReport, Finding, ImageReport, Part, Parts, Report};
+use crate::layout_text::Counts;
+use crate::report::{
+    EntryReport, FatReport, Finding, ImageReport, Part, Parts, Report, SignaturePart,
+    SignatureReport,
+};
+use crate::signature_text::said_of;
 use crate::verdict::Verdict;
 use goblin_mach::{Error, describe};
-use mach_layout::LayoutFault;
+use mach_layout::{Evidence, LayoutFault};
+use mach_sign::{SignatureFault, SlotName};
 use serde_json::{Value, json};
 use std::alloc::{AllocError, Allocator, Global};
 
@@ -89,8 +94,8 @@ fn add_refusal(
 // A fault of layout.
 fn layout_value(alloc: Global, fault: LayoutFault) -> Result<Value, AllocError> {
     let place = format!(in alloc; "0x{:x}", fault.owner.command)?;
-    let owner = format!(in alloc; "{}", owner_text(fault.owner))?;
-    let words = format!(in alloc; "{}", fault_text(fault))?;
+    let owner = format!(in alloc; "{}", fault.owner)?;
+    let words = format!(in alloc; "{}", Evidence(fault))?;
     fault_value(
         alloc,
         fault.rule.words(),
@@ -119,7 +124,64 @@ fn add_layout(
     Ok(())
 }
 
-// Adds all parts of an image. Relocations that were not read are left out.
+// Whose a fault of a signature is: the directory of a slot, or the signature itself.
+fn signature_owner(alloc: Global, slot: Option<u32>) -> Result<String, AllocError> {
+    match slot {
+        Some(slot) => {
+            let name = SlotName(slot);
+            format!(in alloc; "{name}")
+        }
+        None => String::from_str(alloc, "signature"),
+    }
+}
+
+// A fault of a signature.
+fn signature_value(alloc: Global, fault: &SignatureFault) -> Result<Value, AllocError> {
+    let said = said_of(fault);
+    let place = said.place;
+    let place = format!(in alloc; "{place}")?;
+    let owner = signature_owner(alloc, said.slot)?;
+    let words = format!(in alloc; "{fault}")?;
+    fault_value(
+        alloc,
+        said.kind,
+        place.as_str(),
+        owner.as_str(),
+        words.as_str(),
+    )
+}
+
+// Adds the part of a signature that can be read.
+fn add_signed<A: Allocator>(
+    alloc: Global,
+    values: &mut Vec<Value>,
+    part: &SignaturePart<A>,
+) -> Result<(), AllocError> {
+    let mut told = Vec::new(alloc);
+    for fault in part.told.as_slice() {
+        told.push(signature_value(alloc, fault)?)?;
+    }
+    let more = part.faults.saturating_sub(told.len());
+    values.push(part_value(alloc, "signature", told, more, false)?)?;
+    Ok(())
+}
+
+// Adds the part of the signature, if there is one.
+fn add_signature<A: Allocator>(
+    alloc: Global,
+    values: &mut Vec<Value>,
+    signature: &SignatureReport<A>,
+) -> Result<(), AllocError> {
+    match signature {
+        SignatureReport::Unsigned => Ok(()),
+        SignatureReport::Unreadable(error) => {
+            add_refusal(alloc, values, "signature", Some(error))
+        }
+        SignatureReport::Signed(part) => add_signed(alloc, values, part),
+    }
+}
+
+// Adds all parts of an image. Relocations that were not read are left out, and so is a signature that isn't there.
 fn add_parts<A: Allocator>(
     alloc: Global,
     values: &mut Vec<Value>,
@@ -134,6 +196,7 @@ fn add_parts<A: Allocator>(
     add_part(alloc, values, "imports", &parts.imports)?;
     add_part(alloc, values, "fixups", &parts.fixups)?;
     add_part(alloc, values, "bindings", &parts.bindings)?;
+    add_signature(alloc, values, &parts.signature)?;
     add_layout(alloc, values, "layout", parts.layout.as_slice())
 }
 

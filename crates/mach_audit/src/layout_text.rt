@@ -1,68 +1,9 @@
-//! Faults of layout in words.
+//! Faults of layout, of each rule the first ten.
 
 use crate::tally::MOST_TOLD;
-use mach_layout::{LayoutFault, Owner, Part, Rule};
+use mach_layout::{LayoutFault, Rule};
+use std::io;
 use std::io::Write;
-use std::{fmt, io};
-
-/// Whose a fault is, in words.
-#[derive(Clone, Copy)]
-pub struct OwnerText {
-    owner: Owner,
-}
-
-/// The words of an owner: its part, its number if it has one, and the place of its command.
-pub fn owner_text(owner: Owner) -> OwnerText {
-    OwnerText { owner }
-}
-
-// Whether a part is one of several that have numbers.
-fn has_number(part: Part) -> bool {
-    matches!(
-        part,
-        Part::Section | Part::Relocations | Part::Slice | Part::Imports | Part::SymbolRanges
-    )
-}
-
-impl fmt::Display for OwnerText {
-    fn fmt<W: fmt::Write>(&self, f: &mut fmt::Formatter<W>) -> fmt::Result {
-        let Owner {
-            part,
-            command,
-            index,
-        } = self.owner;
-        if index > 0 || has_number(part) {
-            write!(f, "{part} {index} at 0x{command:x}")
-        } else {
-            write!(f, "{part} at 0x{command:x}")
-        }
-    }
-}
-
-/// What is the matter, in words: the other owner, if there is one, and the two numbers.
-#[derive(Clone, Copy)]
-pub struct FaultText {
-    fault: LayoutFault,
-}
-
-/// The words of a fault behind its rule and its owner.
-pub fn fault_text(fault: LayoutFault) -> FaultText {
-    FaultText { fault }
-}
-
-impl fmt::Display for FaultText {
-    fn fmt<W: fmt::Write>(&self, f: &mut fmt::Formatter<W>) -> fmt::Result {
-        let found = self.fault.found;
-        let limit = self.fault.limit;
-        match self.fault.other {
-            Some(other) => {
-                let other = owner_text(other);
-                write!(f, "0x{found:x} against 0x{limit:x} of {other}")
-            }
-            None => write!(f, "0x{found:x} against 0x{limit:x}"),
-        }
-    }
-}
 
 /// How many faults of each rule were met.
 #[derive(Clone, Copy)]
@@ -101,10 +42,7 @@ pub fn print_layout<O: Write>(name: &str, faults: &[LayoutFault], out: &mut O) -
     let mut counts = Counts::new();
     'faults: for fault in faults {
         if counts.is_told(fault.rule) {
-            let rule = fault.rule;
-            let owner = owner_text(fault.owner);
-            let words = fault_text(*fault);
-            writeln!(out, "  {name}: {rule}: {owner}: {words}")?;
+            writeln!(out, "  {name}: {fault}")?;
         }
     }
     'rules: for fault in faults {

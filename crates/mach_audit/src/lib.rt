@@ -11,6 +11,8 @@ mod lists;
 mod options;
 mod report;
 pub mod run;
+mod signature_text;
+mod signed;
 mod tally;
 mod text;
 mod verdict;

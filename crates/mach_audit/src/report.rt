@@ -7,6 +7,7 @@ ghost use Rattle.goblin_mach.specs.View.{IsTold};
 
 use goblin_mach::Error;
 use mach_layout::LayoutFault;
+use mach_sign::SignatureFault;
 use std::alloc::{AllocError, AllocFailed, Allocator, Global};
 use std::{fmt, io};
 
@@ -110,6 +111,26 @@ pub struct Part<A: Allocator = Global> {
     pub cut: bool,
 }
 
+/// What is said of a signature that can be read.
+#[derive(Drop)]
+pub struct SignaturePart<A: Allocator = Global> {
+    /// The first things that aren't as they were signed, ten at most.
+    pub told: Vec<SignatureFault, A>,
+    /// How many there are; the greatest number, where there are more than that.
+    pub faults: usize,
+}
+
+/// What is said of the signature of an image.
+#[derive(Drop)]
+pub enum SignatureReport<A: Allocator = Global> {
+    /// No command brings one.
+    Unsigned,
+    /// It can't be read, for this reason.
+    Unreadable(Error),
+    /// It can be read, and this of it isn't as it was signed.
+    Signed(SignaturePart<A>),
+}
+
 /// What is said of an image that opened, part by part.
 #[derive(Drop)]
 pub struct Parts<A: Allocator = Global> {
@@ -127,6 +148,8 @@ pub struct Parts<A: Allocator = Global> {
     pub fixups: Part<A>,
     /// What dyld binds, by opcodes and by chains.
     pub bindings: Part<A>,
+    /// The signature.
+    pub signature: SignatureReport<A>,
     /// The faults of its layout.
     pub layout: Vec<LayoutFault, A>,
 }

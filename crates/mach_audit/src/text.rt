@@ -4,6 +4,7 @@ ghost use Rattle.std.specs.Prelude.{◌≡◌};
 
 use crate::layout_text::print_layout;
 use crate::report::{EntryReport, FatReport, Finding, ImageReport, Part, Parts, Place, Report};
+use crate::signature_text::print_signature;
 use crate::verdict::Verdict;
 use goblin_mach::{Error, describe};
 use std::alloc::Allocator;
@@ -78,6 +79,7 @@ fn print_parts<A: Allocator, O: Write>(parts: &Parts<A>, out: &mut O) -> io::Res
     print_part("imports", &parts.imports, out)?;
     print_part("fixups", &parts.fixups, out)?;
     print_part("bindings", &parts.bindings, out)?;
+    print_signature(&parts.signature, out)?;
     print_layout("layout", parts.layout.as_slice(), out)
 }
 

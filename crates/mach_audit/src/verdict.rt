@@ -3,8 +3,9 @@
 ghost use Rattle.std.specs.Prelude.{◌≡◌};
 ghost use Rattle.mach_audit.specs.Verdicts.{verdict_of_both, verdict_of, verdict_of_read, verdict_of_entries, is_clean, verdict_of_parts, verdict_of_image};
 ghost use Rattle.mach_audit.specs.Verdicts.{verdict_of_entry, verdict_of_fat, verdict_of_table, verdict_of_layout, verdict_of_report};
+ghost use Rattle.mach_audit.specs.Verdicts.{verdict_of_signature};
 
-use crate::report::{EntryReport, FatReport, ImageReport, Part, Parts, Report};
+use crate::report::{EntryReport, FatReport, ImageReport, Part, Parts, Report, SignatureReport};
 use mach_layout::LayoutFault;
 use std::alloc::Allocator;
 
@@ -54,6 +55,25 @@ impl<A: Allocator> Part<A> {
     }
 }
 
+impl<A: Allocator> SignatureReport<A> {
+    // Whether the signature is sound: it is where there is none.
+    fn verdict(&self) -> Verdict
+        ensures { result ≡ verdict_of_signature self.now }
+    {
+        match self {
+            SignatureReport::Unsigned => Verdict::Sound,
+            SignatureReport::Unreadable(_) => Verdict::Faulty,
+            SignatureReport::Signed(part) => {
+                if part.faults > 0 {
+                    Verdict::Faulty
+                } else {
+                    Verdict::Sound
+                }
+            }
+        }
+    }
+}
+
 impl<A: Allocator> Parts<A> {
     // Whether all parts are sound. Relocations that were not read follow from the sections.
     fn verdict(&self) -> Verdict
@@ -66,7 +86,10 @@ impl<A: Allocator> Parts<A> {
             .and(self.imports.verdict().and(bound));
         let named = self.symbols.verdict().and(linked);
         let readable = self.read_verdict().and(named);
-        layout_verdict(self.layout.as_slice()).and(readable)
+        let signed = self.signature.verdict();
+        layout_verdict(self.layout.as_slice())
+            .and(signed)
+            .and(readable)
     }
 
     // Whether the sections and the relocations are sound.

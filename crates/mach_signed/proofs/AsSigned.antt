@@ -1,6 +1,6 @@
 -- An image has a signature without a fault exactly where it is as it was signed.
-use Rattle.std.proofs.Common.{◌≡◌, ℕ, List, [], Option, Some, None, Result, Ok, Err, refl, sym, ap, ◌∙◌}
-use Rattle.std.specs.Prelude.{◌↔◌}
+use Rattle.std.proofs.Common.{◌≡◌, ℕ, List, [], ◌∷◌, Bool, Option, Some, None, Result, Ok, Err, refl, sym, ap, ◌∙◌}
+use Rattle.std.specs.Prelude.{◌↔◌, IsTrue}
 use Rattle.mach_base.specs.Answer.{◌>>=◌}
 use Rattle.mach_base.specs.Fault.{Fault}
 use Rattle.mach_base.proofs.Binds.{bind_ok, same_ok}
@@ -9,7 +9,7 @@ use Rattle.mach_segments.specs.Segment.{SegmentView}
 use Rattle.mach_sign.specs.AsSigned.{SignedImage, SignatureFaultSeen, signature_in, signature_faults_of, faults_in}
 use Rattle.mach_sign.specs.SuperBlob.{SuperBlob}
 use Rattle.mach_sign.proofs.Promise.{all_as_signed, as_signed_all}
-use Rattle.mach_signed.specs.SignedImages.{signature_place_in, plist_of, faults_there, image_faults, IsImageAsSigned}
+use Rattle.mach_signed.specs.SignedImages.{signature_place_in, plist_of, faults_there, image_faults, is_as_signed, IsImageAsSigned}
 
 same_list : {A : Type 0} {x y : A} → ◌≡◌ {A = Result (Option A) Fault} (Ok (Some x)) (Ok (Some y)) → x ≡ y
 same_list e = cc
@@ -52,3 +52,26 @@ module _ (bytes : List ℕ) (cs : List Command) (segments : List SegmentView) wh
 pub as_signed : (bytes : List ℕ) (cs : List Command) (segments : List SegmentView)
     → (image_faults bytes cs segments ≡ Ok (Some [])) ↔ IsImageAsSigned bytes cs segments
 as_signed bytes cs segments = (signed bytes cs segments, untold bytes cs segments)
+
+-- ---- whether it is, by what is told
+
+-- what is told of a signature
+abbrev Found : Type 0
+Found = Result (Option (List SignatureFaultSeen)) Fault
+
+true_untold : (found : Found) (is : Bool) → is_as_signed found ≡ Ok is → IsTrue is → found ≡ Ok (Some [])
+true_untold (Ok None) is e said = absurd (cc)
+true_untold (Ok (Some [])) is e said = refl
+true_untold (Ok (Some (f ∷ fs))) is e said = absurd (cc)
+true_untold (Err f) is e said = absurd (cc)
+
+pub as_signed_said : (bytes : List ℕ) (cs : List Command) (segments : List SegmentView) (is : Bool) → is_as_signed (image_faults bytes cs segments) ≡ Ok is
+    → IsTrue is ↔ IsImageAsSigned bytes cs segments
+as_signed_said bytes cs segments is e = (
+  (λ said. (as_signed bytes cs segments).0 (true_untold (image_faults bytes cs segments) is e said)),
+  (λ holds. sym (same_ok (sym (ap is_as_signed ((as_signed bytes cs segments).1 holds)) ∙ e))),
+)
+
+pub refusal_said : (found : Found) (f : Fault) → is_as_signed found ≡ Err f → found ≡ Err f
+refusal_said (Ok faults) f e = absurd (cc)
+refusal_said (Err g) f e = cc

@@ -16,6 +16,8 @@ use Rattle.mach_segments.specs.declared.segment.section.Section.{Section}
 use Rattle.mach_image.specs.EntryPoint.{is_text_name}
 use Rattle.mach_image.specs.Readings.{Reading, read_of, first_of}
 use Rattle.mach_sign.specs.AsSigned.{SignedImage, SignatureFaultSeen, signature_in, faults_in, IsAsSigned}
+use Rattle.mach_sign.specs.Chosen.{directory_of}
+use Rattle.mach_sign.specs.Directories.{Directory}
 use Rattle.mach_sign.specs.SuperBlob.{SuperBlob}
 
 -- ---- where it lies
@@ -40,6 +42,14 @@ signature_there bytes (Some place) = signature_in bytes place.0 place.1 >>= (λ 
 
 abbrev pub image_signature : List ℕ → List Command → Result (Option SuperBlob) Fault
 image_signature bytes cs = signature_there bytes (signature_place_in cs)
+
+-- its code directory that counts, if there is a signature
+abbrev pub directory_there : Option SuperBlob → Result (Option Directory) Fault
+directory_there None = Ok None
+directory_there (Some s) = directory_of s >>= (λ d. Ok (Some d))
+
+abbrev pub image_directory : List ℕ → List Command → Result (Option Directory) Fault
+image_directory bytes cs = image_signature bytes cs >>= directory_there
 
 -- ---- what it seals as Info.plist
 
@@ -87,3 +97,12 @@ pub record IsImageAsSigned (bytes : List ℕ) (cs : List Command) (segments : Li
   pub signature : SuperBlob
   pub reads : signature_in bytes place.0 place.1 ≡ Ok signature
   pub holds : IsAsSigned (record { bytes = bytes; dataoff = place.0; signature = signature; plist = plist_of bytes segments })
+
+-- whether no fault is told of a signature that is there, or why it can't be read
+abbrev pub are_untold : Option (List SignatureFaultSeen) → Bool
+are_untold None = false
+are_untold (Some []) = true
+are_untold (Some (f ∷ fs)) = false
+
+abbrev pub is_as_signed : Result (Option (List SignatureFaultSeen)) Fault → Result Bool Fault
+is_as_signed faults = faults >>= (λ faults. Ok (are_untold faults))

@@ -8,4 +8,6 @@ mod signed;
 
 pub use crate::place::signature_place;
 pub use crate::plist::info_plist;
-pub use crate::signed::{code_signature, image_plist, signature_faults};
+pub use crate::signed::{
+    code_directory, code_signature, image_plist, is_as_signed, signature_faults,
+};

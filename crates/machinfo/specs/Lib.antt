@@ -4,4 +4,5 @@ pub mod NumberedNotes
 pub mod ProvidedSymbols
 pub mod Rows
 pub mod Counts
+pub mod Signed
 pub mod ImageLines

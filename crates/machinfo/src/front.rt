@@ -1,4 +1,4 @@
-//! What is said of an image in front of its counts. That it is so is tested, and no clause says it.
+//! What is said of an image in front of its counts, but for its signature. That it is so is tested, and no clause says it.
 
 use crate::text::LibraryText;
 use goblin_mach::MachO;
@@ -45,7 +45,7 @@ impl Display for RightsText {
     }
 }
 
-/// What is said of an image in front of its counts.
+/// What is said of an image first.
 pub fn front_of<A: Allocator>(alloc: A, image: &MachO<'_, A>) -> Result<String<A>, AllocError> {
     let mut text = String::new(alloc);
     add_kind(&mut text, image)?;
@@ -62,7 +62,6 @@ pub fn front_of<A: Allocator>(alloc: A, image: &MachO<'_, A>) -> Result<String<A
         add_segment(&mut text, segment)?;
     }
     add_libraries(&mut text, image)?;
-    add_state(&mut text, image)?;
     Ok(text)
 }
 
@@ -225,31 +224,29 @@ fn add_libraries<A: Allocator>(
     Ok(())
 }
 
-// Whether the image is signed, encrypted and stripped, and how many symbols it has.
-fn add_state<A: Allocator>(text: &mut String<A>, image: &MachO<'_, A>) -> Result<(), AllocError> {
-    let mut is_signed = false;
+/// Whether an image is encrypted and stripped, and how many symbols it has.
+pub fn state_of<A: Allocator>(alloc: A, image: &MachO<'_, A>) -> Result<String<A>, AllocError> {
+    let mut text = String::new(alloc);
     let mut is_encrypted = false;
     let mut has_local = false;
     'commands: for command in &image.load_commands {
         match &command.command {
-            CommandVariant::CodeSignature(_) => is_signed = true,
             CommandVariant::EncryptionInfo32(c) => is_encrypted |= c.cryptid != 0,
             CommandVariant::EncryptionInfo64(c) => is_encrypted |= c.cryptid != 0,
             CommandVariant::Dysymtab(c) => has_local |= c.nlocalsym != 0,
             _ => {}
         }
     }
-    let signed = yes_or_no(is_signed);
     let encrypted = yes_or_no(is_encrypted);
     let stripped = yes_or_no(!has_local);
-    writeln!(text, "signed: {signed}")?;
     writeln!(text, "encrypted: {encrypted}")?;
     writeln!(text, "stripped: {stripped}")?;
     let symbols = match &image.symbols {
         Some(table) => table.len(),
         None => 0,
     };
-    writeln!(text, "symbols: {symbols}")
+    writeln!(text, "symbols: {symbols}")?;
+    Ok(text)
 }
 
 // A word.

@@ -1,5 +1,5 @@
-//! Prints what a Mach-O image is, and how many items its lists have; or with a word one list of what it says, a line an item: its function starts, stubs
-//! and pointers, indirect symbols, data among code,
+//! Prints what a Mach-O image is, how it is signed, and how many items its lists have; or with a word one list of what it says, a line an item:
+//! its function starts, stubs and pointers, indirect symbols, data among code,
 //! options for the linker, tools, notes, providers of symbols, libraries, rebases or weak binds; of a fat file that of each entry, or of those for
 //! one cpu, under a line that says which. Of a file it prints at most as many rows as `--limit` says, and behind those of an image that
 //! has more, a line that says so. A row that can't be told is a line that says why.
@@ -12,6 +12,7 @@ mod notes;
 mod providers;
 mod row;
 mod run;
+mod signed;
 mod text;
 mod word;
 

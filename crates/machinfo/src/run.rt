@@ -8,8 +8,9 @@ ghost use Rattle.mach_show.specs.Statuses.{IsStatus, status_by};
 ghost use Rattle.machinfo.specs.ImageLines.{AreImageListLines, AreImageSummaryLines};
 
 use crate::counts::print_counts;
-use crate::front::front_of;
+use crate::front::{front_of, state_of};
 use crate::list::ImageList;
+use crate::signed::print_signed;
 use crate::word::Word;
 use goblin_mach::MachO;
 use mach_show::{Cpu, Failure, Heading, Names, Outcome, Shows, print_listing};
@@ -84,8 +85,11 @@ impl Shows for SummaryOf<'_> {
         out: &mut O,
     ) -> Result<Outcome, Failure> {
         let front = front_of(alloc.clone()?, image)?;
+        let state = state_of(alloc.clone()?, image)?;
         write!(out, "{heading}")?;
         write!(out, "{front}")?;
+        print_signed(image, out)?;
+        write!(out, "{state}")?;
         let words = [
             Word::Starts,
             Word::Slots,
@@ -104,9 +108,10 @@ impl Shows for SummaryOf<'_> {
     }
 }
 
-/// Says of the images of a file that are asked for what they are, and how many items each of their lists has, of which it goes over `limit` at most, and
-/// answers the exit status: 0 where nothing was refused; 1 where the file or an entry of a fat one was, or memory, and then `err` has a line that says
-/// why, or where an item can't be read, or a list has more than the limit; 2 or 141 where a write fails. But for that nothing is left in the buffer.
+/// Says of the images of a file that are asked for what they are, how they are signed, and how many items each of their lists has, of which it goes over
+/// `limit` at most, and answers the exit status: 0 where nothing was refused; 1 where the file or an entry of a fat one was, or memory, and then `err` has a
+/// line that says why, or where an item can't be read, or a list has more than the limit; 2 or 141 where a write fails. But for that nothing is left in
+/// the buffer.
 pub fn run_summary<A: Allocator + Clone, W: Write + Drop, B: Allocator, E: Write>(
     alloc: A,
     cpu: Cpu,

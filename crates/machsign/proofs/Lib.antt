@@ -1,5 +1,4 @@
 pub mod Written
-pub mod FlagWords
 pub mod Whole
 pub mod SignedFacts
 pub mod Lacking

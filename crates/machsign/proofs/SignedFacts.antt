@@ -8,8 +8,9 @@ use Rattle.mach_image.proofs.ImageFacts.{facts_are, strict-lossy}
 use Rattle.mach_sign.specs.AsSigned.{SignedImage}
 use Rattle.mach_signed.specs.SignedImages.{image_signature, signature_place_in, IsImageAsSigned}
 use Rattle.mach_signed.proofs.AsSigned.{as_signed}
+use Rattle.mach_signed.specs.SignedFacts.{HoldsAsSigned}
 use Rattle.machsign.specs.Entitlements.{entitlements_of, HasEntitlements}
-use Rattle.machsign.specs.ImageLines.{image_signed, HasSigned, HoldsAsSigned}
+use Rattle.machsign.specs.ImageLines.{image_signed, HasSigned}
 use Rattle.machsign.specs.Signatures.{AreSignatureLines}
 use Rattle.machsign.proofs.Whole.{faults_are_by, whole_untold, untold_whole}
 

@@ -15,8 +15,9 @@ use Rattle.mach_sign.specs.declared.hash.HashType.{HashType}
 use Rattle.mach_sign.specs.declared.records.DirectoryHead.{DirectoryHead}
 use Rattle.mach_sign.specs.declared.records.ExecutableSegment.{ExecutableSegment}
 use Rattle.mach_sign.specs.declared.records.RuntimeFields.{RuntimeFields}
-use Rattle.machsign.specs.Flags.{code_flags, segment_flags, worded_flags_text}
-use Rattle.machsign.specs.Texts.{bytes_text, name_text, hash_name, pages_text, runtime_text}
+use Rattle.mach_sign_text.specs.Flags.{code_flags, segment_flags, worded_flags_text}
+use Rattle.mach_sign_text.specs.Names.{bytes_text, name_text}
+use Rattle.machsign.specs.Texts.{hash_name, pages_text, runtime_text}
 
 -- what is said of it before its flags
 abbrev pub head_front : (version : ℕ) → List ℕ

@@ -8,7 +8,8 @@ use Rattle.mach_image.specs.Facts.{OfImage}
 use Rattle.mach_image.specs.Image.{Opens}
 use Rattle.mach_image.specs.Subjects.{lossy_segments_in}
 use Rattle.mach_sign.specs.AsSigned.{SignedImage, signature_in}
-use Rattle.mach_signed.specs.SignedImages.{signature_place_in, plist_of, IsImageAsSigned}
+use Rattle.mach_signed.specs.SignedFacts.{HoldsAsSigned}
+use Rattle.mach_signed.specs.SignedImages.{signature_place_in, plist_of}
 use Rattle.machsign.specs.Signatures.{AreSignatureLines}
 
 -- the signature that lies at a place, if one does, with the bytes of its image
@@ -24,10 +25,6 @@ image_signed bytes cs segments = signed_there bytes (signature_place_in cs) (pli
 -- The image at o of the bytes has this signature, if it has one.
 abbrev pub HasSigned : List ℕ → ℕ → Result (Option SignedImage) Fault → Type 0
 HasSigned bytes o there = OfImage bytes o (λ ctx cs. there ≡ image_signed bytes cs (lossy_segments_in ctx bytes cs))
-
--- The image at o of the bytes is as it was signed.
-abbrev pub HoldsAsSigned : List ℕ → ℕ → Type 0
-HoldsAsSigned bytes o = OfImage bytes o (λ ctx cs. IsImageAsSigned bytes cs (lossy_segments_in ctx bytes cs))
 
 -- The text is the lines of the signature of the image at the front of the bytes. It is whole exactly where the image is as it was signed.
 pub record AreImageSignatureLines (bytes : List ℕ) (text : List ℕ) (whole : Bool) : Type 0 where

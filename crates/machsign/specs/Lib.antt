@@ -1,4 +1,3 @@
-pub mod Flags
 pub mod Texts
 pub mod Blocks
 pub mod Signatures

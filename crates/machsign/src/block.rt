@@ -10,15 +10,13 @@ ghost use Rattle.mach_sign.specs.Directories.{cdhash_of, code_limit_of, identifi
 ghost use Rattle.mach_sign.specs.DirectoryViews.{directory_view, slot_read};
 ghost use Rattle.mach_sign.specs.FaultViews.{signed_view};
 ghost use Rattle.machsign.specs.Blocks as defined;
-ghost use Rattle.machsign.specs.Texts.{name_text};
 
-use crate::escaped::{print_bytes, print_escaped};
-use crate::flags::{print_code_flags, print_segment_flags};
 use crate::text::{HeadFront, RuntimeText, SegmentFront, ShapeText, SlotFront};
 use mach_sign::{
     CodeDirectory, CodeFault, CodeFaults, ExecutableSegment, RuntimeFields, SignedBytes, component,
     is_unsealing,
 };
+use mach_sign_text::{print_bytes, print_code_flags, print_segment_flags};
 use std::io;
 use std::io::Write;
 
@@ -100,17 +98,6 @@ fn print_team<O: Write>(directory: &CodeDirectory<'_>, out: &mut O) -> io::Resul
     print_name("team", directory.team(), out)
 }
 
-// Prints a name, if there is one.
-fn print_name_text<O: Write>(name: mach_base::Result<Option<&str>>, out: &mut O) -> io::Result<()>
-    ensures { OnOk result (Appends (O.contents out.old) (O.contents out.new) (name_text (read_as (option_map (λ text. text.now)) name.entry))) }
-{
-    match name {
-        Ok(Some(name)) => print_escaped(name, out),
-        Ok(None) => write!(out, "-"),
-        Err(_) => write!(out, "unreadable"),
-    }
-}
-
 // Prints the line of a name.
 fn print_name<O: Write>(
     label: &str,
@@ -121,7 +108,7 @@ fn print_name<O: Write>(
         (defined.name_line label.now (read_as (option_map (λ text. text.now)) name.entry))) }
 {
     write!(out, "  {label}: ")?;
-    print_name_text(name, out)?;
+    mach_sign_text::print_name(name, out)?;
     writeln!(out)
 }
 

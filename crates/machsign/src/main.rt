@@ -8,8 +8,6 @@
 
 mod block;
 mod entitlements;
-mod escaped;
-mod flags;
 mod print;
 mod run;
 mod signed;

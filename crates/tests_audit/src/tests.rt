@@ -150,7 +150,7 @@ fn words_of_a_call(rt: HostRuntime) -> Result<(), Fail> {
 #[test]
 fn refused_memory(rt: HostRuntime) -> Result<(), Fail> {
     let file = library(rt.alloc())?;
-    same(&rt, sum_of(&file), 8870702196131912301);
+    same(&rt, sum_of(&file), 14363918192364640927);
     let mut refused = 0u32;
     let mut sound = 0u32;
     for size in 0..400 {

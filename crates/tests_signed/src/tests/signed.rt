@@ -4,7 +4,7 @@ use crate::tests::images::{SEALED, UNSEALED, image_of};
 use crate::tests::same::same;
 use mach_base::describe;
 use mach_image::macho::MachO;
-use mach_signed::{code_signature, info_plist, signature_faults};
+use mach_signed::{code_directory, code_signature, info_plist, is_as_signed, signature_faults};
 use std::alloc::{AllocError, Global};
 use std::fmt::Write;
 use std::process::Abort;
@@ -111,6 +111,11 @@ fn a_signature(rt: HostRuntime) -> Result<(), Fail> {
     let directory = signature.directory()?;
     same(&rt, directory.identifier()?, Some("id"));
     same(&rt, signature.count, 1);
+    let Some(counting) = code_directory(&image)? else {
+        return Err(Fail::new("no code directory"));
+    };
+    same(&rt, counting.cdhash(), directory.cdhash());
+    same(&rt, is_as_signed(&image)?, true);
     let plist = info_plist(image.bytes(), image.segments.sections());
     same(&rt, plist, Some(b"<plist/>".as_slice()));
     Ok(())

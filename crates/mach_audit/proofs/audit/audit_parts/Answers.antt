@@ -5,7 +5,7 @@ use Rattle.mach_image.specs.BindingsLeft.{bindings_left}
 use Rattle.mach_image.specs.Facts.{HasFixups, HasBindings}
 use Rattle.mach_image.specs.FixupsLeft.{image_fixups_left}
 use Rattle.mach_audit.proofs.Images.{layout_judged, read_judged, judged_one, sections_judged, relocations_judged, symbols_judged, exports_judged}
-use Rattle.mach_audit.proofs.Images.{imports_judged, parts_judged}
+use Rattle.mach_audit.proofs.Images.{imports_judged, signature_judged, parts_judged}
 use Rattle.mach_layout.specs.Facts.{HasLayoutFaults}
 use Rattle.mach_audit.proofs.Reports.{image_told}
 use Rattle.mach_audit.proofs.Told.{plain_from}
@@ -26,6 +26,7 @@ returns-clause-judged g c = λ bytes image.
       imports = c.in_ok-imports.imports;
       fixups = c.in_ok-fixups.fixups;
       bindings = c.in_ok-bindings.bindings;
+      signature = c.in_ok-signature.signature;
       layout = c.in_ok-layout.layout;
     } in
     let sections = rw c.as_slice-segments.ensures at c.in_ok-sections.ensures.told in
@@ -53,6 +54,7 @@ returns-clause-judged g c = λ bytes image.
     (layout_judged (HasLayoutFaults bytes) parts.layout.items ((c.layout_faults_of_image.ensures.strict bytes image parts.layout.items).1
     c.in_ok-layout.ensures.told)
     (λ list others. c.one_list_of_layout_faults.ensures bytes list others))
+    (signature_judged bytes m image limit parts.signature c.in_ok-signature.ensures.told)
 
 pub returns-clause-told : goal.returns-clause-told
 returns-clause-told g c = λ bytes image.
@@ -66,6 +68,7 @@ returns-clause-told g c = λ bytes image.
       imports = c.in_ok-imports.imports;
       fixups = c.in_ok-fixups.fixups;
       bindings = c.in_ok-bindings.bindings;
+      signature = c.in_ok-signature.signature;
       layout = c.in_ok-layout.layout;
     } in
     let items = imports_left c.iter_imports.result in
@@ -79,4 +82,5 @@ returns-clause-told g c = λ bytes image.
     (items, (c.import_items_of_image.ensures.lossy bytes 0 image items).1 c.iter_imports.ensures, c.in_ok-imports.ensures.told)
     (fixups, (c.fixups_of_image.ensures.lossy bytes 0 image fixups).1 c.fixups.ensures, c.in_ok-fixups.ensures.told)
     (bindings, (c.bindings_of_image.ensures.lossy bytes 0 image bindings).1 c.bindings.ensures, c.in_ok-bindings.ensures.told)
+    c.in_ok-signature.ensures.told
     ((c.layout_faults_of_image.ensures.lossy bytes image parts.layout.items).1 c.in_ok-layout.ensures.told)

@@ -1,4 +1,4 @@
-use Rattle.std.proofs.Common.{◌++◌, [], List, subst}
+use Rattle.std.proofs.Common.{[], List, subst}
 use Rattle.std.proofs.lemmas.List.{take_all}
 use Rattle.mach_base.proofs.Written.{Appends-none, Appends-both}
 use Rattle.machinfo.specs.Counts.{AreCountLines, no_counts}

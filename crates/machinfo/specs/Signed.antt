@@ -1,0 +1,48 @@
+-- The lines that say whether an image is signed, and what its code directory that counts says.
+use Rattle.std.specs.Prelude.{◌≡◌, ◌==◌, ℕ, List, ◌++◌, codes, bit_and, if◌then◌else◌, Option, Some, None, Result, Ok, Err}
+use Rattle.std.specs.Io.KnownBytes.{Appends}
+use Rattle.std.specs.Option.{option_map}
+use Rattle.mach_base.specs.Answer.{Reads}
+use Rattle.mach_base.specs.Fault.{Fault}
+use Rattle.mach_base.specs.Words.{words_of}
+use Rattle.mach_base.specs.declared.error.Error.{Error}
+use Rattle.mach_sign.specs.Directories.{Directory, identifier_of, team_of}
+use Rattle.mach_sign.specs.DirectoryViews.{directory_view}
+use Rattle.mach_sign.specs.declared.directory.CodeDirectory.{CodeDirectory}
+use Rattle.mach_sign_text.specs.Flags.{code_flags, worded_flags_text}
+use Rattle.mach_sign_text.specs.Names.{name_text}
+
+-- that it is signed, and ad hoc where the flag of that is set (`cs_blobs.h`, CS_ADHOC)
+abbrev pub signed_line : (flags : ℕ) → List ℕ
+signed_line flags = if bit_and flags 2 == 0 then codes "signed: yes\n" else codes "signed: yes, ad hoc\n"
+
+-- a name, if there is one
+abbrev pub said_name : (label : List ℕ) → Result (Option (List ℕ)) Fault → List ℕ
+said_name label name = label ++ (codes ": " ++ (name_text name ++ codes "\n"))
+
+-- the flags and their words
+abbrev pub signature_flags_line : (flags : ℕ) → List ℕ
+signature_flags_line flags = codes "signature flags: " ++ (worded_flags_text code_flags flags ++ codes "\n")
+
+abbrev pub directory_said : Directory → List ℕ
+directory_said d =
+    signed_line d.head.flags
+    ++ (said_name (codes "identifier") (identifier_of d) ++ (said_name (codes "team") (team_of d) ++ signature_flags_line d.head.flags))
+
+-- an answer in words: that there is no signature, what the directory says, or why that can't be told
+abbrev pub signature_answer_text : Result (Option CodeDirectory) Error → List ℕ
+signature_answer_text (Ok None) = codes "signed: no\n"
+signature_answer_text (Ok (Some d)) = directory_said (directory_view d)
+signature_answer_text (Err e) = codes "signed: refused: " ++ (words_of e ++ codes "\n")
+
+-- The text says what is there, or has the words of an error that reports why it can't be told.
+pub record AreSignedLines (there : Result (Option Directory) Fault) (text : List ℕ) : Type 0 where
+  pub answer : Result (Option CodeDirectory) Error
+  pub reads : Reads (option_map directory_view) answer there
+  pub is_text : text ≡ signature_answer_text answer
+
+-- What was written is such lines.
+pub record WritesSignedLines (there : Result (Option Directory) Fault) (old new : Option (List ℕ)) : Type 0 where
+  pub text : List ℕ
+  pub lines : AreSignedLines there text
+  pub written : Appends old new text

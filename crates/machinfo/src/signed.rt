@@ -1,0 +1,118 @@
+//! Whether an image is signed, and what its code directory says.
+
+ghost use Rattle.std.specs.Prelude.{◌≡◌, ◌==◌, ◌++◌, bit_and, codes, not, OnOk};
+ghost use Rattle.std.specs.Option.{option_map};
+ghost use Rattle.std.specs.Io.KnownBytes.{Appends};
+ghost use Rattle.mach_base.specs.Items.{read_as};
+ghost use Rattle.mach_base.specs.Words.{words_of};
+ghost use Rattle.mach_image.specs.OpenImage.{bytes_held, commands_held};
+ghost use Rattle.mach_sign.specs.Directories.{identifier_of, team_of};
+ghost use Rattle.mach_sign.specs.DirectoryViews.{directory_view};
+ghost use Rattle.mach_signed.specs.SignedImages.{image_directory};
+ghost use Rattle.machinfo.specs.Signed.{directory_said, said_name, signature_flags_line, signed_line, signature_answer_text, WritesSignedLines};
+
+use goblin_mach::{Error, MachO, describe};
+use mach_sign::CodeDirectory;
+use mach_sign_text::{print_code_flags, print_name};
+use mach_signed::code_directory;
+use std::alloc::Allocator;
+use std::io;
+use std::io::Write;
+
+/// Prints whether an image is signed, and what the code directory says that counts; or why it can't be told.
+pub fn print_signed<A: Allocator, O: Write>(image: &MachO<'_, A>, out: &mut O) -> io::Result<()>
+    ensures { OnOk result (WritesSignedLines (image_directory (bytes_held image.now) (commands_held image.now))
+        (O.contents out.old) (O.contents out.new)) }
+{
+    let directory = code_directory(image);
+    print_answer(&directory, out)
+}
+
+// Prints an answer in words.
+fn print_answer<O: Write>(
+    answer: &goblin_mach::Result<Option<CodeDirectory<'_>>>,
+    out: &mut O,
+) -> io::Result<()>
+    ensures { OnOk result (Appends (O.contents out.old) (O.contents out.new) (signature_answer_text answer.now)) }
+{
+    match answer {
+        Ok(Some(directory)) => print_directory(directory, out),
+        Ok(None) => writeln!(out, "signed: no"),
+        Err(error) => print_refused(error, out),
+    }
+}
+
+// Prints why a signature can't be read.
+fn print_refused<O: Write>(error: &Error, out: &mut O) -> io::Result<()>
+    ensures { OnOk result (Appends (O.contents out.old) (O.contents out.new) (codes "signed: refused: " ++ (words_of error.now ++ codes "\n"))) }
+{
+    let words = describe(error);
+    writeln!(out, "signed: refused: {words}")
+}
+
+// Prints what a code directory says.
+fn print_directory<O: Write>(directory: &CodeDirectory<'_>, out: &mut O) -> io::Result<()>
+    ensures { OnOk result (Appends (O.contents out.old) (O.contents out.new) (directory_said (directory_view directory.now))) }
+{
+    print_kind(directory.head.flags, out)?;
+    print_identifier(directory, out)?;
+    print_team(directory, out)?;
+    print_flags(directory.head.flags, out)
+}
+
+// Whether flags say that a signature is ad hoc, with no one's name under it.
+fn is_ad_hoc(flags: u32) -> bool
+    ensures { result ≡ not (bit_and flags 2 == 0) }
+{
+    flags & 2 != 0
+}
+
+// Prints that an image is signed, and how.
+fn print_kind<O: Write>(flags: u32, out: &mut O) -> io::Result<()>
+    ensures { OnOk result (Appends (O.contents out.old) (O.contents out.new) (signed_line flags)) }
+{
+    if is_ad_hoc(flags) {
+        writeln!(out, "signed: yes, ad hoc")
+    } else {
+        writeln!(out, "signed: yes")
+    }
+}
+
+// Prints the line of the identifier.
+fn print_identifier<O: Write>(directory: &CodeDirectory<'_>, out: &mut O) -> io::Result<()>
+    ensures { OnOk result (Appends (O.contents out.old) (O.contents out.new)
+        (said_name (codes "identifier") (identifier_of (directory_view directory.now)))) }
+{
+    print_said("identifier", directory.identifier(), out)
+}
+
+// Prints the line of the team.
+fn print_team<O: Write>(directory: &CodeDirectory<'_>, out: &mut O) -> io::Result<()>
+    ensures { OnOk result (Appends (O.contents out.old) (O.contents out.new)
+        (said_name (codes "team") (team_of (directory_view directory.now)))) }
+{
+    print_said("team", directory.team(), out)
+}
+
+// Prints the line of a name.
+fn print_said<O: Write>(
+    label: &str,
+    name: goblin_mach::Result<Option<&str>>,
+    out: &mut O,
+) -> io::Result<()>
+    ensures { OnOk result (Appends (O.contents out.old) (O.contents out.new)
+        (said_name label.now (read_as (option_map (λ text. text.now)) name.entry))) }
+{
+    write!(out, "{label}: ")?;
+    print_name(name, out)?;
+    writeln!(out)
+}
+
+// Prints the line of the flags.
+fn print_flags<O: Write>(flags: u32, out: &mut O) -> io::Result<()>
+    ensures { OnOk result (Appends (O.contents out.old) (O.contents out.new) (signature_flags_line flags)) }
+{
+    write!(out, "signature flags: ")?;
+    print_code_flags(flags, out)?;
+    writeln!(out)
+}

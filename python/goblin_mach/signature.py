@@ -1,0 +1,150 @@
+"""The code signature of an image: what its code directory says that counts, and what isn't as it was signed."""
+
+from __future__ import annotations
+
+import ctypes
+import plistlib
+from typing import Any, Callable, Dict, Iterator, NamedTuple, Optional
+
+from . import _structs as s
+from ._library import lib, refused
+from ._memory import Held
+from .enums import SignatureFlags, SignatureHash
+from .errors import ERRORS
+from .items import readable
+
+SLOTS = {
+    0: "code directory", 1: "info.plist", 2: "requirements", 3: "resources", 4: "application", 5: "entitlements", 6: "disk image",
+    7: "der entitlements", 8: "launch constraint self", 9: "launch constraint parent", 10: "launch constraint responsible", 11: "library constraint",
+    0x1000: "alternate 1", 0x1001: "alternate 2", 0x1002: "alternate 3", 0x1003: "alternate 4", 0x1004: "alternate 5",
+    0x10000: "cms", 0x10001: "identification", 0x10002: "ticket",
+}
+"""The names of a signature's slots (`cs_blobs.h`, CSSLOT_), as `machsign` has them."""
+
+
+def slot_name(slot: int) -> str:
+    """The name of a slot, or its number."""
+    return SLOTS.get(slot, f"slot 0x{slot:x}")
+
+
+_WORDS: Dict[str, str] = {
+    "blob": "blob {index}: {error}",
+    "magic": "blob {index}: {slot}: magic 0x{found:x}",
+    "directory": "code directory: {error}",
+    "identifier": "identifier: {error}",
+    "team": "team: {error}",
+    "short": "covers 0x{found:x}, and begins at 0x{limit:x}",
+    "scattered": "scattered at {found}: pages are not looked at",
+    "limit": "covers 0x{found:x} of 0x{limit:x} bytes",
+    "slots": "{found} code slots for {limit} pages",
+    "page": "page {index}: 0x{found:x}..0x{limit:x} is not what was signed",
+    "unknown": "{special}: not known",
+    "unsealed": "{special}: not sealed",
+    "special": "{special}: not what was signed",
+    "absent": "{special}: sealed, and absent",
+}
+
+
+@readable
+class SignatureFault(NamedTuple):
+    """Something that isn't as it was signed, of the directory of a slot, or of a blob; `number` is that of the blob or the page, or the special slot.
+    What `found` and `limit` of each kind are, docs/C.md says."""
+
+    kind: str
+    slot: int
+    number: int
+    found: int
+    limit: int
+    error: Optional[str]
+
+    def __str__(self) -> str:
+        words = _WORDS[self.kind].format(index=self.number, special=slot_name(self.number), slot=slot_name(self.slot), found=self.found,
+                                         limit=self.limit, error=self.error)
+        return words if self.slot == 0 or self.kind == "magic" else f"{slot_name(self.slot)}: {words}"
+
+
+class Signature:
+    """What the code directory of a signature says that counts: the system takes this one. A text that can't be read is None, and `errors` says why.
+    Nothing of it says that the image is as it was signed: `is_as_signed()` does, and `faults()` says what isn't. Who signed is not looked at."""
+
+    __slots__ = ("_ask", "_faults", "cdhash", "entitlements", "errors", "flags", "hash_type", "identifier", "limit", "page_size", "pages", "team", "version")
+
+    identifier: Optional[str]
+    team: Optional[str]
+    flags: int
+    cdhash: bytes
+    """20 bytes of the directory's hash, by its own kind of hash: by this the system knows the code."""
+    entitlements: Optional[bytes]
+    """The entitlements as they stand in the signature: a property list in XML, where Apple's tools wrote it."""
+    hash_type: int
+    limit: int
+    """So many bytes of the image are covered."""
+    pages: int
+    page_size: Optional[int]
+    """How many bytes a page has; None where there is one of any size."""
+    version: int
+    errors: Dict[str, str]
+    """Which of the texts can't be read, and why."""
+
+    def __init__(self, held: Held, said: s.gm_signature, ask: Callable[[], bool], faults: Callable[[], Iterator[SignatureFault]]) -> None:
+        self._ask, self._faults = ask, faults
+        codes = {"identifier": said.identifier_code, "team": said.team_code, "entitlements": said.entitlements_code}
+        self.errors = {name: ERRORS[code] for name, code in codes.items() if code}
+        self.identifier = held.text(said.identifier, said.identifier_len) if said.identifier else None
+        self.team = held.text(said.team, said.team_len) if said.team else None
+        place = said.entitlements
+        self.entitlements = bytes(held.view[place:place + said.entitlements_len]) if place else None
+        self.flags, self.hash_type, self.version = said.flags, said.hash_type, said.version
+        self.limit, self.pages = said.limit, said.pages
+        self.page_size = 1 << said.page_size if said.page_size else None
+        self.cdhash = bytes(said.cdhash)
+
+    @property
+    def signature_flags(self) -> SignatureFlags:
+        """`flags` by their names."""
+        return SignatureFlags.of(self.flags)
+
+    @property
+    def hash_kind(self) -> SignatureHash:
+        """`hash_type` by its name."""
+        return SignatureHash.of(self.hash_type)
+
+    @property
+    def is_ad_hoc(self) -> bool:
+        """Whether it says that it is signed by no one."""
+        return self.flags & SignatureFlags.ADHOC != 0
+
+    @property
+    def entitlements_plist(self) -> Optional[Dict[str, Any]]:
+        """The entitlements, parsed by `plistlib`, whose errors are raised; None where there are none."""
+        if self.entitlements is None:
+            return None
+        found: Dict[str, Any] = plistlib.loads(self.entitlements)
+        return found
+
+    def is_as_signed(self) -> bool:
+        """Whether all is as it was signed: each page, and all that is sealed beside the code."""
+        return self._ask()
+
+    def faults(self) -> Iterator[SignatureFault]:
+        """What isn't as it was signed, in order."""
+        return self._faults()
+
+    def __repr__(self) -> str:
+        return f"<Signature {self.identifier!r}, {self.hash_kind.name}, flags {' '.join(self.signature_flags.names) or '0'}, cdhash {self.cdhash.hex()}>"
+
+
+def as_signed(held: Held, image: Any) -> bool:
+    """Whether an image is as it was signed."""
+    found, error = ctypes.c_uint32(), s.gm_error()
+    if lib.gm_is_as_signed(held.at, held.len, image, ctypes.byref(found), None, ctypes.byref(error)):
+        raise refused(error)
+    return bool(found.value)
+
+
+def said_of(held: Held, image: Any) -> Optional[s.gm_signature]:
+    """What the signature of an image says, if it has one."""
+    said, error = s.gm_signature(), s.gm_error()
+    if lib.gm_code_signature(held.at, held.len, image, ctypes.byref(said), None, ctypes.byref(error)):
+        raise refused(error)
+    return said if said.is_signed else None

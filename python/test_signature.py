@@ -1,0 +1,135 @@
+"""Tests of signatures: what an image's says, and what isn't as it was signed, of images that are signed here: `c/check` runs it."""
+
+import hashlib
+import os
+import plistlib
+import unittest
+
+import goblin_mach
+from goblin_mach import SignatureFault, SignatureFlags, SignatureHash
+
+TOP = os.path.dirname(os.path.dirname(os.path.abspath(__file__)))
+SIGNED = os.path.join(TOP, "crates/machsign/data/signed.macho")
+CODE = 0x1200
+GIVEN = {"get-task-allow": True, "application-identifier": "ABCDE12345.id"}
+ENTITLEMENTS = plistlib.dumps(GIVEN)
+
+
+def big(*numbers):
+    return b"".join(number.to_bytes(4, "big") for number in numbers)
+
+
+def little(*numbers):
+    return b"".join(number.to_bytes(4, "little") for number in numbers)
+
+
+def code(size):
+    """An image of arm64 with one command, LC_CODE_SIGNATURE, and zeros up to its signature of this size."""
+    return (little(0xFEEDFACF, 0x0100000C, 0, 2, 1, 16, 0, 0) + little(0x1D, 16, CODE, size)).ljust(CODE, b"\0")
+
+
+def blob(magic, content):
+    return big(magic, 8 + len(content)) + content
+
+
+def directory(image, sealed, flags=2, names=b"id\0ABCDE12345\0"):
+    """A code directory of version 0x20400, SHA-256, pages of 4096, with the identifier `id` and the team behind it."""
+    hashes = b"".join(hashlib.sha256(sealed[k]).digest() if k in sealed else bytes(32) for k in range(max(sealed, default=0), 0, -1))
+    pages = [image[at:at + 4096] for at in range(0, CODE, 4096)]
+    at = 88 + len(names) + len(hashes)
+    head = big(0x20400, flags, at, 88, len(hashes) // 32, len(pages), CODE) + bytes((32, 2, 0, 12)) + big(0, 0, 91, 0, 0, 0, 0, 0, 0, 0, 0, 0)
+    return blob(0xFADE0C02, head + names + hashes + b"".join(hashlib.sha256(page).digest() for page in pages))
+
+
+def signature_of(*blobs):
+    """A signature of blobs, each with its slot."""
+    at, index = 12 + 8 * len(blobs), b""
+    for slot, content in blobs:
+        index += big(slot, at)
+        at += len(content)
+    return big(0xFADE0CC0, at, len(blobs)) + index + b"".join(content for _, content in blobs)
+
+
+def signed(entitlements=ENTITLEMENTS, **more):
+    """An image with a signature that has a team and, if some are given, entitlements."""
+    others = [] if entitlements is None else [(5, blob(0xFADE7171, entitlements))]
+    sealed = dict(others)
+    size = len(signature_of((0, directory(code(0), sealed, **more)), *others))
+    image = code(size)
+    return image + signature_of((0, directory(image, sealed, **more)), *others)
+
+
+class Signatures(unittest.TestCase):
+    def image(self, data):
+        return goblin_mach.Image(data)
+
+    def test_what_it_says(self):
+        data = signed()
+        found = self.image(data).signature
+        at = data.index(big(0xFADE0C02))
+        cdhash = hashlib.sha256(data[at:at + int.from_bytes(data[at + 4:at + 8], "big")]).digest()[:20]
+        self.assertEqual((found.identifier, found.team, found.flags, found.cdhash), ("id", "ABCDE12345", 2, cdhash))
+        self.assertEqual((found.limit, found.pages, found.page_size, found.version, found.errors), (CODE, 2, 4096, 0x20400, {}))
+        self.assertEqual((found.entitlements, found.entitlements_plist), (ENTITLEMENTS, GIVEN))
+        self.assertEqual((found.signature_flags, found.hash_kind, found.is_ad_hoc), (SignatureFlags.ADHOC, SignatureHash.SHA256, True))
+        self.assertEqual((found.is_as_signed(), list(found.faults())), (True, []))
+        self.assertEqual(repr(found), f"<Signature 'id', SHA256, flags ADHOC, cdhash {cdhash.hex()}>")
+
+    def test_what_it_leaves_out(self):
+        found = self.image(signed(entitlements=None, flags=0x10000)).signature
+        self.assertEqual((found.entitlements, found.entitlements_plist, found.is_ad_hoc), (None, None, False))
+        self.assertEqual(repr(found)[:40], "<Signature 'id', SHA256, flags RUNTIME, ")
+        self.assertEqual(self.image(signed(entitlements=b"")).signature.entitlements, b"")
+        with self.assertRaises(Exception):
+            self.image(signed(entitlements=b"no list")).signature.entitlements_plist
+
+    def test_a_name_that_cannot_be_read(self):
+        found = self.image(signed(names=b"id\0\xff\xff\0")).signature
+        self.assertEqual((found.identifier, found.team, found.errors), ("id", None, {"team": "out of the bytes, or no text"}))
+        self.assertEqual([str(each) for each in found.faults()], ["team: out of the bytes, or no text"])
+
+    def test_what_is_not_as_it_was_signed(self):
+        whole = signed()
+        for at, words in ((31, "page 0: 0x0..0x1000 is not what was signed"), (CODE - 1, "page 1: 0x1000..0x1200 is not what was signed"),
+                          (len(whole) - 1, "entitlements: not what was signed")):
+            with self.subTest(words):
+                data = bytearray(whole)
+                data[at] ^= 1
+                image = self.image(bytes(data))
+                self.assertEqual(([str(each) for each in image.signature.faults()], image.signature.is_as_signed()), ([words], False))
+                self.assertEqual(list(image.signature_faults()), list(image.signature.faults()))
+
+    def test_words_of_an_alternate(self):
+        self.assertEqual(str(SignatureFault("page", 0x1000, 3, 0x3000, 0x4000, None)), "alternate 1: page 3: 0x3000..0x4000 is not what was signed")
+        self.assertEqual(str(SignatureFault("magic", 5, 1, 0xFADE0C01, 0, None)), "blob 1: entitlements: magic 0xfade0c01")
+        self.assertEqual(str(SignatureFault("unknown", 0, 12, 0, 0, None)), "slot 0xc: not known")
+        self.assertEqual(str(SignatureFault("short", 0, 0, 0x1000, 0x1200, None)), "covers 0x1000, and begins at 0x1200")
+
+    def test_none_and_refused(self):
+        with goblin_mach.open(os.path.join(TOP, "crates/machaudit/data/b.macho")) as file:
+            self.assertEqual((file[0].signature, list(file[0].signature_faults())), (None, []))
+        no_directory, magic = code(12) + big(0xFADE0CC0, 12, 0), code(12) + big(0xFADE0CC1, 12, 0)
+        for data, number in ((no_directory, goblin_mach.ErrorCode.MALFORMED), (magic, goblin_mach.ErrorCode.BAD_MAGIC)):
+            with self.assertRaises(goblin_mach.Refused) as met:
+                self.image(data).signature
+            self.assertEqual(met.exception.code, number)
+        self.assertEqual([str(each) for each in self.image(no_directory).signature_faults()], ["code directory: malformed"])
+        with self.assertRaises(goblin_mach.Refused):
+            list(self.image(magic).signature_faults())
+
+    def test_of_a_linker(self):
+        with goblin_mach.open(SIGNED) as file:
+            found = file[0].signature
+            self.assertEqual((found.identifier, found.team, found.entitlements), ("libanswer.dylib", None, None))
+            self.assertEqual(found.cdhash.hex(), "e5c637506db686803b79a8344ffe86b79740bd95")
+            self.assertEqual(found.signature_flags.names, ("ADHOC", "LINKER_SIGNED"))
+            self.assertTrue(found.is_as_signed())
+        with self.assertRaises(ValueError):
+            found.is_as_signed()
+        with self.assertRaises(ValueError):
+            list(found.faults())
+        self.assertEqual(found.identifier, "libanswer.dylib")
+
+
+if __name__ == "__main__":
+    unittest.main()
