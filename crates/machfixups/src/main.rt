@@ -32,12 +32,13 @@ mod words;
 use json::run_json;
 use mach_json::take_json;
 use mach_show::{Cpu, Misuse, Program, Round};
+use mach_terminal::ForTerminal;
 use print::DEFAULT_LIMIT;
 use rows::Picks;
 use run::{NAME, run};
 use std::alloc::Allocator;
 use std::io;
-use std::io::{BufWriter, Write};
+use std::io::{BufWriter, IsTerminal, Write};
 use std::process::ExitCode;
 use words::take_picks;
 
@@ -98,7 +99,8 @@ fn show_files(
     if files.is_empty() {
         return Err(PROGRAM.bad_usage(rt, Misuse::Missing("FILE")));
     }
-    let Ok(mut lines) = BufWriter::new(rt.alloc(), io::writer(rt)) else {
+    let output = ForTerminal::new(io::writer(rt), rt.stdout().is_terminal());
+    let Ok(mut lines) = BufWriter::new(rt.alloc(), output) else {
         return Err(PROGRAM.out_of_memory(rt));
     };
     let mut round = Round::new(PROGRAM, files.len());

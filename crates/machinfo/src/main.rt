@@ -17,10 +17,11 @@ mod text;
 mod word;
 
 use mach_show::{Cpu, Misuse, Program, Round};
+use mach_terminal::ForTerminal;
 use run::{DEFAULT_LIMIT, NAME, run_list, run_summary};
 use std::alloc::Allocator;
 use std::io;
-use std::io::{BufWriter, Write};
+use std::io::{BufWriter, IsTerminal, Write};
 use std::process::ExitCode;
 use word::Word;
 
@@ -82,7 +83,8 @@ fn show_files(rt: &HostRuntime, cpu: Cpu, limit: usize, words: &[&str]) -> Resul
     if files.is_empty() {
         return Err(PROGRAM.bad_usage(rt, Misuse::Missing("FILE")));
     }
-    let Ok(mut lines) = BufWriter::new(rt.alloc(), io::writer(rt)) else {
+    let output = ForTerminal::new(io::writer(rt), rt.stdout().is_terminal());
+    let Ok(mut lines) = BufWriter::new(rt.alloc(), output) else {
         return Err(PROGRAM.out_of_memory(rt));
     };
     let mut round = Round::new(PROGRAM, files.len());

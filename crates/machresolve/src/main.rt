@@ -9,8 +9,9 @@
 use mach_resolve::run::{NAME, run};
 use mach_resolve::{DEFAULT_LIMIT, Given, Mistake, Words};
 use mach_show::{Misuse, Program};
+use mach_terminal::{ForTerminal, Progress};
 use std::io;
-use std::io::BufWriter;
+use std::io::{BufWriter, IsTerminal};
 use std::process::ExitCode;
 
 const PROGRAM: Program = Program {
@@ -48,6 +49,12 @@ fn start(rt: &HostRuntime) -> Result<u8, u8> {
     }
 }
 
+// The bytes of a file. Where reading many takes long, it is told on a terminal that this one is begun.
+fn read(rt: &HostRuntime, progress: &mut Progress, file: &str) -> Result<Vec<u8>, u8> {
+    progress.begin(rt, NAME, file, &mut rt.stderr());
+    PROGRAM.read(rt, file)
+}
+
 // Resolves a program over libraries.
 fn resolve_files(
     rt: &HostRuntime,
@@ -56,10 +63,11 @@ fn resolve_files(
     program: &str,
     libraries: &[&str],
 ) -> Result<u8, u8> {
-    let bytes = PROGRAM.read(rt, program)?;
+    let mut progress = Progress::new(rt, rt.stderr().is_terminal());
+    let bytes = read(rt, &mut progress, program)?;
     let mut contents = Vec::new(rt.alloc());
     for library in libraries {
-        if contents.push(PROGRAM.read(rt, library)?).is_err() {
+        if contents.push(read(rt, &mut progress, library)?).is_err() {
             return Err(PROGRAM.out_of_memory(rt));
         }
     }
@@ -73,7 +81,8 @@ fn resolve_files(
             return Err(PROGRAM.out_of_memory(rt));
         }
     }
-    let Ok(mut out) = BufWriter::new(rt.alloc(), io::writer(rt)) else {
+    let output = ForTerminal::new(io::writer(rt), rt.stdout().is_terminal());
+    let Ok(mut out) = BufWriter::new(rt.alloc(), output) else {
         return Err(PROGRAM.out_of_memory(rt));
     };
     let program = Given {

@@ -1,0 +1,7 @@
+-- How far a call over many files has come.
+use Rattle.std.specs.Prelude.{ℕ, List, ◌++◌, codes}
+use Rattle.std.specs.Fmt.{decimal}
+
+-- that a file of this number is begun
+abbrev pub step_text : (program : List ℕ) → (number : ℕ) → (file : List ℕ) → List ℕ
+step_text program number file = program ++ (codes ": file " ++ (decimal number ++ (codes ": " ++ file)))
