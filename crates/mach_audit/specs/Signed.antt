@@ -1,5 +1,5 @@
 -- What is told of the signature of an image.
-use Rattle.std.specs.Prelude.{◌≡◌, ◌-◌, ◌^◌, ℕ, List, map, take, length, min, Option, Some, None, Result, Ok, Err}
+use Rattle.std.specs.Prelude.{◌≡◌, ◌-◌, ◌^◌, List, map, take, length, min, Option, Some, None, Result, Ok, Err}
 use Rattle.mach_base.specs.Fault.{Fault, fault_of}
 use Rattle.mach_sign.specs.AsSigned.{SignatureFaultSeen}
 use Rattle.mach_sign.specs.FaultViews.{signature_fault_view}

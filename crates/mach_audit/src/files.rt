@@ -3,21 +3,24 @@
 ghost use Rattle.std.specs.Prelude.{◌≡◌, ◌≤◌, IfOk};
 ghost use Rattle.mach_show.specs.Statuses.{IsStatus};
 
+use crate::asked::run_for;
 use crate::listed::lines_of;
 use crate::options::Options;
-use crate::run::{Call, run};
+use crate::run::Call;
 use mach_show::say::failed;
-use mach_show::{Failure, Names, Program};
+use mach_show::{Cpu, Failure, Names, Program};
+use mach_terminal::Progress;
 use std::alloc::Allocator;
-use std::io::{BufWriter, Write};
+use std::io::{BufWriter, IsTerminal, Write};
 use std::{io, str};
 
-/// Audits files, and then those that lists name, one a line; each is printed under its name where there are several. Answers the
+/// Audits files, and then those that lists name, one a line, or what of each is for a cpu; each is printed under its name where there are several. Answers the
 /// worst exit status of all: 0 where each is sound; 1 where one isn't; 2 where one could not be read or audited, which is told;
 /// and where a write fails, which ends it, 2 or 141. The name `-` stands for standard input.
 pub fn run_files<W: Write + Drop, B: Allocator, E: Write>(
     program: &Program,
     rt: &HostRuntime,
+    cpu: Cpu,
     options: Options,
     files: &[&str],
     lists: &[String],
@@ -26,7 +29,7 @@ pub fn run_files<W: Write + Drop, B: Allocator, E: Write>(
 ) -> u8
     ensures status { IsStatus result }
 {
-    match audit_all(program, rt, options, files, lists, out, err) {
+    match audit_all(program, rt, cpu, options, files, lists, out, err) {
         Ok(status) => status,
         Err(error) => failed(program.name, "", error, err),
     }
@@ -36,6 +39,7 @@ pub fn run_files<W: Write + Drop, B: Allocator, E: Write>(
 fn audit_all<W: Write + Drop, B: Allocator, E: Write>(
     program: &Program,
     rt: &HostRuntime,
+    cpu: Cpu,
     options: Options,
     files: &[&str],
     lists: &[String],
@@ -45,6 +49,7 @@ fn audit_all<W: Write + Drop, B: Allocator, E: Write>(
     ensures status { IfOk result (λ status. status ≤ 2) }
 {
     let heading = files.len() > 1 || !lists.is_empty();
+    let mut progress = Progress::new(rt, rt.stderr().is_terminal());
     let mut worst = 0u8;
     'files: for name in files {
         let call = Call {
@@ -52,11 +57,11 @@ fn audit_all<W: Write + Drop, B: Allocator, E: Write>(
             name,
             heading,
         };
-        let status = audit_file(program, rt, call, out, err)?;
+        let status = audit_file(program, rt, &mut progress, cpu, call, out, err)?;
         worst = worst.max(status);
     }
     'lists: for list in lists {
-        let status = audit_listed(program, rt, options, list, out, err)?;
+        let status = audit_listed(program, rt, &mut progress, cpu, options, list, out, err)?;
         worst = worst.max(status);
     }
     Ok(worst)
@@ -66,6 +71,8 @@ fn audit_all<W: Write + Drop, B: Allocator, E: Write>(
 fn audit_listed<W: Write + Drop, B: Allocator, E: Write>(
     program: &Program,
     rt: &HostRuntime,
+    progress: &mut Progress,
+    cpu: Cpu,
     options: Options,
     list: &str,
     out: &mut BufWriter<W, B>,
@@ -89,7 +96,7 @@ fn audit_listed<W: Write + Drop, B: Allocator, E: Write>(
                     name,
                     heading: true,
                 };
-                audit_file(program, rt, call, out, err)?
+                audit_file(program, rt, progress, cpu, call, out, err)?
             }
             Err(_) => complain(program, list, "a name is no text", err),
         };
@@ -98,20 +105,31 @@ fn audit_listed<W: Write + Drop, B: Allocator, E: Write>(
     Ok(worst)
 }
 
-// The status of one file; an error is a failed write.
+// The status of one file; an error is a failed write. Where many take long, it is told on a terminal that this one is begun.
 fn audit_file<W: Write + Drop, B: Allocator, E: Write>(
     program: &Program,
     rt: &HostRuntime,
+    progress: &mut Progress,
+    cpu: Cpu,
     call: Call<'_>,
     out: &mut BufWriter<W, B>,
     err: &mut E,
 ) -> io::Result<u8>
     ensures status { IfOk result (λ status. status ≤ 2) }
 {
+    progress.begin(rt, program.name, call.name, err);
     let Ok(bytes) = program.read(rt, call.name) else {
         return Ok(2);
     };
-    match run(&rt.alloc(), rt.alloc(), call, bytes.as_slice(), out, err) {
+    match run_for(
+        &rt.alloc(),
+        rt.alloc(),
+        cpu,
+        call,
+        bytes.as_slice(),
+        out,
+        err,
+    ) {
         Ok(status) => Ok(status),
         Err(Failure::Memory) => Ok(complain(program, call.name, "out of memory", err)),
         Err(Failure::Unwritten(error)) => Err(error),

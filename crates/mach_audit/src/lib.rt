@@ -2,6 +2,7 @@
 //! `machaudit` prints of it.
 #![tactic(auto)]
 
+mod asked;
 mod audit;
 pub mod files;
 mod json;

@@ -5,19 +5,22 @@ use mach_audit::files::run_files;
 use mach_audit::run::NAME;
 use mach_audit::{DEFAULT_LIMIT, Mistake, Options, Words};
 use mach_show::{Misuse, Program};
+use mach_terminal::ForTerminal;
 use std::io;
-use std::io::BufWriter;
+use std::io::{BufWriter, IsTerminal};
 use std::process::ExitCode;
 
 const PROGRAM: Program = Program {
     name: NAME,
-    usage: "usage: machaudit [--quiet | --json] [--limit N] [--names FILE] FILE..
+    usage: "usage: machaudit [--quiet | --json] [--limit N] [--arch NAME | --cputype 0xN] [--names FILE] FILE..
        machaudit -h | --help | --version
 ",
     version: "machaudit 0.2.0\n",
     has_limit: true,
-    has_cpu: false,
+    has_cpu: true,
     known: &[
+        "--arch",
+        "--cputype",
         "--help",
         "--json",
         "--limit",
@@ -51,12 +54,14 @@ fn start(rt: &HostRuntime) -> Result<u8, u8> {
         format: words.format,
         limit: call.limit.unwrap_or(DEFAULT_LIMIT),
     };
-    let Ok(mut lines) = BufWriter::new(rt.alloc(), io::writer(rt)) else {
+    let output = ForTerminal::new(io::writer(rt), rt.stdout().is_terminal());
+    let Ok(mut lines) = BufWriter::new(rt.alloc(), output) else {
         return Err(PROGRAM.out_of_memory(rt));
     };
     Ok(run_files(
         &PROGRAM,
         rt,
+        call.cpu,
         options,
         &call.words,
         &words.lists,
