@@ -1,5 +1,5 @@
--- The lines of a signature are whole exactly where no fault is told of it.
-use Rattle.std.proofs.Common.{◌≡◌, ◌++◌, ◌∷◌, [], ◌∙◌, ℕ, List, Bool, true, false, Option, Some, None, Result, Ok, Err, refl, sym, ap}
+-- The lines of a signature are whole exactly where it is there and no fault is told of it, and so is its object.
+use Rattle.std.proofs.Common.{◌≡◌, ◌++◌, ◌∷◌, [], ℕ, List, Bool, false, Option, Some, None, Result, Ok, Err, refl, ap}
 use Rattle.std.specs.Prelude.{IsTrue}
 use Rattle.mach_base.specs.Answer.{◌>>=◌}
 use Rattle.mach_base.specs.Fault.{Fault}
@@ -8,6 +8,7 @@ use Rattle.mach_sign.specs.AsSigned.{SignedImage, SignatureFaultSeen, signature_
 use Rattle.mach_sign.specs.SuperBlob.{SuperBlob}
 use Rattle.mach_signed.specs.SignedImages.{plist_of, faults_there}
 use Rattle.machsign.specs.ImageLines.{signed_there}
+use Rattle.machsign.specs.JsonSignature.{IsSignatureObject, unsigned_object, unreadable_object, signed_object}
 use Rattle.machsign.specs.Signatures.{has_none, AreSignatureLines, unsigned, unreadable, signed}
 
 -- no list with one more is empty
@@ -41,18 +42,33 @@ none_of (x ∷ xs) h = absurd (cc)
 empty_there : {A : Type 0} (xs : List A) → ◌≡◌ {A = Result (Option (List A)) Fault} (Ok (Some xs)) (Ok (Some [])) → xs ≡ []
 empty_there xs e = cc
 
--- where lines are whole no fault is told
-pub whole_untold : (there : Result (Option SignedImage) Fault) (text : List ℕ) (whole : Bool) → AreSignatureLines there text whole
-    → IsTrue whole → faults_by there ≡ Ok (Some [])
-whole_untold _ _ _ unsigned h = absurd (cc)
-whole_untold _ _ _ (unreadable e) h = absurd (cc)
-whole_untold _ _ _ (signed x faults whole are) h =
-    ap (λ (told : List SignatureFaultSeen). Ok (Some told)) (none_of (signature_faults_of x) (sym are.is_whole ∙ h))
+-- whether a signature is there, and no fault is told of it
+abbrev pub is_unfaulted : Result (Option SignedImage) Fault → Bool
+is_unfaulted (Ok None) = false
+is_unfaulted (Ok (Some x)) = has_none (signature_faults_of x)
+is_unfaulted (Err f) = false
 
--- and where none is they are whole
-pub untold_whole : (there : Result (Option SignedImage) Fault) (text : List ℕ) (whole : Bool) → AreSignatureLines there text whole
-    → faults_by there ≡ Ok (Some []) → IsTrue whole
-untold_whole _ _ _ unsigned e = absurd (cc)
-untold_whole _ _ _ (unreadable error) e = absurd (cc)
-untold_whole _ _ _ (signed x faults whole are) e =
-    are.is_whole ∙ ap has_none (empty_there (signature_faults_of x) e)
+-- so lines are whole, and objects
+pub lines_unfaulted : (there : Result (Option SignedImage) Fault) (text : List ℕ) (whole : Bool) → AreSignatureLines there text whole
+    → whole ≡ is_unfaulted there
+lines_unfaulted _ _ _ unsigned = refl
+lines_unfaulted _ _ _ (unreadable e) = refl
+lines_unfaulted _ _ _ (signed x faults whole are) = are.is_whole
+
+pub object_unfaulted : (there : Result (Option SignedImage) Fault) (text : List ℕ) (whole : Bool) → IsSignatureObject there text whole
+    → whole ≡ is_unfaulted there
+object_unfaulted _ _ _ unsigned_object = refl
+object_unfaulted _ _ _ (unreadable_object e) = refl
+object_unfaulted _ _ _ (signed_object x text whole is) = is.are_faults.is_whole
+
+-- then no fault is told
+pub unfaulted_untold : (there : Result (Option SignedImage) Fault) → IsTrue (is_unfaulted there) → faults_by there ≡ Ok (Some [])
+unfaulted_untold (Ok None) h = absurd (cc)
+unfaulted_untold (Ok (Some x)) h = ap (λ (told : List SignatureFaultSeen). Ok (Some told)) (none_of (signature_faults_of x) h)
+unfaulted_untold (Err f) h = absurd (cc)
+
+-- and the other way round
+pub untold_unfaulted : (there : Result (Option SignedImage) Fault) → faults_by there ≡ Ok (Some []) → IsTrue (is_unfaulted there)
+untold_unfaulted (Ok None) e = absurd (cc)
+untold_unfaulted (Ok (Some x)) e = ap has_none (empty_there (signature_faults_of x) e)
+untold_unfaulted (Err f) e = absurd (cc)

@@ -3,3 +3,4 @@ pub mod Blocks
 pub mod Signatures
 pub mod ImageLines
 pub mod Entitlements
+pub mod JsonSignature

@@ -1,13 +1,15 @@
 //! Prints the code signature of a Mach-O file: of each code directory what it says, its cdhash, and whether the code and what it seals beside are as they
 //! were signed; how many bytes the other blobs have; and a line `fault:` for all that isn't as it was signed. Of a fat file it prints that of each
 //! entry, or of those for one cpu, under a line that says which. With `--entitlements` it writes the entitlements of the first image that has them, and
-//! nothing else.
+//! nothing else, and with `--json` an object a file on a line.
 //!
 //! It says nothing of who signed: a CMS is not verified, and no other file is read.
 #![tactic(auto)]
 
 mod block;
 mod entitlements;
+mod json;
+mod members;
 mod print;
 mod run;
 mod signed;
@@ -15,16 +17,20 @@ mod text;
 mod words;
 
 use entitlements::run_entitlements;
+use json::run_json;
+use mach_json::take_json;
 use mach_show::{Cpu, Misuse, Program, Round};
+use mach_terminal::ForTerminal;
 use run::{NAME, run};
+use std::alloc::Allocator;
 use std::io;
-use std::io::BufWriter;
+use std::io::{BufWriter, IsTerminal, Write};
 use std::process::ExitCode;
 use words::take_entitlements;
 
 const PROGRAM: Program = Program {
     name: NAME,
-    usage: "usage: machsign [--arch NAME | --cputype 0xN] FILE..\n       machsign --entitlements [--arch NAME | --cputype 0xN] FILE\n\
+    usage: "usage: machsign [--json] [--arch NAME | --cputype 0xN] FILE..\n       machsign --entitlements [--arch NAME | --cputype 0xN] FILE\n\
         \x20      machsign -h | --help | --version\n",
     version: "machsign 0.2.0\n",
     has_limit: false,
@@ -34,6 +40,7 @@ const PROGRAM: Program = Program {
         "--cputype",
         "--entitlements",
         "--help",
+        "--json",
         "--version",
     ],
 };
@@ -47,6 +54,9 @@ fn main(rt: HostRuntime) -> ExitCode {
 // Does what the words ask for.
 fn start(rt: &HostRuntime) -> Result<u8, u8> {
     let words = PROGRAM.words(rt)?;
+    let Ok((is_json, words)) = take_json(rt.alloc(), words) else {
+        return Err(PROGRAM.out_of_memory(rt));
+    };
     let Ok((are_asked, words)) = take_entitlements(rt.alloc(), words) else {
         return Err(PROGRAM.out_of_memory(rt));
     };
@@ -57,7 +67,7 @@ fn start(rt: &HostRuntime) -> Result<u8, u8> {
     if are_asked {
         write_entitlements(rt, call.cpu, &call.words)
     } else {
-        show_files(rt, call.cpu, &call.words)
+        show_files(rt, is_json, call.cpu, &call.words)
     }
 }
 
@@ -74,15 +84,34 @@ fn write_entitlements(rt: &HostRuntime, cpu: Cpu, files: &[&str]) -> Result<u8, 
 }
 
 // Shows of files in order the signatures of the images that are asked for, and answers the worst status.
-fn show_files(rt: &HostRuntime, cpu: Cpu, files: &[&str]) -> Result<u8, u8> {
-    let Ok(mut lines) = BufWriter::new(rt.alloc(), io::writer(rt)) else {
+fn show_files(rt: &HostRuntime, is_json: bool, cpu: Cpu, files: &[&str]) -> Result<u8, u8> {
+    let output = ForTerminal::new(io::writer(rt), rt.stdout().is_terminal());
+    let Ok(mut lines) = BufWriter::new(rt.alloc(), output) else {
         return Err(PROGRAM.out_of_memory(rt));
     };
     let mut round = Round::new(PROGRAM, files.len());
+    round.is_titled &= !is_json;
     for file in files {
         if let Some(bytes) = round.begin(rt, file, &mut lines)? {
-            round.end(run(rt.alloc(), cpu, file, &bytes, &mut lines, &mut rt.stderr()))?;
+            round.end(show_file(rt, is_json, cpu, file, &bytes, &mut lines))?;
         }
     }
     Ok(round.worst)
+}
+
+// The status of a file, of which lines are shown, or an object.
+fn show_file<W: Write + Drop, B: Allocator>(
+    rt: &HostRuntime,
+    is_json: bool,
+    cpu: Cpu,
+    file: &str,
+    bytes: &[u8],
+    out: &mut BufWriter<W, B>,
+) -> u8 {
+    let err = &mut rt.stderr();
+    if is_json {
+        run_json(rt.alloc(), cpu, file, bytes, out, err)
+    } else {
+        run(rt.alloc(), cpu, file, bytes, out, err)
+    }
 }

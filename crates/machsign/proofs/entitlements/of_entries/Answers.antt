@@ -1,7 +1,3 @@
-use Rattle.std.proofs.Common.{Option, None, get_or, subst}
-use Rattle.std.specs.Borrow.{Bor}
-use Rattle.mach_sign.specs.DirectoryViews.{slot_read}
-use Rattle.goblin_mach.specs.FatEntry.{entry_at}
 use Rattle.goblin_mach.specs.FatFile.{file_held}
 use Rattle.machsign.proofs.Lacking.{none_before, none_here, first_here, none_at_all}
 use Rattle.machsign.proofs.entitlements.of_entries.Goals as goal

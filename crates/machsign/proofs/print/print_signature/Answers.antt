@@ -1,4 +1,4 @@
-use Rattle.std.proofs.Common.{◌++◌, Bool, Result, Option, None, Some, Ok, Err, false, sym, subst}
+use Rattle.std.proofs.Common.{◌++◌, Bool, Result, Option, false, sym, subst}
 use Rattle.std.specs.Prelude.{codes}
 use Rattle.std.proofs.lemmas.Result.{IfOk-weaker}
 use Rattle.mach_base.specs.Fault.{Fault}

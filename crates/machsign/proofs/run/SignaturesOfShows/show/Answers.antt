@@ -1,6 +1,7 @@
 use Rattle.mach_base.proofs.Written.{Appends-both}
 use Rattle.mach_image.specs.OpenImage.{commands_held}
 use Rattle.machsign.proofs.SignedFacts.{held, signed_is, whole_as_signed}
+use Rattle.machsign.proofs.Whole.{lines_unfaulted}
 use Rattle.machsign.proofs.run.SignaturesOfShows.show.Goals as goal
 
 pub returns-clause-shown : goal.returns-clause-shown
@@ -13,7 +14,7 @@ returns-clause-shown g c = λ bytes opened.
         there = held m bytes opened;
         has_signed = signed_is m bytes opened;
         lines = listed.lines;
-        as_signed = whole_as_signed m bytes opened listed.text _ listed.lines;
+        as_signed = whole_as_signed m bytes opened _ (lines_unfaulted _ _ _ listed.lines);
       },
       Appends-both _ _ _ _ listed.text c.in_ok-write.ensures.bytes listed.written,
     )

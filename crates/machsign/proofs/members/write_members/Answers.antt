@@ -1,0 +1,57 @@
+use Rattle.std.proofs.Common.{◌++◌, ℕ, List, Bool, Result, Option, false, refl, sym, subst}
+use Rattle.std.specs.Prelude.{codes}
+use Rattle.std.specs.Io.KnownBytes.{Appends}
+use Rattle.std.proofs.lemmas.Result.{IfOk-weaker}
+use Rattle.mach_base.proofs.Written.{Appends-both}
+use Rattle.mach_base.specs.Fault.{Fault}
+use Rattle.mach_base.specs.Words.{words_of}
+use Rattle.mach_sign.specs.AsSigned.{SignedImage}
+use Rattle.mach_sign.specs.FaultViews.{signed_view}
+use Rattle.mach_image.specs.OpenImage.{bytes_held, commands_held, segments_held}
+use Rattle.mach_image.specs.declared.macho.MachO.{MachO}
+use Rattle.machsign.specs.ImageLines.{image_signed}
+use Rattle.machsign.specs.JsonSignature.{refused_object, IsSignatureObject, unsigned_object, unreadable_object, signed_object, WritesSignatureMembers}
+use Rattle.machsign.proofs.members.write_members.Goals as goal
+
+abbrev front : List ℕ
+front = codes "\"kind\":\"image\",\"signature\":"
+
+abbrev held_there : {A : Type 0} → MachO A → Result (Option SignedImage) Fault
+held_there m = image_signed (bytes_held m) (commands_held m) (segments_held m)
+
+of_object : (there : Result (Option SignedImage) Fault) (object : List ℕ) (whole : Bool) (old middle new : Option (List ℕ))
+    → IsSignatureObject there object whole → Appends old middle front → Appends middle new object → WritesSignatureMembers there whole old new
+of_object there object whole old middle new is first last = record {
+  text = front ++ object;
+  members = record { signature = object; is_signature = is; is_text = refl };
+  written = Appends-both old middle new front object first last;
+}
+
+pub returns-in-Ok-Some : goal.returns-in-Ok-Some
+returns-in-Ok-Some g c =
+    let is = rw c.in-Ok-Some.field-0-is at c.in-Ok-Some.ensures in
+    IfOk-weaker c.write_signed.result _ _
+    (λ whole told. of_object (held_there c.args.image.now) told.text whole _ _ _
+    (subst (λ (there : Result (Option SignedImage) Fault). IsSignatureObject there told.text whole) (sym is)
+    (signed_object (signed_view c.in-Ok-Some.signed) told.text whole told.object)) c.in_ok-write.ensures.bytes told.written)
+    c.write_signed.ensures
+
+pub returns-in-Ok-None : goal.returns-in-Ok-None
+returns-in-Ok-None g c =
+    let is = rw c.in-Ok-None.field-0-is at c.in-Ok-None.ensures in
+    IfOk-weaker c.write_unsigned.result _ _
+    (λ whole told. of_object (held_there c.args.image.now) (codes "null") whole _ _ _
+    (subst (λ (w : Bool). IsSignatureObject (held_there c.args.image.now) (codes "null") w) (sym told.0)
+    (subst (λ (there : Result (Option SignedImage) Fault). IsSignatureObject there (codes "null") false) (sym is) unsigned_object))
+    c.in_ok-write.ensures.bytes told.1)
+    c.write_unsigned.ensures
+
+pub returns-in-Err : goal.returns-in-Err
+returns-in-Err g c =
+    let object = refused_object (words_of c.in-Err.error) in
+    IfOk-weaker c.write_refused.result _ _
+    (λ whole told. of_object (held_there c.args.image.now) object whole _ _ _
+    (subst (λ (w : Bool). IsSignatureObject (held_there c.args.image.now) object w) (sym told.0)
+    (subst (λ (there : Result (Option SignedImage) Fault). IsSignatureObject there object false) (sym c.in-Err.ensures) (unreadable_object c.in-Err.error)))
+    c.in_ok-write.ensures.bytes told.1)
+    c.write_refused.ensures

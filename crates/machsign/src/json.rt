@@ -1,0 +1,68 @@
+//! What the program writes of an image and of a file as JSON, and its exit status.
+
+ghost use Rattle.std.specs.Prelude.{◌≡◌, ◌≤◌, [], codes};
+ghost use Rattle.std.specs.Io.Buffered.{writer_buffer, writer_contents};
+ghost use Rattle.mach_show.specs.Names.{names_text};
+ghost use Rattle.mach_show.specs.Shown.{Shown, Writes, without_limit};
+ghost use Rattle.mach_show.specs.Statuses.{IsStatus, status_by};
+ghost use Rattle.mach_json.specs.Documents.{IsDocument};
+ghost use Rattle.machsign.specs.JsonSignature.{AreImageSignatureMembers};
+
+use crate::members::write_members;
+use crate::run::NAME;
+use goblin_mach::MachO;
+use mach_show::{Cpu, Failure, Heading, Names, Outcome, Shows};
+use std::alloc::Allocator;
+use std::io::{BufWriter, Write};
+
+// The signatures of the images of a file, as objects.
+#[derive(Clone, Copy)]
+struct ObjectsOf<'a> {
+    file: &'a str,
+}
+
+impl Shows for ObjectsOf<'_> {
+    ghost names = { λ asked. names_text (codes "machsign") asked.file.now };
+
+    ghost lines = { λ _. without_limit AreImageSignatureMembers };
+
+    fn names(&self) -> Names<'_> {
+        Names {
+            program: NAME,
+            file: self.file,
+        }
+    }
+
+    fn show<A: Allocator + Clone, O: Write>(
+        &self,
+        _alloc: &A,
+        image: &MachO<'_, A>,
+        heading: Heading,
+        left: usize,
+        out: &mut O,
+    ) -> Result<Outcome, Failure> {
+        write!(out, "{heading}")?;
+        let whole = write_members(image, out)?;
+        Ok(Outcome { whole, left })
+    }
+}
+
+/// Writes of a file as `run` does, but as JSON, an object of the file on a line: of each image what the code directory of its signature says that counts,
+/// and a string for all that isn't as it was signed.
+pub fn run_json<A: Allocator + Clone, W: Write + Drop, B: Allocator, E: Write>(
+    alloc: A,
+    cpu: Cpu,
+    file: &str,
+    bytes: &[u8],
+    out: &mut BufWriter<W, B>,
+    err: &mut E,
+) -> u8
+    ensures status { IsStatus result }
+    ensures shown { result ≤ 1 → (shown : Shown)
+        × IsDocument cpu (names_text (codes "machsign") file.now) file.now (without_limit AreImageSignatureMembers) 0 bytes.now shown
+        × (result ≡ status_by shown.whole)
+        × Writes shown (writer_contents W.contents out.old) (writer_contents W.contents out.new) (E.contents err.old) (E.contents err.new) }
+    ensures flushed { result ≤ 1 → writer_buffer out.new ≡ [] }
+{
+    mach_json::run::run(&ObjectsOf { file }, file, cpu, 0, &alloc, bytes, out, err)
+}
