@@ -7,11 +7,12 @@ ghost use Rattle.mach_headers.specs.declared.fat.FatArch.{FatArch};
 ghost use Rattle.goblin_mach.specs.FatFile.{file_held};
 ghost use Rattle.goblin_mach.specs.View.{ViewFault};
 ghost use Rattle.machfat.specs.Entry.{IsFatFile, HasRecords, IsRecordOf, IsEntryOf};
-ghost use Rattle.machfat.specs.Lines.{record_line, lines_from};
+ghost use Rattle.machfat.specs.Lines.{next_object, record_as, record_line, records_from};
 ghost use Rattle.machfat.specs.Refusals.{RefusesList, IsRefusal};
+ghost use Rattle.machfat.specs.declared.entry.ListForm.TheVariants as forms;
 
 use crate::refusal::{Failure, Refusal};
-use crate::text::RecordText;
+use crate::text::{RecordObject, RecordText};
 use goblin_mach::fat::{FatArch, SIZEOF_FAT_ARCH, SIZEOF_FAT_HEADER};
 use goblin_mach::{Error, Mach, MultiArch};
 use mach_fat::EntryRefusal;
@@ -42,8 +43,17 @@ fn refusal(bytes: &[u8], error: Error) -> Refusal
     }
 }
 
-// The records of a fat file, in order.
-fn records<A: Allocator + Clone>(alloc: A, bytes: &[u8]) -> Result<Vec<FatArch, A>, Refusal>
+/// The form of a list.
+#[derive(Clone, Copy)]
+pub enum ListForm {
+    /// A line a record.
+    Lines,
+    /// An object a record, with a comma between two.
+    Objects,
+}
+
+/// The records of a fat file, in order.
+pub fn records<A: Allocator + Clone>(alloc: A, bytes: &[u8]) -> Result<Vec<FatArch, A>, Refusal>
     ensures held { IfOk result (λ v. HasRecords bytes.now v.items) }
     ensures refused { IfErr result (RefusesList bytes.now) }
 {
@@ -51,22 +61,52 @@ fn records<A: Allocator + Clone>(alloc: A, bytes: &[u8]) -> Result<Vec<FatArch, 
     Ok(container.arches()?)
 }
 
-// Prints some records of a fat file, a line each, with the kinds of their entries.
-fn print_records<O: Write>(bytes: &[u8], records: &[FatArch], out: &mut O) -> io::Result<()>
-    ensures { OnOk result (Appends (O.contents out.old) (O.contents out.new) (lines_from bytes.now 0 records.now)) }
+/// Prints some records of a fat file in a form, each with the kind of its entry.
+pub fn print_records<O: Write>(
+    form: ListForm,
+    bytes: &[u8],
+    records: &[FatArch],
+    out: &mut O,
+) -> io::Result<()>
+    ensures { OnOk result (Appends (O.contents out.old) (O.contents out.new) (records_from form bytes.now 0 records.now)) }
 {
     'records: for (index, arch) in records.iter().enumerate() {
-        print_record(bytes, index, *arch, out)?;
+        print_record(form, bytes, index, *arch, out)?;
     }
     Ok(())
 }
 
+// Prints a record in a form.
+fn print_record<O: Write>(
+    form: ListForm,
+    bytes: &[u8],
+    index: usize,
+    arch: FatArch,
+    out: &mut O,
+) -> io::Result<()>
+    ensures { OnOk result (Appends (O.contents out.old) (O.contents out.new) (record_as form bytes.now index arch)) }
+{
+    match form {
+        ListForm::Lines => print_line(bytes, index, arch, out),
+        ListForm::Objects => print_object(bytes, index, arch, out),
+    }
+}
+
 // Prints the line of a record.
-fn print_record<O: Write>(bytes: &[u8], index: usize, arch: FatArch, out: &mut O) -> io::Result<()>
+fn print_line<O: Write>(bytes: &[u8], index: usize, arch: FatArch, out: &mut O) -> io::Result<()>
     ensures { OnOk result (Appends (O.contents out.old) (O.contents out.new) (record_line bytes.now index arch)) }
 {
     let record = RecordText { bytes, arch };
     writeln!(out, "arch {index}: {record}")
+}
+
+// Prints the object of a record, behind a comma if it isn't the first.
+fn print_object<O: Write>(bytes: &[u8], index: usize, arch: FatArch, out: &mut O) -> io::Result<()>
+    ensures { OnOk result (Appends (O.contents out.old) (O.contents out.new) (next_object bytes.now index arch)) }
+{
+    let comma = if index == 0 { "" } else { "," };
+    let record = RecordObject { bytes, arch };
+    write!(out, "{comma}{record}")
 }
 
 /// Prints the list of a fat file: a line for each of its records, in order, and nothing else.
@@ -76,11 +116,11 @@ pub fn list<A: Allocator + Clone, O: Write>(
     out: &mut O,
 ) -> Result<(), Failure>
     ensures listed { OnOk result ((records : List FatArch) × HasRecords bytes.now records
-        × Appends (O.contents out.old) (O.contents out.new) (lines_from bytes.now 0 records)) }
+        × Appends (O.contents out.old) (O.contents out.new) (records_from forms.Lines bytes.now 0 records)) }
     ensures refused { IfErr result (IsRefusal (RefusesList bytes.now)) }
 {
     let records = records(alloc, bytes)?;
-    print_records(bytes, &records, out)?;
+    print_records(ListForm::Lines, bytes, &records, out)?;
     Ok(())
 }
 

@@ -1,6 +1,6 @@
 //! Lists the entries of a fat file, a line each, or writes the bytes of one to a file; or makes a fat file.
 //!
-//! A line has the fields of `llvm-objdump --universal-headers`, and the kind of the entry by its first
+//! With `--json` the list is an object a file, on a line. A line has the fields of `llvm-objdump --universal-headers`, and the kind of the entry by its first
 //! bytes. Numbers of cpus are not given names, and the capabilities stay in the top 8 bits of `cpusubtype`.
 //! An entry is asked for by its place in the list, or by its cputype. A fat file of 32 or of 64 bits is created of files as
 //! `llvm-lipo -create` creates it, an entry is replaced as by `-replace`, or removed by its place. What is written
@@ -8,6 +8,7 @@
 #![tactic(auto)]
 
 mod entry;
+mod json;
 mod made;
 mod place;
 mod refusal;
@@ -16,7 +17,9 @@ mod text;
 mod thin;
 mod verify;
 
+use json::run_list_json;
 use mach_fat::Form;
+use mach_json::take_json;
 use mach_show::{Misuse, Program, Round, cputype_in};
 use made::{one_file, run_create, run_remove, run_replace};
 use place::is_same_file;
@@ -35,12 +38,13 @@ const WIDE: &str = "--fat64";
 #[derive(Clone, Copy)]
 enum Shown {
     Records,
+    Object,
     Faults,
 }
 
 const PROGRAM: Program = Program {
     name: NAME,
-    usage: "usage: machfat list FILE..
+    usage: "usage: machfat list [--json] FILE..
        machfat extract FILE INDEX OUT
        machfat thin FILE 0xCPUTYPE OUT
        machfat create [--fat64] OUT FILE..
@@ -73,10 +77,18 @@ fn main(rt: HostRuntime) -> ExitCode {
 
 // Does what the words ask for.
 fn start(rt: &HostRuntime) -> Result<u8, u8> {
-    let mut words = PROGRAM.words(rt)?;
+    let Ok((is_json, mut words)) = take_json(rt.alloc(), PROGRAM.words(rt)?) else {
+        return Err(PROGRAM.out_of_memory(rt));
+    };
     let is_wide = take_option(&mut words);
     let call = PROGRAM.call(rt, &words)?;
     match call.words.as_slice() {
+        [word, files @ ..] if is_json && *word == "list" && !is_wide => show_files(
+            rt,
+            Shown::Object,
+            files,
+        ),
+        _ if is_json => Err(PROGRAM.bad_usage(rt, Misuse::UnknownOption("--json"))),
         [word, given @ ..] if *word == "create" => create_file(rt, form_for(is_wide), given),
         _ if is_wide => Err(PROGRAM.bad_usage(rt, Misuse::UnknownOption(WIDE))),
         [] => Err(PROGRAM.bad_usage(rt, Misuse::Missing("word"))),
@@ -106,11 +118,14 @@ fn show_files(rt: &HostRuntime, shown: Shown, files: &[&str]) -> Result<u8, u8> 
         return Err(PROGRAM.out_of_memory(rt));
     };
     let mut round = Round::new(PROGRAM, files.len());
+    round.is_titled &= !matches!(shown, Shown::Object);
     for file in files {
         if let Some(bytes) = round.begin(rt, file, &mut lines)? {
+            let err = &mut rt.stderr();
             let status = match shown {
-                Shown::Records => run_list(rt.alloc(), file, &bytes, &mut lines, &mut rt.stderr()),
-                Shown::Faults => run_verify(rt.alloc(), file, &bytes, &mut lines, &mut rt.stderr()),
+                Shown::Records => run_list(rt.alloc(), file, &bytes, &mut lines, err),
+                Shown::Object => run_list_json(rt.alloc(), file, &bytes, &mut lines, err),
+                Shown::Faults => run_verify(rt.alloc(), file, &bytes, &mut lines, err),
             };
             round.end(status)?;
         }

@@ -6,8 +6,9 @@ ghost use Rattle.std.specs.Io.KnownBytes.{Appends};
 ghost use Rattle.mach_headers.specs.declared.fat.FatArch.{FatArch};
 ghost use Rattle.mach_show.specs.Statuses.{IsStatus};
 ghost use Rattle.machfat.specs.Entry.{HasRecords, IsEntryOf, WasWritten};
-ghost use Rattle.machfat.specs.Lines.{lines_from};
+ghost use Rattle.machfat.specs.Lines.{records_from};
 ghost use Rattle.machfat.specs.Refusals.{RefusesList, IsRefusal, refusal_line};
+ghost use Rattle.machfat.specs.declared.entry.ListForm.TheVariants as forms;
 ghost use Rattle.machfat.specs.declared.refusal.Failure.TheVariants as failures;
 ghost use Rattle.machfat.specs.declared.refusal.Refusal.{Refusal};
 
@@ -34,7 +35,7 @@ pub fn run_list<A: Allocator + Clone, W: Write + Drop, B: Allocator, E: Write>(
 ) -> u8
     ensures status { IsStatus result }
     ensures listed { result ≡ 0 → (records : List FatArch) × HasRecords bytes.now records
-        × Appends (writer_contents W.contents out.old) (writer_contents W.contents out.new) (lines_from bytes.now 0 records) }
+        × Appends (writer_contents W.contents out.old) (writer_contents W.contents out.new) (records_from forms.Lines bytes.now 0 records) }
     ensures flushed { result ≡ 0 → writer_buffer out.new ≡ [] }
     ensures refused { result ≡ 1 → (refusal : Refusal) × RefusesList bytes.now refusal
         × Appends (E.contents err.old) (E.contents err.new) (refusal_line file.now refusal) }
@@ -49,7 +50,7 @@ fn list_all<A: Allocator + Clone, W: Write + Drop, B: Allocator>(
     out: &mut BufWriter<W, B>,
 ) -> Result<(), Failure>
     ensures listed { OnOk result ((records : List FatArch) × HasRecords bytes.now records
-        × Appends (writer_contents W.contents out.old) (writer_contents W.contents out.new) (lines_from bytes.now 0 records)) }
+        × Appends (writer_contents W.contents out.old) (writer_contents W.contents out.new) (records_from forms.Lines bytes.now 0 records)) }
     ensures flushed { OnOk result (writer_buffer out.new ≡ []) }
     ensures refused { IfErr result (IsRefusal (RefusesList bytes.now)) }
 {

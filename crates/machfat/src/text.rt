@@ -1,7 +1,7 @@
 //! A record of a fat file as it is printed.
 
 ghost use Rattle.std.specs.Prelude.{◌≡◌, Some};
-ghost use Rattle.machfat.specs.Lines.{cpu_text, entry_place_text, entry_kind, record_text};
+ghost use Rattle.machfat.specs.Lines.{cpu_members, cpu_text, entry_place_text, entry_kind, entry_place_members, record_object, record_text};
 
 use goblin_mach::fat::FatArch;
 use goblin_mach::{Hint, peek_bytes, take_hint_bytes};
@@ -58,6 +58,58 @@ impl<'a> Display for RecordText<'a> {
         let place = PlaceText(self.arch);
         let kind = entry_kind(self.arch.slice(self.bytes));
         write!(f, "{cpu}, {place}, {kind}")
+    }
+}
+
+// The members of a record's object that say for which cpu it is.
+#[derive(Clone, Copy)]
+struct CpuMembers(FatArch);
+
+impl Display for CpuMembers {
+    ghost output = { λ t. Some (cpu_members t.0) };
+
+    fn fmt<W: Write>(&self, f: &mut Formatter<W>) -> fmt::Result {
+        let FatArch {
+            cputype,
+            cpusubtype,
+            align,
+            ..
+        } = self.0;
+        write!(
+            f,
+            "\"align\":{align},\"cpusubtype\":{cpusubtype},\"cputype\":{cputype}"
+        )
+    }
+}
+
+// Those that say where its entry stands.
+#[derive(Clone, Copy)]
+struct PlaceMembers(FatArch);
+
+impl Display for PlaceMembers {
+    ghost output = { λ t. Some (entry_place_members t.0) };
+
+    fn fmt<W: Write>(&self, f: &mut Formatter<W>) -> fmt::Result {
+        let FatArch { offset, size, .. } = self.0;
+        write!(f, "\"offset\":{offset},\"size\":{size}")
+    }
+}
+
+/// The object of a record of the fat file that these bytes are, with the kind of its entry.
+#[derive(Clone, Copy)]
+pub struct RecordObject<'a> {
+    pub bytes: &'a [u8],
+    pub arch: FatArch,
+}
+
+impl<'a> Display for RecordObject<'a> {
+    ghost output = { λ t. Some (record_object t.bytes.now t.arch) };
+
+    fn fmt<W: Write>(&self, f: &mut Formatter<W>) -> fmt::Result {
+        let cpu = CpuMembers(self.arch);
+        let place = PlaceMembers(self.arch);
+        let kind = entry_kind(self.arch.slice(self.bytes));
+        write!(f, "{{{cpu},\"kind\":\"{kind}\",{place}}}")
     }
 }
 
