@@ -23,12 +23,9 @@ use Rattle.mach_signed.specs.SignedFacts.{HoldsAsSigned}
 use Rattle.machsign.specs.ImageLines.{HasSigned}
 use Rattle.machsign.specs.Signatures.{has_none}
 
-abbrev pub string_text : List ℕ → List ℕ
-string_text text = json_string text
-
 -- a name that a directory may have
 abbrev pub json_name : Result (Option (List ℕ)) Fault → List ℕ
-json_name (Ok (Some name)) = string_text name
+json_name (Ok (Some name)) = json_string name
 json_name (Ok None) = codes "null"
 json_name (Err f) = codes "{\"error\":\"unreadable\"}"
 

@@ -7,6 +7,7 @@ ghost use Rattle.mach_base.specs.Items.{read_as};
 ghost use Rattle.mach_base.specs.Words.{words_of};
 ghost use Rattle.mach_image.specs.OpenImage.{bytes_held, commands_held, segments_held};
 ghost use Rattle.mach_json.specs.JsonArrays.{comma_before};
+ghost use Rattle.mach_json.specs.JsonText.{json_string};
 ghost use Rattle.mach_sign.specs.DirectoryViews.{directory_view};
 ghost use Rattle.mach_sign.specs.FaultViews.{signed_view, signature_faults_left};
 ghost use Rattle.machsign.specs.ImageLines.{image_signed};
@@ -189,7 +190,7 @@ fn write_name<O: Write>(name: mach_base::Result<Option<&str>>, out: &mut O) -> i
 
 // Writes a string.
 fn write_string<O: Write>(text: &str, out: &mut O) -> io::Result<()>
-    ensures { OnOk result (Appends (O.contents out.old) (O.contents out.new) (defined.string_text text.now)) }
+    ensures { OnOk result (Appends (O.contents out.old) (O.contents out.new) (json_string text.now)) }
 {
     let text = JsonString(text);
     write!(out, "{text}")
