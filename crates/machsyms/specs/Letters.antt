@@ -1,5 +1,7 @@
 -- The letters by which `nm` tells what a symbol is (`mach-o/nlist.h`).
-use Rattle.std.specs.Prelude.{◌==◌, ℕ, zero, suc, List, codes, take, map, slice_index, slice_get, bit_and, unwrap_or, Bool, false, ◌&&◌, Result, Ok, Err}
+use Rattle.std.specs.Prelude.{◌==◌, ℕ, zero, suc, List, codes, take, map, slice_index, slice_get, bit_and, unwrap_or, Bool, false, ◌&&◌, Option, Some, None}
+use Rattle.std.specs.Prelude.{Result, Ok, Err}
+use Rattle.std.specs.Option.{option_flatten}
 use Rattle.std.specs.Prelude.{if◌then◌else◌}
 use Rattle.std.specs.Char.{to_ascii_uppercase}
 use Rattle.std.specs.List.{flat_map}
@@ -31,14 +33,26 @@ section_letter s =
     else (if is_called (codes "__DATA") (codes "__bss") s then letter (codes "b")
     else letter (codes "s")))
 
--- one that can't be read is any other
-abbrev pub item_letter : Result (Section × List ℕ) Fault → ℕ
-item_letter (Ok found) = section_letter found.0
-item_letter (Err f) = letter (codes "s")
+-- the sections over all segments, as many as a symbol can name: MAX_SECT. None stands for one that can't be read.
+abbrev pub item_section : Result (Section × List ℕ) Fault → Option Section
+item_section (Ok found) = Some found.0
+item_section (Err f) = None
 
--- a letter for each section over all segments, as many as a symbol can name: MAX_SECT
+abbrev pub named_sections : List SegmentView → List (Option Section)
+named_sections segments = take 255 (map item_section (flat_map sections_of segments))
+
+-- the section of a number, counted from 1, if it is among these and can be read
+abbrev pub section_by : List (Option Section) → ℕ → Option Section
+section_by sections zero = None
+section_by sections (suc index) = option_flatten (slice_get sections index)
+
+-- one that can't be read has the letter of any other
+abbrev pub letter_of : Option Section → ℕ
+letter_of None = letter (codes "s")
+letter_of (Some s) = section_letter s
+
 abbrev pub letters_of : List SegmentView → List ℕ
-letters_of segments = take 255 (map item_letter (flat_map sections_of segments))
+letters_of segments = map letter_of (named_sections segments)
 
 -- the letter of a section by its number, counted from 1
 abbrev pub letter_at : List ℕ → ℕ → ℕ

@@ -13,11 +13,11 @@ use Rattle.mach_symbols.specs.declared.symbols.nlist.Nlist.{Nlist}
 use Rattle.mach_show.specs.Lines.{AreLines}
 use Rattle.machsyms.specs.Asked.{is_elsewhere, takes}
 use Rattle.machsyms.specs.Letters.{symbol_letter}
-use Rattle.machsyms.specs.Setting.{SymbolSetting}
+use Rattle.machsyms.specs.Setting.{SymbolSetting, described}
 use Rattle.machsyms.specs.Stabs.{stab_name}
 use Rattle.machsyms.specs.declared.asked.Asked.{Asked}
 use Rattle.machsyms.specs.declared.asked.Form.{Form}
-use Rattle.machsyms.specs.declared.asked.Form.TheVariants.{Letters, Names, Hexadecimal}
+use Rattle.machsyms.specs.declared.asked.Form.TheVariants.{Letters, Names, Hexadecimal, Words}
 use Rattle.mach_base.specs.Words.{words_of}
 
 -- a number in `width` hexadecimal digits, zeros before it
@@ -50,9 +50,15 @@ kind_text sections s =
     if is_stab s then codes "- " ++ padded_hex 2 s.n_sect ++ codes " " ++ padded_hex 4 s.n_desc ++ codes " " ++ stab_text s.n_type (stab_name s.n_type)
     else encode_utf8 (symbol_letter sections s)
 
--- a symbol with its name
-abbrev pub symbol_text : SymbolSetting → List ℕ → Nlist → List ℕ
-symbol_text w name s = value_text w.is_64 (value_shown s) ++ codes " " ++ kind_text w.letters s ++ codes " " ++ name
+-- a symbol with its name, over the letters of sections
+abbrev pub letter_text : (is_64 : Bool) → (letters name : List ℕ) → Nlist → List ℕ
+letter_text is_64 letters name s = value_text is_64 (value_shown s) ++ codes " " ++ kind_text letters s ++ codes " " ++ name
+
+-- a symbol in words; an entry for a debugger as it is shown elsewhere
+abbrev pub words_text : SymbolSetting → List ℕ → Nlist → List ℕ
+words_text w name s =
+    if is_stab s then letter_text w.is_64 w.letters name s
+    else value_text w.is_64 (value_shown s) ++ codes " " ++ described w name s
 
 -- the fields of its record but the value: type, section, flags, and the place of its name
 abbrev pub fields_text : Nlist → List ℕ
@@ -61,7 +67,8 @@ fields_text s =
 
 -- a symbol in the form that is asked for
 abbrev pub form_text : Form → SymbolSetting → List ℕ → Nlist → List ℕ
-form_text Letters w name s = symbol_text w name s
+form_text Letters w name s = letter_text w.is_64 w.letters name s
+form_text Words w name s = words_text w name s
 form_text Names w name s = name
 form_text Hexadecimal w name s = value_text w.is_64 (Some s.n_value) ++ codes " " ++ fields_text s ++ codes " " ++ name
 

@@ -1,17 +1,51 @@
 -- What the lines of symbols tell of their image.
-use Rattle.std.specs.Prelude.{ℕ, List, Bool}
+use Rattle.std.specs.Prelude.{ℕ, List, Bool, Option}
+use Rattle.mach_base.specs.Text.{texts}
+use Rattle.mach_segments.specs.declared.segment.section.Section.{Section}
+use Rattle.mach_symbols.specs.declared.symbols.nlist.Nlist.{Nlist}
 use Rattle.mach_image.specs.ImageFacts.{Facts}
-use Rattle.machsyms.specs.Letters.{letters_of}
+use Rattle.mach_image.specs.ImageSlots.{symbol_provider_of}
+use Rattle.mach_nm.specs.SymbolWords.{origin_said, origin_text, section_seen, symbol_words}
+use Rattle.mach_nm.specs.declared.words.SymbolWords.{SymbolWords}
+use Rattle.machsyms.specs.Letters.{letters_of, named_sections, section_by}
 use Rattle.machsyms.specs.declared.setting.Setting.{Setting}
 
--- whether it has 64 bits, and a letter for each of its sections
+-- whether it has 64 bits, its sections and a letter for each, the kind of its file, its flags, and its libraries by their numbers
 pub record SymbolSetting : Type 0 where
   pub is_64 : Bool
   pub letters : List ℕ
+  pub sections : List (Option Section)
+  pub filetype : ℕ
+  pub flags : ℕ
+  pub libs : List (List ℕ)
 
 -- that of an image of either width, by what is told of it
 abbrev pub setting_of : (is_64 : Bool) → Facts → SymbolSetting
-setting_of is_64 f = record { is_64 = is_64; letters = letters_of f.segments }
+setting_of is_64 f =
+    record {
+      is_64 = is_64;
+      letters = letters_of f.segments;
+      sections = named_sections f.segments;
+      filetype = f.header.filetype;
+      flags = f.header.flags;
+      libs = f.libs;
+    }
 
-abbrev pub setting_view : Setting → SymbolSetting
-setting_view s = record { is_64 = s.is_64; letters = s.letters.now }
+abbrev pub setting_view : {A : Type 0} → Setting A → SymbolSetting
+setting_view s =
+    record {
+      is_64 = s.image.now.is_64;
+      letters = s.letters.now;
+      sections = s.sections.now;
+      filetype = s.image.now.header.filetype;
+      flags = s.image.now.header.flags;
+      libs = texts s.image.now.libs.items;
+    }
+
+-- what is said in words of a symbol of this name
+abbrev pub described : SymbolSetting → List ℕ → Nlist → List ℕ
+described w name s = symbol_words (section_by w.sections s.n_sect) w.filetype name (origin_said s.n_desc (symbol_provider_of w.flags w.libs s)) s
+
+-- what the code's words are
+abbrev pub words_shown : SymbolWords → List ℕ
+words_shown t = symbol_words (section_seen t.section) t.filetype t.name.now (origin_text t.origin) t.symbol.now

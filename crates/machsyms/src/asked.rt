@@ -32,6 +32,8 @@ pub enum Form {
     Names,
     /// The fields of the record in hexadecimal, and the name.
     Hexadecimal,
+    /// The value, what is said of it in words, and the name.
+    Words,
 }
 
 /// What is asked for of the symbols of an image.

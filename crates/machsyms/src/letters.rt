@@ -5,66 +5,105 @@ ghost use Rattle.mach_base.specs.Items.{read_as};
 ghost use Rattle.mach_segments.specs.SectionItems.{section_read};
 ghost use Rattle.mach_segments.specs.Segment.{segment_view, sections_of};
 ghost use Rattle.mach_image.specs.OpenImage.{segments_held};
-ghost use Rattle.machsyms.specs.Letters.{section_letter, item_letter, letters_of, symbol_letter, type_letter, letter_at, is_called, is_name};
+ghost use Rattle.mach_nm.specs.SymbolWords.{section_seen};
+ghost use Rattle.machsyms.specs.Letters.{section_letter, item_section, named_sections, section_by, symbol_letter, type_letter};
+ghost use Rattle.machsyms.specs.Letters.{is_called, is_name, letter_at, letter_of};
 
 use goblin_mach::MachO;
 use goblin_mach::segment::{Section, SectionData, Segment};
 use goblin_mach::symbols::{MAX_SECT, N_ABS, N_EXT, N_INDR, N_SECT, N_UNDF, Nlist};
 use std::alloc::{AllocError, Allocator};
 
-/// A letter for each section of the segments that the image holds, over all segments in order, as many as a symbol can name.
-pub fn section_letters<A: Allocator, B: Allocator>(
+/// The sections of the segments that the image holds, over all segments in order, as many as a symbol can name; none stands for one that can't be read.
+pub fn named_sections<A: Allocator, B: Allocator>(
     alloc: B,
     image: &MachO<'_, A>,
-) -> Result<Vec<char, B>, AllocError>
-    ensures { IfOk result (λ v. v.items ≡ letters_of (segments_held image.now)) }
+) -> Result<Vec<Option<Section>, B>, AllocError>
+    ensures { IfOk result (λ v. v.items ≡ named_sections (segments_held image.now)) }
 {
-    letters_held(alloc, image.segments.as_slice())
+    sections_held(alloc, image.segments.as_slice())
 }
 
-// The letters of the sections of some segments.
-fn letters_held<B: Allocator>(
+// The sections of some segments.
+fn sections_held<B: Allocator>(
     alloc: B,
     segments: &[Segment<'_>],
-) -> Result<Vec<char, B>, AllocError>
-    ensures { IfOk result (λ v. v.items ≡ letters_of (map segment_view segments.now)) }
+) -> Result<Vec<Option<Section>, B>, AllocError>
+    ensures { IfOk result (λ v. v.items ≡ named_sections (map segment_view segments.now)) }
 {
-    let mut letters = Vec::new(alloc);
+    let mut sections = Vec::new(alloc);
     'segments: for segment in segments {
-        add_letters(&mut letters, segment)?;
+        add_sections(&mut sections, segment)?;
     }
-    Ok(letters)
+    Ok(sections)
 }
 
-// Adds the letters of a segment's sections, up to the number that a symbol can name.
-fn add_letters<B: Allocator>(
-    letters: &mut Vec<char, B>,
+// Adds the sections of a segment, up to the number that a symbol can name.
+fn add_sections<B: Allocator>(
+    sections: &mut Vec<Option<Section>, B>,
     segment: &Segment<'_>,
 ) -> Result<(), AllocError>
-    requires { length letters.old.items ≤ 255 }
-    ensures { OnOk result (letters.new.items ≡ take 255 (letters.old.items ++ map item_letter (sections_of (segment_view segment.now)))) }
+    requires { length sections.old.items ≤ 255 }
+    ensures { OnOk result (sections.new.items ≡ take 255 (sections.old.items ++ map item_section (sections_of (segment_view segment.now)))) }
 {
     'sections: for item in segment {
-        if letters.len() >= usize::from(MAX_SECT) {
+        if sections.len() >= usize::from(MAX_SECT) {
             return Ok(());
         }
-        letters.push(item_letter(&item))?;
+        sections.push(item_section(item))?;
     }
     Ok(())
 }
 
-// The letter of a section that may be unreadable.
-fn item_letter(item: &goblin_mach::Result<(Section, SectionData<'_>)>) -> char
-    ensures { result ≡ item_letter (section_read item.now) }
+// A section, if it can be read.
+fn item_section(item: goblin_mach::Result<(Section, SectionData<'_>)>) -> Option<Section>
+    ensures { result ≡ item_section (section_read item.entry) }
 {
     match item {
-        Ok((section, _)) => letter_of(section),
-        Err(_) => 's',
+        Ok((section, _)) => Some(section),
+        Err(_) => None,
+    }
+}
+
+/// A letter for each of some sections.
+pub fn section_letters<B: Allocator>(
+    alloc: B,
+    sections: &[Option<Section>],
+) -> Result<Vec<char, B>, AllocError>
+    ensures { IfOk result (λ v. v.items ≡ map letter_of sections.now) }
+{
+    let mut letters = Vec::new(alloc);
+    'sections: for section in sections {
+        letters.push(letter_of(section))?;
+    }
+    Ok(letters)
+}
+
+// The letter of a section that may be unreadable.
+fn letter_of(section: &Option<Section>) -> char
+    ensures { result ≡ letter_of section.now }
+{
+    match section {
+        Some(section) => section_letter(section),
+        None => 's',
+    }
+}
+
+/// The section of a number, counted from 1, if it is among these and can be read.
+pub fn section_by(number: usize, sections: &[Option<Section>]) -> Option<&Section>
+    ensures { section_seen result ≡ section_by sections.now number }
+{
+    match number.checked_sub(1) {
+        Some(index) => match sections.get(index) {
+            Some(Some(section)) => Some(section),
+            _ => None,
+        },
+        None => None,
     }
 }
 
 // The letter of a section.
-fn letter_of(section: &Section) -> char
+fn section_letter(section: &Section) -> char
     ensures { result ≡ section_letter section.now }
 {
     if is_called(section, "__TEXT", "__text") {

@@ -41,7 +41,7 @@ use words::{Letters, asked_of, names_files, take_letters};
 
 const PROGRAM: Program = Program {
     name: NAME,
-    usage: "usage: machsyms [-AUagjnoprux] [--json] [--arch NAME | --cputype 0xN] FILE..\n       machsyms -h | --help | --version\n",
+    usage: "usage: machsyms [-AUagjmnoprux] [--json] [--arch NAME | --cputype 0xN] FILE..\n       machsyms -h | --help | --version\n",
     version: "machsyms 0.2.0\n",
     has_limit: false,
     has_cpu: true,
@@ -51,6 +51,7 @@ const PROGRAM: Program = Program {
         "--debug-syms",
         "--defined-only",
         "--extern-only",
+        "--format=darwin",
         "--format=just-symbols",
         "--help",
         "--json",

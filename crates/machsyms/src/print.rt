@@ -15,14 +15,15 @@ use crate::setting::Setting;
 use crate::text::{FileText, SymbolText};
 use goblin_mach::describe;
 use goblin_mach::symbols::{Nlist, Symbols};
+use std::alloc::Allocator;
 use std::io;
 use std::io::Write;
 
 /// Prints the symbols of a table, if there is one: exactly a line for each that is asked for, as they stand there or by the keys, also for one
 /// that can't be read, and one line for all whose records begin past the end. Answers whether there are none of these.
-pub fn print_symbols<O: Write>(
+pub fn print_symbols<A: Allocator, O: Write>(
     asked: &Asked<'_>,
-    setting: &Setting<'_>,
+    setting: &Setting<'_, '_, A>,
     keys: &[SortKey<'_>],
     table: &Option<Symbols<'_>>,
     out: &mut O,
@@ -37,9 +38,9 @@ pub fn print_symbols<O: Write>(
 }
 
 // Prints the symbols of a table.
-fn print_table<O: Write>(
+fn print_table<A: Allocator, O: Write>(
     asked: &Asked<'_>,
-    setting: &Setting<'_>,
+    setting: &Setting<'_, '_, A>,
     keys: &[SortKey<'_>],
     table: &Symbols<'_>,
     out: &mut O,
@@ -65,9 +66,9 @@ fn print_past<O: Write>(past: usize, out: &mut O) -> io::Result<()>
 }
 
 // Prints a line for each symbol of a table that is asked for, as they stand there or by the keys.
-fn print_listed<O: Write>(
+fn print_listed<A: Allocator, O: Write>(
     asked: &Asked<'_>,
-    setting: &Setting<'_>,
+    setting: &Setting<'_, '_, A>,
     keys: &[SortKey<'_>],
     table: &Symbols<'_>,
     out: &mut O,
@@ -82,9 +83,9 @@ fn print_listed<O: Write>(
 }
 
 // Prints a line for each symbol of a table that is asked for, as they stand there.
-fn print_begun<O: Write>(
+fn print_begun<A: Allocator, O: Write>(
     asked: &Asked<'_>,
-    setting: &Setting<'_>,
+    setting: &Setting<'_, '_, A>,
     table: &Symbols<'_>,
     out: &mut O,
 ) -> io::Result<()>
@@ -98,9 +99,9 @@ fn print_begun<O: Write>(
 }
 
 // Prints a line for each symbol of some keys that is asked for.
-fn print_keys<O: Write>(
+fn print_keys<A: Allocator, O: Write>(
     asked: &Asked<'_>,
-    setting: &Setting<'_>,
+    setting: &Setting<'_, '_, A>,
     keys: &[SortKey<'_>],
     table: &Symbols<'_>,
     out: &mut O,
@@ -115,9 +116,9 @@ fn print_keys<O: Write>(
 }
 
 // Prints the line of a symbol, if it is asked for.
-fn print_symbol<O: Write>(
+fn print_symbol<A: Allocator, O: Write>(
     asked: &Asked<'_>,
-    setting: &Setting<'_>,
+    setting: &Setting<'_, '_, A>,
     answer: &goblin_mach::Result<(&str, Nlist)>,
     out: &mut O,
 ) -> io::Result<()>

@@ -9,7 +9,7 @@ ghost use Rattle.mach_show.specs.Statuses.{IsStatus, status_by};
 ghost use Rattle.machsyms.specs.ImageLines.{AreImageSymbolLines, AreImageKeys};
 
 use crate::asked::{Asked, Sorting};
-use crate::letters::section_letters;
+use crate::letters::{named_sections, section_letters};
 use crate::order::{SortKey, keys_in_order};
 use crate::print::print_symbols;
 use crate::setting::Setting;
@@ -50,9 +50,10 @@ impl Shows for SymbolsOf<'_> {
         out: &mut O,
     ) -> Result<Outcome, Failure> {
         laws::facts_of_image(image);
-        let letters = section_letters(alloc.clone()?, image)?;
+        let sections = named_sections(alloc.clone()?, image)?;
+        let letters = section_letters(alloc.clone()?, &sections)?;
         let keys = keys_of_image(alloc.clone()?, self.asked.sorting, &image.symbols)?;
-        let setting = Setting::new(image, &letters);
+        let setting = Setting::new(image, &sections, &letters);
         write!(out, "{heading}")?;
         let whole = print_symbols(&self.asked, &setting, &keys, &image.symbols, out)?;
         Ok(Outcome { whole, left })

@@ -2,30 +2,54 @@
 
 ghost use Rattle.std.specs.Prelude.{◌≡◌};
 ghost use Rattle.mach_image.specs.ImageFacts.{facts_held};
-ghost use Rattle.machsyms.specs.Letters.{letters_of};
-ghost use Rattle.machsyms.specs.Setting.{setting_of, setting_view};
 ghost use Rattle.mach_image.specs.OpenImage.{segments_held};
+ghost use Rattle.machsyms.specs.Letters.{letters_of, named_sections};
+ghost use Rattle.machsyms.specs.Setting.{described, setting_of, setting_view, words_shown};
 
+use crate::letters::section_by;
 use goblin_mach::MachO;
+use goblin_mach::segment::Section;
+use goblin_mach::symbols::Nlist;
+use mach_nm::{SymbolWords, origin_of};
 use std::alloc::Allocator;
 
 /// What the lines of symbols tell of their image.
-#[derive(Clone, Copy)]
-pub struct Setting<'a> {
-    /// Whether it has 64 bits.
-    pub is_64: bool,
+#[derive(Drop)]
+pub struct Setting<'b, 'a, A: Allocator> {
     /// A letter for each of its sections.
-    pub letters: &'a [char],
+    pub letters: &'b [char],
+    /// Its sections.
+    pub sections: &'b [Option<Section>],
+    pub image: &'b MachO<'a, A>,
 }
 
-impl<'a> Setting<'a> {
-    /// That of an image whose sections have these letters.
-    pub fn new<A: Allocator>(image: &MachO<'_, A>, letters: &'a [char]) -> Setting<'a>
-        ensures { letters.now ≡ letters_of (segments_held image.now) → setting_view result ≡ setting_of image.now.is_64 (facts_held image.now) }
+impl<'b, 'a, A: Allocator> Setting<'b, 'a, A> {
+    /// That of an image with these sections, which have these letters.
+    pub fn new(
+        image: &'b MachO<'a, A>,
+        sections: &'b [Option<Section>],
+        letters: &'b [char],
+    ) -> Self
+        ensures { sections.now ≡ named_sections (segments_held image.now) → letters.now ≡ letters_of (segments_held image.now)
+            → setting_view result ≡ setting_of image.now.is_64 (facts_held image.now) }
     {
         Setting {
-            is_64: image.is_64,
             letters,
+            sections,
+            image,
+        }
+    }
+
+    /// What is said of a symbol of this name in words.
+    pub fn words<'c>(&'c self, name: &'c str, symbol: &'c Nlist) -> SymbolWords<'c>
+        ensures { words_shown result ≡ described (setting_view self.now) name.now symbol.now }
+    {
+        SymbolWords {
+            symbol,
+            section: section_by(symbol.n_sect, self.sections),
+            filetype: self.image.header.filetype,
+            name,
+            origin: origin_of(symbol, self.image.symbol_provider(symbol)),
         }
     }
 }

@@ -1,7 +1,7 @@
 //! A symbol as it is printed.
 
 ghost use Rattle.std.specs.Prelude.{◌≡◌, Some};
-ghost use Rattle.machsyms.specs.Lines.{form_text, file_text, value_text, value_shown, kind_text, stab_text, padded_hex};
+ghost use Rattle.machsyms.specs.Lines.{form_text, file_text, letter_text, value_text, value_shown, kind_text, stab_text, padded_hex};
 ghost use Rattle.machsyms.specs.Setting.{setting_view};
 
 use crate::asked::{Form, is_elsewhere};
@@ -9,6 +9,7 @@ use crate::letters::symbol_letter;
 use crate::setting::Setting;
 use crate::stabs::stab_name;
 use goblin_mach::symbols::Nlist;
+use std::alloc::Allocator;
 use std::fmt;
 use std::fmt::{Display, Formatter, Write};
 
@@ -28,33 +29,22 @@ impl<'a> Display for FileText<'a> {
 }
 
 /// A symbol as it is printed, in a form.
-#[derive(Clone, Copy)]
-pub struct SymbolText<'a> {
+#[derive(Drop)]
+pub struct SymbolText<'c, 'b, 'a, A: Allocator> {
     pub form: Form,
-    pub setting: &'a Setting<'a>,
-    pub name: &'a str,
-    pub symbol: &'a Nlist,
+    pub setting: &'c Setting<'b, 'a, A>,
+    pub name: &'c str,
+    pub symbol: &'c Nlist,
 }
 
-impl<'a> Display for SymbolText<'a> {
+impl<A: Allocator> Display for SymbolText<'_, '_, '_, A> {
     ghost output = { λ t. Some (form_text t.form (setting_view t.setting.now) t.name.now t.symbol.now) };
 
     fn fmt<W: Write>(&self, f: &mut Formatter<W>) -> fmt::Result {
         let (name, symbol) = (self.name, self.symbol);
-        let is_64 = self.setting.is_64;
+        let is_64 = self.setting.image.is_64;
         match self.form {
             Form::Names => write!(f, "{name}"),
-            Form::Letters => {
-                let value = ValueText {
-                    is_64,
-                    value: value_shown(symbol),
-                };
-                let kind = KindText {
-                    sections: self.setting.letters,
-                    symbol,
-                };
-                write!(f, "{value} {kind} {name}")
-            }
             Form::Hexadecimal => {
                 let value = ValueText {
                     is_64,
@@ -63,7 +53,64 @@ impl<'a> Display for SymbolText<'a> {
                 let fields = FieldsText(symbol);
                 write!(f, "{value} {fields} {name}")
             }
+            Form::Letters => {
+                let text = LetterText {
+                    is_64,
+                    letters: self.setting.letters,
+                    name,
+                    symbol,
+                };
+                write!(f, "{text}")
+            }
+            Form::Words if symbol.is_stab() => {
+                let text = LetterText {
+                    is_64,
+                    letters: self.setting.letters,
+                    name,
+                    symbol,
+                };
+                write!(f, "{text}")
+            }
+            Form::Words => {
+                let value = ValueText {
+                    is_64,
+                    value: value_shown(symbol),
+                };
+                let words = self.setting.words(name, symbol);
+                write!(f, "{value} {words}")
+            }
         }
+    }
+}
+
+// A symbol with a letter.
+#[derive(Clone, Copy)]
+struct LetterText<'a> {
+    is_64: bool,
+    letters: &'a [char],
+    name: &'a str,
+    symbol: &'a Nlist,
+}
+
+impl<'a> Display for LetterText<'a> {
+    ghost output = { λ t. Some (letter_text t.is_64 t.letters.now t.name.now t.symbol.now) };
+
+    fn fmt<W: Write>(&self, f: &mut Formatter<W>) -> fmt::Result {
+        let LetterText {
+            is_64,
+            letters,
+            name,
+            symbol,
+        } = *self;
+        let value = ValueText {
+            is_64,
+            value: value_shown(symbol),
+        };
+        let kind = KindText {
+            sections: letters,
+            symbol,
+        };
+        write!(f, "{value} {kind} {name}")
     }
 }
 

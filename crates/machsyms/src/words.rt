@@ -40,6 +40,7 @@ impl Letters {
             'r' => self.sorting.is_reversed = true,
             'p' => self.is_plain = true,
             'j' => self.asked.form = Form::Names,
+            'm' => self.asked.form = Form::Words,
             'x' => self.is_hexadecimal = true,
             'A' | 'o' => self.has_file = true,
             _ => return false,
@@ -80,7 +81,7 @@ impl Letters {
             },
             form: match asked.form {
                 Form::Letters if asked.is_undefined => Form::Names,
-                Form::Letters if self.is_hexadecimal => Form::Hexadecimal,
+                Form::Letters | Form::Words if self.is_hexadecimal => Form::Hexadecimal,
                 form => form,
             },
             file: if self.has_file { Some(file) } else { None },
@@ -100,6 +101,7 @@ fn letter_named(name: &str) -> Option<char> {
         "--reverse-sort" => 'r',
         "--no-sort" => 'p',
         "--format=just-symbols" => 'j',
+        "--format=darwin" => 'm',
         "--print-file-name" => 'A',
         _ => return None,
     })

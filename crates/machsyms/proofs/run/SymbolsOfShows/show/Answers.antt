@@ -1,10 +1,11 @@
-use Rattle.std.proofs.Common.{◌≡◌, ◌∙◌, List, subst, sym}
+use Rattle.std.proofs.Common.{◌≡◌, ◌∙◌, List, ap, map, subst, sym}
 use Rattle.std.specs.Prelude.{IsTrue, ◌↔◌}
 use Rattle.mach_base.specs.declared.context.Container.TheVariants.{Big}
 use Rattle.mach_base.specs.declared.context.Ctx.{Ctx}
 use Rattle.mach_base.proofs.Written.{Appends-both}
 use Rattle.mach_image.specs.ImageFacts.{facts_held}
 use Rattle.mach_image.specs.OpenImage.{commands_held}
+use Rattle.machsyms.specs.Letters.{letter_of}
 use Rattle.machsyms.specs.Lines.{AreTableLines}
 use Rattle.machsyms.specs.Order.{gone_over}
 use Rattle.machsyms.specs.Setting.{SymbolSetting, setting_view}
@@ -18,7 +19,9 @@ returns-clause-shown g c = λ bytes opened.
     let f = facts_held m in
     let whole = c.in_ok-whole.whole in
     let lines = c.in_ok-whole.ensures in
-    let set = c.new-setting.ensures (c.deref.ensures.value ∙ c.in_ok-letters.ensures) in (
+    let there = c.deref-2.ensures.value ∙ c.in_ok-sections.ensures in
+    let lettered = c.deref-3.ensures.value ∙ c.in_ok-letters.ensures ∙ ap (map letter_of) (c.deref.ensures.value ∙ c.in_ok-sections.ensures) in
+    let set = c.new-setting.ensures there lettered in (
       lines.text,
       record {
         opens = (opened.ctx, commands_held m, opened.opens);
@@ -30,7 +33,7 @@ returns-clause-shown g c = λ bytes opened.
         in_order = c.in_ok-keys.ensures;
         lines = subst (λ (w : SymbolSetting). AreTableLines a w (gone_over a.sorting c.in_ok-keys.keys.items) f.symbols lines.text whole) set
             (subst (λ (ks : List SortKey). AreTableLines a (setting_view c.new-setting.result) (gone_over a.sorting ks) f.symbols lines.text whole)
-            c.deref-2.ensures.value lines.lines);
+            c.deref-4.ensures.value lines.lines);
       },
       Appends-both _ _ _ _ lines.text c.in_ok-write.ensures.bytes lines.written,
     )
