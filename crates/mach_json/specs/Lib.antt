@@ -1,4 +1,5 @@
 pub mod JsonText
 pub mod JsonArrays
+pub mod Signing
 pub mod Documents
 pub mod Opened

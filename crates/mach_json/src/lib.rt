@@ -6,9 +6,11 @@ mod array;
 mod document;
 mod refusal;
 pub mod run;
+mod signing;
 mod text;
 mod words;
 
-pub use crate::array::{print_array, print_empty, print_end, print_member, then};
+pub use crate::array::{comma_before, print_array, print_empty, print_end, print_member, then};
+pub use crate::signing::{AuthMembers, DiversityMembers, has_auth, key_by, rebase_type};
 pub use crate::text::JsonString;
 pub use crate::words::take_json;

@@ -1,44 +1,19 @@
 -- The objects of rebases, binds and fixups.
-use Rattle.std.specs.Prelude.{ℕ, List, [], ◌∷◌, ◌++◌, codes, map, Bool, true, false, Option, Some, None, Result}
+use Rattle.std.specs.Prelude.{ℕ, List, [], ◌∷◌, ◌++◌, codes, map, Option, Result}
 use Rattle.std.specs.Fmt.{decimal, signed_decimal}
 use Rattle.mach_base.specs.Fault.{Fault}
 use Rattle.mach_chained.specs.Header.{Fixups}
 use Rattle.mach_chained.specs.Pointers.{Auth}
 use Rattle.mach_show.specs.Listings.{told_by}
 use Rattle.mach_streams.specs.declared.rebases.RebaseKind.{RebaseKind}
-use Rattle.mach_streams.specs.declared.rebases.RebaseKind.TheVariants.{Pointer, TextAbsolute32, TextRelative32}
 use Rattle.mach_json.specs.JsonArrays.{NamedRows}
 use Rattle.mach_json.specs.JsonText.{json_bool, json_string}
+use Rattle.mach_json.specs.Signing.{auth_members, diversity_members, has_auth, key_by, rebase_type}
 use Rattle.machfixups.specs.Lists.{PointerLists}
 use Rattle.machfixups.specs.Parts.{Part}
 use Rattle.machfixups.specs.Rows.{PointerPlace, PointerBind, Action, binds, binds_weakly, rebases, is_value, PointerRow, corrects, is_strong}
 use Rattle.machfixups.specs.Rows.{picked, shown_picks, row_for_rebase, row_for_binding, row_for_weak, row_for_fixup}
 use Rattle.machfixups.specs.declared.rows.Picks.{Picks}
-
--- how a pointer is signed; a key and a diversity of 0, and no address mixed in, where it isn't
-abbrev pub has_auth : Option Auth → Bool
-has_auth None = false
-has_auth (Some a) = true
-
-abbrev pub key_by : Option Auth → ℕ
-key_by None = 0
-key_by (Some a) = a.key
-
-abbrev pub diversity_by : Option Auth → ℕ
-diversity_by None = 0
-diversity_by (Some a) = a.diversity
-
-abbrev pub diverse_by : Option Auth → Bool
-diverse_by None = false
-diverse_by (Some a) = a.is_address_diverse
-
--- what is mixed in
-abbrev pub diversity_members : Option Auth → List ℕ
-diversity_members auth = codes "\"diversity\":" ++ (decimal (diversity_by auth) ++ (codes ",\"is_address_diverse\":" ++ json_bool (diverse_by auth)))
-
--- whether it is signed, and by which key
-abbrev pub signing_members : Option Auth → List ℕ
-signing_members auth = codes "\"is_signed\":" ++ (json_bool (has_auth auth) ++ (codes ",\"key\":" ++ decimal (key_by auth)))
 
 -- these among the flags of a bind
 abbrev pub bind_flags : PointerBind → List ℕ
@@ -52,10 +27,6 @@ bind_flags b =
     ++ (codes ",\"key\":"
     ++ decimal (key_by b.auth)))))))
 
--- what is mixed in, whether it is signed, and by which key
-abbrev pub auth_members : Option Auth → List ℕ
-auth_members auth = diversity_members auth ++ (codes "," ++ signing_members auth)
-
 -- what is mixed into the pointer of a bind, these flags, and the ordinal of its library
 abbrev pub bind_members : PointerBind → List ℕ
 bind_members b =
@@ -64,12 +35,6 @@ bind_members b =
 -- the names that are shown of the section and of the segment
 abbrev pub place_members : PointerPlace → List ℕ
 place_members p = codes "\"section\":" ++ (json_string p.section ++ (codes ",\"segment\":" ++ json_string p.segment))
-
--- what a rebase corrects
-abbrev pub rebase_type : RebaseKind → List ℕ
-rebase_type Pointer = codes "pointer"
-rebase_type TextAbsolute32 = codes "absolute32"
-rebase_type TextRelative32 = codes "relative32"
 
 abbrev pub bind_object : PointerPlace → PointerBind → List ℕ
 bind_object p b =

@@ -2,88 +2,16 @@
 
 ghost use Rattle.std.specs.Prelude.{◌≡◌, Some};
 ghost use Rattle.mach_chained.specs.PointerViews.{auth_seen};
-ghost use Rattle.machfixups.specs.JsonRows.{action_object, auth_members, bind_flags, bind_members, bind_object, diverse_by, diversity_by, diversity_members};
-ghost use Rattle.machfixups.specs.JsonRows.{has_auth, key_by, place_members, pointer_object, rebase_object, rebase_type, signing_members};
+ghost use Rattle.machfixups.specs.JsonRows.{action_object, bind_flags, bind_members, bind_object, place_members, pointer_object, rebase_object};
 ghost use Rattle.machfixups.specs.JsonRows.{value_object, weak_object};
 ghost use Rattle.machfixups.specs.Rows.{action_view, bind_view, place_view, row_view};
 
 use crate::row::{Action, Bind, Place, Row};
 use goblin_mach::RebaseKind;
 use goblin_mach::chained_fixups::PointerAuth;
-use mach_json::JsonString;
+use mach_json::{AuthMembers, DiversityMembers, JsonString, has_auth, key_by, rebase_type};
 use std::fmt;
 use std::fmt::{Display, Formatter, Write};
-
-// Whether a pointer is signed.
-fn has_auth(auth: Option<PointerAuth>) -> bool
-    ensures { result ≡ has_auth (auth_seen auth) }
-{
-    match auth {
-        Some(_) => true,
-        None => false,
-    }
-}
-
-// The key of a signed pointer.
-fn key_by(auth: Option<PointerAuth>) -> u8
-    ensures { result ≡ key_by (auth_seen auth) }
-{
-    match auth {
-        Some(auth) => auth.key,
-        None => 0,
-    }
-}
-
-// What is mixed into a signed pointer.
-fn diversity_by(auth: Option<PointerAuth>) -> u16
-    ensures { result ≡ diversity_by (auth_seen auth) }
-{
-    match auth {
-        Some(auth) => auth.diversity,
-        None => 0,
-    }
-}
-
-// Whether a signed pointer's own address is mixed in, too.
-fn diverse_by(auth: Option<PointerAuth>) -> bool
-    ensures { result ≡ diverse_by (auth_seen auth) }
-{
-    match auth {
-        Some(auth) => auth.is_address_diverse,
-        None => false,
-    }
-}
-
-// What is mixed into a pointer.
-#[derive(Clone, Copy)]
-struct DiversityMembers(Option<PointerAuth>);
-
-impl Display for DiversityMembers {
-    ghost output = { λ t. Some (diversity_members (auth_seen t.0)) };
-
-    fn fmt<W: Write>(&self, f: &mut Formatter<W>) -> fmt::Result {
-        let diversity = diversity_by(self.0);
-        let diverse = diverse_by(self.0);
-        write!(
-            f,
-            "\"diversity\":{diversity},\"is_address_diverse\":{diverse}"
-        )
-    }
-}
-
-// Whether a pointer is signed, and by which key.
-#[derive(Clone, Copy)]
-struct SigningMembers(Option<PointerAuth>);
-
-impl Display for SigningMembers {
-    ghost output = { λ t. Some (signing_members (auth_seen t.0)) };
-
-    fn fmt<W: Write>(&self, f: &mut Formatter<W>) -> fmt::Result {
-        let signed = has_auth(self.0);
-        let key = key_by(self.0);
-        write!(f, "\"is_signed\":{signed},\"key\":{key}")
-    }
-}
 
 // The flags of a bind, and by which key its pointer is signed.
 #[derive(Clone, Copy)]
@@ -105,20 +33,6 @@ impl Display for BindFlags<'_> {
             f,
             "\"is_lazy\":{is_lazy},\"is_signed\":{signed},\"is_weak\":{is_weak},\"key\":{key}"
         )
-    }
-}
-
-// How a pointer is signed, and what is mixed in.
-#[derive(Clone, Copy)]
-struct AuthMembers(Option<PointerAuth>);
-
-impl Display for AuthMembers {
-    ghost output = { λ t. Some (auth_members (auth_seen t.0)) };
-
-    fn fmt<W: Write>(&self, f: &mut Formatter<W>) -> fmt::Result {
-        let diversity = DiversityMembers(self.0);
-        let signing = SigningMembers(self.0);
-        write!(f, "{diversity},{signing}")
     }
 }
 
@@ -151,17 +65,6 @@ impl Display for PlaceMembers<'_> {
         let section = JsonString(self.0.section);
         let segment = JsonString(self.0.segment);
         write!(f, "\"section\":{section},\"segment\":{segment}")
-    }
-}
-
-// What a rebase corrects.
-fn type_of(kind: RebaseKind) -> &'static str
-    ensures { result.now ≡ rebase_type kind }
-{
-    match kind {
-        RebaseKind::Pointer => "pointer",
-        RebaseKind::TextAbsolute32 => "absolute32",
-        RebaseKind::TextRelative32 => "relative32",
     }
 }
 
@@ -229,7 +132,7 @@ impl Display for RebaseObject<'_> {
     fn fmt<W: Write>(&self, f: &mut Formatter<W>) -> fmt::Result {
         let address = self.place.address;
         let target = self.target;
-        let kind = type_of(self.kind);
+        let kind = rebase_type(self.kind);
         let signed = AuthMembers(self.auth);
         let place = PlaceMembers(self.place);
         write!(

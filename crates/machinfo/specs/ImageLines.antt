@@ -1,22 +1,36 @@
 -- The lines that the program shows of an image.
-use Rattle.std.specs.Prelude.{◌≡◌, ℕ, List, ◌++◌, Bool, Option, Result, codes}
+use Rattle.std.specs.Prelude.{◌≡◌, ℕ, List, [], ◌∷◌, ◌++◌, Bool, Option, Result, codes}
+use Rattle.std.specs.Fmt.{decimal}
 use Rattle.mach_base.specs.Fault.{Fault}
 use Rattle.mach_image.specs.Image.{Opens}
 use Rattle.mach_show.specs.Listings.{AreFirstLines}
+use Rattle.mach_json.specs.JsonArrays.{AreListMembers}
 use Rattle.mach_sign.specs.Directories.{Directory}
 use Rattle.mach_signed.specs.SignedFacts.{HasCodeDirectory}
-use Rattle.machinfo.specs.Counts.{AreCountLines, counted_words}
-use Rattle.machinfo.specs.Rows.{HasRows}
+use Rattle.machinfo.specs.Counts.{AreCounts, counted_words}
+use Rattle.mach_lists.specs.RowObjects.{row_objects}
+use Rattle.mach_lists.specs.RowTexts.{row_texts}
+use Rattle.mach_lists.specs.Rows.{RowView, HasRows}
+use Rattle.mach_lists.specs.Words.{spelling_of}
 use Rattle.machinfo.specs.Signed.{AreSignedLines}
-use Rattle.machinfo.specs.declared.word.Word.{Word}
+use Rattle.mach_lists.specs.declared.word.Word.{Word}
+use Rattle.machinfo.specs.declared.counts.Form.TheVariants.{Lines, Members}
 
 -- The text is the lines of the image at the front of the bytes: one for each row for which the word asks, in order, as many as are left of the
 -- limit, and where there are more, a line that says so. It is whole where there are no more and none is missing. `rest` are left behind it.
 pub record AreImageListLines (word : Word) (limit left : ℕ) (bytes : List ℕ) (text : List ℕ) (whole : Bool) (rest : ℕ) : Type 0 where
   pub opens : Opens bytes 0
-  pub rows : List (Result (List ℕ) Fault)
+  pub rows : List (Result RowView Fault)
   pub has_rows : HasRows word bytes 0 rows
-  pub lines : AreFirstLines (codes "refused") limit left rows text whole rest
+  pub lines : AreFirstLines (codes "refused") limit left (row_texts rows) text whole rest
+
+-- The text is the members of the image at the front of the bytes: exactly an object for each row for which the word asks, in order, as many as are
+-- left of the limit, and whether there are more. It is whole where there are no more and none is missing. `rest` are left behind it.
+pub record AreImageListMembers (word : Word) (left : ℕ) (bytes : List ℕ) (text : List ℕ) (whole : Bool) (rest : ℕ) : Type 0 where
+  pub opens : Opens bytes 0
+  pub rows : List (Result RowView Fault)
+  pub has_rows : HasRows word bytes 0 rows
+  pub members : AreListMembers left (record { name = spelling_of word; rows = row_objects rows } ∷ []) text whole rest
 
 -- The text is what is said of the image at the front of the bytes: something in front; whether it is signed, and what its code directory says; something
 -- more; and then how many items each list has, gone over up to the limit. No limit is used up.
@@ -29,6 +43,20 @@ pub record AreImageSummaryLines (limit left : ℕ) (bytes : List ℕ) (text : Li
   pub are_signed : AreSignedLines there signed
   pub state : List ℕ
   pub counts : List ℕ
-  pub are_counts : AreCountLines limit bytes counted_words counts whole
+  pub are_counts : AreCounts Lines limit bytes counted_words counts whole
   pub is_text : text ≡ front ++ (signed ++ (state ++ counts))
+  pub is_rest : rest ≡ left
+
+-- what stands behind the counts of an image
+abbrev pub counts_end : (limit : ℕ) → List ℕ
+counts_end limit = codes "\"limit\":" ++ (decimal limit ++ codes "},\"kind\":\"image\"")
+
+-- The text is the members of the image at the front of the bytes: something in front, and then how many items each list has, gone over up to the
+-- limit. No limit is used up.
+pub record AreImageSummaryMembers (limit left : ℕ) (bytes : List ℕ) (text : List ℕ) (whole : Bool) (rest : ℕ) : Type 0 where
+  pub opens : Opens bytes 0
+  pub front : List ℕ
+  pub counts : List ℕ
+  pub are_counts : AreCounts Members limit bytes counted_words counts whole
+  pub is_text : text ≡ front ++ (codes "\"counts\":{" ++ (counts ++ counts_end limit))
   pub is_rest : rest ≡ left

@@ -1,22 +1,29 @@
 //! How many items the lists of an image have.
 
-ghost use Rattle.std.specs.Prelude.{◌≡◌, ℕ, List, Bool, IfOk, Some};
+ghost use Rattle.std.specs.Prelude.{◌≡◌, ℕ, List, Bool, IfOk, OnOk, Some};
 ghost use Rattle.std.specs.Io.KnownBytes.{Appends};
 ghost use Rattle.mach_image.specs.OpenImage.{IsImage};
 ghost use Rattle.mach_show.specs.Listings.{CountsRows};
-ghost use Rattle.machinfo.specs.Counts.{are_counted_whole, count_line, count_text, AreCountLines};
-ghost use Rattle.machinfo.specs.Rows.{HasRows};
-ghost use Rattle.machinfo.specs.Words.{spelling_of};
+ghost use Rattle.mach_lists.specs.RowTexts.{row_texts};
+ghost use Rattle.mach_lists.specs.Rows.{HasRows};
+ghost use Rattle.machinfo.specs.Counts.{are_counted_whole, count_members, count_text, count_told, AreCounts};
 
-use crate::list::ImageList;
-use crate::text::said_if;
-use crate::word::Word;
 use goblin_mach::MachO;
+use mach_lists::{ImageList, Word, said_if};
 use mach_show::{Told, count_rows};
 use std::alloc::Allocator;
 use std::fmt::{Display, Formatter};
 use std::io::Write;
 use std::{fmt, io};
+
+/// How counts are told.
+#[derive(Clone, Copy)]
+pub enum Form {
+    /// A line each.
+    Lines,
+    /// As members of an object, each with a comma behind it.
+    Members,
+}
 
 // How many rows a list has, of which no more than a limit were gone over.
 #[derive(Clone, Copy)]
@@ -36,38 +43,82 @@ impl Display for CountText {
     }
 }
 
+// The same as members of an object.
+#[derive(Clone, Copy)]
+struct CountMembers {
+    limit: usize,
+    told: Told,
+}
+
+impl Display for CountMembers {
+    ghost output = { λ t. Some (count_members t.limit t.told) };
+
+    fn fmt<W: fmt::Write>(&self, f: &mut Formatter<W>) -> fmt::Result {
+        let Told { whole, more, .. } = self.told;
+        let count = self.limit.saturating_sub(self.told.left);
+        write!(
+            f,
+            "\"count\":{count},\"limit_met\":{more},\"readable\":{whole}"
+        )
+    }
+}
+
 /// Prints for each of these words how many items the list of an image has for which it asks, and answers whether all of them can be read, and none has
 /// more than the limit.
 pub fn print_counts<A: Allocator, O: Write>(
+    form: Form,
     words: &[Word],
     image: &MachO<'_, A>,
     limit: usize,
     out: &mut O,
 ) -> io::Result<bool>
-    ensures { (bytes : List ℕ) → IsImage bytes 0 image.now → IfOk result (λ whole. (text : List ℕ) × AreCountLines limit bytes words.now text whole
+    ensures { (bytes : List ℕ) → IsImage bytes 0 image.now → IfOk result (λ whole. (text : List ℕ) × AreCounts form limit bytes words.now text whole
         × Appends (O.contents out.old) (O.contents out.new) text) }
 {
     let mut whole = true;
     'words: for word in words {
-        whole &= print_count(*word, image, limit, out)?;
+        whole &= print_count(form, *word, image, limit, out)?;
     }
     Ok(whole)
 }
 
 // Prints how many items a list has, and answers whether all can be read, and they are no more than the limit.
 fn print_count<A: Allocator, O: Write>(
+    form: Form,
     word: Word,
     image: &MachO<'_, A>,
     limit: usize,
     out: &mut O,
 ) -> io::Result<bool>
     ensures { (bytes : List ℕ) → IsImage bytes 0 image.now → IfOk result (λ whole. (rows : _) × HasRows word bytes 0 rows × (told : _)
-        × CountsRows limit rows told × (whole ≡ are_counted_whole told)
-        × Appends (O.contents out.old) (O.contents out.new) (count_line word limit told)) }
+        × CountsRows limit (row_texts rows) told × (whole ≡ are_counted_whole told)
+        × Appends (O.contents out.old) (O.contents out.new) (count_told form word limit told)) }
 {
     let mut list = ImageList::of(word, image);
     let told = count_rows(&mut list, limit);
-    let (name, count) = (word.name(), CountText { limit, told });
-    writeln!(out, "{name}: {count}")?;
+    write_count(form, word, limit, told, out)?;
     Ok(told.whole & !told.more)
+}
+
+// Writes what is known of a list that was gone over.
+fn write_count<O: Write>(
+    form: Form,
+    word: Word,
+    limit: usize,
+    told: Told,
+    out: &mut O,
+) -> io::Result<()>
+    ensures { OnOk result (Appends (O.contents out.old) (O.contents out.new) (count_told form word limit told)) }
+{
+    let name = word.name();
+    match form {
+        Form::Lines => {
+            let count = CountText { limit, told };
+            writeln!(out, "{name}: {count}")
+        }
+        Form::Members => {
+            let count = CountMembers { limit, told };
+            write!(out, "\"{name}\":{{{count}}},")
+        }
+    }
 }

@@ -1,15 +1,15 @@
 //! What is said of an image in front of its counts, but for its signature. That it is so is tested, and no clause says it.
 
-use crate::text::LibraryText;
 use goblin_mach::MachO;
 use goblin_mach::header::{filetype_to_str, flag_to_str};
 use goblin_mach::load_command::{
-    BuildVersionCommand, CommandVariant, LoadCommand, PLATFORM_BRIDGEOS, PLATFORM_DRIVERKIT,
-    PLATFORM_IOS, PLATFORM_IOSSIMULATOR, PLATFORM_MACCATALYST, PLATFORM_MACOS, PLATFORM_TVOS,
+    CommandVariant, LoadCommand, PLATFORM_BRIDGEOS, PLATFORM_DRIVERKIT, PLATFORM_IOS,
+    PLATFORM_IOSSIMULATOR, PLATFORM_MACCATALYST, PLATFORM_MACOS, PLATFORM_TVOS,
     PLATFORM_TVOSSIMULATOR, PLATFORM_VISIONOS, PLATFORM_VISIONOSSIMULATOR, PLATFORM_WATCHOS,
     PLATFORM_WATCHOSSIMULATOR,
 };
 use goblin_mach::segment::Segment;
+use mach_lists::LibraryText;
 use mach_show::{Arch, Cpu};
 use std::alloc::{AllocError, Allocator};
 use std::fmt;
@@ -21,9 +21,9 @@ const NAMES: [&str; 18] = [
     "armv7em", "armv7k", "armv7m", "armv7s", "arm64", "arm64e", "arm64_32", "ppc", "ppc64",
 ];
 
-// A version of 16, 8 and 8 bits.
+/// A version of 16, 8 and 8 bits.
 #[derive(Clone, Copy)]
-struct VersionText(u32);
+pub struct VersionText(pub u32);
 
 impl Display for VersionText {
     fn fmt<W: Write>(&self, f: &mut Formatter<W>) -> fmt::Result {
@@ -32,9 +32,9 @@ impl Display for VersionText {
     }
 }
 
-// What is allowed of a segment.
+/// What is allowed of a segment.
 #[derive(Clone, Copy)]
-struct RightsText(u32);
+pub struct RightsText(pub u32);
 
 impl Display for RightsText {
     fn fmt<W: Write>(&self, f: &mut Formatter<W>) -> fmt::Result {
@@ -43,6 +43,38 @@ impl Display for RightsText {
         let execute = if self.0 & 4 != 0 { "x" } else { "-" };
         write!(f, "{read}{write}{execute}")
     }
+}
+
+/// The number of an image, in five groups.
+#[derive(Clone, Copy)]
+pub struct UuidText<'a>(pub &'a [u8; 16]);
+
+impl Display for UuidText<'_> {
+    fn fmt<W: Write>(&self, f: &mut Formatter<W>) -> fmt::Result {
+        'bytes: for (number, byte) in self.0.iter().enumerate() {
+            if number == 4 || number == 6 || number == 8 || number == 10 {
+                f.write_str("-")?;
+            }
+            write!(f, "{byte:02X}")?;
+        }
+        Ok(())
+    }
+}
+
+/// A platform that a command names, with the least version of its system, and the version of the kit that the image was built with.
+#[derive(Clone, Copy)]
+pub struct Platform {
+    pub name: &'static str,
+    pub least: u32,
+    pub sdk: u32,
+}
+
+/// Whether an image is encrypted and stripped, and how many symbols it has.
+#[derive(Clone, Copy)]
+pub struct State {
+    pub is_encrypted: bool,
+    pub is_stripped: bool,
+    pub symbols: usize,
 }
 
 /// What is said of an image first.
@@ -84,8 +116,8 @@ fn add_kind<A: Allocator>(text: &mut String<A>, image: &MachO<'_, A>) -> Result<
     Ok(())
 }
 
-// The name of the cpu of these numbers, if it has one.
-fn cpu_name(cputype: u32, cpusubtype: u32) -> Option<&'static str> {
+/// The name of the cpu of these numbers, if it has one.
+pub fn cpu_name(cputype: u32, cpusubtype: u32) -> Option<&'static str> {
     'names: for name in &NAMES {
         if let Some(arch) = Arch::named(name) {
             if Cpu::Arch(arch).takes(cputype, cpusubtype) {
@@ -101,35 +133,33 @@ fn add_command<A: Allocator>(
     text: &mut String<A>,
     command: &LoadCommand,
 ) -> Result<(), AllocError> {
-    match &command.command {
-        CommandVariant::Uuid(c) => add_uuid(text, &c.uuid),
-        CommandVariant::BuildVersion(c) => add_platform(text, c),
-        CommandVariant::VersionMinMacosx(c) => add_versions(text, "macos", c.version, c.sdk),
-        CommandVariant::VersionMinIphoneos(c) => add_versions(text, "ios", c.version, c.sdk),
-        CommandVariant::VersionMinTvos(c) => add_versions(text, "tvos", c.version, c.sdk),
-        CommandVariant::VersionMinWatchos(c) => add_versions(text, "watchos", c.version, c.sdk),
-        _ => Ok(()),
+    if let CommandVariant::Uuid(c) = &command.command {
+        let uuid = UuidText(&c.uuid);
+        writeln!(text, "uuid: {uuid}")?;
     }
+    if let Some(Platform { name, least, sdk }) = platform_of(command) {
+        let (least, sdk) = (VersionText(least), VersionText(sdk));
+        writeln!(text, "platform: {name} {least}, sdk {sdk}")?;
+    }
+    Ok(())
 }
 
-// The number of an image, in five groups.
-fn add_uuid<A: Allocator>(text: &mut String<A>, uuid: &[u8; 16]) -> Result<(), AllocError> {
-    text.push_str("uuid: ")?;
-    'bytes: for (number, byte) in uuid.iter().enumerate() {
-        if number == 4 || number == 6 || number == 8 || number == 10 {
-            text.push_str("-")?;
-        }
-        write!(text, "{byte:02X}")?;
-    }
-    text.push_str("\n")
+/// The platform that a command names, if it names one.
+pub fn platform_of(command: &LoadCommand) -> Option<Platform> {
+    let (name, least, sdk) = match &command.command {
+        CommandVariant::BuildVersion(c) => (platform_name(c.platform), c.minos, c.sdk),
+        CommandVariant::VersionMinMacosx(c) => ("macos", c.version, c.sdk),
+        CommandVariant::VersionMinIphoneos(c) => ("ios", c.version, c.sdk),
+        CommandVariant::VersionMinTvos(c) => ("tvos", c.version, c.sdk),
+        CommandVariant::VersionMinWatchos(c) => ("watchos", c.version, c.sdk),
+        _ => return None,
+    };
+    Some(Platform { name, least, sdk })
 }
 
-// The platform of a command.
-fn add_platform<A: Allocator>(
-    text: &mut String<A>,
-    c: &BuildVersionCommand,
-) -> Result<(), AllocError> {
-    let name = match c.platform {
+// The name of a platform by its number.
+fn platform_name(number: u32) -> &'static str {
+    match number {
         PLATFORM_MACOS => "macos",
         PLATFORM_IOS => "ios",
         PLATFORM_TVOS => "tvos",
@@ -143,19 +173,7 @@ fn add_platform<A: Allocator>(
         PLATFORM_VISIONOS => "visionos",
         PLATFORM_VISIONOSSIMULATOR => "visionos-simulator",
         _ => "unknown",
-    };
-    add_versions(text, name, c.minos, c.sdk)
-}
-
-// A platform, and the versions that are asked for.
-fn add_versions<A: Allocator>(
-    text: &mut String<A>,
-    name: &str,
-    least: u32,
-    sdk: u32,
-) -> Result<(), AllocError> {
-    let (least, sdk) = (VersionText(least), VersionText(sdk));
-    writeln!(text, "platform: {name} {least}, sdk {sdk}")
+    }
 }
 
 // The tools of the build, up to one that can't be read.
@@ -224,9 +242,8 @@ fn add_libraries<A: Allocator>(
     Ok(())
 }
 
-/// Whether an image is encrypted and stripped, and how many symbols it has.
-pub fn state_of<A: Allocator>(alloc: A, image: &MachO<'_, A>) -> Result<String<A>, AllocError> {
-    let mut text = String::new(alloc);
+/// That of an image.
+pub fn state_of<A: Allocator>(image: &MachO<'_, A>) -> State {
     let mut is_encrypted = false;
     let mut has_local = false;
     'commands: for command in &image.load_commands {
@@ -237,14 +254,25 @@ pub fn state_of<A: Allocator>(alloc: A, image: &MachO<'_, A>) -> Result<String<A
             _ => {}
         }
     }
-    let encrypted = yes_or_no(is_encrypted);
-    let stripped = yes_or_no(!has_local);
-    writeln!(text, "encrypted: {encrypted}")?;
-    writeln!(text, "stripped: {stripped}")?;
     let symbols = match &image.symbols {
         Some(table) => table.len(),
         None => 0,
     };
+    State {
+        is_encrypted,
+        is_stripped: !has_local,
+        symbols,
+    }
+}
+
+/// What is said of it.
+pub fn state_text<A: Allocator>(alloc: A, state: State) -> Result<String<A>, AllocError> {
+    let mut text = String::new(alloc);
+    let encrypted = yes_or_no(state.is_encrypted);
+    let stripped = yes_or_no(state.is_stripped);
+    writeln!(text, "encrypted: {encrypted}")?;
+    writeln!(text, "stripped: {stripped}")?;
+    let symbols = state.symbols;
     writeln!(text, "symbols: {symbols}")?;
     Ok(text)
 }

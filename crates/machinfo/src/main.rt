@@ -2,20 +2,19 @@
 //! its function starts, stubs and pointers, indirect symbols, data among code,
 //! options for the linker, tools, notes, providers of symbols, libraries, rebases or weak binds; of a fat file that of each entry, or of those for
 //! one cpu, under a line that says which. Of a file it prints at most as many rows as `--limit` says, and behind those of an image that
-//! has more, a line that says so. A row that can't be told is a line that says why.
+//! has more, a line that says so. A row that can't be told is a line that says why. With `--json` it writes an object a file on a line in their place.
 #![tactic(auto)]
 
 mod counts;
 mod front;
-mod list;
-mod notes;
-mod providers;
-mod row;
+mod json;
+mod members;
 mod run;
 mod signed;
-mod text;
-mod word;
 
+use json::{write_list, write_summary};
+use mach_json::take_json;
+use mach_lists::Word;
 use mach_show::{Cpu, Misuse, Program, Round};
 use mach_terminal::ForTerminal;
 use run::{DEFAULT_LIMIT, NAME, run_list, run_summary};
@@ -23,11 +22,10 @@ use std::alloc::Allocator;
 use std::io;
 use std::io::{BufWriter, IsTerminal, Write};
 use std::process::ExitCode;
-use word::Word;
 
 const PROGRAM: Program = Program {
     name: NAME,
-    usage: "usage: machinfo [--limit N] [--arch NAME | --cputype 0xN] [WORD] FILE..\n       machinfo -h | --help | --version\n\
+    usage: "usage: machinfo [--json] [--limit N] [--arch NAME | --cputype 0xN] [WORD] FILE..\n       machinfo -h | --help | --version\n\
         WORD: starts, slots, indirect, data, options, tools, notes, providers, libraries, rebases, weak\n",
     version: "machinfo 0.2.0\n",
     has_limit: true,
@@ -36,6 +34,7 @@ const PROGRAM: Program = Program {
         "--arch",
         "--cputype",
         "--help",
+        "--json",
         "--limit",
         "--version",
         "data",
@@ -61,9 +60,12 @@ fn main(rt: HostRuntime) -> ExitCode {
 // Does what the words ask for.
 fn start(rt: &HostRuntime) -> Result<u8, u8> {
     let words = PROGRAM.words(rt)?;
+    let Ok((is_json, words)) = take_json(rt.alloc(), words) else {
+        return Err(PROGRAM.out_of_memory(rt));
+    };
     let call = PROGRAM.call(rt, &words)?;
     let limit = call.limit.unwrap_or(DEFAULT_LIMIT);
-    show_files(rt, call.cpu, limit, &call.words)
+    show_files(rt, is_json, call.cpu, limit, &call.words)
 }
 
 // The list for which the first of some words asks, if it does.
@@ -74,7 +76,13 @@ fn word_of(words: &[&str]) -> Option<Word> {
 
 // Shows of files in order what the images are that are asked for, or where a word stands before them the list for which it asks, and answers the worst
 // status.
-fn show_files(rt: &HostRuntime, cpu: Cpu, limit: usize, words: &[&str]) -> Result<u8, u8> {
+fn show_files(
+    rt: &HostRuntime,
+    is_json: bool,
+    cpu: Cpu,
+    limit: usize,
+    words: &[&str],
+) -> Result<u8, u8> {
     let word = word_of(words);
     let begin = if word.is_some() { 1 } else { 0 };
     let Some(files) = words.get(begin..) else {
@@ -88,17 +96,19 @@ fn show_files(rt: &HostRuntime, cpu: Cpu, limit: usize, words: &[&str]) -> Resul
         return Err(PROGRAM.out_of_memory(rt));
     };
     let mut round = Round::new(PROGRAM, files.len());
+    round.is_titled &= !is_json;
     for file in files {
         if let Some(bytes) = round.begin(rt, file, &mut lines)? {
-            round.end(show_file(rt, word, cpu, limit, file, &bytes, &mut lines))?;
+            round.end(show_file(rt, is_json, word, cpu, limit, file, &bytes, &mut lines))?;
         }
     }
     Ok(round.worst)
 }
 
-// The status of a file, of which a list is shown, or what its images are.
+// The status of a file, of which a list is shown, or what its images are, in lines or as an object.
 fn show_file<W: Write + Drop, B: Allocator>(
     rt: &HostRuntime,
+    is_json: bool,
     word: Option<Word>,
     cpu: Cpu,
     limit: usize,
@@ -108,7 +118,9 @@ fn show_file<W: Write + Drop, B: Allocator>(
 ) -> u8 {
     let err = &mut rt.stderr();
     match word {
+        Some(word) if is_json => write_list(rt.alloc(), word, cpu, limit, file, bytes, out, err),
         Some(word) => run_list(rt.alloc(), word, cpu, limit, file, bytes, out, err),
+        None if is_json => write_summary(rt.alloc(), cpu, limit, file, bytes, out, err),
         None => run_summary(rt.alloc(), cpu, limit, file, bytes, out, err),
     }
 }

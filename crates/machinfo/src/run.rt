@@ -7,12 +7,11 @@ ghost use Rattle.mach_show.specs.Shown.{Shown, ShowsFile, Writes};
 ghost use Rattle.mach_show.specs.Statuses.{IsStatus, status_by};
 ghost use Rattle.machinfo.specs.ImageLines.{AreImageListLines, AreImageSummaryLines};
 
-use crate::counts::print_counts;
-use crate::front::{front_of, state_of};
-use crate::list::ImageList;
+use crate::counts::{Form, print_counts};
+use crate::front::{front_of, state_of, state_text};
 use crate::signed::print_signed;
-use crate::word::Word;
 use goblin_mach::MachO;
+use mach_lists::{ImageList, Word};
 use mach_show::{Cpu, Failure, Heading, Names, Outcome, Shows, print_listing};
 use std::alloc::Allocator;
 use std::io::{BufWriter, Write};
@@ -22,6 +21,21 @@ pub const NAME: &str = "machinfo";
 
 /// How many rows of a file are told, where no other limit is given.
 pub const DEFAULT_LIMIT: usize = 10_000_000;
+
+/// The lists that are counted.
+pub const COUNTED: [Word; 11] = [
+    Word::Starts,
+    Word::Slots,
+    Word::Indirect,
+    Word::Data,
+    Word::Options,
+    Word::Tools,
+    Word::Notes,
+    Word::Providers,
+    Word::Libraries,
+    Word::Rebases,
+    Word::Weak,
+];
 
 // The rows of a list of the images of a file, `limit` of them at most.
 #[derive(Clone, Copy)]
@@ -85,25 +99,12 @@ impl Shows for SummaryOf<'_> {
         out: &mut O,
     ) -> Result<Outcome, Failure> {
         let front = front_of(alloc.clone()?, image)?;
-        let state = state_of(alloc.clone()?, image)?;
+        let state = state_text(alloc.clone()?, state_of(image))?;
         write!(out, "{heading}")?;
         write!(out, "{front}")?;
         print_signed(image, out)?;
         write!(out, "{state}")?;
-        let words = [
-            Word::Starts,
-            Word::Slots,
-            Word::Indirect,
-            Word::Data,
-            Word::Options,
-            Word::Tools,
-            Word::Notes,
-            Word::Providers,
-            Word::Libraries,
-            Word::Rebases,
-            Word::Weak,
-        ];
-        let whole = print_counts(&words, image, self.limit, out)?;
+        let whole = print_counts(Form::Lines, &COUNTED, image, self.limit, out)?;
         Ok(Outcome { whole, left })
     }
 }

@@ -60,8 +60,8 @@ fn print_directory<O: Write>(directory: &CodeDirectory<'_>, out: &mut O) -> io::
     print_flags(directory.head.flags, out)
 }
 
-// Whether flags say that a signature is ad hoc, with no one's name under it.
-fn is_ad_hoc(flags: u32) -> bool
+/// Whether flags say that a signature is ad hoc, with no one's name under it.
+pub fn is_ad_hoc(flags: u32) -> bool
     ensures { result ≡ not (bit_and flags 2 == 0) }
 {
     flags & 2 != 0

@@ -1,6 +1,6 @@
 use Rattle.mach_base.proofs.Written.{Appends-both}
 use Rattle.mach_image.specs.OpenImage.{commands_held}
-use Rattle.machinfo.specs.Rows.{listed_rows_left}
+use Rattle.mach_lists.specs.Rows.{list_rows_left}
 use Rattle.machinfo.proofs.run.ListOfShows.show.Goals as goal
 
 pub returns-clause-shown : goal.returns-clause-shown
@@ -9,7 +9,7 @@ returns-clause-shown g c = λ bytes opened.
       listed.text,
       record {
         opens = (opened.ctx, commands_held c.args.image.now, opened.opens);
-        rows = listed_rows_left c.of-list.result;
+        rows = list_rows_left c.of-list.result;
         has_rows = c.of-list.ensures bytes 0 opened;
         lines = listed.lines;
       },

@@ -1,0 +1,22 @@
+use Rattle.std.proofs.Common.{refl}
+use Rattle.mach_base.proofs.Written.{Appends-both}
+use Rattle.mach_image.specs.OpenImage.{commands_held}
+use Rattle.machinfo.proofs.json.MembersOfShows.show.Goals as goal
+
+pub returns-clause-shown : goal.returns-clause-shown
+returns-clause-shown g c = λ bytes opened.
+    let counted = c.in_ok-whole.ensures bytes opened in (
+      _,
+      record {
+        opens = (opened.ctx, commands_held c.args.image.now, opened.opens);
+        front = _;
+        counts = counted.0;
+        are_counts = counted.1;
+        is_text = refl;
+        is_rest = refl;
+      },
+      Appends-both _ _ _ _ _ c.in_ok-write.ensures.bytes
+          (Appends-both _ _ _ _ _ c.in_ok-write-2.ensures.bytes
+          (Appends-both _ _ _ _ _ c.in_ok-write-3.ensures.bytes
+          (Appends-both _ _ _ counted.0 _ counted.2 c.in_ok-end_counts.ensures))),
+    )

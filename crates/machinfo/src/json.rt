@@ -1,0 +1,144 @@
+//! What the program writes of an image and of a file as JSON, and its exit status.
+
+ghost use Rattle.std.specs.Prelude.{◌≡◌, ◌≤◌, [], codes, OnOk};
+ghost use Rattle.std.specs.Io.Buffered.{writer_buffer, writer_contents};
+ghost use Rattle.std.specs.Io.KnownBytes.{Appends};
+ghost use Rattle.mach_show.specs.Names.{names_text};
+ghost use Rattle.mach_show.specs.Shown.{Shown, Writes};
+ghost use Rattle.mach_show.specs.Statuses.{IsStatus, status_by};
+ghost use Rattle.mach_json.specs.Documents.{IsDocument};
+ghost use Rattle.machinfo.specs.ImageLines.{AreImageListMembers, AreImageSummaryMembers, counts_end};
+
+use crate::counts::{Form, print_counts};
+use crate::members::front_members;
+use crate::run::{COUNTED, NAME};
+use goblin_mach::MachO;
+use mach_json::{print_end, print_member};
+use mach_lists::{ImageList, ObjectList, Word};
+use mach_show::{Cpu, Failure, Heading, Names, Outcome, Shows};
+use std::alloc::Allocator;
+use std::io;
+use std::io::{BufWriter, Write};
+
+// The rows of a list of the images of a file, as objects.
+#[derive(Clone, Copy)]
+struct ObjectsOf<'a> {
+    file: &'a str,
+    word: Word,
+}
+
+impl Shows for ObjectsOf<'_> {
+    ghost names = { λ asked. names_text (codes "machinfo") asked.file.now };
+
+    ghost lines = { λ asked. AreImageListMembers asked.word };
+
+    fn names(&self) -> Names<'_> {
+        Names {
+            program: NAME,
+            file: self.file,
+        }
+    }
+
+    fn show<A: Allocator + Clone, O: Write>(
+        &self,
+        _alloc: &A,
+        image: &MachO<'_, A>,
+        heading: Heading,
+        left: usize,
+        out: &mut O,
+    ) -> Result<Outcome, Failure> {
+        let mut list = ObjectList(ImageList::of(self.word, image));
+        write!(out, "{heading}")?;
+        let name = self.word.name();
+        let told = print_member(name, &mut list, left, out)?;
+        Ok(print_end(told, out)?)
+    }
+}
+
+// What the images of a file are, as members, with at most `limit` items of a list counted.
+#[derive(Clone, Copy)]
+struct MembersOf<'a> {
+    file: &'a str,
+    limit: usize,
+}
+
+impl Shows for MembersOf<'_> {
+    ghost names = { λ asked. names_text (codes "machinfo") asked.file.now };
+
+    ghost lines = { λ asked. AreImageSummaryMembers asked.limit };
+
+    fn names(&self) -> Names<'_> {
+        Names {
+            program: NAME,
+            file: self.file,
+        }
+    }
+
+    fn show<A: Allocator + Clone, O: Write>(
+        &self,
+        alloc: &A,
+        image: &MachO<'_, A>,
+        heading: Heading,
+        left: usize,
+        out: &mut O,
+    ) -> Result<Outcome, Failure> {
+        let front = front_members(alloc.clone()?, image)?;
+        write!(out, "{heading}")?;
+        write!(out, "{front}")?;
+        write!(out, "\"counts\":{{")?;
+        let whole = print_counts(Form::Members, &COUNTED, image, self.limit, out)?;
+        end_counts(self.limit, out)?;
+        Ok(Outcome { whole, left })
+    }
+}
+
+// Writes what stands behind the counts.
+fn end_counts<O: Write>(limit: usize, out: &mut O) -> io::Result<()>
+    ensures { OnOk result (Appends (O.contents out.old) (O.contents out.new) (counts_end limit)) }
+{
+    write!(out, "\"limit\":{limit}}},\"kind\":\"image\"")
+}
+
+/// Writes of a file as `run_list` does, but as JSON, an object of the file on a line: with an object for each row, and for each image whether it has
+/// more of them than are left of the limit.
+pub fn write_list<A: Allocator + Clone, W: Write + Drop, B: Allocator, E: Write>(
+    alloc: A,
+    word: Word,
+    cpu: Cpu,
+    limit: usize,
+    file: &str,
+    bytes: &[u8],
+    out: &mut BufWriter<W, B>,
+    err: &mut E,
+) -> u8
+    ensures status { IsStatus result }
+    ensures shown { result ≤ 1 → (shown : Shown)
+        × IsDocument cpu (names_text (codes "machinfo") file.now) file.now (AreImageListMembers word) limit bytes.now shown
+        × (result ≡ status_by shown.whole)
+        × Writes shown (writer_contents W.contents out.old) (writer_contents W.contents out.new) (E.contents err.old) (E.contents err.new) }
+    ensures flushed { result ≤ 1 → writer_buffer out.new ≡ [] }
+{
+    let objects = ObjectsOf { file, word };
+    mach_json::run::run(&objects, file, cpu, limit, &alloc, bytes, out, err)
+}
+
+/// Writes of a file as `run_summary` does, but as JSON, an object of the file on a line.
+pub fn write_summary<A: Allocator + Clone, W: Write + Drop, B: Allocator, E: Write>(
+    alloc: A,
+    cpu: Cpu,
+    limit: usize,
+    file: &str,
+    bytes: &[u8],
+    out: &mut BufWriter<W, B>,
+    err: &mut E,
+) -> u8
+    ensures status { IsStatus result }
+    ensures shown { result ≤ 1 → (shown : Shown)
+        × IsDocument cpu (names_text (codes "machinfo") file.now) file.now (AreImageSummaryMembers limit) limit bytes.now shown
+        × (result ≡ status_by shown.whole)
+        × Writes shown (writer_contents W.contents out.old) (writer_contents W.contents out.new) (E.contents err.old) (E.contents err.new) }
+    ensures flushed { result ≤ 1 → writer_buffer out.new ≡ [] }
+{
+    let members = MembersOf { file, limit };
+    mach_json::run::run(&members, file, cpu, limit, &alloc, bytes, out, err)
+}
