@@ -125,25 +125,25 @@ weak_row_text (weakly_bound b) = weak_place_text b
 
 -- ---- rows
 
-abbrev pub row_text : RowView → List ℕ
-row_text (start_row address) = hex_text address
-row_text (slot_row slot) = slot_text slot
-row_text (indirect_row entry) = indirect_text entry
-row_text (data_row entry) = data_text entry
-row_text (option_row found) = option_text found
-row_text (tool_row found) = tool_text found
-row_text (note_row note) = note_row_text note
-row_text (provided_row provided) = provided_text provided
-row_text (library_row library) = library_row_text library
-row_text (rebase_row rebase) = rebase_row_text rebase
-row_text (weak_row bind) = weak_row_text bind
+abbrev pub list_row_text : RowView → List ℕ
+list_row_text (start_row address) = hex_text address
+list_row_text (slot_row slot) = slot_text slot
+list_row_text (indirect_row entry) = indirect_text entry
+list_row_text (data_row entry) = data_text entry
+list_row_text (option_row found) = option_text found
+list_row_text (tool_row found) = tool_text found
+list_row_text (note_row note) = note_row_text note
+list_row_text (provided_row provided) = provided_text provided
+list_row_text (library_row library) = library_row_text library
+list_row_text (rebase_row rebase) = rebase_row_text rebase
+list_row_text (weak_row bind) = weak_row_text bind
 
 -- the texts of rows, each or why there is none
 abbrev pub row_texts : List (Result RowView Fault) → List (Result (List ℕ) Fault)
-row_texts found = map (told_by row_text) found
+row_texts found = map (told_by list_row_text) found
 
 abbrev pub row_shown : Row → List ℕ
-row_shown row = row_text (list_row_view row)
+row_shown row = list_row_text (list_row_view row)
 
 abbrev pub listed_rows_left : {A : Type 0} → ImageList A → List (Result (List ℕ) Fault)
 listed_rows_left it = row_texts (list_rows_left it)

@@ -13,7 +13,7 @@ use Rattle.mach_symbols.specs.declared.symbols.nlist.Nlist.{Nlist}
 use Rattle.mach_show.specs.Lines.{AreLines}
 use Rattle.machsyms.specs.Asked.{is_elsewhere, takes}
 use Rattle.machsyms.specs.Letters.{symbol_letter}
-use Rattle.machsyms.specs.Setting.{SymbolSetting, described}
+use Rattle.machsyms.specs.Setting.{SymbolSetting, symbol_described}
 use Rattle.machsyms.specs.Stabs.{stab_name}
 use Rattle.machsyms.specs.declared.asked.Asked.{Asked}
 use Rattle.machsyms.specs.declared.asked.Form.{Form}
@@ -58,7 +58,7 @@ letter_text is_64 letters name s = value_text is_64 (value_shown s) ++ codes " "
 abbrev pub words_text : SymbolSetting → List ℕ → Nlist → List ℕ
 words_text w name s =
     if is_stab s then letter_text w.is_64 w.letters name s
-    else value_text w.is_64 (value_shown s) ++ codes " " ++ described w name s
+    else value_text w.is_64 (value_shown s) ++ codes " " ++ symbol_described w name s
 
 -- the fields of its record but the value: type, section, flags, and the place of its name
 abbrev pub fields_text : Nlist → List ℕ

@@ -43,8 +43,8 @@ setting_view s =
     }
 
 -- what is said in words of a symbol of this name
-abbrev pub described : SymbolSetting → List ℕ → Nlist → List ℕ
-described w name s = symbol_words (section_by w.sections s.n_sect) w.filetype name (origin_said s.n_desc (symbol_provider_of w.flags w.libs s)) s
+abbrev pub symbol_described : SymbolSetting → List ℕ → Nlist → List ℕ
+symbol_described w name s = symbol_words (section_by w.sections s.n_sect) w.filetype name (origin_said s.n_desc (symbol_provider_of w.flags w.libs s)) s
 
 -- what the code's words are
 abbrev pub words_shown : SymbolWords → List ℕ

@@ -4,7 +4,7 @@ ghost use Rattle.std.specs.Prelude.{◌≡◌};
 ghost use Rattle.mach_image.specs.ImageFacts.{facts_held};
 ghost use Rattle.mach_image.specs.OpenImage.{segments_held};
 ghost use Rattle.machsyms.specs.Letters.{letters_of, named_sections};
-ghost use Rattle.machsyms.specs.Setting.{described, setting_of, setting_view, words_shown};
+ghost use Rattle.machsyms.specs.Setting.{symbol_described, setting_of, setting_view, words_shown};
 
 use crate::letters::section_by;
 use goblin_mach::MachO;
@@ -42,7 +42,7 @@ impl<'b, 'a, A: Allocator> Setting<'b, 'a, A> {
 
     /// What is said of a symbol of this name in words.
     pub fn words<'c>(&'c self, name: &'c str, symbol: &'c Nlist) -> SymbolWords<'c>
-        ensures { words_shown result ≡ described (setting_view self.now) name.now symbol.now }
+        ensures { words_shown result ≡ symbol_described (setting_view self.now) name.now symbol.now }
     {
         SymbolWords {
             symbol,
