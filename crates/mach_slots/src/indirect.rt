@@ -1,11 +1,13 @@
 //! Indirect symbols (`mach-o/loader.h`, struct dysymtab_command).
 
-ghost use Rattle.std.specs.Prelude.{◌≡◌, ◌<◌, ◌^◌, [], length};
+ghost use Rattle.std.specs.Prelude.{◌≡◌, ◌+◌, ◌<◌, ◌^◌, [], Err, length};
 ghost use Rattle.mach_base.specs.Answer.{Reads};
+ghost use Rattle.mach_base.specs.Fault.{fault_of};
+ghost use Rattle.mach_base.specs.Number.{number_at};
 ghost use Rattle.mach_slots.specs.IndirectSymbols.{indirect_symbol, indirect_symbol_at, indirect_symbols_of};
 ghost use Rattle.mach_slots.specs.SlotViews.{indirect_table_of, indirect_read, indirect_left};
 
-use mach_base::{ByteCount, Endian, Result, read_u32};
+use mach_base::{ByteCount, Endian, Error, Result, read_u32};
 use std::fmt;
 
 const INDIRECT_SYMBOL_LOCAL: u32 = 0x8000_0000;
@@ -29,6 +31,7 @@ pub enum IndirectSymbol {
 
 impl IndirectSymbol {
     /// What the number of an entry says.
+    #[inline(always)]
     pub fn of(number: u32) -> IndirectSymbol
         ensures { result ≡ indirect_symbol number }
     {
@@ -76,8 +79,23 @@ impl<'a> IndirectSymbols<'a> {
         ensures { Reads (λ s. s) result (indirect_symbol_at (indirect_table_of self.now) number) }
     {
         let place = self.start as usize + 4 * number as usize;
-        let entry = read_u32(self.bytes, place, self.le)?;
-        Ok(IndirectSymbol::of(entry))
+        if self.bytes.len() < place + 4 {
+            return Err(self.beyond(place));
+        }
+        Ok(IndirectSymbol::of(self.le.u32_at(self.bytes, place)))
+    }
+
+    // Why no entry stands at a place.
+    #[cold]
+    #[inline(never)]
+    fn beyond(&self, place: usize) -> Error
+        requires { length (indirect_table_of self.now).bytes < place + 4 }
+        ensures { number_at (indirect_table_of self.now).le 4 (indirect_table_of self.now).bytes place ≡ Err (fault_of result) }
+    {
+        match read_u32(self.bytes, place, self.le) {
+            Err(e) => e,
+            Ok(_) => unreachable!(),
+        }
     }
 
     /// The entries in order, exactly as many as there are said to be, unreadable ones included.

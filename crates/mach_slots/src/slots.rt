@@ -1,6 +1,7 @@
 //! The slots of an image, one at a time.
 
-ghost use Rattle.std.specs.Prelude.{◌≡◌, ◌∷◌, ◌++◌, [], Err, OnOk, IfErr, IfOk, MatchOption, flat_map, map};
+ghost use Rattle.std.specs.Prelude.{◌≡◌, ◌∷◌, ◌++◌, [], Err, OnOk, IfErr, IfNone, IfOk, MatchOption, flat_map, map};
+ghost use Rattle.std.specs.Iterator.{YieldsFirstBy};
 ghost use Rattle.mach_base.specs.Fault.{fault_of};
 ghost use Rattle.mach_segments.specs.Segment.{segment_view};
 ghost use Rattle.mach_slots.specs.SlotViews.{slot_tables_of};
@@ -44,6 +45,7 @@ impl<'a, 'b> SlotIterator<'a, 'b> {
     fn take(&mut self) -> Option<Result<SymbolSlot<'a>>>
         ensures open { MatchOption result (open_slots_left self.old ≡ [])
             (λ item. open_slots_left self.old ≡ symbol_slot_read item ∷ open_slots_left self.new) }
+        ensures none { IfNone result (self.new ≡ self.old) }
         ensures sections { self.new.sections ≡ self.old.sections }
         ensures source { self.new.source ≡ self.old.source }
     {
@@ -81,6 +83,39 @@ impl<'a, 'b> SlotIterator<'a, 'b> {
             Err(e) => Err(e),
         }
     }
+
+    // The next slot: of the section that is open, if it has one more.
+    #[inline(always)]
+    fn next_item(&mut self) -> Option<Result<SymbolSlot<'a>>>
+        ensures { YieldsFirstBy symbol_slot_read slots_left self.old result self.new }
+    {
+        match self.take() {
+            Some(item) => Some(item),
+            None => self.next_of_later(),
+        }
+    }
+
+    // The next slot, where it may be one of a later section.
+    #[cold]
+    #[inline(never)]
+    fn next_of_later(&mut self) -> Option<Result<SymbolSlot<'a>>>
+        ensures { YieldsFirstBy symbol_slot_read slots_left self.old result self.new }
+    {
+        'sections: loop {
+            if let Some(item) = self.take() {
+                return Some(item);
+            }
+            self.run = None;
+            match self.sections.next() {
+                None => return None,
+                Some(Ok(section)) => match self.open(&section) {
+                    Ok(()) => {}
+                    Err(e) => return Some(Err(e)),
+                },
+                Some(Err(e)) => return Some(Err(e)),
+            }
+        }
+    }
 }
 
 impl Default for SlotIterator<'_, '_> {
@@ -100,26 +135,14 @@ impl Default for SlotIterator<'_, '_> {
 impl<'a, 'b> Iterator for SlotIterator<'a, 'b> {
     type Item = Result<SymbolSlot<'a>>;
 
-    ghost use Rattle.std.specs.Iterator.{YieldsFirstBy, item_count};
+    ghost use Rattle.std.specs.Iterator.{item_count};
 
     ghost next_gives = { YieldsFirstBy symbol_slot_read slots_left };
 
     ghost remaining = { item_count slots_left };
 
+    #[inline(always)]
     fn next(&mut self) -> Option<Result<SymbolSlot<'a>>> {
-        'sections: loop {
-            if let Some(item) = self.take() {
-                return Some(item);
-            }
-            self.run = None;
-            match self.sections.next() {
-                None => return None,
-                Some(Ok(section)) => match self.open(&section) {
-                    Ok(()) => {}
-                    Err(e) => return Some(Err(e)),
-                },
-                Some(Err(e)) => return Some(Err(e)),
-            }
-        }
+        self.next_item()
     }
 }

@@ -224,6 +224,7 @@ impl<'a> Symbols<'a> {
     }
 
     /// A symbol with its name; how many there are said to be is not tested.
+    #[inline(always)]
     pub fn get(&self, index: usize) -> Result<(&'a str, Nlist)>
         ensures { symbol_read result ≡ symbol_at (table_of self.now) index }
     {
