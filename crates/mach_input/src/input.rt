@@ -26,7 +26,7 @@ pub enum Input<'a, A: Allocator = Global> {
 }
 
 /// Whether the bytes begin as an archive does, or as one whose members are other files.
-pub(crate) fn begins_archive(bytes: &[u8]) -> bool
+pub fn begins_archive(bytes: &[u8]) -> bool
     ensures { result ≡ begins_any_archive bytes.now }
 {
     bytes.starts_with(b"!<arch>\n") || bytes.starts_with(b"!<thin>\n")

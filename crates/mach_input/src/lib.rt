@@ -7,5 +7,5 @@ mod item;
 pub mod laws;
 
 pub use crate::images::Images;
-pub use crate::input::Input;
+pub use crate::input::{Input, begins_archive};
 pub use crate::item::{Content, EntryCpu, InputItem, Place};

@@ -1,0 +1,2 @@
+pub mod PartNames
+pub mod PartsOf
