@@ -1,6 +1,6 @@
 -- What a refusal of a part says of the whole.
 use Rattle.std.proofs.Common.{◌≡◌, ℕ, Result, Ok, Err, ap, sym, subst}
-use Rattle.mach_base.specs.Fault.{Fault, malformed, bad_magic, too_short, fault_of_scroll}
+use Rattle.mach_base.specs.Fault.{malformed, bad_magic, too_short, fault_of_scroll}
 use Rattle.mach_base.specs.declared.error.Error.TheVariants as errors
 use Rattle.mach_fat.specs.Changes.{of_file}
 use Rattle.mach_fat.specs.Creates.{UnfitFile, RefusesFiles}

@@ -2,7 +2,7 @@
 use Rattle.std.proofs.Common.{◌≡◌, ℕ, ◌+◌, ◌-◌, ◌<◌, ◌≤◌, length, nat_lt, true, false, inl, inr, ◌∙◌, sym, ap, arith, List, drop, get_or}
 use Rattle.std.proofs.lemmas.Bool.{cases_lt, lt-ltb, le-ltb}
 use Rattle.std.proofs.lemmas.List.{at_drop_more, drop_all}
-use Rattle.mach_write.specs.Entries.{fat_entry_view, entry_views}
+use Rattle.mach_write.specs.Entries.{entry_views}
 use Rattle.mach_write.specs.declared.entry.FatEntry.{FatEntry}
 use Rattle.mach_fat.specs.EntriesRead.{entries_len}
 

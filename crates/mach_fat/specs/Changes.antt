@@ -13,7 +13,7 @@ use Rattle.mach_write.specs.FatForms.{FatForm}
 use Rattle.mach_write.specs.FatWrites.{fat_file_of, RefusesFat}
 use Rattle.mach_fat.specs.Creates.{UnfitFile, IsFileOf, RefusesEntries, RefusesFiles}
 use Rattle.mach_fat.specs.EntriesRead.{slice_of, fat_entries_in}
-use Rattle.mach_fat.specs.FatTables.{form_in, fat_table_in}
+use Rattle.mach_fat.specs.FatTables.{form_in, header_count_in, fat_record_in, fat_table_in}
 use Rattle.mach_fat.specs.Unfit.{Unfit, unread, not_fat, out_of_file, no_such_entry, no_such_cpu, if_fit, if_read}
 use Rattle.mach_fat.specs.declared.record.EntryRecord.{EntryRecord}
 use Rattle.mach_fat.specs.declared.refusal.MakeRefusal.{MakeRefusal}
@@ -44,9 +44,22 @@ first_for_cpu bytes cputype i [] = Err (no_such_cpu cputype)
 first_for_cpu bytes cputype i (r ∷ rs) =
     if r.cputype == cputype then slice_or_out i (slice_of bytes r) else first_for_cpu bytes cputype (i + 1) rs
 
--- The bytes of the first entry of a cputype in a fat file of either form.
+-- The records of a fat file of either form.
+abbrev pub fat_records_in : List ℕ → Result (List EntryRecord) Unfit
+fat_records_in bytes = if_fit (λ form. if_read (fat_table_in form bytes)) (fat_form_in bytes)
+
+-- The bytes of the first entry of a cputype in it.
 abbrev pub thin_entry_in : List ℕ → ℕ → Result (List ℕ) Unfit
-thin_entry_in bytes cputype = if_fit (λ form. if_fit (first_for_cpu bytes cputype 0) (if_read (fat_table_in form bytes))) (fat_form_in bytes)
+thin_entry_in bytes cputype = if_fit (first_for_cpu bytes cputype 0) (fat_records_in bytes)
+
+-- those of the entry of an index in a file of this form, which says that it has n entries
+abbrev pub indexed_of : FatForm → List ℕ → (i n : ℕ) → Result (List ℕ) Unfit
+indexed_of form bytes i n =
+    if nat_lt i n then if_fit (λ r. slice_or_out i (slice_of bytes r)) (if_read (fat_record_in form bytes i)) else Err (no_such_entry i)
+
+-- The bytes of the entry of an index in a fat file of either form; no other record is looked at.
+abbrev pub indexed_entry_in : List ℕ → ℕ → Result (List ℕ) Unfit
+indexed_entry_in bytes i = if_fit (λ form. if_fit (indexed_of form bytes i) (if_read (header_count_in bytes))) (fat_form_in bytes)
 
 -- what is there of a file, by its index among those that are given
 abbrev pub of_file : {A : Type 0} → ℕ → Result A Unfit → Result A UnfitFile

@@ -45,6 +45,10 @@ abbrev pub fat_table_by : FatForm → List ℕ → ℕ → Result (List EntryRec
 fat_table_by form bytes n =
     if nat_le n (length bytes / size form.fields) then all_read (items_from (fat_record_in form bytes) 0 n) else Err (too_short n (codes "arches"))
 
--- the records of a fat file: as many as its header says, which has 8 bytes
+-- how many entries a fat file's header says that there are, which has 8 bytes
+abbrev pub header_count_in : List ℕ → Result ℕ Fault
+header_count_in bytes = bounded 8 bytes 0 (number Big 4 (drop 4 bytes))
+
+-- the records of a fat file: as many as its header says
 abbrev pub fat_table_in : FatForm → List ℕ → Result (List EntryRecord) Fault
-fat_table_in form bytes = bounded 8 bytes 0 (number Big 4 (drop 4 bytes)) >>= fat_table_by form bytes
+fat_table_in form bytes = header_count_in bytes >>= fat_table_by form bytes

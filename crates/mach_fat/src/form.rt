@@ -60,7 +60,7 @@ impl Form {
     }
 
     // The record of an index.
-    fn record_at(self, bytes: &[u8], index: usize) -> Result<EntryRecord>
+    pub(crate) fn record_at(self, bytes: &[u8], index: usize) -> Result<EntryRecord>
         requires { index < 2 ^ 32 }
         ensures { Reads (λ r. r) result (fat_record_in (form_of self) bytes.now index) }
     {

@@ -16,4 +16,4 @@ pub use crate::entries::{fat_entries, file_entries};
 pub use crate::form::Form;
 pub use crate::record::EntryRecord;
 pub use crate::refusal::{EntryRefusal, FileRefusal, MakeRefusal};
-pub use crate::thin::thin_entry;
+pub use crate::thin::{fat_records, indexed_entry, thin_entry};

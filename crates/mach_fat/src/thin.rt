@@ -1,13 +1,26 @@
-//! An entry of a fat file that is asked for by its cpu.
+//! The records of a fat file, and an entry that is asked for by its cpu or its index.
 
-ghost use Rattle.mach_fat.specs.Changes.{first_for_cpu, slice_or_out, thin_entry_in};
+ghost use Rattle.mach_fat.specs.Changes.{fat_records_in, first_for_cpu, indexed_entry_in, slice_or_out, thin_entry_in};
 ghost use Rattle.mach_fat.specs.EntriesRead.{slice_of};
 ghost use Rattle.mach_fat.specs.Unfit.{AnswersAs};
 
 use crate::form::Form;
 use crate::record::EntryRecord;
 use crate::refusal::EntryRefusal;
+use mach_headers::fat::FatHeader;
 use std::alloc::Allocator;
+
+/// The records of a fat file of either form, in order.
+pub fn fat_records<A: Allocator>(
+    alloc: A,
+    bytes: &[u8],
+) -> Result<Vec<EntryRecord, A>, EntryRefusal>
+    ensures { AnswersAs (λ records. records.items) result (fat_records_in bytes.now) }
+{
+    let form = Form::of_fat(bytes)?;
+    let records = form.records(alloc, bytes)?;
+    Ok(records)
+}
 
 // The bytes of the entry of a record and its index.
 fn slice_or_out<'a>(
@@ -47,7 +60,19 @@ pub fn thin_entry<'a, A: Allocator>(
 ) -> Result<&'a [u8], EntryRefusal>
     ensures { AnswersAs (λ slice. slice.now) result (thin_entry_in bytes.now cputype) }
 {
-    let form = Form::of_fat(bytes)?;
-    let records = form.records(alloc, bytes)?;
+    let records = fat_records(alloc, bytes)?;
     first_for_cpu(bytes, cputype, records.as_slice())
+}
+
+/// The bytes of the entry of an index in a fat file of either form. No other record is looked at, as a table may be said to have 2^32 - 1.
+pub fn indexed_entry(bytes: &[u8], index: usize) -> Result<&[u8], EntryRefusal>
+    ensures { AnswersAs (λ slice. slice.now) result (indexed_entry_in bytes.now index) }
+{
+    let form = Form::of_fat(bytes)?;
+    let header = FatHeader::parse(bytes)?;
+    if index >= header.nfat_arch as usize {
+        return Err(EntryRefusal::NoEntry(index));
+    }
+    let record = form.record_at(bytes, index)?;
+    slice_or_out(bytes, index, &record)
 }

@@ -1,46 +1,31 @@
 //! The records and the entries of a fat file.
 
-ghost use Rattle.std.specs.Prelude.{ℕ, List, IfOk, IfErr, OnOk};
+ghost use Rattle.std.specs.Prelude.{◌≡◌, List, Ok, IfOk, IfErr, OnOk};
 ghost use Rattle.std.specs.Io.KnownBytes.{Appends};
-ghost use Rattle.mach_base.specs.Answer.{Stands};
-ghost use Rattle.mach_headers.specs.declared.fat.FatArch.{FatArch};
-ghost use Rattle.goblin_mach.specs.FatFile.{file_held};
-ghost use Rattle.goblin_mach.specs.View.{ViewFault};
-ghost use Rattle.machfat.specs.Entry.{IsFatFile, HasRecords, IsRecordOf, IsEntryOf};
+ghost use Rattle.mach_fat.specs.Changes.{fat_records_in, indexed_entry_in};
+ghost use Rattle.mach_fat.specs.declared.record.EntryRecord.{EntryRecord};
 ghost use Rattle.machfat.specs.Lines.{next_object, record_as, record_line, records_from};
-ghost use Rattle.machfat.specs.Refusals.{RefusesList, IsRefusal};
+ghost use Rattle.machfat.specs.Refusals.{Refuses, IsRefusal, SaysWhy};
 ghost use Rattle.machfat.specs.declared.entry.ListForm.TheVariants as forms;
 
 use crate::refusal::{Failure, Refusal};
 use crate::text::{RecordObject, RecordText};
-use goblin_mach::fat::{FatArch, SIZEOF_FAT_ARCH, SIZEOF_FAT_HEADER};
-use goblin_mach::{Error, Mach, MultiArch};
-use mach_fat::EntryRefusal;
+use mach_fat::{EntryRecord, EntryRefusal, fat_records, indexed_entry};
 use mach_show::refused_kind;
 use std::alloc::Allocator;
 use std::io;
 use std::io::Write;
 
-/// The fat file of the bytes.
-pub fn fat_file<A: Allocator + Clone>(alloc: A, bytes: &[u8]) -> Result<MultiArch<'_, A>, Refusal>
-    ensures fat { IfOk result (λ m. IsFatFile bytes.now (file_held m)) }
-    ensures refused { IfErr result (RefusesList bytes.now) }
+// What is said of a file that is refused so: its first bytes may tell what it is.
+fn refusal(bytes: &[u8], why: EntryRefusal) -> Refusal
+    ensures { SaysWhy bytes.now why result }
 {
-    match Mach::parse(alloc, bytes) {
-        Ok(Mach::Fat(container)) => Ok(container),
-        Ok(Mach::Binary(_)) => Err(Refusal::NotFat),
-        Err(error) => Err(refusal(bytes, error)),
+    if let EntryRefusal::Unread(error) = &why {
+        if let Some(kind) = refused_kind(bytes, error) {
+            return Refusal::Foreign(kind);
+        }
     }
-}
-
-// Why a file that doesn't open for this error is refused.
-fn refusal(bytes: &[u8], error: Error) -> Refusal
-    ensures { Stands (ViewFault bytes.now) error → RefusesList bytes.now result }
-{
-    match refused_kind(bytes, &error) {
-        Some(kind) => Refusal::Foreign(kind),
-        None => Refusal::Refused(error),
-    }
+    Refusal::Entries(why)
 }
 
 /// The form of a list.
@@ -52,20 +37,23 @@ pub enum ListForm {
     Objects,
 }
 
-/// The records of a fat file, in order.
-pub fn records<A: Allocator + Clone>(alloc: A, bytes: &[u8]) -> Result<Vec<FatArch, A>, Refusal>
-    ensures held { IfOk result (λ v. HasRecords bytes.now v.items) }
-    ensures refused { IfErr result (RefusesList bytes.now) }
+/// The records of a fat file of 32 or of 64 bits, in order.
+#[tactic(auto, using(crate::proofs::Told::tells_of))]
+pub fn records<A: Allocator>(alloc: A, bytes: &[u8]) -> Result<Vec<EntryRecord, A>, Refusal>
+    ensures held { IfOk result (λ v. fat_records_in bytes.now ≡ Ok v.items) }
+    ensures refused { IfErr result (Refuses bytes.now (fat_records_in bytes.now)) }
 {
-    let container = fat_file(alloc, bytes)?;
-    Ok(container.arches()?)
+    match fat_records(alloc, bytes) {
+        Ok(records) => Ok(records),
+        Err(why) => Err(refusal(bytes, why)),
+    }
 }
 
 /// Prints some records of a fat file in a form, each with the kind of its entry.
 pub fn print_records<O: Write>(
     form: ListForm,
     bytes: &[u8],
-    records: &[FatArch],
+    records: &[EntryRecord],
     out: &mut O,
 ) -> io::Result<()>
     ensures { OnOk result (Appends (O.contents out.old) (O.contents out.new) (records_from form bytes.now 0 records.now)) }
@@ -81,7 +69,7 @@ fn print_record<O: Write>(
     form: ListForm,
     bytes: &[u8],
     index: usize,
-    arch: FatArch,
+    arch: EntryRecord,
     out: &mut O,
 ) -> io::Result<()>
     ensures { OnOk result (Appends (O.contents out.old) (O.contents out.new) (record_as form bytes.now index arch)) }
@@ -93,7 +81,12 @@ fn print_record<O: Write>(
 }
 
 // Prints the line of a record.
-fn print_line<O: Write>(bytes: &[u8], index: usize, arch: FatArch, out: &mut O) -> io::Result<()>
+fn print_line<O: Write>(
+    bytes: &[u8],
+    index: usize,
+    arch: EntryRecord,
+    out: &mut O,
+) -> io::Result<()>
     ensures { OnOk result (Appends (O.contents out.old) (O.contents out.new) (record_line bytes.now index arch)) }
 {
     let record = RecordText { bytes, arch };
@@ -101,7 +94,12 @@ fn print_line<O: Write>(bytes: &[u8], index: usize, arch: FatArch, out: &mut O) 
 }
 
 // Prints the object of a record, behind a comma if it isn't the first.
-fn print_object<O: Write>(bytes: &[u8], index: usize, arch: FatArch, out: &mut O) -> io::Result<()>
+fn print_object<O: Write>(
+    bytes: &[u8],
+    index: usize,
+    arch: EntryRecord,
+    out: &mut O,
+) -> io::Result<()>
     ensures { OnOk result (Appends (O.contents out.old) (O.contents out.new) (next_object bytes.now index arch)) }
 {
     let comma = if index == 0 { "" } else { "," };
@@ -110,45 +108,24 @@ fn print_object<O: Write>(bytes: &[u8], index: usize, arch: FatArch, out: &mut O
 }
 
 /// Prints the list of a fat file: a line for each of its records, in order, and nothing else.
-pub fn list<A: Allocator + Clone, O: Write>(
-    alloc: A,
-    bytes: &[u8],
-    out: &mut O,
-) -> Result<(), Failure>
-    ensures listed { OnOk result ((records : List FatArch) × HasRecords bytes.now records
+pub fn list<A: Allocator, O: Write>(alloc: A, bytes: &[u8], out: &mut O) -> Result<(), Failure>
+    ensures listed { OnOk result ((records : List EntryRecord) × (fat_records_in bytes.now ≡ Ok records)
         × Appends (O.contents out.old) (O.contents out.new) (records_from forms.Lines bytes.now 0 records)) }
-    ensures refused { IfErr result (IsRefusal (RefusesList bytes.now)) }
+    ensures refused { IfErr result (IsRefusal (Refuses bytes.now (fat_records_in bytes.now))) }
 {
     let records = records(alloc, bytes)?;
     print_records(ListForm::Lines, bytes, &records, out)?;
     Ok(())
 }
 
-// The record of an index, read at its own place: a table may be said to have 2^32 - 1 records.
-fn record_of<A: Allocator + Clone>(alloc: A, bytes: &[u8], index: usize) -> Result<FatArch, Refusal>
-    ensures { IfOk result (IsRecordOf bytes.now index) }
+/// The bytes of an entry of a fat file of 32 or of 64 bits.
+#[tactic(auto, using(crate::proofs::Told::tells_of))]
+pub fn entry_bytes(bytes: &[u8], index: usize) -> Result<&[u8], Refusal>
+    ensures found { IfOk result (λ entry. indexed_entry_in bytes.now index ≡ Ok entry.now) }
+    ensures refused { IfErr result (Refuses bytes.now (indexed_entry_in bytes.now index)) }
 {
-    let container = fat_file(alloc, bytes)?;
-    if index >= container.narches {
-        return Err(Refusal::Entries(EntryRefusal::NoEntry(index)));
-    }
-    let before = index.saturating_mul(SIZEOF_FAT_ARCH);
-    let arch = FatArch::parse(bytes, before.saturating_add(SIZEOF_FAT_HEADER))?;
-    Ok(arch)
-}
-
-/// The bytes of an entry of a fat file.
-pub fn entry_bytes<A: Allocator + Clone>(
-    alloc: A,
-    bytes: &[u8],
-    index: usize,
-) -> Result<&[u8], Refusal>
-    ensures { IfOk result (λ entry. IsEntryOf bytes.now index entry.now) }
-{
-    let arch = record_of(alloc, bytes, index)?;
-    let start = arch.offset as usize;
-    match bytes.get(start..start + arch.size as usize) {
-        Some(entry) => Ok(entry),
-        None => Err(Refusal::Entries(EntryRefusal::OutOfFile(index))),
+    match indexed_entry(bytes, index) {
+        Ok(entry) => Ok(entry),
+        Err(why) => Err(refusal(bytes, why)),
     }
 }

@@ -1,19 +1,19 @@
 //! What the program writes of a fat file as JSON, and its exit status.
 
-ghost use Rattle.std.specs.Prelude.{◌≡◌, ◌≤◌, [], List, OnOk};
+ghost use Rattle.std.specs.Prelude.{◌≡◌, ◌≤◌, [], List, Ok, OnOk};
 ghost use Rattle.std.specs.Io.Buffered.{writer_buffer, writer_contents};
 ghost use Rattle.std.specs.Io.KnownBytes.{Appends};
-ghost use Rattle.mach_headers.specs.declared.fat.FatArch.{FatArch};
+ghost use Rattle.mach_fat.specs.Changes.{fat_records_in};
+ghost use Rattle.mach_fat.specs.declared.record.EntryRecord.{EntryRecord};
 ghost use Rattle.mach_show.specs.Statuses.{IsStatus};
-ghost use Rattle.machfat.specs.Entry.{HasRecords};
 ghost use Rattle.machfat.specs.Lines.{document_text, refusal_document, document_tail};
-ghost use Rattle.machfat.specs.Refusals.{RefusesList, refusal_line, refusal_words};
+ghost use Rattle.machfat.specs.Refusals.{Refuses, refusal_line, refusal_words};
 ghost use Rattle.machfat.specs.declared.refusal.Refusal.{Refusal};
 
 use crate::entry::{ListForm, print_records, records};
 use crate::refusal::Refusal;
 use crate::run::{NAME, refused};
-use goblin_mach::fat::FatArch;
+use mach_fat::EntryRecord;
 use mach_json::JsonString;
 use mach_show::say::failed;
 use std::alloc::Allocator;
@@ -23,7 +23,7 @@ use std::io::{BufWriter, Write};
 /// Writes the object of a fat file of this name on a line, with an object for each of its records, in order, and answers the exit status: 0; 1 where
 /// the file or memory is refused, and then the object has a member `error` and `err` a line that says why; 2 or 141 where a write fails. But for that
 /// nothing is left in the buffer.
-pub fn run_list_json<A: Allocator + Clone, W: Write + Drop, B: Allocator, E: Write>(
+pub fn run_list_json<A: Allocator, W: Write + Drop, B: Allocator, E: Write>(
     alloc: A,
     file: &str,
     bytes: &[u8],
@@ -31,9 +31,9 @@ pub fn run_list_json<A: Allocator + Clone, W: Write + Drop, B: Allocator, E: Wri
     err: &mut E,
 ) -> u8
     ensures status { IsStatus result }
-    ensures listed { result ≡ 0 → (records : List FatArch) × HasRecords bytes.now records
+    ensures listed { result ≡ 0 → (records : List EntryRecord) × (fat_records_in bytes.now ≡ Ok records)
         × Appends (writer_contents W.contents out.old) (writer_contents W.contents out.new) (document_text file.now bytes.now records) }
-    ensures refused { result ≡ 1 → (refusal : Refusal) × RefusesList bytes.now refusal
+    ensures refused { result ≡ 1 → (refusal : Refusal) × Refuses bytes.now (fat_records_in bytes.now) refusal
         × Appends (writer_contents W.contents out.old) (writer_contents W.contents out.new) (refusal_document file.now (refusal_words refusal))
         × Appends (E.contents err.old) (E.contents err.new) (refusal_line file.now refusal) }
     ensures flushed { result ≤ 1 → writer_buffer out.new ≡ [] }
@@ -48,7 +48,7 @@ pub fn run_list_json<A: Allocator + Clone, W: Write + Drop, B: Allocator, E: Wri
 fn list_as<W: Write + Drop, B: Allocator, E: Write>(
     file: &str,
     bytes: &[u8],
-    records: &[FatArch],
+    records: &[EntryRecord],
     out: &mut BufWriter<W, B>,
     err: &mut E,
 ) -> u8
@@ -88,7 +88,7 @@ fn refuse<W: Write + Drop, B: Allocator, E: Write>(
 fn write_document<W: Write + Drop, B: Allocator>(
     file: &str,
     bytes: &[u8],
-    records: &[FatArch],
+    records: &[EntryRecord],
     out: &mut BufWriter<W, B>,
 ) -> io::Result<()>
     ensures written { OnOk result (Appends (writer_contents W.contents out.old) (writer_contents W.contents out.new)
@@ -103,7 +103,7 @@ fn write_document<W: Write + Drop, B: Allocator>(
 fn print_document<O: Write>(
     file: &str,
     bytes: &[u8],
-    records: &[FatArch],
+    records: &[EntryRecord],
     out: &mut O,
 ) -> io::Result<()>
     ensures { OnOk result (Appends (O.contents out.old) (O.contents out.new) (document_text file.now bytes.now records.now)) }

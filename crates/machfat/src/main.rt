@@ -1,4 +1,4 @@
-//! Lists the entries of a fat file, a line each, or writes the bytes of one to a file; or makes a fat file.
+//! Lists the entries of a fat file or the members of an archive, a line each, or writes the bytes of an entry to a file; or makes a fat file.
 //!
 //! With `--json` the list is an object a file, on a line. A line has the fields of `llvm-objdump --universal-headers`, and the kind of the entry by its first
 //! bytes. Numbers of cpus are not given names, and the capabilities stay in the top 8 bits of `cpusubtype`.
@@ -10,6 +10,7 @@
 mod entry;
 mod json;
 mod made;
+mod members;
 mod place;
 mod refusal;
 mod run;
@@ -22,6 +23,7 @@ use mach_fat::Form;
 use mach_json::take_json;
 use mach_show::{Misuse, Program, Round, cputype_in};
 use made::{one_file, run_create, run_remove, run_replace};
+use members::run_members;
 use place::is_same_file;
 use run::{NAME, run_extract, run_list};
 use std::alloc::{AllocError, Global};
@@ -40,6 +42,7 @@ enum Shown {
     Records,
     Object,
     Faults,
+    Members,
 }
 
 const PROGRAM: Program = Program {
@@ -47,6 +50,7 @@ const PROGRAM: Program = Program {
     usage: "usage: machfat list [--json] FILE..
        machfat extract FILE INDEX OUT
        machfat thin FILE 0xCPUTYPE OUT
+       machfat members FILE..
        machfat create [--fat64] OUT FILE..
        machfat replace FILE NEW OUT
        machfat remove FILE INDEX OUT
@@ -60,6 +64,7 @@ const PROGRAM: Program = Program {
         "list",
         "extract",
         "thin",
+        "members",
         "create",
         "replace",
         "remove",
@@ -94,6 +99,7 @@ fn start(rt: &HostRuntime) -> Result<u8, u8> {
         [] => Err(PROGRAM.bad_usage(rt, Misuse::Missing("word"))),
         [word, files @ ..] if *word == "list" => show_files(rt, Shown::Records, files),
         [word, files @ ..] if *word == "verify" => show_files(rt, Shown::Faults, files),
+        [word, files @ ..] if *word == "members" => show_files(rt, Shown::Members, files),
         [word, given @ ..] => write_file(rt, word, given),
     }
 }
@@ -126,6 +132,7 @@ fn show_files(rt: &HostRuntime, shown: Shown, files: &[&str]) -> Result<u8, u8> 
                 Shown::Records => run_list(rt.alloc(), file, &bytes, &mut lines, err),
                 Shown::Object => run_list_json(rt.alloc(), file, &bytes, &mut lines, err),
                 Shown::Faults => run_verify(rt.alloc(), file, &bytes, &mut lines, err),
+                Shown::Members => run_members(rt.alloc(), file, &bytes, &mut lines, err),
             };
             round.end(status)?;
         }

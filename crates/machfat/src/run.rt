@@ -1,13 +1,14 @@
 //! What the program's words do, and its exit status.
 
-ghost use Rattle.std.specs.Prelude.{◌≡◌, ◌≤◌, [], ℕ, List, IsOk, OnOk, IfErr, Err};
+ghost use Rattle.std.specs.Prelude.{◌≡◌, ◌≤◌, [], ℕ, List, IsOk, OnOk, IfErr, Ok, Err};
 ghost use Rattle.std.specs.Io.Buffered.{writer_buffer, writer_contents};
 ghost use Rattle.std.specs.Io.KnownBytes.{Appends};
-ghost use Rattle.mach_headers.specs.declared.fat.FatArch.{FatArch};
+ghost use Rattle.mach_fat.specs.Changes.{fat_records_in, indexed_entry_in};
+ghost use Rattle.mach_fat.specs.declared.record.EntryRecord.{EntryRecord};
 ghost use Rattle.mach_show.specs.Statuses.{IsStatus};
-ghost use Rattle.machfat.specs.Entry.{HasRecords, IsEntryOf, WasWritten};
+ghost use Rattle.machfat.specs.Entry.{WasWritten};
 ghost use Rattle.machfat.specs.Lines.{records_from};
-ghost use Rattle.machfat.specs.Refusals.{RefusesList, IsRefusal, refusal_line};
+ghost use Rattle.machfat.specs.Refusals.{Refuses, IsRefusal, refusal_line};
 ghost use Rattle.machfat.specs.declared.entry.ListForm.TheVariants as forms;
 ghost use Rattle.machfat.specs.declared.refusal.Failure.TheVariants as failures;
 ghost use Rattle.machfat.specs.declared.refusal.Refusal.{Refusal};
@@ -26,7 +27,7 @@ pub const NAME: &str = "machfat";
 
 /// Prints the records of a fat file, and answers the exit status: 0; 1 where the file or memory is refused, and
 /// then `err` has a line that says why and `out` nothing; 2 or 141 where a write fails. At 0 nothing is left in the buffer.
-pub fn run_list<A: Allocator + Clone, W: Write + Drop, B: Allocator, E: Write>(
+pub fn run_list<A: Allocator, W: Write + Drop, B: Allocator, E: Write>(
     alloc: A,
     file: &str,
     bytes: &[u8],
@@ -34,25 +35,25 @@ pub fn run_list<A: Allocator + Clone, W: Write + Drop, B: Allocator, E: Write>(
     err: &mut E,
 ) -> u8
     ensures status { IsStatus result }
-    ensures listed { result ≡ 0 → (records : List FatArch) × HasRecords bytes.now records
+    ensures listed { result ≡ 0 → (records : List EntryRecord) × (fat_records_in bytes.now ≡ Ok records)
         × Appends (writer_contents W.contents out.old) (writer_contents W.contents out.new) (records_from forms.Lines bytes.now 0 records) }
     ensures flushed { result ≡ 0 → writer_buffer out.new ≡ [] }
-    ensures refused { result ≡ 1 → (refusal : Refusal) × RefusesList bytes.now refusal
+    ensures refused { result ≡ 1 → (refusal : Refusal) × Refuses bytes.now (fat_records_in bytes.now) refusal
         × Appends (E.contents err.old) (E.contents err.new) (refusal_line file.now refusal) }
 {
     status(list_all(alloc, bytes, out), file, "", err)
 }
 
 // Prints the list, and hands on all that was gathered.
-fn list_all<A: Allocator + Clone, W: Write + Drop, B: Allocator>(
+fn list_all<A: Allocator, W: Write + Drop, B: Allocator>(
     alloc: A,
     bytes: &[u8],
     out: &mut BufWriter<W, B>,
 ) -> Result<(), Failure>
-    ensures listed { OnOk result ((records : List FatArch) × HasRecords bytes.now records
+    ensures listed { OnOk result ((records : List EntryRecord) × (fat_records_in bytes.now ≡ Ok records)
         × Appends (writer_contents W.contents out.old) (writer_contents W.contents out.new) (records_from forms.Lines bytes.now 0 records)) }
     ensures flushed { OnOk result (writer_buffer out.new ≡ []) }
-    ensures refused { IfErr result (IsRefusal (RefusesList bytes.now)) }
+    ensures refused { IfErr result (IsRefusal (Refuses bytes.now (fat_records_in bytes.now))) }
 {
     list(alloc, bytes, out)?;
     out.flush()?;
@@ -72,7 +73,9 @@ pub fn run_extract<R: Files, E: Write>(
     err: &mut E,
 ) -> u8
     ensures status { IsStatus result }
-    ensures extracted { result ≡ 0 → (entry : List ℕ) × IsEntryOf bytes.now index entry × WasWritten R.File.contents entry }
+    ensures extracted { result ≡ 0 → (entry : List ℕ) × (indexed_entry_in bytes.now index ≡ Ok entry) × WasWritten R.File.contents entry }
+    ensures refused { result ≡ 1 → (refusal : Refusal) × Refuses bytes.now (indexed_entry_in bytes.now index) refusal
+        × Appends (E.contents err.old) (E.contents err.new) (refusal_line file.now refusal) }
 {
     status(
         extract(files, alloc, bytes, index, target),
@@ -90,9 +93,10 @@ fn extract<R: Files>(
     index: usize,
     target: &str,
 ) -> Result<(), Failure>
-    ensures { OnOk result ((entry : List ℕ) × IsEntryOf bytes.now index entry × WasWritten R.File.contents entry) }
+    ensures extracted { OnOk result ((entry : List ℕ) × (indexed_entry_in bytes.now index ≡ Ok entry) × WasWritten R.File.contents entry) }
+    ensures refused { IfErr result (IsRefusal (Refuses bytes.now (indexed_entry_in bytes.now index))) }
 {
-    let entry = entry_bytes(alloc, bytes, index)?;
+    let entry = entry_bytes(bytes, index)?;
     place_file(files, alloc, entry, target)?;
     Ok(())
 }

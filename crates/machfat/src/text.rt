@@ -1,22 +1,22 @@
 //! A record of a fat file as it is printed.
 
 ghost use Rattle.std.specs.Prelude.{◌≡◌, Some};
-ghost use Rattle.machfat.specs.Lines.{cpu_members, cpu_text, entry_place_text, entry_kind, entry_place_members, record_object, record_text};
+ghost use Rattle.machfat.specs.Lines.{cpu_members, cpu_text, entry_place_text, entry_place_members, record_kind, record_object, record_text};
 
-use goblin_mach::fat::FatArch;
-use goblin_mach::{Hint, peek_bytes, take_hint_bytes};
+use mach_fat::EntryRecord;
+use mach_members::entry_kind;
 use std::fmt;
 use std::fmt::{Display, Formatter, Write};
 
 // The cpu that a record names.
 #[derive(Clone, Copy)]
-struct CpuText(FatArch);
+struct CpuText(EntryRecord);
 
 impl Display for CpuText {
     ghost output = { λ t. Some (cpu_text t.0) };
 
     fn fmt<W: Write>(&self, f: &mut Formatter<W>) -> fmt::Result {
-        let FatArch {
+        let EntryRecord {
             cputype,
             cpusubtype,
             ..
@@ -27,13 +27,13 @@ impl Display for CpuText {
 
 // Where the entry of a record stands.
 #[derive(Clone, Copy)]
-struct PlaceText(FatArch);
+struct PlaceText(EntryRecord);
 
 impl Display for PlaceText {
     ghost output = { λ t. Some (entry_place_text t.0) };
 
     fn fmt<W: Write>(&self, f: &mut Formatter<W>) -> fmt::Result {
-        let FatArch {
+        let EntryRecord {
             offset,
             size,
             align,
@@ -47,7 +47,7 @@ impl Display for PlaceText {
 #[derive(Clone, Copy)]
 pub struct RecordText<'a> {
     pub bytes: &'a [u8],
-    pub arch: FatArch,
+    pub arch: EntryRecord,
 }
 
 impl<'a> Display for RecordText<'a> {
@@ -56,20 +56,20 @@ impl<'a> Display for RecordText<'a> {
     fn fmt<W: Write>(&self, f: &mut Formatter<W>) -> fmt::Result {
         let cpu = CpuText(self.arch);
         let place = PlaceText(self.arch);
-        let kind = entry_kind(self.arch.slice(self.bytes));
+        let kind = kind_of(self.bytes, &self.arch);
         write!(f, "{cpu}, {place}, {kind}")
     }
 }
 
 // The members of a record's object that say for which cpu it is.
 #[derive(Clone, Copy)]
-struct CpuMembers(FatArch);
+struct CpuMembers(EntryRecord);
 
 impl Display for CpuMembers {
     ghost output = { λ t. Some (cpu_members t.0) };
 
     fn fmt<W: Write>(&self, f: &mut Formatter<W>) -> fmt::Result {
-        let FatArch {
+        let EntryRecord {
             cputype,
             cpusubtype,
             align,
@@ -84,13 +84,13 @@ impl Display for CpuMembers {
 
 // Those that say where its entry stands.
 #[derive(Clone, Copy)]
-struct PlaceMembers(FatArch);
+struct PlaceMembers(EntryRecord);
 
 impl Display for PlaceMembers {
     ghost output = { λ t. Some (entry_place_members t.0) };
 
     fn fmt<W: Write>(&self, f: &mut Formatter<W>) -> fmt::Result {
-        let FatArch { offset, size, .. } = self.0;
+        let EntryRecord { offset, size, .. } = self.0;
         write!(f, "\"offset\":{offset},\"size\":{size}")
     }
 }
@@ -99,7 +99,7 @@ impl Display for PlaceMembers {
 #[derive(Clone, Copy)]
 pub struct RecordObject<'a> {
     pub bytes: &'a [u8],
-    pub arch: FatArch,
+    pub arch: EntryRecord,
 }
 
 impl<'a> Display for RecordObject<'a> {
@@ -108,22 +108,17 @@ impl<'a> Display for RecordObject<'a> {
     fn fmt<W: Write>(&self, f: &mut Formatter<W>) -> fmt::Result {
         let cpu = CpuMembers(self.arch);
         let place = PlaceMembers(self.arch);
-        let kind = entry_kind(self.arch.slice(self.bytes));
+        let kind = kind_of(self.bytes, &self.arch);
         write!(f, "{{{cpu},\"kind\":\"{kind}\",{place}}}")
     }
 }
 
-// The kind of an entry, by its first 16 bytes.
-fn entry_kind(entry: &[u8]) -> &'static str
-    ensures { result.now ≡ entry_kind entry.now }
+// The kind of a record's entry; an entry that isn't in the file has no bytes.
+fn kind_of(bytes: &[u8], arch: &EntryRecord) -> &'static str
+    ensures { result.now ≡ record_kind bytes.now arch.now }
 {
-    let Some(front) = take_hint_bytes(entry) else {
-        return "too short";
-    };
-    match peek_bytes(front) {
-        Ok(Hint::Archive) => "archive",
-        Ok(Hint::Mach(_)) => "image",
-        Ok(Hint::MachFat(_)) => "fat file",
-        Ok(Hint::Unknown(_)) | Err(_) => "unknown",
+    match arch.slice(bytes) {
+        Some(entry) => entry_kind(entry),
+        None => entry_kind(&[]),
     }
 }

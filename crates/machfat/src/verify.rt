@@ -3,16 +3,20 @@
 ghost use Rattle.std.specs.Prelude.{◌≡◌, ◌⊎◌, [], ◌∷◌, List, OnOk, IfOk, IfErr};
 ghost use Rattle.std.specs.Io.Buffered.{writer_buffer, writer_contents};
 ghost use Rattle.std.specs.Io.KnownBytes.{Appends};
+ghost use Rattle.mach_base.specs.Answer.{Stands};
+ghost use Rattle.goblin_mach.specs.File.{HasFatMagic};
+ghost use Rattle.goblin_mach.specs.View.{ViewFault};
 ghost use Rattle.mach_rules.specs.declared.fault.LayoutFault.{LayoutFault};
 ghost use Rattle.mach_show.specs.Statuses.{IsStatus};
 ghost use Rattle.machfat.specs.Faults.{HasFatFaults, TellsFatFaults, fault_lines, is_faultless, table_fault_line};
-ghost use Rattle.machfat.specs.Refusals.{RefusesList, IsRefusal, refusal_line};
+ghost use Rattle.machfat.specs.Refusals.{RefusesFaults, IsRefusal, refusal_line};
 ghost use Rattle.machfat.specs.declared.refusal.Refusal.{Refusal};
 
-use crate::entry::fat_file;
 use crate::refusal::{Failure, Refusal};
 use crate::run::status;
+use goblin_mach::{Error, Mach};
 use mach_rules::{LayoutFault, container_faults};
+use mach_show::refused_kind;
 use std::alloc::{Allocator, Global};
 use std::io;
 use std::io::{BufWriter, Write};
@@ -32,7 +36,7 @@ pub fn run_verify<W: Write + Drop, B: Allocator, E: Write>(
     ensures flushed { result ≡ 0 → writer_buffer out.new ≡ [] }
     ensures faulty { result ≡ 1 → ((fault : LayoutFault) × (faults : List LayoutFault)
         × TellsFatFaults bytes.now (fault ∷ faults) (writer_contents W.contents out.old) (writer_contents W.contents out.new))
-        ⊎ ((refusal : Refusal) × RefusesList bytes.now refusal × Appends (E.contents err.old) (E.contents err.new) (refusal_line file.now refusal)) }
+        ⊎ ((refusal : Refusal) × RefusesFaults bytes.now refusal × Appends (E.contents err.old) (E.contents err.new) (refusal_line file.now refusal)) }
 {
     match verify(alloc, bytes, out) {
         Ok(true) => 0,
@@ -50,7 +54,7 @@ fn verify<W: Write + Drop, B: Allocator>(
     ensures told { IfOk result (λ sound. (faults : List LayoutFault) × (sound ≡ is_faultless faults)
         × TellsFatFaults bytes.now faults (writer_contents W.contents out.old) (writer_contents W.contents out.new)) }
     ensures flushed { IfOk result (λ sound. writer_buffer out.new ≡ []) }
-    ensures refused { IfErr result (IsRefusal (RefusesList bytes.now)) }
+    ensures refused { IfErr result (IsRefusal (RefusesFaults bytes.now)) }
 {
     let faults = fat_faults(alloc, bytes)?;
     print_faults(&faults, out)?;
@@ -61,10 +65,32 @@ fn verify<W: Write + Drop, B: Allocator>(
 // The faults of a fat file's layout.
 fn fat_faults(alloc: Global, bytes: &[u8]) -> Result<Vec<LayoutFault>, Refusal>
     ensures faults { IfOk result (λ v. HasFatFaults bytes.now v.items) }
-    ensures refused { IfErr result (RefusesList bytes.now) }
+    ensures refused { IfErr result (RefusesFaults bytes.now) }
 {
-    fat_file(alloc, bytes)?;
+    test_fat(alloc, bytes)?;
     Ok(container_faults(alloc, bytes)?)
+}
+
+// That the bytes open as a fat file of 32 bits.
+fn test_fat(alloc: Global, bytes: &[u8]) -> Result<(), Refusal>
+    ensures fat { OnOk result (HasFatMagic bytes.now) }
+    ensures refused { IfErr result (RefusesFaults bytes.now) }
+{
+    match Mach::parse(alloc, bytes) {
+        Ok(Mach::Fat(_)) => Ok(()),
+        Ok(Mach::Binary(_)) => Err(Refusal::NotFat),
+        Err(error) => Err(refusal(bytes, error)),
+    }
+}
+
+// Why a file that doesn't open for this error is refused.
+fn refusal(bytes: &[u8], error: Error) -> Refusal
+    ensures { Stands (ViewFault bytes.now) error → RefusesFaults bytes.now result }
+{
+    match refused_kind(bytes, &error) {
+        Some(kind) => Refusal::Foreign(kind),
+        None => Refusal::Refused(error),
+    }
 }
 
 // Prints some faults, a line each.

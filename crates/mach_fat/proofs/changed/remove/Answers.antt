@@ -1,6 +1,5 @@
-use Rattle.std.proofs.Common.{ap, inr}
+use Rattle.std.proofs.Common.{ap}
 use Rattle.std.proofs.lemmas.Result.{err_from_is_err_and}
-use Rattle.mach_write.specs.Entries.{entry_views}
 use Rattle.mach_fat.specs.Changes.{fat_form_in, of_file, others_in}
 use Rattle.mach_fat.specs.FatTables.{form_of}
 use Rattle.mach_fat.proofs.Refusals.{refused_file, refused_more, refused_then}

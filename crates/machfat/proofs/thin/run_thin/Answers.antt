@@ -1,8 +1,10 @@
 use Rattle.std.proofs.lemmas.Result.{IfErr-at_err}
-use Rattle.machfat.specs.Refusals.{RefusesThin, IsRefusal}
+use Rattle.mach_fat.specs.Changes.{thin_entry_in}
+use Rattle.machfat.specs.Refusals.{Refuses, IsRefusal}
 use Rattle.machfat.proofs.thin.run_thin.Goals as goal
 
 pub returns-clause-refused : goal.returns-clause-refused
 returns-clause-refused g c = λ one.
     let told = c.status.ensures.refused one in
-    (told.0, IfErr-at_err (IsRefusal (RefusesThin c.args.bytes.now c.args.cputype)) told.1 c.thin.ensures.refused, told.2)
+    let bytes = c.args.bytes.now in
+    (told.0, IfErr-at_err (IsRefusal (Refuses bytes (thin_entry_in bytes c.args.cputype))) told.1 c.thin.ensures.refused, told.2)

@@ -4,7 +4,7 @@ use Rattle.goblin_mach.specs.View.{ViewFault}
 use Rattle.machfat.proofs.verify.fat_faults.Goals as goal
 
 pub returns-clause-faults : goal.returns-clause-faults
-returns-clause-faults c = record { magic = c.in_ok-fat_file.ensures.fat.magic; are_faults = c.in_ok-container_faults.ensures.listed }
+returns-clause-faults c = record { magic = c.in_ok-test_fat.ensures.fat; are_faults = c.in_ok-container_faults.ensures.listed }
 
 pub returns-in_err-container_faults-clause-refused : goal.returns-in_err-container_faults-clause-refused
 returns-in_err-container_faults-clause-refused c =

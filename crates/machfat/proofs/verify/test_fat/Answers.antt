@@ -1,12 +1,12 @@
 use Rattle.mach_base.proofs.Faults.{Stands-in}
 use Rattle.mach_image.specs.OpenImage.{commands_held}
 use Rattle.goblin_mach.specs.View.{ViewFault, of_file}
-use Rattle.machfat.proofs.entry.fat_file.Goals as goal
+use Rattle.machfat.proofs.verify.test_fat.Goals as goal
 
 pub returns-in-Ok-Binary-clause-refused : goal.returns-in-Ok-Binary-clause-refused
-returns-in-Ok-Binary-clause-refused g c =
+returns-in-Ok-Binary-clause-refused c =
     let opened = rw (c.in-Ok-Binary.is, c.in-Ok-Binary.field-0-is) at c.parse.ensures.opened in
     (opened.ctx, commands_held c.in-Ok-Binary.field-0-0, opened.opens)
 
 pub returns-clause-refused : goal.returns-clause-refused
-returns-clause-refused g c = c.refusal.ensures (Stands-in _ (ViewFault c.args.bytes.now) c.in-Err.error of_file c.in-Err.ensures.refused)
+returns-clause-refused c = c.refusal.ensures (Stands-in _ (ViewFault c.args.bytes.now) c.in-Err.error of_file c.in-Err.ensures.refused)
