@@ -31,7 +31,8 @@ mod words;
 
 use json::run_json;
 use mach_json::take_json;
-use mach_show::{Cpu, Misuse, Program, Round};
+use mach_parts::{Files, ShowsFile};
+use mach_show::{Cpu, Misuse, Program};
 use mach_terminal::ForTerminal;
 use print::DEFAULT_LIMIT;
 use rows::Picks;
@@ -82,20 +83,43 @@ fn start(rt: &HostRuntime) -> Result<u8, u8> {
         return Err(PROGRAM.out_of_memory(rt));
     };
     let call = PROGRAM.call(rt, &words)?;
-    let limit = call.limit.unwrap_or(DEFAULT_LIMIT);
-    show_files(rt, call.cpu, picks, limit, is_json, &call.words)
+    let shown = Shown {
+        cpu: call.cpu,
+        picks,
+        limit: call.limit.unwrap_or(DEFAULT_LIMIT),
+        is_json,
+    };
+    show_files(rt, shown, &call.words)
 }
 
-// Shows of files in order the images that are asked for, of the lists that are picked, `limit` lines of each file at most, and answers the
-// worst status.
-fn show_files(
-    rt: &HostRuntime,
+// What is shown of each file: the lists that are picked, `limit` lines at most, or objects.
+#[derive(Clone, Copy)]
+struct Shown {
     cpu: Cpu,
     picks: Picks,
     limit: usize,
     is_json: bool,
-    files: &[&str],
-) -> Result<u8, u8> {
+}
+
+impl<W: Write + Drop, B: Allocator> ShowsFile<BufWriter<W, B>> for Shown {
+    fn show(&self, rt: &HostRuntime, name: &str, bytes: &[u8], out: &mut BufWriter<W, B>) -> u8 {
+        let (alloc, err) = (rt.alloc(), &mut rt.stderr());
+        let Shown {
+            cpu,
+            picks,
+            limit,
+            ..
+        } = *self;
+        if self.is_json {
+            run_json(alloc, cpu, picks, limit, name, bytes, out, err)
+        } else {
+            run(alloc, cpu, picks, limit, name, bytes, out, err)
+        }
+    }
+}
+
+// Shows of files in order the images that are asked for, and answers the worst status.
+fn show_files(rt: &HostRuntime, shown: Shown, files: &[&str]) -> Result<u8, u8> {
     if files.is_empty() {
         return Err(PROGRAM.bad_usage(rt, Misuse::Missing("FILE")));
     }
@@ -103,31 +127,10 @@ fn show_files(
     let Ok(mut lines) = BufWriter::new(rt.alloc(), output) else {
         return Err(PROGRAM.out_of_memory(rt));
     };
-    let mut round = Round::new(PROGRAM, files.len());
-    round.is_titled &= !is_json;
-    for file in files {
-        if let Some(bytes) = round.begin(rt, file, &mut lines)? {
-            round.end(show_file(rt, is_json, cpu, picks, limit, file, &bytes, &mut lines))?;
-        }
-    }
-    Ok(round.worst)
-}
-
-// The status of a file, of which lines are shown, or an object.
-fn show_file<W: Write + Drop, B: Allocator>(
-    rt: &HostRuntime,
-    is_json: bool,
-    cpu: Cpu,
-    picks: Picks,
-    limit: usize,
-    file: &str,
-    bytes: &[u8],
-    out: &mut BufWriter<W, B>,
-) -> u8 {
-    let err = &mut rt.stderr();
-    if is_json {
-        run_json(rt.alloc(), cpu, picks, limit, file, bytes, out, err)
-    } else {
-        run(rt.alloc(), cpu, picks, limit, file, bytes, out, err)
-    }
+    let call = Files {
+        program: PROGRAM,
+        cpu: shown.cpu,
+        has_titles: !shown.is_json,
+    };
+    call.show(rt, &shown, files, &mut lines)
 }

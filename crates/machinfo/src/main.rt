@@ -15,7 +15,8 @@ mod signed;
 use json::{write_list, write_summary};
 use mach_json::take_json;
 use mach_lists::Word;
-use mach_show::{Cpu, Misuse, Program, Round};
+use mach_parts::{Files, ShowsFile};
+use mach_show::{Cpu, Misuse, Program};
 use mach_terminal::ForTerminal;
 use run::{DEFAULT_LIMIT, NAME, run_list, run_summary};
 use std::alloc::Allocator;
@@ -74,6 +75,30 @@ fn word_of(words: &[&str]) -> Option<Word> {
     Word::named(first)
 }
 
+// What is shown of each file: a list, or what its images are, in lines or as objects.
+#[derive(Clone, Copy)]
+struct Shown {
+    is_json: bool,
+    word: Option<Word>,
+    cpu: Cpu,
+    limit: usize,
+}
+
+impl<W: Write + Drop, B: Allocator> ShowsFile<BufWriter<W, B>> for Shown {
+    fn show(&self, rt: &HostRuntime, name: &str, bytes: &[u8], out: &mut BufWriter<W, B>) -> u8 {
+        let (alloc, err) = (rt.alloc(), &mut rt.stderr());
+        let Shown { cpu, limit, .. } = *self;
+        match self.word {
+            Some(word) if self.is_json => {
+                write_list(alloc, word, cpu, limit, name, bytes, out, err)
+            }
+            Some(word) => run_list(alloc, word, cpu, limit, name, bytes, out, err),
+            None if self.is_json => write_summary(alloc, cpu, limit, name, bytes, out, err),
+            None => run_summary(alloc, cpu, limit, name, bytes, out, err),
+        }
+    }
+}
+
 // Shows of files in order what the images are that are asked for, or where a word stands before them the list for which it asks, and answers the worst
 // status.
 fn show_files(
@@ -95,32 +120,16 @@ fn show_files(
     let Ok(mut lines) = BufWriter::new(rt.alloc(), output) else {
         return Err(PROGRAM.out_of_memory(rt));
     };
-    let mut round = Round::new(PROGRAM, files.len());
-    round.is_titled &= !is_json;
-    for file in files {
-        if let Some(bytes) = round.begin(rt, file, &mut lines)? {
-            round.end(show_file(rt, is_json, word, cpu, limit, file, &bytes, &mut lines))?;
-        }
-    }
-    Ok(round.worst)
-}
-
-// The status of a file, of which a list is shown, or what its images are, in lines or as an object.
-fn show_file<W: Write + Drop, B: Allocator>(
-    rt: &HostRuntime,
-    is_json: bool,
-    word: Option<Word>,
-    cpu: Cpu,
-    limit: usize,
-    file: &str,
-    bytes: &[u8],
-    out: &mut BufWriter<W, B>,
-) -> u8 {
-    let err = &mut rt.stderr();
-    match word {
-        Some(word) if is_json => write_list(rt.alloc(), word, cpu, limit, file, bytes, out, err),
-        Some(word) => run_list(rt.alloc(), word, cpu, limit, file, bytes, out, err),
-        None if is_json => write_summary(rt.alloc(), cpu, limit, file, bytes, out, err),
-        None => run_summary(rt.alloc(), cpu, limit, file, bytes, out, err),
-    }
+    let shown = Shown {
+        is_json,
+        word,
+        cpu,
+        limit,
+    };
+    let call = Files {
+        program: PROGRAM,
+        cpu,
+        has_titles: !is_json,
+    };
+    call.show(rt, &shown, files, &mut lines)
 }

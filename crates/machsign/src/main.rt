@@ -19,7 +19,8 @@ mod words;
 use entitlements::run_entitlements;
 use json::run_json;
 use mach_json::take_json;
-use mach_show::{Cpu, Misuse, Program, Round};
+use mach_parts::{Files, ShowsFile};
+use mach_show::{Cpu, Misuse, Program};
 use mach_terminal::ForTerminal;
 use run::{NAME, run};
 use std::alloc::Allocator;
@@ -83,35 +84,34 @@ fn write_entitlements(rt: &HostRuntime, cpu: Cpu, files: &[&str]) -> Result<u8, 
     Ok(run_entitlements(rt.alloc(), cpu, file, &bytes, &mut out, &mut rt.stderr()))
 }
 
+// What is shown of each file: lines, or an object.
+#[derive(Clone, Copy)]
+struct Shown {
+    cpu: Cpu,
+    is_json: bool,
+}
+
+impl<W: Write + Drop, B: Allocator> ShowsFile<BufWriter<W, B>> for Shown {
+    fn show(&self, rt: &HostRuntime, name: &str, bytes: &[u8], out: &mut BufWriter<W, B>) -> u8 {
+        let (alloc, err) = (rt.alloc(), &mut rt.stderr());
+        if self.is_json {
+            run_json(alloc, self.cpu, name, bytes, out, err)
+        } else {
+            run(alloc, self.cpu, name, bytes, out, err)
+        }
+    }
+}
+
 // Shows of files in order the signatures of the images that are asked for, and answers the worst status.
 fn show_files(rt: &HostRuntime, is_json: bool, cpu: Cpu, files: &[&str]) -> Result<u8, u8> {
     let output = ForTerminal::new(io::writer(rt), rt.stdout().is_terminal());
     let Ok(mut lines) = BufWriter::new(rt.alloc(), output) else {
         return Err(PROGRAM.out_of_memory(rt));
     };
-    let mut round = Round::new(PROGRAM, files.len());
-    round.is_titled &= !is_json;
-    for file in files {
-        if let Some(bytes) = round.begin(rt, file, &mut lines)? {
-            round.end(show_file(rt, is_json, cpu, file, &bytes, &mut lines))?;
-        }
-    }
-    Ok(round.worst)
-}
-
-// The status of a file, of which lines are shown, or an object.
-fn show_file<W: Write + Drop, B: Allocator>(
-    rt: &HostRuntime,
-    is_json: bool,
-    cpu: Cpu,
-    file: &str,
-    bytes: &[u8],
-    out: &mut BufWriter<W, B>,
-) -> u8 {
-    let err = &mut rt.stderr();
-    if is_json {
-        run_json(rt.alloc(), cpu, file, bytes, out, err)
-    } else {
-        run(rt.alloc(), cpu, file, bytes, out, err)
-    }
+    let call = Files {
+        program: PROGRAM,
+        cpu,
+        has_titles: !is_json,
+    };
+    call.show(rt, &Shown { cpu, is_json }, files, &mut lines)
 }

@@ -30,7 +30,8 @@ mod words;
 use asked::Asked;
 use json::run_json;
 use mach_json::take_json;
-use mach_show::{Cpu, Misuse, Program, Round};
+use mach_parts::{Files, ShowsFile};
+use mach_show::{Cpu, Misuse, Program};
 use mach_terminal::ForTerminal;
 use run::{NAME, run};
 use std::alloc::Allocator;
@@ -80,17 +81,36 @@ fn start(rt: &HostRuntime) -> Result<u8, u8> {
         return Err(PROGRAM.out_of_memory(rt));
     };
     let call = PROGRAM.call(rt, &words)?;
-    show_files(rt, call.cpu, letters, is_json, &call.words)
+    let symbols = Symbols {
+        cpu: call.cpu,
+        letters,
+        is_json,
+    };
+    show_files(rt, symbols, &call.words)
 }
 
-// Shows of files in order the images that are asked for, and answers the worst status.
-fn show_files(
-    rt: &HostRuntime,
+// What is shown of each file: lines in some letters, or objects.
+#[derive(Clone, Copy)]
+struct Symbols {
     cpu: Cpu,
     letters: Option<Letters>,
     is_json: bool,
-    files: &[&str],
-) -> Result<u8, u8> {
+}
+
+impl<W: Write + Drop, B: Allocator> ShowsFile<BufWriter<W, B>> for Symbols {
+    fn show(&self, rt: &HostRuntime, name: &str, bytes: &[u8], out: &mut BufWriter<W, B>) -> u8 {
+        let (alloc, err) = (rt.alloc(), &mut rt.stderr());
+        let asked = asked_of(self.letters, name);
+        if self.is_json {
+            run_json(alloc, self.cpu, asked, name, bytes, out, err)
+        } else {
+            run(alloc, self.cpu, asked, name, bytes, out, err)
+        }
+    }
+}
+
+// Shows of files in order the images that are asked for, and answers the worst status.
+fn show_files(rt: &HostRuntime, symbols: Symbols, files: &[&str]) -> Result<u8, u8> {
     if files.is_empty() {
         return Err(PROGRAM.bad_usage(rt, Misuse::Missing("FILE")));
     }
@@ -98,31 +118,10 @@ fn show_files(
     let Ok(mut lines) = BufWriter::new(rt.alloc(), output) else {
         return Err(PROGRAM.out_of_memory(rt));
     };
-    let mut round = Round::new(PROGRAM, files.len());
-    round.is_titled &= !is_json && !names_files(letters);
-    for file in files {
-        if let Some(bytes) = round.begin(rt, file, &mut lines)? {
-            let asked = asked_of(letters, file);
-            round.end(show_file(rt, is_json, cpu, asked, file, &bytes, &mut lines))?;
-        }
-    }
-    Ok(round.worst)
-}
-
-// The status of a file, of which lines are shown, or an object.
-fn show_file<W: Write + Drop, B: Allocator>(
-    rt: &HostRuntime,
-    is_json: bool,
-    cpu: Cpu,
-    asked: Asked<'_>,
-    file: &str,
-    bytes: &[u8],
-    out: &mut BufWriter<W, B>,
-) -> u8 {
-    let err = &mut rt.stderr();
-    if is_json {
-        run_json(rt.alloc(), cpu, asked, file, bytes, out, err)
-    } else {
-        run(rt.alloc(), cpu, asked, file, bytes, out, err)
-    }
+    let shown = Files {
+        program: PROGRAM,
+        cpu: symbols.cpu,
+        has_titles: !symbols.is_json && !names_files(symbols.letters),
+    };
+    shown.show(rt, &symbols, files, &mut lines)
 }
