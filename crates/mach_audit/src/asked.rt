@@ -44,10 +44,10 @@ pub fn run_for<A: Allocator + Clone, W: Write + Drop, B: Allocator, E: Write>(
 {
     match asked_of(alloc, cpu, bytes)? {
         Asked::Whole => run(alloc, json, call, bytes, out, err),
-        Asked::Other => Ok(complain(call.name, "no image of", cpu, err)),
+        Asked::Other => Ok(missed(call.name, "no image of", cpu, err)),
         Asked::Entries(archs) => {
             if cpu.misses(&archs) {
-                return Ok(complain(call.name, "no entry of", cpu, err));
+                return Ok(missed(call.name, "no entry of", cpu, err));
             }
             run_entries(alloc, json, cpu, call, bytes, &archs, out, err)
         }
@@ -148,7 +148,7 @@ fn entry_name(alloc: Global, file: &str, index: usize) -> Result<String, AllocEr
 }
 
 // Says that nothing of a file is for a cpu, and answers the exit status.
-fn complain<E: Write>(file: &str, words: &str, cpu: Cpu, err: &mut E) -> u8
+pub(crate) fn missed<E: Write>(file: &str, words: &str, cpu: Cpu, err: &mut E) -> u8
     ensures { result ≡ 2 }
 {
     let names = Names {

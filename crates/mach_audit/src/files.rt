@@ -3,14 +3,18 @@
 ghost use Rattle.std.specs.Prelude.{◌≡◌, ◌≤◌, IfOk};
 ghost use Rattle.mach_show.specs.Statuses.{IsStatus};
 
-use crate::asked::run_for;
+use crate::asked::{missed, run_for};
 use crate::listed::lines_of;
 use crate::options::Options;
 use crate::run::Call;
+use goblin_mach::describe;
+use mach_input::{Content, InputItem};
+use mach_parts::{is_for, name_of, parts_of};
 use mach_show::say::failed;
 use mach_show::{Cpu, Failure, Names, Program};
 use mach_terminal::Progress;
 use std::alloc::Allocator;
+use std::fmt::Display;
 use std::io::{BufWriter, IsTerminal, Write};
 use std::{io, str};
 
@@ -105,7 +109,8 @@ fn audit_listed<W: Write + Drop, B: Allocator, E: Write>(
     Ok(worst)
 }
 
-// The status of one file; an error is a failed write. Where many take long, it is told on a terminal that this one is begun.
+// The worst status of one file, which is audited as its parts; an error is a failed write. Where many take long, it is told on a terminal that this one is
+// begun.
 fn audit_file<W: Write + Drop, B: Allocator, E: Write>(
     program: &Program,
     rt: &HostRuntime,
@@ -121,15 +126,67 @@ fn audit_file<W: Write + Drop, B: Allocator, E: Write>(
     let Ok(bytes) = program.read(rt, call.name) else {
         return Ok(2);
     };
-    match run_for(
-        &rt.alloc(),
-        rt.alloc(),
-        cpu,
-        call,
-        bytes.as_slice(),
-        out,
-        err,
-    ) {
+    let (mut worst, mut is_any, mut is_other) = (0u8, false, false);
+    'parts: for part in parts_of(rt.alloc(), bytes.as_slice()) {
+        if is_for(cpu, &part.place) {
+            is_any = true;
+            worst = worst.max(audit_part(program, rt, cpu, call, part, out, err)?);
+        } else {
+            is_other = true;
+        }
+    }
+    if is_any || !is_other {
+        return Ok(worst);
+    }
+    Ok(missed(call.name, "no entry of", cpu, err))
+}
+
+// The status of a part of a file: the file itself, or what stands under a name of its own.
+fn audit_part<W: Write + Drop, B: Allocator, E: Write>(
+    program: &Program,
+    rt: &HostRuntime,
+    cpu: Cpu,
+    call: Call<'_>,
+    part: InputItem<'_>,
+    out: &mut BufWriter<W, B>,
+    err: &mut E,
+) -> io::Result<u8>
+    ensures status { IfOk result (λ status. status ≤ 2) }
+{
+    let entry = part.place.entry;
+    match part.content {
+        Ok(Content::NoMember) => Ok(0),
+        Ok(Content::File(bytes)) if entry.is_none() => {
+            audit_bytes(program, rt, cpu, call, bytes, out, err)
+        }
+        Ok(content) => {
+            let Ok(name) = name_of(rt.alloc(), call.name, entry, content) else {
+                return Ok(complain(program, call.name, "out of memory", err));
+            };
+            let call = Call {
+                options: call.options,
+                name: &name,
+                heading: true,
+            };
+            audit_bytes(program, rt, cpu, call, content.bytes(), out, err)
+        }
+        Err(error) => Ok(complain(program, call.name, describe(&error), err)),
+    }
+}
+
+// The status of the bytes of a file or of a part; an error is a failed write.
+fn audit_bytes<W: Write + Drop, B: Allocator, E: Write>(
+    program: &Program,
+    rt: &HostRuntime,
+    cpu: Cpu,
+    call: Call<'_>,
+    bytes: &[u8],
+    out: &mut BufWriter<W, B>,
+    err: &mut E,
+) -> io::Result<u8>
+    ensures status { IfOk result (λ status. status ≤ 2) }
+{
+    match run_for(&rt.alloc(), rt.alloc(), cpu, call, bytes, out, err) {
         Ok(status) => Ok(status),
         Err(Failure::Memory) => Ok(complain(program, call.name, "out of memory", err)),
         Err(Failure::Unwritten(error)) => Err(error),
@@ -137,7 +194,7 @@ fn audit_file<W: Write + Drop, B: Allocator, E: Write>(
 }
 
 // Says why a file was not audited, and answers the exit status.
-fn complain<E: Write>(program: &Program, file: &str, words: &str, err: &mut E) -> u8
+fn complain<D: Display + Drop, E: Write>(program: &Program, file: &str, words: D, err: &mut E) -> u8
     ensures { result ≡ 2 }
 {
     let names = Names {
