@@ -172,6 +172,29 @@ def overlaid(size):
     return struct.pack(">2I", 0xCAFEBABE, count) + struct.pack(">5I", 7, 3, at, len(rest), 0) * count + rest
 
 
+def member(name, data):
+    """A member of an archive, with its header."""
+    fields = name.ljust(16) + b"0".ljust(12) + b"0".ljust(6) * 2 + b"644".ljust(8) + str(len(data)).encode().ljust(10) + b"`\n"
+    return fields + data + b"\n" * (len(data) % 2)
+
+
+def archive_of_members(size):
+    """An archive of members without bytes."""
+    return b"!<arch>\n" + member(b"a/", b"") * (size // 60)
+
+
+def archive_of_names(size):
+    """An archive whose members all have one long name, which fills half of the bytes and has no end."""
+    return b"!<arch>\n" + member(b"//", b"a" * (size // 2)) + member(b"/0", b"") * (size // 120)
+
+
+def fat_archives(size):
+    """A fat file whose entries are all the same archive."""
+    found = b"!<arch>\n" + member(b"a/", b"") * (size // 600)
+    count = size // 40
+    return struct.pack(">2I", 0xCAFEBABE, count) + struct.pack(">5I", 7, 3, 8 + 20 * count, len(found), 0) * count + found
+
+
 def tables(size):
     """Commands of symbol tables that all lie over one table."""
     count = size // 48
@@ -273,6 +296,9 @@ def files(size):
         "trie_deep_%d" % size: deep_trie(size),
         "names_%d" % size: read_again(size),
         "fat_overlaid_%d" % size: overlaid(size),
+        "archive_members_%d" % size: archive_of_members(size),
+        "archive_names_%d" % size: archive_of_names(size),
+        "fat_archives_%d" % size: fat_archives(size),
         "tables_%d" % size: tables(size),
         "relocations_%d" % size: relocations(size),
         "segments_%d" % size: segments(size),
