@@ -1,7 +1,7 @@
 -- What comes of the turns of one instruction, and whether all of them lie in a segment.
 use Rattle.mach_binds.proofs.Names.{◌≡◌, ℕ, zero, suc, ◌+◌, ◌-◌, ◌*◌, ◌%◌, ◌^◌, ◌<◌, ◌≤◌, List, [], ◌∷◌, ◌++◌, map, true, false, Some, None}
 use Rattle.mach_binds.proofs.Names.{Result, Ok, Err, refl, sym, ap, subst, ◌∙◌, arith, cond, append_assoc, Fault, malformed, Bind, Input, Range, State}
-use Rattle.mach_binds.proofs.Names.{slice_get}
+use Rattle.mach_binds.proofs.Names.{slice_get, map-append}
 use Rattle.mach_binds.proofs.Names.{Rules, reader_by, reading_from, fault_item, upto_fault, SegmentView, length, cases_lt, inl}
 use Rattle.mach_binds.proofs.Names.{inr}
 unfoldable use Rattle.mach_binds.specs.Machine.{strides, after_strides, moved, items_of, rest_of, run, reads_of, start_of}
@@ -95,16 +95,6 @@ module _ {M A : Type 0} (u : Rules M A) (x : Input) (lazy : Range) (m : M) (s : 
   abbrev made : List (Result A Fault)
   made = map (λ d. u.makes x d m) (strides s.settings s.stride s.count)
 
-  abbrev pub passed : State
-  passed = record {
-    range = s.range;
-    settings = after_strides s.settings s.stride s.count;
-    count = 0;
-    stride = s.stride;
-    place = s.place;
-    ended = s.ended;
-  }
-
   abbrev ran : List (Result A Fault)
   ran = run u x s.range (after_strides s.settings s.stride s.count) m (reading_from (reader_by u x s.range) s.range.upto s.place).read
 
@@ -121,19 +111,81 @@ module _ {M A : Type 0} (u : Rules M A) (x : Input) (lazy : Range) (m : M) (s : 
   unfolding items_of rest_of
   all_items on = rw on refl
 
-  behind_items : s.ended ≡ false → items_of u x lazy m passed ≡ upto_fault (ran ++ stop ++ then_lazy)
-  unfolding items_of rest_of strides after_strides
-  behind_items on = rw on refl
-
-  pub pass_items : s.ended ≡ false → has_fault made ≡ false → items_of u x lazy m s ≡ made ++ items_of u x lazy m passed
-  pass_items on none =
-      all_items on ∙ ap upto_fault (joined made ran stop then_lazy) ∙ upto-behind made (ran ++ stop ++ then_lazy) none
-      ∙ ap (λ items. made ++ items) (sym (behind_items on))
-
   pub stops_items : s.ended ≡ false → has_fault made ≡ true → has_fault (items_of u x lazy m s) ≡ true
   stops_items on some =
       ap has_fault (all_items on) ∙ fault-upto (made ++ ran ++ stop ++ then_lazy) ∙ ap has_fault (joined made ran stop then_lazy)
       ∙ fault-front made (ran ++ stop ++ then_lazy) some
+
+-- ---- the first so many of them
+
+strides-append : (c : Bind) (s n k : ℕ) → strides c s (k + n) ≡ strides c s n ++ strides (after_strides c s n) s k
+unfolding strides after_strides
+strides-append c s zero k = let none : k + 0 ≡ k = omega arith in ap (λ j. strides c s j) none
+strides-append c s (suc n) k =
+    let one : k + suc n ≡ suc (k + n) = omega arith in
+    ap (λ j. strides c s j) one ∙ ap (λ l. c ∷ l) (strides-append (moved s c) s n k)
+
+after-append : (c : Bind) (s n k : ℕ) → after_strides c s (k + n) ≡ after_strides (after_strides c s n) s k
+unfolding after_strides
+after-append c s zero k = let none : k + 0 ≡ k = omega arith in ap (λ j. after_strides c s j) none
+after-append c s (suc n) k =
+    let one : k + suc n ≡ suc (k + n) = omega arith in ap (λ j. after_strides c s j) one ∙ after-append (moved s c) s n k
+
+module _ {M A : Type 0} (u : Rules M A) (x : Input) (lazy : Range) (m : M) (s : State) (n k : ℕ) (parts : s.count ≡ k + n) where
+  abbrev first : List (Result A Fault)
+  first = map (λ d. u.makes x d m) (strides s.settings s.stride n)
+
+  abbrev pub passed : State
+  passed = record {
+    range = s.range;
+    settings = after_strides s.settings s.stride n;
+    count = k;
+    stride = s.stride;
+    place = s.place;
+    ended = s.ended;
+  }
+
+  abbrev then_all : Bind → List Bind → List (Result A Fault)
+  then_all b ds =
+      map (λ d. u.makes x d m) ds ++ run u x s.range b m (reading_from (reader_by u x s.range) s.range.upto s.place).read
+      ++ fault_item (reading_from (reader_by u x s.range) s.range.upto s.place).stop
+      ++ cond s.range.is_lazy [] (rest_of u x (u.first true) (start_of lazy))
+
+  abbrev more : List Bind
+  more = strides (after_strides s.settings s.stride n) s.stride k
+
+  all_of : s.ended ≡ false → items_of u x lazy m s ≡ upto_fault (then_all (after_strides s.settings s.stride s.count) (strides s.settings s.stride s.count))
+  unfolding items_of rest_of
+  all_of on = rw on refl
+
+  of_parts : then_all (after_strides s.settings s.stride s.count) (strides s.settings s.stride s.count)
+      ≡ then_all (after_strides (after_strides s.settings s.stride n) s.stride k) (strides s.settings s.stride n ++ more)
+  of_parts =
+      ap (λ c. then_all (after_strides s.settings s.stride c) (strides s.settings s.stride c)) parts
+      ∙ ap (λ b. then_all b (strides s.settings s.stride (k + n))) (after-append s.settings s.stride n k)
+      ∙ ap (λ ds. then_all (after_strides (after_strides s.settings s.stride n) s.stride k) ds) (strides-append s.settings s.stride n k)
+
+  apart : (a b r e d : List (Result A Fault)) → a ++ b ++ r ++ e ++ d ≡ a ++ (b ++ r ++ e ++ d)
+  apart a b r e d = simp append_assoc
+
+  in_front : (b : Bind) → then_all b (strides s.settings s.stride n ++ more) ≡ first ++ then_all b more
+  in_front b =
+      let ran = run u x s.range b m (reading_from (reader_by u x s.range) s.range.upto s.place).read in
+      let stop : List (Result A Fault) = fault_item (reading_from (reader_by u x s.range) s.range.upto s.place).stop in
+      let lasts = cond s.range.is_lazy [] (rest_of u x (u.first true) (start_of lazy)) in
+      ap (λ front. front ++ ran ++ stop ++ lasts) (map-append (λ d. u.makes x d m) (strides s.settings s.stride n) more)
+      ∙ apart first (map (λ d. u.makes x d m) more) ran stop lasts
+
+  behind_first : s.ended ≡ false
+      → items_of u x lazy m passed ≡ upto_fault (then_all (after_strides (after_strides s.settings s.stride n) s.stride k) more)
+  unfolding items_of rest_of
+  behind_first on = rw on refl
+
+  pub pass_items : s.ended ≡ false → has_fault first ≡ false → items_of u x lazy m s ≡ first ++ items_of u x lazy m passed
+  pass_items on none =
+      all_of on ∙ ap upto_fault (of_parts ∙ in_front (after_strides (after_strides s.settings s.stride n) s.stride k))
+      ∙ upto-behind first (then_all (after_strides (after_strides s.settings s.stride n) s.stride k) more) none
+      ∙ ap (λ items. first ++ items) (sym (behind_first on))
 
 -- ---- a pointer's spot
 

@@ -23,9 +23,12 @@ binding_reads_left it = opcodes_left binding_rules it.stream
 abbrev pub made_by : {M A : Type 0} → Rules M A → Input → Bind → M → (stride count : ℕ) → List (Result A Fault)
 made_by u x b m stride count = map (λ d. u.makes x d m) (strides b stride count)
 
--- what comes of the binds that the last instruction still makes
+-- what comes of the first so many binds that the last instruction still makes, and of all of them
+abbrev pub first_made : {M A : Type 0} → Rules M A → Stream M → (count : ℕ) → List (Result A Fault)
+first_made u it count = made_by u (input_of it.source) (bind_of it.state.settings) it.more it.state.stride count
+
 abbrev pub still_made : {M A : Type 0} → Rules M A → Stream M → List (Result A Fault)
-still_made u it = made_by u (input_of it.source) (bind_of it.state.settings) it.more it.state.stride it.state.count
+still_made u it = first_made u it it.state.count
 
 -- the offset of turn j, where the first turn is at an offset, and each next one a stride further
 unfoldable pub offset_at : ℕ → ℕ → ℕ → ℕ

@@ -107,10 +107,8 @@ fn highest(is_lazy: bool) -> Opcode
 pub fn holds_all(size: u64, offset: u64, len: u8) -> bool
     ensures { result ≡ nat_le (offset + len) size }
 {
-    match offset.checked_add(u64::from(len)) {
-        Some(end) => end <= size,
-        None => false,
-    }
+    let len = u64::from(len);
+    size >= len && offset <= size - len
 }
 
 // The ordinal that opcode 3 sets by its immediate.

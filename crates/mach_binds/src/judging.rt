@@ -2,7 +2,7 @@
 //! work goes by the instructions and not by the binds.
 
 ghost use Rattle.std.specs.Prelude.{◌≡◌, ◌+◌, ◌<◌, ◌≤◌, ◌++◌, true, false, not};
-ghost use Rattle.mach_binds.specs.BindingFaults.{has_fault, made_by, still_made};
+ghost use Rattle.mach_binds.specs.BindingFaults.{first_made, has_fault, made_by, still_made};
 ghost use Rattle.mach_binds.specs.Machine.{bind_of, input_of, items_left, opcodes_left};
 
 use crate::imports::settings::Settings;
@@ -35,18 +35,20 @@ impl<'a, 'b, M: JudgesAll<'a>> Stream<'a, 'b, M> {
             .all_make(&self.source, &self.state.settings, stride, count)
     }
 
-    // Goes on behind them.
-    fn pass(&mut self)
+    /// Goes on behind so many of the binds that the last instruction still makes.
+    #[inline(always)]
+    pub fn pass(&mut self, count: u64)
         requires on { self.old.state.ended ≡ false }
-        requires some { 0 < self.old.state.count }
+        requires some { 0 < count }
+        requires there { count ≤ self.old.state.count }
         ensures on { self.new.state.ended ≡ false }
-        ensures items { has_fault (still_made M.rules self.old) ≡ false
-            → items_left M.rules self.old ≡ still_made M.rules self.old ++ items_left M.rules self.new }
+        ensures items { has_fault (first_made M.rules self.old count) ≡ false
+            → items_left M.rules self.old ≡ first_made M.rules self.old count ++ items_left M.rules self.new }
         ensures reads { opcodes_left M.rules self.new ≡ opcodes_left M.rules self.old }
     {
-        let by = self.state.stride.wrapping_mul(self.state.count);
+        let by = self.state.stride.wrapping_mul(count);
         self.state.settings.advance(by);
-        self.state.count = 0;
+        self.state.count -= count;
     }
 
     /// Whether a fault stands among the items that are left, with the instructions that are read added to a count: at most those
@@ -66,7 +68,8 @@ impl<'a, 'b, M: JudgesAll<'a>> Stream<'a, 'b, M> {
             if !stream.all_make() {
                 return true;
             }
-            stream.pass();
+            let count = stream.state.count;
+            stream.pass(count);
         }
         false
     }

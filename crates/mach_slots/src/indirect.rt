@@ -53,6 +53,19 @@ pub struct IndirectSymbols<'a> {
     le: Endian,
 }
 
+// Why no entry stands at a place.
+#[cold]
+#[inline(never)]
+fn beyond(bytes: &[u8], place: usize, le: Endian) -> Error
+    requires { length bytes.now < place + 4 }
+    ensures { number_at le 4 bytes.now place ≡ Err (fault_of result) }
+{
+    match read_u32(bytes, place, le) {
+        Err(e) => e,
+        Ok(_) => unreachable!(),
+    }
+}
+
 impl<'a> IndirectSymbols<'a> {
     /// The table of which `count` entries stand from `start` on. Nothing of it is tested.
     pub fn new(bytes: &'a [u8], start: u32, count: u32, le: Endian) -> IndirectSymbols<'a>
@@ -80,22 +93,9 @@ impl<'a> IndirectSymbols<'a> {
     {
         let place = self.start as usize + 4 * number as usize;
         if self.bytes.len() < place + 4 {
-            return Err(self.beyond(place));
+            return Err(beyond(self.bytes, place, self.le));
         }
         Ok(IndirectSymbol::of(self.le.u32_at(self.bytes, place)))
-    }
-
-    // Why no entry stands at a place.
-    #[cold]
-    #[inline(never)]
-    fn beyond(&self, place: usize) -> Error
-        requires { length (indirect_table_of self.now).bytes < place + 4 }
-        ensures { number_at (indirect_table_of self.now).le 4 (indirect_table_of self.now).bytes place ≡ Err (fault_of result) }
-    {
-        match read_u32(self.bytes, place, self.le) {
-            Err(e) => e,
-            Ok(_) => unreachable!(),
-        }
     }
 
     /// The entries in order, exactly as many as there are said to be, unreadable ones included.

@@ -95,10 +95,30 @@ impl<'a, 'b> SlotIterator<'a, 'b> {
         }
     }
 
-    // The next slot, where it may be one of a later section.
+    // The next slot, where it may be one of a later section. It works on a copy, so that a loop that asks for slots can keep
+    // the iterator in registers.
+    #[inline(always)]
+    fn next_of_later(&mut self) -> Option<Result<SymbolSlot<'a>>>
+        ensures { YieldsFirstBy symbol_slot_read slots_left self.old result self.new }
+    {
+        let (item, left) = self.later();
+        *self = left;
+        item
+    }
+
+    // The next slot, and what is left behind it.
     #[cold]
     #[inline(never)]
-    fn next_of_later(&mut self) -> Option<Result<SymbolSlot<'a>>>
+    fn later(self) -> (Option<Result<SymbolSlot<'a>>>, Self)
+        ensures { YieldsFirstBy symbol_slot_read slots_left self.entry result.0 result.1 }
+    {
+        let mut left = self;
+        let item = left.seek();
+        (item, left)
+    }
+
+    // Goes on to the next section that has one, where the open one has none.
+    fn seek(&mut self) -> Option<Result<SymbolSlot<'a>>>
         ensures { YieldsFirstBy symbol_slot_read slots_left self.old result self.new }
     {
         'sections: loop {

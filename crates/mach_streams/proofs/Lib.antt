@@ -3,4 +3,5 @@ pub mod StreamSettings
 pub mod WeakRun
 pub mod RebaseRun
 pub mod StreamLaws
+mod RebaseTurns
 mod StreamTurns

@@ -2,6 +2,7 @@ pub mod Cut
 pub mod WeakBinds
 pub mod WeakBindsLeft
 pub mod Rebases
+pub mod RebaseRuns
 pub mod RebasesLeft
 pub mod StreamsMove
 pub mod CutViews

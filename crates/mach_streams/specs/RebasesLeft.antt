@@ -1,6 +1,6 @@
 -- The rules of rebases, and what is left to an iterator over them. Callers don't need it: the contract of `iter` says that
 -- the items at the start are those of the definitions.
-use Rattle.std.specs.Prelude.{◌==◌, ◌-◌, ◌^◌, ℕ, List, min, true, false, Result, if◌then◌else◌, bit_and}
+use Rattle.std.specs.Prelude.{◌==◌, ◌≡◌, ◌-◌, ◌^◌, ◌++◌, ℕ, List, min, true, false, Result, if◌then◌else◌, bit_and}
 use Rattle.mach_base.specs.Fault.{Fault, fault_of}
 use Rattle.mach_base.specs.declared.error.Error.{Error}
 use Rattle.mach_base.specs.declared.context.Endian.{Endian}
@@ -8,6 +8,7 @@ use Rattle.mach_base.specs.declared.context.Endian.TheVariants.{Little}
 use Rattle.mach_segments.specs.Segment.{SegmentView}
 use Rattle.mach_chained.specs.PointerViews.{auth_seen}
 use Rattle.mach_binds.specs.Machine.{Rules, HasEnded, items_left, item_read, opcodes_left}
+use Rattle.mach_streams.specs.RebaseRuns.{run_left}
 use Rattle.mach_streams.specs.Rebases.{Rebase, RebaseSet, gives_rebase_segment, rebase_of, rebase_opcode_at}
 use Rattle.mach_streams.specs.declared.rebases.Rebase as declared
 use Rattle.mach_streams.specs.declared.rebases.Rebasing.{Rebasing}
@@ -49,17 +50,18 @@ rebase_view r = record {
 abbrev pub rebase_read : Result (declared.Rebase) Error → Result Rebase Fault
 rebase_read = item_read rebase_view fault_of
 
--- the rebases that are left, up to the first fault
+-- the rebases that are left, up to the first fault: those that were judged, and those of the opcodes behind them
 abbrev pub opcode_rebases_left : OpcodeRebaseIterator → List (Result Rebase Fault)
-opcode_rebases_left it = items_left rebase_rules it.stream
+opcode_rebases_left it = run_left it.run ++ items_left rebase_rules it.stream
 
 -- how many opcodes are left to be read
 abbrev pub rebase_reads_left : OpcodeRebaseIterator → ℕ
 rebase_reads_left it = opcodes_left rebase_rules it.stream
 
 -- it has ended: nothing is left, and it stays so
-abbrev pub HasEndedRebases : OpcodeRebaseIterator → Type 0
-HasEndedRebases it = HasEnded rebase_rules it.stream
+pub record HasEndedRebases (it : OpcodeRebaseIterator) : Type 0 where
+  pub run : it.run.left ≡ 0
+  pub stream : HasEnded rebase_rules it.stream
 
 -- the highest offset at which a segment holds a pointer, at an address of 64 bits
 abbrev pub highest_rebase : ℕ → SegmentView → ℕ

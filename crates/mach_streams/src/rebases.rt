@@ -1,6 +1,6 @@
 //! The rebases of an image's opcodes, as dyld makes them, one at a time.
 
-ghost use Rattle.std.specs.Prelude.{◌≡◌, ◌⊎◌, ◌<◌, ◌+◌, ◌≤◌, ◌%◌, ◌^◌, ℕ, List, [], length, map, Ok, Err, IsOk, IsErr, IfOk, IfErr};
+ghost use Rattle.std.specs.Prelude.{◌≡◌, ◌⊎◌, ◌<◌, ◌+◌, ◌≤◌, ◌%◌, ◌^◌, ◌∷◌, ℕ, List, [], true, false, length, map, Ok, Err, IsOk, IsErr, IfOk, IfErr};
 ghost use Rattle.std.specs.Prelude.{IfSome, IfNone, MatchOption, OnOk};
 ghost use Rattle.std.specs.Prelude.{OnErr, bit_and};
 ghost use Rattle.std.specs.Iterator.{YieldsFirstBy};
@@ -9,25 +9,28 @@ ghost use Rattle.mach_base.specs.declared.context.Endian.TheVariants as order;
 ghost use Rattle.mach_base.specs.Fault.{malformed, fault_of};
 ghost use Rattle.mach_segments.specs.Segment.{segment_view};
 ghost use Rattle.mach_binds.specs.Instructions.{byte_at};
-ghost use Rattle.mach_binds.specs.Machine.{executed_by, range_of, state_of};
+ghost use Rattle.mach_binds.specs.Machine.{StopsFor, executed_by, range_of, state_of};
 ghost use Rattle.mach_binds.specs.NamePlaces.{NameStands};
 ghost use Rattle.mach_binds.specs.Sites.{site_by, site_in};
 ghost use Rattle.mach_binds.specs.Streams.{Placed, Range};
 ghost use Rattle.mach_streams.specs.Cut.{cut_stream, cut_input, cut_range};
 ghost use Rattle.mach_streams.specs.Rebases as defined;
 ghost use Rattle.mach_streams.specs.Rebases.{AreOpcodeRebases, rebase_kind_of, rebase_opcode_at, rebase_row, rebase_width};
-ghost use Rattle.mach_streams.specs.RebasesLeft.{HasEndedRebases, first_rebasing, opcode_rebases_left, rebase_read, rebase_reads_left, rebasing_after};
+ghost use Rattle.mach_streams.specs.RebasesLeft.{HasEndedRebases, opcode_rebases_left, rebase_read, rebase_reads_left, rebase_rules};
+ghost use Rattle.mach_streams.specs.RebasesLeft.{first_rebasing, rebasing_after};
 
 mod faults;
 mod memory;
+pub mod run;
 
 use crate::cut::Cut;
 use crate::rebase_opcodes::*;
 use crate::rebases::memory::memory_number;
+use crate::rebases::run::Run;
 use mach_base::{ByteCount, Ctx, Endian, Error, Result, ScrollError, Steps, quick_uleb, uleb};
 use mach_binds::bind_opcodes::Opcode;
 use mach_binds::bindings::holds_all;
-use mach_binds::machine::{Makes, Settings, Source, State, Stream};
+use mach_binds::machine::{Makes, Settings, Source, State, Stop, Stream};
 use mach_chained::PointerAuth;
 use mach_records::DyldInfoCommand;
 use mach_segments::segment::Segment;
@@ -106,6 +109,7 @@ impl<'a> RebaseStream<'a> {
             × (rebase_reads_left result ≡ length ps) }
     {
         OpcodeRebaseIterator {
+            run: Run::none(),
             stream: Stream::alone(
                 self.cut.source(segments, ctx),
                 self.cut.from,
@@ -368,6 +372,8 @@ impl<'a> Makes<'a> for Rebasing {
 /// The rebases of a stream one at a time, up to the first fault; then its error; then nothing more. It takes no memory.
 #[derive(Drop)]
 pub struct OpcodeRebaseIterator<'a, 'b> {
+    /// Those that were judged.
+    pub(crate) run: Run<'a>,
     pub(crate) stream: Stream<'a, 'b, Rebasing>,
 }
 
@@ -384,7 +390,48 @@ impl OpcodeRebaseIterator<'_, '_> {
         ensures bounded { IfSome result (λ item. OnErr item (steps.new ≤ steps.old + rebase_reads_left self.old + 1)) }
         ensures kept { steps.old ≤ steps.new }
     {
-        self.stream.next_counted(steps)
+        if self.run.left == 0 {
+            match self.refill(steps) {
+                Ok(true) => {}
+                Ok(false) => return None,
+                Err(stop) => return Some(Err(self.stream.end_at(stop))),
+            }
+        }
+        Some(Ok(self.run.next()))
+    }
+
+    // Reads on up to an instruction that makes rebases, and judges those from the first on: false where none comes any more.
+    // The error is why none comes.
+    #[inline(always)]
+    fn refill(&mut self, steps: &mut Steps) -> std::result::Result<bool, Stop>
+        requires { self.old.run.left ≡ 0 }
+        ensures some { IfOk result (λ some. some ≡ true → 0 < self.new.run.left) }
+        ensures none { IfOk result (λ some. some ≡ false → HasEndedRebases self.new) }
+        ensures reads_none { IfOk result (λ some. some ≡ false → rebase_reads_left self.new ≡ 0) }
+        ensures err { IfErr result (λ stop. StopsFor rebase_rules self.new.stream stop) }
+        ensures left { OnErr result (self.new.run.left ≡ 0) }
+        ensures items { opcode_rebases_left self.old ≡ opcode_rebases_left self.new }
+        ensures reads { OnOk result (steps.new + rebase_reads_left self.new ≡ steps.old + rebase_reads_left self.old) }
+        ensures bounded { OnErr result (steps.new ≤ steps.old + rebase_reads_left self.old + 1) }
+        ensures kept { steps.old ≤ steps.new }
+    {
+        if self.stream.state.ended {
+            return Ok(false);
+        }
+        match self.stream.arrive(steps) {
+            Ok(true) => {}
+            Ok(false) => {
+                self.stream.finish();
+                return Ok(false);
+            }
+            Err(byte) => return Err(Stop::Instruction(byte)),
+        }
+        let Some(run) = Run::of(&self.stream) else {
+            return Err(Stop::Bind);
+        };
+        self.stream.pass(run.left);
+        self.run = run;
+        Ok(true)
     }
 }
 
@@ -399,7 +446,7 @@ impl Iterator for OpcodeRebaseIterator<'_, '_> {
 
     #[inline(always)]
     fn next(&mut self) -> Option<Result<Rebase>> {
-        self.stream.next_item()
+        self.next_counted(&mut Steps::new())
     }
 }
 
@@ -409,6 +456,7 @@ impl Default for OpcodeRebaseIterator<'_, '_> {
     /// No rebases.
     fn default() -> Self {
         OpcodeRebaseIterator {
+            run: Run::none(),
             stream: Stream::none(Rebasing::new(Endian::Little)),
         }
     }

@@ -79,8 +79,16 @@ fn number_at(bytes: &[u8], place: usize) -> Result<(u64, usize)>
 {
     match quick_uleb(bytes, place) {
         Some(found) => Ok(found),
-        None => uleb(bytes, place),
+        None => rare_number(bytes, place),
     }
+}
+
+// The same, where the number is long or can't be read.
+#[inline(always)]
+fn rare_number(bytes: &[u8], place: usize) -> Result<(u64, usize)>
+    ensures { Reads (λ found. found) result (uleb_at bytes.now place) }
+{
+    uleb(bytes, place)
 }
 
 // The function behind an address, by the number at a place, and the place after that; none behind a 0.

@@ -6,7 +6,7 @@ ghost use Rattle.mach_binds.specs.NamePlaces.{IsUnnamed};
 ghost use Rattle.mach_binds.specs.Sites.{no_site, site_in};
 
 /// The settings of the bind that would come now.
-#[derive(Drop)]
+#[derive(Clone, Copy)]
 pub struct Settings<'a> {
     pub name: &'a str,
     /// Where the name stands in the bytes; the last place that 64 bits have where none was set.

@@ -14,7 +14,7 @@ use mach_base::Error;
 use mach_segments::segment::Segment;
 
 /// What the binds of an image are read from.
-#[derive(Drop)]
+#[derive(Clone, Copy)]
 pub struct Source<'a, 'b> {
     pub bytes: &'a [u8],
     pub libs: &'b [&'a str],

@@ -12,7 +12,7 @@ use crate::imports::settings::Settings;
 use mach_base::{quick_text, quick_uleb};
 
 /// How far the reading of a stream has come.
-#[derive(Drop)]
+#[derive(Clone, Copy)]
 pub struct State<'a> {
     pub from: usize,
     pub upto: usize,

@@ -231,8 +231,9 @@ impl<'a, 'b, M: Makes<'a>> Stream<'a, 'b, M> {
         Ok(true)
     }
 
-    // Ends.
-    fn finish(&mut self)
+    /// Ends.
+    #[inline(always)]
+    pub fn finish(&mut self)
         requires { IsAtEnd self.old }
         ensures ended { self.new.state.ended ≡ true }
         ensures before { items_left M.rules self.old ≡ [] }
@@ -287,12 +288,26 @@ impl<'a, 'b, M: Makes<'a>> Stream<'a, 'b, M> {
         Some(Ok(item))
     }
 
-    // Why no item comes.
+    // A copy.
+    #[inline(always)]
+    fn copied(&self) -> Self
+        ensures { result ≡ self.now }
+    {
+        Stream {
+            source: self.source,
+            lazy_from: self.lazy_from,
+            lazy_upto: self.lazy_upto,
+            state: self.state,
+            more: self.more,
+        }
+    }
+
+    // Why no item comes. It is handed a copy, so that a loop that asks for items can keep the stream in registers.
     #[cold]
     #[inline(never)]
-    fn error(&self, stop: Stop) -> M::Why
-        requires { StopsFor M.rules self.now stop }
-        ensures { items_left M.rules self.now ≡ Err (M.fault result) ∷ [] }
+    fn error(self, stop: Stop) -> M::Why
+        requires { StopsFor M.rules self stop }
+        ensures { items_left M.rules self.entry ≡ Err (M.fault result) ∷ [] }
     {
         match stop {
             Stop::Instruction(byte) => {
@@ -303,13 +318,14 @@ impl<'a, 'b, M: Makes<'a>> Stream<'a, 'b, M> {
     }
 
     /// Ends where no item comes, with the error.
+    #[inline(always)]
     pub fn end_at(&mut self, stop: Stop) -> M::Why
         requires { StopsFor M.rules self.old stop }
         ensures fails { Fails M.rules self.old self.new (M.fault result) }
         ensures ended { self.new.state.ended ≡ true }
         ensures keeps { Keeps self.old self.new }
     {
-        let error = self.error(stop);
+        let error = self.copied().error(stop);
         self.state.ended = true;
         error
     }

@@ -5,22 +5,11 @@ ghost use Rattle.mach_segments.specs.Segment.{segment_view};
 ghost use Rattle.mach_binds.specs.BindingFaults.{has_fault};
 ghost use Rattle.mach_streams.specs.RebasesLeft.{highest_rebase, opcode_rebases_left, rebase_reads_left};
 
+use crate::rebases::run::highest_offset;
 use crate::rebases::{OpcodeRebaseIterator, RebaseKind, Rebasing};
 use mach_base::Steps;
 use mach_binds::bindings::segment_at;
 use mach_binds::machine::{JudgesAll, Settings, Source, none_above};
-use mach_segments::segment::Segment;
-
-// The highest offset at which a segment holds a pointer, at an address of 64 bits; None where it is smaller than one.
-fn highest_offset(pointer: u8, segment: &Segment<'_>) -> Option<u64>
-    ensures some { IfSome result (λ h. h ≡ highest_rebase pointer (segment_view segment.now)) }
-    ensures large { IfSome result (λ h. pointer ≤ segment.now.vmsize) }
-    ensures small { IfSome result (λ h. segment.now.vmaddr < 2 ^ 64) }
-    ensures none { IfNone result (segment.now.vmsize < pointer) }
-{
-    let room = segment.vmsize.checked_sub(u64::from(pointer))?;
-    Some(room.min(u64::MAX - segment.vmaddr))
-}
 
 impl<'a> JudgesAll<'a> for Rebasing {
     fn all_make(

@@ -1,12 +1,14 @@
+use Rattle.mach_binds.proofs.Names.{◌++◌, Result, Fault}
 use Rattle.mach_binds.proofs.Names.{◌≡◌, ◌∙◌, List, length, map, ap, refl, subst, pointer_size, items_left, opcodes_left, items_of, reads_of, start_of, Input}
 use Rattle.mach_binds.proofs.Names.{Placed}
 use Rattle.mach_segments.specs.Segment.{segment_view}
 use Rattle.mach_binds.proofs.StreamStarts.{starts_alone}
 use Rattle.mach_streams.specs.Cut.{CutStream, cut_input, cut_range}
 use Rattle.mach_streams.specs.CutViews.{cut_view}
-use Rattle.mach_streams.specs.Rebases.{AreOpcodeRebases, rebases_in}
-use Rattle.mach_streams.specs.RebasesLeft.{first_rebasing, rebase_rules}
+use Rattle.mach_streams.specs.Rebases.{AreOpcodeRebases, Rebase, rebases_in}
+use Rattle.mach_streams.specs.RebasesLeft.{first_rebasing, opcode_rebases_left, rebase_rules}
 use Rattle.mach_streams.specs.StreamsMove.{rebase_reads}
+use Rattle.mach_streams.specs.declared.rebases.OpcodeRebaseIterator.{OpcodeRebaseIterator}
 use Rattle.mach_streams.specs.declared.rebases.Rebasing.{Rebasing}
 use Rattle.mach_streams.proofs.RebaseRun.{rebases_at_start}
 use Rattle.mach_streams.proofs.rebases.RebaseStream.iter.Goals as goal
@@ -19,10 +21,12 @@ returns c =
     let s : CutStream = cut_view c.self.inside.cut in
     let x = cut_input s pointer segments in
     let r = cut_range s in
-    let items = c.alone.ensures.items ∙ ap (λ (i : Input). items_of rebase_rules i r c.new.result (start_of r)) c.source.ensures
+    let made : OpcodeRebaseIterator = record { run = c.none.result; stream = c.alone.result } in
+    let none = ap (λ (front : List (Result Rebase Fault)). front ++ items_left rebase_rules c.alone.result) c.none.ensures in
+    let items = none ∙ c.alone.ensures.items ∙ ap (λ (i : Input). items_of rebase_rules i r c.new.result (start_of r)) c.source.ensures
     ∙ ap (λ (m : Rebasing). items_of rebase_rules x r m (start_of r)) c.new.ensures in
     let reads = c.alone.ensures.reads ∙ ap (λ (i : Input). reads_of rebase_rules i r (start_of r)) c.source.ensures in
     subst (λ (t : CutStream).
-    (ps : List Placed) × AreOpcodeRebases (cut_input t pointer segments) le (cut_range t) ps (items_left rebase_rules c.alone.result)
+    (ps : List Placed) × AreOpcodeRebases (cut_input t pointer segments) le (cut_range t) ps (opcode_rebases_left made)
     × (opcodes_left rebase_rules c.alone.result ≡ length ps)) c.self.view_is
     (starts_alone rebase_rules rebase_reads x r r refl (first_rebasing le) (rebases_in x le r) (rebases_at_start x le r) _ _ items reads)

@@ -1,7 +1,7 @@
 use Rattle.std.proofs.Common.{◌≡◌, length}
 use Rattle.mach_segments.specs.NumberedLeft.{numbered_left}
 use Rattle.mach_slots.specs.SlotsLeft.{slots_left}
-use Rattle.mach_slots.proofs.slots.SlotIterator.next_of_later.Given as goal
+use Rattle.mach_slots.proofs.slots.SlotIterator.seek.Given as goal
 
 abbrev pub invariant-sections : goal.invariant-sections
 invariant-sections l = slots_left l.initial.self ≡ slots_left l.self
