@@ -13,7 +13,7 @@ import sys
 
 TOP = pathlib.Path(__file__).resolve().parent.parent
 HEADER, NAMES = TOP / "include/goblin_mach.h", TOP / "c/names.h"
-CRATES = ["mach_headers", "mach_records", "mach_segments", "mach_symbols", "mach_tries", "mach_binds", "mach_chained"]
+CRATES = ["mach_headers", "mach_arches", "mach_records", "mach_segments", "mach_symbols", "mach_tries", "mach_binds", "mach_chained"]
 WIDTHS = {"u8": 1, "u16": 2, "u32": 4, "i32": 4, "u64": 8, "i64": 8, "usize": 8}
 
 # What the sources have and C doesn't need: the sizes of records.
@@ -177,6 +177,8 @@ VM_PROT_EXECUTE u32 0x4 running
 
 # The numbers of goblin_mach_c that no constant of it names: where each stands in its sources, and its name in C.
 NUMBERS = {
+    "archive.rt": [(rf"ArchiveForm::{form} => (\d+),", f"GM_ARCHIVE_{name}")
+                   for form, name in (("NoArchive", "NONE"), ("Gnu", "GNU"), ("Bsd", "BSD"), ("Thin", "THIN"))],
     "find.rt": [(r"fn no_export\(\)[^}]*\}[^}]*kind: (\d+)", "GM_NO_EXPORT"), (r"::Regular \{[^}]*\} => gm_export \{[^}]*kind: (\d+)", "GM_ADDRESS"),
                 (r"::Reexport \{.*?kind: (\d+)", "GM_REEXPORTED"), (r"::Stub \{.*?kind: (\d+)", "GM_STUB")],
     "fixups.rt": [(r"FixupKind::Rebase [^=]*=> \((\d+),", "GM_REBASE"), (r"FixupKind::Bind [^=]*=> \((\d+),", "GM_BIND"),
@@ -289,7 +291,7 @@ def header_constants(found):
 def structs():
     """The structs of the sources that C sees the layout of, by name: the fields of each."""
     found = {}
-    for crate in ["goblin_mach_c", *CRATES]:
+    for crate in ["goblin_mach_c", "mach_fat_parts", *CRATES]:
         for text in sources(crate).values():
             for name, body in re.findall(r"^#\[repr\(C\)\]\npub struct (\w+) \{\n(.*?)^\}", text, re.M | re.S):
                 found[name] = re.findall(r"^    pub (\w+): (.*),$", body, re.M)
@@ -314,7 +316,7 @@ def laid_out(found, name):
 
 def header_asserts():
     found = structs()
-    found["gm_open_node"] = found["Open"]
+    found["gm_open_node"], found["gm_fat_part"] = found["Open"], found["FatPart"]
     # (C has the numbers of this cursor as fields of the walk)
     found["gm_export_walk"] = [row for field in found["gm_export_walk"] for row in (found["TrieCursor"] if field[0] == "cursor" else [field])]
     lines = []

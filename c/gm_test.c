@@ -1281,7 +1281,8 @@ static void print_debugger_entries(const given *g) {
 /* names of some numbers, and that others have none; and the version */
 static void check_names(void) {
     const struct { const char *found, *wanted; } rows[] = {
-        {gm_code_name(GM_OK), "ok"}, {gm_code_name(GM_NO_ROWS), "no rows"}, {gm_code_name(GM_NO_ROWS + 1), NULL}, {gm_code_name(UINT32_MAX), NULL},
+        {gm_code_name(GM_OK), "ok"}, {gm_code_name(GM_NO_ROWS), "no rows"}, {gm_code_name(GM_NO_SPACE), "no space"},
+        {gm_code_name(GM_NO_SPACE + 1), NULL}, {gm_code_name(UINT32_MAX), NULL},
         {gm_cpu_name(GM_CPU_TYPE_ARM64, GM_CPU_SUBTYPE_ARM64E | UINT32_C(0x80000000)), "arm64e"}, {gm_cpu_name(GM_CPU_TYPE_ARM64, 1), NULL},
         {gm_cpu_name(GM_CPU_TYPE_X86_64, GM_CPU_SUBTYPE_X86_64_H), "x86_64h"}, {gm_cpu_name(GM_CPU_TYPE_ARM, GM_CPU_SUBTYPE_ARM_V7S), "armv7s"},
         {gm_cpu_name(GM_CPU_TYPE_POWERPC64, 0), "ppc64"}, {gm_cpu_name(GM_CPU_ARCH_ABI64, 0), NULL}, {gm_cpu_name(0, 0), NULL},

@@ -82,6 +82,44 @@ size_t gm_fat_entries(const uint8_t *bytes, size_t len, size_t first, gm_fat_ent
     return gmr_fat_entries(BYTES, len, first, AT(out), cap);
 }
 
+size_t gmr_fat_entries64(const uint8_t *, size_t, size_t, gm_fat_entry64 *, size_t);
+size_t gm_fat_entries64(const uint8_t *bytes, size_t len, size_t first, gm_fat_entry64 *out, size_t cap) {
+    return gmr_fat_entries64(BYTES, len, first, AT(out), cap);
+}
+
+uint32_t gmr_write_fat(const uint8_t *, size_t, const gm_fat_part *, size_t, uint32_t, uint8_t *, size_t, size_t *, gm_error *);
+uint32_t gm_write_fat(const uint8_t *bytes, size_t len, const gm_fat_part *parts, size_t count, uint32_t is_64, uint8_t *out, size_t cap, size_t *needed,
+                      const gm_memory *memory, gm_error *error)
+    WITH_MEMORY(gmr_write_fat(BYTES, len, AT((gm_fat_part *)parts), count, is_64, AT(out), cap, needed, TOLD))
+
+size_t gmr_archive_members(const uint8_t *, size_t, size_t, gm_archive_member *, size_t);
+size_t gm_archive_members(const uint8_t *bytes, size_t len, size_t first, gm_archive_member *out, size_t cap) {
+    return gmr_archive_members(BYTES, len, first, AT(out), cap);
+}
+
+size_t gmr_archive_symbols(const uint8_t *, size_t, size_t, gm_archive_symbol *, size_t);
+size_t gm_archive_symbols(const uint8_t *bytes, size_t len, size_t first, gm_archive_symbol *out, size_t cap) {
+    return gmr_archive_symbols(BYTES, len, first, AT(out), cap);
+}
+
+uint32_t gmr_archive_kind(const uint8_t *, size_t, uint32_t *, gm_error *);
+uint32_t gm_archive_kind(const uint8_t *bytes, size_t len, uint32_t *kind, gm_error *error) {
+    gm_error unread;
+    return gmr_archive_kind(BYTES, len, kind, TOLD);
+}
+
+uint32_t gmr_archive_find(const uint8_t *, size_t, const char *, size_t, gm_archive_member *, gm_error *);
+uint32_t gm_archive_find(const uint8_t *bytes, size_t len, const char *symbol, size_t symbol_len, gm_archive_member *member, gm_error *error) {
+    gm_error unread;
+    return gmr_archive_find(BYTES, len, AT((char *)symbol), symbol_len, member, TOLD);
+}
+
+uint32_t gmr_archive_member_named(const uint8_t *, size_t, const char *, size_t, gm_archive_member *, gm_error *);
+uint32_t gm_archive_member_named(const uint8_t *bytes, size_t len, const char *name, size_t name_len, gm_archive_member *member, gm_error *error) {
+    gm_error unread;
+    return gmr_archive_member_named(BYTES, len, AT((char *)name), name_len, member, TOLD);
+}
+
 /* the rows of an image from a number on */
 #define ROWS(name, row) \
     size_t gmr_##name(const uint8_t *, size_t, const gm_image *, size_t, row *, size_t); \
@@ -180,7 +218,7 @@ static const char *const kinds[] = {"none", GM_SIGNATURE_KINDS(WORDS)};
 const char *gm_signature_kind(uint32_t kind) { return kinds[kind < sizeof kinds / sizeof *kinds ? kind : 0]; }
 
 const char *gm_code_name(uint32_t code) {
-    static const char *const names[] = {"ok", "malformed", "bad magic", "out of the bytes, or no text", "too many", "out of memory", "no rows"};
+    static const char *const names[] = {"ok", "malformed", "bad magic", "out of the bytes, or no text", "too many", "out of memory", "no rows", "no space"};
     return code < sizeof names / sizeof *names ? names[code] : NULL;
 }
 

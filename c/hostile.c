@@ -27,6 +27,9 @@ static int goes_on(void) { return calls++ < CALLS && time(NULL) - begun <= SECON
     }
 #define OF g->bytes, g->len, &g->image
 NUMBERED(entries, gm_fat_entry, gm_fat_entries(g->bytes, g->len, first, rows, ROWS))
+NUMBERED(entries64, gm_fat_entry64, gm_fat_entries64(g->bytes, g->len, first, rows, ROWS))
+NUMBERED(members, gm_archive_member, gm_archive_members(g->bytes, g->len, first, rows, ROWS))
+NUMBERED(archive_symbols, gm_archive_symbol, gm_archive_symbols(g->bytes, g->len, first, rows, ROWS))
 NUMBERED(commands, gm_command, gm_commands(OF, first, rows, ROWS))
 NUMBERED(segments, gm_segment, gm_segments(OF, first, rows, ROWS))
 NUMBERED(symbols, gm_symbol, gm_symbols(OF, first, rows, ROWS))
@@ -172,9 +175,36 @@ static size_t open_all(const given *g) {
     return found + !gm_open(g->bytes, g->len, 0, GM_LOSSY, NULL, &image, &e);
 }
 
+/* what is sought of an archive: names of some lengths */
+static size_t archive_find(const given *g) {
+    static char name[1 << 20];
+    gm_archive_member one;
+    gm_error e;
+    size_t found = 0;
+    memset(name, 'a', sizeof name);
+    for (size_t length = 0; goes_on() && length < sizeof name; length = 2 * length + 1) {
+        found += !gm_archive_find(g->bytes, g->len, name, length, &one, &e) && one.header;
+        found += !gm_archive_member_named(g->bytes, g->len, name, length, &one, &e) && one.header;
+    }
+    return found;
+}
+
+/* a fat file of the entries that are there */
+static size_t write_fat(const given *g) {
+    static gm_fat_entry64 rows[ROWS];
+    static gm_fat_part parts[ROWS];
+    static uint8_t out[1 << 22];
+    size_t n = gm_fat_entries64(g->bytes, g->len, 0, rows, ROWS), needed = 0, found = 0;
+    gm_error e;
+    for (size_t i = 0; i < n; i++) parts[i] = (gm_fat_part){rows[i].offset, rows[i].size, rows[i].cputype, rows[i].cpusubtype, rows[i].align, 0};
+    for (size_t k = 0; goes_on() && k <= n; k++) found += !gm_write_fat(g->bytes, g->len, parts, k, k & 1, out, sizeof out, &needed, NULL, &e);
+    return found;
+}
+
 #define CALL(name) {#name, name}
 static const struct { const char *name; size_t (*call)(const given *); } all[] = {
-    CALL(entries), CALL(container), CALL(open_all), CALL(commands), CALL(segments), CALL(sections), CALL(relocations), CALL(symbols), CALL(libraries),
+    CALL(entries), CALL(container), CALL(open_all), CALL(entries64), CALL(members), CALL(archive_symbols), CALL(archive_find), CALL(write_fat),
+    CALL(commands), CALL(segments), CALL(sections), CALL(relocations), CALL(symbols), CALL(libraries),
     CALL(run_paths), CALL(ids), CALL(data_in_code), CALL(indirect_symbols), CALL(linker_options), CALL(build_tools), CALL(notes), CALL(find), CALL(exports),
     CALL(tree), CALL(fixups), CALL(imports), CALL(bindings), CALL(weak_binds), CALL(rebases), CALL(function_starts), CALL(slots), CALL(slot_at),
     CALL(layout), CALL(signature), CALL(signature_faults)};
@@ -194,7 +224,7 @@ int main(int count, char **words) {
     begun = time(NULL);
     for (size_t k = 0; k < sizeof all / sizeof *all; k++) {
         if (strcmp(words[1], all[k].name)) continue;
-        int refused = k >= 3 && gm_open(g.bytes, g.len, 0, GM_STRICT, NULL, &g.image, &e) && gm_open(g.bytes, g.len, 0, GM_LOSSY, NULL, &g.image, &e);
+        int refused = k >= 8 && gm_open(g.bytes, g.len, 0, GM_STRICT, NULL, &g.image, &e) && gm_open(g.bytes, g.len, 0, GM_LOSSY, NULL, &g.image, &e);
         if (refused) return printf("%s\n", e.text), 1;
         return printf("%zu\n", all[k].call(&g)), 0;
     }

@@ -1,7 +1,7 @@
 #!/usr/bin/env python3
 """many_rows.py FOLDER: writes an image with 1,000 symbols, imports and exports and 200 sections into FOLDER/many, and the lines that the examples of
-docs/C.md print of it into FOLDER/symbols, commands, sections, imports, bindings, exports, faults and memory; and a fat file of 20 entries, each of them
-that image, into FOLDER/fat."""
+docs/C.md print of it into FOLDER/symbols, commands, sections, imports, bindings, exports, faults, memory and create; an archive with it into FOLDER/many.a,
+and what is printed of that into FOLDER/members; and a fat file of 20 entries, each of them that image, into FOLDER/fat."""
 import struct
 import sys
 
@@ -24,6 +24,23 @@ def trie():
     for a in range(10):
         out += b"\0\x64" + b"".join(label(b"%02d" % b, first + (100 * a + b) * size_of_leaf) for b in range(100))
     return out + b"".join(b"\x04\0" + uleb(k) + b"\0" for k in range(COUNT))
+
+
+def archive(data):
+    """An archive in GNU's form with an index of 100 symbols, and 100 members: an image, which is the first, and texts with long names."""
+    header = lambda name, size: name.ljust(16) + b"0".ljust(12) + b"0".ljust(6) * 2 + b"644".ljust(8) + b"%-10d`\n" % size
+    names = b"".join(b"a_member_with_a_long_name_%02d.txt/\n" % k for k in range(99))
+    texts = b"".join(b"_t%02d\0" % k for k in range(100))
+    front = 8 + 60 + 4 + 4 * 100 + len(texts) + 60 + len(names)
+    first = front + front % 2
+    index = struct.pack(">101I", 100, *[first] * 100) + texts
+    out = b"!<arch>\n" + header(b"/", len(index)) + index + header(b"//", len(names)) + names
+    out += b"\n" * (first - len(out)) + header(b"image.o/", len(data)) + data + b"\n" * (len(data) % 2)
+    lines = ["%d image.o, %d symbols" % (len(data), COUNT)]
+    for k in range(99):
+        out += header(b"/%d" % (34 * k), k) + b"x" * k + b"\n" * (k % 2)
+        lines.append("%d a_member_with_a_long_name_%02d.txt" % (k, k))
+    return out, lines + ["_t%02d in %d" % (k, first) for k in range(100)]
 
 
 def address(segment, section):
@@ -85,6 +102,11 @@ with open(folder + "/many", "wb") as file:
     file.write(data)
 with open(folder + "/fat", "wb") as file:
     file.write(struct.pack(">2I", 0xCAFEBABE, ENTRIES) + struct.pack(">5I", 0x01000007, 3, 8 + 20 * ENTRIES, len(data), 0) * ENTRIES + data)
+packed, lines["members"] = archive(data)
+with open(folder + "/many.a", "wb") as file:
+    file.write(packed)
+second = -(-(4096 + len(data)) // 16384) * 16384
+lines["create"] = ["x86_64 at 4096, %d bytes" % len(data), "arm64 at %d, %d bytes" % (second, len(data))]
 for name, wanted in lines.items():
     with open(folder + "/" + name, "w") as file:
         file.write("".join(line + "\n" for line in wanted))

@@ -33,8 +33,9 @@ extern "C" {
 const char *gm_version(void);
 uint32_t gm_version_number(void);
 
-/* malformed bytes; a magic of no image; a read past the end or of no text; too many of a thing; memory was refused; `cap` is 0 */
-enum { GM_OK, GM_MALFORMED, GM_BAD_MAGIC, GM_SHORT, GM_TOO_MANY, GM_NO_MEMORY, GM_NO_ROWS };
+/* malformed bytes; a magic of no image; a read past the end or of no text; too many of a thing; memory was refused; `cap` is 0; what is to be written
+   is larger than `cap` */
+enum { GM_OK, GM_MALFORMED, GM_BAD_MAGIC, GM_SHORT, GM_TOO_MANY, GM_NO_MEMORY, GM_NO_ROWS, GM_NO_SPACE };
 
 /* why a call was refused; the text ends with a zero byte */
 typedef struct gm_error { uint32_t code; char text[124]; } gm_error;
@@ -56,6 +57,60 @@ gm_memory gm_arena_memory(gm_arena *arena);
    them: its code is not GM_OK, and no other's is. */
 typedef struct gm_fat_entry { uint32_t cputype, cpusubtype, offset, size, align, code; } gm_fat_entry;
 size_t gm_fat_entries(const uint8_t *bytes, size_t len, size_t first, gm_fat_entry *out, size_t cap);
+
+/* The same of a fat file of 32 or of 64 bits, whichever the bytes are. Add no place and size before they are tested: their sum may not fit 64 bits. */
+typedef struct gm_fat_entry64 { uint64_t offset, size; uint32_t cputype, cpusubtype, align, code; } gm_fat_entry64;
+size_t gm_fat_entries64(const uint8_t *bytes, size_t len, size_t first, gm_fat_entry64 *out, size_t cap);
+
+/* ---- a fat file that is written of parts of some bytes, each for another cpu: `len` bytes from `offset` on, at a place in the file that is a multiple of
+   2 to the power of `align`, at most 15, and behind the part before */
+typedef struct gm_fat_part {
+    size_t offset, len;
+    uint32_t cputype, cpusubtype, align, reserved; /* the last is not read */
+} gm_fat_part;
+
+/* Writes the file into the front of `out`, and how many bytes it has to *needed: of 64 bits, or of 32 where `is_64` is 0. Where `cap` is too small, which
+   it may be on purpose, that is GM_NO_SPACE, with *needed written and nothing else. Refused also where a part isn't in the bytes (GM_SHORT), where an
+   alignment is too large, two parts are for one cpu whatever its capabilities, or a place or a length is too large for a record (GM_MALFORMED); this
+   leaves *needed, and any refusal `out`. It takes memory for the parts while it runs, and none for their bytes. `out` and the bytes don't overlap. */
+uint32_t gm_write_fat(const uint8_t *bytes, size_t len, const gm_fat_part *parts, size_t count, uint32_t is_64, uint8_t *out, size_t cap, size_t *needed,
+                      const gm_memory *memory, gm_error *error);
+
+/* ---- an archive: a static library */
+enum { GM_ARCHIVE_NONE, GM_ARCHIVE_GNU, GM_ARCHIVE_BSD, GM_ARCHIVE_THIN };
+
+/* What archive the bytes are, by their first 8 and what stands in front: how short names are spelled; GM_ARCHIVE_NONE where they begin as none;
+   GM_ARCHIVE_THIN where its members are other files, which no call reads. Refused where the front of an archive can't be read; that leaves *kind. */
+uint32_t gm_archive_kind(const uint8_t *bytes, size_t len, uint32_t *kind, gm_error *error);
+
+/* Its members in order. The bytes of one are `data_len` at bytes + data; where they are an image it is opened by them, with places that count from there.
+   The name is `name_len` bytes at bytes + name, and may be any; where `name_code` is not GM_OK it can't be read, and both are 0. A row with a `code` is the
+   last: it says why there are no more members, or why the bytes are no archive, and has nothing else. `first` is not free: the headers before it are
+   read, so ask for many at a time. */
+typedef struct gm_archive_member {
+    uint64_t date, uid, gid, mode; /* seconds from 1970, owner, group, kind and permissions; each GM_NO_NUMBER where its field is none */
+    size_t header;                 /* the place of its header, 60 bytes */
+    size_t data, data_len, name, name_len;
+    uint32_t name_code, code;
+} gm_archive_member;
+#define GM_NO_NUMBER UINT64_MAX
+size_t gm_archive_members(const uint8_t *bytes, size_t len, size_t first, gm_archive_member *out, size_t cap);
+
+/* The symbols of its index in the index's order, none where it has none: each name is `name_len` bytes at bytes + name, and `member` is the `header` of
+   the member that defines it, which isn't tested. A row with a `code` is the last: why a name or the index can't be read, or why the bytes are no archive.
+   The names before `first` are read. */
+typedef struct gm_archive_symbol {
+    uint64_t member;
+    size_t name, name_len;
+    uint32_t code, reserved;
+} gm_archive_symbol;
+size_t gm_archive_symbols(const uint8_t *bytes, size_t len, size_t first, gm_archive_symbol *out, size_t cap);
+
+/* The member that defines a symbol, by the index; and the first member of a name. Where there is none, which is no refusal, all of *member is 0, its
+   `header` too. Refused where the archive, its index or a header that is read can't be; gm_archive_find also where the name is no UTF-8. A refusal leaves
+   *member. */
+uint32_t gm_archive_find(const uint8_t *bytes, size_t len, const char *symbol, size_t symbol_len, gm_archive_member *member, gm_error *error);
+uint32_t gm_archive_member_named(const uint8_t *bytes, size_t len, const char *name, size_t name_len, gm_archive_member *member, gm_error *error);
 
 /* ---- an image */
 typedef struct gm_image {
@@ -490,12 +545,13 @@ const char *gm_platform_name(uint32_t platform);                      /* "MACOS"
 
 /* ---- constants: written by c/constants.py */
 /* the magic numbers: `magic` of a gm_image, and the first four bytes of a fat file */
-#define GM_FAT_CIGAM   UINT32_C(0xbebafeca) /* the magic of a fat file, its bytes reversed */
-#define GM_FAT_MAGIC   UINT32_C(0xcafebabe) /* the magic of a fat file */
-#define GM_MH_CIGAM    UINT32_C(0xcefaedfe) /* the magic of a 32-bit image, its bytes reversed */
-#define GM_MH_CIGAM_64 UINT32_C(0xcffaedfe) /* the magic of a 64-bit image, its bytes reversed */
-#define GM_MH_MAGIC    UINT32_C(0xfeedface) /* the magic of a 32-bit image */
-#define GM_MH_MAGIC_64 UINT32_C(0xfeedfacf) /* the magic of a 64-bit image */
+#define GM_FAT_CIGAM    UINT32_C(0xbebafeca) /* the magic of a fat file, its bytes reversed */
+#define GM_FAT_MAGIC    UINT32_C(0xcafebabe) /* the magic of a fat file */
+#define GM_FAT_MAGIC_64 UINT32_C(0xcafebabf) /* the magic of a fat file of 64 bits */
+#define GM_MH_CIGAM     UINT32_C(0xcefaedfe) /* the magic of a 32-bit image, its bytes reversed */
+#define GM_MH_CIGAM_64  UINT32_C(0xcffaedfe) /* the magic of a 64-bit image, its bytes reversed */
+#define GM_MH_MAGIC     UINT32_C(0xfeedface) /* the magic of a 32-bit image */
+#define GM_MH_MAGIC_64  UINT32_C(0xfeedfacf) /* the magic of a 64-bit image */
 /* cpus: `cputype` */
 #define GM_CPU_TYPE_X86       UINT32_C(0x7)
 #define GM_CPU_TYPE_ARM       UINT32_C(0xc)
@@ -930,6 +986,24 @@ GM_FIELD(gm_export_room, names, 48, 8);
 GM_FIELD(gm_export_room, names_cap, 56, 8);
 GM_SIZE(gm_export_room, 64);
 /* ---- layout: written by c/constants.py */
+GM_FIELD(gm_archive_member, date, 0, 8);
+GM_FIELD(gm_archive_member, uid, 8, 8);
+GM_FIELD(gm_archive_member, gid, 16, 8);
+GM_FIELD(gm_archive_member, mode, 24, 8);
+GM_FIELD(gm_archive_member, header, 32, 8);
+GM_FIELD(gm_archive_member, data, 40, 8);
+GM_FIELD(gm_archive_member, data_len, 48, 8);
+GM_FIELD(gm_archive_member, name, 56, 8);
+GM_FIELD(gm_archive_member, name_len, 64, 8);
+GM_FIELD(gm_archive_member, name_code, 72, 4);
+GM_FIELD(gm_archive_member, code, 76, 4);
+GM_SIZE(gm_archive_member, 80);
+GM_FIELD(gm_archive_symbol, member, 0, 8);
+GM_FIELD(gm_archive_symbol, name, 8, 8);
+GM_FIELD(gm_archive_symbol, name_len, 16, 8);
+GM_FIELD(gm_archive_symbol, code, 24, 4);
+GM_FIELD(gm_archive_symbol, reserved, 28, 4);
+GM_SIZE(gm_archive_symbol, 32);
 GM_FIELD(gm_bind_cursor, binds, 0, 96);
 GM_FIELD(gm_bind_cursor, stage, 96, 4);
 GM_SIZE(gm_bind_cursor, 104);
@@ -995,6 +1069,20 @@ GM_FIELD(gm_fat_entry, size, 12, 4);
 GM_FIELD(gm_fat_entry, align, 16, 4);
 GM_FIELD(gm_fat_entry, code, 20, 4);
 GM_SIZE(gm_fat_entry, 24);
+GM_FIELD(gm_fat_entry64, offset, 0, 8);
+GM_FIELD(gm_fat_entry64, size, 8, 8);
+GM_FIELD(gm_fat_entry64, cputype, 16, 4);
+GM_FIELD(gm_fat_entry64, cpusubtype, 20, 4);
+GM_FIELD(gm_fat_entry64, align, 24, 4);
+GM_FIELD(gm_fat_entry64, code, 28, 4);
+GM_SIZE(gm_fat_entry64, 32);
+GM_FIELD(gm_fat_part, offset, 0, 8);
+GM_FIELD(gm_fat_part, len, 8, 8);
+GM_FIELD(gm_fat_part, cputype, 16, 4);
+GM_FIELD(gm_fat_part, cpusubtype, 20, 4);
+GM_FIELD(gm_fat_part, align, 24, 4);
+GM_FIELD(gm_fat_part, reserved, 28, 4);
+GM_SIZE(gm_fat_part, 32);
 GM_FIELD(gm_fixup, address, 0, 8);
 GM_FIELD(gm_fixup, offset, 8, 8);
 GM_FIELD(gm_fixup, target, 16, 8);
@@ -1225,6 +1313,10 @@ GM_FIELD(gm_weak_bind, is_weak, 44, 4);
 GM_FIELD(gm_weak_bind, code, 48, 4);
 GM_FIELD(gm_weak_bind, reserved, 52, 4);
 GM_SIZE(gm_weak_bind, 56);
+GM_IS(GM_ARCHIVE_NONE, 0);
+GM_IS(GM_ARCHIVE_GNU, 1);
+GM_IS(GM_ARCHIVE_BSD, 2);
+GM_IS(GM_ARCHIVE_THIN, 3);
 GM_IS(GM_OF_LIBRARY, 0);
 GM_IS(GM_OF_ITSELF, 1);
 GM_IS(GM_OF_PROGRAM, 2);
@@ -1237,6 +1329,7 @@ GM_IS(GM_SHORT, 3);
 GM_IS(GM_TOO_MANY, 4);
 GM_IS(GM_NO_MEMORY, 5);
 GM_IS(GM_NO_ROWS, 6);
+GM_IS(GM_NO_SPACE, 7);
 GM_IS(GM_MORE, 0);
 GM_IS(GM_END, 1);
 GM_IS(GM_NO_ROOM, 2);

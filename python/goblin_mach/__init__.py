@@ -17,17 +17,19 @@ from __future__ import annotations
 from ._exports import EXPORTS
 from ._lists import FIXUPS, INDIRECT, KINDS, PROVIDERS, REBASES, SLOTS
 from ._rows import BATCH, Rows
+from .archive import Archive
 from .enums import (
     CPU_SUBTYPES, Arm64_32Subtype, Arm64Subtype, ArmSubtype, CpuSubtype, CpuType, DataKind, ErrorCode, FileType, HeaderFlags, LoadCommand, Mode,
     Platform, PowerPcSubtype, Protection, SectionAttributes, SectionType, SegmentFlags, SignatureFlags, SignatureHash, Tool, X86_64Subtype,
     X86Subtype,
 )
 from .errors import ERRORS, Refused
+from .fat import FatPart, write_fat
 from .file import File, container_faults, fat_entries, open, parse
 from .image import Image
 from .items import (
-    BuildTool, Command, DataInCode, Export, FatEntry, FunctionStart, IndirectSymbol, LayoutFault, Library, LinkerOption, Note, NumberedSection, Owner,
-    Relocation, Section, Segment, Symbol, SymbolProvider, SymbolSlot,
+    ArchiveSymbol, BuildTool, Command, DataInCode, Export, FatEntry, FunctionStart, IndirectSymbol, LayoutFault, Library, LinkerOption, Member, Note,
+    NumberedSection, Owner, Relocation, Section, Segment, Symbol, SymbolProvider, SymbolSlot,
 )
 from .pointers import Binding, Fixup, Import, Rebase, WeakBind
 from .signature import Signature, SignatureFault
@@ -42,8 +44,9 @@ STRICT, LOSSY = Mode.STRICT, Mode.LOSSY
 NO_MEMORY = ErrorCode.NO_MEMORY
 
 __all__ = [
-    "open", "parse", "fat_entries", "container_faults", "File", "Image", "Rows", "Refused",
-    "FatEntry", "Command", "Segment", "Section", "Relocation", "Symbol", "Library", "Fixup", "Import", "Binding", "Export", "Owner", "LayoutFault",
+    "open", "parse", "fat_entries", "container_faults", "write_fat", "File", "Image", "Archive", "Rows", "Refused",
+    "FatEntry", "FatPart", "Member", "ArchiveSymbol", "Command", "Segment", "Section", "Relocation", "Symbol", "Library", "Fixup", "Import", "Binding",
+    "Export", "Owner", "LayoutFault",
     "WeakBind", "Rebase", "Signature", "SignatureFault",
     "FunctionStart", "DataInCode", "IndirectSymbol", "SymbolSlot", "SymbolProvider", "NumberedSection", "LinkerOption", "BuildTool", "Note",
     "Mode", "STRICT", "LOSSY", "ErrorCode", "ERRORS", "NO_MEMORY", "BATCH", "FIXUPS", "PROVIDERS", "REBASES", "KINDS", "INDIRECT", "SLOTS", "EXPORTS",

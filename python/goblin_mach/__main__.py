@@ -6,7 +6,7 @@ import io
 import os
 import signal
 import sys
-from typing import Callable, Dict, Iterator, List
+from typing import Callable, Dict, Iterator, List, Optional
 
 import goblin_mach
 
@@ -155,9 +155,39 @@ LINES: Dict[str, Callable[[Image], Iterator[str]]] = {
 """For each word what is printed of an image."""
 
 
+def _told(*numbers: Optional[int]) -> str:
+    return " ".join("-1" if number is None else str(number) for number in numbers)
+
+
+def _members(file: File) -> Iterator[str]:
+    for _, archive in file.archives():
+        for m in archive.members():
+            yield f"{m.offset} {m.start} {m.data.nbytes} {_told(m.date, m.uid, m.gid, m.mode)} {code_of(m.name_error)} {code_of(m.error)} {m.name or ''}"
+
+
+def _archive_symbols(file: File) -> Iterator[str]:
+    for _, archive in file.archives():
+        for symbol in archive.symbols():
+            yield f"{symbol.member} {code_of(symbol.error)} {symbol.name}"
+
+
+def _entries(file: File) -> Iterator[str]:
+    for e in goblin_mach.fat_entries(file._whole()):
+        yield f"{e.cputype:x} {e.cpusubtype:x} {e.offset} {e.size} {e.align} {code_of(e.error)}"
+
+
+WHOLE: Dict[str, Callable[[File], Iterator[str]]] = {"members": _members, "archive_symbols": _archive_symbols, "entries": _entries}
+"""For each word what is printed of a file."""
+
+
 def _print(file: File, word: str) -> int:
     """Prints the lines of a file's images, and what can't be opened: answers the status."""
     status = 0
+    if word in WHOLE:
+        for line in WHOLE[word](file):
+            print(line)
+        sys.stdout.flush()
+        return status
     if word == "layout":
         for fault in file.container_faults():
             print(fault)
@@ -174,8 +204,8 @@ def _print(file: File, word: str) -> int:
 
 def main(words: List[str]) -> int:
     """Runs the program on these words: answers the status."""
-    if len(words) != 2 or words[0] not in LINES:
-        print(f"usage: python3 -m goblin_mach {'|'.join(LINES)} FILE", file=sys.stderr)
+    if len(words) != 2 or words[0] not in (LINES.keys() | WHOLE.keys()):
+        print(f"usage: python3 -m goblin_mach {'|'.join([*LINES, *WHOLE])} FILE", file=sys.stderr)
         return 2
     try:
         with goblin_mach.open(words[1]) as file:

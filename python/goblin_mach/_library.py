@@ -53,6 +53,13 @@ def _prototypes() -> Dict[str, Tuple[Any, List[Any]]]:
     calls: Dict[str, Tuple[Any, List[Any]]] = {
         "gm_open": (c_uint32, [*held, c_size_t, c_uint32, c_void_p, image, error]),
         "gm_fat_entries": (c_size_t, [*held, *by_number]),
+        "gm_fat_entries64": (c_size_t, [*held, *by_number]),
+        "gm_write_fat": (c_uint32, [*held, POINTER(s.gm_fat_part), c_size_t, c_uint32, c_void_p, c_size_t, count, c_void_p, error]),
+        "gm_archive_kind": (c_uint32, [*held, POINTER(c_uint32), error]),
+        "gm_archive_members": (c_size_t, [*held, *by_number]),
+        "gm_archive_symbols": (c_size_t, [*held, *by_number]),
+        "gm_archive_find": (c_uint32, [*held, c_char_p, c_size_t, POINTER(s.gm_archive_member), error]),
+        "gm_archive_member_named": (c_uint32, [*held, c_char_p, c_size_t, POINTER(s.gm_archive_member), error]),
         "gm_sections": (c_size_t, [*held, image, c_size_t, c_uint32, *by_number]),
         "gm_relocations": (c_size_t, [*held, image, c_uint32, c_uint32, *by_number]),
         "gm_find_export": (c_uint32, [*held, image, c_char_p, c_size_t, POINTER(s.gm_export), c_void_p, c_size_t, c_void_p, c_size_t, c_void_p, error]),

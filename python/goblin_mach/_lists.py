@@ -11,8 +11,8 @@ from ._memory import Held
 from ._rows import Kind
 from .errors import ERRORS
 from .items import (
-    BuildTool, Command, DataInCode, FatEntry, FunctionStart, IndirectSymbol, LayoutFault, Library, LinkerOption, Note, NumberedSection, Owner,
-    Relocation, Section, Segment, Symbol, SymbolProvider, SymbolSlot,
+    ArchiveSymbol, BuildTool, Command, DataInCode, FatEntry, FunctionStart, IndirectSymbol, LayoutFault, Library, LinkerOption, Member, Note,
+    NumberedSection, Owner, Relocation, Section, Segment, Symbol, SymbolProvider, SymbolSlot,
 )
 from .pointers import Binding, Fixup, Import, Rebase, WeakBind
 from .signature import SignatureFault
@@ -30,12 +30,30 @@ _error: Callable[[int], Optional[str]] = ERRORS.get
 _ESCAPED = "surrogateescape"
 
 
+def _told(number: int) -> Optional[int]:
+    """A number of a member's header, if its field is one (GM_NO_NUMBER)."""
+    return None if number == (1 << 64) - 1 else number
+
+
 def _name(raw: bytes) -> bytes:
     return raw.split(b"\0", 1)[0]
 
 
 def fat_entries(held: Held, raws: Raws, first: int) -> List[FatEntry]:
-    return [FatEntry(cpu, kind, offset, size, align, _error(code)) for cpu, kind, offset, size, align, code in raws]
+    return [FatEntry(cpu, kind, offset, size, align, _error(code)) for offset, size, cpu, kind, align, code in raws]
+
+
+def members(held: Held, raws: Raws, first: int) -> List[Member]:
+    view = held.view
+    return [
+        Member(None if name_code or code else held.text(name, name_len), header, data, view[data:data + data_len], _told(date), _told(uid), _told(gid),
+               _told(mode), _error(name_code), _error(code))
+        for date, uid, gid, mode, header, data, data_len, name, name_len, name_code, code in raws
+    ]
+
+
+def archive_symbols(held: Held, raws: Raws, first: int) -> List[ArchiveSymbol]:
+    return [ArchiveSymbol(held.text(name, name_len), member, _error(code)) for member, name, name_len, code, _ in raws]
 
 
 def commands(held: Held, raws: Raws, first: int) -> List[Command]:
@@ -211,7 +229,9 @@ def signature_faults(held: Held, raws: Raws, first: int) -> List[SignatureFault]
     ]
 
 
-FAT_ENTRIES = Kind(lib.gm_fat_entries, s.gm_fat_entry, fat_entries)
+FAT_ENTRIES = Kind(lib.gm_fat_entries64, s.gm_fat_entry64, fat_entries)
+ARCHIVE_MEMBERS = Kind(lib.gm_archive_members, s.gm_archive_member, members, grows=True)
+ARCHIVE_SYMBOLS = Kind(lib.gm_archive_symbols, s.gm_archive_symbol, archive_symbols, grows=True)
 COMMANDS = Kind(lib.gm_commands, s.gm_command, commands)
 SEGMENTS = Kind(lib.gm_segments, s.gm_segment, segments)
 SECTIONS = Kind(lib.gm_sections, s.gm_section, sections)

@@ -22,10 +22,10 @@ Decode = Callable[[Held, Iterable[Tuple[Any, ...]], int], List[T]]
 class Kind(Generic[T]):
     """A kind of list: the call that writes its rows, the struct of a row, and what makes items of rows."""
 
-    __slots__ = ("call", "decode", "row")
+    __slots__ = ("call", "decode", "grows", "row")
 
-    def __init__(self, call: Callable[..., Any], row: Type[ctypes.Structure], decode: Decode[T]) -> None:
-        self.call, self.decode = call, decode
+    def __init__(self, call: Callable[..., Any], row: Type[ctypes.Structure], decode: Decode[T], grows: bool = False) -> None:
+        self.call, self.decode, self.grows = call, decode, grows  # batches grow where a call reads what is before its first item
         self.row: struct.Struct = unpacker(row)
 
     def array(self, count: int) -> ctypes.Array[ctypes.c_char]:
@@ -66,6 +66,8 @@ class Rows(Generic[T]):
             if count < cap:
                 return
             first += count
+            if kind.grows:
+                cap, array = 2 * cap, kind.array(2 * cap)
             cap = cap if end is None else min(cap, end - first)
 
     def __iter__(self) -> Iterator[T]:

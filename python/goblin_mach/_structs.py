@@ -42,6 +42,22 @@ class gm_fat_entry(ctypes.Structure):
     _fields_ = _u32("cputype cpusubtype offset size align code")
 
 
+class gm_fat_entry64(ctypes.Structure):
+    _fields_ = _u64("offset size") + _u32("cputype cpusubtype align code")
+
+
+class gm_fat_part(ctypes.Structure):
+    _fields_ = _sizes("offset len") + _u32("cputype cpusubtype align reserved")
+
+
+class gm_archive_member(ctypes.Structure):
+    _fields_ = _u64("date uid gid mode") + _sizes("header data data_len name name_len") + _u32("name_code code")
+
+
+class gm_archive_symbol(ctypes.Structure):
+    _fields_ = _u64("member") + _sizes("name name_len") + _u32("code reserved")
+
+
 class gm_command(ctypes.Structure):
     _fields_ = _sizes("offset size") + _u32("cmd")
 

@@ -29,6 +29,7 @@ class ErrorCode(Number):
     TOO_MANY = 4
     NO_MEMORY = 5
     NO_ROWS = 6
+    NO_SPACE = 7
 
 
 class CpuType(Number):

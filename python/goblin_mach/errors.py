@@ -13,6 +13,7 @@ ERRORS: Dict[int, str] = {
     ErrorCode.TOO_MANY: "too many",
     ErrorCode.NO_MEMORY: "out of memory",
     ErrorCode.NO_ROWS: "no rows",
+    ErrorCode.NO_SPACE: "no space",
 }
 _CODES = {words: code for code, words in ERRORS.items()}
 

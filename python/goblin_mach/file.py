@@ -12,29 +12,39 @@ from typing import TYPE_CHECKING, Any, Dict, Iterator, List, Optional, Sequence,
 from . import _lists
 from ._memory import Held, Life
 from ._rows import Rows, in_growing_batches
+from .archive import Archive
 from .enums import Mode
+from .errors import Refused
 from .image import Image
-from .items import FatEntry, LayoutFault
+from .items import FatEntry, LayoutFault, Member
 
 if TYPE_CHECKING:
     from _typeshed import ReadableBuffer
 
     StrOrBytesPath = Union[str, bytes, os.PathLike[str], os.PathLike[bytes]]
 
-FAT_MAGIC, ARCHIVE_MAGIC = b"\xca\xfe\xba\xbe", b"!<arch>\n"
+FAT_KINDS = {b"\xca\xfe\xba\xbe": "fat", b"\xca\xfe\xba\xbf": "fat64"}
+ARCHIVE_MAGIC, THIN_MAGIC = b"!<arch>\n", b"!<thin>\n"
 
 
 def _held(data: Union[ReadableBuffer, Held]) -> Held:
     return data if isinstance(data, Held) else Held(data)
 
 
+def _kind(view: memoryview) -> str:
+    """What bytes are, by what they begin with."""
+    if view[:8] in (ARCHIVE_MAGIC, THIN_MAGIC):
+        return "archive"
+    return FAT_KINDS.get(bytes(view[:4]), "image") if len(view) >= 8 else "image"
+
+
 def fat_entries(data: Union[ReadableBuffer, Held]) -> Rows[FatEntry]:
-    """The entries of a fat file; none where the bytes are no fat file."""
+    """The entries of a fat file, of 32 or of 64 bits; none where the bytes are no fat file."""
     return Rows(_lists.FAT_ENTRIES, _held(data).live)
 
 
 def container_faults(data: Union[ReadableBuffer, Held]) -> Iterator[LayoutFault]:
-    """The faults of the table of a fat file; none where the bytes are no fat file."""
+    """The faults of the table of a fat file of 32 bits; none where the bytes are no such file."""
     return in_growing_batches(_lists.CONTAINER_FAULTS, _held(data).live)
 
 
@@ -48,8 +58,9 @@ def _mapped(path: Any) -> Union[mmap.mmap, bytes]:
 
 
 class File(Sequence[Image]):
-    """A mapped file, or bytes: a sequence of its images, archives left out, each of which is opened when it is asked for. Images and their lists may be
-    used as long as the file is open: behind `close`, or behind the end of a `with`, each raises ValueError. Items that were given stay as they are."""
+    """A mapped file, or bytes: a sequence of its images, each of which is opened when it is asked for: of a fat file those of its entries, archives left
+    out, and of an archive those of its members that are images; `images` has them all. Images and their lists may be used as long as the file is open:
+    behind `close`, or behind the end of a `with`, each raises ValueError. Items that were given stay as they are."""
 
     def __init__(self, path: StrOrBytesPath, mode: int = Mode.STRICT) -> None:
         self._begin(_mapped(path), path, mode)
@@ -60,6 +71,12 @@ class File(Sequence[Image]):
         self._mode, self._life = mode, Life()
         self._held: Optional[Held] = Held(data, self._life)
         self._kept: Optional[Tuple[FatEntry, ...]] = None
+        self._members: Optional[Tuple[Member, ...]] = None
+
+    @property
+    def kind(self) -> str:
+        """What it is, by what it begins with: `archive`, `fat`, `fat64`, or else `image`, whether it is one or not."""
+        return _kind(self._whole().view)
 
     @property
     def closed(self) -> bool:
@@ -70,9 +87,6 @@ class File(Sequence[Image]):
         self._life.check()
         assert self._held is not None
         return self._held
-
-    def _is_fat(self, whole: Held) -> bool:
-        return whole.len >= 8 and whole.view[:4] == FAT_MAGIC
 
     def _part(self, whole: Held, entry: FatEntry) -> memoryview:
         """The bytes of an entry: all of them, or none."""
@@ -95,18 +109,29 @@ class File(Sequence[Image]):
         return self._kept
 
     def __iter__(self) -> Iterator[Image]:
-        """Its image, or those of a fat file's entries in order. An entry that can't be opened is an image with an `error`."""
+        """Its image, or those of a fat file's entries or of an archive's members in order. One that can't be opened is an image with an `error`."""
         whole = self._whole()
-        if not self._is_fat(whole):
+        kind = _kind(whole.view)
+        if kind == "image":
             yield Image(whole, 0, self._mode)
             self._life.check()
-            return
-        for entry in fat_entries(whole):
-            if self._has_image(whole, entry):
-                yield self._of_entry(whole, entry)
+        elif kind == "archive":
+            for _, image in Archive(whole).images(self._mode):
+                yield image
+        else:
+            for entry in fat_entries(whole):
+                if self._has_image(whole, entry):
+                    yield self._of_entry(whole, entry)
+
+    def _image_members(self) -> Tuple[Member, ...]:
+        """The members of an archive that are images."""
+        if self._members is None:
+            self._members = tuple(member for member, _ in Archive(self._whole()).images(self._mode))
+        return self._members
 
     def __len__(self) -> int:
-        return len(self._entries()) if self._is_fat(self._whole()) else 1
+        kind = self.kind
+        return 1 if kind == "image" else len(self._image_members() if kind == "archive" else self._entries())
 
     @overload
     def __getitem__(self, index: int) -> Image: ...
@@ -118,7 +143,10 @@ class File(Sequence[Image]):
         whole = self._whole()
         if isinstance(index, slice):
             return [self[number] for number in range(*index.indices(len(self)))]
-        if self._is_fat(whole):
+        kind = _kind(whole.view)
+        if kind == "archive":
+            return Archive(whole).image(self._image_members()[index], self._mode)
+        if kind != "image":
             return self._of_entry(whole, self._entries()[index])
         if index not in (0, -1):
             raise IndexError(f"there is no image {index}")
@@ -134,13 +162,60 @@ class File(Sequence[Image]):
         there = ", ".join(list(found)[:10]) or "none"
         raise LookupError(f"no image of {arch or 'any architecture'}: there are {there}")
 
+    @property
+    def _label(self) -> str:
+        return "" if self.name is None else os.fsdecode(self.name)
+
+    def _parts(self) -> Iterator[Tuple[str, FatEntry, Held]]:
+        """The entries of a fat file: what each is called, its record, its bytes."""
+        whole = self._whole()
+        for entry in fat_entries(whole):
+            yield f"{self._label}: arch {entry.arch}".lstrip(": "), entry, Held(self._part(whole, entry), self._life)
+
+    def archives(self) -> Iterator[Tuple[str, Archive]]:
+        """The archive that it is, or those among a fat file's entries, each with what it is called. `Refused` where the front of one can't be read."""
+        whole = self._whole()
+        if _kind(whole.view) == "archive":
+            yield self._label, Archive(whole)
+        for label, _, part in self._parts():
+            if _kind(part.view) == "archive":
+                yield label, Archive(part)
+
+    def images(self) -> Iterator[Tuple[str, Image]]:
+        """All images within, each with what it is called: `libx.a(member.o)` of a member, `a.out: arch arm64` of an entry of a fat file and
+        `libx.a: arch arm64(member.o)` of a member of an archive among its entries. An entry or a member that can't be opened has an `error`."""
+        whole = self._whole()
+        kind = _kind(whole.view)
+        if kind == "image":
+            for image in self:
+                yield self._label, image
+        elif kind == "archive":
+            for member, image in Archive(whole).images(self._mode):
+                yield f"{self._label}({member.label})", image
+        else:
+            for label, entry, part in self._parts():
+                yield from self._images_of(label, entry, part)
+
+    def _images_of(self, label: str, entry: FatEntry, part: Held) -> Iterator[Tuple[str, Image]]:
+        """The images of an entry of a fat file: its own, or those of the archive that it is."""
+        if _kind(part.view) != "archive":
+            yield label, Image._of_entry(entry, part, self._mode)
+            return
+        try:
+            archive = Archive(part)
+        except Refused as why:
+            yield label, Image._of_part(part, self._mode, entry.offset, entry.arch, why)
+            return
+        for member, image in archive.images(self._mode):
+            yield f"{label}({member.label})", image
+
     def container_faults(self) -> Iterator[LayoutFault]:
-        """The faults of its table, if it is a fat file."""
+        """The faults of its table, if it is a fat file of 32 bits."""
         return container_faults(self._whole())
 
     def close(self) -> None:
         """Closes it. The bytes stay mapped as long as something that was taken of them is held."""
-        self._life.closed, self._held, self._kept = True, None, None
+        self._life.closed, self._held, self._kept, self._members = True, None, None, None
 
     def __enter__(self) -> File:
         self._whole()

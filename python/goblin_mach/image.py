@@ -72,19 +72,25 @@ class Image:
         self._arch = arch_name(self.cputype, self.cpusubtype)
 
     @classmethod
-    def _of_entry(cls, entry: FatEntry, part: Held, mode: int) -> Image:
-        """The image of an entry of a fat file, whose bytes these are, or the one that says why it isn't opened."""
+    def _of_part(cls, part: Held, mode: int, place: int, arch: Optional[str], why: Optional[Refused]) -> Image:
+        """The image of a part of a file, whose bytes these are, or the one that says why it isn't opened."""
         self = cls.__new__(cls)
         try:
-            if entry.error is not None:
-                raise Refused(code_of(entry.error), entry.error)
+            if why is not None:
+                raise why
             self._open(part, 0, mode)
         except Refused as error:
             self.error, self._held = again(error), part
             self._take(s.gm_image())
-            self._arch = entry.arch
-        self.fat_offset = entry.offset
+            self._arch = self._arch if arch is None else arch
+        self.fat_offset = place
         return self
+
+    @classmethod
+    def _of_entry(cls, entry: FatEntry, part: Held, mode: int) -> Image:
+        """The image of an entry of a fat file, whose bytes these are, or the one that says why it isn't opened."""
+        why = None if entry.error is None else Refused(code_of(entry.error), entry.error)
+        return cls._of_part(part, mode, entry.offset, entry.arch, why)
 
     def _live(self) -> Held:
         """Its bytes, where it was opened and its file is open."""

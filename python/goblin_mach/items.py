@@ -61,6 +61,38 @@ class FatEntry(NamedTuple):
 
 
 @readable
+class Member(NamedTuple):
+    """A member of an archive: `data` are its bytes, from place `start` on, and `offset` is the place of its header. What its header says is None where a
+    field is no number. `name` is None where it can't be read, and `name_error` says why. A member with an `error` is none: it says why no more can be
+    read."""
+
+    name: Optional[str]
+    offset: int
+    start: int
+    data: memoryview
+    date: Optional[int]
+    uid: Optional[int]
+    gid: Optional[int]
+    mode: Optional[int]
+    name_error: Optional[str]
+    error: Optional[str]
+
+    @property
+    def label(self) -> str:
+        """Its name, or where its header stands."""
+        return f"at {self.offset}" if self.name is None else self.name
+
+
+@readable
+class ArchiveSymbol(NamedTuple):
+    """A symbol of an archive's index. `member` is the `offset` of the member that defines it, which isn't tested."""
+
+    name: str
+    member: int
+    error: Optional[str]
+
+
+@readable
 class Command(NamedTuple):
     """A load command: `size` bytes from `offset` on."""
 

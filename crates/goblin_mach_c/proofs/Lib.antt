@@ -24,4 +24,6 @@ pub mod BoundChains
 pub mod PlacedBindings
 pub mod BeginsThere
 pub mod FoundExports
+pub mod PartsWritten
+pub mod ArchiveSaid
 mod LibraryRows

@@ -8,6 +8,8 @@ pub mod TableRows
 pub mod SectionRows
 pub mod SignatureRows
 pub mod FatRows
+pub mod WideFatRows
+pub mod FatWrites
 pub mod Opened
 pub mod SymbolRows
 pub mod SlotRows
@@ -31,3 +33,4 @@ pub mod WeakBindsBehind
 pub mod RebaseRows
 pub mod RebasesBehind
 pub mod LayoutRows
+pub mod ArchiveRows

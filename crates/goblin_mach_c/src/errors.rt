@@ -29,6 +29,9 @@ pub const GM_NO_MEMORY: u32 = 5;
 /// The array that a call is handed has room for no row.
 pub const GM_NO_ROWS: u32 = 6;
 
+/// What is to be written has more bytes than there is room for.
+pub const GM_NO_SPACE: u32 = 7;
+
 /// The code of an error.
 pub fn code_of(error: &Error) -> u32
     ensures code { result ≡ code_of_fault (fault_of error.now) }
@@ -98,6 +101,21 @@ pub fn refuse_no_rows(out: &mut gm_error) -> u32
         text: text_of(b"the array has room for no row"),
     };
     GM_NO_ROWS
+}
+
+/// Reports that there is too little room for what is to be written.
+#[cold]
+#[inline(never)]
+pub fn refuse_no_space(out: &mut gm_error) -> u32
+    ensures code { result ≡ 7 }
+    ensures told { out.new.code ≡ 7 }
+    ensures ended { slice_get out.new.text 123 ≡ Some 0 }
+{
+    *out = gm_error {
+        code: GM_NO_SPACE,
+        text: text_of(b"there is too little room for the file"),
+    };
+    GM_NO_SPACE
 }
 
 /// Reports a refusal of before again, by its code.

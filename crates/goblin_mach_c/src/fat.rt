@@ -49,6 +49,14 @@ fn row_of(found: &Result<FatArch>) -> gm_fat_entry
     }
 }
 
+/// The entry of a number, by its record.
+pub fn fat_entry_at(bytes: &[u8], number: u32) -> gm_fat_entry
+    ensures { result ≡ fat_row (arch_at bytes.now number) }
+{
+    let place = SIZEOF_FAT_HEADER + number as usize * SIZEOF_FAT_ARCH;
+    row_of(&FatArch::parse(bytes, place))
+}
+
 // The records of a fat file.
 #[derive(Clone, Copy)]
 struct Records<'a> {
@@ -61,8 +69,7 @@ impl<'a> Numbered for Records<'a> {
     ghost item = { λ s k. fat_row (arch_at s.bytes.now k) };
 
     fn at(&self, number: u32) -> gm_fat_entry {
-        let place = SIZEOF_FAT_HEADER + number as usize * SIZEOF_FAT_ARCH;
-        row_of(&FatArch::parse(self.bytes, place))
+        fat_entry_at(self.bytes, number)
     }
 }
 
@@ -79,8 +86,8 @@ fn count_of(bytes: &[u8]) -> u32
     }
 }
 
-// How many records are told: of those that the header says the ones that lie whole in the bytes, and one more where it says more.
-fn told_of(bytes: &[u8]) -> u32
+/// How many records are told: of those that the header says the ones that lie whole in the bytes, and one more where it says more.
+pub fn told_of(bytes: &[u8]) -> u32
     ensures { result ≡ told_count bytes.now }
 {
     let count = count_of(bytes);

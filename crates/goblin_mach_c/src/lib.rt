@@ -2,6 +2,8 @@
 //! into what the caller hands in. Nothing is kept between calls.
 #![tactic(auto)]
 
+mod archive;
+mod archive_find;
 mod bindings;
 mod commands;
 mod cursor_laws;
@@ -9,6 +11,7 @@ mod data_in_code;
 mod errors;
 mod exports;
 mod fat;
+mod fat64;
 mod find;
 mod fixups;
 mod ids;
@@ -41,3 +44,4 @@ mod symbols;
 mod tools;
 mod tree;
 mod weak_binds;
+mod write_fat;

@@ -6,3 +6,5 @@ pub mod Places
 pub mod Forms
 pub mod ReadBack
 pub mod Twos
+pub mod Set
+pub mod Long

@@ -4,3 +4,4 @@ pub mod FatWrites
 pub mod FatReads
 pub mod CreatedEntries
 pub mod CreatedOrder
+pub mod Placed

@@ -14,8 +14,8 @@ use mach_base::{Endian, Record};
 use mach_headers::fat::FatHeader;
 use std::alloc::{AllocError, Allocator};
 
-// How many zeros stand between a place and the next multiple of 2 to the power of `align`.
-fn gap(from: usize, align: u32) -> usize
+/// How many zeros stand between a place and the next multiple of 2 to the power of `align`.
+pub(crate) fn gap(from: usize, align: u32) -> usize
     requires { align ≤ 15 }
     ensures value { result ≡ gap_behind from align }
     ensures small { result < 2 ^ 15 }

@@ -1,6 +1,6 @@
 //! Writing a fat file.
 
-ghost use Rattle.std.specs.Prelude.{◌≡◌, MatchResult, MatchOption, IfOk, Ok, length, true, false};
+ghost use Rattle.std.specs.Prelude.{◌≡◌, MatchResult, MatchOption, IfOk, OnOk, Ok, length, true, false};
 ghost use Rattle.std.specs.List.{list_any};
 ghost use Rattle.mach_write.specs.Entries.{entry_views, fat_entry_view};
 ghost use Rattle.mach_base.specs.Answer.{IsOkUnlessMemory};
@@ -49,16 +49,32 @@ fn write_by<R: FatRecord, A: Allocator>(alloc: A, entries: &[FatEntry<'_>]) -> R
     ensures { MatchResult result (λ file. fat_file_of R.form (entry_views entries.now) ≡ Ok file.items)
         (λ e. RefusesFat e (fat_file_of R.form (entry_views entries.now))) }
 {
+    let (from, end) = ends_of_said::<R, &A>(&alloc, entries)?;
+    write_all::<R, A>(alloc, from, end, entries)
+}
+
+/// Where the table ends, and the file, of entries that make a fat file; or why they don't.
+pub(crate) fn ends_of_said<R: FatRecord, A: Allocator>(
+    alloc: A,
+    entries: &[FatEntry<'_>],
+) -> Result<(usize, usize)>
+    ensures aligned { OnOk result (list_any is_far_aligned (entry_views entries.now) ≡ false) }
+    ensures said { OnOk result (can_be_said R.form (entry_views entries.now) ≡ true) }
+    ensures ends { IfOk result (λ ends. (ends.0 ≡ table_end R.form (length (entry_views entries.now)))
+        × (ends.1 ≡ fat_end ends.0 (entry_views entries.now))) }
+    ensures there { MatchResult result (λ ends. fat_file_of R.form (entry_views entries.now) ≡ Ok (fat_bytes R.form (entry_views entries.now)))
+        (λ e. RefusesFat e (fat_file_of R.form (entry_views entries.now))) }
+{
     if any_far_aligned(entries) {
         return Err(Error::Malformed("an entry of a fat file is aligned to 2^15 at most"));
     }
     if any_two_of_one_cpu(&alloc, entries)? {
         return Err(Error::Malformed("two entries of a fat file are for two cpus"));
     }
-    let Some((from, end)) = ends_of::<R>(entries) else {
-        return Err(Error::Malformed("a record holds its entry's place and length"));
-    };
-    write_all::<R, A>(alloc, from, end, entries)
+    match ends_of::<R>(entries) {
+        Some(ends) => Ok(ends),
+        None => Err(Error::Malformed("a record holds its entry's place and length")),
+    }
 }
 
 // Where the table ends, and the file, where records hold all places and lengths, and the header the count.

@@ -2,11 +2,11 @@ use Rattle.std.proofs.Common.{refl, sym, ◌∙◌}
 use Rattle.mach_write.specs.Entries.{entry_views}
 use Rattle.mach_write.specs.FatWrites.{far_aligned, one_cpu_twice, too_far, is_far_aligned}
 use Rattle.mach_write.proofs.Laid.{any_of_views}
-use Rattle.mach_write.proofs.Files.{file_far, file_twice, file_too_far, file_answered}
-use Rattle.mach_write.proofs.write.write_by.Goals as goal
+use Rattle.mach_write.proofs.Files.{file_far, file_twice, file_too_far, file_is}
+use Rattle.mach_write.proofs.write.ends_of_said.Goals as goal
 
-pub returns-then-any_far_aligned : goal.returns-then-any_far_aligned
-returns-then-any_far_aligned g c = (
+pub returns-then-any_far_aligned-clause-there : goal.returns-then-any_far_aligned-clause-there
+returns-then-any_far_aligned-clause-there g c = (
   far_aligned,
   file_far g.R.FatRecord.form (entry_views c.args.entries.now)
       (sym (any_of_views is_far_aligned c.args.entries.now) ∙ (sym c.any_far_aligned.ensures ∙ c.if-any_far_aligned.true)),
@@ -16,12 +16,8 @@ returns-then-any_far_aligned g c = (
 pub ends_of-requires : goal.ends_of-requires
 ends_of-requires g c = sym (any_of_views is_far_aligned c.args.entries.now) ∙ (sym c.any_far_aligned.ensures ∙ c.if-any_far_aligned.false)
 
-pub write_all-requires-clause-aligned : goal.write_all-requires-clause-aligned
-write_all-requires-clause-aligned g c =
-    sym (any_of_views is_far_aligned c.args.entries.now) ∙ (sym c.any_far_aligned.ensures ∙ c.if-any_far_aligned.false)
-
-pub returns-then-branch : goal.returns-then-branch
-returns-then-branch g c = (
+pub returns-then-branch-clause-there : goal.returns-then-branch-clause-there
+returns-then-branch-clause-there g c = (
   one_cpu_twice,
   file_twice g.R.FatRecord.form (entry_views c.args.entries.now)
       (sym (any_of_views is_far_aligned c.args.entries.now) ∙ (sym c.any_far_aligned.ensures ∙ c.if-any_far_aligned.false))
@@ -29,17 +25,20 @@ returns-then-branch g c = (
   refl,
 )
 
-pub returns-in_default : goal.returns-in_default
-returns-in_default g c = (
+pub returns-clause-there : goal.returns-clause-there
+returns-clause-there g c = (
   too_far,
   file_too_far g.R.FatRecord.form (entry_views c.args.entries.now)
       (sym (any_of_views is_far_aligned c.args.entries.now) ∙ (sym c.any_far_aligned.ensures ∙ c.if-any_far_aligned.false))
-      (sym c.in_ok-any_two_of_one_cpu.ensures ∙ c.if-branch.false) c.in_default.ensures,
+      (sym c.in_ok-any_two_of_one_cpu.ensures ∙ c.if-branch.false) c.in-None.ensures,
   refl,
 )
 
-pub returns : goal.returns
-returns g c =
-    file_answered g.R.FatRecord.form (entry_views c.args.entries.now) (λ file. file.items) c.write_all.result
+pub returns-in-Some-clause-there : goal.returns-in-Some-clause-there
+returns-in-Some-clause-there g c =
+    file_is g.R.FatRecord.form (entry_views c.args.entries.now)
     (sym (any_of_views is_far_aligned c.args.entries.now) ∙ (sym c.any_far_aligned.ensures ∙ c.if-any_far_aligned.false))
-    (sym c.in_ok-any_two_of_one_cpu.ensures ∙ c.if-branch.false) c.in-Some.ensures.0 c.write_all.ensures.written c.write_all.ensures.only
+    (sym c.in_ok-any_two_of_one_cpu.ensures ∙ c.if-branch.false) c.in-Some.ensures.0
+
+pub returns-in-Some-clause-aligned : goal.returns-in-Some-clause-aligned
+returns-in-Some-clause-aligned g c = sym (any_of_views is_far_aligned c.args.entries.now) ∙ (sym c.any_far_aligned.ensures ∙ c.if-any_far_aligned.false)

@@ -1,0 +1,13 @@
+use Rattle.std.proofs.Common.{◌∙◌, ℕ, List, drop, ap, subst}
+use Rattle.mach_arches.specs.ArchForms.{arch_form_64, arch_in}
+use Rattle.mach_base.specs.Items.{items_from}
+use Rattle.goblin_mach_c.specs.Fill.{Fills}
+use Rattle.goblin_mach_c.specs.WideFatRows.{wide_row_64}
+use Rattle.goblin_mach_c.specs.declared.fat64.gm_fat_entry64.{gm_fat_entry64}
+use Rattle.goblin_mach_c.proofs.fat64.write_64.Goals as goal
+
+pub returns : goal.returns
+returns c =
+    let rows = λ (count : ℕ). drop c.args.first (items_from (λ k. wide_row_64 (arch_in arch_form_64 c.args.bytes.now k)) 0 count) in
+    subst (λ (l : List gm_fat_entry64). Fills l c.args.out.now c.fill.new.out c.fill.result)
+    (c.rows_from-rows.ensures ∙ ap rows c.told_of_64.ensures) c.fill.ensures.filled

@@ -1,0 +1,112 @@
+-- The members and symbols of an archive as C sees them.
+use Rattle.std.specs.Prelude.{◌≡◌, ℕ, ◌-◌, ◌^◌, length, Option, Some, None, unwrap_or, Result, Ok, Err, List}
+use Rattle.mach_base.specs.Fault.{Fault}
+use Rattle.mach_archive.specs.Fields.{field_number}
+use Rattle.mach_archive.specs.IndexSymbols.{IndexSymbol}
+use Rattle.mach_archive.specs.MemberHeaders.{date_field, gid_field, mode_field, uid_field}
+use Rattle.mach_archive.specs.MemberNames.{member_name_bytes}
+use Rattle.mach_archive.specs.Members.{MemberView}
+use Rattle.mach_archive_places.specs.ArchiveFinds.{archive_form, TellsFound}
+use Rattle.mach_archive_places.specs.Places.{TellsText}
+use Rattle.mach_archive_places.specs.PlacedItems.{ToldName}
+use Rattle.mach_archive_places.specs.declared.find.ArchiveForm.{ArchiveForm}
+use Rattle.mach_archive_places.specs.declared.find.ArchiveForm.TheVariants.{Bsd, Gnu, NoArchive, Thin}
+use Rattle.goblin_mach_c.specs.Codes.{code_of_fault}
+use Rattle.goblin_mach_c.specs.declared.archive.gm_archive_member.{gm_archive_member}
+use Rattle.goblin_mach_c.specs.declared.archive.gm_archive_symbol.{gm_archive_symbol}
+
+-- where a name stands, how many bytes it has, and its code
+abbrev pub name_numbers : ToldName → ℕ × ℕ × ℕ
+name_numbers (Ok (place, len)) = (place, len, 0)
+name_numbers (Err f) = (0, 0, code_of_fault f)
+
+-- the number of a field, or the one that says that it has none (`goblin_mach.h`, GM_NO_NUMBER)
+abbrev pub number_or_none : Option ℕ → ℕ
+number_or_none n = unwrap_or n (2 ^ 64 - 1)
+
+abbrev pub member_row : MemberView × ToldName → gm_archive_member
+member_row (m, told) =
+    record {
+      date = number_or_none (field_number 10 (date_field m.fields));
+      uid = number_or_none (field_number 10 (uid_field m.fields));
+      gid = number_or_none (field_number 10 (gid_field m.fields));
+      mode = number_or_none (field_number 8 (mode_field m.fields));
+      header = m.offset;
+      «data» = m.start;
+      data_len = length m.bytes;
+      name = (name_numbers told).0;
+      name_len = (name_numbers told).1;
+      name_code = (name_numbers told).2;
+      code = 0;
+    }
+
+-- no member, and why, or 0
+abbrev pub no_member : ℕ → gm_archive_member
+no_member code =
+    record {
+      date = 0;
+      uid = 0;
+      gid = 0;
+      mode = 0;
+      header = 0;
+      «data» = 0;
+      data_len = 0;
+      name = 0;
+      name_len = 0;
+      name_code = 0;
+      code = code;
+    }
+
+-- a row says a member, with the place where its name stands; or why there is none
+abbrev pub SaysMember : List ℕ → Result MemberView Fault → gm_archive_member → Type 0
+SaysMember bytes (Ok m) row = (told : ToldName) × TellsText bytes (member_name_bytes m) told × (row ≡ member_row (m, told))
+SaysMember bytes (Err f) row = row ≡ no_member (code_of_fault f)
+
+abbrev pub archive_symbol_row : IndexSymbol × ToldName → gm_archive_symbol
+archive_symbol_row (s, told) =
+    record {
+      member = s.member;
+      name = (name_numbers told).0;
+      name_len = (name_numbers told).1;
+      code = (name_numbers told).2;
+      reserved = 0;
+    }
+
+abbrev pub no_archive_symbol : ℕ → gm_archive_symbol
+no_archive_symbol code = record { member = 0; name = 0; name_len = 0; code = code; reserved = 0 }
+
+abbrev pub SaysArchiveSymbol : List ℕ → Result IndexSymbol Fault → gm_archive_symbol → Type 0
+SaysArchiveSymbol bytes (Ok s) row = (told : ToldName) × TellsText bytes (Ok s.name) told × (row ≡ archive_symbol_row (s, told))
+SaysArchiveSymbol bytes (Err f) row = row ≡ no_archive_symbol (code_of_fault f)
+
+-- ---- what is asked of an archive
+
+-- the number of a form (`goblin_mach.h`, GM_ARCHIVE_NONE and those behind it)
+abbrev pub form_number : ArchiveForm → ℕ
+form_number NoArchive = 0
+form_number Gnu = 1
+form_number Bsd = 2
+form_number Thin = 3
+
+pub record IsFormNumber (bytes : List ℕ) (number : ℕ) : Type 0 where
+  pub form : ArchiveForm
+  pub is : archive_form bytes ≡ Ok form
+  pub numbered : number ≡ form_number form
+
+-- the code of the fault by which something isn't there
+pub record IsCodeOf {A : Type 0} (there : Result A Fault) (code : ℕ) : Type 0 where
+  pub fault : Fault
+  pub is : there ≡ Err fault
+  pub coded : code ≡ code_of_fault fault
+
+-- a member that was sought; where there is none, one of zeros
+abbrev pub found_row : Option (MemberView × ToldName) → gm_archive_member
+found_row (Some placed) = member_row placed
+found_row None = no_member 0
+
+pub record FindsMember (bytes : List ℕ) (there : Result (Option MemberView) Fault) (row : gm_archive_member) : Type 0 where
+  pub member : Option MemberView
+  pub is : there ≡ Ok member
+  pub told : Option (MemberView × ToldName)
+  pub placed : TellsFound bytes member told
+  pub written : row ≡ found_row told

@@ -1,0 +1,75 @@
+//! One member of an archive: that which defines a symbol, or the first of a name.
+
+ghost use Rattle.std.specs.Prelude.{◌≡◌, ◌≢◌, option_map};
+ghost use Rattle.std.specs.Str.{IsUtf8};
+ghost use Rattle.mach_archive_places.specs.ArchiveFinds.{member_by_name, member_by_symbol};
+ghost use Rattle.mach_archive_places.specs.PlacedItems.{placed_member_view};
+ghost use Rattle.goblin_mach_c.specs.ArchiveRows as rows;
+ghost use Rattle.goblin_mach_c.specs.ArchiveRows.{FindsMember, IsCodeOf};
+
+use crate::archive::{gm_archive_member, member_row, no_member};
+use crate::errors::{GM_OK, gm_error, refuse};
+use mach_archive_places::{PlacedMember, member_named, member_of_symbol};
+use mach_base::Error;
+
+// A member that was sought, if it was found.
+fn found_row(found: &Option<PlacedMember<'_>>) -> gm_archive_member
+    ensures { result ≡ rows.found_row (option_map placed_member_view found.now) }
+{
+    match found {
+        Some(placed) => member_row(placed),
+        None => no_member(GM_OK),
+    }
+}
+
+/// Writes the member that defines a symbol, by the index of an archive, to `member`; where no symbol of the index has this name its `header` is 0. Refused
+/// where the archive, its index, a name before that one or the member's header can't be read, and as malformed where the name is no UTF-8. A refusal
+/// leaves `member`.
+#[unsafe(no_mangle)]
+pub extern "C" fn gmr_archive_find(
+    bytes: &[u8],
+    symbol: &[u8],
+    member: &mut gm_archive_member,
+    error: &mut gm_error,
+) -> u32
+    ensures found { result ≡ 0 → FindsMember bytes.now (member_by_symbol bytes.now symbol.now) member.new }
+    ensures refused { result ≢ 0 → IsUtf8 symbol.now → IsCodeOf (member_by_symbol bytes.now symbol.now) result }
+    ensures kept { result ≢ 0 → member.new ≡ member.old }
+    ensures told { result ≢ 0 → error.new.code ≡ result }
+    ensures quiet { result ≡ 0 → error.new ≡ error.old }
+{
+    let Ok(symbol) = str::from_utf8(symbol) else {
+        return refuse(&Error::Malformed("a symbol's name is UTF-8"), error);
+    };
+    match member_of_symbol(bytes, symbol) {
+        Ok(found) => {
+            *member = found_row(&found);
+            GM_OK
+        }
+        Err(why) => refuse(&why, error),
+    }
+}
+
+/// Writes the first member of a name of an archive to `member`; where no member has it, its `header` is 0. Refused where the archive or a header before that
+/// member's can't be read. A refusal leaves `member`.
+#[unsafe(no_mangle)]
+pub extern "C" fn gmr_archive_member_named(
+    bytes: &[u8],
+    name: &[u8],
+    member: &mut gm_archive_member,
+    error: &mut gm_error,
+) -> u32
+    ensures found { result ≡ 0 → FindsMember bytes.now (member_by_name bytes.now name.now) member.new }
+    ensures refused { result ≢ 0 → IsCodeOf (member_by_name bytes.now name.now) result }
+    ensures kept { result ≢ 0 → member.new ≡ member.old }
+    ensures told { result ≢ 0 → error.new.code ≡ result }
+    ensures quiet { result ≡ 0 → error.new ≡ error.old }
+{
+    match member_named(bytes, name) {
+        Ok(found) => {
+            *member = found_row(&found);
+            GM_OK
+        }
+        Err(why) => refuse(&why, error),
+    }
+}

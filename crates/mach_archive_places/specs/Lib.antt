@@ -1,0 +1,4 @@
+pub mod Places
+pub mod ArchiveItems
+pub mod PlacedItems
+pub mod ArchiveFinds

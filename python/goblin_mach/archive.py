@@ -1,0 +1,100 @@
+"""Archives, which are static libraries: their members, and the symbols of their index."""
+
+from __future__ import annotations
+
+import ctypes
+from typing import TYPE_CHECKING, Any, Callable, Iterator, List, Optional, Tuple, Union, overload
+
+from . import _lists
+from . import _structs as s
+from ._library import lib, refused
+from ._memory import Held
+from ._rows import Rows
+from .enums import Mode
+from .errors import Refused, code_of
+from .image import Image
+from .items import ArchiveSymbol, Member
+
+if TYPE_CHECKING:
+    from _typeshed import ReadableBuffer
+
+KINDS = ("none", "gnu", "bsd", "thin")
+_IMAGES = {b"\xfe\xed\xfa\xce", b"\xfe\xed\xfa\xcf", b"\xce\xfa\xed\xfe", b"\xcf\xfa\xed\xfe"}
+
+
+def _bytes_of(name: Union[str, bytes]) -> bytes:
+    return name.encode("utf-8", "surrogateescape") if isinstance(name, str) else name
+
+
+class Archive:
+    """The archive that some bytes are, which stay as they are while it is used; `Refused` where they are none, or where its front can't be read."""
+
+    kind: str
+    """How short names are spelled: `gnu` or `bsd`."""
+
+    def __init__(self, data: Union[ReadableBuffer, Held]) -> None:
+        self._held = data if isinstance(data, Held) else Held(data)
+        held, kind, error = self._held.live(), ctypes.c_uint32(), s.gm_error()
+        if lib.gm_archive_kind(held.at, held.len, ctypes.byref(kind), ctypes.byref(error)):
+            raise refused(error)
+        self.kind = KINDS[kind.value]
+        if self.kind not in ("gnu", "bsd"):
+            self._found(lib.gm_archive_member_named, b"")  # says why these bytes are none
+
+    def members(self) -> Rows[Member]:
+        """Its members in order. The last has an `error` where the one behind it can't be read."""
+        return Rows(_lists.ARCHIVE_MEMBERS, self._held.live)
+
+    def symbols(self) -> Rows[ArchiveSymbol]:
+        """The symbols of its index; none where it has none. The last has an `error` where no more can be read."""
+        return Rows(_lists.ARCHIVE_SYMBOLS, self._held.live)
+
+    def _found(self, call: Callable[..., Any], name: bytes) -> Optional[Member]:
+        held, found, error = self._held.live(), s.gm_archive_member(), s.gm_error()
+        if call(held.at, held.len, name, len(name), ctypes.byref(found), ctypes.byref(error)):
+            raise refused(error)
+        return next(iter(_lists.ARCHIVE_MEMBERS.items_of(held, found))) if found.header else None
+
+    def member(self, name: Union[str, bytes]) -> Optional[Member]:
+        """The first member of a name, or None; `Refused` where a header before it can't be read."""
+        return self._found(lib.gm_archive_member_named, _bytes_of(name))
+
+    def defining(self, symbol: Union[str, bytes]) -> Optional[Member]:
+        """The member that defines a symbol, by the index, or None; `Refused` where the index or the member can't be read."""
+        return self._found(lib.gm_archive_find, _bytes_of(symbol))
+
+    def image(self, member: Member, mode: int = Mode.STRICT) -> Image:
+        """The image that a member is. One that can't be opened has an `error`."""
+        held = self._held.live()
+        why = None if member.error is None else Refused(code_of(member.error), member.error)
+        return Image._of_part(Held(member.data, held.life), mode, member.offset, None, why)
+
+    def images(self, mode: int = Mode.STRICT) -> Iterator[Tuple[Member, Image]]:
+        """The members that are images, each with its image: those that begin as one. Where no more members can be read the last image says why."""
+        for member in self.members():
+            if member.error is not None or bytes(member.data[:4]) in _IMAGES:
+                yield member, self.image(member, mode)
+
+    def __iter__(self) -> Iterator[Member]:
+        return iter(self.members())
+
+    def __len__(self) -> int:
+        return len(self.members())
+
+    @overload
+    def __getitem__(self, index: Union[int, str, bytes]) -> Member: ...
+
+    @overload
+    def __getitem__(self, index: slice) -> List[Member]: ...
+
+    def __getitem__(self, index: Union[int, str, bytes, slice]) -> Union[Member, List[Member]]:
+        """A member by its number or its name, or some by a slice."""
+        if not isinstance(index, (str, bytes)):
+            return self.members()[index]
+        found = self.member(index)
+        if found is None:
+            raise KeyError(index)
+        return found
+
+    def __repr__(self) -> str:
+        return f"<Archive {self.kind}, {self._held.len} bytes>"

@@ -1,0 +1,92 @@
+"""Fat files that are written."""
+
+from __future__ import annotations
+
+import ctypes
+from typing import TYPE_CHECKING, Iterable, NamedTuple, Set, Tuple
+
+from . import _structs as s
+from ._library import lib, refused
+from ._memory import Held
+from .archive import Archive
+from .enums import CpuType, ErrorCode
+from .errors import Refused
+from .items import readable
+
+if TYPE_CHECKING:
+    from _typeshed import ReadableBuffer
+
+_ORDERS = {b"\xfe\xed\xfa\xce": "big", b"\xfe\xed\xfa\xcf": "big", b"\xce\xfa\xed\xfe": "little", b"\xcf\xfa\xed\xfe": "little"}
+_SMALL_PAGES = {CpuType.X86, CpuType.X86_64, CpuType.POWERPC, CpuType.POWERPC64}
+_ABI64 = 0x01000000
+
+
+@readable
+class FatPart(NamedTuple):
+    """An entry that a fat file is to have: its cpu, its bytes, and the power of 2 that its place is a multiple of, at most 15."""
+
+    cputype: int
+    cpusubtype: int
+    data: ReadableBuffer
+    align: int
+
+    @classmethod
+    def of(cls, data: ReadableBuffer) -> FatPart:
+        """The entry that an image or an archive of images becomes, as `machfat create` makes it; `Refused` of what is neither."""
+        view = memoryview(data).cast("B")
+        if bytes(view[:8]) != b"!<arch>\n":
+            cputype, cpusubtype = _cpu(view)
+            return cls(cputype, cpusubtype, data, 12 if cputype in _SMALL_PAGES else 14)
+        cputype, cpusubtype = _cpu_of_all(Archive(view))
+        return cls(cputype, cpusubtype, data, 3 if cputype & _ABI64 else 2)
+
+
+def _cpu(view: memoryview) -> Tuple[int, int]:
+    """The cpu of an image's header."""
+    order = _ORDERS.get(bytes(view[:4]))
+    if order is None:
+        raise Refused(ErrorCode.BAD_MAGIC, f"bad magic 0x{bytes(view[:4]).hex()}")
+    if len(view) < 28:
+        raise Refused(ErrorCode.SHORT, f"28 bytes are wanted and {len(view)} are left")
+    read = int.from_bytes
+    return (read(view[4:8], "big"), read(view[8:12], "big")) if order == "big" else (read(view[4:8], "little"), read(view[8:12], "little"))
+
+
+def _cpu_of_all(archive: Archive) -> Tuple[int, int]:
+    """The cpu of all members of an archive."""
+    cpus: Set[Tuple[int, int]] = set()
+    for member in archive:
+        if member.error is not None:
+            raise Refused(ErrorCode.MALFORMED, f"a member can't be read: {member.error}")
+        cpus.add(_cpu(member.data))
+    if len(cpus) != 1:
+        raise Refused(ErrorCode.MALFORMED, "malformed: all members are for one cpu" if cpus else "malformed: an archive has a member")
+    return cpus.pop()
+
+
+def _row(part: FatPart, offset: int, length: int) -> s.gm_fat_part:
+    """A part as C takes it. A number that has no 32 bits would be cut."""
+    for number in (part.cputype, part.cpusubtype, part.align):
+        if not 0 <= number < 1 << 32:
+            raise ValueError(f"{number:#x} is no number of 32 bits")
+    return s.gm_fat_part(offset, length, part.cputype, part.cpusubtype, part.align, 0)
+
+
+def write_fat(parts: Iterable[FatPart], is_64: bool = False) -> bytearray:
+    """The bytes of a fat file of these entries, in their order, each for another cpu: with places of 32 bits, or of 64. `Refused` where two are for one
+    cpu, an alignment is above 15, or a record can't hold a place or a length."""
+    given = list(parts)
+    views = [memoryview(part.data).cast("B") for part in given]
+    rows, end = (s.gm_fat_part * len(given))(), 0
+    for number, (part, view) in enumerate(zip(given, views)):
+        rows[number] = _row(part, end, len(view))
+        end += len(view)
+    held, needed, error = Held(b"".join(views)), ctypes.c_size_t(), s.gm_error()
+    taken = held.at, held.len, rows, len(given), int(is_64)
+    if lib.gm_write_fat(*taken, None, 0, ctypes.byref(needed), None, ctypes.byref(error)) != ErrorCode.NO_SPACE:
+        raise refused(error)
+    out = bytearray(needed.value)
+    room = (ctypes.c_char * len(out)).from_buffer(out)
+    if lib.gm_write_fat(*taken, room, len(out), ctypes.byref(needed), None, ctypes.byref(error)):
+        raise refused(error)
+    return out
