@@ -1,18 +1,24 @@
 -- What files have for a cpu.
-use Rattle.std.proofs.Common.{◌≡◌, ℕ, List, Option, Some, None, Ok, Err, refl, sym, subst}
-use Rattle.mach_base.specs.Answer.{Stands}
+use Rattle.std.proofs.Common.{◌≡◌, ℕ, List, Option, Some, None, Result, Ok, Err, true, map, refl, sym, ap, subst}
+use Rattle.std.specs.Prelude.{option_map}
+use Rattle.mach_arches.specs.ArchForms.{ArchForm, arch_form_32, arch_form_64}
+use Rattle.mach_arches.specs.declared.arch64.FatArch64.{FatArch64}
+use Rattle.mach_base.proofs.Faults.{Stands-in, Stands-reported}
+use Rattle.mach_base.specs.Answer.{◌>>=◌, Stands}
 use Rattle.mach_base.specs.Fault.{Fault, fault_of}
 use Rattle.mach_base.specs.declared.error.Error.{Error}
+use Rattle.mach_base.specs.declared.error.Error.TheVariants.{BadMagic}
 use Rattle.mach_headers.specs.declared.fat.FatArch.{FatArch}
-use Rattle.goblin_mach.specs.FatFile.{file_held, archs_of, first_of_cpu}
+use Rattle.mach_input.specs.Inputs.{InputFault, IsInput, begins_any_archive}
+use Rattle.mach_input.specs.declared.input.Input.TheVariants.{Fat, Fat64}
+use Rattle.goblin_mach.specs.FatFile.{arch_table_in, archs_in, file_held, first_arch_of_cpu}
 use Rattle.mach_image.specs.OpenImage.{IsImage, commands_held}
-use Rattle.goblin_mach.specs.File.{IsFatMach}
 use Rattle.goblin_mach.specs.declared.fat_file.table.FatTable.{FatTable}
 use Rattle.mach_image.specs.declared.macho.MachO.{MachO}
-use Rattle.mach_resolve.specs.Cpu.{IsOfCpu, entry_bytes, FindsRecord, HasFor, image, other_image, entry, of_table}
+use Rattle.mach_resolve.specs.Cpu.{FileFault, FindsEntry, ForFault, HasFor, HasTable, IsOfCpu, an_archive, entry_bytes, image, of_32_bits, of_64_bits}
+use Rattle.mach_resolve.specs.Cpu.{of_file, of_input, of_record, of_table, other_image, fat_table_view}
 use Rattle.mach_resolve.specs.Files.{File}
 use Rattle.mach_resolve.specs.Given.{GivenFile, IsFile, IsLibrary, NumberedFault, OpenFault, LibraryFault, unfound, of_image}
-use Rattle.mach_resolve.proofs.Notes.{stands_as}
 
 -- an image that was opened is one of its header's cpu
 pub of_cpu : {A : Type 0} (bytes : List ℕ) (m : MachO A) → IsImage bytes 0 m → IsOfCpu bytes m.header.cputype
@@ -21,31 +27,71 @@ of_cpu bytes m is = record {
   cpu = record { ctx = is.ctx; cs = commands_held m; opens = is.opens.lossy; holds = (m.header, is.fields.header, refl) };
 }
 
--- a record that was found in a fat file
-pub finds : {A : Type 0} (bytes : List ℕ) (m : FatTable FatArch A) (cputype : ℕ) (found : Option FatArch) → IsFatMach bytes m
-    → first_of_cpu cputype (archs_of (file_held m)) ≡ Ok found → FindsRecord bytes cputype found
-finds bytes m cputype found fat is = record { file = file_held m; magic = fat.magic; is_file = fat.file; is_first = is }
+-- what a table says of its records, by what is read of them
+pub table_entries : {R A : Type 0} (form : ArchForm R) (bytes : List ℕ) (m : FatTable R A) (there : Result (List R) Fault)
+    → arch_table_in form (file_held m) ≡ there
+    → (fat_table_view form bytes (file_held m)).entries ≡ (there >>= (λ arches. Ok (map (entry_bytes form bytes) arches)))
+table_entries {R} form bytes m there is = ap (λ (r : Result (List R) Fault). r >>= (λ arches. Ok (map (entry_bytes form bytes) arches))) is
 
-has_entry : (bytes slice : List ℕ) (cputype : ℕ) (arch : FatArch) → FindsRecord bytes cputype (Some arch) → slice ≡ entry_bytes bytes arch
-    → HasFor bytes cputype (Some slice)
-has_entry bytes slice cputype arch found is = subst (λ (b : List ℕ). HasFor bytes cputype (Some b)) (sym is) (entry arch found)
+pub table_first : {R A : Type 0} (form : ArchForm R) (bytes : List ℕ) (m : FatTable R A) (cputype : ℕ) (there : Result (Option R) Fault)
+    → first_arch_of_cpu form cputype (archs_in form (file_held m)) ≡ there
+    → (fat_table_view form bytes (file_held m)).first_for cputype ≡ (there >>= (λ found. Ok (option_map (entry_bytes form bytes) found)))
+table_first {R} form bytes m cputype there is = ap (λ (r : Result (Option R) Fault). r >>= (λ found. Ok (option_map (entry_bytes form bytes) found))) is
+
+-- what was found in a table
+pub finds : {R A : Type 0} (form : ArchForm R) (bytes : List ℕ) (m : FatTable R A) (cputype : ℕ) (found : Option R)
+    → HasTable bytes (fat_table_view form bytes (file_held m)) → first_arch_of_cpu form cputype (archs_in form (file_held m)) ≡ Ok found
+    → FindsEntry bytes cputype (option_map (entry_bytes form bytes) found)
+finds form bytes m cputype found has is =
+    record { table = fat_table_view form bytes (file_held m); has = has; is_first = table_first form bytes m cputype (Ok found) is }
+
+has_entry : (bytes slice entry : List ℕ) (cputype : ℕ) → FindsEntry bytes cputype (Some entry) → slice ≡ entry → HasFor bytes cputype (Some slice)
+has_entry bytes slice entry cputype found is = subst (λ (b : List ℕ). HasFor bytes cputype (Some b)) (sym is) (of_table found)
 
 -- the first entry of a cpu, opened
-pub entry_library : (cputype number : ℕ) (g : GivenFile) (slice : List ℕ) (arch : FatArch) (f : File) → FindsRecord g.bytes cputype (Some arch)
-    → slice ≡ entry_bytes g.bytes arch → IsFile number (record { path = g.path; bytes = slice }) f → IsLibrary cputype number g f
-entry_library cputype number g slice arch f found is opened = record { bytes = slice; has = has_entry g.bytes slice cputype arch found is; is_file = opened }
+pub entry_library : (cputype number : ℕ) (g : GivenFile) (slice entry : List ℕ) (f : File) → FindsEntry g.bytes cputype (Some entry)
+    → slice ≡ entry → IsFile number (record { path = g.path; bytes = slice }) f → IsLibrary cputype number g f
+entry_library cputype number g slice entry f found is opened =
+    record { bytes = slice; has = has_entry g.bytes slice entry cputype found is; is_file = opened }
 
 -- a fault of the first entry of a cpu is one of the library
-pub entry_fault : (cputype number : ℕ) (g : GivenFile) (slice : List ℕ) (arch : FatArch) → FindsRecord g.bytes cputype (Some arch)
-    → slice ≡ entry_bytes g.bytes arch → (n : ℕ) (f : Fault) → OpenFault number (record { path = g.path; bytes = slice }) n f
+pub entry_fault : (cputype number : ℕ) (g : GivenFile) (slice entry : List ℕ) → FindsEntry g.bytes cputype (Some entry)
+    → slice ≡ entry → (n : ℕ) (f : Fault) → OpenFault number (record { path = g.path; bytes = slice }) n f
     → NumberedFault number (LibraryFault cputype g) n f
-entry_fault cputype number g slice arch found is n f stands = (stands.0, of_image slice (has_entry g.bytes slice cputype arch found is) stands.1)
+entry_fault cputype number g slice entry found is n f stands = (stands.0, of_image slice (has_entry g.bytes slice entry cputype found is) stands.1)
 
--- a fault of a table is one of the library
-pub table_fault : {A : Type 0} (cputype number : ℕ) (g : GivenFile) (m : FatTable FatArch A) (e : Error) → IsFatMach g.bytes m
-    → first_of_cpu cputype (archs_of (file_held m)) ≡ Err (fault_of e) → Stands (NumberedFault number (LibraryFault cputype g) number) e
-table_fault cputype number g m e fat is =
-    stands_as (NumberedFault number (LibraryFault cputype g) number) e (refl, unfound (of_table (file_held m) fat.magic fat.file is))
+-- why a search in a table is refused stands
+pub search_fault : {R A : Type 0} (form : ArchForm R) (bytes : List ℕ) (m : FatTable R A) (cputype : ℕ) (e : Error)
+    → HasTable bytes (fat_table_view form bytes (file_held m)) → first_arch_of_cpu form cputype (archs_in form (file_held m)) ≡ Err (fault_of e)
+    → Stands (ForFault bytes cputype) e
+search_fault form bytes m cputype e has is =
+    Stands-reported (ForFault bytes cputype) e
+    (of_record (fat_table_view form bytes (file_held m)) has (table_first form bytes m cputype (Err (fault_of e)) is))
+
+-- a fault of a file is one of the library
+pub library_fault : (cputype number : ℕ) (g : GivenFile) (e : Error) → Stands (ForFault g.bytes cputype) e
+    → Stands (NumberedFault number (LibraryFault cputype g) number) e
+library_fault cputype number g e stands =
+    Stands-in (ForFault g.bytes cputype) (NumberedFault number (LibraryFault cputype g) number) e (λ f s. (refl, unfound s)) stands
+
+-- a file that opened as a fat one has its table
+pub narrow_table : {A : Type 0} (bytes : List ℕ) (m : FatTable FatArch A) → IsInput bytes (Fat m)
+    → HasTable bytes (fat_table_view arch_form_32 bytes (file_held m))
+narrow_table bytes m is = of_32_bits (file_held m) is.1.magic is.1.file
+
+pub wide_table : {A : Type 0} (bytes : List ℕ) (m : FatTable FatArch64 A) → IsInput bytes (Fat64 m)
+    → HasTable bytes (fat_table_view arch_form_64 bytes (file_held m))
+wide_table bytes m is = of_64_bits (file_held m) is.1 is.2
+
+-- why a file that doesn't open is refused stands, and why one that is an archive is
+pub input_fault : (bytes : List ℕ) (e : Error) → Stands (InputFault bytes) e → Stands (FileFault bytes) e
+input_fault bytes e stands = Stands-in (InputFault bytes) (FileFault bytes) e (λ f s. of_input s) stands
+
+pub archive_fault : (bytes : List ℕ) (e : Error) → begins_any_archive bytes ≡ true → e ≡ BadMagic 0x213c_6172 → Stands (FileFault bytes) e
+archive_fault bytes e begins is = subst (Stands (FileFault bytes)) (sym is) (an_archive begins)
+
+pub file_fault : (cputype : ℕ) (bytes : List ℕ) (e : Error) → Stands (FileFault bytes) e → Stands (ForFault bytes cputype) e
+file_fault cputype bytes e stands = Stands-in (FileFault bytes) (ForFault bytes cputype) e (λ f s. of_file s) stands
 
 -- an image of the cpu
 pub image_library : {A : Type 0} (cputype number : ℕ) (g : GivenFile) (m : MachO A) (f : File) → IsImage g.bytes 0 m → m.header.cputype ≡ cputype

@@ -7,8 +7,7 @@ use Rattle.std.proofs.lemmas.Bool.{true≢false, false≢true}
 use Rattle.std.proofs.lemmas.Bool.Decides.{Decides-ltb}
 use Rattle.std.proofs.lemmas.List.{map_push}
 use Rattle.mach_base.specs.Among.{IsAmong}
-use Rattle.mach_base.specs.Answer.{Stands}
-use Rattle.mach_base.specs.Fault.{Fault, fault_of}
+use Rattle.mach_base.specs.Fault.{Fault}
 use Rattle.mach_base.specs.declared.error.Error.{Error}
 use Rattle.mach_base.specs.declared.error.Error.TheVariants.{Malformed, BadMagic, Scroll, BufferTooShort, Memory}
 use Rattle.goblin_mach.specs.View.{Tells}
@@ -71,21 +70,6 @@ tells_more P Q (Memory e) more t = t
 pub fails_more : (P Q : ℕ → Fault → Type 0) (x : Failure) → ((n : ℕ) (f : Fault) → P n f → Q n f) → IsFailure P x → IsFailure Q x
 fails_more P Q (failures.Refused file error) more t = tells_more (P file) (Q file) error (more file) t
 fails_more P Q failures.Memory more t = tt
-
--- a fault that stands among some stands among more
-pub stands_more : (P Q : Fault → Type 0) (e : Error) → ((f : Fault) → P f → Q f) → Stands P e → Stands Q e
-stands_more P Q (Malformed msg) more t = more _ t
-stands_more P Q (BadMagic magic) more t = more _ t
-stands_more P Q (Scroll e) more t = more _ t
-stands_more P Q (BufferTooShort count what) more t = more _ t
-stands_more P Q (Memory e) more t = t
-
-pub stands_as : (P : Fault → Type 0) (e : Error) → P (fault_of e) → Stands P e
-stands_as P (Malformed msg) t = t
-stands_as P (BadMagic magic) t = t
-stands_as P (Scroll e) t = t
-stands_as P (BufferTooShort count what) t = t
-stands_as P (Memory e) t = tt
 
 -- want of memory is a failure
 pub memory_fails : {T : Type 0} (P : ℕ → Fault → Type 0) (r : Result T Failure) → IsErrAnd r (λ x. x ≡ failures.Memory) → IfErr r (IsFailure P)

@@ -3,14 +3,10 @@ use Rattle.std.specs.Prelude.{◌≡◌, ◌≢◌, ◌-◌, ◌&&◌, ℕ, not,
 use Rattle.std.specs.List.{list_all}
 use Rattle.mach_base.specs.Fault.{Fault}
 use Rattle.mach_base.specs.declared.error.Error.{Error}
-use Rattle.mach_headers.specs.declared.fat.FatArch.{FatArch}
-use Rattle.goblin_mach.specs.FatFile.{FatFile, fat_file_in, arches_in}
-use Rattle.mach_image.specs.Image.{ImageFault}
-use Rattle.goblin_mach.specs.File.{HasFatMagic, MachFault}
 use Rattle.mach_headers.specs.Magic.{begins_archive}
-use Rattle.goblin_mach.specs.View.{Tells}
+use Rattle.goblin_mach.specs.View.{IsTold, Tells}
 use Rattle.mach_resolve.specs.Answers.{Answer, is_settled}
-use Rattle.mach_resolve.specs.Cpu.{IsOfCpu, entry_bytes, FindsRecord, ForFault}
+use Rattle.mach_resolve.specs.Cpu.{FatTableView, FileFault, FindsEntry, ForFault, HasTable, IsOfCpu}
 use Rattle.mach_resolve.specs.Given.{GivenFile}
 use Rattle.mach_resolve.specs.Note.{Note}
 use Rattle.mach_resolve.specs.Resolved.{IsResolved, ResolveFault}
@@ -39,22 +35,22 @@ pub data IsEntryOutcome (limit : ℕ) (program : GivenFile) (libraries : List Gi
   an_archive : begins_archive program.bytes ≡ true → IsEntryOutcome limit program libraries archive
   an_image : (o : Outcome) → begins_archive program.bytes ≡ false → IsOutcome limit program libraries o → IsEntryOutcome limit program libraries o
 
--- an entry of a program, by its record
-abbrev pub entry_of_program : GivenFile → FatArch → GivenFile
-entry_of_program program arch = record { path = program.path; bytes = entry_bytes program.bytes arch }
+-- an entry of a program, by its bytes
+abbrev pub entry_of_program : GivenFile → List ℕ → GivenFile
+entry_of_program program entry = record { path = program.path; bytes = entry }
 
--- one outcome for each record, in order, each within what those before it leave of `limit` bindings
-abbrev pub AreEntryOutcomes : ℕ → GivenFile → List GivenFile → List FatArch → List Outcome → Type 0
+-- one outcome for each entry, in order, each within what those before it leave of `limit` bindings
+abbrev pub AreEntryOutcomes : ℕ → GivenFile → List GivenFile → List (List ℕ) → List Outcome → Type 0
 AreEntryOutcomes limit program libraries [] [] = Unit {0}
 AreEntryOutcomes limit program libraries [] (o ∷ outcomes) = ⊥
-AreEntryOutcomes limit program libraries (arch ∷ arches) [] = ⊥
-AreEntryOutcomes limit program libraries (arch ∷ arches) (o ∷ outcomes) =
-    IsEntryOutcome limit (entry_of_program program arch) libraries o × AreEntryOutcomes (limit - answer_count o) program libraries arches outcomes
+AreEntryOutcomes limit program libraries (entry ∷ entries) [] = ⊥
+AreEntryOutcomes limit program libraries (entry ∷ entries) (o ∷ outcomes) =
+    IsEntryOutcome limit (entry_of_program program entry) libraries o × AreEntryOutcomes (limit - answer_count o) program libraries entries outcomes
 
 -- a fault stands where a program is opened as a whole: where the file is opened, or in the table of a fat one
 pub data ProgramFault (bytes : List ℕ) : Fault → Type 0 where
-  of_file : {f : Fault} → MachFault ImageFault bytes f → ProgramFault bytes f
-  of_table : {f : Fault} (file : FatFile) → HasFatMagic bytes → fat_file_in bytes ≡ Ok file → arches_in file ≡ Err f → ProgramFault bytes f
+  of_file : {f : Fault} → FileFault bytes f → ProgramFault bytes f
+  of_table : {f : Fault} (table : FatTableView) → HasTable bytes table → table.entries ≡ Err f → ProgramFault bytes f
 
 -- what is told of a whole file: one outcome; those of all entries; or that nothing is there for a cpu
 pub data Report : Type 0 where
@@ -74,6 +70,10 @@ IsOneOf Holds (one o) = Holds o
 IsOneOf Holds (entries outcomes) = ⊥
 IsOneOf Holds (nothing cputype) = ⊥
 
+-- why the program, which is file 0, is refused is told, and isn't want of memory
+abbrev pub TellsError : Error → Report → Type 0
+TellsError e r = (r ≡ one (refused 0 e)) × IsTold e
+
 -- What is told of a program, where all of it is asked for, or what it has for a cpu; of the bindings of its images, in order, the first `limit` are
 -- answered.
 pub data IsProgramReport (limit : ℕ) (program : GivenFile) (libraries : List GivenFile) : Option ℕ → Report → Type 0 where
@@ -82,11 +82,11 @@ pub data IsProgramReport (limit : ℕ) (program : GivenFile) (libraries : List G
   image_of_cpu : (cputype : ℕ) (o : Outcome) → IsOfCpu program.bytes cputype → IsOutcome limit program libraries o
       → IsProgramReport limit program libraries (Some cputype) (one o)
   other_image : (cputype other : ℕ) → IsOfCpu program.bytes other → other ≢ cputype → IsProgramReport limit program libraries (Some cputype) (nothing cputype)
-  fat : (file : FatFile) (arches : List FatArch) (outcomes : List Outcome) → HasFatMagic program.bytes → fat_file_in program.bytes ≡ Ok file
-      → arches_in file ≡ Ok arches → AreEntryOutcomes limit program libraries arches outcomes → IsProgramReport limit program libraries None (entries outcomes)
-  entry : (cputype : ℕ) (arch : FatArch) (o : Outcome) → FindsRecord program.bytes cputype (Some arch)
-      → IsEntryOutcome limit (entry_of_program program arch) libraries o → IsProgramReport limit program libraries (Some cputype) (one o)
-  no_entry : (cputype : ℕ) → FindsRecord program.bytes cputype None → IsProgramReport limit program libraries (Some cputype) (nothing cputype)
+  fat : (table : FatTableView) (parts : List (List ℕ)) (outcomes : List Outcome) → HasTable program.bytes table → table.entries ≡ Ok parts
+      → AreEntryOutcomes limit program libraries parts outcomes → IsProgramReport limit program libraries None (entries outcomes)
+  entry : (cputype : ℕ) (part : List ℕ) (o : Outcome) → FindsEntry program.bytes cputype (Some part)
+      → IsEntryOutcome limit (entry_of_program program part) libraries o → IsProgramReport limit program libraries (Some cputype) (one o)
+  no_entry : (cputype : ℕ) → FindsEntry program.bytes cputype None → IsProgramReport limit program libraries (Some cputype) (nothing cputype)
   unopened : (e : Error) → Tells (ProgramFault program.bytes) e → IsProgramReport limit program libraries None (one (refused 0 e))
   unfound : (cputype : ℕ) (e : Error) → Tells (ForFault program.bytes cputype) e → IsProgramReport limit program libraries (Some cputype) (one (refused 0 e))
 

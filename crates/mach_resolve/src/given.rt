@@ -4,9 +4,10 @@ ghost use Rattle.std.specs.Prelude.{◌≡◌, ℕ, List, None, map, IfOk, IfErr
 ghost use Rattle.mach_base.specs.Text.{texts};
 ghost use Rattle.mach_image.specs.Libraries.{libraries_in};
 ghost use Rattle.mach_image.specs.OpenImage.{IsImage, bytes_held, commands_held, ctx_held};
-ghost use Rattle.goblin_mach.specs.File.{IsFatMach};
+ghost use Rattle.goblin_mach.specs.FatFile.{file_held};
 ghost use Rattle.mach_resolve.specs.Failures.{IsFailure};
-ghost use Rattle.mach_resolve.specs.Cpu.{HasFor};
+ghost use Rattle.mach_base.specs.declared.error.Error.TheVariants as errors;
+ghost use Rattle.mach_resolve.specs.Cpu.{HasFor, HasTable, fat_table_view};
 ghost use Rattle.mach_resolve.specs.Given.{IsFile, IsLibrary, only, Adds, AddsLibrary, GathersFor, reexported, may_be_absent};
 ghost use Rattle.mach_resolve.specs.Given.{NumberedFault, OpenFault, LibraryFault, FaultFor};
 ghost use Rattle.mach_resolve.specs.Seen.{file_seen, gathered_seen};
@@ -16,8 +17,9 @@ use crate::failure::Failure;
 use crate::file::{File, Files};
 use crate::note::Note;
 use goblin_mach::header::MH_EXECUTE;
-use goblin_mach::{Mach, MachO, MultiArch, laws};
+use goblin_mach::{ArchRecord, Error, FatTable, MachO, laws};
 use indexmap::IndexSet;
+use mach_input::Input;
 use std::alloc::{AllocError, Allocator};
 
 /// A file as it was given.
@@ -77,6 +79,13 @@ fn file_of<'a, A: Allocator + Copy>(
     })
 }
 
+/// Why an archive is refused: its first four bytes are no magic of Mach-O's.
+pub fn archive_error() -> Error
+    ensures { result ≡ errors.BadMagic 0x213c_6172 }
+{
+    Error::BadMagic(0x213c_6172)
+}
+
 // The file of a number, opened.
 fn open<'a, A: Allocator + Copy>(
     alloc: A,
@@ -93,23 +102,24 @@ fn open<'a, A: Allocator + Copy>(
 }
 
 // The file that a fat library of a number is for a cpu: its first entry of it, or none.
-fn open_entry<'a, A: Allocator + Copy>(
+fn open_entry<'a, R: ArchRecord, A: Allocator + Copy>(
     alloc: A,
     cputype: u32,
     number: usize,
     given: Given<'a>,
-    container: &MultiArch<'a, A>,
+    container: &FatTable<'a, R, A>,
 ) -> Result<Option<File<'a, A>>, Failure>
-    ensures opened { IsFatMach given.entry.bytes.now container.now
+    ensures opened { HasTable given.entry.bytes.now (fat_table_view R.arch_form given.entry.bytes.now (file_held container.now))
         → IfOk result (λ o. IfSome o (λ f. IsLibrary cputype number (given_seen given.entry) (file_seen f))) }
-    ensures none { IsFatMach given.entry.bytes.now container.now → IfOk result (λ o. IfNone o (HasFor given.entry.bytes.now cputype None)) }
-    ensures refused { IsFatMach given.entry.bytes.now container.now
+    ensures none { HasTable given.entry.bytes.now (fat_table_view R.arch_form given.entry.bytes.now (file_held container.now))
+        → IfOk result (λ o. IfNone o (HasFor given.entry.bytes.now cputype None)) }
+    ensures refused { HasTable given.entry.bytes.now (fat_table_view R.arch_form given.entry.bytes.now (file_held container.now))
         → IfErr result (IsFailure (NumberedFault number (LibraryFault cputype (given_seen given.entry)))) }
 {
     let Given { path, bytes } = given;
     match container.find_cputype(cputype) {
         Ok(Some(arch)) => {
-            let bytes = arch.slice(bytes);
+            let bytes = arch.entry_slice(bytes);
             match open(alloc, number, Given { path, bytes }) {
                 Ok(file) => Ok(Some(file)),
                 Err(failure) => Err(failure),
@@ -132,15 +142,17 @@ fn open_library<'a, A: Allocator + Copy>(
     ensures none { IfOk result (λ o. IfNone o (HasFor given.entry.bytes.now cputype None)) }
     ensures refused { IfErr result (IsFailure (NumberedFault number (LibraryFault cputype (given_seen given.entry)))) }
 {
-    match Mach::parse(alloc, given.bytes) {
-        Ok(Mach::Binary(image)) => {
+    match Input::parse(alloc, given.bytes) {
+        Ok(Input::Image(image)) => {
             if image.header.cputype == cputype {
                 Ok(Some(file_of(alloc, number, given.path, image)?))
             } else {
                 Ok(None)
             }
         }
-        Ok(Mach::Fat(container)) => open_entry(alloc, cputype, number, given, &container),
+        Ok(Input::Fat(container)) => open_entry(alloc, cputype, number, given, &container),
+        Ok(Input::Fat64(container)) => open_entry(alloc, cputype, number, given, &container),
+        Ok(Input::Archive(_)) => Err(Failure::refused(number, archive_error())),
         Err(error) => Err(Failure::refused(number, error)),
     }
 }

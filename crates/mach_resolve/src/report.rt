@@ -2,20 +2,20 @@
 
 ghost use Rattle.std.specs.Prelude.{◌≡◌, ◌≤◌, map, Some, None, IfOk, IfErr};
 ghost use Rattle.std.specs.List.{list_all};
-ghost use Rattle.goblin_mach.specs.File.{IsFatMach};
-ghost use Rattle.mach_resolve.specs.Cpu.{IsOfCpu};
+ghost use Rattle.goblin_mach.specs.FatFile.{file_held};
+ghost use Rattle.mach_resolve.specs.Cpu.{HasTable, IsOfCpu, entry_bytes, fat_table_view};
 ghost use Rattle.mach_resolve.specs.Opened.{given_seen};
-ghost use Rattle.mach_resolve.specs.Report.{entry_of_program, IsOneOf, IsOutcome, IsEntryOutcome, AreEntryOutcomes, IsProgramReport, answer_count};
+ghost use Rattle.mach_resolve.specs.Report.{entry_of_program, IsOneOf, IsOutcome, IsEntryOutcome, AreEntryOutcomes, IsProgramReport, TellsError, answer_count};
 ghost use Rattle.mach_resolve.specs.Report.{answers_in, is_whole, all_whole};
 ghost use Rattle.mach_resolve.specs.Seen.{outcome_seen, report_seen, IsOutcomeOfFailure};
 ghost use Rattle.mach_resolve.specs.declared.failure.Failure.TheVariants as failures;
 
 use crate::answers::all_settled;
 use crate::failure::Failure;
-use crate::given::Given;
+use crate::given::{Given, archive_error};
 use crate::resolve::{Resolved, resolve};
-use goblin_mach::fat::FatArch;
-use goblin_mach::{Error, Mach, MultiArch};
+use goblin_mach::{ArchRecord, Error, FatTable};
+use mach_input::Input;
 use std::alloc::Allocator;
 
 /// What is told of one program.
@@ -114,19 +114,20 @@ fn outcome_for<'a, A: Allocator + Copy>(
 }
 
 // The outcome for an entry of a fat program, by its record.
-fn entry_outcome<'a, A: Allocator + Copy>(
+fn entry_outcome<'a, R: ArchRecord, A: Allocator + Copy>(
     alloc: A,
     limit: usize,
     program: Given<'a>,
-    arch: &FatArch,
+    arch: &R,
     libraries: &[Given<'a>],
 ) -> Result<Outcome<'a, A>, Failure>
-    ensures told { IfOk result (λ o. IsEntryOutcome limit (entry_of_program (given_seen program.entry) arch.now) (map given_seen libraries.now)
+    ensures told { IfOk result (λ o. IsEntryOutcome limit
+        (entry_of_program (given_seen program.entry) (entry_bytes R.arch_form program.entry.bytes.now arch.now)) (map given_seen libraries.now)
         (outcome_seen o)) }
     ensures memory { IfErr result (λ failure. failure ≡ failures.Memory) }
 {
     let Given { path, bytes } = program;
-    let bytes = arch.slice(bytes);
+    let bytes = arch.entry_slice(bytes);
     if bytes.starts_with(b"!<arch>\n") {
         Ok(Outcome::Archive)
     } else {
@@ -136,14 +137,15 @@ fn entry_outcome<'a, A: Allocator + Copy>(
 
 // The outcomes for the entries of a fat program, by their records, in order, each within what those before it leave of
 // `limit` bindings.
-fn entry_outcomes<'a, A: Allocator + Copy>(
+fn entry_outcomes<'a, R: ArchRecord, A: Allocator + Copy>(
     alloc: A,
     limit: usize,
     program: Given<'a>,
-    arches: &[FatArch],
+    arches: &[R],
     libraries: &[Given<'a>],
 ) -> Result<Vec<Outcome<'a, A>, A>, Failure>
-    ensures told { IfOk result (λ v. AreEntryOutcomes limit (given_seen program.entry) (map given_seen libraries.now) arches.now (map outcome_seen v.items)) }
+    ensures told { IfOk result (λ v. AreEntryOutcomes limit (given_seen program.entry) (map given_seen libraries.now)
+        (map (entry_bytes R.arch_form program.entry.bytes.now) arches.now) (map outcome_seen v.items)) }
     ensures memory { IfErr result (λ failure. failure ≡ failures.Memory) }
 {
     let mut outcomes = Vec::new(alloc);
@@ -160,15 +162,26 @@ fn entry_outcomes<'a, A: Allocator + Copy>(
     Ok(outcomes)
 }
 
+// What is told of a program that is refused for an error; want of memory is a failure.
+fn report_refused<'a, A: Allocator>(error: Error) -> Result<Report<'a, A>, Failure>
+    ensures told { IfOk result (λ r. TellsError error (report_seen r)) }
+    ensures memory { IfErr result (λ failure. failure ≡ failures.Memory) }
+{
+    match error {
+        Error::Memory(_) => Err(Failure::Memory),
+        error => Ok(Report::One(Outcome::Refused { file: 0, error })),
+    }
+}
+
 // What is told of a fat program, of all its entries.
-fn report_all<'a, A: Allocator + Copy>(
+fn report_all<'a, R: ArchRecord, A: Allocator + Copy>(
     alloc: A,
     limit: usize,
     program: Given<'a>,
-    container: &MultiArch<'a, A>,
+    container: &FatTable<'a, R, A>,
     libraries: &[Given<'a>],
 ) -> Result<Report<'a, A>, Failure>
-    ensures told { IsFatMach program.entry.bytes.now container.now
+    ensures told { HasTable program.entry.bytes.now (fat_table_view R.arch_form program.entry.bytes.now (file_held container.now))
         → IfOk result (λ r. IsProgramReport limit (given_seen program.entry) (map given_seen libraries.now) None (report_seen r)) }
     ensures memory { IfErr result (λ failure. failure ≡ failures.Memory) }
 {
@@ -177,23 +190,20 @@ fn report_all<'a, A: Allocator + Copy>(
             Ok(outcomes) => Ok(Report::Entries(outcomes)),
             Err(failure) => Err(failure),
         },
-        Err(error) => match refusal(Failure::refused(0, error)) {
-            Ok(outcome) => Ok(Report::One(outcome)),
-            Err(failure) => Err(failure),
-        },
+        Err(error) => report_refused(error),
     }
 }
 
 // What is told of a fat program, of its first entry of a cpu.
-fn report_entry<'a, A: Allocator + Copy>(
+fn report_entry<'a, R: ArchRecord, A: Allocator + Copy>(
     alloc: A,
     cputype: u32,
     limit: usize,
     program: Given<'a>,
-    container: &MultiArch<'a, A>,
+    container: &FatTable<'a, R, A>,
     libraries: &[Given<'a>],
 ) -> Result<Report<'a, A>, Failure>
-    ensures told { IsFatMach program.entry.bytes.now container.now
+    ensures told { HasTable program.entry.bytes.now (fat_table_view R.arch_form program.entry.bytes.now (file_held container.now))
         → IfOk result (λ r. IsProgramReport limit (given_seen program.entry) (map given_seen libraries.now) (Some cputype) (report_seen r)) }
     ensures memory { IfErr result (λ failure. failure ≡ failures.Memory) }
 {
@@ -203,10 +213,7 @@ fn report_entry<'a, A: Allocator + Copy>(
             Err(failure) => Err(failure),
         },
         Ok(None) => Ok(Report::Nothing(cputype)),
-        Err(error) => match refusal(Failure::refused(0, error)) {
-            Ok(outcome) => Ok(Report::One(outcome)),
-            Err(failure) => Err(failure),
-        },
+        Err(error) => report_refused(error),
     }
 }
 
@@ -246,6 +253,25 @@ fn report_image<'a, A: Allocator + Copy>(
     }
 }
 
+// What is told of a fat program: of all its entries, or of the first of a cpu that is wanted.
+fn report_fat<'a, R: ArchRecord, A: Allocator + Copy>(
+    alloc: A,
+    wanted: Option<u32>,
+    limit: usize,
+    program: Given<'a>,
+    container: &FatTable<'a, R, A>,
+    libraries: &[Given<'a>],
+) -> Result<Report<'a, A>, Failure>
+    ensures told { HasTable program.entry.bytes.now (fat_table_view R.arch_form program.entry.bytes.now (file_held container.now))
+        → IfOk result (λ r. IsProgramReport limit (given_seen program.entry) (map given_seen libraries.now) wanted (report_seen r)) }
+    ensures memory { IfErr result (λ failure. failure ≡ failures.Memory) }
+{
+    match wanted {
+        Some(cputype) => report_entry(alloc, cputype, limit, program, container, libraries),
+        None => report_all(alloc, limit, program, container, libraries),
+    }
+}
+
 /// What is told of a program: of all of it, or of what it has for a cpu that is wanted. Of the bindings of its images, in
 /// order, the first `limit` are answered. Only memory can be wanting.
 pub fn report_on<'a, A: Allocator + Copy>(
@@ -259,18 +285,18 @@ pub fn report_on<'a, A: Allocator + Copy>(
     ensures few { IfOk result (λ r. answers_in (report_seen r) ≤ limit) }
     ensures memory { IfErr result (λ failure. failure ≡ failures.Memory) }
 {
-    match Mach::parse(alloc, program.bytes) {
-        Ok(Mach::Binary(image)) => {
+    match Input::parse(alloc, program.bytes) {
+        Ok(Input::Image(image)) => {
             let cputype = image.header.cputype;
             report_image(alloc, wanted, cputype, limit, program, libraries)
         }
-        Ok(Mach::Fat(container)) => match wanted {
-            Some(cputype) => report_entry(alloc, cputype, limit, program, &container, libraries),
-            None => report_all(alloc, limit, program, &container, libraries),
-        },
-        Err(error) => match refusal(Failure::refused(0, error)) {
-            Ok(outcome) => Ok(Report::One(outcome)),
-            Err(failure) => Err(failure),
-        },
+        Ok(Input::Fat(container)) => {
+            report_fat(alloc, wanted, limit, program, &container, libraries)
+        }
+        Ok(Input::Fat64(container)) => {
+            report_fat(alloc, wanted, limit, program, &container, libraries)
+        }
+        Ok(Input::Archive(_)) => report_refused(archive_error()),
+        Err(error) => report_refused(error),
     }
 }

@@ -1,39 +1,62 @@
-use Rattle.std.proofs.Common.{None, Some, map, rules}
+use Rattle.std.proofs.Common.{map}
 use Rattle.std.proofs.lemmas.Result.{IfOk-weaker}
-use Rattle.mach_image.specs.Image.{ImageFault}
-use Rattle.goblin_mach.specs.File.{MachFault}
 use Rattle.mach_resolve.specs.Opened.{given_seen}
-use Rattle.mach_resolve.specs.Seen.{outcome_seen, report_seen}
+use Rattle.mach_resolve.specs.Seen.{report_seen}
 use Rattle.mach_resolve.proofs.Counts.{report_few}
-use Rattle.mach_resolve.proofs.Reports.{program_refused, file_refused}
+use Rattle.mach_resolve.proofs.Cpus.{archive_fault, input_fault, narrow_table, of_cpu, wide_table}
+use Rattle.mach_resolve.proofs.Reports.{file_refused}
 use Rattle.mach_resolve.proofs.report.report_on.Goals as goal
 
-pub returns-in-Ok-clause-told : goal.returns-in-Ok-clause-told
-returns-in-Ok-clause-told g c =
+pub returns-in-Ok-Image-clause-few : goal.returns-in-Ok-Image-clause-few
+returns-in-Ok-Image-clause-few g c =
+    let arm = c.in-Ok-Image in
     let p = given_seen c.args.program in
-    file_refused c.args.limit p (map given_seen c.args.libraries.now) c.args.wanted (outcome_seen c.in-Ok.outcome)
-    (program_refused (MachFault ImageFault p.bytes) c.in-Err.error c.refused.result c.in-Ok.outcome c.refused.ensures c.in-Err.ensures.refused c.in-Ok.ensures)
-
-pub returns-in-Ok-Binary-clause-few : goal.returns-in-Ok-Binary-clause-few
-returns-in-Ok-Binary-clause-few g c =
-    let p = given_seen c.args.program in
-    let ls = map given_seen c.args.libraries.now in
     IfOk-weaker c.report_image.result _ _
-    (λ r told. report_few c.args.limit p ls c.args.wanted (report_seen r) told)
-    (c.report_image.ensures.told (search rules))
+    (λ r told. report_few c.args.limit p (map given_seen c.args.libraries.now) c.args.wanted (report_seen r) told)
+    (c.report_image.ensures.told (of_cpu p.bytes arm.image ((rw (arm.is, arm.field-0-is) at c.parse.ensures.opened).1)))
 
-pub returns-in-Some-clause-few : goal.returns-in-Some-clause-few
-returns-in-Some-clause-few g c =
-    let p = given_seen c.args.program in
-    let ls = map given_seen c.args.libraries.now in
-    IfOk-weaker c.report_entry.result _ _
-    (λ r told. report_few c.args.limit p ls (Some c.in-Some.cputype) (report_seen r) told)
-    (c.report_entry.ensures.told (search rules))
+pub returns-in-Ok-Fat-clause-told : goal.returns-in-Ok-Fat-clause-told
+returns-in-Ok-Fat-clause-told g c =
+    let arm = c.in-Ok-Fat in
+    c.report_fat.ensures.told (narrow_table (given_seen c.args.program).bytes arm.container (rw (arm.is, arm.field-0-is) at c.parse.ensures.opened))
 
-pub returns-in-None-clause-few : goal.returns-in-None-clause-few
-returns-in-None-clause-few g c =
+pub returns-in-Ok-Fat-clause-few : goal.returns-in-Ok-Fat-clause-few
+returns-in-Ok-Fat-clause-few g c =
+    let arm = c.in-Ok-Fat in
     let p = given_seen c.args.program in
-    let ls = map given_seen c.args.libraries.now in
-    IfOk-weaker c.report_all.result _ _
-    (λ r told. report_few c.args.limit p ls None (report_seen r) told)
-    (c.report_all.ensures.told (search rules))
+    IfOk-weaker c.report_fat.result _ _
+    (λ r told. report_few c.args.limit p (map given_seen c.args.libraries.now) c.args.wanted (report_seen r) told)
+    (c.report_fat.ensures.told (narrow_table p.bytes arm.container (rw (arm.is, arm.field-0-is) at c.parse.ensures.opened)))
+
+pub returns-in-Ok-Fat64-clause-told : goal.returns-in-Ok-Fat64-clause-told
+returns-in-Ok-Fat64-clause-told g c =
+    let arm = c.in-Ok-Fat64 in
+    c.report_fat-in-Ok-Fat64.ensures.told
+    (wide_table (given_seen c.args.program).bytes arm.container (rw (arm.is, arm.field-0-is) at c.parse.ensures.opened))
+
+pub returns-in-Ok-Fat64-clause-few : goal.returns-in-Ok-Fat64-clause-few
+returns-in-Ok-Fat64-clause-few g c =
+    let arm = c.in-Ok-Fat64 in
+    let p = given_seen c.args.program in
+    IfOk-weaker c.report_fat-in-Ok-Fat64.result _ _
+    (λ r told. report_few c.args.limit p (map given_seen c.args.libraries.now) c.args.wanted (report_seen r) told)
+    (c.report_fat-in-Ok-Fat64.ensures.told (wide_table p.bytes arm.container (rw (arm.is, arm.field-0-is) at c.parse.ensures.opened)))
+
+pub returns-in-Ok-Archive-clause-told : goal.returns-in-Ok-Archive-clause-told
+returns-in-Ok-Archive-clause-told g c =
+    let arm = c.in-Ok-Archive in
+    let p = given_seen c.args.program in
+    let e = c.archive_error.result in
+    let stands = archive_fault p.bytes e ((rw (arm.is, arm.field-0-is) at c.parse.ensures.opened).0) c.archive_error.ensures in
+    IfOk-weaker c.report_refused.result _ _
+    (λ r told. file_refused c.args.limit p (map given_seen c.args.libraries.now) c.args.wanted e (report_seen r) told stands)
+    c.report_refused.ensures.told
+
+pub returns-in-Err-clause-told : goal.returns-in-Err-clause-told
+returns-in-Err-clause-told g c =
+    let p = given_seen c.args.program in
+    let e = c.in-Err.error in
+    let stands = input_fault p.bytes e c.in-Err.ensures.refused in
+    IfOk-weaker c.report_refused-in-Err.result _ _
+    (λ r told. file_refused c.args.limit p (map given_seen c.args.libraries.now) c.args.wanted e (report_seen r) told stands)
+    c.report_refused-in-Err.ensures.told

@@ -9,7 +9,8 @@ use Rattle.mach_resolve.specs.Resolved.{HoldsItems, AnswerFault, of_bindings, of
 use Rattle.mach_resolve.specs.Seen.{files_seen, program_seen, answer_seen}
 use Rattle.mach_resolve.proofs.Firsts.{first_cut}
 use Rattle.mach_resolve.proofs.Found.{all_zip_push}
-use Rattle.mach_resolve.proofs.Notes.{fails_more, stands_as}
+use Rattle.mach_base.proofs.Faults.{Stands-reported}
+use Rattle.mach_resolve.proofs.Notes.{fails_more}
 use Rattle.mach_resolve.proofs.Steps.{told}
 use Rattle.mach_resolve.proofs.resolve.answer_all.Goals as goal
 
@@ -70,5 +71,5 @@ returns-in-Err-clause-refused g c =
     (c.in-Some.ensures.steps ∙ ap (λ item. binding_read item ∷ left) c.in-Err.is) in
     let Faults = AnswerFault c.args.limit fs m in
     subst (IsFailure Faults) (sym c.refused.ensures)
-    (told Faults 0 e (stands_as (Faults 0) e (of_bindings before.2 left (subst (HoldsItems m) all before.1)
+    (told Faults 0 e (Stands-reported (Faults 0) e (of_bindings before.2 left (subst (HoldsItems m) all before.1)
     (omega (arith, before.5, c.if-len-limit.false, c.len.ensures)))))

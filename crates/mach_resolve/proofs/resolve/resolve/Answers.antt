@@ -10,7 +10,8 @@ use Rattle.mach_resolve.specs.Resolved.{AnswerFault, ResolveFault, of_file}
 use Rattle.mach_resolve.specs.Seen.{files_seen, gathered_seen, met_seen}
 use Rattle.mach_resolve.specs.Opened.{given_seen}
 use Rattle.mach_resolve.proofs.Cpus.{of_cpu}
-use Rattle.mach_resolve.proofs.Notes.{fails_more, stands_more, memory_fails}
+use Rattle.mach_base.proofs.Faults.{Stands-in}
+use Rattle.mach_resolve.proofs.Notes.{fails_more, memory_fails}
 use Rattle.mach_resolve.proofs.Opened.{is_program, more_faults}
 use Rattle.mach_resolve.proofs.Steps.{told, given_name}
 use Rattle.mach_resolve.proofs.resolve.resolve.Goals as goal
@@ -21,7 +22,7 @@ returns-in-Err-clause-refused g c =
     let ls = map given_seen c.args.libraries.now in
     subst (IsFailure (ResolveFault c.args.limit p ls)) (sym c.refused.ensures)
     (told (ResolveFault c.args.limit p ls) 0 c.in-Err.error
-    (stands_more (ImageFault p.bytes 0) (ResolveFault c.args.limit p ls 0) c.in-Err.error
+    (Stands-in (ImageFault p.bytes 0) (ResolveFault c.args.limit p ls 0) c.in-Err.error
     (λ f stands. of_file (unopened refl stands)) c.in-Err.ensures.refused))
 
 pub returns-in-Err-gather-clause-refused : goal.returns-in-Err-gather-clause-refused

@@ -7,7 +7,7 @@ use Rattle.mach_image.specs.OpenImage.{trie_held}
 use Rattle.mach_image.specs.Subjects.{ImageExportsFault}
 use Rattle.mach_base.specs.Text.{texts}
 use Rattle.mach_resolve.proofs.Found.{file_at}
-use Rattle.mach_resolve.proofs.Notes.{stands_more}
+use Rattle.mach_base.proofs.Faults.{Stands-in}
 use Rattle.mach_resolve.proofs.Steps.{told}
 use Rattle.mach_resolve.proofs.file.Files.find.Goals as goal
 
@@ -39,5 +39,5 @@ returns-in-Err-clause-refused g c =
     let at = file_at c.args.self.now.items.items xs c.args.place file c.deref.ensures.value inside h.1 in
     subst (IsFailure (TrieFaultAt fs)) (sym c.refused.ensures)
     (told (TrieFaultAt fs) file.number c.in-Err.error
-    (stands_more (ImageExportsFault (trie_held file.image) (texts file.image.libs.items)) (TrieFaultAt fs file.number) c.in-Err.error
+    (Stands-in (ImageExportsFault (trie_held file.image) (texts file.image.libs.items)) (TrieFaultAt fs file.number) c.in-Err.error
     (λ f stands. (c.args.place, file_seen file, at, refl, stands)) c.in-Err.ensures.refused))
