@@ -8,8 +8,8 @@ use crate::listed::lines_of;
 use crate::options::Options;
 use crate::run::Call;
 use goblin_mach::describe;
-use mach_input::{Content, InputItem};
-use mach_parts::{is_for, name_of, parts_of};
+use mach_input::InputItem;
+use mach_parts::{ShownPart, is_for, is_missed, parts_of, shown_part};
 use mach_show::say::failed;
 use mach_show::{Cpu, Failure, Names, Program};
 use mach_terminal::Progress;
@@ -126,19 +126,16 @@ fn audit_file<W: Write + Drop, B: Allocator, E: Write>(
     let Ok(bytes) = program.read(rt, call.name) else {
         return Ok(2);
     };
-    let (mut worst, mut is_any, mut is_other) = (0u8, false, false);
+    if is_missed(rt.alloc(), cpu, bytes.as_slice()) {
+        return Ok(missed(call.name, "no entry of", cpu, err));
+    }
+    let mut worst = 0u8;
     'parts: for part in parts_of(rt.alloc(), bytes.as_slice()) {
         if is_for(cpu, &part.place) {
-            is_any = true;
             worst = worst.max(audit_part(program, rt, cpu, call, part, out, err)?);
-        } else {
-            is_other = true;
         }
     }
-    if is_any || !is_other {
-        return Ok(worst);
-    }
-    Ok(missed(call.name, "no entry of", cpu, err))
+    Ok(worst)
 }
 
 // The status of a part of a file: the file itself, or what stands under a name of its own.
@@ -153,22 +150,16 @@ fn audit_part<W: Write + Drop, B: Allocator, E: Write>(
 ) -> io::Result<u8>
     ensures status { IfOk result (λ status. status ≤ 2) }
 {
-    let entry = part.place.entry;
-    match part.content {
-        Ok(Content::NoMember) => Ok(0),
-        Ok(Content::File(bytes)) if entry.is_none() => {
-            audit_bytes(program, rt, cpu, call, bytes, out, err)
-        }
-        Ok(content) => {
-            let Ok(name) = name_of(rt.alloc(), call.name, entry, content) else {
-                return Ok(complain(program, call.name, "out of memory", err));
-            };
+    match shown_part(rt.alloc(), call.name, part) {
+        Ok(ShownPart::Nothing) => Ok(0),
+        Ok(ShownPart::Itself(bytes)) => audit_bytes(program, rt, cpu, call, bytes, out, err),
+        Ok(ShownPart::Within(name, bytes)) => {
             let call = Call {
                 options: call.options,
                 name: &name,
                 heading: true,
             };
-            audit_bytes(program, rt, cpu, call, content.bytes(), out, err)
+            audit_bytes(program, rt, cpu, call, bytes, out, err)
         }
         Err(error) => Ok(complain(program, call.name, describe(&error), err)),
     }

@@ -1,2 +1,4 @@
+pub mod Asked
 pub mod PartNames
 pub mod PartsOf
+pub mod ShownParts

@@ -1,41 +1,26 @@
 //! The files of a call, each shown as its parts.
 
-use crate::name::PartName;
+ghost use Rattle.std.specs.Prelude.{◌≡◌, ◌≤◌, IfErr, IfOk, OnOk, true};
+ghost use Rattle.std.specs.Io.KnownBytes.{Appends};
+ghost use Rattle.mach_show.specs.Rounds.{title_text};
+ghost use Rattle.mach_show.specs.Statuses.{IsStatus, IsUnwritten};
+
+use crate::asked::{is_for, is_missed};
 use crate::parts::parts_of;
+use crate::shown::{ShownPart, shown_part};
 use mach_base::{Error, describe};
-use mach_input::{Content, InputItem, Place};
+use mach_input::InputItem;
 use mach_show::say::failed;
-use mach_show::{Cpu, Names, Program};
-use std::alloc::{AllocError, Global};
+use mach_show::{Cpu, Names, Program, Round};
 use std::io::Write;
 
 /// What a program shows of a file.
 pub trait ShowsFile<W> {
+    ghost use Rattle.mach_show.specs.Statuses.{IsStatus};
+
     /// Shows a file of a name, and answers the exit status.
-    fn show(&self, rt: &HostRuntime, name: &str, bytes: &[u8], out: &mut W) -> u8;
-}
-
-/// Whether a part is asked for by the cpu of its entry; where it has none its image says.
-pub fn is_for(cpu: Cpu, place: &Place) -> bool {
-    match place.cpu {
-        Some(entry) => cpu.takes(entry.cputype, entry.cpusubtype),
-        None => true,
-    }
-}
-
-/// What a part that isn't the file itself is called.
-pub fn name_of(
-    alloc: Global,
-    file: &str,
-    entry: Option<usize>,
-    content: Content<'_>,
-) -> Result<String, AllocError> {
-    let name = PartName {
-        file,
-        entry,
-        content,
-    };
-    format!(in alloc; "{name}")
+    fn show(&self, rt: &HostRuntime, name: &str, bytes: &[u8], out: &mut W) -> u8
+        ensures { IsStatus result };
 }
 
 /// How the files of a call are shown.
@@ -57,46 +42,48 @@ impl Files {
         shows: &S,
         files: &[&str],
         out: &mut W,
-    ) -> Result<u8, u8> {
-        let mut worst = 0u8;
-        for file in files {
-            let status = match self.program.read(rt, file) {
-                Ok(bytes) => self.show_parts(rt, shows, file, &bytes, files.len() > 1, out)?,
-                Err(status) => status,
-            };
-            worst = worst.max(status);
+    ) -> Result<u8, u8>
+        ensures worst { IfOk result (λ status. status ≤ 2) }
+        ensures unwritten { IfErr result (λ status. IsUnwritten status) }
+    {
+        let mut round = Round::new(self.program, files.len());
+        let are_several = round.is_titled;
+        // (what is shown of a file has a title of its own)
+        round.is_titled = false;
+        'files: for file in files {
+            if let Some(bytes) = round.begin(rt, file, out)? {
+                self.show_parts(rt, shows, &mut round, file, &bytes, are_several, out)?;
+            }
         }
-        Ok(worst)
+        Ok(round.worst)
     }
 
-    // Shows the parts of a file that are asked for, and answers the worst status.
+    // Shows the parts of a file that are asked for, and keeps the worst status.
     fn show_parts<S: ShowsFile<W>, W: Write>(
         &self,
         rt: &HostRuntime,
         shows: &S,
+        round: &mut Round,
         file: &str,
         bytes: &[u8],
         are_several: bool,
         out: &mut W,
-    ) -> Result<u8, u8> {
-        let (mut worst, mut is_any, mut is_other) = (0u8, false, false);
+    ) -> Result<(), u8>
+        ensures worst { OnOk result (round.old.worst ≤ 2 → round.new.worst ≤ 2) }
+        ensures unwritten { IfErr result (λ status. IsUnwritten status) }
+    {
+        if is_missed(rt.alloc(), self.cpu, bytes) {
+            return round.end(self.miss(rt, file));
+        }
         'parts: for part in parts_of(rt.alloc(), bytes) {
-            if !is_for(self.cpu, &part.place) {
-                is_other = true;
-                continue;
+            if is_for(self.cpu, &part.place) {
+                round.end(self.show_part(rt, shows, file, part, are_several, out)?)?;
             }
-            is_any = true;
-            worst = worst.max(self.show_part(rt, shows, file, part, are_several, out)?);
         }
-        if is_any || !is_other {
-            return Ok(worst);
-        }
-        let (names, cpu) = (self.names(file), self.cpu);
-        let _ = rt.eprintln(format_args!("{names}: no entry of {cpu}"));
-        Ok(1)
+        Ok(())
     }
 
-    // Shows a part of a file, and answers the status.
+    // Shows a part of a file, and answers the status; where its title can't be written, as an error.
     fn show_part<S: ShowsFile<W>, W: Write>(
         &self,
         rt: &HostRuntime,
@@ -105,18 +92,18 @@ impl Files {
         part: InputItem<'_>,
         are_several: bool,
         out: &mut W,
-    ) -> Result<u8, u8> {
+    ) -> Result<u8, u8>
+        ensures status { IfOk result (λ status. IsStatus status) }
+        ensures unwritten { IfErr result (λ status. IsUnwritten status) }
+    {
         let entry = part.place.entry;
-        match part.content {
-            Ok(Content::NoMember) => Ok(0),
-            Ok(Content::File(bytes)) if entry.is_none() => {
+        match shown_part(rt.alloc(), file, part) {
+            Ok(ShownPart::Nothing) => Ok(0),
+            Ok(ShownPart::Itself(bytes)) => {
                 self.show_named(rt, shows, file, bytes, are_several, out)
             }
-            Ok(content) => {
-                let Ok(name) = name_of(rt.alloc(), file, entry, content) else {
-                    return Ok(self.refuse(rt, file, entry, &Error::Memory(AllocError)));
-                };
-                self.show_named(rt, shows, &name, content.bytes(), true, out)
+            Ok(ShownPart::Within(name, bytes)) => {
+                self.show_named(rt, shows, &name, bytes, true, out)
             }
             Err(error) => Ok(self.refuse(rt, file, entry, &error)),
         }
@@ -131,24 +118,40 @@ impl Files {
         bytes: &[u8],
         is_titled: bool,
         out: &mut W,
-    ) -> Result<u8, u8> {
+    ) -> Result<u8, u8>
+        ensures status { IfOk result (λ status. IsStatus status) }
+        ensures unwritten { IfErr result (λ status. IsUnwritten status) }
+    {
         if is_titled && self.has_titles {
             self.title(rt, name, out)?;
         }
-        let status = shows.show(rt, name, bytes, out);
-        if status > 1 { Err(status) } else { Ok(status) }
+        Ok(shows.show(rt, name, bytes, out))
     }
 
     // Writes the name under which a part or a file stands, as `nm` does.
-    fn title<W: Write>(&self, rt: &HostRuntime, name: &str, out: &mut W) -> Result<(), u8> {
+    fn title<W: Write>(&self, rt: &HostRuntime, name: &str, out: &mut W) -> Result<(), u8>
+        ensures titled { OnOk result (Appends (W.contents out.old) (W.contents out.new) (title_text true name.now)) }
+        ensures unwritten { IfErr result (λ status. IsUnwritten status) }
+    {
         match writeln!(out, "\n{name}:") {
             Ok(()) => Ok(()),
             Err(error) => Err(failed(self.program.name, "", error, &mut rt.stderr())),
         }
     }
 
+    // The status where none of a file's parts is asked for, which is told.
+    fn miss(&self, rt: &HostRuntime, file: &str) -> u8
+        ensures { result ≡ 1 }
+    {
+        let (names, cpu) = (self.names(file), self.cpu);
+        let _ = rt.eprintln(format_args!("{names}: no entry of {cpu}"));
+        1
+    }
+
     // The status where a part is refused, which is told.
-    fn refuse(&self, rt: &HostRuntime, file: &str, entry: Option<usize>, error: &Error) -> u8 {
+    fn refuse(&self, rt: &HostRuntime, file: &str, entry: Option<usize>, error: &Error) -> u8
+        ensures { result ≡ 1 }
+    {
         let (names, words) = (self.names(file), describe(error));
         let _ = match entry {
             Some(index) => rt.eprintln(format_args!("{names}: arch {index}: {words}")),
@@ -158,7 +161,9 @@ impl Files {
     }
 
     // What the complaints of a file begin with.
-    fn names<'a>(&'a self, file: &'a str) -> Names<'a> {
+    fn names<'a>(&'a self, file: &'a str) -> Names<'a>
+        ensures { (result.program.now ≡ self.now.program.name.now) × (result.file.now ≡ file.now) }
+    {
         Names {
             program: self.program.name,
             file,

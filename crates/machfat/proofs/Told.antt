@@ -1,23 +1,37 @@
 -- What is said of a file whose entries are refused, and what is told of entries.
-use Rattle.std.proofs.Common.{◌≡◌, ◌++◌, ◌∷◌, [], ℕ, List, Option, Result, Bool, true, sym, subst, length}
+use Rattle.std.proofs.Common.{◌≡◌, ◌++◌, ◌∷◌, [], ℕ, List, Option, Some, None, Result, Bool, true, refl, subst, length}
 use Rattle.std.specs.Prelude.{◌&&◌}
 use Rattle.std.specs.Io.KnownBytes.{Appends}
+use Rattle.mach_base.specs.Answer.{Stands}
+use Rattle.mach_base.specs.declared.error.Error.{Error}
+use Rattle.mach_base.specs.declared.error.Error.TheVariants as errors
 use Rattle.mach_base.proofs.Written.{Appends-none, Appends-both}
 use Rattle.mach_fat.specs.Unfit.{RefusesAs, Unfit}
 use Rattle.mach_fat.specs.declared.record.EntryRecord.{EntryRecord}
 use Rattle.mach_fat.specs.declared.refusal.EntryRefusal.{EntryRefusal}
 use Rattle.mach_members.specs.Written.{WritesWhole}
+use Rattle.mach_show.specs.Foreigners.{refused_kind}
+use Rattle.mach_show.specs.declared.foreign.Foreign.{Foreign}
 use Rattle.machfat.specs.Members.{AreContentLines, AreEntryLines, entry_line, no_entries, one_more}
-use Rattle.machfat.specs.Refusals.{Refuses, SaysWhy}
-use Rattle.machfat.specs.declared.refusal.Refusal.{Refusal}
-use Rattle.machfat.specs.declared.refusal.Refusal.TheVariants.{Refused, Foreign, NotFat, Entries}
+use Rattle.machfat.specs.Refusals.{Refuses, kind_by_front, said_by}
 
-pub tells_of : {Y : Type 0} (bytes : List ℕ) (why : EntryRefusal) (refusal : Refusal) (there : Result Y Unfit) → SaysWhy bytes why refusal
-    → RefusesAs why there → Refuses bytes there refusal
-tells_of bytes why (Refused e) there tells refuses = absurd tells
-tells_of bytes why (Foreign kind) there tells refuses = (tells.0, subst (λ (w : EntryRefusal). RefusesAs w there) tells.1 refuses, tells.2)
-tells_of bytes why NotFat there tells refuses = absurd tells
-tells_of bytes why (Entries told) there tells refuses = subst (λ (w : EntryRefusal). RefusesAs w there) (sym tells) refuses
+tells_by : {Y : Type 0} (bytes : List ℕ) (why : EntryRefusal) (kind : Option Foreign) (there : Result Y Unfit) → kind_by_front bytes why ≡ kind
+    → RefusesAs why there → Refuses bytes there (said_by kind why)
+tells_by bytes why (Some kind) there is refuses = (why, refuses, is)
+tells_by bytes why None there is refuses = (refuses, is)
+
+-- what is said of a refusal tells why there is nothing
+pub tells_of : {Y : Type 0} (bytes : List ℕ) (why : EntryRefusal) (there : Result Y Unfit) → RefusesAs why there
+    → Refuses bytes there (said_by (kind_by_front bytes why) why)
+tells_of bytes why there refuses = tells_by bytes why (kind_by_front bytes why) there refl refuses
+
+-- want of memory is told of a file of any kind
+pub want_has_no_kind : (bytes : List ℕ) (e : Error) → Stands (λ f. ⊥) e → refused_kind bytes e ≡ None
+want_has_no_kind bytes (errors.Malformed m) want = absurd want
+want_has_no_kind bytes (errors.BadMagic n) want = absurd want
+want_has_no_kind bytes (errors.Scroll e) want = absurd want
+want_has_no_kind bytes (errors.BufferTooShort n m) want = absurd want
+want_has_no_kind bytes (errors.Memory e) want = refl
 
 pub none_told : (bytes : List ℕ) (known : Option (List ℕ)) → WritesWhole (AreEntryLines bytes []) true known known
 none_told bytes known = record { text = []; are_lines = no_entries; written = Appends-none known }

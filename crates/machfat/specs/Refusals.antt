@@ -1,5 +1,5 @@
 -- Why the program refuses a file or an entry, and what it says of it.
-use Rattle.std.specs.Prelude.{◌≡◌, ℕ, List, codes, Result, Some}
+use Rattle.std.specs.Prelude.{◌≡◌, ℕ, List, codes, Option, Some, None, Result, Ok, Err}
 use Rattle.mach_base.specs.Answer.{Stands}
 use Rattle.mach_base.specs.Words.{words_of}
 use Rattle.mach_base.specs.declared.error.Error.{Error}
@@ -28,32 +28,43 @@ refusal_words (Entries why) = entry_refusal_words why
 abbrev pub refusal_line : List ℕ → Refusal → List ℕ
 refusal_line file refusal = complaint (names_text (codes "machfat") file) (refusal_words refusal)
 
--- The bytes are of this kind, which is none of Mach-O's, and do not open for this error.
-pub record IsForeign (bytes : List ℕ) (kind : declared.Foreign) (e : Error) : Type 0 where
-  pub stands : Stands (ViewFault bytes) e
-  pub shows : refused_kind bytes e ≡ Some kind
-
--- Why the faults of a fat file's layout aren't told: a fault that stands where it is opened, want of memory, or that it is an image.
+-- Why the faults of a fat file's layout aren't told: a fault that stands where it is opened, of a file whose first bytes tell what it is, or don't;
+-- want of memory; or that it is an image.
 abbrev pub RefusesFaults : List ℕ → Refusal → Type 0
-RefusesFaults bytes (Refused e) = Stands (ViewFault bytes) e
-RefusesFaults bytes (Foreign kind) = (e : Error) × IsForeign bytes kind e
+RefusesFaults bytes (Refused e) = Stands (ViewFault bytes) e × (refused_kind bytes e ≡ None)
+RefusesFaults bytes (Foreign kind) = (e : Error) × Stands (ViewFault bytes) e × (refused_kind bytes e ≡ Some kind)
 RefusesFaults bytes NotFat = Opens bytes 0
 RefusesFaults bytes (Entries why) = ⊥
 
--- what is said of a file whose entries are refused so: its first bytes may tell what it is
-abbrev pub SaysWhy : List ℕ → EntryRefusal → Refusal → Type 0
-SaysWhy bytes why (Refused e) = ⊥
-SaysWhy bytes why (Foreign kind) = (e : Error) × (why ≡ Unread e) × (refused_kind bytes e ≡ Some kind)
-SaysWhy bytes why NotFat = ⊥
-SaysWhy bytes why (Entries told) = told ≡ why
+-- the kind that is told of a file whose entries are refused, where its first bytes show it
+abbrev pub kind_by_front : List ℕ → EntryRefusal → Option declared.Foreign
+kind_by_front bytes (Unread e) = refused_kind bytes e
+kind_by_front bytes _ = None
 
--- Why what a fat file has isn't told or written, which is `there`: it can't be read, and the first bytes tell what the file is; it isn't there; or
+-- what is said of a file whose entries are refused
+abbrev pub said_by : Option declared.Foreign → EntryRefusal → Refusal
+said_by (Some kind) why = Foreign kind
+said_by None why = Entries why
+
+-- an answer, or what is said of the file where it is refused
+abbrev pub said_in : {X : Type 0} → List ℕ → Result X EntryRefusal → Result X Refusal
+said_in bytes (Ok x) = Ok x
+said_in bytes (Err why) = Err (said_by (kind_by_front bytes why) why)
+
+-- Why what a fat file has isn't told or written, which is `there`: it can't be read, and the first bytes tell what the file is, or don't; it isn't there; or
 -- want of memory.
 abbrev pub Refuses : {Y : Type 0} → List ℕ → Result Y Unfit → Refusal → Type 0
 Refuses bytes there (Refused e) = Stands (λ f. ⊥) e
-Refuses bytes there (Foreign kind) = (e : Error) × RefusesAs (Unread e) there × (refused_kind bytes e ≡ Some kind)
+Refuses bytes there (Foreign kind) = (why : EntryRefusal) × RefusesAs why there × (kind_by_front bytes why ≡ Some kind)
 Refuses bytes there NotFat = ⊥
-Refuses bytes there (Entries why) = RefusesAs why there
+Refuses bytes there (Entries why) = RefusesAs why there × (kind_by_front bytes why ≡ None)
+
+-- The same, where it isn't told what the file is.
+abbrev pub RefusesPlainly : {Y : Type 0} → Result Y Unfit → Refusal → Type 0
+RefusesPlainly there (Refused e) = Stands (λ f. ⊥) e
+RefusesPlainly there (Foreign kind) = ⊥
+RefusesPlainly there NotFat = ⊥
+RefusesPlainly there (Entries why) = RefusesAs why there
 
 -- the refusal, if it is one, is as P says
 abbrev pub IsRefusal : (Refusal → Type 0) → Failure → Type 0

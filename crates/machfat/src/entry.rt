@@ -5,27 +5,38 @@ ghost use Rattle.std.specs.Io.KnownBytes.{Appends};
 ghost use Rattle.mach_fat.specs.Changes.{fat_records_in, indexed_entry_in};
 ghost use Rattle.mach_fat.specs.declared.record.EntryRecord.{EntryRecord};
 ghost use Rattle.machfat.specs.Lines.{next_object, record_as, record_line, records_from};
-ghost use Rattle.machfat.specs.Refusals.{Refuses, IsRefusal, SaysWhy};
+ghost use Rattle.machfat.specs.Refusals.{Refuses, IsRefusal, kind_by_front, said_in};
 ghost use Rattle.machfat.specs.declared.entry.ListForm.TheVariants as forms;
 
 use crate::refusal::{Failure, Refusal};
 use crate::text::{RecordObject, RecordText};
 use mach_fat::{EntryRecord, EntryRefusal, fat_records, indexed_entry};
-use mach_show::refused_kind;
+use mach_show::{Foreign, refused_kind};
 use std::alloc::Allocator;
 use std::io;
 use std::io::Write;
 
-// What is said of a file that is refused so: its first bytes may tell what it is.
-fn refusal(bytes: &[u8], why: EntryRefusal) -> Refusal
-    ensures { SaysWhy bytes.now why result }
+// The kind of a file whose entries are refused, where its first bytes show it.
+fn kind_by_front(bytes: &[u8], why: &EntryRefusal) -> Option<Foreign>
+    ensures { result ≡ kind_by_front bytes.now why.now }
 {
-    if let EntryRefusal::Unread(error) = &why {
-        if let Some(kind) = refused_kind(bytes, error) {
-            return Refusal::Foreign(kind);
-        }
+    match why {
+        EntryRefusal::Unread(error) => refused_kind(bytes, error),
+        _ => None,
     }
-    Refusal::Entries(why)
+}
+
+// An answer of a file's entries; where they are refused, what is said of the file.
+fn said<T>(bytes: &[u8], answer: Result<T, EntryRefusal>) -> Result<T, Refusal>
+    ensures { result ≡ said_in bytes.now answer }
+{
+    match answer {
+        Ok(found) => Ok(found),
+        Err(why) => match kind_by_front(bytes, &why) {
+            Some(kind) => Err(Refusal::Foreign(kind)),
+            None => Err(Refusal::Entries(why)),
+        },
+    }
 }
 
 /// The form of a list.
@@ -43,10 +54,7 @@ pub fn records<A: Allocator>(alloc: A, bytes: &[u8]) -> Result<Vec<EntryRecord, 
     ensures held { IfOk result (λ v. fat_records_in bytes.now ≡ Ok v.items) }
     ensures refused { IfErr result (Refuses bytes.now (fat_records_in bytes.now)) }
 {
-    match fat_records(alloc, bytes) {
-        Ok(records) => Ok(records),
-        Err(why) => Err(refusal(bytes, why)),
-    }
+    said(bytes, fat_records(alloc, bytes))
 }
 
 /// Prints some records of a fat file in a form, each with the kind of its entry.
@@ -124,8 +132,5 @@ pub fn entry_bytes(bytes: &[u8], index: usize) -> Result<&[u8], Refusal>
     ensures found { IfOk result (λ entry. indexed_entry_in bytes.now index ≡ Ok entry.now) }
     ensures refused { IfErr result (Refuses bytes.now (indexed_entry_in bytes.now index)) }
 {
-    match indexed_entry(bytes, index) {
-        Ok(entry) => Ok(entry),
-        Err(why) => Err(refusal(bytes, why)),
-    }
+    said(bytes, indexed_entry(bytes, index))
 }

@@ -5,7 +5,7 @@ ghost use Rattle.std.specs.Io.KnownBytes.{Appends};
 ghost use Rattle.mach_fat.specs.Changes.{thin_entry_in};
 ghost use Rattle.mach_show.specs.Statuses.{IsStatus};
 ghost use Rattle.machfat.specs.Entry.{WasWritten};
-ghost use Rattle.machfat.specs.Refusals.{IsRefusal, Refuses, refusal_line};
+ghost use Rattle.machfat.specs.Refusals.{IsRefusal, RefusesPlainly, refusal_line};
 ghost use Rattle.machfat.specs.Same.{IsOther};
 ghost use Rattle.machfat.specs.declared.refusal.Refusal.{Refusal};
 
@@ -33,7 +33,7 @@ pub fn run_thin<R: Files, E: Write>(
     ensures status { IsStatus result }
     ensures thinned { result ≡ 0 → (entry : List ℕ) × (thin_entry_in bytes.now cputype ≡ Ok entry) × WasWritten R.File.contents entry }
     ensures apart { result ≡ 0 → IsOther file.now target.now }
-    ensures refused { result ≡ 1 → (refusal : Refusal) × Refuses bytes.now (thin_entry_in bytes.now cputype) refusal
+    ensures refused { result ≡ 1 → (refusal : Refusal) × RefusesPlainly (thin_entry_in bytes.now cputype) refusal
         × Appends (E.contents err.old) (E.contents err.new) (refusal_line file.now refusal) }
 {
     if is_same_file(files, file, target) {
@@ -50,7 +50,7 @@ pub fn run_thin<R: Files, E: Write>(
 // The bytes of the first entry of a cputype.
 fn entry_of_cpu(alloc: Global, bytes: &[u8], cputype: u32) -> Result<&[u8], Refusal>
     ensures found { IfOk result (λ entry. thin_entry_in bytes.now cputype ≡ Ok entry.now) }
-    ensures refused { IfErr result (Refuses bytes.now (thin_entry_in bytes.now cputype)) }
+    ensures refused { IfErr result (RefusesPlainly (thin_entry_in bytes.now cputype)) }
 {
     let entry = thin_entry(alloc, bytes, cputype)?;
     Ok(entry)
@@ -65,7 +65,7 @@ fn thin<R: Files>(
     target: &str,
 ) -> Result<(), Failure>
     ensures thinned { OnOk result ((entry : List ℕ) × (thin_entry_in bytes.now cputype ≡ Ok entry) × WasWritten R.File.contents entry) }
-    ensures refused { IfErr result (IsRefusal (Refuses bytes.now (thin_entry_in bytes.now cputype))) }
+    ensures refused { IfErr result (IsRefusal (RefusesPlainly (thin_entry_in bytes.now cputype))) }
 {
     let entry = entry_of_cpu(alloc, bytes, cputype)?;
     place_file(files, alloc, entry, target)?;

@@ -1,6 +1,5 @@
 pub mod Written
 pub mod Whole
 pub mod SignedFacts
-pub mod Lacking
 pub mod Few
 pub mod Opened

@@ -1,38 +1,15 @@
--- What was opened of a file, and of an entry of a fat one.
-use Rattle.std.proofs.Common.{◌≡◌, ℕ, List, Result, Ok}
+-- Images that were opened.
+use Rattle.std.proofs.Common.{◌≡◌, ℕ, List}
 use Rattle.std.specs.Prelude.{Bool}
-use Rattle.std.specs.Borrow.{Bor}
 use Rattle.mach_base.specs.Answer.{Stands}
 use Rattle.mach_base.specs.Fault.{Fault}
 use Rattle.mach_base.specs.declared.error.Error.{Error}
 use Rattle.mach_base.specs.declared.error.Error.TheVariants as errors
 use Rattle.mach_image.specs.OpenImage.{IsImage, commands_held}
 use Rattle.mach_image.specs.declared.macho.MachO.{MachO}
-use Rattle.goblin_mach.specs.FatEntry.{FatEntry, image, archive, IsEntry}
 use Rattle.goblin_mach.specs.View.{IsTold, Tells}
-use Rattle.goblin_mach.specs.declared.fat_file.entry.SingleArch.TheVariants as single
 use Rattle.mach_show.specs.Cpus.{is_of_cpu, IsTaken}
 use Rattle.mach_show.specs.declared.cpu.Cpu.{Cpu}
-
--- an error that tells of a fault that stands
-pub told_of : (P : Fault → Type 0) (e : Error) → IsTold e → Stands P e → Tells P e
-told_of P (errors.Malformed m) told h = h
-told_of P (errors.BadMagic n) told h = h
-told_of P (errors.Scroll e) told h = h
-told_of P (errors.BufferTooShort n m) told h = h
-told_of P (errors.Memory e) told h = absurd told
-
--- an entry that opened as an image
-pub image_held : {A : Type 0} (there : Result FatEntry Fault) (m : MachO A) (entry : FatEntry) → there ≡ Ok entry → IsEntry {A = A} entry (single.MachO m)
-    → (slice : List ℕ) × (there ≡ Ok (image slice)) × IsImage slice 0 m
-image_held there m (image slice) is opened = (slice, is, opened)
-image_held there m (archive slice) is opened = absurd opened
-
--- an entry that opened as an archive
-pub archive_held : (A : Type 0) (there : Result FatEntry Fault) (bytes : Bor (List ℕ)) (entry : FatEntry)
-    → there ≡ Ok entry → IsEntry {A = A} entry (single.Archive bytes) → (slice : List ℕ) × (there ≡ Ok (archive slice))
-archive_held A there bytes (archive slice) is opened = (slice, is)
-archive_held A there bytes (image slice) is opened = absurd opened
 
 -- an image is asked for, or not, by its header
 pub taken_of : {A : Type 0} (cpu : Cpu) (bytes : List ℕ) (m : MachO A) (taken : Bool) → IsImage bytes 0 m
@@ -43,3 +20,11 @@ taken_of cpu bytes m taken opened is = record {
   opens = opened.opens.lossy;
   holds = (m.header, opened.fields.header, is);
 }
+
+-- an error that tells of a fault that stands
+pub told_of : (P : Fault → Type 0) (e : Error) → IsTold e → Stands P e → Tells P e
+told_of P (errors.Malformed m) told h = h
+told_of P (errors.BadMagic n) told h = h
+told_of P (errors.Scroll e) told h = h
+told_of P (errors.BufferTooShort n m) told h = h
+told_of P (errors.Memory e) told h = absurd told

@@ -1,16 +1,15 @@
 -- The entitlements that the program writes of a file.
-use Rattle.std.specs.Prelude.{◌≡◌, ◌<◌, ℕ, List, length, true, false, Option, Some, None, Result, Ok, Err, slice_get}
+use Rattle.std.specs.Prelude.{◌≡◌, ℕ, List, [], ◌∷◌, Bool, true, false, Option, Some, None, Result, Ok, Err}
 use Rattle.mach_base.specs.Fault.{Fault}
 use Rattle.mach_base.specs.declared.error.Error.{Error}
-use Rattle.mach_headers.specs.declared.fat.FatArch.{FatArch}
 use Rattle.mach_image.specs.Facts.{OfImage}
+use Rattle.mach_image.specs.Image.{ImageFault}
+use Rattle.mach_input.specs.Items.{ContentView, ItemView, content_bytes}
+use Rattle.mach_input.specs.declared.item.EntryCpu.{EntryCpu}
 use Rattle.mach_sign.specs.SuperBlob.{SuperBlob, content_of}
 use Rattle.mach_signed.specs.SignedImages.{image_signature}
-use Rattle.goblin_mach.specs.FatEntry.{FatEntry, archive, image, entry_at, FatEntryFault}
-use Rattle.goblin_mach.specs.FatFile.{FatFile}
 use Rattle.goblin_mach.specs.View.{Tells}
-use Rattle.mach_show.specs.Cpus.{IsTaken, is_asked}
-use Rattle.mach_show.specs.Shown.{IsFatTable}
+use Rattle.mach_show.specs.Cpus.{IsTaken, is_of_cpu}
 use Rattle.mach_show.specs.declared.cpu.Cpu.{Cpu}
 
 -- what is there, if it can be read
@@ -28,30 +27,27 @@ entitlements_of (Err f) = None
 abbrev pub HasEntitlements : List ℕ → ℕ → Option (List ℕ) → Type 0
 HasEntitlements bytes o found = OfImage bytes o (λ ctx cs. found ≡ entitlements_of (image_signature bytes cs))
 
--- those of an entry of a fat file: an archive has none, nor has what is refused
-pub data EntitlesEntry : Result FatEntry Fault → Option (List ℕ) → Type 0 where
-  image_entitles : (slice : List ℕ) (found : Option (List ℕ)) → HasEntitlements slice 0 found → EntitlesEntry (Ok (image slice)) found
-  archive_entitles : (slice : List ℕ) → EntitlesEntry (Ok (archive slice)) None
-  refusal_entitles : (entry : Result FatEntry Fault) (e : Error) → Tells (FatEntryFault entry) e → EntitlesEntry entry None
+-- whether an image is asked for: by the cpu of its entry, or else by its header
+abbrev pub IsAskedImage : Cpu → Option EntryCpu → List ℕ → Bool → Type 0
+IsAskedImage cpu (Some entry) bytes asked = is_of_cpu cpu entry.cputype entry.cpusubtype ≡ asked
+IsAskedImage cpu None bytes asked = IsTaken cpu bytes asked
 
--- those of the entry of a record, if it is asked for
-pub data EntitlesAsked (cpu : Cpu) (arch : FatArch) (entry : Result FatEntry Fault) : Option (List ℕ) → Type 0 where
-  asked_entitles : (found : Option (List ℕ)) → is_asked cpu arch ≡ true → EntitlesEntry entry found → EntitlesAsked cpu arch entry found
-  other_entitles : is_asked cpu arch ≡ false → EntitlesAsked cpu arch entry None
+-- those of what stands at a place of a file: of an image that is asked for; what is no image has none
+pub data EntitlesContent (cpu : Cpu) (entry : Option EntryCpu) (content : ContentView) : Option (List ℕ) → Type 0 where
+  asked_entitles : (found : Option (List ℕ)) → IsAskedImage cpu entry (content_bytes content) true → HasEntitlements (content_bytes content) 0 found
+      → EntitlesContent cpu entry content found
+  other_entitles : IsAskedImage cpu entry (content_bytes content) false → EntitlesContent cpu entry content None
+  refusal_entitles : (e : Error) → Tells (ImageFault (content_bytes content) 0) e → EntitlesContent cpu entry content None
 
--- none of the first i entries has some
-abbrev pub LacksBefore : Cpu → FatFile → List FatArch → ℕ → Type 0
-LacksBefore cpu file archs i = (k : ℕ) (arch : FatArch) → k < i → slice_get archs k ≡ Some arch → EntitlesAsked cpu arch (entry_at file k) None
+-- those of an item; an entry that can't be read has none
+pub data EntitlesItem (cpu : Cpu) (x : ItemView) : Option (List ℕ) → Type 0 where
+  content_entitles : (content : ContentView) (found : Option (List ℕ)) → x.content ≡ Ok content → EntitlesContent cpu x.place.cpu content found
+      → EntitlesItem cpu x found
+  fault_entitles : (f : Fault) (entry : ℕ) → x.content ≡ Err f → x.place.entry ≡ Some entry → EntitlesItem cpu x None
 
--- those of the first entry that is asked for and has some, if one does
-pub data EntitlesEntries (cpu : Cpu) (file : FatFile) (archs : List FatArch) : Option (List ℕ) → Type 0 where
-  first_entitles : (i : ℕ) (arch : FatArch) (found : List ℕ) → LacksBefore cpu file archs i → slice_get archs i ≡ Some arch
-      → EntitlesAsked cpu arch (entry_at file i) (Some found) → EntitlesEntries cpu file archs (Some found)
-  none_entitles : LacksBefore cpu file archs (length archs) → EntitlesEntries cpu file archs None
-
--- those of the first image of a file that is asked for and has some
-pub data EntitlesFile (cpu : Cpu) (bytes : List ℕ) : Option (List ℕ) → Type 0 where
-  taken_entitles : (found : Option (List ℕ)) → IsTaken cpu bytes true → HasEntitlements bytes 0 found → EntitlesFile cpu bytes found
-  untaken_entitles : IsTaken cpu bytes false → EntitlesFile cpu bytes None
-  fat_entitles : (file : FatFile) (archs : List FatArch) (found : Option (List ℕ)) → IsFatTable bytes file archs
-      → EntitlesEntries cpu file archs found → EntitlesFile cpu bytes found
+-- those of the first item that has some, if one does
+pub data EntitlesItems (cpu : Cpu) : List ItemView → Option (List ℕ) → Type 0 where
+  none_entitles : EntitlesItems cpu [] None
+  first_entitles : (x : ItemView) (xs : List ItemView) (found : List ℕ) → EntitlesItem cpu x (Some found) → EntitlesItems cpu (x ∷ xs) (Some found)
+  later_entitles : (x : ItemView) (xs : List ItemView) (found : Option (List ℕ)) → EntitlesItem cpu x None → EntitlesItems cpu xs found
+      → EntitlesItems cpu (x ∷ xs) found

@@ -1,7 +1,6 @@
 //! The entitlements of a file.
 
-ghost use Rattle.std.specs.Prelude.{◌≡◌, [], ℕ, List, Some, None, Ok, OnOk, IfOk};
-ghost use Rattle.mach_headers.specs.declared.fat.FatArch.{FatArch};
+ghost use Rattle.std.specs.Prelude.{◌≡◌, [], ℕ, List, Some, None, OnOk, IfOk};
 ghost use Rattle.std.specs.Io.Buffered.{writer_buffer, writer_contents};
 ghost use Rattle.std.specs.Io.KnownBytes.{Appends};
 ghost use Rattle.std.specs.Option.{option_map};
@@ -9,15 +8,15 @@ ghost use Rattle.mach_base.specs.Items.{read_as};
 ghost use Rattle.mach_sign.specs.DirectoryViews.{slot_read};
 ghost use Rattle.mach_sign.specs.SignViews.{signature_view};
 ghost use Rattle.mach_show.specs.Statuses.{IsStatus};
-ghost use Rattle.goblin_mach.specs.FatEntry.{entry_at};
-ghost use Rattle.goblin_mach.specs.FatFile.{arches_in, file_held};
 ghost use Rattle.goblin_mach.specs.View.{IsTold};
 ghost use Rattle.mach_image.specs.OpenImage.{IsImage};
-ghost use Rattle.machsign.specs.Entitlements.{entitlements_of, HasEntitlements, EntitlesEntry, EntitlesAsked, EntitlesEntries, EntitlesFile};
+ghost use Rattle.mach_input.specs.Items.{content_view, items_in};
+ghost use Rattle.mach_input.specs.ItemsLeft.{input_item_read};
+ghost use Rattle.machsign.specs.Entitlements.{entitlements_of, HasEntitlements, EntitlesContent, EntitlesItem, EntitlesItems, IsAskedImage};
 
 use crate::run::NAME;
-use goblin_mach::fat::FatArch;
-use goblin_mach::{Error, Mach, MachO, MultiArch, Result, SingleArch, describe};
+use goblin_mach::{Error, MachO, Result, describe};
+use mach_input::{Content, EntryCpu, Input, InputItem};
 use mach_show::say::failed;
 use mach_show::{Cpu, Names, refused_kind};
 use mach_sign::CodeSignature;
@@ -47,7 +46,7 @@ fn of_image<'a, A: Allocator>(image: &MachO<'a, A>) -> Option<&'a [u8]>
     of_signature(code_signature(image))
 }
 
-// None of an entry that is refused, but for want of memory.
+// None of what is no image, but for want of memory.
 fn of_refused<'a>(error: Error) -> Result<Option<&'a [u8]>>
     ensures { IfOk result (λ found. (slot_read found ≡ None) × IsTold error) }
 {
@@ -57,87 +56,64 @@ fn of_refused<'a>(error: Error) -> Result<Option<&'a [u8]>>
     }
 }
 
-// The entitlements of an entry of a fat file, if it is an image that has some.
-fn of_entry<'a, A: Allocator + Clone>(
-    container: &MultiArch<'a, A>,
-    index: usize,
-) -> Result<Option<&'a [u8]>>
-    ensures { IfOk result (λ found. EntitlesEntry (entry_at (file_held container.now) index) (slot_read found)) }
+// Whether an image is asked for: by the cpu of its entry, or else by its header.
+fn is_asked<A: Allocator>(cpu: Cpu, entry: Option<EntryCpu>, image: &MachO<'_, A>) -> bool
+    ensures { (bytes : List ℕ) → IsImage bytes 0 image.now → IsAskedImage cpu entry bytes result }
 {
-    match container.get(index) {
-        Ok(SingleArch::MachO(image)) => Ok(of_image(&image)),
-        Ok(SingleArch::Archive(_)) => Ok(None),
+    match entry {
+        Some(entry) => cpu.takes(entry.cputype, entry.cpusubtype),
+        None => cpu.takes(image.header.cputype, image.header.cpusubtype),
+    }
+}
+
+// The entitlements of what stands at a place of a file, if it is an image that is asked for and has some.
+fn of_content<'a, A: Allocator + Clone>(
+    alloc: &A,
+    cpu: Cpu,
+    entry: Option<EntryCpu>,
+    content: Content<'a>,
+) -> Result<Option<&'a [u8]>>
+    ensures { IfOk result (λ found. EntitlesContent cpu entry (content_view content.entry) (slot_read found)) }
+{
+    match content.open(alloc.clone()?) {
+        Ok(image) if is_asked(cpu, entry, &image) => Ok(of_image(&image)),
+        Ok(_) => Ok(None),
         Err(error) => of_refused(error),
     }
 }
 
-// The entitlements of the entry of a record, if it is asked for and has some.
-fn of_asked<'a, A: Allocator + Clone>(
+// The entitlements of an item of a file, if it has some. An entry that can't be read has none, and of what is no entry the fault is the file's.
+fn of_item<'a, A: Allocator + Clone>(
+    alloc: &A,
     cpu: Cpu,
-    container: &MultiArch<'a, A>,
-    index: usize,
-    arch: &FatArch,
+    item: InputItem<'a>,
 ) -> Result<Option<&'a [u8]>>
-    ensures { IfOk result (λ found. EntitlesAsked cpu arch.now (entry_at (file_held container.now) index) (slot_read found)) }
+    ensures { IfOk result (λ found. EntitlesItem cpu (input_item_read item.entry) (slot_read found)) }
 {
-    if !cpu.takes_entry(arch) {
-        return Ok(None);
+    let place = item.place;
+    match item.content {
+        Ok(content) => of_content(alloc, cpu, place.cpu, content),
+        Err(error) if place.entry.is_none() => Err(error),
+        Err(_) => Ok(None),
     }
-    of_entry(container, index)
 }
 
-// The entitlements of the first entry of a fat file that is asked for and has some.
-fn of_entries<'a, A: Allocator + Clone>(
-    cpu: Cpu,
-    container: &MultiArch<'a, A>,
-    records: &[FatArch],
-) -> Result<Option<&'a [u8]>>
-    ensures { IfOk result (λ found. EntitlesEntries cpu (file_held container.now) records.now (slot_read found)) }
-{
-    'entries: for (index, arch) in records.iter().enumerate() {
-        match of_asked(cpu, container, index, arch)? {
-            Some(found) => return Ok(Some(found)),
-            None => {}
-        }
-    }
-    Ok(None)
-}
-
-// The entitlements of an image that is a file, if it is asked for and has some.
-fn of_file<'a, A: Allocator>(cpu: Cpu, image: &MachO<'a, A>) -> Option<&'a [u8]>
-    ensures { (bytes : List ℕ) → IsImage bytes 0 image.now → EntitlesFile cpu bytes (slot_read result) }
-{
-    if !cpu.takes(image.header.cputype, image.header.cpusubtype) {
-        return None;
-    }
-    of_image(image)
-}
-
-// The entitlements of the first entry of a fat file that is asked for and has some, by its table.
-fn of_fat<'a, A: Allocator + Clone>(
-    cpu: Cpu,
-    container: &MultiArch<'a, A>,
-) -> Result<Option<&'a [u8]>>
-    ensures { IfOk result (λ found. (archs : List FatArch) × (arches_in (file_held container.now) ≡ Ok archs)
-        × EntitlesEntries cpu (file_held container.now) archs (slot_read found)) }
-{
-    let records = container.arches()?;
-    of_entries(cpu, container, records.as_slice())
-}
-
-// The entitlements of the first image of a file that is asked for and has some.
+// The entitlements of the first image of a file that is asked for and has some: of the file itself, an entry or a member.
 fn first_in<'a, A: Allocator + Clone>(
     alloc: &A,
     cpu: Cpu,
     bytes: &'a [u8],
 ) -> Result<Option<&'a [u8]>>
-    ensures { IfOk result (λ found. EntitlesFile cpu bytes.now (slot_read found)) }
+    ensures { IfOk result (λ found. EntitlesItems cpu (items_in bytes.now) (slot_read found)) }
 {
-    let file = Mach::parse(alloc.clone()?, bytes)?;
-    match file {
-        Mach::Binary(image) => Ok(of_file(cpu, &image)),
-        Mach::Fat(container) => of_fat(cpu, &container),
+    let input = Input::parse(alloc.clone()?, bytes)?;
+    'items: for item in input.images() {
+        match of_item(alloc, cpu, item)? {
+            Some(found) => return Ok(Some(found)),
+            None => {}
+        }
     }
+    Ok(None)
 }
 
 // Writes bytes, and all that was gathered.
@@ -180,7 +156,8 @@ fn refused<E: Write>(file: &str, bytes: &[u8], error: &Error, err: &mut E) -> u8
     1
 }
 
-/// Writes the entitlements of the first image of a file that is asked for and has some, and nothing else, and answers the exit status: 0; 1 where there
+/// Writes the entitlements of the first image of a file, an archive or a fat file that is asked for and has some, and nothing else, and answers the
+/// exit status: 0; 1 where there
 /// are none, or the file or memory is refused, and then `err` has a line that says why; 2 or 141 where a write fails. At 0 nothing is left in the buffer.
 pub fn run_entitlements<A: Allocator + Clone, W: Write + Drop, B: Allocator, E: Write>(
     alloc: A,
@@ -191,7 +168,7 @@ pub fn run_entitlements<A: Allocator + Clone, W: Write + Drop, B: Allocator, E: 
     err: &mut E,
 ) -> u8
     ensures status { IsStatus result }
-    ensures written { result ≡ 0 → (found : List ℕ) × EntitlesFile cpu bytes.now (Some found)
+    ensures written { result ≡ 0 → (found : List ℕ) × EntitlesItems cpu (items_in bytes.now) (Some found)
         × Appends (writer_contents W.contents out.old) (writer_contents W.contents out.new) found }
     ensures flushed { result ≡ 0 → writer_buffer out.new ≡ [] }
     ensures nothing { result ≡ 1 → Appends (writer_contents W.contents out.old) (writer_contents W.contents out.new) [] }

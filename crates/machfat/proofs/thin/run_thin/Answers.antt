@@ -1,10 +1,9 @@
 use Rattle.std.proofs.lemmas.Result.{IfErr-at_err}
 use Rattle.mach_fat.specs.Changes.{thin_entry_in}
-use Rattle.machfat.specs.Refusals.{Refuses, IsRefusal}
+use Rattle.machfat.specs.Refusals.{IsRefusal, RefusesPlainly}
 use Rattle.machfat.proofs.thin.run_thin.Goals as goal
 
 pub returns-clause-refused : goal.returns-clause-refused
 returns-clause-refused g c = λ one.
     let told = c.status.ensures.refused one in
-    let bytes = c.args.bytes.now in
-    (told.0, IfErr-at_err (IsRefusal (Refuses bytes (thin_entry_in bytes c.args.cputype))) told.1 c.thin.ensures.refused, told.2)
+    (told.0, IfErr-at_err (IsRefusal (RefusesPlainly (thin_entry_in c.args.bytes.now c.args.cputype))) told.1 c.thin.ensures.refused, told.2)

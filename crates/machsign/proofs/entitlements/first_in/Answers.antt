@@ -1,15 +1,26 @@
-use Rattle.std.proofs.lemmas.Result.{IfOk-weaker}
-use Rattle.goblin_mach.specs.FatFile.{file_held}
-use Rattle.machsign.specs.Entitlements.{fat_entitles}
+use Rattle.std.proofs.Common.{List, Some, None, sym, subst}
+use Rattle.mach_input.specs.Items.{ItemView}
+use Rattle.mach_input.specs.ItemsLeft.{input_item_read, input_items_left}
+use Rattle.machsign.specs.Entitlements.{EntitlesItems, first_entitles, later_entitles, none_entitles}
 use Rattle.machsign.proofs.entitlements.first_in.Goals as goal
 
-pub returns-in-Binary : goal.returns-in-Binary
-returns-in-Binary g c = let opened = rw c.in-Binary.is at c.in_ok-file.ensures.opened in c.of_file.ensures c.args.bytes.now opened
+pub returns-in-Some-2 : goal.returns-in-Some-2
+returns-in-Some-2 g c =
+    let x = input_item_read c.in-Some.item in
+    let rest = input_items_left c.next.new.self in
+    let found = c.in-Some-2.found.now in
+    let here = rw c.in-Some-2.is at c.in_ok-found.ensures in
+    c.items.invariant (Some found)
+    (subst (λ (xs : List ItemView). EntitlesItems c.args.cpu xs (Some found)) (sym c.in-Some.ensures.steps) (first_entitles x rest found here))
 
-pub returns-in-Fat : goal.returns-in-Fat
-returns-in-Fat g c =
-    let fat = rw c.in-Fat.is at c.in_ok-file.ensures.opened in
-    IfOk-weaker c.of_fat.result _ _
-    (λ found told.
-    fat_entitles (file_held c.in-Fat.container) told.0 _ (record { magic = fat.magic; is_file = fat.file; table = told.1 }) told.2)
-    c.of_fat.ensures
+pub items-preserved : goal.items-preserved
+items-preserved g c = λ found more.
+    let x = input_item_read c.in-Some.item in
+    let rest = input_items_left c.next.new.self in
+    let none = rw c.in-None-2.is at c.in_ok-found.ensures in
+    c.items.invariant found
+    (subst (λ (xs : List ItemView). EntitlesItems c.args.cpu xs found) (sym c.in-Some.ensures.steps) (later_entitles x rest found none more))
+
+pub returns : goal.returns
+returns g c =
+    c.items.invariant None (subst (λ (xs : List ItemView). EntitlesItems c.args.cpu xs None) (sym c.in-None.ensures.steps.0) none_entitles)

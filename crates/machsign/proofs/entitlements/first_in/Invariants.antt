@@ -1,0 +1,8 @@
+use Rattle.std.proofs.Common.{ℕ, List, Option}
+use Rattle.mach_input.specs.Items.{items_in}
+use Rattle.mach_input.specs.ItemsLeft.{input_items_left}
+use Rattle.machsign.specs.Entitlements.{EntitlesItems}
+use Rattle.machsign.proofs.entitlements.first_in.Given as goal
+
+abbrev pub invariant-items : goal.invariant-items
+invariant-items g l = (found : Option (List ℕ)) → EntitlesItems l.cpu (input_items_left l.item-iterator) found → EntitlesItems l.cpu (items_in l.bytes) found

@@ -1,0 +1,10 @@
+use Rattle.std.proofs.Common.{Option, subst, sym}
+use Rattle.mach_input.specs.declared.item.EntryCpu.{EntryCpu}
+use Rattle.machsign.proofs.Opened.{taken_of}
+use Rattle.machsign.specs.Entitlements.{IsAskedImage}
+use Rattle.machsign.proofs.entitlements.is_asked.Goals as goal
+
+pub returns-in-None : goal.returns-in-None
+returns-in-None g c = λ bytes opened.
+    subst (λ (e : Option EntryCpu). IsAskedImage c.args.cpu e bytes c.takes-in-None.result) (sym c.in-None.is)
+    (taken_of c.args.cpu bytes _ _ opened (sym c.takes-in-None.ensures))
