@@ -11,6 +11,7 @@ pub mod TrieFaults
 pub mod TrieVisits
 pub mod MarkBits
 pub mod Marking
+pub mod Nowhere
 pub mod WalkTurns
 pub mod Readings
 pub mod OpenNodes

@@ -13,7 +13,7 @@ all_clear zero o = refl
 all_clear (suc n) zero = refl
 all_clear (suc n) (suc o) = all_clear n o
 
-keeps_mark : (marks : List Bool) (o i : ℕ) → o < length marks → get_or marks i false ≡ true → get_or (set marks o true) i false ≡ true
+pub keeps_mark : (marks : List Bool) (o i : ℕ) → o < length marks → get_or marks i false ≡ true → get_or (set marks o true) i false ≡ true
 keeps_mark marks o i within e = elim (cases_eq i o) [
   | inl here ↦ subst (λ x. get_or (set marks o true) x false ≡ true) (sym here) (get_or-set_same marks o true false within)
   | inr other ↦ get_or-set_other marks o i true false other ∙ e

@@ -1,5 +1,5 @@
 -- What is ahead in open nodes, turn by turn: the same for a walk and for a cursor.
-use Rattle.mach_tries.proofs.Names.{◌≡◌, ◌<◌, ◌≤◌, ◌+◌, ◌-◌, ℕ, suc, List, [], ◌∷◌, ◌++◌, Ok, refl, sym, ap, subst, ◌∙◌, inl, inr, arith, length, take}
+use Rattle.mach_tries.proofs.Names.{◌≡◌, ◌<◌, ◌≤◌, ◌+◌, ◌-◌, ℕ, suc, List, [], ◌∷◌, ◌++◌, Ok, true, refl, sym, ap, subst, ◌∙◌, inl, inr, arith, length, take}
 use Rattle.mach_tries.proofs.Names.{cases_eq, map-append, append_assoc}
 use Rattle.mach_tries.proofs.Names.{length-append, length-take, slice_get, Some, Branch, Node, Entry, own_entries, branch_at, branches_at}
 use Rattle.mach_tries.proofs.Names.{trie_of, TrieRange, trie_there, IsNode, IsUtf8, IsUtf8-append}
@@ -7,6 +7,8 @@ use Rattle.mach_tries.proofs.Names.{Ahead, ahead, Unfolds, nothing_read, passed,
 use Rattle.std.proofs.lemmas.List.{take-take, take_all, take-append-le}
 use Rattle.mach_tries.proofs.BranchAgain.{first_branch, next_left, no_branch}
 use Rattle.mach_tries.proofs.Starts.{labels_read}
+use Rattle.mach_tries.proofs.Nowhere.{all_passed}
+use Rattle.mach_tries.specs.Nowhere.{lead_nowhere}
 
 -- ---- what is ahead
 
@@ -127,6 +129,15 @@ module _ {t : TrieRange} {libs : List (List ℕ)} {name : List ℕ} {found : Lis
       enters_leaf none = record {
         left = k.left;
         read = node_read node k.read is refl (split x.name node.branches [] [] k.left none);
+        ahead = behind t.bytes t.from name o os k.left label x.name spelled k.ahead;
+      }
+
+      -- one whose branches all lead nowhere
+      abbrev pub enters_barren : lead_nowhere t.upto node.branches ≡ true
+          → IsReadSoFar t libs x.name [] (o ∷ os) (found ++ own_entries x.name node.own) (suc n)
+      enters_barren none = record {
+        left = k.left;
+        read = all_passed x.name node.branches k.left none (node_read node k.read is refl refl);
         ahead = behind t.bytes t.from name o os k.left label x.name spelled k.ahead;
       }
 

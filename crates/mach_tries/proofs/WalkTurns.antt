@@ -3,7 +3,7 @@ use Rattle.mach_tries.proofs.Names.{◌≡◌, ◌<◌, ◌≤◌, ◌+◌, ◌-
 use Rattle.mach_tries.proofs.Names.{refl, sym, ap, subst, ◌∙◌, arith, replicate, reverse, reverse-append, sum_by-cons, cases_eq, Ok, Err, Option, Some}
 use Rattle.mach_tries.proofs.Names.{None, IfSome, Error, Fault, malformed, ◌⊎◌, Info, Node, Trie, Branch, Entry, own_entries, nothing, IsUtf8, texts}
 use Rattle.mach_tries.proofs.Names.{Leads, Path, IsAmong, branch_at, source_trie, node_in, fault_in, trie_range_of, at_node, met_again, AreApart, Visits}
-use Rattle.mach_tries.proofs.Names.{Ahead, ahead, HasRead, AreMarked, WasRead, IsEndOfWalk, Holds, HasListed, IsRefusedWalk}
+use Rattle.mach_tries.proofs.Names.{Ahead, HasRead, AreMarked, WasRead, IsEndOfWalk, Holds, HasListed, IsRefusedWalk}
 use Rattle.mach_tries.proofs.Names.{IsAtBranch, HasFound, unmarked, work}
 use Rattle.mach_tries.proofs.Names.{branch_of, branches_of, branches_in, IsReadable, Source, Open}
 use Rattle.std.proofs.lemmas.List.{take_all}
@@ -17,6 +17,8 @@ use Rattle.mach_tries.proofs.Marking.{not_both, one_less}
 use Rattle.mach_tries.proofs.Readings as reading
 use Rattle.mach_tries.proofs.OpenNodes as nodes
 use Rattle.mach_tries.proofs.Unfoldings.{all_met}
+use Rattle.mach_tries.proofs.Nowhere.{none_followed}
+use Rattle.mach_tries.specs.Nowhere.{lead_nowhere}
 
 -- ---- what is left to do
 
@@ -240,18 +242,19 @@ module _ {s : Source} {name : List ℕ} {marks : List Bool} {x : Ahead} {o : Ope
       -- where it is a node it is entered
       module _ {name' : List ℕ} (named : name' ≡ x.name) {marks' : List Bool} (is_marked : marks' ≡ set marks (x.start - s.from) true)
           (own : Option Info) (label : List ℕ) (spelled : x.name ≡ take o.name_len name ++ label) where
-        -- one with no branches is closed at once
-        pub passed_by : (bs : List Branch) → node_in s x.start ≡ Ok (record { own = own; branches = bs }) → bs ≡ []
+        -- one whose branches all lead nowhere is closed at once
+        pub passed_by : (bs : List Branch) → node_in s x.start ≡ Ok (record { own = own; branches = bs }) → lead_nowhere s.upto bs ≡ true
             → Holds s name' marks' [] o os (found ++ own_entries name' own) (suc n)
         passed_by bs there none =
             let node : Node = record { own = own; branches = bs } in
             let met = reading.reads h.others h.met node (inside, there) in
+            let left = none_followed met.1 x.name bs h.is_read.left none met.3 in
             rw (named, is_marked) (record {
-              is_read = nodes.enters_leaf h.is_read label spelled node (inside, there) none;
+              is_read = nodes.enters_barren h.is_read label spelled node (inside, there) none;
               paths = met.0 ∷ h.paths;
-              others = met.1;
+              others = left.0;
               count = ap suc h.count;
-              met = subst (λ (y : List Branch). HasRead (source_trie s) s.from (met.0 ∷ h.paths) met.1 (ahead x.name y ++ h.is_read.left)) none met.3;
+              met = left.1;
               marked = mark.one_marked h.marked met.0 met.2 low inside off;
               known = mark.one_read h.known h.is_read.read inside low within off;
               more = h.more;

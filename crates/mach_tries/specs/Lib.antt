@@ -12,6 +12,7 @@ pub mod TrieRows
 pub mod Exports
 pub mod SymbolKind
 pub mod Views
+pub mod Nowhere
 pub mod Unfolds
 pub mod Reading
 pub mod CursorState

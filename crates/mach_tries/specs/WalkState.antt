@@ -11,6 +11,7 @@ use Rattle.mach_tries.specs.Paths.{IsTree}
 use Rattle.mach_tries.specs.Visits.{Visits}
 use Rattle.mach_tries.specs.Unfolds.{Ahead, IsEndOfWalk}
 use Rattle.mach_tries.specs.Reading.{HasRead, AreMarked, MarksThoseRead, IsReadSoFar, branches_left}
+use Rattle.mach_tries.specs.Nowhere.{AreBarren, HaveRoom}
 use Rattle.mach_tries.specs.Exports.{info_of}
 use Rattle.mach_tries.specs.Views.{trie_range_of, source_trie, fault_in}
 use Rattle.mach_tries.specs.declared.info.ExportInfo.{ExportInfo}
@@ -50,10 +51,12 @@ next_branch w = record { name = take w.top.name_len w.name.items ++ w.next.label
 
 abbrev pub IsAtBranch : {A : Type 0} → List Entry → ℕ → Walker A → Type 0
 IsAtBranch found n w = (w.over ≡ false) × Holds w.source w.name.items w.marks (next_branch w ∷ []) w.top (reverse w.stack.items) found n
+    × AreBarren w.source w.barren × HaveRoom w.source w.barren
 
 -- between two branches
 abbrev pub IsBetween : {A : Type 0} → List Entry → ℕ → Walker A → Type 0
 IsBetween found n w = (w.over ≡ false) × Holds w.source w.name.items w.marks [] w.top (reverse w.stack.items) found n
+    × AreBarren w.source w.barren × HaveRoom w.source w.barren
 
 abbrev pub HasFound : {A : Type 0} → List Entry → ℕ → Walker A → Type 0
 HasFound found n w = IsAtBranch found n w ⊎ ((w.over ≡ true) × HasListed w.source found n)

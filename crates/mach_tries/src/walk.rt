@@ -1,21 +1,24 @@
 //! The walk of an export trie, on a stack of open nodes: its exports, one after the other.
 
 ghost use Rattle.std.specs.Prelude.{◌≡◌, ◌≤◌, ◌<◌, ◌+◌, ◌-◌, ◌++◌, ◌∷◌, ℕ, List, [], length, reverse, IfOk, IfErr, IfSome, IfNone, OnOk, IsNone, true, false};
+ghost use Rattle.std.specs.Prelude.{◌⊎◌, Ok, Some, get_or};
 ghost use Rattle.std.specs.Str.{IsUtf8};
-ghost use Rattle.mach_base.specs.Answer.{Reads, Stands};
+ghost use Rattle.mach_base.specs.Answer.{Reads, FailsAs, Stands};
 ghost use Rattle.mach_base.specs.Leb128.{uleb_at};
 ghost use Rattle.mach_tries.specs.Trie.{Entry, entry, own_entries};
+ghost use Rattle.mach_tries.specs.Nodes.{children_at};
 ghost use Rattle.mach_tries.specs.Lists.{Lists};
 ghost use Rattle.mach_tries.specs.Paths.{IsTree};
 ghost use Rattle.mach_tries.specs.Visits.{Visits};
 ghost use Rattle.mach_tries.specs.Exports.{info_of, entries};
-ghost use Rattle.mach_tries.specs.Views.{source_trie, node_in, fault_in, info_in, node_with_first, IsReadable};
+ghost use Rattle.mach_tries.specs.Views.{source_trie, node_in, fault_in, info_in, branches_of, branches_in, IsReadable};
+ghost use Rattle.mach_tries.specs.Nowhere.{lead_nowhere, AreBarren, HaveRoom, AreKept, OpensList, OpensNode};
 ghost use Rattle.mach_tries.specs.WalkState.{IsAtBranch, IsBetween, HasFound, IsWalk, IsRefusedWalk, StepGives, work_ahead};
 
 use crate::exports::Export;
 use crate::info::ExportInfo;
 use crate::marks::Marks;
-use crate::node::{Branch, Branches, number, own_export, read_again, read_branches};
+use crate::node::{Branch, BranchRun, Branches, number, own_export, read_again, read_branches};
 use mach_base::{Error, Result, Steps};
 use std::alloc::{AllocError, Allocator, Global};
 
@@ -51,25 +54,131 @@ pub(crate) fn visit(bytes: &[u8], start: usize, steps: &mut Steps) -> Result<(u6
     number(bytes, start)
 }
 
-// Reads the node at a start: its own export, if it has one, and its branches, if it has any.
-#[tactic(auto, unfolding(crate::specs::Nodes::node_at, crate::specs::Nodes::inner_at, crate::specs::Nodes::terminal_at))]
+// Whether each of some branches leads nowhere.
+#[cold]
+#[inline(never)]
+fn all_lead_nowhere(source: &Source, branches: BranchRun) -> bool
+    requires { IsReadable source.now.bytes.now source.now.from branches }
+    ensures { result ≡ lead_nowhere source.now.upto (branches_of source.now.bytes.now source.now.from branches) }
+{
+    let mut place = branches.place;
+    for _ in 0..branches.left {
+        let (branch, after) = read_again(source.bytes, source.from, place);
+        if branch.start < source.upto {
+            return false;
+        }
+        place = after;
+    }
+    true
+}
+
+// Whether none of a list's branches leads to a node. That of most lists is seen by the first.
 #[inline(always)]
-fn read_node<'a>(
+fn is_barren(source: &Source, list: Branches) -> bool
+    requires { IsReadable source.now.bytes.now source.now.from list.behind }
+    ensures { result ≡ lead_nowhere source.now.upto (branches_in source.now.bytes.now source.now.from (Some list.entry)) }
+{
+    list.first.start >= source.upto && all_lead_nowhere(source, list.behind)
+}
+
+// Marks the place of a list. Most tries have none to mark: so there is room for marks only from the first on.
+#[cold]
+#[inline(never)]
+fn mark_list<A: Allocator>(
+    barren: &mut Marks<A>,
+    place: usize,
+    len: usize,
+) -> std::result::Result<(), AllocError>
+    requires inside { place < len }
+    requires room { 0 < length barren.old → length barren.old ≡ len }
+    ensures room { OnOk result (length barren.new ≡ len) }
+    ensures marked { OnOk result (get_or barren.new place false ≡ true) }
+    ensures others { OnOk result ((p : ℕ) → get_or barren.new p false ≡ true → (p ≡ place) ⊎ (get_or barren.old p false ≡ true)) }
+    ensures kept { OnOk result (AreKept barren.old barren.new) }
+{
+    if barren.len() == 0 {
+        barren.renew(len)?;
+    }
+    barren.mark(place);
+    Ok(())
+}
+
+// Reads the list of branches whose count stands at a place: the one read that counts.
+#[inline(always)]
+fn read_list<'a>(
     source: &Source<'a, '_>,
+    place: usize,
+    lists: &mut Steps,
+) -> Result<Option<Branches<'a>>>
+    ensures value { Reads (branches_in source.now.bytes.now source.now.from) result (children_at source.now.bytes.now source.now.from place) }
+    ensures readable { IfOk result (λ found. IfSome found (λ b. IsReadable source.now.bytes.now source.now.from b.behind)) }
+    ensures few { IfOk result (λ found. IfSome found (λ b. b.behind.left + 1 ≤ length source.now.bytes.now)) }
+    ensures count { lists.new ≡ lists.old + 1 }
+{
+    lists.tick();
+    read_branches(source.bytes, source.from, place)
+}
+
+// Opens the list of branches whose count stands at a place. Where all of them lead nowhere the place is marked, and nothing is
+// answered: nodes that share such a list read it once. Counts the lists that were read.
+#[inline(always)]
+fn open_list<'a, A: Allocator>(
+    source: &Source<'a, '_>,
+    barren: &mut Marks<A>,
+    place: usize,
+    lists: &mut Steps,
+) -> Result<Option<Branches<'a>>>
+    requires barren { AreBarren source.now barren.old }
+    requires room { HaveRoom source.now barren.old }
+    ensures opened { IfOk result (OpensList source.now place) }
+    ensures fault { IfErr result (λ e. FailsAs e (children_at source.now.bytes.now source.now.from place)) }
+    ensures readable { IfOk result (λ found. IfSome found (λ b. IsReadable source.now.bytes.now source.now.from b.behind)) }
+    ensures few { IfOk result (λ found. IfSome found (λ b. b.behind.left + 1 ≤ length source.now.bytes.now)) }
+    ensures barren { OnOk result (AreBarren source.now barren.new) }
+    ensures room { OnOk result (HaveRoom source.now barren.new) }
+    ensures kept { OnOk result (AreKept barren.old barren.new) }
+    ensures marked { IfOk result (λ found. IfNone found
+        ((children_at source.now.bytes.now source.now.from place ≡ Ok []) ⊎ (get_or barren.new place false ≡ true))) }
+    ensures not_read { get_or barren.old place false ≡ true → lists.new ≡ lists.old }
+    ensures read { get_or barren.old place false ≡ false → lists.new ≡ lists.old + 1 }
+{
+    if barren.has(place) {
+        return Ok(None);
+    }
+    match read_list(source, place, lists) {
+        Ok(Some(list)) if is_barren(source, list) => {
+            mark_list(barren, place, source.bytes.len())?;
+            Ok(None)
+        }
+        found => found,
+    }
+}
+
+// Reads the node at a start: its own export, if it has one, and its branches, if any of them leads to a node.
+#[inline(always)]
+fn read_node<'a, A: Allocator>(
+    source: &Source<'a, '_>,
+    barren: &mut Marks<A>,
     start: usize,
     steps: &mut Steps,
 ) -> Result<(Option<ExportInfo<'a>>, Option<Branches<'a>>)>
+    requires barren { AreBarren source.now barren.old }
+    requires room { HaveRoom source.now barren.old }
     ensures visits { steps.new ≡ steps.old + 1 }
-    ensures node { Reads (node_with_first source.now.bytes.now source.now.from) result (node_in source.now start) }
+    ensures opened { IfOk result (OpensNode source.now start) }
+    ensures fault { IfErr result (λ e. FailsAs e (node_in source.now start)) }
     ensures readable { IfOk result (λ read. IfSome read.1 (λ b. IsReadable source.now.bytes.now source.now.from b.behind)) }
     ensures few { IfOk result (λ read. IfSome read.1 (λ b. b.behind.left + 1 ≤ length source.now.bytes.now)) }
+    ensures barren { OnOk result (AreBarren source.now barren.new) }
+    ensures room { OnOk result (HaveRoom source.now barren.new) }
+    ensures kept { OnOk result (AreKept barren.old barren.new) }
 {
     let (size, place) = visit(source.bytes, start, steps)?;
     if size == 0 {
-        return Ok((None, read_branches(source.bytes, source.from, place)?));
+        return Ok((None, open_list(source, barren, place, &mut Steps::new())?));
     }
     let (own, place) = own_export(source, size, place)?;
-    let branches = read_branches(source.bytes, source.from, place)?;
+    let branches = open_list(source, barren, place, &mut Steps::new())?;
     Ok((Some(own), branches))
 }
 
@@ -89,12 +198,14 @@ fn keep_below<A: Allocator>(
 }
 
 /// A walk of a trie, as far as it has come. It takes a bit for each byte of the trie, a stack of the nodes that
-/// are open, and one name.
+/// are open, and one name; and, from the first list on whose branches all lead nowhere, a bit for each of the bytes.
 #[derive(Drop)]
 pub struct Walker<'a, 'b, A: Allocator = Global> {
     pub(crate) source: Source<'a, 'b>,
     /// Which starts were met.
     pub(crate) marks: Marks<A>,
+    /// Where the count of a list stands that was read, and whose branches all lead nowhere.
+    pub(crate) barren: Marks<A>,
     /// The name of the node that was met last.
     pub(crate) name: Vec<u8, A>,
     /// The nodes below the top that have branches left.
@@ -119,6 +230,7 @@ impl<'a, 'b, A: Allocator> Walker<'a, 'b, A> {
         Ok(Walker {
             source: *source,
             marks: Marks::new(alloc.clone()?, len)?,
+            barren: Marks::new(alloc.clone()?, 0)?,
             name: Vec::new(alloc.clone()?),
             stack: Vec::new(alloc.clone()?),
             top: Open {
@@ -151,6 +263,7 @@ impl<'a, 'b, A: Allocator> Walker<'a, 'b, A> {
         ensures found { (found : List Entry) (n : ℕ) → IsBetween found n self.old → HasFound found n self.new }
         ensures source { self.new.source ≡ self.old.source }
         ensures name { self.new.name.items ≡ self.old.name.items }
+        ensures barren { self.new.barren ≡ self.old.barren }
         ensures less { work_ahead self.new < work_ahead self.old }
     {
         if self.top.left == 0 {
@@ -178,6 +291,7 @@ impl<'a, 'b, A: Allocator> Walker<'a, 'b, A> {
         ensures refused { IfErr result (λ e. (found : List Entry) (n : ℕ) → IsAtBranch found n self.old
             → IsRefusedWalk self.old.source found n steps.old steps.new e) }
         ensures utf8 { IfOk result (λ own. IfSome own (λ _. IsUtf8 self.new.name.items)) }
+        ensures kept { OnOk result (AreKept self.old.barren self.new.barren) }
         ensures less { OnOk result (work_ahead self.new < work_ahead self.old) }
     {
         let Branch { label, start } = self.next;
@@ -192,7 +306,7 @@ impl<'a, 'b, A: Allocator> Walker<'a, 'b, A> {
         self.marks.mark(start - from);
         self.name.truncate(self.top.name_len);
         self.name.extend_from_slice(label.as_bytes())?;
-        let (own, branches) = read_node(&self.source, start, steps)?;
+        let (own, branches) = read_node(&self.source, &mut self.barren, start, steps)?;
         let Some(branches) = branches else {
             self.go_on();
             return Ok(own);

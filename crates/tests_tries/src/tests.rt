@@ -4,5 +4,6 @@ mod export_kinds;
 mod gathering;
 mod look_ups;
 mod same;
+mod shared;
 mod tries;
 mod walks;

@@ -37,7 +37,7 @@ returns-clause-found g c = λ found n at.
       | then-self-eq0+in-Some w ↦ (
           let pop = popped c.args.self.now.stack.items w.pop.new.self.items w.in-Some.below w.in-Some.ensures.items in
           let k = turn.closed (turn.moved refl refl (sym pop) at.1) (omega arith) in
-          rw w.self-is ((at.0, k.0), k.1))
+          rw w.self-is ((at.0, k.0, at.2, at.3), k.1))
       | else-self-eq0 w ↦ rw w.self-is (at, omega arith)
     ] in
-    inl (k.0.0, turn.goes_on k.0.1 k.1 c.read_again-after.ensures)
+    inl (k.0.0, turn.goes_on k.0.1 k.1 c.read_again-after.ensures, k.0.2, k.0.3)

@@ -1,6 +1,7 @@
 use Rattle.mach_tries.proofs.Names.{◌∙◌, refl, ap, replicate, reverse, false, inl, inr, cases_lt}
 use Rattle.std.proofs.lemmas.Bool.{lt-leb, le-leb}
 use Rattle.mach_tries.proofs.WalkTurns.{starts, nothing_listed}
+use Rattle.mach_tries.proofs.Nowhere.{none_barren, no_room}
 use Rattle.mach_tries.proofs.walk.Walker.start.Goals as goal
 
 pub returns-clause-start : goal.returns-clause-start
@@ -9,7 +10,9 @@ returns-clause-start g c =
     elim (cases_lt s.from s.upto) [
       | inl inside ↦ inl (
         lt-leb s.upto s.from inside,
-        starts s inside _ _ _ _ (c.in_ok-new.ensures ∙ ap (λ n. replicate n false) c.saturating_sub-len.ensures) refl refl (ap reverse c.new-3.ensures.items),
+        starts s inside _ _ _ _ (c.in_ok-new.ensures ∙ ap (λ n. replicate n false) c.saturating_sub-len.ensures) refl refl (ap reverse c.new-4.ensures.items),
+        none_barren s 0 _ c.in_ok-new-2.ensures,
+        no_room s _ c.in_ok-new-2.ensures,
       )
       | inr out ↦ inr (le-leb s.upto s.from out, nothing_listed s out)
     ]

@@ -1,6 +1,9 @@
 use Rattle.mach_tries.proofs.Names.{◌≡◌, ◌+◌, ◌-◌, ◌++◌, ◌∙◌, refl, sym, ap, subst, arith, ℕ, suc, List, length, reverse, take, inl, append-nil}
-use Rattle.mach_tries.proofs.Names.{err_from_is_err_and, IsUtf8, Stands-reported, Entry, own_entries, fault_in, info_in, fault_of, HasFound, node_in}
-use Rattle.mach_tries.proofs.Names.{node_with_first, source_trie, IsEndOfWalk}
+use Rattle.mach_tries.proofs.Names.{err_from_is_err_and, IsUtf8, Entry, own_entries, fault_in, info_in, HasFound, node_in}
+use Rattle.mach_tries.proofs.Names.{source_trie, IsEndOfWalk}
+use Rattle.mach_base.proofs.Faults.{Stands-failed}
+use Rattle.mach_tries.specs.Trie as trie
+use Rattle.mach_tries.specs.Nowhere.{AreOpened}
 use Rattle.std.proofs.Math.Logic.{∥∥₁_elim, ∥∥₁_map}
 use Rattle.std.proofs.Math.Bridge.{le_prop}
 use Rattle.std.proofs.Props.{props}
@@ -14,15 +17,21 @@ pub go_on-requires-clause-on : goal.go_on-requires-clause-on
 go_on-requires-clause-on g c = ∥∥₁_elim c.requires (search props) (λ r. r.2.0)
 
 pub go_on-requires-clause-between : goal.go_on-requires-clause-between
-go_on-requires-clause-between g c = ∥∥₁_map c.requires (λ r. (r.0, r.1, (r.2.0, turn.passed r.2.1 (omega arith))))
+go_on-requires-clause-between g c = ∥∥₁_map c.requires (λ r. (r.0, r.1, (r.2.0, turn.passed r.2.1 (omega arith), r.2.2, r.2.3)))
 
 pub returns-then-start-self-clause-found : goal.returns-then-start-self-clause-found
 returns-then-start-self-clause-found g c = λ found n at. (
   n,
   subst (λ (es : List Entry). HasFound es n c.go_on.new.self) (sym (append-nil found))
-      (c.go_on.ensures.found found n (at.0, turn.passed at.1 (omega arith))),
+      (c.go_on.ensures.found found n (at.0, turn.passed at.1 (omega arith), at.2, at.3)),
   refl,
 )
+
+pub read_node-requires-clause-barren : goal.read_node-requires-clause-barren
+read_node-requires-clause-barren g c = λ place is. ∥∥₁_elim c.requires (search props) (λ r. r.2.2 place is)
+
+pub read_node-requires-clause-room : goal.read_node-requires-clause-room
+read_node-requires-clause-room g c = λ some. ∥∥₁_elim c.requires (search props) (λ r. r.2.3 some)
 
 pub is_marked-requires : goal.is_marked-requires
 is_marked-requires g c = ∥∥₁_elim c.requires le_prop (λ r. turn.within r.2.1 (omega arith))
@@ -64,10 +73,10 @@ returns-in_err-own-clause-refused g c =
     rw (p.1, p.2) (λ found n at.
     let off = turn.clear at.1 (omega arith) c.is_marked.ensures c.if-is_marked.false in
     record {
-      fault = Stands-reported (fault_in c.args.self.now.source) c.in_err-own.field-0.0
-          (turn.child_fault at.1 (omega arith) (fault_of c.in_err-own.field-0.0) c.in_err-own.ensures.node);
-      ends = Stands-reported (IsEndOfWalk (source_trie c.args.self.now.source) c.args.self.now.source.from found) c.in_err-own.field-0.0
-          (turn.ends_at_node at.1 (omega arith) (fault_of c.in_err-own.field-0.0) c.in_err-own.ensures.node);
+      fault = Stands-failed (fault_in c.args.self.now.source) c.in_err-own.field-0.0 (node_in c.args.self.now.source c.args.self.now.next.start)
+          (turn.child_fault at.1 (omega arith)) c.in_err-own.ensures.fault;
+      ends = Stands-failed (IsEndOfWalk (source_trie c.args.self.now.source) c.args.self.now.source.from found) c.in_err-own.field-0.0
+          (node_in c.args.self.now.source c.args.self.now.next.start) (turn.ends_at_node at.1 (omega arith)) c.in_err-own.ensures.fault;
       visited = suc n;
       visits = turn.child_visits at.1 (omega arith) off refl;
       few_visits = turn.few_with_child at.1 (omega arith) off refl;
@@ -81,6 +90,8 @@ pub go_on-requires-in_default-clause-between : goal.go_on-requires-in_default-cl
 go_on-requires-in_default-clause-between g c =
     let cut = c.in_ok-extend_from_slice.ensures.items ∙ ap (λ (x : List ℕ). x ++ c.as_bytes.result.now) c.truncate.ensures.items
     ∙ ap (λ (x : List ℕ). take c.args.self.now.top.name_len c.args.self.now.name.items ++ x) c.as_bytes.ensures.value in
+    let node = c.in_ok-own.ensures.opened in
+    let none = subst (AreOpened c.args.self.now.source node.0) c.in_default.is node.2 in
     ∥∥₁_map c.requires (λ r.
     let off = turn.clear r.2.1 (omega arith) c.is_marked.ensures c.if-is_marked.false in (
       r.0 ++ own_entries c.extend_from_slice.new.self.items (info_in c.in_ok-own.own),
@@ -88,7 +99,9 @@ go_on-requires-in_default-clause-between g c =
       (
         r.2.0,
         turn.passed_by r.2.1 (omega arith) off cut c.mark.ensures
-            (info_in c.in_ok-own.own) _ refl _ c.in_ok-own.ensures.node (rw c.in_default.is refl),
+            (info_in c.in_ok-own.own) _ refl node.0 node.1 none,
+        c.in_ok-own.ensures.barren,
+        c.in_ok-own.ensures.room,
       ),
     ))
 
@@ -96,14 +109,17 @@ pub returns-in_default-clause-found : goal.returns-in_default-clause-found
 returns-in_default-clause-found g c = λ found n at.
     let cut = c.in_ok-extend_from_slice.ensures.items ∙ ap (λ (x : List ℕ). x ++ c.as_bytes.result.now) c.truncate.ensures.items
     ∙ ap (λ (x : List ℕ). take c.args.self.now.top.name_len c.args.self.now.name.items ++ x) c.as_bytes.ensures.value in
-    let off = turn.clear at.1 (omega arith) c.is_marked.ensures c.if-is_marked.false in (
+    let off = turn.clear at.1 (omega arith) c.is_marked.ensures c.if-is_marked.false in
+    let node = c.in_ok-own.ensures.opened in
+    let none = subst (AreOpened c.args.self.now.source node.0) c.in_default.is node.2 in (
       suc n,
       subst (λ (x : List ℕ). HasFound (found ++ own_entries x (info_in c.in_ok-own.own)) (suc n) c.go_on-in_default.new.self)
           (sym c.go_on-in_default.ensures.name)
           (c.go_on-in_default.ensures.found (found ++ own_entries c.extend_from_slice.new.self.items (info_in c.in_ok-own.own)) (suc n) (
             at.0,
-            turn.passed_by at.1 (omega arith) off cut c.mark.ensures (info_in c.in_ok-own.own) _ refl _ c.in_ok-own.ensures.node
-                (rw c.in_default.is refl),
+            turn.passed_by at.1 (omega arith) off cut c.mark.ensures (info_in c.in_ok-own.own) _ refl node.0 node.1 none,
+            c.in_ok-own.ensures.barren,
+            c.in_ok-own.ensures.room,
           )),
       omega (arith, c.in_ok-own.ensures.visits),
     )
@@ -143,16 +159,20 @@ returns-clause-found g c = λ found n at.
     ∙ ap (λ (x : List ℕ). take c.args.self.now.top.name_len c.args.self.now.name.items ++ x) c.as_bytes.ensures.value in
     let off = turn.clear at.1 (omega arith) c.is_marked.ensures c.if-is_marked.false in
     let s = c.args.self.now.source in
-    let node = subst (λ (bs : Option Branches). node_in s c.args.self.now.next.start ≡ Ok
-    (node_with_first s.bytes.now s.from (c.in_ok-own.own, bs))) c.in-Some.is c.in_ok-own.ensures.node in
+    let node = c.in_ok-own.ensures.opened in
+    let all = subst (AreOpened s node.0) c.in-Some.is node.2 in
+    let there = subst (λ (bs : List trie.Branch). node_in s c.args.self.now.next.start ≡ Ok (record { own = info_in c.in_ok-own.own; branches = bs })) all.0
+    node.1 in
     let readable = subst (λ (bs : Option Branches). IfSome bs (λ b. IsReadable s.bytes.now s.from b.behind)) c.in-Some.is c.in_ok-own.ensures.readable in (
       suc n,
       inl (
         at.0,
-        (turn.entered at.1 (omega arith) off cut c.mark.ensures (info_in c.in_ok-own.own) _ refl c.in-Some.branches node readable
+        (turn.entered at.1 (omega arith) off cut c.mark.ensures (info_in c.in_ok-own.own) _ refl c.in-Some.branches there readable
             c.len-name_len.result
             (omega (arith, c.extend_from_slice.new.self.ok.0, c.len-name_len.ensures)) (reverse c.keep_below.new.stack.items)
             c.in_ok-keep_below.ensures.kept c.in_ok-keep_below.ensures.used_up),
+        c.in_ok-own.ensures.barren,
+        c.in_ok-own.ensures.room,
       ),
       omega (arith, c.in_ok-own.ensures.visits),
     )
