@@ -1,2 +1,3 @@
 pub mod SlotLists
+pub mod ReadyLists
 pub mod SlotLaws

@@ -3,7 +3,7 @@ use Rattle.std.specs.Prelude.{◌-◌, List, option_map, Result}
 use Rattle.mach_base.specs.declared.error.Error.{Error}
 use Rattle.mach_base.specs.Fault.{Fault}
 use Rattle.mach_base.specs.Items.{items_from, read_as}
-use Rattle.mach_symbols.specs.SymbolViews.{table_of}
+use Rattle.mach_symbols.specs.SymbolViews.{copied_table, table_of}
 use Rattle.mach_slots.specs.IndirectSymbols.{IndirectTable, indirect_symbol_at}
 use Rattle.mach_slots.specs.Slots.{SlotTables, SlotOwner, named_slot, local_slot, absolute_slot, local_absolute_slot, Slot}
 use Rattle.mach_slots.specs.declared.indirect.IndirectSymbol.{IndirectSymbol}
@@ -12,6 +12,7 @@ use Rattle.mach_slots.specs.declared.indirect.IndirectSymbolIterator.{IndirectSy
 use Rattle.mach_slots.specs.declared.slot.SlotSymbol.{SlotSymbol}
 use Rattle.mach_slots.specs.declared.slot.SlotSymbol.TheVariants.{Named, Local, Absolute, LocalAbsolute}
 use Rattle.mach_slots.specs.declared.slot.SymbolSlot.{SymbolSlot}
+use Rattle.mach_slots.specs.declared.source.HeldSource.{HeldSource}
 use Rattle.mach_slots.specs.declared.source.SlotSource.{SlotSource}
 
 abbrev pub indirect_table_of : IndirectSymbols → IndirectTable
@@ -28,6 +29,11 @@ indirect_left it = items_from (indirect_symbol_at (indirect_table_of it.table)) 
 abbrev pub slot_tables_of : SlotSource → SlotTables
 slot_tables_of s =
     record { indirect = indirect_table_of s.indirect; symbols = option_map (λ symbols. table_of symbols.now) s.symbols; container = s.ctx.container }
+
+-- of a source that holds its symbols itself
+abbrev pub held_tables_of : HeldSource → SlotTables
+held_tables_of s =
+    record { indirect = indirect_table_of s.indirect; symbols = option_map copied_table s.symbols; container = s.ctx.container }
 
 abbrev pub slot_symbol_view : SlotSymbol → SlotOwner
 slot_symbol_view (Named index name) = named_slot index name.now

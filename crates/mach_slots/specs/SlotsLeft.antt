@@ -4,8 +4,9 @@ use Rattle.mach_base.specs.declared.error.Error.{Error}
 use Rattle.mach_base.specs.Fault.{Fault}
 use Rattle.mach_base.specs.Items.{read_as}
 use Rattle.mach_segments.specs.NumberedLeft.{numbered_left}
+use Rattle.mach_slots.specs.ReadySlots.{ready_left}
 use Rattle.mach_slots.specs.Slots.{SlotTables, Slot, slots_from, section_slots}
-use Rattle.mach_slots.specs.SlotViews.{slot_tables_of, slot_view}
+use Rattle.mach_slots.specs.SlotViews.{held_tables_of, slot_view}
 use Rattle.mach_slots.specs.declared.kind.SlotRun.{SlotRun}
 use Rattle.mach_slots.specs.declared.slot.SymbolSlot.{SymbolSlot}
 use Rattle.mach_slots.specs.declared.slots.SlotIterator.{SlotIterator}
@@ -20,8 +21,12 @@ open_slots t None j = []
 open_slots t (Some r) j = slots_from t r (r.count - j) j
 
 abbrev pub open_slots_left : SlotIterator → List (Result Slot Fault)
-open_slots_left it = open_slots (slot_tables_of it.source) it.run it.next_slot
+open_slots_left it = open_slots (held_tables_of it.source) it.run it.next_slot
 
--- those of the section that is open, and then those of the sections that are left
+-- those of the section that is open, the ones that are known to have entries first
+abbrev pub section_left : SlotIterator → List (Result Slot Fault)
+section_left it = ready_left (held_tables_of it.source) it.ready ++ open_slots_left it
+
+-- and then those of the sections that are left
 abbrev pub slots_left : SlotIterator → List (Result Slot Fault)
-slots_left it = open_slots_left it ++ flat_map (section_slots (slot_tables_of it.source)) (numbered_left it.sections)
+slots_left it = section_left it ++ flat_map (section_slots (held_tables_of it.source)) (numbered_left it.sections)

@@ -1,13 +1,13 @@
 //! Indirect symbols (`mach-o/loader.h`, struct dysymtab_command).
 
-ghost use Rattle.std.specs.Prelude.{◌≡◌, ◌+◌, ◌<◌, ◌^◌, [], Err, length};
+ghost use Rattle.std.specs.Prelude.{◌≡◌, ◌+◌, ◌*◌, ◌<◌, ◌≤◌, ◌^◌, [], Err, IfSome, drop, length};
 ghost use Rattle.mach_base.specs.Answer.{Reads};
 ghost use Rattle.mach_base.specs.Fault.{fault_of};
-ghost use Rattle.mach_base.specs.Number.{number_at};
+ghost use Rattle.mach_base.specs.Number.{number, number_at};
 ghost use Rattle.mach_slots.specs.IndirectSymbols.{indirect_symbol, indirect_symbol_at, indirect_symbols_of};
 ghost use Rattle.mach_slots.specs.SlotViews.{indirect_table_of, indirect_read, indirect_left};
 
-use mach_base::{ByteCount, Endian, Error, Result, read_u32};
+use mach_base::{ByteCount, Endian, Error, Result, read_u32, rest_at};
 use std::fmt;
 
 const INDIRECT_SYMBOL_LOCAL: u32 = 0x8000_0000;
@@ -96,6 +96,27 @@ impl<'a> IndirectSymbols<'a> {
             return Err(beyond(self.bytes, place, self.le));
         }
         Ok(IndirectSymbol::of(self.le.u32_at(self.bytes, place)))
+    }
+
+    // The bytes from an entry's place on, where it lies in the bytes or at their end.
+    pub(crate) fn entries_from(&self, number: u32) -> Option<&'a [u8]>
+        ensures there { IfSome result (λ _. (indirect_table_of self.now).start + 4 * number ≤ length (indirect_table_of self.now).bytes) }
+        ensures bytes { IfSome result (λ rest. rest.now ≡ drop ((indirect_table_of self.now).start + 4 * number) (indirect_table_of self.now).bytes) }
+    {
+        let from = self.start as usize + 4 * number as usize;
+        if self.bytes.len() < from {
+            return None;
+        }
+        Some(rest_at(self.bytes, from))
+    }
+
+    // What the entry says with which some bytes begin.
+    #[inline(always)]
+    pub(crate) fn first_of(&self, entries: &[u8]) -> IndirectSymbol
+        requires { 4 ≤ length entries.now }
+        ensures { result ≡ indirect_symbol (number (indirect_table_of self.now).le 4 entries.now) }
+    {
+        IndirectSymbol::of(self.le.u32_at(entries, 0))
     }
 
     /// The entries in order, exactly as many as there are said to be, unreadable ones included.

@@ -5,6 +5,7 @@ mod indirect;
 mod kind;
 pub mod laws;
 mod look_up;
+mod ready;
 mod slot;
 mod slots;
 mod source;

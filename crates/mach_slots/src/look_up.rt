@@ -5,11 +5,11 @@ ghost use Rattle.mach_base.specs.Answer.{Reads};
 ghost use Rattle.mach_segments.specs.Segment.{segment_view};
 ghost use Rattle.mach_segments.specs.SectionRecord.{readable_sections};
 ghost use Rattle.mach_slots.specs.SlotLookUp.{holds_slots_at, slot_in_run, slot_in_section, slot_of_address};
-ghost use Rattle.mach_slots.specs.SlotViews.{slot_tables_of, slot_view};
+ghost use Rattle.mach_slots.specs.SlotViews.{held_tables_of, slot_tables_of, slot_view};
 
 use crate::kind::{SlotKind, SlotRun};
 use crate::slot::SymbolSlot;
-use crate::source::SlotSource;
+use crate::source::{HeldSource, SlotSource};
 use mach_base::Result;
 use mach_segments::segment::{NumberedSection, ReadableSections, Segment};
 
@@ -34,12 +34,12 @@ fn section_of_slots(segments: &[Segment<'_>], address: u64) -> Option<NumberedSe
 
 // The slot of a section in which an address lies, if there is a whole one.
 fn slot_in<'a>(
-    source: SlotSource<'a, '_>,
+    source: &HeldSource<'a>,
     run: &SlotRun,
     address: u64,
 ) -> Result<Option<SymbolSlot<'a>>>
     requires { 0 < run.now.len }
-    ensures { Reads (option_map slot_view) result (slot_in_run (slot_tables_of source.entry) address run.now) }
+    ensures { Reads (option_map slot_view) result (slot_in_run (held_tables_of source.now) address run.now) }
 {
     let j = address.saturating_sub(run.address) / run.len;
     if j >= run.count {
@@ -67,7 +67,7 @@ pub fn symbol_slot_at<'a>(
         return Ok(None);
     };
     match SlotRun::of(source.ctx, &section) {
-        Ok(Some(run)) => slot_in(source, &run, address),
+        Ok(Some(run)) => slot_in(&source.held(), &run, address),
         Ok(None) => Ok(None),
         Err(e) => Err(e),
     }

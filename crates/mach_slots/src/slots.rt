@@ -1,17 +1,19 @@
 //! The slots of an image, one at a time.
 
-ghost use Rattle.std.specs.Prelude.{◌≡◌, ◌∷◌, ◌++◌, [], Err, OnOk, IfErr, IfNone, IfOk, MatchOption, flat_map, map};
+ghost use Rattle.std.specs.Prelude.{◌≡◌, ◌∷◌, ◌++◌, [], Err, Ok, OnOk, IfErr, IfNone, IfOk, IfSome, MatchOption, flat_map, map};
 ghost use Rattle.std.specs.Iterator.{YieldsFirstBy};
 ghost use Rattle.mach_base.specs.Fault.{fault_of};
 ghost use Rattle.mach_segments.specs.Segment.{segment_view};
-ghost use Rattle.mach_slots.specs.SlotViews.{slot_tables_of};
+ghost use Rattle.mach_slots.specs.SlotViews.{held_tables_of, slot_tables_of, slot_view};
 ghost use Rattle.mach_slots.specs.Slots.{slots_of, read_slots};
-ghost use Rattle.mach_slots.specs.SlotsLeft.{symbol_slot_read, open_slots_left, slots_left};
+ghost use Rattle.mach_slots.specs.ReadySlots.{ready_left};
+ghost use Rattle.mach_slots.specs.SlotsLeft.{symbol_slot_read, open_slots_left, section_left, slots_left};
 
 use crate::indirect::IndirectSymbols;
 use crate::kind::SlotRun;
+use crate::ready::ReadySlots;
 use crate::slot::SymbolSlot;
-use crate::source::SlotSource;
+use crate::source::{HeldSource, SlotSource};
 use mach_base::{Ctx, Endian, Result};
 use mach_segments::segment::{NumberedSection, NumberedSections, Segment};
 
@@ -20,9 +22,10 @@ use mach_segments::segment::{NumberedSection, NumberedSections, Segment};
 /// takes no memory.
 #[derive(Clone, Copy)]
 pub struct SlotIterator<'a, 'b> {
-    source: SlotSource<'a, 'b>,
+    source: HeldSource<'a>,
     sections: NumberedSections<'a, 'b>,
-    // The section whose slots come now, and how many of them came.
+    // The slots of the section that is open which are known to have entries; the section, and the number of the slot behind these.
+    ready: ReadySlots<'a>,
     run: Option<SlotRun>,
     next_slot: u64,
 }
@@ -33,19 +36,55 @@ impl<'a, 'b> SlotIterator<'a, 'b> {
         ensures { slots_left result ≡ slots_of (slot_tables_of source.entry) (map segment_view segments.now) }
     {
         SlotIterator {
-            source,
+            source: source.held(),
             sections: NumberedSections::new(segments),
+            ready: ReadySlots::none(),
             run: None,
             next_slot: 0,
         }
     }
 
-    // The next slot of the section that is open.
+    // The next slot of those that are known to have entries, where it is quickly found.
     #[inline(always)]
+    fn quick_slot(&mut self) -> Option<SymbolSlot<'a>>
+        ensures some { IfSome result (λ slot. ready_left (held_tables_of self.old.source) self.old.ready
+            ≡ Ok (slot_view slot) ∷ ready_left (held_tables_of self.old.source) self.new.ready) }
+        ensures none { IfNone result (self.new ≡ self.old) }
+        ensures run { self.new.run ≡ self.old.run }
+        ensures number { self.new.next_slot ≡ self.old.next_slot }
+        ensures sections { self.new.sections ≡ self.old.sections }
+        ensures source { self.new.source ≡ self.old.source }
+    {
+        let entry = self.ready.first(&self.source.indirect)?;
+        let slot = self.source.quick_slot(&self.ready.run, &entry)?;
+        self.ready.pass();
+        Some(slot)
+    }
+
+    // The next slot of those that are known to have entries.
+    fn ready_slot(&mut self) -> Option<Result<SymbolSlot<'a>>>
+        ensures ready { MatchOption result (ready_left (held_tables_of self.old.source) self.old.ready ≡ [])
+            (λ item. ready_left (held_tables_of self.old.source) self.old.ready
+            ≡ symbol_slot_read item ∷ ready_left (held_tables_of self.old.source) self.new.ready) }
+        ensures none { IfNone result (self.new ≡ self.old) }
+        ensures run { self.new.run ≡ self.old.run }
+        ensures number { self.new.next_slot ≡ self.old.next_slot }
+        ensures sections { self.new.sections ≡ self.old.sections }
+        ensures source { self.new.source ≡ self.old.source }
+    {
+        let Some(entry) = self.ready.first(&self.source.indirect) else {
+            return None;
+        };
+        self.ready.pass();
+        Some(self.source.slot(&self.ready.run, &entry))
+    }
+
+    // The next slot of the section that is open, behind those.
     fn take(&mut self) -> Option<Result<SymbolSlot<'a>>>
         ensures open { MatchOption result (open_slots_left self.old ≡ [])
             (λ item. open_slots_left self.old ≡ symbol_slot_read item ∷ open_slots_left self.new) }
         ensures none { IfNone result (self.new ≡ self.old) }
+        ensures ready { self.new.ready ≡ self.old.ready }
         ensures sections { self.new.sections ≡ self.old.sections }
         ensures source { self.new.source ≡ self.old.source }
     {
@@ -67,30 +106,34 @@ impl<'a, 'b> SlotIterator<'a, 'b> {
 
     // Opens the next section.
     fn open(&mut self, section: &NumberedSection) -> Result<()>
-        ensures opened { IfOk result (λ _. open_slots_left self.new ≡ read_slots (slot_tables_of self.old.source) section.now) }
-        ensures refused { IfErr result (λ e. read_slots (slot_tables_of self.old.source) section.now ≡ Err (fault_of e) ∷ []) }
-        ensures closed { IfErr result (λ _. open_slots_left self.new ≡ []) }
+        requires { ready_left (held_tables_of self.old.source) self.old.ready ≡ [] }
+        ensures opened { IfOk result (λ _. section_left self.new ≡ read_slots (held_tables_of self.old.source) section.now) }
+        ensures refused { IfErr result (λ e. read_slots (held_tables_of self.old.source) section.now ≡ Err (fault_of e) ∷ []) }
+        ensures closed { IfErr result (λ _. section_left self.new ≡ []) }
         ensures sections { self.new.sections ≡ self.old.sections }
         ensures source { self.new.source ≡ self.old.source }
     {
         self.run = None;
         self.next_slot = 0;
         match SlotRun::of(self.source.ctx, section) {
-            Ok(run) => {
-                self.run = run;
+            Ok(Some(run)) => {
+                self.ready = ReadySlots::of(&run, &self.source.indirect);
+                self.next_slot = self.ready.len();
+                self.run = Some(run);
                 Ok(())
             }
+            Ok(None) => Ok(()),
             Err(e) => Err(e),
         }
     }
 
-    // The next slot: of the section that is open, if it has one more.
+    // The next slot: of those that are known to have entries, where it is quickly found.
     #[inline(always)]
     fn next_item(&mut self) -> Option<Result<SymbolSlot<'a>>>
         ensures { YieldsFirstBy symbol_slot_read slots_left self.old result self.new }
     {
-        match self.take() {
-            Some(item) => Some(item),
+        match self.quick_slot() {
+            Some(slot) => Some(Ok(slot)),
             None => self.next_of_later(),
         }
     }
@@ -122,6 +165,9 @@ impl<'a, 'b> SlotIterator<'a, 'b> {
         ensures { YieldsFirstBy symbol_slot_read slots_left self.old result self.new }
     {
         'sections: loop {
+            if let Some(item) = self.ready_slot() {
+                return Some(item);
+            }
             if let Some(item) = self.take() {
                 return Some(item);
             }

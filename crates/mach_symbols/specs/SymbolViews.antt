@@ -9,6 +9,7 @@ use Rattle.mach_symbols.specs.Symbols.{SymbolTable, symbol_at}
 use Rattle.mach_symbols.specs.declared.symbols.nlist.Nlist.{Nlist}
 use Rattle.mach_symbols.specs.declared.symbols.Table.{Table}
 use Rattle.mach_symbols.specs.declared.symbols.Symbols.{Symbols}
+use Rattle.mach_symbols.specs.declared.symbols.CopiedSymbols.{CopiedSymbols}
 use Rattle.mach_symbols.specs.declared.symbols.SymbolIterator.{SymbolIterator}
 use Rattle.mach_symbols.specs.declared.symbols.SymbolsCtx.{SymbolsCtx}
 
@@ -18,6 +19,10 @@ table_view t = record { bytes = t.bytes.now; start = t.start; nsyms = t.nsyms; s
 -- the table that symbols are
 abbrev pub table_of : Symbols → SymbolTable
 table_of s = table_view s.table
+
+-- and the one that copied ones are
+abbrev pub copied_table : CopiedSymbols → SymbolTable
+copied_table s = table_view s.copy
 
 -- a symbol with its name, as it was read
 abbrev pub symbol_read : Result (Bor (List ℕ) × Nlist) Error → Result (List ℕ × Nlist) Fault

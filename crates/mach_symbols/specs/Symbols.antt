@@ -162,6 +162,10 @@ symbol_at t k = do
   name ← text_at t.bytes (place_after t.strtab symbol.n_strx)
   Ok (name, symbol)
 
+-- its name alone
+abbrev pub symbol_name_at : SymbolTable → ℕ → Result (List ℕ) Fault
+symbol_name_at t k = symbol_at t k >>= (λ found. Ok found.0)
+
 -- all symbols of a table
 abbrev pub symbols_of : SymbolTable → List (Result (List ℕ × Nlist) Fault)
 symbols_of t = items_from (symbol_at t) 0 t.nsyms

@@ -1,12 +1,12 @@
 //! Symbols and their names (`mach-o/nlist.h`).
 
-ghost use Rattle.std.specs.Prelude.{◌≡◌, ◌<◌, ◌^◌, ◌↔◌, [], Ok, length, drop, IsTrue};
+ghost use Rattle.std.specs.Prelude.{◌≡◌, ◌<◌, ◌^◌, ◌↔◌, [], Ok, length, drop, IfSome, IsTrue};
 ghost use Rattle.mach_base.specs.declared.context.Endian.TheVariants.{Little};
 ghost use Rattle.mach_base.specs.declared.context.Container.TheVariants.{Big};
 ghost use Rattle.mach_base.specs.Answer.{Reads};
 ghost use Rattle.mach_base.specs.Number.{place_after};
-ghost use Rattle.mach_symbols.specs.Symbols.{begun_of, symbol_place, symbol_at, symbols_of, table_at};
-ghost use Rattle.mach_symbols.specs.SymbolViews.{table_of, table_view, symbol_read, symbols_left};
+ghost use Rattle.mach_symbols.specs.Symbols.{begun_of, symbol_place, symbol_at, symbol_name_at, symbols_of, table_at};
+ghost use Rattle.mach_symbols.specs.SymbolViews.{copied_table, table_of, table_view, symbol_read, symbols_left};
 
 pub mod laws;
 mod names;
@@ -24,7 +24,9 @@ pub use crate::symbols::names::{
     REFERENCED_DYNAMICALLY, n_type_to_str,
 };
 pub use crate::symbols::nlist::{Nlist, Nlist32, Nlist64, SIZEOF_NLIST_32, SIZEOF_NLIST_64};
-use mach_base::{ByteCount, Ctx, Error, Result, ScrollError, SizeWith, TryFromCtx, read_text};
+use mach_base::{
+    ByteCount, Ctx, Error, Result, ScrollError, SizeWith, TryFromCtx, quick_text, read_text,
+};
 use mach_records::SymtabCommand;
 use std::fmt;
 
@@ -68,6 +70,22 @@ impl<'a> Table<'a> {
         let symbol = Nlist::read(self.bytes, self.place(index), self.ctx)?;
         let name = read_text(self.bytes, self.strtab.saturating_add(symbol.n_strx))?;
         Ok((name, symbol))
+    }
+}
+
+impl<'a> Table<'a> {
+    // The name of a symbol, wherever `symbol` finds one at places of 64 bits.
+    #[tactic(auto, unfolding(crate::specs::Symbols::symbol_at))]
+    #[inline(always)]
+    fn quick_name(self, index: usize) -> Option<&'a str>
+        ensures { IfSome result (λ name. symbol_name_at (table_view self.entry) index ≡ Ok name.now) }
+    {
+        let before = index.checked_mul(Nlist::size_with(&self.ctx))?;
+        let place = self.start.checked_add(before)?;
+        let Ok(symbol) = Nlist::read(self.bytes, place, self.ctx) else {
+            return None;
+        };
+        quick_text(self.bytes, self.strtab.checked_add(symbol.n_strx)?)
     }
 }
 
@@ -223,12 +241,52 @@ impl<'a> Symbols<'a> {
         }
     }
 
+    /// The same symbols as a value that is copied.
+    pub fn copied(&self) -> CopiedSymbols<'a>
+        ensures { copied_table result ≡ table_of self.now }
+    {
+        CopiedSymbols { copy: self.table }
+    }
+
     /// A symbol with its name; how many there are said to be is not tested.
     #[inline(always)]
     pub fn get(&self, index: usize) -> Result<(&'a str, Nlist)>
         ensures { symbol_read result ≡ symbol_at (table_of self.now) index }
     {
         self.table.symbol(index)
+    }
+}
+
+/// Symbols as a value that is copied: what keeps them beside other values can hold their places in registers.
+#[derive(Clone, Copy)]
+pub struct CopiedSymbols<'a> {
+    copy: Table<'a>,
+}
+
+impl<'a> CopiedSymbols<'a> {
+    /// How many symbols there are said to be.
+    #[inline(always)]
+    pub fn len(&self) -> usize
+        ensures { result ≡ (copied_table self.now).nsyms }
+    {
+        self.copy.nsyms
+    }
+
+    /// A symbol with its name; how many there are said to be is not tested.
+    #[inline(always)]
+    pub fn get(&self, index: usize) -> Result<(&'a str, Nlist)>
+        ensures { symbol_read result ≡ symbol_at (copied_table self.now) index }
+    {
+        self.copy.symbol(index)
+    }
+
+    /// The name of a symbol, for a caller that asks `get` where there is none; how many symbols there are said to be is not
+    /// tested.
+    #[inline(always)]
+    pub fn quick_name(&self, index: usize) -> Option<&'a str>
+        ensures { IfSome result (λ name. symbol_name_at (copied_table self.now) index ≡ Ok name.now) }
+    {
+        self.copy.quick_name(index)
     }
 }
 

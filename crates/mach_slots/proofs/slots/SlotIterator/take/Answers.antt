@@ -2,7 +2,7 @@ use Rattle.std.proofs.Common.{◌+◌, ◌-◌, ◌∷◌, Option, Result, ap, s
 use Rattle.mach_base.proofs.ItemLists.{read_as-Reads}
 use Rattle.mach_base.specs.Fault.{Fault, fault_of}
 use Rattle.mach_slots.proofs.SlotLists.{no_slots, next_slot, last_slot}
-use Rattle.mach_slots.specs.SlotViews.{slot_tables_of}
+use Rattle.mach_slots.specs.SlotViews.{held_tables_of}
 use Rattle.mach_slots.specs.Slots.{Slot, slots_from}
 use Rattle.mach_slots.specs.SlotsLeft.{open_slots, symbol_slot_read}
 use Rattle.mach_slots.specs.declared.kind.SlotRun.{SlotRun}
@@ -11,13 +11,13 @@ use Rattle.mach_slots.proofs.slots.SlotIterator.take.Goals as goal
 pub returns-then-self-run-clause-open : goal.returns-then-self-run-clause-open
 returns-then-self-run-clause-open c =
     let it = c.args.self.now in
-    ap (λ (run : Option SlotRun). open_slots (slot_tables_of it.source) run it.next_slot) c.in_ok-run.was
-    ∙ no_slots (slot_tables_of it.source) c.in_ok-run.run' it.next_slot c.if-self-run.true
+    ap (λ (run : Option SlotRun). open_slots (held_tables_of it.source) run it.next_slot) c.in_ok-run.was
+    ∙ no_slots (held_tables_of it.source) c.in_ok-run.run' it.next_slot c.if-self-run.true
 
 pub returns-in-Ok-clause-open : goal.returns-in-Ok-clause-open
 returns-in-Ok-clause-open c =
     let it = c.args.self.now in
-    let t = slot_tables_of it.source in
+    let t = held_tables_of it.source in
     let r = c.in_ok-run.run' in
     ap (λ (run : Option SlotRun). open_slots t run it.next_slot) c.in_ok-run.was
     ∙ (next_slot t r it.next_slot c.in-Ok.entry c.if-self-run.false c.in-Ok.ensures
@@ -28,5 +28,5 @@ returns-in-Ok-clause-open c =
 pub returns-in-Err-clause-open : goal.returns-in-Err-clause-open
 returns-in-Err-clause-open c =
     let it = c.args.self.now in
-    ap (λ (run : Option SlotRun). open_slots (slot_tables_of it.source) run it.next_slot) c.in_ok-run.was
-    ∙ last_slot (slot_tables_of it.source) c.in_ok-run.run' it.next_slot (fault_of c.in-Err.e) c.if-self-run.false c.in-Err.ensures
+    ap (λ (run : Option SlotRun). open_slots (held_tables_of it.source) run it.next_slot) c.in_ok-run.was
+    ∙ last_slot (held_tables_of it.source) c.in_ok-run.run' it.next_slot (fault_of c.in-Err.e) c.if-self-run.false c.in-Err.ensures
