@@ -1,7 +1,10 @@
 -- How the opcodes of weak binds and of rebases are read, one by one.
-use Rattle.mach_binds.proofs.Names.{◌≡◌, ◌≢◌, ℕ, ◌+◌, ◌<◌, ◌≤◌, List, length, true, false, Result, Fault, Ok, Err, IsOk, IsErr, refl, sym, ap, ◌∙◌, nat_lt}
+use Rattle.mach_binds.proofs.Names.{◌≡◌, ◌≢◌, ℕ, ◌+◌, ◌*◌, ◌/◌, ◌%◌, ◌<◌, ◌≤◌, List, length, Bool, true, false, Result, Fault}
+use Rattle.mach_binds.proofs.Names.{Ok, Err, IsOk, IsErr, refl, sym, ap, ◌∙◌, nat_lt}
 use Rattle.mach_binds.proofs.Names.{bit_and, arith, nat_tests}
 use Rattle.mach_binds.proofs.Names.{ne_eqb, malformed, bad_offset, byte_at, row_at, instruction_at, Range}
+use Rattle.std.proofs.lemmas.Bool.{ltb-true, ltb-false}
+use Rattle.std.proofs.lemmas.Nat.Bits.{and_high}
 use Rattle.std.proofs.lemmas.Option.{slice_get_past}
 use Rattle.mach_binds.specs.Instructions.{nothing}
 use Rattle.mach_binds.proofs.BindSteps.{by_row}
@@ -53,6 +56,19 @@ module _ (r : Range) (pointer : ℕ) (bytes : List ℕ) (place byte : ℕ) (ther
   unfolding weak_row
   weak_other d l h n =
       weak_table ∙ rw (ne_eqb opcode 0x00 d, not_below opcode 0x40 l, not_below 0xc0 opcode h, ne_eqb opcode 0x40 n) refl
+
+  pub sixteens : opcode ≡ (byte / 16 % 16) * 16
+  sixteens = and_high byte 4 4
+
+  weak_by_tests : (low high : Bool) → nat_lt opcode 0x40 ≡ low → nat_lt 0xc0 opcode ≡ high → opcode ≢ 0x00
+      → (0x40 ≤ opcode → opcode ≤ 0xc0 → ⊥) → weak_opcode_at r pointer bytes place ≡ Err malformed
+  weak_by_tests true high is_low is_high d none = weak_low d (ltb-true opcode 0x40 is_low)
+  weak_by_tests false true is_low is_high d none = weak_high d (ltb-false opcode 0x40 is_low) (ltb-true 0xc0 opcode is_high)
+  weak_by_tests false false is_low is_high d none = absurd (none (ltb-false opcode 0x40 is_low) (ltb-false 0xc0 opcode is_high))
+
+  -- an opcode that is none of those of the stream
+  pub weak_unknown : opcode ≢ 0x00 → (0x40 ≤ opcode → opcode ≤ 0xc0 → ⊥) → weak_opcode_at r pointer bytes place ≡ Err malformed
+  weak_unknown d none = weak_by_tests (nat_lt opcode 0x40) (nat_lt 0xc0 opcode) refl refl d none
 
   pub weak_zero : opcode ≡ 0x00 → weak_opcode_at r pointer bytes place ≡ Ok (nothing, range_end r (place + 1))
   unfolding weak_row

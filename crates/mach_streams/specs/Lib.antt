@@ -7,3 +7,4 @@ pub mod RebasesLeft
 pub mod StreamsMove
 pub mod CutViews
 pub mod StreamLaws
+pub mod OpcodesFit

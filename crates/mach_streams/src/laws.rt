@@ -1,6 +1,8 @@
 //! Theorems on the definitions alone: functions with nothing to do, whose contracts are laws.
 
 ghost use Rattle.mach_streams.specs.StreamLaws.{StreamHasOneListOfWeakBinds, StreamHasOneListOfRebases, FindsLastWeakSet, FindsLastRebaseSet};
+ghost use Rattle.mach_binds.specs.Streams.{StreamsHave, BeginningsHave};
+ghost use Rattle.mach_streams.specs.OpcodesFit.{WeakOpcodesFit, RebaseOpcodesFit, BindOpcodesFit};
 ghost use Rattle.mach_streams.specs.StreamLaws.{AddsWeakBinds, AddsRebases, WeakBindsLieIn, RebasesLieIn};
 
 /// A stream of weak binds has one list of rows up to the first fault.
@@ -43,4 +45,20 @@ pub fn weak_binds_lie_in_segments()
 /// That of each rebase lies whole in its segment.
 pub fn rebases_lie_in_segments()
     ensures { RebasesLieIn }
+{}
+
+/// A stream of weak binds has at most as many opcodes as its range has bytes that are there.
+pub fn weak_opcodes_fit()
+    ensures { WeakOpcodesFit }
+{}
+
+/// So has one of rebases.
+pub fn rebase_opcodes_fit()
+    ensures { RebaseOpcodesFit }
+{}
+
+/// And so have both streams of binds together, whether they can be read to their ends or not.
+pub fn bind_opcodes_fit()
+    ensures whole { BindOpcodesFit StreamsHave }
+    ensures cut { BindOpcodesFit BeginningsHave }
 {}

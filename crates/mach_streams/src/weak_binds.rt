@@ -205,6 +205,10 @@ impl<'a> Makes<'a> for WeakExtra {
     {
         let imm = byte & BIND_IMMEDIATE_MASK;
         self.is_own = false;
+        // No opcode from here on sets anything here.
+        if byte >= BIND_OPCODE_ADD_ADDR_ULEB {
+            return;
+        }
         match byte & BIND_OPCODE_MASK {
             BIND_OPCODE_SET_SYMBOL_TRAILING_FLAGS_IMM => {
                 self.has_name = true;
@@ -219,22 +223,26 @@ impl<'a> Makes<'a> for WeakExtra {
     #[inline(always)]
     fn execute(state: &mut State<'a>, bytes: &'a [u8], pointer: u8, byte: u8) -> Option<()> {
         let (opcode, imm) = (byte & BIND_OPCODE_MASK, byte & BIND_IMMEDIATE_MASK);
-        if opcode == BIND_OPCODE_DONE {
-            let to = state.upto;
-            state.go_to(to);
-            return Some(());
-        }
-        if opcode < LOWEST_WEAK {
-            return None;
-        }
-        if opcode > HIGHEST_WEAK {
-            return None;
-        }
         let operands = state.place + 1;
-        if opcode == BIND_OPCODE_SET_SYMBOL_TRAILING_FLAGS_IMM {
-            return execute_name(state, bytes, imm, operands);
+        match opcode {
+            BIND_OPCODE_DONE => {
+                let to = state.upto;
+                state.go_to(to);
+                Some(())
+            }
+            BIND_OPCODE_SET_SYMBOL_TRAILING_FLAGS_IMM => execute_name(state, bytes, imm, operands),
+            BIND_OPCODE_SET_TYPE_IMM
+            | BIND_OPCODE_SET_ADDEND_SLEB
+            | BIND_OPCODE_SET_SEGMENT_AND_OFFSET_ULEB
+            | BIND_OPCODE_ADD_ADDR_ULEB
+            | BIND_OPCODE_DO_BIND
+            | BIND_OPCODE_DO_BIND_ADD_ADDR_ULEB
+            | BIND_OPCODE_DO_BIND_ADD_ADDR_IMM_SCALED
+            | BIND_OPCODE_DO_BIND_ULEB_TIMES_SKIPPING_ULEB => {
+                state.execute(bytes, pointer, opcode, imm, operands)
+            }
+            _ => None,
         }
-        state.execute(bytes, pointer, opcode, imm, operands)
     }
 
     fn unreadable(state: &State<'a>, bytes: &[u8], pointer: u8, byte: u8) -> Error {
