@@ -482,7 +482,7 @@ const char *gm_layout_part(uint32_t part);
 uint32_t gm_layout_faults(const uint8_t *bytes, size_t len, const gm_image *image, size_t first, gm_layout_fault *out, size_t cap, size_t *count,
                           const gm_memory *memory, gm_error *error);
 
-/* The same of the table of a fat file: none where the bytes are none. Where `cap` is not 0, GM_NO_MEMORY is its one refusal. */
+/* The same of the table of a fat file, of 32 or of 64 bits: none where the bytes are none. Where `cap` is not 0, GM_NO_MEMORY is its one refusal. */
 uint32_t gm_container_faults(const uint8_t *bytes, size_t len, size_t first, gm_layout_fault *out, size_t cap, size_t *count,
                              const gm_memory *memory, gm_error *error);
 

@@ -1,7 +1,9 @@
 -- Faults of layout as C sees them: their rules and parts as the numbers of `goblin_mach.h` (GM_LAYOUT_FILE_KIND, GM_PART_HEADER and those behind them).
 use Rattle.std.specs.Prelude.{◌≡◌, ℕ, List, [], drop, Option, Some, None}
 use Rattle.goblin_mach.specs.File.{HasFatMagic}
-use Rattle.mach_rules.specs.Containers.{AreContainerFaults}
+use Rattle.mach_arches.specs.ArchForms.{arch_form_32, arch_form_64}
+use Rattle.mach_arches.specs.FatRecords.{HasFat64Magic}
+use Rattle.mach_fat_rules.specs.Containers.{AreContainerFaults}
 use Rattle.mach_rules.specs.declared.fault.LayoutFault.{LayoutFault}
 use Rattle.mach_rules.specs.declared.fault.Owner.{Owner}
 use Rattle.mach_rules.specs.declared.fault.Part.{Part}
@@ -146,7 +148,8 @@ layout_row f =
 abbrev pub file_of : List ℕ → gm_image → List ℕ
 file_of bytes image = drop image.offset bytes
 
--- the faults of the table of a fat file; none where the bytes don't begin with its magic
+-- the faults of the table of a fat file, of 32 or of 64 bits; none where the bytes begin with the magic of neither
 pub record HasTableFaults (bytes : List ℕ) (faults : List LayoutFault) : Type 0 where
-  pub table : HasFatMagic bytes → AreContainerFaults bytes faults
-  pub none : ¬ HasFatMagic bytes → faults ≡ []
+  pub table : HasFatMagic bytes → AreContainerFaults arch_form_32 bytes faults
+  pub table_64 : HasFat64Magic bytes → AreContainerFaults arch_form_64 bytes faults
+  pub none : ¬ HasFatMagic bytes → ¬ HasFat64Magic bytes → faults ≡ []

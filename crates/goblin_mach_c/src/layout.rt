@@ -16,8 +16,9 @@ use crate::images::gm_image;
 use crate::open::open;
 use crate::rows::{Rows, fill, skip};
 use goblin_mach::peek;
+use mach_arches::{FAT_MAGIC_64, FatArch64};
 use mach_base::Result;
-use mach_headers::fat::FAT_MAGIC;
+use mach_headers::fat::{FAT_MAGIC, FatArch};
 use mach_layout::laws::layout_faults_of_image;
 use mach_layout::{LayoutFault, Owner, Part, Rule, container_faults, layout_faults};
 use std::alloc::Global;
@@ -269,18 +270,19 @@ pub extern "C" fn gmr_layout_faults(
     }
 }
 
-// The faults of the table of a fat file; none where the bytes don't begin as one.
+// The faults of the table of a fat file, of 32 or of 64 bits; none where the bytes don't begin as one.
 fn table_faults(alloc: Global, bytes: &[u8]) -> Result<Vec<LayoutFault, Global>>
     ensures listed { IfOk result (λ v. HasTableFaults bytes.now v.items) }
     ensures only { IsOkUnlessMemory result }
 {
     match peek(bytes, 0) {
-        Ok(FAT_MAGIC) => container_faults(alloc, bytes),
+        Ok(FAT_MAGIC) => container_faults::<FatArch, Global>(alloc, bytes),
+        Ok(FAT_MAGIC_64) => container_faults::<FatArch64, Global>(alloc, bytes),
         _ => Ok(Vec::new(alloc)),
     }
 }
 
-/// Writes the faults of the table of a fat file from a number on, as many as there are and fit, and how many to `count`: none
+/// Writes the faults of the table of a fat file, of 32 or of 64 bits, from a number on, as many as there are and fit, and how many to `count`: none
 /// where the bytes don't begin as a fat file does. It takes memory while it runs, and want of memory alone refuses it. A
 /// refusal leaves the array and the count.
 #[unsafe(no_mangle)]

@@ -11,7 +11,7 @@ use Rattle.mach_arches.specs.FatRecords.{fat_arch_64_fields, fat_arch_64_of_valu
 use Rattle.mach_arches.specs.declared.arch64.FatArch64.{FatArch64}
 
 -- What the records of a table are: how many bytes each has, its fields, the record of their values, and what a record says of its
--- entry: the cpu and its kind, its place and its length.
+-- entry: the cpu and its kind, its place, its length and its alignment, as a power of 2.
 pub record ArchForm (R : Type 0) : Type 0 where
   pub stride : ℕ
   pub fields : List Field
@@ -20,6 +20,7 @@ pub record ArchForm (R : Type 0) : Type 0 where
   pub cpusubtype : R → ℕ
   pub offset : R → ℕ
   pub size : R → ℕ
+  pub align : R → ℕ
 
 -- struct fat_arch, and struct fat_arch_64
 abbrev pub arch_form_32 : ArchForm FatArch
@@ -32,6 +33,7 @@ arch_form_32 =
       cpusubtype = λ a. a.cpusubtype;
       offset = λ a. a.offset;
       size = λ a. a.size;
+      align = λ a. a.align;
     }
 
 abbrev pub arch_form_64 : ArchForm FatArch64
@@ -44,6 +46,7 @@ arch_form_64 =
       cpusubtype = λ a. a.cpusubtype;
       offset = λ a. a.offset;
       size = λ a. a.size;
+      align = λ a. a.align;
     }
 
 -- records of so many bytes, of these fields and values, are of a form
@@ -53,7 +56,7 @@ pub record IsArchForm {R : Type 0} (bytes : ℕ) (fields : List Field) (values :
   pub same_fields : fields ≡ form.fields
   pub read_back : (x : R) → form.of_values (values x) ≡ x
 
--- where the record of entry i stands, behind the header
+-- where the record of entry i stands, behind the header; so those of n entries end where that of entry n would stand
 abbrev pub arch_place_in : {R : Type 0} → ArchForm R → ℕ → ℕ
 arch_place_in form i = place_after 8 (form.stride * i)
 

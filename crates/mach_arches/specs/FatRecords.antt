@@ -1,7 +1,13 @@
--- The record of an entry in a fat file of 64 bits (`mach-o/fat.h`, struct fat_arch_64).
-use Rattle.std.specs.Prelude.{List, [], ◌∷◌}
+-- The magic of a fat file of 64 bits (`mach-o/fat.h`, FAT_MAGIC_64), and the record of an entry there (struct fat_arch_64).
+use Rattle.std.specs.Prelude.{◌≡◌, ℕ, List, [], ◌∷◌, Ok}
+use Rattle.mach_base.specs.Number.{number_at}
 use Rattle.mach_base.specs.Record.{Field, num, Value, number_is, number_among}
+use Rattle.mach_base.specs.declared.context.Endian.TheVariants.{Big}
 use Rattle.mach_arches.specs.declared.arch64.FatArch64.{FatArch64}
+
+-- the bytes begin with the magic of a fat file of 64 bits
+abbrev pub HasFat64Magic : List ℕ → Type 0
+HasFat64Magic bytes = number_at Big 4 bytes 0 ≡ Ok 0xcafe_babf
 
 abbrev pub fat_arch_64_fields : List Field
 fat_arch_64_fields = num 4 ∷ num 4 ∷ num 8 ∷ num 8 ∷ num 4 ∷ num 4 ∷ []

@@ -5,4 +5,4 @@ mod arch64;
 mod record;
 
 pub use crate::arch64::{FAT_MAGIC_64, FatArch64, SIZEOF_FAT_ARCH_64};
-pub use crate::record::{ArchRecord, has_room_for, read_arch};
+pub use crate::record::{ArchRecord, has_room_for, place_of, read_arch};

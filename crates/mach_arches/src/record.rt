@@ -27,6 +27,14 @@ pub trait ArchRecord: Record {
     fn entry_offset(&self) -> u64
         ensures { result ≡ arch_form.offset self.now };
 
+    /// How many bytes the entry has.
+    fn entry_size(&self) -> u64
+        ensures { result ≡ arch_form.size self.now };
+
+    /// Its place is a multiple of 2 to this power.
+    fn entry_align(&self) -> u32
+        ensures { result ≡ arch_form.align self.now };
+
     /// The entry's bytes, where they lie in the file; else none.
     fn entry_slice<'a>(&self, bytes: &'a [u8]) -> &'a [u8]
         ensures { result.now ≡ part_of bytes.now (arch_form.offset self.now) (arch_form.size self.now) };
@@ -53,6 +61,14 @@ impl ArchRecord for FatArch {
         u64::from(self.offset)
     }
 
+    fn entry_size(&self) -> u64 {
+        u64::from(self.size)
+    }
+
+    fn entry_align(&self) -> u32 {
+        self.align
+    }
+
     fn entry_slice<'a>(&self, bytes: &'a [u8]) -> &'a [u8] {
         self.slice(bytes)
     }
@@ -77,13 +93,21 @@ impl ArchRecord for FatArch64 {
         self.offset
     }
 
+    fn entry_size(&self) -> u64 {
+        self.size
+    }
+
+    fn entry_align(&self) -> u32 {
+        self.align
+    }
+
     fn entry_slice<'a>(&self, bytes: &'a [u8]) -> &'a [u8] {
         self.slice(bytes)
     }
 }
 
-// Where the record of an entry stands; the last place that 64 bits have where it passes them.
-fn place_of<R: ArchRecord>(index: usize) -> usize
+/// Where the record of an entry stands, which is where those of the entries before it end; the last place that 64 bits have where it passes them.
+pub fn place_of<R: ArchRecord>(index: usize) -> usize
     ensures { result ≡ arch_place_in R.arch_form index }
 {
     let before = index.saturating_mul(R::SIZE);

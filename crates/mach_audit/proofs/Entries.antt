@@ -17,10 +17,9 @@ use Rattle.goblin_mach.specs.FatEntry.{FatEntry, archive, image, entry_at, entri
 use Rattle.mach_image.specs.OpenImage.{IsImage}
 use Rattle.goblin_mach.specs.declared.fat_file.entry.SingleArch.TheVariants as arches
 use Rattle.mach_image.specs.declared.macho.MachO.{MachO}
-use Rattle.mach_rules.proofs.OneArrangement.{one_shared}
-use Rattle.mach_rules.specs.Containers.{AreContainerFaults}
+use Rattle.mach_arches.specs.ArchForms.{arch_form_32}
+use Rattle.mach_fat_rules.specs.Containers.{AreContainerFaults}
 use Rattle.mach_rules.specs.declared.fault.LayoutFault.{LayoutFault}
-use Rattle.mach_rules.specs.declared.fault.Rule.TheVariants as rule
 use Rattle.goblin_mach.specs.FatFile.{FatFile, fat_file_in, arches_in}
 use Rattle.mach_image.specs.Image.{Opens, LossyOpens, ImageFault}
 use Rattle.goblin_mach.specs.File.{HasFatMagic, MachFault}
@@ -75,14 +74,14 @@ long_opens limit bytes (sound.of_bindings items has l) = (has.ctx, has.cs, has.o
 
 -- a fat file
 pub fat_judged : (limit : ℕ) (bytes : List ℕ) (file : FatFile) (v : Verdict) → HasFatMagic bytes → fat_file_in bytes ≡ Ok file
-    → Judges (AreContainerFaults bytes [] × IsSoundFat file) (IsLongFat limit file) v → Judges (IsSound bytes) (IsLong limit bytes) v
+    → Judges (AreContainerFaults arch_form_32 bytes [] × IsSoundFat file) (IsLongFat limit file) v → Judges (IsSound bytes) (IsLong limit bytes) v
 fat_judged limit bytes file v fat is j = judged_as v (λ s. sound.fat_file file fat is s.0 s.1) back (λ l. sound.of_fat file fat is l) shorter j
   where
     shorter : IsLong limit bytes → IsLongFat limit file
     shorter (sound.of_image l) = absurd (fat-excludes_image bytes fat (long_opens limit bytes l))
     shorter (sound.of_fat other f other_is l) = subst (λ (x : FatFile). IsLongFat limit x) (same_ok (sym other_is ∙ is)) l
 
-    back : IsSound bytes → AreContainerFaults bytes [] × IsSoundFat file
+    back : IsSound bytes → AreContainerFaults arch_form_32 bytes [] × IsSoundFat file
     back (sound.one_image s) = absurd (no_fat bytes s.opens fat)
     back (sound.fat_file other f other_is none s) = (none, subst (λ (x : FatFile). IsSoundFat x) (same_ok (sym other_is ∙ is)) s)
 
@@ -191,13 +190,6 @@ no_table_judged file e fails told = faulty_judged (λ s. not_both (arches_in fil
     fault_by (errors.Scroll x) h t = h
     fault_by (errors.BufferTooShort n what) h t = h
     fault_by (errors.Memory a) h t = absurd t
-
--- the table of a fat file has one list of faults
-pub one_container : (bytes : List ℕ) (list others : List LayoutFault) → AreContainerFaults bytes list → AreContainerFaults bytes others → list ≡ others
-one_container bytes list others p q =
-    let again = one_shared rule.SliceAgain _ p.again q.again p.slices_again q.slices_again in
-    let sharing = one_shared rule.SlicesShare _ p.sharing q.sharing p.slices_share q.slices_share in
-    p.joined ∙ rw (again, sharing) refl ∙ sym q.joined
 
 -- the same beside the faults of its table
 pub refused_table_judged : {S L : Type 0} (v : Verdict) (file : FatFile) (e : Error) → FailsAs e (arches_in file) → IsTold e

@@ -7,7 +7,8 @@ use Rattle.mach_base.specs.Items.{items_from}
 use Rattle.mach_base.specs.declared.error.Error.{Error}
 use Rattle.mach_headers.specs.Fat.{part_of}
 use Rattle.mach_headers.specs.declared.fat.FatArch.{FatArch}
-use Rattle.mach_rules.specs.Containers.{AreContainerFaults}
+use Rattle.mach_arches.specs.ArchForms.{arch_form_32}
+use Rattle.mach_fat_rules.specs.Containers.{AreContainerFaults}
 use Rattle.mach_binds.specs.Imports.{Import}
 use Rattle.mach_chained.specs.Fixups.{Fixup}
 use Rattle.mach_segments.specs.Bindings.{Binding}
@@ -94,7 +95,7 @@ named_bytes bytes (Some arch) = part_of bytes arch.offset arch.size
 -- are more.
 pub record TellsEntries {A : Type 0} (limit : ℕ) (bytes : List ℕ) (file : FatFile) (r : FatReport A) : Type 0 where
   pub readable : IsOk (arches_in file)
-  pub container : AreContainerFaults bytes r.container.items
+  pub container : AreContainerFaults arch_form_32 bytes r.container.items
   pub entries : AllZip (IsEntryReport limit) (items_from (entry_at file) 0 (min limit file.narches)) r.entries.items
   pub cut : r.cut ≡ nat_lt limit file.narches
 

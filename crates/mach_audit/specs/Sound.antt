@@ -15,7 +15,8 @@ use Rattle.mach_segments.specs.Segment.{SegmentView, sections_of}
 use Rattle.mach_segments.specs.declared.relocation.RelocationInfo.{RelocationInfo}
 use Rattle.mach_segments.specs.declared.segment.section.Section.{Section}
 use Rattle.mach_symbols.specs.declared.symbols.nlist.Nlist.{Nlist}
-use Rattle.mach_rules.specs.Containers.{AreContainerFaults}
+use Rattle.mach_arches.specs.ArchForms.{arch_form_32}
+use Rattle.mach_fat_rules.specs.Containers.{AreContainerFaults}
 use Rattle.mach_layout.specs.Facts.{HasLayoutFaults}
 use Rattle.mach_signed.specs.SignedImages.{signature_place_in, IsImageAsSigned}
 use Rattle.mach_image.specs.Facts.{OfImage, HasSegments, HasSymbols, HasExports, HasImports, HasImportItems, HasFixups, HasBindings}
@@ -128,7 +129,7 @@ pub data IsLongFat (limit : ℕ) (file : FatFile) : Type 0 where
 -- The file is an image that is sound, or a fat file that is, whose table has no fault.
 pub data IsSound (bytes : List ℕ) : Type 0 where
   one_image : IsSoundImage bytes → IsSound bytes
-  fat_file : (file : FatFile) → HasFatMagic bytes → fat_file_in bytes ≡ Ok file → AreContainerFaults bytes [] → IsSoundFat file → IsSound bytes
+  fat_file : (file : FatFile) → HasFatMagic bytes → fat_file_in bytes ≡ Ok file → AreContainerFaults arch_form_32 bytes [] → IsSoundFat file → IsSound bytes
 
 -- The file has a list of more than `limit` items.
 pub data IsLong (limit : ℕ) (bytes : List ℕ) : Type 0 where

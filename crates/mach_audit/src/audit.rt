@@ -9,7 +9,8 @@ ghost use Rattle.goblin_mach.specs.FatFile.{file_held};
 ghost use Rattle.mach_image.specs.OpenImage.{IsImage, IsLossyImage};
 ghost use Rattle.goblin_mach.specs.View.{IsTold};
 ghost use Rattle.mach_image.specs.ImageFacts.{facts_held};
-ghost use Rattle.mach_rules.specs.Containers.{AreContainerFaults};
+ghost use Rattle.mach_arches.specs.ArchForms.{arch_form_32};
+ghost use Rattle.mach_fat_rules.specs.Containers.{AreContainerFaults};
 ghost use Rattle.mach_rules.specs.Faults.{AreLayoutFaults};
 ghost use Rattle.mach_layout.specs.Held.{laid_held};
 ghost use Rattle.mach_layout.specs.ListFaults.{AreListFaults};
@@ -69,10 +70,10 @@ fn audit_container<A: Allocator + Clone>(
     alloc: A,
     bytes: &[u8],
 ) -> Result<Vec<LayoutFault, A>, Failure>
-    ensures told { IfOk result (λ v. AreContainerFaults bytes.now v.items) }
+    ensures told { IfOk result (λ v. AreContainerFaults arch_form_32 bytes.now v.items) }
     ensures memory { IfErr result (λ failure. failure ≡ failures.Memory) }
 {
-    match container_faults(alloc, bytes) {
+    match container_faults::<FatArch, A>(alloc, bytes) {
         Ok(faults) => Ok(faults),
         Err(_) => Err(Failure::Memory),
     }
@@ -190,7 +191,7 @@ fn audit_fat<A: Allocator + Clone>(
     limit: usize,
 ) -> Result<FatReport<A>, Failure>
     ensures told { (file_held container.now).bytes ≡ bytes.now → IfOk result (IsFatReport limit bytes.now (file_held container.now)) }
-    ensures judged { IfOk result (λ r. Judges (AreContainerFaults bytes.now [] × IsSoundFat (file_held container.now))
+    ensures judged { IfOk result (λ r. Judges (AreContainerFaults arch_form_32 bytes.now [] × IsSoundFat (file_held container.now))
         (IsLongFat limit (file_held container.now)) (verdict_of_fat r)) }
     ensures memory { IfErr result (λ failure. failure ≡ failures.Memory) }
 {

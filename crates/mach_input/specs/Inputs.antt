@@ -2,10 +2,9 @@
 -- stand where it doesn't.
 use Rattle.std.specs.Prelude.{◌≡◌, ◌||◌, ℕ, ◌≤◌, Bool, true, false, List, [], ◌∷◌, ◌++◌, length, codes, nat_eq, Ok, Err, IsOk}
 use Rattle.std.specs.List.{starts_with}
-use Rattle.mach_base.specs.declared.context.Endian.TheVariants.{Big}
 use Rattle.mach_base.specs.Fault.{Fault}
-use Rattle.mach_base.specs.Number.{number_at}
 use Rattle.mach_headers.specs.Magic.{begins_archive}
+use Rattle.mach_arches.specs.FatRecords.{HasFat64Magic}
 use Rattle.mach_archive.specs.Archives.{archive_in}
 use Rattle.mach_archive.specs.ArchiveViews.{archive_of}
 use Rattle.mach_image.specs.Image.{Opens, ImageFault}
@@ -20,10 +19,6 @@ use Rattle.mach_input.specs.declared.input.Input.TheVariants.{Image, Fat, Fat64,
 -- whether bytes begin as an archive does, or as one whose members are other files
 abbrev pub begins_any_archive : List ℕ → Bool
 begins_any_archive bytes = begins_archive bytes || starts_with nat_eq bytes (codes "!<thin>" ++ 0x0a ∷ [])
-
--- the bytes begin with the magic of a fat file of 64 bits
-abbrev pub HasFat64Magic : List ℕ → Type 0
-HasFat64Magic bytes = number_at Big 4 bytes 0 ≡ Ok 0xcafe_babf
 
 -- they are a fat file of 64 bits, whose header has 8 bytes
 pub record IsFat64 (bytes : List ℕ) : Type 0 where

@@ -4,7 +4,8 @@ ghost use Rattle.std.specs.Prelude.{◌≡◌, ◌↔◌, IfOk, IfErr, IsOk, IsT
 ghost use Rattle.mach_base.specs.Answer.{Stands, IsOkUnlessMemory};
 ghost use Rattle.mach_archive.specs.Archives.{archive_in};
 ghost use Rattle.goblin_mach.specs.File.{IsFat};
-ghost use Rattle.mach_input.specs.Inputs.{begins_any_archive, HasFat64Magic, IsFat64, IsNeither, InputOpens, InputFault};
+ghost use Rattle.mach_arches.specs.FatRecords.{HasFat64Magic};
+ghost use Rattle.mach_input.specs.Inputs.{begins_any_archive, IsFat64, IsNeither, InputOpens, InputFault};
 
 use goblin_mach::{FAT_MAGIC_64, Mach, MachO, MultiArch, MultiArch64, peek};
 use mach_archive::Archive;

@@ -11,8 +11,9 @@ ghost use Rattle.mach_rules.specs.Faults.{AreLayoutFaults};
 ghost use Rattle.mach_rules.specs.declared.claim.Claim.{Claim};
 ghost use Rattle.mach_rules.specs.declared.fault.LayoutFault.{LayoutFault};
 
+pub use mach_fat_rules::laws::one_list_of_container_faults;
 use mach_image::macho::MachO;
-pub use mach_rules::laws::{one_list_of_container_faults, shared_are_claims, shared_are_ranges};
+pub use mach_rules::laws::{shared_are_claims, shared_are_ranges};
 use std::alloc::Allocator;
 
 /// The claims that `claims` gives are those of the bytes.

@@ -9,7 +9,8 @@ mod lists;
 
 pub use crate::faults::{claims, layout_faults};
 pub use crate::layout::layout_of;
+pub use mach_fat_rules::container_faults;
 pub use mach_rules::{
     Claim, ClaimIterator, Evidence, Layout, LayoutFault, Owner, Part, PlacedSection, PlacedSegment,
-    Rule, SectionIterator, SegmentIterator, container_faults,
+    Rule, SectionIterator, SegmentIterator,
 };

@@ -10,7 +10,8 @@ use Rattle.mach_image.specs.Facts.{OfImage}
 use Rattle.goblin_mach.specs.FatFile.{FatFile, arch_table_in, archs_in, fat_file_in, first_arch_of_cpu}
 use Rattle.mach_image.specs.Image.{Opens}
 use Rattle.goblin_mach.specs.File.{HasFatMagic}
-use Rattle.mach_input.specs.Inputs.{HasFat64Magic, InputFault, begins_any_archive}
+use Rattle.mach_arches.specs.FatRecords.{HasFat64Magic}
+use Rattle.mach_input.specs.Inputs.{InputFault, begins_any_archive}
 
 -- the bytes are an image of this cpu, which opens
 pub record IsOfCpu (bytes : List ℕ) (cputype : ℕ) : Type 0 where

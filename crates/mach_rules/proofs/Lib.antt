@@ -12,6 +12,4 @@ pub mod Chains
 pub mod Ahead
 pub mod Texts
 pub mod OneArrangement
-pub mod Slices
-pub mod OneListOfSlices
 mod Sharing

@@ -19,7 +19,6 @@ pub mod FixupViews
 pub mod Ranges
 pub mod Words
 pub mod Texts
-pub mod Containers
 pub mod Faults
 pub mod Lists
 pub mod DataInCode

@@ -1,7 +1,6 @@
 //! Laws of faults.
 
-ghost use Rattle.std.specs.Prelude.{◌≡◌, ℕ, List, All};
-ghost use Rattle.mach_rules.specs.Containers.{AreContainerFaults};
+ghost use Rattle.std.specs.Prelude.{List, All};
 ghost use Rattle.mach_rules.specs.Claims.{claims_of};
 ghost use Rattle.mach_rules.specs.Laid.{Laid};
 ghost use Rattle.mach_rules.specs.Ranges.{lone_claims};
@@ -9,11 +8,6 @@ ghost use Rattle.mach_rules.specs.Sweep.{AreShared, IsOfTwo};
 ghost use Rattle.mach_rules.specs.declared.claim.Claim.{Claim};
 ghost use Rattle.mach_rules.specs.declared.fault.Rule.{Rule};
 ghost use Rattle.mach_rules.specs.declared.fault.LayoutFault.{LayoutFault};
-
-/// A fat file has one list of faults of its table: where it has one, it has no other.
-pub fn one_list_of_container_faults()
-    ensures { (bytes : List ℕ) (list others : List LayoutFault) → AreContainerFaults bytes list → AreContainerFaults bytes others → list ≡ others }
-{}
 
 /// What is told of ranges that share a place is told of two of these ranges each time.
 #[tactic(auto, using(crate::proofs::Sharing::shared_are_ranges))]

@@ -1,6 +1,8 @@
 //! Rows of the rules of the table of a fat file.
 
 use crate::tests::commands::line;
+use goblin_mach::fat::FatArch;
+use mach_arches::{ArchRecord, FatArch64};
 use mach_layout::container_faults;
 use std::alloc::{AllocError, Global};
 use std::test::Fail;
@@ -20,6 +22,50 @@ const TWO_IMAGES: [u32; 32] = [
     96,
     32,
     5,
+    0,
+    0,
+    0,
+    0,
+    0xcffa_edfe,
+    0x0700_0001,
+    0,
+    0,
+    0,
+    0,
+    0,
+    0,
+    0xcffa_edfe,
+    0x0c00_0001,
+    0,
+    0,
+    0,
+    0,
+    0,
+    0,
+];
+
+// The same as a fat file of 64 bits, at 96 and at 128. The records end at 72.
+const TWO_IMAGES_64: [u32; 40] = [
+    0xcafe_babf,
+    2,
+    0x0100_0007,
+    3,
+    0,
+    96,
+    0,
+    32,
+    5,
+    0,
+    0x0100_000c,
+    0,
+    0,
+    128,
+    0,
+    32,
+    5,
+    0,
+    0,
+    0,
     0,
     0,
     0,
@@ -112,6 +158,54 @@ const ROWS: &[Row] = &[
     },
 ];
 
+const ROWS_64: &[Row] = &[
+    Row {
+        changes: &[],
+        words: 40,
+        want: "",
+    },
+    Row {
+        changes: &[(1, 1)],
+        words: 2,
+        want: "RecordsOutOfFile 0: 40 8; ",
+    },
+    Row {
+        changes: &[(15, 33)],
+        words: 40,
+        want: "SliceOutOfFile 40: 161 160; ",
+    },
+    Row {
+        changes: &[(12, 0xffff_ffff), (14, 0xffff_ffff)],
+        words: 40,
+        want: "SliceOutOfFile 40: 18446744073709551615 160; ",
+    },
+    Row {
+        changes: &[(14, 1)],
+        words: 40,
+        want: "SliceOutOfFile 40: 4294967456 160; ",
+    },
+    Row {
+        changes: &[(5, 64)],
+        words: 40,
+        want: "SliceInRecords 8: 64 72; ",
+    },
+    Row {
+        changes: &[(8, 16)],
+        words: 40,
+        want: "SliceAlignment 8: 16 15; ",
+    },
+    Row {
+        changes: &[(10, 0x0100_0007), (11, 0x8000_0003)],
+        words: 40,
+        want: "SliceAgain 40: 281475094151171 281475094151172, 8; SliceOfOtherCpu 40: 16777223 16777228; ",
+    },
+    Row {
+        changes: &[(7, 33)],
+        words: 40,
+        want: "SlicesShare 40: 128 129, 8; ",
+    },
+];
+
 // The bytes of some words, with some of them changed.
 fn changed(alloc: Global, words: &[u32], changes: &[(usize, u32)]) -> Result<Vec<u8>, AllocError> {
     let mut bytes = Vec::new(alloc);
@@ -129,18 +223,28 @@ fn changed(alloc: Global, words: &[u32], changes: &[(usize, u32)]) -> Result<Vec
     Ok(bytes)
 }
 
-#[test]
-fn faults_of_a_fat_file(rt: HostRuntime) -> Result<(), Fail> {
-    let alloc = rt.alloc();
-    for row in ROWS {
-        let bytes = changed(alloc, &TWO_IMAGES[..row.words], row.changes)?;
-        let faults = container_faults(alloc, bytes.as_slice())?;
+// That each row of a table of words is told what it wants, by records of a form.
+fn tell_rows<R: ArchRecord>(alloc: Global, words: &[u32], rows: &[Row]) -> Result<(), Fail> {
+    for row in rows {
+        let words = words.get(..row.words).unwrap_or(&[]);
+        let bytes = changed(alloc, words, row.changes)?;
+        let faults = container_faults::<R, Global>(alloc, bytes.as_slice())?;
         let got = line(alloc, faults.as_slice())?;
         if got.as_str() != row.want {
             return Err(Fail::from(format!(in alloc; "{:?}: {got}", row.changes)?));
         }
     }
     Ok(())
+}
+
+#[test]
+fn faults_of_a_fat_file(rt: HostRuntime) -> Result<(), Fail> {
+    tell_rows::<FatArch>(rt.alloc(), &TWO_IMAGES, ROWS)
+}
+
+#[test]
+fn faults_of_a_fat_file_of_64_bits(rt: HostRuntime) -> Result<(), Fail> {
+    tell_rows::<FatArch64>(rt.alloc(), &TWO_IMAGES_64, ROWS_64)
 }
 
 // Of each of 2000 slices without bytes, at 0 and of one cpu, that it has none and where it begins; of all but the first
@@ -154,7 +258,7 @@ fn faults_of_many_slices(rt: HostRuntime) -> Result<(), Fail> {
             bytes.push(*byte)?;
         }
     }
-    let faults = container_faults(alloc, bytes.as_slice())?;
+    let faults = container_faults::<FatArch, Global>(alloc, bytes.as_slice())?;
     if faults.len() != 5999 {
         return Err(Fail::from("not three of each but the first"));
     }

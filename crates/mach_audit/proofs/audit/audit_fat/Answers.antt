@@ -3,8 +3,10 @@ use Rattle.std.specs.Prelude.{IsOk}
 use Rattle.mach_headers.specs.declared.fat.FatArch.{FatArch}
 use Rattle.goblin_mach.specs.FatEntry.{entry_at, fat_entry_of}
 use Rattle.goblin_mach.specs.FatFile.{arches_in, file_held}
-use Rattle.mach_rules.specs.Containers.{AreContainerFaults}
-use Rattle.mach_audit.proofs.Entries.{entries_more, no_entries_judged, fat_file_judged, refused_table_judged, one_container}
+use Rattle.mach_arches.specs.ArchForms.{arch_form_32}
+use Rattle.mach_fat_rules.specs.Containers.{AreContainerFaults}
+use Rattle.mach_fat_rules.proofs.OneListOfSlices.{one_table}
+use Rattle.mach_audit.proofs.Entries.{entries_more, no_entries_judged, fat_file_judged, refused_table_judged}
 use Rattle.mach_audit.proofs.EntryBytes.{named_entry}
 use Rattle.mach_audit.proofs.Images.{layout_judged, beside}
 use Rattle.mach_audit.proofs.Reports.{one_entry_more}
@@ -50,7 +52,7 @@ returns-clause-judged g c =
     refl c.loop-index.invariant.1 in
     let bytes = c.args.bytes.now in
     let faults = c.in_ok-container_faults.container_faults in
-    let layout = layout_judged (AreContainerFaults bytes) faults.items c.in_ok-container_faults.ensures.told (λ list others. one_container bytes list others) in
+    let layout = layout_judged (AreContainerFaults arch_form_32 bytes) faults.items c.in_ok-container_faults.ensures.told (one_table _ arch_form_32 bytes) in
     beside (both_judged _ _ layout judged)
 
 pub returns-clause-told : goal.returns-clause-told

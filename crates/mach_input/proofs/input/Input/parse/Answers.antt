@@ -3,7 +3,8 @@ use Rattle.mach_base.specs.Fault.{fault_of}
 use Rattle.mach_image.specs.Image.{ImageFault}
 use Rattle.mach_image.proofs.Exits.{exit_in, exit_reported}
 use Rattle.goblin_mach.specs.File.{MachFault}
-use Rattle.mach_input.specs.Inputs.{HasFat64Magic, IsNeither, InputFault, of_archive, of_fat_64, of_mach}
+use Rattle.mach_arches.specs.FatRecords.{HasFat64Magic}
+use Rattle.mach_input.specs.Inputs.{IsNeither, InputFault, of_archive, of_fat_64, of_mach}
 use Rattle.mach_input.proofs.input.Input.parse.Goals as goal
 
 pub returns-in_err-parse-clause-refused : goal.returns-in_err-parse-clause-refused

@@ -1,17 +1,19 @@
 -- A fat file has one list of faults of its table.
 use Rattle.std.proofs.Common.{◌≡◌, ◌++◌, ◌∷◌, [], ℕ, List, sym, ap, ◌∙◌}
 use Rattle.std.specs.Prelude.{option_to_list}
-use Rattle.mach_rules.specs.Containers.{AreContainerFaults, records_out_of_file, slices_told}
+use Rattle.mach_arches.specs.ArchForms.{ArchForm}
+use Rattle.mach_fat_rules.specs.Containers.{AreContainerFaults, records_out_of_file, slices_told}
 use Rattle.mach_rules.specs.declared.fault.LayoutFault.{LayoutFault}
 use Rattle.mach_rules.specs.declared.fault.Rule.TheVariants as rule
 use Rattle.mach_rules.proofs.OneArrangement.{one_shared}
 
-pub one_table : (bytes : List ℕ) (list others : List LayoutFault) → AreContainerFaults bytes list → AreContainerFaults bytes others → list ≡ others
-one_table bytes list others h k =
+pub one_table : (R : Type 0) (form : ArchForm R) (bytes : List ℕ) (list others : List LayoutFault)
+    → AreContainerFaults form bytes list → AreContainerFaults form bytes others → list ≡ others
+one_table R form bytes list others h k =
     let front : List LayoutFault =
-    option_to_list (records_out_of_file bytes)
-    ++ slices_told bytes (rule.SliceOutOfFile ∷ rule.SliceInRecords ∷ rule.SliceAlignment ∷ rule.SliceUnaligned ∷ []) in
-    let cpus : List LayoutFault = slices_told bytes (rule.SliceOfOtherCpu ∷ []) in
+    option_to_list (records_out_of_file form bytes)
+    ++ slices_told form bytes (rule.SliceOutOfFile ∷ rule.SliceInRecords ∷ rule.SliceAlignment ∷ rule.SliceUnaligned ∷ []) in
+    let cpus : List LayoutFault = slices_told form bytes (rule.SliceOfOtherCpu ∷ []) in
     h.joined
     ∙ ap (λ (again : List LayoutFault). front ++ again ++ cpus ++ h.sharing) (one_shared _ _ h.again k.again h.slices_again k.slices_again)
     ∙ ap (λ (sharing : List LayoutFault). front ++ k.again ++ cpus ++ sharing) (one_shared _ _ h.sharing k.sharing h.slices_share k.slices_share)

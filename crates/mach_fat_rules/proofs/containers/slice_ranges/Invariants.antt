@@ -1,7 +1,7 @@
 use Rattle.std.proofs.Common.{◌≡◌, ◌++◌, drop}
 use Rattle.std.specs.Prelude.{filter_map}
-use Rattle.mach_rules.specs.Containers.{slice_range}
-use Rattle.mach_rules.proofs.containers.slice_ranges.Given as goal
+use Rattle.mach_fat_rules.specs.Containers.{slice_range}
+use Rattle.mach_fat_rules.proofs.containers.slice_ranges.Given as goal
 
 abbrev pub invariant-loop-slice : goal.invariant-loop-slice
 invariant-loop-slice g l =

@@ -6,12 +6,13 @@ use Rattle.std.proofs.Math.Seq.{drop-cons}
 use Rattle.std.specs.Prelude.{filter_map, option_to_list}
 use Rattle.std.specs.List.{cons_option}
 use Rattle.mach_base.specs.Fault.{Fault}
-use Rattle.mach_rules.specs.Containers.{AreContainerFaults, placed_slice_at, before_fault, slices_from, slices_of, records_out_of_file, slice_owner, slice_sees}
-use Rattle.mach_rules.specs.Containers.{slice_range}
+use Rattle.mach_arches.specs.ArchForms.{ArchForm}
+use Rattle.mach_fat_rules.specs.Containers.{AreContainerFaults, placed_slice_at, before_fault, slices_from, slices_of, records_end, records_out_of_file}
+use Rattle.mach_fat_rules.specs.Containers.{slice_owner, slice_range, slice_sees}
 use Rattle.mach_rules.specs.Rules.{told_over}
 use Rattle.mach_rules.specs.Sweep.{AreShared}
-use Rattle.mach_rules.specs.declared.containers.RangeOf.TheVariants.{Cpu, Bytes}
-use Rattle.mach_rules.specs.declared.containers.PlacedSlice.{PlacedSlice}
+use Rattle.mach_fat_rules.specs.declared.containers.RangeOf.TheVariants.{Cpu, Bytes}
+use Rattle.mach_fat_rules.specs.declared.containers.PlacedSlice.{PlacedSlice}
 use Rattle.mach_rules.specs.declared.fault.LayoutFault.{LayoutFault}
 use Rattle.mach_rules.specs.declared.fault.Rule.{Rule}
 use Rattle.mach_rules.specs.declared.fault.Rule.TheVariants as rule
@@ -33,47 +34,54 @@ pub kept_all : {X Y : Type 0} (f : X → Option Y) (ys : List Y) (xs : List X) (
 kept_all {X} f ys xs i past = ap (λ (left : List X). ys ++ filter_map f left) (drop_all i xs past) ∙ append-nil ys
 
 -- the slices from the next one on
-pub slices_next : (bytes : List ℕ) (k count : ℕ) (s : PlacedSlice) (found : List PlacedSlice) → k < count → placed_slice_at bytes k ≡ Ok s
-    → (found ++ s ∷ []) ++ slices_from bytes (k + 1) (count - (k + 1)) ≡ found ++ slices_from bytes k (count - k)
-slices_next bytes k count s found lt e =
+pub slices_next : {R : Type 0} (form : ArchForm R) (bytes : List ℕ) (k count : ℕ) (s : PlacedSlice) (found : List PlacedSlice) → k < count
+    → placed_slice_at form bytes k ≡ Ok s
+    → (found ++ s ∷ []) ++ slices_from form bytes (k + 1) (count - (k + 1)) ≡ found ++ slices_from form bytes k (count - k)
+slices_next form bytes k count s found lt e =
     let left : count - k ≡ suc (count - (k + 1)) = omega arith in
-    append_assoc found (s ∷ []) (slices_from bytes (k + 1) (count - (k + 1)))
-    ∙ ap (λ (r : Result PlacedSlice Fault). found ++ before_fault r (slices_from bytes (k + 1) (count - (k + 1)))) (sym e)
-    ∙ ap (λ (n : ℕ). found ++ slices_from bytes k n) (sym left)
+    append_assoc found (s ∷ []) (slices_from form bytes (k + 1) (count - (k + 1)))
+    ∙ ap (λ (r : Result PlacedSlice Fault). found ++ before_fault r (slices_from form bytes (k + 1) (count - (k + 1)))) (sym e)
+    ∙ ap (λ (n : ℕ). found ++ slices_from form bytes k n) (sym left)
 
-pub slices_end : (bytes : List ℕ) (k count : ℕ) (f : Fault) (found : List PlacedSlice) → k < count → placed_slice_at bytes k ≡ Err f
-    → found ++ slices_from bytes k (count - k) ≡ found
-slices_end bytes k count f found lt e =
+pub slices_end : {R : Type 0} (form : ArchForm R) (bytes : List ℕ) (k count : ℕ) (f : Fault) (found : List PlacedSlice) → k < count
+    → placed_slice_at form bytes k ≡ Err f
+    → found ++ slices_from form bytes k (count - k) ≡ found
+slices_end form bytes k count f found lt e =
     let left : count - k ≡ suc (count - (k + 1)) = omega arith in
-    ap (λ (n : ℕ). found ++ slices_from bytes k n) left
-    ∙ ap (λ (r : Result PlacedSlice Fault). found ++ before_fault r (slices_from bytes (k + 1) (count - (k + 1)))) e ∙ append-nil found
+    ap (λ (n : ℕ). found ++ slices_from form bytes k n) left
+    ∙ ap (λ (r : Result PlacedSlice Fault). found ++ before_fault r (slices_from form bytes (k + 1) (count - (k + 1)))) e ∙ append-nil found
 
-pub slices_done : (bytes : List ℕ) (k count : ℕ) (found : List PlacedSlice) → count ≤ k → found ++ slices_from bytes k (count - k) ≡ found
-slices_done bytes k count found past =
-    let left : count - k ≡ 0 = omega arith in ap (λ (n : ℕ). found ++ slices_from bytes k n) left ∙ append-nil found
+pub slices_done : {R : Type 0} (form : ArchForm R) (bytes : List ℕ) (k count : ℕ) (found : List PlacedSlice) → count ≤ k
+    → found ++ slices_from form bytes k (count - k) ≡ found
+slices_done form bytes k count found past =
+    let left : count - k ≡ 0 = omega arith in ap (λ (n : ℕ). found ++ slices_from form bytes k n) left ∙ append-nil found
 
 -- some faults were told, and then more
 pub and_more : {X : Type 0} (more : List X) {f g x : List X} → f ≡ x → g ≡ f ++ more → g ≡ x ++ more
 and_more {X} more e then = then ∙ ap (λ (l : List X). l ++ more) e
 
 -- what some rules tell of some slices
-abbrev pub told_by : List ℕ → List Rule → List PlacedSlice → List LayoutFault
-told_by bytes rules slices = told_over rules (λ r. slice_owner) (slice_sees bytes) slices
+abbrev pub told_by : List ℕ → ℕ → List Rule → List PlacedSlice → List LayoutFault
+told_by bytes end rules slices = told_over rules (λ r. slice_owner) (slice_sees bytes end) slices
 
 abbrev pub alone : List Rule
 alone = rule.SliceOutOfFile ∷ rule.SliceInRecords ∷ rule.SliceAlignment ∷ rule.SliceUnaligned ∷ []
 
 -- the faults of all rules are those of the table
-pub table_told : (bytes : List ℕ) (slices : List PlacedSlice) (f0 f1 f2 f3 f4 f5 : List LayoutFault) → slices ≡ slices_of bytes → f0 ≡ []
-    → f1 ≡ f0 ++ option_to_list (records_out_of_file bytes) → f2 ≡ f1 ++ told_by bytes alone slices
+pub table_told : {R : Type 0} (form : ArchForm R) (bytes : List ℕ) (slices : List PlacedSlice) (end : ℕ) (f0 f1 f2 f3 f4 f5 : List LayoutFault)
+    → slices ≡ slices_of form bytes → end ≡ records_end form bytes → f0 ≡ []
+    → f1 ≡ f0 ++ option_to_list (records_out_of_file form bytes) → f2 ≡ f1 ++ told_by bytes end alone slices
     → ((again : List LayoutFault) × AreShared rule.SliceAgain (filter_map (slice_range Cpu) slices) again × (f3 ≡ f2 ++ again))
-    → f4 ≡ f3 ++ told_by bytes (rule.SliceOfOtherCpu ∷ []) slices
+    → f4 ≡ f3 ++ told_by bytes end (rule.SliceOfOtherCpu ∷ []) slices
     → ((sharing : List LayoutFault) × AreShared rule.SlicesShare (filter_map (slice_range Bytes) slices) sharing × (f5 ≡ f4 ++ sharing))
-    → AreContainerFaults bytes f5
-table_told bytes slices f0 f1 f2 f3 f4 f5 is e0 e1 e2 e3 e4 e5 =
-    let first : f1 ≡ option_to_list (records_out_of_file bytes) = e1 ∙ ap (λ (l : List LayoutFault). l ++ option_to_list (records_out_of_file bytes)) e0 in
-    let more = λ (rules : List Rule) (old new front : List LayoutFault) (so_far : old ≡ front) (e : new ≡ old ++ told_by bytes rules slices).
-    and_more (told_by bytes rules (slices_of bytes)) so_far (e ∙ ap (λ (ss : List PlacedSlice). old ++ told_by bytes rules ss) is)
+    → AreContainerFaults form bytes f5
+table_told form bytes slices end f0 f1 f2 f3 f4 f5 is ends e0 e1 e2 e3 e4 e5 =
+    let out = option_to_list (records_out_of_file form bytes) in
+    let first : f1 ≡ out = e1 ∙ ap (λ (l : List LayoutFault). l ++ out) e0 in
+    let more = λ (rules : List Rule) (old new front : List LayoutFault) (so_far : old ≡ front) (e : new ≡ old ++ told_by bytes end rules slices).
+    and_more (told_by bytes (records_end form bytes) rules (slices_of form bytes)) so_far
+    (e ∙ ap (λ (n : ℕ). old ++ told_by bytes n rules slices) ends
+    ∙ ap (λ (ss : List PlacedSlice). old ++ told_by bytes (records_end form bytes) rules ss) is)
     in
     let second = more alone f1 f2 _ first e2 in
     let third = and_more e3.0 second e3.2 in
