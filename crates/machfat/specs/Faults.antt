@@ -2,7 +2,9 @@
 use Rattle.std.specs.Prelude.{ℕ, List, [], ◌∷◌, ◌++◌, codes, Bool, true, false, Option}
 use Rattle.std.specs.Io.KnownBytes.{Appends}
 use Rattle.goblin_mach.specs.File.{HasFatMagic}
-use Rattle.mach_rules.specs.Containers.{AreContainerFaults}
+use Rattle.mach_arches.specs.ArchForms.{arch_form_32, arch_form_64}
+use Rattle.mach_arches.specs.FatRecords.{HasFat64Magic}
+use Rattle.mach_fat_rules.specs.Containers.{AreContainerFaults}
 use Rattle.mach_rules.specs.Texts.{fault_text}
 use Rattle.mach_rules.specs.declared.fault.LayoutFault.{LayoutFault}
 
@@ -20,10 +22,10 @@ abbrev pub is_faultless : List LayoutFault → Bool
 is_faultless [] = true
 is_faultless (fault ∷ faults) = false
 
--- The bytes begin as a fat file, and these are the faults of its layout.
-pub record HasFatFaults (bytes : List ℕ) (faults : List LayoutFault) : Type 0 where
-  pub magic : HasFatMagic bytes
-  pub are_faults : AreContainerFaults bytes faults
+-- The bytes begin as a fat file, of 32 or of 64 bits, and these are the faults of its layout.
+pub data HasFatFaults (bytes : List ℕ) (faults : List LayoutFault) : Type 0 where
+  of_32_bits : HasFatMagic bytes → AreContainerFaults arch_form_32 bytes faults → HasFatFaults bytes faults
+  of_64_bits : HasFat64Magic bytes → AreContainerFaults arch_form_64 bytes faults → HasFatFaults bytes faults
 
 -- Its layout has these faults, and what was written are their lines.
 pub record TellsFatFaults (bytes : List ℕ) (faults : List LayoutFault) (old new : Option (List ℕ)) : Type 0 where

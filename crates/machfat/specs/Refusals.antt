@@ -1,12 +1,15 @@
 -- Why the program refuses a file or an entry, and what it says of it.
 use Rattle.std.specs.Prelude.{◌≡◌, ℕ, List, codes, Option, Some, None, Result, Ok, Err}
 use Rattle.mach_base.specs.Answer.{Stands}
+use Rattle.mach_base.specs.Fault.{Fault}
 use Rattle.mach_base.specs.Words.{words_of}
+use Rattle.mach_arches.specs.FatRecords.{HasFat64Magic}
 use Rattle.mach_base.specs.declared.error.Error.{Error}
 use Rattle.mach_fat.specs.Unfit.{RefusesAs, Unfit, entry_refusal_words}
 use Rattle.mach_fat.specs.declared.refusal.EntryRefusal.{EntryRefusal}
 use Rattle.mach_fat.specs.declared.refusal.EntryRefusal.TheVariants.{Unread}
 use Rattle.mach_image.specs.Image.{Opens}
+use Rattle.goblin_mach.specs.FatFile.{fat_file_in}
 use Rattle.goblin_mach.specs.View.{ViewFault}
 use Rattle.mach_show.specs.Foreigners.{foreign_words, refused_kind}
 use Rattle.mach_show.specs.Names.{names_text}
@@ -28,11 +31,16 @@ refusal_words (Entries why) = entry_refusal_words why
 abbrev pub refusal_line : List ℕ → Refusal → List ℕ
 refusal_line file refusal = complaint (names_text (codes "machfat") file) (refusal_words refusal)
 
+-- A fault stands where a fat file is opened: of 64 bits in its header, else as the file is opened of which it is none.
+pub data FatFault (bytes : List ℕ) : Fault → Type 0 where
+  in_header : (f : Fault) → HasFat64Magic bytes → fat_file_in bytes ≡ Err f → FatFault bytes f
+  in_view : (f : Fault) → ¬ HasFat64Magic bytes → ViewFault bytes f → FatFault bytes f
+
 -- Why the faults of a fat file's layout aren't told: a fault that stands where it is opened, of a file whose first bytes tell what it is, or don't;
 -- want of memory; or that it is an image.
 abbrev pub RefusesFaults : List ℕ → Refusal → Type 0
-RefusesFaults bytes (Refused e) = Stands (ViewFault bytes) e × (refused_kind bytes e ≡ None)
-RefusesFaults bytes (Foreign kind) = (e : Error) × Stands (ViewFault bytes) e × (refused_kind bytes e ≡ Some kind)
+RefusesFaults bytes (Refused e) = Stands (FatFault bytes) e × (refused_kind bytes e ≡ None)
+RefusesFaults bytes (Foreign kind) = (e : Error) × Stands (FatFault bytes) e × (refused_kind bytes e ≡ Some kind)
 RefusesFaults bytes NotFat = Opens bytes 0
 RefusesFaults bytes (Entries why) = ⊥
 

@@ -4,18 +4,21 @@ ghost use Rattle.std.specs.Prelude.{◌≡◌, ◌⊎◌, [], ◌∷◌, List, O
 ghost use Rattle.std.specs.Io.Buffered.{writer_buffer, writer_contents};
 ghost use Rattle.std.specs.Io.KnownBytes.{Appends};
 ghost use Rattle.mach_base.specs.Answer.{Stands};
+ghost use Rattle.mach_arches.specs.FatRecords.{HasFat64Magic};
 ghost use Rattle.goblin_mach.specs.File.{HasFatMagic};
-ghost use Rattle.goblin_mach.specs.View.{ViewFault};
 ghost use Rattle.mach_rules.specs.declared.fault.LayoutFault.{LayoutFault};
 ghost use Rattle.mach_show.specs.Statuses.{IsStatus};
 ghost use Rattle.machfat.specs.Faults.{HasFatFaults, TellsFatFaults, fault_lines, is_faultless, table_fault_line};
-ghost use Rattle.machfat.specs.Refusals.{RefusesFaults, IsRefusal, refusal_line};
+ghost use Rattle.machfat.specs.Refusals.{FatFault, RefusesFaults, IsRefusal, refusal_line};
 ghost use Rattle.machfat.specs.declared.refusal.Refusal.{Refusal};
 
 use crate::refusal::{Failure, Refusal};
 use crate::run::status;
-use goblin_mach::{Error, Mach};
-use mach_rules::{LayoutFault, container_faults};
+use goblin_mach::fat::FatArch;
+use goblin_mach::{Error, Mach, MultiArch64, peek};
+use mach_arches::{FAT_MAGIC_64, FatArch64};
+use mach_fat_rules::container_faults;
+use mach_rules::LayoutFault;
 use mach_show::refused_kind;
 use std::alloc::{Allocator, Global};
 use std::io;
@@ -67,12 +70,37 @@ fn fat_faults(alloc: Global, bytes: &[u8]) -> Result<Vec<LayoutFault>, Refusal>
     ensures faults { IfOk result (λ v. HasFatFaults bytes.now v.items) }
     ensures refused { IfErr result (RefusesFaults bytes.now) }
 {
+    match peek(bytes, 0) {
+        Ok(FAT_MAGIC_64) => wide_faults(alloc, bytes),
+        _ => narrow_faults(alloc, bytes),
+    }
+}
+
+// The same, of a file that is no fat file of 64 bits.
+fn narrow_faults(alloc: Global, bytes: &[u8]) -> Result<Vec<LayoutFault>, Refusal>
+    requires { ¬ HasFat64Magic bytes.now }
+    ensures faults { IfOk result (λ v. HasFatFaults bytes.now v.items) }
+    ensures refused { IfErr result (RefusesFaults bytes.now) }
+{
     test_fat(alloc, bytes)?;
-    Ok(container_faults(alloc, bytes)?)
+    Ok(container_faults::<FatArch, Global>(alloc, bytes)?)
+}
+
+// The same, of a fat file of 64 bits.
+fn wide_faults(alloc: Global, bytes: &[u8]) -> Result<Vec<LayoutFault>, Refusal>
+    requires { HasFat64Magic bytes.now }
+    ensures faults { IfOk result (λ v. HasFatFaults bytes.now v.items) }
+    ensures refused { IfErr result (RefusesFaults bytes.now) }
+{
+    match MultiArch64::new(alloc, bytes) {
+        Ok(_) => Ok(container_faults::<FatArch64, Global>(alloc, bytes)?),
+        Err(error) => Err(refusal(bytes, error)),
+    }
 }
 
 // That the bytes open as a fat file of 32 bits.
 fn test_fat(alloc: Global, bytes: &[u8]) -> Result<(), Refusal>
+    requires { ¬ HasFat64Magic bytes.now }
     ensures fat { OnOk result (HasFatMagic bytes.now) }
     ensures refused { IfErr result (RefusesFaults bytes.now) }
 {
@@ -85,7 +113,7 @@ fn test_fat(alloc: Global, bytes: &[u8]) -> Result<(), Refusal>
 
 // Why a file that doesn't open for this error is refused.
 fn refusal(bytes: &[u8], error: Error) -> Refusal
-    ensures { Stands (ViewFault bytes.now) error → RefusesFaults bytes.now result }
+    ensures { Stands (FatFault bytes.now) error → RefusesFaults bytes.now result }
 {
     match refused_kind(bytes, &error) {
         Some(kind) => Refusal::Foreign(kind),

@@ -1,6 +1,7 @@
 use Rattle.mach_base.proofs.Faults.{Stands-in}
 use Rattle.mach_image.specs.OpenImage.{commands_held}
-use Rattle.goblin_mach.specs.View.{ViewFault, of_file}
+use Rattle.goblin_mach.specs.View.{of_file}
+use Rattle.machfat.specs.Refusals.{FatFault, in_view}
 use Rattle.machfat.proofs.verify.test_fat.Goals as goal
 
 pub returns-in-Ok-Binary-clause-refused : goal.returns-in-Ok-Binary-clause-refused
@@ -9,4 +10,6 @@ returns-in-Ok-Binary-clause-refused c =
     (opened.ctx, commands_held c.in-Ok-Binary.field-0-0, opened.opens)
 
 pub returns-clause-refused : goal.returns-clause-refused
-returns-clause-refused c = c.refusal.ensures (Stands-in _ (ViewFault c.args.bytes.now) c.in-Err.error of_file c.in-Err.ensures.refused)
+returns-clause-refused c =
+    c.refusal.ensures
+    (Stands-in _ (FatFault c.args.bytes.now) c.in-Err.error (λ f fault. in_view f c.requires (of_file f fault)) c.in-Err.ensures.refused)
