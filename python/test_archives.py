@@ -162,6 +162,9 @@ class AllFour(made.Case):
         self.assertEqual((file.kind, len(file), [i.arch for i in file], file.image("arm64").symbols()[0].name), ("fat64", 2, ["x86_64", "arm64"], "_x"))
         self.assertEqual([label for label, _ in goblin_mach.parse(data).images()], ["arch x86_64", "arch unknown(16777228,1)(a.o)", "arch arm64"])
         self.assertEqual([label for label, _ in file.archives()], [f"{file.name}: arch unknown(16777228,1)"])
+        self.assertEqual(list(file.container_faults()), [])
+        (past,) = goblin_mach.container_faults(data[:-1])
+        self.assertEqual((past.rule, past.found, past.limit, past.owner.command), ("slice out of file", len(data), len(data) - 1, 8 + 2 * 32))
         cut = list(self.opened(data[:60], goblin_mach.LOSSY))
         self.assertEqual([image.error is None for image in cut], [False, False])
 

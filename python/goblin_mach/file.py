@@ -44,7 +44,7 @@ def fat_entries(data: Union[ReadableBuffer, Held]) -> Rows[FatEntry]:
 
 
 def container_faults(data: Union[ReadableBuffer, Held]) -> Iterator[LayoutFault]:
-    """The faults of the table of a fat file of 32 bits; none where the bytes are no such file."""
+    """The faults of the table of a fat file, of 32 or of 64 bits; none where the bytes are no such file."""
     return in_growing_batches(_lists.CONTAINER_FAULTS, _held(data).live)
 
 
@@ -210,7 +210,7 @@ class File(Sequence[Image]):
             yield f"{label}({member.label})", image
 
     def container_faults(self) -> Iterator[LayoutFault]:
-        """The faults of its table, if it is a fat file of 32 bits."""
+        """The faults of its table, if it is a fat file."""
         return container_faults(self._whole())
 
     def close(self) -> None:
