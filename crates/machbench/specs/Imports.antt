@@ -1,6 +1,5 @@
 -- How many imports the images of a file have, and what a count of them says.
 use Rattle.std.specs.Prelude.{◌≡◌, ◌-◌, ◌≤◌, ℕ, length, nat_lt, sum, List, Result, Ok, Err, [], ◌∷◌}
-use Rattle.std.specs.List.{AllZip}
 use Rattle.mach_base.specs.Fault.{Fault}
 use Rattle.mach_binds.specs.Imports.{Import}
 use Rattle.mach_image.specs.Facts.{HasImportItems}

@@ -101,13 +101,13 @@ fn timed<C: Clock, A: Allocator + Clone>(
     Ok((first, Times::of(&mut runs)))
 }
 
-// What the clock shows.
-fn now<C: Clock>(clock: &C) -> Result<Instant, Failure> {
+/// What the clock shows.
+pub fn now<C: Clock>(clock: &C) -> Result<Instant, Failure> {
     Instant::now(clock).map_err(|_| Failure::NoClock)
 }
 
-// A duration in nanoseconds, at most as many as 64 bits hold.
-fn nanos(duration: Duration) -> u64 {
+/// A duration in nanoseconds, at most as many as 64 bits hold.
+pub fn nanos(duration: Duration) -> u64 {
     u64::try_from(duration.as_nanos()).unwrap_or(u64::MAX)
 }
 

@@ -192,8 +192,8 @@ fn images_in<'a, A: Allocator + Clone>(
     Ok(images)
 }
 
-// Nothing, or want of memory where that is the error.
-fn unless_memory(error: Error) -> std::result::Result<(), AllocError>
+/// Nothing, or want of memory where that is the error.
+pub fn unless_memory(error: Error) -> std::result::Result<(), AllocError>
     ensures { OnOk result (IsTold error) }
 {
     match error {
@@ -254,18 +254,33 @@ impl<'a, A: Allocator + Clone> Subject<'a, A> {
         ensures given { IfOk result (λ subject. subject.imports.items ≡ 0) }
         ensures unopened { IfErr result (IfUnopened (Stands (ViewFault bytes.now))) }
     {
+        let bare = Subject::open_bare(alloc.clone()?, limit, bytes)?;
+        let exports = exports_of(alloc.clone()?, &bare.images)?;
+        Ok(Subject { exports, ..bare })
+    }
+
+    /// The file of these bytes, as `open` has it, without the exports whose names are looked up.
+    pub fn open_bare(
+        alloc: A,
+        limit: usize,
+        bytes: &'a [u8],
+    ) -> std::result::Result<Subject<'a, A>, Failure>
+        ensures limit { IfOk result (λ subject. subject.limit ≡ limit) }
+        ensures counted { IfOk result (λ subject. (count : ℕ) × HasImportsInAll bytes.now count × (subject.imports.more ≡ nat_lt limit count)) }
+        ensures given { IfOk result (λ subject. subject.imports.items ≡ 0) }
+        ensures unopened { IfErr result (IfUnopened (Stands (ViewFault bytes.now))) }
+    {
         let images = match images_of(alloc.clone()?, bytes) {
             Ok(images) => images,
             Err(error) => return Err(Failure::Unopened(error)),
         };
-        let exports = exports_of(alloc.clone()?, &images)?;
         let imports = count_imports(limit, &images);
         Ok(Subject {
             bytes,
             limit,
             images,
             imports,
-            exports,
+            exports: Vec::new(alloc.clone()?),
             alloc,
         })
     }
@@ -313,6 +328,15 @@ impl<'a, A: Allocator + Clone> Subject<'a, A> {
         let mut work = Work::new(self.limit);
         for (image, exports) in self.images.iter().zip(self.exports.iter()) {
             work.find_exports(&self.alloc, image, exports)?;
+        }
+        Ok(work)
+    }
+
+    /// Looks up one name in each image.
+    pub fn find(&self, name: &str) -> Result<Work> {
+        let mut work = Work::new(self.limit);
+        for image in &self.images {
+            work.find(&self.alloc, image, name)?;
         }
         Ok(work)
     }
@@ -464,6 +488,19 @@ impl Work {
         Ok(())
     }
 
+    // Looks up a name in an image.
+    fn find<A: Allocator + Clone>(
+        &mut self,
+        alloc: &A,
+        image: &MachO<'_, A>,
+        name: &str,
+    ) -> Result<()> {
+        if image.find_export(alloc.clone()?, name)?.is_some() {
+            self.add(1, name.len() as u64);
+        }
+        Ok(())
+    }
+
     // Looks up the names of an image's exports.
     fn find_exports<A: Allocator + Clone>(
         &mut self,
@@ -472,10 +509,7 @@ impl Work {
         exports: &[Export<'_, A>],
     ) -> Result<()> {
         for export in exports {
-            let found = image.find_export(alloc.clone()?, export.name.as_str())?;
-            if found.is_some() {
-                self.add(1, export.name.len() as u64);
-            }
+            self.find(alloc, image, export.name.as_str())?;
         }
         Ok(())
     }

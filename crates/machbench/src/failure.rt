@@ -42,8 +42,8 @@ impl From<AllocError> for Failure {
     }
 }
 
-impl From<AllocFailed<u64>> for Failure {
-    fn from(_refused: AllocFailed<u64>) -> Failure {
+impl<T: Drop> From<AllocFailed<T>> for Failure {
+    fn from(_refused: AllocFailed<T>) -> Failure {
         Failure::from(AllocError)
     }
 }

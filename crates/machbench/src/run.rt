@@ -1,17 +1,19 @@
 //! What the program prints of a file, and its exit status.
 
-ghost use Rattle.std.specs.Prelude.{◌≡◌, ◌≢◌, ◌≤◌, ◌⊎◌, [], codes, OnOk};
+ghost use Rattle.std.specs.Prelude.{◌≡◌, ◌≢◌, ◌≤◌, ◌⊎◌, ℕ, [], codes, OnOk};
 ghost use Rattle.std.specs.Io.Buffered.{writer_buffer, writer_contents};
 ghost use Rattle.std.specs.Io.KnownBytes.{Appends};
 ghost use Rattle.mach_show.specs.Names.{names_text};
 ghost use Rattle.mach_show.specs.Shown.{complaint};
 ghost use Rattle.mach_show.specs.Statuses.{IsStatus};
 ghost use Rattle.machbench.specs.Failures.{IsComplained, failure_words};
+ghost use Rattle.machbench.specs.Growth.{IsTable};
 ghost use Rattle.machbench.specs.Imports.{HasFewImports};
 ghost use Rattle.machbench.specs.Limit.{EndsWithLimit};
 
 use crate::bench::bench;
 use crate::failure::{Failure, Words};
+use crate::hostile::hostile;
 use mach_show::Names;
 use mach_show::say::failed;
 use std::alloc::Allocator;
@@ -52,6 +54,42 @@ pub fn run<C: Clock, A: Allocator + Clone, W: Write + Drop, B: Allocator, E: Wri
             Err(failure) => refused(file, bytes, failure, err),
         },
         Err(error) => failed(NAME, "", error, err),
+    }
+}
+
+/// Times the calls on shapes of files of these sizes, and answers the exit status: 0 where no line says that the time a byte grows; 1 where some do, and
+/// then a last line says how many, or where memory is refused, and then `err` says so; 2 where the clock can't be read, which `err` tells of; 2 or 141 where
+/// a write fails. But for that nothing is left in the buffer.
+pub fn run_hostile<C: Clock, A: Allocator + Clone, W: Write + Drop, B: Allocator, E: Write>(
+    clock: &C,
+    alloc: A,
+    limit: Option<usize>,
+    sizes: &[u32],
+    out: &mut BufWriter<W, B>,
+    err: &mut E,
+) -> u8
+    ensures status { IsStatus result }
+    ensures whole { result ≡ 0 → IsTable 0 (writer_contents W.contents out.old) (writer_contents W.contents out.new) }
+    ensures told { result ≡ 1 → ((grown : ℕ) × (grown ≢ 0) × IsTable grown (writer_contents W.contents out.old) (writer_contents W.contents out.new))
+        ⊎ IsComplained [] (names_text (codes "machbench") (codes "--hostile")) (E.contents err.old) (E.contents err.new) }
+    ensures flushed { result ≤ 1 → writer_buffer out.new ≡ [] }
+{
+    let timed = hostile(clock, alloc, limit, sizes, out);
+    if let Err(error) = out.flush() {
+        return failed(NAME, "", error, err);
+    }
+    match timed {
+        Ok(0) => 0,
+        Ok(_) => 1,
+        Err(failure) => refused("--hostile", b"", as_refused(failure), err),
+    }
+}
+
+// The failure of a shape that isn't opened as that of a call, since it has no file.
+fn as_refused(failure: Failure) -> Failure {
+    match failure {
+        Failure::Unopened(error) => Failure::Refused(error),
+        failure => failure,
     }
 }
 

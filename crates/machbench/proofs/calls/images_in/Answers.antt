@@ -1,4 +1,3 @@
-use Rattle.std.proofs.Common.{◌++◌}
 use Rattle.goblin_mach.specs.FatEntry.{entries_left, entries_of}
 use Rattle.goblin_mach.specs.FatFile.{file_held}
 use Rattle.machbench.proofs.Images.{one_more_image, no_more_image, archive_is_none, refused_is_none, all_images}
