@@ -1,7 +1,7 @@
 //! Nodes that share one list of branches: to nothing, or to a node.
 
 use linked_list_allocator::LocalHeap;
-use mach_base::{Error, Result, Steps};
+use mach_base::{Error, Result};
 use mach_tries::exports::ExportTrie;
 use std::alloc::Allocator;
 use std::test::Fail;
@@ -43,11 +43,9 @@ fn made(rt: &HostRuntime, nodes: u8, many: u8, leads: bool) -> std::result::Resu
     Ok(bytes)
 }
 
-// How many exports are listed, and by how many visits.
+// How many exports are listed.
 fn listed<A: Allocator + Clone>(alloc: A, bytes: &[u8], upto: usize) -> Result<usize> {
-    let trie = ExportTrie::at(bytes, 0, upto);
-    let mut steps = Steps::new();
-    let found = trie.exports_counted(alloc, &[], &mut steps)?;
+    let found = ExportTrie::at(bytes, 0, upto).exports(alloc, &[])?;
     Ok(found.len())
 }
 
