@@ -4,6 +4,7 @@ pub mod Faults
 pub mod Spelled
 pub mod Groups
 pub mod Runs
+pub mod Within
 pub mod Spellings
 pub mod Unsigned
 pub mod Signed

@@ -5,6 +5,7 @@ pub mod Context
 pub mod Number
 pub mod Named
 pub mod Text
+pub mod KeptText
 pub mod Leb128
 pub mod FrontGroups
 pub mod Record
