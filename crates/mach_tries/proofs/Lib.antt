@@ -12,6 +12,7 @@ pub mod TrieVisits
 pub mod MarkBits
 pub mod Marking
 pub mod Nowhere
+pub mod BarrenRuns
 pub mod WalkTurns
 pub mod Readings
 pub mod OpenNodes

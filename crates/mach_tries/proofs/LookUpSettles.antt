@@ -1,7 +1,9 @@
 -- Branches that are passed, one after the other.
-use Rattle.std.proofs.Common.{◌≡◌, ◌<◌, ◌≤◌, ◌-◌, ℕ, suc, List, ◌∷◌, ◌++◌, ◌⊎◌, Result, Ok, sym, ap, subst, ◌∙◌}
+use Rattle.std.proofs.Common.{◌≡◌, ◌<◌, ◌≤◌, ◌-◌, ℕ, suc, List, [], ◌∷◌, ◌++◌, ◌⊎◌, inl, Result, Ok, Option, true, length, refl, sym, ap, subst, ◌∙◌, arith}
+use Rattle.std.proofs.lemmas.List.{drop_all}
 use Rattle.mach_base.specs.Fault.{Fault}
-use Rattle.mach_tries.specs.Trie.{Branch}
+use Rattle.mach_tries.specs.Trie.{Branch, Info, Trie}
+use Rattle.mach_tries.specs.Nowhere.{lead_nowhere}
 use Rattle.mach_tries.specs.Nodes.{branch_at, branches_at}
 use Rattle.mach_tries.specs.Views.{those_read}
 use Rattle.mach_tries.specs.Views.{branches_of, IsReadable}
@@ -10,6 +12,7 @@ use Rattle.mach_tries.specs.LookUpState.{Settles, FirstBranchLeads}
 use Rattle.mach_tries.specs.Views.{source_trie}
 use Rattle.mach_tries.specs.declared.node.BranchRun.{BranchRun}
 use Rattle.mach_tries.specs.declared.walk.Source.{Source}
+use Rattle.mach_tries.proofs.Nowhere.{both_nowhere}
 use Rattle.mach_tries.proofs.LookUpWays.{one_passed}
 use Rattle.mach_tries.proofs.BranchAgain.{first_branch, no_branch}
 use Rattle.mach_tries.proofs.BranchAgain.{next_left}
@@ -58,3 +61,27 @@ module _ (s : Source) (rest : List ℕ) (o : BranchRun) (readable : IsReadable s
               (one_passed (source_trie s) rest (record { label = label; start = start }) found next.0 h
               (subst (λ (bs : List Branch). BranchesFind (source_trie s) rest bs found) next_is x)));
         }
+
+-- branches that lead nowhere are all passed
+none_settles : (t : Trie) (rest : List ℕ) (bs : List Branch) → lead_nowhere t.upto bs ≡ true
+    → (found : Option Info) → BranchesFind t rest [] found → BranchesFind t rest bs found
+none_settles t rest [] none found x = x
+none_settles t rest (b ∷ bs) none found x =
+    let both = both_nowhere t.upto b bs none in one_passed t rest b found bs (inl both.0) (none_settles t rest bs both.1 found x)
+
+module _ (s : Source) (place : ℕ) where
+  no_branches : branches_of s.bytes.now s.from (record { left = 0; place = place }) ≡ []
+  unfolding branches_at
+  no_branches = refl
+
+  pub none_readable : IsReadable s.bytes.now s.from (record { left = 0; place = place })
+  unfolding branches_at
+  none_readable = refl
+
+  pub none_left_settles : (rest : List ℕ) (bs : List Branch) → lead_nowhere s.upto bs ≡ true
+      → Settles (source_trie s) rest bs (branches_of s.bytes.now s.from (record { left = 0; place = place }))
+  none_left_settles rest bs none = record {
+    number = length bs;
+    dropped = no_branches ∙ sym (drop_all (length bs) bs (omega arith));
+    finds = λ found x. none_settles (source_trie s) rest bs none found (subst (λ (cs : List Branch). BranchesFind (source_trie s) rest cs found) no_branches x);
+  }

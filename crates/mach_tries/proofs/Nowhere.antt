@@ -1,14 +1,14 @@
 -- Lists of branches that all lead nowhere.
 use Rattle.std.proofs.lemmas.Bool.{lt-leb, le-leb}
 use Rattle.mach_base.proofs.Unsigned.{uleb_at-outside}
-use Rattle.mach_tries.proofs.Names.{◌≡◌, ◌<◌, ◌≤◌, ℕ, Bool, true, false, List, [], ◌∷◌, ◌++◌, Ok, Err, Result, Option, refl, sym, ap, ◌∙◌}
-use Rattle.mach_tries.proofs.Names.{arith, inl, inr, length, nat_le, get_or, replicate, cases_lt, cases_Bool, leb-true, ◌>>=◌, Fault, IsErr}
+use Rattle.mach_tries.proofs.Names.{◌≡◌, ◌<◌, ◌≤◌, ℕ, true, false, List, [], ◌∷◌, ◌++◌, Ok, Err, Result, Option, refl, sym, ap, ◌∙◌}
+use Rattle.mach_tries.proofs.Names.{arith, inl, inr, length, nat_le, cases_lt, cases_Bool, leb-true, ◌>>=◌, Fault, IsErr}
 use Rattle.mach_base.specs.Answer.{FailsAs}
-use Rattle.mach_tries.proofs.Names.{uleb_at, children_at, node_in, Branch, Info, Trie, Entry, Error}
+use Rattle.mach_tries.proofs.Names.{uleb_at, branches_at, children_at, node_in, Branch, Info, Trie, Entry, Error}
 use Rattle.mach_tries.specs.LookUpState.{OwnEnds}
 use Rattle.mach_tries.proofs.LookUpNodes.{behind_size, in_parts, with_branches, FailsAs-first}
 use Rattle.mach_tries.proofs.Names.{Ahead, ahead, Unfolds, passed, HasRead, Source}
-use Rattle.mach_tries.proofs.Marking.{not_both, all_clear}
+use Rattle.mach_tries.proofs.Marking.{not_both}
 use Rattle.mach_tries.proofs.Readings as reading
 use Rattle.mach_tries.specs.Nowhere.{lead_nowhere, AreBarren, HaveRoom}
 
@@ -42,12 +42,13 @@ none_followed {t} others name (b ∷ bs) left none h =
 
 -- ---- lists
 
--- no place is marked
-pub none_barren : (s : Source) (n : ℕ) (marks : List Bool) → marks ≡ replicate n false → AreBarren s marks
-none_barren s n marks e = λ place is. absurd (not_both is (ap (λ (x : List Bool). get_or x place false) e ∙ all_clear n place))
+-- nothing is known
+pub none_barren : (s : Source) (known : List ℕ) → known ≡ [] → AreBarren s known
+unfolding branches_at
+none_barren s known e = λ place. rw e refl
 
-pub no_room : (s : Source) (marks : List Bool) → marks ≡ replicate 0 false → HaveRoom s marks
-no_room s marks e = λ some. absurd (let none = ap (λ (x : List Bool). length x) e in omega arith)
+pub no_room : (s : Source) (known : List ℕ) → known ≡ [] → HaveRoom s known
+no_room s known e = λ some. absurd (let none = ap (λ (x : List ℕ). length x) e in omega arith)
 
 -- the count of a list stands within the bytes
 pub count_inside : (bytes : List ℕ) (from place : ℕ) (bs : List Branch) → children_at bytes from place ≡ Ok bs → place < length bytes

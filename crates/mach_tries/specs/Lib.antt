@@ -13,6 +13,7 @@ pub mod Exports
 pub mod SymbolKind
 pub mod Views
 pub mod Nowhere
+pub mod Tails
 pub mod Unfolds
 pub mod Reading
 pub mod CursorState

@@ -85,6 +85,12 @@ branches_at bytes from (suc n) place = do
   others ← branches_at bytes from n first.1
   Ok (first.0 ∷ others)
 
+-- the count of the branches, no more than there are bytes, and the place of the first
+abbrev pub count_at : List ℕ → ℕ → Result (ℕ × ℕ) Fault
+count_at bytes place = do
+  count ← uleb_at bytes place
+  if nat_lt (length bytes) count.0 then Err (too_short count.0 (codes "branches")) else Ok count
+
 -- the count of the branches, and the branches
 unfoldable pub children_at : List ℕ → ℕ → ℕ → Result (List Branch) Fault
 children_at bytes from place = do

@@ -1,8 +1,10 @@
--- Lists of branches that all lead nowhere. A walk marks where the count of such a list stands, and reads it but once.
-use Rattle.std.specs.Prelude.{◌≡◌, ◌<◌, ◌&&◌, length, ℕ, Bool, true, false, List, [], ◌∷◌, Option, Some, None, Result, Ok, Err, nat_le, get_or}
+-- Lists of branches that all lead nowhere. From the first one on it is known of each place how many branches there do at least.
+use Rattle.std.specs.Prelude.{◌≡◌, ◌<◌, ◌≤◌, ◌+◌, ◌&&◌, length, ℕ, Bool, true, false, List, [], ◌∷◌, Option, Some, None, Result, Ok, Err, nat_le, get_or}
 use Rattle.mach_base.specs.Fault.{Fault}
 use Rattle.mach_tries.specs.Trie as trie
-use Rattle.mach_tries.specs.Nodes.{children_at}
+use Rattle.mach_base.specs.Leb128.{uleb_at}
+use Rattle.mach_base.specs.Sums.{sum_of}
+use Rattle.mach_tries.specs.Nodes.{branches_at, children_at}
 use Rattle.mach_tries.specs.Views.{branches_in, info_in, node_in}
 use Rattle.mach_tries.specs.declared.info.ExportInfo.{ExportInfo}
 use Rattle.mach_tries.specs.declared.node.Branches.{Branches}
@@ -18,17 +20,25 @@ abbrev pub is_barren : ℕ → Result (List trie.Branch) Fault → Bool
 is_barren upto (Ok bs) = lead_nowhere upto bs
 is_barren upto (Err f) = false
 
--- at each place that is marked stands the count of such a list
-abbrev pub AreBarren : Source → List Bool → Type 0
-AreBarren s marks = (place : ℕ) → get_or marks place false ≡ true → is_barren s.upto (children_at s.bytes.now s.from place) ≡ true
+-- from each place on so many branches can be read as are known there, and all of them lead nowhere
+abbrev pub AreBarren : Source → List ℕ → Type 0
+AreBarren s known = (place : ℕ) → is_barren s.upto (branches_at s.bytes.now s.from (get_or known place 0) place) ≡ true
 
--- there is room for no mark, or for one at each place of the bytes
-abbrev pub HaveRoom : Source → List Bool → Type 0
-HaveRoom s marks = 0 < length marks → length marks ≡ length s.bytes.now
+-- nothing is known, or something of each place of the bytes
+abbrev pub HaveRoom : Source → List ℕ → Type 0
+HaveRoom s known = 0 < length known → length known ≡ length s.bytes.now
 
--- what was marked is marked
-abbrev pub AreKept : List Bool → List Bool → Type 0
-AreKept old new = (place : ℕ) → get_or old place false ≡ true → get_or new place false ≡ true
+-- what was known is known
+abbrev pub AreKept : List ℕ → List ℕ → Type 0
+AreKept old new = (place : ℕ) → get_or old place 0 ≤ get_or new place 0
+
+-- it is known of the list whose count stands at a place
+abbrev pub IsKnown : Source → List ℕ → ℕ → Type 0
+IsKnown s known place = (count : ℕ) × (first : ℕ) × (uleb_at s.bytes.now place ≡ Ok (count, first)) × (count ≤ get_or known first 0)
+
+-- a branch whose label ends at a place leads nowhere, and the one behind it begins here
+abbrev pub LeadsNowhere : Source → ℕ → ℕ → Type 0
+LeadsNowhere s end after = (offset : ℕ) × (start : ℕ) × (uleb_at s.bytes.now (end + 1) ≡ Ok (offset, after)) × (sum_of s.from offset ≡ Ok start) × (s.upto ≤ start)
 
 -- what is opened of some branches: nothing where they lead nowhere, and else all
 abbrev pub AreOpened : Source → List trie.Branch → Option Branches → Type 0

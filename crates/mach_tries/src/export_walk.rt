@@ -13,7 +13,8 @@ use std::alloc::{Allocator, Global};
 
 /// The exports of a trie one at a time, depth first: each node's own before those of its children. It
 /// takes a bit for each byte of the trie, a stack of the nodes that are open, and one name. No linker known writes a list
-/// of branches that all lead nowhere: from the first on it takes a bit for each of the bytes, and reads each such list once.
+/// of branches that all lead nowhere: from the first on it takes four bytes for each of the bytes, and
+/// reads none that it knows by then.
 #[derive(Drop)]
 pub struct ExportWalk<'a, 'b, A: Allocator = Global> {
     pub(crate) walker: Walker<'a, 'b, A>,

@@ -9,4 +9,5 @@ pub mod laws;
 mod look_up;
 mod marks;
 mod node;
+mod runs;
 mod walk;

@@ -6,7 +6,7 @@
 
 ghost use Rattle.std.specs.Prelude.{◌≡◌, ◌≢◌, ◌≤◌, ◌<◌, ◌+◌, ◌-◌, ◌*◌, ◌++◌, ◌∷◌, [], ℕ, List, length, IfOk, IfErr, IfSome, IfNone, OnOk, Some, None};
 ghost use Rattle.std.specs.Prelude.{IsTrue, IsFalse, ◌⊎◌, option_map, Option, Ok};
-ghost use Rattle.mach_base.specs.Answer.{Reads, Stands, FailsAs, IsOkUnlessMemory};
+ghost use Rattle.mach_base.specs.Answer.{Reads, Gives, Stands, FailsAs, IsOkUnlessMemory};
 ghost use Rattle.mach_base.specs.Leb128.{uleb_at};
 ghost use Rattle.mach_tries.specs.Trie as trie;
 ghost use Rattle.mach_tries.specs.Trie.{Entry};
@@ -15,6 +15,7 @@ ghost use Rattle.mach_tries.specs.Exports.{info_of};
 ghost use Rattle.mach_base.specs.Text.{texts};
 ghost use Rattle.mach_tries.specs.Nodes.{branches_at, children_at};
 ghost use Rattle.mach_tries.specs.Views.{branch_of, branches_of, IsReadable, source_trie, node_in, own_in, node_of, node_behind};
+ghost use Rattle.mach_tries.specs.Nowhere.{AreBarren, HaveRoom};
 ghost use Rattle.mach_tries.specs.Finds.{Finds};
 ghost use Rattle.mach_tries.specs.LookUp.{StandsFor, IsFirstOf, FaultOnWay, LookUpVisits};
 ghost use Rattle.mach_tries.specs.LookUpState.{OwnEnds, Settles, FirstBranchLeads, Goes, IsPassed, ComesTo, SearchVisits};
@@ -22,9 +23,11 @@ ghost use Rattle.mach_tries.specs.LookUpState.{OwnEnds, Settles, FirstBranchLead
 use crate::exports::{ExportInfo, ExportTrie};
 use crate::marks::Marks;
 use crate::node::{
-    Branch, BranchRun, quick_branch, quick_own, read_again, read_behind, read_own, read_run,
+    Branch, BranchRun, own_export, quick_branch, quick_own, read_again, read_behind, read_branches,
+    read_count, read_own, read_run,
 };
-use crate::walk::{Source, visit};
+use crate::runs::Runs;
+use crate::walk::{Source, is_barren, visit};
 use mach_base::{Error, Result, Steps, quick_uleb, rest_at};
 use std::alloc::{AllocError, Allocator};
 
@@ -214,14 +217,27 @@ fn turn<'a>(
     }
 }
 
-// The branches from the first one on that spells a beginning of the rest and leads to a node.
-fn settle(source: &Source<'_, '_>, rest: &[u8], branches: BranchRun) -> BranchRun
-    requires { IsReadable source.now.bytes.now source.now.from branches }
+// The branches from the first one on that spells a beginning of the rest and leads to a node. Where all are known to lead
+// nowhere none is read.
+fn settle<A: Allocator>(
+    source: &Source<'_, '_>,
+    barren: &Runs<A>,
+    rest: &[u8],
+    branches: BranchRun,
+) -> BranchRun
+    requires barren { AreBarren source.now barren.now }
+    requires readable { IsReadable source.now.bytes.now source.now.from branches }
     ensures readable { IsReadable source.now.bytes.now source.now.from result }
     ensures settles { Settles (source_trie source.now) rest.now (branches_of source.now.bytes.now source.now.from branches)
         (branches_of source.now.bytes.now source.now.from result) }
     ensures stops { FirstBranchLeads (source_trie source.now) rest.now (branches_of source.now.bytes.now source.now.from result) }
 {
+    if barren.know(branches) {
+        return BranchRun {
+            left: 0,
+            place: branches.place,
+        };
+    }
     let mut left = branches;
     for _ in 0..branches.left {
         let (branch, after) = read_again(source.bytes, source.from, left.place);
@@ -236,19 +252,71 @@ fn settle(source: &Source<'_, '_>, rest: &[u8], branches: BranchRun) -> BranchRu
     left
 }
 
+// Tests whether so many branches can be read. Those that are known to lead nowhere aren't read, and what does so is learned.
+fn test_run<A: Allocator>(
+    source: &Source<'_, '_>,
+    barren: &mut Runs<A>,
+    list: BranchRun,
+) -> Result<()>
+    requires barren { AreBarren source.now barren.old }
+    requires room { HaveRoom source.now barren.old }
+    requires few { list.left ≤ length source.now.bytes.now }
+    ensures readable { OnOk result (IsReadable source.now.bytes.now source.now.from list) }
+    ensures fault { IfErr result (λ e. FailsAs e (branches_at source.now.bytes.now source.now.from list.left list.place)) }
+    ensures barren { OnOk result (AreBarren source.now barren.new) }
+    ensures room { OnOk result (HaveRoom source.now barren.new) }
+{
+    if barren.know(list) {
+        return Ok(());
+    }
+    let found = read_branches(source.bytes, source.from, list)?;
+    if !is_barren(source, found) {
+        return Ok(());
+    }
+    barren.learn(source, list)?;
+    Ok(())
+}
+
+// The branches of the list whose count stands at a place.
+fn open_run<A: Allocator>(
+    source: &Source<'_, '_>,
+    barren: &mut Runs<A>,
+    place: usize,
+) -> Result<BranchRun>
+    requires barren { AreBarren source.now barren.old }
+    requires room { HaveRoom source.now barren.old }
+    ensures value { Gives (branches_of source.now.bytes.now source.now.from) result (children_at source.now.bytes.now source.now.from place) }
+    ensures readable { IfOk result (IsReadable source.now.bytes.now source.now.from) }
+    ensures barren { OnOk result (AreBarren source.now barren.new) }
+    ensures room { OnOk result (HaveRoom source.now barren.new) }
+{
+    let list = read_count(source.bytes, place)?;
+    test_run(source, barren, list)?;
+    Ok(list)
+}
+
 // Visits the node at a start: its own export, if it has one, and its branches.
-#[tactic(auto, unfolding(crate::specs::Nodes::node_at))]
-fn read_node<'a>(
+fn read_node<'a, A: Allocator>(
     source: &Source<'a, '_>,
+    barren: &mut Runs<A>,
     start: usize,
     steps: &mut Steps,
 ) -> Result<(Option<ExportInfo<'a>>, BranchRun)>
+    requires barren { AreBarren source.now barren.old }
+    requires room { HaveRoom source.now barren.old }
     ensures visits { steps.new ≡ steps.old + 1 }
-    ensures value { Reads (node_of source.now.bytes.now source.now.from) result (node_in source.now start) }
+    ensures value { Gives (node_of source.now.bytes.now source.now.from) result (node_in source.now start) }
     ensures readable { IfOk result (λ node. IsReadable source.now.bytes.now source.now.from node.1) }
+    ensures barren { OnOk result (AreBarren source.now barren.new) }
+    ensures room { OnOk result (HaveRoom source.now barren.new) }
 {
     let (size, place) = visit(source.bytes, start, steps)?;
-    whole_node(source, size, place)
+    if size == 0 {
+        return Ok((None, open_run(source, barren, place)?));
+    }
+    let (own, place) = own_export(source, size, place)?;
+    let branches = open_run(source, barren, place)?;
+    Ok((Some(own), branches))
 }
 
 // The own export, where nothing is left of the name.
@@ -295,12 +363,13 @@ fn search<'a, A: Allocator + Clone>(
 {
     let from = source.from;
     let mut marks = Marks::new(alloc.clone()?, source.upto - from)?;
+    let mut barren = Runs::new(alloc.clone()?);
     let mut choices: Vec<Choice, A> = Vec::new(alloc);
     marks.mark(root - from);
     let mut top = Choice { branches, at: 0 };
     'turns: loop {
         let rest = rest_at(name, top.at);
-        let branches = settle(source, rest, top.branches);
+        let branches = settle(source, &barren, rest, top.branches);
         if branches.left == 0 {
             match choices.pop() {
                 None => return Ok(None),
@@ -316,8 +385,8 @@ fn search<'a, A: Allocator + Clone>(
                 left: branches.left - 1,
                 place: after,
             };
-            let others = settle(source, rest, others);
-            let (own, child) = read_node(source, start, steps)?;
+            let others = settle(source, &barren, rest, others);
+            let (own, child) = read_node(source, &mut barren, start, steps)?;
             if let Some(info) = here(own, rest.len() - label.len()) {
                 return Ok(Some(info));
             }

@@ -40,33 +40,6 @@ impl<A: Allocator> Marks<A> {
         self.words[at / 64] & (1 << (at % 64)) != 0
     }
 
-    /// How many places there are.
-    #[inline(always)]
-    pub fn len(&self) -> usize
-        ensures { result ≡ length self.now }
-    {
-        self.len
-    }
-
-    /// Whether a place is marked. One behind the last isn't.
-    #[inline(always)]
-    pub fn has(&self, at: usize) -> bool
-        ensures { result ≡ get_or self.now at false }
-    {
-        at < self.len && self.is_marked(at)
-    }
-
-    /// So many places in place of those there are, none of which is marked.
-    pub fn renew(&mut self, len: usize) -> Result<(), AllocError>
-        ensures { OnOk result (self.new ≡ replicate len false) }
-    {
-        self.len = 0;
-        self.words.clear();
-        self.words.resize(len.div_ceil(64), 0)?;
-        self.len = len;
-        Ok(())
-    }
-
     /// Marks a place, and no other.
     #[inline(always)]
     pub fn mark(&mut self, at: usize)

@@ -6,7 +6,7 @@ ghost use Rattle.mach_base.specs.Answer.{Reads};
 ghost use Rattle.mach_base.specs.Fault.{fault_of};
 ghost use Rattle.mach_base.specs.Leb128.{uleb_at};
 ghost use Rattle.mach_tries.specs.Trie.{regular};
-ghost use Rattle.mach_tries.specs.Nodes.{a_regular, info_kind, branch_at, branches_at, children_at, own_at};
+ghost use Rattle.mach_tries.specs.Nodes.{a_regular, info_kind, branch_at, branches_at, count_at, children_at, own_at};
 ghost use Rattle.mach_base.specs.Sums.{sum_of};
 ghost use Rattle.mach_tries.specs.Exports.{info_of};
 ghost use Rattle.mach_base.specs.Text.{texts};
@@ -161,29 +161,35 @@ fn quick_branches(bytes: &[u8], from: usize, count: usize, place: usize) -> Opti
     }
 }
 
-/// The branches behind their count, if there are any: all of them can be read.
-#[tactic(auto, unfolding(crate::specs::Nodes::children_at))]
+/// How many branches a list has, and where the first stands: no more of them than there are bytes.
 #[inline(always)]
-pub fn read_branches(bytes: &[u8], from: usize, place: usize) -> Result<Option<Branches<'_>>>
-    ensures value { Reads (branches_in bytes.now from) result (children_at bytes.now from place) }
-    ensures readable { IfOk result (λ found. IfSome found (λ b. IsReadable bytes.now from b.behind)) }
-    ensures few { IfOk result (λ found. IfSome found (λ b. b.behind.left + 1 ≤ length bytes.now)) }
+pub fn read_count(bytes: &[u8], place: usize) -> Result<BranchRun>
+    ensures value { Reads (λ run. (run.left, run.place)) result (count_at bytes.now place) }
+    ensures few { IfOk result (λ run. run.left ≤ length bytes.now) }
 {
     let (count, place) = number(bytes, place)?;
-    let count = count as usize;
-    if count > bytes.len() {
-        return Err(Error::BufferTooShort(count, "branches"));
+    let left = count as usize;
+    if left > bytes.len() {
+        return Err(Error::BufferTooShort(left, "branches"));
     }
-    if count == 0 {
-        return Ok(None);
-    }
-    match quick_branches(bytes, from, count, place) {
-        Some(branches) => Ok(Some(branches)),
-        None => Err(branches_error(bytes, from, count, place)),
+    Ok(BranchRun { left, place })
+}
+
+/// So many branches from a place on, of which the first is kept: all of them can be read.
+#[inline(always)]
+pub fn read_branches(bytes: &[u8], from: usize, list: BranchRun) -> Result<Branches<'_>>
+    requires some { 0 < list.left }
+    ensures value { Reads (λ b. branches_in bytes.now from (Some b)) result (branches_at bytes.now from list.left list.place) }
+    ensures readable { IfOk result (λ b. IsReadable bytes.now from b.behind) }
+    ensures count { IfOk result (λ b. b.behind.left + 1 ≡ list.left) }
+{
+    match quick_branches(bytes, from, list.left, list.place) {
+        Some(branches) => Ok(branches),
+        None => Err(branches_error(bytes, from, list.left, list.place)),
     }
 }
 
-/// The same, where none is kept.
+/// The branches behind their count: all of them can be read.
 #[tactic(auto, unfolding(crate::specs::Nodes::children_at))]
 #[inline(always)]
 pub fn read_run(bytes: &[u8], from: usize, place: usize) -> Result<BranchRun>

@@ -1,24 +1,27 @@
 //! The walk of an export trie, on a stack of open nodes: its exports, one after the other.
 
-ghost use Rattle.std.specs.Prelude.{◌≡◌, ◌≤◌, ◌<◌, ◌+◌, ◌-◌, ◌++◌, ◌∷◌, ℕ, List, [], length, reverse, IfOk, IfErr, IfSome, IfNone, OnOk, IsNone, true, false};
+ghost use Rattle.std.specs.Prelude.{◌≡◌, ◌≤◌, ◌<◌, ◌+◌, ◌-◌, ◌^◌, ◌++◌, ◌∷◌, ℕ, List, [], length, reverse, IfOk, IfErr, IfSome, IfNone, OnOk, IsNone, true, false};
 ghost use Rattle.std.specs.Prelude.{◌⊎◌, Ok, Some, get_or};
 ghost use Rattle.std.specs.Str.{IsUtf8};
 ghost use Rattle.mach_base.specs.Answer.{Reads, FailsAs, Stands};
 ghost use Rattle.mach_base.specs.Leb128.{uleb_at};
 ghost use Rattle.mach_tries.specs.Trie.{Entry, entry, own_entries};
-ghost use Rattle.mach_tries.specs.Nodes.{children_at};
+ghost use Rattle.mach_tries.specs.Nodes.{branches_at, children_at};
 ghost use Rattle.mach_tries.specs.Lists.{Lists};
 ghost use Rattle.mach_tries.specs.Paths.{IsTree};
 ghost use Rattle.mach_tries.specs.Visits.{Visits};
 ghost use Rattle.mach_tries.specs.Exports.{info_of, entries};
 ghost use Rattle.mach_tries.specs.Views.{source_trie, node_in, fault_in, info_in, branches_of, branches_in, IsReadable};
-ghost use Rattle.mach_tries.specs.Nowhere.{lead_nowhere, AreBarren, HaveRoom, AreKept, OpensList, OpensNode};
+ghost use Rattle.mach_tries.specs.Nowhere.{lead_nowhere, AreBarren, HaveRoom, AreKept, IsKnown, OpensList, OpensNode};
 ghost use Rattle.mach_tries.specs.WalkState.{IsAtBranch, IsBetween, HasFound, IsWalk, IsRefusedWalk, StepGives, work_ahead};
 
 use crate::exports::Export;
 use crate::info::ExportInfo;
 use crate::marks::Marks;
-use crate::node::{Branch, BranchRun, Branches, number, own_export, read_again, read_branches};
+use crate::node::{
+    Branch, BranchRun, Branches, number, own_export, read_again, read_branches, read_count,
+};
+use crate::runs::Runs;
 use mach_base::{Error, Result, Steps};
 use std::alloc::{AllocError, Allocator, Global};
 
@@ -74,57 +77,37 @@ fn all_lead_nowhere(source: &Source, branches: BranchRun) -> bool
 
 // Whether none of a list's branches leads to a node. That of most lists is seen by the first.
 #[inline(always)]
-fn is_barren(source: &Source, list: Branches) -> bool
+pub(crate) fn is_barren(source: &Source<'_, '_>, list: Branches<'_>) -> bool
     requires { IsReadable source.now.bytes.now source.now.from list.behind }
     ensures { result ≡ lead_nowhere source.now.upto (branches_in source.now.bytes.now source.now.from (Some list.entry)) }
 {
     list.first.start >= source.upto && all_lead_nowhere(source, list.behind)
 }
 
-// Marks the place of a list. Most tries have none to mark: so there is room for marks only from the first on.
-#[cold]
-#[inline(never)]
-fn mark_list<A: Allocator>(
-    barren: &mut Marks<A>,
-    place: usize,
-    len: usize,
-) -> std::result::Result<(), AllocError>
-    requires inside { place < len }
-    requires room { 0 < length barren.old → length barren.old ≡ len }
-    ensures room { OnOk result (length barren.new ≡ len) }
-    ensures marked { OnOk result (get_or barren.new place false ≡ true) }
-    ensures others { OnOk result ((p : ℕ) → get_or barren.new p false ≡ true → (p ≡ place) ⊎ (get_or barren.old p false ≡ true)) }
-    ensures kept { OnOk result (AreKept barren.old barren.new) }
-{
-    if barren.len() == 0 {
-        barren.renew(len)?;
-    }
-    barren.mark(place);
-    Ok(())
-}
-
-// Reads the list of branches whose count stands at a place: the one read that counts.
+// Reads the branches of a list behind its count: the one read that counts.
 #[inline(always)]
 fn read_list<'a>(
     source: &Source<'a, '_>,
-    place: usize,
+    list: BranchRun,
     lists: &mut Steps,
-) -> Result<Option<Branches<'a>>>
-    ensures value { Reads (branches_in source.now.bytes.now source.now.from) result (children_at source.now.bytes.now source.now.from place) }
-    ensures readable { IfOk result (λ found. IfSome found (λ b. IsReadable source.now.bytes.now source.now.from b.behind)) }
-    ensures few { IfOk result (λ found. IfSome found (λ b. b.behind.left + 1 ≤ length source.now.bytes.now)) }
+) -> Result<Branches<'a>>
+    requires some { 0 < list.left }
+    ensures value { Reads (λ b. branches_in source.now.bytes.now source.now.from (Some b)) result
+        (branches_at source.now.bytes.now source.now.from list.left list.place) }
+    ensures readable { IfOk result (λ b. IsReadable source.now.bytes.now source.now.from b.behind) }
+    ensures few { IfOk result (λ b. b.behind.left + 1 ≡ list.left) }
     ensures count { lists.new ≡ lists.old + 1 }
 {
     lists.tick();
-    read_branches(source.bytes, source.from, place)
+    read_branches(source.bytes, source.from, list)
 }
 
-// Opens the list of branches whose count stands at a place. Where all of them lead nowhere the place is marked, and nothing is
-// answered: nodes that share such a list read it once. Counts the lists that were read.
+// Opens the list of branches whose count stands at a place. Where all of them lead nowhere nothing is answered, and that is
+// learned: so such a list is read but once. Counts the lists that were read.
 #[inline(always)]
 fn open_list<'a, A: Allocator>(
     source: &Source<'a, '_>,
-    barren: &mut Marks<A>,
+    barren: &mut Runs<A>,
     place: usize,
     lists: &mut Steps,
 ) -> Result<Option<Branches<'a>>>
@@ -137,28 +120,27 @@ fn open_list<'a, A: Allocator>(
     ensures barren { OnOk result (AreBarren source.now barren.new) }
     ensures room { OnOk result (HaveRoom source.now barren.new) }
     ensures kept { OnOk result (AreKept barren.old barren.new) }
-    ensures marked { IfOk result (λ found. IfNone found
-        ((children_at source.now.bytes.now source.now.from place ≡ Ok []) ⊎ (get_or barren.new place false ≡ true))) }
-    ensures not_read { get_or barren.old place false ≡ true → lists.new ≡ lists.old }
-    ensures read { get_or barren.old place false ≡ false → lists.new ≡ lists.old + 1 }
+    ensures known { IfOk result (λ found. IfNone found (length source.now.bytes.now < 2 ^ 32 → IsKnown source.now barren.new place)) }
+    ensures not_read { IsKnown source.now barren.old place → lists.new ≡ lists.old }
+    ensures read { lists.new ≤ lists.old + 1 }
 {
-    if barren.has(place) {
+    let list = read_count(source.bytes, place)?;
+    if barren.know(list) {
         return Ok(None);
     }
-    match read_list(source, place, lists) {
-        Ok(Some(list)) if is_barren(source, list) => {
-            mark_list(barren, place, source.bytes.len())?;
-            Ok(None)
-        }
-        found => found,
+    let found = read_list(source, list, lists)?;
+    if !is_barren(source, found) {
+        return Ok(Some(found));
     }
+    barren.learn(source, list)?;
+    Ok(None)
 }
 
 // Reads the node at a start: its own export, if it has one, and its branches, if any of them leads to a node.
 #[inline(always)]
 fn read_node<'a, A: Allocator>(
     source: &Source<'a, '_>,
-    barren: &mut Marks<A>,
+    barren: &mut Runs<A>,
     start: usize,
     steps: &mut Steps,
 ) -> Result<(Option<ExportInfo<'a>>, Option<Branches<'a>>)>
@@ -198,14 +180,14 @@ fn keep_below<A: Allocator>(
 }
 
 /// A walk of a trie, as far as it has come. It takes a bit for each byte of the trie, a stack of the nodes that
-/// are open, and one name; and, from the first list on whose branches all lead nowhere, a bit for each of the bytes.
+/// are open, and one name; and, from the first list on whose branches all lead nowhere, four bytes for each of the bytes.
 #[derive(Drop)]
 pub struct Walker<'a, 'b, A: Allocator = Global> {
     pub(crate) source: Source<'a, 'b>,
     /// Which starts were met.
     pub(crate) marks: Marks<A>,
-    /// Where the count of a list stands that was read, and whose branches all lead nowhere.
-    pub(crate) barren: Marks<A>,
+    /// What is known of branches that lead nowhere.
+    pub(crate) barren: Runs<A>,
     /// The name of the node that was met last.
     pub(crate) name: Vec<u8, A>,
     /// The nodes below the top that have branches left.
@@ -230,7 +212,7 @@ impl<'a, 'b, A: Allocator> Walker<'a, 'b, A> {
         Ok(Walker {
             source: *source,
             marks: Marks::new(alloc.clone()?, len)?,
-            barren: Marks::new(alloc.clone()?, 0)?,
+            barren: Runs::new(alloc.clone()?),
             name: Vec::new(alloc.clone()?),
             stack: Vec::new(alloc.clone()?),
             top: Open {

@@ -11,8 +11,8 @@ returns-clause-start g c =
       | inl inside ↦ inl (
         lt-leb s.upto s.from inside,
         starts s inside _ _ _ _ (c.in_ok-new.ensures ∙ ap (λ n. replicate n false) c.saturating_sub-len.ensures) refl refl (ap reverse c.new-4.ensures.items),
-        none_barren s 0 _ c.in_ok-new-2.ensures,
-        no_room s _ c.in_ok-new-2.ensures,
+        none_barren s _ c.new-2.ensures,
+        no_room s _ c.new-2.ensures,
       )
       | inr out ↦ inr (le-leb s.upto s.from out, nothing_listed s out)
     ]

@@ -28,7 +28,7 @@ returns-then-start-self-clause-found g c = λ found n at. (
 )
 
 pub read_node-requires-clause-barren : goal.read_node-requires-clause-barren
-read_node-requires-clause-barren g c = λ place is. ∥∥₁_elim c.requires (search props) (λ r. r.2.2 place is)
+read_node-requires-clause-barren g c = λ place. ∥∥₁_elim c.requires (search props) (λ r. r.2.2 place)
 
 pub read_node-requires-clause-room : goal.read_node-requires-clause-room
 read_node-requires-clause-room g c = λ some. ∥∥₁_elim c.requires (search props) (λ r. r.2.3 some)
