@@ -118,3 +118,79 @@ fn lists_to_a_node(rt: HostRuntime) -> std::result::Result<(), Fail> {
     }
     Ok(())
 }
+
+// A root with so many branches, each to a node of five bytes, and a row of as many branches that lead to the end. The label of
+// each of these begins with how many there are from it on: read as a count it makes them a list, the first of whose labels is
+// a byte shorter. That is the list of a node; all have the same name, "aa".
+fn made_within(rt: &HostRuntime, nodes: u8, label: &[u8]) -> std::result::Result<Vec<u8>, Fail> {
+    let count = usize::from(nodes);
+    let mut bytes = Vec::new(rt.alloc());
+    let first = 4 + count * 6;
+    let row = first + count * 5;
+    let width = label.len() + 5;
+    bytes.push(0)?;
+    put(&mut bytes, count)?;
+    for k in 0..count {
+        bytes.extend_from_slice(b"aa\0")?;
+        put(&mut bytes, first + k * 5)?;
+    }
+    for k in 0..count {
+        put(&mut bytes, row + k * width - (first + k * 5 + 3))?;
+        bytes.push(0)?;
+        bytes.push(7)?;
+    }
+    for k in 0..nodes {
+        bytes.push(nodes - k)?;
+        bytes.extend_from_slice(label)?;
+        bytes.push(0)?;
+        put(&mut bytes, row + count * width)?;
+    }
+    Ok(bytes)
+}
+
+// Lists that begin within each other, of labels of ASCII and of others.
+#[test]
+fn lists_within_lists(rt: HostRuntime) -> std::result::Result<(), Fail> {
+    for label in &["", "b", "bbbbbbbbb", "é", "€b", "😀", "b😀é"] {
+        for nodes in &[1, 2, 30, 120] {
+            let bytes = made_within(&rt, *nodes, label.as_bytes())?;
+            assert_eq!(rt;
+                listed(rt.alloc(), bytes.as_slice(), bytes.len())?,
+                usize::from(*nodes),
+                "{nodes} nodes, a label {label}"
+            );
+            let trie = ExportTrie::at(bytes.as_slice(), 0, bytes.len());
+            assert!(rt; trie.find(rt.alloc(), &[], "aa")?.is_some(), "found");
+            assert!(rt;
+                trie.find(rt.alloc(), &[], "aab")?.is_none(),
+                "a longer name"
+            );
+        }
+    }
+    Ok(())
+}
+
+// Where a label isn't UTF-8 no list can be read in which it stands, whatever is known of those before.
+#[test]
+fn labels_within_lists(rt: HostRuntime) -> std::result::Result<(), Fail> {
+    for label in &[
+        &b"\xa9"[..],
+        &b"\xc3"[..],
+        &b"b\xe2\x82"[..],
+        &b"\xf0\x9f\x98"[..],
+    ] {
+        let bytes = made_within(&rt, 30, label)?;
+        let refused = match listed(rt.alloc(), bytes.as_slice(), bytes.len()) {
+            Err(Error::Scroll(_)) => true,
+            _ => false,
+        };
+        assert!(rt; refused, "a label is UTF-8");
+        let trie = ExportTrie::at(bytes.as_slice(), 0, bytes.len());
+        let refused = match trie.find(rt.alloc(), &[], "aab") {
+            Err(Error::Scroll(_)) => true,
+            _ => false,
+        };
+        assert!(rt; refused, "a label on the way is UTF-8");
+    }
+    Ok(())
+}
