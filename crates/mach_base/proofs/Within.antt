@@ -49,4 +49,5 @@ text_within bytes text start from e lt good =
     let rest : drop from text ≡ before_first is_zero (drop (start + from) bytes) =
     ap (drop from) is.1 ∙ sym (run_within xs from (omega (arith, long, lt)) whole) ∙ ap (before_first is_zero) (drop-drop from start bytes) in
     let inside : start + from < length bytes = let len = length-drop start bytes in omega (arith, long, lt, len, is.0) in
-    good_text bytes (drop (start + from) bytes) (start + from) (drop from text) (rest_from-inside bytes (drop (start + from) bytes) (start + from) inside refl) rest good
+    good_text bytes (drop (start + from) bytes) (start + from) (drop from text) (rest_from-inside bytes (drop (start + from) bytes)
+    (start + from) inside refl) rest good

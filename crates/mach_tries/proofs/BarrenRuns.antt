@@ -1,6 +1,8 @@
 -- How many branches that lead nowhere follow each other: what is known of a place, from what is known of the one behind a branch there.
-use Rattle.mach_tries.proofs.Names.{◌≡◌, ◌<◌, ◌≤◌, ◌+◌, ◌-◌, ℕ, zero, suc, Bool, true, false, List, ◌∷◌, Ok, Err, Result, Option, Some, None, refl, sym, ap, ◌∙◌, subst}
-use Rattle.mach_tries.proofs.Names.{arith, cond, inl, inr, length, take, drop, get_or, cases_lt, cases_eq, ltb, ◌>>=◌, Fault, IsUtf8, IsUtf8-append, ◌≢◌, ◌++◌}
+use Rattle.mach_tries.proofs.Names.{◌≡◌, ◌<◌, ◌≤◌, ◌+◌, ◌-◌, ℕ, zero, suc, Bool, true, false, List}
+use Rattle.mach_tries.proofs.Names.{◌∷◌, Ok, Err, Result, Option, Some, None, refl, sym, ap, ◌∙◌, subst}
+use Rattle.mach_tries.proofs.Names.{arith, cond, inl, inr, length, take, drop, get_or}
+use Rattle.mach_tries.proofs.Names.{cases_lt, cases_eq, ltb, ◌>>=◌, Fault, IsUtf8, IsUtf8-append, ◌≢◌, ◌++◌}
 use Rattle.mach_tries.proofs.Names.{uleb_at, text_at, branch_at, branches_at, children_at, Branch, Source, bind_ok, chosen, same_ok}
 use Rattle.std.proofs.Common.{max, IfSome, codes, replicate, MatchResult, is_ok}
 use Rattle.std.proofs.Math.Seq.{take-add}
@@ -18,7 +20,7 @@ use Rattle.mach_tries.proofs.BranchAgain.{branch_of_parts, again}
 use Rattle.mach_tries.proofs.Nowhere.{both_nowhere}
 use Rattle.mach_tries.proofs.Marking.{not_both}
 use Rattle.mach_tries.specs.Nodes.{count_at}
-use Rattle.mach_tries.specs.Nowhere.{lead_nowhere, is_barren, AreBarren, LeadsNowhere, IsKnown, OpensList}
+use Rattle.mach_tries.specs.Nowhere.{lead_nowhere, is_barren, AreBarren, LeadsNowhere, IsKnownBarren, OpensList}
 use Rattle.mach_tries.specs.Views.{those_read}
 use Rattle.mach_tries.specs.Tails.{IsTail}
 use Rattle.mach_tries.specs.declared.runs.Tail.{Tail}
@@ -56,7 +58,8 @@ module _ (s : Source) where
   unfolding branches_at
   first_barren n place e =
       let read = barren_read s.upto (branches_at s.bytes.now s.from (suc n) place) e in
-      let first = bind_ok (branch_at s.bytes.now s.from place) (λ (x : Branch × ℕ). branches_at s.bytes.now s.from n x.1 >>= λ (others : List Branch). Ok (x.0 ∷ others)) read.0 read.1 in
+      let first = bind_ok (branch_at s.bytes.now s.from place) (λ (x : Branch × ℕ). branches_at s.bytes.now s.from n x.1 >>= λ
+      (others : List Branch). Ok (x.0 ∷ others)) read.0 read.1 in
       let rest = bind_ok (branches_at s.bytes.now s.from n first.0.1) (λ (others : List Branch). Ok (first.0.0 ∷ others)) read.0 first.2 in
       let both = both_nowhere s.upto first.0.0 rest.0 (subst (λ (bs : List Branch). lead_nowhere s.upto bs ≡ true) (sym (same_ok rest.2)) read.2) in
       (first.0, first.1, both.0, barren_is s.upto (branches_at s.bytes.now s.from n first.0.1) rest.0 rest.1 both.1)
@@ -129,12 +132,14 @@ module _ (s : Source) where
       by (Err g) e = let same : g ≡ f = same_err e in ap Err same
 
   -- what is known of a list is known of as many branches as its count says
-  pub known_is : (known : List ℕ) (place count first : ℕ) → count_at s.bytes.now place ≡ Ok (count, first) → IsKnown s known place → count ≤ get_or known first 0
+  pub known_is : (known : List ℕ) (place count first : ℕ) → count_at s.bytes.now place ≡ Ok (count, first) → IsKnownBarren s known place
+      → count ≤ get_or known first 0
   known_is known place count first e is =
       let same : (is.0, is.1) ≡ (count, first) = same_ok (sym is.2 ∙ (count_parts place count first e).0) in
       subst (λ (x : ℕ × ℕ). x.0 ≤ get_or known x.1 0) same is.3
 
-  pub is_known : (known : List ℕ) (place count first : ℕ) → count_at s.bytes.now place ≡ Ok (count, first) → count ≤ get_or known first 0 → IsKnown s known place
+  pub is_known : (known : List ℕ) (place count first : ℕ) → count_at s.bytes.now place ≡ Ok (count, first) → count ≤ get_or known first 0
+      → IsKnownBarren s known place
   is_known known place count first e le = (count, first, (count_parts place count first e).0, le)
 
   -- a list that is known to lead nowhere is opened
@@ -144,10 +149,12 @@ module _ (s : Source) where
       (read.0, children_are place count first e ∙ read.1, read.2)
 
   -- what is known of the other places stays, and of this one so many are barren, too
-  pub raised_barren : (old new : List ℕ) (place count : ℕ) → AreBarren s old → barren_at count place ≡ true → get_or new place 0 ≤ max count (get_or old place 0)
+  pub raised_barren : (old new : List ℕ) (place count : ℕ) → AreBarren s old → barren_at count place ≡ true
+      → get_or new place 0 ≤ max count (get_or old place 0)
       → ((other : ℕ) → other ≢ place → get_or new other 0 ≡ get_or old other 0) → AreBarren s new
   raised_barren old new place count known more here others other = elim (cases_eq other place) [
-    | inl same ↦ subst (λ (q : ℕ). barren_at (get_or new q 0) q ≡ true) (sym same) (either_barren (get_or new place 0) count (get_or old place 0) place here more (known place))
+    | inl same ↦ subst (λ (q : ℕ). barren_at (get_or new q 0) q ≡ true) (sym same) (either_barren (get_or new place 0) count
+        (get_or old place 0) place here more (known place))
     | inr differ ↦ subst (λ (n : ℕ). barren_at n other ≡ true) (sym (others other differ)) (known other)
   ]
 
@@ -178,7 +185,8 @@ module _ (s : Source) where
 
   -- the label that begins at a place
   label_there : (place : ℕ) (t : Tail) → IsTail s place t → t.low ≡ place → t.end < length s.bytes.now
-      → (text_at s.bytes.now place ≡ Ok (take (t.end - place) (drop place s.bytes.now))) × (length (take (t.end - place) (drop place s.bytes.now)) ≡ t.end - place)
+      → (text_at s.bytes.now place ≡ Ok (take (t.end - place) (drop place s.bytes.now))) × (length (take (t.end - place)
+      (drop place s.bytes.now)) ≡ t.end - place)
   label_there place t is low inside =
       let bytes : List ℕ = s.bytes.now in
       let rest : List ℕ = drop place bytes in
@@ -216,7 +224,8 @@ module _ (s : Source) where
       → count ≤ get_or known after 0 + 1 → barren_at count place ≡ true
   count_there known place after count t barren is low there le =
       let b = branch_there place after t is low there in
-      fewer_barren count (suc (get_or known after 0)) place (omega (arith, le)) (one_more_barren (get_or known after 0) place after b.0 b.1 b.2 (barren after))
+      fewer_barren count (suc (get_or known after 0)) place (omega (arith, le)) (one_more_barren (get_or known after 0) place after b.0 b.1 b.2
+      (barren after))
 
 pub utf8_from : (xs : List ℕ) (place low end : ℕ) → place ≤ low → low ≤ end → IsUtf8 (take (low - place) (drop place xs))
     → IsUtf8 (take (end - low) (drop low xs)) → IsUtf8 (take (end - place) (drop place xs))

@@ -33,12 +33,13 @@ abbrev pub AreKept : List ℕ → List ℕ → Type 0
 AreKept old new = (place : ℕ) → get_or old place 0 ≤ get_or new place 0
 
 -- it is known of the list whose count stands at a place
-abbrev pub IsKnown : Source → List ℕ → ℕ → Type 0
-IsKnown s known place = (count : ℕ) × (first : ℕ) × (uleb_at s.bytes.now place ≡ Ok (count, first)) × (count ≤ get_or known first 0)
+abbrev pub IsKnownBarren : Source → List ℕ → ℕ → Type 0
+IsKnownBarren s known place = (count : ℕ) × (first : ℕ) × (uleb_at s.bytes.now place ≡ Ok (count, first)) × (count ≤ get_or known first 0)
 
 -- a branch whose label ends at a place leads nowhere, and the one behind it begins here
 abbrev pub LeadsNowhere : Source → ℕ → ℕ → Type 0
-LeadsNowhere s end after = (offset : ℕ) × (start : ℕ) × (uleb_at s.bytes.now (end + 1) ≡ Ok (offset, after)) × (sum_of s.from offset ≡ Ok start) × (s.upto ≤ start)
+LeadsNowhere s end after = (offset : ℕ) × (start : ℕ) × (uleb_at s.bytes.now (end + 1) ≡ Ok (offset, after)) × (sum_of s.from offset ≡ Ok start) ×
+    (s.upto ≤ start)
 
 -- what is opened of some branches: nothing where they lead nowhere, and else all
 abbrev pub AreOpened : Source → List trie.Branch → Option Branches → Type 0

@@ -1,6 +1,7 @@
 //! The walk of an export trie, on a stack of open nodes: its exports, one after the other.
 
-ghost use Rattle.std.specs.Prelude.{◌≡◌, ◌≤◌, ◌<◌, ◌+◌, ◌-◌, ◌^◌, ◌++◌, ◌∷◌, ℕ, List, [], length, reverse, IfOk, IfErr, IfSome, IfNone, OnOk, IsNone, true, false};
+ghost use Rattle.std.specs.Prelude.{◌≡◌, ◌≤◌, ◌<◌, ◌+◌, ◌-◌, ◌^◌, ◌++◌, ◌∷◌, ℕ, List};
+ghost use Rattle.std.specs.Prelude.{[], length, reverse, IfOk, IfErr, IfSome, IfNone, OnOk, IsNone, true, false};
 ghost use Rattle.std.specs.Prelude.{◌⊎◌, Ok, Some, get_or};
 ghost use Rattle.std.specs.Str.{IsUtf8};
 ghost use Rattle.mach_base.specs.Answer.{Reads, FailsAs, Stands};
@@ -12,7 +13,7 @@ ghost use Rattle.mach_tries.specs.Paths.{IsTree};
 ghost use Rattle.mach_tries.specs.Visits.{Visits};
 ghost use Rattle.mach_tries.specs.Exports.{info_of, entries};
 ghost use Rattle.mach_tries.specs.Views.{source_trie, node_in, fault_in, info_in, branches_of, branches_in, IsReadable};
-ghost use Rattle.mach_tries.specs.Nowhere.{lead_nowhere, AreBarren, HaveRoom, AreKept, IsKnown, OpensList, OpensNode};
+ghost use Rattle.mach_tries.specs.Nowhere.{lead_nowhere, AreBarren, HaveRoom, AreKept, IsKnownBarren, OpensList, OpensNode};
 ghost use Rattle.mach_tries.specs.WalkState.{IsAtBranch, IsBetween, HasFound, IsWalk, IsRefusedWalk, StepGives, work_ahead};
 
 use crate::exports::Export;
@@ -120,8 +121,8 @@ fn open_list<'a, A: Allocator>(
     ensures barren { OnOk result (AreBarren source.now barren.new) }
     ensures room { OnOk result (HaveRoom source.now barren.new) }
     ensures kept { OnOk result (AreKept barren.old barren.new) }
-    ensures known { IfOk result (λ found. IfNone found (length source.now.bytes.now < 2 ^ 32 → IsKnown source.now barren.new place)) }
-    ensures not_read { IsKnown source.now barren.old place → lists.new ≡ lists.old }
+    ensures known { IfOk result (λ found. IfNone found (length source.now.bytes.now < 2 ^ 32 → IsKnownBarren source.now barren.new place)) }
+    ensures not_read { IsKnownBarren source.now barren.old place → lists.new ≡ lists.old }
     ensures read { lists.new ≤ lists.old + 1 }
 {
     let list = read_count(source.bytes, place)?;

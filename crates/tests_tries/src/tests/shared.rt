@@ -127,7 +127,7 @@ fn made_within(rt: &HostRuntime, nodes: u8, label: &[u8]) -> std::result::Result
     let mut bytes = Vec::new(rt.alloc());
     let first = 4 + count * 6;
     let row = first + count * 5;
-    let width = label.len() + 5;
+    let width = label.len().saturating_add(5);
     bytes.push(0)?;
     put(&mut bytes, count)?;
     for k in 0..count {
@@ -135,7 +135,8 @@ fn made_within(rt: &HostRuntime, nodes: u8, label: &[u8]) -> std::result::Result
         put(&mut bytes, first + k * 5)?;
     }
     for k in 0..count {
-        put(&mut bytes, row + k * width - (first + k * 5 + 3))?;
+        let list = k.saturating_mul(width).saturating_add(row);
+        put(&mut bytes, list.saturating_sub(first + k * 5 + 3))?;
         bytes.push(0)?;
         bytes.push(7)?;
     }
@@ -143,7 +144,7 @@ fn made_within(rt: &HostRuntime, nodes: u8, label: &[u8]) -> std::result::Result
         bytes.push(nodes - k)?;
         bytes.extend_from_slice(label)?;
         bytes.push(0)?;
-        put(&mut bytes, row + count * width)?;
+        put(&mut bytes, count.saturating_mul(width).saturating_add(row))?;
     }
     Ok(bytes)
 }

@@ -39,7 +39,8 @@ turns-init g c =
           (reverse c.new-choices.result.items)
           ms c.args.steps.now c.args.steps.now) (sym marked)
           (subst (λ (os : List Choice). Holds c.args.source.now c.args.root c.args.name.now (record { branches = c.args.branches; at = 0 }) os
-          (set (replicate (c.args.source.now.upto - c.args.source.now.from) false) (c.args.root - c.args.source.now.from) true) c.args.steps.now c.args.steps.now)
+          (set (replicate (c.args.source.now.upto - c.args.source.now.from) false)
+          (c.args.root - c.args.source.now.from) true) c.args.steps.now c.args.steps.now)
           (sym (ap reverse c.new-choices.ensures.items))
           (turn.begins c.args.source.now c.args.root c.args.name.now (record { branches = c.args.branches; at = 0 })
           node.0 c.args.steps.now c.requires.low c.requires.inside node.1 node.2 node.3 refl)),
