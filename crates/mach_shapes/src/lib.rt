@@ -7,5 +7,6 @@ mod maker;
 mod names;
 mod plain;
 mod shape;
+mod tails;
 
 pub use crate::shape::{LEAST, Shape};

@@ -32,6 +32,34 @@ pub fn trie_shared<A: Allocator>(made: &mut Maker<A>, size: u32) -> Result<(), A
     Ok(())
 }
 
+// A trie whose nodes have lists of branches that lead nowhere: each list begins a branch behind the one before, and all end together. The count of a
+// list is the end of the number that stands before it, which is where the branch before it leads.
+pub fn trie_overlaid<A: Allocator>(made: &mut Maker<A>, size: u32) -> Result<(), AllocError> {
+    let (nodes, others) = (size / 33, size.saturating_sub(200) / 12);
+    let first = 5 + 5 * nodes;
+    trie_command(made, first + 14 * nodes + 4 + 5 * others)?;
+    made.byte(0)?;
+    made.number(nodes)?;
+    for node in 0..nodes {
+        made.byte(0)?;
+        made.number(first + 6 * node)?;
+    }
+    for node in 0..nodes {
+        made.number(6 * nodes + 2 * node - 4)?;
+        made.text(b"\0\0")?;
+    }
+    made.number(nodes + others)?;
+    for node in 0..nodes {
+        made.text(b"\0\xff\xff\xff")?;
+        made.number(nodes - node - 1 + others)?;
+    }
+    for _ in 0..others {
+        made.byte(0)?;
+        made.number(0x0fff_ffff)?;
+    }
+    Ok(())
+}
+
 // A trie in which each node has one child behind it: one name, as long as an eighth of the trie.
 pub fn trie_deep<A: Allocator>(made: &mut Maker<A>, size: u32) -> Result<(), AllocError> {
     let nodes = size.saturating_sub(52) / 8;

@@ -3,7 +3,7 @@
 ghost use Rattle.std.specs.Prelude.{◌≡◌, length, IfOk};
 
 use crate::maker::Maker;
-use crate::{chains, commands, names, plain};
+use crate::{chains, commands, names, plain, tails};
 use std::alloc::{AllocError, Allocator};
 
 /// The fewest bytes in which each shape is what it is said to be.
@@ -38,11 +38,19 @@ pub enum Shape {
     BindsAgain,
     /// Pages whose chains begin at the starts of one list.
     PageStarts,
+    /// A trie of exports, whose nodes have lists of branches that lead nowhere: each begins a branch behind the one before, and all end together.
+    TrieOverlaid,
+    /// Symbols whose names begin a letter behind each other, within one text that is half of the file.
+    SymbolTails,
+    /// Libraries whose names begin a letter behind each other, within one text that ends with the file.
+    LibrariesFar,
+    /// A trie whose nodes are re-exports with a branch that leads nowhere: all their names and labels end together, half of the file behind them.
+    ReexportsFar,
 }
 
 impl Shape {
     /// All shapes; the ordinary one is the first.
-    pub const ALL: [Shape; 13] = [
+    pub const ALL: [Shape; 17] = [
         Shape::Plain,
         Shape::TrieShared,
         Shape::TrieDeep,
@@ -56,6 +64,10 @@ impl Shape {
         Shape::Libraries,
         Shape::BindsAgain,
         Shape::PageStarts,
+        Shape::TrieOverlaid,
+        Shape::SymbolTails,
+        Shape::LibrariesFar,
+        Shape::ReexportsFar,
     ];
 
     /// The shape's name.
@@ -74,6 +86,10 @@ impl Shape {
             Shape::Libraries => "libraries",
             Shape::BindsAgain => "binds_again",
             Shape::PageStarts => "page_starts",
+            Shape::TrieOverlaid => "trie_overlaid",
+            Shape::SymbolTails => "symbol_tails",
+            Shape::LibrariesFar => "libraries_far",
+            Shape::ReexportsFar => "reexports_far",
         }
     }
 
@@ -102,6 +118,10 @@ impl Shape {
             Shape::Libraries => commands::libraries(made, size),
             Shape::BindsAgain => commands::binds_again(made, size),
             Shape::PageStarts => chains::page_starts(made, size),
+            Shape::TrieOverlaid => names::trie_overlaid(made, size),
+            Shape::SymbolTails => tails::symbol_tails(made, size),
+            Shape::LibrariesFar => tails::libraries_far(made, size),
+            Shape::ReexportsFar => tails::reexports_far(made, size),
         }
     }
 }
