@@ -165,6 +165,66 @@ fn commands(rt: HostRuntime) -> Result<(), Fail> {
 }
 
 #[test]
+fn tails(rt: HostRuntime) -> Result<(), Fail> {
+    has(
+        &rt,
+        rt.alloc(),
+        Shape::TrieOverlaid,
+        LEAST,
+        [1, 121, 0, 0, 0, 0, 0],
+    )?;
+    has(
+        &rt,
+        rt.alloc(),
+        Shape::TrieOverlaid,
+        20_000,
+        [1, 606, 0, 0, 0, 0, 0],
+    )?;
+    has(
+        &rt,
+        rt.alloc(),
+        Shape::SymbolTails,
+        LEAST,
+        [1, 0, 0, 0, 0, 125, 0],
+    )?;
+    has(
+        &rt,
+        rt.alloc(),
+        Shape::SymbolTails,
+        20_000,
+        [1, 0, 0, 0, 0, 625, 0],
+    )?;
+    has(
+        &rt,
+        rt.alloc(),
+        Shape::LibrariesFar,
+        LEAST,
+        [83, 0, 0, 0, 0, 0, 0],
+    )?;
+    has(
+        &rt,
+        rt.alloc(),
+        Shape::LibrariesFar,
+        20_000,
+        [416, 0, 0, 0, 0, 0, 0],
+    )?;
+    has(
+        &rt,
+        rt.alloc(),
+        Shape::ReexportsFar,
+        LEAST,
+        [2, 222, 0, 0, 0, 0, 0],
+    )?;
+    has(
+        &rt,
+        rt.alloc(),
+        Shape::ReexportsFar,
+        20_000,
+        [2, 1111, 0, 0, 0, 0, 0],
+    )
+}
+
+#[test]
 fn fat(rt: HostRuntime) -> Result<(), Fail> {
     let alloc = rt.alloc();
     let bytes = Shape::FatOverlaid.file(alloc, LEAST)?;
