@@ -3,8 +3,9 @@
 
   hostile/make.py FOLDER [BYTES]
 
-The small ones have up to some hundred bytes. The large ones have up to BYTES, 100,000 where nothing is said, and are those whose cost
-may grow faster than the file. FILES, below, says of each what it is.
+The small ones have up to some hundred bytes. The large ones have some BYTES, 100,000 where nothing is said, and are those whose cost
+may grow faster than the file. Of those that a reader goes over again and again, if it keeps nothing of what it read, another has ten times as
+many bytes. `files` and `growing`, below, say of each what it is.
 """
 import os
 import struct
@@ -89,6 +90,11 @@ def again(bits):
     return 2**64 - bits // 8
 
 
+def long_name(size):
+    """A name of letters of two bytes, which takes longer to test than one of ASCII."""
+    return "é".encode() * (size // 2)
+
+
 def symbol_table(count, tail):
     commands = 72 + 24
     at = begin(commands)
@@ -139,6 +145,40 @@ def shared_branches(size, found):
     return image([words(EXPORTS_TRIE, 16, begin(16), len(made))], made)
 
 
+def overlaid_branches(size):
+    """A trie of nodes whose lists of branches all lead nowhere: each begins a branch behind the one before, and all end together.
+
+    The count of a list is the end of the number that stands before it, which is where the branch before it leads.
+    """
+    nodes, others = size // 33, size // 13
+    first = 1 + 4 + 5 * nodes
+    made = b"\0" + uleb(nodes, 4) + b"".join(b"\0" + uleb(first + 6 * i, 4) for i in range(nodes))
+    made += b"".join(uleb(6 * nodes + 2 * i - 4, 4) + b"\0\0" for i in range(nodes))
+    made += uleb(nodes + others, 4) + b"".join(b"\0\xff\xff\xff" + uleb(nodes - i - 1 + others, 4) for i in range(nodes))
+    made += (b"\0" + uleb(2**28 - 1)) * others
+    return image([words(EXPORTS_TRIE, 16, begin(16), len(made))], made)
+
+
+def far_labels(size):
+    """A trie of nodes of one branch, which leads nowhere; all their labels run on to one zero byte."""
+    nodes = size // 18
+    first = 1 + 4 + 5 * nodes
+    made = b"\0" + uleb(nodes, 4) + b"".join(b"\0" + uleb(first + 4 * i, 4) for i in range(nodes))
+    made += b"\x02\x04\x01\x01" * nodes + long_name(size // 2) + b"\0" + uleb(2**28 - 1)
+    return image([words(EXPORTS_TRIE, 16, begin(16), len(made))], made)
+
+
+def far_reexports(size):
+    """A trie of nodes that are re-exports; all their names run on to one zero byte. The count of each node's branches stands behind that."""
+    nodes = size // 32
+    name = long_name(size // 3)
+    turns = (5 * nodes + len(name)) // 2**14 + 1
+    first = 1 + 4 + 5 * nodes
+    made = b"\0" + uleb(nodes, 4) + b"".join(b"\0" + uleb(first + 5 * i, 4) for i in range(nodes))
+    made += (uleb(turns * 2**14 + 0x42) + b"\x08\x01") * nodes + name + bytes(5 * nodes + 2**14 + 0x80)
+    return image([named(DYLIB, b"/l"), words(EXPORTS_TRIE, 16, begin(32 + 16), len(made))], made)
+
+
 def deep_trie(size):
     """A trie in which each node has one child behind it: names as long as the trie."""
     made = b"".join(b"\0\x01a\0" + uleb(at + 7, 3) for at in range(0, size - 8, 7)) + b"\x02\0\0\0"
@@ -160,7 +200,21 @@ def read_again(size):
     record = words(DYLIB, 0, 24, 0, 0, 0)
     count = (size - 8) // 8
     magic = words(0xFEEDFACF, 0x01000007, 3, LIBRARY, count, size - 8, 0, 0)
-    return magic + record + b"a" * (size - len(magic) - len(record))
+    return magic + record + long_name(size - len(magic) - len(record))
+
+
+def symbol_names(size, step):
+    """Symbols whose names begin so many bytes behind each other within one, which fills half of the bytes."""
+    count = size // 32
+    names = 16 * count - 15
+    rows = [struct.pack("<IBBHQ", names + step * i, 1, 0, 0, 0) for i in range(count)]
+    return symbol_table(count, b"".join(rows) + b"\0" + long_name(size // 2) + b"\0")
+
+
+def far_libraries(size):
+    """Libraries whose names begin a letter behind each other, within one that ends with the file."""
+    count = size // 48
+    return image([words(DYLIB, 24, 24 * count - 22 * i, 2, 0, 0) for i in range(count)], long_name(size // 2))
 
 
 def overlaid(size):
@@ -250,6 +304,25 @@ def pages(size):
     return chains(starts=chain_starts(count, 1, 0, each))
 
 
+def growing(size):
+    """Files of some bytes, with what a reader goes over in 1,000,000 of them that reads each list and each name from its beginning to its end."""
+    return {
+        # 7 * 10^9 branches, in lists that are one list; 2.8 * 10^9, in lists that overlap.
+        "trie_shared_%d" % size: shared_branches(size, 2**21 - 1),
+        "trie_overlaid_%d" % size: overlaid_branches(size),
+        # 3.4 * 10^10 bytes of labels, and 1.3 * 10^10 of names of re-exports.
+        "trie_labels_%d" % size: far_labels(size),
+        "trie_reexports_%d" % size: far_reexports(size),
+        # 1.6 * 10^10 bytes of names, of which all are one, or each begins behind the one before.
+        "symbols_same_%d" % size: symbol_names(size, 0),
+        "symbols_far_%d" % size: symbol_names(size, 2),
+        # 10^10 bytes of names of libraries.
+        "libraries_far_%d" % size: far_libraries(size),
+        # 1.2 * 10^11 bytes, of one name that is read for each of many commands.
+        "names_%d" % size: read_again(size),
+    }
+
+
 def files(size):
     """The files: small ones, and large ones of up to so many bytes."""
     one = struct.pack("<IBBHQ", 1, 1, 0, 0, 0) + b"\0_a\0"
@@ -292,9 +365,7 @@ def files(size):
         # A trie whose paths are 2^60, over 60 nodes.
         "trie_ladder": ladder(60),
         # Of up to `size` bytes.
-        "trie_shared_%d" % size: shared_branches(size, 2**21 - 1),
         "trie_deep_%d" % size: deep_trie(size),
-        "names_%d" % size: read_again(size),
         "fat_overlaid_%d" % size: overlaid(size),
         "archive_members_%d" % size: archive_of_members(size),
         "archive_names_%d" % size: archive_of_names(size),
@@ -306,6 +377,8 @@ def files(size):
         "binds_%d" % size: bind_again(size),
         "imports_%d" % size: chain_of_imports(size),
         "pages_%d" % size: pages(size),
+        **growing(size),
+        **growing(10 * size),
     }
 
 
