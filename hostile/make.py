@@ -145,16 +145,17 @@ def shared_branches(size, found):
     return image([words(EXPORTS_TRIE, 16, begin(16), len(made))], made)
 
 
-def overlaid_branches(size):
-    """A trie of nodes whose lists of branches all lead nowhere: each begins a branch behind the one before, and all end together.
+def overlaid_branches(size, ends_together=True):
+    """A trie of nodes whose lists of branches all lead nowhere: each begins a branch behind the one before, and all end together, or have one length.
 
     The count of a list is the end of the number that stands before it, which is where the branch before it leads.
     """
     nodes, others = size // 33, size // 13
+    counts = [others + (nodes - i if ends_together else 0) for i in range(nodes + 1)]
     first = 1 + 4 + 5 * nodes
     made = b"\0" + uleb(nodes, 4) + b"".join(b"\0" + uleb(first + 6 * i, 4) for i in range(nodes))
     made += b"".join(uleb(6 * nodes + 2 * i - 4, 4) + b"\0\0" for i in range(nodes))
-    made += uleb(nodes + others, 4) + b"".join(b"\0\xff\xff\xff" + uleb(nodes - i - 1 + others, 4) for i in range(nodes))
+    made += uleb(counts[0], 4) + b"".join(b"\0\xff\xff\xff" + uleb(it, 4) for it in counts[1:])
     made += (b"\0" + uleb(2**28 - 1)) * others
     return image([words(EXPORTS_TRIE, 16, begin(16), len(made))], made)
 
@@ -203,12 +204,23 @@ def read_again(size):
     return magic + record + long_name(size - len(magic) - len(record))
 
 
-def symbol_names(size, step):
-    """Symbols whose names begin so many bytes behind each other within one, which fills half of the bytes."""
-    count = size // 32
-    names = 16 * count - 15
-    rows = [struct.pack("<IBBHQ", names + step * i, 1, 0, 0, 0) for i in range(count)]
-    return symbol_table(count, b"".join(rows) + b"\0" + long_name(size // 2) + b"\0")
+def symbols_within(names, places):
+    """Symbols whose names begin at these places of some bytes."""
+    first = 16 * len(places) - 15
+    rows = [struct.pack("<IBBHQ", first + it, 1, 0, 0, 0) for it in places]
+    return symbol_table(len(rows), b"".join(rows) + b"\0" + names + b"\0")
+
+
+def symbol_names(size, step, end=b""):
+    """Symbols whose names begin so many bytes behind each other within one, which fills half of the bytes; before the others, where that is below 0."""
+    places = [abs(step) * i for i in range(size // 32)]
+    return symbols_within(long_name(size // 2) + end, places if step >= 0 else places[::-1])
+
+
+def symbols_by_turns(size):
+    """Symbols that have one of two names by turns, which fill half of the bytes."""
+    name = long_name(size // 4)
+    return symbols_within(name + b"\0" + name, [0, len(name) + 1] * (size // 64))
 
 
 def far_libraries(size):
@@ -377,6 +389,11 @@ def files(size):
         "binds_%d" % size: bind_again(size),
         "imports_%d" % size: chain_of_imports(size),
         "pages_%d" % size: pages(size),
+        # Lists that overlap otherwise; and names that a reader doesn't find again which keeps the last one that it could read.
+        "trie_windows_%d" % size: overlaid_branches(size, ends_together=False),
+        "symbols_back_%d" % size: symbol_names(size, -2),
+        "symbols_turns_%d" % size: symbols_by_turns(size),
+        "symbols_bad_%d" % size: symbol_names(size, 2, b"\xff"),
         **growing(size),
         **growing(10 * size),
     }
