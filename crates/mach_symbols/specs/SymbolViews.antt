@@ -10,7 +10,7 @@ use Rattle.mach_symbols.specs.declared.symbols.nlist.Nlist.{Nlist}
 use Rattle.mach_symbols.specs.declared.symbols.Table.{Table}
 use Rattle.mach_symbols.specs.declared.symbols.Symbols.{Symbols}
 use Rattle.mach_symbols.specs.declared.symbols.CopiedSymbols.{CopiedSymbols}
-use Rattle.mach_symbols.specs.declared.symbols.SymbolIterator.{SymbolIterator}
+use Rattle.mach_symbols.specs.declared.symbols.iterator.SymbolIterator.{SymbolIterator}
 use Rattle.mach_symbols.specs.declared.symbols.SymbolsCtx.{SymbolsCtx}
 
 abbrev pub table_view : Table → SymbolTable
@@ -30,7 +30,7 @@ symbol_read answer = read_as (λ found. (found.0.now, found.1)) answer
 
 -- what an iterator has yet to give
 abbrev pub symbols_left : SymbolIterator → List (Result (List ℕ × Nlist) Fault)
-symbols_left i = items_from (symbol_at (table_view i.table)) i.index (i.table.nsyms - i.index)
+symbols_left i = items_from (symbol_at (table_view i.source.table)) i.index (i.source.table.nsyms - i.index)
 
 -- all bytes as a table without a command: records from 0 on
 abbrev pub symbols_front : SymbolsCtx → List ℕ → Found SymbolTable

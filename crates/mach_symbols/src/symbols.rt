@@ -8,10 +8,12 @@ ghost use Rattle.mach_base.specs.Number.{place_after};
 ghost use Rattle.mach_symbols.specs.Symbols.{begun_of, symbol_place, symbol_at, symbol_name_at, symbols_of, table_at};
 ghost use Rattle.mach_symbols.specs.SymbolViews.{copied_table, table_of, table_view, symbol_read, symbols_left};
 
+mod iterator;
 pub mod laws;
 mod names;
 mod nlist;
 
+pub use crate::symbols::iterator::SymbolIterator;
 pub use crate::symbols::names::{
     MAX_SECT, N_ABS, N_AST, N_BCOMM, N_BINCL, N_BNSYM, N_DESC_DISCARDED, N_ECOML, N_ECOMM, N_EINCL,
     N_ENSYM, N_ENTRY, N_EXCL, N_EXT, N_FNAME, N_FUN, N_GSYM, N_INDR, N_LBRAC, N_LCSYM, N_LENG,
@@ -235,10 +237,7 @@ impl<'a> Symbols<'a> {
     pub fn iter_from(&self, first: usize) -> SymbolIterator<'a>
         ensures { symbols_left result ≡ drop first (symbols_of (table_of self.now)) }
     {
-        SymbolIterator {
-            table: self.table,
-            index: first,
-        }
+        SymbolIterator::from_number(self.table, first)
     }
 
     /// The same symbols as a value that is copied.
@@ -330,79 +329,5 @@ impl<'a> TryFromCtx<'a, SymbolsCtx> for Symbols<'a> {
             ctx: ctx.ctx,
         };
         Ok((Symbols { table }, bytes.len()))
-    }
-}
-
-/// Symbols one after the other, each as `get` gives it.
-#[derive(Clone, Drop)]
-pub struct SymbolIterator<'a> {
-    table: Table<'a>,
-    index: usize,
-}
-
-impl<'a> SymbolIterator<'a> {
-    // The symbols of a table, from the first.
-    fn new(table: Table<'a>) -> Self
-        ensures items { symbols_left result ≡ symbols_of (table_view table.entry) }
-        ensures bounded { length (symbols_left result) < 2 ^ 64 }
-    {
-        SymbolIterator { table, index: 0 }
-    }
-}
-
-impl<'a> Default for SymbolIterator<'a> {
-    ghost is_default = { λ i. symbols_left i ≡ [] };
-
-    /// No symbols.
-    fn default() -> Self {
-        SymbolIterator {
-            table: Table {
-                bytes: &[],
-                start: 0,
-                nsyms: 0,
-                strtab: 0,
-                ctx: Ctx::default(),
-            },
-            index: 0,
-        }
-    }
-}
-
-impl<'a> Iterator for SymbolIterator<'a> {
-    type Item = Result<(&'a str, Nlist)>;
-
-    ghost use Rattle.std.specs.Prelude.{Some, IfSome};
-    ghost use Rattle.std.specs.Iterator.{YieldsFirstBy, UpTo, item_count};
-    ghost use Rattle.std.specs.Iterator.SizeHint.{IsWithinCount};
-
-    ghost next_gives = { YieldsFirstBy symbol_read symbols_left };
-
-    ghost remaining = { item_count symbols_left };
-
-    #[inline(always)]
-    fn next(&mut self) -> Option<Result<(&'a str, Nlist)>> {
-        if self.index >= self.table.nsyms {
-            return None;
-        }
-        let item = self.table.symbol(self.index);
-        self.index += 1;
-        Some(item)
-    }
-
-    /// How many items are left, exactly.
-    fn size_hint(&self) -> (usize, Option<usize>)
-        ensures lower { IsWithinCount result.0 (item_count symbols_left self.now) }
-        ensures upper { IfSome result.1 (UpTo (item_count symbols_left self.now)) }
-        ensures exact { result ≡ (length (symbols_left self.now), Some (length (symbols_left self.now))) }
-    {
-        let left = self.len();
-        (left, Some(left))
-    }
-}
-
-impl<'a> ExactSizeIterator for SymbolIterator<'a> {
-    /// How many items are left.
-    fn len(&self) -> usize {
-        self.table.nsyms.saturating_sub(self.index)
     }
 }

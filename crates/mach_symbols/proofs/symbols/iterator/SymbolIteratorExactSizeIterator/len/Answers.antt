@@ -2,9 +2,9 @@ use Rattle.std.proofs.Common.{◌∙◌, sym}
 use Rattle.mach_symbols.specs.Symbols.{symbol_at}
 use Rattle.mach_symbols.specs.SymbolViews.{table_view}
 use Rattle.mach_base.proofs.ItemLists.{length-items_from}
-use Rattle.mach_symbols.proofs.symbols.SymbolIteratorExactSizeIterator.len.Goals as goal
+use Rattle.mach_symbols.proofs.symbols.iterator.SymbolIteratorExactSizeIterator.len.Goals as goal
 
 pub returns-clause-value : goal.returns-clause-value
 returns-clause-value c =
     let i = c.args.self.now in
-    c.saturating_sub.ensures ∙ sym (length-items_from (symbol_at (table_view i.table)) i.index _)
+    c.saturating_sub.ensures ∙ sym (length-items_from (symbol_at (table_view i.source.table)) i.index _)

@@ -2,7 +2,7 @@ use Rattle.std.proofs.Common.{◌-◌, arith}
 use Rattle.mach_symbols.specs.Symbols.{symbol_at}
 use Rattle.mach_symbols.specs.SymbolViews.{table_view}
 use Rattle.mach_base.proofs.ItemLists.{length-items_from}
-use Rattle.mach_symbols.proofs.symbols.SymbolIterator.new.Goals as goal
+use Rattle.mach_symbols.proofs.symbols.iterator.SymbolIterator.new.Goals as goal
 
 pub returns-clause-bounded : goal.returns-clause-bounded
 returns-clause-bounded c =
