@@ -155,4 +155,4 @@ counted_from n (l ∷ ls) = of_ordinal n l ∷ counted_from (place_after n 1) ls
 
 -- the libraries that are left
 abbrev pub libraries_left : LibraryIterator → List LibraryView
-libraries_left it = counted_from it.ordinal (read_of (named_by it.le it.bytes.now) (map command_of (iter_rest it.commands)))
+libraries_left it = counted_from it.ordinal (read_of (named_by it.le it.source.bytes.now) (map command_of (iter_rest it.commands)))

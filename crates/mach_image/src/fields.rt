@@ -1,7 +1,8 @@
 //! What strict and lossy mode read off the commands in their own ways.
 
-ghost use Rattle.std.specs.Prelude.{◌++◌, ◌∷◌, [], ℕ, List, map, IfOk, IfErr, OnOk};
+ghost use Rattle.std.specs.Prelude.{◌≡◌, ◌++◌, ◌∷◌, [], ℕ, List, map, IfOk, IfErr, OnOk};
 ghost use Rattle.mach_base.specs.Answer.{Stands, IsOkUnlessMemory};
+ghost use Rattle.mach_base.specs.KeptText.{kept_bytes};
 ghost use Rattle.mach_load.specs.Command.{Command};
 ghost use Rattle.mach_segments.specs.Segment.{SegmentView};
 ghost use Rattle.mach_load.specs.Variants.{command_of};
@@ -10,9 +11,9 @@ ghost use Rattle.mach_image.specs.Subjects.{segment_by, lossy_segment_by, libs_i
 ghost use Rattle.mach_image.specs.Readings.{Reading, read_of};
 
 use crate::once::Once;
-use crate::readings::{add, add_readable};
+use crate::readings::{add, add_readable, add_readable_text, add_text};
 use crate::subjects::{Libraries, LossySegmentData, RunPaths, SegmentData};
-use mach_base::{Ctx, Result};
+use mach_base::{Ctx, KeptText, Result};
 use mach_load::LoadCommand;
 use mach_segments::segment::Segment;
 use std::alloc::Allocator;
@@ -42,8 +43,9 @@ impl<'a, A: Allocator + Clone> Fields<'a, A> {
         ensures refused { IfErr result (Stands (IsUnreadable ctx bytes.now (map command_of commands.now))) }
     {
         let mut fields = Fields::empty(alloc)?;
+        let mut names = KeptText::new(bytes);
         for command in commands {
-            fields.take(bytes, ctx, command)?;
+            fields.take(bytes, &mut names, ctx, command)?;
         }
         fields.put_name()?;
         Ok(fields)
@@ -61,8 +63,9 @@ impl<'a, A: Allocator + Clone> Fields<'a, A> {
         ensures only { IsOkUnlessMemory result }
     {
         let mut fields = Fields::empty(alloc)?;
+        let mut names = KeptText::new(bytes);
         for command in commands {
-            fields.take_readable(bytes, ctx, command)?;
+            fields.take_readable(bytes, &mut names, ctx, command)?;
         }
         fields.put_name()?;
         Ok(fields)
@@ -92,32 +95,48 @@ impl<'a, A: Allocator> Fields<'a, A> {
 
     // Takes what one more command says.
     #[inline(always)]
-    fn take(&mut self, bytes: &'a [u8], ctx: Ctx, command: &LoadCommand) -> Result<()>
+    fn take(
+        &mut self,
+        bytes: &'a [u8],
+        names: &mut KeptText<'a>,
+        ctx: Ctx,
+        command: &LoadCommand,
+    ) -> Result<()>
+        requires { kept_bytes names.old ≡ bytes.now }
         ensures found { (cs : List Command) → AreTaken ctx bytes.now (segment_by ctx bytes.now) cs self.old
             → OnOk result (AreTaken ctx bytes.now (segment_by ctx bytes.now) (cs ++ command_of command.now ∷ []) self.new) }
         ensures all { OnOk result (AllReadable ctx bytes.now (command_of command.now ∷ [])) }
         ensures refused { IfErr result (Stands (IsUnreadable ctx bytes.now (command_of command.now ∷ []))) }
+        ensures bytes { kept_bytes names.new ≡ bytes.now }
     {
         add(&mut self.segments, &SegmentData { bytes, ctx }, command)?;
-        add(&mut self.libs, &Libraries { bytes }, command)?;
-        add(&mut self.rpaths, &RunPaths { bytes }, command)?;
-        self.once.take(bytes, ctx, command)
+        add_text(&mut self.libs, &Libraries { bytes }, names, command)?;
+        add_text(&mut self.rpaths, &RunPaths { bytes }, names, command)?;
+        self.once.take(bytes, names, ctx, command)
     }
 
     // Takes what can be read of it.
-    fn take_readable(&mut self, bytes: &'a [u8], ctx: Ctx, command: &LoadCommand) -> Result<()>
+    fn take_readable(
+        &mut self,
+        bytes: &'a [u8],
+        names: &mut KeptText<'a>,
+        ctx: Ctx,
+        command: &LoadCommand,
+    ) -> Result<()>
+        requires { kept_bytes names.old ≡ bytes.now }
         ensures found { (cs : List Command) → AreTaken ctx bytes.now (lossy_segment_by ctx bytes.now) cs self.old
             → OnOk result (AreTaken ctx bytes.now (lossy_segment_by ctx bytes.now) (cs ++ command_of command.now ∷ []) self.new) }
         ensures only { IsOkUnlessMemory result }
+        ensures bytes { kept_bytes names.new ≡ bytes.now }
     {
         add_readable(
             &mut self.segments,
             &LossySegmentData { bytes, ctx },
             command,
         )?;
-        add_readable(&mut self.libs, &Libraries { bytes }, command)?;
-        add_readable(&mut self.rpaths, &RunPaths { bytes }, command)?;
-        self.once.take_readable(bytes, ctx, command);
+        add_readable_text(&mut self.libs, &Libraries { bytes }, names, command)?;
+        add_readable_text(&mut self.rpaths, &RunPaths { bytes }, names, command)?;
+        self.once.take_readable(bytes, names, ctx, command);
         Ok(())
     }
 

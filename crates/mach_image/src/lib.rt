@@ -13,6 +13,7 @@ pub mod fixups;
 pub mod laws;
 pub mod libraries;
 pub mod macho;
+mod named_bytes;
 pub mod once;
 pub mod opened;
 pub mod readings;

@@ -13,7 +13,8 @@ ghost use Rattle.mach_image.specs.Readings.{said, first_of};
 ghost use Rattle.mach_image.specs.Subjects.{libs_in, own_name_in};
 
 use crate::macho::MachO;
-use mach_base::{ByteCount, Endian, read_text, read_u32};
+use crate::named_bytes::NamedBytes;
+use mach_base::{ByteCount, Endian, KeptText, read_u32};
 use mach_load::{CommandVariant, LoadCommand};
 use mach_records::Dylib;
 use std::alloc::Allocator;
@@ -148,7 +149,7 @@ fn has_use_flags(command: &LoadCommand) -> bool
 /// memory.
 #[derive(Clone, Drop)]
 pub struct LibraryIterator<'a, 'b> {
-    bytes: &'a [u8],
+    source: NamedBytes<'a>,
     le: Endian,
     commands: Iter<'b, LoadCommand>,
     ordinal: usize,
@@ -160,7 +161,10 @@ impl<'a, 'b> LibraryIterator<'a, 'b> {
         ensures { libraries_left result ≡ libraries_in le bytes.now (map command_of commands.now) }
     {
         LibraryIterator {
-            bytes,
+            source: NamedBytes {
+                bytes,
+                names: KeptText::new(bytes),
+            },
             le,
             commands: commands.iter(),
             ordinal: 1,
@@ -169,15 +173,20 @@ impl<'a, 'b> LibraryIterator<'a, 'b> {
 
     // The library that a command brings in, with the ordinal that comes now, if its name can be read.
     #[inline(always)]
-    fn library(&self, command: &LoadCommand) -> Option<Library<'a>>
-        ensures { option_map library_view result ≡ option_map (of_ordinal self.now.ordinal)
-            (first_of (said (named_by self.now.le self.now.bytes.now (command_of command.now)))) }
+    fn library(&mut self, command: &LoadCommand) -> Option<Library<'a>>
+        ensures library { option_map library_view result ≡ option_map (of_ordinal self.old.ordinal)
+            (first_of (said (named_by self.old.le self.old.source.bytes.now (command_of command.now)))) }
+        ensures bytes { self.new.source.bytes ≡ self.old.source.bytes }
+        ensures le { self.new.le ≡ self.old.le }
+        ensures commands { self.new.commands ≡ self.old.commands }
+        ensures ordinal { self.new.ordinal ≡ self.old.ordinal }
     {
         let (kind, dylib) = brought(command)?;
         let place = command.offset.saturating_add(dylib.name as usize);
-        let Ok(name) = read_text(self.bytes, place) else {
+        let Ok(name) = self.source.read(place) else {
             return None;
         };
+        let bytes = self.source.bytes;
         Some(Library {
             ordinal: self.ordinal,
             name,
@@ -185,7 +194,7 @@ impl<'a, 'b> LibraryIterator<'a, 'b> {
             timestamp: dylib.timestamp,
             current_version: dylib.current_version,
             compatibility_version: dylib.compatibility_version,
-            attributes: LibraryAttributes::of(self.bytes, self.le, command, kind),
+            attributes: LibraryAttributes::of(bytes, self.le, command, kind),
         })
     }
 }
@@ -196,7 +205,10 @@ impl<'a, 'b> Default for LibraryIterator<'a, 'b> {
     /// No libraries.
     fn default() -> Self {
         LibraryIterator {
-            bytes: &[],
+            source: NamedBytes {
+                bytes: &[],
+                names: KeptText::new(&[]),
+            },
             le: Endian::Little,
             commands: [].iter(),
             ordinal: 1,
@@ -232,7 +244,7 @@ impl Debug for LibraryIterator<'_, '_> {
     /// How far it has come: how many commands are left, and the next ordinal; of the bytes only how many they are.
     fn fmt<W: Write>(&self, f: &mut Formatter<W>) -> fmt::Result {
         f.debug_struct("LibraryIterator")
-            .field("bytes", &ByteCount(self.bytes))
+            .field("bytes", &ByteCount(self.source.bytes))
             .field("commands", &self.commands.len())
             .field("ordinal", &self.ordinal)
             .finish()

@@ -1,11 +1,14 @@
 //! What is read off the commands of an image, subject by subject.
 
-ghost use Rattle.std.specs.Prelude.{◌≡◌, ◌++◌, map, option_map, IfOk, IfErr, OnOk};
+ghost use Rattle.std.specs.Prelude.{◌≡◌, ◌++◌, ℕ, List, map, option_map, IfOk, IfErr, OnOk};
 ghost use Rattle.mach_base.specs.Answer.{Stands, IsOkUnlessMemory};
+ghost use Rattle.mach_base.specs.KeptText.{kept_bytes};
+ghost use Rattle.mach_base.specs.Text.{text_at, texts};
 ghost use Rattle.mach_load.specs.Variants.{command_of};
+ghost use Rattle.mach_tries.specs.Exports.{text_in};
 ghost use Rattle.mach_image.specs.Readings.{Reading, read_of, said, last_or, first_of, IsRead, IsRefused, AllRead, IsUnread, seen_of};
 
-use mach_base::Result;
+use mach_base::{KeptText, Result};
 use mach_load::LoadCommand;
 use std::alloc::Allocator;
 
@@ -80,6 +83,97 @@ pub fn put_readable<S: Subject>(last: &mut Option<S::Value>, subject: &S, comman
 {
     if let Some(Ok(value)) = subject.read(command) {
         *last = Some(value);
+    }
+}
+
+/// A subject of commands that give texts of some bytes.
+pub(crate) trait TextSubject {
+    // The bytes.
+    ghost bytes: { Self → List ℕ };
+
+    // What is read off each command.
+    ghost reading: { Self → Reading (List ℕ) };
+
+    /// Where the text that a command gives stands, if the command speaks of the subject.
+    fn place(&self, command: &LoadCommand) -> Option<usize>
+        ensures { reading self.now (command_of command.now) ≡ option_map (text_at (bytes self.now)) result };
+}
+
+/// Adds to a list the text that a command gives.
+#[inline(always)]
+pub(crate) fn add_text<'a, S: TextSubject, A: Allocator>(
+    values: &mut Vec<&'a str, A>,
+    subject: &S,
+    names: &mut KeptText<'a>,
+    command: &LoadCommand,
+) -> Result<()>
+    requires { kept_bytes names.old ≡ S.bytes subject.now }
+    ensures kept { OnOk result (texts values.new.items ≡ texts values.old.items ++ said (S.reading subject.now (command_of command.now))) }
+    ensures read { OnOk result (IsRead (S.reading subject.now (command_of command.now))) }
+    ensures refused { IfErr result (Stands (IsRefused (S.reading subject.now (command_of command.now)))) }
+    ensures bytes { kept_bytes names.new ≡ S.bytes subject.now }
+{
+    if let Some(place) = subject.place(command) {
+        values.push(names.read(place)?)?;
+    }
+    Ok(())
+}
+
+/// Adds it, if it can be read.
+pub(crate) fn add_readable_text<'a, S: TextSubject, A: Allocator>(
+    values: &mut Vec<&'a str, A>,
+    subject: &S,
+    names: &mut KeptText<'a>,
+    command: &LoadCommand,
+) -> Result<()>
+    requires { kept_bytes names.old ≡ S.bytes subject.now }
+    ensures kept { OnOk result (texts values.new.items ≡ texts values.old.items ++ said (S.reading subject.now (command_of command.now))) }
+    ensures only { IsOkUnlessMemory result }
+    ensures bytes { kept_bytes names.new ≡ S.bytes subject.now }
+{
+    if let Some(place) = subject.place(command)
+        && let Ok(text) = names.read(place)
+    {
+        values.push(text)?;
+    }
+    Ok(())
+}
+
+/// Puts the text that a command gives in the place of what an earlier one gave.
+pub(crate) fn put_text<'a, S: TextSubject>(
+    last: &mut Option<&'a str>,
+    subject: &S,
+    names: &mut KeptText<'a>,
+    command: &LoadCommand,
+) -> Result<()>
+    requires { kept_bytes names.old ≡ S.bytes subject.now }
+    ensures kept { OnOk result (text_in last.new ≡ last_or (text_in last.old) (said (S.reading subject.now (command_of command.now)))) }
+    ensures read { OnOk result (IsRead (S.reading subject.now (command_of command.now))) }
+    ensures refused { IfErr result (Stands (IsRefused (S.reading subject.now (command_of command.now)))) }
+    ensures bytes { kept_bytes names.new ≡ S.bytes subject.now }
+{
+    if let Some(place) = subject.place(command) {
+        let name = names.read(place)?;
+        *last = Some(name);
+    }
+    Ok(())
+}
+
+/// Puts it, if it can be read.
+pub(crate) fn put_readable_text<'a, S: TextSubject>(
+    last: &mut Option<&'a str>,
+    subject: &S,
+    names: &mut KeptText<'a>,
+    command: &LoadCommand,
+)
+    requires { kept_bytes names.old ≡ S.bytes subject.now }
+    ensures kept { text_in last.new ≡ last_or (text_in last.old) (said (S.reading subject.now (command_of command.now))) }
+    ensures bytes { kept_bytes names.new ≡ S.bytes subject.now }
+{
+    if let Some(place) = subject.place(command)
+        && let Ok(text) = names.read(place)
+    {
+        *last = Some(text);
     }
 }
 

@@ -8,8 +8,8 @@ ghost use Rattle.mach_load.specs.Subjects.{is_library};
 ghost use Rattle.mach_image.specs.Subjects.{is_run_path, name_place, library_by, id_by, run_path_by, table_by};
 ghost use Rattle.mach_load.specs.Commands.{is_id};
 
-use crate::readings::Subject;
-use mach_base::{Ctx, Result, read_text};
+use crate::readings::{Subject, TextSubject};
+use mach_base::{Ctx, Result};
 use mach_binds::imports::BindInterpreter;
 use mach_load::{CommandVariant, LoadCommand};
 use mach_segments::segment::Segment;
@@ -63,19 +63,14 @@ pub struct Libraries<'a> {
     pub bytes: &'a [u8],
 }
 
-impl<'a> Subject for Libraries<'a> {
-    type Value = &'a str;
-
-    ghost Seen = { List ℕ };
-
-    ghost seen = { λ name. name.now };
+impl<'a> TextSubject for Libraries<'a> {
+    ghost bytes = { λ s. s.bytes.now };
 
     ghost reading = { λ s. library_by s.bytes.now };
 
     #[inline(always)]
-    fn read(&self, command: &LoadCommand) -> Option<Result<&'a str>> {
-        let place = library_place(command)?;
-        Some(read_text(self.bytes, place))
+    fn place(&self, command: &LoadCommand) -> Option<usize> {
+        library_place(command)
     }
 }
 
@@ -85,18 +80,13 @@ pub struct Ids<'a> {
     pub bytes: &'a [u8],
 }
 
-impl<'a> Subject for Ids<'a> {
-    type Value = &'a str;
-
-    ghost Seen = { List ℕ };
-
-    ghost seen = { λ name. name.now };
+impl<'a> TextSubject for Ids<'a> {
+    ghost bytes = { λ s. s.bytes.now };
 
     ghost reading = { λ s. id_by s.bytes.now };
 
-    fn read(&self, command: &LoadCommand) -> Option<Result<&'a str>> {
-        let place = id_place(command)?;
-        Some(read_text(self.bytes, place))
+    fn place(&self, command: &LoadCommand) -> Option<usize> {
+        id_place(command)
     }
 }
 
@@ -106,19 +96,14 @@ pub struct RunPaths<'a> {
     pub bytes: &'a [u8],
 }
 
-impl<'a> Subject for RunPaths<'a> {
-    type Value = &'a str;
-
-    ghost Seen = { List ℕ };
-
-    ghost seen = { λ path. path.now };
+impl<'a> TextSubject for RunPaths<'a> {
+    ghost bytes = { λ s. s.bytes.now };
 
     ghost reading = { λ s. run_path_by s.bytes.now };
 
     #[inline(always)]
-    fn read(&self, command: &LoadCommand) -> Option<Result<&'a str>> {
-        let place = run_path_place(command)?;
-        Some(read_text(self.bytes, place))
+    fn place(&self, command: &LoadCommand) -> Option<usize> {
+        run_path_place(command)
     }
 }
 

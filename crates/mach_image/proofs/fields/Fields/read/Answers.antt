@@ -14,6 +14,7 @@ pub loop-command-init : goal.loop-command-init
 loop-command-init g c = record {
   found = c.in_ok-fields.ensures.found c.args.ctx c.args.bytes.now (segment_by c.args.ctx c.args.bytes.now);
   all = none_unreadable c.args.ctx c.args.bytes.now;
+  names = c.new-names.ensures;
 }
 
 pub loop-command-preserved : goal.loop-command-preserved
@@ -27,6 +28,7 @@ loop-command-preserved g c =
           subst (λ (ds : List Command). AreTaken c.args.ctx bytes reading ds c.take.new.self) next
           (c.in_ok-take.ensures.found cs c.loop-command.invariant.found);
       all = subst (AllReadable c.args.ctx bytes) next (readable_more c.args.ctx bytes cs _ c.loop-command.invariant.all c.in_ok-take.ensures.all);
+      names = c.take.ensures.bytes;
     }
 
 pub returns-in_err-take-clause-refused : goal.returns-in_err-take-clause-refused

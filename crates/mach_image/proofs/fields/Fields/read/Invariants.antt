@@ -1,4 +1,5 @@
-use Rattle.std.proofs.Common.{map, take}
+use Rattle.std.proofs.Common.{◌≡◌, map, take}
+use Rattle.mach_base.specs.KeptText.{kept_bytes}
 use Rattle.mach_load.specs.Variants.{command_of}
 use Rattle.mach_image.specs.Image.{AllReadable}
 use Rattle.mach_image.specs.OpenImage.{AreTaken}
@@ -8,4 +9,8 @@ use Rattle.mach_image.proofs.fields.Fields.read.Given as goal
 abbrev pub invariant-loop-command : goal.invariant-loop-command
 invariant-loop-command g l =
     let cs = take l.command-index (map command_of l.commands) in
-    record { found : AreTaken l.ctx l.bytes (segment_by l.ctx l.bytes) cs l.fields; all : AllReadable l.ctx l.bytes cs }
+    record {
+      found : AreTaken l.ctx l.bytes (segment_by l.ctx l.bytes) cs l.fields;
+      all : AllReadable l.ctx l.bytes cs;
+      names : kept_bytes l.names ≡ l.bytes;
+    }

@@ -1,4 +1,5 @@
-use Rattle.std.proofs.Common.{map, take}
+use Rattle.std.proofs.Common.{◌≡◌, map, take}
+use Rattle.mach_base.specs.KeptText.{kept_bytes}
 use Rattle.mach_load.specs.Variants.{command_of}
 use Rattle.mach_image.specs.OpenImage.{AreTaken}
 use Rattle.mach_image.specs.Subjects.{lossy_segment_by}
@@ -7,4 +8,4 @@ use Rattle.mach_image.proofs.fields.Fields.read_lossy.Given as goal
 abbrev pub invariant-loop-command : goal.invariant-loop-command
 invariant-loop-command g l =
     let cs = take l.command-index (map command_of l.commands) in
-    AreTaken l.ctx l.bytes (lossy_segment_by l.ctx l.bytes) cs l.fields
+    record { found : AreTaken l.ctx l.bytes (lossy_segment_by l.ctx l.bytes) cs l.fields; names : kept_bytes l.names ≡ l.bytes }

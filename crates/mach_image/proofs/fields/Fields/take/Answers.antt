@@ -12,15 +12,15 @@ returns-in_err-add-clause-refused g c =
     exit_in _ (IsUnreadable c.args.ctx c.args.bytes.now (command_of c.args.command.now ∷ [])) _ _ c.from_residual.ensures.1
     (λ f e. segment f (refused_one (segment_by c.args.ctx c.args.bytes.now) (command_of c.args.command.now) f e)) c.in_err-add.ensures.refused
 
-pub returns-in_err-add-2-clause-refused : goal.returns-in_err-add-2-clause-refused
-returns-in_err-add-2-clause-refused g c =
-    exit_in _ (IsUnreadable c.args.ctx c.args.bytes.now (command_of c.args.command.now ∷ [])) _ _ c.from_residual-in_err-add-2.ensures.1
-    (λ f e. library f (refused_one (library_by c.args.bytes.now) (command_of c.args.command.now) f e)) c.in_err-add-2.ensures.refused
+pub returns-in_err-add_text-clause-refused : goal.returns-in_err-add_text-clause-refused
+returns-in_err-add_text-clause-refused g c =
+    exit_in _ (IsUnreadable c.args.ctx c.args.bytes.now (command_of c.args.command.now ∷ [])) _ _ c.from_residual-in_err-add_text.ensures.1
+    (λ f e. library f (refused_one (library_by c.args.bytes.now) (command_of c.args.command.now) f e)) c.in_err-add_text.ensures.refused
 
-pub returns-in_err-add-3-clause-refused : goal.returns-in_err-add-3-clause-refused
-returns-in_err-add-3-clause-refused g c =
-    exit_in _ (IsUnreadable c.args.ctx c.args.bytes.now (command_of c.args.command.now ∷ [])) _ _ c.from_residual-in_err-add-3.ensures.1
-    (λ f e. run_path f (refused_one (run_path_by c.args.bytes.now) (command_of c.args.command.now) f e)) c.in_err-add-3.ensures.refused
+pub returns-in_err-add_text-2-clause-refused : goal.returns-in_err-add_text-2-clause-refused
+returns-in_err-add_text-2-clause-refused g c =
+    exit_in _ (IsUnreadable c.args.ctx c.args.bytes.now (command_of c.args.command.now ∷ [])) _ _ c.from_residual-in_err-add_text-2.ensures.1
+    (λ f e. run_path f (refused_one (run_path_by c.args.bytes.now) (command_of c.args.command.now) f e)) c.in_err-add_text-2.ensures.refused
 
 pub returns-clause-refused : goal.returns-clause-refused
 returns-clause-refused g c =
@@ -34,9 +34,9 @@ pub returns-clause-all : goal.returns-clause-all
 returns-clause-all g c =
     ok_with c.take.result (λ tables ids. record {
       segments = (c.in_ok-add.ensures.read, tt);
-      libraries = (c.in_ok-add-2.ensures.read, tt);
+      libraries = (c.in_ok-add_text.ensures.read, tt);
       ids = (ids, tt);
-      run_paths = (c.in_ok-add-3.ensures.read, tt);
+      run_paths = (c.in_ok-add_text-2.ensures.read, tt);
       tables = (tables, tt);
     }) c.take.ensures.tables c.take.ensures.ids
 
@@ -46,8 +46,8 @@ returns-clause-found g c = λ cs was.
     let command = command_of c.args.command.now in
     ok_then c.take.result (λ once. record {
       segments = kept_more (segment_by c.args.ctx bytes) cs command _ _ was.segments c.in_ok-add.ensures.kept;
-      libs_are = kept_more (library_by bytes) cs command _ _ was.libs_are c.in_ok-add-2.ensures.kept;
-      rpaths = kept_more (run_path_by bytes) cs command _ _ was.rpaths c.in_ok-add-3.ensures.kept;
+      libs_are = kept_more (library_by bytes) cs command _ _ was.libs_are c.in_ok-add_text.ensures.kept;
+      rpaths = kept_more (run_path_by bytes) cs command _ _ was.rpaths c.in_ok-add_text-2.ensures.kept;
       symbols = last_kept (table_by c.args.ctx bytes) cs command _ _ was.symbols once.symbols;
       name = last_kept (id_by bytes) cs command _ _ was.name once.name;
       trie = last_kept (trie_by bytes) cs command _ _ was.trie once.trie;
