@@ -1,6 +1,6 @@
 -- The bindings of bind opcodes, as dyld makes them: the binds of `Binds`, each with its provider.
-use Rattle.std.specs.Prelude.{◌==◌, ◌-ℤ◌, ℕ, ℤ, pos, List, [], ◌∷◌, map, Bool, true, false, not, Option, Some, None, Result, Ok, Err}
-use Rattle.std.specs.Prelude.{◌+◌, ◌-◌, if◌then◌else◌, bit_and, nat_lt, nat_le, slice_get}
+use Rattle.std.specs.Prelude.{◌≡◌, ◌==◌, ◌-ℤ◌, ℕ, ℤ, pos, List, [], ◌∷◌, map, Bool, true, false, not, Option, Some, None, Result, Ok, Err}
+use Rattle.std.specs.Prelude.{◌+◌, ◌-◌, length, if◌then◌else◌, bit_and, nat_lt, nat_le, slice_get}
 use Rattle.mach_base.specs.Answer.{◌>>=◌}
 use Rattle.mach_base.specs.Fault.{Fault, malformed}
 use Rattle.mach_base.specs.Sums.{found_or_malformed, sum_of}
@@ -159,3 +159,9 @@ bindings_in x r ps = all_from (bindings_at x r) [] ps
 -- these are the bindings of both streams
 abbrev pub AreBindings : Input → Range → Range → List Placed → List Placed → List (Result Binding Fault) → Type 0
 AreBindings x non_lazy lazy ps qs items = AreItems (λ r. opcode_at r x.pointer x.bytes) (bindings_in x) non_lazy lazy ps qs items
+
+-- the longest beginnings of both streams have n opcodes
+abbrev pub BindingsHave : Input → Range → Range → ℕ → Type 0
+BindingsHave x non_lazy lazy n =
+    (ps : List Placed) × (qs : List Placed) × (items : List (Result Binding Fault))
+    × AreBindings x non_lazy lazy ps qs items × (n ≡ length ps + length qs)

@@ -8,11 +8,15 @@ use Rattle.std.proofs.lemmas.Bool.{cases_lt}
 use Rattle.mach_base.specs.Fault.{Fault, bad_offset}
 use Rattle.mach_binds.specs.Instructions.{Instruction, byte_of}
 unfoldable use Rattle.mach_binds.specs.Instructions.{byte_at}
+use Rattle.mach_binds.specs.Bindings.{BindingsHave, opcode_at}
+use Rattle.mach_binds.specs.Instructions.{instruction_at}
 use Rattle.mach_binds.specs.Machine.{Moves}
-use Rattle.mach_binds.specs.RowsMove.{import_reads}
+use Rattle.mach_binds.specs.RowsMove.{import_reads, binding_reads}
 use Rattle.mach_binds.specs.Streams.{Reader, Range, Placed, Follow, AllStandBy, IsBeginning, IsBeginningBy, Input, StreamsHave, BeginningsHave}
-use Rattle.mach_streams.specs.OpcodesFit.{bytes_in, WeakOpcodesFit, RebaseOpcodesFit, BindOpcodesFit}
+use Rattle.mach_streams.specs.OpcodesFit.{bytes_in, WeakOpcodesFit, RebaseOpcodesFit, BindOpcodesFit, opcode_bytes, OpcodeBytesFit}
+use Rattle.mach_streams.specs.Rebases.{rebase_opcode_at}
 use Rattle.mach_streams.specs.StreamsMove.{weak_reads, rebase_reads}
+use Rattle.mach_streams.specs.WeakBinds.{weak_opcode_at}
 
 no_byte : (bytes : List ℕ) (place : ℕ) → slice_get bytes place ≡ None → byte_at bytes place ≡ Err (bad_offset place)
 unfolding byte_at
@@ -52,6 +56,20 @@ module _ (reader : Reader) (bytes : List ℕ) (moves : Moves reader)
   pub fit : (r : Range) (ps : List Placed) → IsBeginningBy reader r ps → length ps ≤ bytes_in bytes r
   fit r ps is = let both = few r.upto r.from ps is.follow is.stand in least r.upto (length bytes) r.from (length ps) both.0 both.1
 
+  -- and have no more bytes than are there from the place on
+  short : (upto place : ℕ) (ps : List Placed) → Follow place ps → AllStandBy reader upto ps → opcode_bytes bytes ps ≤ length bytes - place
+  short upto place [] follow stand = omega arith
+  short upto place (p ∷ ps) follow stand =
+      let first = stand.0 in
+      let there = begins p.place _ first.read in
+      let behind = moves p.place _ first.read in
+      let rest = short upto p.after ps follow.1 stand.1 in
+      let at = follow.0 in
+      omega (arith, there, behind, rest, at)
+
+  pub bytes_fit : (r : Range) (ps : List Placed) → IsBeginningBy reader r ps → opcode_bytes bytes ps ≤ length bytes - r.from
+  bytes_fit r ps is = short r.upto r.from ps is.follow is.stand
+
 pub weak_opcodes_lem : WeakOpcodesFit
 weak_opcodes_lem x r ps items are =
     fit _ x.bytes (weak_reads.moves r x.pointer x.bytes) (weak_reads.bytes r x.pointer x.bytes) r ps are.longest.beginning
@@ -77,3 +95,27 @@ cut_opcodes_lem x non_lazy lazy n have =
     let later = of_binds x lazy have.1 have.5.beginning in
     let is = have.6 in
     omega (arith, first, later, is)
+
+pub binding_opcodes_lem : BindOpcodesFit BindingsHave
+binding_opcodes_lem x non_lazy lazy n have =
+    let first = of_bindings non_lazy have.0 have.3.longest.beginning in
+    let later = of_bindings lazy have.1 have.3.lazy_longest.beginning in
+    let is = have.4 in
+    omega (arith, first, later, is)
+  where
+    of_bindings : (r : Range) (ps : List Placed) → IsBeginningBy (opcode_at r x.pointer x.bytes) r ps → length ps ≤ bytes_in x.bytes r
+    of_bindings r ps is = fit _ x.bytes (binding_reads.moves r x.pointer x.bytes) (binding_reads.bytes r x.pointer x.bytes) r ps is
+
+-- ---- their bytes
+
+pub import_bytes_lem : OpcodeBytesFit (λ r. instruction_at)
+import_bytes_lem r pointer bytes ps is = bytes_fit _ bytes (import_reads.moves r pointer bytes) (import_reads.bytes r pointer bytes) r ps is
+
+pub binding_bytes_lem : OpcodeBytesFit opcode_at
+binding_bytes_lem r pointer bytes ps is = bytes_fit _ bytes (binding_reads.moves r pointer bytes) (binding_reads.bytes r pointer bytes) r ps is
+
+pub weak_bytes_lem : OpcodeBytesFit weak_opcode_at
+weak_bytes_lem r pointer bytes ps is = bytes_fit _ bytes (weak_reads.moves r pointer bytes) (weak_reads.bytes r pointer bytes) r ps is
+
+pub rebase_bytes_lem : OpcodeBytesFit rebase_opcode_at
+rebase_bytes_lem r pointer bytes ps is = bytes_fit _ bytes (rebase_reads.moves r pointer bytes) (rebase_reads.bytes r pointer bytes) r ps is

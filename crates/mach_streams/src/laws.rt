@@ -2,7 +2,11 @@
 
 ghost use Rattle.mach_streams.specs.StreamLaws.{StreamHasOneListOfWeakBinds, StreamHasOneListOfRebases, FindsLastWeakSet, FindsLastRebaseSet};
 ghost use Rattle.mach_binds.specs.Streams.{StreamsHave, BeginningsHave};
-ghost use Rattle.mach_streams.specs.OpcodesFit.{WeakOpcodesFit, RebaseOpcodesFit, BindOpcodesFit};
+ghost use Rattle.mach_binds.specs.Bindings.{BindingsHave, opcode_at};
+ghost use Rattle.mach_binds.specs.Instructions.{instruction_at};
+ghost use Rattle.mach_streams.specs.OpcodesFit.{WeakOpcodesFit, RebaseOpcodesFit, BindOpcodesFit, OpcodeBytesFit};
+ghost use Rattle.mach_streams.specs.Rebases.{rebase_opcode_at};
+ghost use Rattle.mach_streams.specs.WeakBinds.{weak_opcode_at};
 ghost use Rattle.mach_streams.specs.StreamLaws.{AddsWeakBinds, AddsRebases, WeakBindsLieIn, RebasesLieIn};
 
 /// A stream of weak binds has one list of rows up to the first fault.
@@ -61,4 +65,18 @@ pub fn rebase_opcodes_fit()
 pub fn bind_opcodes_fit()
     ensures whole { BindOpcodesFit StreamsHave }
     ensures cut { BindOpcodesFit BeginningsHave }
+{}
+
+/// So have both as bindings read them.
+pub fn binding_opcodes_fit()
+    ensures { BindOpcodesFit BindingsHave }
+{}
+
+/// The first opcodes of a range, with their numbers and names, have at most as many bytes as are there from its start on: as imports
+/// read them, bindings, weak binds and rebases.
+pub fn opcode_bytes_fit()
+    ensures imports { OpcodeBytesFit (λ r. instruction_at) }
+    ensures bindings { OpcodeBytesFit opcode_at }
+    ensures weak_binds { OpcodeBytesFit weak_opcode_at }
+    ensures rebases { OpcodeBytesFit rebase_opcode_at }
 {}
