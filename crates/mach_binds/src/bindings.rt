@@ -1,20 +1,22 @@
 //! The bindings of bind opcodes, as dyld makes them, one at a time.
 
-ghost use Rattle.std.specs.Prelude.{◌≡◌, ◌+◌, ◌<◌, List, [], ◌∷◌, Ok, Err, IsErr, MatchOption, IfOk, length, map, nat_le, bit_and};
+ghost use Rattle.std.specs.Prelude.{◌≡◌, ◌+◌, ◌<◌, ◌≤◌, List, [], ◌∷◌, Ok, Err, IsErr, MatchOption, IfOk, length, map, nat_le, bit_and};
+ghost use Rattle.std.specs.Prelude.{IfSome, IfNone, OnOk, OnErr};
 ghost use Rattle.std.specs.Iterator.{YieldsFirstBy};
 ghost use Rattle.mach_base.specs.Context.{pointer_size};
 ghost use Rattle.mach_base.specs.Fault.{malformed, fault_of};
 ghost use Rattle.mach_segments.specs.Segment.{segment_view};
 ghost use Rattle.mach_binds.specs.Machine.{StopsFor, Fails, Keeps, IsMadeBy, items_left, range_of};
 ghost use Rattle.mach_binds.specs.Instructions.{byte_at};
-ghost use Rattle.mach_binds.specs.Streams.{Placed};
+ghost use Rattle.mach_binds.specs.Streams.{Input, Placed, Range};
 ghost use Rattle.mach_binds.specs.Imports.{input_in};
 ghost use Rattle.mach_base.specs.Text.{texts};
-ghost use Rattle.mach_binds.specs.BindCursors.{IsOverBindings};
+ghost use Rattle.mach_binds.specs.BindCursors.{IsOverBindings, HasEndedOpcodeBindings};
+ghost use Rattle.mach_binds.specs.BindingFaults.{binding_reads_left};
 ghost use Rattle.mach_binds.specs.SiteCursors.{AreBindingSites, binding_sites_left};
 ghost use Rattle.mach_segments.specs.Bindings.{provider_of, provider_view, binding_view, binding_read};
 ghost use Rattle.mach_binds.specs.Bindings as defined;
-ghost use Rattle.mach_binds.specs.Bindings.{spot_of, is_complete, gives_ordinal, highest_opcode, opcode_at, done_leads_to, AreBindings};
+ghost use Rattle.mach_binds.specs.Bindings.{spot_of, is_complete, gives_ordinal, highest_opcode, opcode_at, done_leads_to, AreBindings, BindingsHave};
 ghost use Rattle.mach_binds.specs.BindingsLeft.{ordinal_now, given_now, special_after, first_extra, extra_after, binding_rules, opcode_bindings_left};
 
 mod faults;
@@ -54,6 +56,8 @@ impl<'a> BindInterpreter<'a> {
         ensures over { IsOverBindings (input_in self.now (pointer_size ctx.container) (texts libs.now) (map segment_view segments.now)) self.now.lazy result }
         ensures sites { AreBindingSites (input_in self.now (pointer_size ctx.container) (texts libs.now) (map segment_view segments.now))
             self.now.non_lazy self.now.lazy (binding_sites_left result) }
+        ensures reads { BindingsHave (input_in self.now (pointer_size ctx.container) (texts libs.now) (map segment_view segments.now))
+            self.now.non_lazy self.now.lazy (binding_reads_left result) }
     {
         OpcodeBindingIterator {
             stream: self.stream(libs, segments, ctx),
@@ -278,6 +282,24 @@ impl<'a> Makes<'a> for Extra {
     }
 }
 
+impl<'a> OpcodeBindingIterator<'a, '_> {
+    /// The next binding, with the opcodes that are read added to a count: where a fault comes at most one more than are left. The
+    /// count never falls.
+    #[inline(always)]
+    pub fn next_counted(&mut self, steps: &mut Steps) -> Option<Result<Binding<'a>>>
+        ensures items { YieldsFirstBy binding_read opcode_bindings_left self.old result self.new }
+        ensures end { IfNone result (HasEndedOpcodeBindings self.new) }
+        ensures fault { IfSome result (λ item. OnErr item (HasEndedOpcodeBindings self.new)) }
+        ensures none { IfNone result (steps.new ≡ steps.old + binding_reads_left self.old) }
+        ensures reads { IfSome result (λ item. OnOk item (steps.new + binding_reads_left self.new ≡ steps.old + binding_reads_left self.old)) }
+        ensures bounded { IfSome result (λ item. OnErr item (steps.new ≤ steps.old + binding_reads_left self.old + 1)) }
+        ensures kept { steps.old ≤ steps.new }
+        ensures over { (x : Input) (lazy : Range) → IsOverBindings x lazy self.old → IsOverBindings x lazy self.new }
+    {
+        self.stream.next_counted(steps)
+    }
+}
+
 impl<'a> Iterator for OpcodeBindingIterator<'a, '_> {
     type Item = Result<Binding<'a>>;
 
@@ -289,7 +311,7 @@ impl<'a> Iterator for OpcodeBindingIterator<'a, '_> {
 
     #[inline(always)]
     fn next(&mut self) -> Option<Result<Binding<'a>>> {
-        self.stream.next_item()
+        self.next_counted(&mut Steps::new())
     }
 }
 

@@ -176,6 +176,8 @@ impl<'a> BindInterpreter<'a> {
         ensures over { IsOverImports (input_in self.now (pointer_size ctx.container) (texts libs.now) (map segment_view segments.now)) self.now.lazy result }
         ensures sites { AreImportSites (input_in self.now (pointer_size ctx.container) (texts libs.now) (map segment_view segments.now))
             self.now.non_lazy self.now.lazy (import_sites_left result) }
+        ensures reads { BeginningsHave (input_in self.now (pointer_size ctx.container) (texts libs.now) (map segment_view segments.now))
+            self.now.non_lazy self.now.lazy (reads_left result) }
     {
         self.start(libs, segments, ctx)
     }

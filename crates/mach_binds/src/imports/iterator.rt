@@ -1,8 +1,10 @@
 //! The imports of both streams, one at a time.
 
-ghost use Rattle.std.specs.Prelude.{◌≡◌, []};
+ghost use Rattle.std.specs.Prelude.{◌≡◌, ◌+◌, ◌≤◌, [], IfSome, IfNone, OnOk, OnErr};
 ghost use Rattle.std.specs.Iterator.{YieldsFirstBy};
-ghost use Rattle.mach_binds.specs.BindLeft.{imports_left, import_read, import_rules};
+ghost use Rattle.mach_binds.specs.BindCursors.{IsOverImports, HasEndedImports};
+ghost use Rattle.mach_binds.specs.BindLeft.{imports_left, import_read, import_rules, reads_left};
+ghost use Rattle.mach_binds.specs.Streams.{Input, Range};
 
 use crate::bind_opcodes::{BIND_IMMEDIATE_MASK, BIND_OPCODE_MASK};
 use crate::imports::Import;
@@ -11,7 +13,7 @@ use crate::imports::settings::Settings;
 use crate::imports::source::Source;
 use crate::imports::state::State;
 use crate::imports::stream::{Makes, Stream};
-use mach_base::{Error, Result};
+use mach_base::{Error, Result, Steps};
 
 /// That imports have no settings beside those of a bind.
 #[derive(Clone, Copy)]
@@ -85,6 +87,24 @@ pub struct BindIterator<'a, 'b> {
     pub(crate) stream: Stream<'a, 'b, Plain>,
 }
 
+impl<'a> BindIterator<'a, '_> {
+    /// The next import, with the opcodes that are read added to a count: where a fault comes at most one more than are left. The
+    /// count never falls.
+    #[inline(always)]
+    pub fn next_counted(&mut self, steps: &mut Steps) -> Option<Result<Import<'a>>>
+        ensures items { YieldsFirstBy import_read imports_left self.old result self.new }
+        ensures end { IfNone result (HasEndedImports self.new) }
+        ensures fault { IfSome result (λ item. OnErr item (HasEndedImports self.new)) }
+        ensures none { IfNone result (steps.new ≡ steps.old + reads_left self.old) }
+        ensures reads { IfSome result (λ item. OnOk item (steps.new + reads_left self.new ≡ steps.old + reads_left self.old)) }
+        ensures bounded { IfSome result (λ item. OnErr item (steps.new ≤ steps.old + reads_left self.old + 1)) }
+        ensures kept { steps.old ≤ steps.new }
+        ensures over { (x : Input) (lazy : Range) → IsOverImports x lazy self.old → IsOverImports x lazy self.new }
+    {
+        self.stream.next_counted(steps)
+    }
+}
+
 impl<'a, 'b> Iterator for BindIterator<'a, 'b> {
     type Item = Result<Import<'a>>;
 
@@ -96,7 +116,7 @@ impl<'a, 'b> Iterator for BindIterator<'a, 'b> {
 
     #[inline(always)]
     fn next(&mut self) -> Option<Result<Import<'a>>> {
-        self.stream.next_item()
+        self.next_counted(&mut Steps::new())
     }
 }
 
