@@ -1,5 +1,5 @@
 -- The turns that an iterator over rebases keeps make what the rules make.
-use Rattle.std.proofs.Common.{◌≡◌, ℕ, zero, suc, ◌+◌, ◌-◌, ◌*◌, ◌%◌, ◌^◌, ◌<◌, ◌≤◌, ◌∙◌, ◌∷◌, ◌⊎◌, List, [], map, true, false, refl, sym, ap, arith}
+use Rattle.std.proofs.Common.{◌≡◌, ℕ, zero, suc, ◌+◌, ◌*◌, ◌%◌, ◌^◌, ◌<◌, ◌≤◌, ◌∙◌, ◌∷◌, ◌⊎◌, List, [], map, true, false, refl, sym, ap, arith}
 use Rattle.std.proofs.Common.{Option, Some, None, Result, Ok, nat_eq, cond, inl, inr}
 use Rattle.std.proofs.Math.Nat.{mod-eq_of_lt}
 use Rattle.std.specs.Prelude.{IfNone, slice_get}

@@ -1,4 +1,4 @@
-use Rattle.mach_binds.proofs.Names.{◌≡◌, true, false, cases_lt, inl, inr, Bool, refl, ◌<◌}
+use Rattle.mach_binds.proofs.Names.{◌≡◌, true, false, cases_lt, inl, inr, Bool, refl}
 use Rattle.std.specs.Prelude.{not}
 use Rattle.mach_binds.specs.BindingFaults.{offset_at}
 use Rattle.mach_binds.proofs.BindingTurns.{ring_out, out_ring}

@@ -1,4 +1,4 @@
-use Rattle.std.proofs.Common.{◌∙◌, ◌∷◌, Result, Err, sym, ap}
+use Rattle.std.proofs.Common.{◌∙◌, ◌∷◌, Err, sym, ap}
 use Rattle.mach_base.specs.Fault.{fault_of}
 use Rattle.mach_streams.specs.declared.rebases.OpcodeRebaseIterator.{OpcodeRebaseIterator}
 use Rattle.mach_streams.proofs.RebaseTurns.{behind_none}
