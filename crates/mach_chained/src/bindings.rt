@@ -4,6 +4,7 @@ ghost use Rattle.std.specs.Prelude.{◌≡◌, ◌+◌, ◌≤◌, ◌+ℤ◌, [
 ghost use Rattle.std.specs.Iterator.{YieldsFirstBy};
 ghost use Rattle.mach_base.specs.Answer.{Reads, Stands, IsOkUnlessMemory};
 ghost use Rattle.mach_base.specs.Fault.{Fault};
+ghost use Rattle.mach_base.specs.KeptText.{kept_bytes};
 ghost use Rattle.mach_chained.specs.Bindings.{place_in_file, signed_or_malformed, chained_binding_of, binding_in, bindings_of, AreBindingItems, ListsBindings};
 ghost use Rattle.mach_chained.specs.Bindings.{BindingFault};
 ghost use Rattle.mach_chained.specs.Chained.{PlacedFixup, AreFixups, fixup_items};
@@ -12,10 +13,10 @@ ghost use Rattle.mach_segments.specs.Segment.{segment_view};
 ghost use Rattle.mach_segments.specs.Bindings as declared;
 ghost use Rattle.mach_segments.specs.Bindings.{binding_view, binding_read};
 ghost use Rattle.mach_base.specs.Text.{texts};
-ghost use Rattle.mach_chained.specs.BindingViews.{bindings_seen, chained_bindings_left, pointers_left, HasEndedChainedBindings};
 
 use crate::fixups::FixupIterator;
 use crate::header::ChainedFixups;
+use crate::imports::Names;
 use crate::pointer::FixupKind;
 use crate::source::{Fixup, Source, nth_segment};
 use mach_base::{Error, Result, Steps};
@@ -52,10 +53,15 @@ fn whole_addend(addend: i64, inline: i32) -> Result<i64>
 pub struct ChainedBindIterator<'a, 'b> {
     pub(crate) fixups: FixupIterator<'a, 'b>,
     pub(crate) libs: &'b [&'a str],
+    // How the names of imports are read: a long one that many binds have is sought once.
+    pub(crate) names: Names<'a>,
     pub(crate) ended: bool,
+    ghost of_the_data: { kept_bytes names.texts ≡ fixups.source.fixups.payload.now },
 }
 
 impl<'a> ChainedFixups<'a> {
+    ghost use Rattle.mach_chained.specs.BindingViews.{chained_bindings_left, pointers_left};
+
     /// The bindings one at a time, one for each bind of the chains, in order, up to the first fault, and
     /// its error last. `libs` are the image's libraries, by ordinal, `segments` its segments, and `base`
     /// is the address of its first byte in memory. It takes no memory.
@@ -82,15 +88,19 @@ impl<'a> ChainedFixups<'a> {
             × (chained_bindings_left result ≡ bindings_of (fixup_input_in self.now segments.now base)
             (texts libs.now) (fixup_items ps stop)) × (pointers_left result ≡ length ps) }
     {
+        let fixups = self.start(segments, base);
         ChainedBindIterator {
-            fixups: self.start(segments, base),
             libs,
+            names: Names::of(fixups.source.fixups.payload),
+            fixups,
             ended: false,
         }
     }
 }
 
 impl<'a> ChainedFixups<'a> {
+    ghost use Rattle.mach_chained.specs.BindingViews.{bindings_seen};
+
     /// The bindings of all binds of the chains, in order. `libs` are the image's libraries, by ordinal,
     /// `segments` its segments, and `base` is the address of its first byte in memory. Each refusal but
     /// `Error::Memory` is a fault that stands among the fixups or the binds.
@@ -154,13 +164,16 @@ impl<'a> Source<'a, '_> {
     fn bound(
         &self,
         libs: &[&'a str],
+        names: &mut Names<'a>,
         fixup: &Fixup,
         import: u32,
         addend: i32,
     ) -> Result<Binding<'a>>
-        ensures { Reads binding_view result (chained_binding_of (fixup_input_of self.now) (texts libs.now) (fixup_view fixup.now) import addend) }
+        requires { kept_bytes names.old.texts ≡ self.now.fixups.payload.now }
+        ensures binding { Reads binding_view result (chained_binding_of (fixup_input_of self.now) (texts libs.now) (fixup_view fixup.now) import addend) }
+        ensures bytes { kept_bytes names.new.texts ≡ kept_bytes names.old.texts }
     {
-        let found = self.fixups.import(import)?;
+        let found = self.fixups.import_kept(import, names)?;
         let provider = Provider::of_ordinal(libs, i64::from(found.library))?;
         let offset = place_in_file(self.segments, fixup.segment, fixup.offset)?;
         let addend = whole_addend(found.addend, addend)?;
@@ -177,14 +190,21 @@ impl<'a> Source<'a, '_> {
 
     // What comes of a fixup, if it is a bind.
     #[inline(always)]
-    fn binding(&self, libs: &[&'a str], fixup: &Fixup) -> Option<Result<Binding<'a>>>
-        ensures { MatchOption result
+    fn binding(
+        &self,
+        libs: &[&'a str],
+        names: &mut Names<'a>,
+        fixup: &Fixup,
+    ) -> Option<Result<Binding<'a>>>
+        requires { kept_bytes names.old.texts ≡ self.now.fixups.payload.now }
+        ensures binding { MatchOption result
             (binding_in (fixup_input_of self.now) (texts libs.now) (fixup_view fixup.now) ≡ None)
             (λ answer. binding_in (fixup_input_of self.now) (texts libs.now) (fixup_view fixup.now) ≡ Some (binding_read answer)) }
+        ensures bytes { kept_bytes names.new.texts ≡ kept_bytes names.old.texts }
     {
         match fixup.kind {
             FixupKind::Bind { import, addend } => {
-                match self.bound(libs, fixup, import, addend) {
+                match self.bound(libs, names, fixup, import, addend) {
                     Ok(binding) => Some(Ok(binding)),
                     Err(e) => Some(Err(e)),
                 }
@@ -215,11 +235,13 @@ impl<'a> ChainedFixups<'a> {
             segments,
             base,
         };
-        source.binding(libs, fixup)
+        source.binding(libs, &mut Names::of(self.payload), fixup)
     }
 }
 
 impl<'a> ChainedBindIterator<'a, '_> {
+    ghost use Rattle.mach_chained.specs.BindingViews.{chained_bindings_left, pointers_left, HasEndedChainedBindings};
+
     // Ends.
     fn end(&mut self)
         ensures items { chained_bindings_left self.new ≡ [] }
@@ -255,7 +277,11 @@ impl<'a> ChainedBindIterator<'a, '_> {
                     return Some(Err(e));
                 }
             };
-            match self.fixups.source.binding(self.libs, &fixup) {
+            match self
+                .fixups
+                .source
+                .binding(self.libs, &mut self.names, &fixup)
+            {
                 None => {}
                 Some(Ok(binding)) => return Some(Ok(binding)),
                 Some(Err(e)) => {
@@ -271,6 +297,7 @@ impl<'a, 'b> Iterator for ChainedBindIterator<'a, 'b> {
     type Item = Result<Binding<'a>>;
 
     ghost use Rattle.std.specs.Iterator.{item_count};
+    ghost use Rattle.mach_chained.specs.BindingViews.{chained_bindings_left};
 
     ghost next_gives = { YieldsFirstBy binding_read chained_bindings_left };
 
@@ -283,14 +310,18 @@ impl<'a, 'b> Iterator for ChainedBindIterator<'a, 'b> {
 }
 
 impl<'a, 'b> Default for ChainedBindIterator<'a, 'b> {
+    ghost use Rattle.mach_chained.specs.BindingViews.{chained_bindings_left};
+
     ghost is_default = { λ it. chained_bindings_left it ≡ [] };
 
     /// No bindings.
     #[tactic(auto, unfolding(crate::specs::BindingViews::chained_bindings_left))]
     fn default() -> Self {
+        let fixups = FixupIterator::default();
         ChainedBindIterator {
-            fixups: FixupIterator::default(),
             libs: &[],
+            names: Names::of(fixups.source.fixups.payload),
+            fixups,
             ended: true,
         }
     }

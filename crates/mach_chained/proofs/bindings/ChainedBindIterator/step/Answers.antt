@@ -59,7 +59,7 @@ returns-in-Some-Ok-binding-clause-items c =
     let there : fixups_left it.fixups ≡ Ok f ∷ fixups_left new =
     c.in-Some-Ok.ensures.items ∙ ap (λ r. fixup_read r ∷ fixups_left new) c.in-Some-Ok.field-0-is in
     let b = binding_view c.in-Some-Ok-binding.binding in
-    let own : binding_in x libs f ≡ Some (Ok b) = c.in-Some-Ok-binding.ensures ∙ ap (λ r. Some (binding_read r)) c.in-Some-Ok-binding.field-0-is in
+    let own : binding_in x libs f ≡ Some (Ok b) = c.in-Some-Ok-binding.ensures.binding ∙ ap (λ r. Some (binding_read r)) c.in-Some-Ok-binding.field-0-is in
     inv.items ∙ on_bindings it.ended it.fixups.source new.source libs (fixups_left it.fixups) (Ok f ∷ fixups_left new) inv.on c.step.ensures.source there
     ∙ before_others x libs f (fixups_left new) (Some (Ok b)) own
     ∙ ap (λ m. Ok b ∷ m) (sym (on_bindings it.ended new.source new.source libs (fixups_left new) (fixups_left new) inv.on refl refl))
@@ -76,7 +76,7 @@ returns-in-Some-Err-binding-clause-items c =
     let there : fixups_left it.fixups ≡ Ok f ∷ fixups_left new =
     c.in-Some-Ok.ensures.items ∙ ap (λ r. fixup_read r ∷ fixups_left new) c.in-Some-Ok.field-0-is in
     let g = fault_of c.in-Some-Err-binding.e in
-    let own : binding_in x libs f ≡ Some (Err g) = c.in-Some-Err-binding.ensures ∙ ap (λ r. Some (binding_read r)) c.in-Some-Err-binding.field-0-is in
+    let own : binding_in x libs f ≡ Some (Err g) = c.in-Some-Err-binding.ensures.binding ∙ ap (λ r. Some (binding_read r)) c.in-Some-Err-binding.field-0-is in
     inv.items ∙ on_bindings it.ended it.fixups.source new.source libs (fixups_left it.fixups) (Ok f ∷ fixups_left new) inv.on c.step.ensures.source there
     ∙ before_others x libs f (fixups_left new) (Some (Err g)) own
     ∙ ap (λ m. Err g ∷ m) (sym c.end-in-Some-Err-binding.ensures.items)
@@ -99,7 +99,7 @@ fixups-preserved c =
     record {
       items = inv.items ∙ on_bindings it.ended it.fixups.source new.source libs (fixups_left it.fixups) (Ok f ∷ fixups_left new) inv.on
           c.step.ensures.source there
-          ∙ before_others x libs f (fixups_left new) None c.in-None-binding.ensures
+          ∙ before_others x libs f (fixups_left new) None c.in-None-binding.ensures.binding
           ∙ sym (on_bindings it.ended new.source new.source libs (fixups_left new) (fixups_left new) inv.on refl refl);
       on = inv.on;
       reads = omega (arith, inv.reads, read, left, now_left);

@@ -12,13 +12,13 @@ use Rattle.mach_chained.proofs.header.ChainedFixups.start_bindings.Goals as goal
 pub returns : goal.returns
 unfolding chained_bindings_left pointers_left
 returns c =
-    let items = c.start.ensures.items in
-    let left = fixups_left c.start.result in
+    let items = c.start-fixups.ensures.items in
+    let left = fixups_left c.start-fixups.result in
     let libs = texts c.args.libs.now in
     let x = fixup_input_in c.args.self.now c.args.segments.now c.args.base in (
       items.0,
       items.1,
       items.2,
-      ap (λ (y : FixupInput). bindings_of y libs left) c.start.ensures.source ∙ ap (λ (m : List (Result Fixup Fault)). bindings_of x libs m) items.3,
+      ap (λ (y : FixupInput). bindings_of y libs left) c.start-fixups.ensures.source ∙ ap (λ (m : List (Result Fixup Fault)). bindings_of x libs m) items.3,
       ap (λ (m : List (Result Fixup Fault)). fixup_count m) items.3 ∙ fixups_counted items.0 items.1,
     )
