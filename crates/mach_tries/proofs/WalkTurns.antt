@@ -6,7 +6,10 @@ use Rattle.mach_tries.proofs.Names.{Leads, Path, IsAmong, branch_at, source_trie
 use Rattle.mach_tries.proofs.Names.{Ahead, HasRead, AreMarked, WasRead, IsEndOfWalk, Holds, HasListed, IsRefusedWalk}
 use Rattle.mach_tries.proofs.Names.{IsAtBranch, HasFound, unmarked, work}
 use Rattle.mach_tries.proofs.Names.{branch_of, branches_of, branches_in, IsReadable, Source, Open}
+use Rattle.std.proofs.Math.Logic.{∥∥₁_elim}
+use Rattle.std.proofs.Props.{props}
 use Rattle.std.proofs.lemmas.List.{take_all}
+use Rattle.std.proofs.lemmas.List.Folds.{sum_by-replicate}
 use Rattle.mach_tries.specs.declared.walk.Walker.{Walker}
 use Rattle.mach_tries.specs.declared.node.Branches.{Branches}
 use Rattle.mach_tries.proofs.Starts.{starts_from}
@@ -43,6 +46,10 @@ less_entered over most marks marks' o child i os os' on few within clear mark ke
       | inl none ↦ rw (dropped none) (let two = sum_by-cons (λ (x : Open). suc x.left) child os in omega arith)
       | inr some ↦ rw (kept (omega arith)) (let two = sum_by-cons (λ (x : Open). suc x.left) child (o ∷ os) in omega arith)
     ])
+
+-- of so many places that aren't marked
+pub all_left : (n : ℕ) {marks : List Bool} → marks ≡ replicate n false → unmarked marks ≤ n
+all_left n clear = let all = sum_by-replicate (λ (b : Bool). cond b 0 1) n false in rw clear (omega arith)
 
 -- ---- stacks
 
@@ -298,6 +305,13 @@ at_branch w f on = elim f [ inl at ↦ at | inr end ↦ absurd (not_both end.0 o
 
 pub at_end : {A : Type 0} {found : List Entry} {n : ℕ} (w : Walker A) → HasFound found n w → w.over ≡ true → HasListed w.source found n
 at_end w f off = elim f [ inl at ↦ absurd (not_both off at.0) | inr end ↦ end.1 ]
+
+-- where the next branch leads to a node that is marked now, one mark fewer is to be set
+pub one_fewer : {A : Type 0} (w : Walker A) {marks' : List Bool} {is_on : Bool} → ∥ ((found : List Entry) × (n : ℕ) × IsAtBranch found n w) ∥₁
+    → w.next.start < w.source.upto → is_on ≡ get_or w.marks (w.next.start - w.source.from) false → is_on ≡ false
+    → marks' ≡ set w.marks (w.next.start - w.source.from) true → unmarked w.marks ≡ suc (unmarked marks')
+one_fewer w at inside is off mark = ∥∥₁_elim at (search props) (λ r.
+    rw mark (one_less w.marks (w.next.start - w.source.from) (within r.2.1 inside) (clear r.2.1 inside is off)))
 
 -- ---- answers
 

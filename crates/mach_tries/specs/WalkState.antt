@@ -90,3 +90,12 @@ work most marks os = (most + 2) * unmarked marks + branches_left os
 
 abbrev pub work_ahead : {A : Type 0} → Walker A → ℕ
 work_ahead w = if w.over then 0 else work (length w.source.bytes.now) w.marks (w.top ∷ reverse w.stack.items)
+
+-- how many places may have been marked and not visited: an error may have come between the two
+abbrev pub unvisited : {X : Type 0} → Result X Error → ℕ
+unvisited (Ok x) = 0
+unvisited (Err e) = 1
+
+abbrev pub unvisited_by : {X : Type 0} → Option (Result X Error) → ℕ
+unvisited_by None = 0
+unvisited_by (Some item) = unvisited item

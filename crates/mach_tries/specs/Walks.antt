@@ -1,5 +1,5 @@
 -- What a walk of an export trie gives, as its callers see it.
-use Rattle.std.specs.Prelude.{◌≡◌, ◌<◌, ◌++◌, ◌∷◌, [], ℕ, true, List, Option, Some, None, Result, Ok, Err}
+use Rattle.std.specs.Prelude.{◌≡◌, ◌<◌, ◌≤◌, ◌+◌, ◌++◌, ◌∷◌, [], ℕ, true, List, Option, Some, None, Result, Ok, Err}
 use Rattle.std.specs.Borrow.{Bor}
 use Rattle.mach_base.specs.Answer.{Stands}
 use Rattle.mach_base.specs.declared.error.Error.{Error}
@@ -7,7 +7,7 @@ use Rattle.mach_tries.specs.Trie.{Entry, entry}
 use Rattle.mach_tries.specs.TrieRange.{TrieRange, trie_there, ListsExports, ExportsFault, ExportsEnd}
 use Rattle.mach_tries.specs.Exports.{info_of}
 use Rattle.mach_tries.specs.Views.{source_trie}
-use Rattle.mach_tries.specs.WalkState.{HasFound, work_ahead}
+use Rattle.mach_tries.specs.WalkState.{HasFound, unmarked, work_ahead, unvisited_by}
 use Rattle.mach_tries.specs.declared.info.ExportInfo.{ExportInfo}
 use Rattle.mach_tries.specs.declared.export_walk.ExportWalk.{ExportWalk}
 
@@ -22,6 +22,10 @@ GivesNoMore w = w.walker.over ≡ true
 -- what it has left to do, which each export makes less
 abbrev pub work_left : {A : Type 0} → ExportWalk A → ℕ
 work_left w = work_ahead w.walker
+
+-- how many nodes it may still visit
+abbrev pub nodes_left : {A : Type 0} → ExportWalk A → ℕ
+nodes_left w = unmarked w.walker.marks
 
 -- what an answer says of a trie whose walk had given these exports: at the end they are its list, and an error is a fault of it
 abbrev pub SaysOfTrie : {X : Type 0} → TrieRange → List (List ℕ) → List Entry → Option (Result X Error) → Type 0
@@ -42,3 +46,8 @@ GoesOn old (Some (Err e)) new = GivesNoMore new
 GoesOn old (Some (Ok given)) new = (work_left new < work_left old)
     × ((t : TrieRange) (libs : List (List ℕ)) (found : List Entry) → HasGiven t libs found old
     → HasGiven t libs (found ++ entry given.0.now (info_of given.1) ∷ []) new)
+
+-- the same, and by as many as a count of visits grew fewer nodes may still be visited; an error may have come between a mark and its visit
+abbrev pub GoesOnCounted : {A : Type 0} → ExportWalk A → Option (Result (Bor (List ℕ) × ExportInfo) Error) → ℕ → ℕ → ExportWalk A → Type 0
+GoesOnCounted old given before after new = GoesOn old given new × (after + nodes_left new ≤ before + nodes_left old)
+    × (before + nodes_left old ≤ after + nodes_left new + unvisited_by given)

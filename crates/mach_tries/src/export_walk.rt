@@ -25,7 +25,7 @@ impl<'a, 'b, A: Allocator> ExportWalk<'a, 'b, A> {
     ghost use Rattle.std.specs.Prelude.{⊤};
     ghost use Rattle.std.specs.Borrow.{sem};
     ghost use Rattle.mach_tries.specs.contracts.export_walk.ExportWalk.{the_row};
-    ghost use Rattle.mach_tries.specs.Walks.{HasGiven, GivesNoMore, SaysOfTrie, SaysWhereItEnds, GoesOn};
+    ghost use Rattle.mach_tries.specs.Walks.{HasGiven, GivesNoMore, SaysOfTrie, SaysWhereItEnds, GoesOn, GoesOnCounted};
     ghost use mathlib.Core.Option.{none};
     ghost use denote.Follow.{follows_so};
     ghost use mir.Syntax.{named};
@@ -46,7 +46,25 @@ impl<'a, 'b, A: Allocator> ExportWalk<'a, 'b, A> {
             (the_row (record { mir = named 1; lft = [] }) (record { mir = named 2; lft = [] }) A.row A.Allocator)
             self.entry.ghost_name none (λ _ _. ⊤) (GoesOn self.old result)) }
     {
-        match self.walker.step(&mut Steps::new()) {
+        self.next_counted(&mut Steps::new())
+    }
+
+    /// The same, with the nodes visited added to a count: over all calls never more than the trie has bytes.
+    #[inline(always)]
+    pub fn next_counted(&mut self, steps: &mut Steps) -> Option<Result<(&str, ExportInfo<'a>)>>
+        ensures says { (t : TrieRange) (libs : List (List ℕ)) (found : List Entry) → HasGiven t libs found self.old
+            → SaysOfTrie t libs found result }
+        ensures cut { (t : TrieRange) (libs : List (List ℕ)) (found : List Entry) → HasGiven t libs found self.old
+            → SaysWhereItEnds t libs found result }
+        ensures begun { (t : TrieRange) (libs : List (List ℕ)) (found : List Entry) → HasGiven t libs found self.old
+            → ListBegins (trie_there t libs) t.from [] found }
+        ensures over { GivesNoMore self.old → IsNone result }
+        ensures* goes_on { sem 𝓛 (follows_so
+            (the_row (record { mir = named 1; lft = [] }) (record { mir = named 2; lft = [] }) A.row A.Allocator)
+            (the_row (record { mir = named 1; lft = [] }) (record { mir = named 2; lft = [] }) A.row A.Allocator)
+            self.entry.ghost_name none (λ _ _. ⊤) (GoesOnCounted self.old result steps.old steps.new)) }
+    {
+        match self.walker.step(steps) {
             None => None,
             Some(Err(e)) => Some(Err(e)),
             Some(Ok(info)) => Some(Ok((self.walker.name(), info))),

@@ -7,7 +7,7 @@ ghost use Rattle.mach_tries.specs.Exports.{info_of, entries};
 ghost use Rattle.mach_base.specs.Text.{texts};
 ghost use Rattle.mach_tries.specs.TrieRange.{empty_range, range_in, range_upto, trie_there, ListsExports, ExportsFault};
 ghost use Rattle.mach_tries.specs.Visits.{Visits};
-ghost use Rattle.mach_tries.specs.Walks.{HasGiven};
+ghost use Rattle.mach_tries.specs.Walks.{HasGiven, nodes_left};
 
 pub use crate::cursor::{NextExport, TrieCursor};
 pub use crate::export_walk::ExportWalk;
@@ -171,6 +171,7 @@ impl<'a> ExportTrie<'a> {
         libs: &'b [&'a str],
     ) -> Result<ExportWalk<'a, 'b, A>>
         ensures given { IfOk result (λ w. HasGiven self.now (texts libs.now) [] w) }
+        ensures left { IfOk result (λ w. nodes_left w ≤ self.now.upto - self.now.from) }
         ensures memory { IsOkUnlessMemory result }
     {
         let source = Source {

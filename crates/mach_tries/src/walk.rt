@@ -14,7 +14,7 @@ ghost use Rattle.mach_tries.specs.Visits.{Visits};
 ghost use Rattle.mach_tries.specs.Exports.{info_of, entries};
 ghost use Rattle.mach_tries.specs.Views.{source_trie, node_in, fault_in, info_in, branches_of, branches_in, IsReadable};
 ghost use Rattle.mach_tries.specs.Nowhere.{lead_nowhere, AreBarren, HaveRoom, AreKept, IsKnownBarren, OpensList, OpensNode};
-ghost use Rattle.mach_tries.specs.WalkState.{IsAtBranch, IsBetween, HasFound, IsWalk, IsRefusedWalk, StepGives, work_ahead};
+ghost use Rattle.mach_tries.specs.WalkState.{IsAtBranch, IsBetween, HasFound, IsWalk, IsRefusedWalk, StepGives, unmarked, work_ahead, unvisited, unvisited_by};
 
 use crate::exports::Export;
 use crate::info::ExportInfo;
@@ -207,6 +207,7 @@ impl<'a, 'b, A: Allocator> Walker<'a, 'b, A> {
         A: Clone,
         ensures source { IfOk result (λ w. w.source ≡ source.now) }
         ensures start { IfOk result (λ w. HasFound [] 0 w) }
+        ensures left { IfOk result (λ w. unmarked w.marks ≤ source.now.upto - source.now.from) }
         ensures err { IfErr result (λ e. Stands (λ _. ⊥) e) }
     {
         let len = source.upto.saturating_sub(source.from);
@@ -247,6 +248,7 @@ impl<'a, 'b, A: Allocator> Walker<'a, 'b, A> {
         ensures source { self.new.source ≡ self.old.source }
         ensures name { self.new.name.items ≡ self.old.name.items }
         ensures barren { self.new.barren ≡ self.old.barren }
+        ensures marks { self.new.marks ≡ self.old.marks }
         ensures less { work_ahead self.new < work_ahead self.old }
     {
         if self.top.left == 0 {
@@ -276,6 +278,8 @@ impl<'a, 'b, A: Allocator> Walker<'a, 'b, A> {
         ensures utf8 { IfOk result (λ own. IfSome own (λ _. IsUtf8 self.new.name.items)) }
         ensures kept { OnOk result (AreKept self.old.barren self.new.barren) }
         ensures less { OnOk result (work_ahead self.new < work_ahead self.old) }
+        ensures few { steps.new + unmarked self.new.marks ≤ steps.old + unmarked self.old.marks }
+        ensures counted { steps.old + unmarked self.old.marks ≤ steps.new + unmarked self.new.marks + unvisited result }
     {
         let Branch { label, start } = self.next;
         let from = self.source.from;
@@ -318,6 +322,8 @@ impl<'a, 'b, A: Allocator> Walker<'a, 'b, A> {
         ensures err { IfSome result (λ item. IfErr item (λ _. self.new.over ≡ true)) }
         ensures over { self.old.over ≡ true → IsNone result }
         ensures less { IfSome result (λ item. work_ahead self.new < work_ahead self.old) }
+        ensures few { steps.new + unmarked self.new.marks ≤ steps.old + unmarked self.old.marks }
+        ensures counted { steps.old + unmarked self.old.marks ≤ steps.new + unmarked self.new.marks + unvisited_by result }
     {
         'turns: while !self.over {
             match self.take(steps) {

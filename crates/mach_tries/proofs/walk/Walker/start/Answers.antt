@@ -1,6 +1,6 @@
-use Rattle.mach_tries.proofs.Names.{◌∙◌, refl, ap, replicate, reverse, false, inl, inr, cases_lt}
+use Rattle.mach_tries.proofs.Names.{◌∙◌, refl, ap, arith, replicate, reverse, false, inl, inr, cases_lt}
 use Rattle.std.proofs.lemmas.Bool.{lt-leb, le-leb}
-use Rattle.mach_tries.proofs.WalkTurns.{starts, nothing_listed}
+use Rattle.mach_tries.proofs.WalkTurns.{starts, nothing_listed, all_left}
 use Rattle.mach_tries.proofs.Nowhere.{none_barren, no_room}
 use Rattle.mach_tries.proofs.walk.Walker.start.Goals as goal
 
@@ -16,3 +16,6 @@ returns-clause-start g c =
       )
       | inr out ↦ inr (le-leb s.upto s.from out, nothing_listed s out)
     ]
+
+pub returns-clause-left : goal.returns-clause-left
+returns-clause-left g c = let left = all_left _ c.in_ok-new.ensures in omega (arith, left, c.saturating_sub-len.ensures)

@@ -4,7 +4,7 @@ use Rattle.mach_tries.proofs.WalkTurns.{at_branch, at_end, refused_from}
 use Rattle.mach_tries.proofs.walk.Walker.step.Goals as goal
 
 pub turns-init : goal.turns-init
-turns-init g c = record { found = λ found n f. (n, f, refl); sound = c.requires; source = refl; less = omega arith }
+turns-init g c = record { found = λ found n f. (n, f, refl); sound = c.requires; source = refl; few = omega arith; counted = omega arith; less = omega arith }
 
 pub take-requires : goal.take-requires
 take-requires g c =
@@ -22,6 +22,8 @@ turns-preserved g c =
           let t = taken f.0 f.1 (at_branch c.turns.self f.2 c.turns-test.true) in
           (f.0, t.0, subst (λ (es : List Entry). HasFound es t.0 c.take.new.self) (append-nil f.0) t.1));
       source = c.in-Ok-None.ensures.source ∙ c.turns.invariant.source;
+      few = omega (arith, c.in-Ok-None.ensures.few, c.turns.invariant.few);
+      counted = omega (arith, c.in-Ok-None.ensures.counted, c.turns.invariant.counted);
       less = omega (arith, c.in-Ok-None.ensures.less);
     }
 

@@ -10,7 +10,7 @@ use Rattle.std.proofs.Props.{props}
 use Rattle.mach_tries.proofs.Names.{Option, Ok, IfSome, IsReadable, ◌≤◌}
 use Rattle.mach_tries.specs.declared.node.Branches.{Branches}
 use Rattle.mach_tries.proofs.WalkTurns as turn
-use Rattle.mach_tries.proofs.WalkTurns.{if_some, less_passed, less_entered}
+use Rattle.mach_tries.proofs.WalkTurns.{if_some, less_passed, less_entered, one_fewer}
 use Rattle.mach_tries.proofs.walk.Walker.take.Goals as goal
 
 pub go_on-requires-clause-on : goal.go_on-requires-clause-on
@@ -195,3 +195,54 @@ returns-clause-less g c =
     (w.next.start - w.source.from) (reverse w.stack.items) (reverse c.keep_below.new.stack.items) r.2.0 (omega (arith, few)) (turn.within
     r.2.1 (omega arith)) off c.mark.ensures
     c.in_ok-keep_below.ensures.kept c.in_ok-keep_below.ensures.used_up)
+
+pub returns-in_err-extend_from_slice-clause-few : goal.returns-in_err-extend_from_slice-clause-few
+returns-in_err-extend_from_slice-clause-few g c =
+    let one = one_fewer c.args.self.now c.requires (omega arith) c.is_marked.ensures c.if-is_marked.false c.mark.ensures in
+    omega arith
+
+pub returns-in_err-extend_from_slice-clause-counted : goal.returns-in_err-extend_from_slice-clause-counted
+returns-in_err-extend_from_slice-clause-counted g c =
+    let one = one_fewer c.args.self.now c.requires (omega arith) c.is_marked.ensures c.if-is_marked.false c.mark.ensures in
+    let p = err_from_is_err_and c.from_residual.result c.from_residual.ensures.1 in
+    rw p.1 (omega (arith, one))
+
+pub returns-in_err-own-clause-few : goal.returns-in_err-own-clause-few
+returns-in_err-own-clause-few g c =
+    let one = one_fewer c.args.self.now c.requires (omega arith) c.is_marked.ensures c.if-is_marked.false c.mark.ensures in
+    omega (arith, c.in_err-own.ensures.visits)
+
+pub returns-in_err-own-clause-counted : goal.returns-in_err-own-clause-counted
+returns-in_err-own-clause-counted g c =
+    let one = one_fewer c.args.self.now c.requires (omega arith) c.is_marked.ensures c.if-is_marked.false c.mark.ensures in
+    omega (arith, c.in_err-own.ensures.visits)
+
+pub returns-in_default-clause-few : goal.returns-in_default-clause-few
+returns-in_default-clause-few g c =
+    let one = one_fewer c.args.self.now c.requires (omega arith) c.is_marked.ensures c.if-is_marked.false (c.go_on-in_default.ensures.marks ∙ c.mark.ensures) in
+    omega (arith, c.in_ok-own.ensures.visits)
+
+pub returns-in_default-clause-counted : goal.returns-in_default-clause-counted
+returns-in_default-clause-counted g c =
+    let one = one_fewer c.args.self.now c.requires (omega arith) c.is_marked.ensures c.if-is_marked.false (c.go_on-in_default.ensures.marks ∙ c.mark.ensures) in
+    omega (arith, c.in_ok-own.ensures.visits)
+
+pub returns-in_err-keep_below-clause-few : goal.returns-in_err-keep_below-clause-few
+returns-in_err-keep_below-clause-few g c =
+    let one = one_fewer c.args.self.now c.requires (omega arith) c.is_marked.ensures c.if-is_marked.false c.mark.ensures in
+    omega (arith, c.in_ok-own.ensures.visits)
+
+pub returns-in_err-keep_below-clause-counted : goal.returns-in_err-keep_below-clause-counted
+returns-in_err-keep_below-clause-counted g c =
+    let one = one_fewer c.args.self.now c.requires (omega arith) c.is_marked.ensures c.if-is_marked.false c.mark.ensures in
+    omega (arith, c.in_ok-own.ensures.visits)
+
+pub returns-clause-few : goal.returns-clause-few
+returns-clause-few g c =
+    let one = one_fewer c.args.self.now c.requires (omega arith) c.is_marked.ensures c.if-is_marked.false c.mark.ensures in
+    omega (arith, c.in_ok-own.ensures.visits)
+
+pub returns-clause-counted : goal.returns-clause-counted
+returns-clause-counted g c =
+    let one = one_fewer c.args.self.now c.requires (omega arith) c.is_marked.ensures c.if-is_marked.false c.mark.ensures in
+    omega (arith, c.in_ok-own.ensures.visits)
