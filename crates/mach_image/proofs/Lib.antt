@@ -20,3 +20,4 @@ pub mod Walked
 pub mod TableFacts
 pub mod StreamFacts
 pub mod SlotFacts
+pub mod ListBounds

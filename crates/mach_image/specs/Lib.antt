@@ -23,3 +23,4 @@ pub mod RebasesLeft
 pub mod StreamFacts
 pub mod ImageSlots
 pub mod SlotFacts
+pub mod Bounds

@@ -7,6 +7,7 @@ ghost use Rattle.mach_base.specs.Number.{room_at};
 ghost use Rattle.mach_load.specs.Command.{Command};
 ghost use Rattle.mach_headers.specs.Header.{header_size};
 ghost use Rattle.mach_image.specs.Chain.{IsChain};
+ghost use Rattle.mach_image.specs.Bounds.{CommandsFit, SegmentsLieInBytes};
 ghost use Rattle.mach_image.specs.Image.{Opens, LossyOpens};
 ghost use Rattle.mach_image.specs.OpenImage.{IsImage, IsLossyImage, SameFields};
 
@@ -46,4 +47,16 @@ pub fn lossy_agrees<A: Allocator, B: Allocator>(
     lossy: &MachO<'_, B>,
 )
     ensures { IsImage bytes.now offset strict.now → IsLossyImage bytes.now offset lossy.now → SameFields strict.now lossy.now }
+{}
+
+/// An image that opens has at most a command for each eight bytes.
+#[tactic(auto, using(crate::proofs::ListBounds::commands_fit_lem))]
+pub fn commands_fit_the_bytes()
+    ensures { CommandsFit }
+{}
+
+/// The data of each of its segments lie in the bytes: so its chains have at most a fixup for each four (`fixups_are_few`).
+#[tactic(auto, using(crate::proofs::ListBounds::segments_lie_lem))]
+pub fn segments_lie_in_the_bytes()
+    ensures { SegmentsLieInBytes }
 {}
