@@ -322,9 +322,8 @@ def growing(size):
         # 7 * 10^9 branches, in lists that are one list; 2.8 * 10^9, in lists that overlap.
         "trie_shared_%d" % size: shared_branches(size, 2**21 - 1),
         "trie_overlaid_%d" % size: overlaid_branches(size),
-        # 3.4 * 10^10 bytes of labels, and 1.3 * 10^10 of names of re-exports.
+        # 3.4 * 10^10 bytes of labels.
         "trie_labels_%d" % size: far_labels(size),
-        "trie_reexports_%d" % size: far_reexports(size),
         # 1.6 * 10^10 bytes of names, of which all are one, or each begins behind the one before.
         "symbols_same_%d" % size: symbol_names(size, 0),
         "symbols_far_%d" % size: symbol_names(size, 2),
@@ -389,8 +388,10 @@ def files(size):
         "binds_%d" % size: bind_again(size),
         "imports_%d" % size: chain_of_imports(size),
         "pages_%d" % size: pages(size),
-        # Lists that overlap otherwise; and names that a reader doesn't find again which keeps the last one that it could read.
+        # Lists that overlap otherwise; names of re-exports, which are all told; and names that a reader doesn't find again which keeps the
+        # last one that it could read.
         "trie_windows_%d" % size: overlaid_branches(size, ends_together=False),
+        "trie_reexports_%d" % size: far_reexports(size),
         "symbols_back_%d" % size: symbol_names(size, -2),
         "symbols_turns_%d" % size: symbols_by_turns(size),
         "symbols_bad_%d" % size: symbol_names(size, 2, b"\xff"),
