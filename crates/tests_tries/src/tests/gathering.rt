@@ -1,13 +1,13 @@
 //! A loop over a walk that keeps what it has seen, as docs/CALLING.md shows it: with a contract of its own.
 
-ghost use Rattle.std.specs.Prelude.{◌≡◌, ◌++◌, ◌∷◌, [], ℕ, List, IfOk, IfErr, OnOk};
+ghost use Rattle.std.specs.Prelude.{◌≡◌, ◌≤◌, ◌+◌, ◌-◌, ◌++◌, ◌∷◌, [], ℕ, List, IfOk, IfErr, OnOk};
 ghost use Rattle.mach_base.specs.Answer.{Stands};
 ghost use Rattle.mach_tries.specs.Exports.{entries, info_of};
 ghost use Rattle.mach_tries.specs.Trie.{entry};
 ghost use Rattle.mach_tries.specs.TrieRange.{TrieRange, ListsExports, ExportsFault};
-ghost use Rattle.mach_tries.specs.Walks.{HasGiven};
+ghost use Rattle.mach_tries.specs.Walks.{HasGiven, nodes_left};
 
-use mach_base::Result;
+use mach_base::{Result, Steps};
 use mach_tries::exports::{Export, ExportInfo, ExportTrie, ExportWalk};
 use std::alloc::{AllocError, Global};
 use std::fmt::Write;
@@ -40,6 +40,24 @@ fn gather<'a>(alloc: Global, mut walk: ExportWalk<'a, '_>) -> Result<Vec<Export<
         keep(alloc, &mut found, name, info)?;
     }
     Ok(found)
+}
+
+// All that a walk gives, counted.
+fn go_over(mut walk: ExportWalk<'_, '_>, steps: &mut Steps) -> Result<()>
+    ensures few { steps.new ≤ steps.old + nodes_left walk.entry }
+{
+    'exports: while let Some(export) = walk.next_counted(steps) {
+        export?;
+    }
+    Ok(())
+}
+
+// A trie's walk visits no more nodes than the trie has bytes.
+fn go_over_trie(alloc: Global, trie: &ExportTrie<'_>, steps: &mut Steps) -> Result<()>
+    ensures few { steps.new ≤ steps.old + (trie.now.upto - trie.now.from) }
+{
+    let walk = trie.walk(alloc, &["self"])?;
+    go_over(walk, steps)
 }
 
 #[test]
