@@ -13,11 +13,11 @@ import sys
 
 TOP = pathlib.Path(__file__).resolve().parent.parent
 HEADER, NAMES = TOP / "include/goblin_mach.h", TOP / "c/names.h"
-CRATES = ["mach_headers", "mach_arches", "mach_records", "mach_segments", "mach_symbols", "mach_tries", "mach_binds", "mach_chained"]
+CRATES = ["mach_records", "mach_parts", "mach_dyld", "mach_chained"]
 WIDTHS = {"u8": 1, "u16": 2, "u32": 4, "i32": 4, "u64": 8, "i64": 8, "usize": 8}
 
-# What the sources have and C doesn't need: the sizes of records.
-LEFT_OUT = r"SIZEOF_\w+"
+# What the sources have and C doesn't need: the sizes of records, and the opcodes of rebases.
+LEFT_OUT = r"(SIZEOF|REBASE)_\w+"
 
 # The groups of constants, in order: what they are, and their names. A constant is in the first one that it fits.
 GROUPS = [
@@ -291,7 +291,7 @@ def header_constants(found):
 def structs():
     """The structs of the sources that C sees the layout of, by name: the fields of each."""
     found = {}
-    for crate in ["goblin_mach_c", "mach_fat_parts", *CRATES]:
+    for crate in ["goblin_mach_c", "mach_fat_writer", *CRATES]:
         for text in sources(crate).values():
             for name, body in re.findall(r"^#\[repr\(C\)\]\npub struct (\w+) \{\n(.*?)^\}", text, re.M | re.S):
                 found[name] = re.findall(r"^    pub (\w+): (.*),$", body, re.M)

@@ -8,17 +8,17 @@ use Rattle.mach_base.specs.declared.hint.Hint.{Hint}
 use Rattle.mach_base.specs.Answer.{◌>>=◌, Stands}
 use Rattle.mach_base.specs.Fault.{Fault, malformed, fault_of}
 use Rattle.mach_base.proofs.Faults.{Stands-reported, Stands-in}
-use Rattle.mach_headers.specs.Fat.{part_of}
-use Rattle.mach_arches.specs.ArchForms.{ArchForm, arch_in}
+use Rattle.mach_parts.specs.Fat.{part_of}
+use Rattle.mach_parts.specs.ArchForms.{ArchForm, arch_in}
 use Rattle.goblin_mach.specs.FatFile.{FatFile}
 use Rattle.goblin_mach.specs.FatEntry.{FatEntry, archive, image, entry_by, fat_entry_of, arch_entry_in, FatEntryFault, no_entry, no_image, OpensEntry}
-use Rattle.mach_image.specs.Image.{ImageFault}
-use Rattle.mach_image.specs.OpenImage.{IsImage}
-use Rattle.mach_headers.specs.Magic.{hint_in}
+use Rattle.goblin_mach.specs.Image.{ImageFault}
+use Rattle.goblin_mach.specs.OpenImage.{IsImage}
+use Rattle.mach_parts.specs.Magic.{hint_in}
 use Rattle.goblin_mach.specs.declared.fat_file.entry.SingleArch.{SingleArch}
 use Rattle.goblin_mach.specs.declared.fat_file.entry.SingleArch.TheVariants.{MachO, Archive}
-use Rattle.mach_image.specs.declared.macho.MachO as held
-use Rattle.mach_image.proofs.Images.{ok_where_opens}
+use Rattle.goblin_mach.specs.declared.macho.MachO as held
+use Rattle.goblin_mach.proofs.OpenedImages.{ok_where_opens}
 
 -- an error that reports why there is no entry
 pub OpensEntry-refused : {A : Type 0} (entry : Result FatEntry Fault) (e : Error) → entry ≡ Err (fault_of e) → OpensEntry {A = A} entry (Err e)

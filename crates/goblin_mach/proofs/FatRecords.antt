@@ -7,7 +7,7 @@ use Rattle.std.proofs.lemmas.List.{append-nil}
 use Rattle.mach_base.specs.Answer.{◌>>=◌}
 use Rattle.mach_base.specs.Fault.{Fault}
 use Rattle.mach_base.specs.Items.{all_read}
-use Rattle.mach_arches.specs.ArchForms.{ArchForm}
+use Rattle.mach_parts.specs.ArchForms.{ArchForm}
 use Rattle.mach_base.proofs.AllRead.{onto}
 use Rattle.goblin_mach.specs.FatFile.{FatFile, archs_in, arch_table_in}
 

@@ -4,9 +4,9 @@ use Rattle.std.proofs.Common.{arith}
 use Rattle.std.proofs.lemmas.Bool.{le-leb, lt-leb}
 use Rattle.mach_base.specs.Answer.{◌>>=◌}
 use Rattle.mach_base.specs.Fault.{Fault}
-use Rattle.mach_image.specs.Image.{Opens, LossyOpens, ImageFault}
-use Rattle.mach_headers.specs.Magic.{ctx_of}
-use Rattle.mach_image.proofs.Images.{not_other, fault-excludes_image}
+use Rattle.goblin_mach.specs.Image.{Opens, LossyOpens, ImageFault}
+use Rattle.mach_parts.specs.Magic.{ctx_of}
+use Rattle.goblin_mach.proofs.OpenedImages.{not_other, fault-excludes_image}
 use Rattle.goblin_mach.specs.FatFile.{fat_file_in}
 use Rattle.goblin_mach.specs.File.{HasFatMagic, MachOpens, MachFault, no_room, of_fat, of_image}
 

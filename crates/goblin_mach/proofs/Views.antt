@@ -9,19 +9,19 @@ use Rattle.mach_base.specs.Answer.{Stands}
 use Rattle.mach_base.specs.Context.{pointer_size}
 use Rattle.mach_base.specs.Fault.{Fault, malformed, bad_magic, too_short, fault_of_scroll}
 use Rattle.mach_base.specs.Text.{texts}
-use Rattle.mach_binds.specs.Imports.{Import}
-use Rattle.mach_tries.specs.Trie as trie
+use Rattle.mach_dyld.specs.Imports.{Import}
+use Rattle.mach_dyld.specs.Trie as trie
 use Rattle.mach_base.specs.Items.{items_from}
 use Rattle.mach_base.proofs.ItemLists.{items_from-first}
 use Rattle.goblin_mach.specs.FatEntry.{FatEntry, archive, image, IsEntry}
 use Rattle.goblin_mach.specs.declared.fat_file.entry.SingleArch.TheVariants as entries
 use Rattle.goblin_mach.specs.declared.view.LinkView.TheVariants as views
-use Rattle.mach_image.specs.Subjects.{ListsImageImports, ListsImageExports}
-use Rattle.mach_image.specs.OpenImage.{IsImage, commands_held, trie_held, binds_held, ctx_held, segments_held}
+use Rattle.goblin_mach.specs.Subjects.{ListsImageImports, ListsImageExports}
+use Rattle.goblin_mach.specs.OpenImage.{IsImage, commands_held, trie_held, binds_held, ctx_held, segments_held}
 use Rattle.goblin_mach.specs.View.{LinksImage, LinksFault, ItemFault, of_links, FaultHeld, IsTold, Tells, IsViewItem, AreViewItems}
 use Rattle.goblin_mach.specs.declared.view.LinkView.{LinkView}
-use Rattle.mach_image.specs.declared.macho.MachO.{MachO}
-use Rattle.mach_image.proofs.ImageFacts.{exports_are, exports_fail, imports_are, imports_fail}
+use Rattle.goblin_mach.specs.declared.macho.MachO.{MachO}
+use Rattle.goblin_mach.proofs.ImageFacts.{exports_are, exports_fail, imports_are, imports_fail}
 
 -- an error that stands is told
 pub tells : (P Q : Fault → Type 0) (e : Error) → IsTold e → ((f : Fault) → P f → Q f) → Stands P e → Tells Q e

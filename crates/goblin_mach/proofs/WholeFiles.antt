@@ -7,10 +7,10 @@ use Rattle.mach_base.specs.Answer.{Stands, IsOkUnlessMemory}
 use Rattle.mach_base.specs.Fault.{Fault}
 use Rattle.mach_base.proofs.Binds.{same_ok}
 use Rattle.mach_base.proofs.Faults.{Stands-in}
-use Rattle.mach_headers.specs.declared.fat.FatArch.{FatArch}
+use Rattle.mach_parts.specs.declared.fat.FatArch.{FatArch}
 use Rattle.goblin_mach.specs.FatEntry.{FatEntry, image}
 use Rattle.goblin_mach.specs.FatFile.{FatFile, fat_file_in, arches_in}
-use Rattle.mach_image.specs.Image.{Opens}
+use Rattle.goblin_mach.specs.Image.{Opens}
 use Rattle.goblin_mach.specs.View.{HasEntries, one_image, fat_table, ViewFault, of_file, of_table}
 use Rattle.goblin_mach.proofs.Files.{fault-excludes_mach, fat-excludes_image}
 

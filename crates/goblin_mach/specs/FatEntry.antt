@@ -5,14 +5,14 @@ use Rattle.mach_base.specs.Fault.{Fault, malformed}
 use Rattle.mach_base.specs.declared.error.Error.{Error}
 use Rattle.mach_base.specs.declared.hint.Hint.TheVariants as hints
 use Rattle.mach_base.specs.declared.hint.Hint.{Hint}
-use Rattle.mach_headers.specs.Fat.{part_of}
+use Rattle.mach_parts.specs.Fat.{part_of}
 use Rattle.mach_base.specs.Items.{items_from}
-use Rattle.mach_headers.specs.declared.fat.FatArch.{FatArch}
-use Rattle.mach_arches.specs.ArchForms.{ArchForm, arch_form_32, arch_in}
+use Rattle.mach_parts.specs.declared.fat.FatArch.{FatArch}
+use Rattle.mach_parts.specs.ArchForms.{ArchForm, arch_form_32, arch_in}
 use Rattle.goblin_mach.specs.FatFile.{FatFile, file_held}
-use Rattle.mach_image.specs.Image.{Opens, ImageFault}
-use Rattle.mach_headers.specs.Magic.{hint_in}
-use Rattle.mach_image.specs.OpenImage.{IsImage}
+use Rattle.goblin_mach.specs.Image.{Opens, ImageFault}
+use Rattle.mach_parts.specs.Magic.{hint_in}
+use Rattle.goblin_mach.specs.OpenImage.{IsImage}
 use Rattle.goblin_mach.specs.declared.fat_file.entry.SingleArch.TheVariants.{MachO, Archive}
 use Rattle.goblin_mach.specs.declared.fat_file.entry.SingleArch.{SingleArch}
 use Rattle.goblin_mach.specs.declared.fat_file.table.EntryIterator.{EntryIterator}

@@ -7,8 +7,8 @@ use Rattle.mach_base.specs.Number.{number, bounded}
 use Rattle.mach_base.specs.declared.context.Endian.TheVariants.{Big}
 use Rattle.mach_base.specs.declared.error.Error.{Error}
 use Rattle.mach_base.specs.Items.{items_from, all_read, read_as}
-use Rattle.mach_headers.specs.declared.fat.FatArch.{FatArch}
-use Rattle.mach_arches.specs.ArchForms.{ArchForm, arch_form_32, arch_place_in, arch_in}
+use Rattle.mach_parts.specs.declared.fat.FatArch.{FatArch}
+use Rattle.mach_parts.specs.ArchForms.{ArchForm, arch_form_32, arch_place_in, arch_in}
 use Rattle.goblin_mach.specs.declared.fat_file.arches.ArchIterator.{ArchIterator}
 use Rattle.goblin_mach.specs.declared.fat_file.table.FatTable.{FatTable}
 

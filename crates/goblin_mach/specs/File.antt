@@ -3,10 +3,10 @@ use Rattle.std.specs.Prelude.{◌≡◌, ℕ, ◌<◌, ◌≤◌, ◌⊎◌, Lis
 use Rattle.mach_base.specs.declared.context.Endian.TheVariants.{Big}
 use Rattle.mach_base.specs.Fault.{Fault, malformed}
 use Rattle.mach_base.specs.Number.{number_at}
-use Rattle.mach_image.specs.declared.macho.MachO.{MachO}
+use Rattle.goblin_mach.specs.declared.macho.MachO.{MachO}
 use Rattle.goblin_mach.specs.FatFile.{fat_file_in, file_held}
 use Rattle.goblin_mach.specs.declared.fat_file.table.FatTable.{FatTable}
-use Rattle.mach_headers.specs.declared.fat.FatArch.{FatArch}
+use Rattle.mach_parts.specs.declared.fat.FatArch.{FatArch}
 use Rattle.goblin_mach.specs.declared.mach.Mach.TheVariants.{Fat, Binary}
 use Rattle.goblin_mach.specs.declared.mach.Mach.{Mach}
 

@@ -4,19 +4,19 @@ use Rattle.mach_base.specs.Context.{pointer_size}
 use Rattle.mach_base.specs.Fault.{Fault, bad_magic, malformed, too_short, fault_of_scroll}
 use Rattle.mach_base.specs.declared.error.Error.TheVariants as errors
 use Rattle.mach_base.specs.declared.error.Error.{Error}
-use Rattle.mach_binds.specs.BindViews.{imports_seen}
-use Rattle.mach_tries.specs.Exports.{entries}
+use Rattle.mach_dyld.specs.BindViews.{imports_seen}
+use Rattle.mach_dyld.specs.Exports.{entries}
 use Rattle.mach_base.specs.Text.{texts}
-use Rattle.mach_binds.specs.Imports.{Import}
-use Rattle.mach_tries.specs.Trie as trie
-use Rattle.mach_image.specs.Facts.{HasExports, HasExportsFault, HasImports, HasImportsFault}
+use Rattle.mach_dyld.specs.Imports.{Import}
+use Rattle.mach_dyld.specs.Trie as trie
+use Rattle.goblin_mach.specs.Facts.{HasExports, HasExportsFault, HasImports, HasImportsFault}
 use Rattle.goblin_mach.specs.FatEntry.{FatEntry, image, entries_of, FatEntryFault, archive}
 use Rattle.goblin_mach.specs.FatFile.{FatFile, fat_file_in, arches_in}
-use Rattle.mach_image.specs.Image.{Opens, ImageFault}
+use Rattle.goblin_mach.specs.Image.{Opens, ImageFault}
 use Rattle.goblin_mach.specs.File.{HasFatMagic, MachFault}
-use Rattle.mach_image.specs.OpenImage.{trie_held, binds_held, ctx_held, segments_held}
-use Rattle.mach_image.specs.Subjects.{ListsImageImports, ImageImportsFault, ListsImageExports, ImageExportsFault}
-use Rattle.mach_image.specs.declared.macho.MachO.{MachO}
+use Rattle.goblin_mach.specs.OpenImage.{trie_held, binds_held, ctx_held, segments_held}
+use Rattle.goblin_mach.specs.Subjects.{ListsImageImports, ImageImportsFault, ListsImageExports, ImageExportsFault}
+use Rattle.goblin_mach.specs.declared.macho.MachO.{MachO}
 use Rattle.goblin_mach.specs.declared.view.LinkView.TheVariants.{Image, Archive}
 use Rattle.goblin_mach.specs.declared.view.LinkView.{LinkView}
 use Rattle.goblin_mach.specs.declared.view.Links.{Links}

@@ -2,63 +2,98 @@
 //! in, and every refusal a fault that stands in them.
 #![tactic(auto)]
 
+// The image: its header, its commands, and what they say, as slices, texts and records of the bytes.
+mod bindings;
+mod command_iterator;
+mod commands;
+pub mod entry;
+mod exported;
+mod fields;
+pub mod fixups;
+pub mod libraries;
+mod macho;
+mod named_bytes;
+mod once;
+mod opened;
+pub mod readings;
+mod rebases;
+mod relocations;
+mod subjects;
+pub mod table_places;
+mod weak_binds;
+
+// A file: an image, a fat file, or whatever else has images in it.
 mod fat_file;
-pub mod laws;
+mod images;
+mod input;
+mod item;
 mod mach;
 mod view;
 
+// Whether the parts of an image lie as the format and its readers demand.
+pub mod layout;
+
+// Laws, and what is known of an image's answers.
+mod facts;
+pub mod laws;
+mod slot_facts;
+mod stream_facts;
+mod table_facts;
+
+pub use crate::bindings::BindingIterator;
+pub use crate::command_iterator::CommandIterator;
+pub use crate::exported::find_export;
 pub use crate::fat_file::arches::{ArchIterator, FatArch64Iterator, FatArchIterator};
 pub use crate::fat_file::entry::SingleArch;
 pub use crate::fat_file::table::{
     EntryIterator, FatTable, MultiArch, MultiArch64, SingleArch64Iterator, SingleArchIterator,
 };
+pub use crate::fixups::FixupIterator;
+pub use crate::images::Images;
+pub use crate::input::{Input, begins_archive};
+pub use crate::item::{Content, EntryCpu, InputItem, Place};
+pub use crate::libraries::{Library, LibraryAttributes, LibraryIterator, LibraryKind};
 pub use crate::mach::Mach;
+pub use crate::macho::MachO;
+pub use crate::rebases::RebaseIterator;
+pub use crate::subjects::{id_place, library_place, run_path_place};
 pub use crate::view::{LinkView, link_view};
-pub use mach_arches::{ArchRecord, FAT_MAGIC_64, FatArch64, SIZEOF_FAT_ARCH_64};
 pub use mach_base::{
     BE, Container, Ctx, Description, Endian, Error, Hint, HintData, IntoCtx, LE, Record, Result,
     ScrollError, SizeWith, Sleb128, Steps, TryFromCtx, TryIntoCtx, Uleb128, describe, gread_with,
     pread_with, pwrite_with, read_text, take_hint_bytes,
 };
-pub use mach_binds::bindings::OpcodeBindingIterator;
-pub use mach_binds::{bind_opcodes, imports};
-pub use mach_headers::magic::{parse_magic_and_ctx, peek, peek_bytes};
-pub use mach_headers::{fat, header};
-pub use mach_image::bindings::BindingIterator;
-pub use mach_image::command_iterator::CommandIterator;
-pub use mach_image::exported::find_export;
-pub use mach_image::fixups::FixupIterator;
-pub use mach_image::libraries::{Library, LibraryAttributes, LibraryIterator, LibraryKind};
-pub use mach_image::macho::MachO;
-pub use mach_image::rebases::RebaseIterator;
-pub use mach_image::subjects::{id_place, library_place, run_path_place};
-pub use mach_records::{constants, cputype};
-pub use mach_segments::binding::{Binding, Provider};
-pub use mach_segments::{relocation, segment};
-pub use mach_streams::{
+pub use mach_dyld::bindings::OpcodeBindingIterator;
+pub use mach_dyld::{
     OpcodeRebaseIterator, Rebase, RebaseKind, RebaseStream, WeakBind, WeakBindIterator,
-    WeakBindStream, rebase_opcodes,
+    WeakBindStream, bind_opcodes, exports, imports, rebase_opcodes,
 };
-pub use mach_symbols::symbols;
-pub use mach_tables::{
+pub use mach_load::{
     BuildToolIterator, DataInCodeIterator, FunctionStartIterator, FunctionStarts,
     LinkerOptionIterator, Note, NoteIterator,
 };
-pub use mach_tries::exports;
+pub use mach_parts::binding::{Binding, Provider};
+pub use mach_parts::magic::{parse_magic_and_ctx, peek, peek_bytes};
+pub use mach_parts::{
+    ArchRecord, FAT_MAGIC_64, FatArch64, SIZEOF_FAT_ARCH_64, fat, header, relocation, segment,
+    symbols,
+};
+pub use mach_records::{constants, cputype};
 
 /// Chained fixups: what the data of `LC_DYLD_CHAINED_FIXUPS` and the pointers of the segments hold.
 pub mod chained_fixups {
     pub use mach_chained::{
         ChainPointer, ChainedBindIterator, ChainedFixups, ChainedFixupsHeader, ChainedImport,
         ChainedImportIterator, ChainedStartsInSegment, Fixup, FixupCursor, FixupIterator,
-        FixupKind, ImportFormat, PointerAuth, PointerFormat, SIZEOF_CHAINED_FIXUPS_HEADER,
+        FixupKind, ImportFormat, PointerFormat, SIZEOF_CHAINED_FIXUPS_HEADER,
         SIZEOF_CHAINED_STARTS_IN_SEGMENT, read_pointer,
     };
+    pub use mach_parts::binding::PointerAuth;
 }
 
 /// Indirect symbols, and the stubs and pointers that stand for symbols.
 pub mod slots {
-    pub use mach_slots::{
+    pub use mach_parts::{
         IndirectSymbol, IndirectSymbolIterator, IndirectSymbols, SlotIterator, SlotKind,
         SlotSource, SlotSymbol, SymbolSlot, symbol_slot_at,
     };

@@ -2,13 +2,13 @@
 
 ghost use Rattle.std.specs.Prelude.{IfOk, IfErr, IsOk};
 ghost use Rattle.mach_base.specs.Answer.{Stands, IsOkUnlessMemory};
-ghost use Rattle.mach_image.specs.Image.{Opens, LossyOpens, ImageFault, LossyFault};
+ghost use Rattle.goblin_mach.specs.Image.{Opens, LossyOpens, ImageFault, LossyFault};
 ghost use Rattle.goblin_mach.specs.File.{IsFat, MachOpens, MachFault};
 
 use crate::fat_file::table::MultiArch;
+use crate::macho::MachO;
 use mach_base::{Endian, Error, Result};
-use mach_headers::fat::FAT_MAGIC;
-use mach_image::macho::MachO;
+use mach_parts::fat::FAT_MAGIC;
 use std::alloc::{Allocator, Global};
 
 /// What a file is.
@@ -22,7 +22,7 @@ pub enum Mach<'a, A: Allocator = Global> {
 }
 
 impl<'a, A: Allocator + Clone> Mach<'a, A> {
-    ghost use Rattle.mach_image.specs.OpenImage.{IsImage, IsLossyImage};
+    ghost use Rattle.goblin_mach.specs.OpenImage.{IsImage, IsLossyImage};
     ghost use Rattle.goblin_mach.specs.File.{IsMach};
 
     /// Opens a file: a fat file where its magic says so, which takes no memory, else an image. Each refusal

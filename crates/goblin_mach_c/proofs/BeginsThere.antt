@@ -3,10 +3,10 @@ use Rattle.std.proofs.Common.{◌≡◌, ◌++◌, ◌∙◌, [], ◌∷◌, ℕ
 use Rattle.mach_base.specs.Fault.{Fault}
 use Rattle.mach_chained.specs.Fixups.{Fixup}
 use Rattle.mach_chained.specs.Header.{Fixups}
-use Rattle.mach_binds.specs.Bindings.{upto_fault}
-use Rattle.mach_segments.specs.Bindings.{Binding}
-use Rattle.mach_image.specs.Bindings.{AreChainBindings, AreImageBindings}
-use Rattle.mach_image.specs.Fixups.{AreImageFixups}
+use Rattle.mach_dyld.specs.Bindings.{upto_fault}
+use Rattle.mach_parts.specs.Bindings.{Binding}
+use Rattle.goblin_mach.specs.Bindings.{AreChainBindings, AreImageBindings}
+use Rattle.goblin_mach.specs.Fixups.{AreImageFixups}
 use Rattle.goblin_mach_c.specs.BindingsBehind as behind
 use Rattle.goblin_mach_c.specs.BindingsBehind.{AreBindingsBehind, bindings_by}
 use Rattle.goblin_mach_c.specs.FixupsBehind as fixups

@@ -13,9 +13,9 @@ use Rattle.mach_chained.specs.Header.{Fixups, fixups_at, header_at, readable_hea
 use Rattle.mach_chained.specs.Views.{fixups_view}
 use Rattle.mach_chained.specs.declared.format.ImportFormat.{ImportFormat}
 use Rattle.mach_chained.specs.declared.header.ChainedFixupsHeader.{ChainedFixupsHeader}
-use Rattle.mach_segments.specs.Segment.{SegmentView, segment_view}
-use Rattle.mach_segments.specs.declared.segment.Segment.{Segment}
-use Rattle.mach_image.specs.Fixups.{base_of, chained_at}
+use Rattle.mach_parts.specs.Segment.{SegmentView, segment_view}
+use Rattle.mach_parts.specs.declared.segment.Segment.{Segment}
+use Rattle.goblin_mach.specs.Fixups.{base_of, chained_at}
 use Rattle.goblin_mach_c.specs.BindingsBehind.{bindings_by, chains_by}
 use Rattle.goblin_mach_c.specs.FixupsBehind.{AreFixupRowsOver, fixup_rows_left}
 use Rattle.goblin_mach_c.specs.ImportsBehind.{Binds}

@@ -15,10 +15,10 @@ use Rattle.mach_chained.specs.Bindings.{binding_by, binding_in, chained_binding_
 use Rattle.mach_chained.specs.Fixups.{Fixup, FixupInput}
 use Rattle.mach_chained.specs.Imports.{FixupImport, import_at}
 use Rattle.mach_chained.specs.Pointers.{KindOfFixup, bind}
-use Rattle.mach_segments.specs.Bindings.{Binding, Provider, provider_of}
+use Rattle.mach_parts.specs.Bindings.{Binding, Provider, provider_of}
 use Rattle.mach_base.specs.declared.error.Error.{Error}
-use Rattle.mach_binds.specs.BindCursors.{TextStands}
-use Rattle.mach_binds.specs.declared.imports.cursor.PlacedBinding.{PlacedBinding}
+use Rattle.mach_dyld.specs.BindCursors.{TextStands}
+use Rattle.mach_dyld.specs.declared.imports.cursor.PlacedBinding.{PlacedBinding}
 use Rattle.goblin_mach_c.specs.BindingRows.{NameStandsAt}
 use Rattle.goblin_mach_c.specs.BindingsBehind.{HasPlacedName}
 

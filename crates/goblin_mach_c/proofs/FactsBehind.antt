@@ -3,9 +3,9 @@ use Rattle.std.proofs.Common.{Option, Result}
 use Rattle.mach_base.specs.Context.{pointer_size}
 use Rattle.mach_base.specs.Fault.{Fault}
 use Rattle.mach_chained.specs.Header.{Fixups}
-use Rattle.mach_image.specs.Fixups.{chained_in, chained_place_in}
-use Rattle.mach_image.specs.ImageFacts.{Facts}
-use Rattle.mach_image.specs.ImageStreams.{rebase_stream_in, weak_stream_in}
+use Rattle.goblin_mach.specs.Fixups.{chained_in, chained_place_in}
+use Rattle.goblin_mach.specs.ImageFacts.{Facts}
+use Rattle.goblin_mach.specs.ImageStreams.{rebase_stream_in, weak_stream_in}
 use Rattle.goblin_mach_c.specs.BindingPlaces.{data_place}
 use Rattle.goblin_mach_c.specs.BindingsBehind.{BindingSource}
 use Rattle.goblin_mach_c.specs.ImportsBehind.{Binds}

@@ -6,7 +6,7 @@ use Rattle.std.proofs.lemmas.Bool.{cases_lt, le-leb, lt-leb}
 use Rattle.mach_base.specs.Answer.{◌>>=◌}
 use Rattle.mach_base.specs.Fault.{bad_offset, too_big}
 use Rattle.mach_base.specs.Record.{Value}
-use Rattle.mach_headers.specs.Fat.{fat_arch_of_values}
+use Rattle.mach_parts.specs.Fat.{fat_arch_of_values}
 use Rattle.goblin_mach.specs.FatFile.{arch_at, arch_place}
 use Rattle.goblin_mach_c.specs.FatRows.{fat_row, whole_fat_records}
 

@@ -7,11 +7,11 @@ use Rattle.mach_base.specs.Fault.{Fault, fault_of}
 use Rattle.mach_base.specs.Text.{texts}
 use Rattle.mach_base.specs.declared.error.Error.{Error}
 use Rattle.mach_base.specs.declared.error.Error.TheVariants as errors
-use Rattle.mach_image.proofs.ImageFacts.{facts_are}
-use Rattle.mach_image.specs.Facts.{HasExportsFault}
-use Rattle.mach_image.specs.OpenImage.{IsLossyImage, trie_held}
-use Rattle.mach_image.specs.Subjects.{ImageExportsFault, trie_or_empty}
-use Rattle.mach_image.specs.declared.macho.MachO.{MachO}
+use Rattle.goblin_mach.proofs.ImageFacts.{facts_are}
+use Rattle.goblin_mach.specs.Facts.{HasExportsFault}
+use Rattle.goblin_mach.specs.OpenImage.{IsLossyImage, trie_held}
+use Rattle.goblin_mach.specs.Subjects.{ImageExportsFault, trie_or_empty}
+use Rattle.goblin_mach.specs.declared.macho.MachO.{MachO}
 use Rattle.goblin_mach_c.specs.Codes.{code_of_fault}
 use Rattle.goblin_mach_c.specs.ExportRows.{HasFaultOnWay, HasNameFault, IsOnWayIn}
 

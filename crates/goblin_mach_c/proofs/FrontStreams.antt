@@ -6,14 +6,14 @@ use Rattle.std.proofs.lemmas.List.{drop-take, take-take}
 use Rattle.mach_base.specs.Record.{number_among, Value}
 use Rattle.mach_load.specs.Command.{Command}
 use Rattle.mach_load.specs.Commands.{Kind, dyld_info, dyld_info_only}
-use Rattle.mach_binds.specs.BindCursors.{TextStands}
-use Rattle.mach_streams.specs.Cut.{CutStream}
-use Rattle.mach_streams.specs.WeakBindsLeft.{weak_bind_view}
-use Rattle.mach_streams.specs.declared.weak_binds.WeakBind as declared
-use Rattle.mach_streams.specs.declared.weak_binds.WeakBind.TheVariants as variants
-use Rattle.mach_cursors.specs.WeakCursors.{name_of_weak}
-use Rattle.mach_image.specs.ImageStreams.{opcodes_of, weak_stream_by, weak_stream_in}
-use Rattle.mach_image.specs.Readings.{keep, last_or, read_of}
+use Rattle.mach_dyld.specs.BindCursors.{TextStands}
+use Rattle.mach_dyld.specs.Cut.{CutStream}
+use Rattle.mach_dyld.specs.WeakBindsLeft.{weak_bind_view}
+use Rattle.mach_dyld.specs.declared.weak_binds.WeakBind as declared
+use Rattle.mach_dyld.specs.declared.weak_binds.WeakBind.TheVariants as variants
+use Rattle.mach_c_places.specs.WeakCursors.{name_of_weak}
+use Rattle.goblin_mach.specs.ImageStreams.{opcodes_of, weak_stream_by, weak_stream_in}
+use Rattle.goblin_mach.specs.Readings.{keep, last_or, read_of}
 use Rattle.goblin_mach_c.specs.BindingRows.{NameStandsAt}
 use Rattle.goblin_mach_c.specs.WeakRows.{weak_name}
 use Rattle.goblin_mach_c.proofs.BoundNames.{text_stands}

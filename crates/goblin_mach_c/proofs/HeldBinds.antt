@@ -5,11 +5,11 @@ use Rattle.std.specs.declared.alloc.Global.{Global}
 use Rattle.mach_base.specs.Record.{Value}
 use Rattle.mach_load.specs.Command.{Command}
 use Rattle.mach_load.specs.Commands.{Kind, dyld_info, dyld_info_only}
-use Rattle.mach_binds.specs.Imports.{BindRanges}
-use Rattle.mach_image.specs.OpenImage.{IsLossyImage, binds_held, commands_held}
-use Rattle.mach_image.specs.Readings.{keep, last_or, read_of}
-use Rattle.mach_image.specs.Subjects.{bind_ranges_of, binds_by}
-use Rattle.mach_image.specs.declared.macho.MachO.{MachO}
+use Rattle.mach_dyld.specs.Imports.{BindRanges}
+use Rattle.goblin_mach.specs.OpenImage.{IsLossyImage, binds_held, commands_held}
+use Rattle.goblin_mach.specs.Readings.{keep, last_or, read_of}
+use Rattle.goblin_mach.specs.Subjects.{bind_ranges_of, binds_by}
+use Rattle.goblin_mach.specs.declared.macho.MachO.{MachO}
 
 is_some_of : (v b : BindRanges) → Some v ≡ Some b → v ≡ b
 is_some_of v b e = cc

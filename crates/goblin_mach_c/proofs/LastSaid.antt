@@ -1,7 +1,7 @@
 -- What the last command of a subject says, one command after the other.
 use Rattle.std.proofs.Common.{◌≡◌, List, Option, Some, None, Result, Ok, Err, refl}
 use Rattle.mach_base.specs.Fault.{Fault}
-use Rattle.mach_image.specs.Readings.{keep, last_or, said}
+use Rattle.goblin_mach.specs.Readings.{keep, last_or, said}
 
 -- what one command says comes before what those behind it say
 pub last_keeps : {V : Type 0} (last : Option V) (found : Option (Result V Fault)) (rest : List V)

@@ -6,10 +6,10 @@ use Rattle.mach_base.specs.Number.{place_after}
 use Rattle.mach_base.specs.Text.{text_at}
 use Rattle.mach_base.specs.declared.context.Endian.{Endian}
 use Rattle.mach_load.specs.Command.{Command}
-use Rattle.mach_image.specs.Libraries.{dylib_of_values, library_attributes, library_kind, named_library}
-use Rattle.mach_image.specs.Subjects.{name_place}
-use Rattle.mach_image.specs.declared.libraries.LibraryAttributes.{LibraryAttributes}
-use Rattle.mach_image.specs.declared.libraries.LibraryKind.{LibraryKind}
+use Rattle.goblin_mach.specs.Libraries.{dylib_of_values, library_attributes, library_kind, named_library}
+use Rattle.goblin_mach.specs.Subjects.{name_place}
+use Rattle.goblin_mach.specs.declared.libraries.LibraryAttributes.{LibraryAttributes}
+use Rattle.goblin_mach.specs.declared.libraries.LibraryKind.{LibraryKind}
 use Rattle.mach_records.specs.declared.libraries.Dylib.{Dylib}
 use Rattle.goblin_mach_c.specs.PartRows.{attributes_number, library_kind_number, library_row, library_row_by, shown}
 use Rattle.goblin_mach_c.specs.declared.libraries.gm_library.{gm_library}

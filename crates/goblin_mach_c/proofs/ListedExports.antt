@@ -3,17 +3,17 @@ use Rattle.std.proofs.Common.{◌≡◌, ◌<◌, ◌+◌, ◌∙◌, ◌++◌, 
 use Rattle.std.proofs.lemmas.List.{append-nil, append_assoc, length-append, drop-drop}
 use Rattle.std.proofs.Math.Seq.{take-append_seam, drop-append-add}
 use Rattle.mach_base.specs.Text.{text_at}
-use Rattle.mach_tries.specs.CursorState.{name_met_last}
-use Rattle.mach_tries.specs.Cursors.{HasGivenTo, IsOwnAt, IsReexportAt, NextGives, place_at}
-use Rattle.mach_tries.specs.Exports.{info_of}
-use Rattle.mach_tries.specs.Nodes as Nodes
-use Rattle.mach_tries.specs.Trie.{Entry, Info, entry, regular, reexport, stub}
-use Rattle.mach_tries.specs.TrieRange.{TrieRange, trie_there}
-use Rattle.mach_tries.specs.Unfolds.{IsNextNode}
-use Rattle.mach_tries.specs.declared.cursor.NextExport.TheVariants.{Export}
-use Rattle.mach_tries.specs.declared.cursor.TrieCursor.{TrieCursor}
-use Rattle.mach_tries.specs.declared.info.ExportInfo.{ExportInfo}
-use Rattle.mach_tries.specs.declared.walk.Open.{Open}
+use Rattle.mach_dyld.specs.CursorState.{name_met_last}
+use Rattle.mach_dyld.specs.Cursors.{HasGivenTo, IsOwnAt, IsReexportAt, NextGives, place_at}
+use Rattle.mach_dyld.specs.Exports.{info_of}
+use Rattle.mach_dyld.specs.Nodes as Nodes
+use Rattle.mach_dyld.specs.Trie.{Entry, Info, entry, regular, reexport, stub}
+use Rattle.mach_dyld.specs.TrieRange.{TrieRange, trie_there}
+use Rattle.mach_dyld.specs.Unfolds.{IsNextNode}
+use Rattle.mach_dyld.specs.declared.trie_cursor.NextExport.TheVariants.{Export}
+use Rattle.mach_dyld.specs.declared.trie_cursor.TrieCursor.{TrieCursor}
+use Rattle.mach_dyld.specs.declared.export_info.ExportInfo.{ExportInfo}
+use Rattle.mach_dyld.specs.declared.trie_walk.Open.{Open}
 use Rattle.goblin_mach_c.specs.ExportRows.{export_row, text_or_empty}
 use Rattle.goblin_mach_c.specs.ExportWalk.{AreListed, AreWritten, IsBrought, IsListed, IsNodeOf, IsNumbered, names_of}
 use Rattle.goblin_mach_c.specs.declared.exports.gm_listed_export.{gm_listed_export}

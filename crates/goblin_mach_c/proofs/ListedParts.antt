@@ -6,10 +6,10 @@ use Rattle.mach_base.specs.Fault.{Fault}
 use Rattle.mach_base.specs.Items.{items_from}
 use Rattle.mach_base.specs.Text.{run_at}
 use Rattle.mach_records.specs.declared.versions.BuildToolVersion.{BuildToolVersion}
-use Rattle.mach_tables.specs.BuildTools.{tool_at}
-use Rattle.mach_tables.specs.CommandLists.{with_number}
-use Rattle.mach_tables.specs.LinkerOptions.{option_at, option_place}
-use Rattle.mach_tables.proofs.OptionsRead.{items_behind}
+use Rattle.mach_load.specs.BuildTools.{tool_at}
+use Rattle.mach_load.specs.CommandLists.{with_number}
+use Rattle.mach_load.specs.LinkerOptions.{option_at, option_place}
+use Rattle.mach_load.proofs.OptionsRead.{items_behind}
 use Rattle.goblin_mach_c.specs.TableRows.{options_of_part, placed_option, placed_options, tools_in_part, tools_of_part, with_command}
 use Rattle.goblin_mach_c.specs.declared.listed.Part.{Part}
 use Rattle.goblin_mach_c.proofs.Filled.{items_next}

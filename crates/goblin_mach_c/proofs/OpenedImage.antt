@@ -13,14 +13,14 @@ use Rattle.mach_base.specs.declared.context.Endian.TheVariants as order
 use Rattle.mach_base.specs.declared.context.Ctx.{Ctx}
 use Rattle.mach_base.specs.declared.error.Error.{Error}
 use Rattle.mach_base.specs.declared.error.Error.TheVariants as errors
-use Rattle.mach_headers.specs.Header.{header_size}
-use Rattle.mach_segments.specs.Segment.{segment_view}
-use Rattle.mach_segments.specs.Segments.{segments_in}
-use Rattle.mach_symbols.specs.Symbols.{SymbolTable}
+use Rattle.mach_parts.specs.Header.{header_size}
+use Rattle.mach_parts.specs.Segment.{segment_view}
+use Rattle.mach_parts.specs.Segments.{segments_in}
+use Rattle.mach_parts.specs.Symbols.{SymbolTable}
 use Rattle.mach_load.specs.Variants.{command_of}
-use Rattle.mach_image.specs.Image.{AllReadable}
-use Rattle.mach_image.specs.OpenImage.{IsImage, IsLossyImage, commands_held}
-use Rattle.mach_image.specs.declared.macho.MachO.{MachO}
+use Rattle.goblin_mach.specs.Image.{AllReadable}
+use Rattle.goblin_mach.specs.OpenImage.{IsImage, IsLossyImage, commands_held}
+use Rattle.goblin_mach.specs.declared.macho.MachO.{MachO}
 use Rattle.goblin_mach_c.specs.Codes.{IsRefusalCode, code_of_fault}
 use Rattle.goblin_mach_c.specs.Opened.{AreTableNumbers, HoldsNumbers, IsOpened, flag, width_of}
 use Rattle.goblin_mach_c.specs.Seen.{ctx_seen}

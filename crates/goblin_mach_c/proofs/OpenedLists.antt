@@ -10,17 +10,17 @@ use Rattle.mach_base.specs.declared.context.Ctx.{Ctx}
 use Rattle.mach_base.proofs.Binds.{chosen, same_ok}
 use Rattle.mach_base.specs.Items.{items_from}
 use Rattle.mach_load.specs.Command.{Command, cmdsize_of, command_at}
-use Rattle.mach_headers.specs.Header.{header_size}
-use Rattle.mach_segments.specs.Segment.{SegmentView}
-use Rattle.mach_symbols.specs.Symbols.{SymbolTable, symbol_at, symbols_of, table_at}
-use Rattle.mach_symbols.specs.declared.symbols.nlist.Nlist.{Nlist}
+use Rattle.mach_parts.specs.Header.{header_size}
+use Rattle.mach_parts.specs.Segment.{SegmentView}
+use Rattle.mach_parts.specs.Symbols.{SymbolTable, symbol_at, symbols_of, table_at}
+use Rattle.mach_parts.specs.declared.symbols.nlist.Nlist.{Nlist}
 use Rattle.mach_records.specs.SymbolTables.{symtab_command_of_values}
 use Rattle.mach_records.specs.declared.symbol_tables.SymtabCommand.{SymtabCommand}
-use Rattle.mach_image.specs.Chain.{AllThere, BeginsAt, IsLinked}
-use Rattle.mach_image.specs.Facts.{HasCommands, HasSegments, HasSymbols}
-use Rattle.mach_image.specs.Image.{LossyOpensAs}
-use Rattle.mach_image.specs.Subjects.{is_symtab, lossy_segment_by, symbols_in, table_by, table_in}
-use Rattle.mach_image.specs.Readings.{Reading, keep, last_or, read_of}
+use Rattle.goblin_mach.specs.Chain.{AllThere, BeginsAt, IsLinked}
+use Rattle.goblin_mach.specs.Facts.{HasCommands, HasSegments, HasSymbols}
+use Rattle.goblin_mach.specs.Image.{LossyOpensAs}
+use Rattle.goblin_mach.specs.Subjects.{is_symtab, lossy_segment_by, symbols_in, table_by, table_in}
+use Rattle.goblin_mach.specs.Readings.{Reading, keep, last_or, read_of}
 use Rattle.goblin_mach_c.specs.CommandRows.{readable_commands_from, commands_seen, with_those_behind}
 use Rattle.goblin_mach_c.specs.Opened.{AreNumbers, AreTableNumbers, IsOpened}
 use Rattle.goblin_mach_c.specs.Seen.{ctx_seen}

@@ -2,11 +2,11 @@
 use Rattle.std.proofs.Common.{◌≡◌, ◌∙◌, ℕ, List, Result, map, refl, ap}
 use Rattle.mach_base.specs.Fault.{Fault}
 use Rattle.mach_records.specs.declared.linkedit.DataInCodeEntry.{DataInCodeEntry}
-use Rattle.mach_slots.specs.declared.indirect.IndirectSymbol.{IndirectSymbol}
-use Rattle.mach_image.specs.ImageSlots.{indirect_symbols_in, indirect_table_in}
-use Rattle.mach_image.specs.SlotFacts.{HasIndirectSymbols}
-use Rattle.mach_image.specs.TableFacts.{HasDataInCode}
-use Rattle.mach_image.specs.Tables.{data_in_code_there, data_place_in}
+use Rattle.mach_parts.specs.declared.indirect.IndirectSymbol.{IndirectSymbol}
+use Rattle.goblin_mach.specs.ImageSlots.{indirect_symbols_in, indirect_table_in}
+use Rattle.goblin_mach.specs.SlotFacts.{HasIndirectSymbols}
+use Rattle.goblin_mach.specs.TableFacts.{HasDataInCode}
+use Rattle.goblin_mach.specs.Tables.{data_in_code_there, data_place_in}
 use Rattle.goblin_mach_c.specs.Opened.{IsOpened}
 use Rattle.goblin_mach_c.specs.Seen.{ctx_seen}
 use Rattle.goblin_mach_c.specs.TableRows.{data_in_code_row, data_in_code_rows, indirect_row, indirect_rows}

@@ -1,10 +1,10 @@
 -- What is written for C of a fat file of parts, by whether there is room for it.
 use Rattle.std.proofs.Common.{◌≡◌, ◌≤◌, ◌<◌, ◌++◌, ℕ, List, length, drop, nat_le, true, false, refl, sym, ap, subst, ◌∙◌, arith}
 use Rattle.std.proofs.lemmas.Bool.{le-leb, lt-leb}
-use Rattle.mach_write.specs.FatForms.{FatForm}
-use Rattle.mach_write.specs.Placed.{with_file}
-use Rattle.mach_fat_parts.specs.Parts.{MakesFat}
-use Rattle.mach_fat_parts.specs.declared.part.FatPart.{FatPart}
+use Rattle.mach_fat_writer.specs.FatForms.{FatForm}
+use Rattle.mach_fat_writer.specs.Placed.{with_file}
+use Rattle.mach_fat_writer.specs.Parts.{MakesFat}
+use Rattle.mach_fat_writer.specs.declared.part.FatPart.{FatPart}
 use Rattle.goblin_mach_c.specs.FatWrites.{IsFatFileOf, LacksRoom, WritesFat}
 
 module _ (bytes : List ℕ) (parts : List FatPart) (form : FatForm) (len : ℕ) (old new : List ℕ) (m : MakesFat bytes parts form len old new) where

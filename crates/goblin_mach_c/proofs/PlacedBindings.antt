@@ -2,19 +2,19 @@
 use Rattle.std.proofs.Common.{◌≡◌, ◌∙◌, ◌++◌, ◌∷◌, [], ℕ, List, Option, Some, None, Result, Ok, Err, IfOk, map, refl, sym, ap}
 use Rattle.mach_base.specs.Fault.{Fault, fault_of}
 use Rattle.mach_base.specs.declared.error.Error.{Error}
-use Rattle.mach_binds.specs.BindCursors.{placed_binding_read}
-use Rattle.mach_binds.specs.Bindings.{upto_fault}
-use Rattle.mach_binds.specs.Sites.{Site}
-use Rattle.mach_binds.specs.declared.bindings.OpcodeBindingIterator.{OpcodeBindingIterator}
-use Rattle.mach_binds.specs.declared.imports.cursor.PlacedBinding.{PlacedBinding}
+use Rattle.mach_dyld.specs.BindCursors.{placed_binding_read}
+use Rattle.mach_dyld.specs.Bindings.{upto_fault}
+use Rattle.mach_dyld.specs.Sites.{Site}
+use Rattle.mach_dyld.specs.declared.bindings.OpcodeBindingIterator.{OpcodeBindingIterator}
+use Rattle.mach_dyld.specs.declared.imports.cursor.PlacedBinding.{PlacedBinding}
 use Rattle.mach_chained.specs.Bindings.{binding_by}
 use Rattle.mach_chained.specs.Fixups.{Fixup, FixupInput}
 use Rattle.mach_chained.specs.Header.{Fixups}
 use Rattle.mach_chained.specs.Pointers.{KindOfFixup, rebase, bind, value}
-use Rattle.mach_segments.specs.Bindings.{Binding, binding_view}
-use Rattle.mach_segments.specs.Segment.{segment_view}
-use Rattle.mach_segments.specs.declared.segment.Segment.{Segment}
-use Rattle.mach_image.specs.Fixups.{base_of}
+use Rattle.mach_parts.specs.Bindings.{Binding, binding_view}
+use Rattle.mach_parts.specs.Segment.{segment_view}
+use Rattle.mach_parts.specs.declared.segment.Segment.{Segment}
+use Rattle.goblin_mach.specs.Fixups.{base_of}
 use Rattle.goblin_mach_c.specs.BindingPlaces.{AreBindingSitesAtStage, with_name_place, places_by, places_of}
 use Rattle.goblin_mach_c.specs.BindingsBehind.{AreBindingsAtStage, ArePlacedBehind, BindingSource, ComesFirst, PlaceFirst, PlacedFirst}
 use Rattle.goblin_mach_c.specs.BindingsBehind.{AreBindingRowsOver, bindings_by, chain_places, chains_by, opcode_rows_left, opcodes_placed}

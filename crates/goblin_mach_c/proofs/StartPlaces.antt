@@ -1,9 +1,9 @@
 -- The functions behind a cursor, by what is left of the numbers.
 use Rattle.std.proofs.Common.{◌≡◌, ◌∙◌, ◌+◌, ℕ, List, [], take, Some, None, Result, sym, subst, arith}
 use Rattle.mach_base.specs.Fault.{Fault}
-use Rattle.mach_tables.specs.FunctionStarts.{AreStartsBehind, starts_behind}
-use Rattle.mach_tables.proofs.StartsRead.{none_left, starts_are}
-use Rattle.mach_image.specs.Tables.{AreStartsAt}
+use Rattle.mach_load.specs.FunctionStarts.{AreStartsBehind, starts_behind}
+use Rattle.mach_load.proofs.StartsRead.{none_left, starts_are}
+use Rattle.goblin_mach.specs.Tables.{AreStartsAt}
 use Rattle.goblin_mach_c.specs.Stage.{Stage, start, under_way, over}
 use Rattle.goblin_mach_c.specs.StartsBehind.{AreStartsAtStage}
 use Rattle.goblin_mach_c.specs.declared.starts.gm_start_cursor.{gm_start_cursor}

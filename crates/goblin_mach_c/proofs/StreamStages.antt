@@ -5,14 +5,14 @@ use Rattle.mach_base.specs.Context.{pointer_size}
 use Rattle.mach_base.specs.Fault.{Fault}
 use Rattle.mach_base.specs.declared.context.Ctx.{Ctx}
 use Rattle.mach_base.specs.declared.context.Endian.{Endian}
-use Rattle.mach_segments.specs.Segment.{SegmentView}
+use Rattle.mach_parts.specs.Segment.{SegmentView}
 use Rattle.mach_chained.specs.Header.{Fixups}
-use Rattle.mach_binds.specs.declared.imports.cursor.BindCursor.{BindCursor}
-use Rattle.mach_streams.specs.Cut.{CutStream}
-use Rattle.mach_image.specs.Fixups.{chained_held}
-use Rattle.mach_image.specs.ImageStreams.{rebase_stream_in, weak_stream_in}
-use Rattle.mach_image.specs.OpenImage.{bytes_held, commands_held, ctx_held, segments_held}
-use Rattle.mach_image.specs.declared.macho.MachO.{MachO}
+use Rattle.mach_dyld.specs.declared.imports.cursor.BindCursor.{BindCursor}
+use Rattle.mach_dyld.specs.Cut.{CutStream}
+use Rattle.goblin_mach.specs.Fixups.{chained_held}
+use Rattle.goblin_mach.specs.ImageStreams.{rebase_stream_in, weak_stream_in}
+use Rattle.goblin_mach.specs.OpenImage.{bytes_held, commands_held, ctx_held, segments_held}
+use Rattle.goblin_mach.specs.declared.macho.MachO.{MachO}
 use Rattle.goblin_mach_c.specs.RebasesBehind.{AreRebasesAtStage, RebaseSource, rebase_source_of}
 use Rattle.goblin_mach_c.specs.Stage.{Stage, start, under_way, over}
 use Rattle.goblin_mach_c.specs.WeakBindsBehind.{AreWeakBindsAtStage, AreWeakSitesAtStage, WeakSource, weak_source_of}

@@ -8,8 +8,8 @@ use Rattle.mach_base.specs.Fault.{Fault, bad_input, bad_offset}
 use Rattle.mach_base.specs.Number.{place_after}
 use Rattle.mach_base.specs.Text.{run_at, text_at}
 use Rattle.mach_base.proofs.Binds.{chosen, same_ok}
-use Rattle.mach_symbols.specs.Symbols.{SymbolTable, nlist_at, symbol_at, symbol_place}
-use Rattle.mach_symbols.specs.declared.symbols.nlist.Nlist.{Nlist}
+use Rattle.mach_parts.specs.Symbols.{SymbolTable, nlist_at, symbol_at, symbol_place}
+use Rattle.mach_parts.specs.declared.symbols.nlist.Nlist.{Nlist}
 use Rattle.goblin_mach_c.specs.SymbolRows.{SaysSymbol, named_row, read_row, symbol_row}
 use Rattle.goblin_mach_c.specs.declared.symbols.gm_symbol.{gm_symbol}
 

@@ -14,10 +14,10 @@ use Rattle.mach_base.proofs.Binds.{bind_ok, chosen}
 use Rattle.mach_load.specs.Command.{Command}
 use Rattle.mach_load.specs.Commands.{Kind, dyld_info, dyld_info_only, dyld_exports_trie}
 use Rattle.mach_base.specs.Record.{Value, number_among}
-use Rattle.mach_tries.specs.Cursors.{place_at}
-use Rattle.mach_tries.specs.TrieRange.{TrieRange}
-use Rattle.mach_image.specs.Readings.{keep, last_or, read_of}
-use Rattle.mach_image.specs.Subjects.{range_by, trie_by, trie_in, trie_or_empty}
+use Rattle.mach_dyld.specs.Cursors.{place_at}
+use Rattle.mach_dyld.specs.TrieRange.{TrieRange}
+use Rattle.goblin_mach.specs.Readings.{keep, last_or, read_of}
+use Rattle.goblin_mach.specs.Subjects.{range_by, trie_by, trie_in, trie_or_empty}
 
 module _ (bytes : List ℕ) where
   -- a trie, if there is one, in these bytes

@@ -5,16 +5,16 @@ use Rattle.std.specs.declared.alloc.Global.{Global}
 use Rattle.mach_base.specs.Text.{text_at}
 use Rattle.mach_base.specs.Text.{texts}
 use Rattle.mach_base.specs.Fault.{malformed}
-use Rattle.mach_tries.specs.Cursors.{AreAllMet, place_at}
-use Rattle.mach_tries.specs.Trie.{Entry}
-use Rattle.mach_tries.specs.TrieRange.{TrieRange}
-use Rattle.mach_tries.specs.declared.walk.Open.{Open}
-use Rattle.mach_image.specs.Image.{LossyOpens}
-use Rattle.mach_image.specs.OpenImage.{IsLossyImage, commands_held, trie_held}
-use Rattle.mach_image.specs.Subjects.{trie_or_empty}
-use Rattle.mach_image.specs.declared.macho.MachO.{MachO}
-use Rattle.mach_image.proofs.ImageFacts.{exports_are, exports_fail, facts_are, libraries_are}
-use Rattle.mach_image.proofs.Walked.{walked_fault, walked_list}
+use Rattle.mach_dyld.specs.Cursors.{AreAllMet, place_at}
+use Rattle.mach_dyld.specs.Trie.{Entry}
+use Rattle.mach_dyld.specs.TrieRange.{TrieRange}
+use Rattle.mach_dyld.specs.declared.trie_walk.Open.{Open}
+use Rattle.goblin_mach.specs.Image.{LossyOpens}
+use Rattle.goblin_mach.specs.OpenImage.{IsLossyImage, commands_held, trie_held}
+use Rattle.goblin_mach.specs.Subjects.{trie_or_empty}
+use Rattle.goblin_mach.specs.declared.macho.MachO.{MachO}
+use Rattle.goblin_mach.proofs.ImageFacts.{exports_are, exports_fail, facts_are, libraries_are}
+use Rattle.goblin_mach.proofs.Walked.{walked_fault, walked_list}
 use Rattle.goblin_mach_c.specs.ExportWalk.{AreWritten, EndsWholeWith, GoesAlong, GivesFurther, HasLibrary, HasNextName, HasNodeOf, HasWalked, HasWalkedTrie}
 use Rattle.goblin_mach_c.specs.ExportWalk.{IsNextName, IsNodeOf, IsNumbered, no_batch}
 use Rattle.goblin_mach_c.proofs.ListedExports.{written_there}

@@ -1,15 +1,15 @@
 -- What a walk of an image's exports has given begins the image's list.
 use Rattle.std.proofs.Common.{◌≡◌, ◌++◌, [], ℕ, zero, suc, List, Option, Some, None, refl, sym, ap, subst, ◌∙◌, arith}
-use Rattle.mach_tries.specs.Lists.{ListBegins, Lists, nothing}
-use Rattle.mach_tries.specs.Trie.{Entry}
-use Rattle.mach_tries.specs.TrieRange.{TrieRange, trie_there}
-use Rattle.mach_tries.specs.declared.walk.Open.{Open}
-use Rattle.mach_tries.proofs.CursorTries.{begins_there}
-use Rattle.mach_tries.proofs.TrieBegins.{prefix_of}
-use Rattle.mach_tries.proofs.Unfoldings.{met_begins}
-use Rattle.mach_image.specs.Facts.{HasExports}
-use Rattle.mach_image.specs.Subjects.{ListsImageExports, libs_in, trie_in, trie_or_empty}
-use Rattle.mach_image.proofs.ImageFacts.{one_image}
+use Rattle.mach_dyld.specs.Lists.{ListBegins, Lists, nothing}
+use Rattle.mach_dyld.specs.Trie.{Entry}
+use Rattle.mach_dyld.specs.TrieRange.{TrieRange, trie_there}
+use Rattle.mach_dyld.specs.declared.trie_walk.Open.{Open}
+use Rattle.mach_dyld.proofs.CursorTries.{begins_there}
+use Rattle.mach_dyld.proofs.TrieBegins.{prefix_of}
+use Rattle.mach_dyld.proofs.Unfoldings.{met_begins}
+use Rattle.goblin_mach.specs.Facts.{HasExports}
+use Rattle.goblin_mach.specs.Subjects.{ListsImageExports, libs_in, trie_in, trie_or_empty}
+use Rattle.goblin_mach.proofs.ImageFacts.{one_image}
 use Rattle.goblin_mach_c.specs.ExportWalk.{HasWalked, HasWalkedTrie}
 use Rattle.goblin_mach_c.specs.declared.exports.gm_export_walk.{gm_export_walk}
 

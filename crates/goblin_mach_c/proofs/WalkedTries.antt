@@ -2,12 +2,12 @@
 use Rattle.std.proofs.Common.{◌-◌, ◌^◌, ◌<◌, Err, length, ◌≡◌, ◌≢◌, ◌++◌, ◌⊎◌, [], ℕ, List, Bool, true, false, Option, Some, None, sym, subst, ◌∙◌, arith}
 use Rattle.std.specs.Prelude.{◌==◌, nat_lt, if◌then◌else◌}
 use Rattle.mach_base.specs.Fault.{fault_of, malformed}
-use Rattle.mach_tries.specs.CursorState.{IsFull}
-use Rattle.mach_tries.specs.Cursors.{HasGivenTo, AreAllMet}
-use Rattle.mach_tries.specs.Trie.{Entry}
-use Rattle.mach_tries.specs.TrieRange.{ListsExports, ExportsFault, TrieRange}
-use Rattle.mach_tries.specs.declared.cursor.TrieCursor.{TrieCursor}
-use Rattle.mach_tries.specs.declared.walk.Open.{Open}
+use Rattle.mach_dyld.specs.CursorState.{IsFull}
+use Rattle.mach_dyld.specs.Cursors.{HasGivenTo, AreAllMet}
+use Rattle.mach_dyld.specs.Trie.{Entry}
+use Rattle.mach_dyld.specs.TrieRange.{ListsExports, ExportsFault, TrieRange}
+use Rattle.mach_dyld.specs.declared.trie_cursor.TrieCursor.{TrieCursor}
+use Rattle.mach_dyld.specs.declared.trie_walk.Open.{Open}
 use Rattle.goblin_mach_c.specs.ExportWalk.{AreWritten, GoesAlong, HasWalkedTrie, IsCode, IsCutFor, IsNextName, IsNodeOf, IsNumbered, StopsAt, end_number}
 use Rattle.goblin_mach_c.specs.ExportWalk.{next_export_of}
 use Rattle.goblin_mach_c.proofs.ListedExports.{written_there}

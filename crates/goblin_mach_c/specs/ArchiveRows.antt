@@ -6,11 +6,11 @@ use Rattle.mach_archive.specs.IndexSymbols.{IndexSymbol}
 use Rattle.mach_archive.specs.MemberHeaders.{date_field, gid_field, mode_field, uid_field}
 use Rattle.mach_archive.specs.MemberNames.{member_name_bytes}
 use Rattle.mach_archive.specs.Members.{MemberView}
-use Rattle.mach_archive_places.specs.ArchiveFinds.{archive_form, TellsFound}
-use Rattle.mach_archive_places.specs.Places.{TellsText}
-use Rattle.mach_archive_places.specs.PlacedItems.{ToldName}
-use Rattle.mach_archive_places.specs.declared.find.ArchiveForm.{ArchiveForm}
-use Rattle.mach_archive_places.specs.declared.find.ArchiveForm.TheVariants.{Bsd, Gnu, NoArchive, Thin}
+use Rattle.mach_c_places.specs.ArchiveFinds.{archive_form, TellsFound}
+use Rattle.mach_c_places.specs.ArchivePlaces.{TellsText}
+use Rattle.mach_c_places.specs.PlacedItems.{ToldName}
+use Rattle.mach_c_places.specs.declared.archive_find.ArchiveForm.{ArchiveForm}
+use Rattle.mach_c_places.specs.declared.archive_find.ArchiveForm.TheVariants.{Bsd, Gnu, NoArchive, Thin}
 use Rattle.goblin_mach_c.specs.Codes.{code_of_fault}
 use Rattle.goblin_mach_c.specs.declared.archive.gm_archive_member.{gm_archive_member}
 use Rattle.goblin_mach_c.specs.declared.archive.gm_archive_symbol.{gm_archive_symbol}

@@ -2,10 +2,10 @@
 -- name of the bind's import.
 use Rattle.std.specs.Prelude.{◌≡◌, ◌+◌, ℕ, List, [], ◌∷◌, map, Option, Some, None, Result, Ok, Err}
 use Rattle.mach_base.specs.Fault.{Fault}
-use Rattle.mach_binds.specs.Imports.{BindRanges, input_in}
-use Rattle.mach_binds.specs.SiteCursors.{AreBindingSites, binding_sites_behind}
-use Rattle.mach_binds.specs.Sites.{Site}
-use Rattle.mach_binds.specs.declared.imports.cursor.BindCursor.{BindCursor}
+use Rattle.mach_dyld.specs.Imports.{BindRanges, input_in}
+use Rattle.mach_dyld.specs.SiteCursors.{AreBindingSites, binding_sites_behind}
+use Rattle.mach_dyld.specs.Sites.{Site}
+use Rattle.mach_dyld.specs.declared.imports.cursor.BindCursor.{BindCursor}
 use Rattle.mach_chained.specs.Fixups.{Fixup}
 use Rattle.mach_chained.specs.Header.{Fixups}
 use Rattle.mach_chained.specs.Imports.{name_place_at}

@@ -5,31 +5,31 @@ use Rattle.mach_base.specs.Number.{slice_at}
 use Rattle.mach_base.specs.declared.context.Ctx.{Ctx}
 use Rattle.mach_base.specs.declared.error.Error.{Error}
 use Rattle.mach_load.specs.Command.{Command}
-use Rattle.mach_segments.specs.Bindings.{Binding, binding_view}
+use Rattle.mach_parts.specs.Bindings.{Binding, binding_view}
 use Rattle.mach_base.specs.Text.{texts}
-use Rattle.mach_segments.specs.Segment.{segment_view}
-use Rattle.mach_segments.specs.declared.segment.Segment.{Segment}
+use Rattle.mach_parts.specs.Segment.{segment_view}
+use Rattle.mach_parts.specs.declared.segment.Segment.{Segment}
 use Rattle.mach_chained.specs.Bindings.{bindings_of}
 use Rattle.mach_chained.specs.Fixups.{Fixup}
 use Rattle.mach_chained.specs.FixupsLeft as walk
 use Rattle.mach_chained.specs.Header.{Fixups}
 use Rattle.mach_chained.specs.Views.{fixups_view}
 use Rattle.mach_chained.specs.WalkViews.{fixup_input_in}
-use Rattle.mach_binds.specs.BindCursors.{IsOverBindings, opcode_bindings_behind}
-use Rattle.mach_binds.specs.Bindings.{upto_fault}
-use Rattle.mach_binds.specs.BindingsLeft as opcodes
-use Rattle.mach_binds.specs.Imports.{BindRanges, input_in}
-use Rattle.mach_binds.specs.SiteCursors.{binding_sites_left}
-use Rattle.mach_binds.specs.Sites.{Site}
-use Rattle.mach_binds.specs.declared.imports.cursor.BindCursor.{BindCursor}
-use Rattle.mach_binds.specs.declared.imports.cursor.PlacedBinding.{PlacedBinding}
-use Rattle.mach_binds.specs.declared.bindings.OpcodeBindingIterator.{OpcodeBindingIterator}
-use Rattle.mach_image.specs.Bindings.{AreOpcodeBindings}
-use Rattle.mach_image.specs.Facts.{OfImage}
-use Rattle.mach_image.specs.Fixups.{base_of, chained_held, chained_in, chained_place_in, input_over}
-use Rattle.mach_image.specs.FixupsLeft.{told_first}
-use Rattle.mach_image.specs.OpenImage.{bytes_held, commands_held}
-use Rattle.mach_image.specs.declared.macho.MachO.{MachO}
+use Rattle.mach_dyld.specs.BindCursors.{IsOverBindings, opcode_bindings_behind}
+use Rattle.mach_dyld.specs.Bindings.{upto_fault}
+use Rattle.mach_dyld.specs.BindingsLeft as opcodes
+use Rattle.mach_dyld.specs.Imports.{BindRanges, input_in}
+use Rattle.mach_dyld.specs.SiteCursors.{binding_sites_left}
+use Rattle.mach_dyld.specs.Sites.{Site}
+use Rattle.mach_dyld.specs.declared.imports.cursor.BindCursor.{BindCursor}
+use Rattle.mach_dyld.specs.declared.imports.cursor.PlacedBinding.{PlacedBinding}
+use Rattle.mach_dyld.specs.declared.bindings.OpcodeBindingIterator.{OpcodeBindingIterator}
+use Rattle.goblin_mach.specs.Bindings.{AreOpcodeBindings}
+use Rattle.goblin_mach.specs.Facts.{OfImage}
+use Rattle.goblin_mach.specs.Fixups.{base_of, chained_held, chained_in, chained_place_in, input_over}
+use Rattle.goblin_mach.specs.FixupsLeft.{told_first}
+use Rattle.goblin_mach.specs.OpenImage.{bytes_held, commands_held}
+use Rattle.goblin_mach.specs.declared.macho.MachO.{MachO}
 use Rattle.std.specs.declared.alloc.Global.{Global}
 use Rattle.goblin_mach_c.specs.BindingPlaces.{AreBindingSitesAtStage, data_place, places_by, places_in, places_of}
 use Rattle.goblin_mach_c.specs.BindingRows.{IsBindingRow, NameStandsAt}

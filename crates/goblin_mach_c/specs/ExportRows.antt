@@ -2,11 +2,11 @@
 use Rattle.std.specs.Prelude.{◌≡◌, ◌⊎◌, ◌++◌, ℕ, List, [], length, take, drop, min, Option, Some, None, Bool}
 use Rattle.std.specs.Str.{IsUtf8}
 use Rattle.mach_base.specs.Fault.{Fault, malformed}
-use Rattle.mach_tries.specs.LookUp.{FaultOnWay, IsFirstOf}
-use Rattle.mach_tries.specs.Trie.{Entry, Info, regular, reexport, stub}
-use Rattle.mach_tries.specs.TrieRange.{TrieRange, trie_there}
-use Rattle.mach_image.specs.Facts.{HasExportOf, HasExports, HasExportsFault, OfImage}
-use Rattle.mach_image.specs.Subjects.{libs_in, trie_in, trie_or_empty}
+use Rattle.mach_dyld.specs.LookUp.{FaultOnWay, IsFirstOf}
+use Rattle.mach_dyld.specs.Trie.{Entry, Info, regular, reexport, stub}
+use Rattle.mach_dyld.specs.TrieRange.{TrieRange, trie_there}
+use Rattle.goblin_mach.specs.Facts.{HasExportOf, HasExports, HasExportsFault, OfImage}
+use Rattle.goblin_mach.specs.Subjects.{libs_in, trie_in, trie_or_empty}
 use Rattle.goblin_mach_c.specs.Opened.{FaultIn}
 use Rattle.goblin_mach_c.specs.declared.find.gm_export.{gm_export}
 

@@ -3,18 +3,18 @@ use Rattle.std.specs.Prelude.{◌≡◌, ◌≢◌, ◌==◌, ◌+◌, ◌-◌, 
 use Rattle.std.specs.Prelude.{slice_get, if◌then◌else◌}
 use Rattle.mach_base.specs.Fault.{Fault, fault_of, malformed}
 use Rattle.mach_base.specs.Text.{text_at}
-use Rattle.mach_tries.specs.CursorState.{IsNextLabel}
-use Rattle.mach_tries.specs.Cursors.{HasGivenTo, NextGives, AreAllMet, IsCutShort, IsOwnAt, place_at}
-use Rattle.mach_tries.specs.Trie.{Entry, Info, regular, reexport, stub}
-use Rattle.mach_tries.specs.TrieRange.{ListsExports, ExportsFault, TrieRange, trie_there}
-use Rattle.mach_tries.specs.Unfolds.{IsNextNode}
-use Rattle.mach_tries.specs.declared.cursor.NextExport.{NextExport}
-use Rattle.mach_tries.specs.declared.cursor.NextExport.TheVariants as next
-use Rattle.mach_tries.specs.declared.cursor.TrieCursor.{TrieCursor}
-use Rattle.mach_tries.specs.declared.info.ExportInfo.{ExportInfo}
-use Rattle.mach_tries.specs.declared.walk.Open.{Open}
-use Rattle.mach_image.specs.Facts.{HasExports, HasExportsFault, HasLibraries, OfImage}
-use Rattle.mach_image.specs.Subjects.{libs_in, trie_in, trie_or_empty}
+use Rattle.mach_dyld.specs.CursorState.{IsNextLabel}
+use Rattle.mach_dyld.specs.Cursors.{HasGivenTo, NextGives, AreAllMet, IsCutShort, IsOwnAt, place_at}
+use Rattle.mach_dyld.specs.Trie.{Entry, Info, regular, reexport, stub}
+use Rattle.mach_dyld.specs.TrieRange.{ListsExports, ExportsFault, TrieRange, trie_there}
+use Rattle.mach_dyld.specs.Unfolds.{IsNextNode}
+use Rattle.mach_dyld.specs.declared.trie_cursor.NextExport.{NextExport}
+use Rattle.mach_dyld.specs.declared.trie_cursor.NextExport.TheVariants as next
+use Rattle.mach_dyld.specs.declared.trie_cursor.TrieCursor.{TrieCursor}
+use Rattle.mach_dyld.specs.declared.export_info.ExportInfo.{ExportInfo}
+use Rattle.mach_dyld.specs.declared.trie_walk.Open.{Open}
+use Rattle.goblin_mach.specs.Facts.{HasExports, HasExportsFault, HasLibraries, OfImage}
+use Rattle.goblin_mach.specs.Subjects.{libs_in, trie_in, trie_or_empty}
 use Rattle.goblin_mach_c.specs.Codes.{code_of_fault}
 use Rattle.goblin_mach_c.specs.ExportRows.{export_row, text_or_empty}
 use Rattle.goblin_mach_c.specs.declared.exports.Ending.{Ending}

@@ -4,7 +4,7 @@ use Rattle.mach_base.specs.Fault.{Fault}
 use Rattle.mach_base.specs.Number.{number_at}
 use Rattle.mach_base.specs.declared.context.Endian.TheVariants.{Big}
 use Rattle.mach_base.specs.Items.{items_from}
-use Rattle.mach_headers.specs.declared.fat.FatArch.{FatArch}
+use Rattle.mach_parts.specs.declared.fat.FatArch.{FatArch}
 use Rattle.goblin_mach.specs.FatFile.{FatFile, arch_at, fat_file_in}
 use Rattle.goblin_mach_c.specs.Codes.{code_of_fault}
 use Rattle.goblin_mach_c.specs.declared.fat.gm_fat_entry.{gm_fat_entry}

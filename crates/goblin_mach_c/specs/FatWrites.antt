@@ -1,10 +1,10 @@
 -- Fat files that are written for C.
 use Rattle.std.specs.Prelude.{◌≡◌, ◌<◌, ◌≤◌, ◌++◌, ℕ, List, length, drop, Ok}
-use Rattle.mach_write.specs.Entries.{FatEntryView}
-use Rattle.mach_write.specs.FatForms.{FatForm}
-use Rattle.mach_write.specs.FatWrites.{fat_file_of}
-use Rattle.mach_fat_parts.specs.Parts.{part_entries}
-use Rattle.mach_fat_parts.specs.declared.part.FatPart.{FatPart}
+use Rattle.mach_fat_writer.specs.Entries.{FatEntryView}
+use Rattle.mach_fat_writer.specs.FatForms.{FatForm}
+use Rattle.mach_fat_writer.specs.FatWrites.{fat_file_of}
+use Rattle.mach_fat_writer.specs.Parts.{part_entries}
+use Rattle.mach_fat_writer.specs.declared.part.FatPart.{FatPart}
 
 -- a file of so many bytes is that of the parts of some bytes
 pub record IsFatFileOf (bytes : List ℕ) (parts : List FatPart) (form : FatForm) (file : List ℕ) (len : ℕ) : Type 0 where

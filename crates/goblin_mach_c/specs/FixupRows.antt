@@ -2,7 +2,8 @@
 use Rattle.std.specs.Prelude.{ℕ, ℤ, pos, Option, Some, None, Result, Ok, Err}
 use Rattle.mach_base.specs.Fault.{Fault}
 use Rattle.mach_chained.specs.Fixups.{Fixup}
-use Rattle.mach_chained.specs.Pointers.{Auth, KindOfFixup, bind, rebase, value}
+use Rattle.mach_chained.specs.Pointers.{KindOfFixup, bind, rebase, value}
+use Rattle.mach_parts.specs.PointerSigning.{Auth}
 use Rattle.goblin_mach_c.specs.Codes.{code_of_fault}
 use Rattle.goblin_mach_c.specs.Opened.{flag}
 use Rattle.goblin_mach_c.specs.declared.fixups.gm_fixup.{gm_fixup}

@@ -1,17 +1,17 @@
 -- How far the fixups of an image were given, and those that come behind.
 use Rattle.std.specs.Prelude.{◌≡◌, ℕ, List, [], Option, Some, None, Result, Ok, Err, map, drop}
 use Rattle.mach_base.specs.Fault.{Fault, fault_of}
-use Rattle.mach_segments.specs.Segment.{SegmentView}
+use Rattle.mach_parts.specs.Segment.{SegmentView}
 use Rattle.mach_chained.specs.FixupCursors.{IsOverFixups, fixups_behind}
 use Rattle.mach_chained.specs.FixupsLeft as walk
 use Rattle.mach_chained.specs.Fixups.{Fixup}
 use Rattle.mach_chained.specs.Header.{Fixups}
 use Rattle.mach_chained.specs.declared.cursor.FixupCursor.{FixupCursor}
-use Rattle.mach_image.specs.Facts.{OfImage}
+use Rattle.goblin_mach.specs.Facts.{OfImage}
 use Rattle.mach_chained.specs.Views.{fixups_view}
-use Rattle.mach_image.specs.Fixups.{AreImageFixups, chained_in, input_over}
-use Rattle.mach_image.specs.FixupsLeft.{told_first}
-use Rattle.mach_image.specs.Subjects.{lossy_segments_in}
+use Rattle.goblin_mach.specs.Fixups.{AreImageFixups, chained_in, input_over}
+use Rattle.goblin_mach.specs.FixupsLeft.{told_first}
+use Rattle.goblin_mach.specs.Subjects.{lossy_segments_in}
 use Rattle.goblin_mach_c.specs.Fill.{Fills}
 use Rattle.goblin_mach_c.specs.FixupRows.{fixup_row}
 use Rattle.goblin_mach_c.specs.Stage.{Stage, start, under_way, over, stage_of}

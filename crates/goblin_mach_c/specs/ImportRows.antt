@@ -2,8 +2,8 @@
 use Rattle.std.specs.Prelude.{◌≡◌, ◌⊎◌, ℕ, pos, List, [], length, Some, Result, Ok, Err, slice_get}
 use Rattle.mach_base.specs.Fault.{Fault}
 use Rattle.mach_base.specs.Text.{text_at}
-use Rattle.mach_binds.specs.Imports.{Import}
-use Rattle.mach_binds.specs.Sites.{Site}
+use Rattle.mach_dyld.specs.Imports.{Import}
+use Rattle.mach_dyld.specs.Sites.{Site}
 use Rattle.goblin_mach_c.specs.Codes.{code_of_fault}
 use Rattle.goblin_mach_c.specs.Opened.{flag}
 use Rattle.goblin_mach_c.specs.Sited.{told_at}

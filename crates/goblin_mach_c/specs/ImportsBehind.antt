@@ -4,19 +4,19 @@ use Rattle.mach_base.specs.Context.{pointer_size}
 use Rattle.mach_base.specs.Fault.{Fault}
 use Rattle.mach_base.specs.declared.context.Ctx.{Ctx}
 use Rattle.mach_load.specs.Command.{Command}
-use Rattle.mach_segments.specs.Segment.{SegmentView}
-use Rattle.mach_binds.specs.BindCursors.{IsOverImports, imports_behind}
-use Rattle.mach_binds.specs.BindLeft.{imports_left}
-use Rattle.mach_binds.specs.Imports.{BindRanges, Import, input_in}
-use Rattle.mach_binds.specs.SiteCursors.{AreImportSites, import_sites_behind, import_sites_left}
-use Rattle.mach_binds.specs.Sites.{Site}
-use Rattle.mach_binds.specs.declared.imports.cursor.BindCursor.{BindCursor}
-use Rattle.mach_image.specs.Facts.{OfImage}
-use Rattle.mach_image.specs.OpenImage.{binds_held, ctx_held, segments_held}
-use Rattle.mach_image.specs.declared.macho.MachO.{MachO}
+use Rattle.mach_parts.specs.Segment.{SegmentView}
+use Rattle.mach_dyld.specs.BindCursors.{IsOverImports, imports_behind}
+use Rattle.mach_dyld.specs.BindLeft.{imports_left}
+use Rattle.mach_dyld.specs.Imports.{BindRanges, Import, input_in}
+use Rattle.mach_dyld.specs.SiteCursors.{AreImportSites, import_sites_behind, import_sites_left}
+use Rattle.mach_dyld.specs.Sites.{Site}
+use Rattle.mach_dyld.specs.declared.imports.cursor.BindCursor.{BindCursor}
+use Rattle.goblin_mach.specs.Facts.{OfImage}
+use Rattle.goblin_mach.specs.OpenImage.{binds_held, ctx_held, segments_held}
+use Rattle.goblin_mach.specs.declared.macho.MachO.{MachO}
 use Rattle.std.specs.declared.alloc.Global.{Global}
 use Rattle.mach_base.specs.Text.{texts}
-use Rattle.mach_image.specs.Subjects.{AreImageBindItems, binds_in, libs_in, lossy_segments_in}
+use Rattle.goblin_mach.specs.Subjects.{AreImageBindItems, binds_in, libs_in, lossy_segments_in}
 use Rattle.goblin_mach_c.specs.ImportRows.{IsImportRow}
 use Rattle.goblin_mach_c.specs.Say.{FillsBy}
 use Rattle.goblin_mach_c.specs.Sited.{sited}

@@ -1,15 +1,15 @@
 -- Faults of layout as C sees them: their rules and parts as the numbers of `goblin_mach.h` (GM_LAYOUT_FILE_KIND, GM_PART_HEADER and those behind them).
 use Rattle.std.specs.Prelude.{◌≡◌, ℕ, List, [], drop, Option, Some, None}
 use Rattle.goblin_mach.specs.File.{HasFatMagic}
-use Rattle.mach_arches.specs.ArchForms.{arch_form_32, arch_form_64}
-use Rattle.mach_arches.specs.FatRecords.{HasFat64Magic}
-use Rattle.mach_fat_rules.specs.Containers.{AreContainerFaults}
-use Rattle.mach_rules.specs.declared.fault.LayoutFault.{LayoutFault}
-use Rattle.mach_rules.specs.declared.fault.Owner.{Owner}
-use Rattle.mach_rules.specs.declared.fault.Part.{Part}
-use Rattle.mach_rules.specs.declared.fault.Part.TheVariants as part
-use Rattle.mach_rules.specs.declared.fault.Rule.{Rule}
-use Rattle.mach_rules.specs.declared.fault.Rule.TheVariants as rule
+use Rattle.mach_parts.specs.ArchForms.{arch_form_32, arch_form_64}
+use Rattle.mach_parts.specs.FatRecords.{HasFat64Magic}
+use Rattle.mach_layout.specs.Containers.{AreContainerFaults}
+use Rattle.mach_layout.specs.declared.fault.LayoutFault.{LayoutFault}
+use Rattle.mach_layout.specs.declared.fault.Owner.{Owner}
+use Rattle.mach_layout.specs.declared.fault.Part.{Part}
+use Rattle.mach_layout.specs.declared.fault.Part.TheVariants as part
+use Rattle.mach_layout.specs.declared.fault.Rule.{Rule}
+use Rattle.mach_layout.specs.declared.fault.Rule.TheVariants as rule
 use Rattle.goblin_mach_c.specs.declared.images.gm_image.{gm_image}
 use Rattle.goblin_mach_c.specs.declared.layout.gm_layout_fault.{gm_layout_fault}
 

@@ -2,7 +2,7 @@
 use Rattle.std.specs.Prelude.{◌≡◌, List, [], ◌∷◌, Bool, true, false, Option, Some, None, Result, Ok, Err, map}
 use Rattle.mach_base.specs.Fault.{Fault}
 use Rattle.mach_load.specs.Command.{Command}
-use Rattle.mach_tables.specs.CommandLists.{followed_by}
+use Rattle.mach_load.specs.CommandLists.{followed_by}
 use Rattle.goblin_mach_c.specs.declared.listed.Part.{Part}
 
 -- what some commands list, up to the first fault

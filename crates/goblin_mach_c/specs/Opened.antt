@@ -3,17 +3,17 @@ use Rattle.std.specs.Prelude.{◌≡◌, ◌==◌, ◌<◌, ◌≤◌, ◌⊎◌
 use Rattle.mach_base.specs.declared.context.Ctx.{Ctx}
 use Rattle.mach_base.specs.Fault.{Fault, malformed}
 use Rattle.mach_load.specs.Command.{Command}
-use Rattle.mach_headers.specs.Header.{IsHeader, header_size}
-use Rattle.mach_symbols.specs.Symbols.{SymbolTable}
-use Rattle.mach_headers.specs.declared.header.Header.{Header}
-use Rattle.mach_image.specs.EntryPoint.{entry_point_in}
-use Rattle.mach_image.specs.Image.{AllReadable, ImageFault, LossyFault, LossyOpens, LossyOpensAs, Opens}
-use Rattle.mach_headers.specs.Magic.{cputype_at}
-use Rattle.mach_image.specs.Readings.{read_of}
-use Rattle.mach_image.specs.Subjects.{libs_in, lossy_segment_by, run_path_by, table_in}
-use Rattle.mach_segments.specs.Segments.{segments_in}
-use Rattle.mach_symbols.specs.SymbolViews.{table_of}
-use Rattle.mach_image.specs.declared.macho.MachO.{MachO}
+use Rattle.mach_parts.specs.Header.{IsHeader, header_size}
+use Rattle.mach_parts.specs.Symbols.{SymbolTable}
+use Rattle.mach_parts.specs.declared.header.Header.{Header}
+use Rattle.goblin_mach.specs.EntryPoint.{entry_point_in}
+use Rattle.goblin_mach.specs.Image.{AllReadable, ImageFault, LossyFault, LossyOpens, LossyOpensAs, Opens}
+use Rattle.mach_parts.specs.Magic.{cputype_at}
+use Rattle.goblin_mach.specs.Readings.{read_of}
+use Rattle.goblin_mach.specs.Subjects.{libs_in, lossy_segment_by, run_path_by, table_in}
+use Rattle.mach_parts.specs.Segments.{segments_in}
+use Rattle.mach_parts.specs.SymbolViews.{table_of}
+use Rattle.goblin_mach.specs.declared.macho.MachO.{MachO}
 use Rattle.std.specs.declared.alloc.Global.{Global}
 use Rattle.mach_base.specs.declared.context.Container.{Container}
 use Rattle.mach_base.specs.declared.context.Container.TheVariants as width

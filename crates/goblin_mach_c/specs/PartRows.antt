@@ -3,12 +3,12 @@ use Rattle.std.specs.Prelude.{ℕ, List, [], ◌∷◌, length, Bool, bit_or, Op
 use Rattle.mach_base.specs.declared.context.Endian.{Endian}
 use Rattle.mach_base.specs.Fault.{Fault}
 use Rattle.mach_load.specs.Command.{Command}
-use Rattle.mach_segments.specs.Segment.{SegmentView}
-use Rattle.mach_image.specs.Libraries.{NamedLibrary, named_by}
-use Rattle.mach_image.specs.Subjects.{id_by, lossy_segment_by, name_place, run_path_by}
-use Rattle.mach_image.specs.declared.libraries.LibraryAttributes.{LibraryAttributes}
-use Rattle.mach_image.specs.declared.libraries.LibraryKind.{LibraryKind}
-use Rattle.mach_image.specs.declared.libraries.LibraryKind.TheVariants.{Required, Weak, Reexport, Upward, Lazy}
+use Rattle.mach_parts.specs.Segment.{SegmentView}
+use Rattle.goblin_mach.specs.Libraries.{NamedLibrary, named_by}
+use Rattle.goblin_mach.specs.Subjects.{id_by, lossy_segment_by, name_place, run_path_by}
+use Rattle.goblin_mach.specs.declared.libraries.LibraryAttributes.{LibraryAttributes}
+use Rattle.goblin_mach.specs.declared.libraries.LibraryKind.{LibraryKind}
+use Rattle.goblin_mach.specs.declared.libraries.LibraryKind.TheVariants.{Required, Weak, Reexport, Upward, Lazy}
 use Rattle.goblin_mach_c.specs.CommandRows.{commands_seen}
 use Rattle.goblin_mach_c.specs.Seen.{ctx_seen}
 use Rattle.goblin_mach_c.specs.declared.images.gm_image.{gm_image}

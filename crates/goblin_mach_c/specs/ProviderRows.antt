@@ -1,8 +1,8 @@
 -- Who gives an undefined symbol as C sees it.
 use Rattle.std.specs.Prelude.{ℕ, ◌+◌, List, [], replicate, Option, Some, None, Result, Ok, Err}
 use Rattle.mach_base.specs.Fault.{Fault}
-use Rattle.mach_segments.specs.Bindings.{Provider}
-use Rattle.mach_symbols.specs.declared.symbols.nlist.Nlist.{Nlist}
+use Rattle.mach_parts.specs.Bindings.{Provider}
+use Rattle.mach_parts.specs.declared.symbols.nlist.Nlist.{Nlist}
 use Rattle.goblin_mach_c.specs.BindingRows.{ordinal_number, provider_number}
 use Rattle.goblin_mach_c.specs.Codes.{code_of_fault}
 use Rattle.goblin_mach_c.specs.declared.providers.gm_provider.{gm_provider}

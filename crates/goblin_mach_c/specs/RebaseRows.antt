@@ -1,9 +1,9 @@
 -- Rebases as C sees them.
 use Rattle.std.specs.Prelude.{ℕ, Result, Ok, Err}
 use Rattle.mach_base.specs.Fault.{Fault}
-use Rattle.mach_streams.specs.Rebases.{Rebase}
-use Rattle.mach_streams.specs.declared.rebases.RebaseKind.{RebaseKind}
-use Rattle.mach_streams.specs.declared.rebases.RebaseKind.TheVariants.{Pointer, TextAbsolute32, TextRelative32}
+use Rattle.mach_dyld.specs.Rebases.{Rebase}
+use Rattle.mach_dyld.specs.declared.rebases.RebaseKind.{RebaseKind}
+use Rattle.mach_dyld.specs.declared.rebases.RebaseKind.TheVariants.{Pointer, TextAbsolute32, TextRelative32}
 use Rattle.goblin_mach_c.specs.Codes.{code_of_fault}
 use Rattle.goblin_mach_c.specs.FixupRows.{address_diverse, diversity_of, is_signed, key_of}
 use Rattle.goblin_mach_c.specs.declared.rebases.gm_rebase.{gm_rebase}

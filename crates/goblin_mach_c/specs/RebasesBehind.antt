@@ -7,24 +7,24 @@ use Rattle.mach_base.specs.declared.context.Ctx.{Ctx}
 use Rattle.mach_base.specs.declared.context.Endian.{Endian}
 use Rattle.mach_base.specs.declared.error.Error.{Error}
 use Rattle.mach_load.specs.Command.{Command}
-use Rattle.mach_segments.specs.Segment.{SegmentView}
+use Rattle.mach_parts.specs.Segment.{SegmentView}
 use Rattle.mach_chained.specs.Fixups.{Fixup}
 use Rattle.mach_chained.specs.FixupsLeft as walk
 use Rattle.mach_chained.specs.Header.{Fixups}
-use Rattle.mach_binds.specs.Bindings.{upto_fault}
-use Rattle.mach_binds.specs.declared.imports.cursor.BindCursor.{BindCursor}
-use Rattle.mach_streams.specs.Cut.{CutStream, cut_input, cut_range}
-use Rattle.mach_streams.specs.Rebases.{Rebase}
-use Rattle.mach_streams.specs.RebasesLeft.{rebase_view}
-use Rattle.mach_streams.specs.declared.rebases.Rebase as declared
-use Rattle.mach_image.specs.Facts.{OfImage}
-use Rattle.mach_image.specs.Fixups.{chained_held, chained_in}
-use Rattle.mach_image.specs.ImageStreams.{AreRebasesByOpcodes, rebase_stream_in, rebases_among}
-use Rattle.mach_image.specs.OpenImage.{bytes_held, commands_held, ctx_held, segments_held}
-use Rattle.mach_image.specs.Subjects.{lossy_segments_in}
-use Rattle.mach_image.specs.declared.macho.MachO.{MachO}
-use Rattle.mach_cursors.specs.RebaseCursors.{IsOverRebases, opcode_rebases_behind, rebase_walk_left}
-use Rattle.mach_cursors.specs.declared.rebases.RebaseWalk.{RebaseWalk}
+use Rattle.mach_dyld.specs.Bindings.{upto_fault}
+use Rattle.mach_dyld.specs.declared.imports.cursor.BindCursor.{BindCursor}
+use Rattle.mach_dyld.specs.Cut.{CutStream, cut_input, cut_range}
+use Rattle.mach_dyld.specs.Rebases.{Rebase}
+use Rattle.mach_dyld.specs.RebasesLeft.{rebase_view}
+use Rattle.mach_dyld.specs.declared.rebases.Rebase as declared
+use Rattle.goblin_mach.specs.Facts.{OfImage}
+use Rattle.goblin_mach.specs.Fixups.{chained_held, chained_in}
+use Rattle.goblin_mach.specs.ImageStreams.{AreRebasesByOpcodes, rebase_stream_in, rebases_among}
+use Rattle.goblin_mach.specs.OpenImage.{bytes_held, commands_held, ctx_held, segments_held}
+use Rattle.goblin_mach.specs.Subjects.{lossy_segments_in}
+use Rattle.goblin_mach.specs.declared.macho.MachO.{MachO}
+use Rattle.mach_c_places.specs.RebaseCursors.{IsOverRebases, opcode_rebases_behind, rebase_walk_left}
+use Rattle.mach_c_places.specs.declared.rebases.RebaseWalk.{RebaseWalk}
 use Rattle.goblin_mach_c.specs.Fill.{Fills}
 use Rattle.goblin_mach_c.specs.FixupsBehind.{AreFixupsBehind, AreFixupRowsOver, fixup_rows_left}
 use Rattle.goblin_mach_c.specs.RebaseRows.{rebase_seen}

@@ -1,8 +1,8 @@
 -- A section that was sought as C sees it.
 use Rattle.std.specs.Prelude.{◌≡◌, ◌⊎◌, ℕ, List, replicate, Option, Some, None, Ok, Err}
 use Rattle.mach_base.specs.Fault.{Fault}
-use Rattle.mach_segments.specs.declared.segment.numbered.NumberedSection.{NumberedSection}
-use Rattle.mach_image.specs.SlotFacts.{HasSectionAt, HasSectionOf}
+use Rattle.mach_parts.specs.declared.segment.numbered.NumberedSection.{NumberedSection}
+use Rattle.goblin_mach.specs.SlotFacts.{HasSectionAt, HasSectionOf}
 use Rattle.goblin_mach_c.specs.Opened.{FaultIn, lossy_mode}
 use Rattle.goblin_mach_c.specs.declared.images.gm_image.{gm_image}
 use Rattle.goblin_mach_c.specs.declared.section_finds.gm_found_section.{gm_found_section}

@@ -2,10 +2,10 @@
 use Rattle.std.specs.Prelude.{ℕ, List, replicate, Result, Ok, Err, length}
 use Rattle.mach_base.specs.Fault.{Fault}
 use Rattle.mach_base.specs.Items.{items_from}
-use Rattle.mach_segments.specs.Relocation.{relocation_item}
-use Rattle.mach_segments.specs.Section.{section_item}
-use Rattle.mach_segments.specs.declared.relocation.RelocationInfo.{RelocationInfo}
-use Rattle.mach_segments.specs.declared.segment.section.Section.{Section}
+use Rattle.mach_parts.specs.Relocation.{relocation_item}
+use Rattle.mach_parts.specs.Section.{section_item}
+use Rattle.mach_parts.specs.declared.relocation.RelocationInfo.{RelocationInfo}
+use Rattle.mach_parts.specs.declared.segment.section.Section.{Section}
 use Rattle.std.specs.Prelude.{pos}
 use Rattle.goblin_mach_c.specs.Codes.{code_of_fault}
 use Rattle.goblin_mach_c.specs.Seen.{ctx_seen}

@@ -2,17 +2,17 @@
 use Rattle.std.specs.Prelude.{◌≡◌, ◌⊎◌, ◌↔◌, ℕ, List, [], map, drop, replicate, Bool, IsTrue, Option, Some, None, Result, Ok, Err}
 use Rattle.std.specs.Option.{option_map}
 use Rattle.mach_base.specs.Fault.{Fault}
-use Rattle.mach_sign.specs.AsSigned.{SignatureFaultSeen, blob_refused, wrong_magic, directory_refused, of_first, of_alternate}
-use Rattle.mach_sign.specs.AsSigned.{DirectoryFaultSeen, identifier_refused, team_refused, short, of_code, of_special}
-use Rattle.mach_sign.specs.Directories.{code_limit_of, page_count_of, cdhash_of}
-use Rattle.mach_sign.specs.FaultViews.{signature_faults_left}
-use Rattle.mach_sign.specs.declared.fault.CodeFault.{CodeFault}
-use Rattle.mach_sign.specs.declared.fault.CodeFault.TheVariants as code
-use Rattle.mach_sign.specs.declared.fault.SpecialFault.{SpecialFault}
-use Rattle.mach_sign.specs.declared.fault.SpecialFault.TheVariants as special
-use Rattle.mach_sign.specs.declared.faults.SignatureFaults.{SignatureFaults}
-use Rattle.mach_signed.specs.SignedFacts.{HasSignatureFaults, HoldsAsSigned}
-use Rattle.mach_sign_places.specs.Places.{SignedDirectoryThere, HasSignedDirectory, identifier_place, team_place, entitlements_place}
+use Rattle.mach_signature.specs.AsSigned.{SignatureFaultSeen, blob_refused, wrong_magic, directory_refused, of_first, of_alternate}
+use Rattle.mach_signature.specs.AsSigned.{DirectoryFaultSeen, identifier_refused, team_refused, short, of_code, of_special}
+use Rattle.mach_signature.specs.Directories.{code_limit_of, page_count_of, cdhash_of}
+use Rattle.mach_signature.specs.FaultViews.{signature_faults_left}
+use Rattle.mach_signature.specs.declared.fault.CodeFault.{CodeFault}
+use Rattle.mach_signature.specs.declared.fault.CodeFault.TheVariants as code
+use Rattle.mach_signature.specs.declared.fault.SpecialFault.{SpecialFault}
+use Rattle.mach_signature.specs.declared.fault.SpecialFault.TheVariants as special
+use Rattle.mach_signature.specs.declared.faults.SignatureFaults.{SignatureFaults}
+use Rattle.mach_signature.specs.SignedFacts.{HasSignatureFaults, HoldsAsSigned}
+use Rattle.mach_c_places.specs.SignaturePlaces.{SignedDirectoryThere, HasSignedDirectory, identifier_place, team_place, entitlements_place}
 use Rattle.goblin_mach_c.specs.Codes.{code_of_fault}
 use Rattle.goblin_mach_c.specs.Fill.{Fills}
 use Rattle.goblin_mach_c.specs.Opened.{FaultIn, flag, lossy_mode}

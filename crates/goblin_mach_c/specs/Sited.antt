@@ -1,7 +1,7 @@
 -- Items of binds, each with the place of its name and the number of its library.
 use Rattle.std.specs.Prelude.{ℕ, List, [], ◌∷◌, Result, Ok, Err}
 use Rattle.mach_base.specs.Fault.{Fault}
-use Rattle.mach_binds.specs.Sites.{Site, no_site}
+use Rattle.mach_dyld.specs.Sites.{Site, no_site}
 
 -- each with its own, up to the first fault: this one where there were fewer
 abbrev pub each_with : {A S : Type 0} → S → List (Result A Fault) → List S → List (Result (A × S) Fault)

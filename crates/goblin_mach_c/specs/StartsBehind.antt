@@ -1,11 +1,11 @@
 -- How far the functions of an image were given, and those that come behind.
 use Rattle.std.specs.Prelude.{◌≡◌, ℕ, ◌+◌, List, [], take, map, drop, Option, Some, None, Result, Ok, Err}
 use Rattle.mach_base.specs.Fault.{Fault}
-use Rattle.mach_tables.specs.FunctionStarts.{starts_behind}
-use Rattle.mach_image.specs.Facts.{OfImage}
-use Rattle.mach_image.specs.Fixups.{base_of}
-use Rattle.mach_image.specs.Subjects.{lossy_segments_in}
-use Rattle.mach_image.specs.Tables.{AreStartsAt, starts_place_in}
+use Rattle.mach_load.specs.FunctionStarts.{starts_behind}
+use Rattle.goblin_mach.specs.Facts.{OfImage}
+use Rattle.goblin_mach.specs.Fixups.{base_of}
+use Rattle.goblin_mach.specs.Subjects.{lossy_segments_in}
+use Rattle.goblin_mach.specs.Tables.{AreStartsAt, starts_place_in}
 use Rattle.goblin_mach_c.specs.Codes.{code_of_fault}
 use Rattle.goblin_mach_c.specs.Fill.{Fills}
 use Rattle.goblin_mach_c.specs.Stage.{Stage, start, under_way, over, stage_of}

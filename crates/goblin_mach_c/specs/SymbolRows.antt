@@ -4,8 +4,8 @@ use Rattle.mach_base.specs.Fault.{Fault}
 use Rattle.mach_base.specs.Items.{items_from}
 use Rattle.mach_base.specs.Number.{place_after}
 use Rattle.mach_base.specs.Text.{run_at, text_at}
-use Rattle.mach_symbols.specs.Symbols.{SymbolTable, nlist_at, symbol_place}
-use Rattle.mach_symbols.specs.declared.symbols.nlist.Nlist.{Nlist}
+use Rattle.mach_parts.specs.Symbols.{SymbolTable, nlist_at, symbol_place}
+use Rattle.mach_parts.specs.declared.symbols.nlist.Nlist.{Nlist}
 use Rattle.goblin_mach_c.specs.Codes.{code_of_fault}
 use Rattle.goblin_mach_c.specs.Seen.{ctx_seen}
 use Rattle.goblin_mach_c.specs.declared.images.gm_image.{gm_image}

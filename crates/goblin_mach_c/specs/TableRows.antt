@@ -8,13 +8,13 @@ use Rattle.mach_base.specs.Number.{place_after}
 use Rattle.mach_load.specs.Command.{Command}
 use Rattle.mach_records.specs.declared.linkedit.DataInCodeEntry.{DataInCodeEntry}
 use Rattle.mach_records.specs.declared.versions.BuildToolVersion.{BuildToolVersion}
-use Rattle.mach_slots.specs.declared.indirect.IndirectSymbol.{IndirectSymbol}
-use Rattle.mach_slots.specs.declared.indirect.IndirectSymbol.TheVariants.{Symbol, Local, Absolute, LocalAbsolute}
-use Rattle.mach_tables.specs.BuildTools.{ToolTable, numbered_tools, tools_of}
-use Rattle.mach_tables.specs.LinkerOptions.{OptionTexts, option_at, option_place, option_texts}
-use Rattle.mach_tables.specs.Notes.{NoteView, note_at, note_range}
-use Rattle.mach_image.specs.ImageSlots.{indirect_symbols_in, indirect_table_in}
-use Rattle.mach_image.specs.Tables.{data_in_code_there, data_place_in}
+use Rattle.mach_parts.specs.declared.indirect.IndirectSymbol.{IndirectSymbol}
+use Rattle.mach_parts.specs.declared.indirect.IndirectSymbol.TheVariants.{Symbol, Local, Absolute, LocalAbsolute}
+use Rattle.mach_load.specs.BuildTools.{ToolTable, numbered_tools, tools_of}
+use Rattle.mach_load.specs.LinkerOptions.{OptionTexts, option_at, option_place, option_texts}
+use Rattle.mach_load.specs.Notes.{NoteView, note_at, note_range}
+use Rattle.goblin_mach.specs.ImageSlots.{indirect_symbols_in, indirect_table_in}
+use Rattle.goblin_mach.specs.Tables.{data_in_code_there, data_place_in}
 use Rattle.goblin_mach_c.specs.Codes.{code_of_fault}
 use Rattle.goblin_mach_c.specs.CommandRows.{commands_seen}
 use Rattle.goblin_mach_c.specs.Listed.{listed_in}

@@ -5,19 +5,19 @@ use Rattle.mach_base.specs.Context.{pointer_size}
 use Rattle.mach_base.specs.Fault.{Fault}
 use Rattle.mach_base.specs.declared.context.Ctx.{Ctx}
 use Rattle.mach_load.specs.Command.{Command}
-use Rattle.mach_segments.specs.Segment.{SegmentView}
-use Rattle.mach_binds.specs.Sites.{Site}
-use Rattle.mach_binds.specs.Streams.{Input}
-use Rattle.mach_binds.specs.declared.imports.cursor.BindCursor.{BindCursor}
-use Rattle.mach_streams.specs.Cut.{CutStream, cut_input, cut_range}
-use Rattle.mach_streams.specs.WeakBinds.{WeakBind}
-use Rattle.mach_image.specs.Facts.{OfImage}
-use Rattle.mach_image.specs.ImageStreams.{AreImageWeakBinds, weak_stream_in}
-use Rattle.mach_image.specs.OpenImage.{bytes_held, commands_held, ctx_held, segments_held}
-use Rattle.mach_image.specs.Subjects.{lossy_segments_in}
-use Rattle.mach_image.specs.declared.macho.MachO.{MachO}
-use Rattle.mach_cursors.specs.WeakCursors.{AreWeakSites, IsOverWeakBinds, weak_binds_behind, weak_sites_behind, weak_sites_left, weak_walk_left}
-use Rattle.mach_cursors.specs.declared.weak_binds.WeakBindWalk.{WeakBindWalk}
+use Rattle.mach_parts.specs.Segment.{SegmentView}
+use Rattle.mach_dyld.specs.Sites.{Site}
+use Rattle.mach_dyld.specs.Streams.{Input}
+use Rattle.mach_dyld.specs.declared.imports.cursor.BindCursor.{BindCursor}
+use Rattle.mach_dyld.specs.Cut.{CutStream, cut_input, cut_range}
+use Rattle.mach_dyld.specs.WeakBinds.{WeakBind}
+use Rattle.goblin_mach.specs.Facts.{OfImage}
+use Rattle.goblin_mach.specs.ImageStreams.{AreImageWeakBinds, weak_stream_in}
+use Rattle.goblin_mach.specs.OpenImage.{bytes_held, commands_held, ctx_held, segments_held}
+use Rattle.goblin_mach.specs.Subjects.{lossy_segments_in}
+use Rattle.goblin_mach.specs.declared.macho.MachO.{MachO}
+use Rattle.mach_c_places.specs.WeakCursors.{AreWeakSites, IsOverWeakBinds, weak_binds_behind, weak_sites_behind, weak_sites_left, weak_walk_left}
+use Rattle.mach_c_places.specs.declared.weak_binds.WeakBindWalk.{WeakBindWalk}
 use Rattle.goblin_mach_c.specs.BindingPlaces.{places_of}
 use Rattle.goblin_mach_c.specs.Say.{FillsBy}
 use Rattle.goblin_mach_c.specs.Sited.{placed}

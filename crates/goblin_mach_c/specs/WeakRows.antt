@@ -1,7 +1,7 @@
 -- Weak binds as C sees them.
 use Rattle.std.specs.Prelude.{◌≡◌, ℕ, pos, List, length, Result, Ok, Err}
 use Rattle.mach_base.specs.Fault.{Fault}
-use Rattle.mach_streams.specs.WeakBinds.{WeakBind, strong_name, weakly_bound}
+use Rattle.mach_dyld.specs.WeakBinds.{WeakBind, strong_name, weakly_bound}
 use Rattle.goblin_mach_c.specs.BindingRows.{NameStandsAt}
 use Rattle.goblin_mach_c.specs.Codes.{code_of_fault}
 use Rattle.goblin_mach_c.specs.Opened.{flag}

@@ -4,8 +4,8 @@ use Rattle.mach_base.specs.Fault.{Fault}
 use Rattle.mach_base.specs.Number.{number_at}
 use Rattle.mach_base.specs.declared.context.Endian.TheVariants.{Big}
 use Rattle.mach_base.specs.Items.{items_from}
-use Rattle.mach_arches.specs.ArchForms.{arch_form_64, arch_in}
-use Rattle.mach_arches.specs.declared.arch64.FatArch64.{FatArch64}
+use Rattle.mach_parts.specs.ArchForms.{arch_form_64, arch_in}
+use Rattle.mach_parts.specs.declared.fat64.FatArch64.{FatArch64}
 use Rattle.goblin_mach.specs.FatFile.{arch_at}
 use Rattle.goblin_mach_c.specs.Codes.{code_of_fault}
 use Rattle.goblin_mach_c.specs.FatRows.{fat_row, told_count}

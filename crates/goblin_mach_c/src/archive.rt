@@ -5,20 +5,20 @@ ghost use Rattle.mach_base.specs.Fault.{Fault};
 ghost use Rattle.mach_base.specs.Items.{read_as};
 ghost use Rattle.mach_archive.specs.IndexSymbols.{IndexSymbol};
 ghost use Rattle.mach_archive.specs.Members.{MemberView};
-ghost use Rattle.mach_archive_places.specs.ArchiveFinds.{archive_form};
-ghost use Rattle.mach_archive_places.specs.ArchiveItems.{archive_members, archive_symbols};
-ghost use Rattle.mach_archive_places.specs.PlacedItems.{placed_member_view, placed_symbol_view, placed_members_left, placed_symbols_left};
-ghost use Rattle.mach_archive_places.specs.PlacedItems.{AreMembersOver, AreSymbolsOver};
+ghost use Rattle.mach_c_places.specs.ArchiveFinds.{archive_form};
+ghost use Rattle.mach_c_places.specs.ArchiveItems.{archive_members, archive_symbols};
+ghost use Rattle.mach_c_places.specs.PlacedItems.{placed_member_view, placed_symbol_view, placed_members_left, placed_symbols_left};
+ghost use Rattle.mach_c_places.specs.PlacedItems.{AreMembersOver, AreSymbolsOver};
 ghost use Rattle.goblin_mach_c.specs.ArchiveRows as rows;
 ghost use Rattle.goblin_mach_c.specs.ArchiveRows.{SaysMember, SaysArchiveSymbol};
 ghost use Rattle.goblin_mach_c.specs.Say.{FillsBy};
 
 use crate::errors::{GM_OK, code_of, gm_error, refuse};
 use crate::items::{ItemRows, fill_items, skip_items};
-use mach_archive_places::{
+use mach_base::Result;
+use mach_c_places::{
     ArchiveForm, PlacedMember, PlacedMembers, PlacedSymbol, PlacedSymbols, form_of,
 };
-use mach_base::Result;
 
 /// A member of an archive: where its header, its bytes and its name stand, and the numbers of the header, each `GM_NO_NUMBER` where its field is none.
 #[derive(Clone, Copy)]

@@ -2,15 +2,15 @@
 
 ghost use Rattle.std.specs.Prelude.{◌≡◌, ◌≢◌, option_map};
 ghost use Rattle.std.specs.Str.{IsUtf8};
-ghost use Rattle.mach_archive_places.specs.ArchiveFinds.{member_by_name, member_by_symbol};
-ghost use Rattle.mach_archive_places.specs.PlacedItems.{placed_member_view};
+ghost use Rattle.mach_c_places.specs.ArchiveFinds.{member_by_name, member_by_symbol};
+ghost use Rattle.mach_c_places.specs.PlacedItems.{placed_member_view};
 ghost use Rattle.goblin_mach_c.specs.ArchiveRows as rows;
 ghost use Rattle.goblin_mach_c.specs.ArchiveRows.{FindsMember, IsCodeOf};
 
 use crate::archive::{gm_archive_member, member_row, no_member};
 use crate::errors::{GM_OK, gm_error, refuse};
-use mach_archive_places::{PlacedMember, member_named, member_of_symbol};
 use mach_base::Error;
+use mach_c_places::{PlacedMember, member_named, member_of_symbol};
 
 // A member that was sought, if it was found.
 fn found_row(found: &Option<PlacedMember<'_>>) -> gm_archive_member

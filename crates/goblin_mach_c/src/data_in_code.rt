@@ -1,8 +1,8 @@
 //! The data among an image's code, read in place.
 
 ghost use Rattle.std.specs.Prelude.{◌≡◌, drop};
-ghost use Rattle.mach_tables.specs.DataInCode.{data_in_code_item};
-ghost use Rattle.mach_tables.specs.TablesLeft.{data_in_code_read};
+ghost use Rattle.mach_load.specs.DataInCode.{data_in_code_item};
+ghost use Rattle.mach_load.specs.TablesLeft.{data_in_code_read};
 ghost use Rattle.goblin_mach_c.specs.Fill.{Fills};
 ghost use Rattle.goblin_mach_c.specs.TableRows.{data_in_code_row, data_in_code_rows};
 
@@ -11,8 +11,8 @@ use crate::images::{ctx_of, gm_image};
 use crate::last::last_said;
 use crate::numbered::{Numbered, rows_from};
 use crate::rows::fill;
+use goblin_mach::table_places::DataPlaces;
 use mach_base::{Endian, Record, Result};
-use mach_image::table_places::DataPlaces;
 use mach_records::DataInCodeEntry;
 
 /// Data among code (struct data_in_code_entry): `length` bytes, `offset` behind the image's first byte in memory. Where `code` is not

@@ -1,13 +1,13 @@
 //! The exports of an image in batches, by a walk whose numbers, name and open nodes are the caller's.
 
 ghost use Rattle.std.specs.Prelude.{◌≡◌, ◌≢◌, ◌-◌, ◌+◌, ◌^◌, ◌++◌, ◌<◌, ◌≤◌, ◌⊎◌, ℕ, List, Option, Some, None, drop, length, min, take};
-ghost use Rattle.mach_tries.specs.Cursors.{HasGivenTo, IsOwnAt};
-ghost use Rattle.mach_tries.specs.Exports.{info_of};
+ghost use Rattle.mach_dyld.specs.Cursors.{HasGivenTo, IsOwnAt};
+ghost use Rattle.mach_dyld.specs.Exports.{info_of};
 ghost use Rattle.mach_base.specs.Text.{texts};
-ghost use Rattle.mach_tries.specs.Trie.{Entry};
-ghost use Rattle.mach_tries.specs.TrieRange.{empty_range};
-ghost use Rattle.mach_image.specs.OpenImage.{trie_held};
-ghost use Rattle.mach_image.specs.Subjects.{trie_or_empty};
+ghost use Rattle.mach_dyld.specs.Trie.{Entry};
+ghost use Rattle.mach_dyld.specs.TrieRange.{empty_range};
+ghost use Rattle.goblin_mach.specs.OpenImage.{trie_held};
+ghost use Rattle.goblin_mach.specs.Subjects.{trie_or_empty};
 ghost use Rattle.goblin_mach_c.specs.Codes.{IsRefusalCode};
 ghost use Rattle.goblin_mach_c.specs.ExportWalk.{AreWritten, EndsWholeWith, GoesAlong, GivesFurther, HasLibrary, HasNextName, HasNodeOf, HasWalkedTrie};
 ghost use Rattle.goblin_mach_c.specs.ExportWalk.{IsBrought, IsCode, IsNextName, IsNodeOf, IsNumbered, StopsAt, end_number, needed_number, next_export_of};

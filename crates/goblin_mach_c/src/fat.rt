@@ -10,7 +10,7 @@ use crate::numbered::{Numbered, Numbers, rows_from};
 use crate::rows::fill;
 use goblin_mach::peek;
 use mach_base::Result;
-use mach_headers::fat::{FAT_MAGIC, FatArch, FatHeader, SIZEOF_FAT_ARCH, SIZEOF_FAT_HEADER};
+use mach_parts::fat::{FAT_MAGIC, FatArch, FatHeader, SIZEOF_FAT_ARCH, SIZEOF_FAT_HEADER};
 
 /// An entry of a fat file, as its record says (struct fat_arch). Where `code` is not `GM_OK` the record can't be read,
 /// and the rest is 0.

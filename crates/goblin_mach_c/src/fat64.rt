@@ -1,7 +1,7 @@
 //! The entries of a fat file of 32 or of 64 bits, in one row.
 
 ghost use Rattle.std.specs.Prelude.{◌≡◌, drop};
-ghost use Rattle.mach_arches.specs.ArchForms.{arch_form_64, arch_in};
+ghost use Rattle.mach_parts.specs.ArchForms.{arch_form_64, arch_in};
 ghost use Rattle.mach_base.specs.Items.{read_as};
 ghost use Rattle.goblin_mach.specs.FatFile.{arch_at};
 ghost use Rattle.goblin_mach_c.specs.Fill.{Fills};
@@ -13,9 +13,9 @@ use crate::fat::{fat_entry_at, gm_fat_entry, told_of};
 use crate::numbered::{Numbered, rows_from};
 use crate::rows::fill;
 use goblin_mach::peek;
-use mach_arches::{FAT_MAGIC_64, FatArch64, SIZEOF_FAT_ARCH_64, read_arch};
 use mach_base::{Endian, Result, read_u32};
-use mach_headers::fat::SIZEOF_FAT_HEADER;
+use mach_parts::fat::SIZEOF_FAT_HEADER;
+use mach_parts::{FAT_MAGIC_64, FatArch64, SIZEOF_FAT_ARCH_64, read_arch};
 
 /// An entry of a fat file of 32 or of 64 bits, as its record says (struct fat_arch, struct fat_arch_64). Where `code` is not `GM_OK` the record can't be
 /// read, and the rest is 0.

@@ -3,10 +3,10 @@
 ghost use Rattle.std.specs.Prelude.{◌≡◌, ◌≢◌, ◌⊎◌, IfOk, IfErr, List, Option, None, Some, option_map};
 ghost use Rattle.std.specs.Str.{IsUtf8};
 ghost use Rattle.mach_base.specs.Answer.{IsOkUnlessMemory, Stands};
-ghost use Rattle.mach_tries.specs.Exports.{info_of};
-ghost use Rattle.mach_tries.specs.LookUp.{IsFirstOf};
-ghost use Rattle.mach_tries.specs.Trie as trie;
-ghost use Rattle.mach_image.specs.Facts.{HasExportOf, HasExports};
+ghost use Rattle.mach_dyld.specs.Exports.{info_of};
+ghost use Rattle.mach_dyld.specs.LookUp.{IsFirstOf};
+ghost use Rattle.mach_dyld.specs.Trie as trie;
+ghost use Rattle.goblin_mach.specs.Facts.{HasExportOf, HasExports};
 ghost use Rattle.goblin_mach_c.specs.Codes.{IsRefusalCode};
 ghost use Rattle.goblin_mach_c.specs.ExportRows.{FindFault, HasNameFault, IsFound, IsPut, export_row, library_text, target_text};
 ghost use Rattle.goblin_mach_c.specs.Opened.{FaultIn, OpensIn, lossy_mode};

@@ -3,10 +3,11 @@
 ghost use Rattle.std.specs.Prelude.{◌≡◌, ◌≢◌, ◌<◌, length, Err, Result};
 ghost use Rattle.mach_base.specs.Fault.{Fault, fault_of};
 ghost use Rattle.mach_chained.specs.Fixups as defined;
-ghost use Rattle.mach_chained.specs.PointerViews.{auth_seen, kind_view};
+ghost use Rattle.mach_chained.specs.PointerViews.{kind_view};
+ghost use Rattle.mach_parts.specs.PointerSigning.{auth_seen};
 ghost use Rattle.mach_chained.specs.WalkViews.{fixup_read};
-ghost use Rattle.mach_image.specs.Fixups.{chained_held};
-ghost use Rattle.mach_image.specs.OpenImage.{segments_held};
+ghost use Rattle.goblin_mach.specs.Fixups.{chained_held};
+ghost use Rattle.goblin_mach.specs.OpenImage.{segments_held};
 ghost use Rattle.goblin_mach_c.specs.Codes.{IsRefusalCode};
 ghost use Rattle.goblin_mach_c.specs.FixupRows as rows;
 ghost use Rattle.goblin_mach_c.specs.FixupRows.{fixup_row};

@@ -2,11 +2,11 @@
 
 ghost use Rattle.std.specs.Prelude.{◌≡◌, ◌≢◌, ◌<◌, ℕ, List, [], length, Result, Some, ◌⊎◌};
 ghost use Rattle.mach_base.specs.Fault.{Fault, fault_of};
-ghost use Rattle.mach_binds.specs.BindCursors.{TextStands};
-ghost use Rattle.mach_binds.specs.BindViews.{import_seen};
-ghost use Rattle.mach_binds.specs.Imports as defined;
-ghost use Rattle.mach_binds.specs.Sites.{Site};
-ghost use Rattle.mach_image.specs.OpenImage.{binds_held};
+ghost use Rattle.mach_dyld.specs.BindCursors.{TextStands};
+ghost use Rattle.mach_dyld.specs.BindViews.{import_seen};
+ghost use Rattle.mach_dyld.specs.Imports as defined;
+ghost use Rattle.mach_dyld.specs.Sites.{Site};
+ghost use Rattle.goblin_mach.specs.OpenImage.{binds_held};
 ghost use Rattle.goblin_mach_c.specs.BindingRows.{NameStandsAt};
 ghost use Rattle.goblin_mach_c.specs.Codes.{IsRefusalCode};
 ghost use Rattle.goblin_mach_c.specs.ImportRows.{IsImportRow, IsNameAt, import_row, no_import};

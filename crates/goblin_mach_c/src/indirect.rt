@@ -1,9 +1,9 @@
 //! The indirect symbols of an image, read in place.
 
 ghost use Rattle.std.specs.Prelude.{◌≡◌, ℕ, drop};
-ghost use Rattle.mach_slots.specs.IndirectSymbols.{indirect_symbol_at};
-ghost use Rattle.mach_slots.specs.SlotViews.{indirect_read, indirect_table_of};
-ghost use Rattle.mach_image.specs.ImageSlots.{indirect_place_by};
+ghost use Rattle.mach_parts.specs.IndirectSymbols.{indirect_symbol_at};
+ghost use Rattle.mach_parts.specs.SlotViews.{indirect_read, indirect_table_of};
+ghost use Rattle.goblin_mach.specs.ImageSlots.{indirect_place_by};
 ghost use Rattle.goblin_mach_c.specs.Fill.{Fills};
 ghost use Rattle.goblin_mach_c.specs.TableRows.{indirect_row, indirect_rows};
 
@@ -12,11 +12,11 @@ use crate::images::{ctx_of, gm_image};
 use crate::last::last_said;
 use crate::numbered::{Numbered, rows_from};
 use crate::rows::fill;
+use goblin_mach::readings::Subject;
 use mach_base::Result;
-use mach_image::readings::Subject;
 use mach_load::{CommandVariant, LoadCommand};
+use mach_parts::{IndirectSymbol, IndirectSymbols};
 use mach_records::DysymtabCommand;
-use mach_slots::{IndirectSymbol, IndirectSymbols};
 
 /// The number of a symbol.
 pub const GM_INDIRECT_SYMBOL: u32 = 0;

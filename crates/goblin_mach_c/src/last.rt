@@ -1,12 +1,12 @@
 //! What the last command of a subject says, read in place.
 
 ghost use Rattle.std.specs.Prelude.{◌≡◌, option_map};
-ghost use Rattle.mach_image.specs.Readings.{last_of, read_of};
+ghost use Rattle.goblin_mach.specs.Readings.{last_of, read_of};
 ghost use Rattle.goblin_mach_c.specs.CommandRows.{commands_seen};
 
 use crate::commands::Commands;
 use crate::images::gm_image;
-use mach_image::readings::{Subject, put_readable};
+use goblin_mach::readings::{Subject, put_readable};
 
 /// What the last readable command of a subject says, among those of an image.
 pub fn last_said<S: Subject>(bytes: &[u8], image: &gm_image, subject: &S) -> Option<S::Value>

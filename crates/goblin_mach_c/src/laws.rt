@@ -2,16 +2,16 @@
 
 ghost use Rattle.std.specs.Prelude.{◌≡◌, ◌<◌, ◌≤◌, ◌^◌, ◌++◌, [], ℕ, List, Result, length, map};
 ghost use Rattle.mach_base.specs.Fault.{Fault};
-ghost use Rattle.mach_symbols.specs.declared.symbols.nlist.Nlist.{Nlist};
-ghost use Rattle.mach_segments.specs.Segment.{SegmentView};
-ghost use Rattle.mach_tries.specs.Trie.{Entry};
-ghost use Rattle.mach_tries.specs.declared.walk.Open.{Open};
-ghost use Rattle.mach_image.specs.Facts.{HasCommands, HasExports, HasSegments, HasSymbols};
-ghost use Rattle.mach_image.specs.Image.{LossyOpens};
-ghost use Rattle.mach_image.specs.SlotFacts.{HasIndirectSymbols};
-ghost use Rattle.mach_image.specs.TableFacts.{HasDataInCode};
+ghost use Rattle.mach_parts.specs.declared.symbols.nlist.Nlist.{Nlist};
+ghost use Rattle.mach_parts.specs.Segment.{SegmentView};
+ghost use Rattle.mach_dyld.specs.Trie.{Entry};
+ghost use Rattle.mach_dyld.specs.declared.trie_walk.Open.{Open};
+ghost use Rattle.goblin_mach.specs.Facts.{HasCommands, HasExports, HasSegments, HasSymbols};
+ghost use Rattle.goblin_mach.specs.Image.{LossyOpens};
+ghost use Rattle.goblin_mach.specs.SlotFacts.{HasIndirectSymbols};
+ghost use Rattle.goblin_mach.specs.TableFacts.{HasDataInCode};
 ghost use Rattle.mach_records.specs.declared.linkedit.DataInCodeEntry.{DataInCodeEntry};
-ghost use Rattle.mach_slots.specs.declared.indirect.IndirectSymbol.{IndirectSymbol};
+ghost use Rattle.mach_parts.specs.declared.indirect.IndirectSymbol.{IndirectSymbol};
 ghost use Rattle.goblin_mach.specs.FatFile.{arch_at};
 ghost use Rattle.goblin_mach_c.specs.CommandRows.{commands_seen};
 ghost use Rattle.goblin_mach_c.specs.ExportWalk.{HasWalked};

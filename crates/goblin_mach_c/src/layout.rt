@@ -2,8 +2,8 @@
 
 ghost use Rattle.std.specs.Prelude.{◌≡◌, ◌≢◌, ◌⊎◌, ◌<◌, ℕ, drop, length, map, List, IfOk, IfErr};
 ghost use Rattle.mach_base.specs.Answer.{Stands, IsOkUnlessMemory};
-ghost use Rattle.mach_layout.specs.Facts.{HasLayoutFaults};
-ghost use Rattle.mach_rules.specs.declared.fault.LayoutFault as declared;
+ghost use Rattle.goblin_mach.specs.LayoutFacts.{HasLayoutFaults};
+ghost use Rattle.mach_layout.specs.declared.fault.LayoutFault as declared;
 ghost use Rattle.goblin_mach_c.specs.Codes.{IsRefusalCode};
 ghost use Rattle.goblin_mach_c.specs.Fill.{Fills};
 ghost use Rattle.goblin_mach_c.specs.LayoutRows as rows;
@@ -15,12 +15,13 @@ use crate::errors::{GM_OK, gm_error, refuse, refuse_no_rows};
 use crate::images::gm_image;
 use crate::open::open;
 use crate::rows::{Rows, fill, skip};
+use goblin_mach::laws::layout_faults_of_image;
+use goblin_mach::layout::layout_faults;
 use goblin_mach::peek;
-use mach_arches::{FAT_MAGIC_64, FatArch64};
 use mach_base::Result;
-use mach_headers::fat::{FAT_MAGIC, FatArch};
-use mach_layout::laws::layout_faults_of_image;
-use mach_layout::{LayoutFault, Owner, Part, Rule, container_faults, layout_faults};
+use mach_layout::{LayoutFault, Owner, Part, Rule, container_faults};
+use mach_parts::fat::{FAT_MAGIC, FatArch};
+use mach_parts::{FAT_MAGIC_64, FatArch64};
 use std::alloc::Global;
 
 /// A fault of layout, of a rule: whose it is, the other one where two disagree, and the two numbers that show it.

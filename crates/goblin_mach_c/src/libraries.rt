@@ -8,8 +8,9 @@ use crate::commands::Commands;
 use crate::images::{ctx_of, gm_image};
 use crate::picked::{Pick, Picked};
 use crate::rows::{fill, skip};
+use goblin_mach::libraries::brought;
+use goblin_mach::{LibraryAttributes, LibraryKind};
 use mach_base::{Endian, read_text};
-use mach_image::libraries::{LibraryAttributes, LibraryKind, brought};
 use mach_load::LoadCommand;
 
 /// `LC_LOAD_DYLIB`: the image needs it.

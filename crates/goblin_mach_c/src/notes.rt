@@ -3,9 +3,9 @@
 ghost use Rattle.std.specs.Prelude.{◌≡◌, drop};
 ghost use Rattle.mach_base.specs.Answer.{Reads};
 ghost use Rattle.mach_load.specs.Variants.{command_of};
-ghost use Rattle.mach_tables.specs.Notes as defined;
-ghost use Rattle.mach_tables.specs.Notes.{note_bytes, note_owner_at, note_range};
-ghost use Rattle.mach_tables.specs.TablesLeft.{note_read, note_view};
+ghost use Rattle.mach_load.specs.Notes as defined;
+ghost use Rattle.mach_load.specs.Notes.{note_bytes, note_owner_at, note_range};
+ghost use Rattle.mach_load.specs.TablesLeft.{note_read, note_view};
 ghost use Rattle.goblin_mach_c.specs.Fill.{Fills};
 ghost use Rattle.goblin_mach_c.specs.TableRows.{note_row, note_row_by, note_rows};
 
@@ -15,8 +15,7 @@ use crate::images::gm_image;
 use crate::picked::{Pick, Picked};
 use crate::rows::{fill, skip};
 use mach_base::{Result, bytes_at, read_text};
-use mach_load::{CommandVariant, LoadCommand};
-use mach_tables::Note;
+use mach_load::{CommandVariant, LoadCommand, Note};
 
 /// Bytes of some tool's own (struct note_command): its name is `owner_len` bytes at `owner`, and the note is `size` bytes at `place`.
 /// Where `code` is not `GM_OK` one of them can't be read, and all but `command` is 0.
@@ -62,7 +61,7 @@ fn bytes_of(bytes: &[u8], offset: u64, size: u64) -> Result<&[u8]>
 }
 
 // The note of a command at a place.
-#[tactic(auto, unfolding(mach_tables::specs::Notes::note_at))]
+#[tactic(auto, unfolding(mach_load::specs::Notes::note_at))]
 fn note_at(bytes: &[u8], place: usize, offset: u64, size: u64) -> Result<Note<'_>>
     ensures { Reads note_view result (defined.note_at bytes.now place offset size) }
 {

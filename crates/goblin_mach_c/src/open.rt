@@ -2,9 +2,9 @@
 
 ghost use Rattle.std.specs.Prelude.{◌≡◌, ◌≢◌, ◌⊎◌, ◌<◌, ◌≤◌, ◌+◌, length, IfOk, IfErr, false, option_map};
 ghost use Rattle.mach_base.specs.Answer.{Stands, IsOkUnlessMemory};
-ghost use Rattle.mach_headers.specs.Header.{header_size};
-ghost use Rattle.mach_symbols.specs.SymbolViews.{table_of};
-ghost use Rattle.mach_image.specs.OpenImage.{IsImage, IsLossyImage};
+ghost use Rattle.mach_parts.specs.Header.{header_size};
+ghost use Rattle.mach_parts.specs.SymbolViews.{table_of};
+ghost use Rattle.goblin_mach.specs.OpenImage.{IsImage, IsLossyImage};
 ghost use Rattle.goblin_mach_c.specs.Codes.{IsRefusalCode};
 ghost use Rattle.goblin_mach_c.specs.Opened.{AreTableNumbers, FaultIn, HoldsNumbers, IsOpened, FaultByMode, OpensIn, flag, lossy_mode, width_of};
 
@@ -13,8 +13,8 @@ use crate::images::gm_image;
 use goblin_mach::MachO;
 use goblin_mach::laws::{strict_image_is_lossy, strict_opens_lossily};
 use mach_base::{Container, Ctx, Endian, Error, Result, SizeWith};
-use mach_headers::header::Header;
-use mach_symbols::symbols::Symbols;
+use mach_parts::header::Header;
+use mach_parts::symbols::Symbols;
 use std::alloc::Global;
 
 // Opens in a mode.

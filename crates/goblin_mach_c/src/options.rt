@@ -4,8 +4,8 @@ ghost use Rattle.std.specs.Prelude.{◌≡◌, ◌+◌, ◌<◌, ℕ, List, drop
 ghost use Rattle.mach_base.specs.Answer.{Reads};
 ghost use Rattle.mach_base.specs.Text.{run_at};
 ghost use Rattle.mach_load.specs.Variants.{command_of};
-ghost use Rattle.mach_tables.specs.LinkerOptions as defined;
-ghost use Rattle.mach_tables.specs.LinkerOptions.{option_count};
+ghost use Rattle.mach_load.specs.LinkerOptions as defined;
+ghost use Rattle.mach_load.specs.LinkerOptions.{option_count};
 ghost use Rattle.goblin_mach_c.specs.Fill.{Fills};
 ghost use Rattle.goblin_mach_c.specs.TableRows.{linker_option_row, linker_option_rows, options_of_command, options_of_part};
 
@@ -51,7 +51,7 @@ fn front(bytes: &[u8], end: usize) -> &[u8]
 }
 
 // The text at a place, which ends with a zero before the bytes end.
-#[tactic(auto, unfolding(mach_tables::specs::LinkerOptions::option_at))]
+#[tactic(auto, unfolding(mach_load::specs::LinkerOptions::option_at))]
 #[inline(always)]
 fn option_at(bytes: &[u8], place: usize) -> Result<&str>
     ensures text { Reads (λ text. text.now) result (defined.option_at bytes.now place) }

@@ -1,15 +1,15 @@
 //! Who gives an undefined symbol, as the linker wrote it down: by numbers alone.
 
 ghost use Rattle.std.specs.Prelude.{◌≡◌, Some};
-ghost use Rattle.mach_image.specs.ImageSlots.{bind_ordinal_of, names_library, symbol_provider_of};
-ghost use Rattle.mach_segments.specs.Bindings.{provider_of};
+ghost use Rattle.goblin_mach.specs.ImageSlots.{bind_ordinal_of, names_library, symbol_provider_of};
+ghost use Rattle.mach_parts.specs.Bindings.{provider_of};
 ghost use Rattle.goblin_mach_c.specs.ProviderRows.{nameless, provider_row, provider_row_of, symbol_record_seen};
 
 use crate::errors::{GM_MALFORMED, GM_OK};
 use crate::images::gm_image;
 use crate::symbols::gm_symbol;
-use mach_headers::header::MH_TWOLEVEL;
-use mach_symbols::symbols::{N_PBUD, N_UNDF, Nlist};
+use mach_parts::header::MH_TWOLEVEL;
+use mach_parts::symbols::{N_PBUD, N_UNDF, Nlist};
 
 /// Who gives a symbol: a library by its ordinal, or another one.
 #[derive(Clone, Copy)]
@@ -64,7 +64,7 @@ fn told(provider: u32, library: u64, code: u32) -> gm_provider
 }
 
 // The provider of an ordinal, in an image of so many libraries.
-#[tactic(auto, unfolding(mach_segments::specs::Bindings::provider_of))]
+#[tactic(auto, unfolding(mach_parts::specs::Bindings::provider_of))]
 fn provider_in(libraries: usize, ordinal: u16) -> gm_provider
     ensures { result ≡ provider_row (Some (provider_of (nameless libraries) (bind_ordinal_of ordinal))) }
 {

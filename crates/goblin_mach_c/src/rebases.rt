@@ -5,9 +5,9 @@ ghost use Rattle.mach_base.specs.Fault.{Fault, fault_of};
 ghost use Rattle.mach_chained.specs.FixupCursors.{IsOverFixups};
 ghost use Rattle.mach_chained.specs.Fixups.{FixupInput};
 ghost use Rattle.mach_chained.specs.WalkViews.{fixup_view};
-ghost use Rattle.mach_streams.specs.Rebases as defined;
-ghost use Rattle.mach_streams.specs.RebasesLeft.{rebase_view};
-ghost use Rattle.mach_image.specs.ImageStreams.{rebase_in};
+ghost use Rattle.mach_dyld.specs.Rebases as defined;
+ghost use Rattle.mach_dyld.specs.RebasesLeft.{rebase_view};
+ghost use Rattle.goblin_mach.specs.ImageStreams.{rebase_in};
 ghost use Rattle.goblin_mach_c.specs.Codes.{IsRefusalCode};
 ghost use Rattle.goblin_mach_c.specs.Opened.{FaultIn, lossy_mode};
 ghost use Rattle.goblin_mach_c.specs.RebaseRows.{rebase_kind_number, rebase_seen};
@@ -25,9 +25,9 @@ use crate::open::open;
 use goblin_mach::MachO;
 use goblin_mach::chained_fixups::{Fixup, FixupKind};
 use mach_base::{Error, Result, Steps};
-use mach_cursors::RebaseWalk;
-use mach_cursors::range::rebase_range;
-use mach_streams::{Rebase, RebaseKind};
+use mach_c_places::RebaseWalk;
+use mach_c_places::range::rebase_range;
+use mach_dyld::{Rebase, RebaseKind};
 use std::alloc::Global;
 
 /// A place in memory whose number dyld corrects by how far the image was moved: at `address`, `offset` bytes behind the start of

@@ -1,7 +1,7 @@
 //! The relocations of a section, read in place.
 
 ghost use Rattle.std.specs.Prelude.{◌≡◌, drop};
-ghost use Rattle.mach_segments.specs.Relocation.{relocation_item};
+ghost use Rattle.mach_parts.specs.Relocation.{relocation_item};
 ghost use Rattle.goblin_mach_c.specs.Fill.{Fills};
 ghost use Rattle.goblin_mach_c.specs.SectionRows.{relocation_row, relocation_rows};
 
@@ -10,7 +10,7 @@ use crate::images::{ctx_of, gm_image};
 use crate::numbered::{Numbered, rows_from};
 use crate::rows::fill;
 use mach_base::{Endian, Record};
-use mach_segments::relocation::{RelocationInfo, SIZEOF_RELOCATION_INFO};
+use mach_parts::relocation::{RelocationInfo, SIZEOF_RELOCATION_INFO};
 
 /// A relocation (struct relocation_info). Where `code` is not `GM_OK` it can't be read, and the rest is 0.
 #[derive(Clone, Copy)]

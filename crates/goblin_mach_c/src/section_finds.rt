@@ -8,8 +8,8 @@ ghost use Rattle.goblin_mach_c.specs.SectionFinds.{FindsSectionAt, FindsSectionO
 use crate::errors::{GM_OK, gm_error, refuse};
 use crate::images::gm_image;
 use crate::open::open;
-use mach_image::slot_facts::{numbered_section_of_image, section_at_of_image};
-use mach_segments::segment::NumberedSection;
+use goblin_mach::laws::{numbered_section_of_image, section_at_of_image};
+use mach_parts::segment::NumberedSection;
 use std::alloc::Global;
 
 /// A section that was sought, number `number` of segment `segment`, with all of its record. Where `is_found` is 0 there is none, and all is 0.

@@ -1,8 +1,8 @@
 //! The sections of a segment, read in place.
 
 ghost use Rattle.std.specs.Prelude.{◌≡◌, drop};
-ghost use Rattle.mach_segments.specs.Section.{section_item};
-ghost use Rattle.mach_segments.specs.SectionItems.{section_read};
+ghost use Rattle.mach_parts.specs.Section.{section_item};
+ghost use Rattle.mach_parts.specs.SectionItems.{section_read};
 ghost use Rattle.goblin_mach_c.specs.Fill.{Fills};
 ghost use Rattle.goblin_mach_c.specs.SectionRows.{section_row, section_rows};
 
@@ -11,8 +11,8 @@ use crate::images::{ctx_of, gm_image};
 use crate::numbered::{Numbered, rows_from};
 use crate::rows::fill;
 use mach_base::{Ctx, Error, Result, SizeWith};
+use mach_parts::segment::{Section, SectionData, Segment};
 use mach_records::SegmentCommand64;
-use mach_segments::segment::{Section, SectionData, Segment};
 
 /// A section. `data_len` bytes of the file from `offset` on are its data: none where it is of zeros, or out of the file.
 /// Where `code` is not `GM_OK` it can't be read, and the rest is 0.

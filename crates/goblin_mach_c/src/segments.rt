@@ -2,8 +2,8 @@
 
 ghost use Rattle.std.specs.Prelude.{◌≡◌, drop, IfOk};
 ghost use Rattle.mach_load.specs.Variants.{command_of};
-ghost use Rattle.mach_segments.specs.Segment.{segment_view};
-ghost use Rattle.mach_image.specs.Subjects.{lossy_segment_by};
+ghost use Rattle.mach_parts.specs.Segment.{segment_view};
+ghost use Rattle.goblin_mach.specs.Subjects.{lossy_segment_by};
 ghost use Rattle.goblin_mach_c.specs.Fill.{Fills};
 ghost use Rattle.goblin_mach_c.specs.PartRows.{segment_row, segment_rows, shown};
 
@@ -13,7 +13,7 @@ use crate::picked::{Pick, Picked};
 use crate::rows::{fill, skip};
 use mach_base::{Ctx, Result};
 use mach_load::{CommandVariant, LoadCommand};
-use mach_segments::segment::Segment;
+use mach_parts::segment::Segment;
 
 /// A segment. Its command stands at `command`, and `data_len` bytes of the file from `fileoff` on are its data: none
 /// where they are not all in the bytes.

@@ -3,8 +3,8 @@
 ghost use Rattle.std.specs.Prelude.{◌≡◌, ◌≢◌, ◌<◌, drop, length};
 ghost use Rattle.std.specs.Option.{option_map};
 ghost use Rattle.mach_base.specs.Items.{read_as};
-ghost use Rattle.mach_sign.specs.FaultViews.{directory_fault_view, signature_fault_view};
-ghost use Rattle.mach_sign_places.specs.Places.{signed_directory_view};
+ghost use Rattle.mach_signature.specs.FaultViews.{directory_fault_view, signature_fault_view};
+ghost use Rattle.mach_c_places.specs.SignaturePlaces.{signed_directory_view};
 ghost use Rattle.goblin_mach_c.specs.Codes.{IsRefusalCode};
 ghost use Rattle.goblin_mach_c.specs.Fill.{Fills};
 ghost use Rattle.goblin_mach_c.specs.SignatureRows as rows;
@@ -15,11 +15,11 @@ use crate::images::gm_image;
 use crate::open::{flag, open};
 use crate::rows::{Rows, fill, skip};
 use mach_base::Result;
-use mach_sign::{CodeFault, DirectoryFault, SignatureFault, SignatureFaults, SpecialFault};
-use mach_sign_places::laws::signed_directory_of_image;
-use mach_sign_places::{SignedDirectory, signed_directory};
-use mach_signed::laws::{as_signed_of_image, signature_faults_of_image};
-use mach_signed::{is_as_signed, signature_faults};
+use mach_c_places::laws::signed_directory_of_image;
+use mach_c_places::{SignedDirectory, signed_directory};
+use mach_signature::image::{is_as_signed, signature_faults};
+use mach_signature::laws::{as_signed_of_image, signature_faults_of_image};
+use mach_signature::{CodeFault, DirectoryFault, SignatureFault, SignatureFaults, SpecialFault};
 use std::alloc::Global;
 
 /// What the code directory of a signature says that counts. A text has its place in the bytes and its length, both 0 where there is none, and

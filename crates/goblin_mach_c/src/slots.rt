@@ -2,8 +2,8 @@
 
 ghost use Rattle.std.specs.Prelude.{◌≡◌, ◌≢◌, ◌<◌, Ok, length, map, option_map};
 ghost use Rattle.mach_base.specs.Fault.{fault_of};
-ghost use Rattle.mach_slots.specs.SlotViews.{slot_symbol_view, slot_view};
-ghost use Rattle.mach_slots.specs.SlotsLeft.{slots_left, symbol_slot_read};
+ghost use Rattle.mach_parts.specs.SlotViews.{slot_symbol_view, slot_view};
+ghost use Rattle.mach_parts.specs.SlotsLeft.{slots_left, symbol_slot_read};
 ghost use Rattle.goblin_mach_c.specs.Codes.{IsRefusalCode};
 ghost use Rattle.goblin_mach_c.specs.Opened.{FaultIn, lossy_mode};
 ghost use Rattle.goblin_mach_c.specs.SlotRows as rows;
@@ -18,9 +18,9 @@ use crate::indirect::{
 use crate::open::open;
 use crate::rows::{Rows, fill, skip};
 use crate::symbols::symbol_of;
+use goblin_mach::laws::{slot_at_of_image, slots_of_image};
 use goblin_mach::slots::{SlotIterator, SlotKind, SlotSymbol, SymbolSlot};
 use mach_base::{Error, Result};
-use mach_image::slot_facts::{slot_at_of_image, slots_of_image};
 use std::alloc::Global;
 
 /// No stub and no pointer.

@@ -4,10 +4,10 @@ ghost use Rattle.std.specs.Prelude.{◌≡◌, ◌≢◌, ◌<◌, ◌+◌, ℕ,
 ghost use Rattle.mach_base.specs.Answer.{Reads};
 ghost use Rattle.mach_base.specs.Fault.{Fault, fault_of};
 ghost use Rattle.mach_base.specs.Leb128.{uleb_at};
-ghost use Rattle.mach_image.specs.Fixups.{base_held};
-ghost use Rattle.mach_image.specs.OpenImage.{bytes_held, commands_held};
-ghost use Rattle.mach_image.specs.Tables.{starts_place_in};
-ghost use Rattle.mach_tables.specs.FunctionStarts.{function_start_at, starts_behind};
+ghost use Rattle.goblin_mach.specs.Fixups.{base_held};
+ghost use Rattle.goblin_mach.specs.OpenImage.{bytes_held, commands_held};
+ghost use Rattle.goblin_mach.specs.Tables.{starts_place_in};
+ghost use Rattle.mach_load.specs.FunctionStarts.{function_start_at, starts_behind};
 ghost use Rattle.goblin_mach_c.specs.Codes.{IsRefusalCode};
 ghost use Rattle.goblin_mach_c.specs.Opened.{FaultIn, lossy_mode};
 ghost use Rattle.goblin_mach_c.specs.StartsBehind.{AreStartRowsOver, AreStartsBehindCursor, WritesStarts, function_start_row, start_rows_left};
@@ -18,9 +18,9 @@ use crate::images::gm_image;
 use crate::items::{ItemRows, fill_items};
 use crate::open::open;
 use goblin_mach::MachO;
+use goblin_mach::fixups::last_readable;
+use goblin_mach::table_places::StartPlaces;
 use mach_base::{Error, Result, quick_uleb, uleb};
-use mach_image::fixups::last_readable;
-use mach_image::table_places::StartPlaces;
 use mach_records::LinkeditDataCommand;
 use std::alloc::Global;
 
@@ -66,7 +66,7 @@ fn number_at(bytes: &[u8], place: usize) -> Result<(u64, usize)>
 }
 
 // The function behind an address, by the number at a place, and the place after that; none behind a 0.
-#[tactic(auto, unfolding(mach_tables::specs::FunctionStarts::function_start_at))]
+#[tactic(auto, unfolding(mach_load::specs::FunctionStarts::function_start_at))]
 #[inline(always)]
 fn start_at(bytes: &[u8], place: usize, address: u64) -> Result<Option<(u64, usize)>>
     ensures { Reads (λ start. start) result (function_start_at bytes.now place address) }

@@ -5,7 +5,7 @@ ghost use Rattle.std.specs.List.{before_first};
 ghost use Rattle.mach_base.specs.Answer.{Reads};
 ghost use Rattle.mach_base.specs.Fault.{fault_of};
 ghost use Rattle.mach_base.specs.Text.{is_zero, run_at, text_at};
-ghost use Rattle.mach_symbols.specs.Symbols.{nlist_at, symbol_place};
+ghost use Rattle.mach_parts.specs.Symbols.{nlist_at, symbol_place};
 ghost use Rattle.goblin_mach_c.specs.Fill.{Fills};
 ghost use Rattle.goblin_mach_c.specs.SymbolRows.{named_row, symbol_row, symbol_rows, symbol_rows_left, symbol_table_in, table_seen, text_code, unread_row};
 
@@ -14,7 +14,7 @@ use crate::images::{ctx_of, gm_image};
 use crate::layout::from;
 use crate::rows::{Rows, fill};
 use mach_base::{Container, Ctx, Error, Record, Result, SizeWith, read_text};
-use mach_symbols::symbols::{Nlist, Nlist32, Nlist64, Symbols};
+use mach_parts::symbols::{Nlist, Nlist32, Nlist64, Symbols};
 
 /// A symbol. Its name stands at `name` in the bytes, and has `name_len` of them up to a zero. Where `code` is not `GM_OK` these are
 /// no text; or they begin past the end, and both numbers are 0; or the record can't be read, and all else is 0.

@@ -4,8 +4,8 @@ ghost use Rattle.std.specs.Prelude.{◌≡◌, ◌-◌, ℕ, drop};
 ghost use Rattle.mach_base.specs.Answer.{Reads};
 ghost use Rattle.mach_load.specs.Variants.{command_of};
 ghost use Rattle.mach_records.specs.declared.versions.BuildToolVersion.{BuildToolVersion};
-ghost use Rattle.mach_tables.specs.BuildTools as defined;
-ghost use Rattle.mach_tables.specs.BuildTools.{tool_count, tool_table};
+ghost use Rattle.mach_load.specs.BuildTools as defined;
+ghost use Rattle.mach_load.specs.BuildTools.{tool_count, tool_table};
 ghost use Rattle.goblin_mach_c.specs.Fill.{Fills};
 ghost use Rattle.goblin_mach_c.specs.TableRows.{build_tool_row, build_tool_rows, tools_in_part, tools_of_command, tools_of_part};
 
@@ -42,7 +42,7 @@ fn tool_count(command: &LoadCommand) -> u32
 }
 
 // The next tool of a command.
-#[tactic(auto, unfolding(mach_tables::specs::BuildTools::tool_at))]
+#[tactic(auto, unfolding(mach_load::specs::BuildTools::tool_at))]
 #[inline(always)]
 fn tool_in(bytes: &[u8], le: Endian, part: Part) -> Result<BuildToolVersion>
     ensures { Reads (λ tool. tool) result (defined.tool_at le bytes.now (tools_in_part part) part.index) }

@@ -2,10 +2,10 @@
 
 ghost use Rattle.std.specs.Prelude.{◌≡◌, ◌≢◌, ◌⊎◌, [], ℕ, List, IfErr, OnOk};
 ghost use Rattle.mach_base.specs.Answer.{Stands};
-ghost use Rattle.mach_tries.specs.Trie.{Entry};
-ghost use Rattle.mach_tries.specs.TrieRange.{TrieRange, ListsExports, ExportsFault};
-ghost use Rattle.mach_tries.specs.Walks.{HasGiven};
-ghost use Rattle.mach_image.specs.Facts.{HasExports, HasExportsFault};
+ghost use Rattle.mach_dyld.specs.Trie.{Entry};
+ghost use Rattle.mach_dyld.specs.TrieRange.{TrieRange, ListsExports, ExportsFault};
+ghost use Rattle.mach_dyld.specs.Walks.{HasGiven};
+ghost use Rattle.goblin_mach.specs.Facts.{HasExports, HasExportsFault};
 ghost use Rattle.goblin_mach_c.specs.Codes.{IsRefusalCode};
 ghost use Rattle.goblin_mach_c.specs.ExportRows.{WalkFault};
 ghost use Rattle.goblin_mach_c.specs.Opened.{lossy_mode};

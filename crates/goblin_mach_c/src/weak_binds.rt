@@ -2,8 +2,8 @@
 
 ghost use Rattle.std.specs.Prelude.{◌≡◌, ◌≢◌, ◌<◌, ◌⊎◌, ℕ, [], List, Result, length};
 ghost use Rattle.mach_base.specs.Fault.{Fault, fault_of};
-ghost use Rattle.mach_streams.specs.WeakBinds as defined;
-ghost use Rattle.mach_streams.specs.WeakBindsLeft.{weak_bind_view};
+ghost use Rattle.mach_dyld.specs.WeakBinds as defined;
+ghost use Rattle.mach_dyld.specs.WeakBindsLeft.{weak_bind_view};
 ghost use Rattle.goblin_mach_c.specs.BindingRows.{NameStandsAt};
 ghost use Rattle.goblin_mach_c.specs.Codes.{IsRefusalCode};
 ghost use Rattle.goblin_mach_c.specs.Opened.{FaultIn, lossy_mode};
@@ -19,9 +19,9 @@ use crate::items::{ItemRows, fill_items};
 use crate::open::{flag, open};
 use goblin_mach::MachO;
 use mach_base::Error;
-use mach_cursors::range::weak_range;
-use mach_cursors::{PlacedWeakBind, WeakBindWalk};
-use mach_streams::WeakBind;
+use mach_c_places::range::weak_range;
+use mach_c_places::{PlacedWeakBind, WeakBindWalk};
+use mach_dyld::WeakBind;
 use std::alloc::Global;
 
 /// A place in memory that takes the definition of a name that all images share, or a name that the image defines itself and not

@@ -1,13 +1,13 @@
 //! Fat files that are written.
 
 ghost use Rattle.std.specs.Prelude.{◌≡◌, ◌≢◌, ◌<◌, length};
-ghost use Rattle.mach_fat_parts.specs.Parts.{IsPartsFault, form_by};
+ghost use Rattle.mach_fat_writer.specs.Parts.{IsPartsFault, form_by};
 ghost use Rattle.goblin_mach_c.specs.Codes.{IsRefusalCode};
 ghost use Rattle.goblin_mach_c.specs.FatWrites.{LacksRoom, WritesFat};
 ghost use Rattle.goblin_mach_c.specs.Opened.{lossy_mode};
 
 use crate::errors::{GM_OK, gm_error, refuse, refuse_no_space};
-use mach_fat_parts::{FatPart, write_parts};
+use mach_fat_writer::{FatPart, write_parts};
 use std::alloc::Global;
 
 /// Writes the fat file of some parts of these bytes, in their order, into the front of `out`, and how many bytes it has to `needed`: of 64 bits, or of 32

@@ -8,7 +8,7 @@ use Rattle.mach_base.proofs.Faults.{Stands-reported}
 use Rattle.mach_chained.specs.Pointers.{KindOfFixup, rebase, bind, value}
 use Rattle.mach_chained.specs.Fixups.{FixupInput, Fixup}
 use Rattle.mach_chained.specs.Chained.{PlacedFixup, AreFixups, fixup_items}
-use Rattle.mach_segments.specs.Bindings.{Binding}
+use Rattle.mach_parts.specs.Bindings.{Binding}
 use Rattle.mach_chained.specs.Bindings.{chained_binding_of, binding_by, binding_in, bindings_before, bindings_of, AreBindingItems, ListsBindings, BindingFault}
 use Rattle.mach_chained.specs.BindingCounts.{binds_more, bind_count, AsManyAsBinds}
 use Rattle.mach_chained.proofs.Chained.{one_list}

@@ -4,7 +4,7 @@ use Rattle.mach_base.specs.Fault.{Fault}
 use Rattle.mach_chained.specs.declared.source.Source.{Source}
 use Rattle.mach_chained.specs.Fixups.{FixupInput, Fixup}
 use Rattle.mach_chained.specs.Chained.{PlacedFixup, fixup_items}
-use Rattle.mach_segments.specs.Bindings.{Binding}
+use Rattle.mach_parts.specs.Bindings.{Binding}
 use Rattle.mach_chained.specs.Bindings.{binding_in, bindings_before, bindings_of}
 use Rattle.mach_chained.specs.BindingViews.{fixup_count}
 use Rattle.mach_chained.specs.WalkViews.{fixup_input_of}

@@ -4,7 +4,7 @@ use Rattle.mach_base.proofs.Binds.{bind_ok, same_ok}
 use Rattle.mach_base.specs.Answer.{◌>>=◌}
 use Rattle.mach_base.specs.Fault.{Fault, malformed}
 use Rattle.mach_base.specs.Sums.{found_or_malformed}
-use Rattle.mach_segments.specs.Segment.{SegmentView}
+use Rattle.mach_parts.specs.Segment.{SegmentView}
 use Rattle.mach_chained.specs.declared.starts.ChainedStartsInSegment.{ChainedStartsInSegment}
 use Rattle.mach_chained.specs.Fixups.{FixupInput, Span, Ends, no_ends, in_memory, behind, span_of, span_by}
 unfoldable use Rattle.mach_chained.specs.Fixups.{span_at}

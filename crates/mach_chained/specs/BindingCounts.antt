@@ -3,7 +3,7 @@ use Rattle.std.specs.Prelude.{◌≡◌, ℕ, suc, List, [], ◌∷◌, map, len
 use Rattle.mach_chained.specs.Pointers.{KindOfFixup, rebase, bind, value}
 use Rattle.mach_chained.specs.Fixups.{FixupInput}
 use Rattle.mach_chained.specs.Chained.{PlacedFixup, fixup_items}
-use Rattle.mach_segments.specs.Bindings.{Binding}
+use Rattle.mach_parts.specs.Bindings.{Binding}
 use Rattle.mach_chained.specs.Bindings.{bindings_of}
 
 -- one more, where it is a bind

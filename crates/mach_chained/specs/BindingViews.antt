@@ -1,8 +1,8 @@
 -- What an iterator over bindings has yet to give, and a list of them.
 use Rattle.std.specs.Prelude.{◌≡◌, ℕ, suc, List, [], ◌∷◌, map, true, Result, Ok, Err, if◌then◌else◌}
 use Rattle.mach_base.specs.Fault.{Fault}
-use Rattle.mach_segments.specs.declared.binding.Binding as binding
-use Rattle.mach_segments.specs.Bindings.{Binding, binding_view}
+use Rattle.mach_parts.specs.declared.binding.Binding as binding
+use Rattle.mach_parts.specs.Bindings.{Binding, binding_view}
 use Rattle.mach_base.specs.Text.{texts}
 use Rattle.mach_chained.specs.declared.bindings.ChainedBindIterator.{ChainedBindIterator}
 use Rattle.mach_chained.specs.Fixups.{Fixup}

@@ -5,8 +5,8 @@ use Rattle.mach_base.specs.Among.{IsAmong}
 use Rattle.mach_base.specs.Answer.{◌>>=◌}
 use Rattle.mach_base.specs.Fault.{Fault, malformed}
 use Rattle.mach_base.specs.Sums.{found_or_malformed, sum_of}
-use Rattle.mach_segments.specs.Bindings.{Binding, provider_of}
-use Rattle.mach_segments.specs.Segment.{SegmentView}
+use Rattle.mach_parts.specs.Bindings.{Binding, provider_of}
+use Rattle.mach_parts.specs.Segment.{SegmentView}
 use Rattle.mach_chained.specs.Imports.{import_at}
 use Rattle.mach_chained.specs.Pointers.{KindOfFixup, rebase, bind, value}
 use Rattle.mach_chained.specs.Fixups.{FixupInput, Fixup}

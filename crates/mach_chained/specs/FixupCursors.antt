@@ -1,7 +1,7 @@
 -- How far the walk along chains has come, as numbers.
 use Rattle.std.specs.Prelude.{◌≡◌, ◌==◌, ℕ, List, [], true, Some, None, Result, if◌then◌else◌}
 use Rattle.mach_base.specs.Fault.{Fault}
-use Rattle.mach_segments.specs.Bindings.{Binding}
+use Rattle.mach_parts.specs.Bindings.{Binding}
 use Rattle.mach_chained.specs.Bindings.{bindings_of}
 use Rattle.mach_chained.specs.Fixups.{FixupInput, Span, Fixup, no_ends, span_at}
 use Rattle.mach_chained.specs.FixupsLeft.{fixups_unless_ended, fixups_left}

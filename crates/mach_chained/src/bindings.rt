@@ -9,9 +9,9 @@ ghost use Rattle.mach_chained.specs.Bindings.{place_in_file, signed_or_malformed
 ghost use Rattle.mach_chained.specs.Bindings.{BindingFault};
 ghost use Rattle.mach_chained.specs.Chained.{PlacedFixup, AreFixups, fixup_items};
 ghost use Rattle.mach_chained.specs.WalkViews.{fixup_input_of, fixup_input_in, fixup_view};
-ghost use Rattle.mach_segments.specs.Segment.{segment_view};
-ghost use Rattle.mach_segments.specs.Bindings as declared;
-ghost use Rattle.mach_segments.specs.Bindings.{binding_view, binding_read};
+ghost use Rattle.mach_parts.specs.Segment.{segment_view};
+ghost use Rattle.mach_parts.specs.Bindings as declared;
+ghost use Rattle.mach_parts.specs.Bindings.{binding_view, binding_read};
 ghost use Rattle.mach_base.specs.Text.{texts};
 
 use crate::fixups::FixupIterator;
@@ -20,8 +20,8 @@ use crate::imports::Names;
 use crate::pointer::FixupKind;
 use crate::source::{Fixup, Source, nth_segment};
 use mach_base::{Error, Result, Steps};
-use mach_segments::binding::{Binding, Provider};
-use mach_segments::segment::Segment;
+use mach_parts::binding::{Binding, Provider};
+use mach_parts::segment::Segment;
 use std::alloc::Allocator;
 
 // Where an offset in a segment lies in the file.

@@ -11,7 +11,7 @@ ghost use Rattle.mach_chained.specs.WalkViews.{fixup_input_of, fixup_input_in, s
 use crate::fixups::FixupIterator;
 use crate::header::ChainedFixups;
 use crate::source::{NextPlace, PagePlace, Source, Span};
-use mach_segments::segment::Segment;
+use mach_parts::segment::Segment;
 
 /// How far the walk along chains has come: numbers alone, which go with the bytes and the chained fixups. Whatever
 /// they are, going on from them gives fixups, or an error, or nothing.

@@ -20,6 +20,7 @@ pub use crate::fixups::FixupIterator;
 pub use crate::format::{ImportFormat, PointerFormat};
 pub use crate::header::{ChainedFixups, ChainedFixupsHeader, SIZEOF_CHAINED_FIXUPS_HEADER};
 pub use crate::imports::{ChainedImport, ChainedImportIterator};
-pub use crate::pointer::{ChainPointer, FixupKind, PointerAuth, read_pointer};
+pub use crate::pointer::{ChainPointer, FixupKind, read_pointer};
 pub use crate::source::Fixup;
 pub use crate::starts::{ChainedStartsInSegment, SIZEOF_CHAINED_STARTS_IN_SEGMENT};
+pub use mach_parts::binding::PointerAuth;

@@ -13,14 +13,15 @@ ghost use Rattle.mach_chained.specs.WalkViews.{fixup_input_of, chains_view, span
 ghost use Rattle.mach_chained.specs.FixupsLeft.{next_spot};
 ghost use Rattle.mach_chained.specs.Opened.{nothing_opened};
 ghost use Rattle.std.specs.Prelude.{map, slice_get};
-ghost use Rattle.mach_segments.specs.Segment.{segment_view};
+ghost use Rattle.mach_parts.specs.Segment.{segment_view};
 
 use crate::format::PointerFormat;
 use crate::header::ChainedFixups;
-use crate::pointer::{FixupKind, PointerAuth, pointer_len, read_pointer};
+use crate::pointer::{FixupKind, pointer_len, read_pointer};
 use crate::starts::{Chains, SIZEOF_CHAINED_STARTS_IN_SEGMENT};
 use mach_base::{Endian, Error, Result, Steps, bytes_at};
-use mach_segments::segment::Segment;
+use mach_parts::binding::PointerAuth;
+use mach_parts::segment::Segment;
 
 /// The start of a page that has no chain.
 pub const DYLD_CHAINED_PTR_START_NONE: u16 = 0xffff;
@@ -81,7 +82,7 @@ pub enum NextPlace {
 }
 
 /// The segment of a number.
-#[tactic(auto, using(mach_segments::proofs::SegmentViews::segment_seen))]
+#[tactic(auto, using(mach_parts::proofs::SegmentViews::segment_seen))]
 #[inline(always)]
 pub fn nth_segment<'b, 'a>(segments: &'b [Segment<'a>], number: u32) -> Result<&'b Segment<'a>>
     ensures { Reads (λ s. segment_view s.now) result (found_or_malformed (slice_get (map segment_view segments.now) number)) }

@@ -1,64 +1,71 @@
-//! The faults of the layout of an image.
+//! The faults of the layout of an image, but for those of the lists that it gives one at a time.
 
-ghost use Rattle.std.specs.Prelude.{◌≡◌, IfOk, OnOk};
+ghost use Rattle.std.specs.Prelude.{◌≡◌, ◌++◌, OnOk};
 ghost use Rattle.mach_base.specs.Answer.{IsOkUnlessMemory};
-ghost use Rattle.mach_image.specs.ImageFacts.{facts_held};
-ghost use Rattle.mach_layout.specs.Held.{laid_held};
-ghost use Rattle.mach_layout.specs.ListFaults.{AreListFaults};
-ghost use Rattle.mach_rules.specs.Claims.{claims_of};
-ghost use Rattle.mach_rules.specs.ClaimsLeft.{claims_left};
-ghost use Rattle.mach_rules.specs.Faults.{AreLayoutFaults, AddsSymbols};
-ghost use Rattle.mach_rules.specs.Laid.{laid_of};
+ghost use Rattle.mach_layout.specs.Entry as entry;
+ghost use Rattle.mach_layout.specs.Faults.{AddsSegments, AddsSections};
+ghost use Rattle.mach_layout.specs.Laid.{laid_of};
+ghost use Rattle.mach_layout.specs.Commands as texts;
+ghost use Rattle.mach_layout.specs.Symbols as symbols;
 
-use crate::layout::layout_of;
-use crate::lists::list_faults;
+use crate::commands::{command_faults, text_faults};
+use crate::entry::entry_faults;
+use crate::fault::{LayoutFault, Rule};
+use crate::header::tell_header;
+use crate::layout::Layout;
+use crate::ranges::{claims_shared, files_shared, memory_shared, sections_shared, tell_claims};
+use crate::sections::section_faults;
+use crate::segments::{encrypted_faults, segment_faults};
+use crate::symbols::symbol_faults;
 use mach_base::Result;
-use mach_image::macho::MachO;
-use mach_rules::{
-    ClaimIterator, Layout, LayoutFault, add_sections, add_segments, add_symbols, data_faults,
-    fixup_faults,
-};
 use std::alloc::Allocator;
 
-/// The ranges of the file that the parts of an image claim, which was opened at the first of its bytes: that of the
-/// header and the commands, and then those of each command, in order. A part of no bytes claims a range of length 0.
-/// It takes no memory.
-pub fn claims<'a, 'b, A: Allocator>(image: &'b MachO<'a, A>) -> ClaimIterator<'a, 'b>
-    ensures { claims_left result ≡ claims_of (laid_held image.now) }
-{
-    layout_of(image).claims()
-}
-
-// Adds those of the symbols, of the entry, of texts, of the image's lists, of fixups, and of data among code.
-fn add_all_symbols<A: Allocator, B: Allocator>(
+/// Adds the faults of the commands, of what is out of the file, and of the segments.
+pub fn add_segments<B: Allocator + Clone>(
     faults: &mut Vec<LayoutFault, B>,
-    image: &MachO<'_, A>,
+    alloc: &B,
     layout: &Layout<'_, '_>,
 ) -> Result<()>
-    ensures told { OnOk result (AddsSymbols (laid_of layout.now) (AreListFaults (facts_held image.now)) faults.old.items faults.new.items) }
+    ensures told { OnOk result (AddsSegments (laid_of layout.now) faults.old.items faults.new.items) }
     ensures only { IsOkUnlessMemory result }
 {
-    add_symbols(faults, layout)?;
-    list_faults(faults, image)?;
-    fixup_faults(faults, layout)?;
-    data_faults(faults, layout)?;
+    command_faults(faults, layout)?;
+    tell_claims(faults, layout, &[Rule::OutOfFile])?;
+    segment_faults(alloc.clone()?, faults, layout)?;
+    memory_shared(faults, alloc.clone()?, layout)?;
+    files_shared(faults, alloc.clone()?, layout)?;
+    tell_header(faults, layout, &[Rule::NoSegmentOfHeader])?;
     Ok(())
 }
 
-/// The faults of the layout of an image, which was opened at the first of its bytes: all and no others, rule by rule,
-/// and of each rule in the order of the commands, or of the addresses or places where two things share some. Want of
-/// memory alone refuses them.
-pub fn layout_faults<A: Allocator, B: Allocator + Clone>(
-    alloc: B,
-    image: &MachO<'_, A>,
-) -> Result<Vec<LayoutFault, B>>
-    ensures listed { IfOk result (λ v. AreLayoutFaults (laid_held image.now) (AreListFaults (facts_held image.now)) v.items) }
+/// Adds those of the sections, of the claims, and of what is in `__LINKEDIT` or encrypted.
+pub fn add_sections<B: Allocator + Clone>(
+    faults: &mut Vec<LayoutFault, B>,
+    alloc: &B,
+    layout: &Layout<'_, '_>,
+) -> Result<()>
+    ensures told { OnOk result (AddsSections (laid_of layout.now) faults.old.items faults.new.items) }
     ensures only { IsOkUnlessMemory result }
 {
-    let layout = layout_of(image);
-    let mut faults = Vec::new(alloc.clone()?);
-    add_segments(&mut faults, &alloc, &layout)?;
-    add_sections(&mut faults, &alloc, &layout)?;
-    add_all_symbols(&mut faults, image, &layout)?;
-    Ok(faults)
+    section_faults(faults, layout)?;
+    sections_shared(faults, alloc.clone()?, layout)?;
+    claims_shared(faults, alloc.clone()?, layout)?;
+    tell_claims(faults, layout, &[Rule::HeaderShared, Rule::OutOfLinkedit])?;
+    encrypted_faults(faults, layout)?;
+    Ok(())
+}
+
+/// Adds those of the symbols, of the entry and of texts.
+pub fn add_symbols<B: Allocator>(
+    faults: &mut Vec<LayoutFault, B>,
+    layout: &Layout<'_, '_>,
+) -> Result<()>
+    ensures told { let laid = laid_of layout.now in OnOk result (faults.new.items
+        ≡ faults.old.items ++ symbols.symbol_faults laid ++ entry.entry_faults laid ++ texts.text_faults laid) }
+    ensures only { IsOkUnlessMemory result }
+{
+    symbol_faults(faults, layout)?;
+    entry_faults(faults, layout)?;
+    text_faults(faults, layout)?;
+    Ok(())
 }

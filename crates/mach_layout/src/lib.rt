@@ -1,16 +1,52 @@
-//! Whether the parts of a Mach-O image lie as the format and its readers demand: which range of the file
-//! each part claims, and every fault of the image's layout.
+//! The rules by which the parts of a Mach-O image lie, over its bytes, its header and its commands: which range of the file
+//! each part claims, and every fault of the layout but those of the lists that an image gives one at a time; and those by which
+//! the entries of a fat file lie, for tables of 32 and of 64 bits alike. `goblin_mach::layout` asks them of an image.
 #![tactic(auto)]
 
+// The rules, what a fault says, and what is read of an image.
+mod fault;
 mod faults;
-pub mod laws;
 mod layout;
-mod lists;
+pub mod rules;
+mod text;
+mod words;
 
-pub use crate::faults::{claims, layout_faults};
-pub use crate::layout::layout_of;
-pub use mach_fat_rules::container_faults;
-pub use mach_rules::{
-    Claim, ClaimIterator, Evidence, Layout, LayoutFault, Owner, Part, PlacedSection, PlacedSegment,
-    Rule, SectionIterator, SegmentIterator,
-};
+// Claims, and ranges that are claimed twice.
+mod claim;
+mod claiming;
+mod ranges;
+mod sweep;
+
+// The rules by subject.
+mod asked;
+mod commands;
+mod data;
+mod entry;
+mod fixups;
+mod header;
+mod libraries;
+mod lists;
+mod parts;
+mod sections;
+mod segments;
+mod symbols;
+
+// Fat files.
+mod containers;
+
+// Laws.
+pub mod laws;
+
+pub use crate::claim::Claim;
+pub use crate::claiming::ClaimIterator;
+pub use crate::containers::container_faults;
+pub use crate::data::data_faults;
+pub use crate::fault::{LayoutFault, Owner, Part, Rule};
+pub use crate::faults::{add_sections, add_segments, add_symbols};
+pub use crate::fixups::fixup_faults;
+pub use crate::header::header_owner;
+pub use crate::layout::Layout;
+pub use crate::lists::{function_starts_fault, opcodes_fault};
+pub use crate::parts::{PlacedSection, PlacedSegment, SectionIterator, SegmentIterator};
+pub use crate::sweep::tell_ranges;
+pub use crate::text::Evidence;

@@ -1,70 +1,88 @@
-//! The rules of the lists that an image gives one at a time: each can be read to its end.
+//! Whose the faults of an image's lists are: of the last command that brings one.
 
-ghost use Rattle.std.specs.Prelude.{◌≡◌, ◌++◌, List, OnOk, option_to_list};
-ghost use Rattle.mach_base.specs.Answer.{IsOkUnlessMemory};
-ghost use Rattle.mach_binds.specs.BindingFaults.{has_fault};
-ghost use Rattle.mach_image.specs.ImageFacts.{facts_held};
-ghost use Rattle.mach_layout.specs.ListFaults as defined;
-ghost use Rattle.mach_layout.specs.ListFaults.{AreListFaults};
-ghost use Rattle.mach_rules.specs.declared.fault.LayoutFault as listed;
-ghost use Rattle.mach_tables.specs.TablesLeft.{starts_left};
+ghost use Rattle.std.specs.Prelude.{◌≡◌};
+ghost use Rattle.mach_layout.specs.Lists as defined;
+ghost use Rattle.mach_layout.specs.Laid.{laid_of};
 
-use crate::layout::layout_of;
-use mach_base::Result;
-use mach_image::macho::MachO;
-use mach_rules::rules::add;
-use mach_rules::{LayoutFault, Part, Rule, function_starts_fault, opcodes_fault};
-use mach_tables::FunctionStartIterator;
-use std::alloc::Allocator;
+use crate::asked::{Wanted, last_wanted};
+use crate::fault::{LayoutFault, Part, Rule};
+use crate::layout::Layout;
+use crate::symbols::fault_at;
+use mach_load::{CommandVariant, LoadCommand};
 
-// A fault, where it stands.
-fn told_where(stands: bool, fault: LayoutFault) -> Option<LayoutFault>
-    ensures { option_to_list result ≡ defined.told_where stands fault }
-{
-    if stands { Some(fault) } else { None }
+/// The place of a command of opcodes.
+#[derive(Clone, Copy)]
+pub struct PlacedDyldInfo {
+    pub place: usize,
 }
 
-// Whether a fault stands among some starts of functions.
-fn is_start_fault_among(starts: FunctionStartIterator<'_>) -> bool
-    ensures { result ≡ has_fault (starts_left starts.entry) }
-{
-    'starts: for start in starts {
-        if start.is_err() {
-            return true;
+impl Wanted for PlacedDyldInfo {
+    ghost use Rattle.mach_layout.specs.Lists.{dyld_info_of};
+
+    ghost wanted = { dyld_info_of };
+
+    fn of(command: &LoadCommand) -> Option<PlacedDyldInfo> {
+        let place = command.offset;
+        match &command.command {
+            CommandVariant::DyldInfo(_) | CommandVariant::DyldInfoOnly(_) => {
+                Some(PlacedDyldInfo { place })
+            }
+            _ => None,
         }
     }
-    false
 }
 
-/// Adds the faults of an image's lists: of its bindings and its rebases by opcodes, of its weak binds, and of its function
-/// starts, one of each list that has one.
-pub fn list_faults<A: Allocator, B: Allocator>(
-    faults: &mut Vec<LayoutFault, B>,
-    image: &MachO<'_, A>,
-) -> Result<()>
-    ensures told { OnOk result ((more : List listed.LayoutFault) × AreListFaults (facts_held image.now) more × (faults.new.items ≡ faults.old.items ++ more)) }
-    ensures only { IsOkUnlessMemory result }
+/// The place of a command of function starts.
+#[derive(Clone, Copy)]
+pub struct PlacedStarts {
+    pub place: usize,
+}
+
+impl Wanted for PlacedStarts {
+    ghost use Rattle.mach_layout.specs.Lists.{function_starts_of};
+
+    ghost wanted = { function_starts_of };
+
+    fn of(command: &LoadCommand) -> Option<PlacedStarts> {
+        let place = command.offset;
+        match &command.command {
+            CommandVariant::FunctionStarts(_) => Some(PlacedStarts { place }),
+            _ => None,
+        }
+    }
+}
+
+// The place of the last command of opcodes.
+fn opcodes_command(layout: &Layout<'_, '_>) -> usize
+    ensures { result ≡ defined.opcodes_command (laid_of layout.now) }
 {
-    let layout = layout_of(image);
-    let binds = opcodes_fault(&layout, Rule::Binds, Part::Binds);
-    add(
-        faults,
-        told_where(image.opcode_bindings().has_fault(), binds),
-    )?;
-    let rebases = opcodes_fault(&layout, Rule::Rebases, Part::RebaseOpcodes);
-    add(
-        faults,
-        told_where(image.opcode_rebases().has_fault(), rebases),
-    )?;
-    let weak_binds = opcodes_fault(&layout, Rule::WeakBinds, Part::WeakBindOpcodes);
-    add(
-        faults,
-        told_where(image.weak_binds().has_fault(), weak_binds),
-    )?;
-    let starts = function_starts_fault(&layout);
-    add(
-        faults,
-        told_where(is_start_fault_among(image.function_starts()), starts),
-    )?;
-    Ok(())
+    match last_wanted::<PlacedDyldInfo>(layout.commands) {
+        Some(command) => command.place,
+        None => 0,
+    }
+}
+
+// The place of the last command of function starts.
+fn starts_command(layout: &Layout<'_, '_>) -> usize
+    ensures { result ≡ defined.starts_command (laid_of layout.now) }
+{
+    match last_wanted::<PlacedStarts>(layout.commands) {
+        Some(command) => command.place,
+        None => 0,
+    }
+}
+
+/// What a rule tells of opcodes of the last command that brings any, where they have a fault.
+pub fn opcodes_fault(layout: &Layout<'_, '_>, rule: Rule, part: Part) -> LayoutFault
+    ensures { result ≡ defined.opcodes_fault rule part (laid_of layout.now) }
+{
+    fault_at(rule, part, opcodes_command(layout), 0, 0, 0)
+}
+
+/// What is told of the function starts of the last command that places any, where they have a fault.
+pub fn function_starts_fault(layout: &Layout<'_, '_>) -> LayoutFault
+    ensures { result ≡ defined.function_starts_fault (laid_of layout.now) }
+{
+    let place = starts_command(layout);
+    fault_at(Rule::FunctionStarts, Part::FunctionStarts, place, 0, 0, 0)
 }

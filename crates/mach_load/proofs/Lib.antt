@@ -2,3 +2,8 @@ pub mod Words
 pub mod CommandSizes
 pub mod CommandFronts
 pub mod Threads
+pub mod StartsRead
+pub mod StartLaws
+pub mod ListsRead
+pub mod OptionsRead
+pub mod ToolsRead

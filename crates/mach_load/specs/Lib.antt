@@ -3,3 +3,11 @@ pub mod ThreadState
 pub mod Command
 pub mod Variants
 pub mod Subjects
+pub mod FunctionStarts
+pub mod StartNumbers
+pub mod DataInCode
+pub mod CommandLists
+pub mod LinkerOptions
+pub mod BuildTools
+pub mod Notes
+pub mod TablesLeft

@@ -1,2 +1,7 @@
-pub mod Missed
-pub mod PartsHeld
+pub mod Headers
+pub mod SegmentViews
+pub mod NumberedSections
+mod ShortTexts
+pub mod SlotLists
+pub mod ReadyLists
+pub mod SlotLaws

@@ -1,14 +1,40 @@
-//! The files of a call, of which an archive and a fat file of 64 bits are shown as what is within them: each member and each entry as a file of its own.
+//! The parts of an image: magics, headers and fat records, segments with their sections and relocations, symbols, and the
+//! stubs and pointers that stand for symbols (`mach-o/loader.h`, `mach-o/fat.h`, `mach-o/reloc.h`, `mach-o/nlist.h`).
 #![tactic(auto)]
 
-mod asked;
-mod files;
-mod name;
-mod parts;
-mod shown;
+// Headers of images and of fat files, and the names of their numbers.
+mod arch_record;
+mod cpu;
+pub mod fat;
+mod fat64;
+pub mod header;
+pub mod magic;
 
-pub use crate::asked::{is_for, is_missed};
-pub use crate::files::{Files, ShowsFile};
-pub use crate::name::PartName;
-pub use crate::parts::{Parts, parts_of};
-pub use crate::shown::{ShownPart, shown_part};
+// Segments, sections and relocations, and what a binding in a segment says.
+pub mod binding;
+pub mod relocation;
+pub mod segment;
+
+// Symbols.
+pub mod symbols;
+
+// Indirect symbols, and the stubs and pointers that stand for symbols.
+mod indirect;
+mod ready_slots;
+mod slot;
+mod slot_kind;
+mod slot_look_up;
+mod slot_source;
+mod slots;
+
+// Laws.
+pub mod laws;
+
+pub use crate::arch_record::{ArchRecord, has_room_for, place_of, read_arch};
+pub use crate::fat64::{FAT_MAGIC_64, FatArch64, SIZEOF_FAT_ARCH_64};
+pub use crate::indirect::{IndirectSymbol, IndirectSymbolIterator, IndirectSymbols};
+pub use crate::slot::{SlotSymbol, SymbolSlot};
+pub use crate::slot_kind::SlotKind;
+pub use crate::slot_look_up::symbol_slot_at;
+pub use crate::slot_source::SlotSource;
+pub use crate::slots::SlotIterator;

@@ -1,11 +1,33 @@
 //! Says what is wrong with Mach-O files: whether each opens, and each part of it that can't be read or lies where it can't.
 #![tactic(auto)]
 
-use mach_audit::files::run_files;
-use mach_audit::run::NAME;
-use mach_audit::{DEFAULT_LIMIT, Mistake, Options, Words};
-use mach_show::{Misuse, Program};
-use mach_terminal::ForTerminal;
+// What is wrong with a file: whether it opens, and each part of it that can't be read or lies where it can't.
+mod asked;
+mod audit;
+mod listed;
+mod lists;
+mod report;
+mod signed;
+mod tally;
+mod verdict;
+
+// What is printed of it.
+mod files;
+mod json;
+mod layout_text;
+mod options;
+mod run;
+mod signature_text;
+mod text;
+
+// Tests.
+#[cfg(test)]
+mod tests;
+
+use crate::files::run_files;
+use crate::options::{DEFAULT_LIMIT, Mistake, Options, Words};
+use crate::run::NAME;
+use mach_cli::{ForTerminal, Misuse, Program};
 use std::io;
 use std::io::{BufWriter, IsTerminal};
 use std::process::ExitCode;

@@ -7,7 +7,7 @@ use Rattle.mach_base.specs.Answer.{IsOkUnlessMemory, Stands}
 use Rattle.mach_base.specs.Fault.{Fault}
 use Rattle.mach_base.specs.declared.error.Error.{Error}
 use Rattle.mach_base.specs.declared.error.Error.TheVariants as errors
-use Rattle.mach_image.specs.declared.macho.MachO.{MachO}
+use Rattle.goblin_mach.specs.declared.macho.MachO.{MachO}
 use Rattle.goblin_mach.specs.FatEntry.{FatEntry, EntryOpens, IsEntry, image, archive}
 use Rattle.goblin_mach.specs.View.{IsTold}
 use Rattle.goblin_mach.specs.declared.fat_file.entry.SingleArch.TheVariants as single

@@ -3,8 +3,8 @@ use Rattle.std.specs.Prelude.{ℕ, List, Option, codes}
 use Rattle.std.specs.Io.KnownBytes.{Appends}
 use Rattle.mach_base.specs.Words.{words_of}
 use Rattle.mach_base.specs.declared.error.Error.{Error}
-use Rattle.mach_show.specs.Foreigners.{refused_words}
-use Rattle.mach_show.specs.Shown.{complaint}
+use Rattle.mach_cli.specs.Foreigners.{refused_words}
+use Rattle.mach_cli.specs.Shown.{complaint}
 use Rattle.machbench.specs.declared.failure.Failure.{Failure}
 use Rattle.machbench.specs.declared.failure.Failure.TheVariants.{Unopened, Refused, Differs, NoClock, Unwritten}
 

@@ -1,11 +1,11 @@
 -- How many imports the images of a file have, and what a count of them says.
 use Rattle.std.specs.Prelude.{◌≡◌, ◌-◌, ◌≤◌, ℕ, length, nat_lt, sum, List, Result, Ok, Err, [], ◌∷◌}
 use Rattle.mach_base.specs.Fault.{Fault}
-use Rattle.mach_binds.specs.Imports.{Import}
-use Rattle.mach_image.specs.Facts.{HasImportItems}
-use Rattle.mach_image.specs.Image.{Opens}
-use Rattle.mach_image.specs.OpenImage.{IsImage}
-use Rattle.mach_image.specs.declared.macho.MachO.{MachO}
+use Rattle.mach_dyld.specs.Imports.{Import}
+use Rattle.goblin_mach.specs.Facts.{HasImportItems}
+use Rattle.goblin_mach.specs.Image.{Opens}
+use Rattle.goblin_mach.specs.OpenImage.{IsImage}
+use Rattle.goblin_mach.specs.declared.macho.MachO.{MachO}
 use Rattle.goblin_mach.specs.FatEntry.{FatEntry, image, archive}
 use Rattle.goblin_mach.specs.View.{HasEntries}
 use Rattle.machbench.specs.declared.calls.Work.{Work}

@@ -2,7 +2,7 @@
 
 ghost use Rattle.std.specs.Prelude.{◌≡◌, ◌≤◌, ◌+◌, ◌-◌, ◌%◌, ◌^◌, false, true, length, nat_lt, sum, ℕ, OnOk, IfOk, IfErr, List, Result, Ok};
 ghost use Rattle.std.specs.List.{AllZip};
-ghost use Rattle.mach_binds.specs.BindLeft.{imports_left};
+ghost use Rattle.mach_dyld.specs.BindLeft.{imports_left};
 ghost use Rattle.machbench.specs.Imports.{AreImagesOf, HasImportCount, HasImportsInAll, Counts};
 ghost use Rattle.machbench.specs.Limit.{ends_at_limit, lists_imports, IsWithin};
 ghost use Rattle.mach_base.specs.Answer.{Stands};

@@ -4,7 +4,7 @@ ghost use Rattle.std.specs.Prelude.{◌≡◌};
 ghost use Rattle.machbench.specs.declared.failure.Failure.TheVariants as failures;
 
 use goblin_mach::{Error, describe};
-use mach_show::refused_kind;
+use mach_cli::refused_kind;
 use std::alloc::{AllocError, AllocFailed};
 use std::fmt::{Display, Formatter, Write};
 use std::{fmt, io};

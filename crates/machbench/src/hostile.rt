@@ -8,7 +8,7 @@ use crate::bench::{nanos, now};
 use crate::calls::{Call, Subject, Work, unless_memory};
 use crate::failure::Failure;
 use crate::growth::{does_grow, per_byte, shown_cell};
-use mach_shapes::Shape;
+use mach_samples::Shape;
 use std::alloc::{AllocError, Allocator};
 use std::io;
 use std::io::Write;

@@ -12,8 +12,7 @@ mod run;
 mod times;
 mod words;
 
-use mach_parts::{Files, ShowsFile};
-use mach_show::{Cpu, Misuse, Program};
+use mach_cli::{Cpu, Files, Misuse, Program, ShowsFile};
 use run::{DEFAULT_LIMIT, NAME, run, run_hostile};
 use std::alloc::{AllocError, Allocator};
 use std::io;

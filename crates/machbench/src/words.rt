@@ -1,6 +1,6 @@
 //! The words of a call that ask for shapes that hurt readers.
 
-use mach_shapes::LEAST;
+use mach_samples::LEAST;
 use std::alloc::{AllocError, Allocator};
 
 // The option behind which a size stands.

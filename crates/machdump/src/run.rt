@@ -2,14 +2,14 @@
 
 ghost use Rattle.std.specs.Prelude.{◌≡◌, ◌≢◌, ◌≤◌, ◌↔◌, [], List, OnOk, codes};
 ghost use Rattle.std.specs.Io.Buffered.{writer_buffer};
-ghost use Rattle.mach_tries.specs.Exports.{info_of};
+ghost use Rattle.mach_dyld.specs.Exports.{info_of};
 ghost use Rattle.mach_base.specs.Text.{texts};
-ghost use Rattle.mach_tries.specs.Trie.{Entry, offset_of};
-ghost use Rattle.mach_tries.specs.TrieRange.{ListsExports};
-ghost use Rattle.mach_image.specs.Image.{Opens};
+ghost use Rattle.mach_dyld.specs.Trie.{Entry, offset_of};
+ghost use Rattle.mach_dyld.specs.TrieRange.{ListsExports};
+ghost use Rattle.goblin_mach.specs.Image.{Opens};
 ghost use Rattle.goblin_mach.specs.File.{MachOpens};
-ghost use Rattle.mach_image.specs.OpenImage.{trie_held};
-ghost use Rattle.mach_image.specs.Subjects.{trie_or_empty};
+ghost use Rattle.goblin_mach.specs.OpenImage.{trie_held};
+ghost use Rattle.goblin_mach.specs.Subjects.{trie_or_empty};
 
 use goblin_mach::exports::ExportInfo;
 use goblin_mach::imports::Import;

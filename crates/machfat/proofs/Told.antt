@@ -6,12 +6,12 @@ use Rattle.mach_base.specs.Answer.{Stands}
 use Rattle.mach_base.specs.declared.error.Error.{Error}
 use Rattle.mach_base.specs.declared.error.Error.TheVariants as errors
 use Rattle.mach_base.proofs.Written.{Appends-none, Appends-both}
-use Rattle.mach_fat.specs.Unfit.{RefusesAs, Unfit}
-use Rattle.mach_fat.specs.declared.record.EntryRecord.{EntryRecord}
-use Rattle.mach_fat.specs.declared.refusal.EntryRefusal.{EntryRefusal}
-use Rattle.mach_members.specs.Written.{WritesWhole}
-use Rattle.mach_show.specs.Foreigners.{refused_kind}
-use Rattle.mach_show.specs.declared.foreign.Foreign.{Foreign}
+use Rattle.mach_fat_writer.specs.Unfit.{RefusesAs, Unfit}
+use Rattle.mach_fat_writer.specs.declared.entry_record.EntryRecord.{EntryRecord}
+use Rattle.mach_fat_writer.specs.declared.refusal.EntryRefusal.{EntryRefusal}
+use Rattle.machfat.specs.Written.{WritesWhole}
+use Rattle.mach_cli.specs.Foreigners.{refused_kind}
+use Rattle.mach_cli.specs.declared.foreign.Foreign.{Foreign}
 use Rattle.machfat.specs.Members.{AreContentLines, AreEntryLines, entry_line, no_entries, one_more}
 use Rattle.machfat.specs.Refusals.{Refuses, kind_by_front, said_by}
 

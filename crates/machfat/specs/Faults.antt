@@ -2,11 +2,11 @@
 use Rattle.std.specs.Prelude.{ℕ, List, [], ◌∷◌, ◌++◌, codes, Bool, true, false, Option}
 use Rattle.std.specs.Io.KnownBytes.{Appends}
 use Rattle.goblin_mach.specs.File.{HasFatMagic}
-use Rattle.mach_arches.specs.ArchForms.{arch_form_32, arch_form_64}
-use Rattle.mach_arches.specs.FatRecords.{HasFat64Magic}
-use Rattle.mach_fat_rules.specs.Containers.{AreContainerFaults}
-use Rattle.mach_rules.specs.Texts.{fault_text}
-use Rattle.mach_rules.specs.declared.fault.LayoutFault.{LayoutFault}
+use Rattle.mach_parts.specs.ArchForms.{arch_form_32, arch_form_64}
+use Rattle.mach_parts.specs.FatRecords.{HasFat64Magic}
+use Rattle.mach_layout.specs.Containers.{AreContainerFaults}
+use Rattle.mach_layout.specs.Texts.{fault_text}
+use Rattle.mach_layout.specs.declared.fault.LayoutFault.{LayoutFault}
 
 -- the line of a fault
 abbrev pub table_fault_line : LayoutFault → List ℕ

@@ -5,3 +5,9 @@ pub mod Made
 pub mod Members
 pub mod Refusals
 pub mod Same
+pub mod Names
+pub mod Kinds
+pub mod MemberLines
+pub mod SymbolLines
+pub mod ArchiveLines
+pub mod Written

@@ -1,11 +1,11 @@
 -- What is printed of the records of a fat file: lines, or an object.
 use Rattle.std.specs.Prelude.{◌==◌, ℕ, ◌+◌, List, [], ◌∷◌, ◌++◌, codes, false, unwrap_or}
 use Rattle.std.specs.Fmt.{decimal, digits}
-use Rattle.mach_fat.specs.EntriesRead.{slice_of}
-use Rattle.mach_fat.specs.declared.record.EntryRecord.{EntryRecord}
-use Rattle.mach_json.specs.JsonArrays.{comma_before}
-use Rattle.mach_json.specs.JsonText.{json_string}
-use Rattle.mach_members.specs.Kinds.{entry_kind}
+use Rattle.mach_fat_writer.specs.EntriesRead.{slice_of}
+use Rattle.mach_fat_writer.specs.declared.entry_record.EntryRecord.{EntryRecord}
+use Rattle.mach_cli.specs.JsonArrays.{comma_before}
+use Rattle.mach_cli.specs.JsonText.{json_string}
+use Rattle.machfat.specs.Kinds.{entry_kind}
 use Rattle.machfat.specs.declared.entry.ListForm.{ListForm}
 use Rattle.machfat.specs.declared.entry.ListForm.TheVariants.{Lines, Objects}
 

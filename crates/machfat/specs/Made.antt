@@ -1,8 +1,8 @@
 -- What is said of a fat file that isn't made.
 use Rattle.std.specs.Prelude.{ℕ, List, [], slice_get, Option, Some, None}
 use Rattle.std.specs.Borrow.{Bor}
-use Rattle.mach_fat.specs.declared.refusal.MakeRefusal.{MakeRefusal}
-use Rattle.mach_fat.specs.declared.refusal.MakeRefusal.TheVariants.{OfFile, OfAll}
+use Rattle.mach_fat_writer.specs.declared.refusal.MakeRefusal.{MakeRefusal}
+use Rattle.mach_fat_writer.specs.declared.refusal.MakeRefusal.TheVariants.{OfFile, OfAll}
 use Rattle.machfat.specs.Refusals.{refusal_line}
 use Rattle.machfat.specs.declared.refusal.Refusal.TheVariants.{Refused, Entries}
 

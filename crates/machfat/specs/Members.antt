@@ -2,15 +2,15 @@
 use Rattle.std.specs.Prelude.{◌≡◌, ◌&&◌, ℕ, List, [], ◌∷◌, ◌++◌, codes, length, Bool, true, false, Some, None, Ok, Err}
 use Rattle.std.specs.Fmt.{decimal}
 use Rattle.mach_base.specs.Fault.{Fault}
-use Rattle.mach_fat.specs.EntriesRead.{slice_of}
-use Rattle.mach_fat.specs.FatTables.{form_in, fat_table_in}
-use Rattle.mach_fat.specs.Unfit.{entry_refusal_words}
-use Rattle.mach_fat.specs.declared.record.EntryRecord.{EntryRecord}
-use Rattle.mach_fat.specs.declared.refusal.EntryRefusal.TheVariants.{OutOfFile}
-use Rattle.mach_headers.specs.Magic.{magic_at}
-use Rattle.mach_members.specs.ArchiveLines.{AreArchiveLines}
-use Rattle.mach_members.specs.Kinds.{is_image_magic}
-use Rattle.mach_write.specs.FatForms.{FatForm}
+use Rattle.mach_fat_writer.specs.EntriesRead.{slice_of}
+use Rattle.mach_fat_writer.specs.FatTables.{form_in, fat_table_in}
+use Rattle.mach_fat_writer.specs.Unfit.{entry_refusal_words}
+use Rattle.mach_fat_writer.specs.declared.entry_record.EntryRecord.{EntryRecord}
+use Rattle.mach_fat_writer.specs.declared.refusal.EntryRefusal.TheVariants.{OutOfFile}
+use Rattle.mach_parts.specs.Magic.{magic_at}
+use Rattle.machfat.specs.ArchiveLines.{AreArchiveLines}
+use Rattle.machfat.specs.Kinds.{is_image_magic}
+use Rattle.mach_fat_writer.specs.FatForms.{FatForm}
 
 -- The text is what is told of the entry of record i: that it isn't in the file, that it is an image, or else its lines as an archive.
 pub data AreContentLines (bytes : List ℕ) (i : ℕ) (r : EntryRecord) : List ℕ → Bool → Type 0 where

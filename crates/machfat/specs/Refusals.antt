@@ -3,18 +3,18 @@ use Rattle.std.specs.Prelude.{◌≡◌, ℕ, List, codes, Option, Some, None, R
 use Rattle.mach_base.specs.Answer.{Stands}
 use Rattle.mach_base.specs.Fault.{Fault}
 use Rattle.mach_base.specs.Words.{words_of}
-use Rattle.mach_arches.specs.FatRecords.{HasFat64Magic}
+use Rattle.mach_parts.specs.FatRecords.{HasFat64Magic}
 use Rattle.mach_base.specs.declared.error.Error.{Error}
-use Rattle.mach_fat.specs.Unfit.{RefusesAs, Unfit, entry_refusal_words}
-use Rattle.mach_fat.specs.declared.refusal.EntryRefusal.{EntryRefusal}
-use Rattle.mach_fat.specs.declared.refusal.EntryRefusal.TheVariants.{Unread}
-use Rattle.mach_image.specs.Image.{Opens}
+use Rattle.mach_fat_writer.specs.Unfit.{RefusesAs, Unfit, entry_refusal_words}
+use Rattle.mach_fat_writer.specs.declared.refusal.EntryRefusal.{EntryRefusal}
+use Rattle.mach_fat_writer.specs.declared.refusal.EntryRefusal.TheVariants.{Unread}
+use Rattle.goblin_mach.specs.Image.{Opens}
 use Rattle.goblin_mach.specs.FatFile.{fat_file_in}
 use Rattle.goblin_mach.specs.View.{ViewFault}
-use Rattle.mach_show.specs.Foreigners.{foreign_words, refused_kind}
-use Rattle.mach_show.specs.Names.{names_text}
-use Rattle.mach_show.specs.Shown.{complaint}
-use Rattle.mach_show.specs.declared.foreign.Foreign as declared
+use Rattle.mach_cli.specs.Foreigners.{foreign_words, refused_kind}
+use Rattle.mach_cli.specs.Names.{names_text}
+use Rattle.mach_cli.specs.Shown.{complaint}
+use Rattle.mach_cli.specs.declared.foreign.Foreign as declared
 use Rattle.machfat.specs.Members.{HasTableFault}
 use Rattle.machfat.specs.declared.refusal.Failure.TheVariants as failures
 use Rattle.machfat.specs.declared.refusal.Failure.{Failure}

@@ -2,16 +2,16 @@
 
 ghost use Rattle.std.specs.Prelude.{◌≡◌, List, Ok, IfOk, IfErr, OnOk};
 ghost use Rattle.std.specs.Io.KnownBytes.{Appends};
-ghost use Rattle.mach_fat.specs.Changes.{fat_records_in, indexed_entry_in};
-ghost use Rattle.mach_fat.specs.declared.record.EntryRecord.{EntryRecord};
+ghost use Rattle.mach_fat_writer.specs.Changes.{fat_records_in, indexed_entry_in};
+ghost use Rattle.mach_fat_writer.specs.declared.entry_record.EntryRecord.{EntryRecord};
 ghost use Rattle.machfat.specs.Lines.{next_object, record_as, record_line, records_from};
 ghost use Rattle.machfat.specs.Refusals.{Refuses, IsRefusal, kind_by_front, said_in};
 ghost use Rattle.machfat.specs.declared.entry.ListForm.TheVariants as forms;
 
 use crate::refusal::{Failure, Refusal};
 use crate::text::{RecordObject, RecordText};
-use mach_fat::{EntryRecord, EntryRefusal, fat_records, indexed_entry};
-use mach_show::{Foreign, refused_kind};
+use mach_cli::{Foreign, refused_kind};
+use mach_fat_writer::{EntryRecord, EntryRefusal, fat_records, indexed_entry};
 use std::alloc::Allocator;
 use std::io;
 use std::io::Write;

@@ -7,6 +7,7 @@
 //! stands under another name beside the file that is asked for, and is renamed once it is whole.
 #![tactic(auto)]
 
+// Fat files taken apart, made and told.
 mod entry;
 mod json;
 mod made;
@@ -18,10 +19,15 @@ mod text;
 mod thin;
 mod verify;
 
+// What is told of an archive: a line for each member, and one for each symbol of its index.
+mod archive;
+mod archive_kind;
+mod archive_member;
+mod archive_symbol;
+
 use json::run_list_json;
-use mach_fat::Form;
-use mach_json::take_json;
-use mach_show::{Misuse, Program, Round, cputype_in};
+use mach_cli::{Misuse, Program, Round, cputype_in, take_json};
+use mach_fat_writer::Form;
 use made::{one_file, run_create, run_remove, run_replace};
 use members::run_members;
 use place::is_same_file;

@@ -3,18 +3,19 @@
 ghost use Rattle.std.specs.Prelude.{◌≡◌, ◌⊎◌, [], true, false, IfOk, IfErr, OnOk};
 ghost use Rattle.std.specs.Io.Buffered.{writer_buffer, writer_contents};
 ghost use Rattle.std.specs.Io.KnownBytes.{Appends};
-ghost use Rattle.mach_fat.specs.FatTables.{form_of};
-ghost use Rattle.mach_fat.specs.Unfit.{entry_refusal_words};
-ghost use Rattle.mach_members.specs.Written.{WritesWhole};
-ghost use Rattle.mach_show.specs.Statuses.{IsStatus};
+ghost use Rattle.mach_fat_writer.specs.FatTables.{form_of};
+ghost use Rattle.mach_fat_writer.specs.Unfit.{entry_refusal_words};
+ghost use Rattle.machfat.specs.Written.{WritesWhole};
+ghost use Rattle.mach_cli.specs.Statuses.{IsStatus};
 ghost use Rattle.machfat.specs.Members.{AreContentLines, AreEntryLines, AreFileLines};
 ghost use Rattle.machfat.specs.Refusals.{IsRefusal, RefusesTable, refusal_line};
 ghost use Rattle.machfat.specs.declared.refusal.Refusal.{Refusal};
 
+use crate::archive::print_archive;
+use crate::archive_kind::begins_image;
 use crate::refusal::{Failure, Refusal};
 use crate::run::status;
-use mach_fat::{EntryRecord, EntryRefusal, Form};
-use mach_members::{begins_image, print_archive};
+use mach_fat_writer::{EntryRecord, EntryRefusal, Form};
 use std::alloc::{Allocator, Global};
 use std::io;
 use std::io::{BufWriter, Write};
@@ -113,5 +114,5 @@ fn print_content<O: Write>(
     print_archive(entry, out)
 }
 
-ghost use Rattle.mach_fat.specs.FatTables.{fat_table_in, form_in};
+ghost use Rattle.mach_fat_writer.specs.FatTables.{fat_table_in, form_in};
 ghost use Rattle.std.specs.Prelude.{Ok, Some};

@@ -5,8 +5,8 @@ ghost use Rattle.machfat.specs.declared.refusal.Refusal.TheVariants as refusals;
 ghost use Rattle.machfat.specs.declared.refusal.Failure.TheVariants as failures;
 
 use goblin_mach::{Error, describe};
-use mach_fat::EntryRefusal;
-use mach_show::Foreign;
+use mach_cli::Foreign;
+use mach_fat_writer::EntryRefusal;
 use std::alloc::AllocError;
 use std::fmt::{Display, Formatter, Write};
 use std::{fmt, io};

@@ -2,8 +2,8 @@
 
 ghost use Rattle.std.specs.Prelude.{◌≡◌, ℕ, List, Ok, OnOk, IfOk, IfErr};
 ghost use Rattle.std.specs.Io.KnownBytes.{Appends};
-ghost use Rattle.mach_fat.specs.Changes.{thin_entry_in};
-ghost use Rattle.mach_show.specs.Statuses.{IsStatus};
+ghost use Rattle.mach_fat_writer.specs.Changes.{thin_entry_in};
+ghost use Rattle.mach_cli.specs.Statuses.{IsStatus};
 ghost use Rattle.machfat.specs.Entry.{WasWritten};
 ghost use Rattle.machfat.specs.Refusals.{IsRefusal, RefusesPlainly, refusal_line};
 ghost use Rattle.machfat.specs.Same.{IsOther};
@@ -13,7 +13,7 @@ use crate::made::one_file;
 use crate::place::{is_same_file, place_file};
 use crate::refusal::{Failure, Refusal};
 use crate::run::status;
-use mach_fat::thin_entry;
+use mach_fat_writer::thin_entry;
 use std::alloc::Global;
 use std::io::Write;
 use std::rt::Files;

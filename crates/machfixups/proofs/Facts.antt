@@ -2,14 +2,14 @@
 use Rattle.std.proofs.Common.{ℕ, List, refl}
 use Rattle.mach_base.specs.Context.{pointer_size}
 use Rattle.mach_base.specs.Text.{texts}
-use Rattle.mach_image.specs.Bindings.{AreOpcodeBindings}
-use Rattle.mach_image.specs.Facts.{HasChainedFixups}
-use Rattle.mach_image.specs.Fixups.{AreImageFixups, chained_held}
-use Rattle.mach_image.specs.ImageStreams.{AreRebasesByOpcodes, AreImageWeakBinds, rebase_stream_in, weak_stream_in}
-use Rattle.mach_image.specs.OpenImage.{IsLossyImage, binds_held, bytes_held, commands_held, ctx_held, segments_held}
-use Rattle.mach_image.specs.declared.macho.MachO.{MachO}
-use Rattle.mach_image.proofs.ImageFacts.{chained_fixups_are, fixups_are, facts_are}
-use Rattle.mach_image.proofs.StreamFacts.{weak_binds_are}
+use Rattle.goblin_mach.specs.Bindings.{AreOpcodeBindings}
+use Rattle.goblin_mach.specs.Facts.{HasChainedFixups}
+use Rattle.goblin_mach.specs.Fixups.{AreImageFixups, chained_held}
+use Rattle.goblin_mach.specs.ImageStreams.{AreRebasesByOpcodes, AreImageWeakBinds, rebase_stream_in, weak_stream_in}
+use Rattle.goblin_mach.specs.OpenImage.{IsLossyImage, binds_held, bytes_held, commands_held, ctx_held, segments_held}
+use Rattle.goblin_mach.specs.declared.macho.MachO.{MachO}
+use Rattle.goblin_mach.proofs.ImageFacts.{chained_fixups_are, fixups_are, facts_are}
+use Rattle.goblin_mach.proofs.StreamFacts.{weak_binds_are}
 use Rattle.machfixups.specs.Lists.{PointerLists, HasPointerLists}
 
 module _ {A : Type 0} (bytes : List ℕ) (o : ℕ) (m : MachO A) (p : IsLossyImage bytes o m) where

@@ -1,7 +1,7 @@
 -- Lists as members, and those that aren't shown.
 use Rattle.std.proofs.Common.{◌≡◌, [], ℕ, List, Bool, true, false, Result, map, sym, ap}
 use Rattle.mach_base.specs.Fault.{Fault}
-use Rattle.mach_json.specs.JsonArrays.{NamedRows}
+use Rattle.mach_cli.specs.JsonArrays.{NamedRows}
 use Rattle.machfixups.specs.JsonRows.{pointer_told}
 use Rattle.machfixups.specs.Rows.{PointerRow, picked}
 

@@ -11,8 +11,8 @@ use Rattle.std.specs.Result.{is_ok}
 use Rattle.mach_base.proofs.Written.{Appends-both}
 use Rattle.mach_base.specs.Fault.{Fault}
 use Rattle.mach_base.specs.declared.error.Error.{Error}
-use Rattle.mach_show.proofs.Lines.{no_lines, line_more, lines_both}
-use Rattle.mach_show.specs.Lines.{WritesLines}
+use Rattle.mach_cli.proofs.Lines.{no_lines, line_more, lines_both}
+use Rattle.mach_cli.specs.Lines.{WritesLines}
 use Rattle.machfixups.specs.Lines.{row_line, line_of_more, WritesFirstRows, WritesTold}
 use Rattle.machfixups.specs.Rows.{PointerRow, picked, row_read}
 use Rattle.machfixups.specs.declared.print.Told.{Told}

@@ -1,10 +1,10 @@
 -- The lines that the program shows of an image.
 use Rattle.std.specs.Prelude.{ℕ, List, Bool, Option, Result}
 use Rattle.mach_base.specs.Fault.{Fault}
-use Rattle.mach_segments.specs.Segment.{SegmentView}
+use Rattle.mach_parts.specs.Segment.{SegmentView}
 use Rattle.mach_chained.specs.Header.{Fixups}
-use Rattle.mach_image.specs.Facts.{HasSegments, HasChainedFixups}
-use Rattle.mach_image.specs.Image.{Opens}
+use Rattle.goblin_mach.specs.Facts.{HasSegments, HasChainedFixups}
+use Rattle.goblin_mach.specs.Image.{Opens}
 use Rattle.machfixups.specs.Lines.{AreLinesTo}
 use Rattle.machfixups.specs.Lists.{PointerLists, HasPointerLists}
 use Rattle.machfixups.specs.Parts.{parts_of}

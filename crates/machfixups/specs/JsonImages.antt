@@ -1,11 +1,11 @@
 -- The members of the object of an image: what dyld corrects of it.
 use Rattle.std.specs.Prelude.{ℕ, List, Bool, Option, Result, map}
 use Rattle.mach_base.specs.Fault.{Fault}
-use Rattle.mach_segments.specs.Segment.{SegmentView}
+use Rattle.mach_parts.specs.Segment.{SegmentView}
 use Rattle.mach_chained.specs.Header.{Fixups}
-use Rattle.mach_image.specs.Facts.{HasSegments, HasChainedFixups}
-use Rattle.mach_image.specs.Image.{Opens}
-use Rattle.mach_json.specs.JsonArrays.{AreListMembers}
+use Rattle.goblin_mach.specs.Facts.{HasSegments, HasChainedFixups}
+use Rattle.goblin_mach.specs.Image.{Opens}
+use Rattle.mach_cli.specs.JsonArrays.{AreListMembers}
 use Rattle.machfixups.specs.JsonRows.{pointer_members, pointer_object, pointer_told}
 use Rattle.machfixups.specs.Lists.{PointerLists, HasPointerLists}
 use Rattle.machfixups.specs.Parts.{parts_of}

@@ -3,12 +3,12 @@ use Rattle.std.specs.Prelude.{ℕ, List, [], ◌∷◌, ◌++◌, codes, map, Op
 use Rattle.std.specs.Fmt.{decimal, signed_decimal}
 use Rattle.mach_base.specs.Fault.{Fault}
 use Rattle.mach_chained.specs.Header.{Fixups}
-use Rattle.mach_chained.specs.Pointers.{Auth}
-use Rattle.mach_show.specs.Listings.{told_by}
-use Rattle.mach_streams.specs.declared.rebases.RebaseKind.{RebaseKind}
-use Rattle.mach_json.specs.JsonArrays.{NamedRows}
-use Rattle.mach_json.specs.JsonText.{json_bool, json_string}
-use Rattle.mach_json.specs.Signing.{auth_members, diversity_members, has_auth, key_by, rebase_type}
+use Rattle.mach_parts.specs.PointerSigning.{Auth}
+use Rattle.mach_cli.specs.Listings.{told_by}
+use Rattle.mach_dyld.specs.declared.rebases.RebaseKind.{RebaseKind}
+use Rattle.mach_cli.specs.JsonArrays.{NamedRows}
+use Rattle.mach_cli.specs.JsonText.{json_bool, json_string}
+use Rattle.mach_cli.specs.Signing.{auth_members, diversity_members, has_auth, key_by, rebase_type}
 use Rattle.machfixups.specs.Lists.{PointerLists}
 use Rattle.machfixups.specs.Parts.{Part}
 use Rattle.machfixups.specs.Rows.{PointerPlace, PointerBind, Action, binds, binds_weakly, rebases, is_value, PointerRow, corrects, is_strong}

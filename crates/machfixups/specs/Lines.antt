@@ -9,10 +9,10 @@ use Rattle.std.specs.Result.{is_ok}
 use Rattle.mach_base.specs.Fault.{Fault}
 use Rattle.mach_base.specs.Words.{words_of}
 use Rattle.mach_base.specs.declared.error.Error.{Error}
-use Rattle.mach_chained.specs.Pointers.{Auth}
-use Rattle.mach_show.specs.Lines.{AreLines, WritesLines}
-use Rattle.mach_streams.specs.declared.rebases.RebaseKind.{RebaseKind}
-use Rattle.mach_streams.specs.declared.rebases.RebaseKind.TheVariants.{Pointer, TextAbsolute32, TextRelative32}
+use Rattle.mach_parts.specs.PointerSigning.{Auth}
+use Rattle.mach_cli.specs.Lines.{AreLines, WritesLines}
+use Rattle.mach_dyld.specs.declared.rebases.RebaseKind.{RebaseKind}
+use Rattle.mach_dyld.specs.declared.rebases.RebaseKind.TheVariants.{Pointer, TextAbsolute32, TextRelative32}
 use Rattle.machfixups.specs.Rows.{PointerPlace, PointerBind, Action, binds, binds_weakly, rebases, is_value, PointerRow, corrects, is_strong}
 use Rattle.machfixups.specs.Rows.{row_view, row_read}
 use Rattle.machfixups.specs.declared.print.Told.{Told}

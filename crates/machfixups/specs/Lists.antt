@@ -2,15 +2,15 @@
 use Rattle.std.specs.Prelude.{ℕ, List, Result}
 use Rattle.mach_base.specs.Context.{pointer_size}
 use Rattle.mach_base.specs.Fault.{Fault}
-use Rattle.mach_segments.specs.Bindings.{Binding}
+use Rattle.mach_parts.specs.Bindings.{Binding}
 use Rattle.mach_chained.specs.Fixups.{Fixup}
-use Rattle.mach_streams.specs.Rebases.{Rebase}
-use Rattle.mach_streams.specs.WeakBinds.{WeakBind}
-use Rattle.mach_image.specs.Bindings.{AreOpcodeBindings}
-use Rattle.mach_image.specs.Facts.{OfImage, HasFixups}
-use Rattle.mach_image.specs.ImageStreams.{AreRebasesByOpcodes, rebase_stream_in}
-use Rattle.mach_image.specs.StreamFacts.{HasWeakBinds}
-use Rattle.mach_image.specs.Subjects.{binds_in, libs_in, lossy_segments_in}
+use Rattle.mach_dyld.specs.Rebases.{Rebase}
+use Rattle.mach_dyld.specs.WeakBinds.{WeakBind}
+use Rattle.goblin_mach.specs.Bindings.{AreOpcodeBindings}
+use Rattle.goblin_mach.specs.Facts.{OfImage, HasFixups}
+use Rattle.goblin_mach.specs.ImageStreams.{AreRebasesByOpcodes, rebase_stream_in}
+use Rattle.goblin_mach.specs.StreamFacts.{HasWeakBinds}
+use Rattle.goblin_mach.specs.Subjects.{binds_in, libs_in, lossy_segments_in}
 
 -- its rebases by opcodes one at a time, over its segments, up to the first fault
 abbrev pub HasOpcodeRebases : List ℕ → ℕ → List (Result Rebase Fault) → Type 0

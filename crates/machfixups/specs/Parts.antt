@@ -5,9 +5,9 @@ use Rattle.std.specs.Result.{result_unwrap_or}
 use Rattle.mach_base.specs.Fault.{Fault}
 use Rattle.mach_base.specs.Text.{text_at}
 use Rattle.mach_base.specs.Items.{all_read}
-use Rattle.mach_segments.specs.Segment.{SegmentView, sections_of}
-use Rattle.mach_segments.specs.SectionItems.{section_and_bytes}
-use Rattle.mach_segments.specs.declared.segment.section.Section.{Section}
+use Rattle.mach_parts.specs.Segment.{SegmentView, sections_of}
+use Rattle.mach_parts.specs.SectionItems.{section_and_bytes}
+use Rattle.mach_parts.specs.declared.segment.section.Section.{Section}
 use Rattle.machfixups.specs.declared.parts.Part as declared
 
 -- a name as it is shown: `-` where it is empty or can't be read

@@ -4,19 +4,20 @@ use Rattle.std.specs.Prelude.{Option, Some, None, option_map, Result, Ok, Err}
 use Rattle.mach_base.specs.Answer.{◌>>=◌}
 use Rattle.mach_base.specs.Fault.{Fault, malformed}
 use Rattle.mach_base.specs.declared.error.Error.{Error}
-use Rattle.mach_segments.specs.Bindings.{Binding, Provider, of_library, itself, main_executable, flat, weak_lookup}
+use Rattle.mach_parts.specs.Bindings.{Binding, Provider, of_library, itself, main_executable, flat, weak_lookup}
 use Rattle.mach_base.specs.Items.{read_as}
 use Rattle.mach_chained.specs.Fixups.{Fixup}
 use Rattle.mach_chained.specs.Header.{Fixups}
 use Rattle.mach_chained.specs.Imports.{FixupImport, import_at}
-use Rattle.mach_chained.specs.PointerViews.{auth_seen}
+use Rattle.mach_parts.specs.PointerSigning.{auth_seen}
 use Rattle.mach_chained.specs.Views.{fixups_view}
 use Rattle.mach_chained.specs.declared.header.ChainedFixups.{ChainedFixups}
-use Rattle.mach_chained.specs.Pointers.{KindOfFixup, rebase, bind, value, Auth}
-use Rattle.mach_streams.specs.Rebases.{Rebase}
-use Rattle.mach_streams.specs.WeakBinds.{WeakBind, strong_name, weakly_bound}
-use Rattle.mach_streams.specs.declared.rebases.RebaseKind.{RebaseKind}
-use Rattle.mach_streams.specs.declared.rebases.RebaseKind.TheVariants.{Pointer}
+use Rattle.mach_chained.specs.Pointers.{KindOfFixup, rebase, bind, value}
+use Rattle.mach_parts.specs.PointerSigning.{Auth}
+use Rattle.mach_dyld.specs.Rebases.{Rebase}
+use Rattle.mach_dyld.specs.WeakBinds.{WeakBind, strong_name, weakly_bound}
+use Rattle.mach_dyld.specs.declared.rebases.RebaseKind.{RebaseKind}
+use Rattle.mach_dyld.specs.declared.rebases.RebaseKind.TheVariants.{Pointer}
 use Rattle.machfixups.specs.Lists.{PointerLists}
 use Rattle.machfixups.specs.Parts.{Part, part_with, section_with}
 use Rattle.machfixups.specs.declared.row.Action as declared_action

@@ -2,10 +2,10 @@
 use Rattle.std.specs.Prelude.{List, map, Option, Result}
 use Rattle.mach_base.specs.Fault.{Fault}
 use Rattle.mach_chained.specs.Header.{Fixups}
-use Rattle.mach_binds.specs.BindingsLeft.{opcode_bindings_left}
-use Rattle.mach_streams.specs.RebasesLeft.{opcode_rebases_left}
-use Rattle.mach_streams.specs.WeakBindsLeft.{weak_binds_left}
-use Rattle.mach_image.specs.FixupsLeft.{image_fixups_left}
+use Rattle.mach_dyld.specs.BindingsLeft.{opcode_bindings_left}
+use Rattle.mach_dyld.specs.RebasesLeft.{opcode_rebases_left}
+use Rattle.mach_dyld.specs.WeakBindsLeft.{weak_binds_left}
+use Rattle.goblin_mach.specs.FixupsLeft.{image_fixups_left}
 use Rattle.machfixups.specs.Parts.{Part, parts_seen}
 use Rattle.machfixups.specs.Rows.{PointerRow, row_for_rebase, row_for_binding, row_for_weak, row_for_fixup, fixups_table_seen}
 use Rattle.machfixups.specs.declared.rows.Items as declared

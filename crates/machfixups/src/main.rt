@@ -30,10 +30,7 @@ mod text;
 mod words;
 
 use json::run_json;
-use mach_json::take_json;
-use mach_parts::{Files, ShowsFile};
-use mach_show::{Cpu, Misuse, Program};
-use mach_terminal::ForTerminal;
+use mach_cli::{Cpu, Files, ForTerminal, Misuse, Program, ShowsFile, take_json};
 use print::DEFAULT_LIMIT;
 use rows::Picks;
 use run::{NAME, run};

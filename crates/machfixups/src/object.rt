@@ -1,7 +1,7 @@
 //! Rebases, binds and fixups as objects of JSON.
 
 ghost use Rattle.std.specs.Prelude.{◌≡◌, Some};
-ghost use Rattle.mach_chained.specs.PointerViews.{auth_seen};
+ghost use Rattle.mach_parts.specs.PointerSigning.{auth_seen};
 ghost use Rattle.machfixups.specs.JsonRows.{action_object, bind_flags, bind_members, bind_object, place_members, pointer_object, rebase_object};
 ghost use Rattle.machfixups.specs.JsonRows.{value_object, weak_object};
 ghost use Rattle.machfixups.specs.Rows.{action_view, bind_view, place_view, row_view};
@@ -9,7 +9,7 @@ ghost use Rattle.machfixups.specs.Rows.{action_view, bind_view, place_view, row_
 use crate::row::{Action, Bind, Place, Row};
 use goblin_mach::RebaseKind;
 use goblin_mach::chained_fixups::PointerAuth;
-use mach_json::{AuthMembers, DiversityMembers, JsonString, has_auth, key_by, rebase_type};
+use mach_cli::{AuthMembers, DiversityMembers, JsonString, has_auth, key_by, rebase_type};
 use std::fmt;
 use std::fmt::{Display, Formatter, Write};
 

@@ -4,10 +4,10 @@ ghost use Rattle.std.specs.Prelude.{◌≡◌, ℕ, List, map, take, option_map,
 ghost use Rattle.mach_base.specs.Answer.{Gives};
 ghost use Rattle.mach_base.specs.Text.{text_at};
 ghost use Rattle.mach_base.specs.Items.{all_read, read_as};
-ghost use Rattle.mach_segments.specs.Segment.{SegmentView, segment_view, sections_of};
-ghost use Rattle.mach_segments.specs.SectionItems.{section_and_bytes};
-ghost use Rattle.mach_image.specs.Facts.{HasSegments};
-ghost use Rattle.mach_image.specs.OpenImage.{IsImage, segments_held};
+ghost use Rattle.mach_parts.specs.Segment.{SegmentView, segment_view, sections_of};
+ghost use Rattle.mach_parts.specs.SectionItems.{section_and_bytes};
+ghost use Rattle.goblin_mach.specs.Facts.{HasSegments};
+ghost use Rattle.goblin_mach.specs.OpenImage.{IsImage, segments_held};
 ghost use Rattle.goblin_mach.specs.View.{IsTold};
 ghost use Rattle.machfixups.specs.Parts.{shown_name, part_of_segment, parts_of, part_with, section_with, holds, part_view, parts_seen};
 

@@ -2,10 +2,11 @@
 
 ghost use Rattle.std.specs.Prelude.{◌≡◌, ℤ, option_map, slice_get};
 ghost use Rattle.mach_base.specs.Answer.{Reads};
-ghost use Rattle.mach_streams.specs.RebasesLeft.{rebase_read};
-ghost use Rattle.mach_streams.specs.WeakBindsLeft.{weak_bind_read};
-ghost use Rattle.mach_segments.specs.Bindings.{binding_view, binding_read, provider_view};
-ghost use Rattle.mach_chained.specs.PointerViews.{kind_view, auth_seen};
+ghost use Rattle.mach_dyld.specs.RebasesLeft.{rebase_read};
+ghost use Rattle.mach_dyld.specs.WeakBindsLeft.{weak_bind_read};
+ghost use Rattle.mach_parts.specs.Bindings.{binding_view, binding_read, provider_view};
+ghost use Rattle.mach_chained.specs.PointerViews.{kind_view};
+ghost use Rattle.mach_parts.specs.PointerSigning.{auth_seen};
 ghost use Rattle.mach_chained.specs.Views.{import_view};
 ghost use Rattle.mach_chained.specs.WalkViews.{fixup_view, fixup_read};
 ghost use Rattle.machfixups.specs.Parts.{part_with, part_view, parts_seen};

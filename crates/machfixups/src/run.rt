@@ -2,16 +2,16 @@
 
 ghost use Rattle.std.specs.Prelude.{◌≡◌, ◌≤◌, [], codes};
 ghost use Rattle.std.specs.Io.Buffered.{writer_buffer, writer_contents};
-ghost use Rattle.mach_show.specs.Names.{names_text};
-ghost use Rattle.mach_show.specs.Shown.{Shown, ShowsFile, Writes};
-ghost use Rattle.mach_show.specs.Statuses.{IsStatus, status_by};
+ghost use Rattle.mach_cli.specs.Names.{names_text};
+ghost use Rattle.mach_cli.specs.Shown.{Shown, ShowsFile, Writes};
+ghost use Rattle.mach_cli.specs.Statuses.{IsStatus, status_by};
 ghost use Rattle.machfixups.specs.ImageLines.{AreImagePointerLines};
 
 use crate::parts::image_parts;
 use crate::print::print_fixups;
 use crate::rows::Picks;
 use goblin_mach::MachO;
-use mach_show::{Cpu, Failure, Heading, Names, Outcome, Shows};
+use mach_cli::{Cpu, Failure, Heading, Names, Outcome, Shows};
 use std::alloc::Allocator;
 use std::io::{BufWriter, Write};
 
@@ -73,5 +73,5 @@ pub fn run<A: Allocator + Clone, W: Write + Drop, B: Allocator, E: Write>(
     ensures flushed { result ≤ 1 → writer_buffer out.new ≡ [] }
 {
     let asked = Fixups { file, picks, limit };
-    mach_show::run::run(&asked, cpu, limit, &alloc, bytes, out, err)
+    mach_cli::run::run(&asked, cpu, limit, &alloc, bytes, out, err)
 }

@@ -1,7 +1,7 @@
 //! Rebases, binds and fixups as they are printed.
 
 ghost use Rattle.std.specs.Prelude.{◌≡◌, Some};
-ghost use Rattle.mach_chained.specs.PointerViews.{auth_view, auth_seen};
+ghost use Rattle.mach_parts.specs.PointerSigning.{auth_view, auth_seen};
 ghost use Rattle.machfixups.specs.Lines.{pointer_place_text, key_text, address_text, auth_text, flags_text, bind_text, rebase_kind_text, action_text, row_text};
 ghost use Rattle.machfixups.specs.Rows.{place_view, bind_view, action_view, row_view};
 

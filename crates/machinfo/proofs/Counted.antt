@@ -3,12 +3,12 @@ use Rattle.std.proofs.Common.{◌≡◌, ◌++◌, ◌∷◌, [], ℕ, ◌+◌, 
 use Rattle.std.specs.Prelude.{◌&&◌}
 use Rattle.std.proofs.lemmas.List.{take_more}
 use Rattle.mach_base.specs.Fault.{Fault}
-use Rattle.mach_show.specs.Listings.{CountsRows}
-use Rattle.mach_show.specs.declared.listing.Told.{Told}
+use Rattle.mach_cli.specs.Listings.{CountsRows}
+use Rattle.mach_cli.specs.declared.listing.Told.{Told}
 use Rattle.machinfo.specs.Counts.{are_counted_whole, count_told, AreCounts, counts_more}
-use Rattle.mach_lists.specs.RowTexts.{row_texts}
-use Rattle.mach_lists.specs.Rows.{RowView, HasRows}
-use Rattle.mach_lists.specs.declared.word.Word.{Word}
+use Rattle.machinfo.specs.RowTexts.{row_texts}
+use Rattle.machinfo.specs.Rows.{RowView, HasRows}
+use Rattle.machinfo.specs.declared.word.Word.{Word}
 use Rattle.machinfo.specs.declared.counts.Form.{Form}
 
 pub one_more_count : (form : Form) (limit : ℕ) (bytes : List ℕ) (words : List Word) (i : ℕ) (d : Word) (text : List ℕ) (whole one : Bool)

@@ -2,14 +2,14 @@
 use Rattle.std.specs.Prelude.{◌≡◌, ◌-◌, ◌&&◌, ℕ, List, [], ◌∷◌, ◌++◌, codes, Bool, true, not, Result}
 use Rattle.std.specs.Fmt.{decimal}
 use Rattle.mach_base.specs.Fault.{Fault}
-use Rattle.mach_show.specs.Listings.{CountsRows}
-use Rattle.mach_show.specs.declared.listing.Told.{Told}
-use Rattle.mach_json.specs.JsonText.{json_bool}
-use Rattle.mach_lists.specs.RowTexts.{row_texts, said_if}
-use Rattle.mach_lists.specs.Rows.{RowView, HasRows}
-use Rattle.mach_lists.specs.Words.{spelling_of}
-use Rattle.mach_lists.specs.declared.word.Word.{Word}
-use Rattle.mach_lists.specs.declared.word.Word.TheVariants.{Starts, Slots, Indirect, Data, Options, Tools, Notes, Providers, Libraries, Rebases, Weak}
+use Rattle.mach_cli.specs.Listings.{CountsRows}
+use Rattle.mach_cli.specs.declared.listing.Told.{Told}
+use Rattle.mach_cli.specs.JsonText.{json_bool}
+use Rattle.machinfo.specs.RowTexts.{row_texts, said_if}
+use Rattle.machinfo.specs.Rows.{RowView, HasRows}
+use Rattle.machinfo.specs.Words.{spelling_of}
+use Rattle.machinfo.specs.declared.word.Word.{Word}
+use Rattle.machinfo.specs.declared.word.Word.TheVariants.{Starts, Slots, Indirect, Data, Options, Tools, Notes, Providers, Libraries, Rebases, Weak}
 use Rattle.machinfo.specs.declared.counts.Form.{Form}
 use Rattle.machinfo.specs.declared.counts.Form.TheVariants.{Lines, Members}
 

@@ -2,18 +2,18 @@
 use Rattle.std.specs.Prelude.{◌≡◌, ℕ, List, [], ◌∷◌, ◌++◌, Bool, Option, Result, codes}
 use Rattle.std.specs.Fmt.{decimal}
 use Rattle.mach_base.specs.Fault.{Fault}
-use Rattle.mach_image.specs.Image.{Opens}
-use Rattle.mach_show.specs.Listings.{AreFirstLines}
-use Rattle.mach_json.specs.JsonArrays.{AreListMembers}
-use Rattle.mach_sign.specs.Directories.{Directory}
-use Rattle.mach_signed.specs.SignedFacts.{HasCodeDirectory}
+use Rattle.goblin_mach.specs.Image.{Opens}
+use Rattle.mach_cli.specs.Listings.{AreFirstLines}
+use Rattle.mach_cli.specs.JsonArrays.{AreListMembers}
+use Rattle.mach_signature.specs.Directories.{Directory}
+use Rattle.mach_signature.specs.SignedFacts.{HasCodeDirectory}
 use Rattle.machinfo.specs.Counts.{AreCounts, counted_words}
-use Rattle.mach_lists.specs.RowObjects.{row_objects}
-use Rattle.mach_lists.specs.RowTexts.{row_texts}
-use Rattle.mach_lists.specs.Rows.{RowView, HasRows}
-use Rattle.mach_lists.specs.Words.{spelling_of}
+use Rattle.machinfo.specs.RowObjects.{row_objects}
+use Rattle.machinfo.specs.RowTexts.{row_texts}
+use Rattle.machinfo.specs.Rows.{RowView, HasRows}
+use Rattle.machinfo.specs.Words.{spelling_of}
 use Rattle.machinfo.specs.Signed.{AreSignedLines}
-use Rattle.mach_lists.specs.declared.word.Word.{Word}
+use Rattle.machinfo.specs.declared.word.Word.{Word}
 use Rattle.machinfo.specs.declared.counts.Form.TheVariants.{Lines, Members}
 
 -- The text is the lines of the image at the front of the bytes: one for each row for which the word asks, in order, as many as are left of the

@@ -1,3 +1,9 @@
 pub mod Counts
 pub mod Signed
 pub mod ImageLines
+pub mod Words
+pub mod NumberedNotes
+pub mod ProvidedSymbols
+pub mod Rows
+pub mod RowTexts
+pub mod RowObjects

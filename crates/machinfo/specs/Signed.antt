@@ -6,11 +6,11 @@ use Rattle.mach_base.specs.Answer.{Reads}
 use Rattle.mach_base.specs.Fault.{Fault}
 use Rattle.mach_base.specs.Words.{words_of}
 use Rattle.mach_base.specs.declared.error.Error.{Error}
-use Rattle.mach_sign.specs.Directories.{Directory, identifier_of, team_of}
-use Rattle.mach_sign.specs.DirectoryViews.{directory_view}
-use Rattle.mach_sign.specs.declared.directory.CodeDirectory.{CodeDirectory}
-use Rattle.mach_sign_text.specs.Flags.{code_flags, worded_flags_text}
-use Rattle.mach_sign_text.specs.Names.{name_text}
+use Rattle.mach_signature.specs.Directories.{Directory, identifier_of, team_of}
+use Rattle.mach_signature.specs.DirectoryViews.{directory_view}
+use Rattle.mach_signature.specs.declared.directory.CodeDirectory.{CodeDirectory}
+use Rattle.mach_cli.specs.Flags.{code_flags, worded_flags_text}
+use Rattle.mach_cli.specs.SignatureNames.{name_text}
 
 -- that it is signed, and ad hoc where the flag of that is set (`cs_blobs.h`, CS_ADHOC)
 abbrev pub signed_line : (flags : ℕ) → List ℕ

@@ -2,15 +2,17 @@
 
 ghost use Rattle.std.specs.Prelude.{◌≡◌, ℕ, List, Bool, IfOk, OnOk, Some};
 ghost use Rattle.std.specs.Io.KnownBytes.{Appends};
-ghost use Rattle.mach_image.specs.OpenImage.{IsImage};
-ghost use Rattle.mach_show.specs.Listings.{CountsRows};
-ghost use Rattle.mach_lists.specs.RowTexts.{row_texts};
-ghost use Rattle.mach_lists.specs.Rows.{HasRows};
+ghost use Rattle.goblin_mach.specs.OpenImage.{IsImage};
+ghost use Rattle.mach_cli.specs.Listings.{CountsRows};
+ghost use Rattle.machinfo.specs.RowTexts.{row_texts};
+ghost use Rattle.machinfo.specs.Rows.{HasRows};
 ghost use Rattle.machinfo.specs.Counts.{are_counted_whole, count_members, count_text, count_told, AreCounts};
 
+use crate::list::ImageList;
+use crate::text::said_if;
+use crate::word::Word;
 use goblin_mach::MachO;
-use mach_lists::{ImageList, Word, said_if};
-use mach_show::{Told, count_rows};
+use mach_cli::{Told, count_rows};
 use std::alloc::Allocator;
 use std::fmt::{Display, Formatter};
 use std::io::Write;

@@ -1,5 +1,6 @@
 //! What is said of an image in front of its counts, but for its signature. That it is so is tested, and no clause says it.
 
+use crate::text::LibraryText;
 use goblin_mach::MachO;
 use goblin_mach::header::{filetype_to_str, flag_to_str};
 use goblin_mach::load_command::{
@@ -9,8 +10,7 @@ use goblin_mach::load_command::{
     PLATFORM_WATCHOSSIMULATOR,
 };
 use goblin_mach::segment::Segment;
-use mach_lists::LibraryText;
-use mach_show::{Arch, Cpu};
+use mach_cli::{Arch, Cpu};
 use std::alloc::{AllocError, Allocator};
 use std::fmt;
 use std::fmt::{Display, Formatter, Write};

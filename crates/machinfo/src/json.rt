@@ -3,19 +3,20 @@
 ghost use Rattle.std.specs.Prelude.{◌≡◌, ◌≤◌, [], codes, OnOk};
 ghost use Rattle.std.specs.Io.Buffered.{writer_buffer, writer_contents};
 ghost use Rattle.std.specs.Io.KnownBytes.{Appends};
-ghost use Rattle.mach_show.specs.Names.{names_text};
-ghost use Rattle.mach_show.specs.Shown.{Shown, Writes};
-ghost use Rattle.mach_show.specs.Statuses.{IsStatus, status_by};
-ghost use Rattle.mach_json.specs.Documents.{IsDocument};
+ghost use Rattle.mach_cli.specs.Names.{names_text};
+ghost use Rattle.mach_cli.specs.Shown.{Shown, Writes};
+ghost use Rattle.mach_cli.specs.Statuses.{IsStatus, status_by};
+ghost use Rattle.mach_cli.specs.Documents.{IsDocument};
 ghost use Rattle.machinfo.specs.ImageLines.{AreImageListMembers, AreImageSummaryMembers, counts_end};
 
 use crate::counts::{Form, print_counts};
+use crate::list::ImageList;
 use crate::members::front_members;
+use crate::object::ObjectList;
 use crate::run::{COUNTED, NAME};
+use crate::word::Word;
 use goblin_mach::MachO;
-use mach_json::{print_end, print_member};
-use mach_lists::{ImageList, ObjectList, Word};
-use mach_show::{Cpu, Failure, Heading, Names, Outcome, Shows};
+use mach_cli::{Cpu, Failure, Heading, Names, Outcome, Shows, print_end, print_member};
 use std::alloc::Allocator;
 use std::io;
 use std::io::{BufWriter, Write};
@@ -119,7 +120,7 @@ pub fn write_list<A: Allocator + Clone, W: Write + Drop, B: Allocator, E: Write>
     ensures flushed { result ≤ 1 → writer_buffer out.new ≡ [] }
 {
     let objects = ObjectsOf { file, word };
-    mach_json::run::run(&objects, file, cpu, limit, &alloc, bytes, out, err)
+    mach_cli::json_run::run(&objects, file, cpu, limit, &alloc, bytes, out, err)
 }
 
 /// Writes of a file as `run_summary` does, but as JSON, an object of the file on a line.
@@ -140,5 +141,5 @@ pub fn write_summary<A: Allocator + Clone, W: Write + Drop, B: Allocator, E: Wri
     ensures flushed { result ≤ 1 → writer_buffer out.new ≡ [] }
 {
     let members = MembersOf { file, limit };
-    mach_json::run::run(&members, file, cpu, limit, &alloc, bytes, out, err)
+    mach_cli::json_run::run(&members, file, cpu, limit, &alloc, bytes, out, err)
 }

@@ -5,6 +5,7 @@
 //! has more, a line that says so. A row that can't be told is a line that says why. With `--json` it writes an object a file on a line in their place.
 #![tactic(auto)]
 
+// The summary of an image.
 mod counts;
 mod front;
 mod json;
@@ -12,12 +13,18 @@ mod members;
 mod run;
 mod signed;
 
+// The lists of an image that are told a row an item, each row as a line and as an object of JSON.
+mod list;
+mod notes;
+mod object;
+mod providers;
+mod row;
+mod text;
+mod word;
+
+use crate::word::Word;
 use json::{write_list, write_summary};
-use mach_json::take_json;
-use mach_lists::Word;
-use mach_parts::{Files, ShowsFile};
-use mach_show::{Cpu, Misuse, Program};
-use mach_terminal::ForTerminal;
+use mach_cli::{Cpu, Files, ForTerminal, Misuse, Program, ShowsFile, take_json};
 use run::{DEFAULT_LIMIT, NAME, run_list, run_summary};
 use std::alloc::Allocator;
 use std::io;

@@ -3,14 +3,15 @@
 use crate::front::{
     Platform, RightsText, State, UuidText, VersionText, cpu_name, platform_of, state_of,
 };
+use crate::object::RowObject;
+use crate::row::Row;
 use crate::signed::is_ad_hoc;
 use goblin_mach::header::{filetype_to_str, flag_to_str};
 use goblin_mach::load_command::CommandVariant;
 use goblin_mach::segment::Segment;
 use goblin_mach::{MachO, describe};
-use mach_json::{JsonString, comma_before};
-use mach_lists::{Row, RowObject};
-use mach_signed::code_directory;
+use mach_cli::{JsonString, comma_before};
+use mach_signature::image::code_directory;
 use std::alloc::{AllocError, Allocator};
 use std::fmt;
 use std::fmt::{Display, Formatter, Write};

@@ -2,17 +2,18 @@
 
 ghost use Rattle.std.specs.Prelude.{◌≡◌, ◌≤◌, [], codes};
 ghost use Rattle.std.specs.Io.Buffered.{writer_buffer, writer_contents};
-ghost use Rattle.mach_show.specs.Names.{names_text};
-ghost use Rattle.mach_show.specs.Shown.{Shown, ShowsFile, Writes};
-ghost use Rattle.mach_show.specs.Statuses.{IsStatus, status_by};
+ghost use Rattle.mach_cli.specs.Names.{names_text};
+ghost use Rattle.mach_cli.specs.Shown.{Shown, ShowsFile, Writes};
+ghost use Rattle.mach_cli.specs.Statuses.{IsStatus, status_by};
 ghost use Rattle.machinfo.specs.ImageLines.{AreImageListLines, AreImageSummaryLines};
 
 use crate::counts::{Form, print_counts};
 use crate::front::{front_of, state_of, state_text};
+use crate::list::ImageList;
 use crate::signed::print_signed;
+use crate::word::Word;
 use goblin_mach::MachO;
-use mach_lists::{ImageList, Word};
-use mach_show::{Cpu, Failure, Heading, Names, Outcome, Shows, print_listing};
+use mach_cli::{Cpu, Failure, Heading, Names, Outcome, Shows, print_listing};
 use std::alloc::Allocator;
 use std::io::{BufWriter, Write};
 
@@ -128,7 +129,7 @@ pub fn run_summary<A: Allocator + Clone, W: Write + Drop, B: Allocator, E: Write
         × Writes shown (writer_contents W.contents out.old) (writer_contents W.contents out.new) (E.contents err.old) (E.contents err.new) }
     ensures flushed { result ≤ 1 → writer_buffer out.new ≡ [] }
 {
-    mach_show::run::run(
+    mach_cli::run::run(
         &SummaryOf { file, limit },
         cpu,
         limit,
@@ -159,7 +160,7 @@ pub fn run_list<A: Allocator + Clone, W: Write + Drop, B: Allocator, E: Write>(
         × Writes shown (writer_contents W.contents out.old) (writer_contents W.contents out.new) (E.contents err.old) (E.contents err.new) }
     ensures flushed { result ≤ 1 → writer_buffer out.new ≡ [] }
 {
-    mach_show::run::run(
+    mach_cli::run::run(
         &ListOf { file, word, limit },
         cpu,
         limit,

@@ -6,10 +6,34 @@
 //! more than what is left, a line says so.
 #![tactic(auto)]
 
-use mach_resolve::run::{NAME, run};
-use mach_resolve::{DEFAULT_LIMIT, Given, Mistake, Words};
-use mach_show::{Misuse, Program};
-use mach_terminal::{ForTerminal, Progress};
+// Where each binding of a program is found among some libraries.
+mod answers;
+mod behind;
+mod file;
+mod files;
+mod follow;
+mod given;
+mod resolve;
+mod special;
+
+// What is printed of it.
+mod call;
+mod failure;
+mod lines;
+mod note;
+mod refusal;
+mod report;
+mod run;
+mod words;
+
+// Tests.
+#[cfg(test)]
+mod tests;
+
+use crate::given::Given;
+use crate::run::{NAME, run};
+use crate::words::{DEFAULT_LIMIT, Mistake, Words};
+use mach_cli::{ForTerminal, Misuse, Program, Progress};
 use std::io;
 use std::io::{BufWriter, IsTerminal};
 use std::process::ExitCode;

@@ -3,9 +3,9 @@ use Rattle.std.proofs.Common.{◌≤◌, ◌<◌, ◌^◌, ℕ, suc, List, [], �
 use Rattle.std.proofs.lemmas.List.FromFn.{length-range_with_len}
 use Rattle.std.specs.Prelude.{filter_map}
 use Rattle.std.specs.List.{range_with_len, cons_option}
-use Rattle.mach_sign.specs.CodeFaults.{code_faults_of, form_fault, page_fault, pages_judged}
-use Rattle.mach_sign.specs.Directories.{Directory}
-use Rattle.mach_sign.specs.declared.fault.CodeFault.{CodeFault}
+use Rattle.mach_signature.specs.CodeFaults.{code_faults_of, form_fault, page_fault, pages_judged}
+use Rattle.mach_signature.specs.Directories.{Directory}
+use Rattle.mach_signature.specs.declared.fault.CodeFault.{CodeFault}
 
 one_at_most : {V : Type 0} (o : Option V) (ys : List V) (n : ℕ) → length ys ≤ n → length (cons_option o ys) ≤ suc n
 one_at_most None ys n few = omega (arith, few)

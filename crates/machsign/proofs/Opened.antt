@@ -5,11 +5,11 @@ use Rattle.mach_base.specs.Answer.{Stands}
 use Rattle.mach_base.specs.Fault.{Fault}
 use Rattle.mach_base.specs.declared.error.Error.{Error}
 use Rattle.mach_base.specs.declared.error.Error.TheVariants as errors
-use Rattle.mach_image.specs.OpenImage.{IsImage, commands_held}
-use Rattle.mach_image.specs.declared.macho.MachO.{MachO}
+use Rattle.goblin_mach.specs.OpenImage.{IsImage, commands_held}
+use Rattle.goblin_mach.specs.declared.macho.MachO.{MachO}
 use Rattle.goblin_mach.specs.View.{IsTold, Tells}
-use Rattle.mach_show.specs.Cpus.{is_of_cpu, IsTaken}
-use Rattle.mach_show.specs.declared.cpu.Cpu.{Cpu}
+use Rattle.mach_cli.specs.Cpus.{is_of_cpu, IsTaken}
+use Rattle.mach_cli.specs.declared.cpu.Cpu.{Cpu}
 
 -- an image is asked for, or not, by its header
 pub taken_of : {A : Type 0} (cpu : Cpu) (bytes : List ℕ) (m : MachO A) (taken : Bool) → IsImage bytes 0 m

@@ -2,13 +2,13 @@
 use Rattle.std.proofs.Common.{◌≡◌, ◌∙◌, ℕ, List, Bool, Option, Result, refl, sym}
 use Rattle.std.specs.Prelude.{◌↔◌, IsTrue}
 use Rattle.mach_base.specs.Fault.{Fault}
-use Rattle.mach_image.specs.OpenImage.{IsImage, bytes_held, commands_held, segments_held}
-use Rattle.mach_image.specs.declared.macho.MachO.{MachO}
-use Rattle.mach_image.proofs.ImageFacts.{facts_are, strict-lossy}
-use Rattle.mach_sign.specs.AsSigned.{SignedImage}
-use Rattle.mach_signed.specs.SignedImages.{image_signature, signature_place_in, IsImageAsSigned}
-use Rattle.mach_signed.proofs.AsSigned.{as_signed}
-use Rattle.mach_signed.specs.SignedFacts.{HoldsAsSigned}
+use Rattle.goblin_mach.specs.OpenImage.{IsImage, bytes_held, commands_held, segments_held}
+use Rattle.goblin_mach.specs.declared.macho.MachO.{MachO}
+use Rattle.goblin_mach.proofs.ImageFacts.{facts_are, strict-lossy}
+use Rattle.mach_signature.specs.AsSigned.{SignedImage}
+use Rattle.mach_signature.specs.SignedImages.{image_signature, signature_place_in, IsImageAsSigned}
+use Rattle.mach_signature.proofs.AsSigned.{as_signed}
+use Rattle.mach_signature.specs.SignedFacts.{HoldsAsSigned}
 use Rattle.machsign.specs.Entitlements.{entitlements_of, HasEntitlements}
 use Rattle.machsign.specs.ImageLines.{image_signed, HasSigned}
 use Rattle.machsign.proofs.Whole.{faults_are_by, is_unfaulted, unfaulted_untold, untold_unfaulted}

@@ -3,10 +3,10 @@ use Rattle.std.proofs.Common.{◌≡◌, ◌++◌, ◌∷◌, [], ℕ, List, Boo
 use Rattle.std.specs.Prelude.{IsTrue}
 use Rattle.mach_base.specs.Answer.{◌>>=◌}
 use Rattle.mach_base.specs.Fault.{Fault}
-use Rattle.mach_segments.specs.Segment.{SegmentView}
-use Rattle.mach_sign.specs.AsSigned.{SignedImage, SignatureFaultSeen, signature_faults_of, signature_in}
-use Rattle.mach_sign.specs.SuperBlob.{SuperBlob}
-use Rattle.mach_signed.specs.SignedImages.{plist_of, faults_there}
+use Rattle.mach_parts.specs.Segment.{SegmentView}
+use Rattle.mach_signature.specs.AsSigned.{SignedImage, SignatureFaultSeen, signature_faults_of, signature_in}
+use Rattle.mach_signature.specs.SuperBlob.{SuperBlob}
+use Rattle.mach_signature.specs.SignedImages.{plist_of, faults_there}
 use Rattle.machsign.specs.ImageLines.{signed_there}
 use Rattle.machsign.specs.JsonSignature.{IsSignatureObject, unsigned_object, unreadable_object, signed_object}
 use Rattle.machsign.specs.Signatures.{has_none, AreSignatureLines, unsigned, unreadable, signed}

@@ -3,20 +3,20 @@ use Rattle.std.specs.Prelude.{◌==◌, ◌+◌, ◌-◌, ◌^◌, ℕ, List, []
 use Rattle.std.specs.Fmt.{decimal}
 use Rattle.std.specs.List.{range_with_len}
 use Rattle.mach_base.specs.Fault.{Fault}
-use Rattle.mach_sign.specs.AsSigned.{SignedImage}
-use Rattle.mach_sign.specs.Chosen.{SlotDirectory}
-use Rattle.mach_sign.specs.CodeFaults.{code_faults_of}
-use Rattle.mach_sign.specs.Directories.{Directory, code_limit_of, page_count_of, identifier_of, team_of, cdhash_of, special_slot_of}
-use Rattle.mach_sign.specs.SignWords.{hexadecimal, slot_words, code_fault_words, special_fault_words}
-use Rattle.mach_sign.specs.SpecialFaults.{component_of, is_unsealing, special_fault}
-use Rattle.mach_sign.specs.declared.fault.CodeFault.{CodeFault}
-use Rattle.mach_sign.specs.declared.fault.SpecialFault.{SpecialFault}
-use Rattle.mach_sign.specs.declared.hash.HashType.{HashType}
-use Rattle.mach_sign.specs.declared.records.DirectoryHead.{DirectoryHead}
-use Rattle.mach_sign.specs.declared.records.ExecutableSegment.{ExecutableSegment}
-use Rattle.mach_sign.specs.declared.records.RuntimeFields.{RuntimeFields}
-use Rattle.mach_sign_text.specs.Flags.{code_flags, segment_flags, worded_flags_text}
-use Rattle.mach_sign_text.specs.Names.{bytes_text, name_text}
+use Rattle.mach_signature.specs.AsSigned.{SignedImage}
+use Rattle.mach_signature.specs.Chosen.{SlotDirectory}
+use Rattle.mach_signature.specs.CodeFaults.{code_faults_of}
+use Rattle.mach_signature.specs.Directories.{Directory, code_limit_of, page_count_of, identifier_of, team_of, cdhash_of, special_slot_of}
+use Rattle.mach_signature.specs.SignWords.{hexadecimal, slot_words, code_fault_words, special_fault_words}
+use Rattle.mach_signature.specs.SpecialFaults.{component_of, is_unsealing, special_fault}
+use Rattle.mach_signature.specs.declared.fault.CodeFault.{CodeFault}
+use Rattle.mach_signature.specs.declared.fault.SpecialFault.{SpecialFault}
+use Rattle.mach_signature.specs.declared.hash.HashType.{HashType}
+use Rattle.mach_signature.specs.declared.records.DirectoryHead.{DirectoryHead}
+use Rattle.mach_signature.specs.declared.records.ExecutableSegment.{ExecutableSegment}
+use Rattle.mach_signature.specs.declared.records.RuntimeFields.{RuntimeFields}
+use Rattle.mach_cli.specs.Flags.{code_flags, segment_flags, worded_flags_text}
+use Rattle.mach_cli.specs.SignatureNames.{bytes_text, name_text}
 use Rattle.machsign.specs.Texts.{hash_name, pages_text, runtime_text}
 
 -- what is said of it before its flags

@@ -2,15 +2,15 @@
 use Rattle.std.specs.Prelude.{◌≡◌, ℕ, List, [], ◌∷◌, Bool, true, false, Option, Some, None, Result, Ok, Err}
 use Rattle.mach_base.specs.Fault.{Fault}
 use Rattle.mach_base.specs.declared.error.Error.{Error}
-use Rattle.mach_image.specs.Facts.{OfImage}
-use Rattle.mach_image.specs.Image.{ImageFault}
-use Rattle.mach_input.specs.Items.{ContentView, ItemView, content_bytes}
-use Rattle.mach_input.specs.declared.item.EntryCpu.{EntryCpu}
-use Rattle.mach_sign.specs.SuperBlob.{SuperBlob, content_of}
-use Rattle.mach_signed.specs.SignedImages.{image_signature}
+use Rattle.goblin_mach.specs.Facts.{OfImage}
+use Rattle.goblin_mach.specs.Image.{ImageFault}
+use Rattle.goblin_mach.specs.Items.{ContentView, ItemView, content_bytes}
+use Rattle.goblin_mach.specs.declared.item.EntryCpu.{EntryCpu}
+use Rattle.mach_signature.specs.SuperBlob.{SuperBlob, content_of}
+use Rattle.mach_signature.specs.SignedImages.{image_signature}
 use Rattle.goblin_mach.specs.View.{Tells}
-use Rattle.mach_show.specs.Cpus.{IsTaken, is_of_cpu}
-use Rattle.mach_show.specs.declared.cpu.Cpu.{Cpu}
+use Rattle.mach_cli.specs.Cpus.{IsTaken, is_of_cpu}
+use Rattle.mach_cli.specs.declared.cpu.Cpu.{Cpu}
 
 -- what is there, if it can be read
 abbrev pub readable_content : Result (Option (List ℕ)) Fault → Option (List ℕ)

@@ -3,13 +3,13 @@ use Rattle.std.specs.Prelude.{◌≡◌, ◌↔◌, ℕ, List, Bool, IsTrue, Opt
 use Rattle.mach_base.specs.Answer.{◌>>=◌}
 use Rattle.mach_base.specs.Fault.{Fault}
 use Rattle.mach_load.specs.Command.{Command}
-use Rattle.mach_segments.specs.Segment.{SegmentView}
-use Rattle.mach_image.specs.Facts.{OfImage}
-use Rattle.mach_image.specs.Image.{Opens}
-use Rattle.mach_image.specs.Subjects.{lossy_segments_in}
-use Rattle.mach_sign.specs.AsSigned.{SignedImage, signature_in}
-use Rattle.mach_signed.specs.SignedFacts.{HoldsAsSigned}
-use Rattle.mach_signed.specs.SignedImages.{signature_place_in, plist_of}
+use Rattle.mach_parts.specs.Segment.{SegmentView}
+use Rattle.goblin_mach.specs.Facts.{OfImage}
+use Rattle.goblin_mach.specs.Image.{Opens}
+use Rattle.goblin_mach.specs.Subjects.{lossy_segments_in}
+use Rattle.mach_signature.specs.AsSigned.{SignedImage, signature_in}
+use Rattle.mach_signature.specs.SignedFacts.{HoldsAsSigned}
+use Rattle.mach_signature.specs.SignedImages.{signature_place_in, plist_of}
 use Rattle.machsign.specs.Signatures.{AreSignatureLines}
 
 -- the signature that lies at a place, if one does, with the bytes of its image

@@ -6,20 +6,20 @@ use Rattle.mach_base.specs.Fault.{Fault, fault_of}
 use Rattle.mach_base.specs.Items.{read_as}
 use Rattle.mach_base.specs.Words.{words_of}
 use Rattle.mach_base.specs.declared.error.Error.{Error}
-use Rattle.mach_image.specs.Image.{Opens}
-use Rattle.mach_json.specs.JsonArrays.{error_end, with_commas}
-use Rattle.mach_json.specs.JsonText.{json_string}
-use Rattle.mach_sign.specs.AsSigned.{SignedImage, SignatureFaultSeen, signature_faults_of}
-use Rattle.mach_sign.specs.Chosen.{directory_of}
-use Rattle.mach_sign.specs.Directories.{Directory, cdhash_of, code_limit_of, identifier_of, page_count_of, team_of}
-use Rattle.mach_sign.specs.DirectoryViews.{directory_view}
-use Rattle.mach_sign.specs.FaultViews.{signature_fault_view}
-use Rattle.mach_sign.specs.SignWords.{signature_fault_words}
-use Rattle.mach_sign.specs.declared.directory.CodeDirectory.{CodeDirectory}
-use Rattle.mach_sign.specs.declared.fault.SignatureFault.{SignatureFault}
-use Rattle.mach_sign.specs.declared.records.DirectoryHead.{DirectoryHead}
-use Rattle.mach_sign_text.specs.Names.{bytes_text}
-use Rattle.mach_signed.specs.SignedFacts.{HoldsAsSigned}
+use Rattle.goblin_mach.specs.Image.{Opens}
+use Rattle.mach_cli.specs.JsonArrays.{error_end, with_commas}
+use Rattle.mach_cli.specs.JsonText.{json_string}
+use Rattle.mach_signature.specs.AsSigned.{SignedImage, SignatureFaultSeen, signature_faults_of}
+use Rattle.mach_signature.specs.Chosen.{directory_of}
+use Rattle.mach_signature.specs.Directories.{Directory, cdhash_of, code_limit_of, identifier_of, page_count_of, team_of}
+use Rattle.mach_signature.specs.DirectoryViews.{directory_view}
+use Rattle.mach_signature.specs.FaultViews.{signature_fault_view}
+use Rattle.mach_signature.specs.SignWords.{signature_fault_words}
+use Rattle.mach_signature.specs.declared.directory.CodeDirectory.{CodeDirectory}
+use Rattle.mach_signature.specs.declared.fault.SignatureFault.{SignatureFault}
+use Rattle.mach_signature.specs.declared.records.DirectoryHead.{DirectoryHead}
+use Rattle.mach_cli.specs.SignatureNames.{bytes_text}
+use Rattle.mach_signature.specs.SignedFacts.{HoldsAsSigned}
 use Rattle.machsign.specs.ImageLines.{HasSigned}
 use Rattle.machsign.specs.Signatures.{has_none}
 

@@ -4,15 +4,15 @@ use Rattle.std.specs.Io.KnownBytes.{Appends}
 use Rattle.mach_base.specs.Fault.{Fault, fault_of}
 use Rattle.mach_base.specs.Words.{words_of}
 use Rattle.mach_base.specs.declared.error.Error.{Error}
-use Rattle.mach_sign.specs.AsSigned.{SignedImage, SignatureFaultSeen, signature_faults_of}
-use Rattle.mach_sign.specs.Chosen.{directories_of, directory_of}
-use Rattle.mach_sign.specs.Directories.{Directory}
-use Rattle.mach_sign.specs.FaultViews.{signature_fault_view}
-use Rattle.mach_sign.specs.SignWords.{signature_fault_words}
-use Rattle.mach_sign.specs.Slots.{is_directory_slot}
-use Rattle.mach_sign.specs.SuperBlob.{SuperBlob, BlobThere, blobs_of}
-use Rattle.mach_sign.specs.declared.fault.SignatureFault.{SignatureFault}
-use Rattle.mach_show.specs.Lines.{AreLines}
+use Rattle.mach_signature.specs.AsSigned.{SignedImage, SignatureFaultSeen, signature_faults_of}
+use Rattle.mach_signature.specs.Chosen.{directories_of, directory_of}
+use Rattle.mach_signature.specs.Directories.{Directory}
+use Rattle.mach_signature.specs.FaultViews.{signature_fault_view}
+use Rattle.mach_signature.specs.SignWords.{signature_fault_words}
+use Rattle.mach_signature.specs.Slots.{is_directory_slot}
+use Rattle.mach_signature.specs.SuperBlob.{SuperBlob, BlobThere, blobs_of}
+use Rattle.mach_signature.specs.declared.fault.SignatureFault.{SignatureFault}
+use Rattle.mach_cli.specs.Lines.{AreLines}
 use Rattle.machsign.specs.Blocks.{slot_directory_lines}
 use Rattle.machsign.specs.Texts.{blob_text}
 

@@ -1,9 +1,9 @@
 -- Hashes, pages, versions and blobs, as they are printed.
 use Rattle.std.specs.Prelude.{◌==◌, ◌/◌, ◌%◌, ◌^◌, ℕ, List, ◌++◌, codes, if◌then◌else◌}
 use Rattle.std.specs.Fmt.{decimal}
-use Rattle.mach_sign.specs.SignWords.{slot_words}
-use Rattle.mach_sign.specs.declared.hash.HashType.{HashType}
-use Rattle.mach_sign.specs.declared.hash.HashType.TheVariants.{Sha1, Sha256, Sha256Truncated, Sha384}
+use Rattle.mach_signature.specs.SignWords.{slot_words}
+use Rattle.mach_signature.specs.declared.hash.HashType.{HashType}
+use Rattle.mach_signature.specs.declared.hash.HashType.TheVariants.{Sha1, Sha256, Sha256Truncated, Sha384}
 
 abbrev pub hash_name : HashType → List ℕ
 hash_name Sha1 = codes "sha1"

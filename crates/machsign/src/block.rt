@@ -4,19 +4,19 @@ ghost use Rattle.std.specs.Prelude.{◌≡◌, ◌<◌, ◌^◌, ◌++◌, codes
 ghost use Rattle.std.specs.Option.{option_map};
 ghost use Rattle.std.specs.Io.KnownBytes.{Appends};
 ghost use Rattle.mach_base.specs.Items.{read_as};
-ghost use Rattle.mach_sign.specs.CodeFaultViews.{code_faults_left};
-ghost use Rattle.mach_sign.specs.CodeFaults.{code_faults_of};
-ghost use Rattle.mach_sign.specs.Directories.{cdhash_of, code_limit_of, identifier_of, team_of};
-ghost use Rattle.mach_sign.specs.DirectoryViews.{directory_view, slot_read};
-ghost use Rattle.mach_sign.specs.FaultViews.{signed_view};
+ghost use Rattle.mach_signature.specs.CodeFaultViews.{code_faults_left};
+ghost use Rattle.mach_signature.specs.CodeFaults.{code_faults_of};
+ghost use Rattle.mach_signature.specs.Directories.{cdhash_of, code_limit_of, identifier_of, team_of};
+ghost use Rattle.mach_signature.specs.DirectoryViews.{directory_view, slot_read};
+ghost use Rattle.mach_signature.specs.FaultViews.{signed_view};
 ghost use Rattle.machsign.specs.Blocks as defined;
 
 use crate::text::{HeadFront, RuntimeText, SegmentFront, ShapeText, SlotFront};
-use mach_sign::{
+use mach_cli::{print_bytes, print_code_flags, print_segment_flags};
+use mach_signature::{
     CodeDirectory, CodeFault, CodeFaults, ExecutableSegment, RuntimeFields, SignedBytes, component,
     is_unsealing,
 };
-use mach_sign_text::{print_bytes, print_code_flags, print_segment_flags};
 use std::io;
 use std::io::Write;
 
@@ -108,7 +108,7 @@ fn print_name<O: Write>(
         (defined.name_line label.now (read_as (option_map (λ text. text.now)) name.entry))) }
 {
     write!(out, "  {label}: ")?;
-    mach_sign_text::print_name(name, out)?;
+    mach_cli::print_name(name, out)?;
     writeln!(out)
 }
 

@@ -2,16 +2,16 @@
 
 ghost use Rattle.std.specs.Prelude.{◌≡◌, ◌≤◌, [], codes};
 ghost use Rattle.std.specs.Io.Buffered.{writer_buffer, writer_contents};
-ghost use Rattle.mach_show.specs.Names.{names_text};
-ghost use Rattle.mach_show.specs.Shown.{Shown, Writes, without_limit};
-ghost use Rattle.mach_show.specs.Statuses.{IsStatus, status_by};
-ghost use Rattle.mach_json.specs.Documents.{IsDocument};
+ghost use Rattle.mach_cli.specs.Names.{names_text};
+ghost use Rattle.mach_cli.specs.Shown.{Shown, Writes, without_limit};
+ghost use Rattle.mach_cli.specs.Statuses.{IsStatus, status_by};
+ghost use Rattle.mach_cli.specs.Documents.{IsDocument};
 ghost use Rattle.machsign.specs.JsonSignature.{AreImageSignatureMembers};
 
 use crate::members::write_members;
 use crate::run::NAME;
 use goblin_mach::MachO;
-use mach_show::{Cpu, Failure, Heading, Names, Outcome, Shows};
+use mach_cli::{Cpu, Failure, Heading, Names, Outcome, Shows};
 use std::alloc::Allocator;
 use std::io::{BufWriter, Write};
 
@@ -64,5 +64,5 @@ pub fn run_json<A: Allocator + Clone, W: Write + Drop, B: Allocator, E: Write>(
         × Writes shown (writer_contents W.contents out.old) (writer_contents W.contents out.new) (E.contents err.old) (E.contents err.new) }
     ensures flushed { result ≤ 1 → writer_buffer out.new ≡ [] }
 {
-    mach_json::run::run(&ObjectsOf { file }, file, cpu, 0, &alloc, bytes, out, err)
+    mach_cli::json_run::run(&ObjectsOf { file }, file, cpu, 0, &alloc, bytes, out, err)
 }

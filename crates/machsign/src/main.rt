@@ -18,10 +18,7 @@ mod words;
 
 use entitlements::run_entitlements;
 use json::run_json;
-use mach_json::take_json;
-use mach_parts::{Files, ShowsFile};
-use mach_show::{Cpu, Misuse, Program};
-use mach_terminal::ForTerminal;
+use mach_cli::{Cpu, Files, ForTerminal, Misuse, Program, ShowsFile, take_json};
 use run::{NAME, run};
 use std::alloc::Allocator;
 use std::io;

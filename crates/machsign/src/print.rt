@@ -3,11 +3,11 @@
 ghost use Rattle.std.specs.Prelude.{◌≡◌, ◌++◌, codes, false, flat_map, IfOk, OnOk};
 ghost use Rattle.std.specs.Io.KnownBytes.{Appends};
 ghost use Rattle.mach_base.specs.Words.{words_of};
-ghost use Rattle.mach_image.specs.OpenImage.{bytes_held, commands_held, segments_held};
-ghost use Rattle.mach_sign.specs.Chosen.{directories_of};
-ghost use Rattle.mach_sign.specs.ChosenViews.{slot_directory_read};
-ghost use Rattle.mach_sign.specs.FaultViews.{signed_view, signature_faults_left};
-ghost use Rattle.mach_sign.specs.SignViews.{signature_view, blob_read};
+ghost use Rattle.goblin_mach.specs.OpenImage.{bytes_held, commands_held, segments_held};
+ghost use Rattle.mach_signature.specs.Chosen.{directories_of};
+ghost use Rattle.mach_signature.specs.ChosenViews.{slot_directory_read};
+ghost use Rattle.mach_signature.specs.FaultViews.{signed_view, signature_faults_left};
+ghost use Rattle.mach_signature.specs.SignViews.{signature_view, blob_read};
 ghost use Rattle.machsign.specs.Blocks.{slot_directory_lines};
 ghost use Rattle.machsign.specs.ImageLines.{image_signed};
 ghost use Rattle.machsign.specs.Signatures as defined;
@@ -16,7 +16,7 @@ use crate::block::print_directory;
 use crate::signed::signed_image;
 use crate::text::BlobText;
 use goblin_mach::{Error, MachO, describe};
-use mach_sign::{
+use mach_signature::{
     Blob, CodeDirectory, CodeSignature, SignatureFault, SignatureFaults, SignedBytes,
     is_directory_slot,
 };

@@ -2,14 +2,14 @@
 
 ghost use Rattle.std.specs.Prelude.{◌≡◌, ◌≤◌, [], codes};
 ghost use Rattle.std.specs.Io.Buffered.{writer_buffer, writer_contents};
-ghost use Rattle.mach_show.specs.Names.{names_text};
-ghost use Rattle.mach_show.specs.Shown.{Shown, ShowsFile, Writes, without_limit};
-ghost use Rattle.mach_show.specs.Statuses.{IsStatus, status_by};
+ghost use Rattle.mach_cli.specs.Names.{names_text};
+ghost use Rattle.mach_cli.specs.Shown.{Shown, ShowsFile, Writes, without_limit};
+ghost use Rattle.mach_cli.specs.Statuses.{IsStatus, status_by};
 ghost use Rattle.machsign.specs.ImageLines.{AreImageSignatureLines};
 
 use crate::print::print_signature;
 use goblin_mach::MachO;
-use mach_show::{Cpu, Failure, Heading, Names, Outcome, Shows};
+use mach_cli::{Cpu, Failure, Heading, Names, Outcome, Shows};
 use std::alloc::Allocator;
 use std::io::{BufWriter, Write};
 
@@ -65,5 +65,5 @@ pub fn run<A: Allocator + Clone, W: Write + Drop, B: Allocator, E: Write>(
         × Writes shown (writer_contents W.contents out.old) (writer_contents W.contents out.new) (E.contents err.old) (E.contents err.new) }
     ensures flushed { result ≤ 1 → writer_buffer out.new ≡ [] }
 {
-    mach_show::run::run(&SignaturesOf { file }, cpu, 0, &alloc, bytes, out, err)
+    mach_cli::run::run(&SignaturesOf { file }, cpu, 0, &alloc, bytes, out, err)
 }

@@ -3,13 +3,13 @@
 ghost use Rattle.std.specs.Prelude.{◌≡◌, Option};
 ghost use Rattle.std.specs.Option.{option_map};
 ghost use Rattle.mach_base.specs.Answer.{Reads};
-ghost use Rattle.mach_image.specs.OpenImage.{bytes_held, commands_held, segments_held};
-ghost use Rattle.mach_sign.specs.FaultViews.{signed_view};
+ghost use Rattle.goblin_mach.specs.OpenImage.{bytes_held, commands_held, segments_held};
+ghost use Rattle.mach_signature.specs.FaultViews.{signed_view};
 ghost use Rattle.machsign.specs.ImageLines.{image_signed};
 
 use goblin_mach::{MachO, Result};
-use mach_sign::{SignedBytes, code_signature};
-use mach_signed::{image_plist, signature_place};
+use mach_signature::image::{image_plist, signature_place};
+use mach_signature::{SignedBytes, code_signature};
 use std::alloc::Allocator;
 
 /// The signature of an image, if it has one, with the bytes that it is of.

@@ -4,7 +4,7 @@ ghost use Rattle.std.specs.Prelude.{◌≤◌, Some};
 ghost use Rattle.machsign.specs.Blocks.{head_front, segment_front, shape_text, slot_front};
 ghost use Rattle.machsign.specs.Texts.{blob_text, hash_name, pages_text, runtime_text};
 
-use mach_sign::{DirectoryHead, HashType, SlotName};
+use mach_signature::{DirectoryHead, HashType, SlotName};
 use std::fmt;
 use std::fmt::{Display, Formatter, Write};
 

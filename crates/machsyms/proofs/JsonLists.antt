@@ -6,9 +6,9 @@ use Rattle.std.specs.Io.KnownBytes.{Appends}
 use Rattle.std.specs.List.{filter}
 use Rattle.mach_base.proofs.Written.{Appends-both}
 use Rattle.mach_base.specs.Fault.{Fault}
-use Rattle.mach_symbols.specs.Symbols.{SymbolTable, begun_of}
-use Rattle.mach_symbols.specs.declared.symbols.nlist.Nlist.{Nlist}
-use Rattle.mach_json.specs.JsonArrays.{WritesAllRows}
+use Rattle.mach_parts.specs.Symbols.{SymbolTable, begun_of}
+use Rattle.mach_parts.specs.declared.symbols.nlist.Nlist.{Nlist}
+use Rattle.mach_cli.specs.JsonArrays.{WritesAllRows}
 use Rattle.machsyms.specs.Asked.{takes}
 use Rattle.machsyms.specs.JsonSymbols.{asked_objects, symbol_told, before_symbols, WritesSymbolMembers}
 use Rattle.machsyms.specs.Lines.{past_the_end}

@@ -3,7 +3,7 @@ use Rattle.std.proofs.Common.{◌≡◌, ◌++◌, ◌∷◌, [], ◌∙◌, ◌
 use Rattle.std.proofs.lemmas.List.{append-nil, append_assoc, map-append}
 use Rattle.mach_base.proofs.ItemLists.{items_from-first}
 use Rattle.mach_base.specs.Items.{items_from}
-use Rattle.mach_symbols.specs.Symbols.{SymbolTable, symbol_at}
+use Rattle.mach_parts.specs.Symbols.{SymbolTable, symbol_at}
 use Rattle.machsyms.specs.Order.{SymbolKey, symbol_key_of, key_view, keys_of_table}
 use Rattle.machsyms.specs.declared.asked.SortedBy.{SortedBy}
 use Rattle.machsyms.specs.declared.order.SortKey.{SortKey}

@@ -2,3 +2,4 @@ mod Written
 mod Taken
 mod Keys
 mod JsonLists
+mod Ends

@@ -2,9 +2,9 @@
 use Rattle.std.proofs.Common.{◌≡◌, ◌++◌, ◌∷◌, [], ◌∙◌, ℕ, ◌+◌, zero, suc, ◌≤◌, ◌<◌, List, Option, length, take, drop, get_or, refl, sym, ap, map, arith}
 use Rattle.std.proofs.lemmas.List.{append_assoc, take_all, take-append-le, map-append, at_drop_more}
 use Rattle.std.specs.List.{flat_map}
-use Rattle.mach_segments.specs.Segment.{segment_view, sections_of}
-use Rattle.mach_segments.specs.declared.segment.Segment.{Segment}
-use Rattle.mach_segments.specs.declared.segment.section.Section.{Section}
+use Rattle.mach_parts.specs.Segment.{segment_view, sections_of}
+use Rattle.mach_parts.specs.declared.segment.Segment.{Segment}
+use Rattle.mach_parts.specs.declared.segment.section.Section.{Section}
 use Rattle.machsyms.specs.Letters.{item_section}
 
 -- what was cut off before doesn't come back

@@ -7,11 +7,11 @@ use Rattle.std.specs.Io.KnownBytes.{Appends}
 use Rattle.mach_base.proofs.Written.{Appends-both}
 use Rattle.mach_base.specs.Fault.{Fault}
 use Rattle.mach_base.specs.declared.error.Error.{Error}
-use Rattle.mach_symbols.specs.SymbolViews.{symbol_read}
-use Rattle.mach_symbols.specs.Symbols.{SymbolTable, begun_of, symbol_at}
-use Rattle.mach_symbols.specs.declared.symbols.nlist.Nlist.{Nlist}
-use Rattle.mach_show.proofs.Lines.{no_lines, line_more}
-use Rattle.mach_show.specs.Lines.{WritesLines}
+use Rattle.mach_parts.specs.SymbolViews.{symbol_read}
+use Rattle.mach_parts.specs.Symbols.{SymbolTable, begun_of, symbol_at}
+use Rattle.mach_parts.specs.declared.symbols.nlist.Nlist.{Nlist}
+use Rattle.mach_cli.proofs.Lines.{no_lines, line_more}
+use Rattle.mach_cli.specs.Lines.{WritesLines}
 use Rattle.machsyms.specs.Lines.{asked_line, past_line, past_the_end, WritesTable}
 use Rattle.machsyms.specs.Order.{symbols_by}
 use Rattle.machsyms.specs.Setting.{SymbolSetting}

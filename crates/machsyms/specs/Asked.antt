@@ -1,8 +1,8 @@
 -- Which symbols are asked for (`mach-o/nlist.h`).
 use Rattle.std.specs.Prelude.{◌==◌, ℕ, List, Bool, true, false, not, ◌&&◌, ◌||◌, Result, Ok, Err, if◌then◌else◌}
 use Rattle.mach_base.specs.Fault.{Fault}
-use Rattle.mach_symbols.specs.Symbols.{type_of, is_stab}
-use Rattle.mach_symbols.specs.declared.symbols.nlist.Nlist.{Nlist}
+use Rattle.mach_parts.specs.Symbols.{type_of, is_stab}
+use Rattle.mach_parts.specs.declared.symbols.nlist.Nlist.{Nlist}
 use Rattle.machsyms.specs.Letters.{is_local}
 use Rattle.machsyms.specs.declared.asked.Asked.{Asked}
 

@@ -1,9 +1,9 @@
 -- The lines that the program shows of an image.
 use Rattle.std.specs.Prelude.{◌≡◌, ℕ, List, [], Bool, Option, Some, None, IsTrue, ◌↔◌}
 use Rattle.mach_base.specs.declared.context.Container.TheVariants.{Big}
-use Rattle.mach_symbols.specs.Symbols.{SymbolTable, begun_of}
-use Rattle.mach_image.specs.ImageFacts.{Facts, HasFacts}
-use Rattle.mach_image.specs.Image.{Opens}
+use Rattle.mach_parts.specs.Symbols.{SymbolTable, begun_of}
+use Rattle.goblin_mach.specs.ImageFacts.{Facts, HasFacts}
+use Rattle.goblin_mach.specs.Image.{Opens}
 use Rattle.machsyms.specs.Lines.{AreTableLines}
 use Rattle.machsyms.specs.Order.{AreKeysInOrder, gone_over}
 use Rattle.machsyms.specs.Setting.{setting_of}

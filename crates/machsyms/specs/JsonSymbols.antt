@@ -4,13 +4,13 @@ use Rattle.std.specs.Fmt.{decimal}
 use Rattle.std.specs.Io.KnownBytes.{Appends}
 use Rattle.std.specs.List.{filter}
 use Rattle.mach_base.specs.Fault.{Fault}
-use Rattle.mach_symbols.specs.Symbols.{SymbolTable, begun_of}
-use Rattle.mach_symbols.specs.declared.symbols.nlist.Nlist.{Nlist}
-use Rattle.mach_image.specs.ImageFacts.{Facts, HasFacts}
-use Rattle.mach_image.specs.Image.{Opens}
-use Rattle.mach_show.specs.Listings.{told_by}
-use Rattle.mach_json.specs.JsonArrays.{IsArrayOf}
-use Rattle.mach_json.specs.JsonText.{json_string}
+use Rattle.mach_parts.specs.Symbols.{SymbolTable, begun_of}
+use Rattle.mach_parts.specs.declared.symbols.nlist.Nlist.{Nlist}
+use Rattle.goblin_mach.specs.ImageFacts.{Facts, HasFacts}
+use Rattle.goblin_mach.specs.Image.{Opens}
+use Rattle.mach_cli.specs.Listings.{told_by}
+use Rattle.mach_cli.specs.JsonArrays.{IsArrayOf}
+use Rattle.mach_cli.specs.JsonText.{json_string}
 use Rattle.machsyms.specs.Asked.{takes}
 use Rattle.machsyms.specs.ImageLines.{AreImageKeys}
 use Rattle.machsyms.specs.Lines.{past_the_end, symbols_over}

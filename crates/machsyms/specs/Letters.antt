@@ -8,10 +8,10 @@ use Rattle.std.specs.List.{flat_map}
 use Rattle.std.specs.Str.{bytes_eq}
 use Rattle.mach_base.specs.Fault.{Fault}
 use Rattle.mach_base.specs.Text.{text_at}
-use Rattle.mach_segments.specs.Segment.{SegmentView, sections_of}
-use Rattle.mach_symbols.specs.Symbols.{type_of}
-use Rattle.mach_segments.specs.declared.segment.section.Section.{Section}
-use Rattle.mach_symbols.specs.declared.symbols.nlist.Nlist.{Nlist}
+use Rattle.mach_parts.specs.Segment.{SegmentView, sections_of}
+use Rattle.mach_parts.specs.Symbols.{type_of}
+use Rattle.mach_parts.specs.declared.segment.section.Section.{Section}
+use Rattle.mach_parts.specs.declared.symbols.nlist.Nlist.{Nlist}
 
 -- the one letter of a text
 abbrev pub letter : List ℕ → ℕ

@@ -7,3 +7,5 @@ pub mod Lines
 pub mod ImageLines
 pub mod JsonSymbols
 pub mod Listed
+pub mod ShortNames
+pub mod SymbolWords

@@ -7,10 +7,10 @@ use Rattle.std.specs.Io.KnownBytes.{Appends}
 use Rattle.std.specs.Borrow.{Bor}
 use Rattle.mach_base.specs.Fault.{Fault}
 use Rattle.mach_base.specs.declared.error.Error.{Error}
-use Rattle.mach_symbols.specs.Symbols.{SymbolTable, begun_of, is_stab}
-use Rattle.mach_symbols.specs.SymbolViews.{symbol_read}
-use Rattle.mach_symbols.specs.declared.symbols.nlist.Nlist.{Nlist}
-use Rattle.mach_show.specs.Lines.{AreLines}
+use Rattle.mach_parts.specs.Symbols.{SymbolTable, begun_of, is_stab}
+use Rattle.mach_parts.specs.SymbolViews.{symbol_read}
+use Rattle.mach_parts.specs.declared.symbols.nlist.Nlist.{Nlist}
+use Rattle.mach_cli.specs.Lines.{AreLines}
 use Rattle.machsyms.specs.Asked.{is_elsewhere, takes}
 use Rattle.machsyms.specs.Letters.{symbol_letter}
 use Rattle.machsyms.specs.Setting.{SymbolSetting, symbol_described}

@@ -1,8 +1,8 @@
 -- What is left of the symbols that are asked for.
 use Rattle.std.specs.Prelude.{ℕ, List, drop, Result}
 use Rattle.mach_base.specs.Fault.{Fault}
-use Rattle.mach_symbols.specs.SymbolViews.{symbols_left, table_of}
-use Rattle.mach_symbols.specs.declared.symbols.nlist.Nlist.{Nlist}
+use Rattle.mach_parts.specs.SymbolViews.{symbols_left, table_of}
+use Rattle.mach_parts.specs.declared.symbols.nlist.Nlist.{Nlist}
 use Rattle.machsyms.specs.JsonSymbols.{asked_objects, symbol_object}
 use Rattle.machsyms.specs.Order.{symbols_by}
 use Rattle.machsyms.specs.declared.listed.AskedSymbols.{AskedSymbols}

@@ -6,8 +6,8 @@ use Rattle.std.specs.Cmp.Lexicographic.{slice_cmp}
 use Rattle.std.specs.List.Sorted.{IsPermutation, IsSortedByKey, IsStableByKey}
 use Rattle.mach_base.specs.Fault.{Fault}
 use Rattle.mach_base.specs.Items.{items_from}
-use Rattle.mach_symbols.specs.Symbols.{SymbolTable, symbol_at, symbols_of}
-use Rattle.mach_symbols.specs.declared.symbols.nlist.Nlist.{Nlist}
+use Rattle.mach_parts.specs.Symbols.{SymbolTable, symbol_at, symbols_of}
+use Rattle.mach_parts.specs.declared.symbols.nlist.Nlist.{Nlist}
 use Rattle.machsyms.specs.Asked.{is_elsewhere}
 use Rattle.machsyms.specs.declared.asked.SortedBy.{SortedBy}
 use Rattle.machsyms.specs.declared.asked.SortedBy.TheVariants.{Name, Address}

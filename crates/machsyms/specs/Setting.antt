@@ -1,12 +1,12 @@
 -- What the lines of symbols tell of their image.
 use Rattle.std.specs.Prelude.{ℕ, List, Bool, Option}
 use Rattle.mach_base.specs.Text.{texts}
-use Rattle.mach_segments.specs.declared.segment.section.Section.{Section}
-use Rattle.mach_symbols.specs.declared.symbols.nlist.Nlist.{Nlist}
-use Rattle.mach_image.specs.ImageFacts.{Facts}
-use Rattle.mach_image.specs.ImageSlots.{symbol_provider_of}
-use Rattle.mach_nm.specs.SymbolWords.{origin_said, origin_text, section_seen, symbol_words}
-use Rattle.mach_nm.specs.declared.words.SymbolWords.{SymbolWords}
+use Rattle.mach_parts.specs.declared.segment.section.Section.{Section}
+use Rattle.mach_parts.specs.declared.symbols.nlist.Nlist.{Nlist}
+use Rattle.goblin_mach.specs.ImageFacts.{Facts}
+use Rattle.goblin_mach.specs.ImageSlots.{symbol_provider_of}
+use Rattle.machsyms.specs.SymbolWords.{origin_said, origin_text, section_seen, symbol_words}
+use Rattle.machsyms.specs.declared.nm_words.SymbolWords.{SymbolWords}
 use Rattle.machsyms.specs.Letters.{letters_of, named_sections, section_by}
 use Rattle.machsyms.specs.declared.setting.Setting.{Setting}
 

@@ -1,7 +1,7 @@
 //! Which symbols are asked for, in which order, and in which form.
 
 ghost use Rattle.std.specs.Prelude.{◌≡◌};
-ghost use Rattle.mach_symbols.specs.SymbolViews.{symbol_read};
+ghost use Rattle.mach_parts.specs.SymbolViews.{symbol_read};
 ghost use Rattle.machsyms.specs.Asked.{is_elsewhere, takes};
 
 use goblin_mach::symbols::{N_EXT, N_UNDF, Nlist};

@@ -2,17 +2,17 @@
 
 ghost use Rattle.std.specs.Prelude.{◌≡◌, ◌≤◌, [], codes};
 ghost use Rattle.std.specs.Io.Buffered.{writer_buffer, writer_contents};
-ghost use Rattle.mach_show.specs.Names.{names_text};
-ghost use Rattle.mach_show.specs.Shown.{Shown, Writes, without_limit};
-ghost use Rattle.mach_show.specs.Statuses.{IsStatus, status_by};
-ghost use Rattle.mach_json.specs.Documents.{IsDocument};
+ghost use Rattle.mach_cli.specs.Names.{names_text};
+ghost use Rattle.mach_cli.specs.Shown.{Shown, Writes, without_limit};
+ghost use Rattle.mach_cli.specs.Statuses.{IsStatus, status_by};
+ghost use Rattle.mach_cli.specs.Documents.{IsDocument};
 ghost use Rattle.machsyms.specs.JsonSymbols.{AreImageSymbolMembers};
 
 use crate::asked::Asked;
 use crate::members::write_members;
 use crate::run::{NAME, keys_of_image};
 use goblin_mach::{MachO, laws};
-use mach_show::{Cpu, Failure, Heading, Names, Outcome, Shows};
+use mach_cli::{Cpu, Failure, Heading, Names, Outcome, Shows};
 use std::alloc::Allocator;
 use std::io::{BufWriter, Write};
 
@@ -70,5 +70,5 @@ pub fn run_json<A: Allocator + Clone, W: Write + Drop, B: Allocator, E: Write>(
     ensures flushed { result ≤ 1 → writer_buffer out.new ≡ [] }
 {
     let objects = ObjectsOf { file, asked };
-    mach_json::run::run(&objects, file, cpu, 0, &alloc, bytes, out, err)
+    mach_cli::json_run::run(&objects, file, cpu, 0, &alloc, bytes, out, err)
 }

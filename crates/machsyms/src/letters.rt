@@ -2,10 +2,10 @@
 
 ghost use Rattle.std.specs.Prelude.{◌≡◌, ◌++◌, ◌≤◌, length, take, map, OnOk, IfOk};
 ghost use Rattle.mach_base.specs.Items.{read_as};
-ghost use Rattle.mach_segments.specs.SectionItems.{section_read};
-ghost use Rattle.mach_segments.specs.Segment.{segment_view, sections_of};
-ghost use Rattle.mach_image.specs.OpenImage.{segments_held};
-ghost use Rattle.mach_nm.specs.SymbolWords.{section_seen};
+ghost use Rattle.mach_parts.specs.SectionItems.{section_read};
+ghost use Rattle.mach_parts.specs.Segment.{segment_view, sections_of};
+ghost use Rattle.goblin_mach.specs.OpenImage.{segments_held};
+ghost use Rattle.machsyms.specs.SymbolWords.{section_seen};
 ghost use Rattle.machsyms.specs.Letters.{section_letter, item_section, named_sections, section_by, symbol_letter, type_letter};
 ghost use Rattle.machsyms.specs.Letters.{is_called, is_name, letter_at, letter_of};
 

@@ -14,6 +14,7 @@
 //! - files that `llvm-nm` refuses as malformed are printed wherever the library opens them.
 #![tactic(auto)]
 
+// What is asked for, which symbols are shown, and how.
 mod asked;
 mod json;
 mod letters;
@@ -27,12 +28,14 @@ mod stabs;
 mod text;
 mod words;
 
+// What `nm -m` says of a symbol in words: what it is, who knows it, and which library gives it, by its short name.
+mod nm_library;
+mod nm_origin;
+mod nm_words;
+
 use asked::Asked;
 use json::run_json;
-use mach_json::take_json;
-use mach_parts::{Files, ShowsFile};
-use mach_show::{Cpu, Misuse, Program};
-use mach_terminal::ForTerminal;
+use mach_cli::{Cpu, Files, ForTerminal, Misuse, Program, ShowsFile, take_json};
 use run::{NAME, run};
 use std::alloc::Allocator;
 use std::io;

@@ -2,8 +2,8 @@
 
 ghost use Rattle.std.specs.Prelude.{◌≡◌, Some, None, true, option_map, IfOk, OnOk};
 ghost use Rattle.std.specs.Io.KnownBytes.{Appends};
-ghost use Rattle.mach_symbols.specs.SymbolViews.{table_of};
-ghost use Rattle.mach_json.specs.JsonArrays.{WritesAllRows};
+ghost use Rattle.mach_parts.specs.SymbolViews.{table_of};
+ghost use Rattle.mach_cli.specs.JsonArrays.{WritesAllRows};
 ghost use Rattle.machsyms.specs.JsonSymbols.{asked_objects, before_symbols, WritesSymbolMembers};
 ghost use Rattle.machsyms.specs.Order.{gone_over};
 
@@ -11,7 +11,7 @@ use crate::asked::Asked;
 use crate::listed::{AskedSymbols, count_of};
 use crate::order::SortKey;
 use goblin_mach::symbols::Symbols;
-use mach_json::print_array;
+use mach_cli::print_array;
 use std::io;
 use std::io::Write;
 

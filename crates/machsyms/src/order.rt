@@ -1,7 +1,7 @@
 //! The order of an image's symbols.
 
 ghost use Rattle.std.specs.Prelude.{◌≡◌, map, IfOk, OnOk};
-ghost use Rattle.mach_symbols.specs.SymbolViews.{symbol_read, table_of};
+ghost use Rattle.mach_parts.specs.SymbolViews.{symbol_read, table_of};
 ghost use Rattle.machsyms.specs.Order.{AreKeysInOrder, AreSortedKeys, key_view, symbol_key_of, keys_of_table};
 
 use crate::asked::{SortedBy, Sorting, is_elsewhere};

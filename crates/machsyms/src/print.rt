@@ -2,9 +2,9 @@
 
 ghost use Rattle.std.specs.Prelude.{Some, option_map, IfOk, OnOk};
 ghost use Rattle.std.specs.Io.KnownBytes.{Appends};
-ghost use Rattle.mach_symbols.specs.Symbols.{symbols_of};
-ghost use Rattle.mach_symbols.specs.SymbolViews.{symbol_read, table_of};
-ghost use Rattle.mach_show.specs.Lines.{WritesLines};
+ghost use Rattle.mach_parts.specs.Symbols.{symbols_of};
+ghost use Rattle.mach_parts.specs.SymbolViews.{symbol_read, table_of};
+ghost use Rattle.mach_cli.specs.Lines.{WritesLines};
 ghost use Rattle.machsyms.specs.Lines.{past_line, asked_line, file_text, WritesTable};
 ghost use Rattle.machsyms.specs.Order.{gone_over, symbols_by};
 ghost use Rattle.machsyms.specs.Setting.{setting_view};

@@ -2,10 +2,10 @@
 
 ghost use Rattle.std.specs.Prelude.{◌≡◌, ◌≤◌, [], codes, option_map, IfOk};
 ghost use Rattle.std.specs.Io.Buffered.{writer_buffer, writer_contents};
-ghost use Rattle.mach_symbols.specs.SymbolViews.{table_of};
-ghost use Rattle.mach_show.specs.Names.{names_text};
-ghost use Rattle.mach_show.specs.Shown.{Shown, ShowsFile, Writes, without_limit};
-ghost use Rattle.mach_show.specs.Statuses.{IsStatus, status_by};
+ghost use Rattle.mach_parts.specs.SymbolViews.{table_of};
+ghost use Rattle.mach_cli.specs.Names.{names_text};
+ghost use Rattle.mach_cli.specs.Shown.{Shown, ShowsFile, Writes, without_limit};
+ghost use Rattle.mach_cli.specs.Statuses.{IsStatus, status_by};
 ghost use Rattle.machsyms.specs.ImageLines.{AreImageSymbolLines, AreImageKeys};
 
 use crate::asked::{Asked, Sorting};
@@ -15,7 +15,7 @@ use crate::print::print_symbols;
 use crate::setting::Setting;
 use goblin_mach::symbols::Symbols;
 use goblin_mach::{MachO, laws};
-use mach_show::{Cpu, Failure, Heading, Names, Outcome, Shows};
+use mach_cli::{Cpu, Failure, Heading, Names, Outcome, Shows};
 use std::alloc::{AllocError, Allocator};
 use std::io::{BufWriter, Write};
 
@@ -97,5 +97,5 @@ pub fn run<A: Allocator + Clone, W: Write + Drop, B: Allocator, E: Write>(
         × Writes shown (writer_contents W.contents out.old) (writer_contents W.contents out.new) (E.contents err.old) (E.contents err.new) }
     ensures flushed { result ≤ 1 → writer_buffer out.new ≡ [] }
 {
-    mach_show::run::run(&SymbolsOf { file, asked }, cpu, 0, &alloc, bytes, out, err)
+    mach_cli::run::run(&SymbolsOf { file, asked }, cpu, 0, &alloc, bytes, out, err)
 }

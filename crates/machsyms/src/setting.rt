@@ -1,16 +1,17 @@
 //! What the lines of symbols tell of their image.
 
 ghost use Rattle.std.specs.Prelude.{◌≡◌};
-ghost use Rattle.mach_image.specs.ImageFacts.{facts_held};
-ghost use Rattle.mach_image.specs.OpenImage.{segments_held};
+ghost use Rattle.goblin_mach.specs.ImageFacts.{facts_held};
+ghost use Rattle.goblin_mach.specs.OpenImage.{segments_held};
 ghost use Rattle.machsyms.specs.Letters.{letters_of, named_sections};
 ghost use Rattle.machsyms.specs.Setting.{symbol_described, setting_of, setting_view, words_shown};
 
 use crate::letters::section_by;
+use crate::nm_origin::origin_of;
+use crate::nm_words::SymbolWords;
 use goblin_mach::MachO;
 use goblin_mach::segment::Section;
 use goblin_mach::symbols::Nlist;
-use mach_nm::{SymbolWords, origin_of};
 use std::alloc::Allocator;
 
 /// What the lines of symbols tell of their image.

@@ -9,7 +9,8 @@ mod segments;
 mod symbols;
 
 use goblin_mach::MachO;
-use mach_layout::{Part, Rule, claims, layout_faults};
+use goblin_mach::layout::{claims, layout_faults};
+use mach_layout::{Part, Rule};
 use std::test::Fail;
 
 // An object file of one command of 28 bytes.

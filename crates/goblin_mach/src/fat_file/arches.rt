@@ -2,9 +2,9 @@
 
 ghost use Rattle.std.specs.Prelude.{◌≡◌, ◌<◌, ◌^◌, length};
 
-use mach_arches::{ArchRecord, FatArch64, read_arch};
 use mach_base::{ByteCount, Result};
-use mach_headers::fat::FatArch;
+use mach_parts::fat::FatArch;
+use mach_parts::{ArchRecord, FatArch64, read_arch};
 use std::fmt;
 use std::fmt::{Debug, Formatter, Write};
 use std::marker::PhantomData;

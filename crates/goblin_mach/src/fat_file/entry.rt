@@ -2,9 +2,9 @@
 
 ghost use Rattle.goblin_mach.specs.FatEntry.{OpensEntry, fat_entry_of};
 
+use crate::macho::MachO;
 use mach_base::{ByteCount, Error, Hint, Result, take_hint_bytes};
-use mach_headers::magic::peek_bytes;
-use mach_image::macho::MachO;
+use mach_parts::magic::peek_bytes;
 use std::alloc::{Allocator, Global};
 use std::fmt;
 use std::fmt::{Debug, Formatter, Write};

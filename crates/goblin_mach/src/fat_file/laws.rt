@@ -4,12 +4,12 @@ ghost use Rattle.std.specs.Prelude.{◌≡◌, ◌<◌, ◌≤◌, ℕ, List, Re
 ghost use Rattle.mach_base.specs.declared.context.Endian.TheVariants.{Big};
 ghost use Rattle.mach_base.specs.Fault.{Fault};
 ghost use Rattle.mach_base.specs.Number.{number};
-ghost use Rattle.mach_headers.specs.declared.fat.FatArch.{FatArch};
-ghost use Rattle.mach_arches.specs.ArchForms.{arch_in};
+ghost use Rattle.mach_parts.specs.declared.fat.FatArch.{FatArch};
+ghost use Rattle.mach_parts.specs.ArchForms.{arch_in};
 ghost use Rattle.goblin_mach.specs.FatEntry.{FatEntry, entry_at, entries_of, arch_entry_in, entries_in};
 ghost use Rattle.goblin_mach.specs.FatFile.{FatFile, fat_file_in, arch_at, archs_of, archs_in};
 
-use mach_arches::ArchRecord;
+use mach_parts::ArchRecord;
 
 /// The records of a fat file go by their number: there are as many as it is said to have entries, and
 /// record k is the one at its own place, whatever the others are.

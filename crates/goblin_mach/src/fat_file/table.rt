@@ -7,9 +7,9 @@ ghost use Rattle.goblin_mach.specs.FatEntry.{OpensEntry, arch_entry_in};
 
 use crate::fat_file::arches::ArchIterator;
 use crate::fat_file::entry::SingleArch;
-use mach_arches::{ArchRecord, FatArch64, has_room_for, read_arch};
 use mach_base::{ByteCount, Error, Result};
-use mach_headers::fat::{FatArch, FatHeader};
+use mach_parts::fat::{FatArch, FatHeader};
+use mach_parts::{ArchRecord, FatArch64, has_room_for, read_arch};
 use std::alloc::{AllocError, Allocator, Global};
 use std::fmt;
 use std::fmt::{Debug, Formatter, Write};

@@ -4,13 +4,13 @@ ghost use Rattle.std.specs.Prelude.{ℕ, List};
 ghost use Rattle.mach_base.specs.Context.{pointer_size};
 ghost use Rattle.mach_base.specs.Fault.{Fault};
 ghost use Rattle.mach_base.specs.Text.{texts};
-ghost use Rattle.mach_binds.specs.Imports.{Import};
-ghost use Rattle.mach_tries.specs.Trie as trie;
-ghost use Rattle.mach_image.specs.OpenImage.{IsImage, segments_held, trie_held, binds_held, ctx_held};
-ghost use Rattle.mach_image.specs.Subjects.{ListsImageImports, ListsImageExports};
+ghost use Rattle.mach_dyld.specs.Imports.{Import};
+ghost use Rattle.mach_dyld.specs.Trie as trie;
+ghost use Rattle.goblin_mach.specs.OpenImage.{IsImage, segments_held, trie_held, binds_held, ctx_held};
+ghost use Rattle.goblin_mach.specs.Subjects.{ListsImageImports, ListsImageExports};
 ghost use Rattle.goblin_mach.specs.View.{LinksImage, LinksFault, FaultHeld};
 
-use mach_image::macho::MachO;
+use crate::macho::MachO;
 use std::alloc::Allocator;
 
 /// An image that was opened strictly at 0 links the lists that it holds, and a fault that stands in one

@@ -6,7 +6,7 @@ ghost use Rattle.mach_base.specs.Fault.{bad_input};
 ghost use Rattle.mach_base.specs.Leb128.{Spells, uleb_at};
 ghost use Rattle.mach_base.specs.Record.{number_is, bytes_are};
 ghost use Rattle.mach_load.specs.Commands.{uuid, segment64, load_dylib, dyld_info_only, symtab, main};
-ghost use Rattle.mach_image.specs.Chain.{IsChain};
+ghost use Rattle.goblin_mach.specs.Chain.{IsChain};
 ghost use Rattle.goblin_mach.specs.Rows.{file_a, file_b};
 
 /// Three spellings: one of 624485, the longest of the largest number, and one too long.

@@ -1,8 +1,8 @@
 //! Magics and first headers.
 
-use crate::tests::made::{Piece, made, push_header};
+use crate::tests::archive_text::members_text;
+use crate::tests::made_archives::{Piece, made, push_header};
 use crate::tests::same::same;
-use crate::tests::text::members_text;
 use mach_archive::{Archive, ArchiveKind};
 use mach_base::{Error, ScrollError};
 use std::test::Fail;

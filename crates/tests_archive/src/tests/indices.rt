@@ -1,7 +1,7 @@
 //! Indices of both forms.
 
-use crate::tests::made::{Piece, made};
-use crate::tests::text::{found_text, members_text, symbols_text};
+use crate::tests::archive_text::{found_text, members_text, symbols_text};
+use crate::tests::made_archives::{Piece, made};
 use std::alloc::Global;
 use std::process::Abort;
 use std::test::Fail;

@@ -1,7 +1,7 @@
 //! Members one behind the other.
 
-use crate::tests::made::{Piece, made};
-use crate::tests::text::{member_text, members_text};
+use crate::tests::archive_text::{member_text, members_text};
+use crate::tests::made_archives::{Piece, made};
 use std::alloc::Global;
 use std::process::Abort;
 use std::test::Fail;

@@ -7,7 +7,7 @@ use crate::tests::same::same;
 use crate::tests::text::{BASE, LIBS, chained_of, segment_at};
 use mach_base::Steps;
 use mach_chained::{ChainedFixups, Fixup};
-use mach_segments::segment::Segment;
+use mach_parts::segment::Segment;
 use std::alloc::Global;
 use std::test::Fail;
 

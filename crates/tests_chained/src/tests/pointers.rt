@@ -3,7 +3,8 @@
 use crate::tests::payloads::{DATA, PAYLOAD};
 use crate::tests::same::same;
 use crate::tests::text::{BASE, text_of_one};
-use mach_chained::{FixupKind, PointerAuth, PointerFormat, read_pointer};
+use mach_chained::{FixupKind, PointerFormat, read_pointer};
+use mach_parts::binding::PointerAuth;
 use std::process::Abort;
 use std::test::Fail;
 

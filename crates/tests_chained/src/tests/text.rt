@@ -2,9 +2,9 @@
 
 use mach_base::{Container, Ctx, Error, LE, describe};
 use mach_chained::{ChainedFixups, Fixup, FixupKind};
+use mach_parts::binding::{Binding, Provider};
+use mach_parts::segment::Segment;
 use mach_records::LinkeditDataCommand;
-use mach_segments::binding::{Binding, Provider};
-use mach_segments::segment::Segment;
 use std::alloc::{AllocError, Global};
 use std::fmt::Write;
 

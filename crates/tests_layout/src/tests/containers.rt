@@ -2,8 +2,8 @@
 
 use crate::tests::commands::line;
 use goblin_mach::fat::FatArch;
-use mach_arches::{ArchRecord, FatArch64};
 use mach_layout::container_faults;
+use mach_parts::{ArchRecord, FatArch64};
 use std::alloc::{AllocError, Global};
 use std::test::Fail;
 

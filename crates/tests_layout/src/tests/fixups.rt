@@ -2,7 +2,8 @@
 
 use crate::tests::symbols::{are, put};
 use goblin_mach::MachO;
-use mach_layout::{LayoutFault, Rule, layout_faults};
+use goblin_mach::layout::layout_faults;
+use mach_layout::{LayoutFault, Rule};
 use std::alloc::Global;
 use std::test::Fail;
 

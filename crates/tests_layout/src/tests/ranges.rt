@@ -2,7 +2,8 @@
 
 use crate::tests::symbols::{library, put};
 use goblin_mach::MachO;
-use mach_layout::{LayoutFault, Part, Rule, claims, layout_faults};
+use goblin_mach::layout::{claims, layout_faults};
+use mach_layout::{LayoutFault, Part, Rule};
 use std::alloc::{AllocError, Global};
 use std::test::Fail;
 

@@ -1,7 +1,8 @@
 //! Rows of the rules of segments, of sections and of what is encrypted.
 
 use goblin_mach::MachO;
-use mach_layout::{LayoutFault, Rule, layout_faults};
+use goblin_mach::layout::layout_faults;
+use mach_layout::{LayoutFault, Rule};
 use std::alloc::{AllocError, Global};
 use std::fmt::Write;
 use std::test::Fail;

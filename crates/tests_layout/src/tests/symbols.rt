@@ -1,7 +1,8 @@
 //! Rows of symbols and of what dyld binds by opcodes: the smallest sound library, with one change each.
 
 use goblin_mach::MachO;
-use mach_layout::{LayoutFault, Rule, layout_faults};
+use goblin_mach::layout::layout_faults;
+use mach_layout::{LayoutFault, Rule};
 use std::alloc::{AllocError, Global};
 use std::test::Fail;
 

@@ -2,11 +2,11 @@
 
 use crate::tests::same::same;
 use mach_base::{BE, Endian, LE};
+use mach_parts::relocation::{Relocation, RelocationInfo};
 use mach_records::cputype::{
     CPU_TYPE_ARM, CPU_TYPE_ARM64, CPU_TYPE_ARM64_32, CPU_TYPE_POWERPC, CPU_TYPE_X86,
     CPU_TYPE_X86_64, CpuType,
 };
-use mach_segments::relocation::{Relocation, RelocationInfo};
 
 // A plain relocation by symbol 1 with length 2 and kind 2.
 fn plain(address: u32, is_pcrel: bool, is_extern: bool) -> Relocation {

@@ -2,8 +2,8 @@
 
 use crate::tests::same::same;
 use mach_base::{Container, Ctx, Endian, Error, ScrollError, TryIntoCtx, pread_with};
-use mach_headers::fat::{FatArch, FatHeader};
-use mach_headers::header::{
+use mach_parts::fat::{FatArch, FatHeader};
+use mach_parts::header::{
     Header, Header32, Header64, MH_DSYM, MH_MAGIC_64, filetype_to_str, flag_to_str,
 };
 use std::test::Fail;

@@ -2,12 +2,12 @@
 
 use crate::tests::same::same;
 use mach_base::{BE, Ctx, LE, Record};
+use mach_parts::relocation::{RelocationInfo, SIZEOF_RELOCATION_INFO, reloc_to_str};
+use mach_parts::segment::{RelocationIterator, Section};
 use mach_records::cputype::{
     CPU_TYPE_ARM, CPU_TYPE_ARM64, CPU_TYPE_ARM64_32, CPU_TYPE_POWERPC, CPU_TYPE_X86,
     CPU_TYPE_X86_64,
 };
-use mach_segments::relocation::{RelocationInfo, SIZEOF_RELOCATION_INFO, reloc_to_str};
-use mach_segments::segment::{RelocationIterator, Section};
 use std::test::Fail;
 
 #[test]

@@ -5,12 +5,12 @@ use mach_base::{
     BE, Container, Ctx, Error, LE, Record, ScrollError, TryFromCtx, TryIntoCtx, pread_with,
     pwrite_with,
 };
+use mach_parts::laws::section_written_and_read;
+use mach_parts::segment::{Section, SectionData, Segment, Segments};
 use mach_records::{LC_SEGMENT, Section32, SegmentCommand32, SegmentCommand64};
-use mach_segments::laws::section_written_and_read;
-use mach_segments::segment::{Section, SectionData, Segment, Segments};
+use mach_samples::files::FILE_B;
 use std::process::Abort;
 use std::test::Fail;
-use test_files::FILE_B;
 
 // The one segment of file B.
 fn segment_of_file_b() -> Result<Segment<'static>, Error> {

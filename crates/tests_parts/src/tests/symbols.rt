@@ -2,11 +2,11 @@
 
 use crate::tests::same::same;
 use mach_base::{Ctx, Error, Result, ScrollError, pread_with};
+use mach_parts::laws::symbols_counted;
+use mach_parts::symbols::{N_SECT, Nlist, SymbolIterator, Symbols, SymbolsCtx};
 use mach_records::SymtabCommand;
-use mach_symbols::laws::symbols_counted;
-use mach_symbols::symbols::{N_SECT, Nlist, SymbolIterator, Symbols, SymbolsCtx};
+use mach_samples::files::FILE_B;
 use std::test::Fail;
-use test_files::FILE_B;
 
 // The command of its symbols, said to be so many.
 fn command(nsyms: u32) -> SymtabCommand {

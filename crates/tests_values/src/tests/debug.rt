@@ -5,8 +5,8 @@ use goblin_mach::exports::ExportTrie;
 use goblin_mach::imports::BindInterpreter;
 use goblin_mach::load_command::DyldInfoCommand;
 use goblin_mach::{LinkView, MachO, MultiArch, SingleArch, link_view};
+use mach_samples::files::{FILE_B, file_c};
 use std::test::Fail;
-use test_files::{FILE_B, file_c};
 
 // The ranges that file B's command brings.
 fn command() -> DyldInfoCommand {

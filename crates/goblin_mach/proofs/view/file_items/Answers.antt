@@ -5,7 +5,7 @@ use Rattle.goblin_mach.specs.FatEntry.{FatEntry, entries_of, image}
 use Rattle.goblin_mach.specs.FatFile.{arches_in, file_held}
 use Rattle.goblin_mach.specs.View.{HasEntries, ViewFault, of_table, fat_table, AreViewItems}
 use Rattle.goblin_mach.proofs.WholeFiles.{entries_of_image}
-use Rattle.mach_image.proofs.Exits.{exit_failed}
+use Rattle.goblin_mach.proofs.Exits.{exit_failed}
 use Rattle.goblin_mach.proofs.view.file_items.Goals as goal
 
 pub returns-in_err-arches-in-Fat-clause-refused : goal.returns-in_err-arches-in-Fat-clause-refused

@@ -1,6 +1,6 @@
 use Rattle.goblin_mach.specs.View.{ViewFault, of_file}
 use Rattle.goblin_mach.proofs.WholeFiles.{ok_where_viewed}
-use Rattle.mach_image.proofs.Exits.{exit_in}
+use Rattle.goblin_mach.proofs.Exits.{exit_in}
 use Rattle.goblin_mach.proofs.view.link_view.Goals as goal
 
 pub returns-in_err-file-clause-refused : goal.returns-in_err-file-clause-refused

@@ -1,6 +1,6 @@
 use Rattle.std.proofs.Common.{inl, inr}
 use Rattle.goblin_mach.specs.View.{FaultHeld}
-use Rattle.mach_image.proofs.Exits.{exit_in}
+use Rattle.goblin_mach.proofs.Exits.{exit_in}
 use Rattle.goblin_mach.proofs.view.links_of.Goals as goal
 
 pub returns-in_err-exports-clause-refused : goal.returns-in_err-exports-clause-refused

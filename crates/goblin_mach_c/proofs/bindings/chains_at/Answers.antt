@@ -1,6 +1,6 @@
 use Rattle.std.proofs.Common.{◌∙◌, ap}
-use Rattle.mach_image.specs.Fixups.{chained_at}
-use Rattle.mach_image.specs.OpenImage.{bytes_held, ctx_held}
+use Rattle.goblin_mach.specs.Fixups.{chained_at}
+use Rattle.goblin_mach.specs.OpenImage.{bytes_held, ctx_held}
 use Rattle.goblin_mach_c.proofs.BoundChains.{chained_lie}
 use Rattle.goblin_mach_c.proofs.bindings.chains_at.Goals as goal
 

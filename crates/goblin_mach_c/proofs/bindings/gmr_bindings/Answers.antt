@@ -1,5 +1,5 @@
 use Rattle.std.proofs.Common.{◌∙◌, ◌<◌, ◌^◌, ℕ, List, sym, subst, arith, length}
-use Rattle.mach_image.proofs.ImageFacts.{facts_are}
+use Rattle.goblin_mach.proofs.ImageFacts.{facts_are}
 use Rattle.goblin_mach_c.specs.BindingsBehind.{AreBindingsWritten, ArePlacedBehind, BindingSource, placed_left, source_of}
 use Rattle.goblin_mach_c.proofs.HeldBinds.{binds_stand}
 use Rattle.goblin_mach_c.proofs.FactsBehind.{source_by}

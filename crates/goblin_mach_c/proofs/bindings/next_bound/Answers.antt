@@ -2,7 +2,7 @@ use Rattle.std.proofs.Common.{◌≡◌, ◌∙◌, Ok, Some, inr, sym, ap}
 use Rattle.mach_base.specs.Number.{slice_at}
 use Rattle.mach_chained.specs.Views.{fixups_view}
 use Rattle.mach_chained.specs.declared.header.ChainedFixups.{ChainedFixups}
-use Rattle.mach_segments.specs.Bindings.{binding_read, binding_view}
+use Rattle.mach_parts.specs.Bindings.{binding_read, binding_view}
 use Rattle.mach_base.specs.Text.{texts}
 use Rattle.goblin_mach_c.proofs.bindings.next_bound.Goals as goal
 

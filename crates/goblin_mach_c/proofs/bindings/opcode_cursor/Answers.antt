@@ -1,5 +1,5 @@
 use Rattle.std.proofs.Common.{◌∙◌, sym, ap, subst}
-use Rattle.mach_binds.specs.Imports.{input_in}
+use Rattle.mach_dyld.specs.Imports.{input_in}
 use Rattle.goblin_mach_c.specs.BindingPlaces.{opcode_sites_behind}
 use Rattle.goblin_mach_c.specs.BindingsBehind.{AreOverOpcodes, opcodes_behind, opcode_rows_left, opcode_sites_left}
 use Rattle.goblin_mach_c.proofs.bindings.opcode_cursor.Goals as goal

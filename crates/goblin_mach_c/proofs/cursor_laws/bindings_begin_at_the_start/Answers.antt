@@ -1,4 +1,4 @@
-use Rattle.mach_image.specs.Fixups.{chained_in}
+use Rattle.goblin_mach.specs.Fixups.{chained_in}
 use Rattle.goblin_mach_c.specs.ImportsBehind.{binds_there}
 use Rattle.goblin_mach_c.proofs.BeginsThere.{behind_start, whole_list}
 use Rattle.goblin_mach_c.proofs.cursor_laws.bindings_begin_at_the_start.Goals as goal

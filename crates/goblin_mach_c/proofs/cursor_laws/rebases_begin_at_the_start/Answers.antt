@@ -1,6 +1,6 @@
 use Rattle.std.proofs.Common.{ℕ, sym, subst}
-use Rattle.mach_image.specs.Fixups.{chained_in}
-use Rattle.mach_image.specs.Subjects.{lossy_segments_in}
+use Rattle.goblin_mach.specs.Fixups.{chained_in}
+use Rattle.goblin_mach.specs.Subjects.{lossy_segments_in}
 use Rattle.goblin_mach_c.specs.FixupsBehind.{AreFixupsAtStage}
 use Rattle.goblin_mach_c.specs.RebasesBehind.{AreRebasesAtStage, rebase_source_there}
 use Rattle.goblin_mach_c.specs.Stage.{stage_of}

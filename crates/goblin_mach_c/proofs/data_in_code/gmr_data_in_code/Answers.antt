@@ -2,8 +2,8 @@ use Rattle.std.proofs.Common.{◌∙◌, ◌/◌, ap, sym, subst, drop, map}
 use Rattle.mach_base.specs.declared.context.Ctx.{Ctx}
 use Rattle.mach_base.specs.declared.context.Endian.{Endian}
 use Rattle.mach_base.specs.Items.{items_from}
-use Rattle.mach_tables.specs.DataInCode.{data_in_code_item}
-use Rattle.mach_image.specs.Tables.{data_in_code_there}
+use Rattle.mach_load.specs.DataInCode.{data_in_code_item}
+use Rattle.goblin_mach.specs.Tables.{data_in_code_there}
 use Rattle.goblin_mach_c.specs.Fill.{Fills}
 use Rattle.goblin_mach_c.specs.Seen.{ctx_seen}
 use Rattle.goblin_mach_c.specs.TableRows.{data_in_code_row}

@@ -1,7 +1,7 @@
 use Rattle.std.proofs.Common.{sym, subst}
-use Rattle.mach_tries.specs.Cursors.{IsOwnAt}
-use Rattle.mach_tries.specs.Exports.{info_of, text_in}
-use Rattle.mach_tries.specs.declared.info.ExportInfo.{ExportInfo}
+use Rattle.mach_dyld.specs.Cursors.{IsOwnAt}
+use Rattle.mach_dyld.specs.Exports.{info_of, text_in}
+use Rattle.mach_dyld.specs.declared.export_info.ExportInfo.{ExportInfo}
 use Rattle.goblin_mach_c.specs.ExportWalk.{IsBrought, IsNumbered}
 use Rattle.goblin_mach_c.proofs.ListedExports.{brought_by}
 use Rattle.goblin_mach_c.proofs.exports.brought_from.Goals as goal

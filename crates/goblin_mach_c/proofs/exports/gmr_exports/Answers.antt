@@ -1,7 +1,7 @@
 use Rattle.std.proofs.Common.{[], ap, subst, inl}
 use Rattle.mach_base.specs.Text.{texts}
-use Rattle.mach_tries.specs.TrieRange.{TrieRange}
-use Rattle.mach_image.proofs.ImageFacts.{moved}
+use Rattle.mach_dyld.specs.TrieRange.{TrieRange}
+use Rattle.goblin_mach.proofs.ImageFacts.{moved}
 use Rattle.goblin_mach_c.specs.ExportWalk.{AreWritten, GoesAlong, HasWalkedTrie, IsNextName, IsNodeOf, IsNumbered}
 use Rattle.goblin_mach_c.specs.Opened.{FaultIn, lossy_mode}
 use Rattle.goblin_mach_c.proofs.OpenedImage.{refusal_of}

@@ -1,5 +1,5 @@
 use Rattle.std.proofs.Common.{◌∙◌, ℕ, List, drop, ap, subst}
-use Rattle.mach_arches.specs.ArchForms.{arch_form_64, arch_in}
+use Rattle.mach_parts.specs.ArchForms.{arch_form_64, arch_in}
 use Rattle.mach_base.specs.Items.{items_from}
 use Rattle.goblin_mach_c.specs.Fill.{Fills}
 use Rattle.goblin_mach_c.specs.WideFatRows.{wide_row_64}

@@ -1,9 +1,9 @@
 use Rattle.std.proofs.Common.{List, Result, subst}
 use Rattle.mach_base.specs.Fault.{Fault}
 use Rattle.mach_chained.specs.Fixups.{Fixup}
-use Rattle.mach_image.proofs.ImageFacts.{facts_are}
-use Rattle.mach_image.specs.Fixups.{chained_held}
-use Rattle.mach_image.specs.OpenImage.{segments_held}
+use Rattle.goblin_mach.proofs.ImageFacts.{facts_are}
+use Rattle.goblin_mach.specs.Fixups.{chained_held}
+use Rattle.goblin_mach.specs.OpenImage.{segments_held}
 use Rattle.goblin_mach_c.specs.FixupRows.{fixup_row}
 use Rattle.goblin_mach_c.specs.FixupsBehind.{AreFixupsBehind, AreFixupsWritten, FixupSource, fixup_rows_left}
 use Rattle.goblin_mach_c.proofs.FactsBehind.{chains_by}

@@ -1,5 +1,5 @@
 use Rattle.std.proofs.Common.{refl, sym}
-use Rattle.mach_image.proofs.ImageFacts.{facts_are}
+use Rattle.goblin_mach.proofs.ImageFacts.{facts_are}
 use Rattle.goblin_mach_c.specs.ImportsBehind.{AreImportsWritten, Binds, binds_of_image, imports_in_rows, import_rows_left, sites_in_rows}
 use Rattle.goblin_mach_c.proofs.HeldBinds.{binds_stand}
 use Rattle.goblin_mach_c.proofs.FactsBehind.{binds_by}

@@ -1,8 +1,8 @@
 use Rattle.std.proofs.Common.{◌∙◌, ap, sym, subst, drop, map}
 use Rattle.mach_base.specs.declared.context.Ctx.{Ctx}
 use Rattle.mach_base.specs.Items.{items_from}
-use Rattle.mach_slots.specs.IndirectSymbols.{IndirectTable, indirect_symbol_at}
-use Rattle.mach_image.specs.ImageSlots.{indirect_symbols_in, indirect_table_at}
+use Rattle.mach_parts.specs.IndirectSymbols.{IndirectTable, indirect_symbol_at}
+use Rattle.goblin_mach.specs.ImageSlots.{indirect_symbols_in, indirect_table_at}
 use Rattle.goblin_mach_c.specs.Fill.{Fills}
 use Rattle.goblin_mach_c.specs.Seen.{ctx_seen}
 use Rattle.goblin_mach_c.specs.TableRows.{indirect_row}

@@ -1,6 +1,6 @@
 use Rattle.std.proofs.Common.{◌≡◌, length}
 use Rattle.std.specs.Prelude.{option_map}
-use Rattle.mach_image.specs.Readings.{last_of, last_or, read_of}
+use Rattle.goblin_mach.specs.Readings.{last_of, last_or, read_of}
 use Rattle.goblin_mach_c.specs.CommandRows.{commands_seen, readable_commands_left}
 use Rattle.goblin_mach_c.proofs.last.last_said.Given as goal
 

@@ -3,7 +3,7 @@ use Rattle.std.proofs.lemmas.Bool.{eqb-true, not-false}
 use Rattle.std.specs.Prelude.{◌==◌}
 use Rattle.mach_base.specs.declared.context.Ctx.{Ctx}
 use Rattle.mach_load.specs.Command.{Command}
-use Rattle.mach_image.specs.Image.{AllReadable, LossyOpensAs}
+use Rattle.goblin_mach.specs.Image.{AllReadable, LossyOpensAs}
 use Rattle.goblin_mach_c.specs.Opened.{OpensIn, lossy_mode}
 use Rattle.goblin_mach_c.proofs.layout.layout_of_opened.Goals as goal
 

@@ -1,4 +1,4 @@
-use Rattle.mach_tables.proofs.OptionsRead.{text_is_run}
+use Rattle.mach_load.proofs.OptionsRead.{text_is_run}
 use Rattle.goblin_mach_c.proofs.options.option_at.Goals as goal
 
 pub returns-then-text-bytes-clause-run : goal.returns-then-text-bytes-clause-run

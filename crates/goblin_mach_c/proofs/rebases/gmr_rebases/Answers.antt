@@ -1,7 +1,7 @@
 use Rattle.std.proofs.Common.{List, Result, subst}
 use Rattle.mach_base.specs.Fault.{Fault}
-use Rattle.mach_streams.specs.Rebases.{Rebase}
-use Rattle.mach_image.proofs.ImageFacts.{facts_are}
+use Rattle.mach_dyld.specs.Rebases.{Rebase}
+use Rattle.goblin_mach.proofs.ImageFacts.{facts_are}
 use Rattle.goblin_mach_c.specs.RebaseRows.{rebase_seen}
 use Rattle.goblin_mach_c.specs.RebasesBehind.{AreRebasesBehind, AreRebasesWritten, RebaseSource, rebase_rows_left, rebase_source_of}
 use Rattle.goblin_mach_c.proofs.FactsBehind.{rebase_source_by}

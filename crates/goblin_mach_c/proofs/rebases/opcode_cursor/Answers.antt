@@ -1,5 +1,5 @@
 use Rattle.std.proofs.Common.{◌∙◌, sym, ap, subst}
-use Rattle.mach_streams.specs.Cut.{cut_input, cut_range}
+use Rattle.mach_dyld.specs.Cut.{cut_input, cut_range}
 use Rattle.goblin_mach_c.specs.RebasesBehind.{IsOverOpcodes, opcodes_left_by, opcodes_rebased}
 use Rattle.goblin_mach_c.proofs.rebases.opcode_cursor.Goals as goal
 

@@ -1,5 +1,5 @@
 use Rattle.std.proofs.Common.{subst}
-use Rattle.mach_slots.specs.SlotsLeft.{slots_left}
+use Rattle.mach_parts.specs.SlotsLeft.{slots_left}
 use Rattle.goblin_mach_c.specs.Fill.{Fills}
 use Rattle.goblin_mach_c.proofs.slots.gmr_slots.Goals as goal
 

@@ -1,9 +1,9 @@
 use Rattle.std.proofs.Common.{ℕ, List, Result, subst}
 use Rattle.mach_base.specs.Fault.{Fault}
-use Rattle.mach_image.proofs.ImageFacts.{facts_are}
-use Rattle.mach_image.specs.Fixups.{base_held, base_of}
-use Rattle.mach_image.specs.OpenImage.{bytes_held, commands_held}
-use Rattle.mach_image.specs.Tables.{starts_place_in}
+use Rattle.goblin_mach.proofs.ImageFacts.{facts_are}
+use Rattle.goblin_mach.specs.Fixups.{base_held, base_of}
+use Rattle.goblin_mach.specs.OpenImage.{bytes_held, commands_held}
+use Rattle.goblin_mach.specs.Tables.{starts_place_in}
 use Rattle.goblin_mach_c.specs.StartsBehind.{AreStartsBehindCursor, AreStartsWritten, function_start_row, start_rows_left, starts_source}
 use Rattle.goblin_mach_c.proofs.Said.{mapped_fills}
 use Rattle.goblin_mach_c.proofs.starts.gmr_function_starts.Goals as goal

@@ -2,7 +2,7 @@ use Rattle.std.proofs.Common.{rules, tests, ap, take, ◌∙◌}
 use Rattle.std.proofs.lemmas.Iterator.{YieldsList-from_slice}
 use Rattle.std.proofs.lemmas.Iterator.Search.{position_from_yields_List}
 use Rattle.mach_base.specs.Text.{is_zero}
-use Rattle.mach_rules.proofs.Names.{first_place_or_len}
+use Rattle.mach_layout.proofs.Names.{first_place_or_len}
 use Rattle.goblin_mach_c.proofs.symbols.before_zero.Goals as goal
 
 pub returns : goal.returns

@@ -1,7 +1,7 @@
 use Rattle.std.proofs.Common.{◌∙◌, ◌++◌, ◌∷◌, [], Some, ap}
 use Rattle.std.proofs.lemmas.Result.{err_from_is_err_and}
-use Rattle.mach_tries.specs.Exports.{info_of}
-use Rattle.mach_tries.specs.Trie.{entry}
+use Rattle.mach_dyld.specs.Exports.{info_of}
+use Rattle.mach_dyld.specs.Trie.{entry}
 use Rattle.goblin_mach_c.proofs.tree.go_over.Goals as goal
 
 pub returns-in_err-export-clause-refused : goal.returns-in_err-export-clause-refused

@@ -1,7 +1,7 @@
 use Rattle.std.proofs.Common.{[], ℕ, List}
-use Rattle.mach_tries.specs.Trie.{Entry}
-use Rattle.mach_tries.specs.TrieRange.{TrieRange}
-use Rattle.mach_tries.specs.Walks.{HasGiven, work_left}
+use Rattle.mach_dyld.specs.Trie.{Entry}
+use Rattle.mach_dyld.specs.TrieRange.{TrieRange}
+use Rattle.mach_dyld.specs.Walks.{HasGiven, work_left}
 use Rattle.goblin_mach_c.proofs.tree.go_over.Given as goal
 
 abbrev pub invariant-exports : goal.invariant-exports

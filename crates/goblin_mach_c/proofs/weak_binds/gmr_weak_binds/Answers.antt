@@ -1,5 +1,5 @@
 use Rattle.std.proofs.Common.{refl, sym}
-use Rattle.mach_image.proofs.ImageFacts.{facts_are}
+use Rattle.goblin_mach.proofs.ImageFacts.{facts_are}
 use Rattle.goblin_mach_c.specs.WeakBindsBehind.{AreWeakBindsWritten, WeakSource, weak_left_by, weak_rows_left, weak_sites_by, weak_source_of}
 use Rattle.goblin_mach_c.proofs.FactsBehind.{weak_source_by}
 use Rattle.goblin_mach_c.proofs.weak_binds.gmr_weak_binds.Goals as goal

@@ -1,9 +1,9 @@
 use Rattle.std.proofs.Common.{◌∙◌, ℕ, List, Some, map, ap, refl, subst, sym}
 use Rattle.mach_load.specs.Variants.{command_of}
-use Rattle.mach_segments.specs.Segment.{segment_view}
-use Rattle.mach_image.specs.ImageStreams.{weak_stream_in}
-use Rattle.mach_image.specs.OpenImage.{bytes_held, commands_held}
-use Rattle.mach_cursors.specs.Ranges.{range_view}
+use Rattle.mach_parts.specs.Segment.{segment_view}
+use Rattle.goblin_mach.specs.ImageStreams.{weak_stream_in}
+use Rattle.goblin_mach.specs.OpenImage.{bytes_held, commands_held}
+use Rattle.mach_c_places.specs.Ranges.{range_view}
 use Rattle.goblin_mach_c.specs.Stage.{start, under_way, stage_of}
 use Rattle.goblin_mach_c.specs.WeakBindsBehind.{AreWeakBindsAtStage, AreWeakSitesAtStage, IsOverWeak, WeakSource, weak_left_by, weak_sites_by, weak_source_of}
 use Rattle.goblin_mach_c.proofs.FrontStreams.{weak_is_front}

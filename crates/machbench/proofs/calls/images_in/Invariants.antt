@@ -1,5 +1,5 @@
 use Rattle.std.proofs.Common.{◌++◌, List}
-use Rattle.mach_image.specs.declared.macho.MachO.{MachO}
+use Rattle.goblin_mach.specs.declared.macho.MachO.{MachO}
 use Rattle.goblin_mach.specs.FatEntry.{entries_left, entries_of}
 use Rattle.goblin_mach.specs.FatFile.{file_held}
 use Rattle.machbench.specs.Imports.{AreImagesOf}

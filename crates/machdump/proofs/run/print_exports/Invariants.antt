@@ -1,4 +1,4 @@
-use Rattle.mach_tries.specs.Walks.{work_left}
+use Rattle.mach_dyld.specs.Walks.{work_left}
 use Rattle.machdump.proofs.run.print_exports.Given as goal
 
 abbrev pub decreases-exports : goal.decreases-exports

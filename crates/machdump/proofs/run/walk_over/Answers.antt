@@ -1,9 +1,9 @@
 use Rattle.std.proofs.Common.{◌∙◌, ◌++◌, ◌∷◌, [], Some, ap}
-use Rattle.mach_tries.specs.Exports.{info_of}
+use Rattle.mach_dyld.specs.Exports.{info_of}
 use Rattle.mach_base.specs.Text.{texts}
-use Rattle.mach_tries.specs.Trie.{entry}
-use Rattle.mach_image.specs.OpenImage.{trie_held}
-use Rattle.mach_image.specs.Subjects.{trie_or_empty}
+use Rattle.mach_dyld.specs.Trie.{entry}
+use Rattle.goblin_mach.specs.OpenImage.{trie_held}
+use Rattle.goblin_mach.specs.Subjects.{trie_or_empty}
 use Rattle.machdump.proofs.run.walk_over.Goals as goal
 
 pub exports-preserved : goal.exports-preserved

@@ -1,9 +1,9 @@
 use Rattle.std.proofs.Common.{List}
 use Rattle.mach_base.specs.Text.{texts}
-use Rattle.mach_tries.specs.Trie.{Entry}
-use Rattle.mach_tries.specs.Walks.{HasGiven, work_left}
-use Rattle.mach_image.specs.OpenImage.{trie_held}
-use Rattle.mach_image.specs.Subjects.{trie_or_empty}
+use Rattle.mach_dyld.specs.Trie.{Entry}
+use Rattle.mach_dyld.specs.Walks.{HasGiven, work_left}
+use Rattle.goblin_mach.specs.OpenImage.{trie_held}
+use Rattle.goblin_mach.specs.Subjects.{trie_or_empty}
 use Rattle.machdump.proofs.run.walk_over.Given as goal
 
 abbrev pub invariant-exports : goal.invariant-exports

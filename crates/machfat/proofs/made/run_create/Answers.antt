@@ -1,5 +1,5 @@
 use Rattle.std.proofs.Common.{inl}
-use Rattle.mach_fat.specs.declared.refusal.MakeRefusal.TheVariants.{OfAll}
+use Rattle.mach_fat_writer.specs.declared.refusal.MakeRefusal.TheVariants.{OfAll}
 use Rattle.machfat.proofs.made.run_create.Goals as goal
 
 pub returns-in-Ok-clause-refused : goal.returns-in-Ok-clause-refused

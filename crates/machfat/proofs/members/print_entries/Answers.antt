@@ -1,8 +1,8 @@
 use Rattle.std.proofs.Common.{List, get_or, take, arith, subst, sym}
 use Rattle.std.specs.Prelude.{◌&&◌}
 use Rattle.std.proofs.lemmas.List.{length-take-le, take_more}
-use Rattle.mach_fat.specs.declared.record.EntryRecord.{EntryRecord}
-use Rattle.mach_members.specs.Written.{WritesWhole}
+use Rattle.mach_fat_writer.specs.declared.entry_record.EntryRecord.{EntryRecord}
+use Rattle.machfat.specs.Written.{WritesWhole}
 use Rattle.machfat.specs.Members.{AreEntryLines}
 use Rattle.machfat.proofs.Told.{entry_more, none_told}
 use Rattle.machfat.proofs.members.print_entries.Goals as goal

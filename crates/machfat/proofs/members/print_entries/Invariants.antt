@@ -1,5 +1,5 @@
 use Rattle.std.proofs.Common.{take}
-use Rattle.mach_members.specs.Written.{WritesWhole}
+use Rattle.machfat.specs.Written.{WritesWhole}
 use Rattle.machfat.specs.Members.{AreEntryLines}
 use Rattle.machfat.proofs.members.print_entries.Given as goal
 

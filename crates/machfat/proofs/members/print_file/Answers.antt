@@ -1,7 +1,7 @@
 use Rattle.std.proofs.Common.{List, sym, subst}
-use Rattle.mach_fat.specs.FatTables.{form_of}
-use Rattle.mach_fat.specs.declared.record.EntryRecord.{EntryRecord}
-use Rattle.mach_members.specs.Written.{WritesWhole}
+use Rattle.mach_fat_writer.specs.FatTables.{form_of}
+use Rattle.mach_fat_writer.specs.declared.entry_record.EntryRecord.{EntryRecord}
+use Rattle.machfat.specs.Written.{WritesWhole}
 use Rattle.machfat.specs.Members.{AreEntryLines, of_archive, of_fat_file}
 use Rattle.machfat.proofs.members.print_file.Goals as goal
 

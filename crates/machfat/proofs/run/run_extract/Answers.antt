@@ -1,5 +1,5 @@
 use Rattle.std.proofs.lemmas.Result.{IfErr-at_err}
-use Rattle.mach_fat.specs.Changes.{indexed_entry_in}
+use Rattle.mach_fat_writer.specs.Changes.{indexed_entry_in}
 use Rattle.machfat.specs.Refusals.{Refuses, IsRefusal}
 use Rattle.machfat.proofs.run.run_extract.Goals as goal
 

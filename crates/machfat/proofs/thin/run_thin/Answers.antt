@@ -1,5 +1,5 @@
 use Rattle.std.proofs.lemmas.Result.{IfErr-at_err}
-use Rattle.mach_fat.specs.Changes.{thin_entry_in}
+use Rattle.mach_fat_writer.specs.Changes.{thin_entry_in}
 use Rattle.machfat.specs.Refusals.{IsRefusal, RefusesPlainly}
 use Rattle.machfat.proofs.thin.run_thin.Goals as goal
 

@@ -1,5 +1,5 @@
 use Rattle.mach_base.proofs.Faults.{Stands-in}
-use Rattle.mach_image.specs.OpenImage.{commands_held}
+use Rattle.goblin_mach.specs.OpenImage.{commands_held}
 use Rattle.goblin_mach.specs.View.{of_file}
 use Rattle.machfat.specs.Refusals.{FatFault, in_view}
 use Rattle.machfat.proofs.verify.test_fat.Goals as goal

@@ -3,7 +3,7 @@ use Rattle.std.proofs.lemmas.Bool.{ne_eqb}
 use Rattle.std.specs.Io.Buffered.{writer_contents}
 use Rattle.std.specs.Io.KnownBytes.{Appends}
 use Rattle.mach_base.proofs.Written.{Appends-kept}
-use Rattle.mach_rules.specs.declared.fault.LayoutFault.{LayoutFault}
+use Rattle.mach_layout.specs.declared.fault.LayoutFault.{LayoutFault}
 use Rattle.machfat.specs.Faults.{fault_lines, is_faultless}
 use Rattle.machfat.proofs.verify.verify.Goals as goal
 

@@ -1,7 +1,7 @@
 use Rattle.std.proofs.Common.{ℕ, List, Result, subst}
 use Rattle.std.specs.Prelude.{IfOk}
 use Rattle.mach_base.specs.Fault.{Fault}
-use Rattle.mach_json.specs.JsonArrays.{WritesMember}
+use Rattle.mach_cli.specs.JsonArrays.{WritesMember}
 use Rattle.machfixups.specs.Parts.{parts_seen}
 use Rattle.machfixups.specs.Rows.{fixups_table_seen}
 use Rattle.machfixups.specs.RowsLeft.{rows_of_items}

@@ -2,13 +2,13 @@ use Rattle.std.proofs.Common.{◌∷◌, [], List, Option, map, subst}
 use Rattle.std.proofs.lemmas.Result.{IfOk-weaker}
 use Rattle.std.specs.Prelude.{codes}
 use Rattle.mach_chained.specs.Header.{Fixups}
-use Rattle.mach_binds.specs.BindingsLeft.{opcode_bindings_left}
-use Rattle.mach_streams.specs.RebasesLeft.{opcode_rebases_left}
-use Rattle.mach_streams.specs.WeakBindsLeft.{weak_binds_left}
-use Rattle.mach_image.specs.Fixups.{chained_held}
-use Rattle.mach_image.specs.FixupsLeft.{image_fixups_left}
-use Rattle.mach_json.proofs.Arrays.{list_then, lists_written, one_list}
-use Rattle.mach_json.specs.JsonArrays.{NamedRows, WritesMembers}
+use Rattle.mach_dyld.specs.BindingsLeft.{opcode_bindings_left}
+use Rattle.mach_dyld.specs.RebasesLeft.{opcode_rebases_left}
+use Rattle.mach_dyld.specs.WeakBindsLeft.{weak_binds_left}
+use Rattle.goblin_mach.specs.Fixups.{chained_held}
+use Rattle.goblin_mach.specs.FixupsLeft.{image_fixups_left}
+use Rattle.mach_cli.proofs.Arrays.{list_then, lists_written, one_list}
+use Rattle.mach_cli.specs.JsonArrays.{NamedRows, WritesMembers}
 use Rattle.machfixups.specs.Lists.{PointerLists}
 use Rattle.machfixups.specs.Parts.{parts_seen}
 use Rattle.machfixups.specs.Rows.{row_for_rebase, row_for_binding, row_for_weak, row_for_fixup, fixups_table_seen, shown_picks}

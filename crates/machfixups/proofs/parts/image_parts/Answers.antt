@@ -1,7 +1,7 @@
 use Rattle.std.proofs.Common.{map, refl, ap, ◌∙◌}
 use Rattle.std.proofs.lemmas.Result.{IfOk-weaker}
-use Rattle.mach_segments.specs.Segment.{segment_view}
-use Rattle.mach_image.specs.OpenImage.{segments_held}
+use Rattle.mach_parts.specs.Segment.{segment_view}
+use Rattle.goblin_mach.specs.OpenImage.{segments_held}
 use Rattle.machfixups.specs.Parts.{parts_of}
 use Rattle.machfixups.proofs.parts.image_parts.Goals as goal
 

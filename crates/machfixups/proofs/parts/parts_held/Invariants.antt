@@ -1,5 +1,5 @@
 use Rattle.std.proofs.Common.{◌≡◌, map, take}
-use Rattle.mach_segments.specs.Segment.{segment_view}
+use Rattle.mach_parts.specs.Segment.{segment_view}
 use Rattle.machfixups.specs.Parts.{parts_of, parts_seen}
 use Rattle.machfixups.proofs.parts.parts_held.Given as goal
 

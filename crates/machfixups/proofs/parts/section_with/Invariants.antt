@@ -1,5 +1,5 @@
 use Rattle.std.proofs.Common.{◌≡◌, map, drop}
-use Rattle.mach_segments.specs.SectionItems.{section_and_bytes}
+use Rattle.mach_parts.specs.SectionItems.{section_and_bytes}
 use Rattle.machfixups.specs.Parts.{section_with}
 use Rattle.machfixups.proofs.parts.section_with.Given as goal
 

@@ -1,11 +1,11 @@
 use Rattle.std.proofs.Common.{◌++◌, List, Option, Result, map, refl, subst}
 use Rattle.mach_base.specs.Fault.{Fault}
 use Rattle.mach_chained.specs.Header.{Fixups}
-use Rattle.mach_binds.specs.BindingsLeft.{opcode_bindings_left}
-use Rattle.mach_streams.specs.RebasesLeft.{opcode_rebases_left}
-use Rattle.mach_streams.specs.WeakBindsLeft.{weak_binds_left}
-use Rattle.mach_image.specs.Fixups.{chained_held}
-use Rattle.mach_image.specs.FixupsLeft.{image_fixups_left}
+use Rattle.mach_dyld.specs.BindingsLeft.{opcode_bindings_left}
+use Rattle.mach_dyld.specs.RebasesLeft.{opcode_rebases_left}
+use Rattle.mach_dyld.specs.WeakBindsLeft.{weak_binds_left}
+use Rattle.goblin_mach.specs.Fixups.{chained_held}
+use Rattle.goblin_mach.specs.FixupsLeft.{image_fixups_left}
 use Rattle.machfixups.specs.Lines.{WritesFirstRows}
 use Rattle.machfixups.specs.Lists.{PointerLists}
 use Rattle.machfixups.specs.Parts.{parts_seen}

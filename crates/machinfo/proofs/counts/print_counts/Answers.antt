@@ -2,7 +2,7 @@ use Rattle.std.proofs.Common.{[], List, subst}
 use Rattle.std.proofs.lemmas.List.{take_all}
 use Rattle.mach_base.proofs.Written.{Appends-none, Appends-both}
 use Rattle.machinfo.specs.Counts.{AreCounts, no_counts}
-use Rattle.mach_lists.specs.declared.word.Word.{Word}
+use Rattle.machinfo.specs.declared.word.Word.{Word}
 use Rattle.machinfo.proofs.Counted.{one_more_count}
 use Rattle.machinfo.proofs.counts.print_counts.Goals as goal
 

@@ -1,6 +1,6 @@
 use Rattle.std.proofs.Common.{ℕ, List, take}
 use Rattle.std.specs.Io.KnownBytes.{Appends}
-use Rattle.mach_image.specs.OpenImage.{IsImage}
+use Rattle.goblin_mach.specs.OpenImage.{IsImage}
 use Rattle.machinfo.specs.Counts.{AreCounts}
 use Rattle.machinfo.proofs.counts.print_counts.Given as goal
 

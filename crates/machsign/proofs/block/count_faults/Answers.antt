@@ -1,5 +1,5 @@
 use Rattle.std.proofs.Common.{◌≡◌, suc, length, ap, arith}
-use Rattle.mach_sign.specs.CodeFaultViews.{code_faults_left}
+use Rattle.mach_signature.specs.CodeFaultViews.{code_faults_left}
 use Rattle.machsign.proofs.block.count_faults.Goals as goal
 
 pub overflow_add-count : goal.overflow_add-count

@@ -1,5 +1,5 @@
 use Rattle.std.proofs.Common.{◌≡◌, ◌+◌, length}
-use Rattle.mach_sign.specs.CodeFaultViews.{code_faults_left}
+use Rattle.mach_signature.specs.CodeFaultViews.{code_faults_left}
 use Rattle.machsign.proofs.block.count_faults.Given as goal
 
 abbrev pub invariant-faults : goal.invariant-faults

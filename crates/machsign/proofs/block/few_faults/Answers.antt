@@ -1,6 +1,6 @@
 use Rattle.std.proofs.Common.{ℕ, ◌<◌, ◌^◌, List, length, sym, subst}
-use Rattle.mach_sign.specs.DirectoryViews.{directory_view}
-use Rattle.mach_sign.specs.declared.fault.CodeFault.{CodeFault}
+use Rattle.mach_signature.specs.DirectoryViews.{directory_view}
+use Rattle.mach_signature.specs.declared.fault.CodeFault.{CodeFault}
 use Rattle.machsign.proofs.Few.{few_code_faults}
 use Rattle.machsign.proofs.block.few_faults.Goals as goal
 

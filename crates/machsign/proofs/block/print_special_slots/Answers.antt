@@ -1,6 +1,6 @@
 use Rattle.std.proofs.Common.{◌+◌}
-use Rattle.mach_sign.specs.DirectoryViews.{directory_view}
-use Rattle.mach_sign.specs.FaultViews.{signed_view}
+use Rattle.mach_signature.specs.DirectoryViews.{directory_view}
+use Rattle.mach_signature.specs.FaultViews.{signed_view}
 use Rattle.machsign.specs.Blocks.{special_line}
 use Rattle.machsign.proofs.Written.{number_more}
 use Rattle.machsign.proofs.block.print_special_slots.Goals as goal

@@ -1,8 +1,8 @@
 use Rattle.std.proofs.Common.{◌+◌}
 use Rattle.std.specs.Io.KnownBytes.{Appends}
 use Rattle.std.specs.List.{flat_map, range_with_len}
-use Rattle.mach_sign.specs.DirectoryViews.{directory_view}
-use Rattle.mach_sign.specs.FaultViews.{signed_view}
+use Rattle.mach_signature.specs.DirectoryViews.{directory_view}
+use Rattle.mach_signature.specs.FaultViews.{signed_view}
 use Rattle.machsign.specs.Blocks.{special_line}
 use Rattle.machsign.proofs.block.print_special_slots.Given as goal
 

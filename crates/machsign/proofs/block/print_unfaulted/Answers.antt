@@ -4,8 +4,8 @@ use Rattle.std.specs.Io.KnownBytes.{Appends}
 use Rattle.mach_base.specs.Fault.{Fault}
 use Rattle.mach_base.specs.Items.{read_as}
 use Rattle.mach_base.proofs.ItemLists.{read_as-Reads}
-use Rattle.mach_sign.specs.DirectoryViews.{slot_read, directory_view}
-use Rattle.mach_sign.specs.Directories.{special_slot_of}
+use Rattle.mach_signature.specs.DirectoryViews.{slot_read, directory_view}
+use Rattle.mach_signature.specs.Directories.{special_slot_of}
 use Rattle.machsign.specs.Blocks.{sealed_line}
 use Rattle.machsign.proofs.block.print_unfaulted.Goals as goal
 

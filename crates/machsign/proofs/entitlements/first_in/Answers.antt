@@ -1,6 +1,6 @@
 use Rattle.std.proofs.Common.{List, Some, None, sym, subst}
-use Rattle.mach_input.specs.Items.{ItemView}
-use Rattle.mach_input.specs.ItemsLeft.{input_item_read, input_items_left}
+use Rattle.goblin_mach.specs.Items.{ItemView}
+use Rattle.goblin_mach.specs.ItemsLeft.{input_item_read, input_items_left}
 use Rattle.machsign.specs.Entitlements.{EntitlesItems, first_entitles, later_entitles, none_entitles}
 use Rattle.machsign.proofs.entitlements.first_in.Goals as goal
 

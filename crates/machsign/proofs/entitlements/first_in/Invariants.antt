@@ -1,6 +1,6 @@
 use Rattle.std.proofs.Common.{ℕ, List, Option}
-use Rattle.mach_input.specs.Items.{items_in}
-use Rattle.mach_input.specs.ItemsLeft.{input_items_left}
+use Rattle.goblin_mach.specs.Items.{items_in}
+use Rattle.goblin_mach.specs.ItemsLeft.{input_items_left}
 use Rattle.machsign.specs.Entitlements.{EntitlesItems}
 use Rattle.machsign.proofs.entitlements.first_in.Given as goal
 

@@ -1,5 +1,5 @@
 use Rattle.std.proofs.Common.{Option, subst, sym}
-use Rattle.mach_input.specs.declared.item.EntryCpu.{EntryCpu}
+use Rattle.goblin_mach.specs.declared.item.EntryCpu.{EntryCpu}
 use Rattle.machsign.proofs.Opened.{taken_of}
 use Rattle.machsign.specs.Entitlements.{IsAskedImage}
 use Rattle.machsign.proofs.entitlements.is_asked.Goals as goal

@@ -1,8 +1,8 @@
 use Rattle.std.proofs.Common.{Option, ℕ, List, Bool, sym, subst}
 use Rattle.std.proofs.lemmas.Result.{IfOk-weaker}
-use Rattle.mach_image.specs.Image.{ImageFault}
-use Rattle.mach_input.specs.Items.{content_bytes, content_view}
-use Rattle.mach_sign.specs.DirectoryViews.{slot_read}
+use Rattle.goblin_mach.specs.Image.{ImageFault}
+use Rattle.goblin_mach.specs.Items.{content_bytes, content_view}
+use Rattle.mach_signature.specs.DirectoryViews.{slot_read}
 use Rattle.machsign.proofs.Opened.{told_of}
 use Rattle.machsign.specs.Entitlements.{EntitlesContent, IsAskedImage, asked_entitles, other_entitles, refusal_entitles}
 use Rattle.machsign.proofs.entitlements.of_content.Goals as goal

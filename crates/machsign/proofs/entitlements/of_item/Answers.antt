@@ -4,10 +4,10 @@ use Rattle.std.specs.Prelude.{not}
 use Rattle.std.proofs.lemmas.Result.{IfOk-weaker}
 use Rattle.mach_base.specs.Fault.{Fault, fault_of}
 use Rattle.mach_base.specs.Items.{read_as}
-use Rattle.mach_input.specs.Items.{ItemView, content_view}
-use Rattle.mach_input.specs.ItemsLeft.{input_item_read}
-use Rattle.mach_show.specs.declared.cpu.Cpu.{Cpu}
-use Rattle.mach_sign.specs.DirectoryViews.{slot_read}
+use Rattle.goblin_mach.specs.Items.{ItemView, content_view}
+use Rattle.goblin_mach.specs.ItemsLeft.{input_item_read}
+use Rattle.mach_cli.specs.declared.cpu.Cpu.{Cpu}
+use Rattle.mach_signature.specs.DirectoryViews.{slot_read}
 use Rattle.machsign.specs.Entitlements.{EntitlesItem, content_entitles, fault_entitles}
 use Rattle.machsign.proofs.entitlements.of_item.Goals as goal
 

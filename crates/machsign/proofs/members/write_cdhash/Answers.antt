@@ -2,9 +2,9 @@ use Rattle.std.proofs.Common.{ℕ, List, subst}
 use Rattle.std.proofs.lemmas.Result.{on_ok_weaker}
 use Rattle.std.specs.Io.KnownBytes.{Appends}
 use Rattle.std.specs.Prelude.{codes}
-use Rattle.mach_sign.specs.Directories.{cdhash_of}
-use Rattle.mach_sign.specs.DirectoryViews.{directory_view}
-use Rattle.mach_sign_text.specs.Names.{bytes_text}
+use Rattle.mach_signature.specs.Directories.{cdhash_of}
+use Rattle.mach_signature.specs.DirectoryViews.{directory_view}
+use Rattle.mach_cli.specs.SignatureNames.{bytes_text}
 use Rattle.machsign.proofs.Written.{three}
 use Rattle.machsign.proofs.members.write_cdhash.Goals as goal
 

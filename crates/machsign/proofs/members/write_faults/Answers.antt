@@ -2,12 +2,12 @@ use Rattle.std.proofs.Common.{◌≡◌, [], ◌∷◌, ◌++◌, ◌∙◌, ℕ
 use Rattle.std.proofs.lemmas.List.{append-nil, append_assoc, map-append}
 use Rattle.std.specs.Io.KnownBytes.{Appends}
 use Rattle.mach_base.proofs.Written.{Appends-none}
-use Rattle.mach_json.proofs.Arrays.{element_written, some_more}
-use Rattle.mach_json.proofs.Arrays as arrays
-use Rattle.mach_json.specs.JsonArrays.{with_commas}
-use Rattle.mach_sign.specs.AsSigned.{SignatureFaultSeen}
-use Rattle.mach_sign.specs.FaultViews.{signature_fault_view, signature_faults_left}
-use Rattle.mach_sign.specs.declared.fault.SignatureFault.{SignatureFault}
+use Rattle.mach_cli.proofs.Arrays.{element_written, some_more}
+use Rattle.mach_cli.proofs.Arrays as arrays
+use Rattle.mach_cli.specs.JsonArrays.{with_commas}
+use Rattle.mach_signature.specs.AsSigned.{SignatureFaultSeen}
+use Rattle.mach_signature.specs.FaultViews.{signature_fault_view, signature_faults_left}
+use Rattle.mach_signature.specs.declared.fault.SignatureFault.{SignatureFault}
 use Rattle.machsign.specs.JsonSignature.{fault_string}
 use Rattle.machsign.specs.Signatures.{has_none}
 use Rattle.machsign.proofs.members.write_faults.Goals as goal

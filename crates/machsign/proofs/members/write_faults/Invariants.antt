@@ -1,9 +1,9 @@
 use Rattle.std.proofs.Common.{◌≡◌, ◌++◌, List, map}
 use Rattle.std.specs.Io.KnownBytes.{Appends}
-use Rattle.mach_json.proofs.Arrays.{has_none}
-use Rattle.mach_json.specs.JsonArrays.{with_commas}
-use Rattle.mach_sign.specs.FaultViews.{signature_fault_view, signature_faults_left}
-use Rattle.mach_sign.specs.declared.fault.SignatureFault.{SignatureFault}
+use Rattle.mach_cli.proofs.Arrays.{has_none}
+use Rattle.mach_cli.specs.JsonArrays.{with_commas}
+use Rattle.mach_signature.specs.FaultViews.{signature_fault_view, signature_faults_left}
+use Rattle.mach_signature.specs.declared.fault.SignatureFault.{SignatureFault}
 use Rattle.machsign.specs.JsonSignature.{fault_string}
 use Rattle.machsign.proofs.members.write_faults.Given as goal
 

@@ -5,10 +5,10 @@ use Rattle.std.proofs.lemmas.Result.{IfOk-weaker}
 use Rattle.mach_base.proofs.Written.{Appends-both}
 use Rattle.mach_base.specs.Fault.{Fault}
 use Rattle.mach_base.specs.Words.{words_of}
-use Rattle.mach_sign.specs.AsSigned.{SignedImage}
-use Rattle.mach_sign.specs.FaultViews.{signed_view}
-use Rattle.mach_image.specs.OpenImage.{bytes_held, commands_held, segments_held}
-use Rattle.mach_image.specs.declared.macho.MachO.{MachO}
+use Rattle.mach_signature.specs.AsSigned.{SignedImage}
+use Rattle.mach_signature.specs.FaultViews.{signed_view}
+use Rattle.goblin_mach.specs.OpenImage.{bytes_held, commands_held, segments_held}
+use Rattle.goblin_mach.specs.declared.macho.MachO.{MachO}
 use Rattle.machsign.specs.ImageLines.{image_signed}
 use Rattle.machsign.specs.JsonSignature.{refused_object, IsSignatureObject, unsigned_object, unreadable_object, signed_object, WritesSignatureMembers}
 use Rattle.machsign.proofs.members.write_members.Goals as goal

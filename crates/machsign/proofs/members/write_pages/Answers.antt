@@ -1,8 +1,8 @@
 use Rattle.std.proofs.Common.{ℕ, subst}
 use Rattle.std.specs.Prelude.{OnOk}
 use Rattle.std.specs.Io.KnownBytes.{Appends}
-use Rattle.mach_sign.specs.DirectoryViews.{directory_view}
-use Rattle.mach_sign.specs.Directories.{code_limit_of}
+use Rattle.mach_signature.specs.DirectoryViews.{directory_view}
+use Rattle.mach_signature.specs.Directories.{code_limit_of}
 use Rattle.machsign.specs.JsonSignature.{covered_members}
 use Rattle.machsign.proofs.members.write_pages.Goals as goal
 

@@ -1,6 +1,6 @@
 use Rattle.std.proofs.Common.{List, refl, subst}
 use Rattle.mach_base.proofs.ItemLists.{read_as-Reads}
-use Rattle.mach_sign.specs.AsSigned.{SignatureFaultSeen}
+use Rattle.mach_signature.specs.AsSigned.{SignatureFaultSeen}
 use Rattle.machsign.specs.JsonSignature.{before_faults, behind_faults, AreFaultStrings}
 use Rattle.machsign.proofs.Written.{three}
 use Rattle.machsign.proofs.members.write_signed.Goals as goal

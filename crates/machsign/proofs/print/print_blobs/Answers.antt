@@ -1,7 +1,7 @@
 use Rattle.std.proofs.Common.{[], ◌∷◌, ◌++◌, ◌∙◌, sym, ap}
 use Rattle.std.proofs.lemmas.List.{append_assoc}
-use Rattle.mach_sign.specs.SignViews.{signature_view, blob_read, blobs_left}
-use Rattle.mach_sign.specs.SuperBlob.{blobs_of}
+use Rattle.mach_signature.specs.SignViews.{signature_view, blob_read, blobs_left}
+use Rattle.mach_signature.specs.SuperBlob.{blobs_of}
 use Rattle.machsign.specs.Signatures.{blob_line}
 use Rattle.machsign.proofs.Written.{no_parts, part_more, all_given}
 use Rattle.machsign.proofs.print.print_blobs.Goals as goal

@@ -2,8 +2,8 @@ use Rattle.std.proofs.Common.{◌≡◌, ◌++◌, List, Result}
 use Rattle.std.specs.Io.KnownBytes.{Appends}
 use Rattle.std.specs.List.{flat_map}
 use Rattle.mach_base.specs.Fault.{Fault}
-use Rattle.mach_sign.specs.SignViews.{signature_view, blobs_left}
-use Rattle.mach_sign.specs.SuperBlob.{BlobThere, blobs_of}
+use Rattle.mach_signature.specs.SignViews.{signature_view, blobs_left}
+use Rattle.mach_signature.specs.SuperBlob.{BlobThere, blobs_of}
 use Rattle.machsign.specs.Signatures.{blob_line}
 use Rattle.machsign.proofs.print.print_blobs.Given as goal
 

@@ -1,9 +1,9 @@
 use Rattle.std.proofs.Common.{[], ◌∷◌, ◌++◌, ◌∙◌, sym, ap}
 use Rattle.std.proofs.lemmas.List.{append_assoc}
-use Rattle.mach_sign.specs.Chosen.{directories_of}
-use Rattle.mach_sign.specs.ChosenViews.{directories_left, slot_directory_read}
-use Rattle.mach_sign.specs.FaultViews.{signed_view}
-use Rattle.mach_sign.specs.SignViews.{signature_view}
+use Rattle.mach_signature.specs.Chosen.{directories_of}
+use Rattle.mach_signature.specs.ChosenViews.{directories_left, slot_directory_read}
+use Rattle.mach_signature.specs.FaultViews.{signed_view}
+use Rattle.mach_signature.specs.SignViews.{signature_view}
 use Rattle.machsign.specs.Blocks.{slot_directory_lines}
 use Rattle.machsign.proofs.Written.{no_parts, part_more, all_given}
 use Rattle.machsign.proofs.print.print_each_directory.Goals as goal

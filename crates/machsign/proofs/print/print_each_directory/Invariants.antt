@@ -1,10 +1,10 @@
 use Rattle.std.proofs.Common.{◌≡◌, ◌++◌, List}
 use Rattle.std.specs.Io.KnownBytes.{Appends}
 use Rattle.std.specs.List.{flat_map}
-use Rattle.mach_sign.specs.Chosen.{SlotDirectory, directories_of}
-use Rattle.mach_sign.specs.ChosenViews.{directories_left}
-use Rattle.mach_sign.specs.FaultViews.{signed_view}
-use Rattle.mach_sign.specs.SignViews.{signature_view}
+use Rattle.mach_signature.specs.Chosen.{SlotDirectory, directories_of}
+use Rattle.mach_signature.specs.ChosenViews.{directories_left}
+use Rattle.mach_signature.specs.FaultViews.{signed_view}
+use Rattle.mach_signature.specs.SignViews.{signature_view}
 use Rattle.machsign.specs.Blocks.{slot_directory_lines}
 use Rattle.machsign.proofs.print.print_each_directory.Given as goal
 

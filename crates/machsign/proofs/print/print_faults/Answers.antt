@@ -1,8 +1,8 @@
 use Rattle.std.proofs.Common.{[], ◌∷◌, ◌++◌, ◌∙◌, List, refl, sym, ap, subst}
 use Rattle.std.proofs.lemmas.List.{append-nil, append_assoc}
-use Rattle.mach_sign.specs.AsSigned.{SignatureFaultSeen}
-use Rattle.mach_sign.specs.FaultViews.{signature_fault_view, signature_faults_left}
-use Rattle.mach_show.proofs.Lines.{no_lines, line_more}
+use Rattle.mach_signature.specs.AsSigned.{SignatureFaultSeen}
+use Rattle.mach_signature.specs.FaultViews.{signature_fault_view, signature_faults_left}
+use Rattle.mach_cli.proofs.Lines.{no_lines, line_more}
 use Rattle.machsign.specs.Signatures.{fault_line, WritesFaults}
 use Rattle.machsign.proofs.Whole.{has_none-more}
 use Rattle.machsign.proofs.print.print_faults.Goals as goal

@@ -1,7 +1,7 @@
 use Rattle.std.proofs.Common.{◌≡◌, ◌++◌, List}
-use Rattle.mach_sign.specs.AsSigned.{SignatureFaultSeen}
-use Rattle.mach_sign.specs.FaultViews.{signature_fault_view, signature_faults_left}
-use Rattle.mach_show.specs.Lines.{WritesLines}
+use Rattle.mach_signature.specs.AsSigned.{SignatureFaultSeen}
+use Rattle.mach_signature.specs.FaultViews.{signature_fault_view, signature_faults_left}
+use Rattle.mach_cli.specs.Lines.{WritesLines}
 use Rattle.machsign.specs.Signatures.{fault_line, has_none}
 use Rattle.machsign.proofs.print.print_faults.Given as goal
 

@@ -3,10 +3,10 @@ use Rattle.std.specs.Prelude.{codes}
 use Rattle.std.proofs.lemmas.Result.{IfOk-weaker}
 use Rattle.mach_base.specs.Fault.{Fault}
 use Rattle.mach_base.specs.Words.{words_of}
-use Rattle.mach_sign.specs.AsSigned.{SignedImage}
-use Rattle.mach_sign.specs.FaultViews.{signed_view}
-use Rattle.mach_image.specs.OpenImage.{bytes_held, commands_held, segments_held}
-use Rattle.mach_image.specs.declared.macho.MachO.{MachO}
+use Rattle.mach_signature.specs.AsSigned.{SignedImage}
+use Rattle.mach_signature.specs.FaultViews.{signed_view}
+use Rattle.goblin_mach.specs.OpenImage.{bytes_held, commands_held, segments_held}
+use Rattle.goblin_mach.specs.declared.macho.MachO.{MachO}
 use Rattle.machsign.specs.ImageLines.{image_signed}
 use Rattle.machsign.specs.Signatures.{directories_lines, blobs_lines, AreSignatureLines, unsigned, unreadable, signed}
 use Rattle.machsign.proofs.print.print_signature.Goals as goal

@@ -1,7 +1,7 @@
 use Rattle.std.proofs.Common.{List, subst}
 use Rattle.std.proofs.lemmas.Result.{IfOk-weaker}
 use Rattle.mach_base.proofs.Written.{Appends-both}
-use Rattle.mach_sign.specs.AsSigned.{SignatureFaultSeen}
+use Rattle.mach_signature.specs.AsSigned.{SignatureFaultSeen}
 use Rattle.machsign.specs.Signatures.{AreFaultLines}
 use Rattle.machsign.proofs.print.print_signed.Goals as goal
 

@@ -1,6 +1,6 @@
 use Rattle.std.proofs.Common.{◌++◌, ◌∙◌, ◌≤◌, length, map, take, sym, ap, arith}
 use Rattle.std.proofs.lemmas.List.{append-nil, take_all}
-use Rattle.mach_segments.specs.SectionItems.{sections_left}
+use Rattle.mach_parts.specs.SectionItems.{sections_left}
 use Rattle.machsyms.specs.Letters.{item_section}
 use Rattle.machsyms.proofs.Taken.{take-full}
 use Rattle.machsyms.proofs.letters.add_sections.Goals as goal

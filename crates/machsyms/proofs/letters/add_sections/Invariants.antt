@@ -1,6 +1,6 @@
 use Rattle.std.proofs.Common.{◌≡◌, ◌++◌, ◌≤◌, length, map}
-use Rattle.mach_segments.specs.SectionItems.{sections_left}
-use Rattle.mach_segments.specs.Segment.{segment_view, sections_of}
+use Rattle.mach_parts.specs.SectionItems.{sections_left}
+use Rattle.mach_parts.specs.Segment.{segment_view, sections_of}
 use Rattle.machsyms.specs.Letters.{item_section}
 use Rattle.machsyms.proofs.letters.add_sections.Given as goal
 

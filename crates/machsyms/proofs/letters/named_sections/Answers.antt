@@ -1,6 +1,6 @@
 use Rattle.std.proofs.Common.{map, ap, ◌∙◌}
 use Rattle.std.proofs.lemmas.Result.{IfOk-weaker}
-use Rattle.mach_segments.specs.Segment.{segment_view}
+use Rattle.mach_parts.specs.Segment.{segment_view}
 use Rattle.machsyms.specs.Letters.{named_sections}
 use Rattle.machsyms.proofs.letters.named_sections.Goals as goal
 

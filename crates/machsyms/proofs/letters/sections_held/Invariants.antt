@@ -1,5 +1,5 @@
 use Rattle.std.proofs.Common.{◌≡◌, ◌≤◌, length, map, drop}
-use Rattle.mach_segments.specs.Segment.{segment_view}
+use Rattle.mach_parts.specs.Segment.{segment_view}
 use Rattle.machsyms.specs.Letters.{named_sections}
 use Rattle.machsyms.proofs.Taken.{sections_with}
 use Rattle.machsyms.proofs.letters.sections_held.Given as goal

@@ -1,8 +1,8 @@
 use Rattle.std.proofs.Common.{◌∙◌, sym}
 use Rattle.std.proofs.lemmas.List.{length-map}
 use Rattle.mach_base.proofs.ItemLists.{length-items_from}
-use Rattle.mach_symbols.specs.Symbols.{symbol_at}
-use Rattle.mach_symbols.specs.SymbolViews.{table_of}
+use Rattle.mach_parts.specs.Symbols.{symbol_at}
+use Rattle.mach_parts.specs.SymbolViews.{table_of}
 use Rattle.machsyms.proofs.listed.count_of.Goals as goal
 
 pub returns-in-None : goal.returns-in-None

@@ -1,8 +1,8 @@
 use Rattle.std.proofs.Common.{ℕ, ◌≤◌, List, Result, length, subst, arith}
 use Rattle.mach_base.specs.Fault.{Fault}
-use Rattle.mach_symbols.specs.SymbolViews.{table_of}
-use Rattle.mach_json.proofs.Arrays.{array_of_all}
-use Rattle.mach_json.specs.JsonArrays.{WritesArray}
+use Rattle.mach_parts.specs.SymbolViews.{table_of}
+use Rattle.mach_cli.proofs.Arrays.{array_of_all}
+use Rattle.mach_cli.specs.JsonArrays.{WritesArray}
 use Rattle.machsyms.specs.JsonSymbols.{asked_objects}
 use Rattle.machsyms.specs.Order.{gone_over}
 use Rattle.machsyms.proofs.JsonLists.{asked_few}

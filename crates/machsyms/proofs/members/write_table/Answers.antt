@@ -1,9 +1,9 @@
 use Rattle.std.proofs.Common.{ℕ, ◌-◌, ◌∙◌, ap, subst}
 use Rattle.std.specs.Prelude.{◌==◌}
 use Rattle.std.specs.Io.KnownBytes.{Appends}
-use Rattle.mach_symbols.specs.Symbols.{SymbolTable}
-use Rattle.mach_symbols.specs.SymbolViews.{table_of}
-use Rattle.mach_json.specs.JsonArrays.{WritesAllRows}
+use Rattle.mach_parts.specs.Symbols.{SymbolTable}
+use Rattle.mach_parts.specs.SymbolViews.{table_of}
+use Rattle.mach_cli.specs.JsonArrays.{WritesAllRows}
 use Rattle.machsyms.specs.JsonSymbols.{asked_objects, before_symbols}
 use Rattle.machsyms.specs.Order.{gone_over}
 use Rattle.machsyms.proofs.JsonLists.{table_members}

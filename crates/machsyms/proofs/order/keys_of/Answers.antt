@@ -1,5 +1,5 @@
 use Rattle.std.proofs.Common.{◌∙◌, ◌<◌, ℕ, ap, subst}
-use Rattle.mach_symbols.specs.SymbolViews.{table_of}
+use Rattle.mach_parts.specs.SymbolViews.{table_of}
 use Rattle.machsyms.specs.Order.{symbol_key_of}
 use Rattle.machsyms.proofs.Keys.{keys_none, keys_more}
 use Rattle.machsyms.proofs.order.keys_of.Goals as goal

@@ -1,5 +1,5 @@
 use Rattle.std.proofs.Common.{◌≡◌, ◌++◌, map}
-use Rattle.mach_symbols.specs.SymbolViews.{table_of}
+use Rattle.mach_parts.specs.SymbolViews.{table_of}
 use Rattle.machsyms.specs.Order.{key_view, keys_of_table}
 use Rattle.machsyms.proofs.Keys.{keys_behind}
 use Rattle.machsyms.proofs.order.keys_of.Given as goal

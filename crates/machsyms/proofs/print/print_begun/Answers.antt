@@ -1,7 +1,7 @@
 use Rattle.std.proofs.Common.{[], ◌∷◌, ◌++◌, ◌∙◌, sym, ap}
 use Rattle.std.proofs.lemmas.List.{append_assoc}
-use Rattle.mach_symbols.specs.SymbolViews.{symbol_read, symbols_left}
-use Rattle.mach_show.proofs.Lines.{no_lines, line_more}
+use Rattle.mach_parts.specs.SymbolViews.{symbol_read, symbols_left}
+use Rattle.mach_cli.proofs.Lines.{no_lines, line_more}
 use Rattle.machsyms.specs.Lines.{asked_line}
 use Rattle.machsyms.specs.Setting.{setting_view}
 use Rattle.machsyms.proofs.print.print_begun.Goals as goal

@@ -1,9 +1,9 @@
 use Rattle.std.proofs.Common.{◌≡◌, ◌++◌, ℕ, List, Result}
 use Rattle.mach_base.specs.Fault.{Fault}
-use Rattle.mach_symbols.specs.SymbolViews.{symbol_read, symbols_left, table_of}
-use Rattle.mach_symbols.specs.declared.symbols.nlist.Nlist.{Nlist}
-use Rattle.mach_symbols.specs.Symbols.{symbols_of}
-use Rattle.mach_show.specs.Lines.{WritesLines}
+use Rattle.mach_parts.specs.SymbolViews.{symbol_read, symbols_left, table_of}
+use Rattle.mach_parts.specs.declared.symbols.nlist.Nlist.{Nlist}
+use Rattle.mach_parts.specs.Symbols.{symbols_of}
+use Rattle.mach_cli.specs.Lines.{WritesLines}
 use Rattle.machsyms.specs.Lines.{asked_line}
 use Rattle.machsyms.specs.Setting.{setting_view}
 use Rattle.machsyms.proofs.print.print_begun.Given as goal

@@ -1,5 +1,5 @@
-use Rattle.mach_symbols.specs.SymbolViews.{symbol_read, table_of}
-use Rattle.mach_show.proofs.Lines.{no_lines}
+use Rattle.mach_parts.specs.SymbolViews.{symbol_read, table_of}
+use Rattle.mach_cli.proofs.Lines.{no_lines}
 use Rattle.machsyms.specs.Lines.{asked_line}
 use Rattle.machsyms.specs.Setting.{setting_view}
 use Rattle.machsyms.proofs.Written.{key_more}

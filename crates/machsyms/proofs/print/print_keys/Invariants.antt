@@ -1,6 +1,6 @@
 use Rattle.std.proofs.Common.{take}
-use Rattle.mach_symbols.specs.SymbolViews.{symbol_read, table_of}
-use Rattle.mach_show.specs.Lines.{WritesLines}
+use Rattle.mach_parts.specs.SymbolViews.{symbol_read, table_of}
+use Rattle.mach_cli.specs.Lines.{WritesLines}
 use Rattle.machsyms.specs.Lines.{asked_line}
 use Rattle.machsyms.specs.Order.{symbols_by}
 use Rattle.machsyms.specs.Setting.{setting_view}

@@ -1,9 +1,9 @@
 use Rattle.std.proofs.Common.{ℕ, ◌-◌, ◌∙◌, ap, subst}
 use Rattle.std.specs.Prelude.{◌==◌}
 use Rattle.std.specs.Io.KnownBytes.{Appends}
-use Rattle.mach_symbols.specs.Symbols.{SymbolTable}
-use Rattle.mach_symbols.specs.SymbolViews.{symbol_read, table_of}
-use Rattle.mach_show.specs.Lines.{WritesLines}
+use Rattle.mach_parts.specs.Symbols.{SymbolTable}
+use Rattle.mach_parts.specs.SymbolViews.{symbol_read, table_of}
+use Rattle.mach_cli.specs.Lines.{WritesLines}
 use Rattle.machsyms.specs.Lines.{past_line, asked_line}
 use Rattle.machsyms.specs.Order.{gone_over}
 use Rattle.machsyms.specs.Setting.{setting_view}

@@ -1,5 +1,5 @@
 use Rattle.mach_base.proofs.ItemLists.{length-items_from, slice_get-items}
-use Rattle.mach_arches.specs.ArchForms.{arch_in}
+use Rattle.mach_parts.specs.ArchForms.{arch_in}
 use Rattle.goblin_mach.specs.FatEntry.{arch_entry_in}
 use Rattle.goblin_mach.proofs.fat_file.laws.tables_by_number.Goals as goal
 

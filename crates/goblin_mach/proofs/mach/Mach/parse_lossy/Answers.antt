@@ -1,10 +1,10 @@
 use Rattle.std.proofs.Common.{rules, sym, ◌∙◌, arith}
 use Rattle.mach_base.specs.Fault.{fault_of}
-use Rattle.mach_image.specs.Image.{LossyFault}
+use Rattle.goblin_mach.specs.Image.{LossyFault}
 use Rattle.goblin_mach.specs.File.{MachFault, no_room, of_fat, of_image}
 use Rattle.goblin_mach.proofs.Files.{header-there}
 use Rattle.goblin_mach.proofs.FatMagics.{fat_magic-there, fat_magic-other}
-use Rattle.mach_image.proofs.Exits.{exit_in, exit_reported}
+use Rattle.goblin_mach.proofs.Exits.{exit_in, exit_reported}
 use Rattle.goblin_mach.proofs.mach.Mach.parse_lossy.Goals as goal
 
 pub returns-then-bytes-lt4-clause-refused : goal.returns-then-bytes-lt4-clause-refused

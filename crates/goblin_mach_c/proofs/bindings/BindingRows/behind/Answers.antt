@@ -1,6 +1,6 @@
 use Rattle.std.proofs.Common.{map, refl, ap}
 use Rattle.mach_base.specs.Text.{texts}
-use Rattle.mach_segments.specs.Segment.{segment_view}
+use Rattle.mach_parts.specs.Segment.{segment_view}
 use Rattle.goblin_mach_c.specs.BindingsBehind.{source_of}
 use Rattle.goblin_mach_c.proofs.PlacedBindings.{whole}
 use Rattle.goblin_mach_c.proofs.bindings.BindingRows.behind.Goals as goal

@@ -1,7 +1,7 @@
 use Rattle.std.proofs.Common.{◌++◌, List, Result, ap}
 use Rattle.mach_base.specs.Fault.{Fault}
-use Rattle.mach_binds.specs.Bindings.{upto_fault}
-use Rattle.mach_segments.specs.Bindings.{Binding}
+use Rattle.mach_dyld.specs.Bindings.{upto_fault}
+use Rattle.mach_parts.specs.Bindings.{Binding}
 use Rattle.mach_base.specs.Text.{texts}
 use Rattle.goblin_mach_c.specs.BindingsBehind.{opcode_rows_left}
 use Rattle.goblin_mach_c.specs.FixupsBehind.{fixup_rows_left}

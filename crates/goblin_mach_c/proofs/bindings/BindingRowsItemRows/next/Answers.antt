@@ -1,7 +1,7 @@
 use Rattle.std.proofs.Common.{◌∙◌, ◌∷◌, ℕ, List, Result, Some, Ok, Err, IfOk, sym, ap, subst}
 use Rattle.mach_base.specs.Fault.{Fault, fault_of}
-use Rattle.mach_binds.specs.Bindings.{upto_fault}
-use Rattle.mach_segments.specs.Bindings.{Binding, binding_view}
+use Rattle.mach_dyld.specs.Bindings.{upto_fault}
+use Rattle.mach_parts.specs.Bindings.{Binding, binding_view}
 use Rattle.goblin_mach_c.specs.BindingsBehind.{HasPlacedName, PlacedFirst, all_placed}
 use Rattle.goblin_mach_c.proofs.bindings.BindingRowsItemRows.next.Goals as goal
 

@@ -2,7 +2,7 @@ use Rattle.std.proofs.Common.{◌≡◌, ◌∙◌, ◌∷◌, Option, Some, Non
 use Rattle.mach_base.specs.Fault.{fault_of}
 use Rattle.mach_base.specs.declared.error.Error.{Error}
 use Rattle.mach_chained.specs.Fixups.{Fixup}
-use Rattle.mach_image.specs.FixupsLeft.{told_first}
+use Rattle.goblin_mach.specs.FixupsLeft.{told_first}
 use Rattle.goblin_mach_c.specs.FixupsBehind.{fixup_rows_left}
 use Rattle.goblin_mach_c.proofs.fixups.FixupRowsItemRows.next.Goals as goal
 

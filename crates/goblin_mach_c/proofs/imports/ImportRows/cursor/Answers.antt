@@ -1,5 +1,5 @@
 use Rattle.std.proofs.Common.{◌∙◌, sym, ap, subst}
-use Rattle.mach_binds.specs.Imports.{input_in}
+use Rattle.mach_dyld.specs.Imports.{input_in}
 use Rattle.goblin_mach_c.specs.ImportsBehind.{AreImportRowsOver, imports_in_rows, stream_sites_behind, sites_in_rows, streams_behind}
 use Rattle.goblin_mach_c.proofs.imports.ImportRows.cursor.Goals as goal
 

@@ -1,12 +1,12 @@
 use Rattle.std.proofs.Common.{◌∙◌, ◌∷◌, List, ℕ, Ok, Err, IfOk, ap, sym, subst, slice_get}
 use Rattle.std.specs.Prelude.{Result}
 use Rattle.mach_base.specs.Fault.{Fault, fault_of}
-use Rattle.mach_binds.specs.BindCursors.{IsPlaced, TextStands, placed_read}
-use Rattle.mach_binds.specs.BindLeft.{imports_left}
-use Rattle.mach_binds.specs.BindViews.{import_seen}
-use Rattle.mach_binds.specs.Imports.{Import, input_in}
-use Rattle.mach_binds.specs.SiteCursors.{import_sites_left, site_of}
-use Rattle.mach_binds.specs.Sites.{Site}
+use Rattle.mach_dyld.specs.BindCursors.{IsPlaced, TextStands, placed_read}
+use Rattle.mach_dyld.specs.BindLeft.{imports_left}
+use Rattle.mach_dyld.specs.BindViews.{import_seen}
+use Rattle.mach_dyld.specs.Imports.{Import, input_in}
+use Rattle.mach_dyld.specs.SiteCursors.{import_sites_left, site_of}
+use Rattle.mach_dyld.specs.Sites.{Site}
 use Rattle.goblin_mach_c.specs.ImportsBehind.{AreImportRowsOver, import_rows_left}
 use Rattle.goblin_mach_c.specs.Sited.{sited}
 use Rattle.goblin_mach_c.proofs.imports.ImportRowsItemRows.next.Goals as goal

@@ -1,8 +1,8 @@
 use Rattle.std.proofs.Common.{◌∙◌, ◌∷◌, List, Result, Some, Ok, Err, sym, ap, subst}
 use Rattle.mach_base.specs.Fault.{Fault, fault_of}
-use Rattle.mach_binds.specs.Bindings.{upto_fault}
-use Rattle.mach_streams.specs.Rebases.{Rebase}
-use Rattle.mach_streams.specs.RebasesLeft.{rebase_view}
+use Rattle.mach_dyld.specs.Bindings.{upto_fault}
+use Rattle.mach_dyld.specs.Rebases.{Rebase}
+use Rattle.mach_dyld.specs.RebasesLeft.{rebase_view}
 use Rattle.goblin_mach_c.specs.RebasesBehind.{RebaseFirst, all_rebase_rows_left}
 use Rattle.goblin_mach_c.proofs.rebases.RebaseRowsItemRows.next.Goals as goal
 

@@ -1,9 +1,9 @@
 use Rattle.std.proofs.Common.{◌∙◌, ◌+◌, ap, map, subst, sym, take}
 use Rattle.mach_load.specs.Variants.{command_of}
-use Rattle.mach_tables.specs.FunctionStarts.{starts_behind}
-use Rattle.mach_image.specs.Fixups.{base_held}
-use Rattle.mach_image.specs.OpenImage.{bytes_held, commands_held}
-use Rattle.mach_image.specs.Tables.{AreStartsAt, starts_place_in}
+use Rattle.mach_load.specs.FunctionStarts.{starts_behind}
+use Rattle.goblin_mach.specs.Fixups.{base_held}
+use Rattle.goblin_mach.specs.OpenImage.{bytes_held, commands_held}
+use Rattle.goblin_mach.specs.Tables.{AreStartsAt, starts_place_in}
 use Rattle.goblin_mach_c.specs.Stage.{stage_of}
 use Rattle.goblin_mach_c.specs.StartsBehind.{AreStartsAtStage, start_rows_left}
 use Rattle.goblin_mach_c.proofs.StartPlaces.{all_from_first, none_at_stage}

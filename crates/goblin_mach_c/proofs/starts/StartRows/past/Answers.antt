@@ -1,5 +1,5 @@
 use Rattle.std.proofs.Common.{◌+◌, arith}
-use Rattle.mach_tables.proofs.StartsRead.{none_left}
+use Rattle.mach_load.proofs.StartsRead.{none_left}
 use Rattle.goblin_mach_c.proofs.starts.StartRows.past.Goals as goal
 
 pub returns-clause-left : goal.returns-clause-left

@@ -1,6 +1,6 @@
 use Rattle.std.proofs.Common.{Ok, Err, ap, ◌∙◌, arith}
 use Rattle.mach_base.specs.Fault.{fault_of}
-use Rattle.mach_tables.proofs.StartsRead.{none_left, first_left, end_left, fault_left}
+use Rattle.mach_load.proofs.StartsRead.{none_left, first_left, end_left, fault_left}
 use Rattle.goblin_mach_c.proofs.starts.StartRowsItemRows.next.Goals as goal
 
 pub returns-then-self-clause-says : goal.returns-then-self-clause-says

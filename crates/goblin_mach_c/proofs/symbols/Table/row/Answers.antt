@@ -1,7 +1,7 @@
 use Rattle.std.proofs.Common.{◌≡◌, ◌∙◌, ℕ, List, Result, Ok, length, ap, subst, sym}
 use Rattle.mach_base.specs.Fault.{Fault}
-use Rattle.mach_symbols.specs.Symbols.{symbol_at}
-use Rattle.mach_symbols.specs.declared.symbols.nlist.Nlist.{Nlist}
+use Rattle.mach_parts.specs.Symbols.{symbol_at}
+use Rattle.mach_parts.specs.declared.symbols.nlist.Nlist.{Nlist}
 use Rattle.goblin_mach_c.specs.SymbolRows.{SaysSymbol, symbol_row, symbol_table_in}
 use Rattle.goblin_mach_c.proofs.SymbolTexts.{named_at, row_says}
 use Rattle.goblin_mach_c.proofs.symbols.Table.row.Goals as goal

@@ -1,5 +1,5 @@
 use Rattle.std.proofs.Common.{◌∙◌, sym, ap, subst}
-use Rattle.mach_streams.specs.Cut.{cut_range}
+use Rattle.mach_dyld.specs.Cut.{cut_range}
 use Rattle.goblin_mach_c.specs.WeakBindsBehind.{IsOverWeak, weak_behind, weak_input, weak_left_by, weak_sites_by, weak_sites_of}
 use Rattle.goblin_mach_c.proofs.weak_binds.WeakRows.cursor.Goals as goal
 

@@ -1,13 +1,13 @@
 use Rattle.std.proofs.Common.{◌∙◌, ◌∷◌, ℕ, List, Option, Ok, Err, IfOk, ap, sym, subst}
 use Rattle.std.specs.Prelude.{Result}
 use Rattle.mach_base.specs.Fault.{Fault, fault_of}
-use Rattle.mach_binds.specs.BindCursors.{TextStands}
-use Rattle.mach_binds.specs.Sites.{Site}
-use Rattle.mach_streams.specs.Cut.{cut_range}
-use Rattle.mach_streams.specs.WeakBinds.{WeakBind}
-use Rattle.mach_streams.specs.WeakBindsLeft.{weak_bind_view}
-use Rattle.mach_cursors.specs.WeakCursors.{name_of_weak, placed_weak_read, weak_sites_left, weak_walk_left}
-use Rattle.mach_cursors.specs.declared.weak_binds.WeakBindWalk.{WeakBindWalk}
+use Rattle.mach_dyld.specs.BindCursors.{TextStands}
+use Rattle.mach_dyld.specs.Sites.{Site}
+use Rattle.mach_dyld.specs.Cut.{cut_range}
+use Rattle.mach_dyld.specs.WeakBinds.{WeakBind}
+use Rattle.mach_dyld.specs.WeakBindsLeft.{weak_bind_view}
+use Rattle.mach_c_places.specs.WeakCursors.{name_of_weak, placed_weak_read, weak_sites_left, weak_walk_left}
+use Rattle.mach_c_places.specs.declared.weak_binds.WeakBindWalk.{WeakBindWalk}
 use Rattle.goblin_mach_c.specs.BindingPlaces.{places_of}
 use Rattle.goblin_mach_c.specs.Sited.{placed}
 use Rattle.goblin_mach_c.specs.WeakBindsBehind.{IsOverWeak, weak_input, weak_left_by, weak_sites_by}

@@ -3,7 +3,7 @@ use Rattle.mach_base.specs.Fault.{fault_of}
 use Rattle.mach_chained.specs.WalkViews.{fixup_input_of, fixup_view, fixup_read}
 use Rattle.mach_chained.specs.FixupsLeft.{fixups_left}
 use Rattle.mach_chained.specs.Bindings.{binding_in}
-use Rattle.mach_segments.specs.Bindings.{binding_view, binding_read}
+use Rattle.mach_parts.specs.Bindings.{binding_view, binding_read}
 use Rattle.mach_base.specs.Text.{texts}
 use Rattle.mach_chained.specs.BindingViews.{chained_bindings_left, pointers_left}
 use Rattle.mach_chained.proofs.BindingsLeft.{on_bindings, off_bindings, before_others, on_pointers, off_pointers}

@@ -3,7 +3,7 @@ use Rattle.mach_base.specs.Fault.{fault_of}
 use Rattle.mach_chained.specs.Chained.{PlacedFixup, fixup_items}
 use Rattle.mach_chained.specs.Bindings.{AreBindingItems}
 use Rattle.mach_chained.specs.WalkViews.{fixup_input_in}
-use Rattle.mach_segments.specs.Bindings.{binding_read}
+use Rattle.mach_parts.specs.Bindings.{binding_read}
 use Rattle.mach_base.specs.Text.{texts}
 use Rattle.mach_chained.specs.BindingViews.{bindings_seen, chained_bindings_left}
 use Rattle.mach_chained.proofs.Chained.{one_list}

@@ -1,5 +1,5 @@
 use Rattle.std.proofs.Common.{◌≡◌, ◌+◌, ℕ, length}
-use Rattle.mach_binds.specs.BindLeft.{imports_left}
+use Rattle.mach_dyld.specs.BindLeft.{imports_left}
 use Rattle.machbench.specs.Imports.{Counts}
 use Rattle.machbench.proofs.calls.Work.count.Given as goal
 

@@ -1,5 +1,5 @@
 use Rattle.std.proofs.Common.{length, refl}
-use Rattle.mach_binds.specs.BindLeft.{imports_left}
+use Rattle.mach_dyld.specs.BindLeft.{imports_left}
 use Rattle.machbench.specs.Imports.{HasImportCount}
 use Rattle.machbench.proofs.calls.Work.count_imports.Goals as goal
 

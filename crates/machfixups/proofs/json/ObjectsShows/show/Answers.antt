@@ -1,7 +1,7 @@
 use Rattle.std.proofs.Common.{◌∙◌, List, ap, subst}
 use Rattle.mach_base.proofs.Written.{Appends-both}
-use Rattle.mach_image.specs.OpenImage.{commands_held}
-use Rattle.mach_json.specs.JsonArrays.{AreListMembers}
+use Rattle.goblin_mach.specs.OpenImage.{commands_held}
+use Rattle.mach_cli.specs.JsonArrays.{AreListMembers}
 use Rattle.machfixups.specs.JsonRows.{pointer_members}
 use Rattle.machfixups.specs.Parts.{Part, parts_seen}
 use Rattle.machfixups.specs.Rows.{readable_table}

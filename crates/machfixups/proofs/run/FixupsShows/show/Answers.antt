@@ -1,6 +1,6 @@
 use Rattle.std.proofs.Common.{◌∙◌, List, ap, subst}
 use Rattle.mach_base.proofs.Written.{Appends-both}
-use Rattle.mach_image.specs.OpenImage.{commands_held}
+use Rattle.goblin_mach.specs.OpenImage.{commands_held}
 use Rattle.machfixups.specs.Lines.{AreLinesTo}
 use Rattle.machfixups.specs.Parts.{Part, parts_seen}
 use Rattle.machfixups.specs.Rows.{rows_in_order, readable_table}

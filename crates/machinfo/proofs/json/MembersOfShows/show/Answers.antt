@@ -1,6 +1,6 @@
 use Rattle.std.proofs.Common.{refl}
 use Rattle.mach_base.proofs.Written.{Appends-both}
-use Rattle.mach_image.specs.OpenImage.{commands_held}
+use Rattle.goblin_mach.specs.OpenImage.{commands_held}
 use Rattle.machinfo.proofs.json.MembersOfShows.show.Goals as goal
 
 pub returns-clause-shown : goal.returns-clause-shown

@@ -1,11 +1,11 @@
 use Rattle.std.proofs.Common.{[], ◌∷◌, List, ℕ, subst}
 use Rattle.mach_base.proofs.Written.{Appends-both}
-use Rattle.mach_image.specs.OpenImage.{commands_held}
-use Rattle.mach_json.proofs.Arrays.{lists_written, one_list}
-use Rattle.mach_json.specs.JsonArrays.{NamedRows, WritesMember}
-use Rattle.mach_lists.specs.RowObjects.{row_objects}
-use Rattle.mach_lists.specs.Rows.{list_rows_left}
-use Rattle.mach_lists.specs.Words.{spelling_of}
+use Rattle.goblin_mach.specs.OpenImage.{commands_held}
+use Rattle.mach_cli.proofs.Arrays.{lists_written, one_list}
+use Rattle.mach_cli.specs.JsonArrays.{NamedRows, WritesMember}
+use Rattle.machinfo.specs.RowObjects.{row_objects}
+use Rattle.machinfo.specs.Rows.{list_rows_left}
+use Rattle.machinfo.specs.Words.{spelling_of}
 use Rattle.machinfo.proofs.json.ObjectsOfShows.show.Goals as goal
 
 pub returns-clause-shown : goal.returns-clause-shown

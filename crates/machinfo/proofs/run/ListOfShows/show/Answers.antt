@@ -1,6 +1,6 @@
 use Rattle.mach_base.proofs.Written.{Appends-both}
-use Rattle.mach_image.specs.OpenImage.{commands_held}
-use Rattle.mach_lists.specs.Rows.{list_rows_left}
+use Rattle.goblin_mach.specs.OpenImage.{commands_held}
+use Rattle.machinfo.specs.Rows.{list_rows_left}
 use Rattle.machinfo.proofs.run.ListOfShows.show.Goals as goal
 
 pub returns-clause-shown : goal.returns-clause-shown

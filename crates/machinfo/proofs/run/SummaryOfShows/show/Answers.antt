@@ -1,8 +1,8 @@
 use Rattle.std.proofs.Common.{refl}
 use Rattle.mach_base.proofs.Written.{Appends-both}
-use Rattle.mach_image.specs.OpenImage.{bytes_held, commands_held}
-use Rattle.mach_signed.proofs.SignedFacts.{directory_is}
-use Rattle.mach_signed.specs.SignedImages.{image_directory}
+use Rattle.goblin_mach.specs.OpenImage.{bytes_held, commands_held}
+use Rattle.mach_signature.proofs.SignedFacts.{directory_is}
+use Rattle.mach_signature.specs.SignedImages.{image_directory}
 use Rattle.machinfo.proofs.run.SummaryOfShows.show.Goals as goal
 
 pub returns-clause-shown : goal.returns-clause-shown

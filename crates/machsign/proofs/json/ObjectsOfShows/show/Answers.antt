@@ -1,5 +1,5 @@
 use Rattle.mach_base.proofs.Written.{Appends-both}
-use Rattle.mach_image.specs.OpenImage.{commands_held}
+use Rattle.goblin_mach.specs.OpenImage.{commands_held}
 use Rattle.machsign.proofs.SignedFacts.{held, signed_is, whole_as_signed}
 use Rattle.machsign.proofs.Whole.{object_unfaulted}
 use Rattle.machsign.proofs.json.ObjectsOfShows.show.Goals as goal

@@ -1,7 +1,7 @@
 use Rattle.std.proofs.Common.{List, subst}
 use Rattle.mach_base.proofs.Written.{Appends-both}
-use Rattle.mach_image.specs.ImageFacts.{facts_held}
-use Rattle.mach_image.specs.OpenImage.{commands_held}
+use Rattle.goblin_mach.specs.ImageFacts.{facts_held}
+use Rattle.goblin_mach.specs.OpenImage.{commands_held}
 use Rattle.machsyms.specs.JsonSymbols.{AreSymbolMembers}
 use Rattle.machsyms.specs.Order.{gone_over}
 use Rattle.machsyms.specs.declared.order.SortKey.{SortKey}

@@ -1,5 +1,5 @@
 use Rattle.std.proofs.Common.{◌∷◌, ◌∙◌, sym, ap}
-use Rattle.mach_symbols.specs.SymbolViews.{symbol_read}
+use Rattle.mach_parts.specs.SymbolViews.{symbol_read}
 use Rattle.machsyms.specs.JsonSymbols.{asked_objects}
 use Rattle.machsyms.specs.Listed.{source_left}
 use Rattle.machsyms.proofs.JsonLists.{asked_skips, asked_takes}

@@ -3,8 +3,8 @@ use Rattle.std.specs.Prelude.{IsTrue, ◌↔◌}
 use Rattle.mach_base.specs.declared.context.Container.TheVariants.{Big}
 use Rattle.mach_base.specs.declared.context.Ctx.{Ctx}
 use Rattle.mach_base.proofs.Written.{Appends-both}
-use Rattle.mach_image.specs.ImageFacts.{facts_held}
-use Rattle.mach_image.specs.OpenImage.{commands_held}
+use Rattle.goblin_mach.specs.ImageFacts.{facts_held}
+use Rattle.goblin_mach.specs.OpenImage.{commands_held}
 use Rattle.machsyms.specs.Letters.{letter_of}
 use Rattle.machsyms.specs.Lines.{AreTableLines}
 use Rattle.machsyms.specs.Order.{gone_over}

@@ -1,6 +1,6 @@
 use Rattle.std.proofs.Common.{◌-◌, arith}
 use Rattle.mach_base.proofs.ItemLists.{length-items_from}
-use Rattle.mach_arches.specs.ArchForms.{arch_in}
+use Rattle.mach_parts.specs.ArchForms.{arch_in}
 use Rattle.goblin_mach.proofs.fat_file.arches.ArchIterator.new.Goals as goal
 
 pub returns-clause-bounded : goal.returns-clause-bounded

@@ -1,6 +1,6 @@
 use Rattle.std.proofs.Common.{◌∙◌, sym}
 use Rattle.mach_base.proofs.ItemLists.{length-items_from}
-use Rattle.mach_arches.specs.ArchForms.{arch_in}
+use Rattle.mach_parts.specs.ArchForms.{arch_in}
 use Rattle.goblin_mach.proofs.fat_file.arches.ArchIteratorExactSizeIterator.len.Goals as goal
 
 pub returns-clause-value : goal.returns-clause-value

@@ -2,7 +2,7 @@ use Rattle.std.proofs.Common.{rules, ◌≡◌, ◌∙◌, ap, inl, inr}
 use Rattle.std.proofs.lemmas.Result.{err_from_is_err_and}
 use Rattle.mach_base.specs.declared.hint.Hint.{Hint}
 use Rattle.goblin_mach.specs.FatEntry.{entry_by}
-use Rattle.mach_headers.specs.Magic.{hint_in}
+use Rattle.mach_parts.specs.Magic.{hint_in}
 use Rattle.goblin_mach.proofs.FatEntries.{OpensEntry-refused, OpensEntry-archive, OpensEntry-image, OpensEntry-no_image, entry-short, entry-hinted}
 use Rattle.goblin_mach.proofs.fat_file.entry.SingleArch.open.Goals as goal
 

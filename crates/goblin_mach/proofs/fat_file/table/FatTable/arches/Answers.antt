@@ -3,7 +3,7 @@ use Rattle.mach_base.specs.Fault.{fault_of}
 use Rattle.mach_base.proofs.Faults.{FailsAs-read}
 use Rattle.goblin_mach.specs.FatFile.{file_held, arch_table_in, archs_left_in, archs_in}
 use Rattle.mach_base.specs.Items.{all_read}
-use Rattle.mach_image.proofs.Exits.{exit_gives}
+use Rattle.goblin_mach.proofs.Exits.{exit_gives}
 use Rattle.goblin_mach.proofs.FatRecords.{arches-first, arches-next, arches-whole, arches-refused}
 use Rattle.goblin_mach.proofs.fat_file.table.FatTable.arches.Goals as goal
 

@@ -1,0 +1,33 @@
+//! The export of a name.
+
+ghost use Rattle.std.specs.Prelude.{◌⊎◌, ℕ, List, IfSome, IfNone};
+ghost use Rattle.mach_dyld.specs.Exports.{entry_of, entries};
+ghost use Rattle.mach_dyld.specs.Trie.{Entry};
+ghost use Rattle.goblin_mach.specs.Facts.{IsExportedAt, IsNotExported, IsFirstExport};
+
+use mach_dyld::exports::Export;
+use std::alloc::Allocator;
+
+/// The first export of a name; None where none of them has it.
+pub fn find_export<'b, 'a, A: Allocator>(
+    exports: &'b [Export<'a, A>],
+    name: &str,
+) -> Option<&'b Export<'a, A>>
+    ensures found { IfSome result (λ x. (i : ℕ) × IsFirstExport name.now (entries exports.now) i (entry_of x.now)) }
+    ensures none { IfNone result (IsNotExported name.now (entries exports.now)) }
+{
+    for export in exports {
+        if export.name.as_str() == name {
+            return Some(export);
+        }
+    }
+    None
+}
+
+/// Of each name a list has a first export, or none at all; and never both. The first is listed at its own
+/// offset.
+pub fn exported_or_not()
+    ensures either { (name : List ℕ) (list : List Entry) → ((i : ℕ) × (e : Entry) × IsFirstExport name list i e) ⊎ IsNotExported name list }
+    ensures first { (name : List ℕ) (list : List Entry) (i : ℕ) (e : Entry) → IsFirstExport name list i e → IsExportedAt name e.offset list }
+    ensures not_both { (name : List ℕ) (address : ℕ) (list : List Entry) → IsExportedAt name address list → IsNotExported name list → ⊥ }
+{}

@@ -1,0 +1,160 @@
+//! The chained fixups of an image: where its commands place them, what they count from, and the fixups one
+//! at a time.
+
+ghost use Rattle.std.specs.Prelude.{◌≡◌, ◌∷◌, ℕ, [], Err, map, option_map};
+ghost use Rattle.std.specs.Iterator.{YieldsFirstBy};
+ghost use Rattle.mach_base.specs.Answer.{Reads};
+ghost use Rattle.mach_base.specs.Fault.{fault_of};
+ghost use Rattle.mach_load.specs.Variants.{command_of};
+ghost use Rattle.mach_parts.specs.Segment.{segment_view};
+ghost use Rattle.mach_chained.specs.FixupsLeft as walk;
+ghost use Rattle.mach_chained.specs.WalkViews.{fixup_read};
+ghost use Rattle.goblin_mach.specs.Fixups as defined;
+ghost use Rattle.goblin_mach.specs.Fixups.{chained_place_by, chained_place_in, chained_at, chained_seen};
+ghost use Rattle.goblin_mach.specs.FixupsLeft.{image_fixups_left};
+ghost use Rattle.goblin_mach.specs.Readings.{read_of, last_of};
+
+use crate::entry::is_text;
+use crate::readings::{Subject, put_readable};
+use mach_base::{Endian, Error, Result};
+use mach_chained::{ChainedFixups, Fixup};
+use mach_load::{CommandVariant, LoadCommand};
+use mach_parts::segment::Segment;
+use mach_records::LinkeditDataCommand;
+
+/// The commands that place the data of chained fixups.
+#[derive(Clone, Copy)]
+pub struct ChainedPlaces;
+
+impl Subject for ChainedPlaces {
+    type Value = LinkeditDataCommand;
+
+    ghost Seen = { ℕ × ℕ };
+
+    ghost seen = { λ c. (c.dataoff, c.datasize) };
+
+    ghost reading = { λ _. chained_place_by };
+
+    /// It is never refused.
+    fn read(&self, command: &LoadCommand) -> Option<Result<LinkeditDataCommand>> {
+        match &command.command {
+            CommandVariant::DyldChainedFixups(c) => Some(Ok(*c)),
+            _ => None,
+        }
+    }
+}
+
+/// What the last readable command of a subject says.
+pub fn last_readable<S: Subject>(subject: &S, commands: &[LoadCommand]) -> Option<S::Value>
+    ensures { option_map S.seen result ≡ last_of (read_of (S.reading subject.now) (map command_of commands.now)) }
+{
+    let mut last = None;
+    for command in commands {
+        put_readable(&mut last, subject, command);
+    }
+    last
+}
+
+/// The place and the size of the data that the last command brings, if one does.
+pub fn chained_place(commands: &[LoadCommand]) -> Option<(u32, u32)>
+    ensures { result ≡ chained_place_in (map command_of commands.now) }
+{
+    let place = last_readable(&ChainedPlaces, commands)?;
+    Some((place.dataoff, place.datasize))
+}
+
+/// The chained fixups that the last command brings, if one does.
+pub fn chained_fixups<'a>(
+    bytes: &'a [u8],
+    le: Endian,
+    commands: &[LoadCommand],
+) -> Result<Option<ChainedFixups<'a>>>
+    ensures { Reads chained_seen result (chained_at le bytes.now (chained_place_in (map command_of commands.now))) }
+{
+    let Some(command) = last_readable(&ChainedPlaces, commands) else {
+        return Ok(None);
+    };
+    let found = ChainedFixups::parse(bytes, &command, le)?;
+    Ok(Some(found))
+}
+
+/// The address of an image's first byte in memory: that of its first segment named `__TEXT`, or 0.
+pub fn base_of(segments: &[Segment<'_>]) -> u64
+    ensures { result ≡ defined.base_of (map segment_view segments.now) }
+{
+    for segment in segments {
+        if is_text(&segment.segname) {
+            return segment.vmaddr;
+        }
+    }
+    0
+}
+
+/// The fixups of an image one at a time: by segments, pages and along the chains, up to the first fault;
+/// then its error; then nothing more. It takes no memory.
+#[derive(Drop)]
+pub struct FixupIterator<'a, 'b> {
+    // Why the front of the fixups can't be read, as long as that was not told.
+    refusal: Option<Error>,
+    chains: mach_chained::FixupIterator<'a, 'b>,
+}
+
+impl<'a, 'b> FixupIterator<'a, 'b> {
+    /// Those of the chains.
+    #[tactic(auto, unfolding(crate::specs::FixupsLeft::image_fixups_left))]
+    pub(crate) fn over(chains: mach_chained::FixupIterator<'a, 'b>) -> Self
+        ensures { image_fixups_left result ≡ walk.fixups_left chains.entry }
+    {
+        FixupIterator {
+            refusal: None,
+            chains,
+        }
+    }
+
+    /// None but an error.
+    #[tactic(auto, unfolding(crate::specs::FixupsLeft::image_fixups_left))]
+    pub(crate) fn refused(error: Error) -> Self
+        ensures { image_fixups_left result ≡ Err (fault_of error) ∷ [] }
+    {
+        FixupIterator {
+            refusal: Some(error),
+            chains: mach_chained::FixupIterator::default(),
+        }
+    }
+
+    // The next fixup, or an error.
+    #[tactic(auto, unfolding(crate::specs::FixupsLeft::image_fixups_left))]
+    #[inline(always)]
+    fn step(&mut self) -> Option<Result<Fixup>>
+        ensures { YieldsFirstBy fixup_read image_fixups_left self.old result self.new }
+    {
+        if let Some(error) = self.refusal.take() {
+            return Some(Err(error));
+        }
+        self.chains.next()
+    }
+}
+
+impl<'a, 'b> Iterator for FixupIterator<'a, 'b> {
+    type Item = Result<Fixup>;
+
+    ghost use Rattle.std.specs.Iterator.{item_count};
+
+    ghost next_gives = { YieldsFirstBy fixup_read image_fixups_left };
+
+    ghost remaining = { item_count image_fixups_left };
+
+    #[inline(always)]
+    fn next(&mut self) -> Option<Result<Fixup>> {
+        self.step()
+    }
+}
+
+impl<'a, 'b> Default for FixupIterator<'a, 'b> {
+    ghost is_default = { λ it. image_fixups_left it ≡ [] };
+
+    /// No fixups.
+    fn default() -> Self {
+        FixupIterator::over(mach_chained::FixupIterator::default())
+    }
+}

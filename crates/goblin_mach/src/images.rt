@@ -1,0 +1,280 @@
+//! What is within a file, one item after the other.
+
+ghost use Rattle.std.specs.Prelude.{◌≡◌, ◌∷◌, ◌++◌, ◌/◌, [], ℕ, List, Ok, Err, None, MatchOption, length, nat_le, true, false};
+ghost use Rattle.mach_archive.specs.ArchiveViews.{archive_of, member_read};
+ghost use Rattle.goblin_mach.specs.FatFile.{file_held};
+ghost use Rattle.goblin_mach.specs.Inputs.{IsInput};
+ghost use Rattle.mach_base.specs.Fault.{fault_of};
+ghost use Rattle.goblin_mach.specs.Items.{items_in, item_at, member_content, items_of_archive, items_of_whole};
+ghost use Rattle.goblin_mach.specs.ItemsLeft.{input_item_read, input_items_left, begun_items, items_of_table, entries_items, whole_items};
+
+use crate::fat_file::table::FatTable;
+use crate::input::{Input, begins_archive};
+use crate::item::{Content, EntryCpu, InputItem, Place};
+use mach_archive::{Archive, Member, Members};
+use mach_base::{Error, Result};
+use mach_parts::fat::FatArch;
+use mach_parts::{ArchRecord, FatArch64, has_room_for, read_arch};
+use std::alloc::Allocator;
+
+// The entries of a fat file from one on.
+#[derive(Clone, Copy)]
+struct Table<'a> {
+    bytes: &'a [u8],
+    index: usize,
+    narches: usize,
+}
+
+// What is left of a file, beside the members of an archive.
+#[derive(Clone, Copy)]
+enum Entries<'a> {
+    None,
+    Image(&'a [u8]),
+    Archive(Archive<'a>),
+    Narrow(Table<'a>),
+    Wide(Table<'a>),
+    // A fat file of more entries than its bytes could hold.
+    TooMany(usize),
+}
+
+// The bytes of a file or of an entry, or the archive that they are.
+#[derive(Drop)]
+enum Whole<'a> {
+    Bytes(&'a [u8]),
+    Archive(Archive<'a>),
+    Refused(Error),
+}
+
+/// What is within a file, one item after the other; it takes no memory. An entry of a fat file is one item, but where it is an
+/// archive: then each member is one. Nothing ends it early but the end: what can't be read is an item that tells why, of an
+/// archive the last one.
+#[derive(Clone, Copy)]
+pub struct Images<'a> {
+    entries: Entries<'a>,
+    // The members that are left of the archive that stands at this place.
+    place: Place,
+    members: Option<Members<'a>>,
+}
+
+// Nowhere in a fat file.
+const ALONE: Place = Place {
+    entry: None,
+    cpu: None,
+    offset: 0,
+};
+
+impl<'a> Images<'a> {
+    // Those of a file, no member of which was given.
+    fn of(entries: Entries<'a>) -> Images<'a>
+        ensures { input_items_left result ≡ entries_items entries.entry }
+    {
+        Images {
+            entries,
+            place: ALONE,
+            members: None,
+        }
+    }
+
+    // The next member of the archive whose members are given.
+    fn next_member(&mut self) -> Option<InputItem<'a>>
+        ensures given { MatchOption result (begun_items self.old ≡ []) (λ item. begun_items self.old ≡ input_item_read item ∷ begun_items self.new) }
+        ensures kept { self.new.entries ≡ self.old.entries }
+    {
+        match &mut self.members {
+            Some(members) => Some(member_item(self.place, members.next()?)),
+            None => None,
+        }
+    }
+
+    // The first item of what stands at a place; the members behind it are left.
+    fn begin(&mut self, place: Place, whole: Whole<'a>) -> InputItem<'a>
+        requires { self.old.members ≡ None }
+        ensures given { whole_items place whole.entry ≡ input_item_read result ∷ begun_items self.new }
+        ensures kept { self.new.entries ≡ self.old.entries }
+    {
+        match whole {
+            Whole::Refused(error) => refused(place, error),
+            Whole::Archive(archive) => self.begin_archive(place, archive),
+            Whole::Bytes(bytes) => self.begin_bytes(place, bytes),
+        }
+    }
+
+    // The first item of bytes that are no fat file.
+    fn begin_bytes(&mut self, place: Place, bytes: &'a [u8]) -> InputItem<'a>
+        requires { self.old.members ≡ None }
+        ensures given { items_of_whole place bytes.now ≡ input_item_read result ∷ begun_items self.new }
+        ensures kept { self.new.entries ≡ self.old.entries }
+    {
+        if !begins_archive(bytes) {
+            return InputItem {
+                place,
+                content: Ok(Content::File(bytes)),
+            };
+        }
+        match Archive::parse(bytes) {
+            Ok(archive) => self.begin_archive(place, archive),
+            Err(error) => refused(place, error),
+        }
+    }
+
+    // The first item of an archive.
+    fn begin_archive(&mut self, place: Place, archive: Archive<'a>) -> InputItem<'a>
+        ensures given { items_of_archive place (Ok (archive_of archive.entry)) ≡ input_item_read result ∷ begun_items self.new }
+        ensures kept { self.new.entries ≡ self.old.entries }
+    {
+        let mut members = archive.members();
+        let first = members.next();
+        self.place = place;
+        self.members = Some(members);
+        match first {
+            Some(member) => member_item(place, member),
+            None => InputItem {
+                place,
+                content: Ok(Content::NoMember),
+            },
+        }
+    }
+}
+
+// The item of what can't be read.
+fn refused<'a>(place: Place, error: Error) -> InputItem<'a>
+    ensures { input_item_read result ≡ item_at place (Err (fault_of error)) }
+{
+    InputItem {
+        place,
+        content: Err(error),
+    }
+}
+
+// The item of a member of the archive that stands at a place.
+fn member_item<'a>(place: Place, member: Result<Member<'a>>) -> InputItem<'a>
+    ensures { input_item_read result ≡ item_at place (member_content (member_read member.entry)) }
+{
+    InputItem {
+        place,
+        content: match member {
+            Ok(member) => Ok(Content::Member(member)),
+            Err(error) => Err(error),
+        },
+    }
+}
+
+impl<'a> Table<'a> {
+    // The next entry, with where it stands.
+    fn next<R: ArchRecord>(&mut self) -> Option<(Place, Whole<'a>)>
+        ensures { MatchOption result ((items_of_table R.arch_form self.old ≡ []) × (items_of_table R.arch_form self.new ≡ []))
+            (λ found. items_of_table R.arch_form self.old ≡ whole_items found.0 found.1 ++ items_of_table R.arch_form self.new) }
+    {
+        if self.index >= self.narches {
+            return None;
+        }
+        let index = self.index;
+        self.index += 1;
+        match read_arch::<R>(self.bytes, index) {
+            Ok(arch) => {
+                let place = Place {
+                    entry: Some(index),
+                    cpu: Some(EntryCpu {
+                        cputype: arch.entry_cpu(),
+                        cpusubtype: arch.entry_cpu_kind(),
+                    }),
+                    offset: arch.entry_offset(),
+                };
+                Some((place, Whole::Bytes(arch.entry_slice(self.bytes))))
+            }
+            Err(error) => {
+                let place = Place {
+                    entry: Some(index),
+                    cpu: None,
+                    offset: 0,
+                };
+                Some((place, Whole::Refused(error)))
+            }
+        }
+    }
+}
+
+impl<'a> Entries<'a> {
+    // What is next, with where it stands.
+    fn next(&mut self) -> Option<(Place, Whole<'a>)>
+        ensures { MatchOption result ((entries_items self.old ≡ []) × (entries_items self.new ≡ []))
+            (λ found. entries_items self.old ≡ whole_items found.0 found.1 ++ entries_items self.new) }
+    {
+        match self {
+            Entries::None => None,
+            Entries::Narrow(table) => table.next::<FatArch>(),
+            Entries::Wide(table) => table.next::<FatArch64>(),
+            Entries::Image(bytes) => {
+                let whole = Whole::Bytes(bytes);
+                *self = Entries::None;
+                Some((ALONE, whole))
+            }
+            Entries::Archive(archive) => {
+                let whole = Whole::Archive(*archive);
+                *self = Entries::None;
+                Some((ALONE, whole))
+            }
+            Entries::TooMany(count) => {
+                let whole = Whole::Refused(Error::BufferTooShort(*count, "arches"));
+                *self = Entries::None;
+                Some((ALONE, whole))
+            }
+        }
+    }
+}
+
+// The entries of a fat file.
+fn table_of<'a, R: ArchRecord, A: Allocator>(file: &FatTable<'a, R, A>) -> Option<Table<'a>>
+    ensures { let f = file_held file.now in MatchOption result (nat_le f.narches (length f.bytes / R.arch_form.stride) ≡ false)
+        (λ table. (nat_le f.narches (length f.bytes / R.arch_form.stride) ≡ true)
+        × (table.bytes.now ≡ f.bytes) × (table.index ≡ 0) × (table.narches ≡ f.narches)) }
+{
+    if has_room_for::<R>(file.bytes(), file.narches) {
+        Some(Table {
+            bytes: file.bytes(),
+            index: 0,
+            narches: file.narches,
+        })
+    } else {
+        None
+    }
+}
+
+impl<'a, A: Allocator> Input<'a, A> {
+    /// What is within the file, one item after the other.
+    pub fn images(&self) -> Images<'a>
+        ensures { (bytes : List ℕ) → IsInput bytes self.now → input_items_left result ≡ items_in bytes }
+    {
+        Images::of(match self {
+            Input::Image(image) => Entries::Image(image.bytes()),
+            Input::Archive(archive) => Entries::Archive(*archive),
+            Input::Fat(file) => match table_of(file) {
+                Some(table) => Entries::Narrow(table),
+                None => Entries::TooMany(file.narches),
+            },
+            Input::Fat64(file) => match table_of(file) {
+                Some(table) => Entries::Wide(table),
+                None => Entries::TooMany(file.narches),
+            },
+        })
+    }
+}
+
+impl<'a> Iterator for Images<'a> {
+    type Item = InputItem<'a>;
+
+    ghost use Rattle.std.specs.Iterator.{YieldsFirstBy, item_count};
+
+    ghost next_gives = { YieldsFirstBy input_item_read input_items_left };
+
+    ghost remaining = { item_count input_items_left };
+
+    fn next(&mut self) -> Option<InputItem<'a>> {
+        if let Some(item) = self.next_member() {
+            return Some(item);
+        }
+        self.members = None;
+        let (place, whole) = self.entries.next()?;
+        Some(self.begin(place, whole))
+    }
+}

@@ -1,0 +1,239 @@
+//! One image.
+
+ghost use Rattle.std.specs.Prelude.{◌≡◌, ◌↔◌, ◌<◌, ◌≤◌, ◌^◌, [], length, List, IsTrue, IfOk, IfErr};
+ghost use Rattle.mach_base.specs.Answer.{Stands, IsOkUnlessMemory};
+ghost use Rattle.mach_base.specs.Context.{pointer_size};
+ghost use Rattle.mach_dyld.specs.BindViews.{imports_seen};
+ghost use Rattle.mach_dyld.specs.Exports.{entries};
+ghost use Rattle.mach_base.specs.Text.{texts};
+ghost use Rattle.mach_dyld.specs.Imports as binds;
+ghost use Rattle.mach_dyld.specs.Trie.{Entry};
+ghost use Rattle.mach_dyld.specs.Walks.{HasGiven};
+ghost use Rattle.goblin_mach.specs.Image.{Opens, LossyOpens, ImageFault, LossyFault};
+ghost use Rattle.goblin_mach.specs.Subjects.{ListsImageImports, ImageImportsFault, ListsImageExports, ImageExportsFault, trie_len, trie_or_empty};
+
+mod debug;
+mod dyld;
+pub mod look_up;
+mod slots;
+mod streams;
+mod tables;
+
+use crate::fields::Fields;
+use crate::opened::Opened;
+use crate::relocations::{RelocatedSection, relocations};
+use mach_base::{Ctx, Result};
+use mach_dyld::exports::{Export, ExportTrie, ExportWalk};
+use mach_dyld::imports::{BindInterpreter, BindIterator, Import};
+use mach_load::LoadCommand;
+use mach_parts::header::{Header, MH_OBJECT};
+use mach_parts::segment::Segments;
+use mach_parts::symbols::{SymbolIterator, Symbols};
+use std::alloc::{Allocator, Global};
+
+/// A Mach-O image: an executable, a library or an object file for one cpu.
+#[derive(Drop)]
+pub struct MachO<'a, A: Allocator = Global> {
+    /// The header, in the form of either width.
+    pub header: Header,
+    /// The load commands, in order.
+    pub load_commands: Vec<LoadCommand, A>,
+    /// The segments, in the order of their commands.
+    pub segments: Segments<'a, A>,
+    /// The symbols, if a command describes them: those of the last one that does.
+    pub symbols: Option<Symbols<'a>>,
+    /// The image's own name or "self", and then the libraries that it names, in the order of their commands:
+    /// a library's place here is its ordinal.
+    pub libs: Vec<&'a str, A>,
+    /// The paths on which its libraries are sought, in order.
+    pub rpaths: Vec<&'a str, A>,
+    /// The address at which it begins to run, or 0.
+    pub entry: u64,
+    /// Whether the state of a thread says where it begins to run.
+    pub old_style_entry: bool,
+    /// The name by which the image is known as a library, if it has one.
+    pub name: Option<&'a str>,
+    /// Whether the image is little-endian.
+    pub little_endian: bool,
+    /// Whether the image has 64 bits.
+    pub is_64: bool,
+    export_trie: Option<ExportTrie<'a>>,
+    bind_interpreter: Option<BindInterpreter<'a>>,
+    bytes: &'a [u8],
+    ctx: Ctx,
+}
+
+impl<'a, A: Allocator + Clone> MachO<'a, A> {
+    ghost use Rattle.goblin_mach.specs.OpenImage.{IsImage, IsLossyImage};
+
+    /// Opens the image at a place of the bytes. Each refusal but `Error::Memory` is a fault that stands there.
+    pub fn parse(alloc: A, bytes: &'a [u8], offset: usize) -> Result<MachO<'a, A>>
+        ensures opened { IfOk result (IsImage bytes.now offset) }
+        ensures only { Opens bytes.now offset → IsOkUnlessMemory result }
+        ensures refused { IfErr result (Stands (ImageFault bytes.now offset)) }
+    {
+        MachO::open(alloc, bytes, offset)
+    }
+
+    /// Opens the image at a place of the bytes, and passes over what can't be read of it: data that are
+    /// not in the bytes are empty, and symbol tables, names, ids and run paths are left out. Each refusal
+    /// but `Error::Memory` is a fault that stands there all the same.
+    pub fn parse_lossy(alloc: A, bytes: &'a [u8], offset: usize) -> Result<MachO<'a, A>>
+        ensures opened { IfOk result (IsLossyImage bytes.now offset) }
+        ensures only { LossyOpens bytes.now offset → IsOkUnlessMemory result }
+        ensures refused { IfErr result (Stands (LossyFault bytes.now offset)) }
+    {
+        MachO::open_lossy(alloc, bytes, offset)
+    }
+
+    fn open(alloc: A, bytes: &'a [u8], offset: usize) -> Result<MachO<'a, A>>
+        ensures opened { IfOk result (IsImage bytes.now offset) }
+        ensures refused { IfErr result (Stands (ImageFault bytes.now offset)) }
+    {
+        let opened = Opened::read(alloc.clone()?, bytes, offset)?;
+        let fields = Fields::read(alloc, bytes, opened.ctx, &opened.load_commands)?;
+        Ok(MachO::of(bytes, opened, fields))
+    }
+
+    fn open_lossy(alloc: A, bytes: &'a [u8], offset: usize) -> Result<MachO<'a, A>>
+        ensures opened { IfOk result (IsLossyImage bytes.now offset) }
+        ensures refused { IfErr result (Stands (LossyFault bytes.now offset)) }
+    {
+        let opened = Opened::read(alloc.clone()?, bytes, offset)?;
+        let fields = Fields::read_lossy(alloc, bytes, opened.ctx, &opened.load_commands)?;
+        Ok(MachO::of(bytes, opened, fields))
+    }
+}
+
+impl<'a, A: Allocator> MachO<'a, A> {
+    ghost use Rattle.goblin_mach.specs.OpenImage.{IsMadeOf};
+
+    // The image of what was read.
+    fn of(bytes: &'a [u8], opened: Opened<A>, fields: Fields<'a, A>) -> MachO<'a, A>
+        ensures { IsMadeOf bytes.now opened fields.entry result }
+    {
+        MachO {
+            header: opened.header,
+            load_commands: opened.load_commands,
+            segments: Segments::from(fields.segments),
+            symbols: fields.once.symbols,
+            libs: fields.libs,
+            rpaths: fields.rpaths,
+            entry: opened.address,
+            old_style_entry: opened.old_style_entry,
+            name: fields.once.name,
+            little_endian: opened.ctx.le.is_little(),
+            is_64: opened.ctx.is_big(),
+            export_trie: fields.once.export_trie,
+            bind_interpreter: fields.once.bind_interpreter,
+            bytes,
+            ctx: opened.ctx,
+        }
+    }
+}
+
+impl<'a, A: Allocator> MachO<'a, A> {
+    ghost use Rattle.goblin_mach.specs.OpenImage.{trie_held, binds_held, ctx_held, bytes_held, segments_held};
+    ghost use Rattle.mach_parts.specs.SymbolViews.{symbols_left};
+    ghost use Rattle.goblin_mach.specs.Subjects.{symbols_held};
+
+    /// The symbols that the image holds at the call, one after the other; none where it holds no table.
+    pub fn symbols(&self) -> SymbolIterator<'a>
+        ensures items { symbols_left result ≡ symbols_held self.now.symbols }
+        ensures bounded { length (symbols_left result) < 2 ^ 64 }
+    {
+        match &self.symbols {
+            Some(symbols) => symbols.iter(),
+            None => SymbolIterator::default(),
+        }
+    }
+
+    /// The exports of the image, over the libraries that it holds at the call; none where no command
+    /// brings a trie. Each refusal but `Error::Memory` is a fault that stands in the trie.
+    pub fn exports<B: Allocator + Clone>(&self, alloc: B) -> Result<Vec<Export<'a, B>, B>>
+        ensures listed { IfOk result (λ v. ListsImageExports (trie_held self.now) (texts self.now.libs.items) (entries v.items)) }
+        ensures only { (list : List Entry) → ListsImageExports (trie_held self.now) (texts self.now.libs.items) list → IsOkUnlessMemory result }
+        ensures refused { IfErr result (Stands (ImageExportsFault (trie_held self.now) (texts self.now.libs.items))) }
+        ensures few_exports { IfOk result (λ v. length v.items ≤ trie_len (trie_held self.now)) }
+    {
+        match &self.export_trie {
+            Some(trie) => trie.exports(alloc, self.libs.as_slice()),
+            None => Ok(Vec::new(alloc)),
+        }
+    }
+
+    /// The exports of the image one at a time, over the libraries that it holds, in the order of `exports`; none where
+    /// no command brings a trie. `next` lends each name until it is called again. It takes a mark for each byte of the
+    /// trie, the open nodes and one name, and no allocation for an export.
+    pub fn walk_exports<'b, B: Allocator + Clone>(
+        &'b self,
+        alloc: B,
+    ) -> Result<ExportWalk<'a, 'b, B>>
+        ensures given { IfOk result (λ w. HasGiven (trie_or_empty (trie_held self.now)) (texts self.now.libs.items) [] w) }
+        ensures memory { IsOkUnlessMemory result }
+    {
+        match &self.export_trie {
+            Some(trie) => trie.walk(alloc, self.libs.as_slice()),
+            None => ExportTrie::empty().walk(alloc, self.libs.as_slice()),
+        }
+    }
+
+    /// The imports of the image, over the libraries and the segments that it holds at the call; none where
+    /// no command brings binds. Each refusal but `Error::Memory` is a fault that stands in the binds.
+    pub fn imports<B: Allocator>(&self, alloc: B) -> Result<Vec<Import<'a>, B>>
+        ensures listed { IfOk result (λ v. ListsImageImports (binds_held self.now) (pointer_size (ctx_held self.now).container)
+            (texts self.now.libs.items) (segments_held self.now) (imports_seen v.items)) }
+        ensures only { (list : List (binds.Import)) → ListsImageImports (binds_held self.now) (pointer_size (ctx_held self.now).container)
+            (texts self.now.libs.items) (segments_held self.now) list → IsOkUnlessMemory result }
+        ensures refused { IfErr result (Stands (ImageImportsFault (binds_held self.now) (pointer_size (ctx_held self.now).container)
+            (texts self.now.libs.items) (segments_held self.now))) }
+    {
+        match &self.bind_interpreter {
+            Some(binds) => {
+                binds.imports(
+                    alloc,
+                    self.libs.as_slice(),
+                    self.segments.as_slice(),
+                    self.ctx,
+                )
+            }
+            None => Ok(Vec::new(alloc)),
+        }
+    }
+
+    ghost use Rattle.mach_dyld.specs.BindLeft.{imports_left};
+    ghost use Rattle.goblin_mach.specs.Subjects.{AreImageBindItems};
+
+    /// The imports of the image one at a time, over the libraries and the segments that it holds: those of
+    /// the non-lazy stream, then those of the lazy one, up to the first fault, and its error last; none
+    /// where no command brings binds. It takes no memory.
+    pub fn iter_imports<'b>(&'b self) -> BindIterator<'a, 'b>
+        ensures { AreImageBindItems (binds_held self.now) (pointer_size (ctx_held self.now).container)
+            (texts self.now.libs.items) (segments_held self.now) (imports_left result) }
+    {
+        let Some(binds) = &self.bind_interpreter else {
+            return BindIterator::default();
+        };
+        binds.iter(self.libs.as_slice(), self.segments.as_slice(), self.ctx)
+    }
+
+    /// Whether the image is an object file.
+    pub fn is_object_file(&self) -> bool
+        ensures { IsTrue result ↔ (self.now.header.filetype ≡ 1) }
+    {
+        self.header.filetype == MH_OBJECT
+    }
+
+    ghost use Rattle.std.specs.Prelude.{map};
+    ghost use Rattle.mach_base.specs.Answer.{Gives};
+    ghost use Rattle.goblin_mach.specs.Relocations.{relocated_view, relocated_sections_in};
+
+    /// The sections that have relocations, over the segments that the image holds at the call: each
+    /// with its number in its segment, counted from 0, and an iterator over its relocations. The first
+    /// unreadable section of any segment refuses them all.
+    pub fn relocations<B: Allocator>(&self, alloc: B) -> Result<Vec<RelocatedSection<'a>, B>>
+        ensures { Gives (λ v. map relocated_view v.items) result (relocated_sections_in (ctx_held self.now) (bytes_held self.now) (segments_held self.now)) }
+    {
+        relocations(alloc, self.bytes, self.segments.as_slice(), self.ctx)
+    }
+}

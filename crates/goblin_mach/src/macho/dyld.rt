@@ -1,0 +1,136 @@
+//! What dyld does with an image: its fixups, and what it binds.
+
+ghost use Rattle.std.specs.Prelude.{◌≡◌, option_map};
+ghost use Rattle.mach_base.specs.Answer.{Reads};
+ghost use Rattle.mach_base.specs.Context.{pointer_size};
+ghost use Rattle.mach_dyld.specs.BindingsLeft as dyld;
+ghost use Rattle.mach_base.specs.Text.{texts};
+ghost use Rattle.goblin_mach.specs.Bindings.{AreOpcodeBindings, AreChainBindings, AreImageBindings};
+ghost use Rattle.goblin_mach.specs.BindingsLeft.{chain_bindings_left, bindings_left};
+ghost use Rattle.goblin_mach.specs.Fixups.{AreImageFixups, base_held, chained_held, chained_place_in, chained_seen};
+ghost use Rattle.goblin_mach.specs.FixupsLeft.{image_fixups_left};
+ghost use Rattle.goblin_mach.specs.OpenImage.{binds_held, bytes_held, commands_held, ctx_held, trie_held, segments_held};
+
+use crate::bindings::{BindingIterator, ChainBindings};
+use crate::fixups::{FixupIterator, base_of, chained_fixups, chained_place};
+use crate::macho::MachO;
+use mach_base::{Ctx, Result};
+use mach_chained::{ChainedBindIterator, ChainedFixups};
+use mach_dyld::bindings::OpcodeBindingIterator;
+use mach_dyld::exports::ExportTrie;
+use mach_dyld::imports::BindInterpreter;
+use std::alloc::Allocator;
+
+impl<'a, A: Allocator> MachO<'a, A> {
+    /// The bytes that the image was opened in, to which the places of its records count.
+    pub fn bytes(&self) -> &'a [u8]
+        ensures { result.now ≡ bytes_held self.now }
+    {
+        self.bytes
+    }
+
+    /// The width and the byte order in which its records are read.
+    pub fn ctx(&self) -> Ctx
+        ensures { result ≡ ctx_held self.now }
+    {
+        self.ctx
+    }
+
+    /// The address of the image's first byte in memory, before sliding: the `vmaddr` of the first segment
+    /// named `__TEXT` that the image holds at the call, or 0 where none is. Places of chained fixups count
+    /// from it.
+    pub fn base(&self) -> u64
+        ensures { result ≡ base_held self.now }
+    {
+        base_of(self.segments.as_slice())
+    }
+
+    /// The export trie that the image holds, if a command brings one.
+    pub fn export_trie(&self) -> Option<&ExportTrie<'a>>
+        ensures { option_map (λ trie. trie.now) result ≡ trie_held self.now }
+    {
+        self.export_trie.as_ref()
+    }
+
+    /// The ranges of the binds that the image holds, if a command brings any.
+    pub fn binds(&self) -> Option<&BindInterpreter<'a>>
+        ensures { option_map (λ binds. binds.now) result ≡ binds_held self.now }
+    {
+        self.bind_interpreter.as_ref()
+    }
+
+    /// The place and the size of the data of the chained fixups: those of the last `LC_DYLD_CHAINED_FIXUPS` among the
+    /// load commands that the image holds at the call, if one is there.
+    pub fn chained_place(&self) -> Option<(u32, u32)>
+        ensures { result ≡ chained_place_in (commands_held self.now) }
+    {
+        chained_place(self.load_commands.as_slice())
+    }
+
+    /// The chained fixups of the image (`mach-o/fixup-chains.h`): those of the last
+    /// `LC_DYLD_CHAINED_FIXUPS` among the load commands that it holds at the call, if one is there. Opening
+    /// an image tests nothing of them. Refused where their front can't be read, or is of a version or a
+    /// format that isn't.
+    pub fn chained_fixups(&self) -> Result<Option<ChainedFixups<'a>>>
+        ensures { Reads chained_seen result (chained_held self.now) }
+    {
+        chained_fixups(self.bytes, self.ctx.le, self.load_commands.as_slice())
+    }
+
+    /// The fixups of the image's chains one at a time, over the segments that it holds: by segments, pages
+    /// and along the chains, up to the first fault, and its error last; none where no command brings any.
+    /// Where their front can't be read, its error alone. It takes no memory.
+    pub fn fixups<'b>(&'b self) -> FixupIterator<'a, 'b>
+        ensures { AreImageFixups (chained_held self.now) (segments_held self.now) (image_fixups_left result) }
+    {
+        let found = match self.chained_fixups() {
+            Ok(found) => found,
+            Err(e) => return FixupIterator::refused(e),
+        };
+        let Some(chained) = found else {
+            return FixupIterator::default();
+        };
+        FixupIterator::over(chained.fixups(self.segments.as_slice(), self.base()))
+    }
+
+    /// The bindings of the image's bind opcodes one at a time, as dyld makes them, over the libraries and
+    /// the segments that it holds: those of the non-lazy stream, then those of the lazy one, up to the first
+    /// fault, and its error last; none where no command brings binds. It takes no memory.
+    pub fn opcode_bindings<'b>(&'b self) -> OpcodeBindingIterator<'a, 'b>
+        ensures { AreOpcodeBindings (binds_held self.now) (pointer_size (ctx_held self.now).container)
+            (texts self.now.libs.items) (segments_held self.now) (dyld.opcode_bindings_left result) }
+    {
+        let Some(binds) = &self.bind_interpreter else {
+            return OpcodeBindingIterator::default();
+        };
+        binds.bindings(self.libs.as_slice(), self.segments.as_slice(), self.ctx)
+    }
+
+    // Those of its chains.
+    fn chain_bindings<'b>(&'b self) -> ChainBindings<'a, 'b>
+        ensures { AreChainBindings (chained_held self.now) (texts self.now.libs.items) (segments_held self.now)
+            (chain_bindings_left result) }
+    {
+        let found = match self.chained_fixups() {
+            Ok(found) => found,
+            Err(e) => return ChainBindings::refused(e),
+        };
+        let Some(chained) = found else {
+            return ChainBindings::over(ChainedBindIterator::default());
+        };
+        let (libs, segments) = (self.libs.as_slice(), self.segments.as_slice());
+        ChainBindings::over(chained.bindings(libs, segments, self.base()))
+    }
+
+    /// What dyld binds of the image, but for the stream of weak binds, one binding at a time, over the
+    /// libraries and the segments that it holds: the bindings of `opcode_bindings` and then those of its
+    /// chains, up to the first fault, and its error last. Where the front of the chained fixups can't be
+    /// read, that error stands in the place of theirs. It takes no memory.
+    pub fn bindings<'b>(&'b self) -> BindingIterator<'a, 'b>
+        ensures { AreImageBindings (binds_held self.now) (chained_held self.now)
+            (pointer_size (ctx_held self.now).container) (texts self.now.libs.items)
+            (segments_held self.now) (bindings_left result) }
+    {
+        BindingIterator::over(self.opcode_bindings(), self.chain_bindings())
+    }
+}

@@ -1,0 +1,65 @@
+//! The libraries of an image by kind, and the look-up of one name in its export trie.
+
+ghost use Rattle.std.specs.Prelude.{◌≡◌, ℕ, List, Option, Some, None, option_map, IfOk, IfErr};
+ghost use Rattle.mach_base.specs.Answer.{Stands, IsOkUnlessMemory};
+ghost use Rattle.mach_dyld.specs.Exports.{info_of};
+ghost use Rattle.mach_base.specs.Text.{texts};
+ghost use Rattle.mach_dyld.specs.LookUp.{IsFirstOf, FaultOnWay};
+ghost use Rattle.mach_dyld.specs.Trie.{Info, Entry};
+ghost use Rattle.mach_dyld.specs.TrieRange.{trie_there};
+ghost use Rattle.goblin_mach.specs.Facts.{HasExports, HasExportOf};
+ghost use Rattle.goblin_mach.specs.Libraries.{libraries_in, libraries_left};
+ghost use Rattle.goblin_mach.specs.LookUp.{StandsInImage, IsListedAs};
+ghost use Rattle.goblin_mach.specs.OpenImage.{trie_held, bytes_held, commands_held, ctx_held};
+ghost use Rattle.goblin_mach.specs.Subjects.{ListsImageExports, ImageExportsFault, trie_or_empty};
+
+use crate::libraries::LibraryIterator;
+use crate::macho::MachO;
+use mach_base::Result;
+use mach_dyld::exports::ExportInfo;
+use std::alloc::Allocator;
+
+impl<'a, A: Allocator> MachO<'a, A> {
+    /// The libraries of the load commands that the image holds at the call, one after the other: each with its ordinal,
+    /// its name, and how it is brought in. In lossy mode one whose name can't be read is left out, and those behind it
+    /// move down, as in `libs`. It takes no memory.
+    pub fn libraries<'b>(&'b self) -> LibraryIterator<'a, 'b>
+        ensures { libraries_left result ≡ libraries_in (ctx_held self.now).le (bytes_held self.now) (commands_held self.now) }
+    {
+        LibraryIterator::new(self.bytes, self.ctx.le, self.load_commands.as_slice())
+    }
+
+    /// What the image exports a name as, over the libraries that it holds at the call: the first export of that name
+    /// in the list that `exports` gives, or None; None where no command brings a trie. Only nodes on the way of the name
+    /// are read, so it may answer where the trie has no list; what it then answers stands by the paths. Each refusal but
+    /// `Error::Memory` is a fault on that way, so one that stands in the trie. It takes memory only where `ExportTrie::find` does.
+    pub fn find_export<B: Allocator + Clone>(
+        &self,
+        alloc: B,
+        name: &str,
+    ) -> Result<Option<ExportInfo<'a>>>
+        ensures stands { IfOk result (λ o. StandsInImage (trie_held self.now) (texts self.now.libs.items) name.now (option_map info_of o)) }
+        ensures listed { (list : List Entry) → ListsImageExports (trie_held self.now) (texts self.now.libs.items) list
+            → IfOk result (λ o. IsFirstOf name.now list (option_map info_of o)) }
+        ensures only { (list : List Entry) → ListsImageExports (trie_held self.now) (texts self.now.libs.items) list → IsOkUnlessMemory result }
+        ensures refused { IfErr result (Stands (ImageExportsFault (trie_held self.now) (texts self.now.libs.items))) }
+        ensures on_way { IfErr result (Stands (FaultOnWay (trie_there (trie_or_empty (trie_held self.now)) (texts self.now.libs.items))
+            (trie_or_empty (trie_held self.now)).from name.now)) }
+    {
+        match &self.export_trie {
+            Some(trie) => trie.find(alloc, self.libs.as_slice(), name),
+            None => Ok(None),
+        }
+    }
+}
+
+/// What the list of an image's exports says of a name, and what the paths of its trie say. The first export of the name
+/// stands by its path; where no path has the name, no export has it; and what stands by a path is listed.
+pub fn export_by_list_and_paths()
+    ensures first { (bytes : List ℕ) (o : ℕ) (list : List Entry) (name : List ℕ) (found : Option Info) → HasExports bytes o list → IsFirstOf name list found
+        → HasExportOf bytes o name found }
+    ensures missing { (bytes : List ℕ) (o : ℕ) (list : List Entry) (name : List ℕ) → HasExports bytes o list → HasExportOf bytes o name None
+        → IsFirstOf name list None }
+    ensures listed { (bytes : List ℕ) (o : ℕ) (list : List Entry) (name : List ℕ) (info : Info) → HasExports bytes o list → HasExportOf bytes o name (Some info)
+        → IsListedAs name info list }
+{}

@@ -1,0 +1,54 @@
+//! What dyld rebases of an image, and what it binds weakly.
+
+ghost use Rattle.mach_base.specs.Context.{pointer_size};
+ghost use Rattle.mach_dyld.specs.RebasesLeft.{opcode_rebases_left};
+ghost use Rattle.mach_dyld.specs.WeakBindsLeft.{weak_binds_left};
+ghost use Rattle.goblin_mach.specs.Fixups.{chained_held};
+ghost use Rattle.goblin_mach.specs.ImageStreams.{AreImageRebases, AreImageWeakBinds, AreRebasesByOpcodes, rebase_stream_in, weak_stream_in};
+ghost use Rattle.goblin_mach.specs.OpenImage.{bytes_held, commands_held, ctx_held, segments_held};
+ghost use Rattle.goblin_mach.specs.RebasesLeft.{rebases_left};
+
+use crate::fixups::last_readable;
+use crate::macho::MachO;
+use crate::rebases::{RebaseIterator, RebaseStreams};
+use crate::weak_binds::WeakBindStreams;
+use mach_dyld::{OpcodeRebaseIterator, WeakBindIterator};
+use std::alloc::Allocator;
+
+impl<'a, A: Allocator> MachO<'a, A> {
+    /// The rebases of the image's opcodes one at a time, over the segments that it holds, up to the first fault, and its error
+    /// last; none where no command brings opcodes. It takes no memory.
+    pub fn opcode_rebases<'b>(&'b self) -> OpcodeRebaseIterator<'a, 'b>
+        ensures { AreRebasesByOpcodes (rebase_stream_in (bytes_held self.now) (commands_held self.now)) (ctx_held self.now).le
+            (pointer_size (ctx_held self.now).container) (segments_held self.now) (opcode_rebases_left result) }
+    {
+        let subject = RebaseStreams { bytes: self.bytes };
+        let Some(stream) = last_readable(&subject, self.load_commands.as_slice()) else {
+            return OpcodeRebaseIterator::default();
+        };
+        stream.iter(self.segments.as_slice(), self.ctx)
+    }
+
+    /// What dyld rebases of the image, one rebase at a time, over the segments that it holds: the rebases of its opcodes and
+    /// then those among the fixups of its chains, up to the first fault, and its error last. It takes no memory.
+    pub fn rebases<'b>(&'b self) -> RebaseIterator<'a, 'b>
+        ensures { AreImageRebases (rebase_stream_in (bytes_held self.now) (commands_held self.now)) (chained_held self.now) (ctx_held self.now).le
+            (pointer_size (ctx_held self.now).container) (segments_held self.now) (rebases_left result) }
+    {
+        RebaseIterator::over(self.opcode_rebases(), self.fixups())
+    }
+
+    /// The weak binds of the image one at a time, over the segments that it holds: the names that it defines itself and not
+    /// weakly, and the places that take the definition that all images share, up to the first fault, and its error last; none
+    /// where no command brings any. It takes no memory.
+    pub fn weak_binds<'b>(&'b self) -> WeakBindIterator<'a, 'b>
+        ensures { AreImageWeakBinds (weak_stream_in (bytes_held self.now) (commands_held self.now))
+            (pointer_size (ctx_held self.now).container) (segments_held self.now) (weak_binds_left result) }
+    {
+        let subject = WeakBindStreams { bytes: self.bytes };
+        let Some(stream) = last_readable(&subject, self.load_commands.as_slice()) else {
+            return WeakBindIterator::default();
+        };
+        stream.iter(self.segments.as_slice(), self.ctx)
+    }
+}

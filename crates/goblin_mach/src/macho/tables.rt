@@ -1,0 +1,68 @@
+//! The tables that the commands of an image place or hold.
+
+ghost use Rattle.std.specs.Prelude.{◌≡◌};
+ghost use Rattle.goblin_mach.specs.Fixups.{base_held};
+ghost use Rattle.goblin_mach.specs.OpenImage.{bytes_held, commands_held, ctx_held};
+ghost use Rattle.goblin_mach.specs.Tables.{AreStartsAt, data_in_code_there, data_place_in, starts_place_in};
+ghost use Rattle.mach_load.specs.BuildTools.{build_tools_in};
+ghost use Rattle.mach_load.specs.LinkerOptions.{linker_options_in};
+ghost use Rattle.mach_load.specs.Notes.{notes_of_commands};
+ghost use Rattle.mach_load.specs.TablesLeft.{starts_left, data_in_code_left, options_left, build_tools_left, notes_left};
+
+use crate::fixups::last_readable;
+use crate::macho::MachO;
+use crate::table_places::{DataPlaces, StartPlaces};
+use mach_load::{
+    BuildToolIterator, DataInCodeIterator, FunctionStartIterator, FunctionStarts,
+    LinkerOptionIterator, NoteIterator,
+};
+use std::alloc::Allocator;
+
+impl<'a, A: Allocator> MachO<'a, A> {
+    /// The addresses of the image's functions one at a time, before sliding: by the numbers that the last `LC_FUNCTION_STARTS`
+    /// among the load commands places that it holds at the call, counted from `base`, up to the first fault, and its error
+    /// last; none where no command places any. It takes no memory.
+    pub fn function_starts(&self) -> FunctionStartIterator<'a>
+        ensures { AreStartsAt (bytes_held self.now) (starts_place_in (commands_held self.now)) (base_held self.now) (starts_left result) }
+    {
+        let Some(command) = last_readable(&StartPlaces, self.load_commands.as_slice()) else {
+            return FunctionStartIterator::default();
+        };
+        FunctionStarts::new(self.bytes, &command).iter(self.base())
+    }
+
+    /// The entries of the table of data among code that the last `LC_DATA_IN_CODE` among the load commands places that the
+    /// image holds at the call; none where no command places one. It takes no memory.
+    pub fn data_in_code(&self) -> DataInCodeIterator<'a>
+        ensures { data_in_code_left result ≡ data_in_code_there (ctx_held self.now).le (bytes_held self.now) (data_place_in (commands_held self.now)) }
+    {
+        let Some(command) = last_readable(&DataPlaces, self.load_commands.as_slice()) else {
+            return DataInCodeIterator::default();
+        };
+        DataInCodeIterator::new(self.bytes, &command, self.ctx.le)
+    }
+
+    /// The options for the linker that stand in the load commands that the image holds at the call, each with the number of its
+    /// command, up to the first fault, and its error last. It takes no memory.
+    pub fn linker_options<'b>(&'b self) -> LinkerOptionIterator<'a, 'b>
+        ensures { options_left result ≡ linker_options_in (bytes_held self.now) (commands_held self.now) }
+    {
+        LinkerOptionIterator::new(self.bytes, self.load_commands.as_slice())
+    }
+
+    /// The tools that the load commands that the image holds at the call say it was built with, each with the number of its
+    /// command, up to the first fault, and its error last. It takes no memory.
+    pub fn build_tools<'b>(&'b self) -> BuildToolIterator<'a, 'b>
+        ensures { build_tools_left result ≡ build_tools_in (ctx_held self.now).le (bytes_held self.now) (commands_held self.now) }
+    {
+        BuildToolIterator::new(self.bytes, self.load_commands.as_slice(), self.ctx.le)
+    }
+
+    /// The notes of the load commands that the image holds at the call; in the place of one that can't be read its error. It
+    /// takes no memory.
+    pub fn notes<'b>(&'b self) -> NoteIterator<'a, 'b>
+        ensures { notes_left result ≡ notes_of_commands (bytes_held self.now) (commands_held self.now) }
+    {
+        NoteIterator::new(self.bytes, self.load_commands.as_slice())
+    }
+}

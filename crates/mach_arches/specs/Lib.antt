@@ -1,2 +1,0 @@
-pub mod FatRecords
-pub mod ArchForms

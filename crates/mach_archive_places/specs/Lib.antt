@@ -1,4 +1,0 @@
-pub mod Places
-pub mod ArchiveItems
-pub mod PlacedItems
-pub mod ArchiveFinds

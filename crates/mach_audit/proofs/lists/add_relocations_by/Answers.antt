@@ -1,4 +1,0 @@
-use Rattle.mach_audit.proofs.lists.add_relocations_by.Goals as goal
-
-pub returns-clause-told : goal.returns-clause-told
-returns-clause-told g c = rw c.in-Ok.is (rw c.iter_relocations-relocations.ensures at c.add_relocations_of.ensures.told)

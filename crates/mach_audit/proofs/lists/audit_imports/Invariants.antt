@@ -1,8 +1,0 @@
-use Rattle.std.proofs.Common.{[]}
-use Rattle.mach_binds.specs.BindLeft.{imports_left}
-use Rattle.mach_audit.proofs.Goes.{Goes}
-use Rattle.mach_audit.specs.declared.report.Place.TheVariants as places
-use Rattle.mach_audit.proofs.lists.audit_imports.Given as goal
-
-abbrev pub invariant-imports : goal.invariant-imports
-invariant-imports g l = Goes l.fn.limit places.Import [] (imports_left l.fn.imports) (imports_left l.import-iterator) l.index l.tally

@@ -1,8 +1,0 @@
-use Rattle.mach_binds.proofs.Names.{◌∙◌, refl, sym, ap, items_left}
-use Rattle.mach_binds.proofs.StreamStops.{behind_end}
-use Rattle.mach_binds.proofs.imports.stream.Stream.end_at.Goals as goal
-
-pub returns-clause-fails : goal.returns-clause-fails
-returns-clause-fails g c =
-    let u = g.M.Makes.rules in
-    (ap (items_left u) (sym c.copied.ensures) ∙ c.error-error.ensures, (behind_end u g.M.Makes.reads _ refl).0)

@@ -1,5 +1,0 @@
-use Rattle.mach_binds.proofs.BindingLaws.{bindings_lie}
-use Rattle.mach_binds.proofs.laws.bindings.bindings_lie_in_segments.Goals as goal
-
-pub returns : goal.returns
-returns c = bindings_lie

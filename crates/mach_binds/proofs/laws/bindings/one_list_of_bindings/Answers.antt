@@ -1,5 +1,0 @@
-use Rattle.mach_binds.proofs.BindingLaws.{one_list_lem}
-use Rattle.mach_binds.proofs.laws.bindings.one_list_of_bindings.Goals as goal
-
-pub returns : goal.returns
-returns c = one_list_lem

@@ -1,5 +1,0 @@
-use Rattle.mach_binds.proofs.BindAddresses.{list_lies}
-use Rattle.mach_binds.proofs.laws.binds.imports_lie_in_segments.Goals as goal
-
-pub returns : goal.returns
-returns c = list_lies

@@ -1,0 +1,58 @@
+-- What archive some bytes are, and which member of it is found.
+use Rattle.std.specs.Prelude.{◌≡◌, ℕ, List, [], ◌∷◌, ◌++◌, Bool, false, nat_eq, codes, Option, Some, None, Result, Ok, Err, if◌then◌else◌}
+use Rattle.std.specs.List.{starts_with}
+use Rattle.std.specs.Str.{bytes_eq}
+use Rattle.mach_base.specs.Answer.{◌>>=◌}
+use Rattle.mach_base.specs.Fault.{Fault}
+use Rattle.mach_archive.specs.Archives.{ArchiveView, archive_in, archive_kind}
+use Rattle.mach_archive.specs.IndexSymbols.{found_by_name}
+use Rattle.mach_archive.specs.MemberNames.{member_name_bytes}
+use Rattle.mach_archive.specs.Members.{MemberView}
+use Rattle.mach_archive.specs.declared.archive.ArchiveKind.{ArchiveKind}
+use Rattle.mach_archive.specs.declared.archive.ArchiveKind.TheVariants as kinds
+use Rattle.mach_c_places.specs.ArchiveItems.{members_of_view, symbols_of_view}
+use Rattle.mach_c_places.specs.ArchivePlaces.{TellsText}
+use Rattle.mach_c_places.specs.PlacedItems.{ToldName}
+use Rattle.mach_c_places.specs.declared.archive_find.ArchiveForm.{ArchiveForm}
+use Rattle.mach_c_places.specs.declared.archive_find.ArchiveForm.TheVariants.{Bsd, Gnu, NoArchive, Thin}
+
+abbrev pub form_of_kind : ArchiveKind → ArchiveForm
+form_of_kind kinds.Gnu = Gnu
+form_of_kind kinds.Bsd = Bsd
+
+-- what archive some bytes are, or why the front of what begins as one can't be read
+abbrev pub archive_form : List ℕ → Result ArchiveForm Fault
+archive_form bytes =
+    if starts_with nat_eq bytes (codes "!<thin>" ++ 0x0a ∷ []) then Ok Thin
+    else (if starts_with nat_eq bytes (codes "!<arch>" ++ 0x0a ∷ []) then archive_in bytes >>= (λ a. Ok (form_of_kind (archive_kind a.names)))
+    else Ok NoArchive)
+
+-- the member that defines a symbol, by the index of an archive
+abbrev pub found_by_symbol : ArchiveView → List ℕ → Result (Option MemberView) Fault
+found_by_symbol a name = symbols_of_view a >>= found_by_name a name
+
+-- that of the archive which some bytes are
+abbrev pub member_by_symbol : List ℕ → List ℕ → Result (Option MemberView) Fault
+member_by_symbol bytes name = archive_in bytes >>= (λ a. found_by_symbol a name)
+
+-- whether a name is this one
+abbrev pub has_name : List ℕ → Result (List ℕ) Fault → Bool
+has_name name (Ok own) = bytes_eq own name
+has_name name (Err f) = false
+
+-- the first member of a name, or the fault before it
+abbrev pub first_of_name : List ℕ → List (Result MemberView Fault) → Result (Option MemberView) Fault
+first_of_name name [] = Ok None
+first_of_name name (Ok m ∷ items) = if has_name name (member_name_bytes m) then Ok (Some m) else first_of_name name items
+first_of_name name (Err f ∷ items) = Err f
+
+-- that of the archive which some bytes are
+abbrev pub member_by_name : List ℕ → List ℕ → Result (Option MemberView) Fault
+member_by_name bytes name = archive_in bytes >>= (λ a. first_of_name name (members_of_view a))
+
+-- what is told of a member that was sought: itself, and the place of its name
+abbrev pub TellsFound : List ℕ → Option MemberView → Option (MemberView × ToldName) → Type 0
+TellsFound bytes None None = Unit {0}
+TellsFound bytes None (Some told) = ⊥
+TellsFound bytes (Some m) None = ⊥
+TellsFound bytes (Some m) (Some (n, told)) = (n ≡ m) × TellsText bytes (member_name_bytes m) told

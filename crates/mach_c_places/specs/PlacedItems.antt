@@ -1,0 +1,69 @@
+-- Members and symbols that are given one at a time, each with the place of its name.
+use Rattle.std.specs.Prelude.{◌≡◌, ℕ, List, [], ◌∷◌, ◌++◌, Option, Some, None, option_map, Result, Ok, Err}
+use Rattle.mach_base.specs.Fault.{Fault, fault_item, fault_of}
+use Rattle.mach_base.specs.Items.{read_as}
+use Rattle.mach_base.specs.declared.error.Error.{Error}
+use Rattle.mach_archive.specs.ArchiveViews.{archive_symbol_view, archive_symbols_left, member_view, members_left}
+use Rattle.mach_archive.specs.IndexSymbols.{IndexSymbol}
+use Rattle.mach_archive.specs.MemberNames.{member_name_bytes}
+use Rattle.mach_archive.specs.Members.{MemberView}
+use Rattle.mach_c_places.specs.ArchivePlaces.{TellsText}
+use Rattle.mach_c_places.specs.declared.archive_members.MemberWalk.{MemberWalk}
+use Rattle.mach_c_places.specs.declared.archive_members.PlacedMember.{PlacedMember}
+use Rattle.mach_c_places.specs.declared.archive_members.PlacedMembers.{PlacedMembers}
+use Rattle.mach_c_places.specs.declared.archive_symbols.PlacedSymbol.{PlacedSymbol}
+use Rattle.mach_c_places.specs.declared.archive_symbols.PlacedSymbols.{PlacedSymbols}
+use Rattle.mach_c_places.specs.declared.archive_symbols.SymbolWalk.{SymbolWalk}
+
+-- what is told of a name: its place and its length, or why there is none
+abbrev pub ToldName : Type 0
+ToldName = Result (ℕ × ℕ) Fault
+
+-- ---- members
+
+abbrev pub placed_member_view : PlacedMember → MemberView × ToldName
+placed_member_view p = (member_view p.member, read_as (λ told. told) p.name)
+
+abbrev pub member_answer : Result PlacedMember Error → Result (MemberView × ToldName) Fault
+member_answer answer = read_as placed_member_view answer
+
+-- The first of the members before is given, and those after are left; or its fault; or there are none.
+abbrev pub GivesMember : List ℕ → List (Result MemberView Fault) → Option (Result (MemberView × ToldName) Fault) → List (Result MemberView Fault) → Type 0
+GivesMember bytes before None after = (before ≡ []) × (after ≡ [])
+GivesMember bytes before (Some (Ok (m, told))) after = (before ≡ Ok m ∷ after) × TellsText bytes (member_name_bytes m) told
+GivesMember bytes before (Some (Err f)) after = before ≡ Err f ∷ after
+
+abbrev pub members_walked : Option MemberWalk → List (Result MemberView Fault)
+members_walked None = []
+members_walked (Some w) = members_left w.members
+
+-- those that are left
+abbrev pub placed_members_left : PlacedMembers → List (Result MemberView Fault)
+placed_members_left it = fault_item (option_map fault_of it.refused) ++ members_walked it.walk
+
+-- places count in these bytes
+abbrev pub AreMembersOver : List ℕ → PlacedMembers → Type 0
+AreMembersOver bytes it = (w : MemberWalk) → it.walk ≡ Some w → w.places.bytes.now ≡ bytes
+
+-- ---- symbols
+
+abbrev pub placed_symbol_view : PlacedSymbol → IndexSymbol × ToldName
+placed_symbol_view p = (archive_symbol_view p.symbol, read_as (λ told. told) p.name)
+
+abbrev pub symbol_answer : Result PlacedSymbol Error → Result (IndexSymbol × ToldName) Fault
+symbol_answer answer = read_as placed_symbol_view answer
+
+abbrev pub GivesSymbol : List ℕ → List (Result IndexSymbol Fault) → Option (Result (IndexSymbol × ToldName) Fault) → List (Result IndexSymbol Fault) → Type 0
+GivesSymbol bytes before None after = (before ≡ []) × (after ≡ [])
+GivesSymbol bytes before (Some (Ok (s, told))) after = (before ≡ Ok s ∷ after) × TellsText bytes (Ok s.name) told
+GivesSymbol bytes before (Some (Err f)) after = before ≡ Err f ∷ after
+
+abbrev pub symbols_walked : Option SymbolWalk → List (Result IndexSymbol Fault)
+symbols_walked None = []
+symbols_walked (Some w) = archive_symbols_left w.symbols
+
+abbrev pub placed_symbols_left : PlacedSymbols → List (Result IndexSymbol Fault)
+placed_symbols_left it = fault_item (option_map fault_of it.refused) ++ symbols_walked it.walk
+
+abbrev pub AreSymbolsOver : List ℕ → PlacedSymbols → Type 0
+AreSymbolsOver bytes it = (w : SymbolWalk) → it.walk ≡ Some w → w.places.bytes.now ≡ bytes

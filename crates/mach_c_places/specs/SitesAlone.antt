@@ -1,0 +1,12 @@
+-- Where the names of the rows of one stream stand.
+use Rattle.std.specs.Prelude.{◌≡◌, List, Option}
+use Rattle.mach_base.specs.Fault.{Fault}
+use Rattle.mach_dyld.specs.Sites.{Site, sites_in}
+use Rattle.mach_dyld.specs.Streams.{IsLongestBy, Placed, Range, Reader}
+
+-- these are those of all its rows, up to what can't be read
+pub record AreSitesAlone (reader : Reader) (r : Range) (sites : List Site) : Type 0 where
+  pub ps : List Placed
+  pub stop : Option Fault
+  pub longest : IsLongestBy reader r ps stop
+  pub are : sites ≡ sites_in ps

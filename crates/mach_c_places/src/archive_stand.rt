@@ -1,0 +1,42 @@
+//! Where some bytes stand among others.
+
+ghost use Rattle.std.specs.Prelude.{◌≡◌, ◌↔◌, ℕ, IsTrue, Ok, MatchOption};
+ghost use Rattle.mach_base.specs.Items.{read_as};
+ghost use Rattle.mach_c_places.specs.ArchivePlaces.{IsTextAt, IsNowhere, TellsText};
+
+use mach_base::{Error, Result};
+
+// Whether these bytes stand at a place.
+#[inline(always)]
+fn stands_at(bytes: &[u8], part: &[u8], place: usize) -> bool
+    ensures { IsTrue result ↔ IsTextAt part.now bytes.now place }
+{
+    place <= bytes.len()
+        && part.len() <= bytes.len() - place
+        && &bytes[place..place + part.len()] == part
+}
+
+// The first place where these bytes stand, if there is one.
+fn first_place(bytes: &[u8], part: &[u8]) -> Option<usize>
+    ensures { MatchOption result (IsNowhere part.now bytes.now) (λ place. IsTextAt part.now bytes.now place) }
+{
+    for place in 0..bytes.len() + 1 {
+        if stands_at(bytes, part, place) {
+            return Some(place);
+        }
+    }
+    None
+}
+
+/// Where a text stands, and how many bytes it has. It is looked for at one place, where it should be, and else at all of them.
+pub(crate) fn place_of(bytes: &[u8], text: &[u8], hint: usize) -> Result<(usize, usize)>
+    ensures { TellsText bytes.now (Ok text.now) (read_as (λ told. told) result) }
+{
+    if stands_at(bytes, text, hint) {
+        return Ok((hint, text.len()));
+    }
+    match first_place(bytes, text) {
+        Some(place) => Ok((place, text.len())),
+        None => Err(Error::Malformed("a name stands in its archive")),
+    }
+}

@@ -1,0 +1,135 @@
+-- The object that is written of a file, on a line, and what is said beside it on the error output.
+use Rattle.std.specs.Prelude.{◌≡◌, ◌&&◌, ℕ, List, [], ◌∷◌, ◌++◌, codes, length, Bool, true, false, Option, Result, Ok}
+use Rattle.std.specs.Fmt.{decimal}
+use Rattle.std.specs.Io.KnownBytes.{Appends}
+use Rattle.mach_base.specs.Answer.{Stands}
+use Rattle.mach_base.specs.Fault.{Fault}
+use Rattle.mach_base.specs.Words.{described, words_of}
+use Rattle.mach_base.specs.declared.error.Error.{Error}
+use Rattle.mach_parts.specs.declared.fat.FatArch.{FatArch}
+use Rattle.goblin_mach.specs.FatEntry.{FatEntry, archive, image, entry_at, FatEntryFault}
+use Rattle.goblin_mach.specs.FatFile.{FatFile}
+use Rattle.goblin_mach.specs.View.{ViewFault}
+use Rattle.mach_cli.specs.Cpus.{is_asked, misses, IsTaken, no_entry_words, other_words}
+use Rattle.mach_cli.specs.declared.cpu.Cpu.{Cpu}
+use Rattle.mach_cli.specs.Foreigners.{foreign_words, refused_words}
+use Rattle.mach_cli.specs.Shown.{ImageLines, IsFatTable, Shown, complaint, entry_complaint}
+use Rattle.mach_cli.specs.declared.heading.Heading.{Heading}
+use Rattle.mach_cli.specs.declared.heading.Heading.TheVariants as headings
+use Rattle.mach_cli.specs.JsonArrays.{error_end, with_commas}
+use Rattle.mach_cli.specs.JsonText.{json_string}
+use Rattle.mach_cli.specs.declared.json_refusal.Refusal.{Refusal}
+use Rattle.mach_cli.specs.declared.json_refusal.Refusal.TheVariants as refusals
+
+-- the front of the object of an image: of an entry of a fat file its number
+abbrev pub object_front : Heading → List ℕ
+object_front headings.None = codes "{"
+object_front (headings.Arch i) = codes "{\"entry\":" ++ (decimal i ++ codes ",")
+
+-- The text is the object of the image at the front of the bytes, with the members that a program says of it, of whose rows no more than `left` may
+-- be told; or with the member that says that memory is refused for these.
+pub data IsImageObject (names : List ℕ) (members : ImageLines) (left : ℕ) (heading : Heading) (bytes : List ℕ) : Shown → Type 0 where
+  of_members : (text : List ℕ) (whole : Bool) (rest : ℕ) → members left bytes text whole rest
+      → IsImageObject names members left heading bytes (record { text = object_front heading ++ (text ++ codes "}"); said = []; whole = whole; left = rest })
+  without_memory : IsImageObject names members left heading bytes (record {
+    text = object_front heading ++ error_end (codes "out of memory");
+    said = complaint names (codes "out of memory");
+    whole = false;
+    left = left;
+  })
+
+-- The text is the object of entry i: that of an image, that it is an archive, or why it is refused: a fault that stands in it, or want of memory.
+pub data IsEntryObject (names : List ℕ) (members : ImageLines) (left i : ℕ) : Result FatEntry Fault → Shown → Type 0 where
+  of_image : (slice : List ℕ) (shown : Shown) → IsImageObject names members left (headings.Arch i) slice shown
+      → IsEntryObject names members left i (Ok (image slice)) shown
+  of_archive : (slice : List ℕ) → IsEntryObject names members left i (Ok (archive slice)) (record {
+    text = object_front (headings.Arch i) ++ codes "\"kind\":\"archive\"}";
+    said = [];
+    whole = true;
+    left = left;
+  })
+  of_refused : (entry : Result FatEntry Fault) (e : Error) → Stands (FatEntryFault entry) e → IsEntryObject names members left i entry (record {
+    text = object_front (headings.Arch i) ++ error_end (words_of e);
+    said = entry_complaint names i (words_of e);
+    whole = false;
+    left = left;
+  })
+
+-- the objects of some entries, what is said of them, whether none is refused and each is whole, and how many rows more may be told behind them
+pub record EntryObjects : Type 0 where
+  pub objects : List (List ℕ)
+  pub said : List ℕ
+  pub whole : Bool
+  pub left : ℕ
+
+abbrev pub no_objects : (left : ℕ) → EntryObjects
+no_objects left = record { objects = []; said = []; whole = true; left = left }
+
+abbrev pub one_behind : EntryObjects → Shown → EntryObjects
+one_behind front last = record {
+  objects = front.objects ++ last.text ∷ [];
+  said = front.said ++ last.said;
+  whole = front.whole && last.whole;
+  left = last.left;
+}
+
+-- There is exactly one object for each entry of these first records whose cpu is asked for, in order: of an entry's rows no more may be told than
+-- those before it left of the limit.
+pub data AreEntryObjects (cpu : Cpu) (names : List ℕ) (members : ImageLines) (limit : ℕ) (file : FatFile) : List FatArch → EntryObjects → Type 0 where
+  of_none : AreEntryObjects cpu names members limit file [] (no_objects limit)
+  of_asked : (archs : List FatArch) (arch : FatArch) (front : EntryObjects) (last : Shown) → AreEntryObjects cpu names members limit file archs front
+      → is_asked cpu arch ≡ true → IsEntryObject names members front.left (length archs) (entry_at file (length archs)) last
+      → AreEntryObjects cpu names members limit file (archs ++ arch ∷ []) (one_behind front last)
+  of_other : (archs : List FatArch) (arch : FatArch) (front : EntryObjects) → AreEntryObjects cpu names members limit file archs front
+      → is_asked cpu arch ≡ false → AreEntryObjects cpu names members limit file (archs ++ arch ∷ []) front
+
+-- what stands behind the objects of the images of a file, which is of a kind and has a name
+abbrev pub document_end : (kind name : List ℕ) → List ℕ
+document_end kind name = codes "],\"kind\":\"" ++ (kind ++ (codes "\",\"name\":" ++ (json_string name ++ codes "}\n")))
+
+-- the object of a file with these objects of its images
+abbrev pub document_of : (kind name : List ℕ) → List (List ℕ) → List ℕ
+document_of kind name objects = codes "{\"images\":[" ++ (with_commas objects ++ document_end kind name)
+
+-- the object of a file of which nothing is shown, and why
+abbrev pub refusal_object : (name words : List ℕ) → List ℕ
+refusal_object name words = codes "{\"error\":\"" ++ (words ++ (codes "\",\"images\":[],\"name\":" ++ (json_string name ++ codes "}\n")))
+
+abbrev pub refused_for : (names name words : List ℕ) (left : ℕ) → Shown
+refused_for names name words left = record { text = refusal_object name words; said = complaint names words; whole = false; left = left }
+
+-- The text is the object of a file: of one image, if it is for a cpu that is asked for, or of a fat file with the objects of its entries that are
+-- asked for; or why nothing is shown of it. The limit is that of all its images together.
+pub data IsDocument (cpu : Cpu) (names name : List ℕ) (members : ImageLines) (limit : ℕ) (bytes : List ℕ) : Shown → Type 0 where
+  of_one_image : (shown : Shown) → IsTaken cpu bytes true → IsImageObject names members limit headings.None bytes shown
+      → IsDocument cpu names name members limit bytes (record {
+        text = document_of (codes "image") name (shown.text ∷ []);
+        said = shown.said;
+        whole = shown.whole;
+        left = shown.left;
+      })
+  of_other_image : IsTaken cpu bytes false
+      → IsDocument cpu names name members limit bytes (refused_for names name (other_words cpu) limit)
+  of_fat_file : (file : FatFile) (archs : List FatArch) (shown : EntryObjects) → IsFatTable bytes file archs → misses cpu archs ≡ false
+      → AreEntryObjects cpu names members limit file archs shown → IsDocument cpu names name members limit bytes (record {
+        text = document_of (codes "fat file") name shown.objects;
+        said = shown.said;
+        whole = shown.whole;
+        left = shown.left;
+      })
+  of_no_entry : (file : FatFile) (archs : List FatArch) → IsFatTable bytes file archs → misses cpu archs ≡ true
+      → IsDocument cpu names name members limit bytes (refused_for names name (no_entry_words cpu) limit)
+  of_refused_file : (e : Error) → Stands (ViewFault bytes) e
+      → IsDocument cpu names name members limit bytes (refused_for names name (refused_words bytes e) limit)
+
+-- These objects were written on the two outputs, a comma between two, with what is said.
+pub record WritesEntries (shown : EntryObjects) (out_old out_new err_old err_new : Option (List ℕ)) : Type 0 where
+  pub text : Appends out_old out_new (with_commas shown.objects)
+  pub said : Appends err_old err_new shown.said
+
+-- the words by which nothing is shown of a file
+abbrev pub told_refusal : Refusal → List ℕ
+told_refusal (refusals.Kind kind) = foreign_words kind
+told_refusal (refusals.Fault words) = words_of (described words)
+told_refusal (refusals.OtherImage cpu) = other_words cpu
+told_refusal (refusals.NoEntry cpu) = no_entry_words cpu

@@ -1,0 +1,67 @@
+-- Bits that have words, as they are printed.
+use Rattle.std.specs.Prelude.{◌≡◌, ◌==◌, ℕ, List, [], ◌∷◌, ◌++◌, codes, Bool, true, false, bit_and, bit_xor, Option, if◌then◌else◌}
+use Rattle.std.specs.Io.KnownBytes.{Appends}
+use Rattle.mach_base.specs.Named.{Named}
+use Rattle.mach_signature.specs.SignWords.{hexadecimal}
+use Rattle.mach_cli.specs.declared.flags.FlagWord.{FlagWord}
+
+-- a bit and its word
+abbrev pub flag_named : FlagWord → Named
+flag_named f = record { number = f.0; name = f.1.now }
+
+-- the flags of a code directory (`CSCommon.h`, SecCodeSignatureFlags; `cs_blobs.h`, CS_)
+abbrev pub code_flags : List Named
+code_flags =
+    record { number = 0x1; name = codes "host" }
+    ∷ record { number = 0x2; name = codes "adhoc" }
+    ∷ record { number = 0x100; name = codes "force-hard" }
+    ∷ record { number = 0x200; name = codes "force-kill" }
+    ∷ record { number = 0x400; name = codes "force-expiration" }
+    ∷ record { number = 0x800; name = codes "restrict" }
+    ∷ record { number = 0x1000; name = codes "enforcement" }
+    ∷ record { number = 0x2000; name = codes "library-validation" }
+    ∷ record { number = 0x10000; name = codes "runtime" }
+    ∷ record { number = 0x20000; name = codes "linker-signed" }
+    ∷ []
+
+-- the flags of an executable segment (`cs_blobs.h`, CS_EXECSEG_)
+abbrev pub segment_flags : List Named
+segment_flags =
+    record { number = 0x1; name = codes "main-binary" }
+    ∷ record { number = 0x10; name = codes "allow-unsigned" }
+    ∷ record { number = 0x20; name = codes "debugger" }
+    ∷ record { number = 0x40; name = codes "jit" }
+    ∷ record { number = 0x80; name = codes "skip-library-validation" }
+    ∷ record { number = 0x100; name = codes "can-load-cdhash" }
+    ∷ record { number = 0x200; name = codes "can-exec-cdhash" }
+    ∷ []
+
+-- what stands before a word: a parenthesis before the first, and a comma between two
+abbrev pub before_text : (is_first : Bool) → List ℕ
+before_text true = codes " ("
+before_text false = codes ","
+
+-- what has no word, as one number, if anything is left
+abbrev pub other_flags_text : (is_first : Bool) → ℕ → List ℕ
+other_flags_text is_first rest = if rest == 0 then [] else before_text is_first ++ (codes "0x" ++ hexadecimal rest)
+
+-- the words of the bits that are set, in order, and then what has none
+abbrev pub flag_words_text : (is_first : Bool) → List Named → ℕ → List ℕ
+flag_words_text is_first [] rest = other_flags_text is_first rest
+flag_words_text is_first (x ∷ xs) rest =
+    if bit_and rest x.number == 0 then flag_words_text is_first xs rest
+    else before_text is_first ++ (x.name ++ flag_words_text false xs (bit_xor rest x.number))
+
+-- A text was written that stands for one word of those that are to come.
+pub record WritesWord (word : Named) (is_first : Bool) (rest : ℕ) (is_next_first : Bool) (rest_next : ℕ) (old new : Option (List ℕ)) : Type 0 where
+  pub text : List ℕ
+  pub written : Appends old new text
+  pub stands : (words : List Named) → flag_words_text is_first (word ∷ words) rest ≡ text ++ flag_words_text is_next_first words rest_next
+
+-- the parenthesis that ends them, if there are any
+abbrev pub end_text : ℕ → List ℕ
+end_text flags = if flags == 0 then [] else codes ")"
+
+-- the number, and the words in parentheses; of 0 the number alone
+abbrev pub worded_flags_text : List Named → ℕ → List ℕ
+worded_flags_text words flags = (codes "0x" ++ hexadecimal flags) ++ (flag_words_text true words flags ++ end_text flags)

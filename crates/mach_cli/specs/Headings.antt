@@ -1,0 +1,14 @@
+-- The line under which an image stands.
+use Rattle.std.specs.Prelude.{ℕ, List, [], ◌++◌, codes}
+use Rattle.std.specs.Fmt.{decimal}
+use Rattle.mach_cli.specs.declared.heading.Heading.{Heading}
+use Rattle.mach_cli.specs.declared.heading.Heading.TheVariants.{None, Arch}
+
+-- the line under which entry i of a fat file stands
+abbrev pub arch_line : ℕ → List ℕ
+arch_line i = codes "arch " ++ decimal i ++ codes "\n"
+
+-- over an image that is the whole file there is none
+abbrev pub heading_text : Heading → List ℕ
+heading_text None = []
+heading_text (Arch i) = arch_line i

@@ -1,0 +1,69 @@
+-- The lines of a list of rows, as many as a limit leaves, and that there are more.
+use Rattle.std.specs.Prelude.{◌≡◌, ◌&&◌, ◌-◌, ℕ, List, [], ◌++◌, codes, take, length, nat_lt, Bool, false, not, Option, Result, Ok, Err, if◌then◌else◌}
+use Rattle.std.specs.Fmt.{digits, decimal}
+use Rattle.std.specs.Io.KnownBytes.{Appends}
+use Rattle.std.specs.List.{list_all}
+use Rattle.std.specs.Result.{is_ok}
+use Rattle.mach_base.specs.Answer.{◌>>=◌}
+use Rattle.mach_base.specs.Fault.{Fault}
+use Rattle.mach_base.specs.Items.{read_as}
+use Rattle.mach_base.specs.Words.{words_of}
+use Rattle.mach_base.specs.declared.error.Error.{Error}
+use Rattle.mach_cli.specs.Lines.{AreLines, WritesLines}
+use Rattle.mach_cli.specs.declared.listing.Told.{Told}
+
+-- a number as programs write it in hexadecimal
+abbrev pub hex_text : ℕ → List ℕ
+hex_text n = codes "0x" ++ digits 16 false n
+
+-- the text of an item, or why there is none
+abbrev pub told_by : {X : Type 0} → (X → List ℕ) → Result X Fault → Result (List ℕ) Fault
+told_by text item = item >>= (λ x. Ok (text x))
+
+-- a row's text, as it was answered
+abbrev pub text_read : Result (List ℕ) Error → Result (List ℕ) Fault
+text_read answer = read_as (λ text. text) answer
+
+-- what is told of a row, whose text is this
+abbrev pub text_answer : {R : Type 0} → (R → List ℕ) → Result R Error → Result (List ℕ) Error
+text_answer text (Ok row) = Ok (text row)
+text_answer text (Err e) = Err e
+
+-- the line of a row: its text, or behind a word why there is none
+abbrev pub told_line : List ℕ → Result (List ℕ) Error → List ℕ
+told_line word (Ok text) = text ++ codes "\n"
+told_line word (Err e) = word ++ (codes ": " ++ (words_of e ++ codes "\n"))
+
+-- the line behind the last one that is told, where there are more
+abbrev pub cut_line : ℕ → (more : Bool) → List ℕ
+cut_line limit more = if more then codes "limit: " ++ (decimal limit ++ codes " of them are told, and there are more\n") else []
+
+-- The text is the lines of the first of these rows, as many as are left of the limit, in order; one that is missing is an error that reports its
+-- fault. Behind them stands, exactly where there are more rows than that, a line that says so. It is whole where there are no more, and none is
+-- missing. Each row told is one less that is left.
+pub record AreFirstLines (word : List ℕ) (limit left : ℕ) (rows : List (Result (List ℕ) Fault)) (text : List ℕ) (whole : Bool) (rest : ℕ) : Type 0 where
+  pub lines : List ℕ
+  pub are_lines : AreLines text_read (told_line word) (take left rows) lines
+  pub is_text : text ≡ lines ++ cut_line limit (nat_lt left (length rows))
+  pub is_whole : whole ≡ (list_all is_ok (take left rows) && not (nat_lt left (length rows)))
+  pub is_rest : rest ≡ left - length rows
+
+-- The first rows were gone over, no more than `left`, and this is what is known then.
+pub record CountsRows (left : ℕ) (rows : List (Result (List ℕ) Fault)) (t : Told) : Type 0 where
+  pub whole : t.whole ≡ list_all is_ok (take left rows)
+  pub rest : t.left ≡ left - length rows
+  pub more : t.more ≡ nat_lt left (length rows)
+
+-- The lines of the first rows were written, no more than `left`, and this is what is known then.
+pub record WritesRows (word : List ℕ) (left : ℕ) (rows : List (Result (List ℕ) Fault)) (old new : Option (List ℕ)) (t : Told) : Type 0 where
+  pub lines : WritesLines text_read (told_line word) (take left rows) old new
+  pub whole : t.whole ≡ list_all is_ok (take left rows)
+  pub rest : t.left ≡ left - length rows
+  pub more : t.more ≡ nat_lt left (length rows)
+
+-- What was written is such lines, and behind them where there are more.
+pub record WritesFirstLines (word : List ℕ) (limit left : ℕ) (rows : List (Result (List ℕ) Fault)) (whole : Bool) (rest : ℕ)
+    (old new : Option (List ℕ)) : Type 0 where
+  pub text : List ℕ
+  pub lines : AreFirstLines word limit left rows text whole rest
+  pub written : Appends old new text

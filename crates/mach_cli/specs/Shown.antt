@@ -1,0 +1,120 @@
+-- What a program shows of a file: the lines on its output, and on its error output why a file or an entry is refused.
+use Rattle.std.specs.Prelude.{◌≡◌, ℕ, ◌<◌, List, [], ◌∷◌, ◌++◌, codes, length, take, Bool, true, false, ◌&&◌, Option, Result, Ok}
+use Rattle.std.specs.Fmt.{decimal}
+use Rattle.std.specs.Io.KnownBytes.{Appends}
+use Rattle.mach_base.specs.Answer.{Stands}
+use Rattle.mach_base.specs.Fault.{Fault}
+use Rattle.mach_base.specs.Words.{words_of}
+use Rattle.mach_base.specs.declared.error.Error.{Error}
+use Rattle.mach_parts.specs.declared.fat.FatArch.{FatArch}
+use Rattle.goblin_mach.specs.FatEntry.{FatEntry, archive, image, entry_at, FatEntryFault}
+use Rattle.goblin_mach.specs.FatFile.{FatFile, fat_file_in, arches_in}
+use Rattle.goblin_mach.specs.File.{HasFatMagic}
+use Rattle.goblin_mach.specs.View.{ViewFault, Tells}
+use Rattle.mach_cli.specs.Cpus.{is_asked, misses, IsTaken, no_entry_words, other_words}
+use Rattle.mach_cli.specs.declared.cpu.Cpu.{Cpu}
+use Rattle.mach_cli.specs.Foreigners.{refused_words}
+use Rattle.mach_cli.specs.Headings.{arch_line}
+
+-- What a program's lines of an image are, of which no more than `left` may be told: a relation of that number, the bytes at whose front the
+-- image opens, the text, whether that is whole, and how many more may be told behind it.
+abbrev pub ImageLines : Type 1
+ImageLines = (left : ℕ) → (bytes text : List ℕ) → (whole : Bool) → (rest : ℕ) → Type 0
+
+-- those of a program that has no limit
+abbrev pub without_limit : (List ℕ → List ℕ → Bool → Type 0) → ImageLines
+without_limit lines = λ left bytes text whole rest. lines bytes text whole
+
+-- what is shown: the text on the output, what is said on the error output, whether nothing was refused and each image is whole, and how many
+-- lines more may be told of the images behind it
+pub record Shown : Type 0 where
+  pub text : List ℕ
+  pub said : List ℕ
+  pub whole : Bool
+  pub left : ℕ
+
+-- nothing yet
+abbrev pub nothing : (left : ℕ) → Shown
+nothing left = record { text = []; said = []; whole = true; left = left }
+
+-- one after the other
+abbrev pub both : Shown → Shown → Shown
+both first second = record {
+  text = first.text ++ second.text;
+  said = first.said ++ second.said;
+  whole = first.whole && second.whole;
+  left = second.left;
+}
+
+-- the line on the error output that says why a file is refused, or no more is shown of it; `names` are those of the program and of the file
+abbrev pub complaint : List ℕ → List ℕ → List ℕ
+complaint names words = names ++ (codes ": " ++ (words ++ codes "\n"))
+
+-- the line on the error output that says why entry i is refused
+abbrev pub entry_complaint : List ℕ → ℕ → List ℕ → List ℕ
+entry_complaint names i words = names ++ (codes ": arch " ++ (decimal i ++ (codes ": " ++ (words ++ codes "\n"))))
+
+-- The bytes are a fat file whose table lies in them, and these are its records.
+pub record IsFatTable (bytes : List ℕ) (file : FatFile) (archs : List FatArch) : Type 0 where
+  pub magic : HasFatMagic bytes
+  pub is_file : fat_file_in bytes ≡ Ok file
+  pub table : arches_in file ≡ Ok archs
+
+-- What is shown of entry i, under its line: the lines of an image, that it is an archive, or a fault that stands in it. Of its lines no more
+-- than `left` may be told.
+pub data ShowsEntry (names : List ℕ) (lines : ImageLines) (left i : ℕ) : Result FatEntry Fault → Shown → Type 0 where
+  an_image : (slice text : List ℕ) (whole : Bool) (rest : ℕ) → lines left slice text whole rest
+      → ShowsEntry names lines left i (Ok (image slice)) (record { text = arch_line i ++ text; said = []; whole = whole; left = rest })
+  an_archive : (slice : List ℕ)
+      → ShowsEntry names lines left i (Ok (archive slice)) (record { text = arch_line i ++ codes "archive\n"; said = []; whole = true; left = left })
+  refused : (entry : Result FatEntry Fault) (e : Error) → Tells (FatEntryFault entry) e
+      → ShowsEntry names lines left i entry (record {
+        text = arch_line i ++ (codes "refused: " ++ words_of e ++ codes "\n");
+        said = entry_complaint names i (words_of e);
+        whole = false;
+        left = left;
+      })
+
+-- What is shown of entry i by its record: that of the entry, where its cpu is asked for, else nothing.
+pub data ShowsAsked (cpu : Cpu) (names : List ℕ) (lines : ImageLines) (left i : ℕ) (arch : FatArch) (entry : Result FatEntry Fault) : Shown → Type 0 where
+  asked : (shown : Shown) → is_asked cpu arch ≡ true → ShowsEntry names lines left i entry shown → ShowsAsked cpu names lines left i arch entry shown
+  other_cpu : is_asked cpu arch ≡ false → ShowsAsked cpu names lines left i arch entry (nothing left)
+
+-- What is shown of the entries of the first records, in order: of each entry's lines no more may be told than those before it left of the limit.
+pub data ShowsEntries (cpu : Cpu) (names : List ℕ) (lines : ImageLines) (limit : ℕ) (file : FatFile) : List FatArch → Shown → Type 0 where
+  none : ShowsEntries cpu names lines limit file [] (nothing limit)
+  more : (archs : List FatArch) (arch : FatArch) (front last : Shown) → ShowsEntries cpu names lines limit file archs front
+      → ShowsAsked cpu names lines front.left (length archs) arch (entry_at file (length archs)) last
+      → ShowsEntries cpu names lines limit file (archs ++ arch ∷ []) (both front last)
+
+-- What is shown of a fat file of these records: all its entries that are asked for, or those before one for which memory is refused; or that none
+-- is there.
+pub data ShowsFat (cpu : Cpu) (names : List ℕ) (lines : ImageLines) (limit : ℕ) (file : FatFile) (archs : List FatArch) : Shown → Type 0 where
+  all_entries : (shown : Shown) → misses cpu archs ≡ false → ShowsEntries cpu names lines limit file archs shown
+      → ShowsFat cpu names lines limit file archs shown
+  cut_short : (i : ℕ) (shown : Shown) → misses cpu archs ≡ false → i < length archs → ShowsEntries cpu names lines limit file (take i archs) shown
+      → ShowsFat cpu names lines limit file archs (record {
+        text = shown.text;
+        said = shown.said ++ complaint names (codes "out of memory");
+        whole = false;
+        left = shown.left;
+      })
+  no_entry : misses cpu archs ≡ true
+      → ShowsFat cpu names lines limit file archs (record { text = []; said = complaint names (no_entry_words cpu); whole = false; left = limit })
+
+-- What is shown of a file: one image, if it is for a cpu that is asked for, a fat file, or why it is refused: a fault that stands in it, or want of
+-- memory. The limit is that of all its images together.
+pub data ShowsFile (cpu : Cpu) (names : List ℕ) (lines : ImageLines) (limit : ℕ) (bytes : List ℕ) : Shown → Type 0 where
+  one_image : (text : List ℕ) (whole : Bool) (rest : ℕ) → IsTaken cpu bytes true → lines limit bytes text whole rest
+      → ShowsFile cpu names lines limit bytes (record { text = text; said = []; whole = whole; left = rest })
+  other_image : IsTaken cpu bytes false
+      → ShowsFile cpu names lines limit bytes (record { text = []; said = complaint names (other_words cpu); whole = false; left = limit })
+  fat_file : (file : FatFile) (archs : List FatArch) (shown : Shown) → IsFatTable bytes file archs
+      → ShowsFat cpu names lines limit file archs shown → ShowsFile cpu names lines limit bytes shown
+  refused_file : (e : Error) → Stands (ViewFault bytes) e
+      → ShowsFile cpu names lines limit bytes (record { text = []; said = complaint names (refused_words bytes e); whole = false; left = limit })
+
+-- This was written on the two outputs.
+pub record Writes (shown : Shown) (out_old out_new err_old err_new : Option (List ℕ)) : Type 0 where
+  pub text : Appends out_old out_new shown.text
+  pub said : Appends err_old err_new shown.said

@@ -1,0 +1,32 @@
+//! Why an image is not shown.
+
+ghost use Rattle.std.specs.Prelude.{◌≡◌};
+ghost use Rattle.mach_cli.specs.declared.failure.Failure.TheVariants as failures;
+
+use std::alloc::AllocError;
+use std::io;
+
+/// Why an image is not shown.
+#[derive(Drop)]
+pub enum Failure {
+    /// Memory was refused, and nothing is written.
+    Memory,
+    /// A write failed.
+    Unwritten(io::Error),
+}
+
+impl From<AllocError> for Failure {
+    ghost from_gives = { λ _ failure. failure ≡ failures.Memory };
+
+    fn from(_error: AllocError) -> Failure {
+        Failure::Memory
+    }
+}
+
+impl From<io::Error> for Failure {
+    ghost from_gives = { λ error failure. failure ≡ failures.Unwritten error };
+
+    fn from(error: io::Error) -> Failure {
+        Failure::Unwritten(error)
+    }
+}

@@ -1,0 +1,85 @@
+//! What a file is that is none of Mach-O's, by its first bytes.
+
+ghost use Rattle.std.specs.Prelude.{◌≡◌};
+ghost use Rattle.mach_cli.specs.Foreigners.{foreign_kind, is_java_class, refused_kind};
+
+use goblin_mach::fat::FAT_MAGIC;
+use goblin_mach::{Error, peek};
+use std::fmt;
+use std::fmt::{Display, Formatter, Write};
+
+/// A kind of file that is none of Mach-O's.
+#[derive(Clone, Copy)]
+pub enum Foreign {
+    /// No bytes.
+    Empty,
+    /// A program or a library of Linux and of others.
+    Elf,
+    /// A class of Java, whose magic is that of fat files.
+    JavaClass,
+    /// A program of Windows or DOS.
+    Pe,
+    /// What `ar` writes, as a static library is.
+    Archive,
+    /// Bitcode of LLVM, bare or in its wrapper.
+    Bitcode,
+}
+
+/// The kind of a file that is none of Mach-O's, where its first bytes show it.
+pub fn foreign_kind(bytes: &[u8]) -> Option<Foreign>
+    ensures { result ≡ foreign_kind bytes.now }
+{
+    if bytes.is_empty() {
+        Some(Foreign::Empty)
+    } else if is_java_class(bytes) {
+        Some(Foreign::JavaClass)
+    } else if bytes.starts_with(b"\x7fELF") {
+        Some(Foreign::Elf)
+    } else if bytes.starts_with(b"MZ") {
+        Some(Foreign::Pe)
+    } else if bytes.starts_with(b"!<arch>\n") {
+        Some(Foreign::Archive)
+    } else if bytes.starts_with(b"BC\xc0\xde") || bytes.starts_with(b"\xde\xc0\x17\x0b") {
+        Some(Foreign::Bitcode)
+    } else {
+        None
+    }
+}
+
+// Whether a file of the magic of fat files is a class of Java: behind it stands a version, from 45 on, in the place of a count.
+fn is_java_class(bytes: &[u8]) -> bool
+    ensures { result ≡ is_java_class bytes.now }
+{
+    match (peek(bytes, 0), peek(bytes, 4)) {
+        (Ok(magic), Ok(count)) => magic == FAT_MAGIC && count > 30,
+        _ => false,
+    }
+}
+
+/// The kind of a file that is refused for this error, where it is none of Mach-O's. Want of memory is told of any file.
+pub fn refused_kind(bytes: &[u8], error: &Error) -> Option<Foreign>
+    ensures { result ≡ refused_kind bytes.now error.now }
+{
+    match error {
+        Error::Memory(_) => None,
+        _ => foreign_kind(bytes),
+    }
+}
+
+impl Display for Foreign {
+    ghost use Rattle.std.specs.Prelude.{Some};
+    ghost use Rattle.mach_cli.specs.Foreigners.{foreign_words};
+
+    ghost output = { λ kind. Some (foreign_words kind) };
+
+    fn fmt<W: Write>(&self, f: &mut Formatter<W>) -> fmt::Result {
+        match self {
+            Foreign::Empty => write!(f, "not Mach-O: an empty file"),
+            Foreign::Elf => write!(f, "not Mach-O: an ELF file"),
+            Foreign::JavaClass => write!(f, "not Mach-O: a Java class"),
+            Foreign::Pe => write!(f, "not Mach-O: a PE or DOS program"),
+            Foreign::Archive => write!(f, "not Mach-O: an archive"),
+            Foreign::Bitcode => write!(f, "not Mach-O: LLVM bitcode"),
+        }
+    }
+}

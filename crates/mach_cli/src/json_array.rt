@@ -1,0 +1,137 @@
+//! Arrays of the rows of lists.
+
+ghost use Rattle.std.specs.Prelude.{◌≡◌, ◌++◌, ◌&&◌, ◌||◌, [], not, IfOk};
+ghost use Rattle.std.specs.Io.KnownBytes.{Appends};
+ghost use Rattle.std.specs.Result.{is_ok};
+ghost use Rattle.mach_cli.specs.Listings.{text_answer};
+ghost use Rattle.mach_cli.specs.JsonArrays.{comma_before, lists_end, row_object, WritesArray, WritesMember, WritesObjects};
+
+use crate::listing::{Listing, Told};
+use crate::shows::Outcome;
+use goblin_mach::describe;
+use std::io;
+use std::io::Write;
+
+/// Writes an array as a member of this name, with others behind it: exactly an object for each of the first rows of a list, up to a limit.
+pub fn print_member<L: Listing, O: Write>(
+    name: &str,
+    list: &mut L,
+    limit: usize,
+    out: &mut O,
+) -> io::Result<Told>
+    ensures { IfOk result (WritesMember name.now limit (L.left list.old) (O.contents out.old) (O.contents out.new)) }
+{
+    write!(out, "\"{name}\":")?;
+    let told = print_array(list, limit, out)?;
+    write!(out, ",")?;
+    Ok(told)
+}
+
+/// Writes an empty array as a member of this name, with others behind it: that of a list of which nothing is told.
+pub fn print_empty<O: Write>(name: &str, limit: usize, out: &mut O) -> io::Result<Told>
+    ensures { IfOk result (WritesMember name.now limit [] (O.contents out.old) (O.contents out.new)) }
+{
+    write!(out, "\"{name}\":")?;
+    write!(out, "[]")?;
+    write!(out, ",")?;
+    Ok(Told {
+        left: limit,
+        whole: true,
+        more: false,
+    })
+}
+
+/// Writes what stands behind the members of an image's lists, and answers what came of them.
+pub fn print_end<O: Write>(told: Told, out: &mut O) -> io::Result<Outcome>
+    ensures { IfOk result (λ outcome. (outcome.whole ≡ (told.whole && not told.more)) × (outcome.left ≡ told.left)
+        × Appends (O.contents out.old) (O.contents out.new) (lists_end told.more)) }
+{
+    let more = told.more;
+    write!(out, "\"kind\":\"image\",\"limit_met\":{more}")?;
+    Ok(Outcome {
+        whole: told.whole & !told.more,
+        left: told.left,
+    })
+}
+
+/// Writes an array: exactly an object for each of the first rows of a list, up to a limit, in order; where one can't be told, its object says why.
+pub fn print_array<L: Listing, O: Write>(
+    list: &mut L,
+    limit: usize,
+    out: &mut O,
+) -> io::Result<Told>
+    ensures { IfOk result (WritesArray limit (L.left list.old) (O.contents out.old) (O.contents out.new)) }
+{
+    write!(out, "[")?;
+    let told = print_objects(list, limit, out)?;
+    write!(out, "]")?;
+    Ok(told)
+}
+
+// Writes an object for each of the first rows of a list, up to a limit.
+fn print_objects<L: Listing, O: Write>(list: &mut L, limit: usize, out: &mut O) -> io::Result<Told>
+    ensures { IfOk result (WritesObjects limit (L.left list.old) (O.contents out.old) (O.contents out.new)) }
+{
+    let mut left = limit;
+    let mut whole = true;
+    let mut is_first = true;
+    'rows: while let Some(row) = list.next_row() {
+        let Some(rest) = left.checked_sub(1) else {
+            return Ok(Told {
+                left: 0,
+                whole,
+                more: true,
+            });
+        };
+        left = rest;
+        whole &= print_object::<L, O>(&row, is_first, out)?;
+        is_first = false;
+    }
+    Ok(Told {
+        left,
+        whole,
+        more: false,
+    })
+}
+
+// Writes the object of a row, behind a comma if it isn't the first, and answers whether it is there.
+fn print_object<L: Listing, O: Write>(
+    answer: &goblin_mach::Result<L::Row>,
+    is_first: bool,
+    out: &mut O,
+) -> io::Result<bool>
+    ensures { IfOk result (λ whole. (whole ≡ is_ok answer.now) × Appends (O.contents out.old) (O.contents out.new)
+        (comma_before is_first ++ row_object (text_answer L.text answer.now))) }
+{
+    let comma = comma_before(is_first);
+    write!(out, "{comma}")?;
+    match answer {
+        Ok(row) => {
+            L::write_row(row, out)?;
+            Ok(true)
+        }
+        Err(error) => {
+            let words = describe(error);
+            write!(out, "{{\"error\":\"{words}\"}}")?;
+            Ok(false)
+        }
+    }
+}
+
+/// What stands before the next element.
+pub fn comma_before(is_first: bool) -> &'static str
+    ensures { result.now ≡ comma_before is_first }
+{
+    if is_first { "" } else { "," }
+}
+
+/// What was told of a list, and of another behind it with what the first left.
+pub fn then(first: Told, next: Told) -> Told
+    ensures { (result.left ≡ next.left) × (result.whole ≡ (first.whole && next.whole)) × (result.more ≡ (first.more || next.more)) }
+{
+    Told {
+        left: next.left,
+        whole: first.whole & next.whole,
+        more: first.more | next.more,
+    }
+}

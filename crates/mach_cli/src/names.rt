@@ -1,0 +1,25 @@
+//! What the complaints of a file begin with.
+
+use std::fmt;
+use std::fmt::{Display, Formatter, Write};
+
+/// The names with which the complaints of a file begin.
+#[derive(Clone, Copy)]
+pub struct Names<'a> {
+    /// The program's.
+    pub program: &'a str,
+    /// The file's.
+    pub file: &'a str,
+}
+
+impl Display for Names<'_> {
+    ghost use Rattle.std.specs.Prelude.{Some};
+    ghost use Rattle.mach_cli.specs.Names.{names_text};
+
+    ghost output = { λ names. Some (names_text names.program.now names.file.now) };
+
+    fn fmt<W: Write>(&self, f: &mut Formatter<W>) -> fmt::Result {
+        let Names { program, file } = self;
+        write!(f, "{program}: {file}")
+    }
+}

@@ -1,0 +1,34 @@
+//! Which parts of a file are asked for.
+
+ghost use Rattle.std.specs.Prelude.{◌≡◌};
+ghost use Rattle.mach_cli.specs.Asked.{are_missed, is_part_for};
+ghost use Rattle.mach_cli.specs.PartsOf.{parts_in};
+
+use crate::cpu::Cpu;
+use crate::parts::parts_of;
+use goblin_mach::Place;
+use std::alloc::Global;
+
+/// Whether a part is asked for by the cpu of its entry; where it has none its image says.
+pub fn is_for(cpu: Cpu, place: &Place) -> bool
+    ensures { result ≡ is_part_for cpu place.now }
+{
+    match place.cpu {
+        Some(entry) => cpu.takes(entry.cputype, entry.cpusubtype),
+        None => true,
+    }
+}
+
+/// Whether a file has parts, and none of them is asked for.
+pub fn is_missed(alloc: Global, cpu: Cpu, bytes: &[u8]) -> bool
+    ensures { result ≡ are_missed cpu (parts_in bytes.now) }
+{
+    let mut is_any = false;
+    'parts: for part in parts_of(alloc, bytes) {
+        if is_for(cpu, &part.place) {
+            return false;
+        }
+        is_any = true;
+    }
+    is_any
+}

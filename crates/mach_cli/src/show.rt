@@ -1,0 +1,288 @@
+//! What is written of a file, on the output and on the error output.
+
+ghost use Rattle.std.specs.Prelude.{◌≡◌, ◌++◌, ℕ, List, codes, false, IfOk, IfErr, OnOk};
+ghost use Rattle.std.specs.Io.KnownBytes.{Appends};
+ghost use Rattle.mach_base.specs.Answer.{Stands};
+ghost use Rattle.mach_base.specs.Words.{words_of};
+ghost use Rattle.goblin_mach.specs.OpenImage.{IsImage};
+ghost use Rattle.goblin_mach.specs.FatEntry.{entry_at};
+ghost use Rattle.goblin_mach.specs.FatFile.{file_held};
+ghost use Rattle.goblin_mach.specs.View.{ViewFault, IsTold};
+ghost use Rattle.mach_cli.specs.Failures.{IfMemory};
+ghost use Rattle.mach_cli.specs.Foreigners.{refused_words};
+ghost use Rattle.mach_cli.specs.Headings.{arch_line};
+ghost use Rattle.mach_cli.specs.Held.{IsSubject};
+ghost use Rattle.mach_cli.specs.Cpus.{misses, no_entry_words, other_words};
+ghost use Rattle.mach_cli.specs.Shown.{Shown, ShowsAsked, ShowsEntry, ShowsFat, ShowsFile, Writes, complaint, entry_complaint, nothing};
+
+use crate::cpu::Cpu;
+use crate::failure::Failure;
+use crate::foreign::refused_kind;
+use crate::heading::Heading;
+use crate::shows::{Outcome, Shows};
+use goblin_mach::fat::FatArch;
+use goblin_mach::{Error, Mach, MachO, MultiArch, Result, SingleArch, describe};
+use std::alloc::{AllocError, Allocator};
+use std::io;
+use std::io::Write;
+
+// What was opened of a file.
+#[derive(Drop)]
+enum Subject<'a, A: Allocator> {
+    // Its one image.
+    Image(MachO<'a, A>),
+    // A fat file, with its table.
+    Fat(MultiArch<'a, A>, Vec<FatArch, A>),
+}
+
+/// Shows the images of a file that are asked for, and answers whether nothing was refused and each of them is whole.
+pub fn show<S: Shows, A: Allocator + Clone, O: Write, E: Write>(
+    shows: &S,
+    cpu: Cpu,
+    limit: usize,
+    alloc: &A,
+    bytes: &[u8],
+    out: &mut O,
+    err: &mut E,
+) -> io::Result<bool>
+    ensures { IfOk result (λ whole. (shown : Shown) × ShowsFile cpu (S.names shows.now) (S.lines shows.now) limit bytes.now shown × (shown.whole ≡ whole)
+        × Writes shown (O.contents out.old) (O.contents out.new) (E.contents err.old) (E.contents err.new)) }
+{
+    match open(alloc, bytes) {
+        Ok(Subject::Image(image)) => show_image(shows, cpu, limit, alloc, &image, out, err),
+        Ok(Subject::Fat(container, records)) => {
+            show_fat(
+                shows,
+                cpu,
+                limit,
+                alloc,
+                &container,
+                records.as_slice(),
+                out,
+                err,
+            )
+        }
+        Err(error) => refuse_file(shows, bytes, &error, err),
+    }
+}
+
+// Opens a file, a fat one with its table.
+fn open<'a, A: Allocator + Clone>(alloc: &A, bytes: &'a [u8]) -> Result<Subject<'a, A>>
+    ensures held { IfOk result (IsSubject bytes.now) }
+    ensures refused { IfErr result (Stands (ViewFault bytes.now)) }
+{
+    let file = Mach::parse(alloc.clone()?, bytes)?;
+    match file {
+        Mach::Binary(image) => Ok(Subject::Image(image)),
+        Mach::Fat(container) => {
+            let records = container.arches()?;
+            Ok(Subject::Fat(container, records))
+        }
+    }
+}
+
+// Shows the one image of a file, if it is asked for.
+fn show_image<S: Shows, A: Allocator + Clone, O: Write, E: Write>(
+    shows: &S,
+    cpu: Cpu,
+    limit: usize,
+    alloc: &A,
+    image: &MachO<'_, A>,
+    out: &mut O,
+    err: &mut E,
+) -> io::Result<bool>
+    ensures { (bytes : List ℕ) → IsImage bytes 0 image.now
+        → IfOk result (λ whole. (shown : Shown) × ShowsFile cpu (S.names shows.now) (S.lines shows.now) limit bytes shown × (shown.whole ≡ whole)
+        × Writes shown (O.contents out.old) (O.contents out.new) (E.contents err.old) (E.contents err.new)) }
+{
+    if !cpu.takes(image.header.cputype, image.header.cpusubtype) {
+        return refuse_other(shows, cpu, err);
+    }
+    match shows.show(alloc, image, Heading::None, limit, out) {
+        Ok(outcome) => Ok(outcome.whole),
+        Err(Failure::Memory) => refuse(shows, &Error::Memory(AllocError), err),
+        Err(Failure::Unwritten(error)) => Err(error),
+    }
+}
+
+// Shows the entries of a fat file that are asked for, if it has one.
+fn show_fat<S: Shows, A: Allocator + Clone, O: Write, E: Write>(
+    shows: &S,
+    cpu: Cpu,
+    limit: usize,
+    alloc: &A,
+    container: &MultiArch<'_, A>,
+    records: &[FatArch],
+    out: &mut O,
+    err: &mut E,
+) -> io::Result<bool>
+    ensures { IfOk result (λ whole. (shown : Shown)
+        × ShowsFat cpu (S.names shows.now) (S.lines shows.now) limit (file_held container.now) records.now shown × (shown.whole ≡ whole)
+        × Writes shown (O.contents out.old) (O.contents out.new) (E.contents err.old) (E.contents err.new)) }
+{
+    if cpu.misses(records) {
+        return refuse_all(shows, cpu, err);
+    }
+    show_entries(shows, cpu, limit, alloc, container, records, out, err)
+}
+
+// Shows the entries of a fat file that are asked for, up to one for which memory is refused, and answers whether all of them are whole.
+fn show_entries<S: Shows, A: Allocator + Clone, O: Write, E: Write>(
+    shows: &S,
+    cpu: Cpu,
+    limit: usize,
+    alloc: &A,
+    container: &MultiArch<'_, A>,
+    records: &[FatArch],
+    out: &mut O,
+    err: &mut E,
+) -> io::Result<bool>
+    ensures { misses cpu records.now ≡ false → IfOk result (λ whole. (shown : Shown)
+        × ShowsFat cpu (S.names shows.now) (S.lines shows.now) limit (file_held container.now) records.now shown × (shown.whole ≡ whole)
+        × Writes shown (O.contents out.old) (O.contents out.new) (E.contents err.old) (E.contents err.new)) }
+{
+    let mut whole = true;
+    let mut left = limit;
+    'entries: for (index, arch) in records.iter().enumerate() {
+        match show_asked(shows, cpu, left, alloc, container, index, arch, out, err) {
+            Ok(outcome) => {
+                whole &= outcome.whole;
+                left = outcome.left;
+            }
+            Err(Failure::Memory) => return refuse(shows, &Error::Memory(AllocError), err),
+            Err(Failure::Unwritten(error)) => return Err(error),
+        }
+    }
+    Ok(whole)
+}
+
+// Shows the entry of a record, if it is asked for, and answers whether it is whole, and how many lines are left.
+fn show_asked<S: Shows, A: Allocator + Clone, O: Write, E: Write>(
+    shows: &S,
+    cpu: Cpu,
+    left: usize,
+    alloc: &A,
+    container: &MultiArch<'_, A>,
+    index: usize,
+    arch: &FatArch,
+    out: &mut O,
+    err: &mut E,
+) -> std::result::Result<Outcome, Failure>
+    ensures shown { IfOk result (λ outcome. (shown : Shown)
+        × ShowsAsked cpu (S.names shows.now) (S.lines shows.now) left index arch.now (entry_at (file_held container.now) index) shown
+        × (shown.whole ≡ outcome.whole) × (shown.left ≡ outcome.left)
+        × Writes shown (O.contents out.old) (O.contents out.new) (E.contents err.old) (E.contents err.new)) }
+    ensures memory { IfErr result (IfMemory (Writes (nothing left) (O.contents out.old) (O.contents out.new) (E.contents err.old) (E.contents err.new))) }
+{
+    if !cpu.takes_entry(arch) {
+        return Ok(Outcome { whole: true, left });
+    }
+    show_entry(shows, left, alloc, container, index, out, err)
+}
+
+// Shows an entry under its line, and answers whether it is whole, and how many lines are left.
+fn show_entry<S: Shows, A: Allocator + Clone, O: Write, E: Write>(
+    shows: &S,
+    left: usize,
+    alloc: &A,
+    container: &MultiArch<'_, A>,
+    index: usize,
+    out: &mut O,
+    err: &mut E,
+) -> std::result::Result<Outcome, Failure>
+    ensures shown { IfOk result (λ outcome. (shown : Shown)
+        × ShowsEntry (S.names shows.now) (S.lines shows.now) left index (entry_at (file_held container.now) index) shown
+        × (shown.whole ≡ outcome.whole) × (shown.left ≡ outcome.left)
+        × Writes shown (O.contents out.old) (O.contents out.new) (E.contents err.old) (E.contents err.new)) }
+    ensures memory { IfErr result (IfMemory (Writes (nothing left) (O.contents out.old) (O.contents out.new) (E.contents err.old) (E.contents err.new))) }
+{
+    match container.get(index) {
+        Ok(SingleArch::MachO(image)) => shows.show(alloc, &image, Heading::Arch(index), left, out),
+        Ok(SingleArch::Archive(_)) => {
+            writeln!(out, "arch {index}")?;
+            writeln!(out, "archive")?;
+            Ok(Outcome { whole: true, left })
+        }
+        Err(error) => {
+            let error = told(error)?;
+            refuse_entry(shows, index, &error, out, err)?;
+            Ok(Outcome { whole: false, left })
+        }
+    }
+}
+
+// An error that tells of a fault; want of memory is answered as such.
+fn told(error: Error) -> std::result::Result<Error, AllocError>
+    ensures { IfOk result (λ e. (e ≡ error) × IsTold e) }
+{
+    match error {
+        Error::Memory(refused) => Err(refused),
+        other => Ok(other),
+    }
+}
+
+// Says why an entry is refused, under its line and on the error output.
+fn refuse_entry<S: Shows, O: Write, E: Write>(
+    shows: &S,
+    index: usize,
+    error: &Error,
+    out: &mut O,
+    err: &mut E,
+) -> io::Result<()>
+    ensures text { OnOk result (Appends (O.contents out.old) (O.contents out.new)
+        (arch_line index ++ (codes "refused: " ++ words_of error.now ++ codes "\n"))) }
+    ensures said { OnOk result (Appends (E.contents err.old) (E.contents err.new) (entry_complaint (S.names shows.now) index (words_of error.now))) }
+{
+    let (names, words) = (shows.names(), describe(error));
+    writeln!(out, "arch {index}")?;
+    writeln!(out, "refused: {words}")?;
+    writeln!(err, "{names}: arch {index}: {words}")
+}
+
+// Says why a file is refused: what it is, where it is none of Mach-O's. So it is not whole.
+fn refuse_file<S: Shows, E: Write>(
+    shows: &S,
+    bytes: &[u8],
+    error: &Error,
+    err: &mut E,
+) -> io::Result<bool>
+    ensures { IfOk result (λ whole. (whole ≡ false)
+        × Appends (E.contents err.old) (E.contents err.new) (complaint (S.names shows.now) (refused_words bytes.now error.now))) }
+{
+    let Some(kind) = refused_kind(bytes, error) else {
+        return refuse(shows, error, err);
+    };
+    let names = shows.names();
+    writeln!(err, "{names}: {kind}")?;
+    Ok(false)
+}
+
+// Says why no more is shown of a file; so it is not whole.
+fn refuse<S: Shows, E: Write>(shows: &S, error: &Error, err: &mut E) -> io::Result<bool>
+    ensures { IfOk result (λ whole. (whole ≡ false)
+        × Appends (E.contents err.old) (E.contents err.new) (complaint (S.names shows.now) (words_of error.now))) }
+{
+    let (names, words) = (shows.names(), describe(error));
+    writeln!(err, "{names}: {words}")?;
+    Ok(false)
+}
+
+// Says that the one image of a file is not asked for; so it is not whole.
+fn refuse_other<S: Shows, E: Write>(shows: &S, cpu: Cpu, err: &mut E) -> io::Result<bool>
+    ensures { IfOk result (λ whole. (whole ≡ false)
+        × Appends (E.contents err.old) (E.contents err.new) (complaint (S.names shows.now) (other_words cpu))) }
+{
+    let names = shows.names();
+    writeln!(err, "{names}: no image of {cpu}")?;
+    Ok(false)
+}
+
+// Says that no entry of a fat file is asked for; so it is not whole.
+fn refuse_all<S: Shows, E: Write>(shows: &S, cpu: Cpu, err: &mut E) -> io::Result<bool>
+    ensures { IfOk result (λ whole. (whole ≡ false)
+        × Appends (E.contents err.old) (E.contents err.new) (complaint (S.names shows.now) (no_entry_words cpu))) }
+{
+    let names = shows.names();
+    writeln!(err, "{names}: no entry of {cpu}")?;
+    Ok(false)
+}

@@ -1,3 +1,0 @@
-pub mod AloneSites
-pub mod WeakNames
-pub mod SameMore

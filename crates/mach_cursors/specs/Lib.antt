@@ -1,4 +1,0 @@
-pub mod Ranges
-pub mod SitesAlone
-pub mod WeakCursors
-pub mod RebaseCursors

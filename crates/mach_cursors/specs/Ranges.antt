@@ -1,6 +1,0 @@
--- What contracts see of the range of a stream.
-use Rattle.mach_streams.specs.Cut.{CutStream}
-use Rattle.mach_cursors.specs.declared.range.OpcodeRange.{OpcodeRange}
-
-abbrev pub range_view : OpcodeRange → CutStream
-range_view r = record { bytes = r.bytes.now; from = r.from; upto = r.upto }

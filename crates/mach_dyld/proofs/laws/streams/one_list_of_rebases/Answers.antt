@@ -1,0 +1,5 @@
+use Rattle.mach_dyld.proofs.StreamLaws.{one_list_of_rebases_lem}
+use Rattle.mach_dyld.proofs.laws.streams.one_list_of_rebases.Goals as goal
+
+pub returns : goal.returns
+returns c = one_list_of_rebases_lem

@@ -1,0 +1,18 @@
+-- What follows a place of the bytes of a trie, as far as a branch there goes by it.
+use Rattle.std.specs.Prelude.{◌≡◌, ◌<◌, ◌≤◌, ◌-◌, ℕ, length, take, drop, false, true, get_or, IfSome}
+use Rattle.std.specs.Str.{IsUtf8}
+use Rattle.mach_base.specs.Text.{is_zero}
+use Rattle.mach_dyld.specs.Nowhere.{LeadsNowhere}
+use Rattle.mach_dyld.specs.declared.trie_walk.Source.{Source}
+use Rattle.mach_dyld.specs.declared.trie_runs.Tail.{Tail}
+
+-- The bytes up to the end have no zero byte, one stands there unless the bytes end, and those from low on are UTF-8. Behind the
+-- end stands the number of a child that leads nowhere, if something is said to stand behind it.
+pub record IsTail (s : Source) (place : ℕ) (t : Tail) : Type 0 where
+  pub from_place : place ≤ t.low
+  pub to_end : t.low ≤ t.end
+  pub inside : t.end ≤ length s.bytes.now
+  pub no_zero : (k : ℕ) → place ≤ k → k < t.end → is_zero (get_or s.bytes.now k 0) ≡ false
+  pub zero : t.end < length s.bytes.now → is_zero (get_or s.bytes.now t.end 0) ≡ true
+  pub utf8 : IsUtf8 (take (t.end - t.low) (drop t.low s.bytes.now))
+  pub there : IfSome t.after (λ after. LeadsNowhere s t.end after × (t.end < length s.bytes.now))

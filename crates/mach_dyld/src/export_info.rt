@@ -1,0 +1,175 @@
+//! What an export stands for, by its flags.
+
+ghost use Rattle.std.specs.Prelude.{◌≡◌, codes};
+ghost use Rattle.mach_base.specs.Answer.{Reads};
+ghost use Rattle.mach_dyld.specs.Nodes.{library, name_of, regular_at, reexport_at, stub_at, info_at};
+ghost use Rattle.mach_dyld.specs.Exports.{text_in, info_of};
+ghost use Rattle.mach_base.specs.Text.{texts};
+ghost use Rattle.mach_dyld.specs.SymbolKind.{symbol_kind, kind_name};
+
+use mach_base::{Error, Result, Uleb128, read_text, uleb};
+
+/// The bits of an export's flags that tell its kind.
+pub const EXPORT_SYMBOL_FLAGS_KIND_MASK: u64 = 0x03;
+
+/// The kind of a symbol like most.
+pub const EXPORT_SYMBOL_FLAGS_KIND_REGULAR: u64 = 0x00;
+
+/// The kind of a symbol that every thread has for itself.
+pub const EXPORT_SYMBOL_FLAGS_KIND_THREAD_LOCAL: u64 = 0x01;
+
+/// The kind of a symbol whose address doesn't move with the image.
+pub const EXPORT_SYMBOL_FLAGS_KIND_ABSOLUTE: u64 = 0x02;
+
+/// The definition is weak: another may stand in its place.
+pub const EXPORT_SYMBOL_FLAGS_WEAK_DEFINITION: u64 = 0x04;
+
+/// The export is one of another library.
+pub const EXPORT_SYMBOL_FLAGS_REEXPORT: u64 = 0x08;
+
+/// The export is a stub with a resolver.
+pub const EXPORT_SYMBOL_FLAGS_STUB_AND_RESOLVER: u64 = 0x10;
+
+/// The kind of an exported symbol.
+#[derive(Clone, Copy, Debug)]
+pub enum SymbolKind {
+    /// Kind 0: a symbol like most.
+    Regular,
+    /// Kind 2: its address doesn't move with the image.
+    Absolute,
+    /// Kind 1: every thread has its own.
+    ThreadLocal,
+    /// Kind 3, with the whole of the flags.
+    UnknownSymbolKind(u64),
+}
+
+impl SymbolKind {
+    /// The kind that an export's flags tell by their low two bits.
+    pub fn new(flags: u64) -> SymbolKind
+        ensures { result ≡ symbol_kind flags }
+    {
+        match flags & EXPORT_SYMBOL_FLAGS_KIND_MASK {
+            EXPORT_SYMBOL_FLAGS_KIND_REGULAR => SymbolKind::Regular,
+            EXPORT_SYMBOL_FLAGS_KIND_THREAD_LOCAL => SymbolKind::ThreadLocal,
+            EXPORT_SYMBOL_FLAGS_KIND_ABSOLUTE => SymbolKind::Absolute,
+            _ => SymbolKind::UnknownSymbolKind(flags),
+        }
+    }
+
+    /// The name of the kind.
+    pub fn to_str(&self) -> &'static str
+        ensures { result.now ≡ kind_name self.now }
+    {
+        match self {
+            SymbolKind::Regular => "Regular",
+            SymbolKind::Absolute => "Absolute",
+            SymbolKind::ThreadLocal => "Thread_LOCAL",
+            SymbolKind::UnknownSymbolKind(_) => "Unknown",
+        }
+    }
+}
+
+/// What an export stands for.
+#[derive(Debug, Drop)]
+pub enum ExportInfo<'a> {
+    /// An address in the image, counted from its start.
+    Regular {
+        address: u64,
+        flags: u64,
+    },
+    /// A symbol of another library, under its own name or another.
+    Reexport {
+        lib: &'a str,
+        lib_symbol_name: Option<&'a str>,
+        flags: u64,
+    },
+    /// A stub, and a resolver to be called for the address to use, both counted from the image's start.
+    Stub {
+        stub_offset: Uleb128,
+        resolver_offset: Uleb128,
+        flags: u64,
+    },
+}
+
+impl<'a> ExportInfo<'a> {
+    /// What an export with these flags stands for, as it is spelled at an offset, or the first fault that
+    /// reading it in order meets. `libs` are the image's libraries, by ordinal; an ordinal at or past their
+    /// end is `Error::Malformed`, and it is looked up once the text of the re-export is read.
+    #[tactic(auto, unfolding(crate::specs::Nodes::info_at))]
+    pub fn parse(
+        bytes: &'a [u8],
+        libs: &[&'a str],
+        flags: u64,
+        offset: usize,
+    ) -> Result<ExportInfo<'a>>
+        ensures { Reads info_of result (info_at bytes.now (texts libs.now) flags offset) }
+    {
+        match SymbolKind::new(flags) {
+            SymbolKind::UnknownSymbolKind(_) => regular(bytes, flags, offset),
+            _ if flags & EXPORT_SYMBOL_FLAGS_REEXPORT != 0 => reexport(bytes, libs, flags, offset),
+            SymbolKind::Regular if flags & EXPORT_SYMBOL_FLAGS_STUB_AND_RESOLVER != 0 => {
+                stub(bytes, flags, offset)
+            }
+            _ => regular(bytes, flags, offset),
+        }
+    }
+}
+
+// The library of an ordinal.
+fn library<'a>(libs: &[&'a str], ordinal: u64) -> Result<&'a str>
+    ensures { Reads (λ lib. lib.now) result (library (texts libs.now) ordinal) }
+{
+    match libs.get(ordinal as usize) {
+        Some(lib) => Ok(*lib),
+        None => Err(Error::Malformed("an ordinal is one of a library")),
+    }
+}
+
+// The name in the other library, where it is not the export's own.
+fn name_of(text: &str) -> Option<&str>
+    ensures { text_in result ≡ name_of text.now }
+{
+    if text.is_empty() { None } else { Some(text) }
+}
+
+#[tactic(auto, unfolding(crate::specs::Nodes::regular_at))]
+fn regular(bytes: &[u8], flags: u64, place: usize) -> Result<ExportInfo<'_>>
+    ensures { Reads info_of result (regular_at bytes.now flags place) }
+{
+    let (address, _) = uleb(bytes, place)?;
+    Ok(ExportInfo::Regular { address, flags })
+}
+
+#[tactic(auto, unfolding(crate::specs::Nodes::reexport_at))]
+fn reexport<'a>(
+    bytes: &'a [u8],
+    libs: &[&'a str],
+    flags: u64,
+    place: usize,
+) -> Result<ExportInfo<'a>>
+    ensures { Reads info_of result (reexport_at bytes.now (texts libs.now) flags place) }
+{
+    let (ordinal, place) = uleb(bytes, place)?;
+    let name = read_text(bytes, place)?;
+    let lib = library(libs, ordinal)?;
+    let lib_symbol_name = name_of(name);
+    Ok(ExportInfo::Reexport {
+        lib,
+        lib_symbol_name,
+        flags,
+    })
+}
+
+// A stub's two offsets, one behind the other.
+#[tactic(auto, unfolding(crate::specs::Nodes::stub_at))]
+fn stub(bytes: &[u8], flags: u64, place: usize) -> Result<ExportInfo<'_>>
+    ensures { Reads info_of result (stub_at bytes.now flags place) }
+{
+    let stub_offset = Uleb128::parse(bytes, place)?;
+    let resolver_offset = Uleb128::parse(bytes, place + stub_offset.size())?;
+    Ok(ExportInfo::Stub {
+        stub_offset,
+        resolver_offset,
+        flags,
+    })
+}

@@ -1,0 +1,34 @@
+//! What dyld reads beside chained fixups: the export trie, and the streams of opcodes that bind imports, bind weakly and
+//! rebase pointers. All streams are read by one machine.
+#![tactic(auto)]
+
+// The export trie: all exports, an export at a time, and the export of one name.
+mod export_info;
+mod export_walk;
+pub mod exports;
+mod trie_cursor;
+mod trie_look_up;
+mod trie_marks;
+mod trie_node;
+mod trie_runs;
+mod trie_walk;
+
+// The machine of opcodes, imports as the Rust crate has them, and bindings as dyld makes them.
+pub mod bind_opcodes;
+pub mod bindings;
+pub mod imports;
+mod judging;
+pub mod machine;
+mod turns;
+
+// Rebases and weak binds, on that machine.
+mod cut;
+pub mod rebase_opcodes;
+pub mod rebases;
+pub mod weak_binds;
+
+// Laws.
+pub mod laws;
+
+pub use crate::rebases::{OpcodeRebaseIterator, Rebase, RebaseKind, RebaseStream};
+pub use crate::weak_binds::{WeakBind, WeakBindIterator, WeakBindStream};

@@ -1,0 +1,55 @@
+//! Whether a fault stands among weak binds: those of one instruction are judged at once.
+
+ghost use Rattle.std.specs.Prelude.{◌≡◌, ◌+◌, ◌≤◌};
+ghost use Rattle.mach_dyld.specs.BindingFaults.{has_fault};
+ghost use Rattle.mach_dyld.specs.WeakBindsLeft.{weak_binds_left, weak_reads_left};
+
+use crate::bindings::all_lie;
+use crate::machine::{JudgesAll, Settings, Source};
+use crate::weak_binds::{WeakBindIterator, WeakExtra};
+use mach_base::Steps;
+
+impl<'a> JudgesAll<'a> for WeakExtra {
+    fn all_make(
+        self,
+        source: &Source<'a, '_>,
+        settings: &Settings<'a>,
+        stride: u64,
+        count: u64,
+    ) -> bool {
+        if self.is_own {
+            return true;
+        }
+        if !self.is_complete() {
+            return false;
+        }
+        let (number, offset) = (settings.segment, settings.offset);
+        all_lie(
+            source.pointer,
+            source.segments,
+            number,
+            offset,
+            stride,
+            count,
+        )
+    }
+}
+
+impl WeakBindIterator<'_, '_> {
+    /// Whether a fault stands among the rows that are left. It takes no memory, and of each opcode a bounded time: so it is linear
+    /// in the bytes of the stream, however many rows there are.
+    pub fn has_fault(self) -> bool
+        ensures { result ≡ has_fault (weak_binds_left self.entry) }
+    {
+        self.has_fault_counted(&mut Steps::new())
+    }
+
+    /// The same, with the opcodes that are read added to a count: at most those that can be read, and one more.
+    pub fn has_fault_counted(self, steps: &mut Steps) -> bool
+        ensures fault { result ≡ has_fault (weak_binds_left self.entry) }
+        ensures bounded { steps.new ≤ steps.old + weak_reads_left self.entry + 1 }
+        ensures kept { steps.old ≤ steps.new }
+    {
+        self.stream.has_fault_counted(steps)
+    }
+}

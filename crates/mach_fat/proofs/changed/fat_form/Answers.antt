@@ -1,6 +1,0 @@
-use Rattle.mach_fat.specs.Changes.{fat_form_in}
-use Rattle.mach_fat.proofs.Refusals.{refused_file}
-use Rattle.mach_fat.proofs.changed.fat_form.Goals as goal
-
-pub returns-in-Err-clause-refused : goal.returns-in-Err-clause-refused
-returns-in-Err-clause-refused c = refused_file 0 c.in-Err.why (fat_form_in c.args.bytes.now) c.in-Err.ensures

@@ -1,0 +1,16 @@
+pub mod Pairs
+pub mod Laid
+pub mod Files
+pub mod Firsts
+pub mod Places
+pub mod Forms
+pub mod ReadBack
+pub mod Twos
+pub mod Set
+pub mod Long
+pub mod Refusals
+pub mod Gathered
+pub mod Replaced
+pub mod Totals
+pub mod Tables
+pub mod GatheredParts

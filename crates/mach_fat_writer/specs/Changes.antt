@@ -1,0 +1,128 @@
+-- A fat file that is made of one, and an entry that is asked for by its cpu.
+use Rattle.std.specs.Prelude.{◌≡◌, ◌==◌, ◌⊎◌, ℕ, ◌+◌, List, [], ◌∷◌, ◌++◌, length, take, drop, map, nat_lt, Option, Some, None, Result, Ok, Err}
+use Rattle.std.specs.Prelude.{if◌then◌else◌}
+use Rattle.std.specs.List.{list_any}
+use Rattle.mach_base.specs.Answer.{Stands}
+use Rattle.mach_base.specs.Fault.{Fault, bad_magic}
+use Rattle.mach_base.specs.declared.context.Ctx.{Ctx}
+use Rattle.mach_base.specs.declared.error.Error.{Error}
+use Rattle.mach_parts.specs.Magic.{magic_at}
+use Rattle.mach_fat_writer.specs.CreatedEntries.{created_entry}
+use Rattle.mach_fat_writer.specs.Entries.{FatEntryView, are_of_one_cpu}
+use Rattle.mach_fat_writer.specs.FatForms.{FatForm}
+use Rattle.mach_fat_writer.specs.FatWrites.{fat_file_of, RefusesFat}
+use Rattle.mach_fat_writer.specs.Creates.{UnfitFile, IsFileOf, RefusesEntries, RefusesFiles}
+use Rattle.mach_fat_writer.specs.EntriesRead.{slice_of, fat_entries_in}
+use Rattle.mach_fat_writer.specs.FatTables.{form_in, header_count_in, fat_record_in, fat_table_in}
+use Rattle.mach_fat_writer.specs.Unfit.{Unfit, unread, not_fat, out_of_file, no_such_entry, no_such_cpu, if_fit, if_read}
+use Rattle.mach_fat_writer.specs.declared.entry_record.EntryRecord.{EntryRecord}
+use Rattle.mach_fat_writer.specs.declared.refusal.MakeRefusal.{MakeRefusal}
+use Rattle.mach_fat_writer.specs.declared.refusal.MakeRefusal.TheVariants.{OfFile, OfAll}
+
+-- why bytes are no fat file: they begin as an image does, or as nothing that is known, or not at all
+abbrev pub no_fat_by : Result (ℕ × Option Ctx) Fault → Unfit
+no_fat_by (Ok (magic, Some ctx)) = not_fat
+no_fat_by (Ok (magic, None)) = unread (bad_magic magic)
+no_fat_by (Err f) = unread f
+
+abbrev pub fat_form_by : Option FatForm → List ℕ → Result FatForm Unfit
+fat_form_by (Some form) bytes = Ok form
+fat_form_by None bytes = Err (no_fat_by (magic_at bytes 0))
+
+-- the form of a fat file, or why the bytes are none
+abbrev pub fat_form_in : List ℕ → Result FatForm Unfit
+fat_form_in bytes = fat_form_by (form_in bytes) bytes
+
+-- the bytes of the entry of record i, if they are in the file
+abbrev pub slice_or_out : ℕ → Option (List ℕ) → Result (List ℕ) Unfit
+slice_or_out i (Some slice) = Ok slice
+slice_or_out i None = Err (out_of_file i)
+
+-- those of the first entry of a cputype, among records that are numbered from i on
+abbrev pub first_for_cpu : List ℕ → ℕ → ℕ → List EntryRecord → Result (List ℕ) Unfit
+first_for_cpu bytes cputype i [] = Err (no_such_cpu cputype)
+first_for_cpu bytes cputype i (r ∷ rs) =
+    if r.cputype == cputype then slice_or_out i (slice_of bytes r) else first_for_cpu bytes cputype (i + 1) rs
+
+-- The records of a fat file of either form.
+abbrev pub fat_records_in : List ℕ → Result (List EntryRecord) Unfit
+fat_records_in bytes = if_fit (λ form. if_read (fat_table_in form bytes)) (fat_form_in bytes)
+
+-- The bytes of the first entry of a cputype in it.
+abbrev pub thin_entry_in : List ℕ → ℕ → Result (List ℕ) Unfit
+thin_entry_in bytes cputype = if_fit (first_for_cpu bytes cputype 0) (fat_records_in bytes)
+
+-- those of the entry of an index in a file of this form, which says that it has n entries
+abbrev pub indexed_of : FatForm → List ℕ → (i n : ℕ) → Result (List ℕ) Unfit
+indexed_of form bytes i n =
+    if nat_lt i n then if_fit (λ r. slice_or_out i (slice_of bytes r)) (if_read (fat_record_in form bytes i)) else Err (no_such_entry i)
+
+-- The bytes of the entry of an index in a fat file of either form; no other record is looked at.
+abbrev pub indexed_entry_in : List ℕ → ℕ → Result (List ℕ) Unfit
+indexed_entry_in bytes i = if_fit (λ form. if_fit (indexed_of form bytes i) (if_read (header_count_in bytes))) (fat_form_in bytes)
+
+-- what is there of a file, by its index among those that are given
+abbrev pub of_file : {A : Type 0} → ℕ → Result A Unfit → Result A UnfitFile
+of_file i (Ok x) = Ok x
+of_file i (Err why) = Err (record { file = i; why = why })
+
+-- an entry, or `new`, where both are for one cpu
+abbrev pub replaced_entry : FatEntryView → FatEntryView → FatEntryView
+replaced_entry new e = if are_of_one_cpu e new then new else e
+
+-- entries with `new` in the place of each that is for its cpu, of which there is one at least
+abbrev pub replaced_among : List FatEntryView → FatEntryView → Result (List FatEntryView) Unfit
+replaced_among es new =
+    if list_any (λ e. are_of_one_cpu e new) es then Ok (map (replaced_entry new) es) else Err (no_such_cpu new.cputype)
+
+-- entries without that of an index
+abbrev pub others_among : ℕ → List FatEntryView → Result (List FatEntryView) Unfit
+others_among i es = if nat_lt i (length es) then Ok (take i es ++ drop (i + 1) es) else Err (no_such_entry i)
+
+-- the entries of a fat file of this form, with the one that `new` becomes in the place of each for its cpu; the fat file is file 0, `new` is 1
+abbrev pub replaced_in : List ℕ → List ℕ → FatForm → Result (List FatEntryView) UnfitFile
+replaced_in bytes new form =
+    if_fit (λ es. if_fit (λ e. of_file 0 (replaced_among es e)) (of_file 1 (if_read (created_entry new)))) (of_file 0 (fat_entries_in form bytes))
+
+-- the entries of a fat file of this form without that of an index
+abbrev pub others_in : List ℕ → ℕ → FatForm → Result (List FatEntryView) Unfit
+others_in bytes i form = if_fit (others_among i) (fat_entries_in form bytes)
+
+-- The fat file that another one becomes where `new` takes the place of each entry for its cpu: it is of the same form, and its entries
+-- stand as in one that is created.
+pub record IsReplaced (bytes new file : List ℕ) : Type 0 where
+  pub form : FatForm
+  pub is_form : fat_form_in bytes ≡ Ok form
+  pub is_file : IsFileOf form (replaced_in bytes new form) file
+
+-- there is none, for what its entries are together
+pub record RefusesReplaced (bytes new : List ℕ) (e : Error) : Type 0 where
+  pub form : FatForm
+  pub is_form : fat_form_in bytes ≡ Ok form
+  pub refuses : RefusesEntries form (replaced_in bytes new form) e
+
+-- Why there is none: one of both files is refused, or its entries together; or want of memory.
+abbrev pub RefusesReplace : List ℕ → List ℕ → MakeRefusal → Type 0
+RefusesReplace bytes new (OfFile refusal) = RefusesFiles refusal (if_fit (replaced_in bytes new) (of_file 0 (fat_form_in bytes)))
+RefusesReplace bytes new (OfAll e) = Stands (λ f. ⊥) e ⊎ RefusesReplaced bytes new e
+
+-- The fat file that another one becomes without the entry of an index: it is of the same form, and the others stand in their order.
+pub record IsWithout (bytes : List ℕ) (i : ℕ) (file : List ℕ) : Type 0 where
+  pub form : FatForm
+  pub is_form : fat_form_in bytes ≡ Ok form
+  pub others : List FatEntryView
+  pub are_others : others_in bytes i form ≡ Ok others
+  pub is_file : fat_file_of form others ≡ Ok file
+
+-- there is none, for what the others are together
+pub record RefusesOthers (bytes : List ℕ) (i : ℕ) (e : Error) : Type 0 where
+  pub form : FatForm
+  pub is_form : fat_form_in bytes ≡ Ok form
+  pub others : List FatEntryView
+  pub are_others : others_in bytes i form ≡ Ok others
+  pub says : RefusesFat e (fat_file_of form others)
+
+-- Why there is none: the file is refused, or the others together; or want of memory.
+abbrev pub RefusesRemove : List ℕ → ℕ → MakeRefusal → Type 0
+RefusesRemove bytes i (OfFile refusal) = RefusesFiles refusal (if_fit (λ form. of_file 0 (others_in bytes i form)) (of_file 0 (fat_form_in bytes)))
+RefusesRemove bytes i (OfAll e) = Stands (λ f. ⊥) e ⊎ RefusesOthers bytes i e

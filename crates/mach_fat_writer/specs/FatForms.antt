@@ -1,0 +1,75 @@
+-- Fat files as they are written (`mach-o/fat.h`): a header, a record for each entry, and the entries' bytes, each at a place that its
+-- alignment divides.
+use Rattle.std.specs.Prelude.{ℕ, ◌+◌, ◌-◌, ◌*◌, ◌%◌, ◌^◌, List, [], ◌∷◌, ◌++◌, length, replicate}
+use Rattle.mach_base.specs.Record.{Field, Value, number_is, size, spelling}
+use Rattle.mach_base.specs.declared.context.Endian.TheVariants.{Big}
+use Rattle.mach_parts.specs.Fat.{fat_header_fields, fat_arch_fields}
+use Rattle.mach_fat_writer.specs.Entries.{FatEntryView}
+use Rattle.mach_parts.specs.FatRecords.{fat_arch_64_fields}
+
+-- a form: its magic, the fields of a record, their values by the entry and its place, and the largest place and length that they hold
+pub record FatForm : Type 0 where
+  pub magic : ℕ
+  pub fields : List Field
+  pub values : FatEntryView → ℕ → List Value
+  pub most : ℕ
+
+abbrev pub record_of_32 : FatEntryView → ℕ → List Value
+record_of_32 e place =
+    number_is e.cputype ∷ number_is e.cpusubtype ∷ number_is place ∷ number_is (length e.bytes) ∷ number_is e.align ∷ []
+
+abbrev pub record_of_64 : FatEntryView → ℕ → List Value
+record_of_64 e place =
+    number_is e.cputype ∷ number_is e.cpusubtype ∷ number_is place ∷ number_is (length e.bytes) ∷ number_is e.align
+    ∷ number_is 0 ∷ []
+
+-- places and lengths of 32 bits, and of 64
+abbrev pub fat_form_32 : FatForm
+fat_form_32 = record { magic = 0xcafe_babe; fields = fat_arch_fields; values = record_of_32; most = 2 ^ 32 - 1 }
+
+abbrev pub fat_form_64 : FatForm
+fat_form_64 = record { magic = 0xcafe_babf; fields = fat_arch_64_fields; values = record_of_64; most = 2 ^ 64 - 1 }
+
+-- where the table ends: behind the header and n records
+abbrev pub table_end : FatForm → ℕ → ℕ
+table_end form n = 8 + size form.fields * n
+
+-- how many zeros stand between a place and the next multiple of 2 to the power of align
+abbrev pub gap_behind : ℕ → ℕ → ℕ
+gap_behind from align = (2 ^ align - from % 2 ^ align) % 2 ^ align
+
+-- the place of an entry behind those that end at `from`, and where it ends
+abbrev pub fat_place_behind : ℕ → FatEntryView → ℕ
+fat_place_behind from e = from + gap_behind from e.align
+
+abbrev pub end_behind : ℕ → FatEntryView → ℕ
+end_behind from e = fat_place_behind from e + length e.bytes
+
+-- the places of entries, the first of which stands behind those that end at `from`, and where the last one ends
+abbrev pub fat_places : ℕ → List FatEntryView → List ℕ
+fat_places from [] = []
+fat_places from (e ∷ es) = fat_place_behind from e ∷ fat_places (end_behind from e) es
+
+abbrev pub fat_end : ℕ → List FatEntryView → ℕ
+fat_end from [] = from
+fat_end from (e ∷ es) = fat_end (end_behind from e) es
+
+-- the records of entries, one behind the other
+abbrev pub fat_records : FatForm → ℕ → List FatEntryView → List ℕ
+fat_records form from [] = []
+fat_records form from (e ∷ es) =
+    spelling Big form.fields (form.values e (fat_place_behind from e)) ++ fat_records form (end_behind from e) es
+
+-- the entries' bytes, each behind its zeros
+abbrev pub fat_contents : ℕ → List FatEntryView → List ℕ
+fat_contents from [] = []
+fat_contents from (e ∷ es) = replicate (gap_behind from e.align) 0 ++ (e.bytes ++ fat_contents (end_behind from e) es)
+
+-- the file: magic and count, the table, the entries; nothing is behind the last one
+abbrev pub fat_front : FatForm → ℕ → List ℕ
+fat_front form n = spelling Big fat_header_fields (number_is form.magic ∷ number_is n ∷ [])
+
+unfoldable pub fat_bytes : FatForm → List FatEntryView → List ℕ
+fat_bytes form es =
+    let from = table_end form (length es) in
+    fat_front form (length es) ++ (fat_records form from es ++ fat_contents from es)

@@ -1,0 +1,13 @@
+pub mod Entries
+pub mod FatForms
+pub mod FatWrites
+pub mod FatReads
+pub mod CreatedEntries
+pub mod CreatedOrder
+pub mod Placed
+pub mod FatTables
+pub mod Unfit
+pub mod EntriesRead
+pub mod Creates
+pub mod Changes
+pub mod Parts

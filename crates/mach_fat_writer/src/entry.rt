@@ -1,0 +1,67 @@
+//! The entries that a fat file is made of.
+
+ghost use Rattle.std.specs.Prelude.{◌≡◌};
+ghost use Rattle.mach_base.specs.Answer.{Reads};
+ghost use Rattle.mach_fat_writer.specs.CreatedEntries.{created_entry};
+ghost use Rattle.mach_fat_writer.specs.Entries.{fat_entry_view};
+
+use crate::cpu::Cpu;
+use mach_base::{ByteCount, Error, Result};
+use mach_parts::magic::parse_magic_and_ctx;
+use std::fmt;
+
+/// An entry that a fat file is to have: an image or an archive for one cpu.
+#[derive(Clone, Copy)]
+pub struct FatEntry<'a> {
+    /// The cpu, one of the `CPU_TYPE_` constants.
+    pub cputype: u32,
+    /// The kind of this cpu, and its capabilities in the top 8 bits.
+    pub cpusubtype: u32,
+    /// Its place is a multiple of 2 to this power.
+    pub align: u32,
+    /// Its bytes, whatever they are.
+    pub bytes: &'a [u8],
+}
+
+impl<'a> FatEntry<'a> {
+    /// The entry that a file becomes. An image's cpu is that of its header, of which 28 bytes are read, and no more; an archive's is that of all
+    /// its members, which are images. Another file is refused with `BadMagic` of its first four bytes.
+    pub fn of(bytes: &'a [u8]) -> Result<FatEntry<'a>>
+        ensures { Reads fat_entry_view result (created_entry bytes.now) }
+    {
+        let (magic, ctx) = parse_magic_and_ctx(bytes, 0)?;
+        if let Some(ctx) = ctx {
+            let cpu = Cpu::of_image(bytes, ctx)?;
+            return Ok(FatEntry::of_cpu(cpu, cpu.image_align(), bytes));
+        }
+        if bytes.starts_with(b"!<arch>\n") {
+            let cpu = Cpu::of_archive(bytes)?;
+            return Ok(FatEntry::of_cpu(cpu, cpu.archive_align(), bytes));
+        }
+        Err(Error::BadMagic(u64::from(magic)))
+    }
+
+    // The entry of some bytes for a cpu.
+    fn of_cpu(cpu: Cpu, align: u32, bytes: &'a [u8]) -> FatEntry<'a>
+        ensures { fat_entry_view result ≡ record { cputype = cpu.cputype; cpusubtype = cpu.cpusubtype; align = align; bytes = bytes.now } }
+    {
+        FatEntry {
+            cputype: cpu.cputype,
+            cpusubtype: cpu.cpusubtype,
+            align,
+            bytes,
+        }
+    }
+}
+
+impl fmt::Debug for FatEntry<'_> {
+    /// Its cpu and its alignment; of the bytes only how many they are.
+    fn fmt<W: fmt::Write>(&self, f: &mut fmt::Formatter<W>) -> fmt::Result {
+        f.debug_struct("FatEntry")
+            .field("cputype", &self.cputype)
+            .field("cpusubtype", &self.cpusubtype)
+            .field("align", &self.align)
+            .field("bytes", &ByteCount(self.bytes))
+            .finish()
+    }
+}

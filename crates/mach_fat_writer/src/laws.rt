@@ -1,0 +1,51 @@
+//! Laws of fat files that are written: what they say is what they were written of.
+
+ghost use Rattle.std.specs.Prelude.{◌≡◌, ◌↔◌, ◌+◌, ◌%◌, ◌^◌, ◌<◌, ◌≤◌, ℕ, List, ◌∷◌, ◌++◌, Ok, length, true};
+ghost use Rattle.mach_base.specs.Number.{number};
+ghost use Rattle.mach_base.specs.Record.{Value};
+ghost use Rattle.mach_base.specs.declared.context.Endian.TheVariants.{Big};
+ghost use Rattle.mach_fat_writer.specs.Entries.{FatEntryView, HasTwo, any_two, are_of_one_cpu};
+ghost use Rattle.mach_fat_writer.specs.FatForms.{fat_form_32, fat_form_64, table_end, gap_behind, fat_place_behind, end_behind, fat_end};
+ghost use Rattle.mach_fat_writer.specs.FatReads.{HaveNumbers, records_said, records_of, entries_of_records};
+ghost use Rattle.mach_fat_writer.specs.FatWrites.{fat_file_of};
+
+/// A file that was written begins with its magic, ends with its last entry, says exactly the records of its entries, in their order, and at
+/// their places lie the entries' bytes.
+pub fn entries_are_read_back()
+    ensures of_32 { (es : List FatEntryView) (file : List ℕ) → HaveNumbers es → fat_file_of fat_form_32 es ≡ Ok file
+        → (number Big 4 file ≡ 0xcafe_babe) × (length file ≡ fat_end (table_end fat_form_32 (length es)) es)
+        × (records_said fat_form_32 file ≡ Ok (records_of fat_form_32 (table_end fat_form_32 (length es)) es))
+        × (entries_of_records file (records_of fat_form_32 (table_end fat_form_32 (length es)) es) ≡ es) }
+    ensures of_64 { (es : List FatEntryView) (file : List ℕ) → HaveNumbers es → fat_file_of fat_form_64 es ≡ Ok file
+        → (number Big 4 file ≡ 0xcafe_babf) × (length file ≡ fat_end (table_end fat_form_64 (length es)) es)
+        × (records_said fat_form_64 file ≡ Ok (records_of fat_form_64 (table_end fat_form_64 (length es)) es))
+        × (entries_of_records file (records_of fat_form_64 (table_end fat_form_64 (length es)) es) ≡ es) }
+{}
+
+/// The file of the entries that a written file says is that file.
+pub fn entries_are_written_again()
+    ensures of_32 { (es : List FatEntryView) (file : List ℕ) (records : List (List Value)) → HaveNumbers es → fat_file_of fat_form_32 es ≡ Ok file
+        → records_said fat_form_32 file ≡ Ok records → fat_file_of fat_form_32 (entries_of_records file records) ≡ Ok file }
+    ensures of_64 { (es : List FatEntryView) (file : List ℕ) (records : List (List Value)) → HaveNumbers es → fat_file_of fat_form_64 es ≡ Ok file
+        → records_said fat_form_64 file ≡ Ok records → fat_file_of fat_form_64 (entries_of_records file records) ≡ Ok file }
+{}
+
+/// A place is the first multiple of 2 to the power of the alignment that is at or behind the end before.
+pub fn places_are_multiples()
+    ensures { (from align : ℕ) → ((from + gap_behind from align) % 2 ^ align ≡ 0) × (from ≤ from + gap_behind from align)
+        × (from + gap_behind from align < from + 2 ^ align) }
+{}
+
+/// No entry lies in the table, and of two the first ends where the second begins or before.
+#[tactic(auto, using(crate::proofs::Places::stands_behind, crate::proofs::Places::stand_apart))]
+pub fn entries_stand_apart()
+    ensures table { (from : ℕ) (before : List FatEntryView) (e : FatEntryView) → from ≤ fat_place_behind (fat_end from before) e }
+    ensures entries { (from : ℕ) (before between : List FatEntryView) (e f : FatEntryView)
+        → end_behind (fat_end from before) e ≤ fat_place_behind (fat_end from (before ++ e ∷ between)) f }
+{}
+
+/// Entries are refused for one cpu exactly where two of them stand, one behind the other, that are of one.
+#[tactic(auto, using(crate::proofs::Twos::any_two_are_two))]
+pub fn two_of_one_cpu_stand()
+    ensures { (es : List FatEntryView) → (any_two are_of_one_cpu es ≡ true) ↔ HasTwo are_of_one_cpu es }
+{}

@@ -1,0 +1,42 @@
+//! Fat files of 32 and of 64 bits (`mach-o/fat.h`), taken apart and made: of a table its records and its entries, of entries a
+//! file, of a file another with an entry replaced or removed, and a file of parts of some bytes, which C hands in by their places.
+#![tactic(auto)]
+
+// Entries, and the file that is written of them.
+mod cpu;
+mod cpus;
+mod entry;
+mod fat_record;
+mod into;
+mod order;
+mod put;
+mod write;
+
+// Files taken apart, and made of others.
+mod changed;
+mod created;
+mod entries;
+mod entry_record;
+mod form;
+mod refusal;
+mod thin;
+
+// A file of parts of some bytes.
+mod part;
+
+// Laws.
+pub mod laws;
+
+pub use crate::changed::{remove, replace};
+pub use crate::created::create;
+pub use crate::entries::{fat_entries, file_entries};
+pub use crate::entry::FatEntry;
+pub use crate::entry_record::EntryRecord;
+pub use crate::form::Form;
+pub use crate::into::{write_fat_into, write_fat64_into};
+pub use crate::order::fat_order;
+pub use crate::part::{FatPart, write_parts};
+pub use crate::refusal::{EntryRefusal, FileRefusal, MakeRefusal};
+pub use crate::thin::{fat_records, indexed_entry, thin_entry};
+pub use crate::write::{write_fat, write_fat64};
+pub use mach_parts::{FAT_MAGIC_64, FatArch64, SIZEOF_FAT_ARCH_64};

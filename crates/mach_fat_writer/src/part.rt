@@ -1,0 +1,100 @@
+//! A part of some bytes as an entry of a fat file.
+
+ghost use Rattle.std.specs.Prelude.{◌≡◌, MatchResult, OnErr, Ok};
+ghost use Rattle.mach_base.specs.Answer.{Gives, Reads, Stands};
+ghost use Rattle.mach_fat_writer.specs.Entries.{entry_views, fat_entry_view};
+ghost use Rattle.mach_fat_writer.specs.FatWrites.{fat_file_of, RefusesFat};
+ghost use Rattle.mach_fat_writer.specs.Placed.{IsWrittenInto};
+ghost use Rattle.mach_fat_writer.specs.Parts.{form_by, part_entries, part_entry, IsPartsFault, MakesFat};
+
+use crate::entry::FatEntry;
+use crate::into::{write_fat_into, write_fat64_into};
+use mach_base::{Error, Result, ScrollError};
+use std::alloc::Allocator;
+
+/// An entry that a fat file is to have: so many of some bytes, from a place on.
+#[derive(Clone, Copy)]
+#[repr(C)]
+pub struct FatPart {
+    pub offset: usize,
+    pub len: usize,
+    /// The cpu, and its kind with its capabilities.
+    pub cputype: u32,
+    pub cpusubtype: u32,
+    /// Its place in the file is a multiple of 2 to this power.
+    pub align: u32,
+    pub reserved: u32,
+}
+
+// The entry of a part, where it lies in the bytes.
+fn entry_of<'a>(bytes: &'a [u8], part: &FatPart) -> Result<FatEntry<'a>>
+    ensures { Reads fat_entry_view result (part_entry bytes.now part.now) }
+{
+    if part.offset > bytes.len() {
+        return Err(Error::Scroll(ScrollError::BadOffset(part.offset)));
+    }
+    let left = bytes.len() - part.offset;
+    if part.len > left {
+        return Err(Error::Scroll(ScrollError::TooBig {
+            size: part.len,
+            len: left,
+        }));
+    }
+    Ok(FatEntry {
+        cputype: part.cputype,
+        cpusubtype: part.cpusubtype,
+        align: part.align,
+        bytes: &bytes[part.offset..part.offset + part.len],
+    })
+}
+
+// The entries of parts, in order.
+fn entries_of<'a, A: Allocator>(
+    alloc: A,
+    bytes: &'a [u8],
+    parts: &[FatPart],
+) -> Result<Vec<FatEntry<'a>, A>>
+    ensures { Gives (λ entries. entry_views entries.items) result (part_entries bytes.now parts.now) }
+{
+    let mut entries = Vec::with_capacity(alloc, parts.len())?;
+    for part in parts {
+        let entry = entry_of(bytes, part)?;
+        entries.push(entry)?;
+    }
+    Ok(entries)
+}
+
+// Writes the fat file of some entries, of 64 bits or of 32.
+fn write_entries<A: Allocator>(
+    alloc: A,
+    is_64: bool,
+    entries: &[FatEntry<'_>],
+    out: &mut [u8],
+) -> Result<usize>
+    ensures written { MatchResult result (λ len. IsWrittenInto len (fat_file_of (form_by is_64) (entry_views entries.now)) out.old out.new)
+        (λ e. RefusesFat e (fat_file_of (form_by is_64) (entry_views entries.now))) }
+    ensures kept { OnErr result (out.new ≡ out.old) }
+{
+    if is_64 {
+        write_fat64_into(alloc, entries, out)
+    } else {
+        write_fat_into(alloc, entries, out)
+    }
+}
+
+/// Writes the fat file of some parts of these bytes, in their order, into the front of `out`, where it fits, and answers how many bytes it has. Nothing is
+/// written where it doesn't fit. The first part that isn't in the bytes refuses them all; then it is refused as `write_fat` refuses it.
+pub fn write_parts<A: Allocator>(
+    alloc: A,
+    bytes: &[u8],
+    parts: &[FatPart],
+    is_64: bool,
+    out: &mut [u8],
+) -> Result<usize>
+    ensures written { MatchResult result (λ len. MakesFat bytes.now parts.now (form_by is_64) len out.old out.new)
+        (λ e. Stands (IsPartsFault bytes.now parts.now (form_by is_64)) e) }
+    ensures kept { OnErr result (out.new ≡ out.old) }
+{
+    let entries = entries_of(&alloc, bytes, parts)?;
+    write_entries(&alloc, is_64, entries.as_slice(), out)
+}

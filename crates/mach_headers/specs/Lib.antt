@@ -1,5 +1,0 @@
-pub mod Cpu
-pub mod Header
-pub mod HeaderNames
-pub mod Fat
-pub mod Magic

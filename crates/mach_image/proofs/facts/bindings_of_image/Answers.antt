@@ -1,5 +1,0 @@
-use Rattle.mach_image.proofs.ImageFacts.{bindings_are}
-use Rattle.mach_image.proofs.facts.bindings_of_image.Goals as goal
-
-pub returns : goal.returns
-returns g c = bindings_are c.args.image.now

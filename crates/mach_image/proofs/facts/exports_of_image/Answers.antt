@@ -1,8 +1,0 @@
-use Rattle.mach_image.proofs.ImageFacts.{exports_are, exports_fail}
-use Rattle.mach_image.proofs.facts.exports_of_image.Goals as goal
-
-pub returns-clause-listed : goal.returns-clause-listed
-returns-clause-listed g c = exports_are c.args.image.now
-
-pub returns-clause-faults : goal.returns-clause-faults
-returns-clause-faults g c = exports_fail c.args.image.now

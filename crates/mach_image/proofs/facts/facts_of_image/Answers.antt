@@ -1,5 +1,0 @@
-use Rattle.mach_image.proofs.ImageFacts.{facts_are_held}
-use Rattle.mach_image.proofs.facts.facts_of_image.Goals as goal
-
-pub returns : goal.returns
-returns g c = facts_are_held c.args.image.now

@@ -1,5 +1,0 @@
-use Rattle.mach_image.proofs.ImageFacts.{libraries_are}
-use Rattle.mach_image.proofs.facts.libraries_of_image.Goals as goal
-
-pub returns : goal.returns
-returns g c = libraries_are c.args.image.now

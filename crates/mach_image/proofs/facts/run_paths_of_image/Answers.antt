@@ -1,5 +1,0 @@
-use Rattle.mach_image.proofs.ImageFacts.{run_paths_are}
-use Rattle.mach_image.proofs.facts.run_paths_of_image.Goals as goal
-
-pub returns : goal.returns
-returns g c = run_paths_are c.args.image.now

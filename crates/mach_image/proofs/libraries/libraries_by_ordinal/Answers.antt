@@ -1,5 +1,0 @@
-use Rattle.mach_image.proofs.LibrariesRead.{libs_by_name, ordinal_at}
-use Rattle.mach_image.proofs.libraries.libraries_by_ordinal.Goals as goal
-
-pub returns : goal.returns
-returns c = record { names = libs_by_name; ordinals = ordinal_at }

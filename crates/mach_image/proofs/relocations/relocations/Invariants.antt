@@ -1,9 +1,0 @@
-use Rattle.std.proofs.Common.{map, ◌≡◌, drop}
-use Rattle.mach_segments.specs.Segment.{segment_view}
-use Rattle.mach_image.specs.Relocations.{relocated_view, with_front, relocated_sections_in}
-use Rattle.mach_image.proofs.relocations.relocations.Given as goal
-
-abbrev pub invariant-loop-segment : goal.invariant-loop-segment
-invariant-loop-segment g l =
-    relocated_sections_in l.ctx l.bytes (map segment_view l.segments)
-    ≡ with_front (map relocated_view l.found.items) (relocated_sections_in l.ctx l.bytes (map segment_view (drop l.segment-index l.segments)))

@@ -1,5 +1,0 @@
-use Rattle.mach_image.proofs.StreamFacts.{weak_binds_are}
-use Rattle.mach_image.proofs.stream_facts.weak_binds_of_image.Goals as goal
-
-pub returns : goal.returns
-returns g c = weak_binds_are c.args.image.now

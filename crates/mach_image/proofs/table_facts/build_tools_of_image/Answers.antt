@@ -1,5 +1,0 @@
-use Rattle.mach_image.proofs.TableFacts.{build_tools_are}
-use Rattle.mach_image.proofs.table_facts.build_tools_of_image.Goals as goal
-
-pub returns : goal.returns
-returns g c = build_tools_are c.args.image.now

@@ -1,3 +1,0 @@
-mod Escapes
-pub mod Arrays
-mod Objects

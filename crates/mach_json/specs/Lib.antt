@@ -1,5 +1,0 @@
-pub mod JsonText
-pub mod JsonArrays
-pub mod Signing
-pub mod Documents
-pub mod Opened

@@ -1,7 +1,0 @@
-use Rattle.std.proofs.Common.{◌≡◌}
-use Rattle.mach_binds.specs.BindingFaults.{has_fault}
-use Rattle.mach_tables.specs.TablesLeft.{starts_left}
-use Rattle.mach_layout.proofs.lists.is_start_fault_among.Given as goal
-
-abbrev pub invariant-starts : goal.invariant-starts
-invariant-starts l = has_fault (starts_left l.start-iterator) ≡ has_fault (starts_left l.fn.starts)

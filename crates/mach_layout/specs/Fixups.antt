@@ -1,0 +1,224 @@
+-- Rules of chained fixups (`mach-o/fixup-chains.h`, struct dyld_chained_fixups_header and those behind it, as dyld tests them). The chained
+-- fixups of an image are those of its last command; they are judged where their data lie in the file.
+use Rattle.std.specs.Prelude.{◌==◌, ℕ, ◌+◌, ◌-◌, ◌*◌, ◌/◌, ◌%◌, ◌^◌, ◌&&◌, ◌||◌, not, Bool, List, [], ◌∷◌, ◌++◌, codes, nat_eq, length, take, drop}
+use Rattle.std.specs.Prelude.{false, nat_lt, nat_le, filter_map, option_to_list, find, slice_get, Option, Some, None, Result, Ok, Err, if◌then◌else◌}
+use Rattle.std.specs.List.{range_with_len, last_or, starts_with}
+use Rattle.mach_base.specs.Fault.{Fault}
+use Rattle.mach_base.specs.Number.{number_at}
+use Rattle.mach_base.specs.Record.{Value, number_among, record_at}
+use Rattle.mach_base.specs.declared.context.Endian.{Endian}
+use Rattle.mach_load.specs.Command.{Command}
+use Rattle.mach_load.specs.Commands.{Kind, dyld_chained_fixups}
+use Rattle.mach_chained.specs.HeaderRecord.{fixups_header_fields, header_of_values}
+use Rattle.mach_chained.specs.StartsRecord.{starts_fields, starts_of_values}
+use Rattle.mach_chained.specs.declared.header.ChainedFixupsHeader.{ChainedFixupsHeader}
+use Rattle.mach_chained.specs.declared.starts.ChainedStartsInSegment.{ChainedStartsInSegment}
+use Rattle.mach_layout.specs.Laid.{Laid, file_size, segments_of, ends_past}
+use Rattle.mach_layout.specs.Rules.{measured, sound, sees_there, then_seen, owner_at, told, told_over}
+use Rattle.mach_layout.specs.Symbols.{if_there, all_there, readable, texts_end, library_count}
+use Rattle.mach_layout.specs.declared.fault.LayoutFault.{LayoutFault}
+use Rattle.mach_layout.specs.declared.fault.Owner.{Owner}
+use Rattle.mach_layout.specs.declared.fault.Part.TheVariants as part
+use Rattle.mach_layout.specs.declared.fault.Rule.{Rule}
+use Rattle.mach_layout.specs.declared.fault.Rule.TheVariants as rule
+use Rattle.mach_layout.specs.declared.fixups.Front.{Front}
+use Rattle.mach_layout.specs.declared.fixups.PlacedFixups.{PlacedFixups}
+use Rattle.mach_layout.specs.declared.fixups.imports.ImportRow.{ImportRow}
+use Rattle.mach_layout.specs.declared.parts.PlacedSegment.{PlacedSegment}
+use Rattle.mach_layout.specs.declared.rules.Seen.{Seen}
+
+-- ---- the data
+
+abbrev pub fixups_by : Kind → ℕ → List Value → Option PlacedFixups
+fixups_by dyld_chained_fixups place values = Some (record { place = place; dataoff = number_among values 2; datasize = number_among values 3 })
+fixups_by _ place values = None
+
+-- where a command places chained fixups, with its own place, if it is one of them
+abbrev pub fixups_of : Command → Option PlacedFixups
+fixups_of c = fixups_by c.kind c.offset c.values
+
+-- what is fixed while chained fixups are judged: the place of their command, their data, and the byte order
+pub record Data : Type 0 where
+  pub place : ℕ
+  pub payload : List ℕ
+  pub le : Endian
+
+-- those of a command, where they lie in the file
+abbrev pub data_of : Laid → PlacedFixups → Option Data
+data_of laid f =
+    if ends_past (file_size laid) f.dataoff f.datasize then None
+    else Some (record { place = f.place; payload = take f.datasize (drop f.dataoff laid.bytes); le = laid.ctx.le })
+
+-- those of the last command
+abbrev pub fixup_data : Laid → Option Data
+fixup_data laid = if_there (last_or None (filter_map fixups_of laid.commands)) (data_of laid)
+
+-- whose a fault of them is: of their front, or of the starts of segment k
+abbrev pub data_owner : Data → ℕ → Owner
+data_owner x k = owner_at part.ChainedFixups x.place k
+
+-- ---- the front
+
+-- how many bytes an import's record has, by the number of its format (DYLD_CHAINED_IMPORT, _ADDEND, _ADDEND64)
+abbrev pub import_bytes : ℕ → ℕ
+import_bytes format = if format == 1 then 4 else (if format == 2 then 8 else 16)
+
+-- where the imports end
+abbrev pub imports_end : ChainedFixupsHeader → ℕ
+imports_end h = h.imports_offset + h.imports_count * import_bytes h.imports_format
+
+-- the version is 0, the imports are of one of three formats, and the names are plain or compressed
+abbrev pub format_sees : ChainedFixupsHeader → Seen
+format_sees h =
+    then_seen (then_seen (measured (h.fixups_version == 0) h.fixups_version 0)
+    (measured (not (h.imports_format == 0) && nat_le h.imports_format 3) h.imports_format 3)) (measured (nat_le h.symbols_format 1) h.symbols_format 1)
+
+-- the imports end in the data, and the names begin in the data, not in front of the imports' end
+abbrev pub places_sees : Data → ChainedFixupsHeader → Seen
+places_sees x h =
+    let size = length x.payload in
+    then_seen (then_seen (measured (nat_le (imports_end h) size) (imports_end h) size) (measured (nat_le h.symbols_offset size) h.symbols_offset size))
+    (measured (nat_le (imports_end h) h.symbols_offset) h.symbols_offset (imports_end h))
+
+-- the header, or what is seen where its 28 bytes aren't there
+abbrev pub header_or_seen : Data → Result (List Value) Fault → Result ChainedFixupsHeader Seen
+header_or_seen x (Ok values) = Ok (header_of_values values)
+header_or_seen x (Err f) = Err (measured false (length x.payload) 28)
+
+-- the front with the count of starts, as many of which stand behind it, or what is seen where they don't
+abbrev pub front_or_seen : Data → ChainedFixupsHeader → Result ℕ Fault → Result Front Seen
+front_or_seen x h (Err f) = Err (measured false (h.starts_offset + 4) (length x.payload))
+front_or_seen x h (Ok count) =
+    if nat_lt (length x.payload) (h.starts_offset + 4 + 4 * count) then Err (measured false (h.starts_offset + 4 + 4 * count) (length x.payload))
+    else Ok (record { header = h; count = count })
+
+abbrev pub front_by : Data → Result ChainedFixupsHeader Seen → Result Front Seen
+front_by x (Err seen) = Err seen
+front_by x (Ok h) =
+    let seen = then_seen (format_sees h) (places_sees x h) in
+    if seen.holds then front_or_seen x h (number_at x.le 4 x.payload h.starts_offset) else Err seen
+
+-- the front of the data, or what is seen of its first part that doesn't hold
+abbrev pub front_of : Data → Result Front Seen
+front_of x = front_by x (header_or_seen x (record_at x.le fixups_header_fields x.payload 0))
+
+-- ---- the starts of a segment's chains
+
+-- where the last of the pages begins
+abbrev pub last_page : ChainedStartsInSegment → ℕ
+last_page s = (s.page_count - 1) * s.page_size
+
+-- a page has 0x1000 or 0x4000 bytes, the pointers are of one of 13 formats, and the starts of the pages end in the data
+abbrev pub page_sees : Data → ℕ → ChainedStartsInSegment → Seen
+page_sees x place s =
+    let end = place + 22 + 2 * s.page_count in
+    then_seen (then_seen (measured (s.page_size == 0x1000 || s.page_size == 0x4000) s.page_size 0x4000)
+    (measured (not (s.pointer_format == 0) && nat_le s.pointer_format 13) s.pointer_format 13))
+    (measured (nat_le end (length x.payload)) end (length x.payload))
+
+-- the segment begins at its offset behind __TEXT, and the last page begins in it
+abbrev pub extent_sees : ℕ → PlacedSegment → ChainedStartsInSegment → Seen
+extent_sees text segment s =
+    then_seen (measured (s.segment_offset + text == segment.command.vmaddr) s.segment_offset (segment.command.vmaddr - text))
+    (measured (s.page_count == 0 || nat_lt (last_page s) segment.command.vmsize) (last_page s) segment.command.vmsize)
+
+-- the starts have their 22 bytes in the data, and the rest holds
+abbrev pub record_sees : Data → ℕ → ℕ → PlacedSegment → Result (List Value) Fault → Seen
+record_sees x text place segment (Err f) = measured false (place + 22) (length x.payload)
+record_sees x text place segment (Ok values) =
+    then_seen (page_sees x place (starts_of_values values)) (extent_sees text segment (starts_of_values values))
+
+-- the image has the segment
+abbrev pub segment_starts_sees : Data → ℕ → ℕ → ℕ → Option PlacedSegment → Seen
+segment_starts_sees x text starts info None = measured false info 0
+segment_starts_sees x text starts info (Some segment) =
+    record_sees x text (starts + info) segment (record_at x.le starts_fields x.payload (starts + info))
+
+-- the starts of segment k are none (0), or all this holds of them
+abbrev pub starts_sees : Data → Front → ℕ → ℕ → Option PlacedSegment → Seen
+starts_sees x front text k segment =
+    sees_there (readable (number_at x.le 4 x.payload (front.header.starts_offset + 4 + k * 4))) (λ info.
+    if info == 0 then sound else segment_starts_sees x text front.header.starts_offset info segment)
+
+abbrev pub starts_fault : Data → Front → ℕ → ℕ → Option PlacedSegment → Option LayoutFault
+starts_fault x front text k segment = told rule.ChainedFixups (data_owner x k) (starts_sees x front text k segment)
+
+-- ---- the imports
+
+-- An import: in the formats 1 and 2 the lowest 8 bits are the library and the highest 23 of 32 the name, in format 3 the lowest 16 and the highest 32
+-- of 64.
+abbrev pub import_row_of : ℕ → ℕ → ImportRow
+import_row_of format n =
+    if format == 3 then record { library = n % 2 ^ 16; name = n / 2 ^ 32 % 2 ^ 32 } else record { library = n % 2 ^ 8; name = n / 2 ^ 9 % 2 ^ 23 }
+
+-- how many bytes the number has
+abbrev pub row_bytes : ℕ → ℕ
+row_bytes format = if format == 3 then 8 else 4
+
+abbrev pub row_by : ℕ → Result ℕ Fault → Option ImportRow
+row_by format (Ok n) = Some (import_row_of format n)
+row_by format (Err f) = None
+
+-- import k
+abbrev pub row_in : Data → ChainedFixupsHeader → ℕ → Option ImportRow
+row_in x h k = row_by h.imports_format (number_at x.le (row_bytes h.imports_format) x.payload (h.imports_offset + k * import_bytes h.imports_format))
+
+-- the highest 15 numbers stand for those below 0, of which -1, -2 and -3 are special
+abbrev pub is_ordinal_wrong : ℕ → ℕ → ℕ → Bool
+is_ordinal_wrong libraries above n = if nat_lt (above - 16) n then nat_lt n (above - 3) else nat_lt libraries n
+
+-- one more than the highest number of a library
+abbrev pub ordinals_end : ℕ → ℕ
+ordinals_end format = if format == 3 then 2 ^ 16 else 2 ^ 8
+
+-- where the names end: plain ones with the last zero byte
+abbrev pub import_names_end : Data → ChainedFixupsHeader → ℕ
+import_names_end x h = if h.symbols_format == 0 then texts_end x.payload else length x.payload
+
+-- what each rule of one import sees, where the image has `libraries` and the names end at `upto`
+abbrev pub import_sees : Data → ChainedFixupsHeader → (libraries upto : ℕ) → Rule → ImportRow → Seen
+-- an import names a library of the image, itself (0), or what is special
+import_sees x h libraries upto rule.ImportLibrary row =
+    measured (not (is_ordinal_wrong libraries (ordinals_end h.imports_format) row.library)) row.library libraries
+-- an import's name begins in front of the names' end
+import_sees x h libraries upto rule.ImportName row =
+    let place = h.symbols_offset + row.name in measured (nat_lt place upto) place (length x.payload)
+import_sees x h libraries upto _ row = sound
+
+abbrev pub import_owner : Data → ℕ → Owner
+import_owner x k = owner_at part.Imports x.place k
+
+-- ---- all of them
+
+-- whether the name is __TEXT, whatever stands behind its first zero byte
+abbrev pub is_text : PlacedSegment → Bool
+is_text s = starts_with nat_eq s.command.segname (codes "__TEXT" ++ 0 ∷ [])
+
+abbrev pub address_or_zero : Option PlacedSegment → ℕ
+address_or_zero None = 0
+address_or_zero (Some s) = s.command.vmaddr
+
+-- what offsets of segments count from: the address of the first segment named __TEXT
+abbrev pub text_address : Laid → ℕ
+text_address laid = address_or_zero (find is_text (segments_of laid))
+
+-- the faults of the starts, in order
+abbrev pub starts_faults : Laid → Data → Front → List LayoutFault
+starts_faults laid x front =
+    filter_map (λ k. starts_fault x front (text_address laid) k (slice_get (segments_of laid) k)) (range_with_len 0 front.count)
+
+-- those of imports
+abbrev pub import_faults : Laid → Data → Front → List LayoutFault
+import_faults laid x front =
+    let h = front.header in
+    told_over (rule.ImportLibrary ∷ rule.ImportName ∷ []) (λ rule. import_owner x)
+    (λ rule k. sees_there (row_in x h k) (import_sees x h (library_count laid) (import_names_end x h) rule)) (range_with_len 0 h.imports_count)
+
+-- the faults behind a front, or that of the front alone
+abbrev pub faults_behind : Laid → Data → Result Front Seen → List LayoutFault
+faults_behind laid x (Err seen) = option_to_list (told rule.ChainedFixups (data_owner x 0) seen)
+faults_behind laid x (Ok front) = starts_faults laid x front ++ import_faults laid x front
+
+-- the faults of chained fixups
+abbrev pub fixup_faults : Laid → List LayoutFault
+fixup_faults laid = all_there (fixup_data laid) (λ x. faults_behind laid x (front_of x))

@@ -1,0 +1,129 @@
+-- What the rules read of an image (`mach-o/loader.h`): its bytes, its header and its commands, and what follows from them.
+use Rattle.std.specs.Prelude.{◌==◌, ℕ, ◌+◌, ◌-◌, ◌||◌, Bool, List, [], length, map}
+use Rattle.std.specs.Prelude.{min, nat_lt, option_map, filter_map, flat_map, Option, Some, None, Result, Ok}
+use Rattle.std.specs.Prelude.{if◌then◌else◌}
+use Rattle.std.specs.List.{last_or}
+use Rattle.mach_base.specs.Answer.{◌>>=◌}
+use Rattle.mach_base.specs.Fault.{Fault}
+use Rattle.mach_base.specs.declared.context.Ctx.{Ctx}
+use Rattle.mach_load.specs.Command.{Command, cmdsize_of}
+use Rattle.mach_load.specs.Subjects.{segment_command_by}
+use Rattle.mach_load.specs.Variants.{command_of}
+use Rattle.mach_parts.specs.Header.{header_size, header_in}
+use Rattle.mach_base.specs.Items.{items_from}
+use Rattle.mach_parts.specs.Section.{section_place}
+use Rattle.mach_parts.specs.SectionRecord.{in_front, section_record_at}
+use Rattle.mach_parts.specs.Segment.{widened}
+use Rattle.mach_parts.specs.declared.header.Header.{Header}
+use Rattle.mach_layout.specs.declared.layout.Layout.{Layout}
+use Rattle.mach_layout.specs.declared.parts.PlacedSection.{PlacedSection}
+use Rattle.mach_layout.specs.declared.parts.PlacedSegment.{PlacedSegment}
+
+-- the bytes of an image that begins at their first, how they are read, and the header and the commands that stand there
+pub record Laid : Type 0 where
+  pub bytes : List ℕ
+  pub ctx : Ctx
+  pub header : Header
+  pub commands : List Command
+
+-- what the bytes say of this, where an image with this context and these commands opens at their first
+abbrev pub laid_in : List ℕ → Ctx → List Command → Laid
+laid_in bytes ctx cs = record { bytes = bytes; ctx = ctx; header = header_in ctx.container ctx.le bytes 0; commands = cs }
+
+-- the same as the code holds it
+abbrev pub laid_of : Layout → Laid
+laid_of l = record { bytes = l.bytes.now; ctx = l.ctx; header = l.header; commands = map command_of l.commands.now }
+
+-- ---- the header and the commands
+
+-- the bytes of the file
+abbrev pub file_size : Laid → ℕ
+file_size laid = length laid.bytes
+
+-- the bytes of the header
+abbrev pub header_len : Laid → ℕ
+header_len laid = header_size laid.ctx.container
+
+-- where the commands end, as the header says
+abbrev pub declared_end : Laid → ℕ
+declared_end laid = header_len laid + laid.header.sizeofcmds
+
+-- where a command ends
+abbrev pub command_end : Command → ℕ
+command_end c = c.offset + cmdsize_of c
+
+abbrev pub end_or : ℕ → Option Command → ℕ
+end_or default None = default
+end_or default (Some c) = command_end c
+
+-- where the last command ends, or the header where there is none
+abbrev pub commands_end : Laid → ℕ
+commands_end laid = end_or (header_len laid) (last_or None laid.commands)
+
+-- where what the header and the commands take ends: no further than the header says
+abbrev pub used_end : Laid → ℕ
+used_end laid = min (commands_end laid) (declared_end laid)
+
+-- ---- kinds of files (`mach-o/loader.h`, MH_EXECUTE and so on)
+
+-- what dyld or the kernel maps: executables, libraries, dynamic linkers and bundles
+abbrev pub is_final : Laid → Bool
+is_final laid = let kind = laid.header.filetype in kind == 2 || (kind == 6 || (kind == 7 || kind == 8))
+
+abbrev pub is_object : Laid → Bool
+is_object laid = laid.header.filetype == 1
+
+abbrev pub is_stub : Laid → Bool
+is_stub laid = laid.header.filetype == 9
+
+abbrev pub is_dsym : Laid → Bool
+is_dsym laid = laid.header.filetype == 10
+
+-- those that the rules judge
+abbrev pub is_judged : Laid → Bool
+is_judged laid = is_final laid || (is_object laid || (is_stub laid || is_dsym laid))
+
+-- the bytes of a page: those of arm64 (also with pointers of 32 bits) are of 16384
+abbrev pub page_of : Laid → ℕ
+page_of laid = if laid.header.cputype == 0x100_000c || laid.header.cputype == 0x200_000c then 16384 else 4096
+
+-- ---- segments
+
+-- the segment of a command, with the place of the command
+abbrev pub placed_segment_of : Command → Option PlacedSegment
+placed_segment_of c = option_map (λ s. record { place = c.offset; command = s }) (segment_command_by widened c.kind c.values)
+
+-- the segments of the commands, in order
+abbrev pub segments_of : Laid → List PlacedSegment
+segments_of laid = filter_map placed_segment_of laid.commands
+
+-- ---- sections
+
+-- section k of a segment, with its number from 1
+abbrev pub placed_section_at : Ctx → List ℕ → PlacedSegment → ℕ → Result PlacedSection Fault
+placed_section_at ctx bytes s k =
+    section_record_at ctx.container ctx.le bytes (section_place ctx.container s.place k)
+    >>= (λ found. Ok (record { segment = s; number = k + 1; section = found }))
+
+-- the sections of a segment from number k on: its command says how many there are, and those count that lie in the bytes
+abbrev pub sections_from : Ctx → List ℕ → PlacedSegment → ℕ → List PlacedSection
+sections_from ctx bytes s k = in_front (items_from (placed_section_at ctx bytes s) k (s.command.nsects - k))
+
+-- of a segment, if there is one
+abbrev pub open_sections : Ctx → List ℕ → Option PlacedSegment → ℕ → List PlacedSection
+open_sections ctx bytes None k = []
+open_sections ctx bytes (Some s) k = sections_from ctx bytes s k
+
+-- the sections of a command, if it is one of a segment
+abbrev pub sections_by : Ctx → List ℕ → Command → List PlacedSection
+sections_by ctx bytes c = open_sections ctx bytes (placed_segment_of c) 0
+
+-- the sections of an image, in order
+abbrev pub placed_sections_of : Laid → List PlacedSection
+placed_sections_of laid = flat_map (sections_by laid.ctx laid.bytes) laid.commands
+
+-- ---- ranges
+
+-- `len` bytes from a start on pass a limit
+abbrev pub ends_past : ℕ → ℕ → ℕ → Bool
+ends_past limit start len = nat_lt limit (start + len)

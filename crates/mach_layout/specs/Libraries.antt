@@ -1,0 +1,87 @@
+-- Rules of the texts of commands and of the names of libraries (`mach-o/loader.h`, union lc_str and struct dylib_command;
+-- dyld and LLVM refuse an image that breaks one).
+use Rattle.std.specs.Prelude.{◌==◌, ◌&&◌, ◌||◌, not, ℕ, ◌+◌, ◌-◌, Bool, true, false, nat_lt, nat_le, take, drop, List, []}
+use Rattle.std.specs.Prelude.{◌∷◌, Option, Some, None}
+use Rattle.std.specs.List.{list_any}
+use Rattle.mach_base.specs.Record.{Value, number_among, size}
+use Rattle.mach_base.specs.Text.{is_zero}
+use Rattle.mach_load.specs.Command.{Command, cmdsize_of}
+use Rattle.mach_load.specs.Commands.{Kind, is_id}
+use Rattle.mach_load.specs.Commands as kind
+use Rattle.mach_records.specs.Contents.{fileset_entry_command_fields}
+use Rattle.mach_records.specs.Libraries.{dylib_command_fields, dylinker_command_fields, fvmfile_command_fields, fvmlib_command_fields}
+use Rattle.mach_records.specs.Libraries.{prebound_dylib_command_fields, rpath_command_fields}
+use Rattle.mach_records.specs.Umbrellas.{sub_client_command_fields, sub_framework_command_fields, sub_library_command_fields, sub_umbrella_command_fields}
+use Rattle.mach_layout.specs.Laid.{Laid}
+use Rattle.mach_layout.specs.Rules.{measured}
+use Rattle.mach_layout.specs.declared.libraries.CommandText.{CommandText}
+use Rattle.mach_layout.specs.declared.rules.Seen.{Seen}
+
+-- ---- the texts of commands
+
+-- A text whose offset, counted from its command, is number k of the values, behind a struct of `struct` bytes (union lc_str).
+abbrev pub text_behind : ℕ → ℕ → List Value → Option CommandText
+text_behind k struct values = Some (record { offset = number_among values k; struct_size = struct; is_read = true })
+
+-- The text of a command, if it has one. That of LC_PREBOUND_DYLIB isn't read.
+abbrev pub text_of : Kind → List Value → Option CommandText
+text_of kind.load_fvmlib values = text_behind 2 (size fvmlib_command_fields) values
+text_of kind.id_fvmlib values = text_behind 2 (size fvmlib_command_fields) values
+text_of kind.fvmfile values = text_behind 2 (size fvmfile_command_fields) values
+text_of kind.load_dylib values = text_behind 2 (size dylib_command_fields) values
+text_of kind.id_dylib values = text_behind 2 (size dylib_command_fields) values
+text_of kind.lazy_load_dylib values = text_behind 2 (size dylib_command_fields) values
+text_of kind.load_weak_dylib values = text_behind 2 (size dylib_command_fields) values
+text_of kind.reexport_dylib values = text_behind 2 (size dylib_command_fields) values
+text_of kind.load_upward_dylib values = text_behind 2 (size dylib_command_fields) values
+text_of kind.load_dylinker values = text_behind 2 (size dylinker_command_fields) values
+text_of kind.id_dylinker values = text_behind 2 (size dylinker_command_fields) values
+text_of kind.dyld_environment values = text_behind 2 (size dylinker_command_fields) values
+text_of kind.sub_framework values = text_behind 2 (size sub_framework_command_fields) values
+text_of kind.sub_umbrella values = text_behind 2 (size sub_umbrella_command_fields) values
+text_of kind.sub_client values = text_behind 2 (size sub_client_command_fields) values
+text_of kind.sub_library values = text_behind 2 (size sub_library_command_fields) values
+text_of kind.rpath values = text_behind 2 (size rpath_command_fields) values
+text_of kind.fileset_entry values = text_behind 4 (size fileset_entry_command_fields) values
+text_of kind.prebound_dylib values =
+    Some (record { offset = number_among values 2; struct_size = size prebound_dylib_command_fields; is_read = false })
+text_of _ values = None
+
+-- the text begins behind the struct of its command, and before the command's end
+abbrev pub begins_inside : Command → CommandText → Bool
+begins_inside c t = nat_le t.struct_size t.offset && nat_lt t.offset (cmdsize_of c)
+
+-- the bytes of the command from the text on
+abbrev pub bytes_from_text : List ℕ → Command → CommandText → List ℕ
+bytes_from_text bytes c t = take (cmdsize_of c - t.offset) (drop (c.offset + t.offset) bytes)
+
+-- a zero byte ends the text, where it is read
+abbrev pub ends_inside : List ℕ → Command → CommandText → Bool
+ends_inside bytes c t = not t.is_read || list_any is_zero (bytes_from_text bytes c t)
+
+abbrev pub lies_inside : List ℕ → Command → CommandText → Bool
+lies_inside bytes c t = begins_inside c t && ends_inside bytes c t
+
+abbrev pub begins_with_zero : List ℕ → Bool
+begins_with_zero [] = false
+begins_with_zero (b ∷ bs) = is_zero b
+
+-- the text lies there, is read, and is empty
+abbrev pub is_empty_text : List ℕ → Command → CommandText → Bool
+is_empty_text bytes c t = lies_inside bytes c t && (t.is_read && begins_with_zero (bytes_from_text bytes c t))
+
+-- what is seen of the place of a text, and of whether it is empty: the text lies in its command, and isn't empty
+abbrev pub place_sees : List ℕ → Command → CommandText → Seen
+place_sees bytes c t = measured (lies_inside bytes c t) t.offset (cmdsize_of c)
+
+abbrev pub text_sees : List ℕ → Command → CommandText → Seen
+text_sees bytes c t = measured (not (is_empty_text bytes c t)) t.offset (cmdsize_of c)
+
+-- ---- the names of libraries
+
+-- a library, or one without contents (MH_DYLIB, MH_DYLIB_STUB)
+abbrev pub is_library_file : Laid → Bool
+is_library_file laid = laid.header.filetype == 6 || laid.header.filetype == 9
+
+abbrev pub says_id : Command → Bool
+says_id c = is_id c.kind

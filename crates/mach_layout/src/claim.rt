@@ -1,0 +1,23 @@
+//! A range and whose it is.
+
+ghost use Rattle.std.specs.Prelude.{◌≡◌};
+ghost use Rattle.mach_layout.specs.Claim as defined;
+
+use crate::fault::Owner;
+
+/// A range of the file, or of memory, and whose it is.
+#[derive(Clone, Copy, Debug, PartialEq)]
+pub struct Claim {
+    pub owner: Owner,
+    pub start: u64,
+    pub len: u64,
+}
+
+impl Claim {
+    /// Where it ends.
+    pub fn end(&self) -> u128
+        ensures { result ≡ defined.end_of self.now }
+    {
+        u128::from(self.start) + u128::from(self.len)
+    }
+}

@@ -1,0 +1,315 @@
+//! Rules of the header and of load commands.
+
+ghost use Rattle.std.specs.Prelude.{◌≡◌, ◌++◌, ◌+◌, ◌*◌, ◌<◌, ◌≤◌, OnOk, length, map, take, drop};
+ghost use Rattle.std.specs.List.{list_any};
+ghost use Rattle.mach_base.specs.Answer.{IsOkUnlessMemory};
+ghost use Rattle.mach_load.specs.Command.{cmd_of, cmdsize_of};
+ghost use Rattle.mach_load.specs.Variants.{command_of, kind_in};
+ghost use Rattle.mach_layout.specs.Laid.{laid_of};
+ghost use Rattle.mach_layout.specs.Commands as defined;
+ghost use Rattle.mach_layout.specs.declared.fault.Rule.TheVariants as rules_named;
+
+mod firsts;
+mod sizes;
+
+use crate::commands::firsts::tell_again;
+use crate::commands::sizes::{StructSize, struct_size};
+use crate::fault::{LayoutFault, Owner, Part, Rule};
+use crate::header::tell_header;
+use crate::layout::{Layout, ends_past, range_end};
+use crate::libraries::{is_id, is_library_file, place_seen, text_seen};
+use crate::rules::{Judges, Seen, measured, owner_at, sound, tell_each};
+use mach_base::{Container, Endian, Record, Result};
+use mach_load::{CommandVariant, LoadCommand};
+use mach_records::{
+    BuildToolVersion, BuildVersionCommand, LC_SEGMENT, LC_SEGMENT_64, LC_SYMTAB, LC_THREAD,
+    Section32, Section64, SegmentCommand32, SegmentCommand64,
+};
+use std::alloc::Allocator;
+
+const MH_CORE: u32 = 4;
+
+/// The command as the owner of a fault.
+pub fn command_owner(command: &LoadCommand) -> Owner
+    ensures { result ≡ defined.command_owner (command_of command.now) }
+{
+    owner_at(Part::Command, command.offset, 0)
+}
+
+// The size of a command.
+fn size_of(command: &LoadCommand) -> u64
+    ensures { result ≡ cmdsize_of (command_of command.now) }
+{
+    command.command.cmdsize() as u64
+}
+
+/// The number of a command.
+pub fn number_of(command: &LoadCommand) -> u64
+    ensures { result ≡ cmd_of (command_of command.now) }
+{
+    u64::from(command.command.cmd())
+}
+
+// What is seen of the size of a command against its struct.
+fn size_seen(size: u64, expected: StructSize) -> Seen
+    ensures { result ≡ defined.size_sees size expected }
+{
+    match expected {
+        StructSize::Exactly(n) => measured(size == n as u64, size, n as u64),
+        StructSize::AtLeast(n) => measured(size >= n as u64, size, n as u64),
+    }
+}
+
+// What the size of a command is to be a multiple of.
+fn unit_of(layout: &Layout<'_, '_>, command: &LoadCommand) -> u64
+    ensures value { result ≡ defined.unit_of (laid_of layout.now) (command_of command.now) }
+    ensures positive { 0 < result }
+{
+    if layout.header.filetype == MH_CORE && command.command.cmd() == LC_THREAD {
+        4
+    } else {
+        layout.ctx.size() as u64
+    }
+}
+
+/// So many bytes at a place, or those that there are.
+pub fn bytes_from(bytes: &[u8], place: usize, len: usize) -> &[u8]
+    ensures { result.now ≡ take len (drop place bytes.now) }
+{
+    let Some(rest) = bytes.get(place..) else {
+        return &[];
+    };
+    rest.get(..len).unwrap_or(rest)
+}
+
+// How many bytes the states of a thread have that stand one after the other from the front on.
+fn states_size(mut rest: &[u8], le: Endian) -> usize
+    ensures value { result ≡ defined.states_size (length rest.now) le rest.now }
+    ensures within { result ≤ length rest.now }
+{
+    let mut size = 0;
+    while rest.len() >= 8 {
+        let words = le.u32_at(rest, 4) as usize;
+        let state = 8 + 4 * words;
+        let Some(next) = rest.get(state..) else {
+            return size;
+        };
+        size += state;
+        rest = next;
+    }
+    size
+}
+
+// The size of a thread's command with its states.
+fn thread_size(layout: &Layout<'_, '_>, command: &LoadCommand) -> u64
+    ensures { result ≡ defined.thread_size (laid_of layout.now) (command_of command.now) }
+{
+    let place = command.offset.saturating_add(8);
+    let len = command.command.cmdsize().saturating_sub(8);
+    8 + states_size(bytes_from(layout.bytes, place, len), layout.ctx.le) as u64
+}
+
+// The size of a struct with `count` items behind it.
+fn size_with(size: usize, count: u32, each: usize) -> u64
+    requires small { (size ≤ 80) × (each ≤ 80) }
+    ensures { result ≡ size + each * count }
+{
+    size as u64 + each as u64 * u64::from(count)
+}
+
+// The size of a command with what it counts.
+fn counted_size(layout: &Layout<'_, '_>, command: &LoadCommand) -> Option<u64>
+    ensures { let c = command_of command.now in result ≡ defined.counted_size (laid_of layout.now) c c.kind }
+{
+    match &command.command {
+        CommandVariant::Segment32(c) => Some(size_with(
+            SegmentCommand32::SIZE,
+            c.nsects,
+            Section32::SIZE,
+        )),
+        CommandVariant::Segment64(c) => Some(size_with(
+            SegmentCommand64::SIZE,
+            c.nsects,
+            Section64::SIZE,
+        )),
+        CommandVariant::BuildVersion(c) => Some(size_with(
+            BuildVersionCommand::SIZE,
+            c.ntools,
+            BuildToolVersion::SIZE,
+        )),
+        CommandVariant::Thread(_) | CommandVariant::Unixthread(_) => {
+            Some(thread_size(layout, command))
+        }
+        _ => None,
+    }
+}
+
+// The number of a segment's command of the image's width, where the command is one of the other width.
+fn other_width(width: Container, command: &CommandVariant) -> Option<u32>
+    ensures { result ≡ defined.other_width width (kind_in command.now) }
+{
+    match (width, command) {
+        (Container::Big, CommandVariant::Segment32(_)) => Some(LC_SEGMENT_64),
+        (Container::Little, CommandVariant::Segment64(_)) => Some(LC_SEGMENT),
+        _ => None,
+    }
+}
+
+// Whether a command describes symbols.
+fn is_symbols(command: &LoadCommand) -> bool
+    ensures { result ≡ defined.is_symbols (command_of command.now) }
+{
+    matches!(&command.command, CommandVariant::Symtab(_))
+}
+
+// Whether a command describes those that the dynamic linker needs.
+fn is_dynamic(command: &LoadCommand) -> bool
+    ensures { result ≡ defined.is_of_set 1 (command_of command.now) }
+{
+    matches!(&command.command, CommandVariant::Dysymtab(_))
+}
+
+// Whether one of some commands describes symbols.
+fn has_symbols(commands: &[LoadCommand]) -> bool
+    ensures { result ≡ list_any defined.is_symbols (map command_of commands.now) }
+{
+    for command in commands {
+        if is_symbols(command) {
+            return true;
+        }
+    }
+    false
+}
+
+// What is seen of the place where a command ends.
+fn end_seen(layout: &Layout<'_, '_>, command: &LoadCommand) -> Seen
+    ensures { result ≡ defined.command_sees (laid_of layout.now) rules_named.CommandOutOfCommands (command_of command.now) }
+{
+    let (start, size) = (command.offset as u64, size_of(command));
+    let end = layout.declared_end();
+    measured(!ends_past(end, start, size), range_end(start, size), end)
+}
+
+// What is seen of the size with what a command counts.
+fn count_seen(layout: &Layout<'_, '_>, command: &LoadCommand) -> Seen
+    ensures { result ≡ defined.command_sees (laid_of layout.now) rules_named.CommandCount (command_of command.now) }
+{
+    let size = size_of(command);
+    match counted_size(layout, command) {
+        Some(counted) => measured(size == counted, size, counted),
+        None => sound(),
+    }
+}
+
+// What is seen of the width of a segment's command.
+fn width_seen(layout: &Layout<'_, '_>, command: &LoadCommand) -> Seen
+    ensures { result ≡ defined.command_sees (laid_of layout.now) rules_named.SegmentWidth (command_of command.now) }
+{
+    match other_width(layout.ctx.container, &command.command) {
+        Some(number) => measured(false, number_of(command), u64::from(number)),
+        None => sound(),
+    }
+}
+
+impl Judges<LoadCommand> for Layout<'_, '_> {
+    ghost use Rattle.mach_layout.specs.Commands.{owner_by, command_sees};
+
+    ghost owner = { λ layout rule c. owner_by rule (command_of c) };
+
+    ghost sees = { λ layout rule c. command_sees (laid_of layout) rule (command_of c) };
+
+    fn owner(&self, rule: Rule, command: &LoadCommand) -> Owner {
+        let part = match rule {
+            Rule::TextMisplaced | Rule::TextEmpty => Part::Text,
+            _ => Part::Command,
+        };
+        owner_at(part, command.offset, 0)
+    }
+
+    fn see(&self, rule: Rule, command: &LoadCommand) -> Seen {
+        let size = size_of(command);
+        match rule {
+            Rule::CommandSize => size_seen(size, struct_size(&command.command)),
+            Rule::CommandUnaligned => {
+                let unit = unit_of(self, command);
+                measured(size % unit == 0, size, unit)
+            }
+            Rule::CommandOutOfCommands => end_seen(self, command),
+            Rule::CommandCount => count_seen(self, command),
+            Rule::SegmentWidth => width_seen(self, command),
+            Rule::DynamicSymbolsAlone => {
+                let number = number_of(command);
+                measured(!is_dynamic(command), number, u64::from(LC_SYMTAB))
+            }
+            Rule::TextMisplaced => place_seen(self.bytes, command),
+            Rule::TextEmpty => text_seen(self.bytes, command),
+            Rule::IdUnexpected => {
+                let kind = u64::from(self.header.filetype);
+                measured(!is_id(command) || is_library_file(self), kind, 0)
+            }
+            _ => sound(),
+        }
+    }
+}
+
+/// Adds what some of these rules tell of the commands.
+pub fn tell_commands<A: Allocator>(
+    faults: &mut Vec<LayoutFault, A>,
+    layout: &Layout<'_, '_>,
+    rules: &[Rule],
+) -> Result<()>
+    ensures told { OnOk result (faults.new.items ≡ faults.old.items ++ defined.commands_told (laid_of layout.now) rules.now) }
+    ensures only { IsOkUnlessMemory result }
+{
+    tell_each(faults, layout, rules, layout.commands)?;
+    Ok(())
+}
+
+// Adds a fault for each command of the symbols that the dynamic linker needs, in an image without symbols.
+fn tell_dynamic_symbols<A: Allocator>(
+    faults: &mut Vec<LayoutFault, A>,
+    layout: &Layout<'_, '_>,
+) -> Result<()>
+    ensures told { OnOk result (faults.new.items ≡ faults.old.items ++ defined.dynamic_symbols_alone (laid_of layout.now)) }
+    ensures only { IsOkUnlessMemory result }
+{
+    if has_symbols(layout.commands) {
+        return Ok(());
+    }
+    tell_commands(faults, layout, &[Rule::DynamicSymbolsAlone])
+}
+
+/// Adds the faults of the header and of the commands.
+pub fn command_faults<A: Allocator>(
+    faults: &mut Vec<LayoutFault, A>,
+    layout: &Layout<'_, '_>,
+) -> Result<()>
+    ensures told { OnOk result (faults.new.items ≡ faults.old.items ++ defined.command_faults (laid_of layout.now)) }
+    ensures only { IsOkUnlessMemory result }
+{
+    let rules = [
+        Rule::CommandSize,
+        Rule::CommandUnaligned,
+        Rule::CommandOutOfCommands,
+        Rule::CommandCount,
+        Rule::SegmentWidth,
+    ];
+    tell_header(faults, layout, &[Rule::FileKind, Rule::CommandsOutOfFile])?;
+    tell_commands(faults, layout, &rules)?;
+    tell_header(faults, layout, &[Rule::CommandsEndEarly])?;
+    tell_again(faults, layout.commands)?;
+    tell_dynamic_symbols(faults, layout)
+}
+
+/// Adds the faults of texts and names.
+pub fn text_faults<A: Allocator>(
+    faults: &mut Vec<LayoutFault, A>,
+    layout: &Layout<'_, '_>,
+) -> Result<()>
+    ensures told { OnOk result (faults.new.items ≡ faults.old.items ++ defined.text_faults (laid_of layout.now)) }
+    ensures only { IsOkUnlessMemory result }
+{
+    tell_commands(faults, layout, &[Rule::TextMisplaced, Rule::TextEmpty])?;
+    tell_header(faults, layout, &[Rule::IdMissing])?;
+    tell_commands(faults, layout, &[Rule::IdUnexpected])
+}

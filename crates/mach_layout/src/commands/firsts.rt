@@ -1,0 +1,109 @@
+//! The commands of which an image has one at most.
+
+ghost use Rattle.std.specs.Prelude.{◌≡◌, ◌++◌, ◌<◌, [], OnOk, IfSome, map};
+ghost use Rattle.mach_base.specs.Answer.{IsOkUnlessMemory};
+ghost use Rattle.mach_load.specs.Variants.{command_of, kind_in};
+ghost use Rattle.mach_layout.specs.Commands as defined;
+
+use crate::commands::{command_owner, number_of};
+use crate::fault::{LayoutFault, Owner, Rule};
+use mach_base::Result;
+use mach_load::{CommandVariant, LoadCommand};
+use std::alloc::Allocator;
+
+// How many sets there are.
+const SETS: usize = 22;
+
+// The number of a command's set, if it is of one.
+fn set_of(command: &CommandVariant) -> Option<usize>
+    ensures value { result ≡ defined.set_of (kind_in command.now) }
+    ensures few { IfSome result (λ set. set < SETS) }
+{
+    match command {
+        CommandVariant::Symtab(_) => Some(0),
+        CommandVariant::Dysymtab(_) => Some(1),
+        CommandVariant::DyldInfo(_) | CommandVariant::DyldInfoOnly(_) => Some(2),
+        CommandVariant::IdDylib(_) => Some(3),
+        CommandVariant::LoadDylinker(_) => Some(4),
+        CommandVariant::IdDylinker(_) => Some(5),
+        CommandVariant::Main(_) | CommandVariant::Unixthread(_) => Some(6),
+        CommandVariant::Uuid(_) => Some(7),
+        CommandVariant::SourceVersion(_) => Some(8),
+        CommandVariant::VersionMinMacosx(_)
+        | CommandVariant::VersionMinIphoneos(_)
+        | CommandVariant::VersionMinTvos(_)
+        | CommandVariant::VersionMinWatchos(_) => Some(9),
+        CommandVariant::Routines32(_) | CommandVariant::Routines64(_) => Some(10),
+        CommandVariant::TwolevelHints(_) => Some(11),
+        CommandVariant::PrebindCksum(_) => Some(12),
+        CommandVariant::EncryptionInfo32(_) | CommandVariant::EncryptionInfo64(_) => Some(13),
+        CommandVariant::CodeSignature(_) => Some(14),
+        CommandVariant::SegmentSplitInfo(_) => Some(15),
+        CommandVariant::FunctionStarts(_) => Some(16),
+        CommandVariant::DataInCode(_) => Some(17),
+        CommandVariant::DylibCodeSignDrs(_) => Some(18),
+        CommandVariant::LinkerOptimizationHint(_) => Some(19),
+        CommandVariant::DyldExportsTrie(_) => Some(20),
+        CommandVariant::DyldChainedFixups(_) => Some(21),
+        CommandVariant::Segment32(_)
+        | CommandVariant::Symseg(_)
+        | CommandVariant::Thread(_)
+        | CommandVariant::LoadFvmlib(_)
+        | CommandVariant::IdFvmlib(_)
+        | CommandVariant::Ident(_)
+        | CommandVariant::Fvmfile(_)
+        | CommandVariant::Prepage(_)
+        | CommandVariant::LoadDylib(_)
+        | CommandVariant::PreboundDylib(_)
+        | CommandVariant::SubFramework(_)
+        | CommandVariant::SubUmbrella(_)
+        | CommandVariant::SubClient(_)
+        | CommandVariant::SubLibrary(_)
+        | CommandVariant::Segment64(_)
+        | CommandVariant::LazyLoadDylib(_)
+        | CommandVariant::DyldEnvironment(_)
+        | CommandVariant::LinkerOption(_)
+        | CommandVariant::Note(_)
+        | CommandVariant::BuildVersion(_)
+        | CommandVariant::LoadWeakDylib(_)
+        | CommandVariant::Rpath(_)
+        | CommandVariant::ReexportDylib(_)
+        | CommandVariant::LoadUpwardDylib(_)
+        | CommandVariant::FilesetEntry(_)
+        | CommandVariant::Unimplemented(_) => None,
+    }
+}
+
+// What is told of a command of a set whose first one is another.
+fn once_more(command: &LoadCommand, first: Owner) -> LayoutFault
+    ensures { result ≡ defined.once_more (command_of command.now) first }
+{
+    LayoutFault {
+        rule: Rule::CommandAgain,
+        owner: command_owner(command),
+        other: Some(first),
+        found: number_of(command),
+        limit: 1,
+    }
+}
+
+/// Adds a fault for each command before which one of its set stands.
+pub fn tell_again<A: Allocator>(
+    faults: &mut Vec<LayoutFault, A>,
+    commands: &[LoadCommand],
+) -> Result<()>
+    ensures told { OnOk result (faults.new.items ≡ faults.old.items ++ defined.commands_again [] (map command_of commands.now)) }
+    ensures only { IsOkUnlessMemory result }
+{
+    let mut firsts: [Option<Owner>; SETS] = [None; SETS];
+    for command in commands {
+        let Some(set) = set_of(&command.command) else {
+            continue;
+        };
+        match firsts[set] {
+            Some(first) => faults.push(once_more(command, first))?,
+            None => firsts[set] = Some(command_owner(command)),
+        }
+    }
+    Ok(())
+}

@@ -1,0 +1,205 @@
+//! Rules of chained fixups.
+
+ghost use Rattle.std.specs.Prelude.{◌≡◌, ◌++◌, length, option_map, OnOk};
+ghost use Rattle.mach_base.specs.Answer.{IsOkUnlessMemory, Reads};
+ghost use Rattle.mach_layout.specs.Laid.{laid_of};
+ghost use Rattle.mach_layout.specs.Fixups as defined;
+ghost use Rattle.mach_layout.specs.FixupViews.{data_view};
+ghost use Rattle.mach_base.specs.Number.{number_at};
+
+mod imports;
+pub mod starts;
+
+use crate::asked::{Wanted, last_wanted};
+use crate::fault::{LayoutFault, Owner, Part, Rule};
+use crate::fixups::imports::import_faults;
+use crate::fixups::starts::starts_faults;
+use crate::layout::{Layout, ends_past};
+use crate::rules::{Seen, measured, owner_at, tell};
+use mach_base::{Endian, Record, Result, read_u32};
+use mach_chained::ChainedFixupsHeader;
+use mach_load::{CommandVariant, LoadCommand};
+use std::alloc::Allocator;
+
+/// Where a command places chained fixups, and its own place.
+#[derive(Clone, Copy)]
+pub struct PlacedFixups {
+    pub place: usize,
+    pub dataoff: u32,
+    pub datasize: u32,
+}
+
+impl Wanted for PlacedFixups {
+    ghost use Rattle.mach_layout.specs.Fixups.{fixups_of};
+
+    ghost wanted = { fixups_of };
+
+    fn of(command: &LoadCommand) -> Option<PlacedFixups> {
+        let place = command.offset;
+        match &command.command {
+            CommandVariant::DyldChainedFixups(c) => {
+                let (dataoff, datasize) = (c.dataoff, c.datasize);
+                Some(PlacedFixups {
+                    place,
+                    dataoff,
+                    datasize,
+                })
+            }
+            _ => None,
+        }
+    }
+}
+
+/// What is fixed while chained fixups are judged: the place of their command, their data, and the byte order.
+#[derive(Clone, Copy)]
+pub struct FixupData<'a> {
+    pub place: usize,
+    pub payload: &'a [u8],
+    pub le: Endian,
+}
+
+/// A front that can be read, and how many starts stand behind it.
+#[derive(Clone, Copy)]
+pub struct Front {
+    pub header: ChainedFixupsHeader,
+    pub count: u32,
+}
+
+impl FixupData<'_> {
+    /// Whose a fault of the front is, or of the starts of segment k.
+    pub fn owner(&self, k: u32) -> Owner
+        ensures { result ≡ defined.data_owner (data_view self.now) k }
+    {
+        owner_at(Part::ChainedFixups, self.place, u64::from(k))
+    }
+
+    /// How many bytes there are.
+    pub fn size(&self) -> u64
+        ensures { result ≡ length self.now.payload.now }
+    {
+        self.payload.len() as u64
+    }
+}
+
+/// The data that a command places, where they lie in the file.
+pub fn data_of<'a>(layout: &Layout<'a, '_>, placed: &PlacedFixups) -> Option<FixupData<'a>>
+    ensures { option_map data_view result ≡ defined.data_of (laid_of layout.now) placed.now }
+{
+    let (start, size) = (placed.dataoff, placed.datasize);
+    if ends_past(layout.size(), u64::from(start), u64::from(size)) {
+        return None;
+    }
+    Some(FixupData {
+        place: placed.place,
+        payload: &layout.bytes[start as usize..start as usize + size as usize],
+        le: layout.ctx.le,
+    })
+}
+
+// The data of the chained fixups, where there are some and they lie in the file.
+fn fixup_data<'a>(layout: &Layout<'a, '_>) -> Option<FixupData<'a>>
+    ensures { option_map data_view result ≡ defined.fixup_data (laid_of layout.now) }
+{
+    let placed = last_wanted::<PlacedFixups>(layout.commands)?;
+    data_of(layout, &placed)
+}
+
+/// How many bytes an import's record has.
+pub fn import_bytes(format: u32) -> u64
+    ensures { result ≡ defined.import_bytes format }
+{
+    match format {
+        1 => 4,
+        2 => 8,
+        _ => 16,
+    }
+}
+
+// What is seen of the version and the formats of a front.
+fn format_seen(header: &ChainedFixupsHeader) -> Seen
+    ensures { result ≡ defined.format_sees header.now }
+{
+    let (version, imports, symbols) = (
+        u64::from(header.fixups_version),
+        u64::from(header.imports_format),
+        u64::from(header.symbols_format),
+    );
+    measured(version == 0, version, 0)
+        .then(measured(imports != 0 && imports <= 3, imports, 3))
+        .then(measured(symbols <= 1, symbols, 1))
+}
+
+// Where the imports end.
+fn imports_end(header: &ChainedFixupsHeader) -> u64
+    ensures { result ≡ defined.imports_end header.now }
+{
+    let size = u64::from(header.imports_count) * import_bytes(header.imports_format);
+    u64::from(header.imports_offset) + size
+}
+
+// What is seen of the places of imports and names.
+fn places_seen(chained: &FixupData<'_>, header: &ChainedFixupsHeader) -> Seen
+    ensures { result ≡ defined.places_sees (data_view chained.now) header.now }
+{
+    let (size, end) = (chained.size(), imports_end(header));
+    let names = u64::from(header.symbols_offset);
+    measured(end <= size, end, size)
+        .then(measured(names <= size, names, size))
+        .then(measured(end <= names, names, end))
+}
+
+// The front with its count of starts, where all these stand behind it.
+fn front_or_seen(
+    chained: &FixupData<'_>,
+    header: ChainedFixupsHeader,
+) -> std::result::Result<Front, Seen>
+    ensures { result ≡ defined.front_or_seen (data_view chained.now) header (number_at chained.now.le 4 chained.now.payload.now header.starts_offset) }
+{
+    let size = chained.size();
+    let first = u64::from(header.starts_offset) + 4;
+    let Ok(count) = read_u32(chained.payload, header.starts_offset as usize, chained.le) else {
+        return Err(measured(false, first, size));
+    };
+    let end = first + 4 * u64::from(count);
+    if end > size {
+        return Err(measured(false, end, size));
+    }
+    Ok(Front { header, count })
+}
+
+// The front of the data, or what is seen of its first part that doesn't hold.
+fn front_of(chained: &FixupData<'_>) -> std::result::Result<Front, Seen>
+    ensures { result ≡ defined.front_of (data_view chained.now) }
+{
+    let Ok(header) = ChainedFixupsHeader::read(chained.payload, 0, chained.le) else {
+        return Err(measured(false, chained.size(), 28));
+    };
+    let seen = format_seen(&header).then(places_seen(chained, &header));
+    if !seen.holds {
+        return Err(seen);
+    }
+    front_or_seen(chained, header)
+}
+
+/// Adds the faults of chained fixups.
+pub fn fixup_faults<A: Allocator>(
+    faults: &mut Vec<LayoutFault, A>,
+    layout: &Layout<'_, '_>,
+) -> Result<()>
+    ensures told { OnOk result (faults.new.items ≡ faults.old.items ++ defined.fixup_faults (laid_of layout.now)) }
+    ensures only { IsOkUnlessMemory result }
+{
+    let Some(chained) = fixup_data(layout) else {
+        return Ok(());
+    };
+    match front_of(&chained) {
+        Ok(front) => {
+            starts_faults(faults, layout, &chained, &front)?;
+            import_faults(faults, layout, &chained, &front)
+        }
+        Err(seen) => {
+            tell(faults, Rule::ChainedFixups, chained.owner(0), seen)?;
+            Ok(())
+        }
+    }
+}

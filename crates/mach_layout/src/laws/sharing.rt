@@ -1,0 +1,22 @@
+//! Laws of faults.
+
+ghost use Rattle.std.specs.Prelude.{List, All};
+ghost use Rattle.mach_layout.specs.Claims.{claims_of};
+ghost use Rattle.mach_layout.specs.Laid.{Laid};
+ghost use Rattle.mach_layout.specs.Ranges.{lone_claims};
+ghost use Rattle.mach_layout.specs.Sweep.{AreShared, IsOfTwo};
+ghost use Rattle.mach_layout.specs.declared.claim.Claim.{Claim};
+ghost use Rattle.mach_layout.specs.declared.fault.Rule.{Rule};
+ghost use Rattle.mach_layout.specs.declared.fault.LayoutFault.{LayoutFault};
+
+/// What is told of ranges that share a place is told of two of these ranges each time.
+#[tactic(auto, using(crate::proofs::Sharing::shared_are_ranges))]
+pub fn shared_are_ranges()
+    ensures { (rule : Rule) (ranges : List Claim) (told : List LayoutFault) → AreShared rule ranges told → All (IsOfTwo rule ranges) told }
+{}
+
+/// What is told of the claims of an image that may not share a place is told of two of its claims each time.
+#[tactic(auto, using(crate::proofs::Sharing::shared_are_claims))]
+pub fn shared_are_claims()
+    ensures { (laid : Laid) (rule : Rule) (told : List LayoutFault) → AreShared rule (lone_claims laid) told → All (IsOfTwo rule (claims_of laid)) told }
+{}

@@ -1,0 +1,162 @@
+//! What the rules of the texts of commands and of the names of libraries ask.
+
+ghost use Rattle.std.specs.Prelude.{◌≡◌, Some, true, map};
+ghost use Rattle.std.specs.List.{list_any};
+ghost use Rattle.mach_load.specs.Variants.{command_of, kind_in, variant_values};
+ghost use Rattle.mach_layout.specs.Laid.{laid_of};
+ghost use Rattle.mach_layout.specs.Libraries as defined;
+ghost use Rattle.mach_layout.specs.Rules.{sees_there};
+
+use crate::commands::bytes_from;
+use crate::layout::Layout;
+use crate::rules::{Seen, measured, sound};
+use mach_base::Record;
+use mach_load::{CommandVariant, LoadCommand};
+use mach_parts::header::{MH_DYLIB, MH_DYLIB_STUB};
+use mach_records::{
+    DylibCommand, DylinkerCommand, FilesetEntryCommand, FvmfileCommand, FvmlibCommand, LcStr,
+    PreboundDylibCommand, RpathCommand, SubClientCommand, SubFrameworkCommand, SubLibraryCommand,
+    SubUmbrellaCommand,
+};
+
+/// The text of a command.
+#[derive(Clone, Copy)]
+pub struct CommandText {
+    /// Where it begins, counted from its command.
+    pub offset: usize,
+    /// How many bytes the struct of the command has.
+    pub struct_size: usize,
+    /// Whether it is read up to a zero byte.
+    pub is_read: bool,
+}
+
+// The text at an offset, behind a struct of `struct_size` bytes.
+fn text_behind(offset: LcStr, struct_size: usize) -> Option<CommandText>
+    ensures { result ≡ Some (record { offset = offset; struct_size = struct_size; is_read = true }) }
+{
+    Some(CommandText {
+        offset: offset as usize,
+        struct_size,
+        is_read: true,
+    })
+}
+
+// The text of a command, if it has one.
+fn text_of(command: &CommandVariant) -> Option<CommandText>
+    ensures { result ≡ defined.text_of (kind_in command.now) (variant_values command.now) }
+{
+    match command {
+        CommandVariant::LoadFvmlib(c) | CommandVariant::IdFvmlib(c) => {
+            text_behind(c.fvmlib.name, FvmlibCommand::SIZE)
+        }
+        CommandVariant::Fvmfile(c) => text_behind(c.name, FvmfileCommand::SIZE),
+        CommandVariant::LoadDylib(c)
+        | CommandVariant::IdDylib(c)
+        | CommandVariant::LazyLoadDylib(c)
+        | CommandVariant::LoadWeakDylib(c)
+        | CommandVariant::ReexportDylib(c)
+        | CommandVariant::LoadUpwardDylib(c) => text_behind(c.dylib.name, DylibCommand::SIZE),
+        CommandVariant::LoadDylinker(c)
+        | CommandVariant::IdDylinker(c)
+        | CommandVariant::DyldEnvironment(c) => text_behind(c.name, DylinkerCommand::SIZE),
+        CommandVariant::SubFramework(c) => text_behind(c.umbrella, SubFrameworkCommand::SIZE),
+        CommandVariant::SubUmbrella(c) => text_behind(c.sub_umbrella, SubUmbrellaCommand::SIZE),
+        CommandVariant::SubClient(c) => text_behind(c.client, SubClientCommand::SIZE),
+        CommandVariant::SubLibrary(c) => text_behind(c.sub_library, SubLibraryCommand::SIZE),
+        CommandVariant::Rpath(c) => text_behind(c.path, RpathCommand::SIZE),
+        CommandVariant::FilesetEntry(c) => text_behind(c.entry_id, FilesetEntryCommand::SIZE),
+        CommandVariant::PreboundDylib(c) => Some(CommandText {
+            offset: c.name as usize,
+            struct_size: PreboundDylibCommand::SIZE,
+            is_read: false,
+        }),
+        _ => None,
+    }
+}
+
+// The bytes of a command from its text on.
+fn bytes_from_text<'a>(bytes: &'a [u8], command: &LoadCommand, text: CommandText) -> &'a [u8]
+    ensures { result.now ≡ defined.bytes_from_text bytes.now (command_of command.now) text }
+{
+    let place = command.offset.saturating_add(text.offset);
+    let len = command.command.cmdsize().saturating_sub(text.offset);
+    bytes_from(bytes, place, len)
+}
+
+// Whether the text lies in its command, behind the struct.
+fn lies_inside(bytes: &[u8], command: &LoadCommand, text: CommandText) -> bool
+    ensures { result ≡ defined.lies_inside bytes.now (command_of command.now) text }
+{
+    let begins = text.struct_size <= text.offset && text.offset < command.command.cmdsize();
+    begins && (!text.is_read || bytes_from_text(bytes, command, text).contains(&0))
+}
+
+// Whether some bytes begin with a zero byte.
+fn begins_with_zero(bytes: &[u8]) -> bool
+    ensures { result ≡ defined.begins_with_zero bytes.now }
+{
+    bytes.first() == Some(&0)
+}
+
+// Whether the text lies there, is read, and is empty.
+fn is_empty_text(bytes: &[u8], command: &LoadCommand, text: CommandText) -> bool
+    ensures { result ≡ defined.is_empty_text bytes.now (command_of command.now) text }
+{
+    let is_empty = begins_with_zero(bytes_from_text(bytes, command, text));
+    lies_inside(bytes, command, text) && text.is_read && is_empty
+}
+
+/// What is seen of the place of a command's text.
+pub fn place_seen(bytes: &[u8], command: &LoadCommand) -> Seen
+    ensures { let c = command_of command.now in
+        result ≡ sees_there (defined.text_of c.kind c.values) (λ t. defined.place_sees bytes.now c t) }
+{
+    match text_of(&command.command) {
+        None => sound(),
+        Some(text) => {
+            let holds = lies_inside(bytes, command, text);
+            measured(holds, text.offset as u64, command.command.cmdsize() as u64)
+        }
+    }
+}
+
+/// What is seen of whether it is empty.
+pub fn text_seen(bytes: &[u8], command: &LoadCommand) -> Seen
+    ensures { let c = command_of command.now in
+        result ≡ sees_there (defined.text_of c.kind c.values) (λ t. defined.text_sees bytes.now c t) }
+{
+    match text_of(&command.command) {
+        None => sound(),
+        Some(text) => {
+            let holds = !is_empty_text(bytes, command, text);
+            measured(holds, text.offset as u64, command.command.cmdsize() as u64)
+        }
+    }
+}
+
+/// Whether the file is a library, or one without contents.
+pub fn is_library_file(layout: &Layout<'_, '_>) -> bool
+    ensures { result ≡ defined.is_library_file (laid_of layout.now) }
+{
+    let kind = layout.header.filetype;
+    kind == MH_DYLIB || kind == MH_DYLIB_STUB
+}
+
+/// Whether a command says the name of a library.
+pub fn is_id(command: &LoadCommand) -> bool
+    ensures { result ≡ defined.says_id (command_of command.now) }
+{
+    matches!(&command.command, CommandVariant::IdDylib(_))
+}
+
+/// Whether one of some commands does.
+pub fn has_id(commands: &[LoadCommand]) -> bool
+    ensures { result ≡ list_any defined.says_id (map command_of commands.now) }
+{
+    for command in commands {
+        if is_id(command) {
+            return true;
+        }
+    }
+    false
+}

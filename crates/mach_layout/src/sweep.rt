@@ -1,0 +1,71 @@
+//! Which of some ranges share a place, by one sweep over them.
+
+ghost use Rattle.std.specs.Prelude.{◌≡◌, ◌++◌, [], List, OnOk};
+ghost use Rattle.mach_base.specs.Answer.{IsOkUnlessMemory};
+ghost use Rattle.mach_layout.specs.Sweep as defined;
+ghost use Rattle.mach_layout.specs.Sweep.{AreShared, IsByStart};
+ghost use Rattle.mach_layout.specs.declared.fault.LayoutFault as declared;
+
+use crate::claim::Claim;
+use crate::fault::{LayoutFault, Rule};
+use crate::rules::add;
+use mach_base::Result;
+use std::alloc::Allocator;
+
+// Of two the one that ends later, the first where they end at one place.
+fn further(first: Option<Claim>, range: Claim) -> Claim
+    ensures { result ≡ defined.further first range }
+{
+    match first {
+        Some(first) if first.end() >= range.end() => first,
+        _ => range,
+    }
+}
+
+// The fault of a range that begins before the furthest of those before it ends.
+fn shared(rule: Rule, furthest: Option<Claim>, range: &Claim) -> Option<LayoutFault>
+    ensures { result ≡ defined.shared rule furthest range.now }
+{
+    let other = furthest?;
+    if u128::from(range.start) >= other.end() {
+        return None;
+    }
+    Some(LayoutFault {
+        rule,
+        owner: range.owner,
+        other: Some(other.owner),
+        found: range.start,
+        limit: other.start.saturating_add(other.len),
+    })
+}
+
+// Adds what is told of ranges that stand by their starts.
+fn tell_shared<A: Allocator>(
+    faults: &mut Vec<LayoutFault, A>,
+    rule: Rule,
+    sorted: &[Claim],
+) -> Result<()>
+    ensures told { OnOk result (faults.new.items ≡ faults.old.items ++ defined.shared_behind rule [] sorted.now) }
+    ensures only { IsOkUnlessMemory result }
+{
+    let mut furthest = None;
+    for range in sorted {
+        add(faults, shared(rule, furthest, range))?;
+        furthest = Some(further(furthest, *range));
+    }
+    Ok(())
+}
+
+/// Adds what is told of some ranges, each against those before it by their starts. It sorts them.
+pub fn tell_ranges<A: Allocator>(
+    faults: &mut Vec<LayoutFault, A>,
+    rule: Rule,
+    ranges: &mut Vec<Claim, A>,
+) -> Result<()>
+    ensures told { OnOk result ((told : List declared.LayoutFault) × AreShared rule ranges.old.items told × (faults.new.items ≡ faults.old.items ++ told)) }
+    ensures only { IsOkUnlessMemory result }
+{
+    ranges.sort_by_key(|range| range.start)?;
+    tell_shared(faults, rule, ranges.as_slice())?;
+    Ok(())
+}

@@ -1,5 +1,0 @@
-use Rattle.std.proofs.Common.{◌≤◌}
-use Rattle.mach_parts.proofs.files.Files.show.Given as goal
-
-abbrev pub invariant-files : goal.invariant-files
-invariant-files g l = l.round.worst ≤ 2

@@ -1,0 +1,10 @@
+use Rattle.std.proofs.Common.{◌≡◌, map}
+use Rattle.std.specs.Prelude.{find}
+use Rattle.mach_parts.specs.NumberedLeft.{readable_left}
+use Rattle.mach_parts.specs.SectionRecord.{holds_address, readable_sections}
+use Rattle.mach_parts.specs.Segment.{segment_view}
+use Rattle.mach_parts.proofs.segment.readable.section_holding.Given as goal
+
+abbrev pub invariant-sections : goal.invariant-sections
+invariant-sections l =
+    find (holds_address l.address) (readable_sections (map segment_view l.segments)) ≡ find (holds_address l.address) (readable_left l.section-iterator)

@@ -1,0 +1,33 @@
+-- Indirect symbols: numbers that say of pointers and stubs which symbol they stand for (`mach-o/loader.h`, struct dysymtab_command,
+-- INDIRECT_SYMBOL_LOCAL and INDIRECT_SYMBOL_ABS).
+use Rattle.std.specs.Prelude.{◌==◌, ℕ, ◌+◌, ◌*◌, List, Result, Ok, if◌then◌else◌}
+use Rattle.mach_base.specs.declared.context.Endian.{Endian}
+use Rattle.mach_base.specs.Answer.{◌>>=◌}
+use Rattle.mach_base.specs.Fault.{Fault}
+use Rattle.mach_base.specs.Items.{items_from}
+use Rattle.mach_base.specs.Number.{number_at}
+use Rattle.mach_parts.specs.declared.indirect.IndirectSymbol.{IndirectSymbol}
+use Rattle.mach_parts.specs.declared.indirect.IndirectSymbol.TheVariants.{Symbol, Local, Absolute, LocalAbsolute}
+
+-- what the number of an entry says: one with other bits beside these two is the number of a symbol
+abbrev pub indirect_symbol : ℕ → IndirectSymbol
+indirect_symbol n =
+    if n == 0x8000_0000 then Local
+    else (if n == 0x4000_0000 then Absolute
+    else (if n == 0xc000_0000 then LocalAbsolute
+    else Symbol n))
+
+-- A table of them: so many entries of four bytes at a place.
+pub record IndirectTable : Type 0 where
+  pub bytes : List ℕ
+  pub start : ℕ
+  pub count : ℕ
+  pub le : Endian
+
+-- what entry k says, or why it isn't there
+abbrev pub indirect_symbol_at : IndirectTable → ℕ → Result IndirectSymbol Fault
+indirect_symbol_at t k = number_at t.le 4 t.bytes (t.start + 4 * k) >>= (λ n. Ok (indirect_symbol n))
+
+-- all entries of a table
+abbrev pub indirect_symbols_of : IndirectTable → List (Result IndirectSymbol Fault)
+indirect_symbols_of t = items_from (indirect_symbol_at t) 0 t.count

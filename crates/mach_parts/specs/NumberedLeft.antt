@@ -1,0 +1,30 @@
+-- What is left of the sections of an image's segments.
+use Rattle.std.specs.Prelude.{ℕ, ◌+◌, List, [], ◌∷◌, ◌++◌, drop, map, Result}
+use Rattle.mach_base.specs.declared.error.Error.{Error}
+use Rattle.mach_base.specs.Fault.{Fault}
+use Rattle.mach_base.specs.Items.{read_as}
+use Rattle.mach_parts.specs.Segment.{SegmentView, segment_view}
+use Rattle.mach_parts.specs.SectionRecord.{in_front, numbered_from, numbered_in, readable_in}
+use Rattle.mach_parts.specs.declared.segment.numbered.NumberedSection.{NumberedSection}
+use Rattle.mach_parts.specs.declared.segment.numbered.NumberedSections.{NumberedSections}
+use Rattle.mach_parts.specs.declared.segment.readable.ReadableSections.{ReadableSections}
+
+-- an item, as it was answered
+abbrev pub numbered_read : Result NumberedSection Error → Result NumberedSection Fault
+numbered_read item = read_as (λ n. n) item
+
+-- of some segments, of which the first has number n: the sections of the first from number k on, and those of the others
+abbrev pub numbered_behind : ℕ → ℕ → List SegmentView → List (Result NumberedSection Fault)
+numbered_behind n k [] = []
+numbered_behind n k (s ∷ ss) = numbered_from n s k ++ numbered_in (n + 1) ss
+
+abbrev pub readable_behind : ℕ → ℕ → List SegmentView → List NumberedSection
+readable_behind n k [] = []
+readable_behind n k (s ∷ ss) = in_front (numbered_from n s k) ++ readable_in (n + 1) ss
+
+-- the sections that an iterator has yet to give
+abbrev pub numbered_left : NumberedSections → List (Result NumberedSection Fault)
+numbered_left it = numbered_behind it.segment it.number (map segment_view (drop it.segment it.segments.now))
+
+abbrev pub readable_left : ReadableSections → List NumberedSection
+readable_left it = readable_behind it.segment it.number (map segment_view (drop it.segment it.segments.now))

@@ -1,0 +1,29 @@
+-- Slots that are known to have entries, as an iterator keeps them. Callers don't need it: the contract of `new` says that the items at
+-- the start are those of the definitions.
+use Rattle.std.specs.Prelude.{ℕ, zero, suc, ◌+◌, ◌/◌, ◌%◌, ◌^◌, List, [], ◌∷◌, drop, length, Result}
+use Rattle.mach_base.specs.Fault.{Fault}
+use Rattle.mach_base.specs.Number.{number}
+use Rattle.mach_parts.specs.IndirectSymbols.{IndirectTable, indirect_symbol}
+use Rattle.mach_parts.specs.Slots.{SlotTables, Slot, slot_of_entry}
+use Rattle.mach_parts.specs.declared.slot_kind.SlotRun.{SlotRun}
+use Rattle.mach_parts.specs.declared.ready_slots.ReadySlots.{ReadySlots}
+use Rattle.mach_parts.specs.declared.slot.SlotEntry.{SlotEntry}
+
+-- the entry with which these bytes begin, of the slot at an address
+abbrev pub ready_entry : IndirectTable → (entries : List ℕ) (address index : ℕ) → SlotEntry
+ready_entry table entries address index = record { address = address; index = index; says = indirect_symbol (number table.le 4 entries) }
+
+-- so many slots, one behind the other, whose entries stand at the front of these bytes
+unfoldable pub ready_slots : SlotTables → SlotRun → (many : ℕ) (entries : List ℕ) (address index : ℕ) → List (Result Slot Fault)
+ready_slots t r zero entries address index = []
+ready_slots t r (suc many) entries address index =
+    slot_of_entry t r (ready_entry t.indirect entries address index)
+    ∷ ready_slots t r many (drop 4 entries) ((address + r.len) % 2 ^ 64) ((index + 1) % 2 ^ 32)
+
+-- how many are left
+abbrev pub ready_count : ReadySlots → ℕ
+ready_count s = length s.entries.now / 4
+
+-- those that are left
+abbrev pub ready_left : SlotTables → ReadySlots → List (Result Slot Fault)
+ready_left t s = ready_slots t s.run (ready_count s) s.entries.now s.address s.index

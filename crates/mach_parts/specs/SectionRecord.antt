@@ -1,0 +1,92 @@
+-- Sections as the wider record, with all its fields, and by their numbers over the segments of an image (`mach-o/loader.h`, struct section
+-- and section_64; `mach-o/nlist.h`, n_sect).
+use Rattle.std.specs.Prelude.{◌==◌, ℕ, ◌+◌, ◌-◌, ◌&&◌, Bool, List, [], ◌∷◌, ◌++◌, find, Option, Some, None, Result, Ok, Err, nat_le, nat_lt}
+use Rattle.std.specs.Prelude.{if◌then◌else◌, slice_get}
+use Rattle.mach_base.specs.declared.context.Endian.{Endian}
+use Rattle.mach_base.specs.declared.context.Container.{Container}
+use Rattle.mach_base.specs.declared.context.Container.TheVariants.{Little, Big}
+use Rattle.mach_base.specs.Answer.{◌>>=◌}
+use Rattle.mach_base.specs.Fault.{Fault}
+use Rattle.mach_base.specs.Items.{items_from}
+use Rattle.mach_base.specs.Record.{record_at}
+use Rattle.mach_records.specs.Segments.{section32_fields, section32_of_values, section64_fields, section64_of_values}
+use Rattle.mach_records.specs.declared.segments.Section32.{Section32}
+use Rattle.mach_records.specs.declared.segments.Section64.{Section64}
+use Rattle.mach_parts.specs.Section.{section_place}
+use Rattle.mach_parts.specs.Segment.{SegmentView}
+use Rattle.mach_parts.specs.declared.segment.numbered.NumberedSection.{NumberedSection}
+
+-- the section of a 32-bit image in the wider form
+abbrev pub wider_section : Section32 → Section64
+wider_section s =
+    record {
+      sectname = s.sectname;
+      segname = s.segname;
+      addr = s.addr;
+      size = s.size;
+      offset = s.offset;
+      align = s.align;
+      reloff = s.reloff;
+      nreloc = s.nreloc;
+      flags = s.flags;
+      reserved1 = s.reserved1;
+      reserved2 = s.reserved2;
+      reserved3 = 0;
+    }
+
+-- the section at a place, or why there is none
+abbrev pub section_record_at : Container → Endian → List ℕ → ℕ → Result Section64 Fault
+section_record_at Little le bytes place = record_at le section32_fields bytes place >>= (λ vs. Ok (wider_section (section32_of_values vs)))
+section_record_at Big le bytes place = record_at le section64_fields bytes place >>= (λ vs. Ok (section64_of_values vs))
+
+-- those in front of the first that isn't there
+abbrev pub in_front : {X : Type 0} → List (Result X Fault) → List X
+in_front [] = []
+in_front (Ok x ∷ items) = x ∷ in_front items
+in_front (Err f ∷ items) = []
+
+-- section k of the segment with number n, or why it isn't there
+abbrev pub numbered_section : ℕ → SegmentView → ℕ → Result NumberedSection Fault
+numbered_section n s k =
+    section_record_at s.ctx.container s.ctx.le s.file (section_place s.ctx.container s.offset k)
+    >>= (λ found. Ok (record { segment = n; number = k; section = found }))
+
+-- those of a segment from number k on
+abbrev pub numbered_from : ℕ → SegmentView → ℕ → List (Result NumberedSection Fault)
+numbered_from n s k = items_from (numbered_section n s) k (s.command.nsects - k)
+
+-- those of some segments, of which the first has number n
+abbrev pub numbered_in : ℕ → List SegmentView → List (Result NumberedSection Fault)
+numbered_in n [] = []
+numbered_in n (s ∷ ss) = numbered_from n s 0 ++ numbered_in (n + 1) ss
+
+-- all sections of an image's segments, each or why it isn't there
+abbrev pub numbered_sections : List SegmentView → List (Result NumberedSection Fault)
+numbered_sections ss = numbered_in 0 ss
+
+-- of each segment those in front of the first that isn't in the bytes: behind it none is
+abbrev pub readable_in : ℕ → List SegmentView → List NumberedSection
+readable_in n [] = []
+readable_in n (s ∷ ss) = in_front (numbered_from n s 0) ++ readable_in (n + 1) ss
+
+-- all sections of an image's segments that are in the bytes
+abbrev pub readable_sections : List SegmentView → List NumberedSection
+readable_sections ss = readable_in 0 ss
+
+-- whether an address lies in a section
+abbrev pub holds_address : ℕ → NumberedSection → Bool
+holds_address a n = nat_le n.section.addr a && nat_lt a (n.section.addr + n.section.size)
+
+-- the first section that an address lies in
+abbrev pub section_holding : List SegmentView → ℕ → Option NumberedSection
+section_holding ss a = find (holds_address a) (readable_sections ss)
+
+-- an item, if there is one
+abbrev pub item_if_any : {X : Type 0} → Option (Result X Fault) → Result (Option X) Fault
+item_if_any None = Ok None
+item_if_any (Some (Ok x)) = Ok (Some x)
+item_if_any (Some (Err f)) = Err f
+
+-- the section that a symbol's `n_sect` means: they are counted from 1 over all segments, and 0 means none
+abbrev pub section_by_number : List SegmentView → ℕ → Result (Option NumberedSection) Fault
+section_by_number ss n = if n == 0 then Ok None else item_if_any (slice_get (numbered_sections ss) (n - 1))

@@ -1,0 +1,136 @@
+//! The segments of an image.
+
+ghost use Rattle.std.specs.Prelude.{◌≡◌, ◌∷◌, ◌++◌, [], map, OnErr, OnOk};
+ghost use Rattle.mach_parts.specs.Segment.{segment_view, sections_of};
+
+use crate::segment::{SectionIterator, Segment};
+use mach_base::{Ctx, Result};
+use std::alloc::Allocator;
+use std::slice::Iter;
+
+/// The segments of an image, in order: a list of `S`, which is `Segment<'a>`.
+// `S` is a parameter for the sake of `get_mut`: what a list ends as once an element was lent is
+// proved only where the element's type names no lifetime.
+#[derive(Drop)]
+#[derive_where(Debug; S)]
+pub struct Segments<S, A: Allocator> {
+    segments: Vec<S, A>,
+}
+
+impl<S, A: Allocator> Segments<S, A> {
+    ghost use Rattle.std.specs.Prelude.{slice_get};
+    ghost use Rattle.std.specs.Borrow.{sem};
+    ghost use Rattle.std.specs.Option.{option_copied_mut};
+    ghost use Rattle.mach_parts.specs.Segments.{segments_in};
+    ghost use Rattle.mach_parts.specs.SegmentLending.{LendsSegment};
+
+    /// The segment at an index, to be changed in place, if there is one. The others stay as they are.
+    pub fn get_mut(&mut self, index: usize) -> Option<&mut S>
+        ensures* writes_back { sem 𝓛 (LendsSegment S.row A.row A.Allocator self.entry index result) }
+        ensures lent { option_copied_mut result ≡ slice_get (segments_in self.old) index }
+    {
+        self.segments.get_mut(index)
+    }
+}
+
+impl<'a, A: Allocator> Segments<Segment<'a>, A> {
+    ghost use Rattle.mach_base.specs.Answer.{IsOkUnlessMemory};
+    ghost use Rattle.mach_parts.specs.Segments.{segments_in, sections_in};
+
+    /// No segments yet. The context changes nothing.
+    pub fn new(alloc: A, _ctx: Ctx) -> Self
+        ensures { segments_in result ≡ [] }
+    {
+        Segments {
+            segments: Vec::new(alloc),
+        }
+    }
+
+    /// Adds a segment at the end. Where memory is refused it is dropped, and the others stay.
+    pub fn push(&mut self, segment: Segment<'a>) -> Result<()>
+        ensures ok { OnOk result (segments_in self.new ≡ segments_in self.old ++ segment.entry ∷ []) }
+        ensures only { IsOkUnlessMemory result }
+        ensures refused { OnErr result (segments_in self.new ≡ segments_in self.old) }
+    {
+        self.segments.push(segment)?;
+        Ok(())
+    }
+
+    /// The segments as a slice.
+    pub fn as_slice(&self) -> &[Segment<'a>]
+        ensures { result.now ≡ segments_in self.now }
+    {
+        self.segments.as_slice()
+    }
+
+    ghost use Rattle.std.specs.Iterator.Adapters.{IterYieldsInOrder};
+    ghost use Rattle.std.specs.Slice.Iter.{iter_rest};
+    ghost use Rattle.mach_parts.specs.declared.segment.Segment.{Segment};
+
+    /// Goes over the segments.
+    pub fn iter(&self) -> Iter<'_, Segment<'a>>
+        ensures items { iter_rest result ≡ segments_in self.now }
+        ensures runs { IterYieldsInOrder Segment }
+    {
+        self.segments.as_slice().iter()
+    }
+
+    /// Goes over the segments' iterators over their sections.
+    pub fn sections(&self) -> SegmentSections<'_, 'a>
+        ensures { sections_in result ≡ map (λ s. sections_of (segment_view s)) (segments_in self.now) }
+    {
+        SegmentSections {
+            segments: self.iter(),
+        }
+    }
+}
+
+impl<'a, A: Allocator> From<Vec<Segment<'a>, A>> for Segments<Segment<'a>, A> {
+    ghost use Rattle.mach_parts.specs.Segments.{segments_in};
+
+    ghost from_gives = { λ list segments. segments_in segments ≡ list.items };
+
+    fn from(segments: Vec<Segment<'a>, A>) -> Segments<Segment<'a>, A> {
+        Segments { segments }
+    }
+}
+
+impl<'a, 'b, A: Allocator> IntoIterator for &'b Segments<Segment<'a>, A> {
+    type Item = &'b Segment<'a>;
+
+    type IntoIter = Iter<'b, Segment<'a>>;
+
+    ghost use Rattle.std.specs.Iterator.Adapters.{IterYieldsInOrder};
+    ghost use Rattle.std.specs.Slice.Iter.{iter_rest};
+    ghost use Rattle.mach_parts.specs.Segments.{segments_in};
+    ghost use Rattle.mach_parts.specs.declared.segment.Segment.{Segment};
+
+    ghost into_iter_gives = { λ s it. (iter_rest it ≡ segments_in s.now) × IterYieldsInOrder Segment };
+
+    fn into_iter(self) -> Iter<'b, Segment<'a>> {
+        self.iter()
+    }
+}
+
+/// The segments' iterators over their sections, in order.
+#[derive(Clone, Drop)]
+pub struct SegmentSections<'b, 'a> {
+    segments: Iter<'b, Segment<'a>>,
+}
+
+impl<'b, 'a> Iterator for SegmentSections<'b, 'a> {
+    type Item = SectionIterator<'a>;
+
+    ghost use Rattle.std.specs.Iterator.{YieldsFirstBy, item_count};
+    ghost use Rattle.mach_parts.specs.SectionItems.{sections_left};
+    ghost use Rattle.mach_parts.specs.Segments.{sections_in};
+
+    ghost next_gives = { YieldsFirstBy sections_left sections_in };
+
+    ghost remaining = { item_count sections_in };
+
+    fn next(&mut self) -> Option<SectionIterator<'a>> {
+        let segment = self.segments.next()?;
+        Some(segment.into_iter())
+    }
+}

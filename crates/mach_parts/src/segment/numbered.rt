@@ -1,0 +1,158 @@
+//! Sections as the wider record, by their numbers over the segments of an image.
+
+ghost use Rattle.std.specs.Prelude.{◌≡◌, map, option_map, slice_get};
+ghost use Rattle.mach_base.specs.Answer.{Reads};
+ghost use Rattle.mach_parts.specs.Section.{section_place};
+ghost use Rattle.mach_parts.specs.Segment.{segment_view};
+ghost use Rattle.mach_parts.specs.SectionRecord.{wider_section, section_record_at, numbered_section, numbered_sections, holds_address, section_by_number};
+ghost use Rattle.mach_parts.specs.NumberedLeft.{numbered_read, numbered_left};
+
+use crate::segment::Segment;
+use crate::segment::sections::place_of;
+use mach_base::{Container, Ctx, Record, Result};
+use mach_records::{Section32, Section64};
+
+/// A section in the wider form, with its place among the sections of an image.
+#[derive(Clone, Copy, Debug)]
+pub struct NumberedSection {
+    /// The number of its segment, from 0.
+    pub segment: usize,
+    /// Its own number in its segment, from 0.
+    pub number: u32,
+    /// The section itself, the reserved fields with it.
+    pub section: Section64,
+}
+
+impl NumberedSection {
+    /// Whether an address lies in the section.
+    pub fn holds(&self, address: u64) -> bool
+        ensures { result ≡ holds_address address self.now }
+    {
+        let section = &self.section;
+        section.addr <= address && address - section.addr < section.size
+    }
+}
+
+/// The section of a 32-bit image in the wider form.
+pub fn widen_section(s: &Section32) -> Section64
+    ensures { result ≡ wider_section s.now }
+{
+    Section64 {
+        sectname: s.sectname,
+        segname: s.segname,
+        addr: u64::from(s.addr),
+        size: u64::from(s.size),
+        offset: s.offset,
+        align: s.align,
+        reloff: s.reloff,
+        nreloc: s.nreloc,
+        flags: s.flags,
+        reserved1: s.reserved1,
+        reserved2: s.reserved2,
+        reserved3: 0,
+    }
+}
+
+/// The section at a place of the bytes, in the wider form.
+pub fn section_at(bytes: &[u8], ctx: Ctx, place: usize) -> Result<Section64>
+    ensures { Reads (λ s. s) result (section_record_at ctx.container ctx.le bytes.now place) }
+{
+    match ctx.container {
+        Container::Little => Ok(widen_section(&Section32::read(bytes, place, ctx.le)?)),
+        Container::Big => Section64::read(bytes, place, ctx.le),
+    }
+}
+
+impl Segment<'_> {
+    /// A section of this segment, which has a number itself. How many there are is not tested.
+    pub fn numbered(&self, segment: usize, number: u32) -> Result<NumberedSection>
+        ensures { Reads (λ n. n) result (numbered_section segment (segment_view self.now) number) }
+    {
+        let place = place_of(self.ctx, self.offset, number);
+        let section = section_at(self.file, self.ctx, place)?;
+        Ok(NumberedSection {
+            segment,
+            number,
+            section,
+        })
+    }
+}
+
+/// The sections of an image's segments in order: exactly as many items as the segments say, of which each is the
+/// section at its own place or the error of the read there. It takes no memory.
+#[derive(Clone, Copy)]
+pub struct NumberedSections<'a, 'b> {
+    segments: &'b [Segment<'a>],
+    // The segment whose sections come now, and how many of them came.
+    segment: usize,
+    number: u32,
+}
+
+impl<'a, 'b> NumberedSections<'a, 'b> {
+    /// Those of these segments.
+    pub fn new(segments: &'b [Segment<'a>]) -> Self
+        ensures { numbered_left result ≡ numbered_sections (map segment_view segments.now) }
+    {
+        NumberedSections {
+            segments,
+            segment: 0,
+            number: 0,
+        }
+    }
+}
+
+impl<'a, 'b> Iterator for NumberedSections<'a, 'b> {
+    type Item = Result<NumberedSection>;
+
+    ghost use Rattle.std.specs.Iterator.{YieldsFirstBy, item_count};
+
+    ghost next_gives = { YieldsFirstBy numbered_read numbered_left };
+
+    ghost remaining = { item_count numbered_left };
+
+    fn next(&mut self) -> Option<Result<NumberedSection>> {
+        'segments: loop {
+            if self.segment >= self.segments.len() {
+                return None;
+            }
+            let segment = &self.segments[self.segment];
+            if self.number < segment.nsects {
+                let item = segment.numbered(self.segment, self.number);
+                self.number += 1;
+                return Some(item);
+            }
+            self.segment += 1;
+            self.number = 0;
+        }
+    }
+}
+
+// Section `number` of an image, counted from 0 over all segments, or why it isn't in the bytes.
+fn counted_section(segments: &[Segment<'_>], number: usize) -> Option<Result<NumberedSection>>
+    ensures { option_map numbered_read result ≡ slice_get (numbered_sections (map segment_view segments.now)) number }
+{
+    let mut before = number;
+    'segments: for (k, segment) in segments.iter().enumerate() {
+        let count = segment.nsects as usize;
+        if before < count {
+            return Some(segment.numbered(k, before as u32));
+        }
+        before -= count;
+    }
+    None
+}
+
+/// The section that a symbol's `n_sect` means, if there is one: sections are counted from 1 over all segments.
+/// Refused where it isn't in the bytes.
+pub fn section_of(segments: &[Segment<'_>], n_sect: usize) -> Result<Option<NumberedSection>>
+    ensures { Reads (λ found. found) result (section_by_number (map segment_view segments.now) n_sect) }
+{
+    if n_sect == 0 {
+        return Ok(None);
+    }
+    match counted_section(segments, n_sect - 1) {
+        None => Ok(None),
+        Some(Ok(section)) => Ok(Some(section)),
+        Some(Err(e)) => Err(e),
+    }
+}

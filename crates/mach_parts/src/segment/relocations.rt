@@ -1,0 +1,83 @@
+//! The relocations of a section, one at a time.
+
+ghost use Rattle.std.specs.Prelude.{◌≡◌};
+ghost use Rattle.mach_base.specs.Answer.{Reads};
+ghost use Rattle.mach_parts.specs.Relocation.{relocation_at};
+
+use crate::relocation::{RelocationInfo, SIZEOF_RELOCATION_INFO};
+use mach_base::{Endian, Record, Result};
+
+/// The relocations of a section: exactly as many items as the section says, each the relocation at its own
+/// place or the error of the read there.
+#[derive(Clone, Drop)]
+pub struct RelocationIterator<'a> {
+    bytes: &'a [u8],
+    reloff: u32,
+    next_item: u32,
+    count: u32,
+    le: Endian,
+}
+
+impl<'a> RelocationIterator<'a> {
+    ghost use Rattle.mach_parts.specs.Relocation.{relocations_at};
+    ghost use Rattle.mach_parts.specs.RelocationItems.{relocations_left};
+
+    // So many relocations that begin at `reloff`.
+    pub(crate) fn new(bytes: &'a [u8], reloff: u32, count: u32, le: Endian) -> Self
+        ensures { relocations_left result ≡ relocations_at le bytes.now reloff count }
+    {
+        RelocationIterator {
+            bytes,
+            reloff,
+            next_item: 0,
+            count,
+            le,
+        }
+    }
+}
+
+impl<'a> Iterator for RelocationIterator<'a> {
+    type Item = Result<RelocationInfo>;
+
+    ghost use Rattle.std.specs.Prelude.{Some, IfSome, length};
+    ghost use Rattle.std.specs.Iterator.{YieldsFirstBy, UpTo, item_count};
+    ghost use Rattle.std.specs.Iterator.SizeHint.{IsWithinCount};
+    ghost use Rattle.mach_parts.specs.RelocationItems.{relocation_read, relocations_left};
+
+    ghost next_gives = { YieldsFirstBy relocation_read relocations_left };
+
+    ghost remaining = { item_count relocations_left };
+
+    fn next(&mut self) -> Option<Result<RelocationInfo>> {
+        if self.next_item >= self.count {
+            return None;
+        }
+        let place = self.reloff as usize + self.next_item as usize * SIZEOF_RELOCATION_INFO;
+        self.next_item += 1;
+        Some(read_at(self.bytes, place, self.le))
+    }
+
+    /// How many items are left, exactly.
+    fn size_hint(&self) -> (usize, Option<usize>)
+        ensures lower { IsWithinCount result.0 (item_count relocations_left self.now) }
+        ensures upper { IfSome result.1 (UpTo (item_count relocations_left self.now)) }
+        ensures exact { result ≡ (length (relocations_left self.now), Some (length (relocations_left self.now))) }
+    {
+        let left = self.len();
+        (left, Some(left))
+    }
+}
+
+impl<'a> ExactSizeIterator for RelocationIterator<'a> {
+    /// How many items are left.
+    fn len(&self) -> usize {
+        self.count.saturating_sub(self.next_item) as usize
+    }
+}
+
+// The relocation at a place.
+fn read_at(bytes: &[u8], place: usize, le: Endian) -> Result<RelocationInfo>
+    ensures { Reads (λ r. r) result (relocation_at le bytes.now place) }
+{
+    RelocationInfo::read(bytes, place, le)
+}

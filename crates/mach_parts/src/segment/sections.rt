@@ -1,0 +1,94 @@
+//! The sections of a segment, one at a time.
+
+ghost use Rattle.std.specs.Prelude.{◌≡◌, ◌<◌, ◌^◌};
+ghost use Rattle.mach_base.specs.Answer.{Reads};
+ghost use Rattle.mach_parts.specs.Section.{section_place, section_with_data};
+
+use crate::segment::conversions::command_len;
+use crate::segment::section::{Section, SectionData};
+use mach_base::{Ctx, Result, SizeWith};
+
+/// The sections of a segment with their data: exactly as many items as the segment says, of which
+/// each is the section at its own place or the error of the read there.
+#[derive(Clone, Drop)]
+pub struct SectionIterator<'a> {
+    bytes: &'a [u8],
+    offset: usize,
+    next_item: u32,
+    count: u32,
+    ctx: Ctx,
+}
+
+/// Where section `number` stands behind the command at an offset.
+pub fn place_of(ctx: Ctx, offset: usize, number: u32) -> usize
+    ensures { result ≡ section_place ctx.container offset number }
+{
+    let behind = command_len(ctx.container) + number as usize * Section::size_with(&ctx);
+    offset.saturating_add(behind)
+}
+
+// A section at a place, with its data.
+fn read_at<'a>(bytes: &'a [u8], place: usize, ctx: Ctx) -> Result<(Section, SectionData<'a>)>
+    ensures { Reads (λ found. (found.0, found.1.now)) result (section_with_data ctx bytes.now place) }
+{
+    let section = Section::read(bytes, place, ctx)?;
+    let found = section.data_in(bytes);
+    Ok((section, found))
+}
+
+impl<'a> SectionIterator<'a> {
+    ghost use Rattle.mach_parts.specs.Section.{sections_at};
+    ghost use Rattle.mach_parts.specs.SectionItems.{sections_left};
+
+    // So many sections behind the command at an offset.
+    pub(crate) fn new(bytes: &'a [u8], offset: usize, count: u32, ctx: Ctx) -> Self
+        ensures { sections_left result ≡ sections_at ctx bytes.now offset count }
+    {
+        SectionIterator {
+            bytes,
+            offset,
+            next_item: 0,
+            count,
+            ctx,
+        }
+    }
+}
+
+impl<'a> Iterator for SectionIterator<'a> {
+    type Item = Result<(Section, SectionData<'a>)>;
+
+    ghost use Rattle.std.specs.Prelude.{Some, IfSome, length};
+    ghost use Rattle.std.specs.Iterator.{YieldsFirstBy, UpTo, item_count};
+    ghost use Rattle.std.specs.Iterator.SizeHint.{IsWithinCount};
+    ghost use Rattle.mach_parts.specs.SectionItems.{section_read, sections_left};
+
+    ghost next_gives = { YieldsFirstBy section_read sections_left };
+
+    ghost remaining = { item_count sections_left };
+
+    fn next(&mut self) -> Option<Result<(Section, SectionData<'a>)>> {
+        if self.next_item >= self.count {
+            return None;
+        }
+        let place = place_of(self.ctx, self.offset, self.next_item);
+        self.next_item += 1;
+        Some(read_at(self.bytes, place, self.ctx))
+    }
+
+    /// How many items are left, exactly.
+    fn size_hint(&self) -> (usize, Option<usize>)
+        ensures lower { IsWithinCount result.0 (item_count sections_left self.now) }
+        ensures upper { IfSome result.1 (UpTo (item_count sections_left self.now)) }
+        ensures exact { result ≡ (length (sections_left self.now), Some (length (sections_left self.now))) }
+    {
+        let left = self.len();
+        (left, Some(left))
+    }
+}
+
+impl<'a> ExactSizeIterator for SectionIterator<'a> {
+    /// How many items are left.
+    fn len(&self) -> usize {
+        self.count.saturating_sub(self.next_item) as usize
+    }
+}

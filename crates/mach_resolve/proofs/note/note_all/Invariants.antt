@@ -1,9 +1,0 @@
-use Rattle.std.proofs.Common.{◌≡◌, map, drop}
-use Rattle.mach_resolve.specs.Note.{all_noted}
-use Rattle.mach_resolve.specs.Seen.{note_seen}
-use Rattle.mach_resolve.proofs.note.note_all.Given as goal
-
--- with those that are left, these make what all made
-abbrev pub invariant-notes : goal.invariant-notes
-invariant-notes g l =
-    all_noted (map note_seen l.noted.keys) (map note_seen (drop l.note-index l.notes)) ≡ all_noted (map note_seen l.fn.noted.keys) (map note_seen l.notes)

@@ -1,7 +1,0 @@
-use Rattle.std.proofs.Common.{take}
-use Rattle.std.specs.Prelude.{All, IsFalse}
-use Rattle.mach_resolve.specs.Seen.{files_seen}
-use Rattle.mach_resolve.proofs.special.in_main.Given as goal
-
-abbrev pub invariant-loop-file : goal.invariant-loop-file
-invariant-loop-file g l = All (λ f. IsFalse f.is_main) (take l.file-index (files_seen l.files))

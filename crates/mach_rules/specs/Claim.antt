@@ -1,7 +1,0 @@
--- A range and whose it is.
-use Rattle.std.specs.Prelude.{ℕ, ◌+◌}
-use Rattle.mach_rules.specs.declared.claim.Claim.{Claim}
-
--- where it ends
-abbrev pub end_of : Claim → ℕ
-end_of r = r.start + r.len

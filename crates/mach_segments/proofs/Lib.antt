@@ -1,2 +1,0 @@
-pub mod SegmentViews
-pub mod NumberedSections

@@ -1,4 +1,0 @@
-mod Asking
-pub mod Lines
-mod Listings
-mod Showing

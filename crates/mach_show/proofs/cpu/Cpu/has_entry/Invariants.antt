@@ -1,7 +1,0 @@
-use Rattle.std.proofs.Common.{◌≡◌, false, take}
-use Rattle.std.specs.List.{list_any}
-use Rattle.mach_show.specs.Cpus.{is_asked}
-use Rattle.mach_show.proofs.cpu.Cpu.has_entry.Given as goal
-
-abbrev pub invariant-archs : goal.invariant-archs
-invariant-archs l = list_any (is_asked l.self) (take l.arch-index l.archs) ≡ false

@@ -1,6 +1,0 @@
-pub mod CodePromise
-pub mod Four
-pub mod NumberedLists
-pub mod Promise
-pub mod SpecialPromise
-pub mod ToldNone

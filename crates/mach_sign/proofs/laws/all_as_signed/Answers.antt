@@ -1,5 +1,0 @@
-use Rattle.mach_sign.proofs.Promise.{all_as_signed, as_signed_all}
-use Rattle.mach_sign.proofs.laws.all_as_signed.Goals as goal
-
-pub returns : goal.returns
-returns c = λ x. (all_as_signed x, as_signed_all x)

@@ -1,5 +1,0 @@
-use Rattle.mach_sign.proofs.Four.{four_at_most}
-use Rattle.mach_sign.proofs.laws.at_most_four_directories.Goals as goal
-
-pub returns : goal.returns
-returns c = λ s d e. four_at_most s d e

@@ -1,8 +1,0 @@
-use Rattle.std.proofs.Common.{take}
-use Rattle.std.specs.Io.KnownBytes.{Appends}
-use Rattle.std.specs.List.{flat_map}
-use Rattle.mach_sign_text.specs.Names.{byte_text}
-use Rattle.mach_sign_text.proofs.escaped.print_bytes.Given as goal
-
-abbrev pub invariant-bytes : goal.invariant-bytes
-invariant-bytes g l = Appends (g.O.Write.contents l.fn.out) (g.O.Write.contents l.out) (flat_map byte_text (take l.byte-index l.bytes))

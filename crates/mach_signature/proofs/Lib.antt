@@ -1,0 +1,8 @@
+pub mod CodePromise
+pub mod Four
+pub mod NumberedLists
+pub mod Promise
+pub mod SpecialPromise
+pub mod ToldNone
+pub mod AsSigned
+pub mod SignedFacts

@@ -1,0 +1,177 @@
+//! The code directories of a signature, and the one that counts.
+
+ghost use Rattle.std.specs.Prelude.{◌≡◌, ◌<◌, [], Option, option_to_list};
+ghost use Rattle.mach_base.specs.Items.{read_as};
+ghost use Rattle.mach_signature.specs.DirectoryViews.{directory_view};
+ghost use Rattle.std.specs.Option.{option_map};
+ghost use Rattle.mach_base.specs.Answer.{Reads};
+ghost use Rattle.mach_signature.specs.Chosen as defined;
+ghost use Rattle.mach_signature.specs.ChosenViews.{directories_left};
+
+use crate::directory::CodeDirectory;
+use crate::numbered::{Numbered, Told};
+use crate::signature::CodeSignature;
+use crate::slots::is_directory_slot;
+use mach_base::{Error, Result};
+
+// The blobs of a signature, of which directories are told.
+#[derive(Clone, Copy, Drop)]
+pub struct DirectoryBlobs<'a> {
+    pub signature: CodeSignature<'a>,
+}
+
+impl<'a> Numbered for DirectoryBlobs<'a> {
+    type Item = (u32, Result<CodeDirectory<'a>>);
+
+    ghost use Rattle.mach_signature.specs.Chosen.{SlotDirectory};
+    ghost use Rattle.mach_signature.specs.ChosenViews.{slot_directory_read, blob_count, directory_told};
+
+    ghost View = { SlotDirectory };
+
+    ghost view = { slot_directory_read };
+
+    ghost count = { blob_count };
+
+    ghost tells = { directory_told };
+
+    fn count(&self) -> u32 {
+        self.signature.count
+    }
+
+    fn tell(&self, number: u32) -> Option<(u32, Result<CodeDirectory<'a>>)> {
+        let slot = self.signature.slot(number);
+        if !is_directory_slot(slot) {
+            return None;
+        }
+        Some((slot, self.signature.directory_in(number)))
+    }
+}
+
+/// The code directories of a signature in the order of its index, each with its slot.
+#[derive(Clone, Drop)]
+pub struct Directories<'a> {
+    pub(crate) told: Told<DirectoryBlobs<'a>>,
+}
+
+impl<'a> Directories<'a> {
+    // None of a signature.
+    #[tactic(auto, using(crate::proofs::NumberedLists::told_none))]
+    pub(crate) fn none(signature: CodeSignature<'a>) -> Directories<'a>
+        ensures { directories_left result ≡ [] }
+    {
+        Directories {
+            told: Told {
+                things: DirectoryBlobs { signature },
+                next: signature.count,
+            },
+        }
+    }
+}
+
+impl<'a> Iterator for Directories<'a> {
+    type Item = (u32, Result<CodeDirectory<'a>>);
+
+    ghost use Rattle.std.specs.Iterator.{YieldsFirstBy, item_count};
+    ghost use Rattle.mach_signature.specs.ChosenViews.{slot_directory_read};
+
+    ghost next_gives = { YieldsFirstBy slot_directory_read directories_left };
+
+    ghost remaining = { item_count directories_left };
+
+    fn next(&mut self) -> Option<(u32, Result<CodeDirectory<'a>>)> {
+        self.told.take_next()
+    }
+}
+
+// The directory, if it can be read and its hash has a rank.
+fn if_of_rank(directory: Result<CodeDirectory<'_>>, rank: u8) -> Option<CodeDirectory<'_>>
+    ensures { option_to_list (option_map directory_view result) ≡ defined.filter_rank rank (defined.readable_one (read_as directory_view directory.entry)) }
+{
+    match directory {
+        Ok(directory) if directory.hash.rank() == rank => Some(directory),
+        _ => None,
+    }
+}
+
+impl<'a> CodeSignature<'a> {
+    ghost use Rattle.mach_signature.specs.SignViews.{signature_view};
+    ghost use Rattle.mach_signature.specs.Chosen.{directories_of, directory_in, first_refused, of_rank, highest_of, directory_of};
+
+    // A blob as a code directory.
+    #[tactic(auto, unfolding(crate::specs::Chosen::directory_in))]
+    fn directory_in(&self, index: u32) -> Result<CodeDirectory<'a>>
+        requires { index < self.now.count }
+        ensures { Reads directory_view result (directory_in (signature_view self.now) index) }
+    {
+        CodeDirectory::parse(self.blob_at(index)?.bytes)
+    }
+
+    /// The code directories in the order of the index, each with its slot: those of slot 0 and of the alternate slots, 0x1000
+    /// to 0x1004.
+    pub fn directories(&self) -> Directories<'a>
+        ensures { directories_left result ≡ directories_of (signature_view self.now) }
+    {
+        Directories {
+            told: Told::of(DirectoryBlobs { signature: *self }),
+        }
+    }
+
+    // The error of the first directory that can't be read.
+    fn refused(&self) -> Option<Error>
+        ensures { option_map fault_of result ≡ first_refused (directories_of (signature_view self.now)) }
+    {
+        let mut left = self.directories();
+        'directories: while let Some((_, directory)) = left.next() {
+            if let Err(e) = directory {
+                return Some(e);
+            }
+        }
+        None
+    }
+
+    // The directory whose hash has a rank.
+    fn of_rank(&self, rank: u8) -> Result<Option<CodeDirectory<'a>>>
+        ensures { Reads (option_map directory_view) result (of_rank rank (directories_of (signature_view self.now))) }
+    {
+        let mut found = None;
+        let mut left = self.directories();
+        'directories: while let Some((_, directory)) = left.next() {
+            let Some(directory) = if_of_rank(directory, rank) else {
+                continue;
+            };
+            if found.is_some() {
+                return Err(Error::Malformed("two code directories of one hash"));
+            }
+            found = Some(directory);
+        }
+        Ok(found)
+    }
+
+    // The directory whose hash has the highest rank.
+    fn highest(&self) -> Result<Option<CodeDirectory<'a>>>
+        ensures { Reads (option_map directory_view) result (highest_of (directories_of (signature_view self.now))) }
+    {
+        let sha384 = self.of_rank(4)?;
+        let sha256 = self.of_rank(3)?;
+        let truncated = self.of_rank(2)?;
+        let sha1 = self.of_rank(1)?;
+        Ok(sha384.or(sha256.or(truncated.or(sha1))))
+    }
+
+    /// The code directory that counts: the one whose hash has the highest rank. It is the error of the first that can't be
+    /// read, and `Malformed` where there is none, or where two have one hash; so no signature has more than four.
+    #[tactic(auto, unfolding(crate::specs::Chosen::directory_of))]
+    pub fn directory(&self) -> Result<CodeDirectory<'a>>
+        ensures { Reads directory_view result (directory_of (signature_view self.now)) }
+    {
+        if let Some(e) = self.refused() {
+            return Err(e);
+        }
+        let Some(directory) = self.highest()? else {
+            return Err(Error::Malformed("no code directory"));
+        };
+        Ok(directory)
+    }
+}
+
+ghost use Rattle.mach_base.specs.Fault.{fault_of};

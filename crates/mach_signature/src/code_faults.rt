@@ -1,0 +1,135 @@
+//! What is wrong with the code that a directory covers.
+
+ghost use Rattle.std.specs.Prelude.{◌≡◌};
+ghost use Rattle.mach_signature.specs.Directories as defined;
+ghost use Rattle.mach_signature.specs.CodeFaults.{code_faults_of, form_fault};
+ghost use Rattle.mach_signature.specs.CodeFaultViews.{code_faults_left};
+ghost use Rattle.mach_signature.specs.DirectoryViews.{directory_view};
+
+use crate::directory::CodeDirectory;
+use crate::fault::CodeFault;
+use crate::numbered::{Numbered, Told};
+
+// The bytes of an image between two places, so far as they are there.
+fn bytes_between(image: &[u8], start: u64, end: u64) -> &[u8]
+    ensures { result.now ≡ defined.bytes_between image.now start end }
+{
+    let len = image.len() as u64;
+    if start >= end || start >= len {
+        return &[];
+    }
+    &image[start as usize..end.min(len) as usize]
+}
+
+// The pages that a directory covers, the first so many of which are judged.
+#[derive(Clone, Copy, Drop)]
+pub struct Pages<'a> {
+    pub directory: CodeDirectory<'a>,
+    pub image: &'a [u8],
+    pub count: u32,
+}
+
+impl<'a> Numbered for Pages<'a> {
+    type Item = CodeFault;
+
+    ghost use Rattle.mach_signature.specs.declared.fault.CodeFault.{CodeFault};
+    ghost use Rattle.mach_signature.specs.CodeFaultViews.{pages_told, page_told};
+
+    ghost View = { CodeFault };
+
+    ghost view = { λ fault. fault };
+
+    ghost count = { pages_told };
+
+    ghost tells = { page_told };
+
+    fn count(&self) -> u32 {
+        self.count
+    }
+
+    #[tactic(auto, unfolding(crate::specs::CodeFaults::page_fault))]
+    fn tell(&self, number: u32) -> Option<CodeFault> {
+        let slot = self.directory.code_slot(number)?;
+        let page = self.directory.page(number);
+        if self
+            .directory
+            .hash
+            .seals(bytes_between(self.image, page.start, page.end), slot)
+        {
+            return None;
+        }
+        Some(CodeFault::Page {
+            index: number,
+            start: page.start,
+            end: page.end,
+        })
+    }
+}
+
+/// What is wrong with the code, in order: why the pages can't be judged, or each page that isn't what was signed.
+#[derive(Clone, Drop)]
+pub struct CodeFaults<'a> {
+    pub(crate) first: Option<CodeFault>,
+    pub(crate) pages: Told<Pages<'a>>,
+}
+
+impl<'a> Iterator for CodeFaults<'a> {
+    type Item = CodeFault;
+
+    ghost use Rattle.std.specs.Iterator.{YieldsFirst, item_count};
+
+    ghost next_gives = { YieldsFirst code_faults_left };
+
+    ghost remaining = { item_count code_faults_left };
+
+    fn next(&mut self) -> Option<CodeFault> {
+        if let Some(fault) = self.first.take() {
+            return Some(fault);
+        }
+        self.pages.take_next()
+    }
+}
+
+impl<'a> CodeDirectory<'a> {
+    // Why the pages of an image can't be judged.
+    fn form_fault(&self, image: &[u8]) -> Option<CodeFault>
+        ensures { result ≡ form_fault (directory_view self.now) image.now }
+    {
+        let place = self.scatter_offset.unwrap_or(0);
+        if place != 0 {
+            return Some(CodeFault::Scattered { place });
+        }
+        let limit = self.code_limit();
+        let len = image.len() as u64;
+        if limit > len {
+            return Some(CodeFault::Limit { limit, len });
+        }
+        let slots = self.head.n_code_slots;
+        let pages = self.page_count();
+        if u64::from(slots) != pages {
+            return Some(CodeFault::Slots { slots, pages });
+        }
+        None
+    }
+
+    /// What is wrong with the code of an image that this directory covers, in order. There is nothing exactly where the
+    /// image has the bytes that are covered, and each page's hash is its code slot.
+    pub fn code_faults(&self, image: &'a [u8]) -> CodeFaults<'a>
+        ensures { code_faults_left result ≡ code_faults_of (directory_view self.now) image.now }
+    {
+        let first = self.form_fault(image);
+        let count = if first.is_none() {
+            self.head.n_code_slots
+        } else {
+            0
+        };
+        CodeFaults {
+            first,
+            pages: Told::of(Pages {
+                directory: *self,
+                image,
+                count,
+            }),
+        }
+    }
+}

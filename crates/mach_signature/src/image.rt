@@ -1,0 +1,87 @@
+//! The signature of an image, and what isn't as it was signed.
+
+ghost use Rattle.std.specs.Prelude.{◌≡◌, option_map};
+ghost use Rattle.mach_base.specs.Answer.{Reads};
+ghost use Rattle.goblin_mach.specs.OpenImage.{bytes_held, commands_held, segments_held};
+ghost use Rattle.mach_signature.specs.DirectoryViews.{directory_view, slot_read};
+ghost use Rattle.mach_signature.specs.FaultViews.{signature_faults_left};
+ghost use Rattle.mach_signature.specs.SignViews.{signature_view};
+ghost use Rattle.mach_signature.specs.SignedImages.{image_signature, image_directory, image_faults, plist_of, are_untold};
+ghost use Rattle.mach_signature.specs.SignedImages as defined;
+
+use crate::directory::CodeDirectory;
+use crate::faults::SignatureFaults;
+pub use crate::place::signature_place;
+pub use crate::plist::info_plist;
+use crate::signature::CodeSignature;
+use goblin_mach::MachO;
+use mach_base::Result;
+use std::alloc::Allocator;
+
+/// The code signature of an image: that of the first `LC_CODE_SIGNATURE` among the commands that it holds; none without one. Opening
+/// an image tests nothing of it. Errors as those of `crate::faults::code_signature`. It takes no memory.
+pub fn code_signature<'a, A: Allocator>(image: &MachO<'a, A>) -> Result<Option<CodeSignature<'a>>>
+    ensures { Reads (option_map signature_view) result (image_signature (bytes_held image.now) (commands_held image.now)) }
+{
+    let Some((dataoff, datasize)) = signature_place(image.load_commands.as_slice()) else {
+        return Ok(None);
+    };
+    let signature = crate::faults::code_signature(image.bytes(), dataoff, datasize)?;
+    Ok(Some(signature))
+}
+
+/// The code directory that counts of the signature of an image: by it the system knows the code. None without a signature. Errors as
+/// those of `code_signature`, and of `CodeSignature::directory`. It takes no memory.
+pub fn code_directory<'a, A: Allocator>(image: &MachO<'a, A>) -> Result<Option<CodeDirectory<'a>>>
+    ensures { Reads (option_map directory_view) result (image_directory (bytes_held image.now) (commands_held image.now)) }
+{
+    let Some(signature) = code_signature(image)? else {
+        return Ok(None);
+    };
+    let directory = signature.directory()?;
+    Ok(Some(directory))
+}
+
+/// The section that the signature of an image seals as its Info.plist, if it has one and its bytes are in the file.
+pub fn image_plist<'a, A: Allocator>(image: &MachO<'a, A>) -> Option<&'a [u8]>
+    ensures { slot_read result ≡ plist_of (bytes_held image.now) (segments_held image.now) }
+{
+    info_plist(image.bytes(), image.segments.sections())
+}
+
+/// What of an image isn't as it was signed, in order; none where no command brings a signature. There is nothing exactly where all
+/// is as signed. Errors as those of `code_signature`. It takes no memory, and hashes the image at most once for each of four directories.
+pub fn signature_faults<'a, A: Allocator>(
+    image: &MachO<'a, A>,
+) -> Result<Option<SignatureFaults<'a>>>
+    ensures { Reads (option_map signature_faults_left) result (image_faults (bytes_held image.now) (commands_held image.now) (segments_held image.now)) }
+{
+    let Some((dataoff, datasize)) = signature_place(image.load_commands.as_slice()) else {
+        return Ok(None);
+    };
+    let bytes = image.bytes();
+    let faults = crate::faults::signature_faults(bytes, dataoff, datasize, image_plist(image))?;
+    Ok(Some(faults))
+}
+
+// Whether no fault is told of a signature, if there is one.
+fn are_untold(faults: Option<SignatureFaults<'_>>) -> bool
+    ensures { result ≡ are_untold (option_map signature_faults_left faults.entry) }
+{
+    match faults {
+        Some(mut faults) => match faults.next() {
+            Some(_) => false,
+            None => true,
+        },
+        None => false,
+    }
+}
+
+/// Whether an image has a signature, and is as it was signed. Errors as those of `code_signature`. It takes no memory.
+pub fn is_as_signed<A: Allocator>(image: &MachO<'_, A>) -> Result<bool>
+    ensures { Reads (λ is. is) result
+        (defined.is_as_signed (image_faults (bytes_held image.now) (commands_held image.now) (segments_held image.now))) }
+{
+    let faults = signature_faults(image)?;
+    Ok(are_untold(faults))
+}

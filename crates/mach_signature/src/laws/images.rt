@@ -1,0 +1,43 @@
+//! Laws between an image that was opened and the bytes that it was opened in.
+
+ghost use Rattle.std.specs.Prelude.{◌≡◌, ◌↔◌, [], ℕ, Bool, IsTrue, List, Some, Ok, Err};
+ghost use Rattle.mach_base.specs.Fault.{Fault};
+ghost use Rattle.goblin_mach.specs.Modes.{HoldsAs, InBothModes};
+ghost use Rattle.goblin_mach.specs.OpenImage.{bytes_held, commands_held, segments_held};
+ghost use Rattle.mach_load.specs.Command.{Command};
+ghost use Rattle.mach_parts.specs.Segment.{SegmentView};
+ghost use Rattle.mach_signature.specs.SignedFacts.{HasSignature, HasCodeDirectory, HasSignatureFaults, HoldsAsSigned};
+ghost use Rattle.mach_signature.specs.SignedImages.{image_signature, image_directory, image_faults, is_as_signed, IsImageAsSigned};
+
+use goblin_mach::MachO;
+use std::alloc::Allocator;
+
+/// What `code_signature` answers is what the bytes say.
+pub fn signature_of_image<A: Allocator>(image: &MachO<'_, A>)
+    ensures { HoldsAs image.now HasSignature (image_signature (bytes_held image.now) (commands_held image.now)) }
+{}
+
+/// What `code_directory` answers is what the bytes say.
+pub fn directory_of_image<A: Allocator>(image: &MachO<'_, A>)
+    ensures { HoldsAs image.now HasCodeDirectory (image_directory (bytes_held image.now) (commands_held image.now)) }
+{}
+
+/// What `signature_faults` answers is what the bytes say.
+pub fn signature_faults_of_image<A: Allocator>(image: &MachO<'_, A>)
+    ensures { HoldsAs image.now HasSignatureFaults (image_faults (bytes_held image.now) (commands_held image.now) (segments_held image.now)) }
+{}
+
+/// An image has a signature without a fault exactly where it is as it was signed.
+pub fn image_as_signed()
+    ensures { (bytes : List ℕ) (cs : List Command) (segments : List SegmentView)
+        → (image_faults bytes cs segments ≡ Ok (Some [])) ↔ IsImageAsSigned bytes cs segments }
+{}
+
+/// What `is_as_signed` answers is what the bytes say: whether the image is as it was signed, or why its signature can't be read.
+pub fn as_signed_of_image<A: Allocator>(image: &MachO<'_, A>)
+    ensures said { InBothModes image.now (λ bytes o. (is : Bool)
+        → is_as_signed (image_faults (bytes_held image.now) (commands_held image.now) (segments_held image.now)) ≡ Ok is → IsTrue is ↔ HoldsAsSigned bytes o) }
+    ensures refused { InBothModes image.now (λ bytes o. (f : Fault)
+        → is_as_signed (image_faults (bytes_held image.now) (commands_held image.now) (segments_held image.now)) ≡ Err f
+        → HasSignatureFaults bytes o (Err f)) }
+{}

@@ -1,0 +1,35 @@
+//! Apple's code signatures: the blobs of a signature, its code directories, and what isn't as it was signed; and the signature of
+//! an image.
+#![tactic(auto)]
+
+// Signatures, over bytes.
+mod chosen;
+mod code_faults;
+mod directory;
+mod fault;
+mod faults;
+mod hash;
+mod numbered;
+mod records;
+mod signature;
+mod slots;
+mod special_faults;
+
+// The signature of an image: what its command brings, and what isn't as it was signed.
+pub mod image;
+mod place;
+mod plist;
+
+// Laws.
+pub mod laws;
+
+pub use crate::chosen::Directories;
+pub use crate::code_faults::CodeFaults;
+pub use crate::directory::CodeDirectory;
+pub use crate::fault::{CodeFault, DirectoryFault, SignatureFault, SlotName, SpecialFault};
+pub use crate::faults::{SignatureFaults, SignedBytes, code_signature, signature_faults};
+pub use crate::hash::HashType;
+pub use crate::records::{DirectoryHead, ExecutableSegment, RuntimeFields};
+pub use crate::signature::{Blob, Blobs, CodeSignature};
+pub use crate::slots::{SlotMagic, is_directory_slot, slot_magic};
+pub use crate::special_faults::{SpecialFaults, component, is_unsealing};

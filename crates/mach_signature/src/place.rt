@@ -1,0 +1,40 @@
+//! Where the commands of an image place its signature.
+
+ghost use Rattle.std.specs.Prelude.{◌≡◌, ℕ, map, option_map};
+ghost use Rattle.mach_load.specs.Variants.{command_of};
+ghost use Rattle.mach_signature.specs.SignedImages.{signature_place_by, signature_place_in};
+
+use goblin_mach::readings::{Subject, first_readable};
+use mach_base::Result;
+use mach_load::{CommandVariant, LoadCommand};
+use mach_records::LinkeditDataCommand;
+
+// The commands that place a signature.
+#[derive(Clone, Copy)]
+pub struct SignaturePlaces;
+
+impl Subject for SignaturePlaces {
+    type Value = LinkeditDataCommand;
+
+    ghost Seen = { ℕ × ℕ };
+
+    ghost seen = { λ c. (c.dataoff, c.datasize) };
+
+    ghost reading = { λ _. signature_place_by };
+
+    /// It is never refused.
+    fn read(&self, command: &LoadCommand) -> Option<Result<LinkeditDataCommand>> {
+        match &command.command {
+            CommandVariant::CodeSignature(c) => Some(Ok(*c)),
+            _ => None,
+        }
+    }
+}
+
+/// The place and the size of the signature: those of the first `LC_CODE_SIGNATURE` among the commands, if one is there.
+pub fn signature_place(commands: &[LoadCommand]) -> Option<(u32, u32)>
+    ensures { result ≡ signature_place_in (map command_of commands.now) }
+{
+    let place = first_readable(&SignaturePlaces, commands)?;
+    Some((place.dataoff, place.datasize))
+}

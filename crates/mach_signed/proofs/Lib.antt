@@ -1,2 +1,0 @@
-pub mod AsSigned
-pub mod SignedFacts

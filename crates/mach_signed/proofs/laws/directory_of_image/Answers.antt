@@ -1,5 +1,0 @@
-use Rattle.mach_signed.proofs.SignedFacts.{directory_is}
-use Rattle.mach_signed.proofs.laws.directory_of_image.Goals as goal
-
-pub returns : goal.returns
-returns g c = directory_is c.args.image.now

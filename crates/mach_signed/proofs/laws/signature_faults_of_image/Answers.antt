@@ -1,5 +1,0 @@
-use Rattle.mach_signed.proofs.SignedFacts.{faults_are}
-use Rattle.mach_signed.proofs.laws.signature_faults_of_image.Goals as goal
-
-pub returns : goal.returns
-returns g c = faults_are c.args.image.now

@@ -1,2 +1,0 @@
-pub mod SignedImages
-pub mod SignedFacts

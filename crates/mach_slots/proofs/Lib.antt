@@ -1,3 +1,0 @@
-pub mod SlotLists
-pub mod ReadyLists
-pub mod SlotLaws

@@ -1,5 +1,0 @@
-use Rattle.mach_slots.proofs.SlotLaws.{in_their_section}
-use Rattle.mach_slots.proofs.laws.slots_lie_in_their_section.Goals as goal
-
-pub returns : goal.returns
-returns c = in_their_section

@@ -1,8 +1,0 @@
-use Rattle.mach_streams.proofs.OpcodesFit.{whole_opcodes_lem, cut_opcodes_lem}
-use Rattle.mach_streams.proofs.laws.bind_opcodes_fit.Goals as goal
-
-pub returns-clause-whole : goal.returns-clause-whole
-returns-clause-whole c = whole_opcodes_lem
-
-pub returns-clause-cut : goal.returns-clause-cut
-returns-clause-cut c = cut_opcodes_lem

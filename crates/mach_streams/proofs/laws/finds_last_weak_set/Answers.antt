@@ -1,5 +1,0 @@
-use Rattle.mach_streams.proofs.StreamLaws.{finds_last_weak_set_lem}
-use Rattle.mach_streams.proofs.laws.finds_last_weak_set.Goals as goal
-
-pub returns : goal.returns
-returns c = finds_last_weak_set_lem

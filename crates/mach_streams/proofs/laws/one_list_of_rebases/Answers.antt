@@ -1,5 +1,0 @@
-use Rattle.mach_streams.proofs.StreamLaws.{one_list_of_rebases_lem}
-use Rattle.mach_streams.proofs.laws.one_list_of_rebases.Goals as goal
-
-pub returns : goal.returns
-returns c = one_list_of_rebases_lem

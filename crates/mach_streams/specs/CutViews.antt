@@ -1,6 +1,0 @@
--- What contracts see of bytes that are cut.
-use Rattle.mach_streams.specs.Cut.{CutStream}
-use Rattle.mach_streams.specs.declared.cut.Cut.{Cut}
-
-abbrev pub cut_view : Cut → CutStream
-cut_view c = record { bytes = c.bytes.now; from = c.from; upto = c.upto }

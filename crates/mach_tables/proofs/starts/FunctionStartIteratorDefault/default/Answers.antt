@@ -1,6 +1,0 @@
-use Rattle.std.proofs.Common.{[], arith}
-use Rattle.mach_tables.proofs.StartsRead.{none_left}
-use Rattle.mach_tables.proofs.starts.FunctionStartIteratorDefault.default.Goals as goal
-
-pub returns : goal.returns
-returns c = none_left [] 0 0 0 (omega arith)

@@ -1,5 +1,0 @@
-use Rattle.mach_tables.proofs.StartsRead.{starts_are}
-use Rattle.mach_tables.proofs.starts.FunctionStarts.iter.Goals as goal
-
-pub returns : goal.returns
-returns c = let s = c.args.self.now in starts_are s.bytes.now s.end s.start c.args.base

@@ -1,5 +1,0 @@
-use Rattle.mach_tries.proofs.LookUpFollows.{within_tree}
-use Rattle.mach_tries.proofs.laws.look_up_visits_in_a_tree.Goals as goal
-
-pub returns : goal.returns
-returns c = within_tree

@@ -1,0 +1,199 @@
+-- Files that are sound, and what opens of them.
+use Rattle.std.proofs.Common.{◌++◌, below_more, min, nat_lt, ◌≡◌, ◌<◌, ◌≤◌, ◌+◌, ◌∙◌, ◌∷◌, [], ℕ, zero, suc, Bool, true, false, List}
+use Rattle.std.proofs.Common.{Result, Ok, Err, refl, sym, ap, subst, arith, inl, inr}
+use Rattle.std.proofs.Math.Dec.{eqb-suc-zero}
+use Rattle.std.proofs.lemmas.Bool.{ltb-true, ltb-false}
+use Rattle.std.specs.Borrow.{Bor}
+use Rattle.std.specs.Prelude.{◌⊎◌, ◌==◌, if◌then◌else◌, IsTrue, IsOk}
+use Rattle.mach_base.proofs.Binds.{same_ok}
+use Rattle.mach_base.specs.Answer.{Stands, FailsAs}
+use Rattle.mach_base.specs.Fault.{Fault, fault_of}
+use Rattle.mach_base.specs.declared.error.Error.TheVariants as errors
+use Rattle.mach_base.specs.declared.error.Error.{Error}
+use Rattle.mach_parts.specs.declared.fat.FatArch.{FatArch}
+use Rattle.goblin_mach.proofs.Files.{fat-excludes_image}
+use Rattle.goblin_mach.proofs.WholeFiles.{view_fault-excludes, entries_of_image}
+use Rattle.goblin_mach.specs.FatEntry.{FatEntry, archive, image, entry_at, entries_of, EntryOpens, IsEntry}
+use Rattle.goblin_mach.specs.OpenImage.{IsImage}
+use Rattle.goblin_mach.specs.declared.fat_file.entry.SingleArch.TheVariants as arches
+use Rattle.goblin_mach.specs.declared.macho.MachO.{MachO}
+use Rattle.mach_parts.specs.ArchForms.{arch_form_32}
+use Rattle.mach_layout.specs.Containers.{AreContainerFaults}
+use Rattle.mach_layout.specs.declared.fault.LayoutFault.{LayoutFault}
+use Rattle.goblin_mach.specs.FatFile.{FatFile, fat_file_in, arches_in}
+use Rattle.goblin_mach.specs.Image.{Opens, LossyOpens, ImageFault}
+use Rattle.goblin_mach.specs.File.{HasFatMagic, MachFault}
+use Rattle.goblin_mach.specs.View.{HasEntries, fat_table, of_file, IsTold}
+use Rattle.machaudit.proofs.Goes.{stands_of}
+use Rattle.machaudit.proofs.Verdicts.{sound_judged, unended_judged, faulty_judged, both_judged, both_faulty, both_assoc, both_sound, judged_as}
+use Rattle.machaudit.specs.Sound as sound
+use Rattle.machaudit.specs.Sound.{IsSound, IsSoundImage, IsSoundFat, IsSoundEntry, IsLongEntry, IsLong, IsLongFat, HasLongList}
+use Rattle.machaudit.specs.Verdicts.{Judges, verdict_of_both, verdict_of_entry, verdict_of_entries}
+use Rattle.machaudit.specs.declared.report.EntryReport.{EntryReport}
+use Rattle.machaudit.specs.declared.verdict.Verdict.TheVariants.{Sound, Unended, Faulty}
+use Rattle.machaudit.specs.declared.verdict.Verdict.{Verdict}
+
+-- an image that opens is no fat file
+pub no_fat : (bytes : List ℕ) → Opens bytes 0 → HasFatMagic bytes → ⊥
+no_fat bytes opens fat = fat-excludes_image bytes fat (opens.0, opens.1, opens.2.lossy)
+
+-- a sound file has entries
+pub sound_entries : (bytes : List ℕ) → IsSound bytes → (entries : List (Result FatEntry Fault)) × HasEntries bytes entries
+sound_entries bytes (sound.one_image s) = (Ok (image bytes) ∷ [], entries_of_image bytes s.opens)
+sound_entries bytes (sound.fat_file file fat is table s) = (entries_of file, fat_table file fat is s.table)
+
+-- a file that is refused isn't sound
+pub refused_judged : (limit : ℕ) (bytes : List ℕ) (e : Error) → Stands (MachFault ImageFault bytes) e → IsTold e
+    → Judges (IsSound bytes) (IsLong limit bytes) Faulty
+refused_judged limit bytes e stands told = faulty_judged (λ s.
+    let has = sound_entries bytes s in
+    view_fault-excludes bytes _ has.0 (of_file _ (stands_of (MachFault ImageFault bytes) e told stands)) has.1)
+
+-- the file of one image
+pub image_judged : (limit : ℕ) (bytes : List ℕ) (v : Verdict) → Opens bytes 0 → Judges (IsSoundImage bytes) (HasLongList limit bytes) v
+    → Judges (IsSound bytes) (IsLong limit bytes) v
+image_judged limit bytes v opens j = judged_as v (λ s. sound.one_image s) back (λ l. sound.of_image l) shorter j
+  where
+    shorter : IsLong limit bytes → HasLongList limit bytes
+    shorter (sound.of_image l) = l
+    shorter (sound.of_fat file fat is l) = absurd (no_fat bytes opens fat)
+
+    back : IsSound bytes → IsSoundImage bytes
+    back (sound.one_image s) = s
+    back (sound.fat_file file fat is table s) = absurd (no_fat bytes opens fat)
+
+-- a long list is one of an image that opens
+long_opens : (limit : ℕ) (bytes : List ℕ) → HasLongList limit bytes → LossyOpens bytes 0
+long_opens limit bytes (sound.of_sections items has l) = (has.ctx, has.cs, has.opens)
+long_opens limit bytes (sound.of_relocations items has l) = (has.ctx, has.cs, has.opens)
+long_opens limit bytes (sound.of_symbols items has l) = (has.ctx, has.cs, has.opens)
+long_opens limit bytes (sound.of_exports items has l) = (has.ctx, has.cs, has.opens)
+long_opens limit bytes (sound.of_imports items has l) = (has.ctx, has.cs, has.opens)
+long_opens limit bytes (sound.of_fixups items has l) = (has.ctx, has.cs, has.opens)
+long_opens limit bytes (sound.of_bindings items has l) = (has.ctx, has.cs, has.opens)
+
+-- a fat file
+pub fat_judged : (limit : ℕ) (bytes : List ℕ) (file : FatFile) (v : Verdict) → HasFatMagic bytes → fat_file_in bytes ≡ Ok file
+    → Judges (AreContainerFaults arch_form_32 bytes [] × IsSoundFat file) (IsLongFat limit file) v → Judges (IsSound bytes) (IsLong limit bytes) v
+fat_judged limit bytes file v fat is j = judged_as v (λ s. sound.fat_file file fat is s.0 s.1) back (λ l. sound.of_fat file fat is l) shorter j
+  where
+    shorter : IsLong limit bytes → IsLongFat limit file
+    shorter (sound.of_image l) = absurd (fat-excludes_image bytes fat (long_opens limit bytes l))
+    shorter (sound.of_fat other f other_is l) = subst (λ (x : FatFile). IsLongFat limit x) (same_ok (sym other_is ∙ is)) l
+
+    back : IsSound bytes → AreContainerFaults arch_form_32 bytes [] × IsSoundFat file
+    back (sound.one_image s) = absurd (no_fat bytes s.opens fat)
+    back (sound.fat_file other f other_is none s) = (none, subst (λ (x : FatFile). IsSoundFat x) (same_ok (sym other_is ∙ is)) s)
+
+-- ---- entries
+
+-- what each entry before number n is
+abbrev pub AllSound : FatFile → ℕ → Type 0
+AllSound file n = (k : ℕ) → k < n → IsSoundEntry (entry_at file k)
+
+abbrev pub SomeLong : ℕ → FatFile → ℕ → Type 0
+SomeLong limit file n = (k : ℕ) × (k < n) × IsLongEntry limit (entry_at file k)
+
+pub archive_judged : (A : Type 0) (limit : ℕ) (entry : Result FatEntry Fault) (e : FatEntry) (bytes : Bor (List ℕ)) → entry ≡ Ok e
+    → IsEntry {A = A} e (arches.Archive bytes) → Judges (IsSoundEntry entry) (IsLongEntry limit entry) Sound
+archive_judged A limit entry (archive slice) bytes is entry_is = sound_judged (rw is tt) (λ l. subst (λ (x : Result FatEntry Fault). IsLongEntry limit x) is l)
+archive_judged A limit entry (image slice) bytes is entry_is = absurd entry_is
+
+pub entry_judged : {A : Type 0} (limit : ℕ) (entry : Result FatEntry Fault) (e : FatEntry) (m : MachO A) (v : Verdict) → entry ≡ Ok e
+    → IsEntry e (arches.MachO m) → ((slice : List ℕ) → IsImage slice 0 m → Judges (IsSoundImage slice) (HasLongList limit slice) v)
+    → Judges (IsSoundEntry entry) (IsLongEntry limit entry) v
+entry_judged limit entry (archive slice) m v is entry_is judged = absurd entry_is
+entry_judged limit entry (image slice) m v is entry_is judged =
+    subst (λ (x : Result FatEntry Fault). Judges (IsSoundEntry x) (IsLongEntry limit x) v) (sym is) (judged slice entry_is)
+
+entry_opens : (entry : Result FatEntry Fault) → IsSoundEntry entry → EntryOpens entry
+entry_opens (Ok (archive slice)) s = tt
+entry_opens (Ok (image slice)) s = s.opens
+entry_opens (Err f) s = s
+
+pub no_entry_judged : {L : Type 0} (entry : Result FatEntry Fault) (e : Error) → (EntryOpens entry → Stands (λ _. ⊥) e) → IsTold e
+    → Judges (IsSoundEntry entry) L Faulty
+no_entry_judged entry e only told = faulty_judged (λ s. stands_of (λ _. ⊥) e told (only (entry_opens entry s)))
+
+-- ---- all entries
+
+pub verdict_push : {A : Type 0} (es : List (EntryReport A)) (e : EntryReport A)
+    → verdict_of_entries (es ++ e ∷ []) ≡ verdict_of_both (verdict_of_entries es) (verdict_of_entry e)
+verdict_push [] e = both_sound (verdict_of_entry e)
+verdict_push (x ∷ es) e =
+    ap (verdict_of_both (verdict_of_entry x)) (verdict_push es e) ∙ sym (both_assoc (verdict_of_entry x) (verdict_of_entries es) (verdict_of_entry e))
+
+pub no_entries_judged : (limit : ℕ) (file : FatFile) → Judges (AllSound file 0) (SomeLong limit file 0) Sound
+no_entries_judged limit file = sound_judged (λ k less. absurd (omega (arith, less))) (λ l. let less = l.1 in omega (arith, less))
+
+pub entries_more : {A : Type 0} (limit : ℕ) (file : FatFile) (n : ℕ) (es : List (EntryReport A)) (e : EntryReport A)
+    → Judges (AllSound file n) (SomeLong limit file n) (verdict_of_entries es)
+    → Judges (IsSoundEntry (entry_at file n)) (IsLongEntry limit (entry_at file n)) (verdict_of_entry e)
+    → Judges (AllSound file (n + 1)) (SomeLong limit file (n + 1)) (verdict_of_entries (es ++ e ∷ []))
+entries_more limit file n es e before here =
+    subst (λ (v : Verdict). Judges (AllSound file (n + 1)) (SomeLong limit file (n + 1)) v) (sym (verdict_push es e))
+    (judged_as (verdict_of_both (verdict_of_entries es) (verdict_of_entry e)) (λ s. below_more _ _ s.0 s.1)
+    (λ s. ((λ k less. s k (omega (arith, less))), s n (omega arith))) longer (λ l. nearer l (nat_lt l.0 n) refl) (both_judged _ _ before here))
+  where
+    nearer : (l : SomeLong limit file (n + 1)) (b : Bool) → nat_lt l.0 n ≡ b → SomeLong limit file n ⊎ IsLongEntry limit (entry_at file n)
+    nearer l true e = inl (l.0, ltb-true l.0 n e, l.2)
+    nearer l false e =
+        let less = l.1 in
+        let last : l.0 ≡ n = omega (arith, less, ltb-false l.0 n e) in
+        inr (subst (λ (k : ℕ). IsLongEntry limit (entry_at file k)) last l.2)
+
+    longer : SomeLong limit file n ⊎ IsLongEntry limit (entry_at file n) → SomeLong limit file (n + 1)
+    longer (inl l) = let less = l.1 in (l.0, omega (arith, less), l.2)
+    longer (inr l) = (n, omega arith, l)
+
+-- a fat file whose table can be read, of which n entries were gone over
+pub fat_file_judged : (limit : ℕ) (file : FatFile) (n : ℕ) (cut : Bool) (v : Verdict) → IsOk (arches_in file) → n ≡ min file.narches limit
+    → cut ≡ nat_lt limit file.narches → Judges (AllSound file n) (SomeLong limit file n) v
+    → Judges (IsSoundFat file) (IsLongFat limit file) (if file.narches == 0 then Faulty else verdict_of_both (if cut then Unended else Sound) v)
+fat_file_judged limit file n cut v table is cut_is judged = by_count file.narches cut refl refl
+  where
+    long_of : SomeLong limit file n → IsLongFat limit file
+    long_of l = let less = l.1 in sound.of_entry l.0 (omega (arith, less, is)) l.2
+
+    shorter : file.narches ≤ limit → IsLongFat limit file → SomeLong limit file n
+    shorter short (sound.of_entries less) = absurd (omega (arith, less, short))
+    shorter short (sound.of_entry k less l) = (k, omega (arith, less, is, short), l)
+
+    fewer : IsSoundFat file → AllSound file n
+    fewer s k less = s.entries k (omega (arith, less, is))
+
+    cut_judged : IsTrue cut → (w : Verdict) → v ≡ w → Judges (IsSoundFat file) (IsLongFat limit file) (verdict_of_both Unended w)
+    cut_judged on Faulty e = faulty_judged (λ s. judged.faulty e (fewer s))
+    cut_judged on Unended e = unended_judged (sound.of_entries (ltb-true limit file.narches (sym cut_is ∙ on)))
+    cut_judged on Sound e = unended_judged (sound.of_entries (ltb-true limit file.narches (sym cut_is ∙ on)))
+
+    by_count : (count : ℕ) (c : Bool) → file.narches ≡ count → cut ≡ c
+        → Judges (IsSoundFat file) (IsLongFat limit file) (if count == 0 then Faulty else verdict_of_both (if c then Unended else Sound) v)
+    by_count zero c e f = faulty_judged (λ s. let some = s.some in omega (arith, some, e))
+    by_count (suc k) true e f = rw (eqb-suc-zero k) (cut_judged f v refl)
+    by_count (suc k) false e f =
+        let short = ltb-false limit file.narches (sym cut_is ∙ f) in
+        rw (eqb-suc-zero k) (judged_as v (λ s. record { some = omega (arith, e); table = table; entries = λ j less. s j (omega (arith, less, is, short)) })
+        fewer long_of (shorter short) judged)
+
+-- a fat file whose table can't be read
+pub no_table_judged : {L : Type 0} (file : FatFile) (e : Error) → FailsAs e (arches_in file) → IsTold e → Judges (IsSoundFat file) L Faulty
+no_table_judged file e fails told = faulty_judged (λ s. not_both (arches_in file) (fault_of e) s.table (fault_by e fails told))
+  where
+    not_both : (r : Result (List FatArch) Fault) (f : Fault) → IsOk r → r ≡ Err f → ⊥
+    not_both (Ok x) f ok is = cc
+    not_both (Err g) f ok is = cc
+
+    fault_by : (d : Error) → FailsAs d (arches_in file) → IsTold d → arches_in file ≡ Err (fault_of d)
+    fault_by (errors.Malformed msg) h t = h
+    fault_by (errors.BadMagic n) h t = h
+    fault_by (errors.Scroll x) h t = h
+    fault_by (errors.BufferTooShort n what) h t = h
+    fault_by (errors.Memory a) h t = absurd t
+
+-- the same beside the faults of its table
+pub refused_table_judged : {S L : Type 0} (v : Verdict) (file : FatFile) (e : Error) → FailsAs e (arches_in file) → IsTold e
+    → Judges (S × IsSoundFat file) L (verdict_of_both v Faulty)
+refused_table_judged {S = S} {L = L} v file e fails told =
+    subst (λ (w : Verdict). Judges (S × IsSoundFat file) L w) (sym (both_faulty v))
+    (faulty_judged (λ s. (no_table_judged {L = L} file e fails told).faulty refl s.1))

@@ -1,0 +1,243 @@
+-- A count that goes over a list, item by item.
+use Rattle.std.proofs.Common.{◌≡◌, ◌<◌, ◌≤◌, ◌+◌, ◌-◌, ◌^◌, arith, min, take, length, get_or, ◌++◌, ◌∷◌, [], ◌∙◌, ℕ, List, map, refl, sym, ap}
+use Rattle.std.proofs.Common.{subst, inl, inr, Option, Result, Ok, Err}
+use Rattle.std.specs.Prelude.{IsTrue, option_map}
+use Rattle.std.specs.Result.{result_err}
+use Rattle.std.proofs.lemmas.Bool.{ltb-true}
+use Rattle.std.proofs.lemmas.List.{append-nil, append_assoc, map-append, take_more, length-append, length-map, length-take-le}
+use Rattle.mach_base.specs.Answer.{Stands}
+use Rattle.mach_base.specs.declared.error.Error.TheVariants as errors
+use Rattle.mach_base.specs.Fault.{Fault, fault_of}
+use Rattle.mach_base.specs.declared.error.Error.{Error}
+use Rattle.mach_dyld.specs.BindLeft.{import_read}
+use Rattle.mach_dyld.specs.declared.imports.Import.{Import}
+use Rattle.mach_parts.specs.Bindings.{binding_read}
+use Rattle.mach_base.specs.Items.{read_as}
+use Rattle.mach_parts.specs.declared.binding.Binding.{Binding}
+use Rattle.mach_dyld.specs.Trie.{Entry, Trie}
+use Rattle.mach_dyld.specs.TrieRange.{TrieRange}
+use Rattle.mach_dyld.specs.Views.{source_trie}
+use Rattle.mach_dyld.specs.Walks.{HasGiven}
+use Rattle.mach_dyld.specs.declared.export_walk.ExportWalk.{ExportWalk}
+use Rattle.mach_dyld.proofs.TrieBegins.{listed_there}
+use Rattle.goblin_mach.specs.View.{IsTold}
+use Rattle.machaudit.specs.Sound.{WalkMeets, AreExportItems, all_exports, past_limit}
+use Rattle.machaudit.specs.Told.{FaultAt, HasMet, fault_read_at, faults_from, faults_each}
+use Rattle.machaudit.specs.declared.report.Place.{Place}
+use Rattle.machaudit.specs.declared.report.Place.TheVariants as places
+use Rattle.machaudit.specs.declared.tally.Tally.{Tally}
+use Rattle.machaudit.proofs.Told.{met_rest}
+
+-- of all of a list these are left, where n were met behind some
+pub record Goes {A X : Type 0} (limit : ℕ) (place : ℕ → Place) (before : List (Option FaultAt)) (all left : List (Result X Fault)) (n : ℕ)
+    (t : Tally A) : Type 0 where
+  pub done : List (Option FaultAt)
+  pub same : faults_from place 0 all ≡ done ++ faults_from place n left
+  pub met : HasMet limit (before ++ done) t
+  pub count : length done ≡ n
+
+-- what a step of a count does with an item
+abbrev pub Takes : {A : Type 0} → Option FaultAt → Tally A → Tally A → Type 0
+Takes item old new = (limit : ℕ) (items : List (Option FaultAt)) → HasMet limit items old → HasMet limit (items ++ item ∷ []) new
+
+-- what an answer tells is what its item is told by
+pub err_told : {X Y : Type 0} (view : X → Y) (place : Place) (item : Result X Error)
+    → option_map (λ e. (place, fault_of e)) (result_err item) ≡ fault_read_at place (read_as view item)
+err_told view place (Ok x) = refl
+err_told view place (Err e) = refl
+
+-- the fault told of an import, and of a binding
+pub import_told : (place : Place) (item : Result Import Error)
+    → option_map (λ e. (place, fault_of e)) (result_err item) ≡ fault_read_at place (import_read item)
+import_told place (Ok x) = refl
+import_told place (Err e) = refl
+
+pub binding_told : (place : Place) (item : Result Binding Error)
+    → option_map (λ e. (place, fault_of e)) (result_err item) ≡ fault_read_at place (binding_read item)
+binding_told place (Ok x) = refl
+binding_told place (Err e) = refl
+
+module _ {A X : Type 0} (limit : ℕ) (place : ℕ → Place) (before : List (Option FaultAt)) (all : List (Result X Fault)) where
+  pub goes_init : (left : List (Result X Fault)) (t : Tally A) → left ≡ all → HasMet limit before t → Goes limit place before all left 0 t
+  goes_init left t is met = record {
+    done = [];
+    same = ap (faults_from place 0) (sym is);
+    met = subst (λ (xs : List (Option FaultAt)). HasMet limit xs t) (sym (append-nil before)) met;
+    count = refl;
+  }
+
+  pub goes_on : (left rest : List (Result X Fault)) (n m : ℕ) (item : Result X Fault) (told : Option FaultAt) (t u : Tally A)
+      → Goes limit place before all left n t
+      → left ≡ item ∷ rest → told ≡ fault_read_at (place n) item → Takes told t u → m ≡ n + 1 → Goes limit place before all rest m u
+  goes_on left rest n m item told t u goes steps is takes next =
+      let one = told ∷ [] in record {
+        done = goes.done ++ one;
+        same = goes.same ∙ ap (λ (xs : List (Result X Fault)). goes.done ++ faults_from place n xs) steps
+            ∙ ap (λ (o : Option FaultAt). goes.done ++ o ∷ faults_from place (n + 1) rest) (sym is)
+            ∙ ap (λ (k : ℕ). goes.done ++ told ∷ faults_from place k rest) (sym next) ∙ sym (append_assoc goes.done one (faults_from place m rest));
+        met = subst (λ (xs : List (Option FaultAt)). HasMet limit xs u) (append_assoc before goes.done one) (takes limit (before ++ goes.done) goes.met);
+        count = omega (arith, goes.count, next, length-append goes.done one);
+      }
+
+  -- where some of the limit was left, a number more can be counted
+  pub goes_small : (left : List (Result X Fault)) (n : ℕ) (t : Tally A) → Goes limit place before all left n t → 1 ≤ t.left → n + 1 < 2 ^ 64
+  goes_small left n t goes some = omega (arith, goes.met.small, goes.met.left, some, goes.count, length-append before goes.done)
+
+  pub goes_over : (left : List (Result X Fault)) (n : ℕ) (t : Tally A) → Goes limit place before all left n t → left ≡ []
+      → HasMet limit (before ++ faults_from place 0 all) t
+  goes_over left n t goes over =
+      let same = goes.same ∙ ap (λ (xs : List (Result X Fault)). goes.done ++ faults_from place n xs) over ∙ append-nil goes.done in
+      subst (λ (xs : List (Option FaultAt)). HasMet limit (before ++ xs) t) (sym same) goes.met
+
+  pub goes_cut : (left : List (Result X Fault)) (n : ℕ) (t : Tally A) → Goes limit place before all left n t → IsTrue t.part.cut
+      → HasMet limit (before ++ faults_from place 0 all) t
+  goes_cut left n t goes cut =
+      let all_met = met_rest limit (before ++ goes.done) (faults_from place n left) t goes.met cut in
+      subst (λ (xs : List (Option FaultAt)). HasMet limit xs t) (append_assoc before goes.done (faults_from place n left)
+      ∙ ap (λ (xs : List (Option FaultAt)). before ++ xs) (sym goes.same)) all_met
+
+-- the number that follows
+pub next_number : (n m : ℕ) → n + 1 < 2 ^ 64 → m ≡ min (n + 1) (2 ^ 64 - 1) → m ≡ n + 1
+next_number n m small is = omega (arith, small, is)
+
+-- ---- several lists
+
+each_append : {X : Type 0} (part : ℕ → X → List (Option FaultAt)) (n : ℕ) (xs ys : List X)
+    → faults_each part n (xs ++ ys) ≡ faults_each part n xs ++ faults_each part (n + length xs) ys
+each_append part n [] ys =
+    let same : n ≡ n + 0 = omega arith in
+    ap (λ (m : ℕ). faults_each part m ys) same
+each_append part n (x ∷ xs) ys =
+    let same : n + 1 + length xs ≡ n + length (x ∷ xs) = omega arith in
+    ap (λ rest. part n x ++ rest) (each_append part (n + 1) xs ys ∙ ap (λ (m : ℕ). faults_each part (n + 1) xs ++ faults_each part m ys) same)
+    ∙ sym (append_assoc (part n x) (faults_each part (n + 1) xs) (faults_each part (n + length (x ∷ xs)) ys))
+
+-- of all of a list these are left, where those of n were met behind some
+pub record GoesEach {A X : Type 0} (limit : ℕ) (part : ℕ → X → List (Option FaultAt)) (before : List (Option FaultAt)) (all left : List X) (n : ℕ)
+    (t : Tally A) : Type 0 where
+  pub done : List (Option FaultAt)
+  pub same : faults_each part 0 all ≡ done ++ faults_each part n left
+  pub met : HasMet limit (before ++ done) t
+  pub count : n + length left ≡ length all
+
+module _ {A X : Type 0} (limit : ℕ) (part : ℕ → X → List (Option FaultAt)) (before : List (Option FaultAt)) (all : List X) where
+  pub each_init : (left : List X) (t : Tally A) → left ≡ all → HasMet limit before t → GoesEach limit part before all left 0 t
+  each_init left t is met = record {
+    done = [];
+    same = ap (faults_each part 0) (sym is);
+    met = subst (λ (xs : List (Option FaultAt)). HasMet limit xs t) (sym (append-nil before)) met;
+    count = omega (arith, ap length is);
+  }
+
+  pub each_on : (left rest : List X) (n m : ℕ) (x : X) (t u : Tally A) → GoesEach limit part before all left n t → left ≡ x ∷ rest
+      → ((limit : ℕ) (items : List (Option FaultAt)) → HasMet limit items t → HasMet limit (items ++ part n x) u) → m ≡ n + 1
+      → GoesEach limit part before all rest m u
+  each_on left rest n m x t u goes is adds next =
+      let one = part n x in record {
+        done = goes.done ++ one;
+        same = goes.same ∙ ap (λ (xs : List X). goes.done ++ faults_each part n xs) is
+            ∙ ap (λ (k : ℕ). goes.done ++ (one ++ faults_each part k rest)) (sym next) ∙ sym (append_assoc goes.done one (faults_each part m rest));
+        met = subst (λ (xs : List (Option FaultAt)). HasMet limit xs u) (append_assoc before goes.done one) (adds limit (before ++ goes.done) goes.met);
+        count = omega (arith, goes.count, next, ap length is);
+      }
+
+  pub each_over : (left : List X) (n : ℕ) (t : Tally A) → GoesEach limit part before all left n t → left ≡ []
+      → HasMet limit (before ++ faults_each part 0 all) t
+  each_over left n t goes over =
+      let same = goes.same ∙ ap (λ (xs : List X). goes.done ++ faults_each part n xs) over ∙ append-nil goes.done in
+      subst (λ (xs : List (Option FaultAt)). HasMet limit (before ++ xs) t) (sym same) goes.met
+
+-- what is told of one part more
+pub one_part_more : {S V : Type 0} (view : S → V) (part : ℕ → V → List (Option FaultAt)) (xs : List S) (i : ℕ) (d : S) → i < length xs
+    → faults_each part 0 (map view (take (i + 1) xs)) ≡ faults_each part 0 (map view (take i xs)) ++ part i (view (get_or xs i d))
+one_part_more view part xs i d less =
+    let x = get_or xs i d in
+    let front = map view (take i xs) in
+    let count : 0 + length front ≡ i = omega (arith, length-map (take i xs) view, length-take-le i xs (omega (arith, less))) in
+    ap (λ ys. faults_each part 0 (map view ys)) (take_more xs i d less)
+    ∙ ap (λ ys. faults_each part 0 ys) (map-append view (take i xs) (x ∷ []))
+    ∙ each_append part 0 front (view x ∷ [])
+    ∙ ap (λ (n : ℕ). faults_each part 0 front ++ (part n (view x) ++ [])) count
+    ∙ ap (λ ys. faults_each part 0 front ++ ys) (append-nil (part i (view x)))
+
+pub length_from : {X : Type 0} (place : ℕ → Place) (n : ℕ) (items : List (Result X Fault)) → length (faults_from place n items) ≡ length items
+length_from place n [] = refl
+length_from place n (x ∷ items) = omega (arith, length_from place (n + 1) items)
+
+pub from_append : {X : Type 0} (place : ℕ → Place) (n : ℕ) (xs ys : List (Result X Fault))
+    → faults_from place n (xs ++ ys) ≡ faults_from place n xs ++ faults_from place (n + length xs) ys
+from_append place n [] ys =
+    let same : n ≡ n + 0 = omega arith in
+    ap (λ (m : ℕ). faults_from place m ys) same
+from_append place n (x ∷ xs) ys =
+    let same : n + 1 + length xs ≡ n + length (x ∷ xs) = omega arith in
+    ap (λ rest. fault_read_at (place n) x ∷ rest) (from_append place (n + 1) xs ys
+    ∙ ap (λ (m : ℕ). faults_from place (n + 1) xs ++ faults_from place m ys) same)
+
+-- one item more of an end of a list
+pub from_more : {X : Type 0} (place : ℕ → Place) (n : ℕ) (xs : List (Result X Fault)) (x : Result X Fault) → length xs ≡ n
+    → faults_from place 0 (xs ++ x ∷ []) ≡ faults_from place 0 xs ++ fault_read_at (place n) x ∷ []
+from_more place n xs x count =
+    let same : 0 + length xs ≡ n = omega (arith, count) in
+    from_append place 0 xs (x ∷ []) ∙ ap (λ (m : ℕ). faults_from place 0 xs ++ fault_read_at (place m) x ∷ []) same
+
+-- ---- exports, of which each that is given is there
+
+abbrev pub as_item : Entry → Result Entry Fault
+as_item x = Ok x
+
+abbrev pub entries_ok : List Entry → List (Result Entry Fault)
+entries_ok found = map as_item found
+
+pub ok_more : (found : List Entry) (x : Entry) → entries_ok (found ++ x ∷ []) ≡ entries_ok found ++ Ok x ∷ []
+ok_more found x = map-append as_item found (x ∷ [])
+
+-- a count of exports, and one item more
+pub export_more : {A : Type 0} (limit n : ℕ) (found : List Entry) (item : Result Entry Fault) (told : Option FaultAt) (t u : Tally A)
+    → HasMet limit (faults_from places.Export 0 (entries_ok found)) t → length found ≡ n → told ≡ fault_read_at (places.Export n) item → Takes told t u
+    → HasMet limit (faults_from places.Export 0 (entries_ok found ++ item ∷ [])) u
+export_more limit n found item told t u met count is takes =
+    let same : length (entries_ok found) ≡ n = length-map found as_item ∙ count in
+    let more = from_more places.Export n (entries_ok found) item same in
+    let items = faults_from places.Export 0 (entries_ok found) in
+    subst (λ (xs : List (Option FaultAt)). HasMet limit xs u) (ap (λ (o : Option FaultAt). items ++ o ∷ []) is ∙ sym more) (takes limit items met)
+
+pub export_small : {A : Type 0} (limit n : ℕ) (found : List Entry) (t : Tally A) → HasMet limit (faults_from places.Export 0 (entries_ok found)) t
+    → length found ≡ n → 1 ≤ t.left → n + 1 < 2 ^ 64
+export_small limit n found t met count some =
+    omega (
+      arith,
+      met.small,
+      met.left,
+      some,
+      count,
+      length_from places.Export 0 (entries_ok found),
+      length-map found as_item,
+    )
+
+-- where a count of them was cut, there are more
+pub export_long : {A : Type 0} (limit : ℕ) (found : List Entry) (t : Tally A) → HasMet limit (faults_from places.Export 0 (entries_ok found)) t
+    → IsTrue t.part.cut → limit < length found
+export_long limit found t met cut =
+    let long = ltb-true limit (length (faults_from places.Export 0 (entries_ok found))) (sym met.tells.cut ∙ cut) in
+    omega (arith, long, length_from places.Export 0 (entries_ok found), length-map found as_item)
+
+-- what a walk has given, where that is more than the limit
+pub given_more : {A : Type 0} (limit : ℕ) (t : TrieRange) (libs : List (List ℕ)) (found : List Entry) (w : ExportWalk A) → HasGiven t libs found w
+    → limit < length found → AreExportItems limit t libs (entries_ok found)
+given_more limit t libs found w h long = elim h.3 [
+  | inl at ↦ (
+      let s = w.walker.source in
+      let walk : WalkMeets (source_trie s) s.from found =
+      record { nodes = h.2; left = _; read = at.1.is_read.read; once = at.1.known.once } in
+      past_limit found (subst (λ (x : Trie). WalkMeets x t.from found) h.0 (subst (λ (r : ℕ). WalkMeets (source_trie s) r found) h.1 walk)) long)
+  | inr over ↦ all_exports found (listed_there w.walker.source t libs h.0 h.1 over.1)
+]
+
+-- the fault of an error that is no want of memory
+pub stands_of : (P : Fault → Type 0) (e : Error) → IsTold e → Stands P e → P (fault_of e)
+stands_of P (errors.Malformed msg) is h = h
+stands_of P (errors.BadMagic n) is h = h
+stands_of P (errors.Scroll e) is h = h
+stands_of P (errors.BufferTooShort n what) is h = h
+stands_of P (errors.Memory a) is h = absurd is

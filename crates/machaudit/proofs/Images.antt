@@ -1,0 +1,369 @@
+-- What is told of the parts of an image, and whether it is sound.
+use Rattle.std.proofs.Common.{◌≡◌, ◌<◌, ◌≤◌, ◌++◌, ◌∙◌, ℕ, zero, suc, Bool, true, false, List, [], ◌∷◌, map, length, Option, Some, None, Result, Ok, Err}
+use Rattle.std.proofs.Common.{refl, sym, ap, subst, arith, inl, inr}
+use Rattle.std.specs.Prelude.{◌⊎◌, ◌↔◌, ◌==◌, ◌&&◌, not, IsTrue, is_ok, if◌then◌else◌}
+use Rattle.std.proofs.Math.Dec.{eqb-suc-zero}
+use Rattle.std.proofs.lemmas.Bool.{false≢true, true≢false, ltb-false}
+use Rattle.std.proofs.lemmas.List.{length-append, length-map}
+use Rattle.std.specs.List.{list_all, flat_map}
+use Rattle.mach_base.specs.Context.{pointer_size}
+use Rattle.mach_base.specs.Fault.{Fault}
+use Rattle.mach_dyld.proofs.BindLists.{list_from_items, items_from_list}
+use Rattle.mach_base.specs.Text.{texts}
+use Rattle.mach_dyld.specs.Imports.{Import, BindRanges, input_in}
+use Rattle.mach_dyld.specs.Trie as trie
+use Rattle.mach_dyld.proofs.TrieBegins.{prefix_of, whole_list}
+use Rattle.mach_dyld.proofs.Unfoldings.{met_begins}
+use Rattle.mach_dyld.specs.TrieRange.{TrieRange, trie_there, ListsExports, ExportsFault}
+use Rattle.mach_chained.specs.Fixups.{Fixup}
+use Rattle.mach_parts.specs.Bindings.{Binding}
+use Rattle.mach_parts.specs.Segment.{SegmentView, sections_of}
+use Rattle.mach_parts.specs.declared.relocation.RelocationInfo.{RelocationInfo}
+use Rattle.mach_parts.specs.declared.symbols.nlist.Nlist.{Nlist}
+use Rattle.goblin_mach.proofs.ImageFacts.{facts_are, strict-lossy, segments_are, symbols_are, imports_are, exports_are}
+use Rattle.goblin_mach.proofs.Walked.{walked_list, walked_fault}
+use Rattle.goblin_mach.specs.Facts.{HasSegments, HasSymbols, HasExports, HasImports, HasImportItems, HasFixups, HasBindings}
+use Rattle.goblin_mach.specs.OpenImage.{IsImage, commands_held, segments_held, trie_held, binds_held, ctx_held, bytes_held}
+use Rattle.goblin_mach.specs.Subjects.{ListsImageImports, ListsImageExports, AreImageBindItems, symbols_held, trie_or_empty}
+use Rattle.goblin_mach.specs.declared.macho.MachO.{MachO}
+use Rattle.machaudit.proofs.Goes.{as_item}
+use Rattle.machaudit.proofs.SoundlySigned.{signature_judged_by}
+use Rattle.machaudit.proofs.Told.{plain, faults_in, plain_from, plain_each, cut_is, told_sound, told_faulty, told_long, told_short}
+use Rattle.machaudit.proofs.Verdicts.{number, sound_judged, faulty_judged, part_judged, both_judged, judged_as}
+use Rattle.machaudit.specs.Sound.{IsSoundImage, HasLongList, of_sections, of_relocations, of_symbols, of_exports, of_imports}
+use Rattle.machaudit.specs.Sound.{HasAllRelocations, HasExportItems, AreExportItems, all_exports, up_to_fault, past_limit}
+use Rattle.machaudit.specs.Sound.{are_all_ok, all_sections, all_relocations, relocations_by, of_fixups, of_bindings, IsSoundlySigned, HasSoundSignature}
+use Rattle.machaudit.specs.Signed.{TellsSignature}
+use Rattle.machaudit.specs.Told.{FaultAt, TellsOf, TellsOfTrie, TellsRelocations, faults_from, section_faults_told, relocation_faults, relocation_faults_by}
+use Rattle.machaudit.specs.Verdicts.{Judges, verdict_of, verdict_of_read, verdict_of_parts, verdict_of_layout, verdict_of_signature, is_clean}
+use Rattle.goblin_mach.specs.LayoutFacts.{HasLayoutFaults}
+use Rattle.mach_signature.specs.SignedImages.{image_faults}
+use Rattle.mach_layout.specs.declared.fault.LayoutFault.{LayoutFault}
+use Rattle.machaudit.specs.declared.report.Part.{Part}
+use Rattle.machaudit.specs.declared.report.Parts.{Parts}
+use Rattle.machaudit.specs.declared.report.SignatureReport.{SignatureReport}
+use Rattle.machaudit.specs.declared.report.Place.TheVariants as places
+use Rattle.machaudit.specs.declared.verdict.Verdict.TheVariants.{Sound, Unended, Faulty}
+use Rattle.machaudit.specs.declared.verdict.Verdict.{Verdict}
+
+-- more than `limit` items are in a list of this kind
+abbrev pub LongOf : {X : Type 0} → ℕ → (List (Result X Fault) → Type 0) → Type 0
+LongOf limit Has = (items : List (Result _ Fault)) × Has items × (limit < length items)
+
+-- a verdict on a list
+pub judged_list : {A X : Type 0} (limit : ℕ) (items : List (Result X Fault)) (faults : List (Option FaultAt)) (q : Part A)
+    → map plain faults ≡ faults_in items → TellsOf limit faults q → Judges (IsTrue (are_all_ok items)) (limit < length items) (verdict_of q)
+judged_list limit items faults q same tells =
+    part_judged q (told_sound limit items faults same q tells) (told_faulty limit items faults same q tells) (told_long limit items faults same q tells)
+    (λ none whole. told_short limit items faults same q tells whole)
+
+-- a verdict on the one list of a kind that some bytes have
+pub judged_one : {A X : Type 0} (limit : ℕ) (Has : List (Result X Fault) → Type 0) (items : List (Result X Fault)) (faults : List (Option FaultAt)) (q : Part A)
+    → Has items → ((others : List (Result X Fault)) → Has others → others ≡ items) → map plain faults ≡ faults_in items → TellsOf limit faults q
+    → Judges ((found : List (Result X Fault)) × Has found × IsTrue (are_all_ok found)) (LongOf limit Has) (verdict_of q)
+judged_one limit Has items faults q has one same tells =
+    judged_as (verdict_of q) (λ ok. (items, has, ok)) (λ s. subst (λ (xs : List (Result _ Fault)). IsTrue (are_all_ok xs)) (one s.0 s.1) s.2)
+    (λ long. (items, has, long)) (λ l. subst (λ (xs : List (Result _ Fault)). limit < length xs) (one l.0 l.1) l.2)
+    (judged_list limit items faults q same tells)
+
+-- imports that are all there, and their list
+all_oks : {X : Type 0} (items : List (Result X Fault)) → list_all is_ok items ≡ true → (list : List X) × (items ≡ map Ok list)
+all_oks [] all = ([], refl)
+all_oks (Ok x ∷ items) all = let rest = all_oks items all in (x ∷ rest.0, ap (λ xs. Ok x ∷ xs) rest.1)
+all_oks (Err f ∷ items) all = absurd (false≢true all)
+
+oks_all : {X : Type 0} (list : List X) → list_all (is_ok {T = X} {E = Fault}) (map Ok list) ≡ true
+oks_all [] = refl
+oks_all (x ∷ list) = oks_all list
+
+list_of_items : (b : Option BindRanges) (pointer : ℕ) (libs : List (List ℕ)) (segments : List SegmentView) (items : List (Result Import Fault))
+    (list : List Import)
+    → AreImageBindItems b pointer libs segments items → items ≡ map Ok list → ListsImageImports b pointer libs segments list
+list_of_items None pointer libs segments items [] are same = refl
+list_of_items None pointer libs segments items (x ∷ list) are same = absurd (cons_nil (sym same ∙ are))
+  where
+    cons_nil : {X : Type 0} {x : X} {xs : List X} → x ∷ xs ≡ [] → ⊥
+    cons_nil e = omega (arith, ap length e)
+list_of_items (Some b) pointer libs segments items list are same =
+    (are.0, are.1, list_from_items (input_in b pointer libs segments) b.non_lazy b.lazy are.0 are.1 items list are.2 same)
+
+items_of_list : (b : Option BindRanges) (pointer : ℕ) (libs : List (List ℕ)) (segments : List SegmentView) (items : List (Result Import Fault))
+    (list : List Import)
+    → AreImageBindItems b pointer libs segments items → ListsImageImports b pointer libs segments list → items ≡ map Ok list
+items_of_list None pointer libs segments items list are lists = are ∙ ap (map Ok) (sym lists)
+items_of_list (Some b) pointer libs segments items list are lists =
+    items_from_list (input_in b pointer libs segments) b.non_lazy b.lazy are.0 are.1 lists.0 lists.1 items list are.2 lists.2
+
+found_list : (b : Option BindRanges) (pointer : ℕ) (libs : List (List ℕ)) (segments : List SegmentView) (items : List (Result Import Fault))
+    → AreImageBindItems b pointer libs segments items → list_all is_ok items ≡ true
+    → (list : List Import) × (items ≡ map Ok list) × ListsImageImports b pointer libs segments list
+found_list b pointer libs segments items are ok =
+    let list = all_oks items ok in
+    (list.0, list.1, list_of_items b pointer libs segments items list.0 are list.1)
+
+-- a faulty trie has no list
+no_list : (t : Option TrieRange) (libs : List (List ℕ)) (f : Fault) (list : List trie.Entry)
+    → ((t : TrieRange) (libs : List (List ℕ)) (f : Fault) (list : List trie.Entry) → ExportsFault t libs f → ListsExports t libs list → ⊥)
+    → ExportsFault (trie_or_empty t) libs f → ListsImageExports t libs list → ⊥
+no_list None libs f list law fault lists = walked_fault None libs f fault
+no_list (Some t) libs f list law fault lists = law t libs f list fault lists
+
+-- what is beside something that is never so
+besides : {L : Type 0} → ⊥ ⊎ L → L
+besides (inl no_way) = absurd no_way
+besides (inr l) = l
+
+pub beside : {S L : Type 0} {v : Verdict} → Judges S (⊥ ⊎ L) v → Judges S L v
+beside {v = v} j = judged_as v (λ s. s) (λ s. s) besides (λ l. inr l) j
+
+-- a verdict on faults of layout, of which there is one list
+pub layout_judged : (Has : List LayoutFault → Type 0) (faults : List LayoutFault) → Has faults
+    → ((list others : List LayoutFault) → Has list → Has others → list ≡ others) → Judges (Has []) ⊥ (verdict_of_layout faults)
+layout_judged Has [] has one = sound_judged has (λ l. l)
+layout_judged Has (f ∷ fs) has one = faulty_judged (λ none. let same = ap length (one (f ∷ fs) [] has none) in omega (arith, same))
+
+-- the sections and the relocations together
+pub read_judged : {A S T L M : Type 0} (limit : ℕ) (items : List (Option FaultAt)) (sections : Part A) (relocations : Option (Part A))
+    → TellsRelocations limit items (is_clean sections) relocations → Judges S L (verdict_of sections)
+    → ((q : Part A) → TellsOf limit items q → Judges T M (verdict_of q)) → Judges (S × T) (L ⊎ M) (verdict_of_read sections relocations)
+read_judged limit items sections None unclean first second = record {
+  sound = λ e. absurd (unclean_judged sections unclean e);
+  whole = λ e l. unclean_judged sections unclean e;
+  faulty = λ e s. first.faulty e s.0;
+  unended = λ e. inl (first.unended e);
+}
+  where
+    by_number : (n : ℕ) (cut : Bool) → ((n == 0) && not cut) ≡ false → (if n == 0 then (if cut then Unended else Sound) else Faulty) ≡ Sound → ⊥
+    by_number zero false e = absurd (true≢false e)
+    by_number zero true e = λ same. omega (arith, ap number same)
+    by_number (suc n) cut e = rw (eqb-suc-zero n) (λ same. omega (arith, ap number same))
+
+    unclean_judged : {A : Type 0} (p : Part A) → is_clean p ≡ false → verdict_of p ≡ Sound → ⊥
+    unclean_judged p e = by_number p.faults p.cut e
+read_judged limit items sections (Some q) tells first second = both_judged _ _ first (second q tells.1)
+
+-- ---- the exports of a trie
+
+not_all_ok : {X : Type 0} (found : List X) (f : Fault) → list_all is_ok (map Ok found ++ Err f ∷ []) ≡ true → ⊥
+not_all_ok [] f all = false≢true all
+not_all_ok (x ∷ found) f all = not_all_ok found f all
+
+abbrev pub FaultyHasNoList : Type 0
+FaultyHasNoList = (t : TrieRange) (libs : List (List ℕ)) (f : Fault) (list : List trie.Entry) → ExportsFault t libs f → ListsExports t libs list → ⊥
+
+within_front : {X : Type 0} (found list rest : List X) → list ≡ found ++ rest → length found ≤ length list
+within_front found list rest is = omega (arith, ap length is, length-append found rest)
+
+module _ (limit : ℕ) (t : TrieRange) (libs : List (List ℕ)) where
+  -- where they have a list, no more are met
+  items_within : (list : List trie.Entry) (others : List (Result trie.Entry Fault)) → FaultyHasNoList → ListsExports t libs list
+      → AreExportItems limit t libs others → length others ≤ length list
+  items_within list _ law lists (all_exports other is) =
+      let front = prefix_of (trie_there t libs) t.from [] other list (whole_list (trie_there t libs) t.from [] other is.1) lists.1 in
+      omega (arith, length-map other as_item, within_front other list front.0 front.1)
+  items_within list _ law lists (up_to_fault found f ends fault) = absurd (law t libs f list fault lists)
+  items_within list _ law lists (past_limit found walk long) =
+      let front = prefix_of (trie_there t libs) t.from [] found list (met_begins walk.read) lists.1 in
+      omega (arith, length-map found as_item, within_front found list front.0 front.1)
+
+  module _ {A : Type 0} (q : Part A) where
+    short : (items : List (Result trie.Entry Fault)) → TellsOf limit (faults_from places.Export 0 items) q → q.cut ≡ false → length items ≤ limit
+    short items tells whole =
+        ltb-false limit (length items) (sym (cut_is limit items (faults_from places.Export 0 items) (plain_from places.Export 0 items) q tells) ∙ whole)
+
+    -- all were met, and each is there
+    list_met : (items : List (Result trie.Entry Fault)) → AreExportItems limit t libs items → TellsOf limit (faults_from places.Export 0 items) q
+        → q.faults ≡ 0 → q.cut ≡ false → (list : List trie.Entry) × ListsExports t libs list × (length list ≤ limit)
+    list_met _ (all_exports list lists) tells none whole =
+        let items = map as_item list in
+        (list, lists, omega (arith, length-map list as_item, short items tells whole))
+    list_met _ (up_to_fault found f ends fault) tells none whole =
+        let items = map as_item found ++ Err f ∷ [] in
+        absurd (not_all_ok found f (told_sound limit items (faults_from places.Export 0 items) (plain_from places.Export 0 items) q tells none whole))
+    list_met _ (past_limit found walk long) tells none whole =
+        let items = map as_item found in
+        absurd (omega (arith, long, length-map found as_item, short items tells whole))
+
+    -- a fault that is told stands in the trie
+    fault_met : (items : List (Result trie.Entry Fault)) → AreExportItems limit t libs items → TellsOf limit (faults_from places.Export 0 items) q
+        → 0 < q.faults → (f : Fault) × ExportsFault t libs f
+    fault_met _ (all_exports list lists) tells some =
+        let items = map as_item list in
+        absurd (told_faulty limit items (faults_from places.Export 0 items) (plain_from places.Export 0 items) q tells some (oks_all list))
+    fault_met _ (up_to_fault found f ends fault) tells some = (f, fault)
+    fault_met _ (past_limit found walk long) tells some =
+        let items = map as_item found in
+        absurd (told_faulty limit items (faults_from places.Export 0 items) (plain_from places.Export 0 items) q tells some (oks_all found))
+
+module _ {A : Type 0} (bytes : List ℕ) (m : MachO A) (p : IsImage bytes 0 m) (limit : ℕ) where
+  sections_plain : map plain (section_faults_told (segments_held m)) ≡ faults_in (all_sections (segments_held m))
+  sections_plain =
+      plain_each (λ n s. faults_from (places.Section n) 0 (sections_of s)) sections_of (λ n s. plain_from (places.Section n) 0 (sections_of s)) 0
+      (segments_held m)
+
+  pub sections_judged : {B : Type 0} (q : Part B) → TellsOf limit (section_faults_told (segments_held m)) q
+      → Judges ((segments : List SegmentView) × HasSegments bytes 0 segments × IsTrue (are_all_ok (all_sections segments)))
+      ((segments : List SegmentView) × HasSegments bytes 0 segments × (limit < length (all_sections segments))) (verdict_of q)
+  sections_judged q tells =
+      let is = (segments_are m).strict bytes 0 p in
+      judged_as (verdict_of q) (λ ok. (segments_held m, (is (segments_held m)).1 refl, ok))
+      (λ s. subst (λ (xs : List SegmentView). IsTrue (are_all_ok (all_sections xs))) ((is s.0).0 s.1) s.2)
+      (λ long. (segments_held m, (is (segments_held m)).1 refl, long))
+      (λ l. subst (λ (xs : List SegmentView). limit < length (all_sections xs)) ((is l.0).0 l.1) l.2)
+      (judged_list limit (all_sections (segments_held m)) (section_faults_told (segments_held m)) q sections_plain tells)
+
+  pub relocations_are : (items : List (Result RelocationInfo Fault)) → HasAllRelocations bytes 0 items
+      ↔ (items ≡ all_relocations (ctx_held m) (bytes_held m) (segments_held m))
+  relocations_are items =
+      facts_are bytes 0 m (strict-lossy bytes 0 m p) (λ f. items ≡ all_relocations f.ctx f.bytes f.segments)
+
+  relocations_plain : map plain (relocation_faults (ctx_held m) (bytes_held m) (segments_held m))
+      ≡ faults_in (all_relocations (ctx_held m) (bytes_held m) (segments_held m))
+  relocations_plain =
+      let by = relocations_by (ctx_held m) (bytes_held m) in
+      plain_each (λ n s. relocation_faults_by by n (sections_of s)) (λ s. flat_map by (sections_of s))
+      (λ n s. plain_each (λ k x. faults_from (places.Relocation n k) 0 (by x)) by (λ k x. plain_from (places.Relocation n k) 0 (by x)) 0 (sections_of s)) 0
+      (segments_held m)
+
+  pub relocations_judged : {B : Type 0} (q : Part B) → TellsOf limit (relocation_faults (ctx_held m) (bytes_held m) (segments_held m)) q
+      → Judges ((items : List (Result RelocationInfo Fault)) × HasAllRelocations bytes 0 items × IsTrue (are_all_ok items))
+      (LongOf limit (HasAllRelocations bytes 0)) (verdict_of q)
+  relocations_judged q tells =
+      let held = all_relocations (ctx_held m) (bytes_held m) (segments_held m) in
+      judged_one limit (HasAllRelocations bytes 0) held (relocation_faults (ctx_held m) (bytes_held m) (segments_held m)) q ((relocations_are held).1 refl)
+      (λ others h. (relocations_are others).0 h) relocations_plain tells
+
+  pub symbols_judged : {B : Type 0} (q : Part B) → TellsOf limit (faults_from places.Symbol 0 (symbols_held m.symbols)) q
+      → Judges ((rows : List (Result (List ℕ × Nlist) Fault)) × HasSymbols bytes 0 rows × IsTrue (are_all_ok rows)) (LongOf limit (HasSymbols bytes 0))
+      (verdict_of q)
+  symbols_judged q tells =
+      let is = (symbols_are m).strict bytes 0 p in
+      let rows = symbols_held m.symbols in
+      judged_one limit (HasSymbols bytes 0) rows (faults_from places.Symbol 0 rows) q ((is rows).1 refl) (λ others h. (is others).0 h)
+      (plain_from places.Symbol 0 rows) tells
+
+  export_items_are : (items : List (Result trie.Entry Fault))
+      → HasExportItems limit bytes 0 items ↔ AreExportItems limit (trie_or_empty (trie_held m)) (texts m.libs.items) items
+  export_items_are items =
+      facts_are bytes 0 m (strict-lossy bytes 0 m p) (λ f. AreExportItems limit (trie_or_empty f.trie) f.libs items)
+
+  pub exports_judged : {B : Type 0} (q : Part B) → TellsOfTrie limit (trie_or_empty (trie_held m)) (texts m.libs.items) q → FaultyHasNoList
+      → Judges ((list : List trie.Entry) × HasExports bytes 0 list) (LongOf limit (HasExportItems limit bytes 0)) (verdict_of q)
+  exports_judged q tells law =
+      let is = (exports_are m).strict bytes 0 p in
+      let t = trie_or_empty (trie_held m) in
+      let libs = texts m.libs.items in
+      let faults = faults_from places.Export 0 tells.items in
+      part_judged q
+      (λ none whole. let found = list_met limit t libs q tells.items tells.met tells.tells none whole in
+      (found.0, (is found.0).1 (walked_list (trie_held m) libs found.0 found.1)))
+      (λ some s. let fault = fault_met limit t libs q tells.items tells.met tells.tells some in
+      no_list (trie_held m) libs fault.0 s.0 law fault.1 ((is s.0).0 s.1))
+      (λ cut. (
+        tells.items,
+        (export_items_are tells.items).1 tells.met,
+        told_long limit tells.items faults
+            (plain_from places.Export 0 tells.items) q tells.tells cut,
+      ))
+      (λ none whole l. let found = list_met limit t libs q tells.items tells.met tells.tells none whole in
+      let few = items_within limit t libs found.0 l.0 law found.1 ((export_items_are l.0).0 l.1) in
+      let long = l.2 in
+      let short_list = found.2 in
+      omega (arith, few, long, short_list))
+
+  pub imports_judged : {B : Type 0} (items : List (Result Import Fault)) (q : Part B)
+      → AreImageBindItems (binds_held m) (pointer_size (ctx_held m).container) (texts m.libs.items) (segments_held m) items
+      → TellsOf limit (faults_from places.Import 0 items) q → HasImportItems bytes 0 items
+      → ((others : List (Result Import Fault)) → HasImportItems bytes 0 others
+      → AreImageBindItems (binds_held m) (pointer_size (ctx_held m).container) (texts m.libs.items) (segments_held m) others)
+      → Judges ((list : List Import) × HasImports bytes 0 list) (LongOf limit (HasImportItems bytes 0)) (verdict_of q)
+  imports_judged items q are tells has held =
+      let is = (imports_are m).strict bytes 0 p in
+      let b = binds_held m in
+      let pointer = pointer_size (ctx_held m).container in
+      let libs = texts m.libs.items in
+      let segments = segments_held m in
+      let faults = faults_from places.Import 0 items in
+      let same = plain_from places.Import 0 items in
+      let listed = found_list b pointer libs segments items are in
+      part_judged q
+      (λ none whole. let list = listed (told_sound limit items faults same q tells none whole) in (list.0, (is list.0).1 list.2))
+      (λ some s. told_faulty limit items faults same q tells some
+      (subst (λ (xs : List (Result Import Fault)). IsTrue (are_all_ok xs)) (sym (items_of_list b pointer libs segments items s.0 are ((is s.0).0 s.1)))
+      (oks_all s.0)))
+      (λ cut. (items, has, told_long limit items faults same q tells cut))
+      (λ none whole l. let list = listed (told_sound limit items faults same q tells none whole) in
+      let one = items_of_list b pointer libs segments l.0 list.0 (held l.0 l.1) list.2 ∙ sym list.1 in
+      told_short limit items faults same q tells whole (subst (λ (xs : List (Result Import Fault)). limit < length xs) one l.2))
+
+  soundly_signed : HasSoundSignature bytes 0 ↔ IsSoundlySigned (bytes_held m) (commands_held m) (segments_held m)
+  soundly_signed = facts_are bytes 0 m (strict-lossy bytes 0 m p) (λ f. IsSoundlySigned f.bytes f.commands f.segments)
+
+  pub signature_judged : {B : Type 0} (q : SignatureReport B)
+      → TellsSignature (image_faults (bytes_held m) (commands_held m) (segments_held m)) q
+      → Judges (HasSoundSignature bytes 0) ⊥ (verdict_of_signature q)
+  signature_judged q tells =
+      judged_as (verdict_of_signature q) soundly_signed.1 soundly_signed.0 (λ l. l) (λ l. l)
+      (signature_judged_by (bytes_held m) (commands_held m) (segments_held m) q tells)
+
+  -- the list that is long, by its part
+  abbrev pub LongByPart : Type 0
+  LongByPart = ⊥ ⊎ ((((segments : List SegmentView) × HasSegments bytes 0 segments × (limit < length (all_sections segments))) ⊎ LongOf limit
+      (HasAllRelocations bytes 0))
+      ⊎ (LongOf limit (HasSymbols bytes 0) ⊎ (LongOf limit (HasExportItems limit bytes 0) ⊎ (LongOf limit (HasImportItems bytes 0)
+      ⊎ (LongOf limit (HasFixups bytes 0) ⊎ LongOf limit (HasBindings bytes 0))))))
+
+  long_list : LongByPart → HasLongList limit bytes
+  long_list (inl no_way) = absurd no_way
+  long_list (inr (inl (inl l))) = of_sections l.0 l.1 l.2
+  long_list (inr (inl (inr l))) = of_relocations l.0 l.1 l.2
+  long_list (inr (inr (inl l))) = of_symbols l.0 l.1 l.2
+  long_list (inr (inr (inr (inl l)))) = of_exports l.0 l.1 l.2
+  long_list (inr (inr (inr (inr (inl l))))) = of_imports l.0 l.1 l.2
+  long_list (inr (inr (inr (inr (inr (inl l)))))) = of_fixups l.0 l.1 l.2
+  long_list (inr (inr (inr (inr (inr (inr l)))))) = of_bindings l.0 l.1 l.2
+
+  long_part : HasLongList limit bytes → LongByPart
+  long_part (of_sections segments has l) = inr (inl (inl (segments, has, l)))
+  long_part (of_relocations items has l) = inr (inl (inr (items, has, l)))
+  long_part (of_symbols rows has l) = inr (inr (inl (rows, has, l)))
+  long_part (of_exports items has l) = inr (inr (inr (inl (items, has, l))))
+  long_part (of_imports items has l) = inr (inr (inr (inr (inl (items, has, l)))))
+  long_part (of_fixups items has l) = inr (inr (inr (inr (inr (inl (items, has, l))))))
+  long_part (of_bindings items has l) = inr (inr (inr (inr (inr (inr (items, has, l))))))
+
+  -- all parts together
+  pub parts_judged : {B : Type 0} (parts : Parts B)
+      → Judges (((segments : List SegmentView) × HasSegments bytes 0 segments × IsTrue (are_all_ok (all_sections segments)))
+      × ((items : List (Result RelocationInfo Fault)) × HasAllRelocations bytes 0 items × IsTrue (are_all_ok items)))
+      (((segments : List SegmentView) × HasSegments bytes 0 segments × (limit < length (all_sections segments))) ⊎ LongOf limit (HasAllRelocations bytes 0))
+      (verdict_of_read parts.sections parts.relocations)
+      → Judges ((rows : List (Result (List ℕ × Nlist) Fault)) × HasSymbols bytes 0 rows × IsTrue (are_all_ok rows)) (LongOf limit (HasSymbols bytes 0))
+      (verdict_of parts.symbols)
+      → Judges ((list : List trie.Entry) × HasExports bytes 0 list) (LongOf limit (HasExportItems limit bytes 0)) (verdict_of parts.exports)
+      → Judges ((list : List Import) × HasImports bytes 0 list) (LongOf limit (HasImportItems bytes 0)) (verdict_of parts.imports)
+      → Judges ((items : List (Result Fixup Fault)) × HasFixups bytes 0 items × IsTrue (are_all_ok items)) (LongOf limit (HasFixups bytes 0))
+      (verdict_of parts.fixups)
+      → Judges ((items : List (Result Binding Fault)) × HasBindings bytes 0 items × IsTrue (are_all_ok items)) (LongOf limit (HasBindings bytes 0))
+      (verdict_of parts.bindings)
+      → Judges (HasLayoutFaults bytes []) ⊥ (verdict_of_layout parts.layout.items)
+      → Judges (HasSoundSignature bytes 0) ⊥ (verdict_of_signature parts.signature)
+      → Judges (IsSoundImage bytes) (HasLongList limit bytes) (verdict_of_parts parts)
+  parts_judged parts read symbols exports imports fixups bindings layout signature =
+      judged_as (verdict_of_parts parts)
+      (λ s. record {
+        opens = (p.ctx, commands_held m, p.opens);
+        layout = s.0.0;
+        signature = s.0.1;
+        sections = s.1.0.0;
+        relocations = s.1.0.1;
+        symbols = s.1.1.0;
+        exports = s.1.1.1.0;
+        imports = s.1.1.1.1.0;
+        fixups = s.1.1.1.1.1.0;
+        bindings = s.1.1.1.1.1.1;
+      })
+      (λ s. ((s.layout, s.signature), ((s.sections, s.relocations), (s.symbols, (s.exports, (s.imports, (s.fixups, s.bindings)))))))
+      long_list long_part
+      (both_judged _ _ (beside (both_judged _ _ layout signature)) (both_judged _ _ read (both_judged _ _ symbols (both_judged _ _ exports
+      (both_judged _ _ imports (both_judged _ _ fixups bindings))))))

@@ -1,0 +1,155 @@
+-- One item more, and what is told then; what follows of a list from what is told of it.
+use Rattle.std.proofs.Common.{◌≡◌, ◌<◌, ◌≤◌, ◌+◌, ◌-◌, ◌^◌, ◌++◌, ◌∷◌, [], ◌∙◌, subst, ℕ, zero, suc, true, false, List, map, take, length, refl}
+use Rattle.std.proofs.Common.{sym, ap, arith, Option, Some, None, Result, Ok, Err}
+use Rattle.std.specs.Prelude.{is_ok, IsTrue, nat_lt}
+use Rattle.std.specs.List.{list_all, flat_map, filter_map}
+use Rattle.std.proofs.lemmas.Bool.{false≢true, le-ltb, lt-ltb, ltb-true, ltb-false}
+use Rattle.std.proofs.lemmas.List.{take-append-le, take_all, length-append, length-map, map-append}
+use Rattle.std.proofs.lemmas.List.Elements.{filter_map-append}
+use Rattle.mach_base.specs.Fault.{Fault}
+use Rattle.machaudit.specs.Told.{FaultAt, faults_from, faults_each, TellsFirstFaults, TellsOf, HasMet, faults_of}
+use Rattle.machaudit.specs.declared.report.Part.{Part}
+use Rattle.machaudit.specs.declared.report.Place.{Place}
+use Rattle.machaudit.specs.declared.tally.Tally.{Tally}
+
+-- ---- the first items
+
+-- the first n of one more item, where they were fewer
+pub take_one_more : {X : Type 0} (n : ℕ) (xs : List X) (x : X) → length xs < n → take n (xs ++ x ∷ []) ≡ take n xs ++ x ∷ []
+take_one_more n xs x less =
+    take_all n (xs ++ x ∷ []) (omega (arith, length-append xs (x ∷ []), less)) ∙ ap (λ front. front ++ x ∷ []) (sym (take_all n xs (omega (arith, less))))
+
+-- they are as many faults as items at most
+pub few_faults : (items : List (Option FaultAt)) → length (faults_of items) ≤ length items
+few_faults [] = omega arith
+few_faults (None ∷ items) = omega (arith, few_faults items)
+few_faults (Some f ∷ items) = omega (arith, few_faults items)
+
+-- ---- a count that takes one item more
+
+-- where some of the limit is left, the items so far are within it
+pub within : {A : Type 0} (limit : ℕ) (items : List (Option FaultAt)) (t : Tally A) → HasMet limit items t → 1 ≤ t.left → length items < limit
+within limit items t met some = omega (arith, met.left, some)
+
+-- and one fault more can be counted
+pub countable : {A : Type 0} (limit : ℕ) (items : List (Option FaultAt)) (t : Tally A) → HasMet limit items t → 1 ≤ t.left
+    → length (faults_of (take limit items)) + 1 < 2 ^ 64
+countable limit items t met some =
+    let less = within limit items t met some in
+    let all = take_all limit items (omega (arith, less)) in
+    rw all (omega (arith, few_faults items, less, met.small))
+
+-- the faults of one item more
+pub faults_one_more : (limit : ℕ) (items : List (Option FaultAt)) (item : Option FaultAt) → length items < limit
+    → faults_of (take limit (items ++ item ∷ [])) ≡ faults_of (take limit items) ++ faults_of (item ∷ [])
+faults_one_more limit items item less =
+    ap faults_of (take_one_more limit items item less) ∙ filter_map-append (λ i. i) (take limit items) (item ∷ [])
+
+pub not_cut : (limit : ℕ) (items : List (Option FaultAt)) (item : Option FaultAt) → length items < limit
+    → nat_lt limit (length items) ≡ nat_lt limit (length (items ++ item ∷ []))
+not_cut limit items item less =
+    le-ltb limit (length items) (omega (arith, less))
+    ∙ sym (le-ltb limit (length (items ++ item ∷ [])) (omega (arith, less, length-append items (item ∷ []))))
+
+pub met_one_more : {A : Type 0} (limit : ℕ) (items : List (Option FaultAt)) (item : Option FaultAt) (t : Tally A) (p : Part A) → HasMet limit items t
+    → 1 ≤ t.left → TellsFirstFaults (faults_of (take limit items) ++ faults_of (item ∷ [])) p → p.cut ≡ t.part.cut
+    → HasMet limit (items ++ item ∷ []) (record { part = p; left = t.left - 1 })
+met_one_more limit items item t p met some tells same =
+    let less = within limit items t met some in record {
+      small = met.small;
+      left = omega (arith, met.left, length-append items (item ∷ []), some);
+      tells = record {
+        faults = subst (λ (fs : List FaultAt). TellsFirstFaults fs p) (sym (faults_one_more limit items item less)) tells;
+        cut = same ∙ met.tells.cut ∙ not_cut limit items item less;
+      };
+    }
+
+-- behind the limit nothing more is told
+pub met_rest : {A : Type 0} (limit : ℕ) (items rest : List (Option FaultAt)) (t : Tally A) → HasMet limit items t → IsTrue t.part.cut
+    → HasMet limit (items ++ rest) t
+met_rest limit items rest t met cut =
+    let long : limit < length items = ltb-true limit (length items) (sym met.tells.cut ∙ cut) in record {
+      small = met.small;
+      left = omega (arith, met.left, length-append items rest, long);
+      tells = record {
+        faults = subst (λ (xs : List (Option FaultAt)). TellsFirstFaults (faults_of xs) t.part) (sym (take-append-le limit items rest (omega (arith, long))))
+            met.tells.faults;
+        cut = met.tells.cut ∙ lt-ltb limit (length items) long ∙ sym (lt-ltb limit (length (items ++ rest)) (omega (arith, long, length-append items rest)));
+      };
+    }
+
+-- ---- the faults without their places
+
+-- why an item can't be read, if it can't
+abbrev pub fault_in : {X : Type 0} → Result X Fault → Option Fault
+fault_in (Ok x) = None
+fault_in (Err f) = Some f
+
+abbrev pub faults_in : {X : Type 0} → List (Result X Fault) → List (Option Fault)
+faults_in items = map fault_in items
+
+abbrev pub plain : Option FaultAt → Option Fault
+plain None = None
+plain (Some f) = Some f.1
+
+abbrev pub stand : List (Option Fault) → List Fault
+stand items = filter_map (λ item. item) items
+
+pub plain_from : {X : Type 0} (place : ℕ → Place) (n : ℕ) (items : List (Result X Fault)) → map plain (faults_from place n items) ≡ faults_in items
+plain_from place n [] = refl
+plain_from place n (Ok x ∷ items) = ap (λ rest. None ∷ rest) (plain_from place (n + 1) items)
+plain_from place n (Err f ∷ items) = ap (λ rest. Some f ∷ rest) (plain_from place (n + 1) items)
+
+pub plain_each : {X Y : Type 0} (part : ℕ → X → List (Option FaultAt)) (list : X → List (Result Y Fault))
+    → ((n : ℕ) (x : X) → map plain (part n x) ≡ faults_in (list x)) → (n : ℕ) (xs : List X)
+    → map plain (faults_each part n xs) ≡ faults_in (flat_map list xs)
+plain_each part list same n [] = refl
+plain_each part list same n (x ∷ xs) =
+    map-append plain (part n x) (faults_each part (n + 1) xs)
+    ∙ ap (λ front. front ++ map plain (faults_each part (n + 1) xs)) (same n x)
+    ∙ ap (λ rest. faults_in (list x) ++ rest) (plain_each part list same (n + 1) xs)
+    ∙ sym (map-append fault_in (list x) (flat_map list xs))
+
+count_plain : (n : ℕ) (faults : List (Option FaultAt)) → length (faults_of (take n faults)) ≡ length (stand (take n (map plain faults)))
+count_plain zero faults = refl
+count_plain (suc n) [] = refl
+count_plain (suc n) (None ∷ faults) = count_plain n faults
+count_plain (suc n) (Some f ∷ faults) = omega (arith, count_plain n faults)
+
+-- ---- what follows from what is told
+
+-- none of some items, of which each is there, is a fault
+pub none_told : {X : Type 0} (n : ℕ) (items : List (Result X Fault)) → list_all is_ok items ≡ true → length (stand (take n (faults_in items))) ≡ 0
+none_told zero items all = refl
+none_told (suc n) [] all = refl
+none_told (suc n) (Ok x ∷ items) all = none_told n items all
+none_told (suc n) (Err f ∷ items) all = absurd (false≢true all)
+
+-- and where none is told, each is there
+all_there : {X : Type 0} (items : List (Result X Fault)) → length (stand (faults_in items)) ≡ 0 → list_all is_ok items ≡ true
+all_there [] none = refl
+all_there (Ok x ∷ items) none = all_there items none
+all_there (Err f ∷ items) none = absurd (omega (arith, none))
+
+module _ {A X : Type 0} (limit : ℕ) (items : List (Result X Fault)) (faults : List (Option FaultAt)) (same : map plain faults ≡ faults_in items) (p : Part A)
+    (tells : TellsOf limit faults p) where
+  counted : p.faults ≡ length (stand (take limit (faults_in items)))
+  counted = tells.faults.count ∙ count_plain limit faults ∙ ap (λ (xs : List (Option Fault)). length (stand (take limit xs))) same
+
+  pub cut_is : p.cut ≡ nat_lt limit (length items)
+  cut_is = tells.cut ∙ ap (λ (n : ℕ). nat_lt limit n) (sym (length-map faults plain) ∙ ap length same ∙ length-map items fault_in)
+
+  pub told_sound : p.faults ≡ 0 → p.cut ≡ false → IsTrue (list_all is_ok items)
+  told_sound none whole =
+      let short = ltb-false limit (length items) (sym cut_is ∙ whole) in
+      let all = take_all limit (faults_in items) (omega (arith, short, length-map items fault_in)) in
+      all_there items (sym (ap (λ (xs : List (Option Fault)). length (stand xs)) all) ∙ sym counted ∙ none)
+
+  pub told_faulty : 0 < p.faults → IsTrue (list_all is_ok items) → ⊥
+  told_faulty some all = omega (arith, some, counted, none_told limit items all)
+
+  pub told_long : IsTrue p.cut → limit < length items
+  told_long cut = ltb-true limit (length items) (sym cut_is ∙ cut)
+
+  pub told_short : p.cut ≡ false → limit < length items → ⊥
+  told_short whole long = omega (arith, long, ltb-false limit (length items) (sym cut_is ∙ whole))

@@ -1,0 +1,80 @@
+use Rattle.std.proofs.Common.{◌≡◌, ◌<◌, ◌∙◌, ℕ, List, min, nat_lt, slice_get, refl, sym, ap, arith, rules}
+use Rattle.std.specs.Prelude.{IsOk}
+use Rattle.mach_parts.specs.declared.fat.FatArch.{FatArch}
+use Rattle.goblin_mach.specs.FatEntry.{entry_at, fat_entry_of}
+use Rattle.goblin_mach.specs.FatFile.{arches_in, file_held}
+use Rattle.mach_parts.specs.ArchForms.{arch_form_32}
+use Rattle.mach_layout.specs.Containers.{AreContainerFaults}
+use Rattle.mach_layout.proofs.OneListOfSlices.{one_table}
+use Rattle.machaudit.proofs.Entries.{entries_more, no_entries_judged, fat_file_judged, refused_table_judged}
+use Rattle.machaudit.proofs.EntryBytes.{named_entry}
+use Rattle.machaudit.proofs.Images.{layout_judged, beside}
+use Rattle.machaudit.proofs.Reports.{one_entry_more}
+use Rattle.machaudit.proofs.Verdicts.{both_judged}
+use Rattle.machaudit.specs.Report.{IsEntryReport, named_bytes}
+use Rattle.machaudit.specs.Verdicts.{verdict_of_entries}
+use Rattle.machaudit.proofs.audit.audit_fat.Goals as goal
+
+pub returns-in-Err-clause-judged : goal.returns-in-Err-clause-judged
+returns-in-Err-clause-judged g c =
+    let told = c.in_ok-no_memory-in-Err.ensures.told in
+    refused_table_judged _ (file_held c.args.container.now) c.in-Err.error c.in-Err.ensures (rw told.0 at told.1)
+
+pub loop-index-init : goal.loop-index-init
+loop-index-init g c = rw c.new-entries.ensures.items ((λ _. tt), no_entries_judged c.args.limit (file_held c.args.container.now))
+
+pub loop-index-preserved : goal.loop-index-preserved
+loop-index-preserved g c =
+    let file = file_held c.args.container.now in
+    let k = c.loop-index.index in
+    let inside : k < file.narches = omega (arith, c.loop-index-test.true, c.min-index-end.ensures) in
+    let xs = c.in-Ok.arches.items in
+    let here = λ (same : file.bytes ≡ c.args.bytes.now).
+    ap (λ (ys : List ℕ). fat_entry_of ys) (c.named_bytes-entry.ensures
+    ∙ ap (λ (ys : List FatArch). named_bytes c.args.bytes.now (slice_get ys k)) c.as_slice.ensures.value
+    ∙ ap (λ (ys : List ℕ). named_bytes ys (slice_get xs k)) (sym same))
+    ∙ named_entry file k xs inside c.in-Ok.ensures in
+    rw c.in_ok-push.ensures.items (
+      (λ same. one_entry_more (IsEntryReport c.args.limit) (entry_at file) c.loop-index.index c.loop-index.entries.items c.in_ok-audit_entry.field-0
+          (c.loop-index.invariant.0 same) (rw c.in_ok-audit_entry.was at (c.audit_entry.ensures.told (here same)))),
+      entries_more c.args.limit file c.loop-index.index c.loop-index.entries.items c.in_ok-audit_entry.field-0 c.loop-index.invariant.1
+          c.in_ok-audit_entry.ensures.judged,
+    )
+
+pub returns-clause-judged : goal.returns-clause-judged
+returns-clause-judged g c =
+    let file = file_held c.args.container.now in
+    let limit = c.args.limit in
+    let all : c.loop-index.index ≡ min file.narches limit =
+    omega (arith, c.loop-index.auto.index-end, c.loop-index-test.false, c.min-index-end.ensures) in
+    let table : IsOk (arches_in file) = rw c.in-Ok.ensures refl in
+    let judged = fat_file_judged limit file c.loop-index.index (nat_lt limit file.narches) (verdict_of_entries c.loop-index.entries.items) table all
+    refl c.loop-index.invariant.1 in
+    let bytes = c.args.bytes.now in
+    let faults = c.in_ok-container_faults.container_faults in
+    let layout = layout_judged (AreContainerFaults arch_form_32 bytes) faults.items c.in_ok-container_faults.ensures.told (one_table _ arch_form_32 bytes) in
+    beside (both_judged _ _ layout judged)
+
+pub returns-clause-told : goal.returns-clause-told
+returns-clause-told g c =
+    let file = file_held c.args.container.now in
+    let limit = c.args.limit in
+    let all : c.loop-index.index ≡ min limit file.narches =
+    omega (arith, c.loop-index.auto.index-end, c.loop-index-test.false, c.min-index-end.ensures) in
+    λ same. record {
+      count = refl;
+      table = record {
+        readable = rw c.in-Ok.ensures refl;
+        container = c.in_ok-container_faults.ensures.told;
+        entries = rw all at (c.loop-index.invariant.0 same);
+        cut = refl;
+      };
+    }
+
+pub returns-in-Err-clause-told : goal.returns-in-Err-clause-told
+returns-in-Err-clause-told g c =
+    let told = c.in_ok-no_memory-in-Err.ensures.told in
+    λ same. record {
+      count = refl;
+      table = rw told.0 (record { told = rw told.0 at told.1; fails = c.in-Err.ensures; container = search rules; entries = search rules; cut = refl });
+    }

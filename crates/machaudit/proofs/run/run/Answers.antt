@@ -1,0 +1,27 @@
+use Rattle.machaudit.proofs.Refusals.{whole_refusal}
+use Rattle.machaudit.proofs.Verdicts.{status_bound, status_sound, status_whole, status_faulty}
+use Rattle.machaudit.specs.Foreign.{refusal_in}
+use Rattle.machaudit.specs.Verdicts.{verdict_of_report}
+use Rattle.machaudit.proofs.run.run.Goals as goal
+
+pub returns-clause-bounds : goal.returns-clause-bounds
+returns-clause-bounds g c = rw (c.status.ensures, c.verdict.ensures) (status_bound (verdict_of_report c.in-Ok.report))
+
+pub returns-clause-sound : goal.returns-clause-sound
+returns-clause-sound g c = λ zero.
+    status_sound (verdict_of_report c.in-Ok.report) c.in-Ok.ensures.judged (rw (c.status.ensures, c.verdict.ensures) at zero)
+
+pub returns-clause-whole : goal.returns-clause-whole
+returns-clause-whole g c = λ zero.
+    status_whole (verdict_of_report c.in-Ok.report) c.in-Ok.ensures.judged (rw (c.status.ensures, c.verdict.ensures) at zero)
+
+pub returns-clause-faulty : goal.returns-clause-faulty
+returns-clause-faulty g c = λ one.
+    status_faulty (verdict_of_report c.in-Ok.report) c.in-Ok.ensures.judged (rw (c.status.ensures, c.verdict.ensures) at one)
+
+pub returns-clause-said : goal.returns-clause-said
+returns-clause-said g c = record {
+  refusal = refusal_in c.in-Ok.report;
+  is_refusal = whole_refusal _ c.args.bytes.now c.in-Ok.report c.in-Ok.ensures.told;
+  said = c.in_ok-say_refusal.ensures;
+}

@@ -1,0 +1,55 @@
+-- What is said of a file that is none of Mach-O's.
+use Rattle.std.specs.Prelude.{◌≡◌, ℕ, List, [], codes, Option, Some, None, Ok, IsOk}
+use Rattle.std.specs.Io.KnownBytes.{Appends}
+use Rattle.mach_base.specs.Answer.{Stands, FailsAs}
+use Rattle.mach_base.specs.declared.error.Error.{Error}
+use Rattle.mach_parts.specs.Segment.{SegmentView}
+use Rattle.goblin_mach.specs.Facts.{HasSegments}
+use Rattle.goblin_mach.specs.Image.{Opens, ImageFault, LossyOpens}
+use Rattle.goblin_mach.specs.FatFile.{FatFile, fat_file_in, arches_in}
+use Rattle.goblin_mach.specs.File.{HasFatMagic, MachFault}
+use Rattle.goblin_mach.specs.View.{IsTold}
+use Rattle.mach_cli.specs.Foreigners.{foreign_words, refused_kind}
+use Rattle.mach_cli.specs.Names.{names_text}
+use Rattle.mach_cli.specs.Shown.{complaint}
+use Rattle.mach_cli.specs.declared.foreign.Foreign.{Foreign}
+use Rattle.machaudit.specs.declared.report.ImageReport.{ImageReport}
+use Rattle.machaudit.specs.declared.report.ImageReport.TheVariants as images
+use Rattle.machaudit.specs.declared.report.Report.{Report}
+use Rattle.machaudit.specs.declared.report.Report.TheVariants.{Image, Fat}
+
+-- why an image is refused, if it is: it opens in no mode
+abbrev pub image_refusal : {A : Type 0} → ImageReport A → Option Error
+image_refusal (images.Opens parts) = None
+image_refusal (images.OpensLossily e parts) = None
+image_refusal (images.Refused e) = Some e
+
+-- why a file as a whole is refused, if it is: its image is, or it is a fat file whose table can't be read
+abbrev pub refusal_in : {A : Type 0} → Report A → Option Error
+refusal_in (Image r) = image_refusal r
+refusal_in (Fat r) = r.table
+
+-- the line that says what kind of file it is, if it is of one
+abbrev pub kind_said : (file : List ℕ) → Option Foreign → List ℕ
+kind_said file None = []
+kind_said file (Some kind) = complaint (names_text (codes "machaudit") file) (foreign_words kind)
+
+-- what is said of a file, by why it is refused: its kind, where it is none of Mach-O's
+abbrev pub foreign_said : (file bytes : List ℕ) → Option Error → List ℕ
+foreign_said file bytes None = []
+foreign_said file bytes (Some e) = kind_said file (refused_kind bytes e)
+
+-- Why a file as a whole is refused, if it is: no image opens in any mode, and it is no fat file whose table can be read.
+pub data IsWholeRefusal (bytes : List ℕ) : Option Error → Type 0 where
+  opens : Opens bytes 0 → IsWholeRefusal bytes None
+  opens_lossily : (segments : List SegmentView) → HasSegments bytes 0 segments → IsWholeRefusal bytes None
+  has_table : (file : FatFile) → HasFatMagic bytes → fat_file_in bytes ≡ Ok file → IsOk (arches_in file) → IsWholeRefusal bytes None
+  unopened : (e : Error) → IsTold e → Stands (MachFault ImageFault bytes) e → (LossyOpens bytes 0 → ⊥) → IsWholeRefusal bytes (Some e)
+  unread_table : (file : FatFile) (e : Error) → HasFatMagic bytes → fat_file_in bytes ≡ Ok file → IsTold e → FailsAs e (arches_in file)
+      → IsWholeRefusal bytes (Some e)
+
+-- This was said of a file.
+pub record SaysForeign (file bytes : List ℕ) (err_old err_new : Option (List ℕ)) : Type 0 where
+  pub refusal : Option Error
+  pub is_refusal : IsWholeRefusal bytes refusal
+  pub said : Appends err_old err_new (foreign_said file bytes refusal)

@@ -1,0 +1,20 @@
+-- What is told of the signature of an image.
+use Rattle.std.specs.Prelude.{◌≡◌, ◌-◌, ◌^◌, List, map, take, length, min, Option, Some, None, Result, Ok, Err}
+use Rattle.mach_base.specs.Fault.{Fault, fault_of}
+use Rattle.mach_signature.specs.AsSigned.{SignatureFaultSeen}
+use Rattle.mach_signature.specs.FaultViews.{signature_fault_view}
+use Rattle.goblin_mach.specs.View.{IsTold}
+use Rattle.machaudit.specs.declared.report.SignaturePart.{SignaturePart}
+use Rattle.machaudit.specs.declared.report.SignatureReport.{SignatureReport}
+use Rattle.machaudit.specs.declared.report.SignatureReport.TheVariants.{Unsigned, Unreadable, Signed}
+
+-- A part tells the first ten of these faults, and how many they are, or the greatest number where they are more than that.
+pub record TellsSignatureFaults {A : Type 0} (faults : List SignatureFaultSeen) (p : SignaturePart A) : Type 0 where
+  pub told : map signature_fault_view p.told.items ≡ take 10 faults
+  pub count : p.faults ≡ min (length faults) (2 ^ 64 - 1)
+
+-- What is told of a signature: that there is none; why it can't be read; or its faults.
+abbrev pub TellsSignature : {A : Type 0} → Result (Option (List SignatureFaultSeen)) Fault → SignatureReport A → Type 0
+TellsSignature there Unsigned = there ≡ Ok None
+TellsSignature there (Unreadable e) = IsTold e × (there ≡ Err (fault_of e))
+TellsSignature there (Signed p) = (faults : List SignatureFaultSeen) × (there ≡ Ok (Some faults)) × TellsSignatureFaults faults p

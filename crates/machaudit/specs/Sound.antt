@@ -1,0 +1,137 @@
+-- When a file is sound: everything in it opens and can be read.
+use Rattle.std.specs.Prelude.{◌≡◌, ◌<◌, ◌++◌, ◌∷◌, ℕ, Bool, IsTrue, is_ok, List, [], map, length, Result, Ok, Err, IsOk, None}
+use Rattle.std.specs.List.{list_all, flat_map}
+use Rattle.mach_base.specs.Fault.{Fault}
+use Rattle.mach_base.specs.declared.context.Ctx.{Ctx}
+use Rattle.mach_load.specs.Command.{Command}
+use Rattle.mach_dyld.specs.Imports.{Import}
+use Rattle.mach_dyld.specs.Trie as trie
+use Rattle.mach_dyld.specs.TrieRange.{TrieRange, trie_there, ListsExports, ExportsFault, ExportsEnd}
+use Rattle.mach_dyld.specs.Unfolds.{Ahead, Unfolds, AreReadOnce}
+use Rattle.mach_chained.specs.Fixups.{Fixup}
+use Rattle.mach_parts.specs.Bindings.{Binding}
+use Rattle.mach_parts.specs.Relocation.{relocations_at}
+use Rattle.mach_parts.specs.Segment.{SegmentView, sections_of}
+use Rattle.mach_parts.specs.declared.relocation.RelocationInfo.{RelocationInfo}
+use Rattle.mach_parts.specs.declared.segment.section.Section.{Section}
+use Rattle.mach_parts.specs.declared.symbols.nlist.Nlist.{Nlist}
+use Rattle.mach_parts.specs.ArchForms.{arch_form_32}
+use Rattle.mach_layout.specs.Containers.{AreContainerFaults}
+use Rattle.goblin_mach.specs.LayoutFacts.{HasLayoutFaults}
+use Rattle.mach_signature.specs.SignedImages.{signature_place_in, IsImageAsSigned}
+use Rattle.goblin_mach.specs.Facts.{OfImage, HasSegments, HasSymbols, HasExports, HasImports, HasImportItems, HasFixups, HasBindings}
+use Rattle.goblin_mach.specs.FatEntry.{FatEntry, archive, image, entry_at}
+use Rattle.goblin_mach.specs.FatFile.{FatFile, fat_file_in, arches_in}
+use Rattle.goblin_mach.specs.Image.{Opens}
+use Rattle.goblin_mach.specs.File.{HasFatMagic}
+use Rattle.goblin_mach.specs.Subjects.{lossy_segments_in, libs_in, trie_in, trie_or_empty}
+
+-- whether every item of a list is there, and none is a fault
+abbrev pub are_all_ok : {X : Type 0} → List (Result X Fault) → Bool
+are_all_ok items = list_all is_ok items
+
+-- the sections of some segments, one after the other, each with its data or why it isn't there
+abbrev pub all_sections : List SegmentView → List (Result (Section × List ℕ) Fault)
+all_sections segments = flat_map sections_of segments
+
+-- the relocations of a section that is there
+abbrev pub relocations_by : Ctx → List ℕ → Result (Section × List ℕ) Fault → List (Result RelocationInfo Fault)
+relocations_by ctx bytes (Ok found) = relocations_at ctx.le bytes found.0.reloff found.0.nreloc
+relocations_by ctx bytes (Err f) = []
+
+-- those of all sections of some segments, one after the other
+abbrev pub all_relocations : Ctx → List ℕ → List SegmentView → List (Result RelocationInfo Fault)
+all_relocations ctx bytes segments = flat_map (λ s. flat_map (relocations_by ctx bytes) (sections_of s)) segments
+
+-- the relocations of an image, those of all its sections
+abbrev pub HasAllRelocations : List ℕ → ℕ → List (Result RelocationInfo Fault) → Type 0
+HasAllRelocations bytes o items = OfImage bytes o (λ ctx cs. items ≡ all_relocations ctx bytes (lossy_segments_in ctx bytes cs))
+
+-- These exports are met first in a walk of a trie from this root on, by nodes of which no two are one.
+pub record WalkMeets (t : trie.Trie) (root : ℕ) (found : List trie.Entry) : Type 0 where
+  pub nodes : ℕ
+  pub left : List Ahead
+  pub read : Unfolds t root nodes found left
+  pub once : AreReadOnce t root nodes
+
+-- What is met of the exports of a trie, up to more than `limit`: all of them; or those before the fault for which a walk of it ends, and that fault; or
+-- more than `limit` that a walk meets first.
+pub data AreExportItems (limit : ℕ) (t : TrieRange) (libs : List (List ℕ)) : List (Result trie.Entry Fault) → Type 0 where
+  all_exports : (list : List trie.Entry) → ListsExports t libs list → AreExportItems limit t libs (map Ok list)
+  up_to_fault : (found : List trie.Entry) (f : Fault) → ExportsEnd t libs found f → ExportsFault t libs f
+      → AreExportItems limit t libs (map Ok found ++ Err f ∷ [])
+  past_limit : (found : List trie.Entry) → WalkMeets (trie_there t libs) t.from found → limit < length found → AreExportItems limit t libs (map Ok found)
+
+-- what is met of the exports of an image
+abbrev pub HasExportItems : ℕ → List ℕ → ℕ → List (Result trie.Entry Fault) → Type 0
+HasExportItems limit bytes o items = OfImage bytes o (λ ctx cs. AreExportItems limit (trie_or_empty (trie_in bytes cs)) (libs_in bytes cs) items)
+
+-- No command of an image brings a signature, or the image is as it was signed.
+pub data IsSoundlySigned (bytes : List ℕ) (cs : List Command) (segments : List SegmentView) : Type 0 where
+  unsigned : signature_place_in cs ≡ None → IsSoundlySigned bytes cs segments
+  as_signed : IsImageAsSigned bytes cs segments → IsSoundlySigned bytes cs segments
+
+-- so it is with the image at a place
+abbrev pub HasSoundSignature : List ℕ → ℕ → Type 0
+HasSoundSignature bytes o = OfImage bytes o (λ ctx cs. IsSoundlySigned bytes cs (lossy_segments_in ctx bytes cs))
+
+-- The image at 0 opens strictly, so that its segments have their data; its layout has no fault; it has no signature, or is as it was signed; the sections of
+-- all its segments, all its relocations and all its symbols can be read; its exports and its imports have lists; and all fixups of its chains are there, and
+-- all that dyld binds of it by the opcodes of the non-lazy and the lazy range and by chains. That its layout has no fault says, too, that its rebases by
+-- opcodes, its weak binds and its function starts can be read to their ends (`AreListFaults`), and that no data in code share bytes with the entry before or
+-- lie in front of what may be executed or behind it. Nothing is said of who signed it.
+pub record IsSoundImage (bytes : List ℕ) : Type 0 where
+  pub opens : Opens bytes 0
+  pub layout : HasLayoutFaults bytes []
+  pub signature : HasSoundSignature bytes 0
+  pub sections : (segments : List SegmentView) × HasSegments bytes 0 segments × IsTrue (are_all_ok (all_sections segments))
+  pub relocations : (items : List (Result RelocationInfo Fault)) × HasAllRelocations bytes 0 items × IsTrue (are_all_ok items)
+  pub symbols : (rows : List (Result (List ℕ × Nlist) Fault)) × HasSymbols bytes 0 rows × IsTrue (are_all_ok rows)
+  pub exports : (list : List trie.Entry) × HasExports bytes 0 list
+  pub imports : (list : List Import) × HasImports bytes 0 list
+  pub fixups : (items : List (Result Fixup Fault)) × HasFixups bytes 0 items × IsTrue (are_all_ok items)
+  pub bindings : (items : List (Result Binding Fault)) × HasBindings bytes 0 items × IsTrue (are_all_ok items)
+
+-- A list of the image at 0 has more than `limit` items: one of those of its sections, its relocations, and so on. The items of a list count with the
+-- fault that ends it.
+pub data HasLongList (limit : ℕ) (bytes : List ℕ) : Type 0 where
+  of_sections : (segments : List SegmentView) → HasSegments bytes 0 segments → limit < length (all_sections segments) → HasLongList limit bytes
+  of_relocations : (items : List (Result RelocationInfo Fault)) → HasAllRelocations bytes 0 items → limit < length items → HasLongList limit bytes
+  of_symbols : (rows : List (Result (List ℕ × Nlist) Fault)) → HasSymbols bytes 0 rows → limit < length rows → HasLongList limit bytes
+  of_exports : (items : List (Result trie.Entry Fault)) → HasExportItems limit bytes 0 items → limit < length items → HasLongList limit bytes
+  of_imports : (items : List (Result Import Fault)) → HasImportItems bytes 0 items → limit < length items → HasLongList limit bytes
+  of_fixups : (items : List (Result Fixup Fault)) → HasFixups bytes 0 items → limit < length items → HasLongList limit bytes
+  of_bindings : (items : List (Result Binding Fault)) → HasBindings bytes 0 items → limit < length items → HasLongList limit bytes
+
+-- an entry of a fat file is an archive, or an image that is sound
+abbrev pub IsSoundEntry : Result FatEntry Fault → Type 0
+IsSoundEntry (Ok (archive bytes)) = Unit {0}
+IsSoundEntry (Ok (image bytes)) = IsSoundImage bytes
+IsSoundEntry (Err f) = ⊥
+
+-- an entry is an image with a list of more than `limit` items
+abbrev pub IsLongEntry : ℕ → Result FatEntry Fault → Type 0
+IsLongEntry limit (Ok (archive bytes)) = ⊥
+IsLongEntry limit (Ok (image bytes)) = HasLongList limit bytes
+IsLongEntry limit (Err f) = ⊥
+
+-- a fat file has an entry, its table can be read, and all its entries are sound
+pub record IsSoundFat (file : FatFile) : Type 0 where
+  pub some : 0 < file.narches
+  pub table : IsOk (arches_in file)
+  pub entries : (k : ℕ) → k < file.narches → IsSoundEntry (entry_at file k)
+
+-- a fat file has more than `limit` entries, or one of them a list of more items
+pub data IsLongFat (limit : ℕ) (file : FatFile) : Type 0 where
+  of_entries : limit < file.narches → IsLongFat limit file
+  of_entry : (k : ℕ) → k < file.narches → IsLongEntry limit (entry_at file k) → IsLongFat limit file
+
+-- The file is an image that is sound, or a fat file that is, whose table has no fault.
+pub data IsSound (bytes : List ℕ) : Type 0 where
+  one_image : IsSoundImage bytes → IsSound bytes
+  fat_file : (file : FatFile) → HasFatMagic bytes → fat_file_in bytes ≡ Ok file → AreContainerFaults arch_form_32 bytes [] → IsSoundFat file → IsSound bytes
+
+-- The file has a list of more than `limit` items.
+pub data IsLong (limit : ℕ) (bytes : List ℕ) : Type 0 where
+  of_image : HasLongList limit bytes → IsLong limit bytes
+  of_fat : (file : FatFile) → HasFatMagic bytes → fat_file_in bytes ≡ Ok file → IsLongFat limit file → IsLong limit bytes

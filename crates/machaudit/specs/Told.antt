@@ -1,0 +1,82 @@
+-- What is told of a list: of its first items those that can't be read, each by its place.
+use Rattle.std.specs.Prelude.{◌≡◌, ◌<◌, ◌+◌, ◌-◌, ◌^◌, ◌++◌, ◌∷◌, ℕ, Bool, false, true, List, [], map, take, length, Option, Some, None, Result, Ok, Err}
+use Rattle.std.specs.Prelude.{nat_lt}
+use Rattle.std.specs.List.{filter_map}
+use Rattle.mach_base.specs.Fault.{Fault, fault_of}
+use Rattle.mach_base.specs.declared.context.Ctx.{Ctx}
+use Rattle.mach_parts.specs.declared.relocation.RelocationInfo.{RelocationInfo}
+use Rattle.mach_parts.specs.Segment.{SegmentView, sections_of}
+use Rattle.mach_dyld.specs.TrieRange.{TrieRange}
+use Rattle.mach_dyld.specs.Trie as trie
+use Rattle.machaudit.specs.Sound.{relocations_by, AreExportItems}
+use Rattle.machaudit.specs.declared.report.Finding.{Finding}
+use Rattle.machaudit.specs.declared.report.Part.{Part}
+use Rattle.machaudit.specs.declared.report.Place.{Place}
+use Rattle.machaudit.specs.declared.report.Place.TheVariants as places
+use Rattle.machaudit.specs.declared.tally.Tally.{Tally}
+
+-- where an item stands that can't be read, and why it can't
+abbrev pub FaultAt : Type 0
+FaultAt = Place × Fault
+
+-- that of an item at a place, if it can't be read
+abbrev pub fault_read_at : {X : Type 0} → Place → Result X Fault → Option FaultAt
+fault_read_at place (Ok x) = None
+fault_read_at place (Err f) = Some (place, f)
+
+-- that of each item, where the first has this number
+abbrev pub faults_from : {X : Type 0} → (ℕ → Place) → ℕ → List (Result X Fault) → List (Option FaultAt)
+faults_from place n [] = []
+faults_from place n (item ∷ items) = fault_read_at (place n) item ∷ faults_from place (n + 1) items
+
+-- those of several lists, where the first has this number
+abbrev pub faults_each : {X : Type 0} → (ℕ → X → List (Option FaultAt)) → ℕ → List X → List (Option FaultAt)
+faults_each part n [] = []
+faults_each part n (x ∷ xs) = part n x ++ faults_each part (n + 1) xs
+
+-- those of the sections of all segments
+abbrev pub section_faults_told : List SegmentView → List (Option FaultAt)
+section_faults_told segments = faults_each (λ n s. faults_from (places.Section n) 0 (sections_of s)) 0 segments
+
+-- those of the relocations of the sections of a segment
+abbrev pub relocation_faults_by : {S : Type 0} → (S → List (Result RelocationInfo Fault)) → ℕ → List S → List (Option FaultAt)
+relocation_faults_by relocations n sections = faults_each (λ k s. faults_from (places.Relocation n k) 0 (relocations s)) 0 sections
+
+-- and of all segments
+abbrev pub relocation_faults : Ctx → List ℕ → List SegmentView → List (Option FaultAt)
+relocation_faults ctx bytes segments = faults_each (λ n s. relocation_faults_by (relocations_by ctx bytes) n (sections_of s)) 0 segments
+
+-- the faults that stand, in order
+abbrev pub faults_of : List (Option FaultAt) → List FaultAt
+faults_of items = filter_map (λ item. item) items
+
+-- the fault that is told
+abbrev pub fault_told : Finding → FaultAt
+fault_told finding = (finding.place, fault_of finding.error)
+
+-- A part tells the first ten of these faults, and how many they are.
+pub record TellsFirstFaults {A : Type 0} (faults : List FaultAt) (p : Part A) : Type 0 where
+  pub told : map fault_told p.told.items ≡ take 10 faults
+  pub count : p.faults ≡ length faults
+
+-- A part tells what can't be read among the first `limit` items, and whether there are more items than that.
+pub record TellsOf {A : Type 0} (limit : ℕ) (items : List (Option FaultAt)) (p : Part A) : Type 0 where
+  pub faults : TellsFirstFaults (faults_of (take limit items)) p
+  pub cut : p.cut ≡ nat_lt limit (length items)
+
+-- A count has met these items, of which at most `limit` are gone over.
+pub record HasMet {A : Type 0} (limit : ℕ) (items : List (Option FaultAt)) (t : Tally A) : Type 0 where
+  pub small : limit < 2 ^ 64
+  pub left : t.left ≡ limit - length items
+  pub tells : TellsOf limit items t.part
+
+-- A part tells of the exports of a trie: of those that were met before it had more than `limit`.
+pub record TellsOfTrie {A : Type 0} (limit : ℕ) (t : TrieRange) (libs : List (List ℕ)) (p : Part A) : Type 0 where
+  pub items : List (Result trie.Entry Fault)
+  pub met : AreExportItems limit t libs items
+  pub tells : TellsOf limit (faults_from places.Export 0 items) p
+
+-- What is told of the relocations: that they were not read, where the sections have a fault or too many items; else the relocations.
+abbrev pub TellsRelocations : {A : Type 0} → ℕ → List (Option FaultAt) → (clean : Bool) → Option (Part A) → Type 0
+TellsRelocations limit items clean None = clean ≡ false
+TellsRelocations limit items clean (Some p) = (clean ≡ true) × TellsOf limit items p

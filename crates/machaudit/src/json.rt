@@ -1,0 +1,281 @@
+//! An audit as JSON: one object a file. docs/AUDIT.md has its form.
+
+ghost use Rattle.std.specs.Prelude.{◌≡◌};
+
+use crate::layout_text::Counts;
+use crate::report::{
+    EntryReport, FatReport, Finding, ImageReport, Part, Parts, Report, SignaturePart,
+    SignatureReport,
+};
+use crate::signature_text::said_of;
+use crate::verdict::Verdict;
+use goblin_mach::{Error, describe};
+use mach_layout::{Evidence, LayoutFault};
+use mach_signature::{SignatureFault, SlotName};
+use serde_json::{Value, json};
+use std::alloc::{AllocError, Allocator, Global};
+
+// A fault: what kind it is, where it stands, whose it is, and its words.
+fn fault_value(
+    alloc: Global,
+    kind: &str,
+    place: &str,
+    owner: &str,
+    words: &str,
+) -> Result<Value, AllocError> {
+    json!(in alloc; {"kind": kind, "place": place, "owner": owner, "words": words})
+}
+
+// Why something can't be read.
+fn error_value(
+    alloc: Global,
+    owner: &str,
+    place: &str,
+    error: &Error,
+) -> Result<Value, AllocError> {
+    let words = format!(in alloc; "{}", describe(error))?;
+    fault_value(alloc, "unreadable", place, owner, words.as_str())
+}
+
+// A part with its faults, how many more there are, and whether the limit was met.
+fn part_value(
+    alloc: Global,
+    name: &str,
+    faults: Vec<Value>,
+    more: usize,
+    cut: bool,
+) -> Result<Value, AllocError> {
+    let ok = faults.is_empty() && !cut;
+    let faults = Value::Array(faults);
+    let more = more as u64;
+    json!(in alloc; {"part": name, "ok": ok, "faults": faults, "more": more, "limit_met": cut})
+}
+
+// The faults that are told of a part.
+fn findings(alloc: Global, name: &str, told: &[Finding]) -> Result<Vec<Value>, AllocError> {
+    let mut faults = Vec::new(alloc);
+    for finding in told {
+        let place = finding.place;
+        let place = format!(in alloc; "{place}")?;
+        faults.push(error_value(alloc, name, place.as_str(), &finding.error)?)?;
+    }
+    Ok(faults)
+}
+
+// Adds a part of an image.
+fn add_part<A: Allocator>(
+    alloc: Global,
+    values: &mut Vec<Value>,
+    name: &str,
+    part: &Part<A>,
+) -> Result<(), AllocError> {
+    let told = part.told.as_slice();
+    let faults = findings(alloc, name, told)?;
+    let more = part.faults.saturating_sub(told.len());
+    values.push(part_value(alloc, name, faults, more, part.cut)?)?;
+    Ok(())
+}
+
+// Adds a part that an error alone is said of, if one is.
+fn add_refusal(
+    alloc: Global,
+    values: &mut Vec<Value>,
+    name: &str,
+    error: Option<&Error>,
+) -> Result<(), AllocError> {
+    let mut faults = Vec::new(alloc);
+    if let Some(error) = error {
+        faults.push(error_value(alloc, name, "", error)?)?;
+    }
+    values.push(part_value(alloc, name, faults, 0, false)?)?;
+    Ok(())
+}
+
+// A fault of layout.
+fn layout_value(alloc: Global, fault: LayoutFault) -> Result<Value, AllocError> {
+    let place = format!(in alloc; "0x{:x}", fault.owner.command)?;
+    let owner = format!(in alloc; "{}", fault.owner)?;
+    let words = format!(in alloc; "{}", Evidence(fault))?;
+    fault_value(
+        alloc,
+        fault.rule.words(),
+        place.as_str(),
+        owner.as_str(),
+        words.as_str(),
+    )
+}
+
+// Adds a part whose faults are those of layout, of each rule the first ten.
+fn add_layout(
+    alloc: Global,
+    values: &mut Vec<Value>,
+    name: &str,
+    faults: &[LayoutFault],
+) -> Result<(), AllocError> {
+    let mut counts = Counts::new();
+    let mut told = Vec::new(alloc);
+    for fault in faults {
+        if counts.is_told(fault.rule) {
+            told.push(layout_value(alloc, *fault)?)?;
+        }
+    }
+    let more = faults.len().saturating_sub(told.len());
+    values.push(part_value(alloc, name, told, more, false)?)?;
+    Ok(())
+}
+
+// Whose a fault of a signature is: the directory of a slot, or the signature itself.
+fn signature_owner(alloc: Global, slot: Option<u32>) -> Result<String, AllocError> {
+    match slot {
+        Some(slot) => {
+            let name = SlotName(slot);
+            format!(in alloc; "{name}")
+        }
+        None => String::from_str(alloc, "signature"),
+    }
+}
+
+// A fault of a signature.
+fn signature_value(alloc: Global, fault: &SignatureFault) -> Result<Value, AllocError> {
+    let said = said_of(fault);
+    let place = said.place;
+    let place = format!(in alloc; "{place}")?;
+    let owner = signature_owner(alloc, said.slot)?;
+    let words = format!(in alloc; "{fault}")?;
+    fault_value(
+        alloc,
+        said.kind,
+        place.as_str(),
+        owner.as_str(),
+        words.as_str(),
+    )
+}
+
+// Adds the part of a signature that can be read.
+fn add_signed<A: Allocator>(
+    alloc: Global,
+    values: &mut Vec<Value>,
+    part: &SignaturePart<A>,
+) -> Result<(), AllocError> {
+    let mut told = Vec::new(alloc);
+    for fault in part.told.as_slice() {
+        told.push(signature_value(alloc, fault)?)?;
+    }
+    let more = part.faults.saturating_sub(told.len());
+    values.push(part_value(alloc, "signature", told, more, false)?)?;
+    Ok(())
+}
+
+// Adds the part of the signature, if there is one.
+fn add_signature<A: Allocator>(
+    alloc: Global,
+    values: &mut Vec<Value>,
+    signature: &SignatureReport<A>,
+) -> Result<(), AllocError> {
+    match signature {
+        SignatureReport::Unsigned => Ok(()),
+        SignatureReport::Unreadable(error) => {
+            add_refusal(alloc, values, "signature", Some(error))
+        }
+        SignatureReport::Signed(part) => add_signed(alloc, values, part),
+    }
+}
+
+// Adds all parts of an image. Relocations that were not read are left out, and so is a signature that isn't there.
+fn add_parts<A: Allocator>(
+    alloc: Global,
+    values: &mut Vec<Value>,
+    parts: &Parts<A>,
+) -> Result<(), AllocError> {
+    add_part(alloc, values, "sections", &parts.sections)?;
+    if let Some(part) = &parts.relocations {
+        add_part(alloc, values, "relocations", part)?;
+    }
+    add_part(alloc, values, "symbols", &parts.symbols)?;
+    add_part(alloc, values, "exports", &parts.exports)?;
+    add_part(alloc, values, "imports", &parts.imports)?;
+    add_part(alloc, values, "fixups", &parts.fixups)?;
+    add_part(alloc, values, "bindings", &parts.bindings)?;
+    add_signature(alloc, values, &parts.signature)?;
+    add_layout(alloc, values, "layout", parts.layout.as_slice())
+}
+
+// An image: how it opens, and its parts.
+fn image_value<A: Allocator>(alloc: Global, image: &ImageReport<A>) -> Result<Value, AllocError> {
+    let mut values = Vec::new(alloc);
+    let opens = match image {
+        ImageReport::Opens(parts) => {
+            add_refusal(alloc, &mut values, "opens", None)?;
+            add_parts(alloc, &mut values, parts)?;
+            "strictly"
+        }
+        ImageReport::OpensLossily(error, parts) => {
+            add_refusal(alloc, &mut values, "opens", Some(error))?;
+            add_parts(alloc, &mut values, parts)?;
+            "lossily"
+        }
+        ImageReport::Refused(error) => {
+            add_refusal(alloc, &mut values, "opens", Some(error))?;
+            "no"
+        }
+    };
+    let parts = Value::Array(values);
+    json!(in alloc; {"kind": "image", "opens": opens, "parts": parts})
+}
+
+// An entry of a fat file.
+fn entry_value<A: Allocator>(alloc: Global, entry: &EntryReport<A>) -> Result<Value, AllocError> {
+    match entry {
+        EntryReport::Archive => json!(in alloc; {"kind": "archive"}),
+        EntryReport::Image(image) => image_value(alloc, image),
+    }
+}
+
+// The images of a file: its entries, or itself.
+fn images<A: Allocator>(alloc: Global, report: &Report<A>) -> Result<Vec<Value>, AllocError> {
+    let mut values = Vec::new(alloc);
+    match report {
+        Report::Image(image) => values.push(image_value(alloc, image)?)?,
+        Report::Fat(fat) => {
+            for entry in fat.entries.as_slice() {
+                values.push(entry_value(alloc, entry)?)?;
+            }
+        }
+    }
+    Ok(values)
+}
+
+// The parts of a fat file's table.
+fn container<A: Allocator>(alloc: Global, fat: &FatReport<A>) -> Result<Vec<Value>, AllocError> {
+    let mut values = Vec::new(alloc);
+    match &fat.table {
+        Some(error) => add_refusal(alloc, &mut values, "table", Some(error))?,
+        None => add_layout(alloc, &mut values, "table", fat.container.as_slice())?,
+    }
+    let mut faults = Vec::new(alloc);
+    if fat.count == 0 {
+        faults.push(fault_value(alloc, "empty", "", "entries", "no image")?)?;
+    }
+    values.push(part_value(alloc, "entries", faults, 0, fat.cut)?)?;
+    Ok(values)
+}
+
+/// The object of a file: its name, whether it is sound, what it is, and what is said of its images.
+pub fn report_value<A: Allocator>(
+    alloc: Global,
+    name: &str,
+    report: &Report<A>,
+) -> Result<Value, AllocError> {
+    let verdict = report.verdict();
+    let sound = verdict == Verdict::Sound;
+    let limit_met = verdict == Verdict::Unended;
+    let images = Value::Array(images(alloc, report)?);
+    let (kind, container) = match report {
+        Report::Image(_) => ("image", Vec::new(alloc)),
+        Report::Fat(fat) => ("fat file", container(alloc, fat)?),
+    };
+    let container = Value::Array(container);
+    json!(in alloc; {
+        "name": name, "sound": sound, "limit_met": limit_met, "kind": kind, "container": container, "images": images
+    })
+}

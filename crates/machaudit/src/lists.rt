@@ -1,0 +1,260 @@
+//! The lists of an image, one item at a time. None is kept.
+
+ghost use Rattle.std.specs.Prelude.{◌++◌, ℕ, List, Option, IfOk, IfErr, OnOk, map, ◌≡◌};
+ghost use Rattle.mach_dyld.specs.BindLeft.{imports_left};
+ghost use Rattle.mach_base.specs.Text.{texts};
+ghost use Rattle.mach_parts.specs.RelocationItems.{relocations_left};
+ghost use Rattle.mach_parts.specs.SectionItems.{sections_left, section_read};
+ghost use Rattle.mach_parts.specs.Segment.{segment_view};
+ghost use Rattle.mach_parts.specs.SymbolViews.{symbols_left};
+ghost use Rattle.goblin_mach.specs.BindingsLeft.{bindings_left};
+ghost use Rattle.goblin_mach.specs.FixupsLeft.{image_fixups_left};
+ghost use Rattle.goblin_mach.specs.OpenImage.{trie_held};
+ghost use Rattle.goblin_mach.specs.Subjects.{trie_or_empty};
+ghost use Rattle.machaudit.specs.Sound.{relocations_by};
+ghost use Rattle.machaudit.specs.Told.{FaultAt, HasMet, TellsOf, TellsOfTrie, faults_from, section_faults_told, relocation_faults, relocation_faults_by};
+ghost use Rattle.machaudit.specs.declared.report.Failure.TheVariants as failures;
+ghost use Rattle.machaudit.specs.declared.report.Place.TheVariants as places;
+
+use crate::report::{Failure, Part, Place, no_memory};
+use crate::tally::Tally;
+use goblin_mach::imports::BindIterator;
+use goblin_mach::segment::{RelocationIterator, Section, SectionData, SectionIterator, Segment};
+use goblin_mach::symbols::SymbolIterator;
+use goblin_mach::{BindingIterator, Ctx, FixupIterator, MachO};
+use std::alloc::Allocator;
+
+/// The sections of all segments, `limit` of them at most.
+pub fn audit_sections<A: Allocator>(
+    alloc: A,
+    segments: &[Segment<'_>],
+    limit: usize,
+) -> Result<Part<A>, Failure>
+    ensures told { IfOk result (TellsOf limit (section_faults_told (map segment_view segments.now))) }
+    ensures memory { IfErr result (λ failure. failure ≡ failures.Memory) }
+{
+    let mut tally = Tally::new(alloc, limit);
+    let mut number = 0usize;
+    for segment in segments {
+        add_sections(number, segment.into_iter(), &mut tally)?;
+        number = number.saturating_add(1);
+    }
+    Ok(tally.part())
+}
+
+// Adds the sections of a segment, which has this number.
+fn add_sections<A: Allocator>(
+    segment: usize,
+    sections: SectionIterator<'_>,
+    tally: &mut Tally<A>,
+) -> Result<(), Failure>
+    ensures told { OnOk result ((limit : ℕ) (items : List (Option FaultAt)) → HasMet limit items tally.old
+        → HasMet limit (items ++ faults_from (places.Section segment) 0 (sections_left sections.entry)) tally.new) }
+    ensures memory { IfErr result (λ failure. failure ≡ failures.Memory) }
+{
+    let mut index = 0usize;
+    'sections: for section in sections {
+        if !tally.take(Place::Section { segment, index }, section.err())? {
+            return Ok(());
+        }
+        index = index.saturating_add(1);
+    }
+    Ok(())
+}
+
+/// The relocations of all sections, `limit` of them at most.
+pub fn audit_relocations<A: Allocator>(
+    alloc: A,
+    bytes: &[u8],
+    ctx: Ctx,
+    segments: &[Segment<'_>],
+    limit: usize,
+) -> Result<Part<A>, Failure>
+    ensures told { IfOk result (TellsOf limit (relocation_faults ctx bytes.now (map segment_view segments.now))) }
+    ensures memory { IfErr result (λ failure. failure ≡ failures.Memory) }
+{
+    let mut tally = Tally::new(alloc, limit);
+    let mut number = 0usize;
+    for segment in segments {
+        add_relocations(bytes, ctx, number, segment.into_iter(), &mut tally)?;
+        number = number.saturating_add(1);
+    }
+    Ok(tally.part())
+}
+
+// Adds the relocations of the sections of a segment, which has this number.
+fn add_relocations<A: Allocator>(
+    bytes: &[u8],
+    ctx: Ctx,
+    segment: usize,
+    sections: SectionIterator<'_>,
+    tally: &mut Tally<A>,
+) -> Result<(), Failure>
+    ensures told { OnOk result ((limit : ℕ) (items : List (Option FaultAt)) → HasMet limit items tally.old
+        → HasMet limit (items ++ relocation_faults_by (relocations_by ctx bytes.now) segment (sections_left sections.entry)) tally.new) }
+    ensures memory { IfErr result (λ failure. failure ≡ failures.Memory) }
+{
+    let mut section = 0usize;
+    'sections: for item in sections {
+        add_relocations_by(bytes, ctx, (segment, section), &item, tally)?;
+        section = section.saturating_add(1);
+    }
+    Ok(())
+}
+
+// Adds the relocations of a section, if it can be read; it has these numbers.
+fn add_relocations_by<A: Allocator>(
+    bytes: &[u8],
+    ctx: Ctx,
+    numbers: (usize, usize),
+    item: &goblin_mach::Result<(Section, SectionData<'_>)>,
+    tally: &mut Tally<A>,
+) -> Result<(), Failure>
+    ensures told { OnOk result ((limit : ℕ) (items : List (Option FaultAt)) → HasMet limit items tally.old
+        → HasMet limit (items ++ faults_from (places.Relocation numbers.0 numbers.1) 0 (relocations_by ctx bytes.now (section_read item.now))) tally.new) }
+    ensures memory { IfErr result (λ failure. failure ≡ failures.Memory) }
+{
+    let Ok((section, _)) = item else {
+        return Ok(());
+    };
+    let relocations = section.iter_relocations(bytes, ctx);
+    add_relocations_of(numbers.0, numbers.1, relocations, tally)
+}
+
+// Adds the relocations of one section.
+fn add_relocations_of<A: Allocator>(
+    segment: usize,
+    section: usize,
+    relocations: RelocationIterator<'_>,
+    tally: &mut Tally<A>,
+) -> Result<(), Failure>
+    ensures told { OnOk result ((limit : ℕ) (items : List (Option FaultAt)) → HasMet limit items tally.old
+        → HasMet limit (items ++ faults_from (places.Relocation segment section) 0 (relocations_left relocations.entry)) tally.new) }
+    ensures memory { IfErr result (λ failure. failure ≡ failures.Memory) }
+{
+    let mut index = 0usize;
+    'relocations: for relocation in relocations {
+        let place = Place::Relocation {
+            segment,
+            section,
+            index,
+        };
+        if !tally.take(place, relocation.err())? {
+            return Ok(());
+        }
+        index = index.saturating_add(1);
+    }
+    Ok(())
+}
+
+/// The exports of the trie, `limit` of them at most, up to the first fault.
+pub fn audit_exports<A: Allocator, B: Allocator + Clone>(
+    alloc: B,
+    image: &MachO<'_, A>,
+    limit: usize,
+) -> Result<Part<B>, Failure>
+    ensures told { IfOk result (TellsOfTrie limit (trie_or_empty (trie_held image.now)) (texts image.now.libs.items)) }
+    ensures memory { IfErr result (λ failure. failure ≡ failures.Memory) }
+{
+    let mut tally = Tally::new(alloc.clone()?, limit);
+    let Ok(mut walk) = image.walk_exports(alloc) else {
+        return Err(Failure::Memory);
+    };
+    let mut index = 0usize;
+    'exports: while let Some(export) = walk.next() {
+        let place = Place::Export(index);
+        match export {
+            Err(error) => {
+                tally.take(place, Some(no_memory(error)?))?;
+                return Ok(tally.part());
+            }
+            Ok(_) => {
+                if !tally.take(place, None)? {
+                    return Ok(tally.part());
+                }
+            }
+        }
+        index = index.saturating_add(1);
+    }
+    Ok(tally.part())
+}
+
+/// The symbols, `limit` of them at most.
+pub fn audit_symbols<A: Allocator>(
+    alloc: A,
+    symbols: SymbolIterator<'_>,
+    limit: usize,
+) -> Result<Part<A>, Failure>
+    ensures told { IfOk result (TellsOf limit (faults_from places.Symbol 0 (symbols_left symbols.entry))) }
+    ensures memory { IfErr result (λ failure. failure ≡ failures.Memory) }
+{
+    let mut tally = Tally::new(alloc, limit);
+    let mut index = 0usize;
+    'symbols: for symbol in symbols {
+        if !tally.take(Place::Symbol(index), symbol.err())? {
+            return Ok(tally.part());
+        }
+        index = index.saturating_add(1);
+    }
+    Ok(tally.part())
+}
+
+/// The imports of the opcodes, `limit` of them at most, up to the first fault.
+pub fn audit_imports<A: Allocator>(
+    alloc: A,
+    imports: BindIterator<'_, '_>,
+    limit: usize,
+) -> Result<Part<A>, Failure>
+    ensures told { IfOk result (TellsOf limit (faults_from places.Import 0 (imports_left imports.entry))) }
+    ensures memory { IfErr result (λ failure. failure ≡ failures.Memory) }
+{
+    let mut tally = Tally::new(alloc, limit);
+    let mut index = 0usize;
+    'imports: for import in imports {
+        if !tally.take(Place::Import(index), import.err())? {
+            return Ok(tally.part());
+        }
+        index = index.saturating_add(1);
+    }
+    Ok(tally.part())
+}
+
+/// The fixups of the chains, `limit` of them at most, up to the first fault.
+pub fn audit_fixups<A: Allocator>(
+    alloc: A,
+    fixups: FixupIterator<'_, '_>,
+    limit: usize,
+) -> Result<Part<A>, Failure>
+    ensures told { IfOk result (TellsOf limit (faults_from places.Fixup 0 (image_fixups_left fixups.entry))) }
+    ensures memory { IfErr result (λ failure. failure ≡ failures.Memory) }
+{
+    let mut tally = Tally::new(alloc, limit);
+    let mut index = 0usize;
+    'fixups: for fixup in fixups {
+        if !tally.take(Place::Fixup(index), fixup.err())? {
+            return Ok(tally.part());
+        }
+        index = index.saturating_add(1);
+    }
+    Ok(tally.part())
+}
+
+/// What dyld binds, by opcodes and by chains, `limit` bindings at most, up to the first fault.
+pub fn audit_bindings<A: Allocator>(
+    alloc: A,
+    bindings: BindingIterator<'_, '_>,
+    limit: usize,
+) -> Result<Part<A>, Failure>
+    ensures told { IfOk result (TellsOf limit (faults_from places.Binding 0 (bindings_left bindings.entry))) }
+    ensures memory { IfErr result (λ failure. failure ≡ failures.Memory) }
+{
+    let mut tally = Tally::new(alloc, limit);
+    let mut index = 0usize;
+    'bindings: for binding in bindings {
+        if !tally.take(Place::Binding(index), binding.err())? {
+            return Ok(tally.part());
+        }
+        index = index.saturating_add(1);
+    }
+    Ok(tally.part())
+}

@@ -1,0 +1,128 @@
+//! What the program prints, and its exit status.
+
+ghost use Rattle.std.specs.Prelude.{◌≡◌, ◌≤◌, ◌⊎◌, [], IfOk, OnOk};
+ghost use Rattle.std.specs.Io.Buffered.{writer_buffer};
+ghost use Rattle.std.specs.Io.KnownBytes.{Appends};
+ghost use Rattle.machaudit.specs.Sound.{IsSound, IsLong};
+ghost use Rattle.mach_cli.specs.Foreigners.{refused_kind};
+ghost use Rattle.machaudit.specs.Foreign.{SaysForeign, foreign_said, kind_said, refusal_in};
+ghost use Rattle.machaudit.specs.Verdicts.{status_of};
+
+use crate::audit::audit;
+use crate::json::report_value;
+use crate::options::{Format, Options};
+use crate::report::Report;
+use crate::text::print_report;
+use crate::verdict::Verdict;
+use goblin_mach::Error;
+use mach_cli::{Failure, Names, refused_kind};
+use std::alloc::{Allocator, Global};
+use std::io;
+use std::io::{BufWriter, Write};
+
+/// The program's name.
+pub const NAME: &str = "machaudit";
+
+/// How a file is reported.
+#[derive(Clone, Copy, Debug)]
+pub struct Call<'a> {
+    /// The options.
+    pub options: Options,
+    /// The file's name.
+    pub name: &'a str,
+    /// Whether its name is printed before its lines.
+    pub heading: bool,
+}
+
+/// Audits the bytes of a file, prints the report, and answers the exit status: 0 where the file is sound, and none of its lists
+/// is longer than the limit; 1 where it is not, or one is. What is printed has left the buffer then. Of a file that doesn't open, and
+/// is none of Mach-O's, `err` has a line that says what it is.
+pub fn run<A: Allocator + Clone, W: Write + Drop, B: Allocator, E: Write>(
+    alloc: &A,
+    json: Global,
+    call: Call<'_>,
+    bytes: &[u8],
+    out: &mut BufWriter<W, B>,
+    err: &mut E,
+) -> Result<u8, Failure>
+    ensures bounds { IfOk result (λ status. status ≤ 1) }
+    ensures sound { IfOk result (λ status. status ≡ 0 → IsSound bytes.now) }
+    ensures whole { IfOk result (λ status. status ≡ 0 → IsLong call.entry.options.limit bytes.now → ⊥) }
+    ensures faulty { IfOk result (λ status. status ≡ 1 → (IsSound bytes.now → ⊥) ⊎ IsLong call.entry.options.limit bytes.now) }
+    ensures flushed { OnOk result (writer_buffer out.new ≡ []) }
+    ensures said { OnOk result (SaysForeign call.entry.name.now bytes.now (E.contents err.old) (E.contents err.new)) }
+{
+    let Ok(report) = audit(alloc, bytes, call.options.limit) else {
+        return Err(Failure::Memory);
+    };
+    print(json, call, &report, out)?;
+    out.flush()?;
+    say_refusal(call.name, bytes, &report, err)?;
+    Ok(status(report.verdict()))
+}
+
+// Says what a file is, where it is refused as a whole, and is none of Mach-O's.
+fn say_refusal<A: Allocator, E: Write>(
+    file: &str,
+    bytes: &[u8],
+    report: &Report<A>,
+    err: &mut E,
+) -> io::Result<()>
+    ensures { OnOk result (Appends (E.contents err.old) (E.contents err.new) (foreign_said file.now bytes.now (refusal_in report.now))) }
+{
+    match report.refusal() {
+        Some(error) => say_foreign(file, bytes, error, err),
+        None => Ok(()),
+    }
+}
+
+// Says what a file is that is refused for an error, where it is none of Mach-O's.
+fn say_foreign<E: Write>(file: &str, bytes: &[u8], error: &Error, err: &mut E) -> io::Result<()>
+    ensures { OnOk result (Appends (E.contents err.old) (E.contents err.new) (kind_said file.now (refused_kind bytes.now error.now))) }
+{
+    let Some(kind) = refused_kind(bytes, error) else {
+        return Ok(());
+    };
+    let names = Names {
+        program: NAME,
+        file,
+    };
+    writeln!(err, "{names}: {kind}")
+}
+
+// The exit status of a verdict.
+fn status(verdict: Verdict) -> u8
+    ensures { result ≡ status_of verdict }
+{
+    match verdict {
+        Verdict::Sound => 0,
+        Verdict::Unended | Verdict::Faulty => 1,
+    }
+}
+
+// Prints the report of a file.
+fn print<A: Allocator, O: Write>(
+    json: Global,
+    call: Call<'_>,
+    report: &Report<A>,
+    out: &mut O,
+) -> Result<(), Failure> {
+    let name = call.name;
+    match call.options.format {
+        Format::Text => {
+            if call.heading {
+                writeln!(out, "{name}:")?;
+            }
+            print_report(report, out)?;
+        }
+        Format::Quiet => {
+            let verdict = report.verdict();
+            writeln!(out, "{name}: {verdict}")?;
+        }
+        Format::Json => {
+            let object = report_value(json, name, report)?.to_string(json)?;
+            writeln!(out, "{object}")?;
+        }
+    }
+    Ok(())
+}

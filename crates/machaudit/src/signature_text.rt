@@ -1,0 +1,145 @@
+//! The signature of an image in words.
+
+use crate::report::{SignaturePart, SignatureReport};
+use goblin_mach::describe;
+use mach_signature::{CodeFault, DirectoryFault, SignatureFault, SlotName, SpecialFault};
+use std::alloc::Allocator;
+use std::io::Write;
+use std::{fmt, io};
+
+/// What of a signature a fault is of.
+#[derive(Clone, Copy)]
+pub enum SignaturePlace {
+    /// All of it.
+    Whole,
+    /// The blob of this number.
+    Blob(u32),
+    /// The page of this number.
+    Page(u32),
+    /// What this special slot seals.
+    Special(u32),
+}
+
+impl fmt::Display for SignaturePlace {
+    fn fmt<W: fmt::Write>(&self, f: &mut fmt::Formatter<W>) -> fmt::Result {
+        match self {
+            SignaturePlace::Whole => Ok(()),
+            SignaturePlace::Blob(index) => write!(f, "blob {index}"),
+            SignaturePlace::Page(index) => write!(f, "page {index}"),
+            SignaturePlace::Special(slot) => {
+                let name = SlotName(*slot);
+                write!(f, "{name}")
+            }
+        }
+    }
+}
+
+/// A fault of a signature, as JSON tells it: its kind, whose it is, and where it stands.
+#[derive(Clone, Copy)]
+pub struct SignatureSaid {
+    pub kind: &'static str,
+    /// The slot of the directory that it is of, if it is one's.
+    pub slot: Option<u32>,
+    pub place: SignaturePlace,
+}
+
+/// How JSON tells a fault.
+pub fn said_of(fault: &SignatureFault) -> SignatureSaid {
+    match fault {
+        SignatureFault::Blob { index, error: _ } => SignatureSaid {
+            kind: "unreadable",
+            slot: None,
+            place: SignaturePlace::Blob(*index),
+        },
+        SignatureFault::Magic {
+            index,
+            slot: _,
+            magic: _,
+        } => SignatureSaid {
+            kind: "magic",
+            slot: None,
+            place: SignaturePlace::Blob(*index),
+        },
+        SignatureFault::Refused(_) => SignatureSaid {
+            kind: "unreadable",
+            slot: Some(0),
+            place: SignaturePlace::Whole,
+        },
+        SignatureFault::First(fault) => said_of_directory(0, fault),
+        SignatureFault::Alternate { slot, fault } => said_of_directory(*slot, fault),
+    }
+}
+
+// How a fault of the directory of a slot is told.
+fn said_of_directory(slot: u32, fault: &DirectoryFault) -> SignatureSaid {
+    let (kind, place) = match fault {
+        DirectoryFault::Identifier(_) | DirectoryFault::Team(_) => {
+            ("unreadable", SignaturePlace::Whole)
+        }
+        DirectoryFault::Short {
+            limit: _,
+            dataoff: _,
+        } => ("short", SignaturePlace::Whole),
+        DirectoryFault::Code(fault) => code_said(*fault),
+        DirectoryFault::Special(fault) => special_said(*fault),
+    };
+    SignatureSaid {
+        kind,
+        slot: Some(slot),
+        place,
+    }
+}
+
+// The kind and the place of a fault of the code.
+fn code_said(fault: CodeFault) -> (&'static str, SignaturePlace) {
+    match fault {
+        CodeFault::Scattered { place: _ } => ("scattered", SignaturePlace::Whole),
+        CodeFault::Limit { limit: _, len: _ } => ("limit", SignaturePlace::Whole),
+        CodeFault::Slots { slots: _, pages: _ } => ("slots", SignaturePlace::Whole),
+        CodeFault::Page {
+            index,
+            start: _,
+            end: _,
+        } => ("page", SignaturePlace::Page(index)),
+    }
+}
+
+// Those of a fault of a special slot.
+fn special_said(fault: SpecialFault) -> (&'static str, SignaturePlace) {
+    match fault {
+        SpecialFault::Unknown { slot } => ("unknown", SignaturePlace::Special(slot)),
+        SpecialFault::Unsealed { slot } => ("unsealed", SignaturePlace::Special(slot)),
+        SpecialFault::Changed { slot } => ("special", SignaturePlace::Special(slot)),
+        SpecialFault::Absent { slot } => ("absent", SignaturePlace::Special(slot)),
+    }
+}
+
+/// Prints what is said of the signature of an image.
+pub fn print_signature<A: Allocator, O: Write>(
+    signature: &SignatureReport<A>,
+    out: &mut O,
+) -> io::Result<()> {
+    match signature {
+        SignatureReport::Unsigned => writeln!(out, "  signature: none"),
+        SignatureReport::Unreadable(error) => {
+            let words = describe(error);
+            writeln!(out, "  signature: {words}")
+        }
+        SignatureReport::Signed(part) => print_signed(part, out),
+    }
+}
+
+// Prints the faults of a signature.
+fn print_signed<A: Allocator, O: Write>(part: &SignaturePart<A>, out: &mut O) -> io::Result<()> {
+    'told: for fault in part.told.as_slice() {
+        writeln!(out, "  signature: {fault}")?;
+    }
+    let more = part.faults.saturating_sub(part.told.len());
+    if more > 0 {
+        writeln!(out, "  signature: and {more} more")?;
+    }
+    if part.faults == 0 {
+        writeln!(out, "  signature: ok")?;
+    }
+    Ok(())
+}

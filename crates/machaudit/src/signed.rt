@@ -1,0 +1,68 @@
+//! The signature of an image, and what isn't as it was signed, one fault at a time. Ten are kept.
+
+ghost use Rattle.std.specs.Prelude.{◌≡◌, ◌++◌, ◌∷◌, [], List, IfOk, IfErr, OnOk};
+ghost use Rattle.goblin_mach.specs.OpenImage.{bytes_held, commands_held, segments_held};
+ghost use Rattle.mach_signature.specs.AsSigned.{SignatureFaultSeen};
+ghost use Rattle.mach_signature.specs.FaultViews.{signature_fault_view, signature_faults_left};
+ghost use Rattle.mach_signature.specs.SignedImages.{image_faults};
+ghost use Rattle.machaudit.specs.Signed.{TellsSignature, TellsSignatureFaults};
+ghost use Rattle.machaudit.specs.declared.report.Failure.TheVariants as failures;
+
+use crate::report::{Failure, SignaturePart, SignatureReport, no_memory};
+use crate::tally::MOST_TOLD;
+use goblin_mach::MachO;
+use mach_signature::image::signature_faults;
+use mach_signature::{SignatureFault, SignatureFaults};
+use std::alloc::Allocator;
+
+/// The signature of an image: that there is none, why it can't be read, or what isn't as it was signed.
+pub fn audit_signature<A: Allocator, B: Allocator>(
+    alloc: B,
+    image: &MachO<'_, A>,
+) -> Result<SignatureReport<B>, Failure>
+    ensures told { IfOk result (TellsSignature (image_faults (bytes_held image.now) (commands_held image.now) (segments_held image.now))) }
+    ensures memory { IfErr result (λ failure. failure ≡ failures.Memory) }
+{
+    match signature_faults(image) {
+        Ok(Some(faults)) => {
+            let part = audit_signed(alloc, faults)?;
+            Ok(SignatureReport::Signed(part))
+        }
+        Ok(None) => Ok(SignatureReport::Unsigned),
+        Err(error) => {
+            let error = no_memory(error)?;
+            Ok(SignatureReport::Unreadable(error))
+        }
+    }
+}
+
+// All faults of a signature.
+fn audit_signed<A: Allocator>(
+    alloc: A,
+    faults: SignatureFaults<'_>,
+) -> Result<SignaturePart<A>, Failure>
+    ensures told { IfOk result (TellsSignatureFaults (signature_faults_left faults.entry)) }
+    ensures memory { IfErr result (λ failure. failure ≡ failures.Memory) }
+{
+    let mut part = SignaturePart {
+        told: Vec::new(alloc),
+        faults: 0,
+    };
+    'faults: for fault in faults {
+        note(&mut part, fault)?;
+    }
+    Ok(part)
+}
+
+// Notes a fault: tells it, where it is one of the first.
+fn note<A: Allocator>(part: &mut SignaturePart<A>, fault: SignatureFault) -> Result<(), Failure>
+    ensures told { OnOk result ((faults : List SignatureFaultSeen) → TellsSignatureFaults faults part.old
+        → TellsSignatureFaults (faults ++ signature_fault_view fault ∷ []) part.new) }
+    ensures memory { IfErr result (λ failure. failure ≡ failures.Memory) }
+{
+    part.faults = part.faults.saturating_add(1);
+    if part.told.len() < MOST_TOLD {
+        part.told.push(fault)?;
+    }
+    Ok(())
+}

@@ -1,0 +1,80 @@
+//! A count of the items of a list that can't be read.
+
+ghost use Rattle.std.specs.Prelude.{◌≡◌, ◌<◌, ◌≤◌, ◌+◌, ◌^◌, ◌++◌, ◌∷◌, ℕ, List, [], length, IsTrue, false, true, IfOk, IfErr, OnOk, Option, option_map};
+ghost use Rattle.mach_base.specs.Fault.{fault_of};
+ghost use Rattle.machaudit.specs.declared.report.Failure.TheVariants as failures;
+ghost use Rattle.machaudit.specs.Told.{FaultAt, TellsFirstFaults, TellsOf, HasMet};
+
+use crate::report::{Failure, Finding, Part, Place};
+use goblin_mach::Error;
+use std::alloc::Allocator;
+
+/// So many faults of one part, or of one rule, are told; the others are counted.
+pub const MOST_TOLD: usize = 10;
+
+/// What was met so far of the lists of one part.
+#[derive(Drop)]
+pub struct Tally<A: Allocator> {
+    part: Part<A>,
+    left: usize,
+}
+
+impl<A: Allocator> Tally<A> {
+    /// A count of nothing yet, of at most `limit` items.
+    pub fn new(alloc: A, limit: usize) -> Tally<A>
+        ensures { HasMet limit [] result }
+    {
+        Tally {
+            part: Part {
+                told: Vec::new(alloc),
+                faults: 0,
+                cut: false,
+            },
+            left: limit,
+        }
+    }
+
+    /// Takes one item more, by why it can't be read, if it can't, and answers whether to go on: not where this is one more
+    /// than the limit. Want of memory is no fault of an item.
+    pub fn take(&mut self, place: Place, error: Option<Error>) -> Result<bool, Failure>
+        ensures met { OnOk result ((limit : ℕ) (items : List (Option FaultAt)) → HasMet limit items self.old
+            → HasMet limit (items ++ option_map (λ e. (place, fault_of e)) error ∷ []) self.new) }
+        ensures over { IfOk result (λ more. more ≡ false → IsTrue self.new.part.cut) }
+        ensures memory { IfErr result (λ failure. failure ≡ failures.Memory) }
+        ensures on { IfOk result (λ more. more ≡ true → 1 ≤ self.old.left) }
+    {
+        let Some(left) = self.left.checked_sub(1) else {
+            self.part.cut = true;
+            return Ok(false);
+        };
+        self.left = left;
+        if let Some(error) = error {
+            note(&mut self.part, place, error)?;
+        }
+        Ok(true)
+    }
+
+    /// What is said of the part.
+    pub fn part(self) -> Part<A>
+        ensures { result ≡ self.part }
+    {
+        self.part
+    }
+}
+
+// Notes a fault: tells it, where it is one of the first.
+fn note<A: Allocator>(part: &mut Part<A>, place: Place, error: Error) -> Result<(), Failure>
+    ensures told { OnOk result ((faults : List FaultAt) → length faults + 1 < 2 ^ 64 → TellsFirstFaults faults part.old
+        → TellsFirstFaults (faults ++ (place, fault_of error) ∷ []) part.new) }
+    ensures memory { IfErr result (λ failure. failure ≡ failures.Memory) }
+    ensures kept { OnOk result (part.new.cut ≡ part.old.cut) }
+{
+    if let Error::Memory(_) = error {
+        return Err(Failure::Memory);
+    }
+    part.faults = part.faults.saturating_add(1);
+    if part.told.len() < MOST_TOLD {
+        part.told.push(Finding { place, error })?;
+    }
+    Ok(())
+}

@@ -1,0 +1,185 @@
+//! Whether a file is sound by what is said of it.
+
+ghost use Rattle.std.specs.Prelude.{◌≡◌};
+ghost use Rattle.machaudit.specs.Verdicts.{verdict_of_both, verdict_of, verdict_of_read, verdict_of_entries, is_clean, verdict_of_parts, verdict_of_image};
+ghost use Rattle.machaudit.specs.Verdicts.{verdict_of_entry, verdict_of_fat, verdict_of_table, verdict_of_layout, verdict_of_report};
+ghost use Rattle.machaudit.specs.Verdicts.{verdict_of_signature};
+
+use crate::report::{EntryReport, FatReport, ImageReport, Part, Parts, Report, SignatureReport};
+use mach_layout::LayoutFault;
+use std::alloc::Allocator;
+
+/// Whether a file is sound.
+#[derive(Clone, Copy, Debug, PartialEq)]
+pub enum Verdict {
+    /// It is: no fault was found, and all of it was gone over.
+    Sound,
+    /// It has more items than are gone over, and among these no fault was found.
+    Unended,
+    /// It has faults.
+    Faulty,
+}
+
+impl Verdict {
+    // That of two parts together: a fault counts before a limit.
+    fn and(self, other: Verdict) -> Verdict
+        ensures { result ≡ verdict_of_both self other }
+    {
+        match (self, other) {
+            (Verdict::Faulty, _) | (_, Verdict::Faulty) => Verdict::Faulty,
+            (Verdict::Unended, _) | (_, Verdict::Unended) => Verdict::Unended,
+            (Verdict::Sound, Verdict::Sound) => Verdict::Sound,
+        }
+    }
+}
+
+impl<A: Allocator> Part<A> {
+    /// Whether all items of the part were gone over, and each can be read.
+    pub fn is_clean(&self) -> bool
+        ensures { result ≡ is_clean self.now }
+    {
+        self.faults == 0 && !self.cut
+    }
+
+    // Whether the part is sound.
+    fn verdict(&self) -> Verdict
+        ensures { result ≡ verdict_of self.now }
+    {
+        if self.faults > 0 {
+            Verdict::Faulty
+        } else if self.cut {
+            Verdict::Unended
+        } else {
+            Verdict::Sound
+        }
+    }
+}
+
+impl<A: Allocator> SignatureReport<A> {
+    // Whether the signature is sound: it is where there is none.
+    fn verdict(&self) -> Verdict
+        ensures { result ≡ verdict_of_signature self.now }
+    {
+        match self {
+            SignatureReport::Unsigned => Verdict::Sound,
+            SignatureReport::Unreadable(_) => Verdict::Faulty,
+            SignatureReport::Signed(part) => {
+                if part.faults > 0 {
+                    Verdict::Faulty
+                } else {
+                    Verdict::Sound
+                }
+            }
+        }
+    }
+}
+
+impl<A: Allocator> Parts<A> {
+    // Whether all parts are sound. Relocations that were not read follow from the sections.
+    fn verdict(&self) -> Verdict
+        ensures { result ≡ verdict_of_parts self.now }
+    {
+        let bound = self.fixups.verdict().and(self.bindings.verdict());
+        let linked = self
+            .exports
+            .verdict()
+            .and(self.imports.verdict().and(bound));
+        let named = self.symbols.verdict().and(linked);
+        let readable = self.read_verdict().and(named);
+        let signed = self.signature.verdict();
+        layout_verdict(self.layout.as_slice())
+            .and(signed)
+            .and(readable)
+    }
+
+    // Whether the sections and the relocations are sound.
+    fn read_verdict(&self) -> Verdict
+        ensures { result ≡ verdict_of_read self.now.sections self.now.relocations }
+    {
+        match &self.relocations {
+            Some(part) => self.sections.verdict().and(part.verdict()),
+            None => self.sections.verdict(),
+        }
+    }
+}
+
+impl<A: Allocator> ImageReport<A> {
+    // Whether the image is sound.
+    fn verdict(&self) -> Verdict
+        ensures { result ≡ verdict_of_image self.now }
+    {
+        match self {
+            ImageReport::Opens(parts) => parts.verdict(),
+            ImageReport::OpensLossily(_, _) | ImageReport::Refused(_) => Verdict::Faulty,
+        }
+    }
+}
+
+impl<A: Allocator> EntryReport<A> {
+    // Whether the entry is sound.
+    fn verdict(&self) -> Verdict
+        ensures { result ≡ verdict_of_entry self.now }
+    {
+        match self {
+            EntryReport::Archive => Verdict::Sound,
+            EntryReport::Image(image) => image.verdict(),
+        }
+    }
+}
+
+impl<A: Allocator> FatReport<A> {
+    // Whether the fat file is sound.
+    fn verdict(&self) -> Verdict
+        ensures { result ≡ verdict_of_fat self.now }
+    {
+        layout_verdict(self.container.as_slice()).and(self.table_verdict())
+    }
+
+    // Whether its table can be read, it has entries, and these are sound.
+    fn table_verdict(&self) -> Verdict
+        ensures { result ≡ verdict_of_table self.now }
+    {
+        if self.table.is_some() || self.count == 0 {
+            return Verdict::Faulty;
+        }
+        let gone_over = if self.cut {
+            Verdict::Unended
+        } else {
+            Verdict::Sound
+        };
+        gone_over.and(entries_verdict(self.entries.as_slice()))
+    }
+}
+
+// Whether faults of layout are none.
+fn layout_verdict(faults: &[LayoutFault]) -> Verdict
+    ensures { result ≡ verdict_of_layout faults.now }
+{
+    match faults {
+        [] => Verdict::Sound,
+        [_, ..] => Verdict::Faulty,
+    }
+}
+
+// Whether some entries are sound together.
+fn entries_verdict<A: Allocator>(entries: &[EntryReport<A>]) -> Verdict
+    ensures { result ≡ verdict_of_entries entries.now }
+{
+    let mut verdict = Verdict::Sound;
+    'entries: for entry in entries {
+        verdict = verdict.and(entry.verdict());
+    }
+    verdict
+}
+
+impl<A: Allocator> Report<A> {
+    /// Whether the file is sound.
+    pub fn verdict(&self) -> Verdict
+        ensures { result ≡ verdict_of_report self.now }
+    {
+        match self {
+            Report::Image(image) => image.verdict(),
+            Report::Fat(fat) => fat.verdict(),
+        }
+    }
+}

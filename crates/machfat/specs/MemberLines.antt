@@ -1,0 +1,90 @@
+-- The lines of an archive's members (`ar.h`, struct ar_hdr).
+use Rattle.std.specs.Prelude.{◌≡◌, ℕ, ◌+◌, List, [], ◌∷◌, ◌++◌, codes, length, Bool, true, false, Option, Some, None, Result, Ok, Err}
+use Rattle.std.specs.Fmt.{decimal, digits}
+use Rattle.std.specs.List.{list_all}
+use Rattle.mach_base.specs.Fault.{Fault, fault_of}
+use Rattle.mach_base.specs.Items.{read_as}
+use Rattle.mach_base.specs.Words.{words_of}
+use Rattle.mach_base.specs.declared.error.Error.{Error}
+use Rattle.mach_archive.specs.Fields.{field_number}
+use Rattle.mach_archive.specs.MemberHeaders.{date_field, gid_field, mode_field, uid_field}
+use Rattle.mach_archive.specs.MemberNames.{member_name}
+use Rattle.mach_archive.specs.Members.{AreMembers, MemberView}
+use Rattle.mach_archive.specs.Archives.{ArchiveView}
+use Rattle.mach_cli.specs.Lines.{AreLines}
+use Rattle.machfat.specs.Kinds.{entry_kind}
+use Rattle.machfat.specs.Names.{name_end, refused_line}
+
+-- a number, or a dash where a field is none
+abbrev pub number_or_dash : Option ℕ → List ℕ
+number_or_dash (Some n) = decimal n
+number_or_dash None = codes "-"
+
+-- a number in octal, behind a 0
+abbrev pub octal_or_dash : Option ℕ → List ℕ
+octal_or_dash (Some n) = codes "0" ++ digits 8 false n
+octal_or_dash None = codes "-"
+
+-- where a member's header and its bytes stand, and how many these are
+abbrev pub member_place_text : MemberView → List ℕ
+member_place_text m = codes "header " ++ (decimal m.offset ++ (codes ", offset " ++ (decimal m.start ++ (codes ", size " ++ decimal (length m.bytes)))))
+
+-- the numbers of its header
+abbrev pub member_numbers_text : MemberView → List ℕ
+member_numbers_text m =
+    codes "date " ++ (number_or_dash (field_number 10 (date_field m.fields))
+    ++ (codes ", uid " ++ (number_or_dash (field_number 10 (uid_field m.fields))
+    ++ (codes ", gid " ++ (number_or_dash (field_number 10 (gid_field m.fields))
+    ++ (codes ", mode " ++ octal_or_dash (field_number 8 (mode_field m.fields))))))))
+
+-- a member with its number, before what is told of its name
+abbrev pub member_front : ℕ → MemberView → List ℕ
+member_front number m =
+    codes "member " ++ (decimal number ++ (codes ": " ++ (member_place_text m ++ (codes ", " ++ (member_numbers_text m
+    ++ (codes ", " ++ (entry_kind m.bytes ++ codes ", ")))))))
+
+-- its name, or why it has none, and the end of the line
+abbrev pub member_name_end : Result (List ℕ) Error → List ℕ
+member_name_end (Ok name) = codes "name " ++ name_end name
+member_name_end (Err e) = codes "name refused: " ++ (words_of e ++ codes "\n")
+
+-- What is told of a place where a member may be: its number, itself, and its name, or why that can't be read; or why there is none, nor any behind it.
+pub data MemberTold (E : Type 0) : Type 0 where
+  a_member : (number : ℕ) (member : MemberView) (name : Result (List ℕ) E) → MemberTold E
+  no_more_members : E → MemberTold E
+
+-- the line of what is told
+abbrev pub member_line : MemberTold Error → List ℕ
+member_line (a_member number m name) = member_front number m ++ member_name_end name
+member_line (no_more_members e) = refused_line (codes "refused") e
+
+-- which faults it tells
+abbrev pub member_faults : MemberTold Error → MemberTold Fault
+member_faults (a_member number m name) = a_member number m (read_as (λ n. n) name)
+member_faults (no_more_members e) = no_more_members (fault_of e)
+
+-- what is there to be told of a member of a number
+abbrev pub member_item : ℕ → Result MemberView Fault → MemberTold Fault
+member_item number (Ok m) = a_member number m (member_name m)
+member_item number (Err f) = no_more_members f
+
+-- and of members that are numbered from one on
+abbrev pub told_members : ℕ → List (Result MemberView Fault) → List (MemberTold Fault)
+told_members number [] = []
+told_members number (m ∷ ms) = member_item number m ∷ told_members (number + 1) ms
+
+-- whether a member and its name can be read
+abbrev pub is_whole_name : Result (List ℕ) Fault → Bool
+is_whole_name (Ok name) = true
+is_whole_name (Err f) = false
+
+abbrev pub is_whole_member : MemberTold Fault → Bool
+is_whole_member (a_member number m name) = is_whole_name name
+is_whole_member (no_more_members f) = false
+
+-- The text is a line for each of an archive's members, in order, up to the first fault, and for this; it is whole where none of them tells a fault.
+pub record AreMemberLines (a : ArchiveView) (text : List ℕ) (whole : Bool) : Type 0 where
+  pub members : List (Result MemberView Fault)
+  pub are_members : AreMembers a.bytes a.names a.begin members
+  pub lines : AreLines member_faults member_line (told_members 0 members) text
+  pub is_whole : whole ≡ list_all is_whole_member (told_members 0 members)

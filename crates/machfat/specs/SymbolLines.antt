@@ -1,0 +1,76 @@
+-- The lines of the symbols of an archive's index (`ranlib.h`).
+use Rattle.std.specs.Prelude.{◌≡◌, ℕ, List, [], ◌++◌, codes, map, Bool, true, false, Option, Some, None, Result, Ok, Err}
+use Rattle.std.specs.Fmt.{decimal}
+use Rattle.std.specs.List.{list_all}
+use Rattle.mach_base.specs.Fault.{Fault, fault_of}
+use Rattle.mach_base.specs.Words.{words_of}
+use Rattle.mach_base.specs.declared.error.Error.{Error}
+use Rattle.mach_archive.specs.Archives.{ArchiveView, archive_member_at}
+use Rattle.mach_archive.specs.IndexSymbols.{AreIndexSymbols, IndexSymbol}
+use Rattle.mach_archive.specs.IndexTables.{IndexTable, archive_table}
+use Rattle.mach_archive.specs.MemberNames.{text_or_fault}
+use Rattle.mach_archive.specs.Members.{MemberView}
+use Rattle.mach_cli.specs.Lines.{AreLines, WritesLines}
+use Rattle.machfat.specs.Names.{name_end, refused_line}
+
+-- What is told of a place where a symbol may be: that of a member and a name; why no member is there; why the name is no text; or why there is no
+-- symbol, nor any behind it.
+pub data SymbolTold (E : Type 0) : Type 0 where
+  a_symbol : (place : ℕ) (name : List ℕ) → SymbolTold E
+  of_no_member : (place : ℕ) (name : List ℕ) → E → SymbolTold E
+  of_no_name : (place : ℕ) → E → SymbolTold E
+  no_more_symbols : E → SymbolTold E
+
+-- what it says before a name or a reason
+abbrev pub symbol_at_text : ℕ → List ℕ
+symbol_at_text place = codes "symbol at " ++ decimal place
+
+-- the line of what is told
+abbrev pub symbol_line : SymbolTold Error → List ℕ
+symbol_line (a_symbol place name) = (symbol_at_text place ++ codes ": ") ++ name_end name
+symbol_line (of_no_member place name e) = (symbol_at_text place ++ (codes ", refused: " ++ (words_of e ++ codes ": "))) ++ name_end name
+symbol_line (of_no_name place e) = symbol_at_text place ++ (codes ", name refused: " ++ (words_of e ++ codes "\n"))
+symbol_line (no_more_symbols e) = refused_line (codes "symbol refused") e
+
+-- which faults it tells
+abbrev pub told_symbol_faults : SymbolTold Error → SymbolTold Fault
+told_symbol_faults (a_symbol place name) = a_symbol place name
+told_symbol_faults (of_no_member place name e) = of_no_member place name (fault_of e)
+told_symbol_faults (of_no_name place e) = of_no_name place (fault_of e)
+told_symbol_faults (no_more_symbols e) = no_more_symbols (fault_of e)
+
+-- what is there to be told of a symbol of this name, of which this is said to be the member
+abbrev pub item_of_member : (place : ℕ) (name : List ℕ) → Result MemberView Fault → SymbolTold Fault
+item_of_member place name (Ok m) = a_symbol place name
+item_of_member place name (Err f) = of_no_member place name f
+
+-- of one whose name may be a text
+abbrev pub item_of_name : ArchiveView → (place : ℕ) → Result (List ℕ) Fault → SymbolTold Fault
+item_of_name a place (Ok name) = item_of_member place name (archive_member_at a place)
+item_of_name a place (Err f) = of_no_name place f
+
+-- and of one that was read
+abbrev pub symbol_item : ArchiveView → Result IndexSymbol Fault → SymbolTold Fault
+symbol_item a (Ok s) = item_of_name a s.member (text_or_fault s.name)
+symbol_item a (Err f) = no_more_symbols f
+
+-- whether a symbol's name and its member can be read
+abbrev pub is_whole_symbol : SymbolTold Fault → Bool
+is_whole_symbol (a_symbol place name) = true
+is_whole_symbol (of_no_member place name f) = false
+is_whole_symbol (of_no_name place f) = false
+is_whole_symbol (no_more_symbols f) = false
+
+-- The text is a line for each symbol of an archive's index, in order, up to the first fault, and for this; none, where it has no index; or why the
+-- index can't be read. It is whole where nothing tells a fault.
+pub data AreIndexLines (a : ArchiveView) : List ℕ → Bool → Type 0 where
+  no_index : archive_table a ≡ Ok None → AreIndexLines a [] true
+  no_table : (e : Error) → archive_table a ≡ Err (fault_of e) → AreIndexLines a (refused_line (codes "symbols refused") e) false
+  symbols : (t : IndexTable) (items : List (Result IndexSymbol Fault)) (text : List ℕ) → archive_table a ≡ Ok (Some t) → AreIndexSymbols t 0 items
+      → AreLines told_symbol_faults symbol_line (map (symbol_item a) items) text
+      → AreIndexLines a text (list_all is_whole_symbol (map (symbol_item a) items))
+
+-- What was written is a line for each of these symbols, and it is whole or not.
+pub record WritesItems (a : ArchiveView) (items : List (Result IndexSymbol Fault)) (whole : Bool) (old new : Option (List ℕ)) : Type 0 where
+  pub lines : WritesLines told_symbol_faults symbol_line (map (symbol_item a) items) old new
+  pub is_whole : whole ≡ list_all is_whole_symbol (map (symbol_item a) items)

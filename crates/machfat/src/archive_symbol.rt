@@ -1,0 +1,136 @@
+//! The lines of the symbols of an archive's index.
+
+ghost use Rattle.std.specs.Prelude.{◌≡◌, Ok, Some, IfOk};
+ghost use Rattle.std.specs.Io.KnownBytes.{Appends};
+ghost use Rattle.mach_base.specs.Answer.{Reads};
+ghost use Rattle.mach_base.specs.declared.error.Error.{Error};
+ghost use Rattle.mach_archive.specs.Archives.{archive_member_at};
+ghost use Rattle.mach_archive.specs.ArchiveViews.{archive_of, archive_symbol_read, archive_symbol_view, archive_symbols_left};
+ghost use Rattle.mach_archive.specs.IndexSymbols.{AreIndexSymbols};
+ghost use Rattle.mach_archive.specs.MemberNames.{text_or_fault};
+ghost use Rattle.machfat.specs.SymbolLines.{item_of_member, symbol_at_text, told_symbol_faults, symbol_item, symbol_line, is_whole_symbol};
+ghost use Rattle.machfat.specs.SymbolLines.{AreIndexLines, SymbolTold, WritesItems};
+ghost use Rattle.machfat.specs.Written.{WritesWhole};
+
+use crate::archive::{print_name_end, print_refused};
+use mach_archive::{Archive, ArchiveSymbol, ArchiveSymbols};
+use mach_base::{Error, Result, ScrollError, describe};
+use std::fmt::{Display, Formatter, Write};
+use std::{fmt, io};
+
+// The place that a symbol speaks of.
+#[derive(Clone, Copy)]
+struct PlaceText(u64);
+
+impl Display for PlaceText {
+    ghost output = { λ t. Some (symbol_at_text t.0) };
+
+    fn fmt<W: Write>(&self, f: &mut Formatter<W>) -> fmt::Result {
+        write!(f, "symbol at {}", self.0)
+    }
+}
+
+// A symbol's name as a text.
+#[tactic(auto, using(mach_archive::proofs::HeadersRead::text_is, mach_archive::proofs::HeadersRead::text_is_none))]
+fn name_of<'a>(name: &'a [u8]) -> Result<&'a str>
+    ensures { Reads (λ name. name.now) result (text_or_fault name.now) }
+{
+    match str::from_utf8(name) {
+        Ok(text) => Ok(text),
+        Err(_) => Err(Error::Scroll(ScrollError::BadInput {
+            size: name.len(),
+            msg: "a symbol's name is UTF-8",
+        })),
+    }
+}
+
+// Prints the line of a symbol of this name, which is said to be that of the member at a place, and answers whether this can be read.
+fn print_named<O: io::Write>(
+    archive: &Archive<'_>,
+    place: u64,
+    name: &str,
+    out: &mut O,
+) -> io::Result<bool>
+    ensures { IfOk result (λ whole. (told : SymbolTold Error)
+        × (told_symbol_faults told ≡ item_of_member place name.now (archive_member_at (archive_of archive.now) place))
+        × (whole ≡ is_whole_symbol (told_symbol_faults told)) × Appends (O.contents out.old) (O.contents out.new) (symbol_line told)) }
+{
+    let at = PlaceText(place);
+    match archive.member_at(place as usize) {
+        Ok(_) => {
+            write!(out, "{at}: ")?;
+            print_name_end(name, out)?;
+            Ok(true)
+        }
+        Err(error) => {
+            let words = describe(&error);
+            write!(out, "{at}, refused: {words}: ")?;
+            print_name_end(name, out)?;
+            Ok(false)
+        }
+    }
+}
+
+// Prints the line of a symbol, and answers whether its name and its member can be read.
+fn print_symbol<O: io::Write>(
+    archive: &Archive<'_>,
+    symbol: &ArchiveSymbol<'_>,
+    out: &mut O,
+) -> io::Result<bool>
+    ensures { IfOk result (λ whole. (told : SymbolTold Error)
+        × (told_symbol_faults told ≡ symbol_item (archive_of archive.now) (Ok (archive_symbol_view symbol.now)))
+        × (whole ≡ is_whole_symbol (told_symbol_faults told)) × Appends (O.contents out.old) (O.contents out.new) (symbol_line told)) }
+{
+    match name_of(symbol.name) {
+        Ok(name) => print_named(archive, symbol.member, name, out),
+        Err(error) => {
+            let at = PlaceText(symbol.member);
+            let words = describe(&error);
+            writeln!(out, "{at}, name refused: {words}")?;
+            Ok(false)
+        }
+    }
+}
+
+// Prints the line of a symbol, or why there is none, and answers whether it tells no fault.
+fn print_answer<O: io::Write>(
+    archive: &Archive<'_>,
+    answer: Result<ArchiveSymbol<'_>>,
+    out: &mut O,
+) -> io::Result<bool>
+    ensures { IfOk result (λ whole. (told : SymbolTold Error)
+        × (told_symbol_faults told ≡ symbol_item (archive_of archive.now) (archive_symbol_read answer.entry))
+        × (whole ≡ is_whole_symbol (told_symbol_faults told)) × Appends (O.contents out.old) (O.contents out.new) (symbol_line told)) }
+{
+    match answer {
+        Ok(symbol) => print_symbol(archive, &symbol, out),
+        Err(error) => print_refused("symbol refused", &error, out),
+    }
+}
+
+// Prints a line for each symbol that is left, in order, up to the first fault, and for this, and answers whether none of them tells one.
+fn print_items<O: io::Write>(
+    archive: &Archive<'_>,
+    symbols: ArchiveSymbols<'_>,
+    out: &mut O,
+) -> io::Result<bool>
+    ensures { IfOk result (λ whole. WritesItems (archive_of archive.now) (archive_symbols_left symbols.entry) whole (O.contents out.old) (O.contents out.new)) }
+{
+    let mut whole = true;
+    'symbols: for answer in symbols {
+        whole &= print_answer(archive, answer, out)?;
+    }
+    Ok(whole)
+}
+
+/// Prints a line for each symbol of an archive's index, in order, up to the first fault, and for this; none, where it has no index; or why the index
+/// can't be read. Answers whether none of them tells a fault.
+pub fn print_symbols<O: io::Write>(archive: &Archive<'_>, out: &mut O) -> io::Result<bool>
+    ensures { IfOk result (λ whole. WritesWhole (AreIndexLines (archive_of archive.now)) whole (O.contents out.old) (O.contents out.new)) }
+{
+    match archive.symbols() {
+        Ok(Some(symbols)) => print_items(archive, symbols, out),
+        Ok(None) => Ok(true),
+        Err(error) => print_refused("symbols refused", &error, out),
+    }
+}

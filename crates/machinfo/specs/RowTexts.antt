@@ -1,0 +1,149 @@
+-- The rows of lists as they are printed.
+use Rattle.std.specs.Prelude.{◌==◌, ◌||◌, ℕ, List, [], ◌++◌, codes, length, Bool, not, Option, Some, None, Result, map, if◌then◌else◌}
+use Rattle.std.specs.Fmt.{decimal, signed_decimal}
+use Rattle.mach_records.specs.declared.linkedit.DataInCodeEntry.{DataInCodeEntry}
+use Rattle.mach_records.specs.declared.versions.BuildToolVersion.{BuildToolVersion}
+use Rattle.mach_parts.specs.Bindings.{Binding, Provider, of_library, itself, main_executable, flat, weak_lookup}
+use Rattle.mach_parts.specs.PointerSigning.{Auth}
+use Rattle.mach_parts.specs.Slots.{Slot, SlotOwner, named_slot, local_slot, absolute_slot, local_absolute_slot}
+use Rattle.mach_parts.specs.declared.indirect.IndirectSymbol.{IndirectSymbol}
+use Rattle.mach_parts.specs.declared.indirect.IndirectSymbol.TheVariants.{Symbol, Local, Absolute, LocalAbsolute}
+use Rattle.mach_parts.specs.declared.slot_kind.SlotKind.{SlotKind}
+use Rattle.mach_parts.specs.declared.slot_kind.SlotKind.TheVariants.{Pointer, LazyPointer, Stub, LazyLibraryPointer, ThreadLocalPointer}
+use Rattle.mach_dyld.specs.Rebases.{Rebase}
+use Rattle.mach_dyld.specs.WeakBinds.{WeakBind, strong_name, weakly_bound}
+use Rattle.goblin_mach.specs.Libraries.{LibraryView}
+use Rattle.goblin_mach.specs.declared.libraries.LibraryAttributes.{LibraryAttributes}
+use Rattle.mach_cli.specs.Listings.{hex_text, told_by}
+use Rattle.mach_cli.specs.Signing.{rebase_type}
+use Rattle.mach_base.specs.Fault.{Fault}
+use Rattle.machinfo.specs.NumberedNotes.{NumberedNoteView}
+use Rattle.machinfo.specs.ProvidedSymbols.{ProvidedView}
+use Rattle.machinfo.specs.Rows.{RowView, start_row, slot_row, indirect_row, data_row, option_row, tool_row, note_row, provided_row, library_row}
+use Rattle.machinfo.specs.Rows.{rebase_row, weak_row, list_row_view, list_rows_left}
+use Rattle.machinfo.specs.declared.list.ImageList.{ImageList}
+use Rattle.machinfo.specs.declared.row.Row.{Row}
+
+-- the place from the image's first byte, the size and the kind
+abbrev pub data_text : DataInCodeEntry → List ℕ
+data_text e = hex_text e.offset ++ codes " " ++ decimal e.length ++ codes " " ++ decimal e.kind
+
+abbrev pub indirect_text : IndirectSymbol → List ℕ
+indirect_text (Symbol number) = codes "symbol " ++ decimal number
+indirect_text Local = codes "local"
+indirect_text Absolute = codes "absolute"
+indirect_text LocalAbsolute = codes "local absolute"
+
+-- the number of the command, and the text
+abbrev pub option_text : ℕ × List ℕ → List ℕ
+option_text found = decimal found.0 ++ codes " " ++ found.1
+
+-- the number of the command, the tool and its version
+abbrev pub tool_text : ℕ × BuildToolVersion → List ℕ
+tool_text found = decimal found.0 ++ codes " " ++ decimal found.1.tool ++ codes " " ++ hex_text found.1.version
+
+-- the number of the command, who wrote it, the place of its bytes, and how many they are
+abbrev pub note_row_text : NumberedNoteView → List ℕ
+note_row_text n =
+    decimal n.number ++ codes " " ++ n.note.owner ++ codes " " ++ hex_text n.place ++ codes " " ++ decimal (length n.note.data_bytes)
+
+-- ---- slots
+
+abbrev pub slot_kind_text : SlotKind → List ℕ
+slot_kind_text Pointer = codes "pointer"
+slot_kind_text LazyPointer = codes "lazy pointer"
+slot_kind_text Stub = codes "stub"
+slot_kind_text LazyLibraryPointer = codes "lazy library pointer"
+slot_kind_text ThreadLocalPointer = codes "thread-local pointer"
+
+abbrev pub slot_owner_text : SlotOwner → List ℕ
+slot_owner_text (named_slot index name) = name
+slot_owner_text local_slot = codes "local"
+slot_owner_text absolute_slot = codes "absolute"
+slot_owner_text local_absolute_slot = codes "local absolute"
+
+-- the address, what stands there, and whose it is
+abbrev pub slot_text : Slot → List ℕ
+slot_text s = hex_text s.address ++ codes " " ++ slot_kind_text s.kind ++ codes " " ++ slot_owner_text s.symbol
+
+-- ---- symbols and libraries
+
+abbrev pub giver_text : Provider → List ℕ
+giver_text (of_library ordinal name) = codes "library " ++ decimal ordinal
+giver_text itself = codes "itself"
+giver_text main_executable = codes "main-executable"
+giver_text flat = codes "flat"
+giver_text weak_lookup = codes "weak-lookup"
+
+-- the symbol's name, and who gives it
+abbrev pub provided_text : ProvidedView → List ℕ
+provided_text p = p.name ++ codes " " ++ giver_text p.provider
+
+abbrev pub said_if : Bool → List ℕ → List ℕ
+said_if is_so word = if is_so then word else []
+
+-- how a library is used, `-` where nothing is said
+abbrev pub use_text : LibraryAttributes → List ℕ
+use_text a =
+    said_if a.is_weak (codes " weak") ++ said_if a.is_reexport (codes " reexport") ++ said_if a.is_upward (codes " upward")
+    ++ said_if a.is_delayed (codes " delayed") ++ said_if (not (a.is_weak || a.is_reexport || a.is_upward || a.is_delayed)) (codes " -")
+
+abbrev pub library_row_text : LibraryView → List ℕ
+library_row_text l = l.name ++ use_text l.attributes
+
+-- ---- what dyld rebases and binds weakly
+
+-- the keys of arm64e
+abbrev pub key_word : ℕ → List ℕ
+key_word key =
+    if key == 0 then codes "IA"
+    else (if key == 1 then codes "IB"
+    else (if key == 2 then codes "DA"
+    else codes "DB"))
+
+-- how a pointer is signed, if it is: the key, what is mixed in, and whether the pointer's own address is mixed in, too
+abbrev pub signing_text : Option Auth → List ℕ
+signing_text None = []
+signing_text (Some a) =
+    codes " auth:" ++ key_word a.key ++ codes ":" ++ hex_text a.diversity ++ said_if a.is_address_diverse (codes ":address")
+
+-- the address, what is corrected, the number that stands there, and how it is signed
+abbrev pub rebase_row_text : Rebase → List ℕ
+rebase_row_text r = hex_text r.address ++ codes " " ++ rebase_type r.kind ++ codes " " ++ hex_text r.target ++ signing_text r.auth
+
+abbrev pub weak_flag : Bool → List ℕ
+weak_flag is_weak = if is_weak then codes "weak" else codes "-"
+
+-- the address, the addend, whether the symbol may be missing, and its name
+abbrev pub weak_place_text : Binding → List ℕ
+weak_place_text b = hex_text b.address ++ codes " " ++ signed_decimal b.addend ++ codes " " ++ weak_flag b.is_weak ++ codes " " ++ b.name
+
+-- a name that the image defines itself and not weakly; or a place, and what is bound there
+abbrev pub weak_row_text : WeakBind → List ℕ
+weak_row_text (strong_name name) = codes "strong " ++ name
+weak_row_text (weakly_bound b) = weak_place_text b
+
+-- ---- rows
+
+abbrev pub list_row_text : RowView → List ℕ
+list_row_text (start_row address) = hex_text address
+list_row_text (slot_row slot) = slot_text slot
+list_row_text (indirect_row entry) = indirect_text entry
+list_row_text (data_row entry) = data_text entry
+list_row_text (option_row found) = option_text found
+list_row_text (tool_row found) = tool_text found
+list_row_text (note_row note) = note_row_text note
+list_row_text (provided_row provided) = provided_text provided
+list_row_text (library_row library) = library_row_text library
+list_row_text (rebase_row rebase) = rebase_row_text rebase
+list_row_text (weak_row bind) = weak_row_text bind
+
+-- the texts of rows, each or why there is none
+abbrev pub row_texts : List (Result RowView Fault) → List (Result (List ℕ) Fault)
+row_texts found = map (told_by list_row_text) found
+
+abbrev pub row_shown : Row → List ℕ
+row_shown row = list_row_text (list_row_view row)
+
+abbrev pub listed_rows_left : {A : Type 0} → ImageList A → List (Result (List ℕ) Fault)
+listed_rows_left it = row_texts (list_rows_left it)

@@ -1,0 +1,56 @@
+//! Who gives the undefined symbols of an image.
+
+ghost use Rattle.std.specs.Prelude.{◌≡◌};
+ghost use Rattle.std.specs.Iterator.{YieldsFirstBy};
+ghost use Rattle.mach_base.specs.Text.{texts};
+ghost use Rattle.goblin_mach.specs.ImageSlots.{symbol_table_held};
+ghost use Rattle.machinfo.specs.ProvidedSymbols.{provided_in, provided_left, provided_read};
+
+use goblin_mach::symbols::SymbolIterator;
+use goblin_mach::{MachO, Provider, Result};
+use std::alloc::Allocator;
+
+/// A symbol, with who gives it.
+#[derive(Clone, Copy)]
+pub struct Provided<'a> {
+    pub name: &'a str,
+    pub provider: Provider<'a>,
+}
+
+/// The symbols of an image of which the linker wrote down who gives them, from one on.
+#[derive(Drop)]
+pub struct ProvidedSymbols<'a, 'b, A: Allocator> {
+    pub image: &'b MachO<'a, A>,
+    pub symbols: SymbolIterator<'a>,
+}
+
+impl<'a, 'b, A: Allocator> ProvidedSymbols<'a, 'b, A> {
+    /// Those of an image.
+    pub fn of(image: &'b MachO<'a, A>) -> Self
+        ensures { provided_left result ≡ provided_in image.now.header.flags (texts image.now.libs.items) (symbol_table_held image.now) }
+    {
+        let symbols = match &image.symbols {
+            Some(table) => table.iter(),
+            None => SymbolIterator::default(),
+        };
+        ProvidedSymbols { image, symbols }
+    }
+
+    /// The next of them, or why it can't be told.
+    pub fn take_next(&mut self) -> Option<Result<Provided<'a>>>
+        ensures { YieldsFirstBy provided_read provided_left self.old result self.new }
+    {
+        'symbols: loop {
+            let (name, symbol) = match self.symbols.next() {
+                None => return None,
+                Some(Ok(found)) => found,
+                Some(Err(error)) => return Some(Err(error)),
+            };
+            match self.image.symbol_provider(&symbol) {
+                None => {}
+                Some(Ok(provider)) => return Some(Ok(Provided { name, provider })),
+                Some(Err(error)) => return Some(Err(error)),
+            }
+        }
+    }
+}

@@ -1,0 +1,295 @@
+//! The rows of lists as they are printed.
+
+ghost use Rattle.std.specs.Prelude.{◌≡◌, Some};
+ghost use Rattle.mach_parts.specs.Bindings.{binding_view, provider_view};
+ghost use Rattle.mach_parts.specs.SlotViews.{slot_symbol_view, slot_view};
+ghost use Rattle.mach_parts.specs.PointerSigning.{auth_seen};
+ghost use Rattle.goblin_mach.specs.Libraries.{library_view};
+ghost use Rattle.mach_dyld.specs.RebasesLeft.{rebase_view};
+ghost use Rattle.mach_dyld.specs.WeakBindsLeft.{weak_bind_view};
+ghost use Rattle.machinfo.specs.NumberedNotes.{numbered_note_view};
+ghost use Rattle.machinfo.specs.ProvidedSymbols.{provided_view};
+ghost use Rattle.machinfo.specs.RowTexts.{data_text, indirect_text, option_text, tool_text, note_row_text, slot_kind_text, slot_owner_text, slot_text};
+ghost use Rattle.machinfo.specs.RowTexts.{giver_text, provided_text, said_if, library_row_text, key_word, signing_text};
+ghost use Rattle.machinfo.specs.RowTexts.{rebase_row_text, weak_row_text};
+ghost use Rattle.machinfo.specs.RowTexts.{weak_flag, weak_place_text};
+
+use crate::notes::NumberedNote;
+use crate::providers::Provided;
+use goblin_mach::chained_fixups::PointerAuth;
+use goblin_mach::load_command::{BuildToolVersion, DataInCodeEntry};
+use goblin_mach::slots::{IndirectSymbol, SlotKind, SlotSymbol, SymbolSlot};
+use goblin_mach::{Binding, Library, Provider, Rebase, WeakBind};
+use mach_cli::rebase_type;
+use std::fmt;
+use std::fmt::{Display, Formatter, Write};
+
+/// An entry of data among code: its place from the image's first byte, its size and its kind.
+#[derive(Clone, Copy)]
+pub struct DataText(pub DataInCodeEntry);
+
+impl Display for DataText {
+    ghost output = { λ t. Some (data_text t.0) };
+
+    fn fmt<W: Write>(&self, f: &mut Formatter<W>) -> fmt::Result {
+        let DataInCodeEntry {
+            offset,
+            length,
+            kind,
+        } = self.0;
+        write!(f, "0x{offset:x} {length} {kind}")
+    }
+}
+
+/// What an entry of the table of indirect symbols says.
+#[derive(Clone, Copy)]
+pub struct IndirectText(pub IndirectSymbol);
+
+impl Display for IndirectText {
+    ghost output = { λ t. Some (indirect_text t.0) };
+
+    fn fmt<W: Write>(&self, f: &mut Formatter<W>) -> fmt::Result {
+        match self.0 {
+            IndirectSymbol::Symbol(number) => write!(f, "symbol {number}"),
+            IndirectSymbol::Local => write!(f, "local"),
+            IndirectSymbol::Absolute => write!(f, "absolute"),
+            IndirectSymbol::LocalAbsolute => write!(f, "local absolute"),
+        }
+    }
+}
+
+/// An option for the linker, behind the number of its command.
+#[derive(Clone, Copy)]
+pub struct OptionText<'a>(pub usize, pub &'a str);
+
+impl Display for OptionText<'_> {
+    ghost output = { λ t. Some (option_text (t.0, t.1.now)) };
+
+    fn fmt<W: Write>(&self, f: &mut Formatter<W>) -> fmt::Result {
+        let OptionText(number, text) = *self;
+        write!(f, "{number} {text}")
+    }
+}
+
+/// A tool and its version, behind the number of its command.
+#[derive(Clone, Copy)]
+pub struct ToolText(pub usize, pub BuildToolVersion);
+
+impl Display for ToolText {
+    ghost output = { λ t. Some (tool_text (t.0, t.1)) };
+
+    fn fmt<W: Write>(&self, f: &mut Formatter<W>) -> fmt::Result {
+        let ToolText(number, BuildToolVersion { tool, version }) = *self;
+        write!(f, "{number} {tool} 0x{version:x}")
+    }
+}
+
+/// A note: the number of its command, its owner, and where its bytes are and how many.
+#[derive(Clone, Copy)]
+pub struct NoteText<'a>(pub NumberedNote<'a>);
+
+impl Display for NoteText<'_> {
+    ghost output = { λ t. Some (note_row_text (numbered_note_view t.0)) };
+
+    fn fmt<W: Write>(&self, f: &mut Formatter<W>) -> fmt::Result {
+        let NumberedNote {
+            number,
+            place,
+            note,
+        } = self.0;
+        let owner = note.owner;
+        let size = note.data.len();
+        write!(f, "{number} {owner} 0x{place:x} {size}")
+    }
+}
+
+/// What stands in a slot.
+pub fn kind_text(kind: SlotKind) -> &'static str
+    ensures { result.now ≡ slot_kind_text kind }
+{
+    match kind {
+        SlotKind::Pointer => "pointer",
+        SlotKind::LazyPointer => "lazy pointer",
+        SlotKind::Stub => "stub",
+        SlotKind::LazyLibraryPointer => "lazy library pointer",
+        SlotKind::ThreadLocalPointer => "thread-local pointer",
+    }
+}
+
+// Whose a slot is.
+fn owner_text(symbol: SlotSymbol<'_>) -> &str
+    ensures { result.now ≡ slot_owner_text (slot_symbol_view symbol.entry) }
+{
+    match symbol {
+        SlotSymbol::Named { name, .. } => name,
+        SlotSymbol::Local => "local",
+        SlotSymbol::Absolute => "absolute",
+        SlotSymbol::LocalAbsolute => "local absolute",
+    }
+}
+
+/// A slot: its address, what stands there, and whose it is.
+#[derive(Clone, Copy)]
+pub struct SlotText<'a>(pub SymbolSlot<'a>);
+
+impl Display for SlotText<'_> {
+    ghost output = { λ t. Some (slot_text (slot_view t.0)) };
+
+    fn fmt<W: Write>(&self, f: &mut Formatter<W>) -> fmt::Result {
+        let address = self.0.address;
+        let kind = kind_text(self.0.kind);
+        let owner = owner_text(self.0.symbol);
+        write!(f, "0x{address:x} {kind} {owner}")
+    }
+}
+
+// Who gives a symbol.
+#[derive(Clone, Copy)]
+struct GiverText<'a>(Provider<'a>);
+
+impl Display for GiverText<'_> {
+    ghost output = { λ t. Some (giver_text (provider_view t.0)) };
+
+    fn fmt<W: Write>(&self, f: &mut Formatter<W>) -> fmt::Result {
+        match self.0 {
+            Provider::Library { ordinal, .. } => write!(f, "library {ordinal}"),
+            Provider::Itself => write!(f, "itself"),
+            Provider::MainExecutable => write!(f, "main-executable"),
+            Provider::Flat => write!(f, "flat"),
+            Provider::WeakLookup => write!(f, "weak-lookup"),
+        }
+    }
+}
+
+/// A symbol, and who gives it.
+#[derive(Clone, Copy)]
+pub struct ProvidedText<'a>(pub Provided<'a>);
+
+impl Display for ProvidedText<'_> {
+    ghost output = { λ t. Some (provided_text (provided_view t.0)) };
+
+    fn fmt<W: Write>(&self, f: &mut Formatter<W>) -> fmt::Result {
+        let name = self.0.name;
+        let giver = GiverText(self.0.provider);
+        write!(f, "{name} {giver}")
+    }
+}
+
+/// A word, where something is so.
+pub fn said_if(is_so: bool, word: &'static str) -> &'static str
+    ensures { result.now ≡ said_if is_so word.now }
+{
+    if is_so { word } else { "" }
+}
+
+/// A library, and how it is used.
+#[derive(Clone, Copy)]
+pub struct LibraryText<'a>(pub Library<'a>);
+
+impl Display for LibraryText<'_> {
+    ghost output = { λ t. Some (library_row_text (library_view t.0)) };
+
+    fn fmt<W: Write>(&self, f: &mut Formatter<W>) -> fmt::Result {
+        let name = self.0.name;
+        let how = self.0.attributes;
+        let weak = said_if(how.is_weak, " weak");
+        let reexport = said_if(how.is_reexport, " reexport");
+        let upward = said_if(how.is_upward, " upward");
+        let delayed = said_if(how.is_delayed, " delayed");
+        let is_plain = !(how.is_weak || how.is_reexport || how.is_upward || how.is_delayed);
+        let plain = said_if(is_plain, " -");
+        write!(f, "{name}{weak}{reexport}{upward}{delayed}{plain}")
+    }
+}
+
+// The key of a signed pointer.
+fn key_word(key: u8) -> &'static str
+    ensures { result.now ≡ key_word key }
+{
+    match key {
+        0 => "IA",
+        1 => "IB",
+        2 => "DA",
+        _ => "DB",
+    }
+}
+
+// How a pointer is signed, if it is.
+#[derive(Clone, Copy)]
+struct SigningText(Option<PointerAuth>);
+
+impl Display for SigningText {
+    ghost output = { λ t. Some (signing_text (auth_seen t.0)) };
+
+    fn fmt<W: Write>(&self, f: &mut Formatter<W>) -> fmt::Result {
+        match self.0 {
+            None => Ok(()),
+            Some(auth) => {
+                let key = key_word(auth.key);
+                let diversity = auth.diversity;
+                let address = said_if(auth.is_address_diverse, ":address");
+                write!(f, " auth:{key}:0x{diversity:x}{address}")
+            }
+        }
+    }
+}
+
+/// A rebase: its address, what is corrected, the number that stands there, and how it is signed.
+#[derive(Clone, Copy)]
+pub struct RebaseText(pub Rebase);
+
+impl Display for RebaseText {
+    ghost output = { λ t. Some (rebase_row_text (rebase_view t.0)) };
+
+    fn fmt<W: Write>(&self, f: &mut Formatter<W>) -> fmt::Result {
+        let Rebase {
+            address,
+            target,
+            ..
+        } = self.0;
+        let kind = rebase_type(self.0.kind);
+        let signing = SigningText(self.0.auth);
+        write!(f, "0x{address:x} {kind} 0x{target:x}{signing}")
+    }
+}
+
+// Whether a symbol may be missing.
+fn weak_flag(is_weak: bool) -> &'static str
+    ensures { result.now ≡ weak_flag is_weak }
+{
+    if is_weak { "weak" } else { "-" }
+}
+
+// A place, and what is bound there weakly.
+#[derive(Clone, Copy)]
+struct WeakPlaceText<'a>(Binding<'a>);
+
+impl Display for WeakPlaceText<'_> {
+    ghost output = { λ t. Some (weak_place_text (binding_view t.0)) };
+
+    fn fmt<W: Write>(&self, f: &mut Formatter<W>) -> fmt::Result {
+        let address = self.0.address;
+        let addend = self.0.addend;
+        let flag = weak_flag(self.0.is_weak);
+        let name = self.0.name;
+        write!(f, "0x{address:x} {addend} {flag} {name}")
+    }
+}
+
+/// A row of the weak binds: a name of the image's own, or a place and what is bound there.
+#[derive(Clone, Copy)]
+pub struct WeakText<'a>(pub WeakBind<'a>);
+
+impl Display for WeakText<'_> {
+    ghost output = { λ t. Some (weak_row_text (weak_bind_view t.0)) };
+
+    fn fmt<W: Write>(&self, f: &mut Formatter<W>) -> fmt::Result {
+        match self.0 {
+            WeakBind::Strong { name } => write!(f, "strong {name}"),
+            WeakBind::Bind(binding) => {
+                let place = WeakPlaceText(binding);
+                write!(f, "{place}")
+            }
+        }
+    }
+}

@@ -1,0 +1,72 @@
+//! The words that ask for a list.
+
+ghost use Rattle.std.specs.Prelude.{◌≡◌};
+ghost use Rattle.machinfo.specs.Words.{spelling_of, word_named};
+
+/// What is to be listed of an image.
+#[derive(Clone, Copy, PartialEq)]
+pub enum Word {
+    /// The addresses of its functions.
+    Starts,
+    /// Its stubs and pointers that stand for symbols.
+    Slots,
+    /// Its indirect symbols.
+    Indirect,
+    /// Its data among code.
+    Data,
+    /// Its options for the linker.
+    Options,
+    /// The tools that it was built with.
+    Tools,
+    /// Its notes.
+    Notes,
+    /// Who gives its undefined symbols.
+    Providers,
+    /// Its libraries.
+    Libraries,
+    /// What is rebased of it.
+    Rebases,
+    /// What is bound weakly of it.
+    Weak,
+}
+
+impl Word {
+    /// The word that a text is, if it is one.
+    pub fn named(text: &str) -> Option<Word>
+        ensures { result ≡ word_named text.now }
+    {
+        match text {
+            "starts" => Some(Word::Starts),
+            "slots" => Some(Word::Slots),
+            "indirect" => Some(Word::Indirect),
+            "data" => Some(Word::Data),
+            "options" => Some(Word::Options),
+            "tools" => Some(Word::Tools),
+            "notes" => Some(Word::Notes),
+            "providers" => Some(Word::Providers),
+            "libraries" => Some(Word::Libraries),
+            "rebases" => Some(Word::Rebases),
+            "weak" => Some(Word::Weak),
+            _ => None,
+        }
+    }
+
+    /// The text that it is.
+    pub fn name(self) -> &'static str
+        ensures { result.now ≡ spelling_of self }
+    {
+        match self {
+            Word::Starts => "starts",
+            Word::Slots => "slots",
+            Word::Indirect => "indirect",
+            Word::Data => "data",
+            Word::Options => "options",
+            Word::Tools => "tools",
+            Word::Notes => "notes",
+            Word::Providers => "providers",
+            Word::Libraries => "libraries",
+            Word::Rebases => "rebases",
+            Word::Weak => "weak",
+        }
+    }
+}

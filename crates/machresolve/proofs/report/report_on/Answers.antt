@@ -1,0 +1,62 @@
+use Rattle.std.proofs.Common.{map}
+use Rattle.std.proofs.lemmas.Result.{IfOk-weaker}
+use Rattle.machresolve.specs.Opened.{given_seen}
+use Rattle.machresolve.specs.Seen.{report_seen}
+use Rattle.machresolve.proofs.Counts.{report_few}
+use Rattle.machresolve.proofs.Cpus.{archive_fault, input_fault, narrow_table, of_cpu, wide_table}
+use Rattle.machresolve.proofs.Reports.{file_refused}
+use Rattle.machresolve.proofs.report.report_on.Goals as goal
+
+pub returns-in-Ok-Image-clause-few : goal.returns-in-Ok-Image-clause-few
+returns-in-Ok-Image-clause-few g c =
+    let arm = c.in-Ok-Image in
+    let p = given_seen c.args.program in
+    IfOk-weaker c.report_image.result _ _
+    (λ r told. report_few c.args.limit p (map given_seen c.args.libraries.now) c.args.wanted (report_seen r) told)
+    (c.report_image.ensures.told (of_cpu p.bytes arm.image ((rw (arm.is, arm.field-0-is) at c.parse.ensures.opened).1)))
+
+pub returns-in-Ok-Fat-clause-told : goal.returns-in-Ok-Fat-clause-told
+returns-in-Ok-Fat-clause-told g c =
+    let arm = c.in-Ok-Fat in
+    c.report_fat.ensures.told (narrow_table (given_seen c.args.program).bytes arm.container (rw (arm.is, arm.field-0-is) at c.parse.ensures.opened))
+
+pub returns-in-Ok-Fat-clause-few : goal.returns-in-Ok-Fat-clause-few
+returns-in-Ok-Fat-clause-few g c =
+    let arm = c.in-Ok-Fat in
+    let p = given_seen c.args.program in
+    IfOk-weaker c.report_fat.result _ _
+    (λ r told. report_few c.args.limit p (map given_seen c.args.libraries.now) c.args.wanted (report_seen r) told)
+    (c.report_fat.ensures.told (narrow_table p.bytes arm.container (rw (arm.is, arm.field-0-is) at c.parse.ensures.opened)))
+
+pub returns-in-Ok-Fat64-clause-told : goal.returns-in-Ok-Fat64-clause-told
+returns-in-Ok-Fat64-clause-told g c =
+    let arm = c.in-Ok-Fat64 in
+    c.report_fat-in-Ok-Fat64.ensures.told
+    (wide_table (given_seen c.args.program).bytes arm.container (rw (arm.is, arm.field-0-is) at c.parse.ensures.opened))
+
+pub returns-in-Ok-Fat64-clause-few : goal.returns-in-Ok-Fat64-clause-few
+returns-in-Ok-Fat64-clause-few g c =
+    let arm = c.in-Ok-Fat64 in
+    let p = given_seen c.args.program in
+    IfOk-weaker c.report_fat-in-Ok-Fat64.result _ _
+    (λ r told. report_few c.args.limit p (map given_seen c.args.libraries.now) c.args.wanted (report_seen r) told)
+    (c.report_fat-in-Ok-Fat64.ensures.told (wide_table p.bytes arm.container (rw (arm.is, arm.field-0-is) at c.parse.ensures.opened)))
+
+pub returns-in-Ok-Archive-clause-told : goal.returns-in-Ok-Archive-clause-told
+returns-in-Ok-Archive-clause-told g c =
+    let arm = c.in-Ok-Archive in
+    let p = given_seen c.args.program in
+    let e = c.archive_error.result in
+    let stands = archive_fault p.bytes e ((rw (arm.is, arm.field-0-is) at c.parse.ensures.opened).0) c.archive_error.ensures in
+    IfOk-weaker c.report_refused.result _ _
+    (λ r told. file_refused c.args.limit p (map given_seen c.args.libraries.now) c.args.wanted e (report_seen r) told stands)
+    c.report_refused.ensures.told
+
+pub returns-in-Err-clause-told : goal.returns-in-Err-clause-told
+returns-in-Err-clause-told g c =
+    let p = given_seen c.args.program in
+    let e = c.in-Err.error in
+    let stands = input_fault p.bytes e c.in-Err.ensures.refused in
+    IfOk-weaker c.report_refused-in-Err.result _ _
+    (λ r told. file_refused c.args.limit p (map given_seen c.args.libraries.now) c.args.wanted e (report_seen r) told stands)
+    c.report_refused-in-Err.ensures.told

@@ -1,0 +1,82 @@
+use Rattle.std.proofs.Common.{map, refl, sym, subst}
+use Rattle.goblin_mach.specs.Image.{ImageFault}
+use Rattle.goblin_mach.specs.Libraries.{libraries_in}
+use Rattle.goblin_mach.specs.OpenImage.{bytes_held, commands_held, ctx_held}
+use Rattle.mach_dyld.specs.Exports.{text_in}
+use Rattle.machresolve.specs.Failures.{IsFailure}
+use Rattle.machresolve.specs.Answers.{Program}
+use Rattle.machresolve.specs.Given.{FaultFor, unopened, opened}
+use Rattle.machresolve.specs.Resolved.{AnswerFault, ResolveFault, of_file}
+use Rattle.machresolve.specs.Seen.{files_seen, gathered_seen, met_seen}
+use Rattle.machresolve.specs.Opened.{given_seen}
+use Rattle.machresolve.proofs.Cpus.{of_cpu}
+use Rattle.mach_base.proofs.Faults.{Stands-in}
+use Rattle.machresolve.proofs.Notes.{fails_more, memory_fails}
+use Rattle.machresolve.proofs.Opened.{is_program, more_faults}
+use Rattle.machresolve.proofs.Steps.{told, given_name}
+use Rattle.machresolve.proofs.resolve.resolve.Goals as goal
+
+pub returns-in-Err-clause-refused : goal.returns-in-Err-clause-refused
+returns-in-Err-clause-refused g c =
+    let p = given_seen c.args.program in
+    let ls = map given_seen c.args.libraries.now in
+    subst (IsFailure (ResolveFault c.args.limit p ls)) (sym c.refused.ensures)
+    (told (ResolveFault c.args.limit p ls) 0 c.in-Err.error
+    (Stands-in (ImageFault p.bytes 0) (ResolveFault c.args.limit p ls 0) c.in-Err.error
+    (λ f stands. of_file (unopened refl stands)) c.in-Err.ensures.refused))
+
+pub returns-in-Err-gather-clause-refused : goal.returns-in-Err-gather-clause-refused
+returns-in-Err-gather-clause-refused g c =
+    let p = given_seen c.args.program in
+    let ls = map given_seen c.args.libraries.now in
+    let cpu = c.in-Ok.image.header.cputype in
+    fails_more (FaultFor cpu p ls) (ResolveFault c.args.limit p ls) c.in-Err-gather.failure
+    (λ n f stands. of_file (opened cpu (of_cpu p.bytes c.in-Ok.image c.in-Ok.ensures.opened) stands)) c.in-Err-gather.ensures.refused
+
+pub returns-in-Ok-answer_all-clause-resolved : goal.returns-in-Ok-answer_all-clause-resolved
+returns-in-Ok-answer_all-clause-resolved g c =
+    let p = given_seen c.args.program in
+    let m = c.in-Ok.image in
+    let is = c.in-Ok.ensures.opened in
+    let known : Program = record { name = c.unwrap_or.result.now; may_be_absent = c.in_ok-absences_of.field-0.items } in
+    let libraries = libraries_in (ctx_held m).le (bytes_held m) (commands_held m) in
+    let answered = c.in-Ok-answer_all.ensures.answered (met_seen c.in_ok-all.all) c.in_ok-all.ensures (sym c.as_slice.ensures.value) in
+    let first = answered.1 in
+    record {
+      files = files_seen c.in-Ok-gather.gathered.files;
+      gathered = (m.header.cputype, of_cpu p.bytes m is, c.in-Ok-gather.ensures.gathered);
+      known = known;
+      items = first.items;
+      is_program = is_program p m known first.items (text_in m.name) libraries is
+          (given_name m.name c.args.program.path c.unwrap_or.result c.unwrap_or.ensures)
+          ((c.name_of_image.ensures.strict p.bytes 0 is (text_in m.name)).1 refl)
+          c.in_ok-absences_of.ensures
+          ((c.libraries_by_kind_of_image.ensures.strict p.bytes 0 is libraries).1 refl)
+          ((c.bindings_of_image.ensures.strict p.bytes 0 is first.items).1 first.holds);
+      bindings = answered.0;
+      are_first = first.are_first;
+      are_answers = answered.2;
+      more_is = first.more_is;
+    }
+
+pub returns-clause-refused : goal.returns-clause-refused
+returns-clause-refused g c =
+    let p = given_seen c.args.program in
+    let ls = map given_seen c.args.libraries.now in
+    let m = c.in-Ok.image in
+    let is = c.in-Ok.ensures.opened in
+    let all = gathered_seen c.in-Ok-gather.gathered in
+    let files = all.files in
+    fails_more (AnswerFault c.args.limit files m) (ResolveFault c.args.limit p ls) c.in-Err-answer_all.failure
+    (more_faults c.args.limit p ls m all (m.header.cputype, of_cpu p.bytes m is, c.in-Ok-gather.ensures.gathered)
+    (λ items. (c.bindings_of_image.ensures.strict p.bytes 0 c.in-Ok.ensures.opened items).1))
+    c.in-Err-answer_all.ensures.refused
+
+pub returns-in_err-all-clause-refused : goal.returns-in_err-all-clause-refused
+returns-in_err-all-clause-refused g c =
+    memory_fails (ResolveFault c.args.limit (given_seen c.args.program) (map given_seen c.args.libraries.now)) c.from_residual.result c.from_residual.ensures.1
+
+pub returns-in_err-absences_of-clause-refused : goal.returns-in_err-absences_of-clause-refused
+returns-in_err-absences_of-clause-refused g c =
+    memory_fails (ResolveFault c.args.limit (given_seen c.args.program) (map given_seen c.args.libraries.now)) c.from_residual-in_err-absences_of.result
+    c.from_residual-in_err-absences_of.ensures.1

@@ -1,0 +1,63 @@
+-- What a file has for a cpu: itself, or an entry of its table (`mach-o/fat.h`).
+use Rattle.std.specs.Prelude.{◌≡◌, ◌≢◌, ℕ, List, map, Option, option_map, Some, None, Result, Ok, Err, true}
+use Rattle.mach_parts.specs.ArchForms.{ArchForm, arch_form_32, arch_form_64}
+use Rattle.mach_base.specs.Answer.{◌>>=◌}
+use Rattle.mach_base.specs.Fault.{Fault, bad_magic}
+use Rattle.mach_parts.specs.Fat.{part_of}
+use Rattle.mach_parts.specs.Header.{IsHeader}
+use Rattle.mach_parts.specs.declared.header.Header.{Header}
+use Rattle.goblin_mach.specs.Facts.{OfImage}
+use Rattle.goblin_mach.specs.FatFile.{FatFile, arch_table_in, archs_in, fat_file_in, first_arch_of_cpu}
+use Rattle.goblin_mach.specs.Image.{Opens}
+use Rattle.goblin_mach.specs.File.{HasFatMagic}
+use Rattle.mach_parts.specs.FatRecords.{HasFat64Magic}
+use Rattle.goblin_mach.specs.Inputs.{InputFault, begins_any_archive}
+
+-- the bytes are an image of this cpu, which opens
+pub record IsOfCpu (bytes : List ℕ) (cputype : ℕ) : Type 0 where
+  pub opens : Opens bytes 0
+  pub cpu : OfImage bytes 0 (λ ctx cs. (h : Header) × IsHeader ctx bytes 0 h × (h.cputype ≡ cputype))
+
+-- the bytes of an entry, by its record
+abbrev pub entry_bytes : {R : Type 0} → ArchForm R → List ℕ → R → List ℕ
+entry_bytes form bytes arch = part_of bytes (form.offset arch) (form.size arch)
+
+-- What the table of a fat file says: the bytes of each entry, in order, or why it is refused; and those of the first entry of a cpu, if it has one, or
+-- the fault of a record in front of it.
+pub record FatTableView : Type 0 where
+  pub entries : Result (List (List ℕ)) Fault
+  pub first_for : (cputype : ℕ) → Result (Option (List ℕ)) Fault
+
+abbrev pub fat_table_view : {R : Type 0} → ArchForm R → List ℕ → FatFile → FatTableView
+fat_table_view form bytes file =
+    record {
+      entries = arch_table_in form file >>= (λ arches. Ok (map (entry_bytes form bytes) arches));
+      first_for = λ cputype. first_arch_of_cpu form cputype (archs_in form file) >>= (λ found. Ok (option_map (entry_bytes form bytes) found));
+    }
+
+-- the bytes begin as a fat file, of 32 bits or of 64, whose table says this
+pub data HasTable (bytes : List ℕ) : FatTableView → Type 0 where
+  of_32_bits : (file : FatFile) → HasFatMagic bytes → fat_file_in bytes ≡ Ok file → HasTable bytes (fat_table_view arch_form_32 bytes file)
+  of_64_bits : (file : FatFile) → HasFat64Magic bytes → fat_file_in bytes ≡ Ok file → HasTable bytes (fat_table_view arch_form_64 bytes file)
+
+-- the bytes of the first entry of this cpu are found in the table, or that there is none
+pub record FindsEntry (bytes : List ℕ) (cputype : ℕ) (found : Option (List ℕ)) : Type 0 where
+  pub table : FatTableView
+  pub has : HasTable bytes table
+  pub is_first : table.first_for cputype ≡ Ok found
+
+-- What a file has for a cpu: all of it, where it is an image of the cpu; of a fat file the first entry of it; or nothing.
+pub data HasFor (bytes : List ℕ) (cputype : ℕ) : Option (List ℕ) → Type 0 where
+  image : IsOfCpu bytes cputype → HasFor bytes cputype (Some bytes)
+  other_image : (other : ℕ) → IsOfCpu bytes other → other ≢ cputype → HasFor bytes cputype None
+  of_table : {found : Option (List ℕ)} → FindsEntry bytes cputype found → HasFor bytes cputype found
+
+-- a fault stands where a file is opened, of which an archive has no bindings to answer
+pub data FileFault (bytes : List ℕ) : Fault → Type 0 where
+  of_input : {f : Fault} → InputFault bytes f → FileFault bytes f
+  an_archive : begins_any_archive bytes ≡ true → FileFault bytes (bad_magic 0x213c_6172)
+
+-- a fault stands where this is asked: where the file is opened, or in its table
+pub data ForFault (bytes : List ℕ) (cputype : ℕ) : Fault → Type 0 where
+  of_file : {f : Fault} → FileFault bytes f → ForFault bytes cputype f
+  of_record : {f : Fault} (table : FatTableView) → HasTable bytes table → table.first_for cputype ≡ Err f → ForFault bytes cputype f

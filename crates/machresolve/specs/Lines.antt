@@ -1,0 +1,159 @@
+-- The lines that are printed, and what is said of libraries that do not count and of refused files.
+use Rattle.std.specs.Prelude.{◌+◌, ℕ, Bool, true, false, List, [], ◌∷◌, ◌++◌, codes, get_or, if◌then◌else◌}
+use Rattle.std.specs.Fmt.{digits, decimal}
+use Rattle.mach_base.specs.declared.error.Error.{Error}
+use Rattle.mach_parts.specs.Bindings.{Provider, of_library, itself, main_executable, flat, weak_lookup}
+use Rattle.machresolve.specs.Follow.{SymbolPlace, found, leads_back, no_library, missing, not_given, not_found, no_main}
+use Rattle.machresolve.specs.Answers.{Answer}
+use Rattle.machresolve.specs.Given.{GivenFile}
+use Rattle.machresolve.specs.Refusals.{told_words}
+use Rattle.machresolve.specs.Note.{Note, given_before, nothing_for, all_noted}
+use Rattle.machresolve.specs.Report.{Outcome, answered, archive, refused, Report, one, entries, nothing}
+
+abbrev pub provider_text : Provider → List ℕ
+provider_text (of_library ordinal name) = name
+provider_text itself = codes "this-image"
+provider_text main_executable = codes "main-executable"
+provider_text flat = codes "flat-namespace"
+provider_text weak_lookup = codes "weak-lookup"
+
+-- an address in a file
+abbrev pub address_in_file_text : ℕ → List ℕ → List ℕ
+address_in_file_text address file = codes "0x" ++ digits 16 false address ++ codes " in " ++ file
+
+abbrev pub found_text : List ℕ → ℕ → Bool → List ℕ
+found_text file address false = address_in_file_text address file
+found_text file address true = codes "absolute " ++ address_in_file_text address file
+
+abbrev pub place_text : SymbolPlace → List ℕ
+place_text (found file address is_absolute) = found_text file address is_absolute
+place_text (leads_back library) = codes "leads back to " ++ library
+place_text (no_library library) = codes "no library " ++ library
+place_text (missing library) = codes "missing in " ++ library
+place_text (not_given library reexported) = codes "not found; " ++ library ++ codes " re-exports " ++ reexported ++ codes ", which is not given"
+place_text not_found = codes "not found"
+place_text no_main = codes "no main executable"
+
+abbrev pub weak_text : Bool → List ℕ
+weak_text is_weak = if is_weak then codes "weak, " else []
+
+-- what stands before the place, where the name may be nowhere
+abbrev pub text_before_place : SymbolPlace → Bool → List ℕ
+text_before_place (found file address is_absolute) is_weak = []
+text_before_place (leads_back library) is_weak = []
+text_before_place (no_library library) is_weak = weak_text is_weak
+text_before_place (missing library) is_weak = weak_text is_weak
+text_before_place (not_given library reexported) is_weak = weak_text is_weak
+text_before_place not_found is_weak = weak_text is_weak
+text_before_place no_main is_weak = weak_text is_weak
+
+abbrev pub front_text : Answer → List ℕ
+front_text a = text_before_place a.place a.is_weak
+
+-- the name, who is to give it, and where it is
+abbrev pub answer_text : Answer → List ℕ
+answer_text a = a.name ++ codes " " ++ provider_text a.provider ++ codes " " ++ front_text a ++ place_text a.place
+
+-- a line each, in order
+abbrev pub lines_of : List Answer → List ℕ
+lines_of [] = []
+lines_of (a ∷ others) = answer_text a ++ codes "\n" ++ lines_of others
+
+-- that there are more bindings than the limit, if there are
+abbrev pub more_text : ℕ → Bool → List ℕ
+more_text limit more = if more then codes "limit: " ++ (decimal limit ++ codes " of them are told, and there are more\n") else []
+
+-- the answers of a program, and behind them that there are more bindings, if there are
+abbrev pub resolved_text : ℕ → List Answer → Bool → List ℕ
+resolved_text limit answers more = lines_of answers ++ more_text limit more
+
+-- what is asked of a run: a program and libraries, of which at most `limit` bindings are answered
+pub record ResolveCall : Type 0 where
+  pub limit : ℕ
+  pub program : GivenFile
+  pub libraries : List GivenFile
+
+-- the file of a number: the program, which is file 0, or a library
+abbrev pub file_at : ResolveCall → ℕ → GivenFile
+file_at call number = get_or (call.program ∷ call.libraries) number call.program
+
+-- why a file is refused
+abbrev pub refusal_text : GivenFile → Error → List ℕ
+refusal_text file e = file.path ++ (codes ": " ++ told_words file.bytes e)
+
+abbrev pub nothing_words : ℕ → List ℕ
+nothing_words cputype = codes "nothing for cputype 0x" ++ digits 16 false cputype
+
+-- a file has nothing for a cpu
+abbrev pub nothing_text : GivenFile → ℕ → List ℕ
+nothing_text file cputype = file.path ++ (codes ": " ++ nothing_words cputype)
+
+abbrev pub note_text : ResolveCall → Note → List ℕ
+note_text call (given_before library name) = (file_at call library).path ++ (codes ": " ++ (name ++ codes " is given before"))
+note_text call (nothing_for library cputype) = nothing_text (file_at call library) cputype
+
+-- a line that is said
+abbrev pub said_line : List ℕ → List ℕ
+said_line text = codes "machresolve: " ++ text ++ codes "\n"
+
+abbrev pub said_lines : ResolveCall → List Note → List ℕ
+said_lines call [] = []
+said_lines call (n ∷ notes) = said_line (note_text call n) ++ said_lines call notes
+
+-- what is printed of an entry
+abbrev pub entry_text : ResolveCall → Outcome → List ℕ
+entry_text call (answered answers notes more) = resolved_text call.limit answers more
+entry_text call archive = codes "archive\n"
+entry_text call (refused file e) = codes "refused: " ++ (refusal_text (file_at call file) e ++ codes "\n")
+
+-- the line under which entry i stands
+abbrev pub entry_heading : ℕ → List ℕ
+entry_heading i = codes "arch " ++ decimal i ++ codes "\n"
+
+-- entries from number i on, each under its line
+abbrev pub entries_text : ResolveCall → ℕ → List Outcome → List ℕ
+entries_text call i [] = []
+entries_text call i (o ∷ others) = entry_heading i ++ entry_text call o ++ entries_text call (i + 1) others
+
+-- what is printed of one program: where it is refused, nothing
+abbrev pub one_text : ResolveCall → Outcome → List ℕ
+one_text call (answered answers notes more) = resolved_text call.limit answers more
+one_text call archive = codes "archive\n"
+one_text call (refused file e) = []
+
+-- what is printed of a program
+abbrev pub printed : ResolveCall → Report → List ℕ
+printed call (one o) = one_text call o
+printed call (entries outcomes) = entries_text call 0 outcomes
+printed call (nothing cputype) = []
+
+abbrev pub notes_of : Outcome → List Note
+notes_of (answered answers notes more) = notes
+notes_of archive = []
+notes_of (refused file e) = []
+
+-- those of all entries, each once
+abbrev pub all_notes : List Note → List Outcome → List Note
+all_notes notes [] = notes
+all_notes notes (o ∷ others) = all_notes (all_noted notes (notes_of o)) others
+
+abbrev pub notes_in : Report → List Note
+notes_in (one o) = all_noted [] (notes_of o)
+notes_in (entries outcomes) = all_notes [] outcomes
+notes_in (nothing cputype) = []
+
+-- why nothing is printed of one program
+abbrev pub said_refusal : ResolveCall → Outcome → List ℕ
+said_refusal call (answered answers notes more) = []
+said_refusal call archive = []
+said_refusal call (refused file e) = said_line (refusal_text (file_at call file) e)
+
+-- why nothing is printed
+abbrev pub said_first : ResolveCall → Report → List ℕ
+said_first call (one o) = said_refusal call o
+said_first call (entries outcomes) = []
+said_first call (nothing cputype) = said_line (nothing_text call.program cputype)
+
+-- what is said of a program
+abbrev pub said_of_report : ResolveCall → Report → List ℕ
+said_of_report call r = said_first call r ++ said_lines call (notes_in r)

@@ -1,0 +1,20 @@
+-- What a run of the program writes, and its status.
+use Rattle.std.specs.Prelude.{◌≡◌, ◌≤◌, ℕ, Bool, List, Option, if◌then◌else◌}
+use Rattle.std.specs.Io.KnownBytes.{Appends}
+use Rattle.machresolve.specs.Given.{GivenFile}
+use Rattle.machresolve.specs.Lines.{printed, said_of_report}
+use Rattle.machresolve.specs.Report.{Report, IsProgramReport, answers_in, all_whole}
+
+-- the exit status: 0 where all is answered and settled and nothing is refused, else 1
+abbrev pub run_status : Bool → ℕ
+run_status whole = if whole then 0 else 1
+
+-- what is told of a program was written on the two outputs, and this is the status; at most `limit` bindings are answered
+pub record Runs (wanted : Option ℕ) (limit : ℕ) (program : GivenFile) (libraries : List GivenFile) (status : ℕ)
+    (out_old out_new err_old err_new : Option (List ℕ)) : Type 0 where
+  pub report : Report
+  pub is_report : IsProgramReport limit program libraries wanted report
+  pub few : answers_in report ≤ limit
+  pub status_is : status ≡ run_status (all_whole report)
+  pub text : Appends out_old out_new (printed (record { limit = limit; program = program; libraries = libraries }) report)
+  pub told : Appends err_old err_new (said_of_report (record { limit = limit; program = program; libraries = libraries }) report)

@@ -1,0 +1,140 @@
+//! The answers for the bindings of a program.
+
+ghost use Rattle.std.specs.Prelude.{◌≡◌, ◌||◌, map, IfOk, IfErr};
+ghost use Rattle.std.specs.List.{list_all};
+ghost use Rattle.mach_parts.specs.Bindings.{provider_view, binding_view};
+ghost use Rattle.machresolve.specs.Files.{TrieFaultAt};
+ghost use Rattle.machresolve.specs.Behind.{Met, IsBehindAll};
+ghost use Rattle.machresolve.specs.Answers.{IsProvided, IsAnswer, is_absent_weak, is_settled};
+ghost use Rattle.machresolve.specs.Failures.{IsFailure};
+ghost use Rattle.machresolve.specs.Seen.{files_seen, place_seen, program_seen, answer_seen};
+
+use crate::failure::Failure;
+use crate::file::Files;
+use crate::follow::{Place, Symbol, follow};
+use crate::special::{flat, in_main, weak_lookup};
+use goblin_mach::{Binding, Provider};
+use std::alloc::Allocator;
+
+/// The program whose bindings are answered.
+#[derive(Drop)]
+pub struct Program<'a, A: Allocator> {
+    /// The name by which it is known.
+    pub name: &'a str,
+    /// By ordinal, itself first, whether a library may be absent.
+    pub may_be_absent: Vec<bool, A>,
+}
+
+/// The answer for a binding.
+#[derive(Clone, Copy)]
+pub struct Answer<'a> {
+    /// The name that is sought.
+    pub name: &'a str,
+    /// Who is to give it.
+    pub provider: Provider<'a>,
+    /// Where it is.
+    pub place: Place<'a>,
+    /// Whether it may be nowhere.
+    pub is_weak: bool,
+}
+
+impl<'a> Answer<'a> {
+    /// Whether the binding is settled: the name is found, or may be nowhere.
+    pub fn is_settled(&self) -> bool
+        ensures { result ≡ is_settled (answer_seen self.now) }
+    {
+        match self.place {
+            Place::Found { .. } => true,
+            Place::LeadsBack { .. } => false,
+            Place::NoLibrary { .. }
+            | Place::Missing { .. }
+            | Place::NotGiven { .. }
+            | Place::NotFound
+            | Place::NoMain => self.is_weak,
+        }
+    }
+}
+
+// Whether a provider is a library that is absent here, and may be.
+fn is_missed<A: Allocator>(
+    program: &Program<'_, A>,
+    provider: Provider<'_>,
+    place: Place<'_>,
+) -> bool
+    ensures { result ≡ is_absent_weak (program_seen program.now) (provider_view provider.entry) (place_seen place.entry) }
+{
+    match (provider, place) {
+        (Provider::Library { ordinal, name }, Place::NoLibrary { library }) => {
+            name == library
+                && program
+                    .may_be_absent
+                    .get(ordinal as usize)
+                    .copied()
+                    .unwrap_or(false)
+        }
+        _ => false,
+    }
+}
+
+// Where a name is that a provider is to give.
+fn provided<'a, A: Allocator + Copy>(
+    alloc: A,
+    files: &Files<'a, A>,
+    all: &[usize],
+    program: &Program<'a, A>,
+    provider: Provider<'a>,
+    name: &'a str,
+) -> Result<Place<'a>, Failure>
+    ensures provided { (met : Met) → IsBehindAll (files_seen files.now) met → met.places ≡ all.now
+        → IfOk result (λ place. IsProvided (files_seen files.now) (program_seen program.now) (provider_view provider.entry) name.now (place_seen place)) }
+    ensures refused { IfErr result (IsFailure (TrieFaultAt (files_seen files.now))) }
+{
+    match provider {
+        Provider::Library { name: library, .. } => follow(alloc, files, Symbol { library, name }),
+        Provider::Itself => {
+            let library = program.name;
+            follow(alloc, files, Symbol { library, name })
+        }
+        Provider::MainExecutable => in_main(alloc, files, name),
+        Provider::Flat => flat(alloc, files, all, name),
+        Provider::WeakLookup => weak_lookup(alloc, files, name),
+    }
+}
+
+/// The answer for a binding of a program.
+pub fn answer_for<'a, A: Allocator + Copy>(
+    alloc: A,
+    files: &Files<'a, A>,
+    all: &[usize],
+    program: &Program<'a, A>,
+    binding: Binding<'a>,
+) -> Result<Answer<'a>, Failure>
+    ensures answered { (met : Met) → IsBehindAll (files_seen files.now) met → met.places ≡ all.now
+        → IfOk result (λ a. IsAnswer (files_seen files.now) (program_seen program.now) (binding_view binding.entry) (answer_seen a)) }
+    ensures refused { IfErr result (IsFailure (TrieFaultAt (files_seen files.now))) }
+{
+    let Binding {
+        name,
+        provider,
+        is_weak,
+        ..
+    } = binding;
+    let place = provided(alloc, files, all, program, provider, name)?;
+    Ok(Answer {
+        name,
+        provider,
+        place,
+        is_weak: is_weak || is_missed(program, provider, place),
+    })
+}
+
+/// Whether all bindings are settled.
+pub fn all_settled(answers: &[Answer<'_>]) -> bool
+    ensures { result ≡ list_all is_settled (map answer_seen answers.now) }
+{
+    let mut settled = true;
+    for answer in answers {
+        settled &= answer.is_settled();
+    }
+    settled
+}

@@ -1,0 +1,30 @@
+//! What is asked of a run.
+
+ghost use Rattle.std.specs.Prelude.{◌≡◌};
+ghost use Rattle.machresolve.specs.Lines.{file_at};
+ghost use Rattle.machresolve.specs.Opened.{call_seen, given_seen};
+
+use crate::given::Given;
+
+/// What is asked of a run.
+#[derive(Clone, Copy)]
+pub struct Call<'a, 'b> {
+    /// How many bindings are answered at most, of all images of the program together.
+    pub limit: usize,
+    /// The program, which is file 0.
+    pub program: Given<'a>,
+    /// The libraries, which are the files behind it.
+    pub libraries: &'b [Given<'a>],
+}
+
+impl<'a> Call<'a, '_> {
+    /// The file of a number.
+    pub fn file_at(&self, number: usize) -> Given<'a>
+        ensures { given_seen result ≡ file_at (call_seen self.now) number }
+    {
+        match number.checked_sub(1) {
+            Some(index) => self.libraries.get(index).copied().unwrap_or(self.program),
+            None => self.program,
+        }
+    }
+}

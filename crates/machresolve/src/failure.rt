@@ -1,0 +1,45 @@
+//! Why a program was not resolved.
+
+ghost use Rattle.std.specs.Prelude.{◌≡◌};
+ghost use Rattle.machresolve.specs.Failures.{told_as};
+ghost use Rattle.machresolve.specs.declared.failure.Failure.TheVariants as failures;
+
+use goblin_mach::Error;
+use std::alloc::{AllocError, AllocFailed};
+
+/// Why a program was not resolved.
+#[derive(Drop)]
+pub enum Failure {
+    /// A file was refused: the program, which is file 0, or a library by its number.
+    Refused { file: usize, error: Error },
+    /// Memory was refused.
+    Memory,
+}
+
+impl Failure {
+    /// A file was refused for an error, which may be want of memory.
+    pub fn refused(file: usize, error: Error) -> Failure
+        ensures { result ≡ told_as file error }
+    {
+        match error {
+            Error::Memory(_) => Failure::Memory,
+            other => Failure::Refused { file, error: other },
+        }
+    }
+}
+
+impl From<AllocError> for Failure {
+    ghost from_gives = { λ _ failure. failure ≡ failures.Memory };
+
+    fn from(_error: AllocError) -> Failure {
+        Failure::Memory
+    }
+}
+
+impl<T: Drop> From<AllocFailed<T>> for Failure {
+    ghost from_gives = { λ _ failure. failure ≡ failures.Memory };
+
+    fn from(_error: AllocFailed<T>) -> Failure {
+        Failure::Memory
+    }
+}

@@ -1,0 +1,66 @@
+//! What the tries of the files say of a name.
+
+ghost use Rattle.std.specs.Prelude.{◌≡◌, ◌<◌, ℕ, Bool, length, map, option_map, slice_get, IfOk, IfErr, IfSome, IfNone, OnOk, OnErr, Some, None};
+ghost use Rattle.mach_dyld.specs.Exports.{info_of};
+ghost use Rattle.machresolve.specs.Files.{place_of_file, Says, Lacks, TrieFaultAt};
+ghost use Rattle.machresolve.specs.Follow.{HasFirst, NoneHas};
+ghost use Rattle.machresolve.specs.Failures.{IsFailure};
+ghost use Rattle.machresolve.specs.Seen.{file_seen, files_seen};
+
+use crate::failure::Failure;
+use crate::file::{File, Files};
+use goblin_mach::exports::ExportInfo;
+use std::alloc::Allocator;
+
+impl<'a, A: Allocator + Copy> Files<'a, A> {
+    /// The place of the file of a name.
+    pub fn place_of(&self, name: &str) -> Option<usize>
+        ensures place { result ≡ place_of_file (files_seen self.now) name.now }
+        ensures inside { IfSome result (λ i. i < length self.now.items.items) }
+    {
+        self.names.get_index_of(name)
+    }
+
+    /// What the own trie of the file at a place says of a name, if a file is there: the file and its export.
+    pub fn find(
+        &self,
+        alloc: A,
+        place: usize,
+        name: &str,
+    ) -> Result<Option<(&File<'a, A>, ExportInfo<'a>)>, Failure>
+        ensures found { IfOk result (λ o. IfSome o (λ x. (slice_get (files_seen self.now) place ≡ Some (file_seen x.0.now))
+            × Says (file_seen x.0.now) name.now (Some (info_of x.1)))) }
+        ensures none { IfOk result (λ o. IfNone o (Lacks (files_seen self.now) name.now place)) }
+        ensures refused { IfErr result (IsFailure (TrieFaultAt (files_seen self.now))) }
+    {
+        let Some(file) = self.items.get(place) else {
+            return Ok(None);
+        };
+        match file.image.find_export(alloc, name) {
+            Ok(Some(info)) => Ok(Some((file, info))),
+            Ok(None) => Ok(None),
+            Err(error) => Err(Failure::refused(file.number, error)),
+        }
+    }
+
+    /// Of the files at some places the first whose own trie has a name, and its export.
+    pub fn first_having(
+        &self,
+        alloc: A,
+        places: &[usize],
+        name: &str,
+    ) -> Result<Option<(&File<'a, A>, ExportInfo<'a>)>, Failure>
+        ensures found { IfOk result (λ o. IfSome o (λ x. HasFirst (files_seen self.now) name.now places.now (file_seen x.0.now) (info_of x.1))) }
+        ensures none { IfOk result (λ o. IfNone o (NoneHas (files_seen self.now) name.now places.now)) }
+        ensures refused { IfErr result (IsFailure (TrieFaultAt (files_seen self.now))) }
+    {
+        for place in places {
+            match self.find(alloc, *place, name) {
+                Ok(Some(found)) => return Ok(Some(found)),
+                Ok(None) => {}
+                Err(failure) => return Err(failure),
+            }
+        }
+        Ok(None)
+    }
+}

@@ -1,0 +1,173 @@
+//! A name followed through re-exports, from library to library.
+
+ghost use Rattle.std.specs.Prelude.{◌≡◌, ◌==◌, ◌<◌, ◌^◌, ◌+◌, ◌∷◌, ◌++◌, [], length, map, option_map, bit_and, true, false, Ok, IfOk, IfErr};
+ghost use Rattle.mach_base.specs.Among.{IsAmong};
+ghost use Rattle.mach_dyld.specs.Exports.{info_of};
+ghost use Rattle.machresolve.specs.Files.{TrieFaultAt};
+ghost use Rattle.machresolve.specs.Follow.{FollowsTo, found, nowhere};
+ghost use Rattle.machresolve.specs.Failures.{IsFailure};
+ghost use Rattle.machresolve.specs.Seen.{file_seen, files_seen, edge_seen, symbol_seen, place_seen, LeadsToStep, IsStep};
+
+use crate::behind::{Edge, behind};
+use crate::failure::Failure;
+use crate::file::{File, Files};
+use goblin_mach::exports::{
+    EXPORT_SYMBOL_FLAGS_KIND_ABSOLUTE, EXPORT_SYMBOL_FLAGS_KIND_MASK, ExportInfo,
+};
+use indexmap::IndexSet;
+use std::alloc::{AllocFailed, Allocator};
+use std::hash::{BuildHasherDefault, FoldHasher};
+
+/// A name, and that of the library in which it is sought.
+#[derive(Clone, Copy, PartialEq, Eq, Hash)]
+pub struct Symbol<'a> {
+    pub library: &'a str,
+    pub name: &'a str,
+}
+
+/// Where a name is found, or why it is not. The library is the last that re-exports of tries lead to.
+#[derive(Clone, Copy)]
+pub enum Place<'a> {
+    /// In a file, at this address: counted from the file's start, or an absolute one.
+    Found {
+        file: &'a str,
+        address: u64,
+        is_absolute: bool,
+    },
+    /// The re-exports lead back to this library, to a name that was sought there before.
+    LeadsBack {
+        library: &'a str,
+    },
+    /// None of the files has this name.
+    NoLibrary {
+        library: &'a str,
+    },
+    /// Neither the library nor what it re-exports as a whole has the name.
+    Missing {
+        library: &'a str,
+    },
+    /// The same, but this library re-exports another, which is not given.
+    NotGiven {
+        library: &'a str,
+        reexported: &'a str,
+    },
+    /// None of the files has the name.
+    NotFound,
+    /// None of the files is a main executable.
+    NoMain,
+}
+
+/// What is said of a symbol in its library.
+pub enum Step<'a> {
+    /// Another symbol stands for it.
+    Leads(Symbol<'a>),
+    /// It leads no further.
+    Ends(Place<'a>),
+}
+
+/// What an export of a file leads to, by the name under which it was sought.
+pub fn lead<'a, A: Allocator>(file: &File<'a, A>, info: ExportInfo<'a>, name: &'a str) -> Step<'a>
+    ensures { LeadsToStep (file_seen file.now) (info_of info.entry) name.now result }
+{
+    match info {
+        ExportInfo::Regular { address, flags } => Step::Ends(found(file, address, flags)),
+        ExportInfo::Stub {
+            stub_offset,
+            flags,
+            ..
+        } => Step::Ends(found(file, u64::from(stub_offset), flags)),
+        ExportInfo::Reexport {
+            lib,
+            lib_symbol_name,
+            ..
+        } => Step::Leads(Symbol {
+            library: lib,
+            name: lib_symbol_name.unwrap_or(name),
+        }),
+    }
+}
+
+// The place at an address of a file.
+fn found<'a, A: Allocator>(file: &File<'a, A>, address: u64, flags: u64) -> Place<'a>
+    ensures { place_seen result ≡ found file.now.name.now address (bit_and flags 3 == 2) }
+{
+    Place::Found {
+        file: file.name,
+        address,
+        is_absolute: flags & EXPORT_SYMBOL_FLAGS_KIND_MASK == EXPORT_SYMBOL_FLAGS_KIND_ABSOLUTE,
+    }
+}
+
+// Notes a symbol on the way, and answers whether it was not noted before.
+fn note<'a, A: Allocator + Copy>(
+    met: &mut IndexSet<Symbol<'a>, BuildHasherDefault<FoldHasher>, A>,
+    symbol: Symbol<'a>,
+) -> Result<bool, AllocFailed<Symbol<'a>>>
+    ensures few { result ≡ Ok true → (length met.old.keys < 2 ^ 63) × (length met.new.keys ≡ length met.old.keys + 1) }
+    ensures fresh { result ≡ Ok true → (map symbol_seen met.new.keys ≡ map symbol_seen met.old.keys ++ symbol_seen symbol.entry ∷ [])
+        × (IsAmong (symbol_seen symbol.entry) (map symbol_seen met.old.keys) → ⊥) }
+    ensures again { result ≡ Ok false → IsAmong (symbol_seen symbol.entry) (map symbol_seen met.old.keys) }
+{
+    let before = met.len();
+    met.insert(symbol)?;
+    Ok(met.len() > before)
+}
+
+// What is said of a symbol in its library: by the first file behind it whose own trie has the name.
+fn turn<'a, A: Allocator + Copy>(
+    alloc: A,
+    files: &Files<'a, A>,
+    symbol: Symbol<'a>,
+) -> Result<Step<'a>, Failure>
+    ensures step { IfOk result (IsStep (files_seen files.now) (symbol_seen symbol.entry)) }
+    ensures refused { IfErr result (IsFailure (TrieFaultAt (files_seen files.now))) }
+{
+    let Symbol { library, name } = symbol;
+    let Some(_) = files.place_of(library) else {
+        return Ok(Step::Ends(Place::NoLibrary { library }));
+    };
+    let behind = behind(alloc, files, library)?;
+    match files.first_having(alloc, behind.places.as_slice(), name) {
+        Ok(Some((file, info))) => Ok(lead(file, info, name)),
+        Ok(None) => Ok(Step::Ends(nowhere(library, behind.gap))),
+        Err(failure) => Err(failure),
+    }
+}
+
+// The end of a name that nothing behind a library has.
+fn nowhere<'a>(library: &'a str, gap: Option<Edge<'a>>) -> Place<'a>
+    ensures { place_seen result ≡ nowhere library.now (option_map edge_seen gap.entry) }
+{
+    match gap {
+        Some(Edge { from, to }) => Place::NotGiven {
+            library: from,
+            reexported: to,
+        },
+        None => Place::Missing { library },
+    }
+}
+
+/// Where a symbol leads: to its end, or back to a symbol that it met on this way.
+pub fn follow<'a, A: Allocator + Copy>(
+    alloc: A,
+    files: &Files<'a, A>,
+    start: Symbol<'a>,
+) -> Result<Place<'a>, Failure>
+    ensures followed { IfOk result (λ place. FollowsTo (files_seen files.now) [] (symbol_seen start.entry) (place_seen place)) }
+    ensures refused { IfErr result (IsFailure (TrieFaultAt (files_seen files.now))) }
+{
+    let mut met = IndexSet::new(alloc);
+    let mut sought = start;
+    'turns: loop {
+        if !note(&mut met, sought)? {
+            return Ok(Place::LeadsBack {
+                library: sought.library,
+            });
+        }
+        match turn(alloc, files, sought) {
+            Ok(Step::Leads(next)) => sought = next,
+            Ok(Step::Ends(place)) => return Ok(place),
+            Err(failure) => return Err(failure),
+        }
+    }
+}

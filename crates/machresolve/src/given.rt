@@ -1,0 +1,253 @@
+//! The files as they were given, opened.
+
+ghost use Rattle.std.specs.Prelude.{◌≡◌, ℕ, List, None, map, IfOk, IfErr, IfSome, IfNone};
+ghost use Rattle.mach_base.specs.Text.{texts};
+ghost use Rattle.goblin_mach.specs.Libraries.{libraries_in};
+ghost use Rattle.goblin_mach.specs.OpenImage.{IsImage, bytes_held, commands_held, ctx_held};
+ghost use Rattle.goblin_mach.specs.FatFile.{file_held};
+ghost use Rattle.machresolve.specs.Failures.{IsFailure};
+ghost use Rattle.mach_base.specs.declared.error.Error.TheVariants as errors;
+ghost use Rattle.machresolve.specs.Cpu.{HasFor, HasTable, fat_table_view};
+ghost use Rattle.machresolve.specs.Given.{IsFile, IsLibrary, only, Adds, AddsLibrary, GathersFor, reexported, may_be_absent};
+ghost use Rattle.machresolve.specs.Given.{NumberedFault, OpenFault, LibraryFault, FaultFor};
+ghost use Rattle.machresolve.specs.Seen.{file_seen, gathered_seen};
+ghost use Rattle.machresolve.specs.Opened.{given_seen};
+
+use crate::failure::Failure;
+use crate::file::{File, Files};
+use crate::note::Note;
+use goblin_mach::header::MH_EXECUTE;
+use goblin_mach::{ArchRecord, Error, FatTable, Input, MachO, laws};
+use indexmap::IndexSet;
+use std::alloc::{AllocError, Allocator};
+
+/// A file as it was given.
+#[derive(Clone, Copy)]
+pub struct Given<'a> {
+    pub path: &'a str,
+    pub bytes: &'a [u8],
+}
+
+// The libraries that an image re-exports as a whole, in order.
+fn reexports_of<'a, A: Allocator + Copy>(
+    alloc: A,
+    image: &MachO<'a, A>,
+) -> Result<Vec<&'a str, A>, AllocError>
+    ensures { IfOk result (λ v. texts v.items ≡ reexported (libraries_in (ctx_held image.now).le (bytes_held image.now) (commands_held image.now))) }
+{
+    let mut names = Vec::new(alloc);
+    'libraries: for library in image.libraries() {
+        if library.attributes.is_reexport {
+            names.push(library.name)?;
+        }
+    }
+    Ok(names)
+}
+
+/// By ordinal, an image itself first, whether a library of it may be absent.
+pub fn absences_of<'a, A: Allocator + Copy>(
+    alloc: A,
+    image: &MachO<'a, A>,
+) -> Result<Vec<bool, A>, AllocError>
+    ensures { IfOk result (λ v. v.items ≡ may_be_absent (libraries_in (ctx_held image.now).le (bytes_held image.now) (commands_held image.now))) }
+{
+    let mut absences = Vec::new(alloc);
+    absences.push(false)?;
+    'libraries: for library in image.libraries() {
+        absences.push(library.attributes.is_weak)?;
+    }
+    Ok(absences)
+}
+
+// The file that an opened image is.
+fn file_of<'a, A: Allocator + Copy>(
+    alloc: A,
+    number: usize,
+    path: &'a str,
+    image: MachO<'a, A>,
+) -> Result<File<'a, A>, AllocError>
+    ensures { (bytes : List ℕ) → IsImage bytes 0 image.entry → IfOk result (λ f. IsFile number (record { path = path.now; bytes = bytes }) (file_seen f)) }
+{
+    laws::libraries_by_kind_of_image(&image);
+    Ok(File {
+        number,
+        name: image.name.unwrap_or(path),
+        is_main: image.header.filetype == MH_EXECUTE,
+        reexports: reexports_of(alloc, &image)?,
+        image,
+    })
+}
+
+/// Why an archive is refused: its first four bytes are no magic of Mach-O's.
+pub fn archive_error() -> Error
+    ensures { result ≡ errors.BadMagic 0x213c_6172 }
+{
+    Error::BadMagic(0x213c_6172)
+}
+
+// The file of a number, opened.
+fn open<'a, A: Allocator + Copy>(
+    alloc: A,
+    number: usize,
+    given: Given<'a>,
+) -> Result<File<'a, A>, Failure>
+    ensures opened { IfOk result (λ f. IsFile number (given_seen given.entry) (file_seen f)) }
+    ensures refused { IfErr result (IsFailure (OpenFault number (given_seen given.entry))) }
+{
+    match MachO::parse(alloc, given.bytes, 0) {
+        Ok(image) => Ok(file_of(alloc, number, given.path, image)?),
+        Err(error) => Err(Failure::refused(number, error)),
+    }
+}
+
+// The file that a fat library of a number is for a cpu: its first entry of it, or none.
+fn open_entry<'a, R: ArchRecord, A: Allocator + Copy>(
+    alloc: A,
+    cputype: u32,
+    number: usize,
+    given: Given<'a>,
+    container: &FatTable<'a, R, A>,
+) -> Result<Option<File<'a, A>>, Failure>
+    ensures opened { HasTable given.entry.bytes.now (fat_table_view R.arch_form given.entry.bytes.now (file_held container.now))
+        → IfOk result (λ o. IfSome o (λ f. IsLibrary cputype number (given_seen given.entry) (file_seen f))) }
+    ensures none { HasTable given.entry.bytes.now (fat_table_view R.arch_form given.entry.bytes.now (file_held container.now))
+        → IfOk result (λ o. IfNone o (HasFor given.entry.bytes.now cputype None)) }
+    ensures refused { HasTable given.entry.bytes.now (fat_table_view R.arch_form given.entry.bytes.now (file_held container.now))
+        → IfErr result (IsFailure (NumberedFault number (LibraryFault cputype (given_seen given.entry)))) }
+{
+    let Given { path, bytes } = given;
+    match container.find_cputype(cputype) {
+        Ok(Some(arch)) => {
+            let bytes = arch.entry_slice(bytes);
+            match open(alloc, number, Given { path, bytes }) {
+                Ok(file) => Ok(Some(file)),
+                Err(failure) => Err(failure),
+            }
+        }
+        Ok(None) => Ok(None),
+        Err(error) => Err(Failure::refused(number, error)),
+    }
+}
+
+// The file that a library of a number is for a cpu: the image, where it is one of the cpu; of a fat file the first
+// entry of it; or none.
+fn open_library<'a, A: Allocator + Copy>(
+    alloc: A,
+    cputype: u32,
+    number: usize,
+    given: Given<'a>,
+) -> Result<Option<File<'a, A>>, Failure>
+    ensures opened { IfOk result (λ o. IfSome o (λ f. IsLibrary cputype number (given_seen given.entry) (file_seen f))) }
+    ensures none { IfOk result (λ o. IfNone o (HasFor given.entry.bytes.now cputype None)) }
+    ensures refused { IfErr result (IsFailure (NumberedFault number (LibraryFault cputype (given_seen given.entry)))) }
+{
+    match Input::parse(alloc, given.bytes) {
+        Ok(Input::Image(image)) => {
+            if image.header.cputype == cputype {
+                Ok(Some(file_of(alloc, number, given.path, image)?))
+            } else {
+                Ok(None)
+            }
+        }
+        Ok(Input::Fat(container)) => open_entry(alloc, cputype, number, given, &container),
+        Ok(Input::Fat64(container)) => open_entry(alloc, cputype, number, given, &container),
+        Ok(Input::Archive(_)) => Err(Failure::refused(number, archive_error())),
+        Err(error) => Err(Failure::refused(number, error)),
+    }
+}
+
+/// The files that count, in order, and notes of the others.
+#[derive(Drop)]
+pub struct Gathered<'a, A: Allocator> {
+    pub files: Files<'a, A>,
+    pub notes: Vec<Note<'a>, A>,
+}
+
+// Adds a file, unless one of its name is there; that is noted then.
+fn add<'a, A: Allocator + Copy>(
+    gathered: Gathered<'a, A>,
+    file: File<'a, A>,
+) -> Result<Gathered<'a, A>, AllocError>
+    ensures { IfOk result (λ g. Adds (gathered_seen gathered.entry) (file_seen file.entry) (gathered_seen g)) }
+{
+    let Gathered { files, mut notes } = gathered;
+    let Files {
+        mut items,
+        mut names,
+        ..
+    } = files;
+    if names.insert(file.name)? {
+        items.push(file)?;
+    } else {
+        notes.push(Note::GivenBefore {
+            library: file.number,
+            name: file.name,
+        })?;
+    }
+    let files = Files { items, names };
+    Ok(Gathered { files, notes })
+}
+
+// One file alone.
+fn only<'a, A: Allocator + Copy>(alloc: A, file: File<'a, A>) -> Result<Gathered<'a, A>, AllocError>
+    ensures { IfOk result (λ g. gathered_seen g ≡ only (file_seen file.entry)) }
+{
+    let mut names = IndexSet::new(alloc);
+    let mut items = Vec::new(alloc);
+    names.insert(file.name)?;
+    items.push(file)?;
+    Ok(Gathered {
+        files: Files { items, names },
+        notes: Vec::new(alloc),
+    })
+}
+
+// Adds what the library of a number is for a cpu; where it is nothing, that is noted.
+fn add_library<'a, A: Allocator + Copy>(
+    alloc: A,
+    cputype: u32,
+    number: usize,
+    given: Given<'a>,
+    gathered: Gathered<'a, A>,
+) -> Result<Gathered<'a, A>, Failure>
+    ensures added { IfOk result (λ g. AddsLibrary cputype number (given_seen given.entry) (gathered_seen gathered.entry) (gathered_seen g)) }
+    ensures refused { IfErr result (IsFailure (NumberedFault number (LibraryFault cputype (given_seen given.entry)))) }
+{
+    match open_library(alloc, cputype, number, given) {
+        Ok(Some(file)) => Ok(add(gathered, file)?),
+        Ok(None) => {
+            let Gathered { files, mut notes } = gathered;
+            notes.push(Note::NothingFor {
+                library: number,
+                cputype,
+            })?;
+            Ok(Gathered { files, notes })
+        }
+        Err(failure) => Err(failure),
+    }
+}
+
+/// The program, which is an image of a cpu, and the libraries as they are for the cpu, each opened, in order: of
+/// those of one name the first.
+pub fn gather<'a, A: Allocator + Copy>(
+    alloc: A,
+    cputype: u32,
+    program: Given<'a>,
+    libraries: &[Given<'a>],
+) -> Result<Gathered<'a, A>, Failure>
+    ensures gathered { IfOk result (λ g. GathersFor cputype (given_seen program.entry) (map given_seen libraries.now) (gathered_seen g)) }
+    ensures refused { IfErr result (IsFailure (FaultFor cputype (given_seen program.entry) (map given_seen libraries.now))) }
+{
+    let file = match open(alloc, 0, program) {
+        Ok(file) => file,
+        Err(failure) => return Err(failure),
+    };
+    let mut gathered = only(alloc, file)?;
+    for index in 0..libraries.len() {
+        gathered = match add_library(alloc, cputype, index + 1, libraries[index], gathered) {
+            Ok(more) => more,
+            Err(failure) => return Err(failure),
+        };
+    }
+    Ok(gathered)
+}

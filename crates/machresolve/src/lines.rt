@@ -1,0 +1,147 @@
+//! Answers and notes as they are printed.
+
+ghost use Rattle.std.specs.Prelude.{◌≡◌, Some};
+ghost use Rattle.mach_parts.specs.Bindings.{provider_view};
+ghost use Rattle.machresolve.specs.Lines.{provider_text, place_text, front_text, answer_text, nothing_words, nothing_text, note_text};
+ghost use Rattle.machresolve.specs.Opened.{call_seen, given_seen};
+ghost use Rattle.machresolve.specs.Seen.{place_seen, answer_seen, note_seen};
+
+use crate::answers::Answer;
+use crate::call::Call;
+use crate::follow::Place;
+use crate::given::Given;
+use crate::note::Note;
+use goblin_mach::Provider;
+use std::fmt;
+use std::fmt::{Display, Formatter, Write};
+
+// Who is to give a name.
+#[derive(Clone, Copy)]
+struct ProviderText<'a>(Provider<'a>);
+
+impl<'a> Display for ProviderText<'a> {
+    ghost output = { λ t. Some (provider_text (provider_view t.0)) };
+
+    fn fmt<W: Write>(&self, f: &mut Formatter<W>) -> fmt::Result {
+        match self.0 {
+            Provider::Library { name, .. } => write!(f, "{name}"),
+            Provider::Itself => write!(f, "this-image"),
+            Provider::MainExecutable => write!(f, "main-executable"),
+            Provider::Flat => write!(f, "flat-namespace"),
+            Provider::WeakLookup => write!(f, "weak-lookup"),
+        }
+    }
+}
+
+// Where a name is, or why it is nowhere.
+#[derive(Clone, Copy)]
+struct PlaceText<'a>(Place<'a>);
+
+impl<'a> Display for PlaceText<'a> {
+    ghost output = { λ t. Some (place_text (place_seen t.0)) };
+
+    fn fmt<W: Write>(&self, f: &mut Formatter<W>) -> fmt::Result {
+        match self.0 {
+            Place::Found {
+                file,
+                address,
+                is_absolute: false,
+            } => write!(f, "0x{address:x} in {file}"),
+            Place::Found { file, address, .. } => write!(f, "absolute 0x{address:x} in {file}"),
+            Place::LeadsBack { library } => write!(f, "leads back to {library}"),
+            Place::NoLibrary { library } => write!(f, "no library {library}"),
+            Place::Missing { library } => write!(f, "missing in {library}"),
+            Place::NotGiven {
+                library,
+                reexported,
+            } => write!(
+                f,
+                "not found; {library} re-exports {reexported}, which is not given"
+            ),
+            Place::NotFound => write!(f, "not found"),
+            Place::NoMain => write!(f, "no main executable"),
+        }
+    }
+}
+
+impl<'a> Answer<'a> {
+    // What stands before the place: whether the name may be nowhere, where that is so and it is.
+    fn front(&self) -> &'static str
+        ensures { result.now ≡ front_text (answer_seen self.now) }
+    {
+        match self.place {
+            Place::Found { .. } | Place::LeadsBack { .. } => "",
+            _ if self.is_weak => "weak, ",
+            _ => "",
+        }
+    }
+}
+
+impl<'a> Display for Answer<'a> {
+    ghost output = { λ a. Some (answer_text (answer_seen a)) };
+
+    fn fmt<W: Write>(&self, f: &mut Formatter<W>) -> fmt::Result {
+        let name = self.name;
+        let provider = ProviderText(self.provider);
+        let front = self.front();
+        let place = PlaceText(self.place);
+        write!(f, "{name} {provider} {front}{place}")
+    }
+}
+
+// That nothing is there for a cpu.
+#[derive(Clone, Copy)]
+struct NothingWords(u32);
+
+impl Display for NothingWords {
+    ghost output = { λ t. Some (nothing_words t.0) };
+
+    fn fmt<W: Write>(&self, f: &mut Formatter<W>) -> fmt::Result {
+        let cputype = self.0;
+        write!(f, "nothing for cputype 0x{cputype:x}")
+    }
+}
+
+/// A file that has nothing for a cpu.
+#[derive(Clone, Copy)]
+pub struct NothingText<'a> {
+    pub file: Given<'a>,
+    pub cputype: u32,
+}
+
+impl Display for NothingText<'_> {
+    ghost output = { λ t. Some (nothing_text (given_seen t.file) t.cputype) };
+
+    fn fmt<W: Write>(&self, f: &mut Formatter<W>) -> fmt::Result {
+        let path = self.file.path;
+        let words = NothingWords(self.cputype);
+        write!(f, "{path}: {words}")
+    }
+}
+
+/// A note of a run.
+#[derive(Clone, Copy)]
+pub struct NoteText<'a, 'b> {
+    pub call: Call<'a, 'b>,
+    pub note: Note<'a>,
+}
+
+impl Display for NoteText<'_, '_> {
+    ghost output = { λ t. Some (note_text (call_seen t.call) (note_seen t.note)) };
+
+    fn fmt<W: Write>(&self, f: &mut Formatter<W>) -> fmt::Result {
+        match self.note {
+            Note::GivenBefore { library, name } => {
+                let path = self.call.file_at(library).path;
+                write!(f, "{path}: {name} is given before")
+            }
+            Note::NothingFor { library, cputype } => {
+                let nothing = NothingText {
+                    file: self.call.file_at(library),
+                    cputype,
+                };
+                write!(f, "{nothing}")
+            }
+        }
+    }
+}

@@ -1,0 +1,34 @@
+//! Libraries that count for nothing, and why.
+
+ghost use Rattle.std.specs.Prelude.{◌≡◌, map, OnOk};
+ghost use Rattle.machresolve.specs.Note.{all_noted};
+ghost use Rattle.machresolve.specs.Seen.{note_seen};
+
+use indexmap::IndexSet;
+use std::alloc::{AllocFailed, Allocator};
+use std::hash::{BuildHasherDefault, FoldHasher};
+
+/// Why a library, by its number, counts for nothing.
+#[derive(Clone, Copy, PartialEq, Eq, Hash)]
+pub enum Note<'a> {
+    /// A file of its name is given before it.
+    GivenBefore { library: usize, name: &'a str },
+    /// It has nothing for a cpu.
+    NothingFor { library: usize, cputype: u32 },
+}
+
+/// Notes, each once, in the order in which they were made first.
+pub type Notes<'a, A> = IndexSet<Note<'a>, BuildHasherDefault<FoldHasher>, A>;
+
+/// Adds some notes, but for those that are there.
+pub fn note_all<'a, A: Allocator + Copy>(
+    noted: &mut Notes<'a, A>,
+    notes: &[Note<'a>],
+) -> Result<(), AllocFailed<Note<'a>>>
+    ensures { OnOk result (map note_seen noted.new.keys ≡ all_noted (map note_seen noted.old.keys) (map note_seen notes.now)) }
+{
+    'notes: for note in notes {
+        noted.insert(*note)?;
+    }
+    Ok(())
+}

@@ -1,0 +1,61 @@
+//! Why a file is refused, in words.
+
+ghost use Rattle.std.specs.Prelude.{◌≡◌};
+ghost use Rattle.machresolve.specs.Refusals.{has_table, kind_told};
+
+use crate::given::Given;
+use goblin_mach::fat::{FAT_MAGIC, SIZEOF_FAT_ARCH, SIZEOF_FAT_HEADER};
+use goblin_mach::{Error, describe, peek};
+use mach_cli::{Foreign, refused_kind};
+use std::fmt;
+use std::fmt::{Display, Formatter, Write};
+
+// Whether the bytes hold the table of a fat file.
+fn has_table(bytes: &[u8]) -> bool
+    ensures { result ≡ has_table bytes.now }
+{
+    match (peek(bytes, 0), peek(bytes, 4)) {
+        (Ok(magic), Ok(count)) => {
+            let table = SIZEOF_FAT_HEADER as u64 + SIZEOF_FAT_ARCH as u64 * u64::from(count);
+            magic == FAT_MAGIC && table <= bytes.len() as u64
+        }
+        _ => false,
+    }
+}
+
+// The kind of a file that is refused for this error, where it is none of Mach-O's.
+fn kind_told(bytes: &[u8], error: &Error) -> Option<Foreign>
+    ensures { result ≡ kind_told bytes.now error.now }
+{
+    if has_table(bytes) {
+        None
+    } else {
+        refused_kind(bytes, error)
+    }
+}
+
+/// Why a file is refused.
+#[derive(Clone, Copy)]
+pub struct RefusalText<'a, 'b> {
+    pub file: Given<'a>,
+    pub error: &'b Error,
+}
+
+impl Display for RefusalText<'_, '_> {
+    ghost use Rattle.std.specs.Prelude.{Some};
+    ghost use Rattle.machresolve.specs.Lines.{refusal_text};
+    ghost use Rattle.machresolve.specs.Opened.{given_seen};
+
+    ghost output = { λ t. Some (refusal_text (given_seen t.file) t.error.now) };
+
+    fn fmt<W: Write>(&self, f: &mut Formatter<W>) -> fmt::Result {
+        let Given { path, bytes } = self.file;
+        match kind_told(bytes, self.error) {
+            Some(kind) => write!(f, "{path}: {kind}"),
+            None => {
+                let words = describe(self.error);
+                write!(f, "{path}: {words}")
+            }
+        }
+    }
+}

@@ -1,0 +1,301 @@
+//! What is told of a program: of one image, or of each entry of a fat one.
+
+ghost use Rattle.std.specs.Prelude.{◌≡◌, ◌≤◌, map, Some, None, IfOk, IfErr};
+ghost use Rattle.std.specs.List.{list_all};
+ghost use Rattle.goblin_mach.specs.FatFile.{file_held};
+ghost use Rattle.machresolve.specs.Cpu.{HasTable, IsOfCpu, entry_bytes, fat_table_view};
+ghost use Rattle.machresolve.specs.Opened.{given_seen};
+ghost use Rattle.machresolve.specs.Report.{entry_of_program, IsOneOf, IsOutcome, IsEntryOutcome, AreEntryOutcomes, IsProgramReport, TellsError, answer_count};
+ghost use Rattle.machresolve.specs.Report.{answers_in, is_whole, all_whole};
+ghost use Rattle.machresolve.specs.Seen.{outcome_seen, report_seen, IsOutcomeOfFailure};
+ghost use Rattle.machresolve.specs.declared.failure.Failure.TheVariants as failures;
+
+use crate::answers::all_settled;
+use crate::failure::Failure;
+use crate::given::{Given, archive_error};
+use crate::resolve::{Resolved, resolve};
+use goblin_mach::{ArchRecord, Error, FatTable, Input};
+use std::alloc::Allocator;
+
+/// What is told of one program.
+#[derive(Drop)]
+pub enum Outcome<'a, A: Allocator> {
+    /// Its answers.
+    Answered(Resolved<'a, A>),
+    /// It is an archive.
+    Archive,
+    /// A file is refused: the program, which is file 0, or a library by its number.
+    Refused { file: usize, error: Error },
+}
+
+/// What is told of a whole file.
+#[derive(Drop)]
+pub enum Report<'a, A: Allocator> {
+    /// Of one image, or of the entry that is asked for; or why the file is refused.
+    One(Outcome<'a, A>),
+    /// Of each entry of a fat file, in order.
+    Entries(Vec<Outcome<'a, A>, A>),
+    /// It has nothing for this cpu.
+    Nothing(u32),
+}
+
+impl<'a, A: Allocator> Outcome<'a, A> {
+    // Whether all is answered and settled, and nothing refused.
+    fn is_whole(&self) -> bool
+        ensures { result ≡ is_whole (outcome_seen self.now) }
+    {
+        match self {
+            Outcome::Answered(resolved) => { all_settled(&resolved.answers) && !resolved.more }
+            Outcome::Archive => true,
+            Outcome::Refused { .. } => false,
+        }
+    }
+
+    // How many bindings are answered.
+    fn answer_count(&self) -> usize
+        ensures { result ≡ answer_count (outcome_seen self.now) }
+    {
+        match self {
+            Outcome::Answered(resolved) => resolved.answers.len(),
+            Outcome::Archive | Outcome::Refused { .. } => 0,
+        }
+    }
+}
+
+// Whether all is answered and settled in all entries, and nothing refused.
+fn all_whole<A: Allocator>(outcomes: &[Outcome<'_, A>]) -> bool
+    ensures { result ≡ list_all is_whole (map outcome_seen outcomes.now) }
+{
+    let mut whole = true;
+    for outcome in outcomes {
+        whole &= outcome.is_whole();
+    }
+    whole
+}
+
+impl<'a, A: Allocator> Report<'a, A> {
+    /// Whether all is answered and settled, and nothing refused.
+    pub fn is_whole(&self) -> bool
+        ensures { result ≡ all_whole (report_seen self.now) }
+    {
+        match self {
+            Report::One(outcome) => outcome.is_whole(),
+            Report::Entries(outcomes) => all_whole(outcomes),
+            Report::Nothing(_) => false,
+        }
+    }
+}
+
+// The outcome for a refused file; want of memory stays a failure.
+fn refusal<'a, A: Allocator>(failure: Failure) -> Result<Outcome<'a, A>, Failure>
+    ensures { IsOutcomeOfFailure failure result }
+{
+    match failure {
+        Failure::Refused { file, error } => Ok(Outcome::Refused { file, error }),
+        Failure::Memory => Err(failure),
+    }
+}
+
+// The outcome for an image.
+fn outcome_for<'a, A: Allocator + Copy>(
+    alloc: A,
+    limit: usize,
+    program: Given<'a>,
+    libraries: &[Given<'a>],
+) -> Result<Outcome<'a, A>, Failure>
+    ensures told { IfOk result (λ o. IsOutcome limit (given_seen program.entry) (map given_seen libraries.now) (outcome_seen o)) }
+    ensures memory { IfErr result (λ failure. failure ≡ failures.Memory) }
+{
+    match resolve(alloc, limit, program, libraries) {
+        Ok(resolved) => Ok(Outcome::Answered(resolved)),
+        Err(failure) => refusal(failure),
+    }
+}
+
+// The outcome for an entry of a fat program, by its record.
+fn entry_outcome<'a, R: ArchRecord, A: Allocator + Copy>(
+    alloc: A,
+    limit: usize,
+    program: Given<'a>,
+    arch: &R,
+    libraries: &[Given<'a>],
+) -> Result<Outcome<'a, A>, Failure>
+    ensures told { IfOk result (λ o. IsEntryOutcome limit
+        (entry_of_program (given_seen program.entry) (entry_bytes R.arch_form program.entry.bytes.now arch.now)) (map given_seen libraries.now)
+        (outcome_seen o)) }
+    ensures memory { IfErr result (λ failure. failure ≡ failures.Memory) }
+{
+    let Given { path, bytes } = program;
+    let bytes = arch.entry_slice(bytes);
+    if bytes.starts_with(b"!<arch>\n") {
+        Ok(Outcome::Archive)
+    } else {
+        outcome_for(alloc, limit, Given { path, bytes }, libraries)
+    }
+}
+
+// The outcomes for the entries of a fat program, by their records, in order, each within what those before it leave of
+// `limit` bindings.
+fn entry_outcomes<'a, R: ArchRecord, A: Allocator + Copy>(
+    alloc: A,
+    limit: usize,
+    program: Given<'a>,
+    arches: &[R],
+    libraries: &[Given<'a>],
+) -> Result<Vec<Outcome<'a, A>, A>, Failure>
+    ensures told { IfOk result (λ v. AreEntryOutcomes limit (given_seen program.entry) (map given_seen libraries.now)
+        (map (entry_bytes R.arch_form program.entry.bytes.now) arches.now) (map outcome_seen v.items)) }
+    ensures memory { IfErr result (λ failure. failure ≡ failures.Memory) }
+{
+    let mut outcomes = Vec::new(alloc);
+    let mut left = limit;
+    'arches: for arch in arches {
+        match entry_outcome(alloc, left, program, arch, libraries) {
+            Ok(outcome) => {
+                left -= outcome.answer_count();
+                outcomes.push(outcome)?;
+            }
+            Err(failure) => return Err(failure),
+        }
+    }
+    Ok(outcomes)
+}
+
+// What is told of a program that is refused for an error; want of memory is a failure.
+fn report_refused<'a, A: Allocator>(error: Error) -> Result<Report<'a, A>, Failure>
+    ensures told { IfOk result (λ r. TellsError error (report_seen r)) }
+    ensures memory { IfErr result (λ failure. failure ≡ failures.Memory) }
+{
+    match error {
+        Error::Memory(_) => Err(Failure::Memory),
+        error => Ok(Report::One(Outcome::Refused { file: 0, error })),
+    }
+}
+
+// What is told of a fat program, of all its entries.
+fn report_all<'a, R: ArchRecord, A: Allocator + Copy>(
+    alloc: A,
+    limit: usize,
+    program: Given<'a>,
+    container: &FatTable<'a, R, A>,
+    libraries: &[Given<'a>],
+) -> Result<Report<'a, A>, Failure>
+    ensures told { HasTable program.entry.bytes.now (fat_table_view R.arch_form program.entry.bytes.now (file_held container.now))
+        → IfOk result (λ r. IsProgramReport limit (given_seen program.entry) (map given_seen libraries.now) None (report_seen r)) }
+    ensures memory { IfErr result (λ failure. failure ≡ failures.Memory) }
+{
+    match container.arches() {
+        Ok(arches) => match entry_outcomes(alloc, limit, program, &arches, libraries) {
+            Ok(outcomes) => Ok(Report::Entries(outcomes)),
+            Err(failure) => Err(failure),
+        },
+        Err(error) => report_refused(error),
+    }
+}
+
+// What is told of a fat program, of its first entry of a cpu.
+fn report_entry<'a, R: ArchRecord, A: Allocator + Copy>(
+    alloc: A,
+    cputype: u32,
+    limit: usize,
+    program: Given<'a>,
+    container: &FatTable<'a, R, A>,
+    libraries: &[Given<'a>],
+) -> Result<Report<'a, A>, Failure>
+    ensures told { HasTable program.entry.bytes.now (fat_table_view R.arch_form program.entry.bytes.now (file_held container.now))
+        → IfOk result (λ r. IsProgramReport limit (given_seen program.entry) (map given_seen libraries.now) (Some cputype) (report_seen r)) }
+    ensures memory { IfErr result (λ failure. failure ≡ failures.Memory) }
+{
+    match container.find_cputype(cputype) {
+        Ok(Some(arch)) => match entry_outcome(alloc, limit, program, &arch, libraries) {
+            Ok(outcome) => Ok(Report::One(outcome)),
+            Err(failure) => Err(failure),
+        },
+        Ok(None) => Ok(Report::Nothing(cputype)),
+        Err(error) => report_refused(error),
+    }
+}
+
+// What is told of a program that is one image.
+fn report_one<'a, A: Allocator + Copy>(
+    alloc: A,
+    limit: usize,
+    program: Given<'a>,
+    libraries: &[Given<'a>],
+) -> Result<Report<'a, A>, Failure>
+    ensures told { IfOk result (λ r. IsOneOf (IsOutcome limit (given_seen program.entry) (map given_seen libraries.now)) (report_seen r)) }
+    ensures memory { IfErr result (λ failure. failure ≡ failures.Memory) }
+{
+    match outcome_for(alloc, limit, program, libraries) {
+        Ok(outcome) => Ok(Report::One(outcome)),
+        Err(failure) => Err(failure),
+    }
+}
+
+// What is told of a program that is one image of a cpu.
+fn report_image<'a, A: Allocator + Copy>(
+    alloc: A,
+    wanted: Option<u32>,
+    cputype: u32,
+    limit: usize,
+    program: Given<'a>,
+    libraries: &[Given<'a>],
+) -> Result<Report<'a, A>, Failure>
+    ensures told { IsOfCpu program.entry.bytes.now cputype
+        → IfOk result (λ r. IsProgramReport limit (given_seen program.entry) (map given_seen libraries.now) wanted (report_seen r)) }
+    ensures memory { IfErr result (λ failure. failure ≡ failures.Memory) }
+{
+    match wanted {
+        Some(other) if other != cputype => Ok(Report::Nothing(other)),
+        Some(_) => report_one(alloc, limit, program, libraries),
+        None => report_one(alloc, limit, program, libraries),
+    }
+}
+
+// What is told of a fat program: of all its entries, or of the first of a cpu that is wanted.
+fn report_fat<'a, R: ArchRecord, A: Allocator + Copy>(
+    alloc: A,
+    wanted: Option<u32>,
+    limit: usize,
+    program: Given<'a>,
+    container: &FatTable<'a, R, A>,
+    libraries: &[Given<'a>],
+) -> Result<Report<'a, A>, Failure>
+    ensures told { HasTable program.entry.bytes.now (fat_table_view R.arch_form program.entry.bytes.now (file_held container.now))
+        → IfOk result (λ r. IsProgramReport limit (given_seen program.entry) (map given_seen libraries.now) wanted (report_seen r)) }
+    ensures memory { IfErr result (λ failure. failure ≡ failures.Memory) }
+{
+    match wanted {
+        Some(cputype) => report_entry(alloc, cputype, limit, program, container, libraries),
+        None => report_all(alloc, limit, program, container, libraries),
+    }
+}
+
+/// What is told of a program: of all of it, or of what it has for a cpu that is wanted. Of the bindings of its images, in
+/// order, the first `limit` are answered. Only memory can be wanting.
+pub fn report_on<'a, A: Allocator + Copy>(
+    alloc: A,
+    wanted: Option<u32>,
+    limit: usize,
+    program: Given<'a>,
+    libraries: &[Given<'a>],
+) -> Result<Report<'a, A>, Failure>
+    ensures told { IfOk result (λ r. IsProgramReport limit (given_seen program.entry) (map given_seen libraries.now) wanted (report_seen r)) }
+    ensures few { IfOk result (λ r. answers_in (report_seen r) ≤ limit) }
+    ensures memory { IfErr result (λ failure. failure ≡ failures.Memory) }
+{
+    match Input::parse(alloc, program.bytes) {
+        Ok(Input::Image(image)) => {
+            let cputype = image.header.cputype;
+            report_image(alloc, wanted, cputype, limit, program, libraries)
+        }
+        Ok(Input::Fat(container)) => {
+            report_fat(alloc, wanted, limit, program, &container, libraries)
+        }
+        Ok(Input::Fat64(container)) => {
+            report_fat(alloc, wanted, limit, program, &container, libraries)
+        }
+        Ok(Input::Archive(_)) => report_refused(archive_error()),
+        Err(error) => report_refused(error),
+    }
+}

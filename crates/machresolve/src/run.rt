@@ -1,0 +1,339 @@
+//! What the program prints, and its exit status.
+
+ghost use Rattle.std.specs.Prelude.{◌≡◌, ◌≤◌, ◌++◌, [], map, IfOk, OnOk};
+ghost use Rattle.std.specs.Io.Buffered.{writer_buffer, writer_contents};
+ghost use Rattle.std.specs.Io.KnownBytes.{Appends};
+ghost use Rattle.machresolve.specs.Lines.{lines_of, more_text, resolved_text, entry_text, entry_heading, entries_text, one_text, printed, notes_in};
+ghost use Rattle.machresolve.specs.Lines.{all_notes, said_refusal, said_first, said_lines, said_of_report, notes_of};
+ghost use Rattle.machresolve.specs.Note.{all_noted};
+ghost use Rattle.machresolve.specs.Opened.{call_seen, given_seen};
+ghost use Rattle.mach_cli.specs.Statuses.{IsStatus};
+ghost use Rattle.machresolve.specs.Runs.{run_status, Runs};
+ghost use Rattle.machresolve.specs.Seen.{answer_seen, note_seen, outcome_seen, report_seen};
+
+use crate::answers::Answer;
+use crate::call::Call;
+use crate::given::Given;
+use crate::lines::{NoteText, NothingText};
+use crate::note::{Note, Notes, note_all};
+use crate::refusal::RefusalText;
+use crate::report::{Outcome, Report, report_on};
+use crate::resolve::Resolved;
+use indexmap::IndexSet;
+use mach_cli::Failure;
+use mach_cli::say::failed;
+use std::alloc::{AllocFailed, Allocator};
+use std::io;
+use std::io::{BufWriter, Write};
+
+/// The program's name.
+pub const NAME: &str = "machresolve";
+
+/// Resolves a program, or what it has for a cpu that is wanted, of all its images together the first `limit` bindings, and
+/// answers the exit status: 0 where each binding is settled; 1 where one is not, or there are more, or a file is refused; 2 for
+/// want of memory; 2 or 141 where a write fails. But for that nothing is left in the buffer. The lines of one image are written
+/// whole or not at all. Notes, and why nothing is printed, go to `err`.
+pub fn run<'a, A: Allocator + Copy, W: Write + Drop, B: Allocator, E: Write>(
+    alloc: A,
+    wanted: Option<u32>,
+    limit: usize,
+    program: Given<'a>,
+    libraries: &[Given<'a>],
+    out: &mut BufWriter<W, B>,
+    err: &mut E,
+) -> u8
+    ensures status { IsStatus result }
+    ensures runs { result ≤ 1 → Runs wanted limit (given_seen program.entry) (map given_seen libraries.now) result
+        (writer_contents W.contents out.old) (writer_contents W.contents out.new) (E.contents err.old) (E.contents err.new) }
+    ensures flushed { result ≤ 1 → writer_buffer out.new ≡ [] }
+{
+    match tell(alloc, wanted, limit, program, libraries, out, err) {
+        Ok(whole) => status(whole),
+        Err(Failure::Memory) => out_of_memory(err),
+        Err(Failure::Unwritten(error)) => failed(NAME, "", error, err),
+    }
+}
+
+// The status, by whether all is settled and nothing refused.
+fn status(whole: bool) -> u8
+    ensures { result ≡ run_status whole }
+{
+    if whole { 0 } else { 1 }
+}
+
+// Writes what is told of a program, and answers whether all is settled and nothing refused.
+fn tell<'a, A: Allocator + Copy, W: Write + Drop, B: Allocator, E: Write>(
+    alloc: A,
+    wanted: Option<u32>,
+    limit: usize,
+    program: Given<'a>,
+    libraries: &[Given<'a>],
+    out: &mut BufWriter<W, B>,
+    err: &mut E,
+) -> Result<bool, Failure>
+    ensures runs { IfOk result (λ whole. Runs wanted limit (given_seen program.entry) (map given_seen libraries.now) (run_status whole)
+        (writer_contents W.contents out.old) (writer_contents W.contents out.new) (E.contents err.old) (E.contents err.new)) }
+    ensures flushed { OnOk result (writer_buffer out.new ≡ []) }
+{
+    let call = Call {
+        limit,
+        program,
+        libraries,
+    };
+    let Ok(report) = report_on(alloc, wanted, limit, program, libraries) else {
+        return Err(Failure::Memory);
+    };
+    let Ok(notes) = notes_in(alloc, &report) else {
+        return Err(Failure::Memory);
+    };
+    print_report(&call, &report, out)?;
+    say(&call, &report, &notes, err)?;
+    Ok(report.is_whole())
+}
+
+// Prints what is told of a program, and sees to it that it is written.
+fn print_report<A: Allocator, W: Write + Drop, B: Allocator>(
+    call: &Call<'_, '_>,
+    report: &Report<'_, A>,
+    out: &mut BufWriter<W, B>,
+) -> io::Result<()>
+    ensures printed { OnOk result (Appends (writer_contents W.contents out.old) (writer_contents W.contents out.new)
+        (printed (call_seen call.now) (report_seen report.now))) }
+    ensures flushed { OnOk result (writer_buffer out.new ≡ []) }
+{
+    print_whole(call, report, out)?;
+    out.flush()
+}
+
+// Prints what is told of a program.
+fn print_whole<A: Allocator, O: Write>(
+    call: &Call<'_, '_>,
+    report: &Report<'_, A>,
+    out: &mut O,
+) -> io::Result<()>
+    ensures { OnOk result (Appends (O.contents out.old) (O.contents out.new) (printed (call_seen call.now) (report_seen report.now))) }
+{
+    match report {
+        Report::One(outcome) => print_one(call, outcome, out),
+        Report::Entries(outcomes) => print_entries(call, outcomes, out),
+        Report::Nothing(_) => Ok(()),
+    }
+}
+
+// Prints what is told of one program: where it is refused, nothing.
+fn print_one<A: Allocator, O: Write>(
+    call: &Call<'_, '_>,
+    outcome: &Outcome<'_, A>,
+    out: &mut O,
+) -> io::Result<()>
+    ensures { OnOk result (Appends (O.contents out.old) (O.contents out.new) (one_text (call_seen call.now) (outcome_seen outcome.now))) }
+{
+    match outcome {
+        Outcome::Answered(resolved) => print_resolved(call.limit, resolved, out),
+        Outcome::Archive => writeln!(out, "archive"),
+        Outcome::Refused { .. } => Ok(()),
+    }
+}
+
+// Prints what is told of the entries of a fat program, each under its line.
+fn print_entries<A: Allocator, O: Write>(
+    call: &Call<'_, '_>,
+    outcomes: &[Outcome<'_, A>],
+    out: &mut O,
+) -> io::Result<()>
+    ensures { OnOk result (Appends (O.contents out.old) (O.contents out.new) (entries_text (call_seen call.now) 0 (map outcome_seen outcomes.now))) }
+{
+    'outcomes: for (index, outcome) in outcomes.iter().enumerate() {
+        print_entry(call, index, outcome, out)?;
+    }
+    Ok(())
+}
+
+// Prints what is told of an entry, under its line.
+fn print_entry<A: Allocator, O: Write>(
+    call: &Call<'_, '_>,
+    index: usize,
+    outcome: &Outcome<'_, A>,
+    out: &mut O,
+) -> io::Result<()>
+    ensures { OnOk result (Appends (O.contents out.old) (O.contents out.new)
+        (entry_heading index ++ entry_text (call_seen call.now) (outcome_seen outcome.now))) }
+{
+    writeln!(out, "arch {index}")?;
+    print_outcome(call, outcome, out)
+}
+
+// Prints what is told of one program.
+fn print_outcome<A: Allocator, O: Write>(
+    call: &Call<'_, '_>,
+    outcome: &Outcome<'_, A>,
+    out: &mut O,
+) -> io::Result<()>
+    ensures { OnOk result (Appends (O.contents out.old) (O.contents out.new) (entry_text (call_seen call.now) (outcome_seen outcome.now))) }
+{
+    match outcome {
+        Outcome::Answered(resolved) => print_resolved(call.limit, resolved, out),
+        Outcome::Archive => writeln!(out, "archive"),
+        Outcome::Refused { file, error } => {
+            let refusal = RefusalText {
+                file: call.file_at(*file),
+                error,
+            };
+            writeln!(out, "refused: {refusal}")
+        }
+    }
+}
+
+// Prints a line for each answer, in order, and behind them that there are more bindings, if there are.
+fn print_resolved<A: Allocator, O: Write>(
+    limit: usize,
+    resolved: &Resolved<'_, A>,
+    out: &mut O,
+) -> io::Result<()>
+    ensures { OnOk result (Appends (O.contents out.old) (O.contents out.new)
+        (resolved_text limit (map answer_seen resolved.now.answers.items) resolved.now.more)) }
+{
+    print_answers(&resolved.answers, out)?;
+    print_more(limit, resolved.more, out)
+}
+
+// Prints that there are more bindings than the limit, if there are.
+fn print_more<O: Write>(limit: usize, more: bool, out: &mut O) -> io::Result<()>
+    ensures { OnOk result (Appends (O.contents out.old) (O.contents out.new) (more_text limit more)) }
+{
+    if more {
+        writeln!(out, "limit: {limit} of them are told, and there are more")
+    } else {
+        Ok(())
+    }
+}
+
+// Prints a line for each answer, in order.
+fn print_answers<O: Write>(answers: &[Answer<'_>], out: &mut O) -> io::Result<()>
+    ensures { OnOk result (Appends (O.contents out.old) (O.contents out.new) (lines_of (map answer_seen answers.now))) }
+{
+    'answers: for answer in answers {
+        writeln!(out, "{answer}")?;
+    }
+    Ok(())
+}
+
+// The notes of a program, each once.
+fn notes_in<'a, A: Allocator + Copy>(
+    alloc: A,
+    report: &Report<'a, A>,
+) -> Result<Notes<'a, A>, AllocFailed<Note<'a>>>
+    ensures { IfOk result (λ s. map note_seen s.keys ≡ notes_in (report_seen report.now)) }
+{
+    let mut notes = IndexSet::new(alloc);
+    match report {
+        Report::One(outcome) => note_outcome(&mut notes, outcome)?,
+        Report::Entries(outcomes) => note_entries(&mut notes, outcomes)?,
+        Report::Nothing(_) => {}
+    }
+    Ok(notes)
+}
+
+// Adds the notes of some entries, but for those that are there.
+fn note_entries<'a, A: Allocator + Copy>(
+    notes: &mut Notes<'a, A>,
+    outcomes: &[Outcome<'a, A>],
+) -> Result<(), AllocFailed<Note<'a>>>
+    ensures { OnOk result (map note_seen notes.new.keys ≡ all_notes (map note_seen notes.old.keys) (map outcome_seen outcomes.now)) }
+{
+    'outcomes: for outcome in outcomes {
+        note_outcome(notes, outcome)?;
+    }
+    Ok(())
+}
+
+// Adds the notes of one program, but for those that are there.
+fn note_outcome<'a, A: Allocator + Copy>(
+    notes: &mut Notes<'a, A>,
+    outcome: &Outcome<'a, A>,
+) -> Result<(), AllocFailed<Note<'a>>>
+    ensures { OnOk result (map note_seen notes.new.keys ≡ all_noted (map note_seen notes.old.keys) (notes_of (outcome_seen outcome.now))) }
+{
+    match outcome {
+        Outcome::Answered(resolved) => note_all(notes, &resolved.notes),
+        Outcome::Archive | Outcome::Refused { .. } => Ok(()),
+    }
+}
+
+// Says what is said of a program: why nothing is printed, and the notes.
+fn say<'a, A: Allocator, E: Write>(
+    call: &Call<'a, '_>,
+    report: &Report<'a, A>,
+    notes: &Notes<'a, A>,
+    err: &mut E,
+) -> io::Result<()>
+    ensures { map note_seen notes.now.keys ≡ notes_in (report_seen report.now)
+        → OnOk result (Appends (E.contents err.old) (E.contents err.new) (said_of_report (call_seen call.now) (report_seen report.now))) }
+{
+    say_first(call, report, err)?;
+    say_notes(call, notes.as_slice(), err)
+}
+
+// Says why nothing is printed, if that is so.
+fn say_first<A: Allocator, E: Write>(
+    call: &Call<'_, '_>,
+    report: &Report<'_, A>,
+    err: &mut E,
+) -> io::Result<()>
+    ensures { OnOk result (Appends (E.contents err.old) (E.contents err.new) (said_first (call_seen call.now) (report_seen report.now))) }
+{
+    match report {
+        Report::One(outcome) => say_refusal(call, outcome, err),
+        Report::Entries(_) => Ok(()),
+        Report::Nothing(cputype) => {
+            let nothing = NothingText {
+                file: call.program,
+                cputype: *cputype,
+            };
+            writeln!(err, "machresolve: {nothing}")
+        }
+    }
+}
+
+// Says why one program is refused, if it is.
+fn say_refusal<A: Allocator, E: Write>(
+    call: &Call<'_, '_>,
+    outcome: &Outcome<'_, A>,
+    err: &mut E,
+) -> io::Result<()>
+    ensures { OnOk result (Appends (E.contents err.old) (E.contents err.new) (said_refusal (call_seen call.now) (outcome_seen outcome.now))) }
+{
+    match outcome {
+        Outcome::Answered(_) => Ok(()),
+        Outcome::Archive => Ok(()),
+        Outcome::Refused { file, error } => {
+            let refusal = RefusalText {
+                file: call.file_at(*file),
+                error,
+            };
+            writeln!(err, "machresolve: {refusal}")
+        }
+    }
+}
+
+// Says some notes, a line each.
+fn say_notes<'a, E: Write>(call: &Call<'a, '_>, notes: &[Note<'a>], err: &mut E) -> io::Result<()>
+    ensures { OnOk result (Appends (E.contents err.old) (E.contents err.new) (said_lines (call_seen call.now) (map note_seen notes.now))) }
+{
+    'notes: for note in notes {
+        let text = NoteText {
+            call: *call,
+            note: *note,
+        };
+        writeln!(err, "machresolve: {text}")?;
+    }
+    Ok(())
+}
+
+// The status where memory is refused, of which `err` tells if it can: not 1, which says that a binding isn't settled.
+fn out_of_memory<E: Write>(err: &mut E) -> u8
+    ensures { result ≡ 2 }
+{
+    let _ = writeln!(err, "machresolve: out of memory");
+    2
+}

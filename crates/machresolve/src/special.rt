@@ -1,0 +1,150 @@
+//! Names that are sought in any file, and in the main executable.
+
+ghost use Rattle.std.specs.Prelude.{◌≡◌, slice_get, Some, IfOk, IfErr, IfSome, IfNone};
+ghost use Rattle.mach_dyld.specs.Exports.{info_of};
+ghost use Rattle.machresolve.specs.Files.{File, TrieFaultAt};
+ghost use Rattle.machresolve.specs.Follow.{flags_of_export};
+ghost use Rattle.machresolve.specs.Behind.{Met, IsBehindAll};
+ghost use Rattle.machresolve.specs.Special.{IsFlat, DefinesNot, IsWeakLookup, IsInMain};
+ghost use Rattle.machresolve.specs.Failures.{IsFailure};
+ghost use Rattle.machresolve.specs.Seen.{files_seen, place_seen, IsDefinition, strong_place, first_place};
+
+use crate::failure::Failure;
+use crate::file::Files;
+use crate::follow::{Place, Step, Symbol, follow, lead};
+use goblin_mach::exports::{EXPORT_SYMBOL_FLAGS_WEAK_DEFINITION, ExportInfo};
+use std::alloc::Allocator;
+
+/// Where a name is found that any file may give: the first of the files at these places, which are all, whose
+/// own trie has it.
+pub fn flat<'a, A: Allocator + Copy>(
+    alloc: A,
+    files: &Files<'a, A>,
+    all: &[usize],
+    name: &'a str,
+) -> Result<Place<'a>, Failure>
+    ensures flat { (met : Met) → IsBehindAll (files_seen files.now) met → met.places ≡ all.now
+        → IfOk result (λ place. IsFlat (files_seen files.now) name.now (place_seen place)) }
+    ensures refused { IfErr result (IsFailure (TrieFaultAt (files_seen files.now))) }
+{
+    match files.first_having(alloc, all, name) {
+        Ok(Some((file, info))) => match lead(file, info, name) {
+            Step::Leads(next) => follow(alloc, files, next),
+            Step::Ends(place) => Ok(place),
+        },
+        Ok(None) => Ok(Place::NotFound),
+        Err(failure) => Err(failure),
+    }
+}
+
+// A definition of a name, and whether it is a weak one.
+#[derive(Clone, Copy)]
+struct Definition<'a> {
+    place: Place<'a>,
+    is_weak: bool,
+}
+
+// The flags of an export.
+fn flags_of(info: &ExportInfo<'_>) -> u64
+    ensures { result ≡ flags_of_export (info_of info.now) }
+{
+    match info {
+        ExportInfo::Regular { flags, .. }
+        | ExportInfo::Reexport { flags, .. }
+        | ExportInfo::Stub { flags, .. } => *flags,
+    }
+}
+
+// How the file at a place defines a name, if it does.
+fn define<'a, A: Allocator + Copy>(
+    alloc: A,
+    files: &Files<'a, A>,
+    place: usize,
+    name: &'a str,
+) -> Result<Option<Definition<'a>>, Failure>
+    ensures some { IfOk result (λ o. IfSome o (IsDefinition (files_seen files.now) place name.now)) }
+    ensures none { IfOk result (λ o. IfNone o ((g : File) → slice_get (files_seen files.now) place ≡ Some g → DefinesNot g name.now)) }
+    ensures refused { IfErr result (IsFailure (TrieFaultAt (files_seen files.now))) }
+{
+    match files.find(alloc, place, name) {
+        Ok(Some((file, info))) => {
+            let is_weak = flags_of(&info) & EXPORT_SYMBOL_FLAGS_WEAK_DEFINITION != 0;
+            match lead(file, info, name) {
+                Step::Leads(_) => Ok(None),
+                Step::Ends(place) => Ok(Some(Definition { place, is_weak })),
+            }
+        }
+        Ok(None) => Ok(None),
+        Err(failure) => Err(failure),
+    }
+}
+
+/// Where a name is found of which any file may have a definition: the first that isn't weak, else the first.
+pub fn weak_lookup<'a, A: Allocator + Copy>(
+    alloc: A,
+    files: &Files<'a, A>,
+    name: &'a str,
+) -> Result<Place<'a>, Failure>
+    ensures sought { IfOk result (λ place. IsWeakLookup (files_seen files.now) name.now (place_seen place)) }
+    ensures refused { IfErr result (IsFailure (TrieFaultAt (files_seen files.now))) }
+{
+    let mut weak: Option<Place<'a>> = None;
+    for place in 0..files.items.len() {
+        let found = match define(alloc, files, place, name) {
+            Ok(found) => found,
+            Err(failure) => return Err(failure),
+        };
+        match strong(found) {
+            Some(place) => return Ok(place),
+            None => weak = first_place(weak, found),
+        }
+    }
+    match weak {
+        Some(place) => Ok(place),
+        None => Ok(Place::NotFound),
+    }
+}
+
+// The place of a definition that isn't weak.
+fn strong<'a>(found: Option<Definition<'a>>) -> Option<Place<'a>>
+    ensures { result ≡ strong_place found.entry }
+{
+    match found {
+        Some(definition) if !definition.is_weak => Some(definition.place),
+        _ => None,
+    }
+}
+
+// The first place, where there is one, else that of this definition.
+fn first_place<'a>(first: Option<Place<'a>>, found: Option<Definition<'a>>) -> Option<Place<'a>>
+    ensures { result ≡ first_place first.entry found.entry }
+{
+    match first {
+        Some(place) => Some(place),
+        None => match found {
+            Some(definition) => Some(definition.place),
+            None => None,
+        },
+    }
+}
+
+/// Where a name is found that the main executable is to give: the first of the files that is one.
+pub fn in_main<'a, A: Allocator + Copy>(
+    alloc: A,
+    files: &Files<'a, A>,
+    name: &'a str,
+) -> Result<Place<'a>, Failure>
+    ensures sought { IfOk result (λ place. IsInMain (files_seen files.now) name.now (place_seen place)) }
+    ensures refused { IfErr result (IsFailure (TrieFaultAt (files_seen files.now))) }
+{
+    for file in &files.items {
+        if file.is_main {
+            let start = Symbol {
+                library: file.name,
+                name,
+            };
+            return follow(alloc, files, start);
+        }
+    }
+    Ok(Place::NoMain)
+}

@@ -1,0 +1,67 @@
+//! What the words of the command line ask for, beside what all programs know.
+
+use mach_cli::{Misuse, cputype_in};
+use std::alloc::{AllocError, AllocFailed, Global};
+
+/// So many bindings are answered where no other limit is given.
+pub const DEFAULT_LIMIT: usize = 10_000_000;
+
+/// The words of a call without `--cputype` and the cpu behind it, and that cpu; of several the last one counts. Behind `--` no word is an option.
+#[derive(Drop)]
+pub struct Words {
+    pub others: Vec<String>,
+    /// The cpu that is wanted, if not all are.
+    pub wanted: Option<u32>,
+}
+
+/// Why words can't be taken apart.
+#[derive(Clone, Copy)]
+pub enum Mistake {
+    /// What is wrong with them.
+    Misuse(Misuse<'static>),
+    /// Memory is refused.
+    Memory,
+}
+
+impl From<AllocError> for Mistake {
+    fn from(_error: AllocError) -> Mistake {
+        Mistake::Memory
+    }
+}
+
+impl From<AllocFailed<String>> for Mistake {
+    fn from(_error: AllocFailed<String>) -> Mistake {
+        Mistake::Memory
+    }
+}
+
+// That the cpu is no number, or missing.
+const NO_CPU: Mistake = Mistake::Misuse(Misuse::Missing("0xN behind --cputype"));
+
+impl Words {
+    /// Takes words apart.
+    pub fn of(alloc: Global, words: Vec<String>) -> Result<Words, Mistake> {
+        let mut others = Vec::new(alloc);
+        let mut wanted = None;
+        let mut is_cpu = false;
+        let mut is_plain = false;
+        'words: for word in words {
+            if is_cpu {
+                let Some(cputype) = cputype_in(&word) else {
+                    return Err(NO_CPU);
+                };
+                wanted = Some(cputype);
+                is_cpu = false;
+            } else if !is_plain && word.as_str() == "--cputype" {
+                is_cpu = true;
+            } else {
+                is_plain |= word.as_str() == "--";
+                others.push(word)?;
+            }
+        }
+        if is_cpu {
+            return Err(NO_CPU);
+        }
+        Ok(Words { others, wanted })
+    }
+}

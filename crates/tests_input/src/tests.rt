@@ -1,6 +1,0 @@
-mod files;
-mod items;
-mod made;
-mod same;
-mod tables;
-mod text;

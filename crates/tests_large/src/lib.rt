@@ -1,6 +1,0 @@
-//! Tests of `goblin_mach` on large inputs, one for each list that it answers: none of them has a limit
-//! below what memory holds. There is nothing else here.
-#![tactic(auto)]
-
-#[cfg(test)]
-mod tests;

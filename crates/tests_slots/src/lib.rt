@@ -1,6 +1,0 @@
-//! Tests of indirect symbols, slots, providers, sections by address and number, and attributes of libraries: rows of a made
-//! image with changes, every prefix of it, and more slots than a row has. There is nothing else here.
-#![tactic(auto)]
-
-#[cfg(test)]
-mod tests;

@@ -1,8 +1,0 @@
-mod large;
-mod libraries;
-mod made;
-mod providers;
-mod same;
-mod sections;
-mod slots;
-mod text;
