@@ -22,7 +22,7 @@ use Rattle.goblin_mach.specs.Subjects.{table_by, id_by, trie_by, binds_by}
 use Rattle.goblin_mach.specs.Subjects.{binds_in, library_by, segment_by, lossy_segments_in, trie_in, own_name_in, libs_in, run_path_by, table_in}
 use Rattle.goblin_mach.specs.declared.fields.Fields.{Fields}
 use Rattle.goblin_mach.specs.declared.macho.MachO.{MachO}
-use Rattle.goblin_mach.specs.declared.once.Once.{Once}
+use Rattle.goblin_mach.specs.declared.single_value.Once.{Once}
 use Rattle.goblin_mach.specs.declared.opened.Opened.{Opened}
 
 -- the range of the export trie that an image holds, if it holds one

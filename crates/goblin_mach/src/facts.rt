@@ -25,6 +25,10 @@ ghost use Rattle.goblin_mach.specs.ImageFacts.{HasFacts, facts_held};
 ghost use Rattle.goblin_mach.specs.Libraries.{libraries_in};
 ghost use Rattle.goblin_mach.specs.LookUp.{StandsInImage};
 
+pub mod slots;
+pub mod streams;
+pub mod tables;
+
 use crate::macho::MachO;
 use std::alloc::Allocator;
 

@@ -10,8 +10,8 @@ ghost use Rattle.goblin_mach.specs.Image.{AllReadable, IsUnreadable};
 ghost use Rattle.goblin_mach.specs.Subjects.{segment_by, lossy_segment_by, libs_in};
 ghost use Rattle.goblin_mach.specs.Readings.{Reading, read_of};
 
-use crate::once::Once;
 use crate::readings::{add, add_readable, add_readable_text, add_text};
+use crate::single_value::Once;
 use crate::subjects::{Libraries, LossySegmentData, RunPaths, SegmentData};
 use mach_base::{Ctx, KeptText, Result};
 use mach_load::LoadCommand;

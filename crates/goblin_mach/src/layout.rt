@@ -4,8 +4,8 @@ ghost use Rattle.std.specs.Prelude.{◌≡◌};
 ghost use Rattle.goblin_mach.specs.Held.{laid_held};
 ghost use Rattle.mach_layout.specs.Laid.{laid_of};
 
-mod faults;
-mod lists;
+pub(crate) mod faults;
+pub(crate) mod lists;
 
 pub use crate::layout::faults::{claims, layout_faults};
 use crate::macho::MachO;

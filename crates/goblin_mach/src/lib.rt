@@ -13,11 +13,11 @@ pub mod fixups;
 pub mod libraries;
 mod macho;
 mod named_bytes;
-mod once;
 mod opened;
 pub mod readings;
 mod rebases;
 mod relocations;
+mod single_value;
 mod subjects;
 pub mod table_places;
 mod weak_binds;
@@ -36,9 +36,6 @@ pub mod layout;
 // Laws, and what is known of an image's answers.
 mod facts;
 pub mod laws;
-mod slot_facts;
-mod stream_facts;
-mod table_facts;
 
 pub use crate::bindings::BindingIterator;
 pub use crate::command_iterator::CommandIterator;

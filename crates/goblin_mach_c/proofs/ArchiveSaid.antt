@@ -7,8 +7,8 @@ use Rattle.mach_archive.specs.ArchiveViews.{archive_symbol_view, member_view}
 use Rattle.mach_archive.specs.IndexSymbols.{IndexSymbol}
 use Rattle.mach_archive.specs.Members.{MemberView}
 use Rattle.mach_c_places.specs.PlacedItems.{placed_member_view, placed_symbol_view, member_answer, symbol_answer, GivesMember, GivesSymbol}
-use Rattle.mach_c_places.specs.declared.archive_members.PlacedMember.{PlacedMember}
-use Rattle.mach_c_places.specs.declared.archive_symbols.PlacedSymbol.{PlacedSymbol}
+use Rattle.mach_c_places.specs.declared.archive.members.PlacedMember.{PlacedMember}
+use Rattle.mach_c_places.specs.declared.archive.symbols.PlacedSymbol.{PlacedSymbol}
 use Rattle.goblin_mach_c.specs.ArchiveRows.{archive_symbol_row, member_row, no_archive_symbol, no_member, SaysArchiveSymbol, SaysMember}
 use Rattle.goblin_mach_c.specs.Codes.{code_of_fault}
 use Rattle.goblin_mach_c.specs.declared.archive.gm_archive_member.{gm_archive_member}

@@ -10,10 +10,10 @@ use Rattle.mach_dyld.specs.Nodes as Nodes
 use Rattle.mach_dyld.specs.Trie.{Entry, Info, entry, regular, reexport, stub}
 use Rattle.mach_dyld.specs.TrieRange.{TrieRange, trie_there}
 use Rattle.mach_dyld.specs.Unfolds.{IsNextNode}
-use Rattle.mach_dyld.specs.declared.trie_cursor.NextExport.TheVariants.{Export}
-use Rattle.mach_dyld.specs.declared.trie_cursor.TrieCursor.{TrieCursor}
+use Rattle.mach_dyld.specs.declared.trie.cursor.NextExport.TheVariants.{Export}
+use Rattle.mach_dyld.specs.declared.trie.cursor.TrieCursor.{TrieCursor}
 use Rattle.mach_dyld.specs.declared.export_info.ExportInfo.{ExportInfo}
-use Rattle.mach_dyld.specs.declared.trie_walk.Open.{Open}
+use Rattle.mach_dyld.specs.declared.trie.walk.Open.{Open}
 use Rattle.goblin_mach_c.specs.ExportRows.{export_row, text_or_empty}
 use Rattle.goblin_mach_c.specs.ExportWalk.{AreListed, AreWritten, IsBrought, IsListed, IsNodeOf, IsNumbered, names_of}
 use Rattle.goblin_mach_c.specs.declared.exports.gm_listed_export.{gm_listed_export}

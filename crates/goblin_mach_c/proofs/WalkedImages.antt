@@ -8,7 +8,7 @@ use Rattle.mach_base.specs.Fault.{malformed}
 use Rattle.mach_dyld.specs.Cursors.{AreAllMet, place_at}
 use Rattle.mach_dyld.specs.Trie.{Entry}
 use Rattle.mach_dyld.specs.TrieRange.{TrieRange}
-use Rattle.mach_dyld.specs.declared.trie_walk.Open.{Open}
+use Rattle.mach_dyld.specs.declared.trie.walk.Open.{Open}
 use Rattle.goblin_mach.specs.Image.{LossyOpens}
 use Rattle.goblin_mach.specs.OpenImage.{IsLossyImage, commands_held, trie_held}
 use Rattle.goblin_mach.specs.Subjects.{trie_or_empty}

@@ -3,7 +3,7 @@ use Rattle.std.proofs.Common.{◌≡◌, ◌++◌, [], ℕ, zero, suc, List, Opt
 use Rattle.mach_dyld.specs.Lists.{ListBegins, Lists, nothing}
 use Rattle.mach_dyld.specs.Trie.{Entry}
 use Rattle.mach_dyld.specs.TrieRange.{TrieRange, trie_there}
-use Rattle.mach_dyld.specs.declared.trie_walk.Open.{Open}
+use Rattle.mach_dyld.specs.declared.trie.walk.Open.{Open}
 use Rattle.mach_dyld.proofs.CursorTries.{begins_there}
 use Rattle.mach_dyld.proofs.TrieBegins.{prefix_of}
 use Rattle.mach_dyld.proofs.Unfoldings.{met_begins}

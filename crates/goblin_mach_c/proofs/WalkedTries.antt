@@ -6,8 +6,8 @@ use Rattle.mach_dyld.specs.CursorState.{IsFull}
 use Rattle.mach_dyld.specs.Cursors.{HasGivenTo, AreAllMet}
 use Rattle.mach_dyld.specs.Trie.{Entry}
 use Rattle.mach_dyld.specs.TrieRange.{ListsExports, ExportsFault, TrieRange}
-use Rattle.mach_dyld.specs.declared.trie_cursor.TrieCursor.{TrieCursor}
-use Rattle.mach_dyld.specs.declared.trie_walk.Open.{Open}
+use Rattle.mach_dyld.specs.declared.trie.cursor.TrieCursor.{TrieCursor}
+use Rattle.mach_dyld.specs.declared.trie.walk.Open.{Open}
 use Rattle.goblin_mach_c.specs.ExportWalk.{AreWritten, GoesAlong, HasWalkedTrie, IsCode, IsCutFor, IsNextName, IsNodeOf, IsNumbered, StopsAt, end_number}
 use Rattle.goblin_mach_c.specs.ExportWalk.{next_export_of}
 use Rattle.goblin_mach_c.proofs.ListedExports.{written_there}

@@ -9,8 +9,8 @@ use Rattle.mach_archive.specs.Members.{MemberView}
 use Rattle.mach_c_places.specs.ArchiveFinds.{archive_form, TellsFound}
 use Rattle.mach_c_places.specs.ArchivePlaces.{TellsText}
 use Rattle.mach_c_places.specs.PlacedItems.{ToldName}
-use Rattle.mach_c_places.specs.declared.archive_find.ArchiveForm.{ArchiveForm}
-use Rattle.mach_c_places.specs.declared.archive_find.ArchiveForm.TheVariants.{Bsd, Gnu, NoArchive, Thin}
+use Rattle.mach_c_places.specs.declared.archive.find.ArchiveForm.{ArchiveForm}
+use Rattle.mach_c_places.specs.declared.archive.find.ArchiveForm.TheVariants.{Bsd, Gnu, NoArchive, Thin}
 use Rattle.goblin_mach_c.specs.Codes.{code_of_fault}
 use Rattle.goblin_mach_c.specs.declared.archive.gm_archive_member.{gm_archive_member}
 use Rattle.goblin_mach_c.specs.declared.archive.gm_archive_symbol.{gm_archive_symbol}

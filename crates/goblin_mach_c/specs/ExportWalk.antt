@@ -8,11 +8,11 @@ use Rattle.mach_dyld.specs.Cursors.{HasGivenTo, NextGives, AreAllMet, IsCutShort
 use Rattle.mach_dyld.specs.Trie.{Entry, Info, regular, reexport, stub}
 use Rattle.mach_dyld.specs.TrieRange.{ListsExports, ExportsFault, TrieRange, trie_there}
 use Rattle.mach_dyld.specs.Unfolds.{IsNextNode}
-use Rattle.mach_dyld.specs.declared.trie_cursor.NextExport.{NextExport}
-use Rattle.mach_dyld.specs.declared.trie_cursor.NextExport.TheVariants as next
-use Rattle.mach_dyld.specs.declared.trie_cursor.TrieCursor.{TrieCursor}
+use Rattle.mach_dyld.specs.declared.trie.cursor.NextExport.{NextExport}
+use Rattle.mach_dyld.specs.declared.trie.cursor.NextExport.TheVariants as next
+use Rattle.mach_dyld.specs.declared.trie.cursor.TrieCursor.{TrieCursor}
 use Rattle.mach_dyld.specs.declared.export_info.ExportInfo.{ExportInfo}
-use Rattle.mach_dyld.specs.declared.trie_walk.Open.{Open}
+use Rattle.mach_dyld.specs.declared.trie.walk.Open.{Open}
 use Rattle.goblin_mach.specs.Facts.{HasExports, HasExportsFault, HasLibraries, OfImage}
 use Rattle.goblin_mach.specs.Subjects.{libs_in, trie_in, trie_or_empty}
 use Rattle.goblin_mach_c.specs.Codes.{code_of_fault}

@@ -2,8 +2,8 @@
 use Rattle.std.specs.Prelude.{◌≡◌, ◌⊎◌, ℕ, List, map, drop, Option, Some, None, Result, Ok, Err}
 use Rattle.mach_base.specs.Fault.{Fault}
 use Rattle.mach_parts.specs.Slots.{Slot, SlotOwner, named_slot, local_slot, absolute_slot, local_absolute_slot}
-use Rattle.mach_parts.specs.declared.slot_kind.SlotKind.{SlotKind}
-use Rattle.mach_parts.specs.declared.slot_kind.SlotKind.TheVariants.{Pointer, LazyPointer, Stub, LazyLibraryPointer, ThreadLocalPointer}
+use Rattle.mach_parts.specs.declared.slots.kind.SlotKind.{SlotKind}
+use Rattle.mach_parts.specs.declared.slots.kind.SlotKind.TheVariants.{Pointer, LazyPointer, Stub, LazyLibraryPointer, ThreadLocalPointer}
 use Rattle.mach_parts.specs.Symbols.{SymbolTable}
 use Rattle.goblin_mach.specs.SlotFacts.{HasSymbolSlotAt, HasSymbolSlots}
 use Rattle.goblin_mach_c.specs.Codes.{code_of_fault}

@@ -5,7 +5,7 @@ ghost use Rattle.mach_base.specs.Fault.{Fault};
 ghost use Rattle.mach_parts.specs.declared.symbols.nlist.Nlist.{Nlist};
 ghost use Rattle.mach_parts.specs.Segment.{SegmentView};
 ghost use Rattle.mach_dyld.specs.Trie.{Entry};
-ghost use Rattle.mach_dyld.specs.declared.trie_walk.Open.{Open};
+ghost use Rattle.mach_dyld.specs.declared.trie.walk.Open.{Open};
 ghost use Rattle.goblin_mach.specs.Facts.{HasCommands, HasExports, HasSegments, HasSymbols};
 ghost use Rattle.goblin_mach.specs.Image.{LossyOpens};
 ghost use Rattle.goblin_mach.specs.SlotFacts.{HasIndirectSymbols};

@@ -26,7 +26,7 @@ use goblin_mach::MachO;
 use goblin_mach::chained_fixups::{Fixup, FixupKind};
 use mach_base::{Error, Result, Steps};
 use mach_c_places::RebaseWalk;
-use mach_c_places::range::rebase_range;
+use mach_c_places::opcode_ranges::rebase_range;
 use mach_dyld::{Rebase, RebaseKind};
 use std::alloc::Global;
 

@@ -19,7 +19,7 @@ use crate::items::{ItemRows, fill_items};
 use crate::open::{flag, open};
 use goblin_mach::MachO;
 use mach_base::Error;
-use mach_c_places::range::weak_range;
+use mach_c_places::opcode_ranges::weak_range;
 use mach_c_places::{PlacedWeakBind, WeakBindWalk};
 use mach_dyld::WeakBind;
 use std::alloc::Global;

@@ -13,8 +13,8 @@ use Rattle.mach_archive.specs.declared.archive.ArchiveKind.TheVariants as kinds
 use Rattle.mach_c_places.specs.ArchiveItems.{members_of_view, symbols_of_view}
 use Rattle.mach_c_places.specs.ArchivePlaces.{TellsText}
 use Rattle.mach_c_places.specs.PlacedItems.{ToldName}
-use Rattle.mach_c_places.specs.declared.archive_find.ArchiveForm.{ArchiveForm}
-use Rattle.mach_c_places.specs.declared.archive_find.ArchiveForm.TheVariants.{Bsd, Gnu, NoArchive, Thin}
+use Rattle.mach_c_places.specs.declared.archive.find.ArchiveForm.{ArchiveForm}
+use Rattle.mach_c_places.specs.declared.archive.find.ArchiveForm.TheVariants.{Bsd, Gnu, NoArchive, Thin}
 
 abbrev pub form_of_kind : ArchiveKind → ArchiveForm
 form_of_kind kinds.Gnu = Gnu

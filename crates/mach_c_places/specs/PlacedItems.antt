@@ -8,12 +8,12 @@ use Rattle.mach_archive.specs.IndexSymbols.{IndexSymbol}
 use Rattle.mach_archive.specs.MemberNames.{member_name_bytes}
 use Rattle.mach_archive.specs.Members.{MemberView}
 use Rattle.mach_c_places.specs.ArchivePlaces.{TellsText}
-use Rattle.mach_c_places.specs.declared.archive_members.MemberWalk.{MemberWalk}
-use Rattle.mach_c_places.specs.declared.archive_members.PlacedMember.{PlacedMember}
-use Rattle.mach_c_places.specs.declared.archive_members.PlacedMembers.{PlacedMembers}
-use Rattle.mach_c_places.specs.declared.archive_symbols.PlacedSymbol.{PlacedSymbol}
-use Rattle.mach_c_places.specs.declared.archive_symbols.PlacedSymbols.{PlacedSymbols}
-use Rattle.mach_c_places.specs.declared.archive_symbols.SymbolWalk.{SymbolWalk}
+use Rattle.mach_c_places.specs.declared.archive.members.MemberWalk.{MemberWalk}
+use Rattle.mach_c_places.specs.declared.archive.members.PlacedMember.{PlacedMember}
+use Rattle.mach_c_places.specs.declared.archive.members.PlacedMembers.{PlacedMembers}
+use Rattle.mach_c_places.specs.declared.archive.symbols.PlacedSymbol.{PlacedSymbol}
+use Rattle.mach_c_places.specs.declared.archive.symbols.PlacedSymbols.{PlacedSymbols}
+use Rattle.mach_c_places.specs.declared.archive.symbols.SymbolWalk.{SymbolWalk}
 
 -- what is told of a name: its place and its length, or why there is none
 abbrev pub ToldName : Type 0

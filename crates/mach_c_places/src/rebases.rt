@@ -12,7 +12,7 @@ ghost use Rattle.goblin_mach.specs.ImageStreams.{AreRebasesByOpcodes};
 ghost use Rattle.mach_c_places.specs.Ranges.{range_view};
 ghost use Rattle.mach_c_places.specs.RebaseCursors.{HasEndedRebaseWalk, IsOverRebases, opcode_rebases_behind, order_in, rebase_walk_left, rebasing_in};
 
-use crate::range::OpcodeRange;
+use crate::opcode_ranges::OpcodeRange;
 use crate::walk_numbers::{More, numbers_of, state_at};
 use mach_base::{Ctx, Endian, Result};
 use mach_dyld::Rebase;

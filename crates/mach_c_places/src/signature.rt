@@ -6,6 +6,8 @@ ghost use Rattle.mach_base.specs.Answer.{Reads};
 ghost use Rattle.goblin_mach.specs.OpenImage.{bytes_held, commands_held};
 ghost use Rattle.mach_c_places.specs.SignaturePlaces.{image_signed_directory, signed_directory_view};
 
+pub(crate) mod places;
+
 use goblin_mach::MachO;
 use mach_base::Result;
 use mach_signature::image::signature_place;

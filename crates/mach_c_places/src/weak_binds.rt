@@ -12,7 +12,7 @@ ghost use Rattle.mach_c_places.specs.Ranges.{range_view};
 ghost use Rattle.mach_c_places.specs.WeakCursors.{AreWeakSites, HasEndedWeakWalk, IsOverWeakBinds, name_of_weak, placed_weak_read};
 ghost use Rattle.mach_c_places.specs.WeakCursors.{weak_binds_behind, weak_more_in, weak_sites_behind, weak_sites_left, weak_walk_left};
 
-use crate::range::OpcodeRange;
+use crate::opcode_ranges::OpcodeRange;
 use crate::walk_numbers::{More, numbers_of, state_at};
 use mach_base::{Ctx, Result};
 use mach_dyld::WeakBind;

@@ -18,8 +18,8 @@ use Rattle.mach_cli.specs.declared.heading.Heading.{Heading}
 use Rattle.mach_cli.specs.declared.heading.Heading.TheVariants as headings
 use Rattle.mach_cli.specs.JsonArrays.{error_end, with_commas}
 use Rattle.mach_cli.specs.JsonText.{json_string}
-use Rattle.mach_cli.specs.declared.json_refusal.Refusal.{Refusal}
-use Rattle.mach_cli.specs.declared.json_refusal.Refusal.TheVariants as refusals
+use Rattle.mach_cli.specs.declared.json.refusal.Refusal.{Refusal}
+use Rattle.mach_cli.specs.declared.json.refusal.Refusal.TheVariants as refusals
 
 -- the front of the object of an image: of an entry of a fat file its number
 abbrev pub object_front : Heading → List ℕ

@@ -3,8 +3,8 @@ use Rattle.std.specs.Prelude.{ℕ, List}
 use Rattle.goblin_mach.specs.OpenImage.{IsImage}
 use Rattle.goblin_mach.specs.FatFile.{file_held}
 use Rattle.mach_cli.specs.Shown.{IsFatTable}
-use Rattle.mach_cli.specs.declared.json_document.Subject.{Subject}
-use Rattle.mach_cli.specs.declared.json_document.Subject.TheVariants.{Image, Fat}
+use Rattle.mach_cli.specs.declared.json.document.Subject.{Subject}
+use Rattle.mach_cli.specs.declared.json.document.Subject.TheVariants.{Image, Fat}
 
 -- it is what the bytes open as
 abbrev pub IsOpenSubject : {A : Type 0} → List ℕ → Subject A → Type 0

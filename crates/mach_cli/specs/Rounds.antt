@@ -1,7 +1,7 @@
 -- The files of a call, one behind the other.
 use Rattle.std.specs.Prelude.{◌≡◌, ℕ, List, [], ◌++◌, codes, Bool, if◌then◌else◌, ◌⊎◌, max, Option, Some, None}
 use Rattle.std.specs.Io.KnownBytes.{Appends}
-use Rattle.mach_cli.specs.declared.round.Round.{Round}
+use Rattle.mach_cli.specs.declared.file_sequence.Round.{Round}
 
 -- the lines under which a file stands, as `nm` has them, where there are several
 abbrev pub title_text : (is_titled : Bool) → List ℕ → List ℕ

@@ -4,8 +4,8 @@ use Rattle.mach_base.specs.Answer.{◌>>=◌}
 use Rattle.mach_base.specs.Fault.{Fault}
 use Rattle.goblin_mach.specs.Items.{ContentView, archive_member, no_member, whole_file}
 use Rattle.mach_cli.specs.PartNames.{part_name}
-use Rattle.mach_cli.specs.declared.part_shown.ShownPart.{ShownPart}
-use Rattle.mach_cli.specs.declared.part_shown.ShownPart.TheVariants.{Itself, Nothing, Within}
+use Rattle.mach_cli.specs.declared.parts.shown.ShownPart.{ShownPart}
+use Rattle.mach_cli.specs.declared.parts.shown.ShownPart.TheVariants.{Itself, Nothing, Within}
 
 -- nothing; the file itself; or bytes under a name of their own
 pub data PartShown : Type 0 where

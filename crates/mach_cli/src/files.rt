@@ -6,13 +6,13 @@ ghost use Rattle.mach_cli.specs.Rounds.{title_text};
 ghost use Rattle.mach_cli.specs.Statuses.{IsStatus, IsUnwritten};
 
 use crate::cpu::Cpu;
+use crate::file_sequence::Round;
 use crate::names::Names;
-use crate::part_asked::{is_for, is_missed};
-use crate::part_shown::{ShownPart, shown_part};
+use crate::output::failed;
 use crate::parts::parts_of;
+use crate::parts::selection::{is_for, is_missed};
+use crate::parts::shown::{ShownPart, shown_part};
 use crate::program::Program;
-use crate::round::Round;
-use crate::say::failed;
 use goblin_mach::InputItem;
 use mach_base::{Error, describe};
 use std::io::Write;

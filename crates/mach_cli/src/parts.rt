@@ -5,6 +5,10 @@ ghost use Rattle.goblin_mach.specs.Items.{content_view};
 ghost use Rattle.goblin_mach.specs.ItemsLeft.{input_item_read};
 ghost use Rattle.mach_cli.specs.PartsOf.{entry_of_member, is_of_archive, is_same_entry, itself, parts_in, parts_left, within_left, IsContainer};
 
+pub(crate) mod name;
+pub(crate) mod selection;
+pub(crate) mod shown;
+
 use goblin_mach::fat::FAT_MAGIC;
 use goblin_mach::{
     Content, FAT_MAGIC_64, Images, Input, InputItem, MultiArch, MultiArch64, Place, begins_archive,

@@ -8,7 +8,7 @@ use crate::call::{Call, Request, understand};
 use crate::complaint::{Complaint, Trouble};
 use crate::misuse::Misuse;
 use crate::names::Names;
-use crate::say::say;
+use crate::output::say;
 use std::alloc::{AllocError, Global};
 use std::io::{ErrorKind, Read};
 use std::{env, fs, io};

@@ -6,7 +6,7 @@ ghost use Rattle.mach_cli.specs.Shown.{Shown, ShowsFile, Writes};
 ghost use Rattle.mach_cli.specs.Statuses.{IsStatus, status_by};
 
 use crate::cpu::Cpu;
-use crate::say::failed;
+use crate::output::failed;
 use crate::show::show;
 use crate::shows::Shows;
 use std::alloc::Allocator;

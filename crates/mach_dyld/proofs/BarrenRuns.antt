@@ -23,7 +23,7 @@ use Rattle.mach_dyld.specs.Nodes.{count_at}
 use Rattle.mach_dyld.specs.Nowhere.{lead_nowhere, is_barren, AreBarren, LeadsNowhere, IsKnownBarren, OpensList}
 use Rattle.mach_dyld.specs.Views.{those_read}
 use Rattle.mach_dyld.specs.Tails.{IsTail}
-use Rattle.mach_dyld.specs.declared.trie_runs.Tail.{Tail}
+use Rattle.mach_dyld.specs.declared.trie.runs.Tail.{Tail}
 
 -- that a list is barren is that it can be read, and leads nowhere
 pub barren_read : (upto : ℕ) (r : Result (List Branch) Fault) → is_barren upto r ≡ true → (bs : List Branch) × (r ≡ Ok bs) × (lead_nowhere upto bs ≡ true)

@@ -7,9 +7,9 @@ use Rattle.mach_dyld.proofs.OpenNodes as nodes
 use Rattle.mach_dyld.proofs.Unfoldings as met
 use Rattle.mach_dyld.specs.CursorState.{below, name_met_last, IsStopped, IsAsBefore, TurnGives, HasCome, at_root, between, all_met}
 use Rattle.mach_dyld.specs.Cursors.{HasGivenTo, NextGives}
-use Rattle.mach_dyld.specs.declared.trie_cursor.NextExport.{NextExport}
-use Rattle.mach_dyld.specs.declared.trie_cursor.NextExport.TheVariants.{Export, End, Refused, NameTooLong, StackTooShort}
-use Rattle.mach_dyld.specs.declared.trie_cursor.TrieCursor.{TrieCursor}
+use Rattle.mach_dyld.specs.declared.trie.cursor.NextExport.{NextExport}
+use Rattle.mach_dyld.specs.declared.trie.cursor.NextExport.TheVariants.{Export, End, Refused, NameTooLong, StackTooShort}
+use Rattle.mach_dyld.specs.declared.trie.cursor.TrieCursor.{TrieCursor}
 
 -- where all is met, the trie has that list, or a node is met twice
 whole_or_not : (t : TrieRange) (libs : List (List ℕ)) {n : ℕ} {found : List Entry} → Unfolds (trie_there t libs) t.from n found []

@@ -10,10 +10,10 @@ use Rattle.std.proofs.lemmas.Option.{get_or_from_slice_get, slice_get_within}
 use Rattle.mach_dyld.specs.CursorState.{below, name_met_last, root, IsAtChild, HasCome, at_root, between, all_met, TurnGives, IsAsBefore, IsStopped, IsFull}
 use Rattle.mach_dyld.specs.CursorState.{IsNextLabel}
 use Rattle.mach_dyld.specs.Unfolds.{IsNextNode}
-use Rattle.mach_dyld.specs.declared.trie_node.BranchRun.{BranchRun}
-use Rattle.mach_dyld.specs.declared.trie_cursor.NextExport.{NextExport}
-use Rattle.mach_dyld.specs.declared.trie_cursor.NextExport.TheVariants.{Export, End, Refused, NameTooLong, StackTooShort}
-use Rattle.mach_dyld.specs.declared.trie_cursor.TrieCursor.{TrieCursor}
+use Rattle.mach_dyld.specs.declared.trie.node.BranchRun.{BranchRun}
+use Rattle.mach_dyld.specs.declared.trie.cursor.NextExport.{NextExport}
+use Rattle.mach_dyld.specs.declared.trie.cursor.NextExport.TheVariants.{Export, End, Refused, NameTooLong, StackTooShort}
+use Rattle.mach_dyld.specs.declared.trie.cursor.TrieCursor.{TrieCursor}
 use Rattle.mach_dyld.proofs.BranchAgain.{no_branch}
 use Rattle.mach_dyld.proofs.NamedPaths.{is_next}
 use Rattle.mach_dyld.proofs.OpenNodes as nodes

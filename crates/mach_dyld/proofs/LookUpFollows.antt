@@ -12,7 +12,7 @@ use Rattle.mach_dyld.specs.Finds.{Finds, at_nothing, below}
 use Rattle.mach_dyld.specs.LookUp.{PathSpells, IsOnWay, LookUpVisits}
 use Rattle.mach_dyld.specs.LookUpState.{IsPassed, LeadsOn, SearchVisits}
 use Rattle.mach_dyld.specs.Views.{source_trie}
-use Rattle.mach_dyld.specs.declared.trie_walk.Source.{Source}
+use Rattle.mach_dyld.specs.declared.trie.walk.Source.{Source}
 use Rattle.mach_dyld.proofs.Starts.{starts_from}
 use Rattle.mach_dyld.proofs.TriePaths.{Leads-append, leads_to_one, leads_behind, among_append}
 use Rattle.mach_dyld.proofs.TrieVisits.{no_more_paths, few_paths}

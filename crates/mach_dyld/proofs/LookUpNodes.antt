@@ -13,7 +13,7 @@ use Rattle.mach_dyld.specs.Views.{node_behind}
 use Rattle.mach_dyld.specs.LookUpState.{OwnEnds, IsPassed}
 use Rattle.mach_dyld.specs.Views.{node_in, own_in}
 unfoldable use Rattle.mach_dyld.specs.Nodes.{children_at, terminal_at, inner_at, node_at}
-use Rattle.mach_dyld.specs.declared.trie_walk.Source.{Source}
+use Rattle.mach_dyld.specs.declared.trie.walk.Source.{Source}
 use Rattle.mach_base.specs.declared.error.Error.TheVariants as errors
 
 -- an error of one thing is one of what follows from it

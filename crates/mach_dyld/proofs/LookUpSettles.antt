@@ -10,8 +10,8 @@ use Rattle.mach_dyld.specs.Views.{branches_of, IsReadable}
 use Rattle.mach_dyld.specs.Finds.{BranchesFind}
 use Rattle.mach_dyld.specs.LookUpState.{Settles, FirstBranchLeads}
 use Rattle.mach_dyld.specs.Views.{source_trie}
-use Rattle.mach_dyld.specs.declared.trie_node.BranchRun.{BranchRun}
-use Rattle.mach_dyld.specs.declared.trie_walk.Source.{Source}
+use Rattle.mach_dyld.specs.declared.trie.node.BranchRun.{BranchRun}
+use Rattle.mach_dyld.specs.declared.trie.walk.Source.{Source}
 use Rattle.mach_dyld.proofs.Nowhere.{both_nowhere}
 use Rattle.mach_dyld.proofs.LookUpWays.{one_passed}
 use Rattle.mach_dyld.proofs.BranchAgain.{first_branch, no_branch}

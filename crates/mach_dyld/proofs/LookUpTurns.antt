@@ -7,8 +7,8 @@ use Rattle.std.proofs.Math.Seq.{drop-append_seam}
 use Rattle.mach_dyld.specs.Finds.{IsElsewhere, Finds, BranchesFind, here, below, none_left, behind, gone_back}
 use Rattle.mach_dyld.specs.LookUp.{PathSpells, IsOnWay, FaultOnWay, at_node_on_way, met_on_way}
 use Rattle.mach_dyld.specs.LookUpState.{Settles, FirstBranchLeads, SearchVisits}
-use Rattle.mach_dyld.specs.declared.trie_look_up.Choice.{Choice}
-use Rattle.mach_dyld.specs.declared.trie_node.BranchRun.{BranchRun}
+use Rattle.mach_dyld.specs.declared.trie.look_up.Choice.{Choice}
+use Rattle.mach_dyld.specs.declared.trie.node.BranchRun.{BranchRun}
 use Rattle.mach_dyld.proofs.BranchAgain.{no_branch, next_left}
 use Rattle.mach_dyld.proofs.TriePaths.{Leads-append, drop_head, not_before_itself}
 use Rattle.mach_dyld.proofs.LookUpPaths.{spells_on}

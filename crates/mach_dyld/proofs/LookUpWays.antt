@@ -4,8 +4,8 @@ use Rattle.std.specs.Prelude.{slice_get}
 use Rattle.mach_dyld.specs.Trie.{Info, Branch, Trie}
 use Rattle.mach_dyld.specs.Finds.{Finds, BranchesFind, at_nothing, none_left, passed, behind, gone_back}
 use Rattle.mach_dyld.specs.LookUpState.{Goes}
-use Rattle.mach_dyld.specs.declared.trie_look_up.Way.{Way}
-use Rattle.mach_dyld.specs.declared.trie_look_up.Way.TheVariants.{Nowhere, One, Several}
+use Rattle.mach_dyld.specs.declared.trie.look_up.Way.{Way}
+use Rattle.mach_dyld.specs.declared.trie.look_up.Way.TheVariants.{Nowhere, One, Several}
 use Rattle.mach_dyld.proofs.Beginnings.{begins_or_not}
 
 module _ (t : Trie) (rest : List ℕ) where

@@ -7,7 +7,7 @@ use Rattle.std.proofs.lemmas.Bool.{cases_lt}
 use Rattle.std.proofs.lemmas.Nat.{mod-mul-add, le-div}
 use Rattle.mach_dyld.proofs.BindModulus.{mod-add_first}
 use Rattle.mach_dyld.specs.Turns.{turn_place, AnyBelow, last_turn_place, IsRing}
-use Rattle.mach_dyld.specs.declared.turns.Turns.{Turns}
+use Rattle.mach_dyld.specs.declared.stride.Turns.{Turns}
 
 -- ---- the shorter way round
 

@@ -8,7 +8,7 @@ use Rattle.mach_dyld.proofs.TriePaths.{same_node}
 use Rattle.mach_dyld.proofs.TrieRelation.{one_list}
 use Rattle.mach_dyld.proofs.Unfoldings.{met_begins}
 pub use Rattle.mach_dyld.proofs.Unfoldings.{whole_list}
-use Rattle.mach_dyld.specs.declared.trie_walk.Walker.{Walker}
+use Rattle.mach_dyld.specs.declared.trie.walk.Walker.{Walker}
 
 mutual
   pub prefix_of : (t : Trie) (s : ℕ) (p : List ℕ) (xs ys : List Entry) → ListBegins t s p xs → Lists t s p ys → (zs : List Entry) × (ys ≡ xs ++ zs)

@@ -45,5 +45,5 @@ pub use Rattle.mach_dyld.specs.WalkState.{Holds, HasListed, IsAtBranch, IsBetwee
 pub use Rattle.mach_dyld.specs.WalkState.{work_ahead}
 pub use Rattle.mach_dyld.specs.Views.{branch_of, branches_of, IsReadable, branches_in, info_in, node_with_first, trie_range_of, source_trie}
 pub use Rattle.mach_dyld.specs.Views.{node_in, fault_in}
-pub use Rattle.mach_dyld.specs.declared.trie_walk.Open.{Open}
-pub use Rattle.mach_dyld.specs.declared.trie_walk.Source.{Source}
+pub use Rattle.mach_dyld.specs.declared.trie.walk.Open.{Open}
+pub use Rattle.mach_dyld.specs.declared.trie.walk.Source.{Source}

@@ -9,10 +9,10 @@ use Rattle.mach_dyld.specs.Trie.{Entry, entry}
 use Rattle.mach_dyld.specs.TrieRange.{TrieRange, trie_there}
 use Rattle.mach_dyld.specs.Reading.{IsReadSoFar, branches_left}
 use Rattle.mach_dyld.specs.Unfolds.{Unfolds, IsCutBy, IsNextNode}
-use Rattle.mach_dyld.specs.declared.trie_cursor.NextExport.{NextExport}
-use Rattle.mach_dyld.specs.declared.trie_cursor.NextExport.TheVariants.{Export, End, Refused, NameTooLong, StackTooShort}
-use Rattle.mach_dyld.specs.declared.trie_cursor.TrieCursor.{TrieCursor}
-use Rattle.mach_dyld.specs.declared.trie_walk.Open.{Open}
+use Rattle.mach_dyld.specs.declared.trie.cursor.NextExport.{NextExport}
+use Rattle.mach_dyld.specs.declared.trie.cursor.NextExport.TheVariants.{Export, End, Refused, NameTooLong, StackTooShort}
+use Rattle.mach_dyld.specs.declared.trie.cursor.TrieCursor.{TrieCursor}
+use Rattle.mach_dyld.specs.declared.trie.walk.Open.{Open}
 
 -- the open nodes below the top, the innermost first
 abbrev pub below : TrieCursor → List Open → List Open

@@ -11,11 +11,11 @@ use Rattle.mach_dyld.specs.Nodes.{node_at}
 use Rattle.mach_dyld.specs.Trie.{Branch, Entry, Info, entry}
 use Rattle.mach_dyld.specs.TrieRange.{TrieRange, trie_there, ListsExports, ExportsFault}
 use Rattle.mach_dyld.specs.Unfolds.{Unfolds, IsCutBy, IsNextNode}
-use Rattle.mach_dyld.specs.declared.trie_cursor.NextExport.{NextExport}
-use Rattle.mach_dyld.specs.declared.trie_cursor.NextExport.TheVariants.{Export, End, Refused, NameTooLong, StackTooShort}
-use Rattle.mach_dyld.specs.declared.trie_cursor.TrieCursor.{TrieCursor}
+use Rattle.mach_dyld.specs.declared.trie.cursor.NextExport.{NextExport}
+use Rattle.mach_dyld.specs.declared.trie.cursor.NextExport.TheVariants.{Export, End, Refused, NameTooLong, StackTooShort}
+use Rattle.mach_dyld.specs.declared.trie.cursor.TrieCursor.{TrieCursor}
 use Rattle.mach_dyld.specs.declared.export_info.ExportInfo.{ExportInfo}
-use Rattle.mach_dyld.specs.declared.trie_walk.Open.{Open}
+use Rattle.mach_dyld.specs.declared.trie.walk.Open.{Open}
 
 -- The cursor goes over the trie of this range, with this name and these open nodes, and has given these exports: what is met first in
 -- reading it as if it were a tree.

@@ -10,11 +10,11 @@ use Rattle.mach_dyld.specs.LookUp.{IsOnWay}
 use Rattle.mach_dyld.specs.Nodes.{branches_at}
 use Rattle.mach_dyld.specs.Exports.{info_of}
 use Rattle.mach_dyld.specs.Views.{source_trie, node_in, own_in}
-use Rattle.mach_dyld.specs.declared.trie_walk.Source.{Source}
-use Rattle.mach_dyld.specs.declared.trie_look_up.Way.{Way}
-use Rattle.mach_dyld.specs.declared.trie_look_up.Way.TheVariants.{Nowhere, One, Several}
-use Rattle.mach_dyld.specs.declared.trie_look_up.Outcome.{Outcome}
-use Rattle.mach_dyld.specs.declared.trie_look_up.Outcome.TheVariants.{Found, Ends, Child, Open}
+use Rattle.mach_dyld.specs.declared.trie.walk.Source.{Source}
+use Rattle.mach_dyld.specs.declared.trie.look_up.Way.{Way}
+use Rattle.mach_dyld.specs.declared.trie.look_up.Way.TheVariants.{Nowhere, One, Several}
+use Rattle.mach_dyld.specs.declared.trie.look_up.Outcome.{Outcome}
+use Rattle.mach_dyld.specs.declared.trie.look_up.Outcome.TheVariants.{Found, Ends, Child, Open}
 
 -- the own export of `size` bytes, if there is one, and the place behind it
 abbrev pub OwnEnds : Source → ℕ → ℕ → Option Info → ℕ → Type 0

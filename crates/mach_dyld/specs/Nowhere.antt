@@ -7,8 +7,8 @@ use Rattle.mach_base.specs.Sums.{sum_of}
 use Rattle.mach_dyld.specs.Nodes.{branches_at, children_at}
 use Rattle.mach_dyld.specs.Views.{branches_in, info_in, node_in}
 use Rattle.mach_dyld.specs.declared.export_info.ExportInfo.{ExportInfo}
-use Rattle.mach_dyld.specs.declared.trie_node.Branches.{Branches}
-use Rattle.mach_dyld.specs.declared.trie_walk.Source.{Source}
+use Rattle.mach_dyld.specs.declared.trie.node.Branches.{Branches}
+use Rattle.mach_dyld.specs.declared.trie.walk.Source.{Source}
 
 -- whether each of these branches leads to the end of the trie or behind it
 abbrev pub lead_nowhere : ℕ → List trie.Branch → Bool

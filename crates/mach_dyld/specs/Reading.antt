@@ -9,7 +9,7 @@ use Rattle.mach_dyld.specs.Paths.{Leads, Path, Before}
 use Rattle.mach_dyld.specs.TrieRange.{TrieRange, trie_there}
 use Rattle.mach_dyld.specs.Unfolds.{Ahead, ahead, Unfolds, AreReadOnce, WasRead}
 use Rattle.mach_dyld.specs.Visits.{AreApart}
-use Rattle.mach_dyld.specs.declared.trie_walk.Open.{Open}
+use Rattle.mach_dyld.specs.declared.trie.walk.Open.{Open}
 
 -- ---- paths
 

@@ -3,8 +3,8 @@ use Rattle.std.specs.Prelude.{◌≡◌, ◌<◌, ◌≤◌, ◌-◌, ℕ, lengt
 use Rattle.std.specs.Str.{IsUtf8}
 use Rattle.mach_base.specs.Text.{is_zero}
 use Rattle.mach_dyld.specs.Nowhere.{LeadsNowhere}
-use Rattle.mach_dyld.specs.declared.trie_walk.Source.{Source}
-use Rattle.mach_dyld.specs.declared.trie_runs.Tail.{Tail}
+use Rattle.mach_dyld.specs.declared.trie.walk.Source.{Source}
+use Rattle.mach_dyld.specs.declared.trie.runs.Tail.{Tail}
 
 -- The bytes up to the end have no zero byte, one stands there unless the bytes end, and those from low on are UTF-8. Behind the
 -- end stands the number of a child that leads nowhere, if something is said to stand behind it.

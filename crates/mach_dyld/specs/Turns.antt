@@ -1,6 +1,6 @@
 -- Places on a ring: a first one, and each next one a step further.
 use Rattle.std.specs.Prelude.{◌<◌, ◌≤◌, ◌+◌, ◌-◌, ◌*◌, ◌%◌, ◌^◌, ℕ}
-use Rattle.mach_dyld.specs.declared.turns.Turns.{Turns}
+use Rattle.mach_dyld.specs.declared.stride.Turns.{Turns}
 
 -- place j
 abbrev pub turn_place : Turns → ℕ → ℕ

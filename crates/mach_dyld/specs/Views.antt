@@ -9,10 +9,10 @@ use Rattle.mach_dyld.specs.TrieFault.{TrieFault}
 use Rattle.mach_dyld.specs.TrieRange.{TrieRange}
 use Rattle.mach_dyld.specs.Exports.{info_of}
 use Rattle.mach_dyld.specs.declared.export_info.ExportInfo.{ExportInfo}
-use Rattle.mach_dyld.specs.declared.trie_node.Branch.{Branch}
-use Rattle.mach_dyld.specs.declared.trie_node.BranchRun.{BranchRun}
-use Rattle.mach_dyld.specs.declared.trie_node.Branches.{Branches}
-use Rattle.mach_dyld.specs.declared.trie_walk.Source.{Source}
+use Rattle.mach_dyld.specs.declared.trie.node.Branch.{Branch}
+use Rattle.mach_dyld.specs.declared.trie.node.BranchRun.{BranchRun}
+use Rattle.mach_dyld.specs.declared.trie.node.Branches.{Branches}
+use Rattle.mach_dyld.specs.declared.trie.walk.Source.{Source}
 
 -- ---- branches
 

@@ -15,9 +15,9 @@ use Rattle.mach_dyld.specs.Nowhere.{AreBarren, HaveRoom}
 use Rattle.mach_dyld.specs.Exports.{info_of}
 use Rattle.mach_dyld.specs.Views.{trie_range_of, source_trie, fault_in}
 use Rattle.mach_dyld.specs.declared.export_info.ExportInfo.{ExportInfo}
-use Rattle.mach_dyld.specs.declared.trie_walk.Source.{Source}
-use Rattle.mach_dyld.specs.declared.trie_walk.Open.{Open}
-use Rattle.mach_dyld.specs.declared.trie_walk.Walker.{Walker}
+use Rattle.mach_dyld.specs.declared.trie.walk.Source.{Source}
+use Rattle.mach_dyld.specs.declared.trie.walk.Open.{Open}
+use Rattle.mach_dyld.specs.declared.trie.walk.Walker.{Walker}
 
 -- each has branches left
 abbrev pub HaveMore : List Open → Type 0

@@ -7,7 +7,7 @@ ghost use Rattle.mach_dyld.specs.TrieRange.{TrieRange, trie_there};
 ghost use Rattle.mach_dyld.specs.WalkState.{IsWalk};
 
 use crate::export_info::ExportInfo;
-use crate::trie_walk::Walker;
+use crate::trie::walk::Walker;
 use mach_base::{Result, Steps};
 use std::alloc::{Allocator, Global};
 

@@ -16,9 +16,9 @@ pub use crate::export_info::{
     EXPORT_SYMBOL_FLAGS_WEAK_DEFINITION, ExportInfo, SymbolKind,
 };
 pub use crate::export_walk::ExportWalk;
-pub use crate::trie_cursor::{NextExport, TrieCursor};
-pub use crate::trie_walk::Open;
-use crate::trie_walk::{Source, Walker, list_all};
+pub use crate::trie::cursor::{NextExport, TrieCursor};
+pub use crate::trie::walk::Open;
+use crate::trie::walk::{Source, Walker, list_all};
 use mach_base::{ByteCount, Result, Steps};
 use mach_records::{DyldInfoCommand, LinkeditDataCommand};
 use std::alloc::{Allocator, Global};

@@ -6,25 +6,20 @@
 mod export_info;
 mod export_walk;
 pub mod exports;
-mod trie_cursor;
-mod trie_look_up;
-mod trie_marks;
-mod trie_node;
-mod trie_runs;
-mod trie_walk;
+mod trie;
 
 // The machine of opcodes, imports as the Rust crate has them, and bindings as dyld makes them.
 pub mod bind_opcodes;
 pub mod bindings;
 pub mod imports;
-mod judging;
 pub mod machine;
-mod turns;
+mod stream_faults;
+mod stride;
 
 // Rebases and weak binds, on that machine.
-mod cut;
 pub mod rebase_opcodes;
 pub mod rebases;
+mod stream_prefix;
 pub mod weak_binds;
 
 // Laws.

@@ -5,5 +5,5 @@ pub use crate::imports::settings::Settings;
 pub use crate::imports::source::Source;
 pub use crate::imports::state::State;
 pub use crate::imports::stream::{Makes, Stop, Stream};
-pub use crate::judging::JudgesAll;
-pub use crate::turns::none_above;
+pub use crate::stream_faults::JudgesAll;
+pub use crate::stride::none_above;

@@ -25,11 +25,11 @@ pub mod run;
 
 use crate::bind_opcodes::Opcode;
 use crate::bindings::holds_all;
-use crate::cut::Cut;
 use crate::machine::{Makes, Settings, Source, State, Stop, Stream};
 use crate::rebase_opcodes::*;
 use crate::rebases::memory::memory_number;
 use crate::rebases::run::Run;
+use crate::stream_prefix::Cut;
 use mach_base::{ByteCount, Ctx, Endian, Error, Result, ScrollError, Steps, quick_uleb, uleb};
 use mach_parts::binding::PointerAuth;
 use mach_parts::segment::Segment;

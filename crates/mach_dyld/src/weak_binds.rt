@@ -19,8 +19,8 @@ mod faults;
 
 use crate::bind_opcodes::*;
 use crate::bindings::spot;
-use crate::cut::Cut;
 use crate::machine::{Makes, Settings, Source, State, Stream, instruction_error};
+use crate::stream_prefix::Cut;
 use mach_base::{ByteCount, Ctx, Error, Result, ScrollError, Steps, quick_text, read_text};
 use mach_parts::binding::{Binding, Provider};
 use mach_parts::segment::Segment;

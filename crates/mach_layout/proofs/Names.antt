@@ -18,7 +18,7 @@ use Rattle.mach_load.specs.declared.load_command.LoadCommand.{LoadCommand}
 use Rattle.mach_layout.specs.Laid.{placed_segment_of}
 use Rattle.mach_layout.specs.Segments.{same_name, segment_name, named_among, names_again}
 use Rattle.mach_layout.specs.declared.fault.LayoutFault.{LayoutFault}
-use Rattle.mach_layout.specs.declared.parts.PlacedSegment.{PlacedSegment}
+use Rattle.mach_layout.specs.declared.placed_sections.PlacedSegment.{PlacedSegment}
 
 -- where two texts are the same
 same_text : (xs ys : List ℕ) → bytes_eq xs ys ≡ true → xs ≡ ys

@@ -11,7 +11,7 @@ use Rattle.mach_layout.specs.ClaimsLeft.{listed, open_tables, open_left}
 use Rattle.mach_layout.specs.Laid.{Laid, open_sections}
 use Rattle.mach_layout.specs.declared.claim.Claim.{Claim}
 use Rattle.mach_layout.specs.declared.claiming.Open.{Open}
-use Rattle.mach_layout.specs.declared.parts.PlacedSection.{PlacedSection}
+use Rattle.mach_layout.specs.declared.placed_sections.PlacedSection.{PlacedSection}
 
 drop_at : {X : Type 0} (xs : List X) (k : ℕ) (x : X) → slice_get xs k ≡ Some x → drop k xs ≡ x ∷ drop (k + 1) xs
 drop_at {X} xs k x there =

@@ -10,8 +10,8 @@ use Rattle.mach_base.proofs.ItemLists.{items_from-first}
 use Rattle.mach_layout.specs.Laid.{placed_section_at, sections_from}
 use Rattle.mach_parts.specs.SectionRecord.{in_front}
 use Rattle.mach_layout.specs.PartsLeft.{TakesSection}
-use Rattle.mach_layout.specs.declared.parts.PlacedSection.{PlacedSection}
-use Rattle.mach_layout.specs.declared.parts.PlacedSegment.{PlacedSegment}
+use Rattle.mach_layout.specs.declared.placed_sections.PlacedSection.{PlacedSection}
+use Rattle.mach_layout.specs.declared.placed_sections.PlacedSegment.{PlacedSegment}
 
 module _ (ctx : Ctx) (bytes : List ℕ) (s : PlacedSegment) (k : ℕ) where
   abbrev behind : List PlacedSection

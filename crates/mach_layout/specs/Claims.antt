@@ -15,8 +15,8 @@ use Rattle.mach_layout.specs.Rules.{owner_at}
 use Rattle.mach_layout.specs.declared.claim.Claim.{Claim}
 use Rattle.mach_layout.specs.declared.fault.Part.{Part}
 use Rattle.mach_layout.specs.declared.fault.Part.TheVariants as part
-use Rattle.mach_layout.specs.declared.parts.PlacedSection.{PlacedSection}
-use Rattle.mach_layout.specs.declared.parts.PlacedSegment.{PlacedSegment}
+use Rattle.mach_layout.specs.declared.placed_sections.PlacedSection.{PlacedSection}
+use Rattle.mach_layout.specs.declared.placed_sections.PlacedSegment.{PlacedSegment}
 
 -- `len` bytes from a start on, claimed by a part of the command at a place
 abbrev pub claim : Part → ℕ → ℕ → ℕ → Claim

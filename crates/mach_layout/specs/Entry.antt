@@ -18,7 +18,7 @@ use Rattle.mach_layout.specs.declared.entry.EntryPlace.TheVariants.{InFile, InMe
 use Rattle.mach_layout.specs.declared.fault.LayoutFault.{LayoutFault}
 use Rattle.mach_layout.specs.declared.fault.Part.TheVariants as part
 use Rattle.mach_layout.specs.declared.fault.Rule.TheVariants as rule
-use Rattle.mach_layout.specs.declared.parts.PlacedSegment.{PlacedSegment}
+use Rattle.mach_layout.specs.declared.placed_sections.PlacedSegment.{PlacedSegment}
 use Rattle.mach_layout.specs.declared.rules.Seen.{Seen}
 
 -- whether a command says where the image begins (LC_MAIN, LC_UNIXTHREAD)

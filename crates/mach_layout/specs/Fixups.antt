@@ -24,7 +24,7 @@ use Rattle.mach_layout.specs.declared.fault.Rule.TheVariants as rule
 use Rattle.mach_layout.specs.declared.fixups.Front.{Front}
 use Rattle.mach_layout.specs.declared.fixups.PlacedFixups.{PlacedFixups}
 use Rattle.mach_layout.specs.declared.fixups.imports.ImportRow.{ImportRow}
-use Rattle.mach_layout.specs.declared.parts.PlacedSegment.{PlacedSegment}
+use Rattle.mach_layout.specs.declared.placed_sections.PlacedSegment.{PlacedSegment}
 use Rattle.mach_layout.specs.declared.rules.Seen.{Seen}
 
 -- ---- the data

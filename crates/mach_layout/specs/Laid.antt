@@ -16,8 +16,8 @@ use Rattle.mach_parts.specs.SectionRecord.{in_front, section_record_at}
 use Rattle.mach_parts.specs.Segment.{widened}
 use Rattle.mach_parts.specs.declared.header.Header.{Header}
 use Rattle.mach_layout.specs.declared.layout.Layout.{Layout}
-use Rattle.mach_layout.specs.declared.parts.PlacedSection.{PlacedSection}
-use Rattle.mach_layout.specs.declared.parts.PlacedSegment.{PlacedSegment}
+use Rattle.mach_layout.specs.declared.placed_sections.PlacedSection.{PlacedSection}
+use Rattle.mach_layout.specs.declared.placed_sections.PlacedSegment.{PlacedSegment}
 
 -- the bytes of an image that begins at their first, how they are read, and the header and the commands that stand there
 pub record Laid : Type 0 where

@@ -7,7 +7,7 @@ use Rattle.std.specs.Ordering.{nat_cmp}
 use Rattle.std.specs.Str.{bytes_eq}
 use Rattle.mach_layout.specs.Segments.{same_name, segment_name}
 use Rattle.mach_layout.specs.declared.fault.LayoutFault.{LayoutFault}
-use Rattle.mach_layout.specs.declared.parts.PlacedSegment.{PlacedSegment}
+use Rattle.mach_layout.specs.declared.placed_sections.PlacedSegment.{PlacedSegment}
 
 -- the name of a segment and the place of its command
 abbrev pub name_and_place : PlacedSegment → List ℕ × ℕ

@@ -4,10 +4,10 @@ use Rattle.std.specs.Slice.Iter.{iter_rest}
 use Rattle.mach_base.specs.declared.context.Ctx.{Ctx}
 use Rattle.mach_load.specs.Variants.{command_of}
 use Rattle.mach_layout.specs.Laid.{placed_segment_of, open_sections, sections_by}
-use Rattle.mach_layout.specs.declared.parts.PlacedSection.{PlacedSection}
-use Rattle.mach_layout.specs.declared.parts.PlacedSegment.{PlacedSegment}
-use Rattle.mach_layout.specs.declared.parts.SectionIterator.{SectionIterator}
-use Rattle.mach_layout.specs.declared.parts.SegmentIterator.{SegmentIterator}
+use Rattle.mach_layout.specs.declared.placed_sections.PlacedSection.{PlacedSection}
+use Rattle.mach_layout.specs.declared.placed_sections.PlacedSegment.{PlacedSegment}
+use Rattle.mach_layout.specs.declared.placed_sections.SectionIterator.{SectionIterator}
+use Rattle.mach_layout.specs.declared.placed_sections.SegmentIterator.{SegmentIterator}
 
 abbrev pub placed_segments_left : SegmentIterator → List PlacedSegment
 placed_segments_left it = filter_map placed_segment_of (map command_of (iter_rest it.commands))

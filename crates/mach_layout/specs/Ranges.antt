@@ -14,8 +14,8 @@ use Rattle.mach_layout.specs.declared.fault.Part.{Part}
 use Rattle.mach_layout.specs.declared.fault.Part.TheVariants as part
 use Rattle.mach_layout.specs.declared.fault.Rule.{Rule}
 use Rattle.mach_layout.specs.declared.fault.Rule.TheVariants as rule
-use Rattle.mach_layout.specs.declared.parts.PlacedSection.{PlacedSection}
-use Rattle.mach_layout.specs.declared.parts.PlacedSegment.{PlacedSegment}
+use Rattle.mach_layout.specs.declared.placed_sections.PlacedSection.{PlacedSection}
+use Rattle.mach_layout.specs.declared.placed_sections.PlacedSegment.{PlacedSegment}
 use Rattle.mach_layout.specs.declared.rules.Seen.{Seen}
 
 -- the claim's bytes lie in the file

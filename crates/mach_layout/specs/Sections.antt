@@ -14,7 +14,7 @@ use Rattle.mach_layout.specs.declared.fault.Owner.{Owner}
 use Rattle.mach_layout.specs.declared.fault.Part.TheVariants as part
 use Rattle.mach_layout.specs.declared.fault.Rule.{Rule}
 use Rattle.mach_layout.specs.declared.fault.Rule.TheVariants as rule
-use Rattle.mach_layout.specs.declared.parts.PlacedSection.{PlacedSection}
+use Rattle.mach_layout.specs.declared.placed_sections.PlacedSection.{PlacedSection}
 use Rattle.mach_layout.specs.declared.rules.Seen.{Seen}
 
 -- the section as the owner of a fault

@@ -6,7 +6,7 @@ use Rattle.mach_layout.specs.Symbols as defined
 use Rattle.mach_layout.specs.declared.fault.Owner.{Owner}
 use Rattle.mach_layout.specs.declared.fault.Part.TheVariants as part
 use Rattle.mach_layout.specs.declared.fault.Rule.{Rule}
-use Rattle.mach_layout.specs.declared.parts.PlacedSection.{PlacedSection}
+use Rattle.mach_layout.specs.declared.placed_sections.PlacedSection.{PlacedSection}
 use Rattle.mach_layout.specs.declared.rules.Seen.{Seen}
 use Rattle.mach_layout.specs.declared.symbols.SymbolRange.{SymbolRange}
 use Rattle.mach_layout.specs.declared.symbols.SymbolsJudged.{SymbolsJudged}

@@ -12,7 +12,7 @@ ghost use Rattle.mach_layout.specs.ClaimsLeft.{open_left, claims_left, TakesClai
 use crate::claim::Claim;
 use crate::fault::Part;
 use crate::layout::Layout;
-use crate::parts::{PlacedSection, PlacedSegment, segment_of, take_section};
+use crate::placed_sections::{PlacedSection, PlacedSegment, segment_of, take_section};
 use crate::rules::{Items, owner_at};
 use mach_base::Container;
 use mach_load::{CommandVariant, LoadCommand};

@@ -6,13 +6,13 @@ ghost use Rattle.mach_layout.specs.DataInCode as defined;
 ghost use Rattle.mach_layout.specs.FixupViews.{data_view};
 ghost use Rattle.mach_layout.specs.Laid.{laid_of};
 
-use crate::asked::{Wanted, last_wanted};
 use crate::entry::is_code;
 use crate::fault::{LayoutFault, Owner, Part, Rule};
 use crate::fixups::starts::text_address;
 use crate::fixups::{FixupData, PlacedFixups, data_of};
+use crate::last_command::{Wanted, last_wanted};
 use crate::layout::Layout;
-use crate::parts::PlacedSegment;
+use crate::placed_sections::PlacedSegment;
 use crate::rules::{Judges, Numbers, Seen, measured, owner_at, sound, tell_over};
 use mach_base::{Record, Result};
 use mach_load::{CommandVariant, LoadCommand};

@@ -10,7 +10,7 @@ ghost use Rattle.mach_layout.specs.Laid.{laid_of, segments_of};
 use crate::fault::{LayoutFault, Part, Rule};
 use crate::header::header_owner;
 use crate::layout::Layout;
-use crate::parts::PlacedSegment;
+use crate::placed_sections::PlacedSegment;
 use crate::rules::{Seen, measured, owner_at, sound, tell};
 use mach_base::Result;
 use mach_load::{CommandVariant, LoadCommand};

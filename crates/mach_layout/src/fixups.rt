@@ -10,10 +10,10 @@ ghost use Rattle.mach_base.specs.Number.{number_at};
 mod imports;
 pub mod starts;
 
-use crate::asked::{Wanted, last_wanted};
 use crate::fault::{LayoutFault, Owner, Part, Rule};
 use crate::fixups::imports::import_faults;
 use crate::fixups::starts::starts_faults;
+use crate::last_command::{Wanted, last_wanted};
 use crate::layout::{Layout, ends_past};
 use crate::rules::{Seen, measured, owner_at, tell};
 use mach_base::{Endian, Record, Result, read_u32};

@@ -9,7 +9,7 @@ ghost use Rattle.mach_layout.specs.ClaimsLeft.{claims_left};
 ghost use Rattle.mach_layout.specs.PartsLeft.{placed_segments_left, placed_sections_left};
 
 use crate::claiming::ClaimIterator;
-use crate::parts::{SectionIterator, SegmentIterator};
+use crate::placed_sections::{SectionIterator, SegmentIterator};
 use mach_base::{Container, Ctx};
 use mach_load::LoadCommand;
 use mach_parts::header::{

@@ -18,15 +18,15 @@ mod ranges;
 mod sweep;
 
 // The rules by subject.
-mod asked;
 mod commands;
 mod data;
 mod entry;
 mod fixups;
 mod header;
+mod last_command;
 mod libraries;
 mod lists;
-mod parts;
+mod placed_sections;
 mod sections;
 mod segments;
 mod symbols;
@@ -47,6 +47,6 @@ pub use crate::fixups::fixup_faults;
 pub use crate::header::header_owner;
 pub use crate::layout::Layout;
 pub use crate::lists::{function_starts_fault, opcodes_fault};
-pub use crate::parts::{PlacedSection, PlacedSegment, SectionIterator, SegmentIterator};
+pub use crate::placed_sections::{PlacedSection, PlacedSegment, SectionIterator, SegmentIterator};
 pub use crate::sweep::tell_ranges;
 pub use crate::text::Evidence;

@@ -4,8 +4,8 @@ ghost use Rattle.std.specs.Prelude.{◌≡◌};
 ghost use Rattle.mach_layout.specs.Lists as defined;
 ghost use Rattle.mach_layout.specs.Laid.{laid_of};
 
-use crate::asked::{Wanted, last_wanted};
 use crate::fault::{LayoutFault, Part, Rule};
+use crate::last_command::{Wanted, last_wanted};
 use crate::layout::Layout;
 use crate::symbols::fault_at;
 use mach_load::{CommandVariant, LoadCommand};

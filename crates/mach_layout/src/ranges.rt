@@ -12,7 +12,7 @@ use crate::claim::Claim;
 use crate::claiming::segment_claim;
 use crate::fault::{LayoutFault, Owner, Part, Rule};
 use crate::layout::{Layout, ends_past, range_end};
-use crate::parts::{PlacedSection, PlacedSegment};
+use crate::placed_sections::{PlacedSection, PlacedSegment};
 use crate::rules::{Judges, Seen, measured, sound, tell_over};
 use crate::sections::section_owner;
 use crate::segments::segment_owner;

@@ -13,7 +13,7 @@ ghost use Rattle.mach_layout.specs.declared.fault.Rule.TheVariants as rules_name
 use crate::claiming::has_bytes;
 use crate::fault::{LayoutFault, Owner, Part, Rule};
 use crate::layout::{Layout, ends_past, range_end};
-use crate::parts::PlacedSection;
+use crate::placed_sections::PlacedSection;
 use crate::rules::{Judges, Seen, measured, owner_at, sound, tell_over};
 use crate::segments::{before_zero, range_holds, segment_owner};
 use mach_base::Result;

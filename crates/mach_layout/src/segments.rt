@@ -12,7 +12,7 @@ ghost use Rattle.mach_layout.specs.declared.fault.Rule.TheVariants as rules_name
 
 use crate::fault::{LayoutFault, Owner, Part, Rule};
 use crate::layout::{Layout, range_end};
-use crate::parts::PlacedSegment;
+use crate::placed_sections::PlacedSegment;
 use crate::rules::{Judges, Seen, measured, owner_at, sound, tell, tell_over};
 use mach_base::{Container, Result};
 use mach_load::{CommandVariant, LoadCommand};

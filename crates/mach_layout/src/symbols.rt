@@ -12,8 +12,8 @@ mod counts;
 mod indirect;
 mod ranges;
 
-use crate::asked::{Wanted, last_wanted};
 use crate::fault::{LayoutFault, Owner, Part, Rule};
+use crate::last_command::{Wanted, last_wanted};
 use crate::layout::{Layout, ends_past};
 use crate::rules::{Judges, Numbers, Seen, measured, owner_at, sound, tell_over};
 use crate::symbols::counts::{section_count, whole_records};

@@ -6,7 +6,7 @@ ghost use Rattle.mach_base.specs.Leb128.{uleb_at};
 ghost use Rattle.mach_load.specs.FunctionStarts.{function_start_at, start_range_at, AreFunctionStarts};
 ghost use Rattle.mach_load.specs.TablesLeft.{start_range_of, start_read, starts_left};
 
-use crate::front::front;
+use crate::prefix::front;
 use mach_base::{ByteCount, Error, Result, quick_uleb, uleb};
 use mach_records::LinkeditDataCommand;
 use std::fmt;

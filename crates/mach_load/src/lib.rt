@@ -6,15 +6,14 @@
 mod load_command;
 mod thread;
 mod variant;
-mod variant_debug;
 
 // Tables that commands place or hold.
 mod build_tools;
 mod data_in_code;
-mod front;
 mod function_starts;
 mod linker_options;
 mod notes;
+mod prefix;
 
 // Laws.
 pub mod laws;

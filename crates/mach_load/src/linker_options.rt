@@ -8,8 +8,8 @@ ghost use Rattle.mach_load.specs.LinkerOptions as defined;
 ghost use Rattle.mach_load.specs.LinkerOptions.{option_count, option_texts, linker_options_in};
 ghost use Rattle.mach_load.specs.TablesLeft.{texts_view, option_read, options_left};
 
-use crate::front::front;
 use crate::load_command::LoadCommand;
+use crate::prefix::front;
 use crate::variant::CommandVariant;
 use mach_base::{ByteCount, Error, Result, read_text};
 use mach_records::SIZEOF_LINKER_OPTION_COMMAND;

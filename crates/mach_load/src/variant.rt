@@ -9,6 +9,8 @@ ghost use Rattle.mach_load.specs.Commands.{row_of};
 ghost use Rattle.mach_load.specs.Command.{command_by};
 ghost use Rattle.mach_load.specs.Variants.{variant_values, command_of};
 
+pub(crate) mod debug;
+
 use crate::thread::ThreadCommand;
 use mach_base::{Endian, Error, Record, Result, ScrollError, rest_at};
 use mach_records::{

@@ -12,8 +12,8 @@ use Rattle.mach_base.specs.Number.{number, number_at}
 use Rattle.mach_parts.specs.IndirectSymbols.{IndirectTable, indirect_symbol}
 use Rattle.mach_parts.specs.ReadySlots.{ready_count, ready_entry, ready_left, ready_slots}
 use Rattle.mach_parts.specs.Slots.{SlotTables, Slot, entry_then, slot_entry, slot_of_entry, slots_from}
-use Rattle.mach_parts.specs.declared.slot_kind.SlotRun.{SlotRun}
-use Rattle.mach_parts.specs.declared.ready_slots.ReadySlots.{ReadySlots}
+use Rattle.mach_parts.specs.declared.slots.kind.SlotRun.{SlotRun}
+use Rattle.mach_parts.specs.declared.slots.ready.ReadySlots.{ReadySlots}
 use Rattle.mach_parts.specs.declared.slot.SlotEntry.{SlotEntry}
 use Rattle.mach_parts.proofs.SlotLists.{one_more}
 

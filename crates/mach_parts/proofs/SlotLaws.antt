@@ -21,8 +21,8 @@ use Rattle.mach_parts.specs.SlotLookUp.{holds_slots_at, slot_in_run, slot_in_run
 use Rattle.mach_parts.specs.SlotPlaces.{IsSlotOfSection}
 use Rattle.mach_parts.specs.SlotSections.{slot_kind, slot_len, run_of, run_of_kind, slot_run}
 use Rattle.mach_parts.specs.Slots.{SlotTables, Slot, entry_then, slot_entry, slot_of_entry, slot_symbol, slots_from, slots_of_run, read_slots}
-use Rattle.mach_parts.specs.declared.slot_kind.SlotKind.{SlotKind}
-use Rattle.mach_parts.specs.declared.slot_kind.SlotRun.{SlotRun}
+use Rattle.mach_parts.specs.declared.slots.kind.SlotKind.{SlotKind}
+use Rattle.mach_parts.specs.declared.slots.kind.SlotRun.{SlotRun}
 use Rattle.mach_parts.specs.declared.slot.SlotEntry.{SlotEntry}
 
 -- ---- indirect symbols

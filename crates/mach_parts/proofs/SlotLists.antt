@@ -2,7 +2,7 @@
 use Rattle.std.proofs.Common.{◌≡◌, ◌<◌, ◌≤◌, ℕ, suc, ◌+◌, ◌-◌, [], ◌∷◌, Result, Ok, Err, refl, ap, ◌∙◌, arith}
 use Rattle.mach_base.specs.Fault.{Fault}
 use Rattle.mach_parts.specs.Slots.{SlotTables, entry_then, slot_entry, slot_of_entry, slots_from}
-use Rattle.mach_parts.specs.declared.slot_kind.SlotRun.{SlotRun}
+use Rattle.mach_parts.specs.declared.slots.kind.SlotRun.{SlotRun}
 use Rattle.mach_parts.specs.declared.slot.SlotEntry.{SlotEntry}
 
 module _ (t : SlotTables) (r : SlotRun) where

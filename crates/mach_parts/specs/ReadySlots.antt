@@ -5,8 +5,8 @@ use Rattle.mach_base.specs.Fault.{Fault}
 use Rattle.mach_base.specs.Number.{number}
 use Rattle.mach_parts.specs.IndirectSymbols.{IndirectTable, indirect_symbol}
 use Rattle.mach_parts.specs.Slots.{SlotTables, Slot, slot_of_entry}
-use Rattle.mach_parts.specs.declared.slot_kind.SlotRun.{SlotRun}
-use Rattle.mach_parts.specs.declared.ready_slots.ReadySlots.{ReadySlots}
+use Rattle.mach_parts.specs.declared.slots.kind.SlotRun.{SlotRun}
+use Rattle.mach_parts.specs.declared.slots.ready.ReadySlots.{ReadySlots}
 use Rattle.mach_parts.specs.declared.slot.SlotEntry.{SlotEntry}
 
 -- the entry with which these bytes begin, of the slot at an address

@@ -8,7 +8,7 @@ use Rattle.mach_parts.specs.Segment.{SegmentView}
 use Rattle.mach_parts.specs.declared.segment.numbered.NumberedSection.{NumberedSection}
 use Rattle.mach_parts.specs.SlotSections.{slot_kind, run_of}
 use Rattle.mach_parts.specs.Slots.{SlotTables, Slot, slot_entry, slot_of_entry}
-use Rattle.mach_parts.specs.declared.slot_kind.SlotRun.{SlotRun}
+use Rattle.mach_parts.specs.declared.slots.kind.SlotRun.{SlotRun}
 
 -- whether a section has slots, and an address lies in it
 abbrev pub holds_slots_at : ℕ → NumberedSection → Bool

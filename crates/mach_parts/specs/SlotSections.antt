@@ -6,9 +6,9 @@ use Rattle.mach_base.specs.Context.{pointer_size}
 use Rattle.mach_base.specs.Fault.{Fault, malformed}
 use Rattle.mach_records.specs.declared.segments.Section64.{Section64}
 use Rattle.mach_parts.specs.declared.segment.numbered.NumberedSection.{NumberedSection}
-use Rattle.mach_parts.specs.declared.slot_kind.SlotKind.{SlotKind}
-use Rattle.mach_parts.specs.declared.slot_kind.SlotKind.TheVariants.{Pointer, LazyPointer, Stub, LazyLibraryPointer, ThreadLocalPointer}
-use Rattle.mach_parts.specs.declared.slot_kind.SlotRun.{SlotRun}
+use Rattle.mach_parts.specs.declared.slots.kind.SlotKind.{SlotKind}
+use Rattle.mach_parts.specs.declared.slots.kind.SlotKind.TheVariants.{Pointer, LazyPointer, Stub, LazyLibraryPointer, ThreadLocalPointer}
+use Rattle.mach_parts.specs.declared.slots.kind.SlotRun.{SlotRun}
 
 -- the kind of a section's slots, by its type: S_NON_LAZY_SYMBOL_POINTERS, S_LAZY_SYMBOL_POINTERS, S_SYMBOL_STUBS,
 -- S_LAZY_DYLIB_SYMBOL_POINTERS and S_THREAD_LOCAL_VARIABLE_POINTERS

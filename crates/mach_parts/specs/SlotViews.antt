@@ -12,8 +12,8 @@ use Rattle.mach_parts.specs.declared.indirect.IndirectSymbolIterator.{IndirectSy
 use Rattle.mach_parts.specs.declared.slot.SlotSymbol.{SlotSymbol}
 use Rattle.mach_parts.specs.declared.slot.SlotSymbol.TheVariants.{Named, Local, Absolute, LocalAbsolute}
 use Rattle.mach_parts.specs.declared.slot.SymbolSlot.{SymbolSlot}
-use Rattle.mach_parts.specs.declared.slot_source.HeldSource.{HeldSource}
-use Rattle.mach_parts.specs.declared.slot_source.SlotSource.{SlotSource}
+use Rattle.mach_parts.specs.declared.slots.source.HeldSource.{HeldSource}
+use Rattle.mach_parts.specs.declared.slots.source.SlotSource.{SlotSource}
 
 abbrev pub indirect_table_of : IndirectSymbols → IndirectTable
 indirect_table_of t = record { bytes = t.bytes.now; start = t.start; count = t.count; le = t.le }

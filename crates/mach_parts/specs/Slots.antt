@@ -11,8 +11,8 @@ use Rattle.mach_parts.specs.IndirectSymbols.{IndirectTable, indirect_symbol_at}
 use Rattle.mach_parts.specs.SlotSections.{run_of}
 use Rattle.mach_parts.specs.declared.indirect.IndirectSymbol.{IndirectSymbol}
 use Rattle.mach_parts.specs.declared.indirect.IndirectSymbol.TheVariants.{Symbol, Local, Absolute, LocalAbsolute}
-use Rattle.mach_parts.specs.declared.slot_kind.SlotKind.{SlotKind}
-use Rattle.mach_parts.specs.declared.slot_kind.SlotRun.{SlotRun}
+use Rattle.mach_parts.specs.declared.slots.kind.SlotKind.{SlotKind}
+use Rattle.mach_parts.specs.declared.slots.kind.SlotRun.{SlotRun}
 use Rattle.mach_parts.specs.declared.slot.SlotEntry.{SlotEntry}
 
 -- What slots are read from: the table of indirect symbols, that of symbols if there is one, and the width of the image.

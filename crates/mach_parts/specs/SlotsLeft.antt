@@ -7,7 +7,7 @@ use Rattle.mach_parts.specs.NumberedLeft.{numbered_left}
 use Rattle.mach_parts.specs.ReadySlots.{ready_left}
 use Rattle.mach_parts.specs.Slots.{SlotTables, Slot, slots_from, section_slots}
 use Rattle.mach_parts.specs.SlotViews.{held_tables_of, slot_view}
-use Rattle.mach_parts.specs.declared.slot_kind.SlotRun.{SlotRun}
+use Rattle.mach_parts.specs.declared.slots.kind.SlotRun.{SlotRun}
 use Rattle.mach_parts.specs.declared.slot.SymbolSlot.{SymbolSlot}
 use Rattle.mach_parts.specs.declared.slots.SlotIterator.{SlotIterator}
 

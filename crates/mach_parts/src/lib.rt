@@ -20,11 +20,7 @@ pub mod symbols;
 
 // Indirect symbols, and the stubs and pointers that stand for symbols.
 mod indirect;
-mod ready_slots;
 mod slot;
-mod slot_kind;
-mod slot_look_up;
-mod slot_source;
 mod slots;
 
 // Laws.
@@ -34,7 +30,7 @@ pub use crate::arch_record::{ArchRecord, has_room_for, place_of, read_arch};
 pub use crate::fat64::{FAT_MAGIC_64, FatArch64, SIZEOF_FAT_ARCH_64};
 pub use crate::indirect::{IndirectSymbol, IndirectSymbolIterator, IndirectSymbols};
 pub use crate::slot::{SlotSymbol, SymbolSlot};
-pub use crate::slot_kind::SlotKind;
-pub use crate::slot_look_up::symbol_slot_at;
-pub use crate::slot_source::SlotSource;
 pub use crate::slots::SlotIterator;
+pub use crate::slots::kind::SlotKind;
+pub use crate::slots::look_up::symbol_slot_at;
+pub use crate::slots::source::SlotSource;

@@ -1,7 +1,7 @@
 //! What a slot is.
 
 use crate::indirect::IndirectSymbol;
-use crate::slot_kind::SlotKind;
+use crate::slots::kind::SlotKind;
 
 /// Whose a slot is.
 #[derive(Clone, Copy, Debug)]

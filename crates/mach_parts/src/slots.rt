@@ -9,12 +9,17 @@ ghost use Rattle.mach_parts.specs.Slots.{slots_of, read_slots};
 ghost use Rattle.mach_parts.specs.ReadySlots.{ready_left};
 ghost use Rattle.mach_parts.specs.SlotsLeft.{symbol_slot_read, open_slots_left, section_left, slots_left};
 
+pub(crate) mod kind;
+pub(crate) mod look_up;
+pub(crate) mod ready;
+pub(crate) mod source;
+
 use crate::indirect::IndirectSymbols;
-use crate::ready_slots::ReadySlots;
 use crate::segment::{NumberedSection, NumberedSections, Segment};
 use crate::slot::SymbolSlot;
-use crate::slot_kind::SlotRun;
-use crate::slot_source::{HeldSource, SlotSource};
+use crate::slots::kind::SlotRun;
+use crate::slots::ready::ReadySlots;
+use crate::slots::source::{HeldSource, SlotSource};
 use mach_base::{Ctx, Endian, Result};
 
 /// The slots of an image's sections in order, each with its symbol. An error stands in the place of its slot, or of

@@ -1,5 +1,5 @@
-//! Made Mach-O files, and answers as short texts, for tests and for `machbench`: files whose reading may cost more than their size, the
-//! built files of docs/FORMAT.md, and small images.
+//! Made Mach-O files, for tests and for `machbench`: files whose reading may cost more than their size, the built files of
+//! docs/FORMAT.md, and small images.
 #![tactic(auto)]
 
 // An ordinary file, and shapes that hurt readers, each of as many bytes as is asked for.
@@ -13,8 +13,5 @@ mod tails;
 
 // The built files of docs/FORMAT.md, and small images.
 pub mod files;
-
-// Answers as short texts, which tests compare in tables.
-pub mod texts;
 
 pub use crate::shape::{LEAST, Shape};

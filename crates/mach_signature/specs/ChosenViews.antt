@@ -8,8 +8,8 @@ use Rattle.mach_signature.specs.Directories.{Directory}
 use Rattle.mach_signature.specs.DirectoryViews.{directory_view}
 use Rattle.mach_signature.specs.Numbered.{told_left}
 use Rattle.mach_signature.specs.SignViews.{signature_view}
-use Rattle.mach_signature.specs.declared.chosen.Directories.{Directories}
-use Rattle.mach_signature.specs.declared.chosen.DirectoryBlobs.{DirectoryBlobs}
+use Rattle.mach_signature.specs.declared.directories.Directories.{Directories}
+use Rattle.mach_signature.specs.declared.directories.DirectoryBlobs.{DirectoryBlobs}
 use Rattle.mach_signature.specs.declared.directory.CodeDirectory.{CodeDirectory}
 
 -- a directory with its slot, as it was read

@@ -12,8 +12,8 @@ ghost use Rattle.mach_signature.specs.FaultViews.{directory_fault_view, signatur
 ghost use Rattle.mach_signature.specs.FaultViews.{directory_faults_left, signature_faults_left, current_left};
 ghost use Rattle.mach_signature.specs.ChosenViews.{slot_directory_read};
 
-use crate::chosen::Directories;
 use crate::code_faults::CodeFaults;
+use crate::directories::Directories;
 use crate::directory::CodeDirectory;
 use crate::fault::{DirectoryFault, SignatureFault};
 use crate::numbered::{Numbered, Told};

@@ -11,9 +11,9 @@ ghost use Rattle.mach_signature.specs.SignedImages as defined;
 
 use crate::directory::CodeDirectory;
 use crate::faults::SignatureFaults;
-pub use crate::place::signature_place;
 pub use crate::plist::info_plist;
 use crate::signature::CodeSignature;
+pub use crate::signature_place::signature_place;
 use goblin_mach::MachO;
 use mach_base::Result;
 use std::alloc::Allocator;

@@ -3,8 +3,8 @@
 #![tactic(auto)]
 
 // Signatures, over bytes.
-mod chosen;
 mod code_faults;
+mod directories;
 mod directory;
 mod fault;
 mod faults;
@@ -17,14 +17,14 @@ mod special_faults;
 
 // The signature of an image: what its command brings, and what isn't as it was signed.
 pub mod image;
-mod place;
 mod plist;
+mod signature_place;
 
 // Laws.
 pub mod laws;
 
-pub use crate::chosen::Directories;
 pub use crate::code_faults::CodeFaults;
+pub use crate::directories::Directories;
 pub use crate::directory::CodeDirectory;
 pub use crate::fault::{CodeFault, DirectoryFault, SignatureFault, SlotName, SpecialFault};
 pub use crate::faults::{SignatureFaults, SignedBytes, code_signature, signature_faults};

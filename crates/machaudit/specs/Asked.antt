@@ -11,8 +11,8 @@ use Rattle.mach_cli.specs.Shown.{IsFatTable}
 use Rattle.mach_cli.specs.declared.cpu.Cpu.{Cpu}
 use Rattle.mach_cli.specs.declared.cpu.Cpu.TheVariants.{Any}
 use Rattle.machaudit.specs.Sound.{IsSound, IsLong}
-use Rattle.machaudit.specs.declared.asked.Asked.{Asked}
-use Rattle.machaudit.specs.declared.asked.Asked.TheVariants.{Whole, Other, Entries}
+use Rattle.machaudit.specs.declared.selection.Asked.{Asked}
+use Rattle.machaudit.specs.declared.selection.Asked.TheVariants.{Whole, Other, Entries}
 
 -- All of a file is asked for: each image is; it is one image that is; or it doesn't open, or its table can't be read.
 pub data AsksWhole (cpu : Cpu) (bytes : List ℕ) : Type 0 where

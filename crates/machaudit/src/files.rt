@@ -3,12 +3,12 @@
 ghost use Rattle.std.specs.Prelude.{◌≡◌, ◌≤◌, IfOk};
 ghost use Rattle.mach_cli.specs.Statuses.{IsStatus};
 
-use crate::asked::{missed, run_for};
 use crate::listed::lines_of;
 use crate::options::Options;
 use crate::run::Call;
+use crate::selection::{missed, run_for};
 use goblin_mach::{InputItem, describe};
-use mach_cli::say::failed;
+use mach_cli::output::failed;
 use mach_cli::{
     Cpu, Failure, Names, Program, Progress, ShownPart, is_for, is_missed, parts_of, shown_part,
 };

@@ -2,11 +2,11 @@
 #![tactic(auto)]
 
 // What is wrong with a file: whether it opens, and each part of it that can't be read or lies where it can't.
-mod asked;
 mod audit;
 mod listed;
 mod lists;
 mod report;
+mod selection;
 mod signed;
 mod tally;
 mod verdict;

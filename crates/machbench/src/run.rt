@@ -15,7 +15,7 @@ use crate::bench::bench;
 use crate::failure::{Failure, Words};
 use crate::hostile::hostile;
 use mach_cli::Names;
-use mach_cli::say::failed;
+use mach_cli::output::failed;
 use std::alloc::Allocator;
 use std::io;
 use std::io::{BufWriter, Write};

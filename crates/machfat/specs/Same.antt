@@ -2,7 +2,7 @@
 use Rattle.std.specs.Prelude.{◌≡◌, ◌==◌, ◌&&◌, ◌||◌, ℕ, List, [], ◌∷◌, Bool, true, false, Option, Some, None}
 use Rattle.std.specs.Borrow.{Bor}
 use Rattle.std.specs.Str.{bytes_eq}
-use Rattle.machfat.specs.declared.place.Node.{Node}
+use Rattle.machfat.specs.declared.new_file.Node.{Node}
 
 -- the system knows a file by both paths, and it is the same one: one device, and one number there
 abbrev pub is_one_node : Option Node → Option Node → Bool

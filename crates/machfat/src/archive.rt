@@ -6,8 +6,12 @@ ghost use Rattle.machfat.specs.ArchiveLines.{AreArchiveLines};
 ghost use Rattle.machfat.specs.Names.{name_end, refused_line};
 ghost use Rattle.machfat.specs.Written.{WritesWhole};
 
-use crate::archive_member::print_members;
-use crate::archive_symbol::print_symbols;
+pub mod kind;
+pub mod member;
+pub mod symbol;
+
+use crate::archive::member::print_members;
+use crate::archive::symbol::print_symbols;
 use mach_archive::Archive;
 use mach_base::{Error, describe};
 use mach_cli::print_escaped;

@@ -14,7 +14,7 @@ use crate::entry::{ListForm, print_records, records};
 use crate::refusal::Refusal;
 use crate::run::{NAME, refused};
 use mach_cli::JsonString;
-use mach_cli::say::failed;
+use mach_cli::output::failed;
 use mach_fat_writer::EntryRecord;
 use std::alloc::Allocator;
 use std::io;

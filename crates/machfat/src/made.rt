@@ -15,7 +15,7 @@ ghost use Rattle.machfat.specs.Refusals.{refusal_line};
 ghost use Rattle.machfat.specs.Same.{AreOther};
 ghost use Rattle.machfat.specs.declared.refusal.Refusal.TheVariants.{Refused};
 
-use crate::place::{first_same, place_file};
+use crate::new_file::{first_same, place_file};
 use crate::refusal::Refusal;
 use crate::run::{NAME, refused, status};
 use mach_fat_writer::{FileRefusal, Form, MakeRefusal, create, remove, replace};

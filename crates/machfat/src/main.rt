@@ -12,7 +12,7 @@ mod entry;
 mod json;
 mod made;
 mod members;
-mod place;
+mod new_file;
 mod refusal;
 mod run;
 mod text;
@@ -21,16 +21,13 @@ mod verify;
 
 // What is told of an archive: a line for each member, and one for each symbol of its index.
 mod archive;
-mod archive_kind;
-mod archive_member;
-mod archive_symbol;
 
 use json::run_list_json;
 use mach_cli::{Misuse, Program, Round, cputype_in, take_json};
 use mach_fat_writer::Form;
 use made::{one_file, run_create, run_remove, run_replace};
 use members::run_members;
-use place::is_same_file;
+use new_file::is_same_file;
 use run::{NAME, run_extract, run_list};
 use std::alloc::{AllocError, Global};
 use std::io;

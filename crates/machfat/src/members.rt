@@ -11,8 +11,8 @@ ghost use Rattle.machfat.specs.Members.{AreContentLines, AreEntryLines, AreFileL
 ghost use Rattle.machfat.specs.Refusals.{IsRefusal, RefusesTable, refusal_line};
 ghost use Rattle.machfat.specs.declared.refusal.Refusal.{Refusal};
 
+use crate::archive::kind::begins_image;
 use crate::archive::print_archive;
-use crate::archive_kind::begins_image;
 use crate::refusal::{Failure, Refusal};
 use crate::run::status;
 use mach_fat_writer::{EntryRecord, EntryRefusal, Form};

@@ -14,10 +14,10 @@ ghost use Rattle.machfat.specs.declared.refusal.Failure.TheVariants as failures;
 ghost use Rattle.machfat.specs.declared.refusal.Refusal.{Refusal};
 
 use crate::entry::{entry_bytes, list};
-use crate::place::place_file;
+use crate::new_file::place_file;
 use crate::refusal::{Failure, Refusal};
 use mach_cli::Names;
-use mach_cli::say::failed;
+use mach_cli::output::failed;
 use std::alloc::{Allocator, Global};
 use std::io::{BufWriter, Write};
 use std::rt::Files;

@@ -3,7 +3,7 @@
 ghost use Rattle.std.specs.Prelude.{◌≡◌, Some};
 ghost use Rattle.machfat.specs.Lines.{cpu_members, cpu_text, entry_place_text, entry_place_members, record_kind, record_object, record_text};
 
-use crate::archive_kind::entry_kind;
+use crate::archive::kind::entry_kind;
 use mach_fat_writer::EntryRecord;
 use std::fmt;
 use std::fmt::{Display, Formatter, Write};

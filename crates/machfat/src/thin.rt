@@ -10,7 +10,7 @@ ghost use Rattle.machfat.specs.Same.{IsOther};
 ghost use Rattle.machfat.specs.declared.refusal.Refusal.{Refusal};
 
 use crate::made::one_file;
-use crate::place::{is_same_file, place_file};
+use crate::new_file::{is_same_file, place_file};
 use crate::refusal::{Failure, Refusal};
 use crate::run::status;
 use mach_fat_writer::thin_entry;

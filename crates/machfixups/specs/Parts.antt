@@ -8,7 +8,7 @@ use Rattle.mach_base.specs.Items.{all_read}
 use Rattle.mach_parts.specs.Segment.{SegmentView, sections_of}
 use Rattle.mach_parts.specs.SectionItems.{section_and_bytes}
 use Rattle.mach_parts.specs.declared.segment.section.Section.{Section}
-use Rattle.machfixups.specs.declared.parts.Part as declared
+use Rattle.machfixups.specs.declared.section_names.Part as declared
 
 -- a name as it is shown: `-` where it is empty or can't be read
 abbrev pub shown_name : Result (List ℕ) Fault → List ℕ

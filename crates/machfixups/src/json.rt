@@ -9,9 +9,9 @@ ghost use Rattle.mach_cli.specs.Documents.{IsDocument};
 ghost use Rattle.machfixups.specs.JsonImages.{AreImagePointerMembers};
 
 use crate::members::write_members;
-use crate::parts::image_parts;
 use crate::rows::Picks;
 use crate::run::NAME;
+use crate::section_names::image_parts;
 use goblin_mach::MachO;
 use mach_cli::{Cpu, Failure, Heading, Names, Outcome, Shows};
 use std::alloc::Allocator;
@@ -70,5 +70,5 @@ pub fn run_json<A: Allocator + Clone, W: Write + Drop, B: Allocator, E: Write>(
     ensures flushed { result ≤ 1 → writer_buffer out.new ≡ [] }
 {
     let objects = Objects { file, picks };
-    mach_cli::json_run::run(&objects, file, cpu, limit, &alloc, bytes, out, err)
+    mach_cli::json::run::run(&objects, file, cpu, limit, &alloc, bytes, out, err)
 }

@@ -21,11 +21,11 @@
 mod json;
 mod members;
 mod object;
-mod parts;
 mod print;
 mod row;
 mod rows;
 mod run;
+mod section_names;
 mod text;
 mod words;
 

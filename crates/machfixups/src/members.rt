@@ -15,10 +15,10 @@ ghost use Rattle.machfixups.specs.Rows.{fixups_table_seen, picked, readable_tabl
 ghost use Rattle.machfixups.specs.RowsLeft.{rows_of_items};
 
 use crate::object::PointerObject;
-use crate::parts::Part;
 use crate::print::table_of;
 use crate::row::Row;
 use crate::rows::{Items, Picks, Rows};
+use crate::section_names::Part;
 use goblin_mach::chained_fixups::ChainedFixups;
 use goblin_mach::{MachO, laws};
 use mach_cli::{Listing, Outcome, Told, print_empty, print_end, print_member, then};

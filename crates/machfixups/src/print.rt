@@ -14,9 +14,9 @@ ghost use Rattle.machfixups.specs.Parts.{parts_seen};
 ghost use Rattle.machfixups.specs.Rows.{rows_in_order, picked, readable_table, fixups_table_seen};
 ghost use Rattle.machfixups.specs.RowsLeft.{rows_left, rows_of_items};
 
-use crate::parts::Part;
 use crate::row::Row;
 use crate::rows::{Items, Picks, Rows};
+use crate::section_names::Part;
 use goblin_mach::chained_fixups::ChainedFixups;
 use goblin_mach::{MachO, describe, laws};
 use mach_cli::Outcome;

@@ -14,7 +14,7 @@ ghost use Rattle.machfixups.specs.Rows.{place_in, ordinal_of, bind_of_binding, r
 ghost use Rattle.machfixups.specs.Rows.{row_for_binding, row_for_rebase, row_for_weak, row_for_fixup, place_view, bind_view, action_view, row_view};
 ghost use Rattle.machfixups.specs.Rows.{row_of_fixup, row_read, fixups_table_seen};
 
-use crate::parts::{Part, part_with};
+use crate::section_names::{Part, part_with};
 use goblin_mach::chained_fixups::{ChainedFixups, ChainedImport, Fixup, FixupKind, PointerAuth};
 use goblin_mach::{Binding, Error, Provider, Rebase, RebaseKind, Result, WeakBind};
 use std::alloc::Allocator;

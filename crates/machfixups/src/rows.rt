@@ -4,8 +4,8 @@ ghost use Rattle.std.specs.Prelude.{◌≡◌};
 ghost use Rattle.machfixups.specs.Rows.{row_read, shown_picks};
 ghost use Rattle.machfixups.specs.RowsLeft.{rows_left};
 
-use crate::parts::Part;
 use crate::row::{Row, binding_row, fixup_row, rebase_row, weak_row};
+use crate::section_names::Part;
 use goblin_mach::chained_fixups::ChainedFixups;
 use goblin_mach::{
     FixupIterator, OpcodeBindingIterator, OpcodeRebaseIterator, Result, WeakBindIterator,

@@ -7,9 +7,9 @@ ghost use Rattle.mach_cli.specs.Shown.{Shown, ShowsFile, Writes};
 ghost use Rattle.mach_cli.specs.Statuses.{IsStatus, status_by};
 ghost use Rattle.machfixups.specs.ImageLines.{AreImagePointerLines};
 
-use crate::parts::image_parts;
 use crate::print::print_fixups;
 use crate::rows::Picks;
+use crate::section_names::image_parts;
 use goblin_mach::MachO;
 use mach_cli::{Cpu, Failure, Heading, Names, Outcome, Shows};
 use std::alloc::Allocator;

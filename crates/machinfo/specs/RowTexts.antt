@@ -8,8 +8,8 @@ use Rattle.mach_parts.specs.PointerSigning.{Auth}
 use Rattle.mach_parts.specs.Slots.{Slot, SlotOwner, named_slot, local_slot, absolute_slot, local_absolute_slot}
 use Rattle.mach_parts.specs.declared.indirect.IndirectSymbol.{IndirectSymbol}
 use Rattle.mach_parts.specs.declared.indirect.IndirectSymbol.TheVariants.{Symbol, Local, Absolute, LocalAbsolute}
-use Rattle.mach_parts.specs.declared.slot_kind.SlotKind.{SlotKind}
-use Rattle.mach_parts.specs.declared.slot_kind.SlotKind.TheVariants.{Pointer, LazyPointer, Stub, LazyLibraryPointer, ThreadLocalPointer}
+use Rattle.mach_parts.specs.declared.slots.kind.SlotKind.{SlotKind}
+use Rattle.mach_parts.specs.declared.slots.kind.SlotKind.TheVariants.{Pointer, LazyPointer, Stub, LazyLibraryPointer, ThreadLocalPointer}
 use Rattle.mach_dyld.specs.Rebases.{Rebase}
 use Rattle.mach_dyld.specs.WeakBinds.{WeakBind, strong_name, weakly_bound}
 use Rattle.goblin_mach.specs.Libraries.{LibraryView}

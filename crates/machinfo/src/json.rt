@@ -120,7 +120,7 @@ pub fn write_list<A: Allocator + Clone, W: Write + Drop, B: Allocator, E: Write>
     ensures flushed { result ≤ 1 → writer_buffer out.new ≡ [] }
 {
     let objects = ObjectsOf { file, word };
-    mach_cli::json_run::run(&objects, file, cpu, limit, &alloc, bytes, out, err)
+    mach_cli::json::run::run(&objects, file, cpu, limit, &alloc, bytes, out, err)
 }
 
 /// Writes of a file as `run_summary` does, but as JSON, an object of the file on a line.
@@ -141,5 +141,5 @@ pub fn write_summary<A: Allocator + Clone, W: Write + Drop, B: Allocator, E: Wri
     ensures flushed { result ≤ 1 → writer_buffer out.new ≡ [] }
 {
     let members = MembersOf { file, limit };
-    mach_cli::json_run::run(&members, file, cpu, limit, &alloc, bytes, out, err)
+    mach_cli::json::run::run(&members, file, cpu, limit, &alloc, bytes, out, err)
 }

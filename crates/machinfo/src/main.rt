@@ -7,11 +7,11 @@
 
 // The summary of an image.
 mod counts;
-mod front;
 mod json;
 mod members;
 mod run;
 mod signed;
+mod summary;
 
 // The lists of an image that are told a row an item, each row as a line and as an object of JSON.
 mod list;

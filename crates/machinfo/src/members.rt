@@ -1,11 +1,11 @@
 //! The members of the object of an image that say what it is, in front of those of its counts. That they are so is tested, and no clause says it.
 
-use crate::front::{
-    Platform, RightsText, State, UuidText, VersionText, cpu_name, platform_of, state_of,
-};
 use crate::object::RowObject;
 use crate::row::Row;
 use crate::signed::is_ad_hoc;
+use crate::summary::{
+    Platform, RightsText, State, UuidText, VersionText, cpu_name, platform_of, state_of,
+};
 use goblin_mach::header::{filetype_to_str, flag_to_str};
 use goblin_mach::load_command::CommandVariant;
 use goblin_mach::segment::Segment;

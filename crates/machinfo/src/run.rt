@@ -8,9 +8,9 @@ ghost use Rattle.mach_cli.specs.Statuses.{IsStatus, status_by};
 ghost use Rattle.machinfo.specs.ImageLines.{AreImageListLines, AreImageSummaryLines};
 
 use crate::counts::{Form, print_counts};
-use crate::front::{front_of, state_of, state_text};
 use crate::list::ImageList;
 use crate::signed::print_signed;
+use crate::summary::{front_of, state_of, state_text};
 use crate::word::Word;
 use goblin_mach::MachO;
 use mach_cli::{Cpu, Failure, Heading, Names, Outcome, Shows, print_listing};

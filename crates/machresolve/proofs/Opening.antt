@@ -8,7 +8,7 @@ use Rattle.std.proofs.lemmas.Option.{slice_get-get_or}
 use Rattle.mach_base.specs.Fault.{Fault}
 use Rattle.goblin_mach.specs.Libraries.{LibraryView}
 use Rattle.machresolve.specs.Opened.{given_seen}
-use Rattle.machresolve.specs.declared.given.Given as declared
+use Rattle.machresolve.specs.declared.inputs.Given as declared
 use Rattle.machresolve.specs.Note.{Note, given_before}
 use Rattle.machresolve.specs.Given.{GivenFile, Adds, counts, again, is_named, reexported, NumberedFault, OpenFault}
 use Rattle.machresolve.specs.Given.{LibraryFault, FaultFor, of_program, of_library}

@@ -3,7 +3,7 @@ use Rattle.std.specs.Prelude.{map}
 use Rattle.machresolve.specs.Given as given
 use Rattle.machresolve.specs.Lines.{ResolveCall}
 use Rattle.machresolve.specs.declared.call.Call.{Call}
-use Rattle.machresolve.specs.declared.given.Given.{Given}
+use Rattle.machresolve.specs.declared.inputs.Given.{Given}
 
 abbrev pub given_seen : Given → given.GivenFile
 given_seen g = record { path = g.path.now; bytes = g.bytes.now }

@@ -15,8 +15,8 @@ use Rattle.machresolve.specs.Given as gathered
 use Rattle.machresolve.specs.Report as report
 use Rattle.machresolve.specs.declared.file.File.{File}
 use Rattle.machresolve.specs.declared.file.Files.{Files}
-use Rattle.machresolve.specs.declared.behind.Edge.{Edge}
-use Rattle.machresolve.specs.declared.behind.Met.{Met}
+use Rattle.machresolve.specs.declared.reexports.Edge.{Edge}
+use Rattle.machresolve.specs.declared.reexports.Met.{Met}
 use Rattle.machresolve.specs.declared.follow.Symbol.{Symbol}
 use Rattle.machresolve.specs.declared.follow.Place.{Place}
 use Rattle.machresolve.specs.declared.follow.Place.TheVariants.{Found, LeadsBack, NoLibrary, Missing, NotGiven, NotFound, NoMain}
@@ -29,7 +29,7 @@ use Rattle.machresolve.specs.declared.failure.Failure.{Failure}
 use Rattle.machresolve.specs.declared.failure.Failure.TheVariants as failures
 use Rattle.machresolve.specs.declared.note.Note.{Note}
 use Rattle.machresolve.specs.declared.note.Note.TheVariants.{GivenBefore, NothingFor}
-use Rattle.machresolve.specs.declared.given.Gathered.{Gathered}
+use Rattle.machresolve.specs.declared.inputs.Gathered.{Gathered}
 use Rattle.machresolve.specs.declared.report.Outcome.{Outcome}
 use Rattle.machresolve.specs.declared.report.Outcome.TheVariants.{Answered, Archive, Refused}
 use Rattle.machresolve.specs.declared.report.Report.{Report}

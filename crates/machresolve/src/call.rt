@@ -4,7 +4,7 @@ ghost use Rattle.std.specs.Prelude.{◌≡◌};
 ghost use Rattle.machresolve.specs.Lines.{file_at};
 ghost use Rattle.machresolve.specs.Opened.{call_seen, given_seen};
 
-use crate::given::Given;
+use crate::inputs::Given;
 
 /// What is asked of a run.
 #[derive(Clone, Copy)]

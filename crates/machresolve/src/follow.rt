@@ -8,9 +8,9 @@ ghost use Rattle.machresolve.specs.Follow.{FollowsTo, found, nowhere};
 ghost use Rattle.machresolve.specs.Failures.{IsFailure};
 ghost use Rattle.machresolve.specs.Seen.{file_seen, files_seen, edge_seen, symbol_seen, place_seen, LeadsToStep, IsStep};
 
-use crate::behind::{Edge, behind};
 use crate::failure::Failure;
 use crate::file::{File, Files};
+use crate::reexports::{Edge, behind};
 use goblin_mach::exports::{
     EXPORT_SYMBOL_FLAGS_KIND_ABSOLUTE, EXPORT_SYMBOL_FLAGS_KIND_MASK, ExportInfo,
 };

@@ -9,7 +9,7 @@ ghost use Rattle.machresolve.specs.Seen.{place_seen, answer_seen, note_seen};
 use crate::answers::Answer;
 use crate::call::Call;
 use crate::follow::Place;
-use crate::given::Given;
+use crate::inputs::Given;
 use crate::note::Note;
 use goblin_mach::Provider;
 use std::fmt;

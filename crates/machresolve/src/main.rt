@@ -8,11 +8,11 @@
 
 // Where each binding of a program is found among some libraries.
 mod answers;
-mod behind;
 mod file;
 mod files;
 mod follow;
-mod given;
+mod inputs;
+mod reexports;
 mod resolve;
 mod special;
 
@@ -30,7 +30,7 @@ mod words;
 #[cfg(test)]
 mod tests;
 
-use crate::given::Given;
+use crate::inputs::Given;
 use crate::run::{NAME, run};
 use crate::words::{DEFAULT_LIMIT, Mistake, Words};
 use mach_cli::{ForTerminal, Misuse, Program, Progress};

@@ -3,7 +3,7 @@
 ghost use Rattle.std.specs.Prelude.{◌≡◌};
 ghost use Rattle.machresolve.specs.Refusals.{has_table, kind_told};
 
-use crate::given::Given;
+use crate::inputs::Given;
 use goblin_mach::fat::{FAT_MAGIC, SIZEOF_FAT_ARCH, SIZEOF_FAT_HEADER};
 use goblin_mach::{Error, describe, peek};
 use mach_cli::{Foreign, refused_kind};

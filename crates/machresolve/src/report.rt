@@ -12,7 +12,7 @@ ghost use Rattle.machresolve.specs.declared.failure.Failure.TheVariants as failu
 
 use crate::answers::all_settled;
 use crate::failure::Failure;
-use crate::given::{Given, archive_error};
+use crate::inputs::{Given, archive_error};
 use crate::resolve::{Resolved, resolve};
 use goblin_mach::{ArchRecord, Error, FatTable, Input};
 use std::alloc::Allocator;

@@ -11,11 +11,11 @@ ghost use Rattle.machresolve.specs.Seen.{files_seen, program_seen, answer_seen, 
 ghost use Rattle.machresolve.specs.Opened.{given_seen};
 
 use crate::answers::{Answer, Program, answer_for};
-use crate::behind::behind_all;
 use crate::failure::Failure;
 use crate::file::Files;
-use crate::given::{Gathered, Given, absences_of, gather};
+use crate::inputs::{Gathered, Given, absences_of, gather};
 use crate::note::Note;
+use crate::reexports::behind_all;
 use goblin_mach::{MachO, laws};
 use std::alloc::Allocator;
 

@@ -13,7 +13,7 @@ ghost use Rattle.machresolve.specs.Seen.{answer_seen, note_seen, outcome_seen, r
 
 use crate::answers::Answer;
 use crate::call::Call;
-use crate::given::Given;
+use crate::inputs::Given;
 use crate::lines::{NoteText, NothingText};
 use crate::note::{Note, Notes, note_all};
 use crate::refusal::RefusalText;
@@ -21,7 +21,7 @@ use crate::report::{Outcome, Report, report_on};
 use crate::resolve::Resolved;
 use indexmap::IndexSet;
 use mach_cli::Failure;
-use mach_cli::say::failed;
+use mach_cli::output::failed;
 use std::alloc::{AllocFailed, Allocator};
 use std::io;
 use std::io::{BufWriter, Write};

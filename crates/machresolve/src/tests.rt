@@ -3,7 +3,7 @@
 mod files;
 mod same;
 
-use crate::given::Given;
+use crate::inputs::Given;
 use crate::run::run;
 use crate::tests::files::{LIBRARY_L, ONE_WEAK};
 use crate::tests::same::{same, same_at};

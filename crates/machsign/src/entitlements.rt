@@ -16,7 +16,7 @@ ghost use Rattle.machsign.specs.Entitlements.{entitlements_of, HasEntitlements, 
 
 use crate::run::NAME;
 use goblin_mach::{Content, EntryCpu, Error, Input, InputItem, MachO, Result, describe};
-use mach_cli::say::failed;
+use mach_cli::output::failed;
 use mach_cli::{Cpu, Names, refused_kind};
 use mach_signature::CodeSignature;
 use mach_signature::image::code_signature;

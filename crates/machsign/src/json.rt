@@ -64,5 +64,5 @@ pub fn run_json<A: Allocator + Clone, W: Write + Drop, B: Allocator, E: Write>(
         × Writes shown (writer_contents W.contents out.old) (writer_contents W.contents out.new) (E.contents err.old) (E.contents err.new) }
     ensures flushed { result ≤ 1 → writer_buffer out.new ≡ [] }
 {
-    mach_cli::json_run::run(&ObjectsOf { file }, file, cpu, 0, &alloc, bytes, out, err)
+    mach_cli::json::run::run(&ObjectsOf { file }, file, cpu, 0, &alloc, bytes, out, err)
 }

@@ -12,7 +12,7 @@ use Rattle.mach_cli.specs.JsonArrays.{WritesAllRows}
 use Rattle.machsyms.specs.Asked.{takes}
 use Rattle.machsyms.specs.JsonSymbols.{asked_objects, symbol_told, before_symbols, WritesSymbolMembers}
 use Rattle.machsyms.specs.Lines.{past_the_end}
-use Rattle.machsyms.specs.declared.asked.Asked.{Asked}
+use Rattle.machsyms.specs.declared.selection.Asked.{Asked}
 
 filter_few : {X : Type 0} (p : X → Bool) (xs : List X) → length (filter p xs) ≤ length xs
 filter_few p [] = omega arith

@@ -5,7 +5,7 @@ use Rattle.mach_base.proofs.ItemLists.{items_from-first}
 use Rattle.mach_base.specs.Items.{items_from}
 use Rattle.mach_parts.specs.Symbols.{SymbolTable, symbol_at}
 use Rattle.machsyms.specs.Order.{SymbolKey, symbol_key_of, key_view, keys_of_table}
-use Rattle.machsyms.specs.declared.asked.SortedBy.{SortedBy}
+use Rattle.machsyms.specs.declared.selection.SortedBy.{SortedBy}
 use Rattle.machsyms.specs.declared.order.SortKey.{SortKey}
 
 module _ (by : SortedBy) (t : SymbolTable) where

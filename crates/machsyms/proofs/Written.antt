@@ -15,7 +15,7 @@ use Rattle.mach_cli.specs.Lines.{WritesLines}
 use Rattle.machsyms.specs.Lines.{asked_line, past_line, past_the_end, WritesTable}
 use Rattle.machsyms.specs.Order.{symbols_by}
 use Rattle.machsyms.specs.Setting.{SymbolSetting}
-use Rattle.machsyms.specs.declared.asked.Asked.{Asked}
+use Rattle.machsyms.specs.declared.selection.Asked.{Asked}
 use Rattle.machsyms.specs.declared.order.SortKey.{SortKey}
 
 module _ (a : Asked) (w : SymbolSetting) where

@@ -4,7 +4,7 @@ use Rattle.mach_base.specs.Fault.{Fault}
 use Rattle.mach_parts.specs.Symbols.{type_of, is_stab}
 use Rattle.mach_parts.specs.declared.symbols.nlist.Nlist.{Nlist}
 use Rattle.machsyms.specs.Letters.{is_local}
-use Rattle.machsyms.specs.declared.asked.Asked.{Asked}
+use Rattle.machsyms.specs.declared.selection.Asked.{Asked}
 
 -- another image defines it: of type N_UNDF, known outside the image, and without a value
 abbrev pub is_elsewhere : Nlist → Bool

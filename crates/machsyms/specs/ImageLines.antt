@@ -7,8 +7,8 @@ use Rattle.goblin_mach.specs.Image.{Opens}
 use Rattle.machsyms.specs.Lines.{AreTableLines}
 use Rattle.machsyms.specs.Order.{AreKeysInOrder, gone_over}
 use Rattle.machsyms.specs.Setting.{setting_of}
-use Rattle.machsyms.specs.declared.asked.Asked.{Asked}
-use Rattle.machsyms.specs.declared.asked.Sorting.{Sorting}
+use Rattle.machsyms.specs.declared.selection.Asked.{Asked}
+use Rattle.machsyms.specs.declared.selection.Sorting.{Sorting}
 use Rattle.machsyms.specs.declared.order.SortKey.{SortKey}
 
 -- These are the keys of the symbols that a table has within the bytes, in an order that sorts them; none are where they stay as they stand.

@@ -15,7 +15,7 @@ use Rattle.machsyms.specs.Asked.{takes}
 use Rattle.machsyms.specs.ImageLines.{AreImageKeys}
 use Rattle.machsyms.specs.Lines.{past_the_end, symbols_over}
 use Rattle.machsyms.specs.Order.{gone_over}
-use Rattle.machsyms.specs.declared.asked.Asked.{Asked}
+use Rattle.machsyms.specs.declared.selection.Asked.{Asked}
 use Rattle.machsyms.specs.declared.order.SortKey.{SortKey}
 
 -- the object of a symbol: the fields of its record, and its name

@@ -15,9 +15,9 @@ use Rattle.machsyms.specs.Asked.{is_elsewhere, takes}
 use Rattle.machsyms.specs.Letters.{symbol_letter}
 use Rattle.machsyms.specs.Setting.{SymbolSetting, symbol_described}
 use Rattle.machsyms.specs.Stabs.{stab_name}
-use Rattle.machsyms.specs.declared.asked.Asked.{Asked}
-use Rattle.machsyms.specs.declared.asked.Form.{Form}
-use Rattle.machsyms.specs.declared.asked.Form.TheVariants.{Letters, Names, Hexadecimal, Words}
+use Rattle.machsyms.specs.declared.selection.Asked.{Asked}
+use Rattle.machsyms.specs.declared.selection.Form.{Form}
+use Rattle.machsyms.specs.declared.selection.Form.TheVariants.{Letters, Names, Hexadecimal, Words}
 use Rattle.mach_base.specs.Words.{words_of}
 
 -- a number in `width` hexadecimal digits, zeros before it

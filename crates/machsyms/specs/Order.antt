@@ -9,9 +9,9 @@ use Rattle.mach_base.specs.Items.{items_from}
 use Rattle.mach_parts.specs.Symbols.{SymbolTable, symbol_at, symbols_of}
 use Rattle.mach_parts.specs.declared.symbols.nlist.Nlist.{Nlist}
 use Rattle.machsyms.specs.Asked.{is_elsewhere}
-use Rattle.machsyms.specs.declared.asked.SortedBy.{SortedBy}
-use Rattle.machsyms.specs.declared.asked.SortedBy.TheVariants.{Name, Address}
-use Rattle.machsyms.specs.declared.asked.Sorting.{Sorting}
+use Rattle.machsyms.specs.declared.selection.SortedBy.{SortedBy}
+use Rattle.machsyms.specs.declared.selection.SortedBy.TheVariants.{Name, Address}
+use Rattle.machsyms.specs.declared.selection.Sorting.{Sorting}
 use Rattle.machsyms.specs.declared.order.SortKey.{SortKey}
 
 -- what a symbol stands by: of two the first difference counts

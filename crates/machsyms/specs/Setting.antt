@@ -6,7 +6,7 @@ use Rattle.mach_parts.specs.declared.symbols.nlist.Nlist.{Nlist}
 use Rattle.goblin_mach.specs.ImageFacts.{Facts}
 use Rattle.goblin_mach.specs.ImageSlots.{symbol_provider_of}
 use Rattle.machsyms.specs.SymbolWords.{origin_said, origin_text, section_seen, symbol_words}
-use Rattle.machsyms.specs.declared.nm_words.SymbolWords.{SymbolWords}
+use Rattle.machsyms.specs.declared.nm.words.SymbolWords.{SymbolWords}
 use Rattle.machsyms.specs.Letters.{letters_of, named_sections, section_by}
 use Rattle.machsyms.specs.declared.setting.Setting.{Setting}
 

@@ -10,8 +10,8 @@ use Rattle.mach_parts.specs.declared.segment.section.Section.{Section}
 use Rattle.mach_parts.specs.Symbols.{type_of}
 use Rattle.mach_parts.specs.declared.symbols.nlist.Nlist.{Nlist}
 use Rattle.machsyms.specs.ShortNames.{short_library_name}
-use Rattle.machsyms.specs.declared.nm_origin.Origin.{Origin}
-use Rattle.machsyms.specs.declared.nm_origin.Origin.TheVariants.{Unsaid, Executable, Lookup, Library, BadOrdinal}
+use Rattle.machsyms.specs.declared.nm.origin.Origin.{Origin}
+use Rattle.machsyms.specs.declared.nm.origin.Origin.TheVariants.{Unsaid, Executable, Lookup, Library, BadOrdinal}
 
 -- whether one of these bits is set
 abbrev pub has_bits : (mask n : ℕ) → Bool

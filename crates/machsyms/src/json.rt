@@ -8,9 +8,9 @@ ghost use Rattle.mach_cli.specs.Statuses.{IsStatus, status_by};
 ghost use Rattle.mach_cli.specs.Documents.{IsDocument};
 ghost use Rattle.machsyms.specs.JsonSymbols.{AreImageSymbolMembers};
 
-use crate::asked::Asked;
 use crate::members::write_members;
 use crate::run::{NAME, keys_of_image};
+use crate::selection::Asked;
 use goblin_mach::{MachO, laws};
 use mach_cli::{Cpu, Failure, Heading, Names, Outcome, Shows};
 use std::alloc::Allocator;
@@ -70,5 +70,5 @@ pub fn run_json<A: Allocator + Clone, W: Write + Drop, B: Allocator, E: Write>(
     ensures flushed { result ≤ 1 → writer_buffer out.new ≡ [] }
 {
     let objects = ObjectsOf { file, asked };
-    mach_cli::json_run::run(&objects, file, cpu, 0, &alloc, bytes, out, err)
+    mach_cli::json::run::run(&objects, file, cpu, 0, &alloc, bytes, out, err)
 }

@@ -9,8 +9,8 @@ ghost use Rattle.machsyms.specs.JsonSymbols.{asked_objects, symbol_told};
 ghost use Rattle.machsyms.specs.Listed.{asked_left, keyed_left, source_left, symbol_row_text};
 ghost use Rattle.machsyms.specs.Order.{gone_over};
 
-use crate::asked::{Asked, Sorting};
 use crate::order::SortKey;
+use crate::selection::{Asked, Sorting};
 use goblin_mach::symbols::{Nlist, SymbolIterator, Symbols};
 use mach_cli::{JsonString, Listing};
 use std::fmt::{Display, Formatter};

@@ -15,7 +15,6 @@
 #![tactic(auto)]
 
 // What is asked for, which symbols are shown, and how.
-mod asked;
 mod json;
 mod letters;
 mod listed;
@@ -23,20 +22,19 @@ mod members;
 mod order;
 mod print;
 mod run;
+mod selection;
 mod setting;
 mod stabs;
 mod text;
 mod words;
 
 // What `nm -m` says of a symbol in words: what it is, who knows it, and which library gives it, by its short name.
-mod nm_library;
-mod nm_origin;
-mod nm_words;
+mod nm;
 
-use asked::Asked;
 use json::run_json;
 use mach_cli::{Cpu, Files, ForTerminal, Misuse, Program, ShowsFile, take_json};
 use run::{NAME, run};
+use selection::Asked;
 use std::alloc::Allocator;
 use std::io;
 use std::io::{BufWriter, IsTerminal, Write};

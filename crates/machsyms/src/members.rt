@@ -7,9 +7,9 @@ ghost use Rattle.mach_cli.specs.JsonArrays.{WritesAllRows};
 ghost use Rattle.machsyms.specs.JsonSymbols.{asked_objects, before_symbols, WritesSymbolMembers};
 ghost use Rattle.machsyms.specs.Order.{gone_over};
 
-use crate::asked::Asked;
 use crate::listed::{AskedSymbols, count_of};
 use crate::order::SortKey;
+use crate::selection::Asked;
 use goblin_mach::symbols::Symbols;
 use mach_cli::print_array;
 use std::io;

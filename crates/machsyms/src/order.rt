@@ -4,7 +4,7 @@ ghost use Rattle.std.specs.Prelude.{◌≡◌, map, IfOk, OnOk};
 ghost use Rattle.mach_parts.specs.SymbolViews.{symbol_read, table_of};
 ghost use Rattle.machsyms.specs.Order.{AreKeysInOrder, AreSortedKeys, key_view, symbol_key_of, keys_of_table};
 
-use crate::asked::{SortedBy, Sorting, is_elsewhere};
+use crate::selection::{SortedBy, Sorting, is_elsewhere};
 use goblin_mach::symbols::{Nlist, Symbols};
 use std::alloc::{AllocError, Allocator};
 use std::cmp::Reverse;

@@ -9,8 +9,8 @@ ghost use Rattle.machsyms.specs.Lines.{past_line, asked_line, file_text, WritesT
 ghost use Rattle.machsyms.specs.Order.{gone_over, symbols_by};
 ghost use Rattle.machsyms.specs.Setting.{setting_view};
 
-use crate::asked::Asked;
 use crate::order::SortKey;
+use crate::selection::Asked;
 use crate::setting::Setting;
 use crate::text::{FileText, SymbolText};
 use goblin_mach::describe;

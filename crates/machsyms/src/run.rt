@@ -8,10 +8,10 @@ ghost use Rattle.mach_cli.specs.Shown.{Shown, ShowsFile, Writes, without_limit};
 ghost use Rattle.mach_cli.specs.Statuses.{IsStatus, status_by};
 ghost use Rattle.machsyms.specs.ImageLines.{AreImageSymbolLines, AreImageKeys};
 
-use crate::asked::{Asked, Sorting};
 use crate::letters::{named_sections, section_letters};
 use crate::order::{SortKey, keys_in_order};
 use crate::print::print_symbols;
+use crate::selection::{Asked, Sorting};
 use crate::setting::Setting;
 use goblin_mach::symbols::Symbols;
 use goblin_mach::{MachO, laws};

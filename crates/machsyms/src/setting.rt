@@ -7,8 +7,8 @@ ghost use Rattle.machsyms.specs.Letters.{letters_of, named_sections};
 ghost use Rattle.machsyms.specs.Setting.{symbol_described, setting_of, setting_view, words_shown};
 
 use crate::letters::section_by;
-use crate::nm_origin::origin_of;
-use crate::nm_words::SymbolWords;
+use crate::nm::origin::origin_of;
+use crate::nm::words::SymbolWords;
 use goblin_mach::MachO;
 use goblin_mach::segment::Section;
 use goblin_mach::symbols::Nlist;

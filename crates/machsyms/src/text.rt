@@ -4,8 +4,8 @@ ghost use Rattle.std.specs.Prelude.{◌≡◌, Some};
 ghost use Rattle.machsyms.specs.Lines.{form_text, file_text, letter_text, value_text, value_shown, kind_text, stab_text, padded_hex};
 ghost use Rattle.machsyms.specs.Setting.{setting_view};
 
-use crate::asked::{Form, is_elsewhere};
 use crate::letters::symbol_letter;
+use crate::selection::{Form, is_elsewhere};
 use crate::setting::Setting;
 use crate::stabs::stab_name;
 use goblin_mach::symbols::Nlist;

@@ -1,6 +1,6 @@
 //! The words of a call that say what is asked for, as those of `nm`.
 
-use crate::asked::{Asked, Form, SortedBy, Sorting};
+use crate::selection::{Asked, Form, SortedBy, Sorting};
 use std::alloc::{AllocError, Allocator};
 
 /// What the letters of such words say.

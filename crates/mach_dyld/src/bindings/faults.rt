@@ -11,8 +11,8 @@ ghost use Rattle.mach_dyld.specs.BindingsLeft.{opcode_bindings_left};
 use crate::bindings::{Extra, OpcodeBindingIterator};
 use crate::imports::settings::Settings;
 use crate::imports::source::Source;
-use crate::judging::JudgesAll;
-use crate::turns::none_above;
+use crate::stream_faults::JudgesAll;
+use crate::stride::none_above;
 use mach_base::Steps;
 use mach_parts::segment::Segment;
 

@@ -11,7 +11,7 @@ ghost use Rattle.mach_layout.specs.FixupViews.{data_view};
 use crate::fault::{LayoutFault, Rule};
 use crate::fixups::{FixupData, Front};
 use crate::layout::Layout;
-use crate::parts::PlacedSegment;
+use crate::placed_sections::PlacedSegment;
 use crate::rules::{Seen, measured, sound, told};
 use mach_base::{Record, Result, read_u32};
 use mach_chained::ChainedStartsInSegment;

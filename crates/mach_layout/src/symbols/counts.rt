@@ -6,7 +6,7 @@ ghost use Rattle.mach_layout.specs.Laid.{laid_of, placed_segment_of};
 ghost use Rattle.mach_layout.specs.Symbols as defined;
 
 use crate::layout::Layout;
-use crate::parts::segment_of;
+use crate::placed_sections::segment_of;
 use mach_load::{CommandVariant, LoadCommand};
 
 /// How many of `count` records of a size, from a place on, lie in the bytes.

@@ -7,7 +7,7 @@ ghost use Rattle.mach_layout.specs.Symbols as defined;
 
 use crate::fault::{LayoutFault, Owner, Part, Rule};
 use crate::layout::{Layout, ends_past, range_end};
-use crate::parts::PlacedSection;
+use crate::placed_sections::PlacedSection;
 use crate::rules::{Judges, Numbers, Seen, measured, owner_at, sound, tell_each, tell_over};
 use crate::sections::section_owner;
 use crate::symbols::{PlacedDysymtab, PlacedSymtab, SymbolRange};

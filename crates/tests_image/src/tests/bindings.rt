@@ -40,7 +40,7 @@ fn fixups(
     for item in &mut left {
         match item {
             Ok(fixup) => write_fixup(&mut text, &fixup)?,
-            Err(error) => text.push_str(mach_samples::texts::error(alloc, &error)?.as_str())?,
+            Err(error) => text.push_str(tests_texts::error(alloc, &error)?.as_str())?,
         }
     }
     assert!(rt; left.next().is_none());
@@ -78,7 +78,7 @@ fn bindings(
     for item in &mut left {
         match item {
             Ok(binding) => write_binding(&mut text, &binding)?,
-            Err(error) => text.push_str(mach_samples::texts::error(alloc, &error)?.as_str())?,
+            Err(error) => text.push_str(tests_texts::error(alloc, &error)?.as_str())?,
         }
     }
     assert!(rt; left.next().is_none());

@@ -10,9 +10,9 @@ use std::test::Fail;
 // What the bytes open as, or why they don't.
 fn opened(alloc: Global, bytes: &[u8]) -> Result<String, AllocError> {
     match Mach::parse(alloc, bytes) {
-        Ok(Mach::Binary(image)) => mach_samples::texts::image(alloc, &image),
+        Ok(Mach::Binary(image)) => tests_texts::image(alloc, &image),
         Ok(Mach::Fat(file)) => format!(in alloc; "fat of {}", file.narches),
-        Err(error) => mach_samples::texts::error(alloc, &error),
+        Err(error) => tests_texts::error(alloc, &error),
     }
 }
 
@@ -100,7 +100,7 @@ fn an_image_behind_other_bytes(rt: HostRuntime) -> Result<(), Fail> {
     let mut bytes = [0; 72];
     bytes[16..].copy_from_slice(&FILE_A);
     let image = MachO::parse(rt.alloc(), &bytes, 16)?;
-    let text = mach_samples::texts::image(rt.alloc(), &image)?;
+    let text = tests_texts::image(rt.alloc(), &image)?;
     same(&rt, text.as_str(), "64 little, 0x1b at 48 of 24");
     let header = image.header;
     same(&rt, header.magic, 0xfeed_facf);

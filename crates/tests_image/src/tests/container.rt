@@ -19,7 +19,7 @@ fn hint(alloc: Global, bytes: &[u8]) -> Result<String, AllocError> {
         Ok(Hint::Mach(of)) => format!(in alloc; "lsb {} 64 {:?}", of.is_lsb, of.is_64),
         Ok(Hint::MachFat(count)) => format!(in alloc; "fat {count}"),
         Ok(Hint::Unknown(number)) => format!(in alloc; "unknown {number:#x}"),
-        Err(error) => mach_samples::texts::error(alloc, &error),
+        Err(error) => tests_texts::error(alloc, &error),
     }
 }
 
@@ -29,21 +29,21 @@ fn opened(alloc: Global, bytes: &[u8]) -> Result<String, AllocError> {
         Ok(Mach::Fat(file)) => {
             let mut text = format!(in alloc; "fat of {}", file.narches)?;
             for answer in &file {
-                let shown = mach_samples::texts::entry(alloc, &answer)?;
+                let shown = tests_texts::entry(alloc, &answer)?;
                 write!(text, ", {shown}")?;
             }
             Ok(text)
         }
         Ok(Mach::Binary(_)) => String::from_str(alloc, "image"),
-        Err(error) => mach_samples::texts::error(alloc, &error),
+        Err(error) => tests_texts::error(alloc, &error),
     }
 }
 
 // The cpus of all records.
 fn arches(alloc: Global, answer: &Read<Vec<FatArch>>) -> Result<String, AllocError> {
     match answer {
-        Ok(list) => mach_samples::texts::arches(alloc, list),
-        Err(error) => mach_samples::texts::error(alloc, error),
+        Ok(list) => tests_texts::arches(alloc, list),
+        Err(error) => tests_texts::error(alloc, error),
     }
 }
 
@@ -52,7 +52,7 @@ fn of_cpu(alloc: Global, file: &MultiArch<'_>, cputype: u32) -> Result<String, A
     match file.find_cputype(cputype) {
         Ok(Some(arch)) => format!(in alloc; "{:#x} at {}", arch.cputype, arch.offset),
         Ok(None) => String::from_str(alloc, "none"),
-        Err(error) => mach_samples::texts::error(alloc, &error),
+        Err(error) => tests_texts::error(alloc, &error),
     }
 }
 
@@ -220,7 +220,7 @@ fn records_of_too_many(rt: HostRuntime) -> Result<(), Fail> {
     )?;
     answers(
         &rt,
-        mach_samples::texts::entry(alloc, &file.get(usize::MAX - 1)),
+        tests_texts::entry(alloc, &file.get(usize::MAX - 1)),
         "bad offset 18446744073709551615",
     )?;
     Ok(())
@@ -231,13 +231,9 @@ fn found_entries(rt: HostRuntime) -> Result<(), Fail> {
     let alloc = rt.alloc();
     let c = file_c(alloc)?;
     let file = MultiArch::new(alloc, &c)?;
-    let first = mach_samples::texts::entry(alloc, &file.get(0));
+    let first = tests_texts::entry(alloc, &file.get(0));
     answers(&rt, first, "image 0x100000138")?;
-    answers(
-        &rt,
-        mach_samples::texts::entry(alloc, &file.get(2)),
-        "malformed",
-    )?;
+    answers(&rt, tests_texts::entry(alloc, &file.get(2)), "malformed")?;
     Ok(())
 }
 

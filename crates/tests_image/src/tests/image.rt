@@ -58,8 +58,8 @@ fn opened(alloc: Global, bytes: &[u8], lossy: bool) -> Result<String, AllocError
         Mach::parse(alloc, bytes)
     };
     match answer {
-        Ok(file) => mach_samples::texts::file(alloc, &file),
-        Err(error) => mach_samples::texts::error(alloc, &error),
+        Ok(file) => tests_texts::file(alloc, &file),
+        Err(error) => tests_texts::error(alloc, &error),
     }
 }
 

@@ -84,7 +84,7 @@ fn shown(alloc: Global, bytes: &[u8], name: &str) -> Result<String, Fail> {
         }
         Ok(Some(ExportInfo::Stub { .. })) => text.push_str("stub")?,
         Ok(None) => text.push_str("none")?,
-        Err(error) => return Ok(mach_samples::texts::error(alloc, &error)?),
+        Err(error) => return Ok(tests_texts::error(alloc, &error)?),
     }
     Ok(text)
 }

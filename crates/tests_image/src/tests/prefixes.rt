@@ -122,17 +122,17 @@ const C_VIEW: &[(usize, Want)] = &[
 // What a call answers of some bytes.
 fn answer(alloc: Global, call: Call, bytes: &[u8]) -> Read<String> {
     let text = match call {
-        Call::Strict => mach_samples::texts::file(alloc, &Mach::parse(alloc, bytes)?)?,
-        Call::Lossy => mach_samples::texts::file(alloc, &Mach::parse_lossy(alloc, bytes)?)?,
+        Call::Strict => tests_texts::file(alloc, &Mach::parse(alloc, bytes)?)?,
+        Call::Lossy => tests_texts::file(alloc, &Mach::parse_lossy(alloc, bytes)?)?,
         Call::LossyExports => {
             let image = MachO::parse_lossy(alloc, bytes, 0)?;
-            mach_samples::texts::exports(alloc, &image.exports(alloc)?)?
+            tests_texts::exports(alloc, &image.exports(alloc)?)?
         }
         Call::LossyImports => {
             let image = MachO::parse_lossy(alloc, bytes, 0)?;
-            mach_samples::texts::imports(alloc, &image.imports(alloc)?)?
+            tests_texts::imports(alloc, &image.imports(alloc)?)?
         }
-        Call::View => mach_samples::texts::view(alloc, &link_view(alloc, bytes)?)?,
+        Call::View => tests_texts::view(alloc, &link_view(alloc, bytes)?)?,
     };
     Ok(text)
 }
@@ -142,9 +142,7 @@ impl Want {
     fn is(self, alloc: Global, n: usize, answer: &Read<String>) -> Result<bool, AllocError> {
         match (self, answer) {
             (Gives(want), Ok(text)) => Ok(text.as_str() == want),
-            (Fault(want), Err(error)) => Ok(
-                mach_samples::texts::error(alloc, error)?.as_str() == want,
-            ),
+            (Fault(want), Err(error)) => Ok(tests_texts::error(alloc, error)?.as_str() == want),
             (Cut { size, place }, Err(Error::Scroll(ScrollError::TooBig { size: asked, len }))) => {
                 Ok(*asked == size && n == place.saturating_add(*len))
             }

@@ -31,7 +31,7 @@ fn rebases(alloc: Global, image: &MachO<'_>) -> Result<String, AllocError> {
     for item in image.rebases() {
         match item {
             Ok(rebase) => write!(text, "{:#x} {:#x}; ", rebase.address, rebase.target)?,
-            Err(error) => text.push_str(mach_samples::texts::error(alloc, &error)?.as_str())?,
+            Err(error) => text.push_str(tests_texts::error(alloc, &error)?.as_str())?,
         }
     }
     Ok(text)
@@ -47,7 +47,7 @@ fn chained(alloc: Global, image: &MachO<'_>) -> Result<String, AllocError> {
                     write!(text, "{:#x} {target:#x}; ", fixup.address)?;
                 }
             }
-            Err(error) => text.push_str(mach_samples::texts::error(alloc, &error)?.as_str())?,
+            Err(error) => text.push_str(tests_texts::error(alloc, &error)?.as_str())?,
         }
     }
     Ok(text)
@@ -62,7 +62,7 @@ fn weak_binds(alloc: Global, image: &MachO<'_>) -> Result<String, AllocError> {
             Ok(WeakBind::Bind(binding)) => {
                 write!(text, "{} {:#x}; ", binding.name, binding.address)?;
             }
-            Err(error) => text.push_str(mach_samples::texts::error(alloc, &error)?.as_str())?,
+            Err(error) => text.push_str(tests_texts::error(alloc, &error)?.as_str())?,
         }
     }
     Ok(text)

@@ -36,7 +36,7 @@ fn symtab_at_end(rt: HostRuntime) -> Result<(), Fail> {
     };
     same(
         &rt,
-        mach_samples::texts::error(alloc, &error)?.as_str(),
+        tests_texts::error(alloc, &error)?.as_str(),
         "bad offset 56",
     );
     Ok(())

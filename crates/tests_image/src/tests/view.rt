@@ -9,8 +9,8 @@ use std::test::Fail;
 // The items of a file, or why it has none.
 fn viewed(alloc: Global, bytes: &[u8]) -> Result<String, AllocError> {
     match link_view(alloc, bytes) {
-        Ok(items) => mach_samples::texts::view(alloc, &items),
-        Err(error) => mach_samples::texts::error(alloc, &error),
+        Ok(items) => tests_texts::view(alloc, &items),
+        Err(error) => tests_texts::error(alloc, &error),
     }
 }
 

@@ -19,8 +19,8 @@ fn whole(bytes: &[u8]) -> DyldInfoCommand {
 // The exports of a trie, or why there are none.
 fn listed(alloc: Global, trie: &ExportTrie<'_>, libs: &[&str]) -> Result<String, AllocError> {
     match trie.exports(alloc, libs) {
-        Ok(exports) => mach_samples::texts::exports(alloc, &exports),
-        Err(error) => mach_samples::texts::error(alloc, &error),
+        Ok(exports) => tests_texts::exports(alloc, &exports),
+        Err(error) => tests_texts::error(alloc, &error),
     }
 }
 
@@ -112,7 +112,7 @@ fn file_b(rt: HostRuntime) -> Result<(), Fail> {
     let image = MachO::parse(alloc, &FILE_B, 0)?;
     same(&rt, image.libs.as_slice(), ["self", "L"].as_slice());
     assert!(rt; image.name.is_none());
-    let text = mach_samples::texts::exports(alloc, &image.exports(alloc)?)?;
+    let text = tests_texts::exports(alloc, &image.exports(alloc)?)?;
     same(
         &rt,
         text.as_str(),

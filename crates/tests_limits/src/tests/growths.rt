@@ -184,8 +184,8 @@ impl<'a> Subjects<'a> {
 
     fn relocations<A: Allocator>(&self, heap: A, alloc: Global) -> Result<String, AllocError> {
         match self.image.relocations(heap) {
-            Ok(list) => mach_samples::texts::relocations(alloc, &list),
-            Err(error) => mach_samples::texts::error(alloc, &error),
+            Ok(list) => tests_texts::relocations(alloc, &list),
+            Err(error) => tests_texts::error(alloc, &error),
         }
     }
 
@@ -194,32 +194,32 @@ impl<'a> Subjects<'a> {
             return String::from_str(alloc, "no segment");
         };
         match segment.sections(heap) {
-            Ok(list) => mach_samples::texts::sections(alloc, &list),
-            Err(error) => mach_samples::texts::error(alloc, &error),
+            Ok(list) => tests_texts::sections(alloc, &list),
+            Err(error) => tests_texts::error(alloc, &error),
         }
     }
 
     fn arches<A: Allocator + Clone>(&self, heap: A, alloc: Global) -> Result<String, AllocError> {
         match MultiArch::new(heap, self.fat).and_then(|container| container.arches()) {
-            Ok(list) => mach_samples::texts::arches(alloc, &list),
-            Err(error) => mach_samples::texts::error(alloc, &error),
+            Ok(list) => tests_texts::arches(alloc, &list),
+            Err(error) => tests_texts::error(alloc, &error),
         }
     }
 
     fn got<A: Allocator + Clone>(&self, heap: A, alloc: Global) -> Result<String, AllocError> {
         match MultiArch::new(heap, self.fat) {
-            Ok(container) => mach_samples::texts::entry(alloc, &container.get(0)),
-            Err(error) => mach_samples::texts::error(alloc, &error),
+            Ok(container) => tests_texts::entry(alloc, &container.get(0)),
+            Err(error) => tests_texts::error(alloc, &error),
         }
     }
 
     fn found<A: Allocator + Clone>(&self, heap: A, alloc: Global) -> Result<String, AllocError> {
         let container = match MultiArch::new(heap, self.fat) {
             Ok(container) => container,
-            Err(error) => return mach_samples::texts::error(alloc, &error),
+            Err(error) => return tests_texts::error(alloc, &error),
         };
         match container.find(|arch: Read<FatArch>| arch.is_ok()) {
-            Some(entry) => mach_samples::texts::entry(alloc, &entry),
+            Some(entry) => tests_texts::entry(alloc, &entry),
             None => String::from_str(alloc, "none"),
         }
     }
@@ -227,11 +227,11 @@ impl<'a> Subjects<'a> {
     fn entries<A: Allocator + Clone>(&self, heap: A, alloc: Global) -> Result<String, AllocError> {
         let container = match MultiArch::new(heap, self.fat) {
             Ok(container) => container,
-            Err(error) => return mach_samples::texts::error(alloc, &error),
+            Err(error) => return tests_texts::error(alloc, &error),
         };
         let mut text = String::new(alloc);
         for entry in &container {
-            let shown = mach_samples::texts::entry(alloc, &entry)?;
+            let shown = tests_texts::entry(alloc, &entry)?;
             write!(text, "{shown};")?;
         }
         Ok(text)
@@ -239,23 +239,23 @@ impl<'a> Subjects<'a> {
 
     fn view<A: Allocator + Clone>(&self, heap: A, alloc: Global) -> Result<String, AllocError> {
         match link_view(heap, self.fat) {
-            Ok(items) => mach_samples::texts::view(alloc, &items),
-            Err(error) => mach_samples::texts::error(alloc, &error),
+            Ok(items) => tests_texts::view(alloc, &items),
+            Err(error) => tests_texts::error(alloc, &error),
         }
     }
 }
 
 fn opened<A: Allocator>(alloc: Global, answer: &Read<Mach<'_, A>>) -> Result<String, AllocError> {
     match answer {
-        Ok(file) => mach_samples::texts::file(alloc, file),
-        Err(error) => mach_samples::texts::error(alloc, error),
+        Ok(file) => tests_texts::file(alloc, file),
+        Err(error) => tests_texts::error(alloc, error),
     }
 }
 
 fn image<A: Allocator>(alloc: Global, answer: &Read<MachO<'_, A>>) -> Result<String, AllocError> {
     match answer {
-        Ok(image) => mach_samples::texts::fields(alloc, image),
-        Err(error) => mach_samples::texts::error(alloc, error),
+        Ok(image) => tests_texts::fields(alloc, image),
+        Err(error) => tests_texts::error(alloc, error),
     }
 }
 
@@ -264,8 +264,8 @@ fn exports<A: Allocator>(
     answer: &Read<Vec<Export<'_, A>, A>>,
 ) -> Result<String, AllocError> {
     match answer {
-        Ok(list) => mach_samples::texts::exports(alloc, list),
-        Err(error) => mach_samples::texts::error(alloc, error),
+        Ok(list) => tests_texts::exports(alloc, list),
+        Err(error) => tests_texts::error(alloc, error),
     }
 }
 
@@ -274,8 +274,8 @@ fn imports<A: Allocator>(
     answer: &Read<Vec<Import<'_>, A>>,
 ) -> Result<String, AllocError> {
     match answer {
-        Ok(list) => mach_samples::texts::imports(alloc, list),
-        Err(error) => mach_samples::texts::error(alloc, error),
+        Ok(list) => tests_texts::imports(alloc, list),
+        Err(error) => tests_texts::error(alloc, error),
     }
 }
 

@@ -30,7 +30,7 @@ const FIRST: &str = "4 0x2d000001";
 fn fault<T: Drop>(alloc: Global, answer: Read<T>) -> Result<String, AllocError> {
     match answer {
         Ok(_) => String::from_str(alloc, "an answer"),
-        Err(error) => mach_samples::texts::error(alloc, &error),
+        Err(error) => tests_texts::error(alloc, &error),
     }
 }
 
@@ -69,8 +69,8 @@ fn tries(rt: HostRuntime) -> Result<(), Fail> {
             ..DyldInfoCommand::default()
         };
         let got = match ExportTrie::new(bytes, &command).exports(alloc, &[]) {
-            Ok(list) => mach_samples::texts::exports(alloc, &list)?,
-            Err(error) => mach_samples::texts::error(alloc, &error)?,
+            Ok(list) => tests_texts::exports(alloc, &list)?,
+            Err(error) => tests_texts::error(alloc, &error)?,
         };
         same(&rt, got.as_str(), want);
     }
@@ -115,23 +115,23 @@ fn page() -> Segment<'static> {
 // What an image answers by its segments: imports, relocations, the sections and the name of the first.
 fn of_segments(alloc: Global, image: &MachO<'_>) -> Result<[String; 4], AllocError> {
     let imports = match image.imports(alloc) {
-        Ok(list) => mach_samples::texts::imports(alloc, &list)?,
-        Err(error) => mach_samples::texts::error(alloc, &error)?,
+        Ok(list) => tests_texts::imports(alloc, &list)?,
+        Err(error) => tests_texts::error(alloc, &error)?,
     };
     let relocations = match image.relocations(alloc) {
-        Ok(list) => mach_samples::texts::relocations(alloc, &list)?,
-        Err(error) => mach_samples::texts::error(alloc, &error)?,
+        Ok(list) => tests_texts::relocations(alloc, &list)?,
+        Err(error) => tests_texts::error(alloc, &error)?,
     };
     let Some(segment) = image.segments.as_slice().first() else {
         return Err(AllocError);
     };
     let sections = match segment.sections(alloc) {
-        Ok(list) => mach_samples::texts::sections(alloc, &list)?,
-        Err(error) => mach_samples::texts::error(alloc, &error)?,
+        Ok(list) => tests_texts::sections(alloc, &list)?,
+        Err(error) => tests_texts::error(alloc, &error)?,
     };
     let name = match segment.name() {
         Ok(name) => String::from_str(alloc, name)?,
-        Err(error) => mach_samples::texts::error(alloc, &error)?,
+        Err(error) => tests_texts::error(alloc, &error)?,
     };
     Ok([imports, relocations, sections, name])
 }
@@ -706,14 +706,14 @@ fn a_wide_section(rt: HostRuntime) {
 fn named(alloc: Global, name: Read<&str>) -> Result<String, AllocError> {
     match name {
         Ok(name) => String::from_str(alloc, name),
-        Err(error) => mach_samples::texts::error(alloc, &error),
+        Err(error) => tests_texts::error(alloc, &error),
     }
 }
 
 // A relocation, if there is one.
 fn relocation(alloc: Global, item: Option<Read<RelocationInfo>>) -> Result<String, AllocError> {
     match item {
-        Some(item) => mach_samples::texts::relocation(alloc, &item),
+        Some(item) => tests_texts::relocation(alloc, &item),
         None => String::from_str(alloc, "none"),
     }
 }
@@ -760,7 +760,7 @@ fn fields_of_a_symbols_ctx(rt: HostRuntime) -> Result<(), Fail> {
 fn symbol(alloc: Global, item: Option<Read<(&str, Nlist)>>) -> Result<String, AllocError> {
     match item {
         Some(Ok((name, _))) => String::from_str(alloc, name),
-        Some(Err(error)) => mach_samples::texts::error(alloc, &error),
+        Some(Err(error)) => tests_texts::error(alloc, &error),
         None => String::from_str(alloc, "none"),
     }
 }

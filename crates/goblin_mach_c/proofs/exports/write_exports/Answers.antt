@@ -2,7 +2,7 @@ use Rattle.std.proofs.Common.{◌-◌, ◌<◌, ◌^◌, ◌≡◌, ◌∙◌, �
 use Rattle.mach_dyld.specs.CursorState.{IsFull}
 use Rattle.mach_dyld.specs.Cursors.{HasGivenTo, NextGives, StandsAt}
 use Rattle.mach_base.specs.Text.{texts}
-use Rattle.mach_dyld.specs.declared.trie_cursor.NextExport.{NextExport}
+use Rattle.mach_dyld.specs.declared.trie.cursor.NextExport.{NextExport}
 use Rattle.goblin_mach_c.specs.ExportWalk.{AreWritten, IsNodeOf, IsNumbered}
 use Rattle.goblin_mach_c.proofs.ListedExports.{none_so_far, one_more}
 use Rattle.goblin_mach_c.proofs.WalkedTries.{long_name}

@@ -5,7 +5,7 @@ use Rattle.std.proofs.lemmas.Iterator.Search.{find_from_yields_List}
 use Rattle.mach_layout.specs.Laid.{laid_of, segments_of}
 use Rattle.mach_layout.specs.PartsLeft.{placed_segments_left}
 use Rattle.mach_layout.specs.Ranges.{is_linkedit_segment}
-use Rattle.mach_layout.specs.declared.parts.PlacedSegment.{PlacedSegment}
+use Rattle.mach_layout.specs.declared.placed_sections.PlacedSegment.{PlacedSegment}
 use Rattle.mach_layout.proofs.ranges.linkedit_of.Goals as goal
 
 pub returns : goal.returns

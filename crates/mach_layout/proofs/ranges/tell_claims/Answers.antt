@@ -5,7 +5,7 @@ use Rattle.mach_layout.specs.Ranges.{claim_sees, linkedit_of}
 use Rattle.mach_layout.specs.Rules.{told_over}
 use Rattle.mach_layout.specs.declared.claim.Claim.{Claim}
 use Rattle.mach_layout.specs.declared.fault.LayoutFault.{LayoutFault}
-use Rattle.mach_layout.specs.declared.parts.PlacedSegment.{PlacedSegment}
+use Rattle.mach_layout.specs.declared.placed_sections.PlacedSegment.{PlacedSegment}
 use Rattle.mach_layout.proofs.ranges.tell_claims.Goals as goal
 
 pub returns-clause-told : goal.returns-clause-told

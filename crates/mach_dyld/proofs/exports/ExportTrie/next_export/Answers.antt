@@ -2,7 +2,7 @@ use Rattle.std.proofs.Common.{arith, refl, subst, ap, Some}
 use Rattle.mach_dyld.specs.CursorState.{HasCome, TurnGives, IsFull}
 use Rattle.mach_base.specs.Text.{texts}
 use Rattle.mach_dyld.specs.TrieRange.{TrieRange}
-use Rattle.mach_dyld.specs.declared.trie_cursor.NextExport.{NextExport}
+use Rattle.mach_dyld.specs.declared.trie.cursor.NextExport.{NextExport}
 use Rattle.mach_dyld.proofs.CursorTries.{next_gives, over_gives, too_deep, too_far, begins_there, ended}
 use Rattle.mach_dyld.proofs.exports.ExportTrie.next_export.Goals as goal
 use Rattle.mach_dyld.proofs.exports.ExportTrie.next_export.Goals.{else-cursor-le-ON_THE_WAY-via-then-cursor-le-ON_THE_WAY+else-cursor-stack}

@@ -6,7 +6,7 @@ use Rattle.mach_layout.specs.Sections.{section_owner}
 use Rattle.mach_layout.specs.Symbols.{indirect_count, indirect_owner, indirect_sees, indirect_section_sees, symbol_count}
 use Rattle.mach_layout.specs.declared.fault.LayoutFault.{LayoutFault}
 use Rattle.mach_layout.specs.declared.fault.Rule.TheVariants as rule
-use Rattle.mach_layout.specs.declared.parts.PlacedSection.{PlacedSection}
+use Rattle.mach_layout.specs.declared.placed_sections.PlacedSection.{PlacedSection}
 use Rattle.mach_layout.proofs.Joined.{then_others}
 use Rattle.mach_layout.proofs.symbols.indirect.indirect_faults.Goals as goal
 

@@ -5,7 +5,7 @@ use Rattle.mach_parts.proofs.ReadyLists.{none_ready, one_passed}
 use Rattle.mach_parts.specs.ReadySlots.{ready_left, ready_slots}
 use Rattle.mach_parts.specs.Slots.{Slot, slot_of_entry}
 use Rattle.mach_parts.specs.SlotViews.{held_tables_of}
-use Rattle.mach_parts.specs.declared.slot_kind.SlotRun.{SlotRun}
+use Rattle.mach_parts.specs.declared.slots.kind.SlotRun.{SlotRun}
 use Rattle.mach_parts.specs.declared.slot.SlotEntry.{SlotEntry}
 use Rattle.mach_parts.proofs.slots.SlotIterator.ready_slot.Goals as goal
 

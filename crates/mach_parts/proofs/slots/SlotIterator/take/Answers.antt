@@ -5,7 +5,7 @@ use Rattle.mach_parts.proofs.SlotLists.{no_slots, next_slot, last_slot}
 use Rattle.mach_parts.specs.SlotViews.{held_tables_of}
 use Rattle.mach_parts.specs.Slots.{Slot, slots_from}
 use Rattle.mach_parts.specs.SlotsLeft.{open_slots, symbol_slot_read}
-use Rattle.mach_parts.specs.declared.slot_kind.SlotRun.{SlotRun}
+use Rattle.mach_parts.specs.declared.slots.kind.SlotRun.{SlotRun}
 use Rattle.mach_parts.proofs.slots.SlotIterator.take.Goals as goal
 
 pub returns-then-self-run-clause-open : goal.returns-then-self-run-clause-open

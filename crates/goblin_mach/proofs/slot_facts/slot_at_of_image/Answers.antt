@@ -1,5 +1,0 @@
-use Rattle.goblin_mach.proofs.SlotFacts.{slot_at_is}
-use Rattle.goblin_mach.proofs.slot_facts.slot_at_of_image.Goals as goal
-
-pub returns : goal.returns
-returns g c = slot_at_is c.args.image.now

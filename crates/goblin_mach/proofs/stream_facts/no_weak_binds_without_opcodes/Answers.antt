@@ -1,5 +1,0 @@
-use Rattle.goblin_mach.proofs.StreamFacts.{no_weak_binds}
-use Rattle.goblin_mach.proofs.stream_facts.no_weak_binds_without_opcodes.Goals as goal
-
-pub returns : goal.returns
-returns c = no_weak_binds

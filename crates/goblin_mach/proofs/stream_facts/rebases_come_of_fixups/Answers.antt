@@ -1,5 +1,0 @@
-use Rattle.goblin_mach.proofs.StreamFacts.{come_of_fixups}
-use Rattle.goblin_mach.proofs.stream_facts.rebases_come_of_fixups.Goals as goal
-
-pub returns : goal.returns
-returns c = come_of_fixups

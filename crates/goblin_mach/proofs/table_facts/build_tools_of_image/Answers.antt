@@ -1,5 +1,0 @@
-use Rattle.goblin_mach.proofs.TableFacts.{build_tools_are}
-use Rattle.goblin_mach.proofs.table_facts.build_tools_of_image.Goals as goal
-
-pub returns : goal.returns
-returns g c = build_tools_are c.args.image.now

@@ -1,5 +1,0 @@
-use Rattle.goblin_mach.proofs.TableFacts.{data_in_code_are}
-use Rattle.goblin_mach.proofs.table_facts.data_in_code_of_image.Goals as goal
-
-pub returns : goal.returns
-returns g c = data_in_code_are c.args.image.now

@@ -1,0 +1,69 @@
+//! What a program writes of a file as JSON, and its exit status.
+
+ghost use Rattle.std.specs.Prelude.{◌≡◌, ◌≤◌, [], IfOk, OnOk};
+ghost use Rattle.std.specs.Io.Buffered.{writer_buffer, writer_contents};
+ghost use Rattle.mach_cli.specs.Shown.{Shown, Writes};
+ghost use Rattle.mach_cli.specs.Statuses.{IsStatus, status_by};
+ghost use Rattle.mach_cli.specs.Documents.{IsDocument};
+
+use crate::cpu::Cpu;
+use crate::json::document::show;
+use crate::output::failed;
+use crate::shows::Shows;
+use std::alloc::Allocator;
+use std::io;
+use std::io::{BufWriter, Write};
+
+/// Writes the object of a file of this name on a line, with the members of its images that are asked for, the limit left for the first one, and answers
+/// the exit status: 0 where nothing was refused and each image is whole; 1 where the file, an entry of a fat one, or memory was refused, and then
+/// the object has a member `error` and `err` a line that says why, or where an image is not whole; 2 or 141 where a write fails (`failed`). But for that
+/// nothing is left in the buffer.
+pub fn run<S: Shows, A: Allocator + Clone, W: Write + Drop, B: Allocator, E: Write>(
+    shows: &S,
+    name: &str,
+    cpu: Cpu,
+    limit: usize,
+    alloc: &A,
+    bytes: &[u8],
+    out: &mut BufWriter<W, B>,
+    err: &mut E,
+) -> u8
+    ensures status { IsStatus result }
+    ensures shown { result ≤ 1 → (shown : Shown) × IsDocument cpu (S.names shows.now) name.now (S.lines shows.now) limit bytes.now shown
+        × (result ≡ status_by shown.whole)
+        × Writes shown (writer_contents W.contents out.old) (writer_contents W.contents out.new) (E.contents err.old) (E.contents err.new) }
+    ensures flushed { result ≤ 1 → writer_buffer out.new ≡ [] }
+{
+    match show_all(shows, name, cpu, limit, alloc, bytes, out, err) {
+        Ok(whole) => status(whole),
+        Err(error) => failed(shows.names().program, "", error, err),
+    }
+}
+
+// Writes the object of a file, and all that was gathered.
+fn show_all<S: Shows, A: Allocator + Clone, W: Write + Drop, B: Allocator, E: Write>(
+    shows: &S,
+    name: &str,
+    cpu: Cpu,
+    limit: usize,
+    alloc: &A,
+    bytes: &[u8],
+    out: &mut BufWriter<W, B>,
+    err: &mut E,
+) -> io::Result<bool>
+    ensures shown { IfOk result (λ whole. (shown : Shown) × IsDocument cpu (S.names shows.now) name.now (S.lines shows.now) limit bytes.now shown
+        × (shown.whole ≡ whole)
+        × Writes shown (writer_contents W.contents out.old) (writer_contents W.contents out.new) (E.contents err.old) (E.contents err.new)) }
+    ensures flushed { OnOk result (writer_buffer out.new ≡ []) }
+{
+    let whole = show(shows, name, cpu, limit, alloc, bytes, out, err)?;
+    out.flush()?;
+    Ok(whole)
+}
+
+// The status of what was written, by whether it is whole.
+fn status(whole: bool) -> u8
+    ensures { result ≡ status_by whole }
+{
+    if whole { 0 } else { 1 }
+}

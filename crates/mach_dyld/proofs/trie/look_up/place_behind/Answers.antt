@@ -1,0 +1,12 @@
+use Rattle.std.proofs.Common.{Some}
+use Rattle.mach_base.specs.Text.{texts}
+use Rattle.mach_dyld.specs.Trie.{regular}
+use Rattle.mach_dyld.proofs.LookUps.{ok_in}
+use Rattle.mach_dyld.proofs.trie.look_up.place_behind.Goals as goal
+
+pub returns-in-Some-clause-behind : goal.returns-in-Some-clause-behind
+returns-in-Some-clause-behind c =
+    (Some (regular c.in-Some.field-0-0 c.in-Some.field-0-1), (c.if-size-eq0.false, c.in-Some.ensures (texts c.args.source.now.libs.now)))
+
+pub returns-in-None-clause-behind : goal.returns-in-None-clause-behind
+returns-in-None-clause-behind c = ok_in c.rare_place.result _ _ (λ after found. (Some found.0, (c.if-size-eq0.false, found.1))) c.rare_place.ensures.behind

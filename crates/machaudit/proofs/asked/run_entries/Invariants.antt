@@ -1,5 +1,0 @@
-use Rattle.machaudit.proofs.AskedEntries.{GoesOver}
-use Rattle.machaudit.proofs.asked.run_entries.Given as goal
-
-abbrev pub invariant-archs : goal.invariant-archs
-invariant-archs g l = GoesOver l.cpu l.fn.call.options.limit l.fn.bytes l.fn.archs l.index l.worst

@@ -1,0 +1,60 @@
+//! Which library gives a symbol.
+
+ghost use Rattle.std.specs.Prelude.{◌≡◌, option_map, Some};
+ghost use Rattle.mach_base.specs.Items.{read_as};
+ghost use Rattle.mach_parts.specs.Bindings.{provider_view};
+ghost use Rattle.machsyms.specs.SymbolWords.{origin_said, origin_text};
+
+use crate::nm::library::short_name;
+use mach_base::Result;
+use mach_parts::binding::Provider;
+use mach_parts::symbols::Nlist;
+use std::fmt;
+use std::fmt::{Display, Formatter, Write};
+
+/// Which library gives a symbol, as far as it is said.
+#[derive(Clone, Copy)]
+pub enum Origin<'a> {
+    /// Nothing is said: the linker didn't write it down, or it is the image itself.
+    Unsaid,
+    /// The program.
+    Executable,
+    /// Any image.
+    Lookup,
+    /// The library of this path.
+    Library(&'a str),
+    /// A library of this number, which isn't there.
+    BadOrdinal(u16),
+}
+
+/// That of a symbol with this provider, if the linker wrote one down.
+pub fn origin_of<'a>(symbol: &Nlist, provider: Option<Result<Provider<'a>>>) -> Origin<'a>
+    ensures { origin_text result ≡ origin_said symbol.now.n_desc (option_map (read_as provider_view) provider.entry) }
+{
+    match provider {
+        None => Origin::Unsaid,
+        Some(Ok(Provider::Library { name, .. })) => Origin::Library(name),
+        Some(Ok(Provider::Itself)) => Origin::Unsaid,
+        Some(Ok(Provider::MainExecutable)) => Origin::Executable,
+        Some(Ok(Provider::Flat)) => Origin::Lookup,
+        Some(Ok(Provider::WeakLookup)) => Origin::Unsaid,
+        Some(Err(_)) => Origin::BadOrdinal(symbol.n_desc >> 8),
+    }
+}
+
+impl Display for Origin<'_> {
+    ghost output = { λ origin. Some (origin_text origin) };
+
+    fn fmt<W: Write>(&self, f: &mut Formatter<W>) -> fmt::Result {
+        match *self {
+            Origin::Unsaid => Ok(()),
+            Origin::Executable => write!(f, " (from executable)"),
+            Origin::Lookup => write!(f, " (dynamically looked up)"),
+            Origin::Library(path) => {
+                let name = short_name(path);
+                write!(f, " (from {name})")
+            }
+            Origin::BadOrdinal(ordinal) => write!(f, " (from bad library ordinal {ordinal})"),
+        }
+    }
+}
