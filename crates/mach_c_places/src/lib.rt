@@ -1,5 +1,5 @@
-//! Places and lengths for C, which is handed no texts: how far the reading of weak binds and of rebases has come, as numbers from
-//! which it goes on; and where the names of an archive and what a signature says stand among the bytes.
+//! Places and lengths for C, which gets no texts: where the names of an archive and the texts of a signature are among the
+//! bytes; and how far a reading of weak binds or rebases has come, as numbers from which the next call goes on.
 #![tactic(auto)]
 
 // How far the reading of an image's opcodes has come.
@@ -8,10 +8,10 @@ pub mod rebases;
 mod walk_numbers;
 pub mod weak_binds;
 
-// Where the names of an archive's members and symbols stand.
+// Where the names of an archive's members and symbols are.
 mod archive;
 
-// Where stands what the signature of an image says.
+// Where the texts of an image's signature are.
 mod signature;
 
 // Laws.

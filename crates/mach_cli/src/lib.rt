@@ -1,9 +1,9 @@
-//! What programs share: what they say of themselves and of the words of a call, what they show of a Mach-O file, of an image, of
-//! each entry of a fat file and of each member of an archive, as lines or as JSON (RFC 8259), why a file or an entry is refused,
-//! the exit status, and what is shown on a terminal.
+//! What the programs share: the arguments of a call, help and version, the exit status, and the complaint about a file that
+//! is refused; and the loop that shows a Mach-O file, each entry of a fat file and each member of an archive, as lines or as
+//! JSON (RFC 8259). Beside it what a terminal gets.
 #![tactic(auto)]
 
-// The words of a call, and what a program says of itself.
+// The arguments of a call, and what a program says of itself.
 mod call;
 mod complaint;
 mod cpu;
@@ -22,14 +22,14 @@ pub mod run;
 mod show;
 mod shows;
 
-// Archives and fat files of 64 bits, of which each member and each entry is shown as a file of its own.
+// Archives and fat files of 64 bits: each member and each entry is shown as a file of its own.
 mod files;
 mod parts;
 
 // The same as JSON.
 pub mod json;
 
-// What is shown of a signature: names on one line, bytes as digits, and flags in words.
+// What is shown of a signature: names on one line, bytes as digits, flags in words.
 mod directory_name;
 mod escaped;
 mod flags;

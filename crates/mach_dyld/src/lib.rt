@@ -1,14 +1,14 @@
-//! What dyld reads beside chained fixups: the export trie, and the streams of opcodes that bind imports, bind weakly and
-//! rebase pointers. All streams are read by one machine.
+//! What dyld reads, apart from chained fixups: the export trie, and the streams of opcodes that bind, bind weakly and rebase
+//! pointers. One machine reads all streams.
 #![tactic(auto)]
 
-// The export trie: all exports, an export at a time, and the export of one name.
+// The export trie: all exports as a list, the exports one at a time, and the export of one name.
 mod export_info;
 mod export_walk;
 pub mod exports;
 mod trie;
 
-// The machine of opcodes, imports as the Rust crate has them, and bindings as dyld makes them.
+// The machine that reads opcodes; imports, as the Rust crate goblin has them; and bindings, as dyld makes them.
 pub mod bind_opcodes;
 pub mod bindings;
 pub mod imports;
@@ -16,7 +16,7 @@ pub mod machine;
 mod stream_faults;
 mod stride;
 
-// Rebases and weak binds, on that machine.
+// Rebases and weak binds, read by that machine.
 pub mod rebase_opcodes;
 pub mod rebases;
 mod stream_prefix;

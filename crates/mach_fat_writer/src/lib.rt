@@ -1,5 +1,5 @@
-//! Fat files of 32 and of 64 bits (`mach-o/fat.h`), taken apart and made: of a table its records and its entries, of entries a
-//! file, of a file another with an entry replaced or removed, and a file of parts of some bytes, which C hands in by their places.
+//! Makes fat files of 32 and of 64 bits (`mach-o/fat.h`), and takes them apart: it reads the records and the entries of a
+//! table, writes a file of entries, and replaces or removes an entry of a file. C gives entries as parts of one buffer.
 #![tactic(auto)]
 
 // Entries, and the file that is written of them.
@@ -21,7 +21,7 @@ mod form;
 mod refusal;
 mod thin;
 
-// A file of parts of some bytes.
+// A file whose entries are parts of one buffer, for C.
 mod part;
 
 // Laws.

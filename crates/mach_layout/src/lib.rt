@@ -1,9 +1,11 @@
-//! The rules by which the parts of a Mach-O image lie, over its bytes, its header and its commands: which range of the file
-//! each part claims, and every fault of the layout but those of the lists that an image gives one at a time; and those by which
-//! the entries of a fat file lie, for tables of 32 and of 64 bits alike. `goblin_mach::layout` asks them of an image.
+//! The rules of layout of a Mach-O image: which range of the file each part claims, and every fault of the layout. They go by
+//! the bytes, the header and the load commands. `goblin_mach::layout` checks an image by them, and adds the faults of the
+//! lists that an image gives an item at a time.
+//!
+//! Beside them the rules of layout of a fat file, for tables of 32 and of 64 bits alike.
 #![tactic(auto)]
 
-// The rules, what a fault says, and what is read of an image.
+// The rules, what a fault says in words, and what the rules read of an image.
 mod fault;
 mod faults;
 mod layout;
@@ -11,7 +13,7 @@ pub mod rules;
 mod text;
 mod words;
 
-// Claims, and ranges that are claimed twice.
+// Which part claims which range, and ranges that two parts claim.
 mod claim;
 mod claiming;
 mod ranges;

@@ -1,13 +1,15 @@
-//! Load commands: which record each is read as, and what it says; and the tables that commands place or hold: where functions
-//! begin, data among code, options for the linker, build tools and notes (`mach-o/loader.h`). The tables take no memory.
+//! Load commands (`mach-o/loader.h`): which record each is read as, and what the record says.
+//!
+//! Beside them the tables that a command holds, or whose place it gives: where functions begin, data in code, options for
+//! the linker, build tools and notes. Reading a table takes no memory.
 #![tactic(auto)]
 
-// Load commands.
+// Load commands, and the record of each.
 mod load_command;
 mod thread;
 mod variant;
 
-// Tables that commands place or hold.
+// Tables that a command holds, or whose place it gives.
 mod build_tools;
 mod data_in_code;
 mod function_starts;

@@ -1,8 +1,8 @@
-//! The parts of an image: magics, headers and fat records, segments with their sections and relocations, symbols, and the
-//! stubs and pointers that stand for symbols (`mach-o/loader.h`, `mach-o/fat.h`, `mach-o/reloc.h`, `mach-o/nlist.h`).
+//! The parts of an image: magics, headers and fat records; segments with their sections and relocations; symbols; and the
+//! stubs and pointers that lead to symbols (`mach-o/loader.h`, `mach-o/fat.h`, `mach-o/reloc.h`, `mach-o/nlist.h`).
 #![tactic(auto)]
 
-// Headers of images and of fat files, and the names of their numbers.
+// Headers of images and of fat files, and the names of cpus and magics.
 mod arch_record;
 mod cpu;
 pub mod fat;
@@ -10,7 +10,7 @@ mod fat64;
 pub mod header;
 pub mod magic;
 
-// Segments, sections and relocations, and what a binding in a segment says.
+// Segments, sections and relocations, and the binding of a pointer in a segment.
 pub mod binding;
 pub mod relocation;
 pub mod segment;
@@ -18,7 +18,7 @@ pub mod segment;
 // Symbols.
 pub mod symbols;
 
-// Indirect symbols, and the stubs and pointers that stand for symbols.
+// Indirect symbols, and the slots that use them: stubs and symbol pointers.
 mod indirect;
 mod slot;
 mod slots;

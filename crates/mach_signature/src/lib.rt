@@ -1,8 +1,8 @@
-//! Apple's code signatures: the blobs of a signature, its code directories, and what isn't as it was signed; and the signature of
-//! an image.
+//! Apple's code signatures: the blobs of a signature, its code directories, and each fault: what isn't as it was signed.
+//! Signatures are read from bytes (`code_signature`) or from an image (`image::code_signature`).
 #![tactic(auto)]
 
-// Signatures, over bytes.
+// Signatures, read from bytes.
 mod code_faults;
 mod directories;
 mod directory;
@@ -15,7 +15,7 @@ mod signature;
 mod slots;
 mod special_faults;
 
-// The signature of an image: what its command brings, and what isn't as it was signed.
+// The signature of an image: where its command places it, and its faults.
 pub mod image;
 mod plist;
 mod signature_place;

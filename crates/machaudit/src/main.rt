@@ -1,7 +1,7 @@
 //! Says what is wrong with Mach-O files: whether each opens, and each part of it that can't be read or lies where it can't.
 #![tactic(auto)]
 
-// What is wrong with a file: whether it opens, and each part of it that can't be read or lies where it can't.
+// The audit of a file: whether it opens, and each part that can't be read or lies where it can't.
 mod audit;
 mod listed;
 mod lists;
@@ -11,7 +11,7 @@ mod signed;
 mod tally;
 mod verdict;
 
-// What is printed of it.
+// What is printed of the audit.
 mod files;
 mod json;
 mod layout_text;

@@ -7,7 +7,7 @@
 //! stands under another name beside the file that is asked for, and is renamed once it is whole.
 #![tactic(auto)]
 
-// Fat files taken apart, made and told.
+// Fat files: taken apart, made, and listed.
 mod entry;
 mod json;
 mod made;
@@ -19,7 +19,7 @@ mod text;
 mod thin;
 mod verify;
 
-// What is told of an archive: a line for each member, and one for each symbol of its index.
+// What is listed of an archive: a line for each member, and one for each symbol of its index.
 mod archive;
 
 use json::run_list_json;

@@ -13,7 +13,7 @@ mod run;
 mod signed;
 mod summary;
 
-// The lists of an image that are told a row an item, each row as a line and as an object of JSON.
+// The lists of an image: an item is a row, which is shown as a line or as an object of JSON.
 mod list;
 mod notes;
 mod object;

@@ -16,7 +16,7 @@ mod reexports;
 mod resolve;
 mod special;
 
-// What is printed of it.
+// What is printed of the answers.
 mod call;
 mod failure;
 mod lines;

@@ -14,7 +14,7 @@
 //! - files that `llvm-nm` refuses as malformed are printed wherever the library opens them.
 #![tactic(auto)]
 
-// What is asked for, which symbols are shown, and how.
+// Which symbols are requested and shown, and how.
 mod json;
 mod letters;
 mod listed;
@@ -28,7 +28,7 @@ mod stabs;
 mod text;
 mod words;
 
-// What `nm -m` says of a symbol in words: what it is, who knows it, and which library gives it, by its short name.
+// What `nm -m` says of a symbol in words.
 mod nm;
 
 use json::run_json;
