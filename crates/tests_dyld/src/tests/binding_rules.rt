@@ -6,7 +6,7 @@ use mach_parts::segment::Segment;
 use std::test::Fail;
 
 // Streams of 64 bits, with one segment of 0x1000 bytes at 0: what each bind needs, where the stream ends, and opcodes that are none.
-const RULES: [(&str, &[u8], &str); 31] = [
+const RULES: &[(&str, &[u8], &str)] = &[
     (
         "name, type and segment",
         &[0x10, 0x40, 0x5f, 0x61, 0, 0x51, 0x70, 0x10, 0x90],
@@ -159,7 +159,7 @@ const RULES: [(&str, &[u8], &str); 31] = [
 fn rules(rt: HostRuntime) -> Result<(), Fail> {
     let alloc = rt.alloc();
     let segments = [segment(0, 0x1000)];
-    for (name, bytes, want) in RULES {
+    for &(name, bytes, want) in RULES {
         let binds = BindInterpreter::new(bytes, &whole(bytes));
         let got = listed(alloc, &binds, &segments)?;
         assert_eq!(rt; got.as_str(), want, "{name}");
@@ -168,7 +168,7 @@ fn rules(rt: HostRuntime) -> Result<(), Fail> {
 }
 
 // The same of the lazy stream, which goes on behind DONE, and in which the type begins as 1.
-const LAZY: [(&str, &[u8], &str); 24] = [
+const LAZY: &[(&str, &[u8], &str)] = &[
     (
         "no type",
         &[0x10, 0x40, 0x5f, 0x61, 0, 0x70, 0x10, 0x90],
@@ -298,7 +298,7 @@ const LAZY: [(&str, &[u8], &str); 24] = [
 fn rules_of_lazy_binds(rt: HostRuntime) -> Result<(), Fail> {
     let alloc = rt.alloc();
     let segments = [segment(0, 0x1000)];
-    for (name, bytes, want) in LAZY {
+    for &(name, bytes, want) in LAZY {
         let binds = BindInterpreter::new(bytes, &all_lazy(bytes));
         let got = listed(alloc, &binds, &segments)?;
         assert_eq!(rt; got.as_str(), want, "{name}");
@@ -307,7 +307,7 @@ fn rules_of_lazy_binds(rt: HostRuntime) -> Result<(), Fail> {
 }
 
 // Streams of an image whose segment 1 has 0x1000 bytes at 0x100001000, in the file as in memory.
-const TWO_SEGMENTS: [(&str, &[u8], &str); 8] = [
+const TWO_SEGMENTS: &[(&str, &[u8], &str)] = &[
     (
         "all is set",
         &[0x11, 0x51, 0x40, 0x5f, 0x61, 0, 0x71, 0x10, 0x90],
@@ -347,7 +347,7 @@ const TWO_SEGMENTS: [(&str, &[u8], &str); 8] = [
 ];
 
 // Lazy ones of the same image.
-const LAZY_OF_TWO_SEGMENTS: [(&str, &[u8], &str); 7] = [
+const LAZY_OF_TWO_SEGMENTS: &[(&str, &[u8], &str)] = &[
     (
         "DONE between binds",
         &[
@@ -403,12 +403,12 @@ fn rules_in_the_second_segment(rt: HostRuntime) -> Result<(), Fail> {
         placed_as_in_memory(0x1_0000_0000),
         placed_as_in_memory(0x1_0000_1000),
     ];
-    for (name, bytes, want) in TWO_SEGMENTS {
+    for &(name, bytes, want) in TWO_SEGMENTS {
         let binds = BindInterpreter::new(bytes, &whole(bytes));
         let got = listed(alloc, &binds, &segments)?;
         assert_eq!(rt; got.as_str(), want, "{name}");
     }
-    for (name, bytes, want) in LAZY_OF_TWO_SEGMENTS {
+    for &(name, bytes, want) in LAZY_OF_TWO_SEGMENTS {
         let binds = BindInterpreter::new(bytes, &all_lazy(bytes));
         let got = listed(alloc, &binds, &segments)?;
         assert_eq!(rt; got.as_str(), want, "{name}");

@@ -10,7 +10,7 @@ use std::alloc::{AllocError, Global};
 use std::fmt::Write;
 use std::test::Fail;
 
-const LIBS: [&str; 3] = ["self", "L", "M"];
+const LIBS: &[&str] = &["self", "L", "M"];
 
 const WIDE: Ctx = Ctx {
     container: Container::Big,
@@ -125,7 +125,7 @@ fn listed_in(
 const HEAD: [u8; 5] = [0x40, 0, 0x51, 0x70, 0];
 
 // Streams of 64 bits behind that head, with one segment of 0x1000 bytes at 0, and their bindings.
-const ROWS: [(&str, &[u8], &str); 30] = [
+const ROWS: &[(&str, &[u8], &str)] = &[
     ("none", &[], ""),
     ("no ordinal", &[0x90], "malformed"),
     ("opcode 1 with 0 alone", &[0x10, 0x90], "[] itself 0x0; "),
@@ -216,7 +216,7 @@ const ROWS: [(&str, &[u8], &str); 30] = [
 fn rows(rt: HostRuntime) -> Result<(), Fail> {
     let alloc = rt.alloc();
     let segments = [segment(0, 0x1000)];
-    for (name, rest, want) in ROWS {
+    for &(name, rest, want) in ROWS {
         let mut bytes = HEAD.to_vec(alloc)?;
         bytes.extend_from_slice(rest)?;
         let binds = BindInterpreter::new(&bytes, &whole(&bytes));

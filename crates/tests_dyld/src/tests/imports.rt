@@ -11,7 +11,7 @@ use std::alloc::{AllocError, Global};
 use std::fmt::Write;
 use std::test::Fail;
 
-const LIBS: [&str; 2] = ["self", "L"];
+const LIBS: &[&str] = &["self", "L"];
 
 const WIDE: Ctx = Ctx {
     container: Container::Big,
@@ -93,7 +93,7 @@ fn word_of(alloc: Global, error: Error) -> Result<String, AllocError> {
 }
 
 // Streams of 64 bits with one segment of 0x1000 bytes at 0, and what they list.
-const ROWS: [(&str, &[u8], &str); 16] = [
+const ROWS: &[(&str, &[u8], &str)] = &[
     (
         "bind_after_done",
         &[0x11, 0x40, 0x5f, 0x61, 0, 0x70, 0, 0x90, 0, 0x90],
@@ -170,7 +170,7 @@ const ROWS: [(&str, &[u8], &str); 16] = [
 fn rows(rt: HostRuntime) -> Result<(), Fail> {
     let alloc = rt.alloc();
     let segments = [plain(0x1000)];
-    for (name, bytes, want) in ROWS {
+    for &(name, bytes, want) in ROWS {
         let binds = BindInterpreter::new(bytes, &whole(bytes));
         let got = listed(alloc, &binds, &segments, WIDE)?;
         same_of(&rt, name, got.as_str(), want);
@@ -216,7 +216,7 @@ fn other_segments_and_widths(rt: HostRuntime) -> Result<(), Fail> {
 }
 
 // Streams of 64 bits with one segment of so many bytes at 0, and what they list.
-const ENDS: [(&[u8], u64, &str); 4] = [
+const ENDS: &[(&[u8], u64, &str)] = &[
     (
         &[0x11, 0x70, 0, 0x90, 0x90],
         9,
@@ -234,7 +234,7 @@ const ENDS: [(&[u8], u64, &str); 4] = [
 #[test]
 fn ends_of_segments(rt: HostRuntime) -> Result<(), Fail> {
     let alloc = rt.alloc();
-    for (bytes, vmsize, want) in ENDS {
+    for &(bytes, vmsize, want) in ENDS {
         let binds = BindInterpreter::new(bytes, &whole(bytes));
         let got = listed(alloc, &binds, &[plain(vmsize)], WIDE)?;
         assert_eq!(rt; got.as_str(), want, "{vmsize}");

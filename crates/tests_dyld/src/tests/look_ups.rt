@@ -59,7 +59,7 @@ const SHARED: [u8; 12] = [0, 2, 0x61, 0, 8, 0x62, 0, 8, 2, 0, 5, 0];
 const WITH_CHILD: [u8; 11] = [2, 0, 7, 1, 0x61, 0, 7, 2, 0, 9, 0];
 
 // A trie, a name, and what is found.
-const ROWS: [(&[u8], &str, &str); 40] = [
+const ROWS: &[(&[u8], &str, &str)] = &[
     (&EXPORTS, "_main", "f50"),
     (&EXPORTS, "_maximum", "f40"),
     (&EXPORTS, "__mh_execute_header", "0"),
@@ -105,7 +105,7 @@ const ROWS: [(&[u8], &str, &str); 40] = [
 #[test]
 fn rows(rt: HostRuntime) -> Result<(), Fail> {
     let mut place = 0u32;
-    for (bytes, name, want) in ROWS {
+    for &(bytes, name, want) in ROWS {
         let got = shown(rt.alloc(), bytes, name)?;
         assert_eq!(rt; got.as_str(), want, "row {place}: {name}");
         place = place.saturating_add(1);
@@ -113,7 +113,7 @@ fn rows(rt: HostRuntime) -> Result<(), Fail> {
     Ok(())
 }
 
-const NAMES: [&str; 16] = [
+const NAMES: &[&str] = &[
     "", "a", "b", "aa", "ab", "ba", "bb", "aab", "aba", "abab", "aaa", "bab", "c", "abb", "aaaa",
     "bba",
 ];

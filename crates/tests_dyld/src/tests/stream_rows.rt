@@ -11,7 +11,7 @@ pub struct Row {
 }
 
 /// Streams of weak binds.
-pub const WEAK_BINDS: [Row; 31] = [
+pub const WEAK_BINDS: &[Row] = &[
     Row {
         off: 0x2400,
         size: 8,
@@ -241,7 +241,7 @@ pub const WEAK_BINDS: [Row; 31] = [
 ];
 
 /// Streams of rebases.
-pub const REBASES: [Row; 27] = [
+pub const REBASES: &[Row] = &[
     Row {
         off: 0x2400,
         size: 4,

@@ -38,7 +38,7 @@ fn shown(alloc: Global, bytes: &[u8]) -> Result<String, Fail> {
 }
 
 // Tries, and the exports that they list.
-const LISTS: [(&str, &[u8], &str); 10] = [
+const LISTS: &[(&str, &[u8], &str)] = &[
     (
         "exports_vector",
         &EXPORTS,
@@ -83,7 +83,7 @@ const LISTS: [(&str, &[u8], &str); 10] = [
 #[test]
 fn lists(rt: HostRuntime) -> Result<(), Fail> {
     let alloc = rt.alloc();
-    for (name, bytes, want) in LISTS {
+    for &(name, bytes, want) in LISTS {
         let got = shown(alloc, bytes)?;
         same_of(&rt, name, got.as_str(), want);
     }
@@ -91,7 +91,7 @@ fn lists(rt: HostRuntime) -> Result<(), Fail> {
 }
 
 // Tries that are refused, and why.
-const REFUSALS: [(&str, &[u8], &str); 9] = [
+const REFUSALS: &[(&str, &[u8], &str)] = &[
     ("back_to_root", &[0, 1, 0x61, 0, 0], "malformed"),
     (
         "a child and the root again",
@@ -132,7 +132,7 @@ const REFUSALS: [(&str, &[u8], &str); 9] = [
 #[test]
 fn refusals(rt: HostRuntime) -> Result<(), Fail> {
     let alloc = rt.alloc();
-    for (name, bytes, want) in REFUSALS {
+    for &(name, bytes, want) in REFUSALS {
         let got = shown(alloc, bytes)?;
         same_of(&rt, name, got.as_str(), want);
     }

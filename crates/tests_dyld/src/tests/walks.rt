@@ -35,7 +35,7 @@ fn walked(alloc: Global, bytes: &[u8]) -> Result<String, Fail> {
 }
 
 // Tries, and what is given of them.
-const WALKS: [(&str, &[u8], &str); 6] = [
+const WALKS: &[(&str, &[u8], &str)] = &[
     (
         "exports_vector",
         &EXPORTS,
@@ -66,7 +66,7 @@ const WALKS: [(&str, &[u8], &str); 6] = [
 
 #[test]
 fn walks(rt: HostRuntime) -> Result<(), Fail> {
-    for (name, bytes, given) in &WALKS {
+    for (name, bytes, given) in WALKS {
         assert_eq!(rt; walked(rt.alloc(), bytes)?.as_str(), *given, "{name}");
     }
     Ok(())

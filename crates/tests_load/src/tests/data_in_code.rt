@@ -10,7 +10,7 @@ const TWO: [u8; 16] = [
 
 // How many bytes of a stream of two entries there are, what kind the first is of, how many bytes the command says there are,
 // and the entries.
-const ROWS: [(usize, u8, u32, &str); 8] = [
+const ROWS: &[(usize, u8, u32, &str)] = &[
     (16, 1, 16, "0x600 12 1; 0x610 4 2; "),
     (12, 1, 12, "0x600 12 1; "),
     (
@@ -30,7 +30,7 @@ const ROWS: [(usize, u8, u32, &str); 8] = [
 #[test]
 fn rows(rt: HostRuntime) -> Result<(), Fail> {
     let alloc = rt.alloc();
-    for (len, kind, size, want) in ROWS {
+    for &(len, kind, size, want) in ROWS {
         let mut stream = TWO;
         stream[6] = kind;
         let entries = command(alloc, &[0x29, 16, STREAM, size], &[])?;

@@ -22,7 +22,7 @@ const O: &[u8; 16] = b"o\0\0\0\0\0\0\0\0\0\0\0\0\0\0\0";
 const NO_TEXT: &[u8; 16] = b"o\xff\0\0\0\0\0\0\0\0\0\0\0\0\0\0";
 
 // An owner, the place and the size of the bytes, and the note.
-const ROWS: [(&[u8; 16], (u64, u64), &str); 10] = [
+const ROWS: &[(&[u8; 16], (u64, u64), &str)] = &[
     (O, (0x1f00, 8), "[o] ee ee ee ee ee ee ee ee; "),
     (O, (u64::MAX, 0), "[o]; "),
     (O, (u64::MAX, 8), "BadOffset 0xffffffffffffffff; "),
@@ -40,7 +40,7 @@ const ROWS: [(&[u8; 16], (u64, u64), &str); 10] = [
 #[test]
 fn rows(rt: HostRuntime) -> Result<(), Fail> {
     let alloc = rt.alloc();
-    for (owner, place, want) in ROWS {
+    for &(owner, place, want) in ROWS {
         let bytes = made(alloc, (1, note(alloc, owner, place)?.as_slice()), b"abc")?;
         let text = notes_text(alloc, bytes.as_slice())?;
         assert_eq!(rt; text.as_str(), want);

@@ -5,7 +5,7 @@ use crate::tests::text::options_text;
 use std::test::Fail;
 
 // The size of a command and how many texts it has, the bytes behind its record, and the options.
-const ROWS: [((u32, u32), &[u8], &str); 13] = [
+const ROWS: &[((u32, u32), &[u8], &str)] = &[
     ((24, 2), b"-a\0b\0\0\0\0\0\0\0\0", "10 [-a]; 10 [b]; "),
     ((24, 2), b"-a\0\0b\0\0\0\0\0\0\0", "10 [-a]; 10 []; "),
     ((24, 1), b"-a\0b\0\0\0\0\0\0\0\0", "10 [-a]; "),
@@ -30,7 +30,7 @@ const ROWS: [((u32, u32), &[u8], &str); 13] = [
 #[test]
 fn rows(rt: HostRuntime) -> Result<(), Fail> {
     let alloc = rt.alloc();
-    for ((size, count), behind, want) in ROWS {
+    for &((size, count), behind, want) in ROWS {
         let options = command(alloc, &[0x2d, size, count], behind)?;
         let bytes = made(alloc, (1, options.as_slice()), &[])?;
         let text = options_text(alloc, bytes.as_slice())?;
@@ -40,7 +40,7 @@ fn rows(rt: HostRuntime) -> Result<(), Fail> {
 }
 
 // Two commands, each of 16 bytes: how many texts each has, and their bytes.
-const TWO: [((u32, u32), &[u8; 4], &[u8; 4], &str); 5] = [
+const TWO: &[((u32, u32), &[u8; 4], &[u8; 4], &str)] = &[
     ((1, 1), b"abcd", b"e\0f\0", "Malformed; "),
     ((1, 1), b"a\0c\0", b"e\0f\0", "10 [a]; 11 [e]; "),
     (
@@ -56,7 +56,7 @@ const TWO: [((u32, u32), &[u8; 4], &[u8; 4], &str); 5] = [
 #[test]
 fn two_commands(rt: HostRuntime) -> Result<(), Fail> {
     let alloc = rt.alloc();
-    for ((one, two), first, second, want) in TWO {
+    for &((one, two), first, second, want) in TWO {
         let mut options = command(alloc, &[0x2d, 16, one], first)?;
         let others = command(alloc, &[0x2d, 16, two], second)?;
         options.extend_from_slice(others.as_slice())?;

@@ -7,7 +7,7 @@ use std::process::Abort;
 use std::test::Fail;
 
 // Streams, how many bytes the command says there are, and the functions.
-const ROWS: [(&[u8], u32, &str); 14] = [
+const ROWS: &[(&[u8], u32, &str)] = &[
     (
         &[0x80, 0x0c, 0x10, 0x90, 0x01, 0x00, 0x10],
         7,
@@ -56,7 +56,7 @@ const ROWS: [(&[u8], u32, &str); 14] = [
 #[test]
 fn rows(rt: HostRuntime) -> Result<(), Fail> {
     let alloc = rt.alloc();
-    for (stream, size, want) in ROWS {
+    for &(stream, size, want) in ROWS {
         let starts = command(alloc, &[0x26, 16, STREAM, size], &[])?;
         let bytes = made(alloc, (1, starts.as_slice()), stream)?;
         let text = starts_text(alloc, bytes.as_slice())?;

@@ -7,7 +7,7 @@ use std::test::Fail;
 const TWO: &str = "10 3 0x2d00000; 10 4 0x130107; ";
 
 // The size of the command and how many tools it has, and the tools.
-const ROWS: [(u32, u32, &str); 8] = [
+const ROWS: &[(u32, u32, &str)] = &[
     (40, 2, TWO),
     (32, 2, "10 3 0x2d00000; Malformed; "),
     (40, 3, "10 3 0x2d00000; 10 4 0x130107; Malformed; "),
@@ -25,7 +25,7 @@ const ROWS: [(u32, u32, &str); 8] = [
 #[test]
 fn rows(rt: HostRuntime) -> Result<(), Fail> {
     let alloc = rt.alloc();
-    for (size, count, want) in ROWS {
+    for &(size, count, want) in ROWS {
         let numbers = [
             0x32, size, 1, 0xb_0000, 0xb_0000, count, 3, 0x2d0_0000, 4, 0x13_0107,
         ];

@@ -80,7 +80,7 @@ fn text(alloc: Global, bytes: &[u8]) -> Result<String, AllocError> {
 
 const MARKER: u32 = 0x1a74_1800;
 
-const ROWS: [(&[Command], &str); 6] = [
+const ROWS: &[(&[Command], &str)] = &[
     (
         &[
             (0xc, 2, 24, None),
@@ -111,7 +111,7 @@ const ROWS: [(&[Command], &str); 6] = [
 #[test]
 fn libraries(rt: HostRuntime) -> Result<(), Fail> {
     let alloc = rt.alloc();
-    for (commands, want) in ROWS {
+    for &(commands, want) in ROWS {
         let bytes = image(alloc, commands)?;
         same(&rt, text(alloc, bytes.as_slice())?.as_str(), want);
     }

@@ -8,7 +8,7 @@ use std::test::Fail;
 const FIRST: &str = "_a library 1 L; _b library 2 M; _d flat; _e main-executable; _s itself; ";
 
 // Changes, and what follows the first five; the last row has none of these.
-const ROWS: [(&[Change], &str); 6] = [
+const ROWS: &[(&[Change], &str)] = &[
     (&[], "_z library 2 M; "),
     (&[(SYMBOLS + 0x66, &[0, 3])], "Malformed; "),
     (&[(SYMBOLS + 0x66, &[0, 0xfd])], "Malformed; "),
@@ -25,7 +25,7 @@ const ROWS: [(&[Change], &str); 6] = [
 #[test]
 fn providers(rt: HostRuntime) -> Result<(), Fail> {
     let alloc = rt.alloc();
-    for (changes, want) in ROWS {
+    for &(changes, want) in ROWS {
         let bytes = changed(alloc, changes)?;
         let wanted = format!(in alloc; "{FIRST}{want}")?;
         same(

@@ -6,7 +6,7 @@ use crate::tests::slot_text::section_text;
 use std::test::Fail;
 
 // Changes, an address and a number, and the sections that they mean.
-const ROWS: [(&[Change], u64, usize, &str); 10] = [
+const ROWS: &[(&[Change], u64, usize, &str)] = &[
     (&[], 0x1_0000_0600, 0, "0 0 __text 0 0; none"),
     (&[], 0x1_0000_0700, 1, "0 1 __stubs 0 6; 0 0 __text 0 0"),
     (&[], 0x1_0000_0711, 2, "0 1 __stubs 0 6; 0 1 __stubs 0 6"),
@@ -33,7 +33,7 @@ const ROWS: [(&[Change], u64, usize, &str); 10] = [
 #[test]
 fn sections(rt: HostRuntime) -> Result<(), Fail> {
     let alloc = rt.alloc();
-    for (changes, address, n_sect, want) in ROWS {
+    for &(changes, address, n_sect, want) in ROWS {
         let bytes = changed(alloc, changes)?;
         same(
             &rt,

@@ -17,7 +17,7 @@ struct Part {
     stub: u32,
 }
 
-const TEXT: [Part; 2] = [
+const TEXT: &[Part] = &[
     Part {
         name: "__text",
         addr: 0x1_0000_0600,

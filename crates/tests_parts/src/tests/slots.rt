@@ -13,7 +13,7 @@ const POINTERS_OF_IT: &str =
     0x100001718 thread-local pointer _c; ";
 
 // Changes, and the slots of the first segment; those of the second are as ever.
-const STUB_ROWS: [(&[Change], &str); 12] = [
+const STUB_ROWS: &[(&[Change], &str)] = &[
     (&[], STUBS_OF_IT),
     (
         &[(INDIRECT + 4, &[0, 0, 0, 0x40, 0, 0, 0, 0xc0])],
@@ -55,7 +55,7 @@ const STUB_ROWS: [(&[Change], &str); 12] = [
 #[test]
 fn stubs(rt: HostRuntime) -> Result<(), Fail> {
     let alloc = rt.alloc();
-    for (changes, want) in STUB_ROWS {
+    for &(changes, want) in STUB_ROWS {
         let bytes = changed(alloc, changes)?;
         let wanted = format!(in alloc; "{want}{POINTERS_OF_IT}")?;
         same(
@@ -71,7 +71,7 @@ fn stubs(rt: HostRuntime) -> Result<(), Fail> {
 }
 
 // Changes, and the slots of the second segment; those of the first are as ever.
-const POINTER_ROWS: [(&[Change], &str); 4] = [
+const POINTER_ROWS: &[(&[Change], &str)] = &[
     (
         &[(GOT + 40, &[0, 2])],
         "0x100001700 lazy pointer _a; 0x100001708 lazy pointer _b; 0x100001710 pointer local; \
@@ -96,7 +96,7 @@ const POINTER_ROWS: [(&[Change], &str); 4] = [
 #[test]
 fn pointers(rt: HostRuntime) -> Result<(), Fail> {
     let alloc = rt.alloc();
-    for (changes, want) in POINTER_ROWS {
+    for &(changes, want) in POINTER_ROWS {
         let bytes = changed(alloc, changes)?;
         let wanted = format!(in alloc; "{STUBS_OF_IT}{want}")?;
         same(
@@ -109,7 +109,7 @@ fn pointers(rt: HostRuntime) -> Result<(), Fail> {
 }
 
 // A change, an address, and the slot in which it lies.
-const ADDRESS_ROWS: [(&[Change], u64, &str); 14] = [
+const ADDRESS_ROWS: &[(&[Change], u64, &str)] = &[
     (
         &[],
         0x1_0000_0700,
@@ -161,7 +161,7 @@ const ADDRESS_ROWS: [(&[Change], u64, &str); 14] = [
 #[test]
 fn addresses(rt: HostRuntime) -> Result<(), Fail> {
     let alloc = rt.alloc();
-    for (changes, address, want) in ADDRESS_ROWS {
+    for &(changes, address, want) in ADDRESS_ROWS {
         let bytes = changed(alloc, changes)?;
         same(
             &rt,
@@ -173,7 +173,7 @@ fn addresses(rt: HostRuntime) -> Result<(), Fail> {
 }
 
 // Changes, and the indirect symbols.
-const INDIRECT_ROWS: [(&[Change], &str); 5] = [
+const INDIRECT_ROWS: &[(&[Change], &str)] = &[
     (&[(DYSYMTAB, &[0x1c])], "0: "),
     (&[], "7: 0x0; 0x1; 0x3; 0x0; 0x1; local; 0x2; "),
     (
@@ -190,7 +190,7 @@ const INDIRECT_ROWS: [(&[Change], &str); 5] = [
 #[test]
 fn indirect_symbols(rt: HostRuntime) -> Result<(), Fail> {
     let alloc = rt.alloc();
-    for (changes, want) in INDIRECT_ROWS {
+    for &(changes, want) in INDIRECT_ROWS {
         let bytes = changed(alloc, changes)?;
         same(&rt, indirect_text(alloc, bytes.as_slice())?.as_str(), want);
     }
