@@ -103,7 +103,7 @@ fn names<A: Allocator>(alloc: Global, image: &MachO<'_, A>) -> Result<String, Al
 }
 
 // A library of each kind, the image's own name between them, and one whose timestamp says that flags follow.
-const OF_EACH_KIND: [Row; 7] = [
+const OF_EACH_KIND: &[Row] = &[
     Row(0xc, 2, 24, b"A\0\0\0\0\0\0\0"),
     Row(0x8000_0018, 3, 24, b"B\0\0\0\0\0\0\0"),
     Row(0xd, 1, 24, b"own\0\0\0\0\0"),
@@ -118,11 +118,11 @@ fn of_each_kind(rt: HostRuntime) -> Result<(), Fail> {
     let alloc = rt.alloc();
     let want = "1 A Required 2 20304 10000;2 B Weak 3 20304 10000;3 C Reexport 4 20304 10000;\
         4 D Upward 5 20304 10000;5 E Lazy 6 20304 10000;6 F Required 1a741800 20304 10000;";
-    let little = commands(alloc, &OF_EACH_KIND)?;
+    let little = commands(alloc, OF_EACH_KIND)?;
     let image = MachO::parse(alloc, &little, 0)?;
     same(&rt, shown(alloc, &image)?.as_str(), want);
     same(&rt, names(alloc, &image)?.as_str(), "own;A;B;C;D;E;F;");
-    let big = big_commands(alloc, &OF_EACH_KIND)?;
+    let big = big_commands(alloc, OF_EACH_KIND)?;
     let image = MachO::parse(alloc, &big, 0)?;
     same(&rt, (image.is_64, image.little_endian), (false, false));
     same(&rt, shown(alloc, &image)?.as_str(), want);
@@ -131,7 +131,7 @@ fn of_each_kind(rt: HostRuntime) -> Result<(), Fail> {
 }
 
 // The second name stands past the end of the bytes, and the fourth is no text.
-const UNREADABLE: [Row; 5] = [
+const UNREADABLE: &[Row] = &[
     Row(0xc, 0, 24, b"A\0\0\0\0\0\0\0"),
     Row(0xc, 0, 1000, b"B\0\0\0\0\0\0\0"),
     Row(0x8000_0018, 0, 24, b"C\0\0\0\0\0\0\0"),
@@ -142,7 +142,7 @@ const UNREADABLE: [Row; 5] = [
 #[test]
 fn of_lossy_mode(rt: HostRuntime) -> Result<(), Fail> {
     let alloc = rt.alloc();
-    let bytes = commands(alloc, &UNREADABLE)?;
+    let bytes = commands(alloc, UNREADABLE)?;
     assert!(rt; MachO::parse(alloc, &bytes, 0).is_err());
     let image = MachO::parse_lossy(alloc, &bytes, 0)?;
     same(

@@ -102,7 +102,7 @@ const OF_LIBRARY_2: [u8; 10] = [0, 1, 0x61, 0, 5, 3, 8, 2, 0, 0];
 const SHARED: [u8; 12] = [0, 2, 0x61, 0, 8, 0x62, 0, 8, 2, 0, 5, 0];
 
 // A trie, a name, and what is found.
-const ROWS: [(&str, &[u8], &str, &str); 12] = [
+const ROWS: &[(&str, &[u8], &str, &str)] = &[
     ("found", &EXPORTS, "_main", "f50"),
     ("missing", &EXPORTS, "_none", "none"),
     ("a beginning", &EXPORTS, "_mai", "none"),
@@ -120,7 +120,7 @@ const ROWS: [(&str, &[u8], &str, &str); 12] = [
 #[test]
 fn rows(rt: HostRuntime) -> Result<(), Fail> {
     let alloc = rt.alloc();
-    for (row, trie, name, want) in ROWS {
+    for &(row, trie, name, want) in ROWS {
         let bytes = with_trie(alloc, trie)?;
         same_of(&rt, row, shown(alloc, &bytes, name)?.as_str(), want);
     }

@@ -28,7 +28,7 @@ const CHAINED: [u8; 308] = [
 // What is changed: a name, the place, the bytes that stand there then, and what is told: rule, number, found and limit.
 type Row<'r> = (&'r str, usize, &'r [u8], &'r [(Rule, u64, u64, u64)]);
 
-const ROWS: [Row<'static>; 24] = [
+const ROWS: &[Row<'static>] = &[
     ("sound", 224, &[0], &[]),
     ("out of the file", 220, &[85], &[]),
     (
@@ -168,7 +168,7 @@ fn told(alloc: Global, bytes: &[u8]) -> Result<Vec<LayoutFault>, Fail> {
 #[test]
 fn rows_of_fixups(rt: HostRuntime) -> Result<(), Fail> {
     let alloc = rt.alloc();
-    for (name, place, others, wanted) in &ROWS {
+    for (name, place, others, wanted) in ROWS {
         let mut bytes = Vec::new(alloc);
         bytes.extend_from_slice(&CHAINED)?;
         put(&mut bytes, *place, others);

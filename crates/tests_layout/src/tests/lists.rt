@@ -30,7 +30,7 @@ const MORE_WEAK_BINDS: Change<'static> = (592, &[0, 4, 0, 0, 32, 0, 0, 0]);
 // 16 bytes there, as the table of data in code.
 const TWO_ENTRIES: Change<'static> = (832, &[0, 4, 0, 0, 16, 0, 0, 0]);
 
-const ROWS: [Row<'static>; 20] = [
+const ROWS: &[Row<'static>] = &[
     ("a rebase", &[(8192, &[0x11, 0x21, 0, 0x51])], &[]),
     (
         "a rebase without a type",
@@ -171,7 +171,7 @@ fn told(alloc: Global, bytes: &[u8]) -> Result<Vec<LayoutFault>, Fail> {
 #[test]
 fn rows_of_lists(rt: HostRuntime) -> Result<(), Fail> {
     let alloc = rt.alloc();
-    for (name, changes, wanted) in &ROWS {
+    for (name, changes, wanted) in ROWS {
         let mut bytes = library(alloc)?;
         for (place, others) in *changes {
             put(&mut bytes, *place, others);

@@ -13,7 +13,7 @@ type Told = (Rule, u64, u64, u64, u64);
 // What is changed: a name, the place, the bytes that stand there then, and all that is told.
 type Row<'r> = (&'r str, usize, &'r [u8], &'r [Told]);
 
-const ROWS: [Row<'static>; 10] = [
+const ROWS: &[Row<'static>] = &[
     ("sound", 0, &[0xcf], &[]),
     (
         "a segment behind another one's address",
@@ -84,7 +84,7 @@ fn are(faults: &[LayoutFault], wanted: &[Told]) -> bool {
 #[test]
 fn rows_of_all_rules(rt: HostRuntime) -> Result<(), Fail> {
     let alloc = rt.alloc();
-    for (name, place, others, wanted) in ROWS {
+    for &(name, place, others, wanted) in ROWS {
         let mut bytes = library(alloc)?;
         put(&mut bytes, place, others);
         let image = MachO::parse(alloc, &bytes, 0)?;

@@ -56,7 +56,7 @@ const LIBRARY_TABLES: [u8; 160] = [
 // What is changed: a name, the place, the bytes that stand there then, and what is told: rule, number, found and limit.
 type Row<'r> = (&'r str, usize, &'r [u8], &'r [(Rule, u64, u64, u64)]);
 
-const ROWS: [Row<'static>; 26] = [
+const ROWS: &[Row<'static>] = &[
     ("sound", 24, &[0x85], &[]),
     (
         "a section that there is not",
@@ -228,7 +228,7 @@ fn told(alloc: Global, bytes: &[u8]) -> Result<Vec<LayoutFault>, Fail> {
 #[test]
 fn rows_of_symbols(rt: HostRuntime) -> Result<(), Fail> {
     let alloc = rt.alloc();
-    for (name, place, others, wanted) in &ROWS {
+    for (name, place, others, wanted) in ROWS {
         let mut bytes = library(alloc)?;
         put(&mut bytes, *place, others);
         let faults = told(alloc, &bytes)?;
@@ -303,7 +303,7 @@ fn rows_of_binds(rt: HostRuntime) -> Result<(), Fail> {
 // that no address of 64 bits has are 0x1000; and whether a fault is told.
 type Turns<'r> = (&'r str, bool, &'r [u8], bool);
 
-const TURNS: [Turns<'static>; 14] = [
+const TURNS: &[Turns<'static>] = &[
     (
         "2^60 turns at one place inside",
         false,
@@ -427,7 +427,7 @@ fn with_turns(alloc: Global, is_vast: bool, turns: &[u8]) -> Result<Vec<u8>, All
 #[test]
 fn rows_of_turns(rt: HostRuntime) -> Result<(), Fail> {
     let alloc = rt.alloc();
-    for (name, is_vast, turns, is_told) in &TURNS {
+    for (name, is_vast, turns, is_told) in TURNS {
         let bytes = with_turns(alloc, *is_vast, turns)?;
         if told(alloc, &bytes)?.is_empty() == *is_told {
             return Err(Fail::from(*name));

@@ -28,7 +28,7 @@ const THREE: &str =
     "[__mh_execute_header] regular 0x0 flags 0x0 at 0x0 of 0; [_maximum] regular 0xf40 flags 0x0 at 0xf40 of 0; \
     [_main] regular 0xf50 flags 0x0 at 0xf50 of 0; ";
 
-const ROWS: [(&str, &[u8], &str); 11] = [
+const ROWS: &[(&str, &[u8], &str)] = &[
     ("exports_vector", &EXPORTS, THREE),
     ("back_to_root", &[0, 1, 0x61, 0, 0], "malformed"),
     ("child_past_range", &[0, 1, 0x61, 0, 5], ""),
@@ -70,7 +70,7 @@ const ROWS: [(&str, &[u8], &str); 11] = [
 fn rows(rt: HostRuntime) -> Result<(), Fail> {
     let alloc = rt.alloc();
     let libs = ["self", "/usr/lib/libfoo.dylib"];
-    for (name, bytes, want) in ROWS {
+    for &(name, bytes, want) in ROWS {
         let got = listed(alloc, &ExportTrie::new(bytes, &whole(bytes)), &libs)?;
         same_of(&rt, name, got.as_str(), want);
     }

@@ -55,7 +55,7 @@ const EXPORTS_OF_VECTOR: &str =
     "[__mh_execute_header] regular 0x0 flags 0x0 at 0x0 of 0; [_maximum] regular 0xf40 flags 0x0 at 0xf40 of 0; \
     [_main] regular 0xf50 flags 0x0 at 0xf50 of 0; ";
 
-const ROWS: [Row; 15] = [
+const ROWS: &[Row] = &[
     Row {
         call: Call::ParseOfA,
         growths: 2,
@@ -358,7 +358,7 @@ fn each_growth_refused(rt: HostRuntime) -> Result<(), Fail> {
         image: MachO::parse(alloc, &FILE_B, 0)?,
         fat: &fat,
     };
-    for row in &ROWS {
+    for row in ROWS {
         let runs = refused_runs(&rt, alloc, &subjects, row)?;
         assert_eq!(rt; runs, row.growths, "refused runs of {:?}", row.call);
     }

@@ -21,7 +21,7 @@ fn plain(address: u32, is_pcrel: bool, is_extern: bool) -> Relocation {
 }
 
 // A cpu, a byte order, the two words of a relocation, and what it says.
-const SCATTERED: [(CpuType, Endian, (u32, u32), Relocation); 3] = [
+const SCATTERED: &[(CpuType, Endian, (u32, u32), Relocation)] = &[
     (
         CPU_TYPE_X86,
         LE,
@@ -61,7 +61,7 @@ const SCATTERED: [(CpuType, Endian, (u32, u32), Relocation); 3] = [
 ];
 
 // The same, whether the distance is meant, and whether it is by a symbol.
-const PLAIN: [(CpuType, Endian, (u32, u32), (bool, bool)); 6] = [
+const PLAIN: &[(CpuType, Endian, (u32, u32), (bool, bool))] = &[
     (
         CPU_TYPE_X86_64,
         LE,
@@ -87,7 +87,7 @@ const PLAIN: [(CpuType, Endian, (u32, u32), (bool, bool)); 6] = [
 
 #[test]
 fn scattered(rt: HostRuntime) {
-    for (cputype, le, (address, r_info), want) in SCATTERED {
+    for &(cputype, le, (address, r_info), want) in SCATTERED {
         let r_address = address.cast_signed();
         let relocation = RelocationInfo { r_address, r_info };
         same(&rt, relocation.read_as(cputype, le), want);
@@ -96,7 +96,7 @@ fn scattered(rt: HostRuntime) {
 
 #[test]
 fn plain_ones(rt: HostRuntime) {
-    for (cputype, le, (address, r_info), (is_pcrel, is_extern)) in PLAIN {
+    for &(cputype, le, (address, r_info), (is_pcrel, is_extern)) in PLAIN {
         let r_address = address.cast_signed();
         let relocation = RelocationInfo { r_address, r_info };
         let want = plain(address, is_pcrel, is_extern);
