@@ -1,15 +1,18 @@
 /* What programs-check loads into a program by LD_PRELOAD, where a row asks for memory, a clock or renames that fail. The environment says which:
      SCARCE_GROWTH=N, N..   the Nth growth of memory is refused, or the Nth and all behind it
+     SCARCE_HEAP=N          a growth is refused after which the program would hold more than N bytes
      SCARCE_CLOCK=STEP,..   each reading of the monotonic clock is so many nanoseconds later than the one before, by these steps, over and over
      SCARCE_CLOCK=none      that clock can't be read
      SCARCE_RENAMES=none    no file can be renamed
-     SCARCE_TOLD=FD         here a letter is written once the first growth, reading or rename has met with that: g, c or r
+     SCARCE_TOLD=FD         here a letter is written once the first growth, reading or rename has met with that: g, c or r;
+                            and h once the bytes that the program holds are counted
    A growth is a call of the C library's allocator that comes from the program's own code, which the return address tells. What the C library asks for
-   by itself, before `main` or within a call, is neither counted nor refused. */
+   by itself, before `main` or within a call, is neither counted nor refused. A block counts with all bytes of it that can be used. */
 #define _GNU_SOURCE
 #include <errno.h>
 #include <fcntl.h>
 #include <link.h>
+#include <malloc.h>
 #include <stdbool.h>
 #include <stdint.h>
 #include <stdlib.h>
@@ -19,12 +22,13 @@
 #include <unistd.h>
 
 extern void *__libc_malloc(size_t), *__libc_calloc(size_t, size_t), *__libc_realloc(void *, size_t), *__libc_memalign(size_t, size_t);
+extern void __libc_free(void *);
 
 enum { MOST = 16 };
 static uintptr_t own_from, own_upto;
 static uint64_t refused, growths, now, steps[MOST];
-static size_t count, readings;
-static bool all_behind, no_clock, no_renames;
+static size_t count, readings, most, held;
+static bool all_behind, is_heap, no_clock, no_renames;
 static int told = -1;
 
 /* Where the program's own code lies: the first object of all is the program. */
@@ -41,10 +45,12 @@ static int find_own(struct dl_phdr_info *info, size_t size, void *nothing) {
 }
 
 __attribute__((constructor)) static void begin(void) {
-    const char *growth = getenv("SCARCE_GROWTH"), *clock = getenv("SCARCE_CLOCK"), *renames = getenv("SCARCE_RENAMES"), *fd = getenv("SCARCE_TOLD");
+    const char *growth = getenv("SCARCE_GROWTH"), *heap = getenv("SCARCE_HEAP"), *clock = getenv("SCARCE_CLOCK");
+    const char *renames = getenv("SCARCE_RENAMES"), *fd = getenv("SCARCE_TOLD");
     char *rest;
     dl_iterate_phdr(find_own, NULL);
     if (growth) refused = strtoull(growth, &rest, 10), all_behind = *rest == '.';
+    if (heap) most = strtoull(heap, &rest, 10), is_heap = true;
     no_clock = clock && strcmp(clock, "none") == 0;
     no_renames = renames != NULL;
     for (; clock && !no_clock && *clock && count < MOST; clock = *rest ? rest + 1 : rest) steps[count++] = strtoull(clock, &rest, 10);
@@ -52,34 +58,75 @@ __attribute__((constructor)) static void begin(void) {
 }
 
 static void tell(char letter) {
-    static char before[3];
+    static char before[4];
     char *free_place = memchr(before, 0, sizeof before);
     if (told < 0 || !free_place || memchr(before, letter, sizeof before)) return;
     *free_place = letter;
     if (write(told, &letter, 1) < 0) told = -1;
 }
 
-/* Whether a call of the allocator that returns to this address is refused. */
-static bool is_refused(void *back) {
+/* Whether a call of the allocator that returns to this address comes from the program's own code. */
+static bool is_own(void *back) {
     uintptr_t at = (uintptr_t)back;
-    if (at < own_from || at >= own_upto) return false;
+    return at >= own_from && at < own_upto;
+}
+
+/* Whether a growth to so many bytes, in place of those of a block, is one too many. */
+static bool is_past_heap(size_t size, void *block) {
+    if (!is_heap) return false;
+    tell('h');
+    size_t others = held - malloc_usable_size(block);
+    return size > most || others > most - size;
+}
+
+/* Whether a growth of the program's own code is the one that is refused, or one behind it. */
+static bool is_numbered(void) {
     growths++;
     if (refused == 0 || growths < refused || (growths > refused && !all_behind)) return false;
     tell('g');
+    return true;
+}
+
+/* Whether a call of the allocator that returns to this address, for so many bytes in place of a block or of none, is refused. */
+static bool is_refused(void *back, size_t size, void *block) {
+    if (!is_own(back) || (!is_numbered() && !is_past_heap(size, block))) return false;
     errno = ENOMEM;
     return true;
 }
 
-#define REFUSED is_refused(__builtin_return_address(0))
+/* The block that was made, which counts if it is the program's own. */
+static void *counted(void *back, void *made) {
+    if (is_own(back)) held += malloc_usable_size(made);
+    return made;
+}
 
-void *malloc(size_t size) { return REFUSED ? NULL : __libc_malloc(size); }
-void *calloc(size_t items, size_t size) { return REFUSED ? NULL : __libc_calloc(items, size); }
-void *realloc(void *block, size_t size) { return REFUSED ? NULL : __libc_realloc(block, size); }
-void *aligned_alloc(size_t align, size_t size) { return REFUSED ? NULL : __libc_memalign(align, size); }
+static void *resized(void *back, void *block, size_t size) {
+    size_t before = is_own(back) ? malloc_usable_size(block) : 0;
+    void *made = __libc_realloc(block, size);
+    if (made || size == 0) held -= before;
+    return counted(back, made);
+}
+
+#define BACK __builtin_return_address(0)
+
+void *malloc(size_t size) { return is_refused(BACK, size, NULL) ? NULL : counted(BACK, __libc_malloc(size)); }
+void *realloc(void *block, size_t size) { return is_refused(BACK, size, block) ? NULL : resized(BACK, block, size); }
+void *aligned_alloc(size_t align, size_t size) { return is_refused(BACK, size, NULL) ? NULL : counted(BACK, __libc_memalign(align, size)); }
+
+void *calloc(size_t items, size_t size) {
+    size_t all;
+    if (__builtin_mul_overflow(items, size, &all)) all = SIZE_MAX;
+    return is_refused(BACK, all, NULL) ? NULL : counted(BACK, __libc_calloc(items, size));
+}
 
 int posix_memalign(void **block, size_t align, size_t size) {
-    *block = REFUSED ? NULL : __libc_memalign(align, size);
+    *block = is_refused(BACK, size, NULL) ? NULL : counted(BACK, __libc_memalign(align, size));
     return *block ? 0 : ENOMEM;
+}
+
+void free(void *block) {
+    if (is_own(BACK)) held -= malloc_usable_size(block);
+    __libc_free(block);
 }
 
 int clock_gettime(clockid_t clock, struct timespec *time) {
