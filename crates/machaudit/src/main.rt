@@ -20,10 +20,6 @@ mod run;
 mod signature_text;
 mod text;
 
-// Tests.
-#[cfg(test)]
-mod tests;
-
 use crate::files::run_files;
 use crate::options::{DEFAULT_LIMIT, Mistake, Options, Words};
 use crate::run::NAME;

@@ -26,10 +26,6 @@ mod report;
 mod run;
 mod words;
 
-// Tests.
-#[cfg(test)]
-mod tests;
-
 use crate::inputs::Given;
 use crate::run::{NAME, run};
 use crate::words::{DEFAULT_LIMIT, Mistake, Words};
