@@ -1,5 +1,5 @@
 #!/usr/bin/env python3
-"""Writes what the C interface takes from the sources of the library: of include/goblin_mach.h the marked parts, which are the constants of the
+"""Writes what the C interface takes from the sources of the library: of c/include/goblin_mach.h the marked parts, which are the constants of the
 format and what is asserted of structs and numbers, and c/names.h, the names of numbers.
 
   c/constants.py           writes them
@@ -12,7 +12,7 @@ import re
 import sys
 
 TOP = pathlib.Path(__file__).resolve().parent.parent
-HEADER, NAMES = TOP / "include/goblin_mach.h", TOP / "c/names.h"
+HEADER, NAMES = TOP / "c/include/goblin_mach.h", TOP / "c/names.h"
 CRATES = ["mach_records", "mach_parts", "mach_dyld", "mach_chained"]
 WIDTHS = {"u8": 1, "u16": 2, "u32": 4, "i32": 4, "u64": 8, "i64": 8, "usize": 8}
 

@@ -1,4 +1,4 @@
-/* What programs-check loads into a program by LD_PRELOAD, where a row asks for memory, a clock or renames that fail. The environment says which:
+/* What tools/rows loads into a program by LD_PRELOAD, where a row asks for memory, a clock or renames that fail. The environment says which:
      SCARCE_GROWTH=N, N..   the Nth growth of memory is refused, or the Nth and all behind it
      SCARCE_HEAP=N          a growth is refused after which the program would hold more than N bytes
      SCARCE_CLOCK=STEP,..   each reading of the monotonic clock is so many nanoseconds later than the one before, by these steps, over and over

@@ -1,5 +1,5 @@
 """python3 python/enums_check.py: compares the package's enums with the constants of the crates, `pub const NAME: T = NUMBER;`, and with those of
-include/goblin_mach.h, `#define GM_NAME UINT32_C(NUMBER)`. Each constant whose name begins as those of an enum is to be a member of it, with its number.
+c/include/goblin_mach.h, `#define GM_NAME UINT32_C(NUMBER)`. Each constant whose name begins as those of an enum is to be a member of it, with its number.
 It prints what differs, and needs no library."""
 
 from __future__ import annotations
@@ -90,7 +90,7 @@ def constants(top: str) -> Tuple[List[Tuple[str, Constant]], List[str]]:
                     wrong.append(f"{path}: {name}: {value} isn't read")
                 else:
                     found.append((name, Constant(kind, int(value.replace("_", ""), 0), os.path.basename(path))))
-    with open(os.path.join(top, "include", "goblin_mach.h"), encoding="utf-8") as file:
+    with open(os.path.join(top, "c", "include", "goblin_mach.h"), encoding="utf-8") as file:
         for name, bits, value in MACRO.findall(file.read()):
             found.append((name, Constant("u" + bits, int(value, 0), "goblin_mach.h")))
     return found, wrong

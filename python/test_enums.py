@@ -22,8 +22,8 @@ class Names(unittest.TestCase):
         """The check itself, on a repository of a file, in which one number is another and one name is new."""
         with tempfile.TemporaryDirectory() as room:
             os.makedirs(os.path.join(room, "crates/mach_some/src"))
-            os.makedirs(os.path.join(room, "include"))
-            shutil.copy(os.path.join(enums_check.TOP, "include/goblin_mach.h"), os.path.join(room, "include"))
+            os.makedirs(os.path.join(room, "c/include"))
+            shutil.copy(os.path.join(enums_check.TOP, "c/include/goblin_mach.h"), os.path.join(room, "c/include"))
             with open(os.path.join(room, "crates/mach_some/src/lib.rt"), "w", encoding="utf-8") as file:
                 file.write("pub const LC_UUID: u32 = 0x1c;\npub const LC_NEW: u32 = 0x8000_1234;\npub const MH_PIE: u32 = 0x0020_0000;\n"
                            "pub const N_FUN: u8 = 0x24;\npub const LC_SUM: u32 = 1 + 1;\npub const LC_REQ_DYLD: u32 = 0x8000_0000;\n")

@@ -309,7 +309,7 @@ class Architectures(unittest.TestCase):
 
 class Structs(unittest.TestCase):
     def test_are_laid_out_as_the_header_says(self):
-        with open(os.path.join(TOP, "include/goblin_mach.h"), encoding="utf-8") as file:
+        with open(os.path.join(TOP, "c/include/goblin_mach.h"), encoding="utf-8") as file:
             header = file.read()
         fields = re.findall(r"^GM_FIELD\((\w+), (\w+), (\d+), (\d+)\);", header, re.M)
         sizes = dict(re.findall(r"^GM_SIZE\((\w+), (\d+)\);", header, re.M))
@@ -379,7 +379,7 @@ class Loading(made.Case):
         self.assertEqual(self.loads(GOBLIN_MACH=named), named)
         self.assertEqual(self.loads(), beside)
         self.assertEqual(self.loads(GOBLIN_MACH=""), beside)
-        self.assertRegex(self.loads(GOBLIN_MACH=named + "2"), "^not: libgoblin_mach.so is not found: build it by ./build-c, .*named.so2")
+        self.assertRegex(self.loads(GOBLIN_MACH=named + "2"), "^not: libgoblin_mach.so is not found: build it by ./tools/build-c, .*named.so2")
         self.assertRegex(self.loads(GOBLIN_MACH="libc.so.6"), "^not: libc.so.6 lacks a call")
 
     def test_in_order(self):

@@ -42,7 +42,7 @@ def _open_first(paths: Sequence[str]) -> ctypes.CDLL:
             return ctypes.CDLL(path)
         except OSError as error:
             why.append(str(error))
-    raise ImportError(f"{NAME} is not found: build it by ./build-c, and name it in GOBLIN_MACH. Tried: " + "; ".join(why))
+    raise ImportError(f"{NAME} is not found: build it by ./tools/build-c, and name it in GOBLIN_MACH. Tried: " + "; ".join(why))
 
 
 def _prototypes() -> Dict[str, Tuple[Any, List[Any]]]:

@@ -1,4 +1,4 @@
-"""The structs of include/goblin_mach.h, with its names. A test compares each field's place and size with those that the header states."""
+"""The structs of c/include/goblin_mach.h, with its names. A test compares each field's place and size with those that the header states."""
 
 from __future__ import annotations
 

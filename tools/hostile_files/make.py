@@ -1,7 +1,7 @@
 #!/usr/bin/env python3
 """Writes files on which a reader may find no end, or take more than its share of time and memory.
 
-  hostile/make.py FOLDER [BYTES]
+  tools/hostile_files/make.py FOLDER [BYTES]
 
 The small ones have up to some hundred bytes. The large ones have some BYTES, 100,000 where nothing is said, and are those whose cost
 may grow faster than the file. Of those that a reader goes over again and again, if it keeps nothing of what it read, another has ten times as

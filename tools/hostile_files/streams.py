@@ -1,7 +1,7 @@
 #!/usr/bin/env python3
 """Compares what machfixups and machinfo tell of damaged streams with a second reading of the rules, which knows nothing of the library.
 
-  hostile/streams.py [--seed N] [--files N] [--images N] [--try] [FOLDER]
+  tools/hostile_files/streams.py [--seed N] [--files N] [--images N] [--try] [FOLDER]
 
 Each file is a fat file of images whose rebases, weak binds and function starts are sound streams that were damaged: bytes changed, put in, left
 out, the range cut short or drawn out. The programs are those that `rt run` or `rt ci` has built, crates/NAME/out/NAME; with --try those of
@@ -14,7 +14,7 @@ import subprocess
 import sys
 import tempfile
 
-TOP = os.path.dirname(os.path.dirname(os.path.abspath(__file__)))
+TOP = os.path.dirname(os.path.dirname(os.path.dirname(os.path.abspath(__file__))))
 LIMIT = 40
 WORD = 1 << 64
 
