@@ -2,6 +2,7 @@ pub mod Words
 pub mod CommandSizes
 pub mod CommandFronts
 pub mod Threads
+pub mod FrontRecords
 pub mod StartsRead
 pub mod StartLaws
 pub mod ListsRead

@@ -24,7 +24,7 @@ abbrev names_threads : List CommandRow → Bool
 names_threads [] = true
 names_threads (row ∷ rows) = (not (is_thread row.kind) || (eqb 4 row.cmd || eqb 5 row.cmd)) && names_threads rows
 
-both : (a b : Bool) → (a && b) ≡ true → (a ≡ true) × (b ≡ true)
+pub both : (a b : Bool) → (a && b) ≡ true → (a ≡ true) × (b ≡ true)
 both true b e = (refl, e)
 both false b e = absurd (cc)
 

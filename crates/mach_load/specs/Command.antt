@@ -1,9 +1,9 @@
 -- The load command at a place (`mach-o/loader.h`, struct load_command).
-use Rattle.std.specs.Prelude.{◌≡◌, ◌⊎◌, ℕ, ◌-◌, List, length, Result, Ok, Err, nat_lt, if◌then◌else◌}
+use Rattle.std.specs.Prelude.{◌≡◌, ◌⊎◌, ℕ, ◌-◌, ◌≤◌, List, length, Result, Ok, Err, nat_lt, if◌then◌else◌}
 use Rattle.mach_base.specs.declared.context.Endian.{Endian}
 use Rattle.mach_base.specs.Answer.{◌>>=◌}
 use Rattle.mach_base.specs.Fault.{Fault, malformed}
-use Rattle.mach_base.specs.Record.{Value, number_among, record_at}
+use Rattle.mach_base.specs.Record.{Value, number_among, size, record_at}
 use Rattle.mach_records.specs.LoadCommandHeader.{header_fields}
 use Rattle.mach_load.specs.Commands.{Kind, thread, unixthread, Body, by_fields, by_thread, CommandRow, row_of}
 use Rattle.mach_load.specs.ThreadState.{thread_at}
@@ -30,6 +30,16 @@ abbrev pub command_by : CommandRow → Endian → List ℕ → ℕ → Result Co
 command_by row le bytes s = do
   values ← body_at row.body le bytes s
   Ok (record { offset = s; kind = row.kind; values = values })
+
+-- how many bytes the record of a command that is no thread has
+abbrev pub IsSizeOf : ℕ → Body → Type 0
+IsSizeOf n (by_fields fields) = n ≡ size fields
+IsSizeOf n by_thread = ⊥
+
+-- a command that is no thread, whose record so many bytes hold
+abbrev pub IsHeldBy : ℕ → Body → Type 0
+IsHeldBy n (by_fields fields) = size fields ≤ n
+IsHeldBy n by_thread = ⊥
 
 -- The load command at s: its header, whose cmdsize is no more than what is left, and then the record
 -- that the table says for its cmd, whatever the cmdsize; or why there is none.

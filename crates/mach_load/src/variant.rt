@@ -1,12 +1,12 @@
 //! What a load command says, by its number.
 
-ghost use Rattle.std.specs.Prelude.{◌≡◌, ◌<◌, ◌^◌, length, Ok, Err, IfOk, IfErr, IfSome, IfNone};
+ghost use Rattle.std.specs.Prelude.{◌≡◌, ◌<◌, ◌≤◌, ◌^◌, length, Ok, Err, IfOk, IfErr, IfSome, IfNone};
 ghost use Rattle.mach_base.specs.Answer.{Reads};
 ghost use Rattle.mach_base.specs.Fault.{too_big};
 ghost use Rattle.mach_base.specs.Record.{number_among, record_at};
 ghost use Rattle.mach_records.specs.LoadCommandHeader.{header_fields, header_values};
 ghost use Rattle.mach_load.specs.Commands.{row_of};
-ghost use Rattle.mach_load.specs.Command.{command_by};
+ghost use Rattle.mach_load.specs.Command.{command_by, IsHeldBy, IsSizeOf};
 ghost use Rattle.mach_load.specs.Variants.{variant_values, command_of};
 
 pub(crate) mod debug;
@@ -269,65 +269,142 @@ impl CommandVariant {
         ensures ok { IfSome result (λ v. command_by (row_of header.cmd) le rest.now 0 ≡ Ok (command_of (record { offset = 0; command = v }))) }
         ensures err { IfNone result (command_by (row_of header.cmd) le rest.now 0 ≡ Err (too_big lacking.new (length rest.now))) }
     {
+        if let Some(size) = lacking_size(header.cmd, rest.len()) {
+            *lacking = size;
+            return None;
+        }
         Some(match header.cmd {
-            LC_SEGMENT => CommandVariant::Segment32(record(rest, le, lacking)?),
-            LC_SYMTAB => CommandVariant::Symtab(record(rest, le, lacking)?),
-            LC_SYMSEG => CommandVariant::Symseg(record(rest, le, lacking)?),
-            LC_LOADFVMLIB => CommandVariant::LoadFvmlib(record(rest, le, lacking)?),
-            LC_IDFVMLIB => CommandVariant::IdFvmlib(record(rest, le, lacking)?),
-            LC_IDENT => CommandVariant::Ident(record(rest, le, lacking)?),
-            LC_FVMFILE => CommandVariant::Fvmfile(record(rest, le, lacking)?),
-            LC_PREPAGE => CommandVariant::Prepage(header),
-            LC_DYSYMTAB => CommandVariant::Dysymtab(record(rest, le, lacking)?),
-            LC_LOAD_DYLIB => CommandVariant::LoadDylib(record(rest, le, lacking)?),
-            LC_ID_DYLIB => CommandVariant::IdDylib(record(rest, le, lacking)?),
-            LC_LOAD_DYLINKER => CommandVariant::LoadDylinker(record(rest, le, lacking)?),
-            LC_ID_DYLINKER => CommandVariant::IdDylinker(record(rest, le, lacking)?),
-            LC_PREBOUND_DYLIB => CommandVariant::PreboundDylib(record(rest, le, lacking)?),
-            LC_ROUTINES => CommandVariant::Routines32(record(rest, le, lacking)?),
-            LC_SUB_FRAMEWORK => CommandVariant::SubFramework(record(rest, le, lacking)?),
-            LC_SUB_UMBRELLA => CommandVariant::SubUmbrella(record(rest, le, lacking)?),
-            LC_SUB_CLIENT => CommandVariant::SubClient(record(rest, le, lacking)?),
-            LC_SUB_LIBRARY => CommandVariant::SubLibrary(record(rest, le, lacking)?),
-            LC_TWOLEVEL_HINTS => CommandVariant::TwolevelHints(record(rest, le, lacking)?),
-            LC_PREBIND_CKSUM => CommandVariant::PrebindCksum(record(rest, le, lacking)?),
-            LC_SEGMENT_64 => CommandVariant::Segment64(record(rest, le, lacking)?),
-            LC_ROUTINES_64 => CommandVariant::Routines64(record(rest, le, lacking)?),
-            LC_UUID => CommandVariant::Uuid(record(rest, le, lacking)?),
-            LC_CODE_SIGNATURE => CommandVariant::CodeSignature(record(rest, le, lacking)?),
-            LC_SEGMENT_SPLIT_INFO => CommandVariant::SegmentSplitInfo(record(rest, le, lacking)?),
-            LC_LAZY_LOAD_DYLIB => CommandVariant::LazyLoadDylib(record(rest, le, lacking)?),
-            LC_ENCRYPTION_INFO => CommandVariant::EncryptionInfo32(record(rest, le, lacking)?),
-            LC_DYLD_INFO => CommandVariant::DyldInfo(record(rest, le, lacking)?),
-            LC_VERSION_MIN_MACOSX => CommandVariant::VersionMinMacosx(record(rest, le, lacking)?),
-            LC_VERSION_MIN_IPHONEOS => CommandVariant::VersionMinIphoneos(record(
-                rest, le, lacking,
-            )?),
-            LC_FUNCTION_STARTS => CommandVariant::FunctionStarts(record(rest, le, lacking)?),
-            LC_DYLD_ENVIRONMENT => CommandVariant::DyldEnvironment(record(rest, le, lacking)?),
-            LC_DATA_IN_CODE => CommandVariant::DataInCode(record(rest, le, lacking)?),
-            LC_SOURCE_VERSION => CommandVariant::SourceVersion(record(rest, le, lacking)?),
-            LC_DYLIB_CODE_SIGN_DRS => CommandVariant::DylibCodeSignDrs(record(rest, le, lacking)?),
-            LC_ENCRYPTION_INFO_64 => CommandVariant::EncryptionInfo64(record(rest, le, lacking)?),
-            LC_LINKER_OPTION => CommandVariant::LinkerOption(record(rest, le, lacking)?),
-            LC_LINKER_OPTIMIZATION_HINT => CommandVariant::LinkerOptimizationHint(record(
-                rest, le, lacking,
-            )?),
-            LC_VERSION_MIN_TVOS => CommandVariant::VersionMinTvos(record(rest, le, lacking)?),
-            LC_VERSION_MIN_WATCHOS => CommandVariant::VersionMinWatchos(record(rest, le, lacking)?),
-            LC_NOTE => CommandVariant::Note(record(rest, le, lacking)?),
-            LC_BUILD_VERSION => CommandVariant::BuildVersion(record(rest, le, lacking)?),
-            LC_LOAD_WEAK_DYLIB => CommandVariant::LoadWeakDylib(record(rest, le, lacking)?),
-            LC_RPATH => CommandVariant::Rpath(record(rest, le, lacking)?),
-            LC_REEXPORT_DYLIB => CommandVariant::ReexportDylib(record(rest, le, lacking)?),
-            LC_DYLD_INFO_ONLY => CommandVariant::DyldInfoOnly(record(rest, le, lacking)?),
-            LC_LOAD_UPWARD_DYLIB => CommandVariant::LoadUpwardDylib(record(rest, le, lacking)?),
-            LC_MAIN => CommandVariant::Main(record(rest, le, lacking)?),
-            LC_DYLD_EXPORTS_TRIE => CommandVariant::DyldExportsTrie(record(rest, le, lacking)?),
-            LC_DYLD_CHAINED_FIXUPS => CommandVariant::DyldChainedFixups(record(rest, le, lacking)?),
-            LC_FILESET_ENTRY => CommandVariant::FilesetEntry(record(rest, le, lacking)?),
-            _ => CommandVariant::Unimplemented(header),
+            LC_SEGMENT => Self::Segment32(held(rest, le)),
+            LC_SYMTAB => Self::Symtab(held(rest, le)),
+            LC_SYMSEG => Self::Symseg(held(rest, le)),
+            LC_LOADFVMLIB => Self::LoadFvmlib(held(rest, le)),
+            LC_IDFVMLIB => Self::IdFvmlib(held(rest, le)),
+            LC_IDENT => Self::Ident(held(rest, le)),
+            LC_FVMFILE => Self::Fvmfile(held(rest, le)),
+            LC_PREPAGE => Self::Prepage(header),
+            LC_DYSYMTAB => Self::Dysymtab(held(rest, le)),
+            LC_LOAD_DYLIB => Self::LoadDylib(held(rest, le)),
+            LC_ID_DYLIB => Self::IdDylib(held(rest, le)),
+            LC_LOAD_DYLINKER => Self::LoadDylinker(held(rest, le)),
+            LC_ID_DYLINKER => Self::IdDylinker(held(rest, le)),
+            LC_PREBOUND_DYLIB => Self::PreboundDylib(held(rest, le)),
+            LC_ROUTINES => Self::Routines32(held(rest, le)),
+            LC_SUB_FRAMEWORK => Self::SubFramework(held(rest, le)),
+            LC_SUB_UMBRELLA => Self::SubUmbrella(held(rest, le)),
+            LC_SUB_CLIENT => Self::SubClient(held(rest, le)),
+            LC_SUB_LIBRARY => Self::SubLibrary(held(rest, le)),
+            LC_TWOLEVEL_HINTS => Self::TwolevelHints(held(rest, le)),
+            LC_PREBIND_CKSUM => Self::PrebindCksum(held(rest, le)),
+            LC_SEGMENT_64 => Self::Segment64(held(rest, le)),
+            LC_ROUTINES_64 => Self::Routines64(held(rest, le)),
+            LC_UUID => Self::Uuid(held(rest, le)),
+            LC_CODE_SIGNATURE => Self::CodeSignature(held(rest, le)),
+            LC_SEGMENT_SPLIT_INFO => Self::SegmentSplitInfo(held(rest, le)),
+            LC_LAZY_LOAD_DYLIB => Self::LazyLoadDylib(held(rest, le)),
+            LC_ENCRYPTION_INFO => Self::EncryptionInfo32(held(rest, le)),
+            LC_DYLD_INFO => Self::DyldInfo(held(rest, le)),
+            LC_VERSION_MIN_MACOSX => Self::VersionMinMacosx(held(rest, le)),
+            LC_VERSION_MIN_IPHONEOS => Self::VersionMinIphoneos(held(rest, le)),
+            LC_FUNCTION_STARTS => Self::FunctionStarts(held(rest, le)),
+            LC_DYLD_ENVIRONMENT => Self::DyldEnvironment(held(rest, le)),
+            LC_DATA_IN_CODE => Self::DataInCode(held(rest, le)),
+            LC_SOURCE_VERSION => Self::SourceVersion(held(rest, le)),
+            LC_DYLIB_CODE_SIGN_DRS => Self::DylibCodeSignDrs(held(rest, le)),
+            LC_ENCRYPTION_INFO_64 => Self::EncryptionInfo64(held(rest, le)),
+            LC_LINKER_OPTION => Self::LinkerOption(held(rest, le)),
+            LC_LINKER_OPTIMIZATION_HINT => Self::LinkerOptimizationHint(held(rest, le)),
+            LC_VERSION_MIN_TVOS => Self::VersionMinTvos(held(rest, le)),
+            LC_VERSION_MIN_WATCHOS => Self::VersionMinWatchos(held(rest, le)),
+            LC_NOTE => Self::Note(held(rest, le)),
+            LC_BUILD_VERSION => Self::BuildVersion(held(rest, le)),
+            LC_LOAD_WEAK_DYLIB => Self::LoadWeakDylib(held(rest, le)),
+            LC_RPATH => Self::Rpath(held(rest, le)),
+            LC_REEXPORT_DYLIB => Self::ReexportDylib(held(rest, le)),
+            LC_DYLD_INFO_ONLY => Self::DyldInfoOnly(held(rest, le)),
+            LC_LOAD_UPWARD_DYLIB => Self::LoadUpwardDylib(held(rest, le)),
+            LC_MAIN => Self::Main(held(rest, le)),
+            LC_DYLD_EXPORTS_TRIE => Self::DyldExportsTrie(held(rest, le)),
+            LC_DYLD_CHAINED_FIXUPS => Self::DyldChainedFixups(held(rest, le)),
+            LC_FILESET_ENTRY => Self::FilesetEntry(held(rest, le)),
+            _ => Self::Unimplemented(header),
         })
+    }
+}
+
+// The record of each command that is no thread has at most so many bytes.
+const LONGEST_RECORD: usize = 80;
+
+// Answers how many bytes the record of a command that is no thread has, if `len` bytes are fewer.
+#[inline(always)]
+fn lacking_size(cmd: u32, len: usize) -> Option<usize>
+    requires no_thread { (4 ≡ cmd → ⊥) × (5 ≡ cmd → ⊥) }
+    ensures some { IfSome result (λ size. IsSizeOf size (row_of cmd).body × (len < size)) }
+    ensures none { IfNone result (IsHeldBy len (row_of cmd).body) }
+{
+    if len >= LONGEST_RECORD {
+        return None;
+    }
+    let size = record_size(cmd);
+    if len < size { Some(size) } else { None }
+}
+
+// Answers how many bytes the record of a command that is no thread has.
+#[tactic(auto, unfolding(crate::specs::Commands::row_of))]
+#[cold]
+#[inline(never)]
+fn record_size(cmd: u32) -> usize
+    requires no_thread { (4 ≡ cmd → ⊥) × (5 ≡ cmd → ⊥) }
+    ensures { IsSizeOf result (row_of cmd).body }
+{
+    match cmd {
+        LC_SEGMENT => SegmentCommand32::SIZE,
+        LC_SYMTAB => SymtabCommand::SIZE,
+        LC_SYMSEG => SymsegCommand::SIZE,
+        LC_LOADFVMLIB | LC_IDFVMLIB => FvmlibCommand::SIZE,
+        LC_IDENT => IdentCommand::SIZE,
+        LC_FVMFILE => FvmfileCommand::SIZE,
+        LC_DYSYMTAB => DysymtabCommand::SIZE,
+        LC_LOAD_DYLIB
+        | LC_ID_DYLIB
+        | LC_LAZY_LOAD_DYLIB
+        | LC_LOAD_WEAK_DYLIB
+        | LC_REEXPORT_DYLIB
+        | LC_LOAD_UPWARD_DYLIB => DylibCommand::SIZE,
+        LC_LOAD_DYLINKER | LC_ID_DYLINKER | LC_DYLD_ENVIRONMENT => DylinkerCommand::SIZE,
+        LC_PREBOUND_DYLIB => PreboundDylibCommand::SIZE,
+        LC_ROUTINES => RoutinesCommand32::SIZE,
+        LC_SUB_FRAMEWORK => SubFrameworkCommand::SIZE,
+        LC_SUB_UMBRELLA => SubUmbrellaCommand::SIZE,
+        LC_SUB_CLIENT => SubClientCommand::SIZE,
+        LC_SUB_LIBRARY => SubLibraryCommand::SIZE,
+        LC_TWOLEVEL_HINTS => TwolevelHintsCommand::SIZE,
+        LC_PREBIND_CKSUM => PrebindCksumCommand::SIZE,
+        LC_SEGMENT_64 => SegmentCommand64::SIZE,
+        LC_ROUTINES_64 => RoutinesCommand64::SIZE,
+        LC_UUID => UuidCommand::SIZE,
+        LC_CODE_SIGNATURE
+        | LC_SEGMENT_SPLIT_INFO
+        | LC_FUNCTION_STARTS
+        | LC_DATA_IN_CODE
+        | LC_DYLIB_CODE_SIGN_DRS
+        | LC_LINKER_OPTION
+        | LC_LINKER_OPTIMIZATION_HINT
+        | LC_DYLD_EXPORTS_TRIE
+        | LC_DYLD_CHAINED_FIXUPS => LinkeditDataCommand::SIZE,
+        LC_ENCRYPTION_INFO => EncryptionInfoCommand32::SIZE,
+        LC_DYLD_INFO | LC_DYLD_INFO_ONLY => DyldInfoCommand::SIZE,
+        LC_VERSION_MIN_MACOSX
+        | LC_VERSION_MIN_IPHONEOS
+        | LC_VERSION_MIN_TVOS
+        | LC_VERSION_MIN_WATCHOS => VersionMinCommand::SIZE,
+        LC_SOURCE_VERSION => SourceVersionCommand::SIZE,
+        LC_ENCRYPTION_INFO_64 => EncryptionInfoCommand64::SIZE,
+        LC_NOTE => NoteCommand::SIZE,
+        LC_BUILD_VERSION => BuildVersionCommand::SIZE,
+        LC_RPATH => RpathCommand::SIZE,
+        LC_MAIN => EntryPointCommand::SIZE,
+        LC_FILESET_ENTRY => FilesetEntryCommand::SIZE,
+        _ => LoadCommandHeader::SIZE,
     }
 }
 
@@ -342,5 +419,15 @@ pub(crate) fn record<R: Record>(rest: &[u8], le: Endian, lacking: &mut usize) ->
         *lacking = R::SIZE;
         return None;
     }
-    Some(R::load(rest, le))
+    Some(held(rest, le))
+}
+
+// Reads the record at the front of bytes that hold it.
+#[inline(always)]
+fn held<R: Record>(rest: &[u8], le: Endian) -> R
+    requires some { 0 < length rest.now }
+    requires room { R.SIZE ≤ length rest.now }
+    ensures { record_at le R.fields rest.now 0 ≡ Ok (R.values result) }
+{
+    R::load(rest, le)
 }
