@@ -1,0 +1,92 @@
+#!/usr/bin/env python3
+"""Runs the toolchain's `rt` with one method replaced: `rt_once.py ci` also leaves the archive of each static library in its out/.
+
+`rt ci` proves a static library and keeps nothing of it, so its archive would need a second proof. Here the same check also records what it has
+proved (`rattle check -o`), as `rt ci` has it do for a program, and `rattle build --crate-checked` compiles that without a proof. The verdict stays
+that of the check: an archive that can't be built is a line of the output, and fails nothing. What `rt` takes from an earlier run leaves no archive.
+Beside the archive stands a stamp, a sum of all that the proof read and of the archive itself, so that others see whether it still fits."""
+import functools
+import hashlib
+import importlib.machinery
+import importlib.util
+import os
+import subprocess
+import sys
+import tempfile
+import time
+
+sys.dont_write_bytecode = True
+
+
+def toolchain():
+    """Loads the toolchain's command `rt` as a module."""
+    first_page = subprocess.run(["rt", "doc"], check=True, capture_output=True, text=True).stdout.strip()
+    loader = importlib.machinery.SourceFileLoader("rt", os.path.join(os.path.dirname(first_page), "bin", "rt"))
+    made = importlib.util.module_from_spec(importlib.util.spec_from_loader("rt", loader))
+    loader.exec_module(made)
+    return made
+
+
+def archive_of(crate):
+    return f"{crate.folder}/out/lib{crate.name}.a"
+
+
+def stamp_of(rt, crate):
+    """Returns the sum of the toolchain, of all sources that the proof reads and of the archive."""
+    with open(archive_of(crate), "rb") as it:
+        archive = hashlib.sha256(it.read()).hexdigest()
+    return f"{rt.stamp_of(crate, {})} {archive}\n"
+
+
+def has_archive(rt, crate):
+    """Returns whether `rt_once.py ci` has built the archive of just these sources. (Its proof rests on what HANDLES allows.)"""
+    rt.Crate.allowed = rt.handles_of(os.path.dirname(os.path.dirname(crate.folder)))
+    try:
+        with open(f"{archive_of(crate)}.proved", encoding="utf-8") as it:
+            return it.read() == stamp_of(rt, crate)
+    except OSError:
+        return False
+
+
+def build(rt, crate, words, checked):
+    """Builds the archive of a static library from the record of its check, and puts the stamp beside it."""
+    for flag in ("--logic-built", "--jobs"):
+        at = words.index(flag)
+        words = [*words[:at], *words[at + 2 :]]
+    words = [*words, "--crate-checked", checked, "--toolchain", f"{rt.KIT}/toolchain", "--backend", "llvm"]
+    if crate.call(rt.rtlib.RATTLE, "build", *words, "-o", archive_of(crate)):
+        rt.say(f"note: the archive of {crate.name}, which is proved, could not be built", crate.out)
+        return
+    with open(f"{archive_of(crate)}.proved", "w", encoding="utf-8") as it:
+        it.write(stamp_of(rt, crate))
+
+
+def is_untouched(rt, crate, begun):
+    """Returns whether no file that the proof reads was changed since a time in nanoseconds."""
+    return all(changed < begun for it in [crate, *crate.below()] for *_, changed in rt.touched(it))
+
+
+def prove_static(rt, crate, flags, begun):
+    """Proves a static library as `rt ci` does, and builds its archive."""
+    words = crate.words(flags, keeps=False)
+    with tempfile.TemporaryDirectory(prefix=f"rt-proved-{os.getpid()}-") as room:
+        status = crate.prove(["check", *words, "-o", f"{room}/checked"])
+        if not status and is_untouched(rt, crate, begun):
+            build(rt, crate, words, f"{room}/checked")
+    return status
+
+
+def main(words):
+    rt, begun = toolchain(), time.time_ns()
+    ci = rt.Crate.ci
+
+    @functools.wraps(ci)
+    def ci_with_archive(crate, flags, tests):
+        return prove_static(rt, crate, flags, begun) if crate.is_static and not tests else ci(crate, flags, tests)
+
+    rt.Crate.ci = ci_with_archive
+    return rt.main(words)
+
+
+if __name__ == "__main__":
+    sys.exit(main(sys.argv[1:]))

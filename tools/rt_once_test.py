@@ -1,0 +1,71 @@
+#!/usr/bin/env python3
+"""Tests rt_once.py on a repository of one static library with one function, in a temporary folder: four runs, two of which prove it."""
+import os
+import subprocess
+import sys
+import tempfile
+import unittest
+
+import rt_once
+
+SOURCE = """//! A static library for a test.
+#![tactic(auto)]
+
+ghost use Rattle.std.specs.Prelude.{◌≡◌};
+
+#[unsafe(no_mangle)]
+pub extern "C" fn trial_same(number: usize) -> usize
+    ensures { result ≡ number }
+{
+    BODY
+}
+"""
+
+
+class RunsOnce(unittest.TestCase):
+    def setUp(self):
+        room = tempfile.TemporaryDirectory(prefix="rt-once-")
+        self.addCleanup(room.cleanup)
+        self.root = room.name
+        self.write("HANDLES", "Handles allowed: none.\n")
+        self.write("crates.txt", "trial_once staticlib:\n")
+
+    def write(self, path, text):
+        os.makedirs(os.path.dirname(f"{self.root}/{path}"), exist_ok=True)
+        with open(f"{self.root}/{path}", "w", encoding="utf-8") as it:
+            it.write(text)
+
+    def ci(self, *words):
+        """Runs `rt_once.py ci`, and returns its status, its output and whether it left an archive that fits."""
+        how = {"cwd": self.root, "stdin": subprocess.DEVNULL, "stdout": subprocess.PIPE, "stderr": subprocess.STDOUT, "text": True}
+        ran = subprocess.run([sys.executable, os.path.abspath(rt_once.__file__), "ci", *words], **how)
+        return ran.returncode, ran.stdout, self.has_archive()
+
+    def has_archive(self):
+        rt = rt_once.toolchain()
+        return rt_once.has_archive(rt, rt.rtlib.crates_below(self.root)[0])
+
+    def assert_passes(self, leaves_archive, *words):
+        status, said, has_archive = self.ci(*words)
+        self.assertEqual((status, has_archive), (0, leaves_archive), said)
+        self.assertTrue(said.endswith("\n1 passed, 0 failed\n"), said)
+
+    def test_a_wrong_body_fails(self):
+        self.write("crates/trial_once/src/lib.rt", SOURCE.replace("BODY", "number / 2"))
+        status, said, has_archive = self.ci("--anew")
+        self.assertEqual((status, has_archive), (1, False))
+        self.assertIn("\nfn trial_once::trial_same: no proof: ", said)
+        self.assertTrue(said.endswith("\n0 passed, 1 failed\n"), said)
+
+    def test_a_right_body_leaves_an_archive(self):
+        self.write("crates/trial_once/src/lib.rt", SOURCE.replace("BODY", "number"))
+        self.assert_passes(True, "--anew")
+        self.write("crates/trial_once/src/lib.rt", SOURCE.replace("BODY", "{ number }"))
+        self.assertFalse(self.has_archive(), "the archive of other sources")
+        # (`rt ci` removes what earlier runs built, and takes the verdict from what it kept)
+        self.write("crates/trial_once/src/lib.rt", SOURCE.replace("BODY", "number"))
+        self.assert_passes(False)
+
+
+if __name__ == "__main__":
+    unittest.main()
