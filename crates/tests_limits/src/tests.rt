@@ -19,9 +19,5 @@ mod many_segments;
 mod many_symbols;
 mod walks;
 
-// Shapes.
-mod shape_counts;
-mod shapes;
-
 // Assertions.
 mod same;

@@ -1,5 +1,0 @@
-pub mod Failures
-pub mod Growth
-pub mod Imports
-pub mod Limit
-pub mod Median
