@@ -168,15 +168,11 @@ def function_of(edit, body, names):
 
 def trial_of(edit, names):
     """Returns the trial of an edit, or None if the edit isn't within one body whose function is known."""
-    if not edit.stands_alone() or len({it.path for it in edit.pieces}) != 1:
-        return None
-    lines = lines_of(f"{edit.crate.folder}/{edit.pieces[0].path}")
-    row = "\n".join(lines).count("\n", 0, edit.pieces[0].at)
-    body = next((it for it in Body.all_in(lines) if it.opens < row < it.end), None)
-    if not body or body.name != edit.pieces[0].function or body.is_of_cycle:
+    body = edit.pieces[0].body
+    if not edit.stands_alone() or len({it.path for it in edit.pieces}) != 1 or body.is_of_cycle:
         return None
     function = function_of(edit, body, names)
-    trial = function and Trial(edit, function, body, lines)
+    trial = function and Trial(edit, function, body, lines_of(f"{edit.crate.folder}/{edit.pieces[0].path}"))
     return trial if trial and trial.apply() else None
 
 
