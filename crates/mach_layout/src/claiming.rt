@@ -115,11 +115,18 @@ fn dyld_info_claims(place: usize, c: &DyldInfoCommand) -> [Claim; 5]
     ]
 }
 
-// What a command claims alone: the part, and the start and the size in the fields.
-fn linkedit_claim(part: Part, place: usize, c: &LinkeditDataCommand) -> [Claim; 1]
-    ensures { result ≡ defined.linkedit_claims part place (linkedit_data_command_values c.now) }
+// Finds claim number `field` of a command that claims one part.
+fn only(claim: Claim, field: usize) -> Option<Claim>
+    ensures { result ≡ slice_get (claim ∷ []) field }
 {
-    [range(part, place, c.dataoff, c.datasize)]
+    [claim].get(field).copied()
+}
+
+// Finds claim number `field` of a command that claims one part, whose start and size are its fields.
+fn linkedit_claim(part: Part, place: usize, c: &LinkeditDataCommand, field: usize) -> Option<Claim>
+    ensures { result ≡ slice_get (defined.linkedit_claims part place (linkedit_data_command_values c.now)) field }
+{
+    only(range(part, place, c.dataoff, c.datasize), field)
 }
 
 // Claim number `field` of the tables of a command.
@@ -133,70 +140,50 @@ fn table_claim(width: Container, command: &LoadCommand, field: usize) -> Option<
         CommandVariant::DyldInfo(c) | CommandVariant::DyldInfoOnly(c) => {
             dyld_info_claims(place, c).get(field).copied()
         }
-        CommandVariant::CodeSignature(c) => {
-            linkedit_claim(Part::Signature, place, c)
-                .get(field)
-                .copied()
-        }
-        CommandVariant::SegmentSplitInfo(c) => {
-            linkedit_claim(Part::SplitInfo, place, c)
-                .get(field)
-                .copied()
-        }
-        CommandVariant::FunctionStarts(c) => {
-            linkedit_claim(Part::FunctionStarts, place, c)
-                .get(field)
-                .copied()
-        }
-        CommandVariant::DataInCode(c) => {
-            linkedit_claim(Part::DataInCode, place, c)
-                .get(field)
-                .copied()
-        }
-        CommandVariant::DylibCodeSignDrs(c) => {
-            linkedit_claim(Part::SignatureRequirements, place, c)
-                .get(field)
-                .copied()
-        }
-        CommandVariant::LinkerOptimizationHint(c) => {
-            linkedit_claim(Part::LinkerHints, place, c)
-                .get(field)
-                .copied()
-        }
-        CommandVariant::DyldExportsTrie(c) => {
-            linkedit_claim(Part::ExportTrie, place, c)
-                .get(field)
-                .copied()
-        }
-        CommandVariant::DyldChainedFixups(c) => {
-            linkedit_claim(Part::ChainedFixups, place, c)
-                .get(field)
-                .copied()
-        }
+        CommandVariant::CodeSignature(c) => linkedit_claim(Part::Signature, place, c, field),
+        CommandVariant::SegmentSplitInfo(c) => linkedit_claim(Part::SplitInfo, place, c, field),
+        CommandVariant::FunctionStarts(c) => linkedit_claim(Part::FunctionStarts, place, c, field),
+        CommandVariant::DataInCode(c) => linkedit_claim(Part::DataInCode, place, c, field),
+        CommandVariant::DylibCodeSignDrs(c) => linkedit_claim(
+            Part::SignatureRequirements,
+            place,
+            c,
+            field,
+        ),
+        CommandVariant::LinkerOptimizationHint(c) => linkedit_claim(
+            Part::LinkerHints,
+            place,
+            c,
+            field,
+        ),
+        CommandVariant::DyldExportsTrie(c) => linkedit_claim(Part::ExportTrie, place, c, field),
+        CommandVariant::DyldChainedFixups(c) => linkedit_claim(
+            Part::ChainedFixups,
+            place,
+            c,
+            field,
+        ),
         CommandVariant::EncryptionInfo32(c) => {
-            [range(Part::Encrypted, place, c.cryptoff, c.cryptsize)]
-                .get(field)
-                .copied()
+            only(
+                range(Part::Encrypted, place, c.cryptoff, c.cryptsize),
+                field,
+            )
         }
         CommandVariant::EncryptionInfo64(c) => {
-            [range(Part::Encrypted, place, c.cryptoff, c.cryptsize)]
-                .get(field)
-                .copied()
+            only(
+                range(Part::Encrypted, place, c.cryptoff, c.cryptsize),
+                field,
+            )
         }
-        CommandVariant::Note(c) => {
-            [claim(Part::Note, place, c.offset, c.size)]
-                .get(field)
-                .copied()
-        }
+        CommandVariant::Note(c) => { only(claim(Part::Note, place, c.offset, c.size), field) }
         CommandVariant::TwolevelHints(c) => {
-            [table(Part::TwolevelHints, place, c.offset, c.nhints, 4)]
-                .get(field)
-                .copied()
+            only(
+                table(Part::TwolevelHints, place, c.offset, c.nhints, 4),
+                field,
+            )
         }
         CommandVariant::Symseg(c) => {
-            [range(Part::GdbSymbols, place, c.offset, c.size)]
-                .get(field)
-                .copied()
+            only(range(Part::GdbSymbols, place, c.offset, c.size), field)
         }
         _ => None,
     }
