@@ -1,7 +1,6 @@
 """Tests of what others make of the package: that `mypy --strict` has nothing to say, where it is installed, and that the tools of Python make a wheel
 with the library within, without a network, where build, setuptools and wheel are (Debian: python3-build, python3-setuptools, python3-wheel)."""
 
-import importlib.util
 import os
 import shutil
 import subprocess
@@ -19,14 +18,19 @@ LINES, WIDTH = 500, 160
 SECONDS = 600
 
 
-def has(*names):
-    """Whether there are modules of these names. A folder is none, as build/ of the repository."""
-    return all(spec is not None and spec.origin is not None for spec in map(importlib.util.find_spec, names))
-
-
 def run(*words, **more):
     ran = subprocess.run(words, stdout=subprocess.PIPE, stderr=subprocess.STDOUT, timeout=SECONDS, check=False, **more)
     return ran.returncode, ran.stdout.decode()
+
+
+def python_with(*names):
+    """Returns a Python that has modules of these names, this one or the system's, or None. (In a folder of its own, as build/ is no module.)"""
+    with tempfile.TemporaryDirectory() as room:
+        has = lambda python: shutil.which(python) is not None and run(python, "-c", f"import {', '.join(names)}", cwd=room)[0] == 0
+        return next(filter(has, (sys.executable, "/usr/bin/python3")), None)
+
+
+PYTHON = python_with("build", "setuptools", "wheel")
 
 
 class Types(unittest.TestCase):
@@ -48,7 +52,7 @@ class Text(unittest.TestCase):
                     self.assertLessEqual(max(map(len, lines), default=0), WIDTH, name)
 
 
-@unittest.skipUnless(has("build", "setuptools", "wheel"), "build, setuptools and wheel are not all there")
+@unittest.skipUnless(PYTHON, "build, setuptools and wheel are not all there")
 class Wheel(unittest.TestCase):
     def setUp(self):
         room = tempfile.TemporaryDirectory()
@@ -60,7 +64,7 @@ class Wheel(unittest.TestCase):
 
     def made(self):
         """The names of the files of a wheel that is made, and its own."""
-        status, said = run(sys.executable, "-m", "build", "--no-isolation", "--wheel", "--outdir", self.room, self.source, cwd=self.room)
+        status, said = run(PYTHON, "-m", "build", "--no-isolation", "--wheel", "--outdir", self.room, self.source, cwd=self.room)
         self.assertEqual(status, 0, said)
         (name,) = (name for name in os.listdir(self.room) if name.endswith(".whl"))
         with zipfile.ZipFile(os.path.join(self.room, name)) as wheel:
