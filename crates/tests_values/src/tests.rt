@@ -1,7 +1,18 @@
-//! What public fields hold at their largest, what Debug shows, and the value of each constant.
+//! What public fields hold at their largest, what Debug shows, the value of each constant, and the worked rows of docs/FORMAT.md on `Input` and on
+//! tables of 64 bits.
 
+// Numbers set by hand, Debug and constants.
 mod answers;
 mod by_hand;
 mod constants;
 mod debug;
+
+// Whatever has images in it, and tables of 64 bits.
+mod fat_tables;
+mod input_files;
+mod input_items;
+mod input_text;
+mod made_files;
+
+// Assertions.
 mod same;
