@@ -44,8 +44,8 @@ members_begun None = []
 members_begun (Some it) = members_left it
 
 -- those of an archive that was begun
-abbrev pub begun_items : Images → List ItemView
-begun_items it = member_items it.place (members_begun it.members)
+abbrev pub items_of_begun : Images → List ItemView
+items_of_begun it = member_items it.place (members_begun it.members)
 
 abbrev pub input_items_left : Images → List ItemView
-input_items_left it = begun_items it ++ entries_items it.entries
+input_items_left it = items_of_begun it ++ entries_items it.entries

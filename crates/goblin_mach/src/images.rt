@@ -6,7 +6,7 @@ ghost use Rattle.goblin_mach.specs.FatFile.{file_held};
 ghost use Rattle.goblin_mach.specs.Inputs.{IsInput};
 ghost use Rattle.mach_base.specs.Fault.{fault_of};
 ghost use Rattle.goblin_mach.specs.Items.{items_in, item_at, member_content, items_of_archive, items_of_whole};
-ghost use Rattle.goblin_mach.specs.ItemsLeft.{input_item_read, input_items_left, begun_items, items_of_table, entries_items, whole_items};
+ghost use Rattle.goblin_mach.specs.ItemsLeft.{input_item_read, input_items_left, items_of_begun, items_of_table, entries_items, whole_items};
 
 use crate::fat_file::table::FatTable;
 use crate::input::{Input, begins_archive};
@@ -77,7 +77,7 @@ impl<'a> Images<'a> {
 
     // The next member of the archive whose members are given.
     fn next_member(&mut self) -> Option<InputItem<'a>>
-        ensures given { MatchOption result (begun_items self.old ≡ []) (λ item. begun_items self.old ≡ input_item_read item ∷ begun_items self.new) }
+        ensures given { MatchOption result (items_of_begun self.old ≡ []) (λ item. items_of_begun self.old ≡ input_item_read item ∷ items_of_begun self.new) }
         ensures kept { self.new.entries ≡ self.old.entries }
     {
         match &mut self.members {
@@ -89,7 +89,7 @@ impl<'a> Images<'a> {
     // The first item of what stands at a place; the members behind it are left.
     fn begin(&mut self, place: Place, whole: Whole<'a>) -> InputItem<'a>
         requires { self.old.members ≡ None }
-        ensures given { whole_items place whole.entry ≡ input_item_read result ∷ begun_items self.new }
+        ensures given { whole_items place whole.entry ≡ input_item_read result ∷ items_of_begun self.new }
         ensures kept { self.new.entries ≡ self.old.entries }
     {
         match whole {
@@ -102,7 +102,7 @@ impl<'a> Images<'a> {
     // The first item of bytes that are no fat file.
     fn begin_bytes(&mut self, place: Place, bytes: &'a [u8]) -> InputItem<'a>
         requires { self.old.members ≡ None }
-        ensures given { items_of_whole place bytes.now ≡ input_item_read result ∷ begun_items self.new }
+        ensures given { items_of_whole place bytes.now ≡ input_item_read result ∷ items_of_begun self.new }
         ensures kept { self.new.entries ≡ self.old.entries }
     {
         if !begins_archive(bytes) {
@@ -119,7 +119,7 @@ impl<'a> Images<'a> {
 
     // The first item of an archive.
     fn begin_archive(&mut self, place: Place, archive: Archive<'a>) -> InputItem<'a>
-        ensures given { items_of_archive place (Ok (archive_of archive.entry)) ≡ input_item_read result ∷ begun_items self.new }
+        ensures given { items_of_archive place (Ok (archive_of archive.entry)) ≡ input_item_read result ∷ items_of_begun self.new }
         ensures kept { self.new.entries ≡ self.old.entries }
     {
         let mut members = archive.members();

@@ -1,5 +1,5 @@
 -- What is wrong with some bytes: the kind of an error with its numbers, its wording left out.
-use Rattle.std.specs.Prelude.{ℕ, List, [], ◌∷◌, Option, Some, None, Result, Err}
+use Rattle.std.specs.Prelude.{ℕ, List, [], ◌∷◌, Bool, true, false, Option, Some, None, Result, Err}
 use Rattle.mach_base.specs.declared.error.ScrollError.{ScrollError}
 use Rattle.mach_base.specs.declared.error.ScrollError.TheVariants as scroll
 use Rattle.mach_base.specs.declared.error.Error.{Error}
@@ -13,6 +13,16 @@ pub data Fault : Type 0 where
   bad_input : (size : ℕ) → Fault
   too_short : (count : ℕ) (what : List ℕ) → Fault
   no_memory : Fault
+
+-- something was to be read at the end of the bytes or past it
+abbrev pub is_bad_offset : Fault → Bool
+is_bad_offset malformed = false
+is_bad_offset (bad_magic magic) = false
+is_bad_offset (bad_offset place) = true
+is_bad_offset (too_big size len) = false
+is_bad_offset (bad_input size) = false
+is_bad_offset (too_short count what) = false
+is_bad_offset no_memory = false
 
 abbrev pub fault_of_scroll : ScrollError → Fault
 fault_of_scroll (scroll.BadOffset place) = bad_offset place

@@ -1,8 +1,8 @@
 -- Lists whose items go by their number, as the sections of a segment do, and items that may be refused.
-use Rattle.std.specs.Prelude.{ℕ, zero, suc, ◌+◌, List, [], ◌∷◌, Result, Ok, Err}
+use Rattle.std.specs.Prelude.{ℕ, zero, suc, ◌+◌, ◌-◌, ◌/◌, List, [], ◌∷◌, Bool, true, false, Result, Ok, Err, if◌then◌else◌}
 use Rattle.mach_base.specs.declared.error.Error.{Error}
 use Rattle.mach_base.specs.Answer.{◌>>=◌}
-use Rattle.mach_base.specs.Fault.{Fault, fault_of}
+use Rattle.mach_base.specs.Fault.{Fault, fault_of, is_bad_offset}
 
 -- `count` items, from that of number `first` on
 abbrev pub items_from : {A : Type 0} → (ℕ → A) → ℕ → ℕ → List A
@@ -18,3 +18,17 @@ read_as view (Err e) = Err (fault_of e)
 abbrev pub all_read : {A : Type 0} → List (Result A Fault) → Result (List A) Fault
 all_read [] = Ok []
 all_read (item ∷ items) = item >>= (λ x. all_read items >>= (λ xs. Ok (x ∷ xs)))
+
+-- how many records of a size, one after the other from a place on, begin within so many bytes: no byte of the others is there
+abbrev pub records_begun : (len start size : ℕ) → ℕ
+records_begun len start size = (len - start + (size - 1)) / size
+
+-- an item isn't there, since its place is at the end of the bytes or past it
+abbrev pub is_past_the_end : {A : Type 0} → Result A Fault → Bool
+is_past_the_end (Ok x) = false
+is_past_the_end (Err f) = is_bad_offset f
+
+-- the items in front of the first whose record begins past the end of the bytes
+abbrev pub begun_items : {A : Type 0} → List (Result A Fault) → List (Result A Fault)
+begun_items [] = []
+begun_items (item ∷ items) = if is_past_the_end item then [] else item ∷ begun_items items

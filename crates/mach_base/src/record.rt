@@ -1,9 +1,10 @@
 //! Records: fields one after the other, in one byte order.
 
-ghost use Rattle.std.specs.Prelude.{◌≡◌, ◌≤◌, ◌+◌, ℕ, List, length, drop, take, ◌++◌, ◌∷◌, [], IfOk, IfErr, OnOk, IsOk, ◌↔◌, Ok, Err};
+ghost use Rattle.std.specs.Prelude.{◌≡◌, ◌<◌, ◌≤◌, ◌+◌, ℕ, List, length, drop, take, ◌++◌, ◌∷◌, [], IfOk, IfErr, OnOk, IsOk, ◌↔◌, Ok, Err};
 ghost use Rattle.mach_base.specs.Number.{number_bytes};
 ghost use Rattle.mach_base.specs.Answer.{Reads};
 ghost use Rattle.mach_base.specs.Fault.{fault_of};
+ghost use Rattle.mach_base.specs.Items.{records_begun};
 ghost use Rattle.mach_base.specs.Record.{Field, Value, values_in, spelling, spelled_after, IsRecord, AllFit, record_at, IsWritten};
 
 use crate::context::Endian;
@@ -110,6 +111,15 @@ impl RecordBytes {
     {
         &self.buffer[..self.len]
     }
+}
+
+/// How many records of `size` bytes, one after the other from `start` on, begin within the bytes. No byte of the others is there.
+#[inline(always)]
+pub fn records_begun(bytes: &[u8], start: usize, size: usize) -> usize
+    requires { 0 < size }
+    ensures { result ≡ records_begun (length bytes.now) start size }
+{
+    bytes.len().saturating_sub(start).div_ceil(size)
 }
 
 /// Fields one after the other, all in one byte order.

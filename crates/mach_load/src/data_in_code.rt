@@ -1,11 +1,12 @@
 //! Data among code.
 
 ghost use Rattle.std.specs.Prelude.{◌≡◌, []};
+ghost use Rattle.mach_base.specs.Items.{begun_items};
 ghost use Rattle.mach_base.specs.Answer.{Reads};
 ghost use Rattle.mach_load.specs.DataInCode.{data_in_code_at, data_in_code_in};
 ghost use Rattle.mach_load.specs.TablesLeft.{data_in_code_read, data_in_code_left};
 
-use mach_base::{ByteCount, Endian, LE, Record, Result};
+use mach_base::{ByteCount, Endian, LE, Record, Result, records_begun};
 use mach_records::{DataInCodeEntry, LinkeditDataCommand};
 use std::fmt;
 
@@ -39,6 +40,17 @@ impl<'a> DataInCodeIterator<'a> {
             start: command.dataoff,
             index: 0,
             count: command.datasize / 8,
+        }
+    }
+
+    /// Those of them that begin within the bytes. Of no entry after these a byte can be read.
+    pub fn begun(&self) -> Self
+        ensures { data_in_code_left result ≡ begun_items (data_in_code_left self.now) }
+    {
+        let begun = records_begun(self.bytes, self.start as usize, DataInCodeEntry::SIZE);
+        DataInCodeIterator {
+            count: (self.count as usize).min(begun) as u32,
+            ..*self
         }
     }
 }

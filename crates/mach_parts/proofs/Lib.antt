@@ -1,6 +1,7 @@
 pub mod Headers
 pub mod SegmentViews
 pub mod NumberedSections
+mod PastTheEnd
 mod ShortTexts
 pub mod SlotLists
 pub mod ReadyLists

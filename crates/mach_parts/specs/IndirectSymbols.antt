@@ -1,10 +1,10 @@
 -- Indirect symbols: numbers that say of pointers and stubs which symbol they stand for (`mach-o/loader.h`, struct dysymtab_command,
 -- INDIRECT_SYMBOL_LOCAL and INDIRECT_SYMBOL_ABS).
-use Rattle.std.specs.Prelude.{◌==◌, ℕ, ◌+◌, ◌*◌, List, Result, Ok, if◌then◌else◌}
+use Rattle.std.specs.Prelude.{◌==◌, ℕ, ◌+◌, ◌*◌, List, length, min, Result, Ok, if◌then◌else◌}
 use Rattle.mach_base.specs.declared.context.Endian.{Endian}
 use Rattle.mach_base.specs.Answer.{◌>>=◌}
 use Rattle.mach_base.specs.Fault.{Fault}
-use Rattle.mach_base.specs.Items.{items_from}
+use Rattle.mach_base.specs.Items.{items_from, records_begun}
 use Rattle.mach_base.specs.Number.{number_at}
 use Rattle.mach_parts.specs.declared.indirect.IndirectSymbol.{IndirectSymbol}
 use Rattle.mach_parts.specs.declared.indirect.IndirectSymbol.TheVariants.{Symbol, Local, Absolute, LocalAbsolute}
@@ -31,3 +31,8 @@ indirect_symbol_at t k = number_at t.le 4 t.bytes (t.start + 4 * k) >>= (λ n. O
 -- all entries of a table
 abbrev pub indirect_symbols_of : IndirectTable → List (Result IndirectSymbol Fault)
 indirect_symbols_of t = items_from (indirect_symbol_at t) 0 t.count
+
+-- The table of those that begin within the bytes: of no entry behind it a byte can be read.
+abbrev pub begun_table : IndirectTable → IndirectTable
+begun_table t =
+    record { bytes = t.bytes; start = t.start; count = min t.count (records_begun (length t.bytes) t.start 4); le = t.le }

@@ -13,7 +13,7 @@ use Rattle.mach_base.specs.Number.{bounded, place_after}
 use Rattle.mach_base.specs.Record.{Field, num, Value, number_is, number_among, values_in, spelling}
 use Rattle.mach_base.specs.Text.{text_at}
 use Rattle.mach_records.specs.declared.symbol_tables.SymtabCommand.{SymtabCommand}
-use Rattle.mach_base.specs.Items.{items_from}
+use Rattle.mach_base.specs.Items.{items_from, records_begun}
 use Rattle.mach_parts.specs.declared.symbols.nlist.Nlist32.{Nlist32}
 use Rattle.mach_parts.specs.declared.symbols.nlist.Nlist64.{Nlist64}
 use Rattle.mach_parts.specs.declared.symbols.nlist.Nlist.{Nlist}
@@ -177,7 +177,7 @@ begun_of t =
     record {
       bytes = t.bytes;
       start = t.start;
-      nsyms = min t.nsyms ((length t.bytes - t.start + (size - 1)) / size);
+      nsyms = min t.nsyms (records_begun (length t.bytes) t.start size);
       strtab = t.strtab;
       ctx = t.ctx;
     }

@@ -1,13 +1,14 @@
 //! Indirect symbols (`mach-o/loader.h`, struct dysymtab_command).
 
 ghost use Rattle.std.specs.Prelude.{◌≡◌, ◌+◌, ◌*◌, ◌<◌, ◌≤◌, ◌^◌, [], Err, IfSome, drop, length};
+ghost use Rattle.mach_base.specs.Items.{begun_items};
 ghost use Rattle.mach_base.specs.Answer.{Reads};
 ghost use Rattle.mach_base.specs.Fault.{fault_of};
 ghost use Rattle.mach_base.specs.Number.{number, number_at};
-ghost use Rattle.mach_parts.specs.IndirectSymbols.{indirect_symbol, indirect_symbol_at, indirect_symbols_of};
+ghost use Rattle.mach_parts.specs.IndirectSymbols.{begun_table, indirect_symbol, indirect_symbol_at, indirect_symbols_of};
 ghost use Rattle.mach_parts.specs.SlotViews.{indirect_table_of, indirect_read, indirect_left};
 
-use mach_base::{ByteCount, Endian, Error, Result, read_u32, rest_at};
+use mach_base::{ByteCount, Endian, Error, Result, read_u32, records_begun, rest_at};
 use std::fmt;
 
 const INDIRECT_SYMBOL_LOCAL: u32 = 0x8000_0000;
@@ -86,6 +87,17 @@ impl<'a> IndirectSymbols<'a> {
         self.count
     }
 
+    /// The table of those of its entries that begin within the bytes. Of no entry after these a byte can be read.
+    pub fn begun(&self) -> IndirectSymbols<'a>
+        ensures { indirect_table_of result ≡ begun_table (indirect_table_of self.now) }
+    {
+        let begun = records_begun(self.bytes, self.start as usize, 4);
+        IndirectSymbols {
+            count: (self.count as usize).min(begun) as u32,
+            ..*self
+        }
+    }
+
     /// What an entry says; how many there are said to be is not tested.
     #[inline(always)]
     pub fn get(&self, number: u32) -> Result<IndirectSymbol>
@@ -148,6 +160,18 @@ impl fmt::Debug for IndirectSymbols<'_> {
 pub struct IndirectSymbolIterator<'a> {
     table: IndirectSymbols<'a>,
     next_item: u32,
+}
+
+impl IndirectSymbolIterator<'_> {
+    /// Those of them that begin within the bytes. Of no entry after these a byte can be read.
+    pub fn begun(&self) -> Self
+        ensures { indirect_left result ≡ begun_items (indirect_left self.now) }
+    {
+        IndirectSymbolIterator {
+            table: self.table.begun(),
+            next_item: self.next_item,
+        }
+    }
 }
 
 impl Default for IndirectSymbolIterator<'_> {

@@ -8,4 +8,4 @@ pub use crate::laws::slots::{
 };
 pub use crate::relocation::laws::{bits_together, relocations_by_number};
 pub use crate::segment::laws::{section_written_and_read, sections_by_number};
-pub use crate::symbols::laws::{symbols_by_number, symbols_counted};
+pub use crate::symbols::laws::{symbols_by_number, symbols_counted, symbols_past_the_end};

@@ -28,6 +28,7 @@ pub use crate::symbols::names::{
 pub use crate::symbols::nlist::{Nlist, Nlist32, Nlist64, SIZEOF_NLIST_32, SIZEOF_NLIST_64};
 use mach_base::{
     ByteCount, Ctx, Error, Result, ScrollError, SizeWith, TryFromCtx, quick_text, read_text,
+    records_begun,
 };
 use mach_records::SymtabCommand;
 use std::fmt;
@@ -215,8 +216,7 @@ impl<'a> Symbols<'a> {
         ensures { table_of result ≡ begun_of (table_of self.now) }
     {
         let size = Nlist::size_with(&self.table.ctx);
-        let room = self.table.bytes.len().saturating_sub(self.table.start);
-        let begun = room.div_ceil(size);
+        let begun = records_begun(self.table.bytes, self.table.start, size);
         Symbols {
             table: Table {
                 nsyms: self.table.nsyms.min(begun),

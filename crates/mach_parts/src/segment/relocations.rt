@@ -5,7 +5,7 @@ ghost use Rattle.mach_base.specs.Answer.{Reads};
 ghost use Rattle.mach_parts.specs.Relocation.{relocation_at};
 
 use crate::relocation::{RelocationInfo, SIZEOF_RELOCATION_INFO};
-use mach_base::{Endian, Record, Result};
+use mach_base::{Endian, Record, Result, records_begun};
 
 /// The relocations of a section: exactly as many items as the section says, each the relocation at its own
 /// place or the error of the read there.
@@ -19,6 +19,7 @@ pub struct RelocationIterator<'a> {
 }
 
 impl<'a> RelocationIterator<'a> {
+    ghost use Rattle.mach_base.specs.Items.{begun_items};
     ghost use Rattle.mach_parts.specs.Relocation.{relocations_at};
     ghost use Rattle.mach_parts.specs.RelocationItems.{relocations_left};
 
@@ -32,6 +33,17 @@ impl<'a> RelocationIterator<'a> {
             next_item: 0,
             count,
             le,
+        }
+    }
+
+    /// Those of them whose record begins within the bytes. Of no relocation after these a byte can be read.
+    pub fn begun(&self) -> Self
+        ensures { relocations_left result ≡ begun_items (relocations_left self.now) }
+    {
+        let begun = records_begun(self.bytes, self.reloff as usize, SIZEOF_RELOCATION_INFO);
+        RelocationIterator {
+            count: (self.count as usize).min(begun) as u32,
+            ..*self
         }
     }
 }

@@ -6,7 +6,7 @@ ghost use Rattle.mach_parts.specs.Section.{section_place, section_with_data};
 
 use crate::segment::conversions::command_len;
 use crate::segment::section::{Section, SectionData};
-use mach_base::{Ctx, Result, SizeWith};
+use mach_base::{Ctx, Result, SizeWith, records_begun};
 
 /// The sections of a segment with their data: exactly as many items as the segment says, of which
 /// each is the section at its own place or the error of the read there.
@@ -37,6 +37,7 @@ fn read_at<'a>(bytes: &'a [u8], place: usize, ctx: Ctx) -> Result<(Section, Sect
 }
 
 impl<'a> SectionIterator<'a> {
+    ghost use Rattle.mach_base.specs.Items.{begun_items};
     ghost use Rattle.mach_parts.specs.Section.{sections_at};
     ghost use Rattle.mach_parts.specs.SectionItems.{sections_left};
 
@@ -50,6 +51,18 @@ impl<'a> SectionIterator<'a> {
             next_item: 0,
             count,
             ctx,
+        }
+    }
+
+    /// Those of them whose record begins within the bytes. Of no section after these a byte can be read.
+    pub fn begun(&self) -> Self
+        ensures { sections_left result ≡ begun_items (sections_left self.now) }
+    {
+        let first = place_of(self.ctx, self.offset, 0);
+        let begun = records_begun(self.bytes, first, Section::size_with(&self.ctx));
+        SectionIterator {
+            count: (self.count as usize).min(begun) as u32,
+            ..*self
         }
     }
 }

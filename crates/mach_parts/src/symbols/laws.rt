@@ -1,7 +1,8 @@
 //! Laws of symbols.
 
-ghost use Rattle.std.specs.Prelude.{◌≡◌, ◌<◌, ℕ, Some, length, slice_get};
-ghost use Rattle.mach_parts.specs.Symbols.{SymbolTable, symbols_of, symbol_at};
+ghost use Rattle.std.specs.Prelude.{◌≡◌, ◌<◌, ◌≤◌, ◌^◌, ℕ, Some, false, length, slice_get};
+ghost use Rattle.std.specs.Result.{is_ok};
+ghost use Rattle.mach_parts.specs.Symbols.{SymbolTable, begun_of, symbols_of, symbol_at};
 ghost use Rattle.mach_parts.specs.SymbolViews.{table_of};
 
 use crate::symbols::Symbols;
@@ -19,3 +20,8 @@ pub fn symbols_counted(symbols: &Symbols<'_>) -> usize
 {
     symbols.iter().count()
 }
+
+/// Of a symbol whose record begins past the end of the bytes no byte can be read.
+pub fn symbols_past_the_end()
+    ensures { (t : SymbolTable) (k : ℕ) → length t.bytes < 2 ^ 64 → (begun_of t).nsyms ≤ k → k < t.nsyms → is_ok (symbol_at t k) ≡ false }
+{}
