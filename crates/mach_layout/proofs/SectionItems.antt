@@ -7,7 +7,7 @@ use Rattle.mach_base.specs.declared.context.Ctx.{Ctx}
 use Rattle.mach_base.specs.declared.error.Error.{Error}
 use Rattle.mach_base.specs.Items.{items_from}
 use Rattle.mach_base.proofs.ItemLists.{items_from-first}
-use Rattle.mach_layout.specs.Laid.{placed_section_at, sections_from}
+use Rattle.mach_layout.specs.Laid.{placed_section_at, sections_from, own_sections}
 use Rattle.mach_parts.specs.SectionRecord.{in_front}
 use Rattle.mach_layout.specs.PartsLeft.{TakesSection}
 use Rattle.mach_layout.specs.declared.placed_sections.PlacedSection.{PlacedSection}
@@ -18,19 +18,20 @@ module _ (ctx : Ctx) (bytes : List ℕ) (s : PlacedSegment) (k : ℕ) where
   behind = sections_from ctx bytes s (k + 1)
 
   -- those from number k on are it and those behind it
-  from_here : k < s.command.nsects → sections_from ctx bytes s k
-      ≡ in_front (placed_section_at ctx bytes s k ∷ items_from (placed_section_at ctx bytes s) (k + 1) (s.command.nsects - (k + 1)))
+  from_here : k < own_sections ctx.container s → sections_from ctx bytes s k
+      ≡ in_front (placed_section_at ctx bytes s k ∷ items_from (placed_section_at ctx bytes s) (k + 1) (own_sections ctx.container s - (k + 1)))
   from_here inside =
-      ap (λ (items : List (Result PlacedSection Fault)). in_front items) (items_from-first (placed_section_at ctx bytes s) k s.command.nsects inside)
+      ap (λ (items : List (Result PlacedSection Fault)). in_front items)
+      (items_from-first (placed_section_at ctx bytes s) k (own_sections ctx.container s) inside)
 
   -- the answer of a read of the section says whether it is there
-  pub taken_or_over : (answer : Result PlacedSection Error) → k < s.command.nsects → Reads (λ x. x) answer (placed_section_at ctx bytes s k)
+  pub taken_or_over : (answer : Result PlacedSection Error) → k < own_sections ctx.container s → Reads (λ x. x) answer (placed_section_at ctx bytes s k)
       → TakesSection ctx bytes (Some s) k (result_ok answer)
   taken_or_over (Ok found) inside reads = from_here inside ∙ rw reads refl
   taken_or_over (Err e) inside reads = from_here inside ∙ rw reads refl
 
   -- behind the last there is none
-  pub none_behind : s.command.nsects ≤ k → sections_from ctx bytes s k ≡ []
+  pub none_behind : own_sections ctx.container s ≤ k → sections_from ctx bytes s k ≡ []
   none_behind past =
-      let none : s.command.nsects - k ≡ 0 = omega arith in
+      let none : own_sections ctx.container s - k ≡ 0 = omega arith in
       ap (λ (n : ℕ). in_front (items_from (placed_section_at ctx bytes s) k n)) none

@@ -1,17 +1,18 @@
 -- What the rules read of an image (`mach-o/loader.h`): its bytes, its header and its commands, and what follows from them.
-use Rattle.std.specs.Prelude.{◌==◌, ℕ, ◌+◌, ◌-◌, ◌||◌, Bool, List, [], length, map}
+use Rattle.std.specs.Prelude.{◌==◌, ℕ, ◌+◌, ◌-◌, ◌/◌, ◌&&◌, ◌||◌, not, Bool, List, [], length, map}
 use Rattle.std.specs.Prelude.{min, nat_lt, option_map, filter_map, flat_map, Option, Some, None, Result, Ok}
 use Rattle.std.specs.Prelude.{if◌then◌else◌}
 use Rattle.std.specs.List.{last_or}
 use Rattle.mach_base.specs.Answer.{◌>>=◌}
 use Rattle.mach_base.specs.Fault.{Fault}
+use Rattle.mach_base.specs.declared.context.Container.{Container}
 use Rattle.mach_base.specs.declared.context.Ctx.{Ctx}
 use Rattle.mach_load.specs.Command.{Command, cmdsize_of}
 use Rattle.mach_load.specs.Subjects.{segment_command_by}
 use Rattle.mach_load.specs.Variants.{command_of}
 use Rattle.mach_parts.specs.Header.{header_size, header_in}
 use Rattle.mach_base.specs.Items.{items_from}
-use Rattle.mach_parts.specs.Section.{section_place}
+use Rattle.mach_parts.specs.Section.{command_size, section_place, section_size}
 use Rattle.mach_parts.specs.SectionRecord.{in_front, section_record_at}
 use Rattle.mach_parts.specs.Segment.{widened}
 use Rattle.mach_parts.specs.declared.header.Header.{Header}
@@ -105,9 +106,14 @@ placed_section_at ctx bytes s k =
     section_record_at ctx.container ctx.le bytes (section_place ctx.container s.place k)
     >>= (λ found. Ok (record { segment = s; number = k + 1; section = found }))
 
--- the sections of a segment from number k on: its command says how many there are, and those count that lie in the bytes
+-- How many sections of a segment have their record in its own command, of those that it says there are. So no two segments have a record
+-- in common, and an image has no more sections than its bytes have records. (That `cmdsize` isn't as `nsects` asks is a fault: CommandCount.)
+abbrev pub own_sections : Container → PlacedSegment → ℕ
+own_sections container s = min s.command.nsects ((s.command.cmdsize - command_size container) / section_size container)
+
+-- the sections of a segment from number k on: those of its command that lie in the bytes
 abbrev pub sections_from : Ctx → List ℕ → PlacedSegment → ℕ → List PlacedSection
-sections_from ctx bytes s k = in_front (items_from (placed_section_at ctx bytes s) k (s.command.nsects - k))
+sections_from ctx bytes s k = in_front (items_from (placed_section_at ctx bytes s) k (own_sections ctx.container s - k))
 
 -- of a segment, if there is one
 abbrev pub open_sections : Ctx → List ℕ → Option PlacedSegment → ℕ → List PlacedSection
@@ -121,6 +127,17 @@ sections_by ctx bytes c = open_sections ctx bytes (placed_segment_of c) 0
 -- the sections of an image, in order
 abbrev pub placed_sections_of : Laid → List PlacedSection
 placed_sections_of laid = flat_map (sections_by laid.ctx laid.bytes) laid.commands
+
+-- ---- what is mapped
+
+-- Nothing of a segment of vmsize 0 is mapped (`mach-o/loader.h`: vmsize is the memory size of the segment), so addresses of its sections are
+-- none of memory. Go's linker writes its `__DWARF` so (cmd/link, macho.go and macho_combine_dwarf.go); that of a dSYM has a vmsize.
+abbrev pub is_mapped : PlacedSegment → Bool
+is_mapped s = not (s.command.vmsize == 0)
+
+-- the section has addresses: it has a size, and something of its segment is mapped
+abbrev pub has_addresses : PlacedSection → Bool
+has_addresses s = is_mapped s.segment && not (s.section.size == 0)
 
 -- ---- ranges
 

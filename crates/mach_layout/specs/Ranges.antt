@@ -6,7 +6,7 @@ use Rattle.std.specs.Prelude.{if◌then◌else◌}
 use Rattle.std.specs.List.{starts_with}
 use Rattle.mach_base.specs.Number.{place_after}
 use Rattle.mach_layout.specs.Claims.{claims_of, segment_claim}
-use Rattle.mach_layout.specs.Laid.{Laid, is_final, is_judged, used_end, file_size, segments_of, placed_sections_of, ends_past}
+use Rattle.mach_layout.specs.Laid.{Laid, is_final, is_judged, used_end, file_size, has_addresses, segments_of, placed_sections_of, ends_past}
 use Rattle.mach_layout.specs.Rules.{measured, sound, owner_at, told_over}
 use Rattle.mach_layout.specs.declared.claim.Claim.{Claim}
 use Rattle.mach_layout.specs.declared.fault.LayoutFault.{LayoutFault}
@@ -41,7 +41,7 @@ segment_bytes laid s = if not (is_judged laid) || s.command.filesize == 0 then N
 -- the addresses of a section, if it has any
 abbrev pub section_memory : PlacedSection → Option Claim
 section_memory s =
-    if s.section.size == 0 then None
+    if not (has_addresses s) then None
     else Some (record { owner = owner_at part.Section s.segment.place s.number; start = s.section.addr; len = s.section.size })
 
 -- The segments hold the sections and the tables, and an encrypted range names a part of a segment.

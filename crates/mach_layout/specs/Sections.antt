@@ -6,7 +6,7 @@ use Rattle.std.specs.Str.{bytes_eq}
 use Rattle.mach_base.specs.Number.{place_after}
 use Rattle.mach_base.specs.Text.{is_zero}
 use Rattle.mach_layout.specs.Claims.{has_bytes}
-use Rattle.mach_layout.specs.Laid.{Laid, file_size, ends_past, is_final, is_object, placed_sections_of}
+use Rattle.mach_layout.specs.Laid.{Laid, file_size, ends_past, has_addresses, is_final, is_object, placed_sections_of}
 use Rattle.mach_layout.specs.Rules.{measured, sound, against, owner_at, told_over}
 use Rattle.mach_layout.specs.Segments.{range_holds, segment_name, segment_owner}
 use Rattle.mach_layout.specs.declared.fault.LayoutFault.{LayoutFault}
@@ -35,9 +35,9 @@ has_bytes_there laid s = has_bytes laid s && not (ends_past (file_size laid) s.s
 
 -- what each rule of one section sees
 abbrev pub section_sees : Laid → Rule → PlacedSection → Seen
--- A section that has a size lies in the memory of its segment, also one of zeros.
+-- A section that has addresses has those of its segment, also one of zeros.
 section_sees laid rule.SectionOutOfMemory s =
-    against (segment_owner s.segment) (measured (s.section.size == 0 || in_memory_of_segment s)
+    against (segment_owner s.segment) (measured (not (has_addresses s) || in_memory_of_segment s)
     (place_after s.section.addr s.section.size) (place_after s.segment.command.vmaddr s.segment.command.vmsize))
 -- The bytes of a section are among those of its segment. (That they pass the end of the file is a fault of its own.)
 section_sees laid rule.SectionOutOfBytes s =

@@ -147,13 +147,19 @@ nsects_of (Some s) = s.command.nsects
 abbrev pub section_count : Laid → ℕ
 section_count laid = min (sum_by (λ c. nsects_of (placed_segment_of c)) laid.commands) (2 ^ 64 - 1)
 
--- A symbol names a section of the image by its number from 1, or none (NO_SECT, 0). Entries for debuggers aside it names one exactly where
--- its type is N_SECT.
+-- Entries for debuggers of which `n_sect` numbers a section (`mach-o/stab.h`): N_FUN, N_STSYM, N_LCSYM, N_BNSYM, N_SLINE, N_ENSYM, N_SO, N_ENTRY,
+-- N_LBRAC and N_RBRAC. An N_OSO has the low byte of the cpusubtype there.
+abbrev pub has_section_number : ℕ → Bool
+has_section_number n_type =
+    n_type == 0x24 || (n_type == 0x26 || (n_type == 0x28 || (n_type == 0x2e || (n_type == 0x44 || (n_type == 0x4e || (n_type == 0x64
+    || (n_type == 0xa4 || (n_type == 0xc0 || n_type == 0xe0))))))))
+
+-- A symbol of type N_SECT names a section of the image by its number from 1. Such an entry for debuggers names one too, or none (NO_SECT, 0: the
+-- end of a function or of a source). The rule asks nothing of other symbols and entries.
 abbrev pub is_section_wrong : ℕ → Nlist → Bool
 is_section_wrong sections s =
-    if nat_lt sections s.n_sect then true
-    else (if is_stab s then false
-    else (if type_of s.n_type == 0xe then s.n_sect == 0 else not (s.n_sect == 0)))
+    if is_stab s then has_section_number s.n_type && nat_lt sections s.n_sect
+    else type_of s.n_type == 0xe && (s.n_sect == 0 || nat_lt sections s.n_sect)
 
 -- ---- the name of a symbol
 

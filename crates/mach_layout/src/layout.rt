@@ -126,7 +126,7 @@ impl<'a, 'b> Layout<'a, 'b> {
         SegmentIterator::new(self.commands)
     }
 
-    /// The sections whose header lies in the bytes, in order.
+    /// The sections whose record lies in their segment's command and in the bytes, in order.
     pub fn sections(&self) -> SectionIterator<'a, 'b>
         ensures { placed_sections_left result ≡ defined.placed_sections_of (laid_of self.now) }
     {

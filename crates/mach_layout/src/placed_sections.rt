@@ -8,10 +8,13 @@ ghost use Rattle.mach_layout.specs.Laid as defined;
 ghost use Rattle.mach_layout.specs.PartsLeft.{placed_segments_left, placed_sections_left, TakesSection};
 
 use crate::rules::Items;
-use mach_base::{Ctx, Result};
+use mach_base::{Container, Ctx, Result};
 use mach_load::{CommandVariant, LoadCommand};
 use mach_parts::segment::{place_of, section_at};
-use mach_records::{Section64, SegmentCommand32, SegmentCommand64};
+use mach_records::{
+    SIZEOF_SECTION_32, SIZEOF_SECTION_64, SIZEOF_SEGMENT_COMMAND_32, SIZEOF_SEGMENT_COMMAND_64,
+    Section64, SegmentCommand32, SegmentCommand64,
+};
 use std::slice::Iter;
 
 /// A segment's command in the wider form, and where it stands.
@@ -46,6 +49,15 @@ fn widen(c: &SegmentCommand32) -> SegmentCommand64
         initprot: c.initprot,
         nsects: c.nsects,
         flags: c.flags,
+    }
+}
+
+impl PlacedSection {
+    /// Whether the section has addresses: it has a size, and something of its segment is mapped.
+    pub fn has_addresses(&self) -> bool
+        ensures { result ≡ defined.has_addresses self.now }
+    {
+        self.segment.command.vmsize != 0 && self.section.size != 0
     }
 }
 
@@ -136,8 +148,8 @@ fn placed_section_at(
     })
 }
 
-/// The sections of some commands, in order: of each segment those in front of the first whose header isn't in the
-/// bytes.
+/// The sections of some commands, in order: of each segment those whose record lies in its command, before the first
+/// that isn't in the bytes.
 #[derive(Clone, Drop)]
 pub struct SectionIterator<'a, 'b> {
     bytes: &'a [u8],
@@ -162,7 +174,19 @@ impl<'a, 'b> SectionIterator<'a, 'b> {
     }
 }
 
-/// The next section of a segment behind those that came, if it has one more.
+// How many sections of a segment have their record in its own command, of those that it says there are.
+fn own_sections(width: Container, segment: &PlacedSegment) -> u32
+    ensures { result ≡ defined.own_sections width segment.now }
+{
+    let (head, each) = match width {
+        Container::Little => (SIZEOF_SEGMENT_COMMAND_32, SIZEOF_SECTION_32),
+        Container::Big => (SIZEOF_SEGMENT_COMMAND_64, SIZEOF_SECTION_64),
+    };
+    let room = segment.command.cmdsize.saturating_sub(head as u32) / each as u32;
+    segment.command.nsects.min(room)
+}
+
+/// The next section of a segment after those that came, if it has one more.
 pub(crate) fn take_section(
     bytes: &[u8],
     ctx: Ctx,
@@ -173,7 +197,7 @@ pub(crate) fn take_section(
     ensures few { IfSome result (λ _. taken + 1 < 2 ^ 32) }
 {
     let segment = segment?;
-    if taken >= segment.command.nsects {
+    if taken >= own_sections(ctx.container, &segment) {
         return None;
     }
     placed_section_at(bytes, ctx, segment, taken).ok()

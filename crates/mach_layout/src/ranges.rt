@@ -56,7 +56,7 @@ fn segment_bytes(layout: &Layout<'_, '_>, segment: &PlacedSegment) -> Option<Cla
 fn section_memory(placed: &PlacedSection) -> Option<Claim>
     ensures { result ≡ defined.section_memory placed.now }
 {
-    if placed.section.size == 0 {
+    if !placed.has_addresses() {
         return None;
     }
     Some(Claim {

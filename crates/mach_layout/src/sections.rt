@@ -114,7 +114,7 @@ impl Judges<PlacedSection> for Layout<'_, '_> {
         let segment = segment_owner(&placed.segment);
         match rule {
             Rule::SectionOutOfMemory => {
-                let holds = section.size == 0 || in_memory_of_segment(placed);
+                let holds = !placed.has_addresses() || in_memory_of_segment(placed);
                 let limit = range_end(command.vmaddr, command.vmsize);
                 measured(holds, range_end(section.addr, section.size), limit).against(segment)
             }

@@ -24,7 +24,8 @@ use mach_base::{Container, Ctx, Record, Result, SizeWith};
 use mach_load::{CommandVariant, LoadCommand};
 use mach_parts::header::MH_TWOLEVEL;
 use mach_parts::symbols::{
-    N_EXT, N_INDR, N_PBUD, N_SECT, N_STAB, N_TYPE, N_UNDF, Nlist, Nlist32, Nlist64,
+    N_BNSYM, N_ENSYM, N_ENTRY, N_EXT, N_FUN, N_INDR, N_LBRAC, N_LCSYM, N_PBUD, N_RBRAC, N_SECT,
+    N_SLINE, N_SO, N_STAB, N_STSYM, N_TYPE, N_UNDF, Nlist, Nlist32, Nlist64,
 };
 use mach_records::{DysymtabCommand, SymtabCommand};
 use std::alloc::Allocator;
@@ -137,20 +138,31 @@ pub fn is_stab(symbol: &Nlist) -> bool
     symbol.n_type & N_STAB != 0
 }
 
+// Whether the `n_sect` of an entry for debuggers of a type numbers a section (`mach-o/stab.h`).
+fn has_section_number(kind: u8) -> bool
+    ensures { result ≡ defined.has_section_number kind }
+{
+    kind == N_FUN
+        || kind == N_STSYM
+        || kind == N_LCSYM
+        || kind == N_BNSYM
+        || kind == N_SLINE
+        || kind == N_ENSYM
+        || kind == N_SO
+        || kind == N_ENTRY
+        || kind == N_LBRAC
+        || kind == N_RBRAC
+}
+
 // Whether a symbol names a section that there is not, or none where it is to name one.
 fn is_section_wrong(sections: u64, symbol: &Nlist) -> bool
     ensures { result ≡ defined.is_section_wrong sections symbol.now }
 {
-    if symbol.n_sect as u64 > sections {
-        return true;
-    }
+    let is_past = symbol.n_sect as u64 > sections;
     if is_stab(symbol) {
-        return false;
-    }
-    if symbol.n_type & N_TYPE == N_SECT {
-        symbol.n_sect == 0
+        has_section_number(symbol.n_type) && is_past
     } else {
-        symbol.n_sect != 0
+        symbol.n_type & N_TYPE == N_SECT && (symbol.n_sect == 0 || is_past)
     }
 }
 

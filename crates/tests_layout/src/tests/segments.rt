@@ -1,7 +1,7 @@
 //! Rows of the rules of segments, of sections and of what is encrypted.
 
 use goblin_mach::MachO;
-use goblin_mach::layout::layout_faults;
+use goblin_mach::layout::{claims, layout_faults};
 use mach_layout::{LayoutFault, Rule};
 use std::alloc::{AllocError, Global};
 use std::fmt::Write;
@@ -110,10 +110,32 @@ const OF_SECTIONS: &[Row] = &[
     },
     Row {
         changes: &[(92, 0xffc)],
-        want: "SectionOutOfMemory 184.2: 4108 8192, 184; ",
+        want: "SectionOutOfMemory 184.2: 4108 8192, 184; SectionsShareMemory 184.1: 4096 4108, 184; ",
     },
     Row {
         changes: &[(92, 0x1ff8), (94, 0)],
+        want: "",
+    },
+    // Nothing of a segment of vmsize 0 is mapped.
+    Row {
+        changes: &[(54, 0), (72, 0x9000), (92, 0x9001)],
+        want: "",
+    },
+    Row {
+        changes: &[(92, 0x1004)],
+        want: "SectionsShareMemory 184.2: 4100 4104, 184; ",
+    },
+    Row {
+        changes: &[(54, 0), (92, 0x1004)],
+        want: "",
+    },
+    // The command has the record of one section, and what follows is the next command.
+    Row {
+        changes: &[(24, 2)],
+        want: "",
+    },
+    Row {
+        changes: &[(24, 0xffff_ffff)],
         want: "",
     },
     Row {
@@ -241,6 +263,7 @@ const RULES: &[Rule] = &[
     Rule::SectionAlignment,
     Rule::SectionUnaligned,
     Rule::SectionOfOther,
+    Rule::SectionsShareMemory,
     Rule::EncryptedNotExecutable,
 ];
 
@@ -278,8 +301,8 @@ fn faults_of_sections(rt: HostRuntime) -> Result<(), Fail> {
     rows_hold(rt.alloc(), OF_SECTIONS)
 }
 
-// A library of so many segments without a name.
-fn of_segments(alloc: Global, count: u32) -> Result<Vec<u8>, AllocError> {
+// A library of so many segments without a name, each of which is said to have so many sections, for which it has no room.
+fn of_segments(alloc: Global, count: u32, sections: u32) -> Result<Vec<u8>, AllocError> {
     let header = [
         0xfeed_facf,
         0x0100_0007,
@@ -297,7 +320,9 @@ fn of_segments(alloc: Global, count: u32) -> Result<Vec<u8>, AllocError> {
     for _ in 0..count {
         bytes.extend(u32::to_le_bytes(0x19))?;
         bytes.extend(u32::to_le_bytes(72))?;
-        bytes.extend([0; 64])?;
+        bytes.extend([0; 56])?;
+        bytes.extend(u32::to_le_bytes(sections))?;
+        bytes.extend([0; 4])?;
     }
     Ok(bytes)
 }
@@ -305,13 +330,26 @@ fn of_segments(alloc: Global, count: u32) -> Result<Vec<u8>, AllocError> {
 #[test]
 fn each_segment_behind_the_first_has_its_name(rt: HostRuntime) -> Result<(), Fail> {
     let alloc = rt.alloc();
-    let bytes = of_segments(alloc, 3000)?;
+    let bytes = of_segments(alloc, 3000, 0)?;
     let faults = told(alloc, bytes.as_slice())?;
     let is_again = |fault: &&LayoutFault| {
         fault.rule == Rule::SegmentNameAgain && fault.other.is_some_and(|first| first.command == 32)
     };
     if faults.len() != 3000 || faults.iter().filter(is_again).count() != 2999 {
         return Err(Fail::from("not a fault for each"));
+    }
+    Ok(())
+}
+
+#[test]
+fn segments_have_no_sections_of_others(rt: HostRuntime) -> Result<(), Fail> {
+    let alloc = rt.alloc();
+    let bytes = of_segments(alloc, 3000, u32::MAX)?;
+    let image = MachO::parse_lossy(alloc, bytes.as_slice(), 0)?;
+    let mut all = Vec::new(alloc);
+    all.extend(claims(&image))?;
+    if all.len() != 3001 {
+        return Err(Fail::from("not a claim of each segment"));
     }
     Ok(())
 }

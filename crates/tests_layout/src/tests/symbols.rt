@@ -77,13 +77,20 @@ const ROWS: &[Row<'static>] = &[
         &[0],
         &[(Rule::SymbolSection, 0, 0, 4)],
     ),
-    (
-        "a section of an undefined symbol",
-        8285,
-        &[1],
-        &[(Rule::SymbolSection, 2, 1, 4)],
-    ),
+    ("a section of an undefined symbol", 8285, &[77], &[]),
     ("an entry for a debugger has none", 8252, &[0x64, 0], &[]),
+    (
+        "an object file's entry has a cpusubtype there",
+        8252,
+        &[0x66, 77],
+        &[],
+    ),
+    (
+        "a function's entry in a section that there is not",
+        8252,
+        &[0x24, 77],
+        &[(Rule::SymbolSection, 0, 77, 4)],
+    ),
     (
         "a name behind the strings",
         8264,
@@ -234,6 +241,28 @@ fn rows_of_symbols(rt: HostRuntime) -> Result<(), Fail> {
         let faults = told(alloc, &bytes)?;
         if !are(&faults, wanted) {
             return Err(Fail::from(*name));
+        }
+    }
+    Ok(())
+}
+
+// The entries for debuggers of which `n_sect` numbers a section, by `mach-o/stab.h`.
+const NUMBERING: [u8; 10] = [0x24, 0x26, 0x28, 0x2e, 0x44, 0x4e, 0x64, 0xa4, 0xc0, 0xe0];
+
+#[test]
+fn sections_of_entries(rt: HostRuntime) -> Result<(), Fail> {
+    let alloc = rt.alloc();
+    for kind in (0x20..=0xff).step_by(2) {
+        let mut bytes = library(alloc)?;
+        put(&mut bytes, 8252, &[kind, 5]);
+        let faults = told(alloc, &bytes)?;
+        let wanted: &[(Rule, u64, u64, u64)] = if NUMBERING.contains(&kind) {
+            &[(Rule::SymbolSection, 0, 5, 4)]
+        } else {
+            &[]
+        };
+        if !are(&faults, wanted) {
+            return Err(Fail::from(format!(in alloc; "entries of type {kind:#x}")?));
         }
     }
     Ok(())
