@@ -2,6 +2,7 @@ pub mod CodePromise
 pub mod Four
 pub mod NumberedLists
 pub mod Promise
+pub mod Searched
 pub mod SpecialPromise
 pub mod ToldNone
 pub mod AsSigned

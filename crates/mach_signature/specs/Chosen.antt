@@ -1,9 +1,11 @@
 -- The code directories of a signature, and the one that counts.
-use Rattle.std.specs.Prelude.{ℕ, List, [], ◌∷◌, filter, filter_map, flat_map, Option, Some, None, Result, Ok, Err, ◌==◌, if◌then◌else◌}
+use Rattle.std.specs.Prelude.{◌≡◌, ℕ, List, [], ◌∷◌, filter, filter_map, flat_map, codes, Option, Some, None, Result, Ok, Err, ◌==◌, if◌then◌else◌}
 use Rattle.std.specs.List.{range_with_len}
 use Rattle.mach_base.specs.Answer.{◌>>=◌}
 use Rattle.mach_base.specs.Fault.{Fault, malformed}
 use Rattle.mach_base.specs.Sums.{found_or_malformed}
+use Rattle.mach_base.specs.declared.error.Error.{Error}
+use Rattle.mach_base.specs.declared.error.Error.TheVariants as errors
 use Rattle.mach_signature.specs.Directories.{Directory, directory_at}
 use Rattle.mach_signature.specs.Hashes.{hash_rank}
 use Rattle.mach_signature.specs.Slots.{is_directory_slot}
@@ -73,3 +75,31 @@ none_refused (Some f) there = Err f
 -- The one that counts: all can be read, no two are of one hash, and this one is of the highest rank.
 unfoldable pub directory_of : SuperBlob → Result Directory Fault
 directory_of s = none_refused (first_refused (directories_of s)) (highest_of (directories_of s) >>= found_or_malformed)
+
+-- ---- the words of a refusal
+
+-- why none counts of directories that can all be read: two are of one hash, or there is none
+pub data NoneCounts : Type 0 where
+  two_of_one_hash : NoneCounts
+  no_directory : NoneCounts
+
+abbrev pub words_of_none : NoneCounts → List ℕ
+words_of_none two_of_one_hash = codes "two code directories of one hash"
+words_of_none no_directory = codes "no code directory"
+
+abbrev pub none_counts : Result (Option Directory) Fault → Option NoneCounts
+none_counts (Ok (Some d)) = None
+none_counts (Ok None) = Some no_directory
+none_counts (Err f) = Some two_of_one_hash
+
+-- an error says these words
+abbrev pub SaysWords : Error → List ℕ → Type 0
+SaysWords (errors.Malformed msg) words = msg.now ≡ words
+SaysWords (errors.BadMagic magic) words = ⊥
+SaysWords (errors.Scroll e) words = ⊥
+SaysWords (errors.BufferTooShort count what) words = ⊥
+SaysWords (errors.Memory e) words = ⊥
+
+-- an error says why none counts
+abbrev pub SaysNoneCounts : Error → SuperBlob → Type 0
+SaysNoneCounts e s = (why : NoneCounts) × (none_counts (highest_of (directories_of s)) ≡ Some why) × SaysWords e (words_of_none why)

@@ -1,7 +1,7 @@
 -- The signature of an image (`mach-o/loader.h`, LC_CODE_SIGNATURE), the section that it seals as its Info.plist, and the promise that the
 -- image is as it was signed.
-use Rattle.std.specs.Prelude.{◌≡◌, ℕ, List, [], ◌∷◌, map, codes, Bool, true, false, ◌&&◌, if◌then◌else◌, Option, Some, None, option_map, Result, Ok, Err}
-use Rattle.std.specs.Option.{option_or}
+use Rattle.std.specs.Prelude.{◌≡◌, ℕ, List, [], ◌∷◌, find, take, length, codes, Bool, true, false, if◌then◌else◌}
+use Rattle.std.specs.Prelude.{Option, Some, None, option_map, Result, Ok, Err}
 use Rattle.std.specs.Result.{result_ok}
 use Rattle.std.specs.Str.{bytes_eq}
 use Rattle.mach_base.specs.Answer.{◌>>=◌}
@@ -11,8 +11,9 @@ use Rattle.mach_base.specs.Record.{Value, number_among}
 use Rattle.mach_base.specs.Text.{text_at}
 use Rattle.mach_load.specs.Command.{Command}
 use Rattle.mach_load.specs.Commands.{Kind, code_signature}
-use Rattle.mach_parts.specs.Segment.{SegmentView, sections_of}
-use Rattle.mach_parts.specs.declared.segment.section.Section.{Section}
+use Rattle.mach_parts.specs.SectionRecord.{readable_sections}
+use Rattle.mach_parts.specs.Segment.{SegmentView}
+use Rattle.mach_parts.specs.declared.segment.numbered.NumberedSection.{NumberedSection}
 use Rattle.goblin_mach.specs.EntryPoint.{is_text_name}
 use Rattle.goblin_mach.specs.Readings.{Reading, read_of, first_of}
 use Rattle.mach_signature.specs.AsSigned.{SignedImage, SignatureFaultSeen, signature_in, faults_in, IsAsSigned}
@@ -59,27 +60,17 @@ is_named_plist (Ok name) = bytes_eq name (codes "__info_plist")
 is_named_plist (Err f) = false
 
 -- whether it is the section __info_plist of __TEXT, by its own names
-abbrev pub is_info_plist : Section → Bool
-is_info_plist s = if is_text_name s.segname then is_named_plist (text_at s.sectname 0) else false
-
--- the first of some sections that is it
-abbrev pub plist_among : List (Result (Section × List ℕ) Fault) → Option Section
-plist_among [] = None
-plist_among (Ok s ∷ items) = if is_info_plist s.0 then Some s.0 else plist_among items
-plist_among (Err f ∷ items) = plist_among items
-
--- the first of the sections of some segments
-abbrev pub plist_in_segments : List (List (Result (Section × List ℕ) Fault)) → Option Section
-plist_in_segments [] = None
-plist_in_segments (sections ∷ more) = option_or (plist_among sections) (plist_in_segments more)
+abbrev pub is_info_plist : NumberedSection → Bool
+is_info_plist n = if is_text_name n.section.segname then is_named_plist (text_at n.section.sectname 0) else false
 
 -- its bytes: none where they are not in the file
-abbrev pub plist_bytes : List ℕ → Option Section → Option (List ℕ)
+abbrev pub plist_bytes : List ℕ → Option NumberedSection → Option (List ℕ)
 plist_bytes bytes None = None
-plist_bytes bytes (Some s) = result_ok (slice_at s.size bytes s.offset)
+plist_bytes bytes (Some n) = result_ok (slice_at n.section.size bytes n.section.offset)
 
+-- that of an image: the first of the sections that are in the bytes, of which at most as many are looked at as there are bytes
 abbrev pub plist_of : List ℕ → List SegmentView → Option (List ℕ)
-plist_of bytes segments = plist_bytes bytes (plist_in_segments (map sections_of segments))
+plist_of bytes segments = plist_bytes bytes (find is_info_plist (take (length bytes) (readable_sections segments)))
 
 -- ---- what isn't as it was signed
 

@@ -1,6 +1,6 @@
 //! The code directories of a signature, and the one that counts.
 
-ghost use Rattle.std.specs.Prelude.{◌≡◌, ◌<◌, [], Option, option_to_list};
+ghost use Rattle.std.specs.Prelude.{◌≡◌, ◌<◌, [], Option, None, option_to_list, IfErr};
 ghost use Rattle.mach_base.specs.Items.{read_as};
 ghost use Rattle.mach_signature.specs.DirectoryViews.{directory_view};
 ghost use Rattle.std.specs.Option.{option_map};
@@ -96,6 +96,7 @@ fn if_of_rank(directory: Result<CodeDirectory<'_>>, rank: u8) -> Option<CodeDire
 impl<'a> CodeSignature<'a> {
     ghost use Rattle.mach_signature.specs.SignViews.{signature_view};
     ghost use Rattle.mach_signature.specs.Chosen.{directories_of, directory_in, first_refused, of_rank, highest_of, directory_of};
+    ghost use Rattle.mach_signature.specs.Chosen.{two_of_one_hash, words_of_none, SaysWords, SaysNoneCounts};
 
     // A blob as a code directory.
     #[tactic(auto, unfolding(crate::specs::Chosen::directory_in))]
@@ -131,7 +132,8 @@ impl<'a> CodeSignature<'a> {
 
     // The directory whose hash has a rank.
     fn of_rank(&self, rank: u8) -> Result<Option<CodeDirectory<'a>>>
-        ensures { Reads (option_map directory_view) result (of_rank rank (directories_of (signature_view self.now))) }
+        ensures value { Reads (option_map directory_view) result (of_rank rank (directories_of (signature_view self.now))) }
+        ensures words { IfErr result (λ e. SaysWords e (words_of_none two_of_one_hash)) }
     {
         let mut found = None;
         let mut left = self.directories();
@@ -149,7 +151,8 @@ impl<'a> CodeSignature<'a> {
 
     // The directory whose hash has the highest rank.
     fn highest(&self) -> Result<Option<CodeDirectory<'a>>>
-        ensures { Reads (option_map directory_view) result (highest_of (directories_of (signature_view self.now))) }
+        ensures value { Reads (option_map directory_view) result (highest_of (directories_of (signature_view self.now))) }
+        ensures words { IfErr result (λ e. SaysWords e (words_of_none two_of_one_hash)) }
     {
         let sha384 = self.of_rank(4)?;
         let sha256 = self.of_rank(3)?;
@@ -159,10 +162,12 @@ impl<'a> CodeSignature<'a> {
     }
 
     /// The code directory that counts: the one whose hash has the highest rank. It is the error of the first that can't be
-    /// read, and `Malformed` where there is none, or where two have one hash; so no signature has more than four.
+    /// read, and `Malformed` where there is none, or where two have one hash, and then says which; so no signature has more
+    /// than four.
     #[tactic(auto, unfolding(crate::specs::Chosen::directory_of))]
     pub fn directory(&self) -> Result<CodeDirectory<'a>>
-        ensures { Reads directory_view result (directory_of (signature_view self.now)) }
+        ensures value { Reads directory_view result (directory_of (signature_view self.now)) }
+        ensures words { IfErr result (λ e. first_refused (directories_of (signature_view self.now)) ≡ None → SaysNoneCounts e (signature_view self.now)) }
     {
         if let Some(e) = self.refused() {
             return Err(e);

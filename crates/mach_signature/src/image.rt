@@ -46,7 +46,7 @@ pub fn code_directory<'a, A: Allocator>(image: &MachO<'a, A>) -> Result<Option<C
 pub fn image_plist<'a, A: Allocator>(image: &MachO<'a, A>) -> Option<&'a [u8]>
     ensures { slot_read result ≡ plist_of (bytes_held image.now) (segments_held image.now) }
 {
-    info_plist(image.bytes(), image.segments.sections())
+    info_plist(image.bytes(), image.segments.as_slice())
 }
 
 /// What of an image isn't as it was signed, in order; none where no command brings a signature. There is nothing exactly where all

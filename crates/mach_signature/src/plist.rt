@@ -1,66 +1,52 @@
 //! The section of an image that its signature seals as its Info.plist.
 
-ghost use Rattle.std.specs.Prelude.{◌≡◌, option_map};
-ghost use Rattle.mach_parts.specs.SectionItems.{sections_left};
-ghost use Rattle.mach_parts.specs.Segments as listed;
+ghost use Rattle.std.specs.Prelude.{◌≡◌, map, take, find};
+ghost use Rattle.mach_parts.specs.SectionRecord.{readable_sections};
+ghost use Rattle.mach_parts.specs.Segment.{segment_view};
 ghost use Rattle.mach_signature.specs.DirectoryViews.{slot_read};
 ghost use Rattle.mach_signature.specs.SignedImages as defined;
 
 use goblin_mach::entry::is_text;
-use mach_base::bytes_at;
-use mach_parts::segment::{Section, SectionIterator, SegmentSections};
+use mach_base::{bytes_at, read_text};
+use mach_parts::segment::{NumberedSection, ReadableSections, Segment};
 
 // Whether it is the section `__info_plist` of `__TEXT`.
-fn is_info_plist(section: &Section) -> bool
+fn is_info_plist(section: &NumberedSection) -> bool
     ensures { result ≡ defined.is_info_plist section.now }
 {
-    if !is_text(&section.segname) {
+    if !is_text(&section.section.segname) {
         return false;
     }
-    match section.name() {
+    match read_text(&section.section.sectname, 0) {
         Ok(name) => name == "__info_plist",
         Err(_) => false,
     }
 }
 
-// The first of some sections that is it. What can't be read is passed over.
-fn among_sections(mut sections: SectionIterator<'_>) -> Option<Section>
-    ensures { result ≡ defined.plist_among (sections_left sections.entry) }
+// The first of the sections in the bytes that is it. At most so many are looked at.
+#[tactic(auto, using(crate::proofs::Searched::searched_first, crate::proofs::Searched::searched_none, crate::proofs::Searched::searched_all))]
+fn among_sections(most: usize, segments: &[Segment<'_>]) -> Option<NumberedSection>
+    ensures { result ≡ find defined.is_info_plist (take most (readable_sections (map segment_view segments.now))) }
 {
-    'sections: loop {
-        match sections.next() {
-            None => return None,
-            Some(Ok((section, _))) => {
-                if is_info_plist(&section) {
-                    return Some(section);
-                }
-            }
-            Some(Err(_)) => {}
+    let mut left = ReadableSections::new(segments);
+    for _ in 0..most {
+        let Some(section) = left.next() else {
+            return None;
+        };
+        if is_info_plist(&section) {
+            return Some(section);
         }
     }
-}
-
-// The first of the sections of some segments that is it.
-fn among_segments(mut segments: SegmentSections<'_, '_>) -> Option<Section>
-    ensures { result ≡ defined.plist_in_segments (listed.sections_in segments.entry) }
-{
-    'segments: loop {
-        match segments.next() {
-            None => return None,
-            Some(sections) => {
-                if let Some(section) = among_sections(sections) {
-                    return Some(section);
-                }
-            }
-        }
-    }
+    None
 }
 
 /// The bytes of the first section `__info_plist` of `__TEXT` among those of some segments, by a section's own names, if one is there
-/// and its bytes are in the file. Sections that can't be read are passed over.
-pub fn info_plist<'a>(bytes: &'a [u8], segments: SegmentSections<'_, '_>) -> Option<&'a [u8]>
-    ensures { slot_read result ≡ defined.plist_bytes bytes.now (defined.plist_in_segments (listed.sections_in segments.entry)) }
+/// and its bytes are in the file. Of each segment the sections in front of the first that isn't in the bytes are looked at, and of all
+/// at most as many as there are bytes: so no count in a file is work.
+pub fn info_plist<'a>(bytes: &'a [u8], segments: &[Segment<'_>]) -> Option<&'a [u8]>
+    ensures { slot_read result ≡ defined.plist_of bytes.now (map segment_view segments.now) }
 {
-    let section = among_segments(segments)?;
+    let found = among_sections(bytes.len(), segments)?;
+    let section = &found.section;
     bytes_at(bytes, section.offset as usize, section.size as usize).ok()
 }

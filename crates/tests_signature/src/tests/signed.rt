@@ -39,7 +39,7 @@ const PAGE: &str = "page 0: 0x0..0x100 is not what was signed;";
 #[test]
 fn sealed(rt: HostRuntime) -> Result<(), Fail> {
     let alloc = rt.alloc();
-    let rows: [(&[(usize, &[u8])], &str); 9] = [
+    let rows: [(&[(usize, &[u8])], &str); 11] = [
         // as it was signed
         (&[], ""),
         // a byte of the code
@@ -53,6 +53,12 @@ fn sealed(rt: HostRuntime) -> Result<(), Fail> {
         (&[(0x68, b"__info_qlist")], PAGE),
         (&[(0x78, b"__DATA")], PAGE),
         (&[(0x90, b"\0\x10")], PAGE),
+        // the segment claims 2^32 - 1 sections, of which few are in the bytes: the search ends, with the section and without
+        (&[(0x60, b"\xff\xff\xff\xff")], PAGE),
+        (
+            &[(0x60, b"\xff\xff\xff\xff"), (0x68, b"__info_qlist")],
+            PAGE,
+        ),
         // no command, and one whose range is not in the file
         (&[(0xb8, b"\x1e")], "none;"),
         (
@@ -118,7 +124,7 @@ fn a_signature(rt: HostRuntime) -> Result<(), Fail> {
     };
     same(&rt, counting.cdhash(), directory.cdhash());
     same(&rt, is_as_signed(&image)?, true);
-    let plist = info_plist(image.bytes(), image.segments.sections());
+    let plist = info_plist(image.bytes(), image.segments.as_slice());
     same(&rt, plist, Some(b"<plist/>".as_slice()));
     Ok(())
 }
@@ -160,7 +166,7 @@ fn the_last_of_many_sections(rt: HostRuntime) -> Result<(), Fail> {
         }
     }
     let image = MachO::parse(alloc, bytes.as_slice(), 0)?;
-    let plist = info_plist(image.bytes(), image.segments.sections());
+    let plist = info_plist(image.bytes(), image.segments.as_slice());
     same(&rt, plist, bytes.as_slice().get(3000..3004));
     Ok(())
 }
