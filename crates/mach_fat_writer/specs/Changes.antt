@@ -1,5 +1,5 @@
 -- A fat file that is made of one, and an entry that is asked for by its cpu.
-use Rattle.std.specs.Prelude.{◌≡◌, ◌==◌, ◌⊎◌, ℕ, ◌+◌, List, [], ◌∷◌, ◌++◌, length, take, drop, map, nat_lt, Option, Some, None, Result, Ok, Err}
+use Rattle.std.specs.Prelude.{◌≡◌, ◌==◌, ◌⊎◌, ℕ, ◌+◌, List, [], ◌∷◌, ◌++◌, length, take, drop, map, nat_lt, slice_get, Option, Some, None, Result, Ok, Err}
 use Rattle.std.specs.Prelude.{if◌then◌else◌}
 use Rattle.std.specs.List.{list_any}
 use Rattle.mach_base.specs.Answer.{Stands}
@@ -13,7 +13,7 @@ use Rattle.mach_fat_writer.specs.FatForms.{FatForm}
 use Rattle.mach_fat_writer.specs.FatWrites.{fat_file_of, RefusesFat}
 use Rattle.mach_fat_writer.specs.Creates.{UnfitFile, IsFileOf, RefusesEntries, RefusesFiles}
 use Rattle.mach_fat_writer.specs.EntriesRead.{slice_of, fat_entries_in}
-use Rattle.mach_fat_writer.specs.FatTables.{form_in, header_count_in, fat_record_in, fat_table_in}
+use Rattle.mach_fat_writer.specs.FatTables.{form_in, fat_table_in}
 use Rattle.mach_fat_writer.specs.Unfit.{Unfit, unread, not_fat, out_of_file, no_such_entry, no_such_cpu, if_fit, if_read}
 use Rattle.mach_fat_writer.specs.declared.entry_record.EntryRecord.{EntryRecord}
 use Rattle.mach_fat_writer.specs.declared.refusal.MakeRefusal.{MakeRefusal}
@@ -52,14 +52,14 @@ fat_records_in bytes = if_fit (λ form. if_read (fat_table_in form bytes)) (fat_
 abbrev pub thin_entry_in : List ℕ → ℕ → Result (List ℕ) Unfit
 thin_entry_in bytes cputype = if_fit (first_for_cpu bytes cputype 0) (fat_records_in bytes)
 
--- those of the entry of an index in a file of this form, which says that it has n entries
-abbrev pub indexed_of : FatForm → List ℕ → (i n : ℕ) → Result (List ℕ) Unfit
-indexed_of form bytes i n =
-    if nat_lt i n then if_fit (λ r. slice_or_out i (slice_of bytes r)) (if_read (fat_record_in form bytes i)) else Err (no_such_entry i)
+-- those of the entry of record i, if there is one
+abbrev pub entry_or_none : List ℕ → ℕ → Option EntryRecord → Result (List ℕ) Unfit
+entry_or_none bytes i (Some r) = slice_or_out i (slice_of bytes r)
+entry_or_none bytes i None = Err (no_such_entry i)
 
--- The bytes of the entry of an index in a fat file of either form; no other record is looked at.
+-- The bytes of the entry of an index in it.
 abbrev pub indexed_entry_in : List ℕ → ℕ → Result (List ℕ) Unfit
-indexed_entry_in bytes i = if_fit (λ form. if_fit (indexed_of form bytes i) (if_read (header_count_in bytes))) (fat_form_in bytes)
+indexed_entry_in bytes i = if_fit (λ records. entry_or_none bytes i (slice_get records i)) (fat_records_in bytes)
 
 -- what is there of a file, by its index among those that are given
 abbrev pub of_file : {A : Type 0} → ℕ → Result A Unfit → Result A UnfitFile

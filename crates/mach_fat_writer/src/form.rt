@@ -62,7 +62,7 @@ impl Form {
     }
 
     // The record of an index.
-    pub(crate) fn record_at(self, bytes: &[u8], index: usize) -> Result<EntryRecord>
+    fn record_at(self, bytes: &[u8], index: usize) -> Result<EntryRecord>
         requires { index < 2 ^ 32 }
         ensures { Reads (λ r. r) result (fat_record_in (form_of self) bytes.now index) }
     {

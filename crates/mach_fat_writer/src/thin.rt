@@ -7,7 +7,6 @@ ghost use Rattle.mach_fat_writer.specs.Unfit.{AnswersAs};
 use crate::entry_record::EntryRecord;
 use crate::form::Form;
 use crate::refusal::EntryRefusal;
-use mach_parts::fat::FatHeader;
 use std::alloc::Allocator;
 
 /// The records of a fat file of either form, in order.
@@ -64,15 +63,17 @@ pub fn thin_entry<'a, A: Allocator>(
     first_for_cpu(bytes, cputype, records.as_slice())
 }
 
-/// The bytes of the entry of an index in a fat file of either form. No other record is looked at, as a table may be said to have 2^32 - 1.
-pub fn indexed_entry(bytes: &[u8], index: usize) -> Result<&[u8], EntryRefusal>
+/// The bytes of the entry of an index in a fat file of either form, whose table is read whole.
+pub fn indexed_entry<'a, A: Allocator>(
+    alloc: A,
+    bytes: &'a [u8],
+    index: usize,
+) -> Result<&'a [u8], EntryRefusal>
     ensures { AnswersAs (λ slice. slice.now) result (indexed_entry_in bytes.now index) }
 {
-    let form = Form::of_fat(bytes)?;
-    let header = FatHeader::parse(bytes)?;
-    if index >= header.nfat_arch as usize {
-        return Err(EntryRefusal::NoEntry(index));
+    let records = fat_records(alloc, bytes)?;
+    match records.as_slice().get(index) {
+        Some(record) => slice_or_out(bytes, index, record),
+        None => Err(EntryRefusal::NoEntry(index)),
     }
-    let record = form.record_at(bytes, index)?;
-    slice_or_out(bytes, index, &record)
 }
