@@ -13,7 +13,7 @@ use Rattle.mach_base.proofs.Written.{Appends-none, Appends-both}
 use Rattle.mach_base.specs.Fault.{Fault}
 use Rattle.mach_base.specs.Items.{read_as}
 use Rattle.mach_base.specs.declared.error.Error.{Error}
-use Rattle.mach_cli.specs.Listings.{text_read, text_answer, CountsRows}
+use Rattle.mach_cli.specs.Listings.{text_read, text_answer}
 use Rattle.mach_cli.specs.declared.listing.Told.{Told}
 use Rattle.mach_cli.specs.JsonArrays.{behind_comma, with_commas, comma_before, row_object, array_member, lists_end, IsArrayOf, WritesArray}
 use Rattle.mach_cli.specs.JsonArrays.{WritesAllRows, WritesMember, WritesMembers, WritesObjects, NamedRows, AreArrayMembers, last_member, then_members}

@@ -1,5 +1,5 @@
 -- The words of a number's bits, one after the other.
-use Rattle.std.proofs.Common.{◌≡◌, ◌++◌, ◌∷◌, ◌∙◌, ◌+◌, ◌<◌, ℕ, List, Bool, cond, [], length, map, drop, get_or, true, false, sym, ap}
+use Rattle.std.proofs.Common.{◌≡◌, ◌++◌, ◌∷◌, ◌∙◌, ◌+◌, ◌<◌, ℕ, List, Bool, cond, length, map, drop, get_or, true, false, sym, ap}
 use Rattle.std.proofs.lemmas.List.{append_assoc, at_drop_more}
 use Rattle.std.specs.Prelude.{◌==◌, bit_and, bit_xor}
 use Rattle.mach_base.specs.Named.{Named}

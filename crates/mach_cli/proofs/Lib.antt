@@ -4,8 +4,15 @@ mod Listings
 mod Showing
 pub mod Missed
 pub mod PartsHeld
-mod Escapes
 pub mod Arrays
 mod Objects
 pub mod Plain
+mod Written
+mod Reader
+mod ShownNames
+pub mod OneLine
 pub mod FlagWords
+mod ListedNames
+mod TitleKept
+mod CallsRead
+mod Cputypes

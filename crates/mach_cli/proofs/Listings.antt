@@ -1,7 +1,7 @@
 -- The first lines of a list of rows, up to a limit.
 use Rattle.std.proofs.Common.{◌≡◌, ◌≤◌, ◌+◌, ◌-◌, ◌++◌, ◌∷◌, [], ◌∙◌, ℕ, List, Option, Result, Ok, Err, Bool, true, false, refl, sym, ap, subst}
 use Rattle.std.proofs.Common.{length, take, arith}
-use Rattle.std.specs.Prelude.{◌&&◌, not, nat_lt}
+use Rattle.std.specs.Prelude.{◌==◌, ◌&&◌, not, nat_lt}
 use Rattle.std.proofs.lemmas.Bool.{le-ltb, lt-ltb}
 use Rattle.std.proofs.lemmas.List.{append-nil, append_assoc, length-append, take-append-le, take_all}
 use Rattle.std.proofs.lemmas.List.Folds.{list_all-append}
@@ -14,7 +14,7 @@ use Rattle.mach_base.specs.Items.{read_as}
 use Rattle.mach_base.specs.declared.error.Error.{Error}
 use Rattle.mach_cli.proofs.Lines.{no_lines, line_more}
 use Rattle.mach_cli.specs.Lines.{WritesLines}
-use Rattle.mach_cli.specs.Listings.{text_read, text_answer, told_line, cut_line, CountsRows, WritesFirstLines, WritesRows}
+use Rattle.mach_cli.specs.Listings.{text_read, text_answer, told_line, cut_line, past_line, CountsRows, WritesFirstLines, WritesRows}
 use Rattle.mach_cli.specs.declared.listing.Told.{Told}
 
 -- a row's text, as it was answered, is that of the row
@@ -90,21 +90,24 @@ module _ (word : List ℕ) (limit : ℕ) where
       told_of rows all left whole old new t goes told said.1 (said.0 ∙ omega (arith, many, front))
       (said.2 ∙ sym (lt-ltb limit (length rows) (omega (arith, many, front))))
 
--- the first rows, and the line behind them
-pub rows_and_cut : (word : List ℕ) (limit left : ℕ) (rows : List (Result (List ℕ) Fault)) (t : Told) (old middle new : Option (List ℕ))
-    → WritesRows word left rows old middle t → Appends middle new (cut_line limit t.more)
-    → WritesFirstLines word limit left rows (t.whole && not t.more) t.left old new
-rows_and_cut word limit left rows t old middle new told cut = record {
-  text = told.lines.text ++ cut_line limit t.more;
+-- the first rows, and the lines after them
+pub rows_and_ends : (word : List ℕ) (limit left : ℕ) (rows : List (Result (List ℕ) Fault)) (name : List ℕ) (past : ℕ) (t : Told)
+    (old first second new : Option (List ℕ)) → WritesRows word left rows old first t → Appends first second (cut_line limit t.more)
+    → Appends second new (past_line name past) → WritesFirstLines word limit left rows name past ((t.whole && not t.more) && (past == 0)) t.left old new
+rows_and_ends word limit left rows name past t old first second new told cut more = record {
+  text = told.lines.text ++ (cut_line limit t.more ++ past_line name past);
   lines = record {
     lines = told.lines.text;
     are_lines = told.lines.lines;
-    is_text = ap (λ (more : Bool). told.lines.text ++ cut_line limit more) told.more;
+    is_text = ap (λ (cut : Bool). told.lines.text ++ (cut_line limit cut ++ past_line name past)) told.more;
     is_whole =
-        ap (λ (w : Bool). w && not t.more) told.whole ∙ ap (λ (more : Bool). list_all is_ok (take left rows) && not more) told.more;
+        ap (λ (w : Bool). (w && not t.more) && (past == 0)) told.whole
+        ∙ ap (λ (cut : Bool). (list_all is_ok (take left rows) && not cut) && (past == 0)) told.more;
     is_rest = told.rest;
   };
-  written = Appends-both old middle new told.lines.text (cut_line limit t.more) told.lines.written cut;
+  written =
+      Appends-both old first new told.lines.text (cut_line limit t.more ++ past_line name past) told.lines.written
+      (Appends-both first second new (cut_line limit t.more) (past_line name past) cut more);
 }
 
 -- ---- a list whose rows are counted

@@ -1,6 +1,6 @@
 -- The objects of images and of entries.
-use Rattle.std.proofs.Common.{◌≡◌, ◌++◌, ◌∷◌, [], ◌∙◌, ℕ, ◌+◌, ◌<◌, List, Option, Result, Ok, sym, ap, subst, length, take, get_or, arith}
-use Rattle.std.specs.Prelude.{Bool, true, false, ◌&&◌, codes}
+use Rattle.std.proofs.Common.{◌≡◌, ◌++◌, ◌∷◌, [], ℕ, ◌+◌, ◌<◌, List, Option, Result, Ok, sym, subst, length, take, get_or, arith}
+use Rattle.std.specs.Prelude.{Bool, true, false, codes}
 use Rattle.std.specs.Borrow.{Bor}
 use Rattle.std.specs.Io.KnownBytes.{Appends}
 use Rattle.std.proofs.lemmas.List.{append-nil, length-take-le, take_more}

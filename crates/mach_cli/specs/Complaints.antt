@@ -1,6 +1,7 @@
 -- What a program complains of, of its call and not of a file's bytes, in a line that its name begins.
 use Rattle.std.specs.Prelude.{◌==◌, ℕ, List, [], ◌++◌, codes, length, if◌then◌else◌, Option, Some, None}
 use Rattle.std.specs.Borrow.{Bor}
+use Rattle.mach_cli.specs.Escapes.{escaped_text}
 use Rattle.mach_cli.specs.Misuses.{misuse_words}
 use Rattle.mach_cli.specs.declared.complaint.Complaint.{Complaint}
 use Rattle.mach_cli.specs.declared.complaint.Trouble.{Trouble}
@@ -13,7 +14,7 @@ meant_words None = []
 
 -- the file that can't be written, if it has a name
 abbrev pub unwritten_words : List ℕ → List ℕ
-unwritten_words file = if length file == 0 then codes "cannot write" else codes "cannot write " ++ file
+unwritten_words file = if length file == 0 then codes "cannot write" else codes "cannot write " ++ escaped_text file
 
 abbrev pub trouble_words : Trouble → List ℕ
 trouble_words Memory = codes "out of memory"

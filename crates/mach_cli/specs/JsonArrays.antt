@@ -1,9 +1,10 @@
 -- Arrays of the rows of lists, an object a row (RFC 8259, 5).
-use Rattle.std.specs.Prelude.{◌≡◌, ◌-◌, ◌&&◌, ◌||◌, ℕ, List, [], ◌∷◌, ◌++◌, codes, map, take, length, nat_lt, Bool, true, false, Option, Result, Ok, Err}
+use Rattle.std.specs.Prelude.{◌≡◌, ◌==◌, ◌-◌, ◌&&◌, ◌||◌, ℕ, List, [], ◌∷◌, ◌++◌, codes, map, take, length, nat_lt, Bool, Option, Result, Ok, Err}
 use Rattle.std.specs.Prelude.{not, if◌then◌else◌}
 use Rattle.std.specs.Io.KnownBytes.{Appends}
 use Rattle.std.specs.List.{flat_map, list_all}
 use Rattle.std.specs.Result.{is_ok}
+use Rattle.std.specs.Fmt.{decimal}
 use Rattle.mach_base.specs.Fault.{Fault}
 use Rattle.mach_base.specs.Words.{words_of}
 use Rattle.mach_base.specs.declared.error.Error.{Error}
@@ -96,6 +97,10 @@ pub record WritesMembers (left : ℕ) (lists : List NamedRows) (old new : Option
 abbrev pub lists_end : (more : Bool) → List ℕ
 lists_end more = codes "\"kind\":\"image\",\"limit_met\":" ++ json_bool more
 
+-- the same of lists that claim so many items more past the end of the bytes
+abbrev pub lists_end_past : (more : Bool) → (past : ℕ) → List ℕ
+lists_end_past more past = lists_end more ++ (codes ",\"past_the_end\":" ++ decimal past)
+
 -- The text is the members of an image of which these lists are told, of all their rows in order the first ones, no more than `left`. It is whole
 -- where there are no more, and none of these is missing.
 pub record AreListMembers (left : ℕ) (lists : List NamedRows) (text : List ℕ) (whole : Bool) (rest : ℕ) : Type 0 where
@@ -111,3 +116,12 @@ pub record WritesListMembers (left : ℕ) (lists : List NamedRows) (whole : Bool
   pub text : List ℕ
   pub members : AreListMembers left lists text whole rest
   pub written : Appends old new text
+
+-- The same of lists that claim so many items more past the end of the bytes: it is whole where there are none.
+pub record AreBegunMembers (left : ℕ) (lists : List NamedRows) (past : ℕ) (text : List ℕ) (whole : Bool) (rest : ℕ) : Type 0 where
+  pub front : List ℕ
+  pub readable : Bool
+  pub more : Bool
+  pub members : AreArrayMembers left lists front readable more rest
+  pub is_text : text ≡ front ++ lists_end_past more past
+  pub is_whole : whole ≡ ((readable && not more) && (past == 0))

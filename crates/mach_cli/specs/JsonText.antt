@@ -1,25 +1,12 @@
 -- Strings of JSON (RFC 8259, 7).
-use Rattle.std.specs.Prelude.{◌==◌, ◌||◌, ◌^◌, ◌-◌, ℕ, List, [], ◌∷◌, ◌++◌, codes, Bool, false, nat_lt, if◌then◌else◌}
-use Rattle.std.specs.Fmt.{digits, padded_integral, format_spec}
-use Rattle.std.specs.List.{flat_map}
+use Rattle.std.specs.Prelude.{List, ℕ, ◌++◌, codes, Bool, if◌then◌else◌}
+use Rattle.mach_cli.specs.Escapes.{written}
+use Rattle.mach_cli.specs.declared.escaped.Style.TheVariants.{Json}
 
--- a byte that doesn't stand in a string as it is: a control character, the quotation mark, the backslash, and, though JSON would have it, DEL
-unfoldable pub needs_escape : ℕ → Bool
-needs_escape n = nat_lt n 0x20 || n == 0x22 || n == 0x5c || n == 0x7f
-
--- what stands for it: a backslash and itself, or `\u` and its number in four hexadecimal digits
-abbrev pub json_escape : ℕ → List ℕ
-json_escape n =
-    if n == 0x22 then codes "\\\""
-    else (if n == 0x5c then codes "\\\\"
-    else codes "\\u" ++ padded_integral (format_spec 32 0 4 4 (2 ^ 64 - 1)) false [] (digits 16 false n))
-
-abbrev pub json_byte : ℕ → List ℕ
-json_byte n = if needs_escape n then json_escape n else n ∷ []
-
--- what stands between the quotation marks of a text, which is UTF-8: the bytes of a character above U+007F stand as they are
+-- What stands between the quotation marks of a text, which is UTF-8. A quotation mark and a backslash have a backslash before them. A character that a name
+-- hides (a control character, a control of direction, an end of a line) is `\u` and its number in four hexadecimal digits. All else is as it is.
 abbrev pub json_inner : List ℕ → List ℕ
-json_inner text = flat_map json_byte text
+json_inner text = written Json text
 
 -- a text as a string
 abbrev pub json_string : List ℕ → List ℕ

@@ -23,4 +23,10 @@ pub mod Opened
 pub mod TerminalShown
 pub mod Steps
 pub mod Flags
+pub mod Escapes
 pub mod SignatureNames
+pub mod Bounds
+pub mod CallWords
+pub mod Calls
+pub mod Listed
+pub mod Titles

@@ -1,5 +1,5 @@
 -- The lines of a list of rows, as many as a limit leaves, and that there are more.
-use Rattle.std.specs.Prelude.{◌≡◌, ◌&&◌, ◌-◌, ℕ, List, [], ◌++◌, codes, take, length, nat_lt, Bool, false, not, Option, Result, Ok, Err, if◌then◌else◌}
+use Rattle.std.specs.Prelude.{◌≡◌, ◌==◌, ◌&&◌, ◌-◌, ℕ, List, [], ◌++◌, codes, take, length, nat_lt, Bool, false, not, Option, Result, Ok, Err, if◌then◌else◌}
 use Rattle.std.specs.Fmt.{digits, decimal}
 use Rattle.std.specs.Io.KnownBytes.{Appends}
 use Rattle.std.specs.List.{list_all}
@@ -38,14 +38,20 @@ told_line word (Err e) = word ++ (codes ": " ++ (words_of e ++ codes "\n"))
 abbrev pub cut_line : ℕ → (more : Bool) → List ℕ
 cut_line limit more = if more then codes "limit: " ++ (decimal limit ++ codes " of them are told, and there are more\n") else []
 
+-- the line that says how many items of this name a list claims more, whose records begin past the end of the bytes, if there are some
+abbrev pub past_line : (name : List ℕ) → (past : ℕ) → List ℕ
+past_line name past = if past == 0 then [] else decimal past ++ (codes " more " ++ (name ++ codes " past the end\n"))
+
 -- The text is the lines of the first of these rows, as many as are left of the limit, in order; one that is missing is an error that reports its
--- fault. Behind them stands, exactly where there are more rows than that, a line that says so. It is whole where there are no more, and none is
--- missing. Each row told is one less that is left.
-pub record AreFirstLines (word : List ℕ) (limit left : ℕ) (rows : List (Result (List ℕ) Fault)) (text : List ℕ) (whole : Bool) (rest : ℕ) : Type 0 where
+-- fault. After them is, exactly where there are more rows than that, a line that says so; and then, exactly where `past` items of a name are claimed
+-- more past the end of the bytes, a line that says that. It is whole where there are no more rows, none is missing, and none is past the end. Each row
+-- told is one less that is left.
+pub record AreFirstLines (word : List ℕ) (limit left : ℕ) (rows : List (Result (List ℕ) Fault)) (name : List ℕ) (past : ℕ) (text : List ℕ)
+    (whole : Bool) (rest : ℕ) : Type 0 where
   pub lines : List ℕ
   pub are_lines : AreLines text_read (told_line word) (take left rows) lines
-  pub is_text : text ≡ lines ++ cut_line limit (nat_lt left (length rows))
-  pub is_whole : whole ≡ (list_all is_ok (take left rows) && not (nat_lt left (length rows)))
+  pub is_text : text ≡ lines ++ (cut_line limit (nat_lt left (length rows)) ++ past_line name past)
+  pub is_whole : whole ≡ ((list_all is_ok (take left rows) && not (nat_lt left (length rows))) && (past == 0))
   pub is_rest : rest ≡ left - length rows
 
 -- The first rows were gone over, no more than `left`, and this is what is known then.
@@ -61,9 +67,9 @@ pub record WritesRows (word : List ℕ) (left : ℕ) (rows : List (Result (List 
   pub rest : t.left ≡ left - length rows
   pub more : t.more ≡ nat_lt left (length rows)
 
--- What was written is such lines, and behind them where there are more.
-pub record WritesFirstLines (word : List ℕ) (limit left : ℕ) (rows : List (Result (List ℕ) Fault)) (whole : Bool) (rest : ℕ)
+-- What was written is such lines, and after them where there are more.
+pub record WritesFirstLines (word : List ℕ) (limit left : ℕ) (rows : List (Result (List ℕ) Fault)) (name : List ℕ) (past : ℕ) (whole : Bool) (rest : ℕ)
     (old new : Option (List ℕ)) : Type 0 where
   pub text : List ℕ
-  pub lines : AreFirstLines word limit left rows text whole rest
+  pub lines : AreFirstLines word limit left rows name past text whole rest
   pub written : Appends old new text

@@ -1,11 +1,14 @@
 -- The files of a call, one behind the other.
 use Rattle.std.specs.Prelude.{◌≡◌, ℕ, List, [], ◌++◌, codes, Bool, if◌then◌else◌, ◌⊎◌, max, Option, Some, None}
-use Rattle.std.specs.Io.KnownBytes.{Appends}
+use Rattle.std.specs.declared.io.buffered.BufWriter.{BufWriter}
+use Rattle.mach_cli.specs.Escapes.{escaped_text}
+use Rattle.mach_cli.specs.Titles.{IsUnder}
 use Rattle.mach_cli.specs.declared.file_sequence.Round.{Round}
+use Rattle.mach_cli.specs.declared.titled.Titled.{Titled}
 
 -- the lines under which a file stands, as `nm` has them, where there are several
 abbrev pub title_text : (is_titled : Bool) → List ℕ → List ℕ
-title_text is_titled file = if is_titled then codes "\n" ++ (file ++ codes ":\n") else []
+title_text is_titled file = if is_titled then codes "\n" ++ (escaped_text file ++ codes ":\n") else []
 
 -- the status of what can't be read: 1 for want of memory, else 2
 abbrev pub IsUnreadStatus : ℕ → Type 0
@@ -16,8 +19,8 @@ pub record IsSameCall (old new : Round) : Type 0 where
   pub program : new.program ≡ old.program
   pub is_titled : new.is_titled ≡ old.is_titled
 
--- A file begins: its bytes are there, under its name if there are several, and the worst status stays; or they aren't, and nothing is written,
--- and this counts as one of the statuses of files that can't be read.
-abbrev pub Begins : {A : Type 0} (file : List ℕ) (old new : Round) (out_old out_new : Option (List ℕ)) → Option A → Type 0
-Begins file old new out_old out_new (Some bytes) = (new.worst ≡ old.worst) × Appends out_old out_new (title_text old.is_titled file)
-Begins file old new out_old out_new None = (status : ℕ) × IsUnreadStatus status × (new.worst ≡ max old.worst status) × Appends out_old out_new []
+-- A file begins: its bytes are there, what is written next stands under its name if there are several, and the worst status stays; or they aren't,
+-- and the writer is unchanged, and this counts as one of the statuses of files that can't be read.
+abbrev pub Begins : {A W B : Type 0} (file : List ℕ) (old new : Round) (out_old out_new : BufWriter (Titled W) B) → Option A → Type 0
+Begins file old new out_old out_new (Some bytes) = (new.worst ≡ old.worst) × IsUnder (title_text old.is_titled file) out_old out_new
+Begins file old new out_old out_new None = (status : ℕ) × IsUnreadStatus status × (new.worst ≡ max old.worst status) × (out_new ≡ out_old)

@@ -1,17 +1,13 @@
 -- What is shown of bytes on a terminal.
-use Rattle.std.specs.Prelude.{◌==◌, ◌||◌, ◌&&◌, ◌^◌, ◌-◌, ℕ, List, [], ◌∷◌, ◌++◌, codes, Bool, false, not, nat_lt, flat_map, if◌then◌else◌, Option, None}
-use Rattle.std.specs.Fmt.{digits, padded_integral, format_spec}
+use Rattle.std.specs.Prelude.{◌==◌, ◌||◌, ◌&&◌, ℕ, List, [], ◌∷◌, Bool, not, nat_lt, flat_map, if◌then◌else◌, Option, None}
 use Rattle.std.specs.Io.KnownBytes.{Appends}
+use Rattle.mach_cli.specs.Escapes.{escape_text}
 use Rattle.mach_cli.specs.declared.terminal.ForTerminal.{ForTerminal}
 use Rattle.mach_cli.specs.declared.terminal.ForTerminal.TheVariants.{Plain, Shown}
 
 -- a byte that may change what a terminal shows: a control character that ends no line
 abbrev pub is_control : ℕ → Bool
 is_control n = nat_lt n 0x20 && not (n == 0x0a) || n == 0x7f
-
--- a byte in two hexadecimal digits, behind a backslash and an x
-abbrev pub escape_text : ℕ → List ℕ
-escape_text n = codes "\\x" ++ padded_integral (format_spec 32 0 4 2 (2 ^ 64 - 1)) false [] (digits 16 false n)
 
 -- what is shown of a byte
 abbrev pub shown_byte : ℕ → List ℕ

@@ -1,7 +1,12 @@
 //! The words of a call.
 
+ghost use Rattle.std.specs.Prelude.{◌≡◌, ℕ, None, IfErr, IfNone, IfOk, IfSome, OnOk};
+ghost use Rattle.mach_cli.specs.Calls.{call_view, nothing_said, kind_at, word_kind, AddsWord, AreUntaken, AsksFor, IsCputype, IsRequest, TakesValue, TakesWord};
+
 use crate::cpu::{Arch, Cpu};
 use crate::misuse::Misuse;
+use crate::named::Others;
+use crate::word::{NoText, Word};
 use std::alloc::{AllocError, Allocator};
 
 /// The words of a call behind the program's name and the options.
@@ -11,8 +16,10 @@ pub struct Call<'a, A: Allocator> {
     pub limit: Option<usize>,
     /// The cpu behind `--arch` or `--cputype`; any, where neither is given.
     pub cpu: Cpu,
-    /// All other words, in order.
+    /// All other words that are text, in order.
     pub words: Vec<&'a str, A>,
+    /// The files that are named otherwise.
+    pub others: Others<'a, A>,
 }
 
 /// What the words of a call ask for.
@@ -28,58 +35,104 @@ pub enum Request<'a, A: Allocator> {
     Nothing(Misuse<'a>),
 }
 
+/// Which options a program has.
+#[derive(Clone, Copy)]
+pub struct Options {
+    /// `--limit`.
+    pub has_limit: bool,
+    /// `--arch` and `--cputype`.
+    pub has_cpu: bool,
+    /// `--names` and `-0`, as it takes several files.
+    pub has_files: bool,
+}
+
 // An option that has a word behind it.
 #[derive(Clone, Copy)]
 enum Valued {
     Limit,
     Arch,
     Cputype,
+    Names,
+}
+
+// What a word is that stands behind no option, and before `--`.
+#[derive(Clone, Copy)]
+enum Kind {
+    // `--`: the words behind it are no options.
+    Plain,
+    Help,
+    Version,
+    // `-0`: names in lists end with NUL.
+    Nul,
+    // An option that has a word behind it.
+    Valued(Valued),
+    // No option.
+    Other,
+    // An option that the program hasn't.
+    Unknown,
+}
+
+// Why words ask for nothing, or aren't read.
+#[derive(Clone, Copy)]
+enum Untaken<'a> {
+    // What is wrong with one of them.
+    Misuse(Misuse<'a>),
+    // Memory is refused.
+    Memory,
+}
+
+/// Whether an option that programs share has a word behind it.
+pub fn takes_word(option: &str) -> bool {
+    matches!(option, "--limit" | "--arch" | "--cputype" | "--names")
+}
+
+// What a word is that stands behind no option, and before `--`.
+fn kind_of(word: &str, options: Options) -> Kind
+    ensures { result ≡ word_kind options word.now }
+{
+    match word {
+        "--" => Kind::Plain,
+        "-h" | "--help" => Kind::Help,
+        "--version" => Kind::Version,
+        "-0" if options.has_files => Kind::Nul,
+        "--limit" if options.has_limit => Kind::Valued(Valued::Limit),
+        "--arch" if options.has_cpu => Kind::Valued(Valued::Arch),
+        "--cputype" if options.has_cpu => Kind::Valued(Valued::Cputype),
+        "--names" if options.has_files => Kind::Valued(Valued::Names),
+        "-" => Kind::Other,
+        _ if word.starts_with('-') => Kind::Unknown,
+        _ => Kind::Other,
+    }
+}
+
+// What a word is that stands behind no option: after `--` no option.
+fn kind_at(is_plain: bool, word: &str, options: Options) -> Kind
+    ensures { result ≡ kind_at is_plain options word.now }
+{
+    if is_plain {
+        Kind::Other
+    } else {
+        kind_of(word, options)
+    }
 }
 
 impl Valued {
-    // The option that a word is, if the program has it.
-    fn named(word: &str, has_limit: bool, has_cpu: bool) -> Option<Valued> {
-        match word {
-            "--limit" if has_limit => Some(Valued::Limit),
-            "--arch" if has_cpu => Some(Valued::Arch),
-            "--cputype" if has_cpu => Some(Valued::Cputype),
-            _ => None,
-        }
-    }
-
     // What is missing where nothing stands behind it.
     fn missing(self) -> &'static str {
         match self {
             Valued::Limit => "number behind --limit",
             Valued::Arch => "NAME behind --arch",
             Valued::Cputype => "0xN behind --cputype",
+            Valued::Names => "FILE behind --names",
         }
-    }
-}
-
-impl<'a, A: Allocator> Call<'a, A> {
-    // Takes the word behind an option.
-    fn take(&mut self, option: Valued, word: &'a str) -> Result<(), Misuse<'a>> {
-        match option {
-            Valued::Limit => match word.parse::<usize>() {
-                Ok(number) => self.limit = Some(number),
-                Err(_) => return Err(Misuse::NoNumber(word)),
-            },
-            Valued::Arch => match Arch::named(word) {
-                Some(arch) => self.cpu = Cpu::Arch(arch),
-                None => return Err(Misuse::NoCpu(word)),
-            },
-            Valued::Cputype => match cputype_in(word) {
-                Some(number) => self.cpu = Cpu::Number(number),
-                None => return Err(Misuse::NoCpu(word)),
-            },
-        }
-        Ok(())
     }
 }
 
 /// The number of a cpu in a word: `0x`, and 1 to 8 hexadecimal digits.
-pub fn cputype_in(word: &str) -> Option<u32> {
+pub fn cputype_in(word: &str) -> Option<u32>
+    ensures value { IfSome result (λ number. IsCputype word.now number) }
+    ensures none { IfNone result ((number : ℕ) → IsCputype word.now number → ⊥) }
+{
     let digits = word.strip_prefix("0x")?;
     if digits.len() > 8 || digits.starts_with('+') {
         return None;
@@ -87,44 +140,140 @@ pub fn cputype_in(word: &str) -> Option<u32> {
     u32::from_str_radix(digits, 16).ok()
 }
 
-/// What the words behind the program's name ask for. An option may stand anywhere before `--`; behind that there are other words alone. `-`
-/// is no option.
-pub fn understand<'a, A: Allocator>(
-    alloc: A,
-    has_limit: bool,
-    has_cpu: bool,
-    words: &'a [String],
-) -> Result<Request<'a, A>, AllocError> {
-    let mut call = Call {
-        limit: None,
-        cpu: Cpu::Any,
-        words: Vec::new(alloc),
-    };
-    let mut before: Option<Valued> = None;
-    let mut is_plain = false;
-    'words: for word in words {
-        let word = word.as_str();
-        if let Some(option) = before {
-            if let Err(misuse) = call.take(option, word) {
-                return Ok(Request::Nothing(misuse));
+impl<'a, A: Allocator> Call<'a, A> {
+    // Takes the word behind an option; that behind `--names` is a list.
+    fn take(&mut self, option: Valued, word: &'a str) -> Result<(), Untaken<'a>>
+        ensures taken { OnOk result (TakesValue option word.now (call_view self.old) (call_view self.new)) }
+        ensures untaken { IfErr result (AreUntaken (TakesValue option word.now (call_view self.old))) }
+    {
+        match option {
+            Valued::Limit => match word.parse::<usize>() {
+                Ok(number) => self.limit = Some(number),
+                Err(_) => return Err(Untaken::Misuse(Misuse::NoNumber(word))),
+            },
+            Valued::Arch => match Arch::named(word) {
+                Some(arch) => self.cpu = Cpu::Arch(arch),
+                None => return Err(Untaken::Misuse(Misuse::NoCpu(word))),
+            },
+            Valued::Cputype => match cputype_in(word) {
+                Some(number) => self.cpu = Cpu::Number(number),
+                None => return Err(Untaken::Misuse(Misuse::NoCpu(word))),
+            },
+            Valued::Names => {
+                if self.others.lists.push(word).is_err() {
+                    return Err(Untaken::Memory);
+                }
             }
-            before = None;
-        } else if is_plain || word == "-" || !word.starts_with('-') {
-            call.words.push(word)?;
-        } else {
-            match word {
-                "--" => is_plain = true,
-                "-h" | "--help" => return Ok(Request::Help),
-                "--version" => return Ok(Request::Version),
-                _ => match Valued::named(word, has_limit, has_cpu) {
-                    Some(option) => before = Some(option),
-                    None => return Ok(Request::Nothing(Misuse::UnknownOption(word))),
-                },
+        }
+        Ok(())
+    }
+
+    // Takes the word behind an option, which is to be text.
+    fn take_word(&mut self, option: Valued, word: &'a Word) -> Result<(), Untaken<'a>>
+        ensures taken { OnOk result (TakesWord option word.now (call_view self.old) (call_view self.new)) }
+        ensures untaken { IfErr result (AreUntaken (TakesWord option word.now (call_view self.old))) }
+    {
+        match word {
+            Word::Text(text) => self.take(option, text.as_str()),
+            Word::Bytes(number, bytes) => {
+                Err(Untaken::Misuse(Misuse::NoText(no_text(*number, bytes))))
             }
         }
     }
-    if let Some(option) = before {
-        return Ok(Request::Nothing(Misuse::Missing(option.missing())));
+
+    // Takes a word that is no option and stands behind none: one that is no text, if files may be among them.
+    fn add(&mut self, word: &'a Word, options: Options) -> Result<(), Untaken<'a>>
+        ensures added { OnOk result (AddsWord options word.now (call_view self.old) (call_view self.new)) }
+        ensures untaken { IfErr result (AreUntaken (AddsWord options word.now (call_view self.old))) }
+    {
+        let pushed = match word {
+            Word::Text(text) => self.words.push(text.as_str()).is_ok(),
+            Word::Bytes(number, bytes) => {
+                let no_text = no_text(*number, bytes);
+                if !options.has_files {
+                    return Err(Untaken::Misuse(Misuse::NoText(no_text)));
+                }
+                self.others.no_texts.push(no_text).is_ok()
+            }
+        };
+        if pushed { Ok(()) } else { Err(Untaken::Memory) }
     }
-    Ok(Request::Call(call))
+}
+
+// That the word of a number is no text.
+fn no_text(number: usize, bytes: &[u8]) -> NoText<'_>
+    ensures { (result.number ≡ number) × (result.bytes.now ≡ bytes.now) }
+{
+    NoText {
+        what: "word",
+        number,
+        bytes,
+    }
+}
+
+/// What the words behind the program's name ask for. An option may stand anywhere before `--`; behind that there are other words alone. `-`
+/// is no option.
+pub fn understand<'a, A: Allocator + Clone>(
+    alloc: &A,
+    options: Options,
+    words: &'a [Word],
+) -> Result<Request<'a, A>, AllocError>
+    ensures { IfOk result (IsRequest options nothing_said words.now) }
+{
+    let call = Call {
+        limit: None,
+        cpu: Cpu::Any,
+        words: Vec::new(alloc.clone()?),
+        others: Others {
+            lists: Vec::new(alloc.clone()?),
+            ends_with_nul: false,
+            no_texts: Vec::new(alloc.clone()?),
+        },
+    };
+    match read(call, options, words) {
+        Ok(request) => Ok(request),
+        Err(Untaken::Misuse(misuse)) => Ok(Request::Nothing(misuse)),
+        Err(Untaken::Memory) => Err(AllocError),
+    }
+}
+
+// What words ask for, behind what a call has.
+fn read<'a, A: Allocator>(
+    mut call: Call<'a, A>,
+    options: Options,
+    words: &'a [Word],
+) -> Result<Request<'a, A>, Untaken<'a>>
+    ensures request { IfOk result (IsRequest options (call_view call.entry) words.now) }
+    ensures untaken { IfErr result (AreUntaken (AsksFor options None (call_view call.entry) words.now)) }
+{
+    let mut before: Option<Valued> = None;
+    let mut is_plain = false;
+    'words: for word in words {
+        if let Some(option) = before {
+            if let Err(untaken) = call.take_word(option, word) {
+                return Err(untaken);
+            }
+            before = None;
+            continue;
+        }
+        match kind_at(is_plain, word.as_str(), options) {
+            Kind::Plain => is_plain = true,
+            Kind::Help => return Ok(Request::Help),
+            Kind::Version => return Ok(Request::Version),
+            Kind::Nul => call.others.ends_with_nul = true,
+            Kind::Valued(option) => before = Some(option),
+            Kind::Other => {
+                if let Err(untaken) = call.add(word, options) {
+                    return Err(untaken);
+                }
+            }
+            Kind::Unknown => {
+                return Err(Untaken::Misuse(Misuse::UnknownOption(word.as_str())));
+            }
+        }
+    }
+    match before {
+        Some(option) => Err(Untaken::Misuse(Misuse::Missing(option.missing()))),
+        None => Ok(Request::Call(call)),
+    }
 }

@@ -1,5 +1,6 @@
 //! What a program complains of, of its call and not of a file's bytes.
 
+use crate::escaped::Escaped;
 use crate::misuse::Misuse;
 use std::fmt;
 use std::fmt::{Display, Formatter, Write};
@@ -35,7 +36,7 @@ impl Display for Trouble<'_> {
                 if file.is_empty() {
                     write!(f, "cannot write")
                 } else {
-                    write!(f, "cannot write {file}")
+                    write!(f, "cannot write {}", Escaped(file))
                 }
             }
             Trouble::Misused(misuse, None) => write!(f, "{misuse}"),

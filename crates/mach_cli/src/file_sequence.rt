@@ -1,14 +1,12 @@
 //! The files of a call, one behind the other.
 
-ghost use Rattle.std.specs.Prelude.{◌≡◌, ◌≤◌, max, nat_lt, IsOk, IfOk, IfErr, OnOk, Err};
-ghost use Rattle.std.specs.Io.KnownBytes.{Appends};
-ghost use Rattle.mach_cli.specs.Rounds.{Begins, IsSameCall, title_text};
-ghost use Rattle.mach_cli.specs.Statuses.{IsUnwritten};
+ghost use Rattle.std.specs.Prelude.{◌≡◌, ◌≤◌, max, nat_lt, IsOk, OnOk, Err};
+ghost use Rattle.mach_cli.specs.Rounds.{Begins, IsSameCall};
 
-use crate::output::failed;
 use crate::program::Program;
-use std::io;
-use std::io::Write;
+use crate::titled::{Titled, put_title, title_of};
+use std::alloc::Allocator;
+use std::io::{BufWriter, Write};
 
 /// The files of a call, one behind the other.
 #[derive(Clone, Copy)]
@@ -35,29 +33,31 @@ impl Round {
         }
     }
 
-    /// The bytes of the next file, whose name is written where there are several; none where they can't be had, which is told.
-    /// Where the name can't be written, the error is the exit status.
-    pub fn begin<W: Write>(
+    /// The bytes of the next file, whose name is written before what is shown of it where there are several; none where they can't be had,
+    /// which is told.
+    pub fn begin<W: Write + Drop, B: Allocator>(
         &mut self,
         rt: &HostRuntime,
         file: &str,
-        out: &mut W,
-    ) -> Result<Option<Vec<u8>>, u8>
+        out: &mut BufWriter<Titled<W>, B>,
+    ) -> Option<Vec<u8>>
         ensures same { IsSameCall self.old self.new }
-        ensures begun { IfOk result (Begins file.now self.old self.new (W.contents out.old) (W.contents out.new)) }
-        ensures unwritten { IfErr result (λ status. IsUnwritten status) }
+        ensures begun { Begins file.now self.old self.new out.old out.new result }
     {
         let bytes = match self.program.read(rt, file) {
             Ok(bytes) => bytes,
             Err(status) => {
                 self.note(status);
-                return Ok(None);
+                return None;
             }
         };
-        match title(self.is_titled, file, out) {
-            Ok(()) => Ok(Some(bytes)),
-            Err(error) => Err(failed(self.program.name, "", error, &mut rt.stderr())),
-        }
+        let Ok(title) = title_of(rt.alloc(), self.is_titled, file) else {
+            let status = self.program.no_memory_for(rt, file);
+            self.note(status);
+            return None;
+        };
+        put_title(out, title);
+        Some(bytes)
     }
 
     /// Takes the status of a file. Behind a failed write there is no other: the error is the exit status.
@@ -74,21 +74,11 @@ impl Round {
         Ok(())
     }
 
-    // Keeps the worse of two statuses.
-    fn note(&mut self, status: u8)
+    /// Keeps the worse of two statuses.
+    pub fn note(&mut self, status: u8)
         ensures same { IsSameCall self.old self.new }
         ensures worst { self.new.worst ≡ max self.old.worst status }
     {
         self.worst = self.worst.max(status);
     }
-}
-
-// Writes the name under which a file stands, as `nm` does, where there are several.
-fn title<O: Write>(is_titled: bool, file: &str, out: &mut O) -> io::Result<()>
-    ensures { OnOk result (Appends (O.contents out.old) (O.contents out.new) (title_text is_titled file.now)) }
-{
-    if is_titled {
-        writeln!(out, "\n{file}:")?;
-    }
-    Ok(())
 }

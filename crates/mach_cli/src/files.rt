@@ -1,21 +1,24 @@
 //! The files of a call, each shown as its parts.
 
-ghost use Rattle.std.specs.Prelude.{◌≡◌, ◌≤◌, IfErr, IfOk, OnOk, true};
-ghost use Rattle.std.specs.Io.KnownBytes.{Appends};
-ghost use Rattle.mach_cli.specs.Rounds.{title_text};
+ghost use Rattle.std.specs.Prelude.{◌≡◌, ◌≤◌, IfErr, IfOk, OnOk};
 ghost use Rattle.mach_cli.specs.Statuses.{IsStatus, IsUnwritten};
 
 use crate::cpu::Cpu;
 use crate::file_sequence::Round;
+use crate::named::{Others, names_of};
 use crate::names::Names;
-use crate::output::failed;
 use crate::parts::parts_of;
 use crate::parts::selection::{is_for, is_missed};
 use crate::parts::shown::{ShownPart, shown_part};
 use crate::program::Program;
+use crate::progress::Progress;
+use crate::titled::{Titled, put_title, title_of};
+use crate::word::NoText;
 use goblin_mach::InputItem;
 use mach_base::{Error, describe};
-use std::io::Write;
+use std::alloc::{Allocator, Global};
+use std::io::{BufWriter, IsTerminal, Write};
+use std::str;
 
 /// What a program shows of a file.
 pub trait ShowsFile<W> {
@@ -35,34 +38,115 @@ pub struct Files {
     pub cpu: Cpu,
     /// Whether what is shown may stand under its name: that of a file where there are several, that of a part always.
     pub has_titles: bool,
+    /// Whether each part of a file is shown, and not the file as it is.
+    pub has_parts: bool,
+}
+
+// How far a call has come.
+#[derive(Clone, Copy)]
+struct Going {
+    round: Round,
+    progress: Progress,
+    // Whether there may be several files.
+    are_several: bool,
 }
 
 impl Files {
-    /// Shows files in order, and answers the worst status; that of a failed write as an error, as nothing is shown behind it.
-    pub fn show<S: ShowsFile<W>, W: Write>(
+    /// Shows files in order, and then those that are named otherwise, and answers the worst status; that of a failed write as an error, as nothing is
+    /// shown after it.
+    pub fn show<S: ShowsFile<BufWriter<Titled<W>, B>>, W: Write + Drop, B: Allocator>(
         &self,
         rt: &HostRuntime,
         shows: &S,
         files: &[&str],
-        out: &mut W,
+        others: &Others<'_, Global>,
+        out: &mut BufWriter<Titled<W>, B>,
     ) -> Result<u8, u8>
         ensures worst { IfOk result (λ status. status ≤ 2) }
         ensures unwritten { IfErr result (λ status. IsUnwritten status) }
     {
-        let mut round = Round::new(self.program, files.len());
-        let are_several = round.is_titled;
-        // (what is shown of a file has a title of its own)
-        round.is_titled = false;
+        let mut going = Going {
+            // (what is shown of a file has a title of its own)
+            round: Round::new(self.program, 1),
+            progress: Progress::new(rt, rt.stderr().is_terminal()),
+            are_several: others.are_several(files.len()),
+        };
+        'words: for word in others.no_texts.iter() {
+            going.round.note(self.refuse_word(rt, *word));
+        }
         'files: for file in files {
-            if let Some(bytes) = round.begin(rt, file, out)? {
-                self.show_parts(rt, shows, &mut round, file, &bytes, are_several, out)?;
+            self.show_file(rt, shows, &mut going, file, out)?;
+        }
+        'lists: for list in others.lists.iter() {
+            self.show_listed(rt, shows, &mut going, list, others.name_end(), out)?;
+        }
+        Ok(going.round.worst)
+    }
+
+    // Shows the files that a list names, and keeps the worst status. An empty name is none.
+    fn show_listed<S: ShowsFile<BufWriter<Titled<W>, B>>, W: Write + Drop, B: Allocator>(
+        &self,
+        rt: &HostRuntime,
+        shows: &S,
+        going: &mut Going,
+        list: &str,
+        end: u8,
+        out: &mut BufWriter<Titled<W>, B>,
+    ) -> Result<(), u8>
+        ensures worst { OnOk result (going.old.round.worst ≤ 2 → going.new.round.worst ≤ 2) }
+        ensures unwritten { IfErr result (λ status. IsUnwritten status) }
+    {
+        let bytes = match self.program.read(rt, list) {
+            Ok(bytes) => bytes,
+            Err(status) => {
+                going.round.note(status);
+                return Ok(());
+            }
+        };
+        let Ok(names) = names_of(rt.alloc(), end, &bytes) else {
+            going.round.note(self.program.no_memory_for(rt, list));
+            return Ok(());
+        };
+        'names: for (index, name) in names.iter().enumerate() {
+            match str::from_utf8(name) {
+                Ok("") => {}
+                Ok(file) => self.show_file(rt, shows, going, file, out)?,
+                Err(_) => going.round.note(self.refuse_name(rt, list, index, name)),
             }
         }
-        Ok(round.worst)
+        Ok(())
+    }
+
+    // Shows a file, and keeps the worst status. Where many take long, it is said on a terminal that this one is begun.
+    fn show_file<S: ShowsFile<BufWriter<Titled<W>, B>>, W: Write + Drop, B: Allocator>(
+        &self,
+        rt: &HostRuntime,
+        shows: &S,
+        going: &mut Going,
+        file: &str,
+        out: &mut BufWriter<Titled<W>, B>,
+    ) -> Result<(), u8>
+        ensures worst { OnOk result (going.old.round.worst ≤ 2 → going.new.round.worst ≤ 2) }
+        ensures unwritten { IfErr result (λ status. IsUnwritten status) }
+    {
+        going
+            .progress
+            .begin(rt, self.program.name, file, &mut rt.stderr());
+        let are_several = going.are_several;
+        match going.round.begin(rt, file, out) {
+            Some(bytes) if self.has_parts => {
+                self.show_parts(rt, shows, &mut going.round, file, &bytes, are_several, out)
+            }
+            Some(bytes) => {
+                let status = self.show_named(rt, shows, file, &bytes, are_several, out);
+                going.round.end(status)
+            }
+            None => Ok(()),
+        }
     }
 
     // Shows the parts of a file that are asked for, and keeps the worst status.
-    fn show_parts<S: ShowsFile<W>, W: Write>(
+    fn show_parts<S: ShowsFile<BufWriter<Titled<W>, B>>, W: Write + Drop, B: Allocator>(
         &self,
         rt: &HostRuntime,
         shows: &S,
@@ -70,7 +154,7 @@ impl Files {
         file: &str,
         bytes: &[u8],
         are_several: bool,
-        out: &mut W,
+        out: &mut BufWriter<Titled<W>, B>,
     ) -> Result<(), u8>
         ensures worst { OnOk result (round.old.worst ≤ 2 → round.new.worst ≤ 2) }
         ensures unwritten { IfErr result (λ status. IsUnwritten status) }
@@ -80,66 +164,54 @@ impl Files {
         }
         'parts: for part in parts_of(rt.alloc(), bytes) {
             if is_for(self.cpu, &part.place) {
-                round.end(self.show_part(rt, shows, file, part, are_several, out)?)?;
+                round.end(self.show_part(rt, shows, file, part, are_several, out))?;
             }
         }
         Ok(())
     }
 
-    // Shows a part of a file, and answers the status; where its title can't be written, as an error.
-    fn show_part<S: ShowsFile<W>, W: Write>(
+    // Shows a part of a file, and answers the status.
+    fn show_part<S: ShowsFile<BufWriter<Titled<W>, B>>, W: Write + Drop, B: Allocator>(
         &self,
         rt: &HostRuntime,
         shows: &S,
         file: &str,
         part: InputItem<'_>,
         are_several: bool,
-        out: &mut W,
-    ) -> Result<u8, u8>
-        ensures status { IfOk result (λ status. IsStatus status) }
-        ensures unwritten { IfErr result (λ status. IsUnwritten status) }
+        out: &mut BufWriter<Titled<W>, B>,
+    ) -> u8
+        ensures { IsStatus result }
     {
         let entry = part.place.entry;
         match shown_part(rt.alloc(), file, part) {
-            Ok(ShownPart::Nothing) => Ok(0),
+            Ok(ShownPart::Nothing) => 0,
             Ok(ShownPart::Itself(bytes)) => {
                 self.show_named(rt, shows, file, bytes, are_several, out)
             }
             Ok(ShownPart::Within(name, bytes)) => {
                 self.show_named(rt, shows, &name, bytes, true, out)
             }
-            Err(error) => Ok(self.refuse(rt, file, entry, &error)),
+            Err(error) => self.refuse(rt, file, entry, &error),
         }
     }
 
     // Shows a file or a part of this name, and answers the status.
-    fn show_named<S: ShowsFile<W>, W: Write>(
+    fn show_named<S: ShowsFile<BufWriter<Titled<W>, B>>, W: Write + Drop, B: Allocator>(
         &self,
         rt: &HostRuntime,
         shows: &S,
         name: &str,
         bytes: &[u8],
         is_titled: bool,
-        out: &mut W,
-    ) -> Result<u8, u8>
-        ensures status { IfOk result (λ status. IsStatus status) }
-        ensures unwritten { IfErr result (λ status. IsUnwritten status) }
+        out: &mut BufWriter<Titled<W>, B>,
+    ) -> u8
+        ensures { IsStatus result }
     {
-        if is_titled && self.has_titles {
-            self.title(rt, name, out)?;
-        }
-        Ok(shows.show(rt, name, bytes, out))
-    }
-
-    // Writes the name under which a part or a file stands, as `nm` does.
-    fn title<W: Write>(&self, rt: &HostRuntime, name: &str, out: &mut W) -> Result<(), u8>
-        ensures titled { OnOk result (Appends (W.contents out.old) (W.contents out.new) (title_text true name.now)) }
-        ensures unwritten { IfErr result (λ status. IsUnwritten status) }
-    {
-        match writeln!(out, "\n{name}:") {
-            Ok(()) => Ok(()),
-            Err(error) => Err(failed(self.program.name, "", error, &mut rt.stderr())),
-        }
+        let Ok(title) = title_of(rt.alloc(), is_titled & self.has_titles, name) else {
+            return self.program.no_memory_for(rt, name);
+        };
+        put_title(out, title);
+        shows.show(rt, name, bytes, out)
     }
 
     // The status where none of a file's parts is asked for, which is told.
@@ -161,6 +233,29 @@ impl Files {
             None => rt.eprintln(format_args!("{names}: {words}")),
         };
         1
+    }
+
+    // The status where a name in a list is no text, which is told.
+    fn refuse_name(&self, rt: &HostRuntime, list: &str, index: usize, bytes: &[u8]) -> u8
+        ensures { result ≡ 2 }
+    {
+        let names = self.names(list);
+        let no_text = NoText {
+            what: "name",
+            number: index.saturating_add(1),
+            bytes,
+        };
+        let _ = rt.eprintln(format_args!("{names}: {no_text}"));
+        2
+    }
+
+    // The status where a word is no text, which is told.
+    fn refuse_word(&self, rt: &HostRuntime, word: NoText<'_>) -> u8
+        ensures { result ≡ 2 }
+    {
+        let program = self.program.name;
+        let _ = rt.eprintln(format_args!("{program}: {word}"));
+        2
     }
 
     // What the complaints of a file begin with.

@@ -4,14 +4,17 @@
 #![tactic(auto)]
 
 // The arguments of a call, and what a program says of itself.
+mod bounds;
 mod call;
 mod complaint;
 mod cpu;
 mod failure;
 mod foreign;
 mod misuse;
+mod named;
 pub mod output;
 mod program;
+mod word;
 
 // What is shown of a file, of an image, and of each entry.
 mod file_sequence;
@@ -21,6 +24,7 @@ mod names;
 pub mod run;
 mod show;
 mod shows;
+mod titled;
 
 // Archives and fat files of 64 bits: each member and each entry is shown as a file of its own.
 mod files;
@@ -33,16 +37,18 @@ pub mod json;
 mod directory_name;
 mod escaped;
 mod flags;
+pub mod laws;
 
 // Terminals.
 mod progress;
 mod terminal;
 
-pub use crate::call::{Call, cputype_in};
+pub use crate::bounds::most_items;
+pub use crate::call::{Call, cputype_in, takes_word};
 pub use crate::complaint::{Complaint, Trouble};
 pub use crate::cpu::{Arch, Cpu};
 pub use crate::directory_name::print_name;
-pub use crate::escaped::{print_bytes, print_escaped};
+pub use crate::escaped::{Escaped, EscapedBytes, print_bytes, print_escaped};
 pub use crate::failure::Failure;
 pub use crate::file_sequence::Round;
 pub use crate::files::{Files, ShowsFile};
@@ -50,13 +56,16 @@ pub use crate::flags::{print_code_flags, print_segment_flags};
 pub use crate::foreign::{Foreign, foreign_kind, refused_kind};
 pub use crate::heading::Heading;
 pub use crate::json::array::{
-    comma_before, print_array, print_empty, print_end, print_member, then,
+    comma_before, print_array, print_empty, print_end, print_end_past, print_member, then,
 };
 pub use crate::json::signing::{AuthMembers, DiversityMembers, has_auth, key_by, rebase_type};
 pub use crate::json::text::JsonString;
 pub use crate::json::words::take_json;
-pub use crate::listing::{Listing, Told, count_rows, print_cut, print_listing, print_rows};
+pub use crate::listing::{
+    Listing, Told, count_rows, print_cut, print_listing, print_past, print_rows,
+};
 pub use crate::misuse::Misuse;
+pub use crate::named::{Others, names_of};
 pub use crate::names::Names;
 pub use crate::parts::name::PartName;
 pub use crate::parts::selection::{is_for, is_missed};
@@ -66,3 +75,5 @@ pub use crate::program::Program;
 pub use crate::progress::Progress;
 pub use crate::shows::{Outcome, Shows};
 pub use crate::terminal::ForTerminal;
+pub use crate::titled::Titled;
+pub use crate::word::{NoText, Word};

@@ -3,7 +3,7 @@
 ghost use Rattle.std.specs.Prelude.{◌≡◌, IfOk, OnOk};
 ghost use Rattle.std.specs.Io.KnownBytes.{Appends};
 ghost use Rattle.std.specs.Result.{is_ok};
-ghost use Rattle.mach_cli.specs.Listings.{cut_line, text_answer, told_line, CountsRows, WritesFirstLines, WritesRows};
+ghost use Rattle.mach_cli.specs.Listings.{cut_line, past_line, text_answer, told_line, CountsRows, WritesFirstLines, WritesRows};
 
 use crate::shows::Outcome;
 use goblin_mach::describe;
@@ -24,9 +24,22 @@ pub trait Listing {
 
     ghost left: { Self → List (Result (List ℕ) Fault) };
 
+    // How many items more the whole list claims, whose records begin past the end of the bytes; and what its items are called.
+    ghost past: { Self → ℕ } = { λ _. 0 };
+
+    ghost past_name: { Self → List ℕ } = { λ _. [] };
+
     /// The next row, or why it can't be told.
     fn next_row(&mut self) -> Option<goblin_mach::Result<Self::Row>>
         ensures { MatchOption result (left self.old ≡ []) (λ row. left self.old ≡ read_as text row ∷ left self.new) };
+
+    /// How many items more the whole list claims, whose records begin past the end of the bytes.
+    fn past(&self) -> usize
+        ensures { result ≡ past self.now };
+
+    /// What its items are called, of which there are more past the end.
+    fn past_name(&self) -> &'static str
+        ensures { result.now ≡ past_name self.now };
 
     /// Writes a row.
     fn write_row<O: Write>(row: &Self::Row, out: &mut O) -> io::Result<()>
@@ -45,8 +58,8 @@ pub struct Told {
 }
 
 /// Prints exactly a line for each row of a list, in order; where one can't be told, its line says why, behind a word. It prints the first
-/// `left` of them, and where there are more, a line that says that `limit` are told. Answers whether all were printed and can be read, and how many
-/// lines are left.
+/// `left` of them, and where there are more, a line that says that `limit` are told; then, where the list claims more items past the end of the
+/// bytes, a line that says how many. Answers whether all were printed and can be read, and none is past the end, and how many lines are left.
 pub fn print_listing<L: Listing, O: Write>(
     list: &mut L,
     word: &str,
@@ -54,15 +67,27 @@ pub fn print_listing<L: Listing, O: Write>(
     left: usize,
     out: &mut O,
 ) -> io::Result<Outcome>
-    ensures { IfOk result (λ outcome. WritesFirstLines word.now limit left (L.left list.old) outcome.whole outcome.left (O.contents out.old)
-        (O.contents out.new)) }
+    ensures { IfOk result (λ outcome. WritesFirstLines word.now limit left (L.left list.old) (L.past_name list.old) (L.past list.old) outcome.whole
+        outcome.left (O.contents out.old) (O.contents out.new)) }
 {
+    let (name, past) = (list.past_name(), list.past());
     let told = print_rows(list, word, left, out)?;
     print_cut(limit, told.more, out)?;
+    print_past(name, past, out)?;
     Ok(Outcome {
-        whole: told.whole & !told.more,
+        whole: told.whole & !told.more & (past == 0),
         left: told.left,
     })
+}
+
+/// Prints how many items of this name a list claims more, whose records begin past the end of the bytes, where there are some.
+pub fn print_past<O: Write>(name: &str, past: usize, out: &mut O) -> io::Result<()>
+    ensures { OnOk result (Appends (O.contents out.old) (O.contents out.new) (past_line name.now past)) }
+{
+    if past > 0 {
+        writeln!(out, "{past} more {name} past the end")?;
+    }
+    Ok(())
 }
 
 /// Prints that there are more than the limit, where that is so.

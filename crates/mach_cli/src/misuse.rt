@@ -1,5 +1,7 @@
 //! What is wrong with the words of a call.
 
+use crate::escaped::Escaped;
+use crate::word::NoText;
 use std::alloc::{AllocError, Allocator};
 use std::fmt;
 use std::fmt::{Display, Formatter, Write};
@@ -19,7 +21,7 @@ pub enum Misuse<'a> {
     /// A word is missing, which stands for this.
     Missing(&'static str),
     /// A word is no text.
-    NoText,
+    NoText(NoText<'a>),
 }
 
 impl Display for Misuse<'_> {
@@ -30,11 +32,11 @@ impl Display for Misuse<'_> {
 
     fn fmt<W: Write>(&self, f: &mut Formatter<W>) -> fmt::Result {
         match self {
-            Misuse::UnknownOption(word) => write!(f, "unknown option '{word}'"),
-            Misuse::UnknownWord(word) => write!(f, "unknown word '{word}'"),
-            Misuse::NoNumber(word) => write!(f, "'{word}' is no number"),
-            Misuse::NoCpu(word) => write!(f, "'{word}' is no cpu"),
-            Misuse::NoText => write!(f, "a word is no text"),
+            Misuse::UnknownOption(word) => write!(f, "unknown option '{}'", Escaped(word)),
+            Misuse::UnknownWord(word) => write!(f, "unknown word '{}'", Escaped(word)),
+            Misuse::NoNumber(word) => write!(f, "'{}' is no number", Escaped(word)),
+            Misuse::NoCpu(word) => write!(f, "'{}' is no cpu", Escaped(word)),
+            Misuse::NoText(word) => write!(f, "{word}"),
             Misuse::Missing(what) => write!(f, "no {what} is given"),
         }
     }

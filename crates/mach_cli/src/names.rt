@@ -1,5 +1,6 @@
 //! What the complaints of a file begin with.
 
+use crate::escaped::Escaped;
 use std::fmt;
 use std::fmt::{Display, Formatter, Write};
 
@@ -19,7 +20,7 @@ impl Display for Names<'_> {
     ghost output = { λ names. Some (names_text names.program.now names.file.now) };
 
     fn fmt<W: Write>(&self, f: &mut Formatter<W>) -> fmt::Result {
-        let Names { program, file } = self;
+        let (program, file) = (self.program, Escaped(self.file));
         write!(f, "{program}: {file}")
     }
 }

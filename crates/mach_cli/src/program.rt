@@ -4,14 +4,15 @@ ghost use Rattle.std.specs.Prelude.{◌≡◌, IfErr};
 ghost use Rattle.mach_cli.specs.Rounds.{IsUnreadStatus};
 ghost use Rattle.mach_cli.specs.Statuses.{IsStatus};
 
-use crate::call::{Call, Request, understand};
+use crate::call::{Call, Options, Request, understand};
 use crate::complaint::{Complaint, Trouble};
 use crate::misuse::Misuse;
 use crate::names::Names;
 use crate::output::say;
+use crate::word::{Word, call_words};
 use std::alloc::{AllocError, Global};
 use std::io::{ErrorKind, Read};
-use std::{env, fs, io};
+use std::{fs, io};
 
 /// What a program says of itself.
 #[derive(Clone, Copy)]
@@ -26,35 +27,35 @@ pub struct Program {
     pub has_limit: bool,
     /// Whether it has `--arch` and `--cputype`.
     pub has_cpu: bool,
+    /// Whether it takes several files: it has `--names` and `-0`, and a word that is no text doesn't keep it from the others.
+    pub has_files: bool,
     /// The words that it knows: its options, and what it is to do.
     pub known: &'static [&'static str],
 }
 
 impl Program {
     /// The words of a call, of which the first is the program's name. Where they can't be had, that is told, and the error is the exit status.
-    pub fn words(&self, rt: &HostRuntime) -> Result<Vec<String>, u8>
-        ensures { IfErr result IsUnreadStatus }
+    pub fn words(&self, rt: &HostRuntime) -> Result<Vec<Word>, u8>
+        ensures { IfErr result (λ status. status ≡ 1) }
     {
-        let words = match env::args(rt) {
-            Ok(args) => args.collect::<Vec<String>>(rt.alloc()),
-            Err(error) if error.kind() == ErrorKind::OutOfMemory => {
-                return Err(self.out_of_memory(rt));
-            }
-            Err(_) => return Err(self.bad_usage(rt, Misuse::NoText)),
-        };
-        let Ok(words) = words else {
-            return Err(self.out_of_memory(rt));
-        };
-        Ok(words)
+        match call_words(rt) {
+            Ok(words) => Ok(words),
+            Err(AllocError) => Err(self.out_of_memory(rt)),
+        }
     }
 
     /// What the words of a call are for. Where they ask for `--help` or `--version`, or for nothing that is understood, that is told, and the
     /// error is the exit status.
-    pub fn call<'a>(&self, rt: &HostRuntime, words: &'a [String]) -> Result<Call<'a, Global>, u8>
+    pub fn call<'a>(&self, rt: &HostRuntime, words: &'a [Word]) -> Result<Call<'a, Global>, u8>
         ensures { IfErr result IsStatus }
     {
         let behind = words.get(1..).unwrap_or(&[]);
-        match understand(rt.alloc(), self.has_limit, self.has_cpu, behind) {
+        let options = Options {
+            has_limit: self.has_limit,
+            has_cpu: self.has_cpu,
+            has_files: self.has_files,
+        };
+        match understand(&rt.alloc(), options, behind) {
             Ok(Request::Help) => Err(self.say(rt, self.usage)),
             Ok(Request::Version) => Err(self.say(rt, self.version)),
             Ok(Request::Call(call)) => Ok(call),
@@ -82,14 +83,25 @@ impl Program {
         match bytes_of(rt, file) {
             Ok(bytes) => Ok(bytes),
             Err(error) if error.kind() == ErrorKind::OutOfMemory => {
-                let _ = rt.eprintln(format_args!("{names}: out of memory"));
-                Err(1)
+                Err(self.no_memory_for(rt, file))
             }
             Err(error) => {
                 let _ = rt.eprintln(format_args!("{names}: {error}"));
                 Err(2)
             }
         }
+    }
+
+    /// The status where memory is refused for a file, which is told.
+    pub fn no_memory_for(&self, rt: &HostRuntime, file: &str) -> u8
+        ensures { result ≡ 1 }
+    {
+        let names = Names {
+            program: self.name,
+            file,
+        };
+        let _ = rt.eprintln(format_args!("{names}: out of memory"));
+        1
     }
 
     /// The status of words that ask for nothing, with what is wrong and how the program is called.

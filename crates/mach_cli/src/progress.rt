@@ -1,8 +1,11 @@
 //! How far a call over many files has come.
 
-ghost use Rattle.std.specs.Prelude.{◌≡◌, ◌+◌, ◌-◌, ◌^◌, None, Some, false, min};
+ghost use Rattle.std.specs.Prelude.{◌≡◌, ◌≤◌, ◌+◌, ◌-◌, ◌*◌, ◌^◌, ◌++◌, codes, None, Some, IfSome, false, true, min};
+ghost use Rattle.std.specs.Duration.{as_nanos};
+ghost use Rattle.std.specs.Io.KnownBytes.{Appends};
 ghost use Rattle.mach_cli.specs.Steps.{step_text};
 
+use crate::escaped::Escaped;
 use std::fmt;
 use std::fmt::{Display, Formatter};
 use std::io::Write;
@@ -23,7 +26,7 @@ impl Display for Step<'_> {
     ghost output = { λ step. Some (step_text step.program.now step.number step.file.now) };
 
     fn fmt<W: fmt::Write>(&self, f: &mut Formatter<W>) -> fmt::Result {
-        let (program, number, file) = (self.program, self.number, self.file);
+        let (program, number, file) = (self.program, self.number, Escaped(self.file));
         write!(f, "{program}: file {number}: {file}")
     }
 }
@@ -51,25 +54,35 @@ impl Progress {
         Progress { due, begun: 0 }
     }
 
-    /// Counts a file of this name that is begun, and tells of it, if that is due.
-    pub fn begin<C: Clock, E: Write>(&mut self, clock: &C, program: &str, file: &str, err: &mut E)
+    /// Counts a file of this name that is begun, and tells of it, if that is due. It answers whether that was written.
+    pub fn begin<C: Clock, E: Write>(
+        &mut self,
+        clock: &C,
+        program: &str,
+        file: &str,
+        err: &mut E,
+    ) -> bool
         ensures never { self.old.due ≡ None → (self.new.due ≡ None) × (E.contents err.new ≡ E.contents err.old) }
         ensures counted { self.new.begun ≡ min (self.old.begun + 1) (2 ^ 64 - 1) }
+        ensures told { result ≡ true → Appends (E.contents err.old) (E.contents err.new) (step_text program.now self.new.begun file.now ++ codes "\n") }
+        // It is told again two seconds later, or not before.
+        ensures later { result ≡ true → IfSome self.old.due (λ old. IfSome self.new.due (λ new. as_nanos old + 2 * 10 ^ 9 ≤ as_nanos new)) }
     {
         self.begun = self.begun.saturating_add(1);
         let Some(due) = self.due else {
-            return;
+            return false;
         };
-        if let Ok(now) = clock.monotonic() {
-            if now >= due {
+        match clock.monotonic() {
+            Ok(now) if now >= due => {
                 self.due = now.checked_add(Duration::from_secs(QUIET));
                 let step = Step {
                     program,
                     number: self.begun,
                     file,
                 };
-                let _ = writeln!(err, "{step}");
+                writeln!(err, "{step}").is_ok()
             }
+            _ => false,
         }
     }
 }

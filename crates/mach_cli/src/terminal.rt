@@ -1,9 +1,10 @@
 //! A writer whose bytes may be shown on a terminal.
 
-ghost use Rattle.std.specs.Prelude.{◌≡◌, ◌≤◌, ◌<◌, ℕ, get_or, length, take, true, IfOk, OnOk};
+ghost use Rattle.std.specs.Prelude.{◌≡◌, ◌≤◌, ◌<◌, ℕ, false, get_or, length, take, true, IfOk, OnOk};
 ghost use Rattle.std.specs.Io.{WritesAtMost};
 ghost use Rattle.std.specs.Io.KnownBytes.{Appends, WriteAppends};
-ghost use Rattle.mach_cli.specs.TerminalShown.{contents_of, escape_text, is_control, shown_text, writer_for, HandsOn};
+ghost use Rattle.mach_cli.specs.Escapes.{escape_text};
+ghost use Rattle.mach_cli.specs.TerminalShown.{contents_of, is_control, shown_text, writer_for, HandsOn};
 
 use std::io;
 use std::io::Write;
@@ -64,6 +65,7 @@ fn is_control(byte: u8) -> bool
 fn plain_len(bytes: &[u8]) -> usize
     ensures bound { result ≤ length bytes.now }
     ensures plain { (n : ℕ) → n ≤ result → shown_text (take n bytes.now) ≡ take n bytes.now }
+    ensures kept { (i : ℕ) → i < result → is_control (get_or bytes.now i 0) ≡ false }
     ensures stops { result < length bytes.now → is_control (get_or bytes.now result 0) ≡ true }
 {
     'bytes: for at in 0..bytes.len() {
@@ -78,6 +80,8 @@ fn plain_len(bytes: &[u8]) -> usize
 fn write_shown<W: Write>(bytes: &[u8], out: &mut W) -> io::Result<usize>
     ensures bound { WritesAtMost result bytes.now }
     ensures shown { IfOk result (λ n. Appends (W.contents out.old) (W.contents out.new) (shown_text (take n bytes.now))) }
+    // A first byte that a terminal may not have is taken, and no other.
+    ensures escape { 0 < length bytes.now → is_control (get_or bytes.now 0 0) ≡ true → IfOk result (λ n. n ≡ 1) }
 {
     let end = plain_len(bytes);
     if end == 0 && end < bytes.len() {

@@ -1,10 +1,10 @@
 //! Arrays of the rows of lists.
 
-ghost use Rattle.std.specs.Prelude.{◌≡◌, ◌++◌, ◌&&◌, ◌||◌, [], not, IfOk};
+ghost use Rattle.std.specs.Prelude.{◌≡◌, ◌==◌, ◌++◌, ◌&&◌, ◌||◌, [], not, IfOk};
 ghost use Rattle.std.specs.Io.KnownBytes.{Appends};
 ghost use Rattle.std.specs.Result.{is_ok};
 ghost use Rattle.mach_cli.specs.Listings.{text_answer};
-ghost use Rattle.mach_cli.specs.JsonArrays.{comma_before, lists_end, row_object, WritesArray, WritesMember, WritesObjects};
+ghost use Rattle.mach_cli.specs.JsonArrays.{comma_before, lists_end, lists_end_past, row_object, WritesArray, WritesMember, WritesObjects};
 
 use crate::listing::{Listing, Told};
 use crate::shows::Outcome;
@@ -51,6 +51,20 @@ pub fn print_end<O: Write>(told: Told, out: &mut O) -> io::Result<Outcome>
     Ok(Outcome {
         whole: told.whole & !told.more,
         left: told.left,
+    })
+}
+
+/// Writes what stands behind the members of an image's lists, with how many items more they claim past the end of the bytes, and answers what came
+/// of them.
+pub fn print_end_past<O: Write>(told: Told, past: usize, out: &mut O) -> io::Result<Outcome>
+    ensures { IfOk result (λ outcome. (outcome.whole ≡ ((told.whole && not told.more) && (past == 0))) × (outcome.left ≡ told.left)
+        × Appends (O.contents out.old) (O.contents out.new) (lists_end_past told.more past)) }
+{
+    let outcome = print_end(told, out)?;
+    write!(out, ",\"past_the_end\":{past}")?;
+    Ok(Outcome {
+        whole: outcome.whole & (past == 0),
+        left: outcome.left,
     })
 }
 

@@ -1,7 +1,7 @@
 use Rattle.std.proofs.Common.{take}
 use Rattle.std.specs.Io.KnownBytes.{Appends}
 use Rattle.std.specs.List.{flat_map}
-use Rattle.mach_cli.specs.SignatureNames.{byte_text}
+use Rattle.mach_cli.specs.Escapes.{byte_text}
 use Rattle.mach_cli.proofs.escaped.print_bytes.Given as goal
 
 abbrev pub invariant-bytes : goal.invariant-bytes

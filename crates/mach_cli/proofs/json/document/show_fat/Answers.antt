@@ -1,4 +1,4 @@
-use Rattle.std.proofs.Common.{◌∙◌, false, sym}
+use Rattle.std.proofs.Common.{◌∙◌, sym}
 use Rattle.std.proofs.lemmas.Result.{IfOk-weaker}
 use Rattle.std.specs.Prelude.{codes}
 use Rattle.goblin_mach.specs.FatFile.{file_held}

@@ -1,0 +1,187 @@
+-- Words that are gone over one after the other.
+use Rattle.std.proofs.Common.{◌≡◌, ◌+◌, ◌∙◌, ℕ, List, ◌∷◌, Bool, true, false, Option, Some, None, drop, refl, sym, ap, subst, length, get_or, string_bytes}
+use Rattle.std.specs.Prelude.{◌<◌, ⊤}
+use Rattle.std.proofs.lemmas.List.{drop_more}
+use Rattle.std.specs.Str.Parse.{digits_value}
+use Rattle.mach_cli.specs.Calls.{CallSaid, IsCputype, TakesValue, AddsWord, AddsWords, AreUntaken, AsksFor, kind_at, of_arch, of_number, TakesWord}
+use Rattle.mach_cli.specs.CallWords.{word_text}
+use Rattle.mach_cli.specs.Cpus.{ArchRow}
+use Rattle.mach_cli.specs.declared.call.Kind.{Kind}
+use Rattle.mach_cli.specs.declared.call.Kind.TheVariants as kinds
+use Rattle.mach_cli.specs.declared.call.Options.{Options}
+use Rattle.mach_cli.specs.declared.call.Untaken.{Untaken}
+use Rattle.mach_cli.specs.declared.call.Untaken.TheVariants.{Misuse, Memory}
+use Rattle.mach_cli.specs.declared.call.Valued.{Valued}
+use Rattle.mach_cli.specs.declared.call.Valued.TheVariants as valued
+use Rattle.mach_cli.specs.declared.word.Word.{Word}
+use Rattle.mach_cli.specs.declared.word.Word.TheVariants.{Text, Bytes}
+
+-- what words are yet to make of a call, by where they are: behind an option, after `--`, or elsewhere
+abbrev pub GoesOn : Options → Option Valued → (is_plain : Bool) → (old : CallSaid) → List Word → (new : CallSaid) → Type 0
+GoesOn options (Some option) is_plain old words new = AsksFor options (Some option) old words new
+GoesOn options None true old words new = AddsWords options old words new
+GoesOn options None false old words new = AsksFor options None old words new
+
+-- ---- a word makes one thing of a call
+
+row_or : ArchRow → Option ArchRow → ArchRow
+row_or row None = row
+row_or row (Some x) = x
+
+some-one : (x y : ArchRow) → Some x ≡ Some y → x ≡ y
+unfolding row_or
+some-one x y same = ap (λ (o : Option ArchRow). row_or x o) same
+
+pub number-one : (word : List ℕ) (m n : ℕ) → IsCputype word m → IsCputype word n → m ≡ n
+number-one word m n a b =
+    let same : a.0 ≡ b.0 = ap (drop 2) (sym a.1 ∙ b.1) in
+    a.4 ∙ ap (digits_value 16) same ∙ sym b.4
+
+pub takes-one : (option : Valued) (word : List ℕ) (old x y : CallSaid) → TakesValue option word old x → TakesValue option word old y → x ≡ y
+takes-one valued.Limit word old x y a b = a.2 ∙ ap (λ (n : ℕ). record old { limit = Some n }) (a.1.2 ∙ sym b.1.2) ∙ sym b.2
+takes-one valued.Arch word old x y a b = a.2 ∙ ap (λ (row : ArchRow). record old { cpu = of_arch row }) (some-one a.0 b.0 (sym a.1 ∙ b.1)) ∙ sym b.2
+takes-one valued.Cputype word old x y a b =
+    a.2 ∙ ap (λ (n : ℕ). record old { cpu = of_number n }) (number-one word a.0 b.0 a.1 b.1) ∙ sym b.2
+takes-one valued.Names word old x y a b = a ∙ sym b
+
+pub adds-one : (options : Options) (word : Word) (old x y : CallSaid) → AddsWord options word old x → AddsWord options word old y → x ≡ y
+adds-one options (Text text) old x y a b = a ∙ sym b
+adds-one options (Bytes number bytes) old x y a b = a.1 ∙ sym b.1
+
+pub word-one : (option : Valued) (word : Word) (old x y : CallSaid) → TakesWord option word old x → TakesWord option word old y → x ≡ y
+word-one option (Text text) old x y a b = takes-one option (string_bytes text) old x y a b
+word-one option (Bytes number bytes) old x y a b = absurd a
+
+-- ---- and so do the words behind it
+
+IsThere : Option Valued → Type 0
+IsThere None = ⊥
+IsThere (Some option) = ⊤
+
+some_none : (option : Valued) → Some option ≡ None → ⊥
+unfolding IsThere
+some_none option same = subst IsThere same cc
+
+-- kinds that make no call
+abbrev pub IsNoCall : Kind → Type 0
+IsNoCall kinds.Help = ⊤
+IsNoCall kinds.Version = ⊤
+IsNoCall kinds.Unknown = ⊤
+IsNoCall kinds.Plain = ⊥
+IsNoCall kinds.Nul = ⊥
+IsNoCall (kinds.Valued option) = ⊥
+IsNoCall kinds.Other = ⊥
+
+abbrev IsOther : Kind → Type 0
+IsOther kinds.Help = ⊥
+IsOther kinds.Version = ⊥
+IsOther kinds.Unknown = ⊥
+IsOther kinds.Plain = ⊥
+IsOther kinds.Nul = ⊥
+IsOther (kinds.Valued option) = ⊥
+IsOther kinds.Other = ⊤
+
+other-plain : kinds.Other ≡ kinds.Plain → ⊥
+other-plain same = subst IsOther same cc
+
+other-nul : kinds.Other ≡ kinds.Nul → ⊥
+other-nul same = subst IsOther same cc
+
+other-valued : (option : Valued) → kinds.Other ≡ kinds.Valued option → ⊥
+other-valued option same = subst IsOther same cc
+
+IsFalse : Bool → Type 0
+IsFalse false = ⊤
+IsFalse true = ⊥
+
+-- behind `--` there is no option
+pub option_open : (options : Options) (text : List ℕ) (option : Valued) (is_plain : Bool) (before : Option Valued)
+    → kind_at is_plain options text ≡ kinds.Valued option → is_plain ≡ true → before ≡ None
+unfolding IsFalse
+option_open options text option true before kind same = absurd (other-valued option kind)
+option_open options text option false before kind same = absurd (subst IsFalse same cc)
+
+-- two say the same of each call
+abbrev pub Same : (CallSaid → Type 0) → (CallSaid → Type 0) → Type 0
+Same P Q = ((new : CallSaid) → P new → Q new) × ((new : CallSaid) → Q new → P new)
+
+pub same_over : (P Q R : CallSaid → Type 0) → Same P Q → Same Q R → Same P R
+same_over P Q R one two = (λ new p. two.0 new (one.0 new p), λ new r. one.1 new (two.1 new r))
+
+-- a word that makes something else of no call, if it makes one of it
+pub next_one : (Makes : CallSaid → Type 0) (next : CallSaid) → Makes next → ((x : CallSaid) → Makes x → x ≡ next) → (Then : CallSaid → CallSaid → Type 0)
+    → Same (λ new. (x : CallSaid) × Makes x × Then x new) (Then next)
+next_one Makes next made only Then = (
+  λ new all. subst (λ (x : CallSaid). Then x new) (only all.0 all.1) all.2,
+  λ new then. (next, made, then),
+)
+
+module _ (options : Options) (word : Word) (words : List Word) (old : CallSaid) where
+  pub valued_step : (option : Valued) (is_plain : Bool) (next : CallSaid) → TakesWord option word old next
+      → Same (GoesOn options (Some option) is_plain old (word ∷ words)) (GoesOn options None false next words)
+  valued_step option is_plain next takes =
+      next_one (TakesWord option word old) next takes (λ x t. word-one option word old x next t takes) (λ x new. AsksFor options None x words new)
+
+  pub other_step : (is_plain : Bool) (next : CallSaid) → kind_at is_plain options (word_text word) ≡ kinds.Other → AddsWord options word old next
+      → Same (GoesOn options None is_plain old (word ∷ words)) (GoesOn options None is_plain next words)
+  other_step true next kind adds =
+      next_one (AddsWord options word old) next adds (λ x a. adds-one options word old x next a adds) (λ x new. AddsWords options x words new)
+  other_step false next kind adds =
+      rw kind (next_one (AddsWord options word old) next adds (λ x a. adds-one options word old x next a adds) (λ x new. AsksFor options None x words new))
+
+  pub plain_step : (is_plain : Bool) → kind_at is_plain options (word_text word) ≡ kinds.Plain
+      → Same (GoesOn options None is_plain old (word ∷ words)) (GoesOn options None true old words)
+  plain_step true kind = absurd (other-plain kind)
+  plain_step false kind = rw kind (λ new a. a, λ new a. a)
+
+  pub nul_step : (is_plain : Bool) → kind_at is_plain options (word_text word) ≡ kinds.Nul
+      → Same (GoesOn options None is_plain old (word ∷ words)) (GoesOn options None is_plain (record old { ends_with_nul = true }) words)
+  nul_step true kind = absurd (other-nul kind)
+  nul_step false kind = rw kind (λ new a. a, λ new a. a)
+
+  pub option_step : (option : Valued) (is_plain : Bool) → kind_at is_plain options (word_text word) ≡ kinds.Valued option
+      → Same (GoesOn options None is_plain old (word ∷ words)) (GoesOn options (Some option) is_plain old words)
+  option_step option true kind = absurd (other-valued option kind)
+  option_step option false kind = rw kind (λ new a. a, λ new a. a)
+
+  -- nothing is made of a call
+  pub asks_none : (is_plain : Bool) (kind : Kind) → kind_at is_plain options (word_text word) ≡ kind → IsNoCall kind
+      → (new : CallSaid) → GoesOn options None is_plain old (word ∷ words) new → ⊥
+  asks_none true kind is none new asks = subst IsNoCall (sym is) none
+  asks_none false kinds.Help is none new asks = rw is at asks
+  asks_none false kinds.Version is none new asks = rw is at asks
+  asks_none false kinds.Unknown is none new asks = rw is at asks
+  asks_none false kinds.Plain is none new asks = none
+  asks_none false kinds.Nul is none new asks = none
+  asks_none false (kinds.Valued option) is none new asks = none
+  asks_none false kinds.Other is none new asks = none
+
+  -- what an option takes, and what is added
+  pub valued_made : (option : Valued) (is_plain : Bool) (new : CallSaid) → GoesOn options (Some option) is_plain old (word ∷ words) new
+      → (x : CallSaid) × TakesWord option word old x
+  valued_made option is_plain new asks = (asks.0, asks.1)
+
+  pub other_made : (is_plain : Bool) → kind_at is_plain options (word_text word) ≡ kinds.Other → (new : CallSaid)
+      → GoesOn options None is_plain old (word ∷ words) new → (x : CallSaid) × AddsWord options word old x
+  other_made true kind new asks = (asks.0, asks.1)
+  other_made false kind new asks = let all = rw kind at asks in (all.0, all.1)
+
+-- words of which one isn't taken
+pub untaken_all : (Makes All : CallSaid → Type 0) (e : Untaken) → ((new : CallSaid) → All new → (x : CallSaid) × Makes x) → AreUntaken Makes e
+    → AreUntaken All e
+untaken_all Makes All (Misuse misuse) made none = λ new all. let one = made new all in none one.0 one.1
+untaken_all Makes All Memory made none = cc
+
+-- ---- the words that are left
+
+pub words_more : (words : List Word) (i : ℕ) (word : Word) → i < length words → word ≡ get_or words i word → drop i words ≡ word ∷ drop (i + 1) words
+words_more words i word low is = drop_more words i word low ∙ ap (λ (w : Word). w ∷ drop (i + 1) words) (sym is)
+
+pub not_plain : (is_plain : Bool) (before : Option Valued) (option : Valued) → (is_plain ≡ true → before ≡ None) → before ≡ Some option → is_plain ≡ false
+not_plain false before option plain some = refl
+not_plain true before option plain some = absurd (some_none option (sym some ∙ plain refl))
+
+-- what a word is, by the text that was asked for
+pub kind_of-word : (is_plain : Bool) (options : Options) (word : Word) (text : List ℕ) (seen kind : Kind) → text ≡ word_text word
+    → seen ≡ kind_at is_plain options text → seen ≡ kind → kind_at is_plain options (word_text word) ≡ kind
+kind_of-word is_plain options word text seen kind is read same = ap (λ (some : List ℕ). kind_at is_plain options some) (sym is) ∙ sym read ∙ same

@@ -1,8 +1,0 @@
-use Rattle.std.proofs.Common.{take}
-use Rattle.std.specs.Io.KnownBytes.{Appends}
-use Rattle.std.specs.List.{flat_map}
-use Rattle.mach_cli.specs.SignatureNames.{escaped_byte}
-use Rattle.mach_cli.proofs.escaped.print_escaped.Given as goal
-
-abbrev pub invariant-bytes : goal.invariant-bytes
-invariant-bytes g l = Appends (g.O.Write.contents l.fn.out) (g.O.Write.contents l.out) (flat_map escaped_byte (take l.byte-index l.byte-items))

@@ -1,0 +1,151 @@
+-- What the words of a call ask for.
+use Rattle.std.specs.Prelude.{◌≡◌, ◌==◌, ◌||◌, ◌&&◌, ◌<◌, ◌≤◌, ◌^◌, ℕ, List, [], ◌∷◌, ◌++◌, codes, map, length, Bool, true, false, bytes_eq, if◌then◌else◌}
+use Rattle.std.specs.Prelude.{⊤, Option, Some, None, get_or, string_bytes}
+use Rattle.std.specs.Str.Parse.{IsNumeral, digits_value, without_leading_plus}
+use Rattle.mach_base.specs.Text.{texts}
+use Rattle.mach_cli.specs.Cpus.{ArchRow, arch_named, arch_row_of, arch_rows}
+use Rattle.mach_cli.specs.CallWords.{word_text}
+use Rattle.mach_cli.specs.declared.call.Call.{Call}
+use Rattle.mach_cli.specs.declared.call.Kind.{Kind}
+use Rattle.mach_cli.specs.declared.call.Kind.TheVariants as kinds
+use Rattle.mach_cli.specs.declared.call.Options.{Options}
+use Rattle.mach_cli.specs.declared.call.Request.{Request}
+use Rattle.mach_cli.specs.declared.call.Request.TheVariants as requests
+use Rattle.mach_cli.specs.declared.call.Untaken.{Untaken}
+use Rattle.mach_cli.specs.declared.call.Untaken.TheVariants.{Misuse, Memory}
+use Rattle.mach_cli.specs.declared.call.Valued.{Valued}
+use Rattle.mach_cli.specs.declared.call.Valued.TheVariants as valued
+use Rattle.mach_cli.specs.declared.cpu.Cpu.{Cpu}
+use Rattle.mach_cli.specs.declared.cpu.Cpu.TheVariants as cpus
+use Rattle.mach_cli.specs.declared.word.NoText.{NoText}
+use Rattle.mach_cli.specs.declared.word.Word.{Word}
+use Rattle.mach_cli.specs.declared.word.Word.TheVariants.{Text, Bytes}
+
+-- a word that is no text: its number and its bytes
+pub record ByteWord : Type 0 where
+  pub number : ℕ
+  pub bytes : List ℕ
+
+-- of which cpu images are: of any, of a number, or of a name
+pub data CpuSaid : Type 0 where
+  any_cpu : CpuSaid
+  of_number : (number : ℕ) → CpuSaid
+  of_arch : (row : ArchRow) → CpuSaid
+
+abbrev pub cpu_said : Cpu → CpuSaid
+cpu_said cpus.Any = any_cpu
+cpu_said (cpus.Number number) = of_number number
+cpu_said (cpus.Arch arch) = of_arch (arch_row_of arch)
+
+-- what words ask for: the number behind `--limit`, of which cpu images are, the other words, the lists behind `--names`, whether names in these end
+-- with NUL, and the words that are no text
+pub record CallSaid : Type 0 where
+  pub limit : Option ℕ
+  pub cpu : CpuSaid
+  pub words : List (List ℕ)
+  pub lists : List (List ℕ)
+  pub ends_with_nul : Bool
+  pub no_texts : List ByteWord
+
+abbrev pub byte_word_of : NoText → ByteWord
+byte_word_of t = record { number = t.number; bytes = t.bytes.now }
+
+abbrev pub call_view : {A : Type 0} → Call A → CallSaid
+call_view c = record {
+  limit = c.limit;
+  cpu = cpu_said c.cpu;
+  words = texts c.words.items;
+  lists = texts c.others.lists.items;
+  ends_with_nul = c.others.ends_with_nul;
+  no_texts = map byte_word_of c.others.no_texts.items;
+}
+
+-- before the first word
+abbrev pub nothing_said : CallSaid
+nothing_said = record { limit = None; cpu = any_cpu; words = []; lists = []; ends_with_nul = false; no_texts = [] }
+
+-- The word is a number of digits, before which a plus may be, that 64 bits hold.
+abbrev pub IsLimit : List ℕ → ℕ → Type 0
+IsLimit word number = IsNumeral 10 (without_leading_plus word) × (digits_value 10 (without_leading_plus word) < 2 ^ 64)
+    × (number ≡ digits_value 10 (without_leading_plus word))
+
+-- The word is the number of a cpu: `0x`, and 1 to 8 hexadecimal digits.
+abbrev pub IsCputype : List ℕ → ℕ → Type 0
+IsCputype word number = (digits : List ℕ) × (word ≡ codes "0x" ++ digits) × IsNumeral 16 digits × (length digits ≤ 8) × (number ≡ digits_value 16 digits)
+
+-- What an option and the word behind it make of a call: the number of lines, the cpu of a name or a number, or a list more.
+abbrev pub TakesValue : Valued → List ℕ → (old new : CallSaid) → Type 0
+TakesValue valued.Limit word old new = (number : ℕ) × IsLimit word number × (new ≡ record old { limit = Some number })
+TakesValue valued.Arch word old new =
+    (row : ArchRow) × (arch_named arch_rows word ≡ Some row) × (new ≡ record old { cpu = of_arch row })
+TakesValue valued.Cputype word old new = (number : ℕ) × IsCputype word number × (new ≡ record old { cpu = of_number number })
+TakesValue valued.Names word old new = new ≡ record old { lists = old.lists ++ word ∷ [] }
+
+-- what a word is that is behind no option, and before `--`
+abbrev pub word_kind : Options → List ℕ → Kind
+word_kind options word =
+    if bytes_eq word (codes "--") then kinds.Plain
+    else if bytes_eq word (codes "-h") || bytes_eq word (codes "--help") then kinds.Help
+    else if bytes_eq word (codes "--version") then kinds.Version
+    else if bytes_eq word (codes "-0") && options.has_files then kinds.Nul
+    else if bytes_eq word (codes "--limit") && options.has_limit then kinds.Valued valued.Limit
+    else if bytes_eq word (codes "--arch") && options.has_cpu then kinds.Valued valued.Arch
+    else if bytes_eq word (codes "--cputype") && options.has_cpu then kinds.Valued valued.Cputype
+    else if bytes_eq word (codes "--names") && options.has_files then kinds.Valued valued.Names
+    else if bytes_eq word (codes "-") then kinds.Other
+    else if get_or word 0 0 == 0x2d then kinds.Unknown
+    else kinds.Other
+
+-- the same at any place behind no option: after `--` it is no option
+abbrev pub kind_at : (is_plain : Bool) → Options → List ℕ → Kind
+kind_at is_plain options word = if is_plain then kinds.Other else word_kind options word
+
+-- The word behind an option is text.
+abbrev pub TakesWord : Valued → Word → (old new : CallSaid) → Type 0
+TakesWord option (Text text) old new = TakesValue option (string_bytes text) old new
+TakesWord option (Bytes number bytes) old new = ⊥
+
+-- A word that is no option is added; one that is no text, if it may be one of several files.
+abbrev pub AddsWord : Options → Word → (old new : CallSaid) → Type 0
+AddsWord options (Text text) old new = new ≡ record old { words = old.words ++ string_bytes text ∷ [] }
+AddsWord options (Bytes number bytes) old new = (options.has_files ≡ true)
+    × (new ≡ record old { no_texts = old.no_texts ++ record { number = number; bytes = bytes.items } ∷ [] })
+
+-- Words of which none is an option are added in order.
+abbrev pub AddsWords : Options → (old : CallSaid) → List Word → (new : CallSaid) → Type 0
+AddsWords options old [] new = new ≡ old
+AddsWords options old (word ∷ words) new = (next : CallSaid) × AddsWord options word old next × AddsWords options next words new
+
+-- what holds of a word by its kind
+abbrev pub ByKind : Kind → (plain nul : Type 0) → (value : Valued → Type 0) → (other : Type 0) → Type 0
+ByKind kinds.Plain plain nul value other = plain
+ByKind kinds.Help plain nul value other = ⊥
+ByKind kinds.Version plain nul value other = ⊥
+ByKind kinds.Nul plain nul value other = nul
+ByKind (kinds.Valued option) plain nul value other = value option
+ByKind kinds.Other plain nul value other = other
+ByKind kinds.Unknown plain nul value other = ⊥
+
+-- Words make this call of what the words before them said, of which the last may be an option: an option takes the word behind it, `--` makes all words
+-- behind it other words, and so is each word that is no option.
+abbrev pub AsksFor : Options → (option : Option Valued) → (old : CallSaid) → List Word → (new : CallSaid) → Type 0
+AsksFor options None old [] new = new ≡ old
+AsksFor options (Some option) old [] new = ⊥
+AsksFor options (Some option) old (word ∷ words) new = (next : CallSaid) × TakesWord option word old next × AsksFor options None next words new
+AsksFor options None old (word ∷ words) new =
+    ByKind (word_kind options (word_text word)) (AddsWords options old words new)
+    (AsksFor options None (record old { ends_with_nul = true }) words new)
+    (λ option. AsksFor options (Some option) old words new)
+    ((next : CallSaid) × AddsWord options word old next × AsksFor options None next words new)
+
+-- The request is that for which words ask, behind what a call has: this call; or they ask for no call.
+abbrev pub IsRequest : {A : Type 0} → Options → (old : CallSaid) → List Word → Request A → Type 0
+IsRequest options old words (requests.Call call) = AsksFor options None old words (call_view call)
+IsRequest options old words requests.Help = (new : CallSaid) → AsksFor options None old words new → ⊥
+IsRequest options old words requests.Version = (new : CallSaid) → AsksFor options None old words new → ⊥
+IsRequest options old words (requests.Nothing misuse) = (new : CallSaid) → AsksFor options None old words new → ⊥
+
+-- The words are at fault: nothing new is made of the call.
+abbrev pub AreUntaken : (CallSaid → Type 0) → Untaken → Type 0
+AreUntaken made (Misuse misuse) = (new : CallSaid) → made new → ⊥
+AreUntaken made Memory = ⊤
