@@ -1,2 +1,6 @@
+mod Begun
 mod Counted
 mod Facts
+mod Flags
+mod RowLines
+mod Some

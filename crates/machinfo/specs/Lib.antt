@@ -5,5 +5,10 @@ pub mod Words
 pub mod NumberedNotes
 pub mod ProvidedSymbols
 pub mod Rows
+pub mod Said
+pub mod Lists
+pub mod States
+pub mod Segments
+pub mod Summary
 pub mod RowTexts
 pub mod RowObjects

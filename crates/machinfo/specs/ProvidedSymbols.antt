@@ -1,5 +1,5 @@
 -- Who gives the undefined symbols of an image, as the linker wrote it down.
-use Rattle.std.specs.Prelude.{◌≡◌, ℕ, List, [], Option, Some, None, option_map, Result, Ok, Err}
+use Rattle.std.specs.Prelude.{◌≡◌, ℕ, ◌-◌, List, [], Option, Some, None, option_map, Result, Ok, Err}
 use Rattle.std.specs.List.{filter_map}
 use Rattle.mach_base.specs.declared.error.Error.{Error}
 use Rattle.mach_base.specs.Answer.{◌>>=◌}
@@ -7,7 +7,7 @@ use Rattle.mach_base.specs.Fault.{Fault}
 use Rattle.mach_base.specs.Items.{read_as}
 use Rattle.mach_base.specs.Text.{texts}
 use Rattle.mach_parts.specs.Bindings.{Provider, provider_view}
-use Rattle.mach_parts.specs.Symbols.{SymbolTable, symbols_of}
+use Rattle.mach_parts.specs.Symbols.{SymbolTable, begun_of, symbols_of}
 use Rattle.mach_parts.specs.SymbolViews.{symbols_left}
 use Rattle.mach_parts.specs.declared.symbols.nlist.Nlist.{Nlist}
 use Rattle.goblin_mach.specs.ImageFacts.{OfFacts}
@@ -28,10 +28,15 @@ abbrev pub provided_by : ℕ → List (List ℕ) → Result (List ℕ × Nlist) 
 provided_by flags libs (Err f) = Some (Err f)
 provided_by flags libs (Ok symbol) = option_map (named_provider symbol.0) (symbol_provider_of flags libs symbol.1)
 
--- those of the symbols of a table, if there is one
+-- those of the symbols of a table whose records begin within the bytes, if there is one
 abbrev pub provided_in : ℕ → List (List ℕ) → Option SymbolTable → List (Result ProvidedView Fault)
 provided_in flags libs None = []
-provided_in flags libs (Some table) = filter_map (provided_by flags libs) (symbols_of table)
+provided_in flags libs (Some table) = filter_map (provided_by flags libs) (symbols_of (begun_of table))
+
+-- how many symbols a table claims more
+abbrev pub symbols_past_in : Option SymbolTable → ℕ
+symbols_past_in None = 0
+symbols_past_in (Some table) = table.nsyms - (begun_of table).nsyms
 
 -- these are those of the image at a place
 abbrev pub HasProvidedSymbols : List ℕ → ℕ → List (Result ProvidedView Fault) → Type 0

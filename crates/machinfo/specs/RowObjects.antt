@@ -1,5 +1,5 @@
 -- The rows of lists as objects of JSON.
-use Rattle.std.specs.Prelude.{ℕ, List, ◌++◌, codes, length, map, Result}
+use Rattle.std.specs.Prelude.{◌==◌, ℕ, List, ◌++◌, codes, length, map, Bool, Result, if◌then◌else◌}
 use Rattle.std.specs.Fmt.{decimal, signed_decimal}
 use Rattle.mach_base.specs.Fault.{Fault}
 use Rattle.mach_records.specs.declared.linkedit.DataInCodeEntry.{DataInCodeEntry}
@@ -17,11 +17,13 @@ use Rattle.mach_cli.specs.JsonText.{json_bool, json_string}
 use Rattle.mach_cli.specs.Signing.{auth_members, rebase_type}
 use Rattle.machinfo.specs.NumberedNotes.{NumberedNoteView}
 use Rattle.machinfo.specs.ProvidedSymbols.{ProvidedView}
-use Rattle.machinfo.specs.RowTexts.{slot_kind_text}
+use Rattle.machinfo.specs.RowTexts.{is_lazy_kind, platform_name, slot_kind_text, uuid_text, version_text}
 use Rattle.machinfo.specs.Rows.{RowView, start_row, slot_row, indirect_row, data_row, option_row, tool_row, note_row, provided_row, library_row}
-use Rattle.machinfo.specs.Rows.{rebase_row, weak_row, list_row_view, list_rows_left}
+use Rattle.machinfo.specs.Rows.{rebase_row, weak_row, uuid_row, platform_row, path_row, list_row_view}
+use Rattle.machinfo.specs.Lists.{list_rows_left}
 use Rattle.machinfo.specs.declared.object.ObjectList.{ObjectList}
 use Rattle.machinfo.specs.declared.row.Row.{Row}
+use Rattle.machinfo.specs.declared.said.PlatformSaid.{PlatformSaid}
 
 abbrev pub start_object : (address : ℕ) → List ℕ
 start_object address = codes "{\"address\":" ++ (decimal address ++ codes "}")
@@ -84,13 +86,15 @@ abbrev pub provided_object : ProvidedView → List ℕ
 provided_object p = codes "{\"name\":" ++ (json_string p.name ++ (codes "," ++ (giver_members p.provider ++ codes "}")))
 
 -- how a library is used
-abbrev pub use_members : LibraryAttributes → List ℕ
-use_members a =
+abbrev pub use_members : LibraryAttributes → (is_lazy : Bool) → List ℕ
+use_members a is_lazy =
     codes "\"is_delayed\":"
     ++ (json_bool a.is_delayed
+    ++ (codes ",\"is_lazy\":"
+    ++ (json_bool is_lazy
     ++ (codes ",\"is_reexport\":"
     ++ (json_bool a.is_reexport
-    ++ (codes ",\"is_upward\":" ++ (json_bool a.is_upward ++ (codes ",\"is_weak\":" ++ json_bool a.is_weak))))))
+    ++ (codes ",\"is_upward\":" ++ (json_bool a.is_upward ++ (codes ",\"is_weak\":" ++ json_bool a.is_weak))))))))
 
 abbrev pub library_object : LibraryView → List ℕ
 library_object l =
@@ -99,7 +103,7 @@ library_object l =
     ++ (codes ",\"current_version\":"
     ++ (decimal l.current_version
     ++ (codes ","
-    ++ (use_members l.attributes
+    ++ (use_members l.attributes (is_lazy_kind l.kind)
     ++ (codes ",\"name\":" ++ (json_string l.name ++ (codes ",\"ordinal\":" ++ (decimal l.ordinal ++ codes "}")))))))))
 
 -- the address, how the pointer is signed, the number that stands there, and what is corrected
@@ -125,6 +129,17 @@ abbrev pub weak_bind_object : WeakBind → List ℕ
 weak_bind_object (strong_name name) = codes "{\"is_strong\":true,\"name\":" ++ (json_string name ++ codes "}")
 weak_bind_object (weakly_bound b) = weak_place_object b
 
+-- ---- what is said of an image
+
+abbrev pub sdk_object : ℕ → List ℕ
+sdk_object sdk = if sdk == 0 then codes "null" else codes "\"" ++ (version_text sdk ++ codes "\"")
+
+abbrev pub platform_object : PlatformSaid → List ℕ
+platform_object p =
+    codes "{\"name\":\""
+    ++ (platform_name p.platform
+    ++ (codes "\",\"sdk\":" ++ (sdk_object p.sdk ++ (codes ",\"version\":\"" ++ (version_text p.least ++ codes "\"}")))))
+
 -- the object of a row
 abbrev pub object_of : RowView → List ℕ
 object_of (start_row address) = start_object address
@@ -138,6 +153,9 @@ object_of (provided_row provided) = provided_object provided
 object_of (library_row library) = library_object library
 object_of (rebase_row rebase) = rebased_object rebase
 object_of (weak_row bind) = weak_bind_object bind
+object_of (uuid_row uuid) = codes "\"" ++ (uuid_text uuid ++ codes "\"")
+object_of (platform_row platform) = platform_object platform
+object_of (path_row path) = json_string path
 
 -- the objects of rows, each or why there is none
 abbrev pub row_objects : List (Result RowView Fault) → List (Result (List ℕ) Fault)

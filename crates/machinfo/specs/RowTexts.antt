@@ -1,6 +1,8 @@
 -- The rows of lists as they are printed.
-use Rattle.std.specs.Prelude.{◌==◌, ◌||◌, ℕ, List, [], ◌++◌, codes, length, Bool, not, Option, Some, None, Result, map, if◌then◌else◌}
-use Rattle.std.specs.Fmt.{decimal, signed_decimal}
+use Rattle.std.specs.Prelude.{◌==◌, ◌||◌, ◌/◌, ◌%◌, ◌^◌, ◌-◌, ℕ, List, [], ◌∷◌, ◌++◌, take, drop}
+use Rattle.std.specs.Prelude.{flat_map, codes, length, Bool, true, false, not, Option, Some, None, Result, map, if◌then◌else◌}
+use Rattle.std.specs.Fmt.{decimal, signed_decimal, digits, padded_integral, format_spec}
+use Rattle.mach_base.specs.Named.{Named, name_or}
 use Rattle.mach_records.specs.declared.linkedit.DataInCodeEntry.{DataInCodeEntry}
 use Rattle.mach_records.specs.declared.versions.BuildToolVersion.{BuildToolVersion}
 use Rattle.mach_parts.specs.Bindings.{Binding, Provider, of_library, itself, main_executable, flat, weak_lookup}
@@ -14,15 +16,20 @@ use Rattle.mach_dyld.specs.Rebases.{Rebase}
 use Rattle.mach_dyld.specs.WeakBinds.{WeakBind, strong_name, weakly_bound}
 use Rattle.goblin_mach.specs.Libraries.{LibraryView}
 use Rattle.goblin_mach.specs.declared.libraries.LibraryAttributes.{LibraryAttributes}
+use Rattle.goblin_mach.specs.declared.libraries.LibraryKind.{LibraryKind}
+use Rattle.goblin_mach.specs.declared.libraries.LibraryKind.TheVariants.{Lazy}
+use Rattle.mach_cli.specs.Escapes.{escaped_text}
 use Rattle.mach_cli.specs.Listings.{hex_text, told_by}
 use Rattle.mach_cli.specs.Signing.{rebase_type}
 use Rattle.mach_base.specs.Fault.{Fault}
 use Rattle.machinfo.specs.NumberedNotes.{NumberedNoteView}
 use Rattle.machinfo.specs.ProvidedSymbols.{ProvidedView}
 use Rattle.machinfo.specs.Rows.{RowView, start_row, slot_row, indirect_row, data_row, option_row, tool_row, note_row, provided_row, library_row}
-use Rattle.machinfo.specs.Rows.{rebase_row, weak_row, list_row_view, list_rows_left}
+use Rattle.machinfo.specs.Rows.{rebase_row, weak_row, uuid_row, platform_row, path_row, list_row_view}
+use Rattle.machinfo.specs.Lists.{list_rows_left}
 use Rattle.machinfo.specs.declared.list.ImageList.{ImageList}
 use Rattle.machinfo.specs.declared.row.Row.{Row}
+use Rattle.machinfo.specs.declared.said.PlatformSaid.{PlatformSaid}
 
 -- the place from the image's first byte, the size and the kind
 abbrev pub data_text : DataInCodeEntry → List ℕ
@@ -36,7 +43,7 @@ indirect_text LocalAbsolute = codes "local absolute"
 
 -- the number of the command, and the text
 abbrev pub option_text : ℕ × List ℕ → List ℕ
-option_text found = decimal found.0 ++ codes " " ++ found.1
+option_text found = decimal found.0 ++ codes " " ++ escaped_text found.1
 
 -- the number of the command, the tool and its version
 abbrev pub tool_text : ℕ × BuildToolVersion → List ℕ
@@ -45,7 +52,7 @@ tool_text found = decimal found.0 ++ codes " " ++ decimal found.1.tool ++ codes 
 -- the number of the command, who wrote it, the place of its bytes, and how many they are
 abbrev pub note_row_text : NumberedNoteView → List ℕ
 note_row_text n =
-    decimal n.number ++ codes " " ++ n.note.owner ++ codes " " ++ hex_text n.place ++ codes " " ++ decimal (length n.note.data_bytes)
+    decimal n.number ++ codes " " ++ escaped_text n.note.owner ++ codes " " ++ hex_text n.place ++ codes " " ++ decimal (length n.note.data_bytes)
 
 -- ---- slots
 
@@ -57,7 +64,7 @@ slot_kind_text LazyLibraryPointer = codes "lazy library pointer"
 slot_kind_text ThreadLocalPointer = codes "thread-local pointer"
 
 abbrev pub slot_owner_text : SlotOwner → List ℕ
-slot_owner_text (named_slot index name) = name
+slot_owner_text (named_slot index name) = escaped_text name
 slot_owner_text local_slot = codes "local"
 slot_owner_text absolute_slot = codes "absolute"
 slot_owner_text local_absolute_slot = codes "local absolute"
@@ -77,19 +84,25 @@ giver_text weak_lookup = codes "weak-lookup"
 
 -- the symbol's name, and who gives it
 abbrev pub provided_text : ProvidedView → List ℕ
-provided_text p = p.name ++ codes " " ++ giver_text p.provider
+provided_text p = escaped_text p.name ++ codes " " ++ giver_text p.provider
 
 abbrev pub said_if : Bool → List ℕ → List ℕ
 said_if is_so word = if is_so then word else []
 
+-- a library that is to be loaded at its first use (LC_LAZY_LOAD_DYLIB)
+abbrev pub is_lazy_kind : LibraryKind → Bool
+is_lazy_kind Lazy = true
+is_lazy_kind _ = false
+
 -- how a library is used, `-` where nothing is said
-abbrev pub use_text : LibraryAttributes → List ℕ
-use_text a =
+abbrev pub use_text : LibraryAttributes → (is_lazy : Bool) → List ℕ
+use_text a is_lazy =
     said_if a.is_weak (codes " weak") ++ said_if a.is_reexport (codes " reexport") ++ said_if a.is_upward (codes " upward")
-    ++ said_if a.is_delayed (codes " delayed") ++ said_if (not (a.is_weak || a.is_reexport || a.is_upward || a.is_delayed)) (codes " -")
+    ++ said_if a.is_delayed (codes " delayed") ++ said_if is_lazy (codes " lazy")
+    ++ said_if (not (a.is_weak || a.is_reexport || a.is_upward || a.is_delayed || is_lazy)) (codes " -")
 
 abbrev pub library_row_text : LibraryView → List ℕ
-library_row_text l = l.name ++ use_text l.attributes
+library_row_text l = escaped_text l.name ++ use_text l.attributes (is_lazy_kind l.kind)
 
 -- ---- what dyld rebases and binds weakly
 
@@ -116,12 +129,62 @@ weak_flag is_weak = if is_weak then codes "weak" else codes "-"
 
 -- the address, the addend, whether the symbol may be missing, and its name
 abbrev pub weak_place_text : Binding → List ℕ
-weak_place_text b = hex_text b.address ++ codes " " ++ signed_decimal b.addend ++ codes " " ++ weak_flag b.is_weak ++ codes " " ++ b.name
+weak_place_text b = hex_text b.address ++ codes " " ++ signed_decimal b.addend ++ codes " " ++ weak_flag b.is_weak ++ codes " " ++ escaped_text b.name
 
 -- a name that the image defines itself and not weakly; or a place, and what is bound there
 abbrev pub weak_row_text : WeakBind → List ℕ
-weak_row_text (strong_name name) = codes "strong " ++ name
+weak_row_text (strong_name name) = codes "strong " ++ escaped_text name
 weak_row_text (weakly_bound b) = weak_place_text b
+
+-- ---- what is said of an image
+
+-- a version of 16, 8 and 8 bits
+abbrev pub version_text : ℕ → List ℕ
+version_text n = decimal (n / 65536) ++ codes "." ++ decimal (n / 256 % 256) ++ codes "." ++ decimal (n % 256)
+
+-- a byte in two hexadecimal digits of upper case
+abbrev pub upper_byte : ℕ → List ℕ
+upper_byte n = padded_integral (format_spec 32 0 4 2 (2 ^ 64 - 1)) false [] (digits 16 true n)
+
+abbrev pub upper_bytes : List ℕ → List ℕ
+upper_bytes bytes = flat_map upper_byte bytes
+
+-- the number of an image in five groups
+abbrev pub uuid_text : List ℕ → List ℕ
+uuid_text u =
+    upper_bytes (take 4 u)
+    ++ (codes "-"
+    ++ (upper_bytes (take 2 (drop 4 u))
+    ++ (codes "-"
+    ++ (upper_bytes (take 2 (drop 6 u))
+    ++ (codes "-" ++ (upper_bytes (take 2 (drop 8 u)) ++ (codes "-" ++ upper_bytes (take 6 (drop 10 u)))))))))
+
+-- platforms (PLATFORM_)
+abbrev pub platform_names : List Named
+platform_names =
+    record { number = 1; name = codes "macos" }
+    ∷ record { number = 2; name = codes "ios" }
+    ∷ record { number = 3; name = codes "tvos" }
+    ∷ record { number = 4; name = codes "watchos" }
+    ∷ record { number = 5; name = codes "bridgeos" }
+    ∷ record { number = 6; name = codes "maccatalyst" }
+    ∷ record { number = 7; name = codes "ios-simulator" }
+    ∷ record { number = 8; name = codes "tvos-simulator" }
+    ∷ record { number = 9; name = codes "watchos-simulator" }
+    ∷ record { number = 10; name = codes "driverkit" }
+    ∷ record { number = 11; name = codes "visionos" }
+    ∷ record { number = 12; name = codes "visionos-simulator" }
+    ∷ []
+
+abbrev pub platform_name : ℕ → List ℕ
+platform_name number = name_or (codes "unknown") platform_names number
+
+-- the version of the kit, if it is said
+abbrev pub sdk_text : ℕ → List ℕ
+sdk_text sdk = if sdk == 0 then [] else codes ", sdk " ++ version_text sdk
+
+abbrev pub platform_text : PlatformSaid → List ℕ
+platform_text p = codes "platform: " ++ platform_name p.platform ++ codes " " ++ version_text p.least ++ sdk_text p.sdk
 
 -- ---- rows
 
@@ -137,6 +200,9 @@ list_row_text (provided_row provided) = provided_text provided
 list_row_text (library_row library) = library_row_text library
 list_row_text (rebase_row rebase) = rebase_row_text rebase
 list_row_text (weak_row bind) = weak_row_text bind
+list_row_text (uuid_row uuid) = codes "uuid: " ++ uuid_text uuid
+list_row_text (platform_row platform) = platform_text platform
+list_row_text (path_row path) = codes "run path: " ++ escaped_text path
 
 -- the texts of rows, each or why there is none
 abbrev pub row_texts : List (Result RowView Fault) → List (Result (List ℕ) Fault)

@@ -1,7 +1,8 @@
 -- The lines that say whether an image is signed, and what its code directory that counts says.
-use Rattle.std.specs.Prelude.{◌≡◌, ◌==◌, ℕ, List, ◌++◌, codes, bit_and, if◌then◌else◌, Option, Some, None, Result, Ok, Err}
+use Rattle.std.specs.Prelude.{◌≡◌, ◌==◌, ◌&&◌, ℕ, List, ◌++◌, codes, Bool, true, false, bit_and, if◌then◌else◌, Option, Some, None, Result, Ok, Err}
 use Rattle.std.specs.Io.KnownBytes.{Appends}
 use Rattle.std.specs.Option.{option_map}
+use Rattle.std.specs.Result.{is_ok}
 use Rattle.mach_base.specs.Answer.{Reads}
 use Rattle.mach_base.specs.Fault.{Fault}
 use Rattle.mach_base.specs.Words.{words_of}
@@ -35,8 +36,14 @@ signature_answer_text (Ok None) = codes "signed: no\n"
 signature_answer_text (Ok (Some d)) = directory_said (directory_view d)
 signature_answer_text (Err e) = codes "signed: refused: " ++ (words_of e ++ codes "\n")
 
+-- whether it can be read, and so can its names
+abbrev pub is_readable : Result (Option Directory) Fault → Bool
+is_readable (Ok None) = true
+is_readable (Ok (Some d)) = is_ok (identifier_of d) && is_ok (team_of d)
+is_readable (Err f) = false
+
 -- The text says what is there, or has the words of an error that reports why it can't be told.
-pub record AreSignedLines (there : Result (Option Directory) Fault) (text : List ℕ) : Type 0 where
+pub record AreSignatureSaid (there : Result (Option Directory) Fault) (text : List ℕ) : Type 0 where
   pub answer : Result (Option CodeDirectory) Error
   pub reads : Reads (option_map directory_view) answer there
   pub is_text : text ≡ signature_answer_text answer
@@ -44,5 +51,5 @@ pub record AreSignedLines (there : Result (Option Directory) Fault) (text : List
 -- What was written is such lines.
 pub record WritesSignedLines (there : Result (Option Directory) Fault) (old new : Option (List ℕ)) : Type 0 where
   pub text : List ℕ
-  pub lines : AreSignedLines there text
+  pub lines : AreSignatureSaid there text
   pub written : Appends old new text

@@ -5,8 +5,8 @@ ghost use Rattle.std.specs.Io.KnownBytes.{Appends};
 ghost use Rattle.goblin_mach.specs.OpenImage.{IsImage};
 ghost use Rattle.mach_cli.specs.Listings.{CountsRows};
 ghost use Rattle.machinfo.specs.RowTexts.{row_texts};
-ghost use Rattle.machinfo.specs.Rows.{HasRows};
-ghost use Rattle.machinfo.specs.Counts.{are_counted_whole, count_members, count_text, count_told, AreCounts};
+ghost use Rattle.machinfo.specs.Lists.{HasRows};
+ghost use Rattle.machinfo.specs.Counts.{are_counted_whole, count_members, count_text, count_told, past_text, AreCounts};
 
 use crate::list::ImageList;
 use crate::text::said_if;
@@ -27,21 +27,39 @@ pub enum Form {
     Members,
 }
 
-// How many rows a list has, of which no more than a limit were gone over.
+/// How many items more a list claims, whose records begin past the end of the bytes, where it does.
+#[derive(Clone, Copy)]
+pub struct PastText(pub usize);
+
+impl Display for PastText {
+    ghost output = { λ t. Some (past_text t.0) };
+
+    fn fmt<W: fmt::Write>(&self, f: &mut Formatter<W>) -> fmt::Result {
+        if self.0 == 0 {
+            return Ok(());
+        }
+        let past = self.0;
+        write!(f, ", and {past} more past the end")
+    }
+}
+
+// How many rows a list has, of which no more than a limit were gone over, and how many more it claims.
 #[derive(Clone, Copy)]
 struct CountText {
     limit: usize,
     told: Told,
+    past: usize,
 }
 
 impl Display for CountText {
-    ghost output = { λ t. Some (count_text t.limit t.told) };
+    ghost output = { λ t. Some (count_text t.limit t.told t.past) };
 
     fn fmt<W: fmt::Write>(&self, f: &mut Formatter<W>) -> fmt::Result {
         let more = said_if(self.told.more, "more than ");
         let count = self.limit.saturating_sub(self.told.left);
         let refused = said_if(!self.told.whole, ", not all readable");
-        write!(f, "{more}{count}{refused}")
+        let past = PastText(self.past);
+        write!(f, "{more}{count}{refused}{past}")
     }
 }
 
@@ -50,23 +68,25 @@ impl Display for CountText {
 struct CountMembers {
     limit: usize,
     told: Told,
+    past: usize,
 }
 
 impl Display for CountMembers {
-    ghost output = { λ t. Some (count_members t.limit t.told) };
+    ghost output = { λ t. Some (count_members t.limit t.told t.past) };
 
     fn fmt<W: fmt::Write>(&self, f: &mut Formatter<W>) -> fmt::Result {
         let Told { whole, more, .. } = self.told;
         let count = self.limit.saturating_sub(self.told.left);
+        let past = self.past;
         write!(
             f,
-            "\"count\":{count},\"limit_met\":{more},\"readable\":{whole}"
+            "\"count\":{count},\"limit_met\":{more},\"past_the_end\":{past},\"readable\":{whole}"
         )
     }
 }
 
 /// Prints for each of these words how many items the list of an image has for which it asks, and answers whether all of them can be read, and none has
-/// more than the limit.
+/// more than the limit, or more past the end of the bytes.
 pub fn print_counts<A: Allocator, O: Write>(
     form: Form,
     words: &[Word],
@@ -84,7 +104,7 @@ pub fn print_counts<A: Allocator, O: Write>(
     Ok(whole)
 }
 
-// Prints how many items a list has, and answers whether all can be read, and they are no more than the limit.
+// Prints how many items a list has, and answers whether all can be read, and there are no more.
 fn print_count<A: Allocator, O: Write>(
     form: Form,
     word: Word,
@@ -92,14 +112,15 @@ fn print_count<A: Allocator, O: Write>(
     limit: usize,
     out: &mut O,
 ) -> io::Result<bool>
-    ensures { (bytes : List ℕ) → IsImage bytes 0 image.now → IfOk result (λ whole. (rows : _) × HasRows word bytes 0 rows × (told : _)
-        × CountsRows limit (row_texts rows) told × (whole ≡ are_counted_whole told)
-        × Appends (O.contents out.old) (O.contents out.new) (count_told form word limit told)) }
+    ensures { (bytes : List ℕ) → IsImage bytes 0 image.now → IfOk result (λ whole. (rows : _) × (past : ℕ) × HasRows word bytes 0 rows past × (told : _)
+        × CountsRows limit (row_texts rows) told × (whole ≡ are_counted_whole told past)
+        × Appends (O.contents out.old) (O.contents out.new) (count_told form word limit told past)) }
 {
     let mut list = ImageList::of(word, image);
+    let past = list.past_rows();
     let told = count_rows(&mut list, limit);
-    write_count(form, word, limit, told, out)?;
-    Ok(told.whole & !told.more)
+    write_count(form, word, limit, told, past, out)?;
+    Ok(told.whole & !told.more & (past == 0))
 }
 
 // Writes what is known of a list that was gone over.
@@ -108,18 +129,19 @@ fn write_count<O: Write>(
     word: Word,
     limit: usize,
     told: Told,
+    past: usize,
     out: &mut O,
 ) -> io::Result<()>
-    ensures { OnOk result (Appends (O.contents out.old) (O.contents out.new) (count_told form word limit told)) }
+    ensures { OnOk result (Appends (O.contents out.old) (O.contents out.new) (count_told form word limit told past)) }
 {
     let name = word.name();
     match form {
         Form::Lines => {
-            let count = CountText { limit, told };
+            let count = CountText { limit, told, past };
             writeln!(out, "{name}: {count}")
         }
         Form::Members => {
-            let count = CountMembers { limit, told };
+            let count = CountMembers { limit, told, past };
             write!(out, "\"{name}\":{{{count}}},")
         }
     }

@@ -3,6 +3,7 @@
 ghost use Rattle.std.specs.Prelude.{◌≡◌, ◌≤◌, [], codes, OnOk};
 ghost use Rattle.std.specs.Io.Buffered.{writer_buffer, writer_contents};
 ghost use Rattle.std.specs.Io.KnownBytes.{Appends};
+ghost use Rattle.mach_cli.specs.Bounds.{most_items};
 ghost use Rattle.mach_cli.specs.Names.{names_text};
 ghost use Rattle.mach_cli.specs.Shown.{Shown, Writes};
 ghost use Rattle.mach_cli.specs.Statuses.{IsStatus, status_by};
@@ -11,12 +12,14 @@ ghost use Rattle.machinfo.specs.ImageLines.{AreImageListMembers, AreImageSummary
 
 use crate::counts::{Form, print_counts};
 use crate::list::ImageList;
-use crate::members::front_members;
+use crate::members::write_front;
 use crate::object::ObjectList;
 use crate::run::{COUNTED, NAME};
 use crate::word::Word;
 use goblin_mach::MachO;
-use mach_cli::{Cpu, Failure, Heading, Names, Outcome, Shows, print_end, print_member};
+use mach_cli::{
+    Cpu, Failure, Heading, Names, Outcome, Shows, most_items, print_end_past, print_member,
+};
 use std::alloc::Allocator;
 use std::io;
 use std::io::{BufWriter, Write};
@@ -51,8 +54,9 @@ impl Shows for ObjectsOf<'_> {
         let mut list = ObjectList(ImageList::of(self.word, image));
         write!(out, "{heading}")?;
         let name = self.word.name();
+        let past = list.0.past_rows();
         let told = print_member(name, &mut list, left, out)?;
-        Ok(print_end(told, out)?)
+        Ok(print_end_past(told, past, out)?)
     }
 }
 
@@ -77,19 +81,21 @@ impl Shows for MembersOf<'_> {
 
     fn show<A: Allocator + Clone, O: Write>(
         &self,
-        alloc: &A,
+        _alloc: &A,
         image: &MachO<'_, A>,
         heading: Heading,
         left: usize,
         out: &mut O,
     ) -> Result<Outcome, Failure> {
-        let front = front_members(alloc.clone()?, image)?;
         write!(out, "{heading}")?;
-        write!(out, "{front}")?;
+        let front = write_front(image, self.limit, out)?;
         write!(out, "\"counts\":{{")?;
-        let whole = print_counts(Form::Members, &COUNTED, image, self.limit, out)?;
+        let counts = print_counts(Form::Members, &COUNTED, image, self.limit, out)?;
         end_counts(self.limit, out)?;
-        Ok(Outcome { whole, left })
+        Ok(Outcome {
+            whole: front & counts,
+            left,
+        })
     }
 }
 
@@ -113,13 +119,14 @@ pub fn write_list<A: Allocator + Clone, W: Write + Drop, B: Allocator, E: Write>
     err: &mut E,
 ) -> u8
     ensures status { IsStatus result }
-    ensures shown { result ≤ 1 → (shown : Shown)
-        × IsDocument cpu (names_text (codes "machinfo") file.now) file.now (AreImageListMembers word) limit bytes.now shown
+    ensures shown { let most = most_items limit bytes.now in result ≤ 1 → (shown : Shown)
+        × IsDocument cpu (names_text (codes "machinfo") file.now) file.now (AreImageListMembers word) most bytes.now shown
         × (result ≡ status_by shown.whole)
         × Writes shown (writer_contents W.contents out.old) (writer_contents W.contents out.new) (E.contents err.old) (E.contents err.new) }
     ensures flushed { result ≤ 1 → writer_buffer out.new ≡ [] }
 {
     let objects = ObjectsOf { file, word };
+    let limit = most_items(limit, bytes);
     mach_cli::json::run::run(&objects, file, cpu, limit, &alloc, bytes, out, err)
 }
 
@@ -134,12 +141,13 @@ pub fn write_summary<A: Allocator + Clone, W: Write + Drop, B: Allocator, E: Wri
     err: &mut E,
 ) -> u8
     ensures status { IsStatus result }
-    ensures shown { result ≤ 1 → (shown : Shown)
-        × IsDocument cpu (names_text (codes "machinfo") file.now) file.now (AreImageSummaryMembers limit) limit bytes.now shown
+    ensures shown { let most = most_items limit bytes.now in result ≤ 1 → (shown : Shown)
+        × IsDocument cpu (names_text (codes "machinfo") file.now) file.now (AreImageSummaryMembers most) most bytes.now shown
         × (result ≡ status_by shown.whole)
         × Writes shown (writer_contents W.contents out.old) (writer_contents W.contents out.new) (E.contents err.old) (E.contents err.new) }
     ensures flushed { result ≤ 1 → writer_buffer out.new ≡ [] }
 {
+    let limit = most_items(limit, bytes);
     let members = MembersOf { file, limit };
     mach_cli::json::run::run(&members, file, cpu, limit, &alloc, bytes, out, err)
 }

@@ -1,14 +1,22 @@
 //! The lists of an image.
 
-ghost use Rattle.std.specs.Prelude.{ℕ, List};
+ghost use Rattle.std.specs.Prelude.{◌≡◌, ◌-◌, ℕ, List, Ok, length, map};
+ghost use Rattle.mach_base.specs.Items.{begun_items};
+ghost use Rattle.mach_load.specs.TablesLeft.{data_in_code_left};
+ghost use Rattle.mach_parts.specs.SlotViews.{indirect_left};
 ghost use Rattle.std.specs.Iterator.{YieldsFirstBy};
 ghost use Rattle.goblin_mach.specs.OpenImage.{IsImage};
 ghost use Rattle.machinfo.specs.RowTexts.{listed_rows_left, row_shown};
-ghost use Rattle.machinfo.specs.Rows.{HasRows, list_row_read, list_rows_left};
+ghost use Rattle.machinfo.specs.Lists.{HasRows, list_rows_left, list_rows_past, past_name, rows_name_of};
+ghost use Rattle.machinfo.specs.Rows.{list_row_read, path_row};
+ghost use Rattle.machinfo.specs.Said.{said_within};
+ghost use Rattle.goblin_mach.specs.OpenImage.{commands_held};
+ghost use Rattle.mach_base.specs.Text.{texts};
 
 use crate::notes::NumberedNotes;
 use crate::providers::ProvidedSymbols;
 use crate::row::Row;
+use crate::said::{Question, SaidCommands};
 use crate::word::Word;
 use goblin_mach::slots::{IndirectSymbolIterator, SlotIterator};
 use goblin_mach::{
@@ -19,14 +27,15 @@ use mach_cli::Listing;
 use std::alloc::Allocator;
 use std::io;
 use std::io::Write;
+use std::slice::Iter;
 
-/// What is left of a list of an image.
+/// What is left of a list of an image: of a table the rows that begin within its bytes, and how many more it claims.
 #[derive(Drop)]
 pub enum ImageList<'a, 'b, A: Allocator> {
     Starts(FunctionStartIterator<'a>),
     Slots(SlotIterator<'a, 'b>),
-    Indirect(IndirectSymbolIterator<'a>),
-    Data(DataInCodeIterator<'a>),
+    Indirect(IndirectSymbolIterator<'a>, usize),
+    Data(DataInCodeIterator<'a>, usize),
     Options(LinkerOptionIterator<'a, 'b>),
     Tools(BuildToolIterator<'a, 'b>),
     Notes(NumberedNotes<'a, 'b>),
@@ -34,18 +43,47 @@ pub enum ImageList<'a, 'b, A: Allocator> {
     Libraries(LibraryIterator<'a, 'b>),
     Rebases(RebaseIterator<'a, 'b>),
     Weak(WeakBindIterator<'a, 'b>),
+    Said(SaidCommands<'b>),
+    Paths(Iter<'b, &'a str>),
+}
+
+// Those of the indirect symbols that begin within the bytes, and how many more there are to be.
+fn begun_indirect(list: IndirectSymbolIterator<'_>) -> (IndirectSymbolIterator<'_>, usize)
+    ensures left { indirect_left result.0 ≡ begun_items (indirect_left list.entry) }
+    ensures past { result.1 ≡ length (indirect_left list.entry) - length (begun_items (indirect_left list.entry)) }
+{
+    let begun = list.begun();
+    let past = list.len() - begun.len();
+    (begun, past)
+}
+
+// Those of the entries of data among code that begin within the bytes, and how many more there are to be.
+fn begun_data(list: DataInCodeIterator<'_>) -> (DataInCodeIterator<'_>, usize)
+    ensures left { data_in_code_left result.0 ≡ begun_items (data_in_code_left list.entry) }
+    ensures past { result.1 ≡ length (data_in_code_left list.entry) - length (begun_items (data_in_code_left list.entry)) }
+{
+    let begun = list.begun();
+    let past = list.len() - begun.len();
+    (begun, past)
 }
 
 impl<'a, 'b, A: Allocator> ImageList<'a, 'b, A> {
     /// The list of an image for which a word asks.
     pub fn of(word: Word, image: &'b MachO<'a, A>) -> Self
-        ensures { (bytes : List ℕ) (o : ℕ) → IsImage bytes o image.now → HasRows word bytes o (list_rows_left result) }
+        ensures rows { (bytes : List ℕ) (o : ℕ) → IsImage bytes o image.now → HasRows word bytes o (list_rows_left result) (list_rows_past result) }
+        ensures name { rows_name_of result ≡ past_name word }
     {
         match word {
             Word::Starts => ImageList::Starts(image.function_starts()),
             Word::Slots => ImageList::Slots(image.symbol_slots()),
-            Word::Indirect => ImageList::Indirect(image.indirect_symbols()),
-            Word::Data => ImageList::Data(image.data_in_code()),
+            Word::Indirect => {
+                let (begun, past) = begun_indirect(image.indirect_symbols());
+                ImageList::Indirect(begun, past)
+            }
+            Word::Data => {
+                let (begun, past) = begun_data(image.data_in_code());
+                ImageList::Data(begun, past)
+            }
             Word::Options => ImageList::Options(image.linker_options()),
             Word::Tools => ImageList::Tools(image.build_tools()),
             Word::Notes => ImageList::Notes(NumberedNotes::of(image)),
@@ -54,6 +92,22 @@ impl<'a, 'b, A: Allocator> ImageList<'a, 'b, A> {
             Word::Rebases => ImageList::Rebases(image.rebases()),
             Word::Weak => ImageList::Weak(image.weak_binds()),
         }
+    }
+
+    /// What the commands of an image answer.
+    pub fn said(question: Question, image: &'b MachO<'a, A>) -> Self
+        ensures left { list_rows_left result ≡ map (λ r. Ok r) (said_within question (commands_held image.now)) }
+        ensures past { list_rows_past result ≡ 0 }
+    {
+        ImageList::Said(SaidCommands::of(question, image))
+    }
+
+    /// The paths on which an image has its libraries looked up.
+    pub fn run_paths(image: &'b MachO<'a, A>) -> Self
+        ensures left { list_rows_left result ≡ map (λ path. Ok (path_row path)) (texts image.now.rpaths.items) }
+        ensures past { list_rows_past result ≡ 0 }
+    {
+        ImageList::Paths(image.rpaths.iter())
     }
 
     /// The next row, or why it can't be told.
@@ -69,11 +123,11 @@ impl<'a, 'b, A: Allocator> ImageList<'a, 'b, A> {
                 Ok(slot) => Some(Ok(Row::Slot(slot))),
                 Err(error) => Some(Err(error)),
             },
-            ImageList::Indirect(list) => match list.next()? {
+            ImageList::Indirect(list, _) => match list.next()? {
                 Ok(entry) => Some(Ok(Row::Indirect(entry))),
                 Err(error) => Some(Err(error)),
             },
-            ImageList::Data(list) => match list.next()? {
+            ImageList::Data(list, _) => match list.next()? {
                 Ok(entry) => Some(Ok(Row::Data(entry))),
                 Err(error) => Some(Err(error)),
             },
@@ -102,6 +156,31 @@ impl<'a, 'b, A: Allocator> ImageList<'a, 'b, A> {
                 Ok(bind) => Some(Ok(Row::Weak(bind))),
                 Err(error) => Some(Err(error)),
             },
+            ImageList::Said(list) => Some(Ok(list.take_next()?)),
+            ImageList::Paths(list) => Some(Ok(Row::RunPath(*list.next()?))),
+        }
+    }
+
+    /// How many rows more the whole list claims, whose records begin past the end of the bytes.
+    pub fn past_rows(&self) -> usize
+        ensures { result ≡ list_rows_past self.now }
+    {
+        match self {
+            ImageList::Indirect(_, past) | ImageList::Data(_, past) => *past,
+            ImageList::Providers(list) => list.past,
+            _ => 0,
+        }
+    }
+
+    /// What those are called.
+    pub fn rows_name(&self) -> &'static str
+        ensures { result.now ≡ rows_name_of self.now }
+    {
+        match self {
+            ImageList::Indirect(..) => "indirect symbols",
+            ImageList::Data(..) => "data in code entries",
+            ImageList::Providers(_) => "symbols",
+            _ => "",
         }
     }
 }
@@ -113,11 +192,23 @@ impl<'a, A: Allocator> Listing for ImageList<'a, '_, A> {
 
     ghost left = { listed_rows_left };
 
+    ghost past = { list_rows_past };
+
+    ghost past_name = { rows_name_of };
+
     fn next_row(&mut self) -> Option<Result<Row<'a>>> {
         match self.take_next()? {
             Ok(row) => Some(Ok(row)),
             Err(error) => Some(Err(error)),
         }
+    }
+
+    fn past(&self) -> usize {
+        self.past_rows()
+    }
+
+    fn past_name(&self) -> &'static str {
+        self.rows_name()
     }
 
     fn write_row<O: Write>(row: &Row<'a>, out: &mut O) -> io::Result<()> {

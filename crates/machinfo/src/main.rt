@@ -10,7 +10,9 @@ mod counts;
 mod json;
 mod members;
 mod run;
+mod segments;
 mod signed;
+mod state;
 mod summary;
 
 // The lists of an image: an item is a row, which is shown as a line or as an object of JSON.
@@ -19,31 +21,39 @@ mod notes;
 mod object;
 mod providers;
 mod row;
+mod said;
 mod text;
 mod word;
 
 use crate::word::Word;
 use json::{write_list, write_summary};
-use mach_cli::{Cpu, Files, ForTerminal, Misuse, Program, ShowsFile, take_json};
+use mach_cli::{
+    Call, Cpu, Files, ForTerminal, Misuse, Others, Program, ShowsFile, Titled, take_json,
+};
 use run::{DEFAULT_LIMIT, NAME, run_list, run_summary};
-use std::alloc::Allocator;
+use std::alloc::{Allocator, Global};
 use std::io;
 use std::io::{BufWriter, IsTerminal, Write};
 use std::process::ExitCode;
 
 const PROGRAM: Program = Program {
     name: NAME,
-    usage: "usage: machinfo [--json] [--limit N] [--arch NAME | --cputype 0xN] [WORD] FILE..\n       machinfo -h | --help | --version\n\
-        WORD: starts, slots, indirect, data, options, tools, notes, providers, libraries, rebases, weak\n",
+    usage: "usage: machinfo [--json] [--limit N] [--arch NAME | --cputype 0xN] [--names FILE] [-0] [WORD] FILE..
+       machinfo -h | --help | --version
+WORD: starts, slots, indirect, data, options, tools, notes, providers, libraries, rebases, weak
+",
     version: "machinfo 0.2.0\n",
     has_limit: true,
     has_cpu: true,
+    has_files: true,
     known: &[
+        "-0",
         "--arch",
         "--cputype",
         "--help",
         "--json",
         "--limit",
+        "--names",
         "--version",
         "data",
         "indirect",
@@ -72,8 +82,13 @@ fn start(rt: &HostRuntime) -> Result<u8, u8> {
         return Err(PROGRAM.out_of_memory(rt));
     };
     let call = PROGRAM.call(rt, &words)?;
+    answer(rt, is_json, &call)
+}
+
+// Does what a call asks for.
+fn answer(rt: &HostRuntime, is_json: bool, call: &Call<'_, Global>) -> Result<u8, u8> {
     let limit = call.limit.unwrap_or(DEFAULT_LIMIT);
-    show_files(rt, is_json, call.cpu, limit, &call.words)
+    show_files(rt, is_json, call.cpu, limit, &call.words, &call.others)
 }
 
 // The list for which the first of some words asks, if it does.
@@ -114,17 +129,18 @@ fn show_files(
     cpu: Cpu,
     limit: usize,
     words: &[&str],
+    others: &Others<'_, Global>,
 ) -> Result<u8, u8> {
     let word = word_of(words);
     let begin = if word.is_some() { 1 } else { 0 };
     let Some(files) = words.get(begin..) else {
         return Err(PROGRAM.bad_usage(rt, Misuse::Missing("FILE")));
     };
-    if files.is_empty() {
+    if files.is_empty() && others.is_empty() {
         return Err(PROGRAM.bad_usage(rt, Misuse::Missing("FILE")));
     }
     let output = ForTerminal::new(io::writer(rt), rt.stdout().is_terminal());
-    let Ok(mut lines) = BufWriter::new(rt.alloc(), output) else {
+    let Ok(mut lines) = BufWriter::new(rt.alloc(), Titled::new(rt.alloc(), output)) else {
         return Err(PROGRAM.out_of_memory(rt));
     };
     let shown = Shown {
@@ -137,6 +153,7 @@ fn show_files(
         program: PROGRAM,
         cpu,
         has_titles: !is_json,
+        has_parts: true,
     };
-    call.show(rt, &shown, files, &mut lines)
+    call.show(rt, &shown, files, others, &mut lines)
 }

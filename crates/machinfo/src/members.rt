@@ -1,251 +1,258 @@
-//! The members of the object of an image that say what it is, in front of those of its counts. That they are so is tested, and no clause says it.
+//! The members of the object of an image that say what it is, before those of its counts.
 
+ghost use Rattle.machinfo.specs.Lists.{list_rows_past, rows_name_of};
+ghost use Rattle.std.specs.Prelude.{OnOk};
+ghost use Rattle.std.specs.Io.KnownBytes.{Appends};
+ghost use Rattle.mach_parts.specs.HeaderNames.{flag_name};
+ghost use Rattle.machinfo.specs.Summary.{flag_said, flag_short_name, summary_object_shown, summary_objects_left, WritesSome};
+
+use crate::list::ImageList;
 use crate::object::RowObject;
 use crate::row::Row;
-use crate::signed::is_ad_hoc;
-use crate::summary::{
-    Platform, RightsText, State, UuidText, VersionText, cpu_name, platform_of, state_of,
-};
-use goblin_mach::header::{filetype_to_str, flag_to_str};
-use goblin_mach::load_command::CommandVariant;
-use goblin_mach::segment::Segment;
-use goblin_mach::{MachO, describe};
-use mach_cli::{JsonString, comma_before};
+use crate::said::Question;
+use crate::segments::{TextOrNull, write_segments};
+use crate::signed::{is_ad_hoc, is_readable};
+use crate::state::{State, state_of};
+use crate::summary::{cpu_name, flag_short_name};
+use crate::text::VersionText;
+use crate::word::Word;
+use goblin_mach::header::{Header, filetype_to_str};
+use goblin_mach::{Error, MachO, Result, describe};
+use mach_cli::{Listing, Told, comma_before, print_member, then};
+use mach_signature::CodeDirectory;
 use mach_signature::image::code_directory;
-use std::alloc::{AllocError, Allocator};
-use std::fmt;
-use std::fmt::{Display, Formatter, Write};
+use std::alloc::Allocator;
+use std::io;
+use std::io::Write;
 
-// A text, or `null`.
-#[derive(Clone, Copy)]
-struct TextOrNull<'a>(Option<&'a str>);
+// What is left of a list of an image, whose rows are objects in what is said of it.
+#[derive(Drop)]
+struct SummaryObjects<'a, 'b, A: Allocator>(ImageList<'a, 'b, A>);
 
-impl Display for TextOrNull<'_> {
-    fn fmt<W: Write>(&self, f: &mut Formatter<W>) -> fmt::Result {
-        match self.0 {
-            Some(text) => {
-                let text = JsonString(text);
-                write!(f, "{text}")
+impl<'a, A: Allocator> Listing for SummaryObjects<'a, '_, A> {
+    type Row = Row<'a>;
+
+    ghost text = { summary_object_shown };
+
+    ghost left = { summary_objects_left };
+
+    ghost past = { λ list. list_rows_past list.0 };
+
+    ghost past_name = { λ list. rows_name_of list.0 };
+
+    fn next_row(&mut self) -> Option<Result<Row<'a>>> {
+        match self.0.take_next()? {
+            Ok(row) => Some(Ok(row)),
+            Err(error) => Some(Err(error)),
+        }
+    }
+
+    fn past(&self) -> usize {
+        self.0.past_rows()
+    }
+
+    fn past_name(&self) -> &'static str {
+        self.0.rows_name()
+    }
+
+    fn write_row<O: Write>(row: &Row<'a>, out: &mut O) -> io::Result<()> {
+        match *row {
+            Row::Tool(_, tool) => {
+                let (number, version) = (tool.tool, VersionText(tool.version));
+                write!(out, "{{\"tool\":{number},\"version\":\"{version}\"}}")
             }
-            None => f.write_str("null"),
+            row => {
+                let object = RowObject(row);
+                write!(out, "{object}")
+            }
         }
     }
 }
 
-/// The members of an image but those of its lists and its kind, each with a comma behind it.
-pub fn front_members<A: Allocator>(
-    alloc: A,
+/// Writes the members of an image but those of its counts and its kind, each with a comma after it, and of each list the rows up to the limit. Answers
+/// whether all is told and can be read.
+pub fn write_front<A: Allocator, O: Write>(
     image: &MachO<'_, A>,
-) -> Result<String<A>, AllocError> {
-    let mut text = String::new(alloc);
-    add_header(&mut text, image)?;
-    add_flags(&mut text, image.header.flags)?;
-    add_libraries(&mut text, image)?;
-    add_platforms(&mut text, image)?;
-    add_segments(&mut text, image.segments.as_slice())?;
-    add_signature(&mut text, image)?;
-    add_state(&mut text, state_of(image))?;
-    add_tools(&mut text, image)?;
-    add_uuids(&mut text, image)?;
-    Ok(text)
+    limit: usize,
+    out: &mut O,
+) -> io::Result<bool>
+    ensures { OnOk result (WritesSome (O.contents out.old) (O.contents out.new)) }
+{
+    write_header(&image.header, image.name, image.entry, out)?;
+    write_flags(image.header.flags, out)?;
+    let lists = write_lists(image, limit, out)?;
+    let signature = write_signature(image, out)?;
+    let more = lists.more;
+    write!(out, "\"limit_met\":{more},")?;
+    let state = state_of(image);
+    write_state(state, out)?;
+    Ok(lists.whole & !more & signature & (state.past == 0))
 }
 
-// The cpu, the entry, the kind of the file, and the name as a library.
-fn add_header<A: Allocator>(text: &mut String<A>, image: &MachO<'_, A>) -> Result<(), AllocError> {
-    let (cputype, cpusubtype) = (image.header.cputype, image.header.cpusubtype);
-    let cpu = TextOrNull(cpu_name(cputype, cpusubtype));
-    let filetype = filetype_to_str(image.header.filetype);
-    let name = TextOrNull(image.name);
-    let entry = image.entry;
+// Writes the lists of an image.
+fn write_lists<A: Allocator, O: Write>(
+    image: &MachO<'_, A>,
+    limit: usize,
+    out: &mut O,
+) -> io::Result<Told>
+    ensures { OnOk result (WritesSome (O.contents out.old) (O.contents out.new)) }
+{
+    let libraries = write_list(
+        "libraries",
+        ImageList::of(Word::Libraries, image),
+        limit,
+        out,
+    )?;
+    let paths = write_list("run_paths", ImageList::run_paths(image), limit, out)?;
+    let list = ImageList::said(Question::Platform, image);
+    let platforms = write_list("platforms", list, limit, out)?;
+    let segments = write_segments(image.segments.as_slice(), limit, out)?;
+    let tools = write_list("tools", ImageList::of(Word::Tools, image), limit, out)?;
+    let list = ImageList::said(Question::Uuid, image);
+    let uuids = write_list("uuids", list, limit, out)?;
+    let used = then(then(libraries, paths), platforms);
+    Ok(then(then(used, segments), then(tools, uuids)))
+}
+
+// Writes a list as a member of this name.
+fn write_list<A: Allocator, O: Write>(
+    name: &str,
+    list: ImageList<'_, '_, A>,
+    limit: usize,
+    out: &mut O,
+) -> io::Result<Told>
+    ensures { OnOk result (WritesSome (O.contents out.old) (O.contents out.new)) }
+{
+    let told = print_member(name, &mut SummaryObjects(list), limit, out)?;
+    Ok(told)
+}
+
+// Writes the cpu, the entry, the kind of the file, and the name as a library.
+fn write_header<O: Write>(
+    header: &Header,
+    name: Option<&str>,
+    entry: u64,
+    out: &mut O,
+) -> io::Result<()>
+    ensures { OnOk result (WritesSome (O.contents out.old) (O.contents out.new)) }
+{
+    let (cputype, cpusubtype) = (header.cputype, header.cpusubtype);
+    let cpu = TextOrNull(cpu_name(cputype, cpusubtype % 0x100_0000));
+    let filetype = filetype_to_str(header.filetype);
+    let name = TextOrNull(name);
     write!(
-        text,
+        out,
         "\"cpu\":{cpu},\"cpusubtype\":{cpusubtype},\"cputype\":{cputype},"
     )?;
     write!(
-        text,
+        out,
         "\"entry\":{entry},\"filetype\":\"{filetype}\",\"name\":{name},"
     )
 }
 
-// The names of the bits of a header.
-fn add_flags<A: Allocator>(text: &mut String<A>, flags: u32) -> Result<(), AllocError> {
-    text.push_str("\"flags\":[")?;
+// Writes the names of the bits of a header.
+fn write_flags<O: Write>(flags: u32, out: &mut O) -> io::Result<()>
+    ensures { OnOk result (WritesSome (O.contents out.old) (O.contents out.new)) }
+{
+    write!(out, "\"flags\":[")?;
     let mut is_first = true;
     'bits: for bit in 0..32u32 {
-        let flag = flags & 1u32.wrapping_shl(bit);
-        if flag != 0 {
-            let comma = comma_before(is_first);
-            let name = flag_to_str(flag);
-            match name.strip_prefix("MH_") {
-                Some(name) => write!(text, "{comma}\"{name}\"")?,
-                None => write!(text, "{comma}\"0x{flag:x}\"")?,
-            }
-            is_first = false;
-        }
+        is_first = write_flag(flags & 1u32.wrapping_shl(bit), is_first, out)?;
     }
-    text.push_str("],")
+    write!(out, "],")
 }
 
-// The libraries, and where they are sought.
-fn add_libraries<A: Allocator>(
-    text: &mut String<A>,
-    image: &MachO<'_, A>,
-) -> Result<(), AllocError> {
-    text.push_str("\"libraries\":[")?;
-    let mut is_first = true;
-    'libraries: for library in image.libraries() {
-        let comma = comma_before(is_first);
-        let object = RowObject(Row::Library(library));
-        write!(text, "{comma}{object}")?;
-        is_first = false;
+// Writes the name of a bit, or its number, if it is set, and answers whether the next one is the first.
+#[tactic(auto, using(crate::proofs::Some::nothing))]
+fn write_flag<O: Write>(flag: u32, is_first: bool, out: &mut O) -> io::Result<bool>
+    ensures { OnOk result (WritesSome (O.contents out.old) (O.contents out.new)) }
+{
+    if flag == 0 {
+        return Ok(is_first);
     }
-    text.push_str("],\"run_paths\":[")?;
-    'paths: for (number, path) in image.rpaths.iter().enumerate() {
-        let comma = comma_before(number == 0);
-        let path = JsonString(path);
-        write!(text, "{comma}{path}")?;
-    }
-    text.push_str("],")
+    let comma = comma_before(is_first);
+    write!(out, "{comma}\"")?;
+    write_bit(flag, out)?;
+    write!(out, "\"")?;
+    Ok(false)
 }
 
-// The platforms.
-fn add_platforms<A: Allocator>(
-    text: &mut String<A>,
-    image: &MachO<'_, A>,
-) -> Result<(), AllocError> {
-    text.push_str("\"platforms\":[")?;
-    let mut is_first = true;
-    'commands: for command in &image.load_commands {
-        if let Some(Platform { name, least, sdk }) = platform_of(command) {
-            let comma = comma_before(is_first);
-            let (least, sdk) = (VersionText(least), VersionText(sdk));
-            write!(
-                text,
-                "{comma}{{\"name\":\"{name}\",\"sdk\":\"{sdk}\",\"version\":\"{least}\"}}"
-            )?;
-            is_first = false;
-        }
-    }
-    text.push_str("],")
-}
-
-// The segments.
-fn add_segments<A: Allocator>(
-    text: &mut String<A>,
-    segments: &[Segment<'_>],
-) -> Result<(), AllocError> {
-    text.push_str("\"segments\":[")?;
-    'segments: for (number, segment) in segments.iter().enumerate() {
-        let comma = comma_before(number == 0);
-        let name = TextOrNull(segment.name().ok());
-        let (address, size) = (segment.vmaddr, segment.vmsize);
-        let rights = RightsText(segment.initprot);
-        write!(
-            text,
-            "{comma}{{\"address\":{address},\"name\":{name},\"rights\":\"{rights}\","
-        )?;
-        add_sections(text, segment)?;
-        write!(text, "\"size\":{size}}}")?;
-    }
-    text.push_str("],")
-}
-
-// The sections of a segment.
-fn add_sections<A: Allocator>(
-    text: &mut String<A>,
-    segment: &Segment<'_>,
-) -> Result<(), AllocError> {
-    text.push_str("\"sections\":[")?;
-    let mut is_first = true;
-    'sections: for item in segment {
-        let comma = comma_before(is_first);
-        is_first = false;
-        match item {
-            Ok((section, _)) => {
-                let name = TextOrNull(section.name().ok());
-                let (address, size) = (section.addr, section.size);
-                write!(
-                    text,
-                    "{comma}{{\"address\":{address},\"name\":{name},\"size\":{size}}}"
-                )?;
-            }
-            Err(error) => {
-                let words = describe(&error);
-                write!(text, "{comma}{{\"error\":\"{words}\"}}")?;
-            }
-        }
-    }
-    text.push_str("],")
-}
-
-// What the code directory says, if the image is signed; a name that can't be read is none.
-fn add_signature<A: Allocator>(
-    text: &mut String<A>,
-    image: &MachO<'_, A>,
-) -> Result<(), AllocError> {
-    match code_directory(image) {
-        Ok(Some(directory)) => {
-            let flags = directory.head.flags;
-            let identifier = TextOrNull(directory.identifier().ok().flatten());
-            let ad_hoc = is_ad_hoc(flags);
-            let team = TextOrNull(directory.team().ok().flatten());
-            write!(
-                text,
-                "\"signature\":{{\"flags\":{flags},\"identifier\":{identifier},"
-            )?;
-            write!(text, "\"is_ad_hoc\":{ad_hoc},\"team\":{team}}},")
-        }
-        Ok(None) => text.push_str("\"signature\":null,"),
-        Err(error) => {
-            let words = describe(&error);
-            write!(text, "\"signature\":{{\"error\":\"{words}\"}},")
-        }
+// Writes the name of a bit, or its number.
+fn write_bit<O: Write>(flag: u32, out: &mut O) -> io::Result<()>
+    ensures { OnOk result (Appends (O.contents out.old) (O.contents out.new) (flag_said flag (flag_short_name (flag_name flag)))) }
+{
+    match flag_short_name(flag) {
+        Some(name) => write!(out, "{name}"),
+        None => write!(out, "0x{flag:x}"),
     }
 }
 
-// Whether it is encrypted and stripped, and how many symbols it has.
-fn add_state<A: Allocator>(text: &mut String<A>, state: State) -> Result<(), AllocError> {
+// Writes what the code directory says, if the image is signed; a name that can't be read is none. Answers whether all can be read.
+fn write_signature<A: Allocator, O: Write>(image: &MachO<'_, A>, out: &mut O) -> io::Result<bool>
+    ensures { OnOk result (WritesSome (O.contents out.old) (O.contents out.new)) }
+{
+    let answer = code_directory(image);
+    write_answer(&answer, out)?;
+    Ok(is_readable(&answer))
+}
+
+// Writes an answer.
+fn write_answer<O: Write>(answer: &Result<Option<CodeDirectory<'_>>>, out: &mut O) -> io::Result<()>
+    ensures { OnOk result (WritesSome (O.contents out.old) (O.contents out.new)) }
+{
+    match answer {
+        Ok(Some(directory)) => write_directory(directory, out),
+        Ok(None) => write_none(out),
+        Err(error) => write_refused(error, out),
+    }
+}
+
+// Writes that there is no signature.
+fn write_none<O: Write>(out: &mut O) -> io::Result<()>
+    ensures { OnOk result (WritesSome (O.contents out.old) (O.contents out.new)) }
+{
+    write!(out, "\"signature\":null,")
+}
+
+// Writes why a signature can't be read.
+fn write_refused<O: Write>(error: &Error, out: &mut O) -> io::Result<()>
+    ensures { OnOk result (WritesSome (O.contents out.old) (O.contents out.new)) }
+{
+    let words = describe(error);
+    write!(out, "\"signature\":{{\"error\":\"{words}\"}},")
+}
+
+// Writes what a code directory says.
+fn write_directory<O: Write>(directory: &CodeDirectory<'_>, out: &mut O) -> io::Result<()>
+    ensures { OnOk result (WritesSome (O.contents out.old) (O.contents out.new)) }
+{
+    let flags = directory.head.flags;
+    let identifier = TextOrNull(directory.identifier().ok().flatten());
+    let ad_hoc = is_ad_hoc(flags);
+    let team = TextOrNull(directory.team().ok().flatten());
+    write!(
+        out,
+        "\"signature\":{{\"flags\":{flags},\"identifier\":{identifier},"
+    )?;
+    write!(out, "\"is_ad_hoc\":{ad_hoc},\"team\":{team}}},")
+}
+
+// Writes whether an image is encrypted and stripped, and how many symbols it has.
+fn write_state<O: Write>(state: State, out: &mut O) -> io::Result<()>
+    ensures { OnOk result (WritesSome (O.contents out.old) (O.contents out.new)) }
+{
     let State {
         is_encrypted,
         is_stripped,
         symbols,
+        past,
     } = state;
     write!(
-        text,
+        out,
         "\"is_encrypted\":{is_encrypted},\"is_stripped\":{is_stripped},"
     )?;
-    write!(text, "\"symbols\":{symbols},")
-}
-
-// The tools of the build, up to one that can't be read.
-fn add_tools<A: Allocator>(text: &mut String<A>, image: &MachO<'_, A>) -> Result<(), AllocError> {
-    text.push_str("\"tools\":[")?;
-    let mut is_first = true;
-    'tools: for found in image.build_tools() {
-        if let Ok((_, tool)) = found {
-            let comma = comma_before(is_first);
-            let (number, version) = (tool.tool, VersionText(tool.version));
-            write!(
-                text,
-                "{comma}{{\"tool\":{number},\"version\":\"{version}\"}}"
-            )?;
-            is_first = false;
-        }
-    }
-    text.push_str("],")
-}
-
-// The numbers of the image.
-fn add_uuids<A: Allocator>(text: &mut String<A>, image: &MachO<'_, A>) -> Result<(), AllocError> {
-    text.push_str("\"uuids\":[")?;
-    let mut is_first = true;
-    'commands: for command in &image.load_commands {
-        if let CommandVariant::Uuid(c) = &command.command {
-            let comma = comma_before(is_first);
-            let uuid = UuidText(&c.uuid);
-            write!(text, "{comma}\"{uuid}\"")?;
-            is_first = false;
-        }
-    }
-    text.push_str("],")
+    write!(
+        out,
+        "\"symbols\":{symbols},\"symbols_past_the_end\":{past},"
+    )
 }

@@ -10,13 +10,16 @@ ghost use Rattle.machinfo.specs.NumberedNotes.{numbered_note_view};
 ghost use Rattle.machinfo.specs.ProvidedSymbols.{provided_view};
 ghost use Rattle.machinfo.specs.RowObjects.{data_object, giver_members, indirect_object, library_object, note_object, object_shown, objects_listed_left};
 ghost use Rattle.machinfo.specs.RowObjects.{option_object, owner_members, provided_object, rebased_object, slot_object, tool_object, use_members};
+ghost use Rattle.machinfo.specs.RowObjects.{platform_object, sdk_object};
+ghost use Rattle.machinfo.specs.Lists.{list_rows_past, rows_name_of};
 ghost use Rattle.machinfo.specs.RowObjects.{weak_bind_object, weak_place_object};
 
 use crate::list::ImageList;
 use crate::notes::NumberedNote;
 use crate::providers::Provided;
 use crate::row::Row;
-use crate::text::kind_text;
+use crate::said::PlatformSaid;
+use crate::text::{UuidText, VersionText, is_lazy_kind, kind_text, platform_name};
 use goblin_mach::load_command::{BuildToolVersion, DataInCodeEntry};
 use goblin_mach::slots::{IndirectSymbol, SlotSymbol, SymbolSlot};
 use goblin_mach::{Binding, Library, LibraryAttributes, Provider, Rebase, Result, WeakBind};
@@ -193,12 +196,12 @@ impl Display for ProvidedObject<'_> {
     }
 }
 
-// How a library is used.
+// How a library is used, and whether it is to be loaded at its first use.
 #[derive(Clone, Copy)]
-struct UseMembers(LibraryAttributes);
+struct UseMembers(LibraryAttributes, bool);
 
 impl Display for UseMembers {
-    ghost output = { λ t. Some (use_members t.0) };
+    ghost output = { λ t. Some (use_members t.0 t.1) };
 
     fn fmt<W: fmt::Write>(&self, f: &mut Formatter<W>) -> fmt::Result {
         let LibraryAttributes {
@@ -207,9 +210,10 @@ impl Display for UseMembers {
             is_upward,
             is_delayed,
         } = self.0;
+        let is_lazy = self.1;
         write!(
             f,
-            "\"is_delayed\":{is_delayed},\"is_reexport\":{is_reexport},\"is_upward\":{is_upward},\"is_weak\":{is_weak}"
+            "\"is_delayed\":{is_delayed},\"is_lazy\":{is_lazy},\"is_reexport\":{is_reexport},\"is_upward\":{is_upward},\"is_weak\":{is_weak}"
         )
     }
 }
@@ -224,7 +228,8 @@ impl Display for LibraryObject<'_> {
     fn fmt<W: fmt::Write>(&self, f: &mut Formatter<W>) -> fmt::Result {
         let least = self.0.compatibility_version;
         let current = self.0.current_version;
-        let how = UseMembers(self.0.attributes);
+        let is_lazy = is_lazy_kind(self.0.kind);
+        let how = UseMembers(self.0.attributes, is_lazy);
         let name = JsonString(self.0.name);
         let ordinal = self.0.ordinal;
         write!(
@@ -299,6 +304,40 @@ impl Display for WeakObject<'_> {
     }
 }
 
+// The version of the kit of a platform, if it is said.
+#[derive(Clone, Copy)]
+struct SdkObject(u32);
+
+impl Display for SdkObject {
+    ghost output = { λ t. Some (sdk_object t.0) };
+
+    fn fmt<W: fmt::Write>(&self, f: &mut Formatter<W>) -> fmt::Result {
+        if self.0 == 0 {
+            return f.write_str("null");
+        }
+        let sdk = VersionText(self.0);
+        write!(f, "\"{sdk}\"")
+    }
+}
+
+// A platform, with its versions as texts.
+#[derive(Clone, Copy)]
+struct PlatformObject(PlatformSaid);
+
+impl Display for PlatformObject {
+    ghost output = { λ t. Some (platform_object t.0) };
+
+    fn fmt<W: fmt::Write>(&self, f: &mut Formatter<W>) -> fmt::Result {
+        let name = platform_name(self.0.platform);
+        let sdk = SdkObject(self.0.sdk);
+        let least = VersionText(self.0.least);
+        write!(
+            f,
+            "{{\"name\":\"{name}\",\"sdk\":{sdk},\"version\":\"{least}\"}}"
+        )
+    }
+}
+
 /// A row as an object.
 #[derive(Clone, Copy)]
 pub struct RowObject<'a>(pub Row<'a>);
@@ -349,6 +388,18 @@ impl Display for RowObject<'_> {
                 let object = WeakObject(bind);
                 write!(f, "{object}")
             }
+            Row::Uuid(uuid) => {
+                let uuid = UuidText(&uuid);
+                write!(f, "\"{uuid}\"")
+            }
+            Row::Platform(platform) => {
+                let object = PlatformObject(platform);
+                write!(f, "{object}")
+            }
+            Row::RunPath(path) => {
+                let path = JsonString(path);
+                write!(f, "{path}")
+            }
         }
     }
 }
@@ -364,11 +415,23 @@ impl<'a, A: Allocator> Listing for ObjectList<'a, '_, A> {
 
     ghost left = { objects_listed_left };
 
+    ghost past = { λ list. list_rows_past list.0 };
+
+    ghost past_name = { λ list. rows_name_of list.0 };
+
     fn next_row(&mut self) -> Option<Result<Row<'a>>> {
         match self.0.take_next()? {
             Ok(row) => Some(Ok(row)),
             Err(error) => Some(Err(error)),
         }
+    }
+
+    fn past(&self) -> usize {
+        self.0.past_rows()
+    }
+
+    fn past_name(&self) -> &'static str {
+        self.0.rows_name()
     }
 
     fn write_row<O: Write>(row: &Row<'a>, out: &mut O) -> io::Result<()> {

@@ -4,7 +4,7 @@ ghost use Rattle.std.specs.Prelude.{◌≡◌};
 ghost use Rattle.std.specs.Iterator.{YieldsFirstBy};
 ghost use Rattle.mach_base.specs.Text.{texts};
 ghost use Rattle.goblin_mach.specs.ImageSlots.{symbol_table_held};
-ghost use Rattle.machinfo.specs.ProvidedSymbols.{provided_in, provided_left, provided_read};
+ghost use Rattle.machinfo.specs.ProvidedSymbols.{provided_in, provided_left, provided_read, symbols_past_in};
 
 use goblin_mach::symbols::SymbolIterator;
 use goblin_mach::{MachO, Provider, Result};
@@ -17,23 +17,34 @@ pub struct Provided<'a> {
     pub provider: Provider<'a>,
 }
 
-/// The symbols of an image of which the linker wrote down who gives them, from one on.
+/// The symbols of an image of which the linker wrote down who gives them, from one on: those whose records begin within the bytes.
 #[derive(Drop)]
 pub struct ProvidedSymbols<'a, 'b, A: Allocator> {
     pub image: &'b MachO<'a, A>,
     pub symbols: SymbolIterator<'a>,
+    /// How many more the table is said to have.
+    pub past: usize,
 }
 
 impl<'a, 'b, A: Allocator> ProvidedSymbols<'a, 'b, A> {
     /// Those of an image.
     pub fn of(image: &'b MachO<'a, A>) -> Self
-        ensures { provided_left result ≡ provided_in image.now.header.flags (texts image.now.libs.items) (symbol_table_held image.now) }
+        ensures left { provided_left result ≡ provided_in image.now.header.flags (texts image.now.libs.items) (symbol_table_held image.now) }
+        ensures past { result.past ≡ symbols_past_in (symbol_table_held image.now) }
     {
-        let symbols = match &image.symbols {
-            Some(table) => table.iter(),
-            None => SymbolIterator::default(),
+        let Some(table) = &image.symbols else {
+            return ProvidedSymbols {
+                image,
+                symbols: SymbolIterator::default(),
+                past: 0,
+            };
         };
-        ProvidedSymbols { image, symbols }
+        let begun = table.begun();
+        ProvidedSymbols {
+            image,
+            symbols: begun.iter(),
+            past: table.len() - begun.len(),
+        }
     }
 
     /// The next of them, or why it can't be told.

@@ -1,17 +1,24 @@
 //! A row of a list, and how it is printed.
 
-ghost use Rattle.std.specs.Prelude.{◌≡◌, Some};
-ghost use Rattle.machinfo.specs.RowTexts.{row_shown};
+ghost use Rattle.std.specs.Prelude.{◌++◌, Some, codes};
+ghost use Rattle.mach_parts.specs.declared.segment.section.Section.{Section};
+ghost use Rattle.mach_cli.specs.Escapes.{IsOneLine};
+ghost use Rattle.machinfo.specs.RowTexts.{list_row_text, row_shown};
+ghost use Rattle.machinfo.specs.Rows.{RowView};
+ghost use Rattle.machinfo.specs.Segments.{section_said_text};
+ghost use Rattle.machinfo.specs.Summary.{summary_text};
 
 use crate::notes::NumberedNote;
 use crate::providers::Provided;
+use crate::said::PlatformSaid;
 use crate::text::{
-    DataText, IndirectText, LibraryText, NoteText, OptionText, ProvidedText, RebaseText, SlotText,
-    ToolText, WeakText,
+    DataText, IndirectText, LibraryText, NoteText, OptionText, PlatformText, ProvidedText,
+    RebaseText, SlotText, ToolText, UuidText, WeakText,
 };
 use goblin_mach::load_command::{BuildToolVersion, DataInCodeEntry};
 use goblin_mach::slots::{IndirectSymbol, SymbolSlot};
 use goblin_mach::{Library, Rebase, WeakBind};
+use mach_cli::Escaped;
 use std::fmt;
 use std::fmt::{Display, Formatter, Write};
 
@@ -29,6 +36,9 @@ pub enum Row<'a> {
     Library(Library<'a>),
     Rebase(Rebase),
     Weak(WeakBind<'a>),
+    Uuid([u8; 16]),
+    Platform(PlatformSaid),
+    RunPath(&'a str),
 }
 
 impl Display for Row<'_> {
@@ -77,6 +87,25 @@ impl Display for Row<'_> {
                 let bind = WeakText(bind);
                 write!(f, "{bind}")
             }
+            Row::Uuid(uuid) => {
+                let uuid = UuidText(&uuid);
+                write!(f, "uuid: {uuid}")
+            }
+            Row::Platform(platform) => {
+                let platform = PlatformText(platform);
+                write!(f, "{platform}")
+            }
+            Row::RunPath(path) => {
+                let path = Escaped(path);
+                write!(f, "run path: {path}")
+            }
         }
     }
 }
+
+/// Each row of a list, each row of what is said of an image and each section is one line, whatever the names of the file hold.
+pub fn rows_are_lines()
+    ensures row { (row : RowView) → IsOneLine (list_row_text row ++ codes "\n") }
+    ensures said { (row : RowView) → IsOneLine (summary_text row ++ codes "\n") }
+    ensures section { (section : Section) → IsOneLine (section_said_text section ++ codes "\n") }
+{}

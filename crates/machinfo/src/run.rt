@@ -2,6 +2,7 @@
 
 ghost use Rattle.std.specs.Prelude.{◌≡◌, ◌≤◌, [], codes};
 ghost use Rattle.std.specs.Io.Buffered.{writer_buffer, writer_contents};
+ghost use Rattle.mach_cli.specs.Bounds.{most_items};
 ghost use Rattle.mach_cli.specs.Names.{names_text};
 ghost use Rattle.mach_cli.specs.Shown.{Shown, ShowsFile, Writes};
 ghost use Rattle.mach_cli.specs.Statuses.{IsStatus, status_by};
@@ -10,10 +11,11 @@ ghost use Rattle.machinfo.specs.ImageLines.{AreImageListLines, AreImageSummaryLi
 use crate::counts::{Form, print_counts};
 use crate::list::ImageList;
 use crate::signed::print_signed;
-use crate::summary::{front_of, state_of, state_text};
+use crate::state::{print_state, state_of};
+use crate::summary::print_front;
 use crate::word::Word;
 use goblin_mach::MachO;
-use mach_cli::{Cpu, Failure, Heading, Names, Outcome, Shows, print_listing};
+use mach_cli::{Cpu, Failure, Heading, Names, Outcome, Shows, most_items, print_listing};
 use std::alloc::Allocator;
 use std::io::{BufWriter, Write};
 
@@ -93,20 +95,22 @@ impl Shows for SummaryOf<'_> {
 
     fn show<A: Allocator + Clone, O: Write>(
         &self,
-        alloc: &A,
+        _alloc: &A,
         image: &MachO<'_, A>,
         heading: Heading,
         left: usize,
         out: &mut O,
     ) -> Result<Outcome, Failure> {
-        let front = front_of(alloc.clone()?, image)?;
-        let state = state_text(alloc.clone()?, state_of(image))?;
         write!(out, "{heading}")?;
-        write!(out, "{front}")?;
-        print_signed(image, out)?;
-        write!(out, "{state}")?;
-        let whole = print_counts(Form::Lines, &COUNTED, image, self.limit, out)?;
-        Ok(Outcome { whole, left })
+        let front = print_front(image, self.limit, out)?;
+        let signed = print_signed(image, out)?;
+        let state = state_of(image);
+        print_state(state, out)?;
+        let counts = print_counts(Form::Lines, &COUNTED, image, self.limit, out)?;
+        Ok(Outcome {
+            whole: front & signed & (state.past == 0) & counts,
+            left,
+        })
     }
 }
 
@@ -124,11 +128,12 @@ pub fn run_summary<A: Allocator + Clone, W: Write + Drop, B: Allocator, E: Write
     err: &mut E,
 ) -> u8
     ensures status { IsStatus result }
-    ensures shown { result ≤ 1 → (shown : Shown)
-        × ShowsFile cpu (names_text (codes "machinfo") file.now) (AreImageSummaryLines limit) limit bytes.now shown × (result ≡ status_by shown.whole)
+    ensures shown { let most = most_items limit bytes.now in result ≤ 1 → (shown : Shown)
+        × ShowsFile cpu (names_text (codes "machinfo") file.now) (AreImageSummaryLines most) most bytes.now shown × (result ≡ status_by shown.whole)
         × Writes shown (writer_contents W.contents out.old) (writer_contents W.contents out.new) (E.contents err.old) (E.contents err.new) }
     ensures flushed { result ≤ 1 → writer_buffer out.new ≡ [] }
 {
+    let limit = most_items(limit, bytes);
     mach_cli::run::run(
         &SummaryOf { file, limit },
         cpu,
@@ -155,11 +160,12 @@ pub fn run_list<A: Allocator + Clone, W: Write + Drop, B: Allocator, E: Write>(
     err: &mut E,
 ) -> u8
     ensures status { IsStatus result }
-    ensures shown { result ≤ 1 → (shown : Shown)
-        × ShowsFile cpu (names_text (codes "machinfo") file.now) (AreImageListLines word limit) limit bytes.now shown × (result ≡ status_by shown.whole)
+    ensures shown { let most = most_items limit bytes.now in result ≤ 1 → (shown : Shown)
+        × ShowsFile cpu (names_text (codes "machinfo") file.now) (AreImageListLines word most) most bytes.now shown × (result ≡ status_by shown.whole)
         × Writes shown (writer_contents W.contents out.old) (writer_contents W.contents out.new) (E.contents err.old) (E.contents err.new) }
     ensures flushed { result ≤ 1 → writer_buffer out.new ≡ [] }
 {
+    let limit = most_items(limit, bytes);
     mach_cli::run::run(
         &ListOf { file, word, limit },
         cpu,

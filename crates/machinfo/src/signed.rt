@@ -1,6 +1,6 @@
 //! Whether an image is signed, and what its code directory says.
 
-ghost use Rattle.std.specs.Prelude.{◌≡◌, ◌==◌, ◌++◌, bit_and, codes, not, OnOk};
+ghost use Rattle.std.specs.Prelude.{◌≡◌, ◌==◌, ◌++◌, bit_and, codes, not, IfOk, OnOk};
 ghost use Rattle.std.specs.Option.{option_map};
 ghost use Rattle.std.specs.Io.KnownBytes.{Appends};
 ghost use Rattle.mach_base.specs.Items.{read_as};
@@ -9,7 +9,7 @@ ghost use Rattle.goblin_mach.specs.OpenImage.{bytes_held, commands_held};
 ghost use Rattle.mach_signature.specs.Directories.{identifier_of, team_of};
 ghost use Rattle.mach_signature.specs.DirectoryViews.{directory_view};
 ghost use Rattle.mach_signature.specs.SignedImages.{image_directory};
-ghost use Rattle.machinfo.specs.Signed.{directory_said, said_name, signature_flags_line, signed_line, signature_answer_text, WritesSignedLines};
+ghost use Rattle.machinfo.specs.Signed.{directory_said, is_readable, said_name, signature_flags_line, signed_line, signature_answer_text, WritesSignedLines};
 
 use goblin_mach::{Error, MachO, describe};
 use mach_cli::{print_code_flags, print_name};
@@ -19,13 +19,25 @@ use std::alloc::Allocator;
 use std::io;
 use std::io::Write;
 
-/// Prints whether an image is signed, and what the code directory says that counts; or why it can't be told.
-pub fn print_signed<A: Allocator, O: Write>(image: &MachO<'_, A>, out: &mut O) -> io::Result<()>
-    ensures { OnOk result (WritesSignedLines (image_directory (bytes_held image.now) (commands_held image.now))
-        (O.contents out.old) (O.contents out.new)) }
+/// Prints whether an image is signed, and what the code directory says that counts; or why it can't be told. Answers whether all can be read.
+pub fn print_signed<A: Allocator, O: Write>(image: &MachO<'_, A>, out: &mut O) -> io::Result<bool>
+    ensures { IfOk result (λ whole. let there = image_directory (bytes_held image.now) (commands_held image.now) in
+        (whole ≡ is_readable there) × WritesSignedLines there (O.contents out.old) (O.contents out.new)) }
 {
     let directory = code_directory(image);
-    print_answer(&directory, out)
+    print_answer(&directory, out)?;
+    Ok(is_readable(&directory))
+}
+
+/// Whether a code directory and its names can be read, or there is none.
+pub fn is_readable(answer: &goblin_mach::Result<Option<CodeDirectory<'_>>>) -> bool
+    ensures { result ≡ is_readable (read_as (option_map directory_view) answer.now) }
+{
+    match answer {
+        Ok(Some(directory)) => directory.identifier().is_ok() && directory.team().is_ok(),
+        Ok(None) => true,
+        Err(_) => false,
+    }
 }
 
 // Prints an answer in words.

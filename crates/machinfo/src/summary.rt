@@ -1,283 +1,245 @@
-//! What is said of an image in front of its counts, but for its signature. That it is so is tested, and no clause says it.
+//! What is said of an image before its counts, but for its signature and its state.
 
-use crate::text::LibraryText;
-use goblin_mach::MachO;
-use goblin_mach::header::{filetype_to_str, flag_to_str};
-use goblin_mach::load_command::{
-    CommandVariant, LoadCommand, PLATFORM_BRIDGEOS, PLATFORM_DRIVERKIT, PLATFORM_IOS,
-    PLATFORM_IOSSIMULATOR, PLATFORM_MACCATALYST, PLATFORM_MACOS, PLATFORM_TVOS,
-    PLATFORM_TVOSSIMULATOR, PLATFORM_VISIONOS, PLATFORM_VISIONOSSIMULATOR, PLATFORM_WATCHOS,
-    PLATFORM_WATCHOSSIMULATOR,
+ghost use Rattle.std.specs.Prelude.{◌≡◌, IfOk, OnOk};
+ghost use Rattle.std.specs.Io.KnownBytes.{Appends};
+ghost use Rattle.mach_dyld.specs.Exports.{text_in};
+ghost use Rattle.machinfo.specs.Lists.{list_rows_left, list_rows_past, rows_name_of};
+ghost use Rattle.mach_cli.specs.Cpus.{arch_rows};
+ghost use Rattle.machinfo.specs.Summary.{cpu_line, cpu_named, entry_point_line, flag_word, flags_line, kind_lines, own_name_line};
+ghost use Rattle.mach_parts.specs.HeaderNames.{flag_name};
+ghost use Rattle.machinfo.specs.Summary.{flag_short_name, summary_lines_left, summary_shown, WritesSaid, WritesSome};
+
+use crate::list::ImageList;
+use crate::row::Row;
+use crate::said::Question;
+use crate::segments::print_segments;
+use crate::text::{LibraryText, VersionText};
+use crate::word::Word;
+use goblin_mach::cputype::{
+    CPU_TYPE_ARM, CPU_TYPE_ARM64, CPU_TYPE_ARM64_32, CPU_TYPE_POWERPC, CPU_TYPE_X86,
+    CPU_TYPE_X86_64,
 };
-use goblin_mach::segment::Segment;
-use mach_cli::{Arch, Cpu};
-use std::alloc::{AllocError, Allocator};
-use std::fmt;
-use std::fmt::{Display, Formatter, Write};
+use goblin_mach::header::{Header, filetype_to_str, flag_to_str};
+use goblin_mach::{MachO, Result};
+use mach_cli::{Escaped, Listing, print_listing};
+use std::alloc::Allocator;
+use std::io;
+use std::io::Write;
 
-// The cpus that have a name.
-const NAMES: [&str; 18] = [
-    "i386", "x86_64", "x86_64h", "armv4t", "armv5e", "xscale", "armv6", "armv6m", "armv7",
-    "armv7em", "armv7k", "armv7m", "armv7s", "arm64", "arm64e", "arm64_32", "ppc", "ppc64",
-];
+// What is left of a list of an image, whose rows are lines of what is said of it.
+#[derive(Drop)]
+struct SummaryLines<'a, 'b, A: Allocator>(ImageList<'a, 'b, A>);
 
-/// A version of 16, 8 and 8 bits.
-#[derive(Clone, Copy)]
-pub struct VersionText(pub u32);
+impl<'a, A: Allocator> Listing for SummaryLines<'a, '_, A> {
+    type Row = Row<'a>;
 
-impl Display for VersionText {
-    fn fmt<W: Write>(&self, f: &mut Formatter<W>) -> fmt::Result {
-        let (major, minor, patch) = (self.0 >> 16, self.0 >> 8 & 0xff, self.0 & 0xff);
-        write!(f, "{major}.{minor}.{patch}")
-    }
-}
+    ghost text = { summary_shown };
 
-/// What is allowed of a segment.
-#[derive(Clone, Copy)]
-pub struct RightsText(pub u32);
+    ghost left = { summary_lines_left };
 
-impl Display for RightsText {
-    fn fmt<W: Write>(&self, f: &mut Formatter<W>) -> fmt::Result {
-        let read = if self.0 & 1 != 0 { "r" } else { "-" };
-        let write = if self.0 & 2 != 0 { "w" } else { "-" };
-        let execute = if self.0 & 4 != 0 { "x" } else { "-" };
-        write!(f, "{read}{write}{execute}")
-    }
-}
+    ghost past = { λ list. list_rows_past list.0 };
 
-/// The number of an image, in five groups.
-#[derive(Clone, Copy)]
-pub struct UuidText<'a>(pub &'a [u8; 16]);
+    ghost past_name = { λ list. rows_name_of list.0 };
 
-impl Display for UuidText<'_> {
-    fn fmt<W: Write>(&self, f: &mut Formatter<W>) -> fmt::Result {
-        'bytes: for (number, byte) in self.0.iter().enumerate() {
-            if number == 4 || number == 6 || number == 8 || number == 10 {
-                f.write_str("-")?;
-            }
-            write!(f, "{byte:02X}")?;
-        }
-        Ok(())
-    }
-}
-
-/// A platform that a command names, with the least version of its system, and the version of the kit that the image was built with.
-#[derive(Clone, Copy)]
-pub struct Platform {
-    pub name: &'static str,
-    pub least: u32,
-    pub sdk: u32,
-}
-
-/// Whether an image is encrypted and stripped, and how many symbols it has.
-#[derive(Clone, Copy)]
-pub struct State {
-    pub is_encrypted: bool,
-    pub is_stripped: bool,
-    pub symbols: usize,
-}
-
-/// What is said of an image first.
-pub fn front_of<A: Allocator>(alloc: A, image: &MachO<'_, A>) -> Result<String<A>, AllocError> {
-    let mut text = String::new(alloc);
-    add_kind(&mut text, image)?;
-    'commands: for command in &image.load_commands {
-        add_command(&mut text, command)?;
-    }
-    add_tools(&mut text, image)?;
-    if image.entry != 0 {
-        let entry = image.entry;
-        writeln!(text, "entry: 0x{entry:x}")?;
-    }
-    add_flags(&mut text, image.header.flags)?;
-    'segments: for segment in image.segments.as_slice() {
-        add_segment(&mut text, segment)?;
-    }
-    add_libraries(&mut text, image)?;
-    Ok(text)
-}
-
-// The kind of the file, the cpu, and the name as a library.
-fn add_kind<A: Allocator>(text: &mut String<A>, image: &MachO<'_, A>) -> Result<(), AllocError> {
-    let header = &image.header;
-    let kind = filetype_to_str(header.filetype);
-    writeln!(text, "kind: {kind}")?;
-    let (cputype, cpusubtype) = (header.cputype, header.cpusubtype);
-    match cpu_name(cputype, cpusubtype) {
-        Some(name) => writeln!(text, "cpu: {name}")?,
-        None => writeln!(
-            text,
-            "cpu: cputype 0x{cputype:x}, cpusubtype 0x{cpusubtype:x}"
-        )?,
-    }
-    if let Some(name) = image.name {
-        writeln!(text, "name: {name}")?;
-    }
-    Ok(())
-}
-
-/// The name of the cpu of these numbers, if it has one.
-pub fn cpu_name(cputype: u32, cpusubtype: u32) -> Option<&'static str> {
-    'names: for name in &NAMES {
-        if let Some(arch) = Arch::named(name) {
-            if Cpu::Arch(arch).takes(cputype, cpusubtype) {
-                return Some(arch.name);
-            }
+    fn next_row(&mut self) -> Option<Result<Row<'a>>> {
+        match self.0.take_next()? {
+            Ok(row) => Some(Ok(row)),
+            Err(error) => Some(Err(error)),
         }
     }
-    None
-}
 
-// What a command says, if it is told.
-fn add_command<A: Allocator>(
-    text: &mut String<A>,
-    command: &LoadCommand,
-) -> Result<(), AllocError> {
-    if let CommandVariant::Uuid(c) = &command.command {
-        let uuid = UuidText(&c.uuid);
-        writeln!(text, "uuid: {uuid}")?;
+    fn past(&self) -> usize {
+        self.0.past_rows()
     }
-    if let Some(Platform { name, least, sdk }) = platform_of(command) {
-        let (least, sdk) = (VersionText(least), VersionText(sdk));
-        writeln!(text, "platform: {name} {least}, sdk {sdk}")?;
+
+    fn past_name(&self) -> &'static str {
+        self.0.rows_name()
     }
-    Ok(())
-}
 
-/// The platform that a command names, if it names one.
-pub fn platform_of(command: &LoadCommand) -> Option<Platform> {
-    let (name, least, sdk) = match &command.command {
-        CommandVariant::BuildVersion(c) => (platform_name(c.platform), c.minos, c.sdk),
-        CommandVariant::VersionMinMacosx(c) => ("macos", c.version, c.sdk),
-        CommandVariant::VersionMinIphoneos(c) => ("ios", c.version, c.sdk),
-        CommandVariant::VersionMinTvos(c) => ("tvos", c.version, c.sdk),
-        CommandVariant::VersionMinWatchos(c) => ("watchos", c.version, c.sdk),
-        _ => return None,
-    };
-    Some(Platform { name, least, sdk })
-}
-
-// The name of a platform by its number.
-fn platform_name(number: u32) -> &'static str {
-    match number {
-        PLATFORM_MACOS => "macos",
-        PLATFORM_IOS => "ios",
-        PLATFORM_TVOS => "tvos",
-        PLATFORM_WATCHOS => "watchos",
-        PLATFORM_BRIDGEOS => "bridgeos",
-        PLATFORM_MACCATALYST => "maccatalyst",
-        PLATFORM_IOSSIMULATOR => "ios-simulator",
-        PLATFORM_TVOSSIMULATOR => "tvos-simulator",
-        PLATFORM_WATCHOSSIMULATOR => "watchos-simulator",
-        PLATFORM_DRIVERKIT => "driverkit",
-        PLATFORM_VISIONOS => "visionos",
-        PLATFORM_VISIONOSSIMULATOR => "visionos-simulator",
-        _ => "unknown",
-    }
-}
-
-// The tools of the build, up to one that can't be read.
-fn add_tools<A: Allocator>(text: &mut String<A>, image: &MachO<'_, A>) -> Result<(), AllocError> {
-    'tools: for found in image.build_tools() {
-        let Ok((_, tool)) = found else {
-            return Ok(());
-        };
-        let (number, version) = (tool.tool, VersionText(tool.version));
-        writeln!(text, "tool: {number} {version}")?;
-    }
-    Ok(())
-}
-
-// The names of the bits of a header.
-fn add_flags<A: Allocator>(text: &mut String<A>, flags: u32) -> Result<(), AllocError> {
-    text.push_str("flags:")?;
-    'bits: for bit in 0..32u32 {
-        let flag = flags & 1u32.wrapping_shl(bit);
-        if flag != 0 {
-            let name = flag_to_str(flag);
-            match name.strip_prefix("MH_") {
-                Some(name) => write!(text, " {name}")?,
-                None => write!(text, " 0x{flag:x}")?,
+    fn write_row<O: Write>(row: &Row<'a>, out: &mut O) -> io::Result<()> {
+        match *row {
+            Row::Tool(_, tool) => {
+                let (number, version) = (tool.tool, VersionText(tool.version));
+                write!(out, "tool: {number} {version}")
             }
+            Row::Library(library) => {
+                let version = VersionText(library.current_version);
+                let least = VersionText(library.compatibility_version);
+                let library = LibraryText(library);
+                write!(out, "library: {library} {version}, at least {least}")
+            }
+            row => write!(out, "{row}"),
         }
     }
-    text.push_str("\n")
 }
 
-// A segment and its sections.
-fn add_segment<A: Allocator>(
-    text: &mut String<A>,
-    segment: &Segment<'_>,
-) -> Result<(), AllocError> {
-    let name = segment.name().unwrap_or("-");
-    let (address, size, rights) = (segment.vmaddr, segment.vmsize, RightsText(segment.initprot));
-    writeln!(text, "segment: {name} 0x{address:x} 0x{size:x} {rights}")?;
-    'sections: for item in segment {
-        match item {
-            Ok((section, _)) => {
-                let name = section.name().unwrap_or("-");
-                let (address, size) = (section.addr, section.size);
-                writeln!(text, "section: {name} 0x{address:x} 0x{size:x}")?;
-            }
-            Err(_) => writeln!(text, "section: unreadable")?,
-        }
-    }
-    Ok(())
-}
-
-// The libraries with their versions, and where they are sought.
-fn add_libraries<A: Allocator>(
-    text: &mut String<A>,
+/// Prints the lines of an image before those of its signature, each list up to the limit, and answers whether all is told and can be read.
+pub fn print_front<A: Allocator, O: Write>(
     image: &MachO<'_, A>,
-) -> Result<(), AllocError> {
-    'libraries: for library in image.libraries() {
-        let version = VersionText(library.current_version);
-        let least = VersionText(library.compatibility_version);
-        let library = LibraryText(library);
-        writeln!(text, "library: {library} {version}, at least {least}")?;
-    }
-    'paths: for path in &image.rpaths {
-        writeln!(text, "run path: {path}")?;
-    }
-    Ok(())
+    limit: usize,
+    out: &mut O,
+) -> io::Result<bool>
+    ensures { OnOk result (WritesSome (O.contents out.old) (O.contents out.new)) }
+{
+    print_kind(&image.header, out)?;
+    print_image_name(image.name, out)?;
+    let said = print_said(image, limit, out)?;
+    print_entry(image.entry, out)?;
+    print_flags(image.header.flags, out)?;
+    let segments = print_segments(image.segments.as_slice(), limit, out)?;
+    let used = print_used(image, limit, out)?;
+    Ok(said & segments & used)
 }
 
-/// That of an image.
-pub fn state_of<A: Allocator>(image: &MachO<'_, A>) -> State {
-    let mut is_encrypted = false;
-    let mut has_local = false;
-    'commands: for command in &image.load_commands {
-        match &command.command {
-            CommandVariant::EncryptionInfo32(c) => is_encrypted |= c.cryptid != 0,
-            CommandVariant::EncryptionInfo64(c) => is_encrypted |= c.cryptid != 0,
-            CommandVariant::Dysymtab(c) => has_local |= c.nlocalsym != 0,
-            _ => {}
+// Prints the numbers, the platforms and the tools of an image, and answers whether all are told and can be read.
+fn print_said<A: Allocator, O: Write>(
+    image: &MachO<'_, A>,
+    limit: usize,
+    out: &mut O,
+) -> io::Result<bool>
+    ensures { OnOk result (WritesSome (O.contents out.old) (O.contents out.new)) }
+{
+    let list = ImageList::said(Question::Uuid, image);
+    let uuids = print_list(list, "uuid", limit, out)?;
+    let list = ImageList::said(Question::Platform, image);
+    let platforms = print_list(list, "platform", limit, out)?;
+    let list = ImageList::of(Word::Tools, image);
+    let tools = print_list(list, "tool: refused", limit, out)?;
+    Ok(uuids & platforms & tools)
+}
+
+// Prints the libraries of an image and its run paths, and answers whether all are told.
+fn print_used<A: Allocator, O: Write>(
+    image: &MachO<'_, A>,
+    limit: usize,
+    out: &mut O,
+) -> io::Result<bool>
+    ensures { OnOk result (WritesSome (O.contents out.old) (O.contents out.new)) }
+{
+    let list = ImageList::of(Word::Libraries, image);
+    let libraries = print_list(list, "library", limit, out)?;
+    let list = ImageList::run_paths(image);
+    let paths = print_list(list, "run path", limit, out)?;
+    Ok(libraries & paths)
+}
+
+// Prints a line for each row of a list, up to a limit, and answers whether it has no more, and all can be read.
+fn print_list<A: Allocator, O: Write>(
+    list: ImageList<'_, '_, A>,
+    word: &str,
+    limit: usize,
+    out: &mut O,
+) -> io::Result<bool>
+    ensures { IfOk result (λ whole. WritesSaid word.now limit (list_rows_left list.entry) (rows_name_of list.entry) (list_rows_past list.entry) whole
+        (O.contents out.old) (O.contents out.new)) }
+{
+    let mut lines = SummaryLines(list);
+    let outcome = print_listing(&mut lines, word, limit, limit, out)?;
+    Ok(outcome.whole)
+}
+
+// Prints the kind of the file, and the cpu.
+fn print_kind<O: Write>(header: &Header, out: &mut O) -> io::Result<()>
+    ensures { OnOk result (Appends (O.contents out.old) (O.contents out.new) (kind_lines header.now)) }
+{
+    let kind = filetype_to_str(header.filetype);
+    writeln!(out, "kind: {kind}")?;
+    print_cpu(header.cputype, header.cpusubtype, out)
+}
+
+// Prints the cpu.
+fn print_cpu<O: Write>(cputype: u32, cpusubtype: u32, out: &mut O) -> io::Result<()>
+    ensures { OnOk result (Appends (O.contents out.old) (O.contents out.new) (cpu_line cputype cpusubtype)) }
+{
+    match cpu_name(cputype, cpusubtype % 0x100_0000) {
+        Some(name) => writeln!(out, "cpu: {name}"),
+        None => writeln!(
+            out,
+            "cpu: cputype 0x{cputype:x}, cpusubtype 0x{cpusubtype:x}"
+        ),
+    }
+}
+
+/// The name of the cpu of a number and a kind, if it has one.
+pub fn cpu_name(cputype: u32, kind: u32) -> Option<&'static str>
+    ensures { text_in result ≡ cpu_named arch_rows cputype kind }
+{
+    match (cputype, kind) {
+        (CPU_TYPE_X86, 3) => Some("i386"),
+        (CPU_TYPE_X86_64, 3) => Some("x86_64"),
+        (CPU_TYPE_X86_64, 8) => Some("x86_64h"),
+        (CPU_TYPE_ARM, 5) => Some("armv4t"),
+        (CPU_TYPE_ARM, 7) => Some("armv5e"),
+        (CPU_TYPE_ARM, 8) => Some("xscale"),
+        (CPU_TYPE_ARM, 6) => Some("armv6"),
+        (CPU_TYPE_ARM, 14) => Some("armv6m"),
+        (CPU_TYPE_ARM, 9) => Some("armv7"),
+        (CPU_TYPE_ARM, 16) => Some("armv7em"),
+        (CPU_TYPE_ARM, 12) => Some("armv7k"),
+        (CPU_TYPE_ARM, 15) => Some("armv7m"),
+        (CPU_TYPE_ARM, 11) => Some("armv7s"),
+        (CPU_TYPE_ARM64, 0) => Some("arm64"),
+        (CPU_TYPE_ARM64, 2) => Some("arm64e"),
+        (CPU_TYPE_ARM64_32, 1) => Some("arm64_32"),
+        (CPU_TYPE_POWERPC, 0) => Some("ppc"),
+        (0x0100_0012, 0) => Some("ppc64"),
+        _ => None,
+    }
+}
+
+// Prints the name as a library, if there is one.
+fn print_image_name<O: Write>(name: Option<&str>, out: &mut O) -> io::Result<()>
+    ensures { OnOk result (Appends (O.contents out.old) (O.contents out.new) (own_name_line (text_in name.entry))) }
+{
+    match name {
+        Some(name) => {
+            let name = Escaped(name);
+            writeln!(out, "name: {name}")
         }
-    }
-    let symbols = match &image.symbols {
-        Some(table) => table.len(),
-        None => 0,
-    };
-    State {
-        is_encrypted,
-        is_stripped: !has_local,
-        symbols,
+        None => Ok(()),
     }
 }
 
-/// What is said of it.
-pub fn state_text<A: Allocator>(alloc: A, state: State) -> Result<String<A>, AllocError> {
-    let mut text = String::new(alloc);
-    let encrypted = yes_or_no(state.is_encrypted);
-    let stripped = yes_or_no(state.is_stripped);
-    writeln!(text, "encrypted: {encrypted}")?;
-    writeln!(text, "stripped: {stripped}")?;
-    let symbols = state.symbols;
-    writeln!(text, "symbols: {symbols}")?;
-    Ok(text)
+// Prints where it begins to run, if that is known.
+fn print_entry<O: Write>(entry: u64, out: &mut O) -> io::Result<()>
+    ensures { OnOk result (Appends (O.contents out.old) (O.contents out.new) (entry_point_line entry)) }
+{
+    if entry == 0 {
+        return Ok(());
+    }
+    writeln!(out, "entry: 0x{entry:x}")
 }
 
-// A word.
-fn yes_or_no(is_so: bool) -> &'static str {
-    if is_so { "yes" } else { "no" }
+// Prints the names of the bits of a header.
+fn print_flags<O: Write>(flags: u32, out: &mut O) -> io::Result<()>
+    ensures { OnOk result (Appends (O.contents out.old) (O.contents out.new) (flags_line flags)) }
+{
+    write!(out, "flags:")?;
+    'bits: for bit in 0..32u32 {
+        print_flag(flags & 1u32.wrapping_shl(bit), out)?;
+    }
+    writeln!(out)
+}
+
+// Prints the name of a bit, or its number, if it is set.
+fn print_flag<O: Write>(flag: u32, out: &mut O) -> io::Result<()>
+    ensures { OnOk result (Appends (O.contents out.old) (O.contents out.new) (flag_word flag)) }
+{
+    if flag == 0 {
+        return Ok(());
+    }
+    match flag_short_name(flag) {
+        Some(name) => write!(out, " {name}"),
+        None => write!(out, " 0x{flag:x}"),
+    }
+}
+
+/// The name of a bit of a header without its prefix, if it has one.
+pub fn flag_short_name(flag: u32) -> Option<&'static str>
+    ensures { text_in result ≡ flag_short_name (flag_name flag) }
+{
+    match flag_to_str(flag).strip_prefix("MH_") {
+        Some(name) => Some(name),
+        None => None,
+    }
 }

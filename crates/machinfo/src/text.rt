@@ -10,17 +10,25 @@ ghost use Rattle.mach_dyld.specs.WeakBindsLeft.{weak_bind_view};
 ghost use Rattle.machinfo.specs.NumberedNotes.{numbered_note_view};
 ghost use Rattle.machinfo.specs.ProvidedSymbols.{provided_view};
 ghost use Rattle.machinfo.specs.RowTexts.{data_text, indirect_text, option_text, tool_text, note_row_text, slot_kind_text, slot_owner_text, slot_text};
-ghost use Rattle.machinfo.specs.RowTexts.{giver_text, provided_text, said_if, library_row_text, key_word, signing_text};
+ghost use Rattle.machinfo.specs.RowTexts.{giver_text, provided_text, said_if, is_lazy_kind, library_row_text, key_word, signing_text};
 ghost use Rattle.machinfo.specs.RowTexts.{rebase_row_text, weak_row_text};
+ghost use Rattle.machinfo.specs.RowTexts.{platform_name, platform_text, sdk_text, upper_bytes, uuid_text, version_text};
 ghost use Rattle.machinfo.specs.RowTexts.{weak_flag, weak_place_text};
+ghost use Rattle.std.specs.Fmt.{WritesOnOk};
 
 use crate::notes::NumberedNote;
 use crate::providers::Provided;
+use crate::said::PlatformSaid;
 use goblin_mach::chained_fixups::PointerAuth;
-use goblin_mach::load_command::{BuildToolVersion, DataInCodeEntry};
+use goblin_mach::load_command::{
+    BuildToolVersion, DataInCodeEntry, PLATFORM_BRIDGEOS, PLATFORM_DRIVERKIT, PLATFORM_IOS,
+    PLATFORM_IOSSIMULATOR, PLATFORM_MACCATALYST, PLATFORM_MACOS, PLATFORM_TVOS,
+    PLATFORM_TVOSSIMULATOR, PLATFORM_VISIONOS, PLATFORM_VISIONOSSIMULATOR, PLATFORM_WATCHOS,
+    PLATFORM_WATCHOSSIMULATOR,
+};
 use goblin_mach::slots::{IndirectSymbol, SlotKind, SlotSymbol, SymbolSlot};
-use goblin_mach::{Binding, Library, Provider, Rebase, WeakBind};
-use mach_cli::rebase_type;
+use goblin_mach::{Binding, Library, LibraryKind, Provider, Rebase, WeakBind};
+use mach_cli::{Escaped, rebase_type};
 use std::fmt;
 use std::fmt::{Display, Formatter, Write};
 
@@ -66,7 +74,8 @@ impl Display for OptionText<'_> {
     ghost output = { λ t. Some (option_text (t.0, t.1.now)) };
 
     fn fmt<W: Write>(&self, f: &mut Formatter<W>) -> fmt::Result {
-        let OptionText(number, text) = *self;
+        let number = self.0;
+        let text = Escaped(self.1);
         write!(f, "{number} {text}")
     }
 }
@@ -97,7 +106,7 @@ impl Display for NoteText<'_> {
             place,
             note,
         } = self.0;
-        let owner = note.owner;
+        let owner = Escaped(note.owner);
         let size = note.data.len();
         write!(f, "{number} {owner} 0x{place:x} {size}")
     }
@@ -117,14 +126,22 @@ pub fn kind_text(kind: SlotKind) -> &'static str
 }
 
 // Whose a slot is.
-fn owner_text(symbol: SlotSymbol<'_>) -> &str
-    ensures { result.now ≡ slot_owner_text (slot_symbol_view symbol.entry) }
-{
-    match symbol {
-        SlotSymbol::Named { name, .. } => name,
-        SlotSymbol::Local => "local",
-        SlotSymbol::Absolute => "absolute",
-        SlotSymbol::LocalAbsolute => "local absolute",
+#[derive(Clone, Copy)]
+struct OwnerText<'a>(SlotSymbol<'a>);
+
+impl Display for OwnerText<'_> {
+    ghost output = { λ t. Some (slot_owner_text (slot_symbol_view t.0)) };
+
+    fn fmt<W: Write>(&self, f: &mut Formatter<W>) -> fmt::Result {
+        match self.0 {
+            SlotSymbol::Named { name, .. } => {
+                let name = Escaped(name);
+                write!(f, "{name}")
+            }
+            SlotSymbol::Local => write!(f, "local"),
+            SlotSymbol::Absolute => write!(f, "absolute"),
+            SlotSymbol::LocalAbsolute => write!(f, "local absolute"),
+        }
     }
 }
 
@@ -138,7 +155,7 @@ impl Display for SlotText<'_> {
     fn fmt<W: Write>(&self, f: &mut Formatter<W>) -> fmt::Result {
         let address = self.0.address;
         let kind = kind_text(self.0.kind);
-        let owner = owner_text(self.0.symbol);
+        let owner = OwnerText(self.0.symbol);
         write!(f, "0x{address:x} {kind} {owner}")
     }
 }
@@ -169,7 +186,7 @@ impl Display for ProvidedText<'_> {
     ghost output = { λ t. Some (provided_text (provided_view t.0)) };
 
     fn fmt<W: Write>(&self, f: &mut Formatter<W>) -> fmt::Result {
-        let name = self.0.name;
+        let name = Escaped(self.0.name);
         let giver = GiverText(self.0.provider);
         write!(f, "{name} {giver}")
     }
@@ -182,6 +199,19 @@ pub fn said_if(is_so: bool, word: &'static str) -> &'static str
     if is_so { word } else { "" }
 }
 
+/// Whether a library is to be loaded at its first use.
+pub fn is_lazy_kind(kind: LibraryKind) -> bool
+    ensures { result ≡ is_lazy_kind kind }
+{
+    match kind {
+        LibraryKind::Lazy => true,
+        LibraryKind::Required => false,
+        LibraryKind::Weak => false,
+        LibraryKind::Reexport => false,
+        LibraryKind::Upward => false,
+    }
+}
+
 /// A library, and how it is used.
 #[derive(Clone, Copy)]
 pub struct LibraryText<'a>(pub Library<'a>);
@@ -190,15 +220,21 @@ impl Display for LibraryText<'_> {
     ghost output = { λ t. Some (library_row_text (library_view t.0)) };
 
     fn fmt<W: Write>(&self, f: &mut Formatter<W>) -> fmt::Result {
-        let name = self.0.name;
+        let name = Escaped(self.0.name);
         let how = self.0.attributes;
+        let is_lazy = is_lazy_kind(self.0.kind);
         let weak = said_if(how.is_weak, " weak");
         let reexport = said_if(how.is_reexport, " reexport");
         let upward = said_if(how.is_upward, " upward");
         let delayed = said_if(how.is_delayed, " delayed");
-        let is_plain = !(how.is_weak || how.is_reexport || how.is_upward || how.is_delayed);
+        let lazy = said_if(is_lazy, " lazy");
+        let is_plain = !(how.is_weak
+            || how.is_reexport
+            || how.is_upward
+            || how.is_delayed
+            || is_lazy);
         let plain = said_if(is_plain, " -");
-        write!(f, "{name}{weak}{reexport}{upward}{delayed}{plain}")
+        write!(f, "{name}{weak}{reexport}{upward}{delayed}{lazy}{plain}")
     }
 }
 
@@ -271,8 +307,112 @@ impl Display for WeakPlaceText<'_> {
         let address = self.0.address;
         let addend = self.0.addend;
         let flag = weak_flag(self.0.is_weak);
-        let name = self.0.name;
+        let name = Escaped(self.0.name);
         write!(f, "0x{address:x} {addend} {flag} {name}")
+    }
+}
+
+/// A version of 16, 8 and 8 bits.
+#[derive(Clone, Copy)]
+pub struct VersionText(pub u32);
+
+impl Display for VersionText {
+    ghost output = { λ t. Some (version_text t.0) };
+
+    fn fmt<W: Write>(&self, f: &mut Formatter<W>) -> fmt::Result {
+        let (major, minor, patch) = (self.0 / 65536, self.0 / 256 % 256, self.0 % 256);
+        write!(f, "{major}.{minor}.{patch}")
+    }
+}
+
+// Bytes as hexadecimal digits of upper case.
+#[derive(Clone, Copy)]
+struct UpperBytes<'a>(&'a [u8]);
+
+impl Display for UpperBytes<'_> {
+    ghost output = { λ t. Some (upper_bytes t.0.now) };
+
+    fn fmt<W: Write>(&self, f: &mut Formatter<W>) -> fmt::Result {
+        write_upper(f, self.0)
+    }
+}
+
+// Writes bytes so.
+fn write_upper<W: Write>(f: &mut Formatter<W>, bytes: &[u8]) -> fmt::Result
+    ensures { WritesOnOk W.write_str_gives f.old result (upper_bytes bytes.now) f.new }
+{
+    'bytes: for byte in bytes {
+        write!(f, "{byte:02X}")?;
+    }
+    Ok(())
+}
+
+/// The number of an image, in five groups.
+#[derive(Clone, Copy)]
+pub struct UuidText<'a>(pub &'a [u8; 16]);
+
+impl Display for UuidText<'_> {
+    ghost output = { λ t. Some (uuid_text t.0.now) };
+
+    fn fmt<W: Write>(&self, f: &mut Formatter<W>) -> fmt::Result {
+        let uuid = self.0;
+        let first = UpperBytes(&uuid[..4]);
+        let second = UpperBytes(&uuid[4..6]);
+        let third = UpperBytes(&uuid[6..8]);
+        let fourth = UpperBytes(&uuid[8..10]);
+        let fifth = UpperBytes(&uuid[10..]);
+        write!(f, "{first}-{second}-{third}-{fourth}-{fifth}")
+    }
+}
+
+/// The name of a platform by its number.
+pub fn platform_name(number: u32) -> &'static str
+    ensures { result.now ≡ platform_name number }
+{
+    match number {
+        PLATFORM_MACOS => "macos",
+        PLATFORM_IOS => "ios",
+        PLATFORM_TVOS => "tvos",
+        PLATFORM_WATCHOS => "watchos",
+        PLATFORM_BRIDGEOS => "bridgeos",
+        PLATFORM_MACCATALYST => "maccatalyst",
+        PLATFORM_IOSSIMULATOR => "ios-simulator",
+        PLATFORM_TVOSSIMULATOR => "tvos-simulator",
+        PLATFORM_WATCHOSSIMULATOR => "watchos-simulator",
+        PLATFORM_DRIVERKIT => "driverkit",
+        PLATFORM_VISIONOS => "visionos",
+        PLATFORM_VISIONOSSIMULATOR => "visionos-simulator",
+        _ => "unknown",
+    }
+}
+
+// The version of the kit, if it is said.
+#[derive(Clone, Copy)]
+struct SdkText(u32);
+
+impl Display for SdkText {
+    ghost output = { λ t. Some (sdk_text t.0) };
+
+    fn fmt<W: Write>(&self, f: &mut Formatter<W>) -> fmt::Result {
+        if self.0 == 0 {
+            return Ok(());
+        }
+        let sdk = VersionText(self.0);
+        write!(f, ", sdk {sdk}")
+    }
+}
+
+/// A platform, the oldest version of its system, and the version of the kit.
+#[derive(Clone, Copy)]
+pub struct PlatformText(pub PlatformSaid);
+
+impl Display for PlatformText {
+    ghost output = { λ t. Some (platform_text t.0) };
+
+    fn fmt<W: Write>(&self, f: &mut Formatter<W>) -> fmt::Result {
+        let name = platform_name(self.0.platform);
+        let (least, sdk) = (VersionText(self.0.least), SdkText(self.0.sdk));
+        write!(f, "platform: {name} {least}{sdk}")
     }
 }
 
@@ -285,7 +425,10 @@ impl Display for WeakText<'_> {
 
     fn fmt<W: Write>(&self, f: &mut Formatter<W>) -> fmt::Result {
         match self.0 {
-            WeakBind::Strong { name } => write!(f, "strong {name}"),
+            WeakBind::Strong { name } => {
+                let name = Escaped(name);
+                write!(f, "strong {name}")
+            }
             WeakBind::Bind(binding) => {
                 let place = WeakPlaceText(binding);
                 write!(f, "{place}")

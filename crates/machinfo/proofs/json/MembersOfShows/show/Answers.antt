@@ -5,18 +5,22 @@ use Rattle.machinfo.proofs.json.MembersOfShows.show.Goals as goal
 
 pub returns-clause-shown : goal.returns-clause-shown
 returns-clause-shown g c = λ bytes opened.
-    let counted = c.in_ok-whole.ensures bytes opened in (
+    let front = c.in_ok-front.ensures in
+    let counted = c.in_ok-counts.ensures bytes opened in (
       _,
       record {
         opens = (opened.ctx, commands_held c.args.image.now, opened.opens);
-        front = _;
+        front = front.text;
+        front_whole = c.in_ok-front.front;
         counts = counted.0;
+        counts_whole = c.in_ok-counts.counts;
         are_counts = counted.1;
         is_text = refl;
+        is_whole = refl;
         is_rest = refl;
       },
       Appends-both _ _ _ _ _ c.in_ok-write.ensures.bytes
+          (Appends-both _ _ _ front.text _ front.written
           (Appends-both _ _ _ _ _ c.in_ok-write-2.ensures.bytes
-          (Appends-both _ _ _ _ _ c.in_ok-write-3.ensures.bytes
           (Appends-both _ _ _ counted.0 _ counted.2 c.in_ok-end_counts.ensures))),
     )

@@ -1,10 +1,10 @@
-use Rattle.std.proofs.Common.{[], ◌∷◌, List, ℕ, subst}
+use Rattle.std.proofs.Common.{[], ◌∷◌, List, ℕ, refl, subst, sym}
 use Rattle.mach_base.proofs.Written.{Appends-both}
 use Rattle.goblin_mach.specs.OpenImage.{commands_held}
-use Rattle.mach_cli.proofs.Arrays.{lists_written, one_list}
-use Rattle.mach_cli.specs.JsonArrays.{NamedRows, WritesMember}
+use Rattle.mach_cli.proofs.Arrays.{one_list}
+use Rattle.mach_cli.specs.JsonArrays.{AreArrayMembers, NamedRows, WritesMember}
+use Rattle.machinfo.specs.Lists.{HasRows, list_rows_left}
 use Rattle.machinfo.specs.RowObjects.{row_objects}
-use Rattle.machinfo.specs.Rows.{list_rows_left}
 use Rattle.machinfo.specs.Words.{spelling_of}
 use Rattle.machinfo.proofs.json.ObjectsOfShows.show.Goals as goal
 
@@ -14,20 +14,26 @@ returns-clause-shown g c = λ bytes opened.
     let word = c.args.self.now.word in
     let list : NamedRows = record { name = spelling_of word; rows = row_objects rows } in
     let told = c.in_ok-told.told in
-    let outcome = c.in_ok-print_end.field-0 in
     let old = g.O.Write.contents c.write.new.self in
     let middle = g.O.Write.contents c.print_member.new.out in
     let named = subst (λ (name : List ℕ). WritesMember name c.args.left (row_objects rows) old middle told) c.name-name.ensures
     c.in_ok-told.ensures in
-    let ended = c.in_ok-print_end.ensures in
-    let written = lists_written c.args.left (list ∷ []) told outcome.whole outcome.left old middle _ (one_list c.args.left list told old middle named)
-    ended.0 ended.1 ended.2 in (
-      written.text,
+    let ended = c.in_ok-print_end_past.ensures in
+    let written = one_list c.args.left list told old middle named in (
+      _,
       record {
         opens = (opened.ctx, commands_held c.args.image.now, opened.opens);
         rows = rows;
-        has_rows = c.of.ensures bytes 0 opened;
-        members = written.members;
+        past = c.past_rows-past.result;
+        has_rows = subst (λ (n : ℕ). HasRows word bytes 0 rows n) (sym c.past_rows-past.ensures) (c.of.ensures.rows bytes 0 opened);
+        members = record {
+          front = written.text;
+          readable = told.whole;
+          more = told.more;
+          members = subst (λ (rest : ℕ). AreArrayMembers c.args.left (list ∷ []) written.text told.whole told.more rest) (sym ended.1) written.members;
+          is_text = refl;
+          is_whole = ended.0;
+        };
       },
-      Appends-both _ _ _ _ written.text c.in_ok-write.ensures.bytes written.written,
+      Appends-both _ _ _ _ _ c.in_ok-write.ensures.bytes (Appends-both _ _ _ written.text _ written.written ended.2),
     )

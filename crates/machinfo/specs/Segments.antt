@@ -1,0 +1,75 @@
+-- The segments of an image and their sections, as they are printed.
+use Rattle.std.specs.Prelude.{◌≡◌, ◌==◌, ◌&&◌, ◌-◌, ℕ, List, [], ◌∷◌, ◌++◌, codes, length, map, take, nat_lt, bit_and, Bool, true, not, Option, Some, None}
+use Rattle.std.specs.Prelude.{Result, Ok, if◌then◌else◌}
+use Rattle.std.specs.Fmt.{decimal}
+use Rattle.std.specs.Io.KnownBytes.{Appends}
+use Rattle.std.specs.Result.{result_ok}
+use Rattle.mach_base.specs.Answer.{◌>>=◌}
+use Rattle.mach_base.specs.Fault.{Fault}
+use Rattle.mach_base.specs.Items.{begun_items}
+use Rattle.mach_base.specs.Text.{run_at, text_at}
+use Rattle.mach_parts.specs.Segment.{SegmentView, sections_of}
+use Rattle.mach_parts.specs.SectionItems.{sections_left}
+use Rattle.mach_parts.specs.declared.segment.section.Section.{Section}
+use Rattle.mach_cli.specs.Escapes.{escaped_bytes}
+use Rattle.mach_cli.specs.JsonText.{json_string}
+use Rattle.mach_cli.specs.Listings.{hex_text, told_by}
+use Rattle.machinfo.specs.declared.segments.SectionList.{SectionList}
+use Rattle.machinfo.specs.declared.segments.SectionObjects.{SectionObjects}
+
+-- a name, `-` where it is empty
+abbrev pub field_text : List ℕ → List ℕ
+field_text [] = codes "-"
+field_text (b ∷ bs) = escaped_bytes (b ∷ bs)
+
+-- what is allowed: reading, writing and running (VM_PROT_)
+abbrev pub right_text : ℕ → (bit : ℕ) → List ℕ → List ℕ
+right_text rights bit letter = if bit_and rights bit == 0 then codes "-" else letter
+
+abbrev pub rights_text : ℕ → List ℕ
+rights_text rights = right_text rights 1 (codes "r") ++ right_text rights 2 (codes "w") ++ right_text rights 4 (codes "x")
+
+-- the name, the address, the size in memory, and what is allowed at first
+abbrev pub segment_said_line : SegmentView → List ℕ
+segment_said_line s =
+    codes "segment: " ++ field_text (run_at s.command.segname 0) ++ codes " " ++ hex_text s.command.vmaddr ++ codes " " ++ hex_text s.command.vmsize
+    ++ codes " " ++ rights_text s.command.initprot ++ codes "\n"
+
+-- the name, the address and the size
+abbrev pub section_said_text : Section → List ℕ
+section_said_text s = codes "section: " ++ field_text (run_at s.sectname 0) ++ codes " " ++ hex_text s.addr ++ codes " " ++ hex_text s.size
+
+-- sections without their data
+abbrev pub without_data : List (Result (Section × List ℕ) Fault) → List (Result Section Fault)
+without_data found = map (λ item. item >>= (λ s. Ok s.0)) found
+
+-- the texts of sections, each or why it can't be read
+abbrev pub section_texts : List (Result (Section × List ℕ) Fault) → List (Result (List ℕ) Fault)
+section_texts found = map (told_by section_said_text) (without_data found)
+
+-- how many sections a segment claims more than begin within the bytes
+abbrev pub sections_past_the_end : SegmentView → ℕ
+sections_past_the_end s = length (sections_of s) - length (begun_items (sections_of s))
+
+-- ---- as objects
+
+-- a name, or `null`
+abbrev pub name_or_null : Option (List ℕ) → List ℕ
+name_or_null (Some name) = json_string name
+name_or_null None = codes "null"
+
+abbrev pub section_object : Section → List ℕ
+section_object s =
+    codes "{\"address\":"
+    ++ (decimal s.addr ++ (codes ",\"name\":" ++ (name_or_null (result_ok (text_at s.sectname 0)) ++ (codes ",\"size\":" ++ (decimal s.size ++ codes "}")))))
+
+-- ---- what the code's values stand for
+
+abbrev pub sections_named : SectionList → List (Result Section Fault)
+sections_named it = without_data (sections_left it.sections)
+
+abbrev pub section_rows_left : SectionList → List (Result (List ℕ) Fault)
+section_rows_left it = section_texts (sections_left it.sections)
+
+abbrev pub section_objects_left : SectionObjects → List (Result (List ℕ) Fault)
+section_objects_left it = map (told_by section_object) (sections_named it.0)

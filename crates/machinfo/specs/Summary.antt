@@ -1,0 +1,113 @@
+-- What is said of an image before its counts, but for its signature and its state.
+use Rattle.std.specs.Prelude.{◌≡◌, ◌==◌, ◌&&◌, ◌^◌, ℕ, List, [], ◌∷◌, ◌++◌, codes, map, take, drop, bit_and, bytes_eq, Bool, Option, Some, None}
+use Rattle.std.specs.Prelude.{Result, Ok, if◌then◌else◌}
+use Rattle.std.specs.Fmt.{decimal}
+use Rattle.std.specs.Io.KnownBytes.{Appends}
+use Rattle.std.specs.List.{flat_map, range_with_len}
+use Rattle.mach_base.specs.Fault.{Fault}
+use Rattle.mach_parts.specs.Cpu.{kind_of_cpu}
+use Rattle.mach_parts.specs.HeaderNames.{filetype_name, flag_name}
+use Rattle.mach_parts.specs.declared.header.Header.{Header}
+use Rattle.mach_cli.specs.Cpus.{ArchRow, arch_rows}
+use Rattle.mach_cli.specs.Escapes.{escaped_text}
+use Rattle.mach_cli.specs.Listings.{hex_text, told_by, AreFirstLines}
+use Rattle.machinfo.specs.Lists.{list_rows_left}
+use Rattle.machinfo.specs.RowObjects.{object_of}
+use Rattle.machinfo.specs.RowTexts.{library_row_text, list_row_text, version_text}
+use Rattle.machinfo.specs.Rows.{RowView, tool_row, library_row, list_row_view}
+use Rattle.machinfo.specs.declared.members.SummaryObjects.{SummaryObjects}
+use Rattle.machinfo.specs.declared.row.Row.{Row}
+use Rattle.machinfo.specs.declared.summary.SummaryLines.{SummaryLines}
+
+-- ---- the header
+
+-- the first cpu of these numbers
+abbrev pub cpu_named : List ArchRow → (cputype kind : ℕ) → Option (List ℕ)
+cpu_named [] cputype kind = None
+cpu_named (row ∷ rows) cputype kind = if cputype == row.cputype && kind == row.cpusubtype then Some row.name else cpu_named rows cputype kind
+
+abbrev pub cpu_in_words : Option (List ℕ) → (cputype cpusubtype : ℕ) → List ℕ
+cpu_in_words None cputype cpusubtype = codes "cpu: cputype " ++ (hex_text cputype ++ (codes ", cpusubtype " ++ (hex_text cpusubtype ++ codes "\n")))
+cpu_in_words (Some name) cputype cpusubtype = codes "cpu: " ++ (name ++ codes "\n")
+
+abbrev pub cpu_line : (cputype cpusubtype : ℕ) → List ℕ
+cpu_line cputype cpusubtype = cpu_in_words (cpu_named arch_rows cputype (kind_of_cpu cpusubtype)) cputype cpusubtype
+
+-- the kind of the file, and the cpu
+abbrev pub kind_lines : Header → List ℕ
+kind_lines h = (codes "kind: " ++ (filetype_name h.filetype ++ codes "\n")) ++ cpu_line h.cputype h.cpusubtype
+
+-- the name as a library, if there is one
+abbrev pub own_name_line : Option (List ℕ) → List ℕ
+own_name_line None = []
+own_name_line (Some name) = codes "name: " ++ (escaped_text name ++ codes "\n")
+
+-- where it begins to run, if that is known
+abbrev pub entry_point_line : ℕ → List ℕ
+entry_point_line entry = if entry == 0 then [] else codes "entry: " ++ (hex_text entry ++ codes "\n")
+
+-- a name without its prefix (MH_), if it has it
+abbrev pub flag_short_name : List ℕ → Option (List ℕ)
+flag_short_name name = if bytes_eq (take 3 name) (codes "MH_") then Some (drop 3 name) else None
+
+-- the name of a bit, or its number
+abbrev pub flag_said : ℕ → Option (List ℕ) → List ℕ
+flag_said flag None = hex_text flag
+flag_said flag (Some name) = name
+
+-- the same of one that may be set
+abbrev pub flag_word : ℕ → List ℕ
+flag_word flag = if flag == 0 then [] else codes " " ++ flag_said flag (flag_short_name (flag_name flag))
+
+abbrev pub flags_line : ℕ → List ℕ
+flags_line flags = codes "flags:" ++ (flat_map (λ bit. flag_word (bit_and flags (2 ^ bit))) (range_with_len 0 32) ++ codes "\n")
+
+-- ---- lists
+
+-- a row as it is said of an image: of a tool and of a library with versions
+abbrev pub summary_text : RowView → List ℕ
+summary_text (tool_row found) = codes "tool: " ++ decimal found.1.tool ++ codes " " ++ version_text found.1.version
+summary_text (library_row l) =
+    codes "library: " ++ library_row_text l ++ codes " " ++ version_text l.current_version ++ codes ", at least " ++ version_text l.compatibility_version
+summary_text row = list_row_text row
+
+abbrev pub summary_texts : List (Result RowView Fault) → List (Result (List ℕ) Fault)
+summary_texts found = map (told_by summary_text) found
+
+-- What was written is a line for each of these rows in order, no more than the limit, and a line where there are more. It is whole where there are none, and
+-- all can be read.
+pub record WritesSaid (word : List ℕ) (limit : ℕ) (rows : List (Result RowView Fault)) (name : List ℕ) (past : ℕ) (whole : Bool) (old new : Option (List ℕ))
+    : Type 0 where
+  pub text : List ℕ
+  pub rest : ℕ
+  pub lines : AreFirstLines word limit limit (summary_texts rows) name past text whole rest
+  pub written : Appends old new text
+
+-- Some text was written.
+pub record WritesSome (old new : Option (List ℕ)) : Type 0 where
+  pub text : List ℕ
+  pub written : Appends old new text
+
+-- ---- as objects
+
+abbrev pub summary_object : RowView → List ℕ
+summary_object (tool_row found) =
+    codes "{\"tool\":" ++ (decimal found.1.tool ++ (codes ",\"version\":\"" ++ (version_text found.1.version ++ codes "\"}")))
+summary_object row = object_of row
+
+abbrev pub summary_objects : List (Result RowView Fault) → List (Result (List ℕ) Fault)
+summary_objects found = map (told_by summary_object) found
+
+-- ---- what the code's values stand for
+
+abbrev pub summary_shown : Row → List ℕ
+summary_shown row = summary_text (list_row_view row)
+
+abbrev pub summary_lines_left : {A : Type 0} → SummaryLines A → List (Result (List ℕ) Fault)
+summary_lines_left it = summary_texts (list_rows_left it.0)
+
+abbrev pub summary_object_shown : Row → List ℕ
+summary_object_shown row = summary_object (list_row_view row)
+
+abbrev pub summary_objects_left : {A : Type 0} → SummaryObjects A → List (Result (List ℕ) Fault)
+summary_objects_left it = summary_objects (list_rows_left it.0)

@@ -1,0 +1,293 @@
+//! The segments of an image and their sections.
+
+ghost use Rattle.std.specs.Prelude.{◌≡◌, ◌≤◌, ◌==◌, ◌&&◌, Some, codes, length, map, take, nat_lt, IfOk, OnOk};
+ghost use Rattle.std.specs.Io.KnownBytes.{Appends};
+ghost use Rattle.std.specs.Iterator.{YieldsFirstBy};
+ghost use Rattle.mach_base.specs.Items.{begun_items, read_as};
+ghost use Rattle.std.specs.List.{position_or_len};
+ghost use Rattle.std.specs.Result.{result_ok};
+ghost use Rattle.mach_base.specs.Text.{is_zero, run_at, text_at};
+ghost use Rattle.mach_parts.specs.Segment.{sections_of, segment_view};
+ghost use Rattle.mach_dyld.specs.Exports.{text_in};
+ghost use Rattle.mach_parts.specs.SectionItems.{sections_left};
+ghost use Rattle.machinfo.specs.Segments.{field_text, name_or_null, rights_text, section_object};
+ghost use Rattle.machinfo.specs.Segments.{section_objects_left, section_rows_left, section_said_text};
+ghost use Rattle.machinfo.specs.Summary.{WritesSome};
+ghost use Rattle.machinfo.specs.Segments.{sections_named, sections_past_the_end, segment_said_line};
+
+use goblin_mach::Result;
+use goblin_mach::segment::{Section, SectionIterator, Segment};
+use mach_cli::{
+    EscapedBytes, JsonString, Listing, Told, comma_before, print_array, print_cut, print_listing,
+    then,
+};
+use memchr::memchr;
+use std::fmt::{Display, Formatter};
+use std::io::Write;
+use std::{fmt, io};
+
+// What is allowed of a segment.
+#[derive(Clone, Copy)]
+struct RightsText(u32);
+
+impl Display for RightsText {
+    ghost output = { λ t. Some (rights_text t.0) };
+
+    fn fmt<W: fmt::Write>(&self, f: &mut Formatter<W>) -> fmt::Result {
+        let read = if self.0 & 1 != 0 { "r" } else { "-" };
+        let write = if self.0 & 2 != 0 { "w" } else { "-" };
+        let execute = if self.0 & 4 != 0 { "x" } else { "-" };
+        write!(f, "{read}{write}{execute}")
+    }
+}
+
+// How many bytes are before the first zero.
+fn name_len(field: &[u8]) -> usize
+    ensures value { result ≡ position_or_len is_zero field.now }
+    ensures within { result ≤ length field.now }
+{
+    memchr(0, field).unwrap_or(field.len())
+}
+
+// The name in a field: the bytes before the first zero.
+fn name_in(field: &[u8]) -> &[u8]
+    ensures { result.now ≡ run_at field.now 0 }
+{
+    &field[..name_len(field)]
+}
+
+// A name, `-` where it is empty.
+#[derive(Clone, Copy)]
+struct NameText<'a>(&'a [u8]);
+
+impl Display for NameText<'_> {
+    ghost output = { λ t. Some (field_text t.0.now) };
+
+    fn fmt<W: fmt::Write>(&self, f: &mut Formatter<W>) -> fmt::Result {
+        if self.0.is_empty() {
+            return f.write_str("-");
+        }
+        let name = EscapedBytes(self.0);
+        write!(f, "{name}")
+    }
+}
+
+// What is left of the sections of a segment whose records begin within the bytes, and how many more it claims.
+#[derive(Drop)]
+struct SectionList<'a> {
+    sections: SectionIterator<'a>,
+    past: usize,
+}
+
+impl<'a> SectionList<'a> {
+    // Those of a segment.
+    fn of(segment: &Segment<'a>) -> Self
+        ensures left { sections_left result.sections ≡ begun_items (sections_of (segment_view segment.now)) }
+        ensures past { result.past ≡ sections_past_the_end (segment_view segment.now) }
+    {
+        let all = segment.into_iter();
+        let sections = all.begun();
+        let past = all.len() - sections.len();
+        SectionList { sections, past }
+    }
+
+    // The next section, or why it can't be read.
+    fn take_next(&mut self) -> Option<Result<Section>>
+        ensures { YieldsFirstBy (read_as (λ s. s)) sections_named self.old result self.new }
+    {
+        match self.sections.next()? {
+            Ok((section, _)) => Some(Ok(section)),
+            Err(error) => Some(Err(error)),
+        }
+    }
+}
+
+impl Listing for SectionList<'_> {
+    type Row = Section;
+
+    ghost text = { section_said_text };
+
+    ghost left = { section_rows_left };
+
+    ghost past = { λ list. list.past };
+
+    ghost past_name = { λ _. codes "sections" };
+
+    fn next_row(&mut self) -> Option<Result<Section>> {
+        match self.take_next()? {
+            Ok(section) => Some(Ok(section)),
+            Err(error) => Some(Err(error)),
+        }
+    }
+
+    fn past(&self) -> usize {
+        self.past
+    }
+
+    fn past_name(&self) -> &'static str {
+        "sections"
+    }
+
+    fn write_row<O: Write>(row: &Section, out: &mut O) -> io::Result<()>
+        ensures { OnOk result (Appends (O.contents out.old) (O.contents out.new) (section_said_text row.now)) }
+    {
+        let name = NameText(name_in(&row.sectname));
+        let (address, size) = (row.addr, row.size);
+        write!(out, "section: {name} 0x{address:x} 0x{size:x}")
+    }
+}
+
+/// Prints the lines of segments, at most as many as a limit, and under each those of its sections, at most as many together. Answers whether there
+/// are no more, all can be read, and no section begins past the end.
+pub fn print_segments<O: Write>(
+    segments: &[Segment<'_>],
+    limit: usize,
+    out: &mut O,
+) -> io::Result<bool>
+    ensures { OnOk result (WritesSome (O.contents out.old) (O.contents out.new)) }
+{
+    let first = &segments[..segments.len().min(limit)];
+    let mut left = limit;
+    let mut whole = true;
+    'segments: for segment in first {
+        print_segment(segment, out)?;
+        let mut sections = SectionList::of(segment);
+        let outcome = print_listing(&mut sections, "section: refused", limit, left, out)?;
+        whole &= outcome.whole;
+        left = outcome.left;
+    }
+    let more = limit < segments.len();
+    print_cut(limit, more, out)?;
+    Ok(whole & !more)
+}
+
+// Prints the line of a segment.
+fn print_segment<O: Write>(segment: &Segment<'_>, out: &mut O) -> io::Result<()>
+    ensures { OnOk result (Appends (O.contents out.old) (O.contents out.new) (segment_said_line (segment_view segment.now))) }
+{
+    let name = NameText(name_in(&segment.segname));
+    let (address, size) = (segment.vmaddr, segment.vmsize);
+    let rights = RightsText(segment.initprot);
+    writeln!(out, "segment: {name} 0x{address:x} 0x{size:x} {rights}")
+}
+
+// A name, or `null` where it is no text.
+#[derive(Clone, Copy)]
+pub struct TextOrNull<'a>(pub Option<&'a str>);
+
+impl Display for TextOrNull<'_> {
+    ghost output = { λ t. Some (name_or_null (text_in t.0)) };
+
+    fn fmt<W: fmt::Write>(&self, f: &mut Formatter<W>) -> fmt::Result {
+        match self.0 {
+            Some(text) => {
+                let text = JsonString(text);
+                write!(f, "{text}")
+            }
+            None => write!(f, "null"),
+        }
+    }
+}
+
+// The name of a section, if it is text.
+fn section_name(section: &Section) -> Option<&str>
+    ensures { text_in result ≡ result_ok (text_at section.now.sectname 0) }
+{
+    match section.name() {
+        Ok(name) => Some(name),
+        Err(_) => None,
+    }
+}
+
+// The same sections as objects.
+#[derive(Drop)]
+struct SectionObjects<'a>(SectionList<'a>);
+
+impl Listing for SectionObjects<'_> {
+    type Row = Section;
+
+    ghost text = { section_object };
+
+    ghost left = { section_objects_left };
+
+    ghost past = { λ list. list.0.past };
+
+    ghost past_name = { λ _. codes "sections" };
+
+    fn next_row(&mut self) -> Option<Result<Section>> {
+        match self.0.take_next()? {
+            Ok(section) => Some(Ok(section)),
+            Err(error) => Some(Err(error)),
+        }
+    }
+
+    fn past(&self) -> usize {
+        self.0.past
+    }
+
+    fn past_name(&self) -> &'static str {
+        "sections"
+    }
+
+    fn write_row<O: Write>(row: &Section, out: &mut O) -> io::Result<()>
+        ensures { OnOk result (Appends (O.contents out.old) (O.contents out.new) (section_object row.now)) }
+    {
+        let name = TextOrNull(section_name(row));
+        let (address, size) = (row.addr, row.size);
+        write!(
+            out,
+            "{{\"address\":{address},\"name\":{name},\"size\":{size}}}"
+        )
+    }
+}
+
+/// Writes segments as a member, with others after it: as many as `print_segments` prints, each with its sections.
+pub fn write_segments<O: Write>(
+    segments: &[Segment<'_>],
+    limit: usize,
+    out: &mut O,
+) -> io::Result<Told>
+    ensures { OnOk result (WritesSome (O.contents out.old) (O.contents out.new)) }
+{
+    let first = &segments[..segments.len().min(limit)];
+    let mut told = Told {
+        left: limit,
+        whole: true,
+        more: limit < segments.len(),
+    };
+    write!(out, "\"segments\":[")?;
+    'segments: for (number, segment) in first.iter().enumerate() {
+        let next = write_segment(segment, number == 0, told.left, out)?;
+        told = then(told, next);
+    }
+    write!(out, "],")?;
+    Ok(told)
+}
+
+// Writes the object of a segment, with its sections, no more than a limit.
+fn write_segment<O: Write>(
+    segment: &Segment<'_>,
+    is_first: bool,
+    limit: usize,
+    out: &mut O,
+) -> io::Result<Told>
+    ensures { OnOk result (WritesSome (O.contents out.old) (O.contents out.new)) }
+{
+    let comma = comma_before(is_first);
+    let name = TextOrNull(segment.name().ok());
+    let (address, size) = (segment.vmaddr, segment.vmsize);
+    let rights = RightsText(segment.initprot);
+    write!(
+        out,
+        "{comma}{{\"address\":{address},\"name\":{name},\"rights\":\"{rights}\",\"size\":{size},\"sections\":"
+    )?;
+    let mut sections = SectionObjects(SectionList::of(segment));
+    let past = sections.0.past;
+    let told = print_array(&mut sections, limit, out)?;
+    write!(out, ",\"past_the_end\":{past}}}")?;
+    Ok(Told {
+        left: told.left,
+        whole: told.whole & (past == 0),
+        more: told.more,
+    })
+}
