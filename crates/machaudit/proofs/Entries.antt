@@ -1,5 +1,5 @@
 -- Files that are sound, and what opens of them.
-use Rattle.std.proofs.Common.{◌++◌, below_more, min, nat_lt, ◌≡◌, ◌<◌, ◌≤◌, ◌+◌, ◌∙◌, ◌∷◌, [], ℕ, zero, suc, Bool, true, false, List}
+use Rattle.std.proofs.Common.{◌++◌, below_more, nat_lt, length, ◌≡◌, ◌<◌, ◌≤◌, ◌+◌, ◌∙◌, ◌∷◌, [], ℕ, zero, suc, Bool, true, false, List}
 use Rattle.std.proofs.Common.{Result, Ok, Err, refl, sym, ap, subst, arith, inl, inr}
 use Rattle.std.proofs.Math.Dec.{eqb-suc-zero}
 use Rattle.std.proofs.lemmas.Bool.{ltb-true, ltb-false}
@@ -18,14 +18,18 @@ use Rattle.goblin_mach.specs.OpenImage.{IsImage}
 use Rattle.goblin_mach.specs.declared.fat_file.entry.SingleArch.TheVariants as arches
 use Rattle.goblin_mach.specs.declared.macho.MachO.{MachO}
 use Rattle.mach_parts.specs.ArchForms.{arch_form_32}
+use Rattle.mach_cli.specs.Bounds.{most_items}
+use Rattle.mach_cli.specs.declared.cpu.Cpu.TheVariants.{Any}
 use Rattle.mach_layout.specs.Containers.{AreContainerFaults}
-use Rattle.mach_layout.specs.declared.fault.LayoutFault.{LayoutFault}
 use Rattle.goblin_mach.specs.FatFile.{FatFile, fat_file_in, arches_in}
 use Rattle.goblin_mach.specs.Image.{Opens, LossyOpens, ImageFault}
 use Rattle.goblin_mach.specs.File.{HasFatMagic, MachFault}
 use Rattle.goblin_mach.specs.View.{HasEntries, fat_table, of_file, IsTold}
+use Rattle.machaudit.proofs.EntryBytes.{arches_count}
 use Rattle.machaudit.proofs.Goes.{stands_of}
+use Rattle.machaudit.proofs.GoneOver.{overlaid_by, not_overlaid}
 use Rattle.machaudit.proofs.Verdicts.{sound_judged, unended_judged, faulty_judged, both_judged, both_faulty, both_assoc, both_sound, judged_as}
+use Rattle.machaudit.specs.Overlaid.{AreGoneOver, AreOverlaid}
 use Rattle.machaudit.specs.Sound as sound
 use Rattle.machaudit.specs.Sound.{IsSound, IsSoundImage, IsSoundFat, IsSoundEntry, IsLongEntry, IsLong, IsLongFat, HasLongList}
 use Rattle.machaudit.specs.Verdicts.{Judges, verdict_of_both, verdict_of_entry, verdict_of_entries}
@@ -50,11 +54,11 @@ refused_judged limit bytes e stands told = faulty_judged (λ s.
     view_fault-excludes bytes _ has.0 (of_file _ (stands_of (MachFault ImageFault bytes) e told stands)) has.1)
 
 -- the file of one image
-pub image_judged : (limit : ℕ) (bytes : List ℕ) (v : Verdict) → Opens bytes 0 → Judges (IsSoundImage bytes) (HasLongList limit bytes) v
+pub image_judged : (limit : ℕ) (bytes : List ℕ) (v : Verdict) → Opens bytes 0 → Judges (IsSoundImage bytes) (HasLongList (most_items limit bytes) bytes) v
     → Judges (IsSound bytes) (IsLong limit bytes) v
 image_judged limit bytes v opens j = judged_as v (λ s. sound.one_image s) back (λ l. sound.of_image l) shorter j
   where
-    shorter : IsLong limit bytes → HasLongList limit bytes
+    shorter : IsLong limit bytes → HasLongList (most_items limit bytes) bytes
     shorter (sound.of_image l) = l
     shorter (sound.of_fat file fat is l) = absurd (no_fat bytes opens fat)
 
@@ -78,7 +82,7 @@ pub fat_judged : (limit : ℕ) (bytes : List ℕ) (file : FatFile) (v : Verdict)
 fat_judged limit bytes file v fat is j = judged_as v (λ s. sound.fat_file file fat is s.0 s.1) back (λ l. sound.of_fat file fat is l) shorter j
   where
     shorter : IsLong limit bytes → IsLongFat limit file
-    shorter (sound.of_image l) = absurd (fat-excludes_image bytes fat (long_opens limit bytes l))
+    shorter (sound.of_image l) = absurd (fat-excludes_image bytes fat (long_opens (most_items limit bytes) bytes l))
     shorter (sound.of_fat other f other_is l) = subst (λ (x : FatFile). IsLongFat limit x) (same_ok (sym other_is ∙ is)) l
 
     back : IsSound bytes → AreContainerFaults arch_form_32 bytes [] × IsSoundFat file
@@ -100,7 +104,7 @@ archive_judged A limit entry (archive slice) bytes is entry_is = sound_judged (r
 archive_judged A limit entry (image slice) bytes is entry_is = absurd entry_is
 
 pub entry_judged : {A : Type 0} (limit : ℕ) (entry : Result FatEntry Fault) (e : FatEntry) (m : MachO A) (v : Verdict) → entry ≡ Ok e
-    → IsEntry e (arches.MachO m) → ((slice : List ℕ) → IsImage slice 0 m → Judges (IsSoundImage slice) (HasLongList limit slice) v)
+    → IsEntry e (arches.MachO m) → ((slice : List ℕ) → IsImage slice 0 m → Judges (IsSoundImage slice) (HasLongList (most_items limit slice) slice) v)
     → Judges (IsSoundEntry entry) (IsLongEntry limit entry) v
 entry_judged limit entry (archive slice) m v is entry_is judged = absurd entry_is
 entry_judged limit entry (image slice) m v is entry_is judged =
@@ -147,33 +151,44 @@ entries_more limit file n es e before here =
     longer (inr l) = (n, omega arith, l)
 
 -- a fat file whose table can be read, of which n entries were gone over
-pub fat_file_judged : (limit : ℕ) (file : FatFile) (n : ℕ) (cut : Bool) (v : Verdict) → IsOk (arches_in file) → n ≡ min file.narches limit
-    → cut ≡ nat_lt limit file.narches → Judges (AllSound file n) (SomeLong limit file n) v
+pub fat_file_judged : (limit : ℕ) (file : FatFile) (archs : List FatArch) (n : ℕ) (cut : Bool) (v : Verdict) → arches_in file ≡ Ok archs
+    → AreGoneOver Any limit file.bytes archs n → cut ≡ nat_lt n file.narches → Judges (AllSound file n) (SomeLong limit file n) v
     → Judges (IsSoundFat file) (IsLongFat limit file) (if file.narches == 0 then Faulty else verdict_of_both (if cut then Unended else Sound) v)
-fat_file_judged limit file n cut v table is cut_is judged = by_count file.narches cut refl refl
+fat_file_judged limit file archs n cut v table gone cut_is judged = by_count file.narches cut refl refl
   where
-    long_of : SomeLong limit file n → IsLongFat limit file
-    long_of l = let less = l.1 in sound.of_entry l.0 (omega (arith, less, is)) l.2
+    count : length archs ≡ file.narches
+    count = arches_count file archs table
 
-    shorter : file.narches ≤ limit → IsLongFat limit file → SomeLong limit file n
-    shorter short (sound.of_entries less) = absurd (omega (arith, less, short))
-    shorter short (sound.of_entry k less l) = (k, omega (arith, less, is, short), l)
+    long_of : SomeLong limit file n → IsLongFat limit file
+    long_of l = let less = l.1 in sound.of_entry l.0 (omega (arith, less, gone.few, count)) l.2
+
+    shorter : file.narches ≤ n → IsLongFat limit file → SomeLong limit file n
+    shorter short (sound.of_entries less) = absurd (omega (arith, less, short, gone.few))
+    shorter short (sound.of_overlaid others is overlaid) =
+        let same : others ≡ archs = same_ok (sym is ∙ table) in
+        absurd (not_overlaid Any file.bytes archs limit n gone (omega (arith, count, short))
+        (subst (λ (xs : List FatArch). AreOverlaid Any file.bytes xs) same overlaid))
+    shorter short (sound.of_entry k less l) = (k, omega (arith, less, short), l)
 
     fewer : IsSoundFat file → AllSound file n
-    fewer s k less = s.entries k (omega (arith, less, is))
+    fewer s k less = s.entries k (omega (arith, less, gone.few, count))
+
+    longer : n < file.narches → (under : Bool) → nat_lt n limit ≡ under → IsLongFat limit file
+    longer more true e = sound.of_overlaid archs table (overlaid_by Any file.bytes archs limit n gone (omega (arith, more, count)) (ltb-true n limit e))
+    longer more false e = sound.of_entries (omega (arith, more, ltb-false n limit e))
 
     cut_judged : IsTrue cut → (w : Verdict) → v ≡ w → Judges (IsSoundFat file) (IsLongFat limit file) (verdict_of_both Unended w)
     cut_judged on Faulty e = faulty_judged (λ s. judged.faulty e (fewer s))
-    cut_judged on Unended e = unended_judged (sound.of_entries (ltb-true limit file.narches (sym cut_is ∙ on)))
-    cut_judged on Sound e = unended_judged (sound.of_entries (ltb-true limit file.narches (sym cut_is ∙ on)))
+    cut_judged on Unended e = unended_judged (longer (ltb-true n file.narches (sym cut_is ∙ on)) (nat_lt n limit) refl)
+    cut_judged on Sound e = unended_judged (longer (ltb-true n file.narches (sym cut_is ∙ on)) (nat_lt n limit) refl)
 
     by_count : (count : ℕ) (c : Bool) → file.narches ≡ count → cut ≡ c
         → Judges (IsSoundFat file) (IsLongFat limit file) (if count == 0 then Faulty else verdict_of_both (if c then Unended else Sound) v)
     by_count zero c e f = faulty_judged (λ s. let some = s.some in omega (arith, some, e))
     by_count (suc k) true e f = rw (eqb-suc-zero k) (cut_judged f v refl)
     by_count (suc k) false e f =
-        let short = ltb-false limit file.narches (sym cut_is ∙ f) in
-        rw (eqb-suc-zero k) (judged_as v (λ s. record { some = omega (arith, e); table = table; entries = λ j less. s j (omega (arith, less, is, short)) })
+        let short = ltb-false n file.narches (sym cut_is ∙ f) in
+        rw (eqb-suc-zero k) (judged_as v (λ s. record { some = omega (arith, e); table = rw table refl; entries = λ j less. s j (omega (arith, less, short)) })
         fewer long_of (shorter short) judged)
 
 -- a fat file whose table can't be read

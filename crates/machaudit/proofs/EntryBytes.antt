@@ -4,10 +4,10 @@ use Rattle.std.proofs.Common.{Option, Some, None, Result, Ok, Err, slice_get, re
 use Rattle.std.specs.Prelude.{◌==◌, codes, option_map}
 use Rattle.std.specs.Cmp.Lexicographic.{same_text}
 use Rattle.std.proofs.lemmas.Bool.{le-leb, leb-true, lt-leb, lt-ltb, true≢false, false≢true}
-use Rattle.std.proofs.lemmas.List.{length-take-le}
+use Rattle.std.proofs.lemmas.List.{length-map, length-take-le}
 use Rattle.std.proofs.lemmas.Option.{slice_get-map}
 use Rattle.mach_base.proofs.Binds.{bind_ok, same_ok}
-use Rattle.mach_base.proofs.ItemLists.{slice_get-items}
+use Rattle.mach_base.proofs.ItemLists.{length-items_from, slice_get-items}
 use Rattle.mach_base.specs.Answer.{◌>>=◌}
 use Rattle.mach_base.specs.Fault.{Fault, malformed, too_short}
 use Rattle.mach_base.specs.Items.{all_read}
@@ -125,6 +125,20 @@ all_there (Ok x ∷ items) xs is =
 read_by : (fit : Bool) (there : Result (List FatArch) Fault) (f : Fault) (xs : List FatArch) → cond fit there (Err f) ≡ Ok xs → there ≡ Ok xs
 read_by true there f xs is = is
 read_by false there f xs is = absurd (cc)
+
+abbrev as_read : FatArch → Result FatArch Fault
+as_read arch = Ok arch
+
+-- there are as many records as the header says
+pub arches_count : (file : FatFile) (xs : List FatArch) → arches_in file ≡ Ok xs → length xs ≡ file.narches
+arches_count file xs is =
+    let read = read_by (nat_le file.narches (length file.bytes / 20)) (all_read (archs_of file)) (too_short file.narches (codes "arches")) xs is in
+    omega (
+      arith,
+      ap length (all_there (archs_of file) xs read),
+      length-map xs as_read,
+      length-items_from (arch_at file.bytes) 0 file.narches,
+    )
 
 record_there : (found : Option FatArch) (record_is : Result FatArch Fault) → option_map (λ arch. Ok arch) found ≡ Some record_is
     → (arch : FatArch) × (found ≡ Some arch) × (record_is ≡ Ok arch)

@@ -1,10 +1,12 @@
 -- A count that goes over a list, item by item.
-use Rattle.std.proofs.Common.{◌≡◌, ◌<◌, ◌≤◌, ◌+◌, ◌-◌, ◌^◌, arith, min, take, length, get_or, ◌++◌, ◌∷◌, [], ◌∙◌, ℕ, List, map, refl, sym, ap}
+use Rattle.std.proofs.Common.{◌≡◌, ◌<◌, ◌≤◌, ◌+◌, ◌-◌, ◌^◌, arith, min, take, drop, length, get_or, ◌++◌, ◌∷◌, [], ◌∙◌, ℕ, List, map, refl, sym, ap}
 use Rattle.std.proofs.Common.{subst, inl, inr, Option, Result, Ok, Err}
 use Rattle.std.specs.Prelude.{IsTrue, option_map}
 use Rattle.std.specs.Result.{result_err}
 use Rattle.std.proofs.lemmas.Bool.{ltb-true}
-use Rattle.std.proofs.lemmas.List.{append-nil, append_assoc, map-append, take_more, length-append, length-map, length-take-le}
+use Rattle.std.proofs.lemmas.List.{at_drop_more, append-nil, append_assoc, map-append, take_more, length-append, length-map, length-take-le}
+use Rattle.std.proofs.lemmas.List.Sums.{sum_by-cons}
+use Rattle.std.specs.List.{sum_by}
 use Rattle.mach_base.specs.Answer.{Stands}
 use Rattle.mach_base.specs.declared.error.Error.TheVariants as errors
 use Rattle.mach_base.specs.Fault.{Fault, fault_of}
@@ -146,6 +148,22 @@ module _ {A X : Type 0} (limit : ℕ) (part : ℕ → X → List (Option FaultAt
   each_over left n t goes over =
       let same = goes.same ∙ ap (λ (xs : List X). goes.done ++ faults_each part n xs) over ∙ append-nil goes.done in
       subst (λ (xs : List (Option FaultAt)). HasMet limit (before ++ xs) t) (sym same) goes.met
+
+-- ---- a sum that goes over a list, and stays at the greatest number where it is more than that
+
+pub past_more : {V : Type 0} (f : V → ℕ) (left rest : List V) (x : V) (past new total : ℕ) → left ≡ x ∷ rest → new ≡ min (past + f x) (2 ^ 64 - 1)
+    → min (past + sum_by f left) (2 ^ 64 - 1) ≡ total → min (new + sum_by f rest) (2 ^ 64 - 1) ≡ total
+past_more f left rest x past new total steps is before = omega (arith, ap (sum_by f) steps, sum_by-cons f x rest, is, before)
+
+pub past_over : {V : Type 0} (f : V → ℕ) (left : List V) (past total : ℕ) → left ≡ [] → past < 2 ^ 64
+    → min (past + sum_by f left) (2 ^ 64 - 1) ≡ min total (2 ^ 64 - 1) → past ≡ min total (2 ^ 64 - 1)
+past_over f left past total over small before = omega (arith, ap (sum_by f) over, small, before)
+
+pub one_past_more : {S V : Type 0} (view : S → V) (f : V → ℕ) (xs : List S) (i : ℕ) (d : S) (past new total : ℕ) → i < length xs
+    → new ≡ min (past + f (view (get_or xs i d))) (2 ^ 64 - 1) → min (past + sum_by f (map view (drop i xs))) (2 ^ 64 - 1) ≡ total
+    → min (new + sum_by f (map view (drop (i + 1) xs))) (2 ^ 64 - 1) ≡ total
+one_past_more view f xs i d past new total less is before =
+    past_more f (map view (drop i xs)) (map view (drop (i + 1) xs)) (view (get_or xs i d)) past new total (at_drop_more (map view) xs i d less) is before
 
 -- what is told of one part more
 pub one_part_more : {S V : Type 0} (view : S → V) (part : ℕ → V → List (Option FaultAt)) (xs : List S) (i : ℕ) (d : S) → i < length xs

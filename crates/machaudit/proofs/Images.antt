@@ -1,13 +1,15 @@
 -- What is told of the parts of an image, and whether it is sound.
-use Rattle.std.proofs.Common.{◌≡◌, ◌<◌, ◌≤◌, ◌++◌, ◌∙◌, ℕ, zero, suc, Bool, true, false, List, [], ◌∷◌, map, length, Option, Some, None, Result, Ok, Err}
+use Rattle.std.proofs.Common.{◌≡◌, ◌<◌, ◌≤◌, ◌-◌, ◌^◌, ◌++◌, ◌∙◌, ℕ, zero, suc, Bool, true, false, List, [], ◌∷◌, map, min, length, Option, Some, None}
+use Rattle.std.proofs.Common.{Result, Ok, Err}
 use Rattle.std.proofs.Common.{refl, sym, ap, subst, arith, inl, inr}
-use Rattle.std.specs.Prelude.{◌⊎◌, ◌↔◌, ◌==◌, ◌&&◌, not, IsTrue, is_ok, if◌then◌else◌}
+use Rattle.std.specs.Prelude.{◌⊎◌, ◌↔◌, ◌==◌, ◌&&◌, not, IsTrue, is_ok, if◌then◌else◌, option_map}
 use Rattle.std.proofs.Math.Dec.{eqb-suc-zero}
 use Rattle.std.proofs.lemmas.Bool.{false≢true, true≢false, ltb-false}
 use Rattle.std.proofs.lemmas.List.{length-append, length-map}
-use Rattle.std.specs.List.{list_all, flat_map}
+use Rattle.std.specs.List.{list_all, flat_map, sum_by}
 use Rattle.mach_base.specs.Context.{pointer_size}
 use Rattle.mach_base.specs.Fault.{Fault}
+use Rattle.mach_base.specs.Items.{begun_items}
 use Rattle.mach_dyld.proofs.BindLists.{list_from_items, items_from_list}
 use Rattle.mach_base.specs.Text.{texts}
 use Rattle.mach_dyld.specs.Imports.{Import, BindRanges, input_in}
@@ -18,14 +20,18 @@ use Rattle.mach_dyld.specs.TrieRange.{TrieRange, trie_there, ListsExports, Expor
 use Rattle.mach_chained.specs.Fixups.{Fixup}
 use Rattle.mach_parts.specs.Bindings.{Binding}
 use Rattle.mach_parts.specs.Segment.{SegmentView, sections_of}
+use Rattle.mach_parts.specs.Symbols.{begun_of}
+use Rattle.mach_parts.specs.SymbolViews.{table_of}
 use Rattle.mach_parts.specs.declared.relocation.RelocationInfo.{RelocationInfo}
+use Rattle.mach_parts.specs.declared.segment.section.Section.{Section}
 use Rattle.mach_parts.specs.declared.symbols.nlist.Nlist.{Nlist}
 use Rattle.goblin_mach.proofs.ImageFacts.{facts_are, strict-lossy, segments_are, symbols_are, imports_are, exports_are}
 use Rattle.goblin_mach.proofs.Walked.{walked_list, walked_fault}
 use Rattle.goblin_mach.specs.Facts.{HasSegments, HasSymbols, HasExports, HasImports, HasImportItems, HasFixups, HasBindings}
 use Rattle.goblin_mach.specs.OpenImage.{IsImage, commands_held, segments_held, trie_held, binds_held, ctx_held, bytes_held}
-use Rattle.goblin_mach.specs.Subjects.{ListsImageImports, ListsImageExports, AreImageBindItems, symbols_held, trie_or_empty}
+use Rattle.goblin_mach.specs.Subjects.{ListsImageImports, ListsImageExports, AreImageBindItems, symbols_held, symbols_in, trie_or_empty}
 use Rattle.goblin_mach.specs.declared.macho.MachO.{MachO}
+use Rattle.machaudit.proofs.Begins.{Begins, each_begins, items_begin, symbols_begin}
 use Rattle.machaudit.proofs.Goes.{as_item}
 use Rattle.machaudit.proofs.SoundlySigned.{signature_judged_by}
 use Rattle.machaudit.proofs.Told.{plain, faults_in, plain_from, plain_each, cut_is, told_sound, told_faulty, told_long, told_short}
@@ -34,13 +40,17 @@ use Rattle.machaudit.specs.Sound.{IsSoundImage, HasLongList, of_sections, of_rel
 use Rattle.machaudit.specs.Sound.{HasAllRelocations, HasExportItems, AreExportItems, all_exports, up_to_fault, past_limit}
 use Rattle.machaudit.specs.Sound.{are_all_ok, all_sections, all_relocations, relocations_by, of_fixups, of_bindings, IsSoundlySigned, HasSoundSignature}
 use Rattle.machaudit.specs.Signed.{TellsSignature}
-use Rattle.machaudit.specs.Told.{FaultAt, TellsOf, TellsOfTrie, TellsRelocations, faults_from, section_faults_told, relocation_faults, relocation_faults_by}
-use Rattle.machaudit.specs.Verdicts.{Judges, verdict_of, verdict_of_read, verdict_of_parts, verdict_of_layout, verdict_of_signature, is_clean}
+use Rattle.machaudit.specs.Told.{FaultAt, TellsOf, TellsOfTrie, TellsRecords, TellsRelocations, faults_from, more_than, section_faults_told, sections_beyond}
+use Rattle.machaudit.specs.Told.{begun_relocations, relocation_faults, relocation_faults_by}
+use Rattle.machaudit.specs.Told.{relocations_past, relocations_past_of, symbols_unread, symbols_beyond}
+use Rattle.machaudit.specs.Verdicts.{Judges, verdict_of, verdict_of_read, verdict_of_parts, verdict_of_layout, verdict_of_signature}
+use Rattle.machaudit.specs.Verdicts.{are_clean, verdict_of_records}
 use Rattle.goblin_mach.specs.LayoutFacts.{HasLayoutFaults}
 use Rattle.mach_signature.specs.SignedImages.{image_faults}
 use Rattle.mach_layout.specs.declared.fault.LayoutFault.{LayoutFault}
 use Rattle.machaudit.specs.declared.report.Part.{Part}
 use Rattle.machaudit.specs.declared.report.Parts.{Parts}
+use Rattle.machaudit.specs.declared.report.Records.{Records}
 use Rattle.machaudit.specs.declared.report.SignatureReport.{SignatureReport}
 use Rattle.machaudit.specs.declared.report.Place.TheVariants as places
 use Rattle.machaudit.specs.declared.verdict.Verdict.TheVariants.{Sound, Unended, Faulty}
@@ -57,14 +67,29 @@ judged_list limit items faults q same tells =
     part_judged q (told_sound limit items faults same q tells) (told_faulty limit items faults same q tells) (told_long limit items faults same q tells)
     (λ none whole. told_short limit items faults same q tells whole)
 
+-- and one on records, of which some begin within the bytes
+pub judged_records : {A X : Type 0} (limit : ℕ) (all begun : List (Result X Fault)) (past : ℕ) (faults : List (Option FaultAt)) (r : Records A)
+    → Begins all begun past → map plain faults ≡ faults_in begun → TellsRecords limit faults past r
+    → Judges (IsTrue (are_all_ok all)) (limit < length all) (verdict_of_records r)
+judged_records limit all begun past faults r begins same tells = by_count r.past tells.past
+  where
+    by_count : (n : ℕ) → n ≡ min past (2 ^ 64 - 1)
+        → Judges (IsTrue (are_all_ok all)) (limit < length all) (if n == 0 then verdict_of r.begun else Faulty)
+    by_count zero is = judged_list limit all faults r.begun (same ∙ ap faults_in (begins.whole (omega (arith, is)))) tells.begun
+    by_count (suc n) is = rw (eqb-suc-zero n) (faulty_judged (λ ok. begins.broken (omega (arith, is)) ok))
+
 -- a verdict on the one list of a kind that some bytes have
+pub judged_only : {X : Type 0} (limit : ℕ) (Has : List (Result X Fault) → Type 0) (items : List (Result X Fault)) (v : Verdict)
+    → Has items → ((others : List (Result X Fault)) → Has others → others ≡ items) → Judges (IsTrue (are_all_ok items)) (limit < length items) v
+    → Judges ((found : List (Result X Fault)) × Has found × IsTrue (are_all_ok found)) (LongOf limit Has) v
+judged_only limit Has items v has one judged =
+    judged_as v (λ ok. (items, has, ok)) (λ s. subst (λ (xs : List (Result _ Fault)). IsTrue (are_all_ok xs)) (one s.0 s.1) s.2)
+    (λ long. (items, has, long)) (λ l. subst (λ (xs : List (Result _ Fault)). limit < length xs) (one l.0 l.1) l.2) judged
+
 pub judged_one : {A X : Type 0} (limit : ℕ) (Has : List (Result X Fault) → Type 0) (items : List (Result X Fault)) (faults : List (Option FaultAt)) (q : Part A)
     → Has items → ((others : List (Result X Fault)) → Has others → others ≡ items) → map plain faults ≡ faults_in items → TellsOf limit faults q
     → Judges ((found : List (Result X Fault)) × Has found × IsTrue (are_all_ok found)) (LongOf limit Has) (verdict_of q)
-judged_one limit Has items faults q has one same tells =
-    judged_as (verdict_of q) (λ ok. (items, has, ok)) (λ s. subst (λ (xs : List (Result _ Fault)). IsTrue (are_all_ok xs)) (one s.0 s.1) s.2)
-    (λ long. (items, has, long)) (λ l. subst (λ (xs : List (Result _ Fault)). limit < length xs) (one l.0 l.1) l.2)
-    (judged_list limit items faults q same tells)
+judged_one limit Has items faults q has one same tells = judged_only limit Has items (verdict_of q) has one (judged_list limit items faults q same tells)
 
 -- imports that are all there, and their list
 all_oks : {X : Type 0} (items : List (Result X Fault)) → list_all is_ok items ≡ true → (list : List X) × (items ≡ map Ok list)
@@ -123,10 +148,11 @@ layout_judged Has [] has one = sound_judged has (λ l. l)
 layout_judged Has (f ∷ fs) has one = faulty_judged (λ none. let same = ap length (one (f ∷ fs) [] has none) in omega (arith, same))
 
 -- the sections and the relocations together
-pub read_judged : {A S T L M : Type 0} (limit : ℕ) (items : List (Option FaultAt)) (sections : Part A) (relocations : Option (Part A))
-    → TellsRelocations limit items (is_clean sections) relocations → Judges S L (verdict_of sections)
-    → ((q : Part A) → TellsOf limit items q → Judges T M (verdict_of q)) → Judges (S × T) (L ⊎ M) (verdict_of_read sections relocations)
-read_judged limit items sections None unclean first second = record {
+pub read_judged : {A S T L M : Type 0} (limit : ℕ) (items : List (Option FaultAt)) (past : ℕ) (sections : Records A) (relocations : Option (Records A))
+    → TellsRelocations limit items past (are_clean sections) relocations → Judges S L (verdict_of_records sections)
+    → ((q : Records A) → TellsRecords limit items past q → Judges T M (verdict_of_records q))
+    → Judges (S × T) (L ⊎ M) (verdict_of_read sections relocations)
+read_judged limit items past sections None unclean first second = record {
   sound = λ e. absurd (unclean_judged sections unclean e);
   whole = λ e l. unclean_judged sections unclean e;
   faulty = λ e s. first.faulty e s.0;
@@ -138,9 +164,14 @@ read_judged limit items sections None unclean first second = record {
     by_number zero true e = λ same. omega (arith, ap number same)
     by_number (suc n) cut e = rw (eqb-suc-zero n) (λ same. omega (arith, ap number same))
 
-    unclean_judged : {A : Type 0} (p : Part A) → is_clean p ≡ false → verdict_of p ≡ Sound → ⊥
-    unclean_judged p e = by_number p.faults p.cut e
-read_judged limit items sections (Some q) tells first second = both_judged _ _ first (second q tells.1)
+    by_past : (past n : ℕ) (cut : Bool) → ((past == 0) && ((n == 0) && not cut)) ≡ false
+        → (if past == 0 then (if n == 0 then (if cut then Unended else Sound) else Faulty) else Faulty) ≡ Sound → ⊥
+    by_past zero n cut e = by_number n cut e
+    by_past (suc past) n cut e = rw (eqb-suc-zero past) (λ same. omega (arith, ap number same))
+
+    unclean_judged : {A : Type 0} (r : Records A) → are_clean r ≡ false → verdict_of_records r ≡ Sound → ⊥
+    unclean_judged r e = by_past r.past r.begun.faults r.begun.cut e
+read_judged limit items past sections (Some q) tells first second = both_judged _ _ first (second q tells.1)
 
 -- ---- the exports of a trie
 
@@ -196,51 +227,79 @@ module _ (limit : ℕ) (t : TrieRange) (libs : List (List ℕ)) where
         absurd (told_faulty limit items (faults_from places.Export 0 items) (plain_from places.Export 0 items) q tells some (oks_all found))
 
 module _ {A : Type 0} (bytes : List ℕ) (m : MachO A) (p : IsImage bytes 0 m) (limit : ℕ) where
-  sections_plain : map plain (section_faults_told (segments_held m)) ≡ faults_in (all_sections (segments_held m))
-  sections_plain =
-      plain_each (λ n s. faults_from (places.Section n) 0 (sections_of s)) sections_of (λ n s. plain_from (places.Section n) 0 (sections_of s)) 0
-      (segments_held m)
+  abbrev begun_of_segment : SegmentView → List (Result (Section × List ℕ) Fault)
+  begun_of_segment s = begun_items (sections_of s)
 
-  pub sections_judged : {B : Type 0} (q : Part B) → TellsOf limit (section_faults_told (segments_held m)) q
+  sections_plain : map plain (section_faults_told (segments_held m)) ≡ faults_in (flat_map begun_of_segment (segments_held m))
+  sections_plain =
+      plain_each (λ n s. faults_from (places.Section n) 0 (begun_of_segment s)) begun_of_segment
+      (λ n s. plain_from (places.Section n) 0 (begun_of_segment s)) 0 (segments_held m)
+
+  sections_begin : Begins (all_sections (segments_held m)) (flat_map begun_of_segment (segments_held m)) (sections_beyond (segments_held m))
+  sections_begin =
+      each_begins sections_of begun_of_segment (λ s. more_than (begun_of_segment s) (sections_of s)) (λ s. items_begin (sections_of s)) (segments_held m)
+
+  pub sections_judged : {B : Type 0} (q : Records B) → TellsRecords limit (section_faults_told (segments_held m)) (sections_beyond (segments_held m)) q
       → Judges ((segments : List SegmentView) × HasSegments bytes 0 segments × IsTrue (are_all_ok (all_sections segments)))
-      ((segments : List SegmentView) × HasSegments bytes 0 segments × (limit < length (all_sections segments))) (verdict_of q)
+      ((segments : List SegmentView) × HasSegments bytes 0 segments × (limit < length (all_sections segments))) (verdict_of_records q)
   sections_judged q tells =
       let is = (segments_are m).strict bytes 0 p in
-      judged_as (verdict_of q) (λ ok. (segments_held m, (is (segments_held m)).1 refl, ok))
+      judged_as (verdict_of_records q) (λ ok. (segments_held m, (is (segments_held m)).1 refl, ok))
       (λ s. subst (λ (xs : List SegmentView). IsTrue (are_all_ok (all_sections xs))) ((is s.0).0 s.1) s.2)
       (λ long. (segments_held m, (is (segments_held m)).1 refl, long))
       (λ l. subst (λ (xs : List SegmentView). limit < length (all_sections xs)) ((is l.0).0 l.1) l.2)
-      (judged_list limit (all_sections (segments_held m)) (section_faults_told (segments_held m)) q sections_plain tells)
+      (judged_records limit (all_sections (segments_held m)) (flat_map begun_of_segment (segments_held m)) (sections_beyond (segments_held m))
+      (section_faults_told (segments_held m)) q sections_begin sections_plain tells)
 
   pub relocations_are : (items : List (Result RelocationInfo Fault)) → HasAllRelocations bytes 0 items
       ↔ (items ≡ all_relocations (ctx_held m) (bytes_held m) (segments_held m))
   relocations_are items =
       facts_are bytes 0 m (strict-lossy bytes 0 m p) (λ f. items ≡ all_relocations f.ctx f.bytes f.segments)
 
-  relocations_plain : map plain (relocation_faults (ctx_held m) (bytes_held m) (segments_held m))
-      ≡ faults_in (all_relocations (ctx_held m) (bytes_held m) (segments_held m))
-  relocations_plain =
-      let by = relocations_by (ctx_held m) (bytes_held m) in
-      plain_each (λ n s. relocation_faults_by by n (sections_of s)) (λ s. flat_map by (sections_of s))
-      (λ n s. plain_each (λ k x. faults_from (places.Relocation n k) 0 (by x)) by (λ k x. plain_from (places.Relocation n k) 0 (by x)) 0 (sections_of s)) 0
-      (segments_held m)
+  abbrev begun_of_section : Result (Section × List ℕ) Fault → List (Result RelocationInfo Fault)
+  begun_of_section s = begun_relocations (ctx_held m) (bytes_held m) s
 
-  pub relocations_judged : {B : Type 0} (q : Part B) → TellsOf limit (relocation_faults (ctx_held m) (bytes_held m) (segments_held m)) q
+  abbrev begun_within : SegmentView → List (Result RelocationInfo Fault)
+  begun_within s = flat_map begun_of_section (sections_of s)
+
+  relocations_plain : map plain (relocation_faults (ctx_held m) (bytes_held m) (segments_held m)) ≡ faults_in (flat_map begun_within (segments_held m))
+  relocations_plain =
+      plain_each (λ n s. relocation_faults_by begun_of_section n (sections_of s)) begun_within
+      (λ n s. plain_each (λ k x. faults_from (places.Relocation n k) 0 (begun_of_section x)) begun_of_section
+      (λ k x. plain_from (places.Relocation n k) 0 (begun_of_section x)) 0 (sections_of s)) 0 (segments_held m)
+
+  relocations_begin : Begins (all_relocations (ctx_held m) (bytes_held m) (segments_held m)) (flat_map begun_within (segments_held m))
+      (relocations_past (ctx_held m) (bytes_held m) (segments_held m))
+  relocations_begin =
+      let by = relocations_by (ctx_held m) (bytes_held m) in
+      let past = relocations_past_of (ctx_held m) (bytes_held m) in
+      each_begins (λ s. flat_map by (sections_of s)) begun_within (λ s. sum_by past (sections_of s))
+      (λ s. each_begins by begun_of_section past (λ x. items_begin (by x)) (sections_of s)) (segments_held m)
+
+  pub relocations_judged : {B : Type 0} (q : Records B)
+      → TellsRecords limit (relocation_faults (ctx_held m) (bytes_held m) (segments_held m))
+      (relocations_past (ctx_held m) (bytes_held m) (segments_held m)) q
       → Judges ((items : List (Result RelocationInfo Fault)) × HasAllRelocations bytes 0 items × IsTrue (are_all_ok items))
-      (LongOf limit (HasAllRelocations bytes 0)) (verdict_of q)
+      (LongOf limit (HasAllRelocations bytes 0)) (verdict_of_records q)
   relocations_judged q tells =
       let held = all_relocations (ctx_held m) (bytes_held m) (segments_held m) in
-      judged_one limit (HasAllRelocations bytes 0) held (relocation_faults (ctx_held m) (bytes_held m) (segments_held m)) q ((relocations_are held).1 refl)
-      (λ others h. (relocations_are others).0 h) relocations_plain tells
+      judged_only limit (HasAllRelocations bytes 0) held (verdict_of_records q) ((relocations_are held).1 refl) (λ others h. (relocations_are others).0 h)
+      (judged_records limit held (flat_map begun_within (segments_held m)) (relocations_past (ctx_held m) (bytes_held m) (segments_held m))
+      (relocation_faults (ctx_held m) (bytes_held m) (segments_held m)) q relocations_begin relocations_plain tells)
 
-  pub symbols_judged : {B : Type 0} (q : Part B) → TellsOf limit (faults_from places.Symbol 0 (symbols_held m.symbols)) q
+  pub symbols_judged : {B : Type 0} (q : Records B)
+      → TellsRecords limit (symbols_unread (option_map table_of m.symbols)) (symbols_beyond (option_map table_of m.symbols)) q
+      → (0 < q.past → IsTrue (are_all_ok (symbols_held m.symbols)) → ⊥)
       → Judges ((rows : List (Result (List ℕ × Nlist) Fault)) × HasSymbols bytes 0 rows × IsTrue (are_all_ok rows)) (LongOf limit (HasSymbols bytes 0))
-      (verdict_of q)
-  symbols_judged q tells =
+      (verdict_of_records q)
+  symbols_judged q tells broken =
       let is = (symbols_are m).strict bytes 0 p in
       let rows = symbols_held m.symbols in
-      judged_one limit (HasSymbols bytes 0) rows (faults_from places.Symbol 0 rows) q ((is rows).1 refl) (λ others h. (is others).0 h)
-      (plain_from places.Symbol 0 rows) tells
+      let table = option_map table_of m.symbols in
+      let begun = symbols_in (option_map begun_of table) in
+      let begins = symbols_begin table (λ some ok. broken (omega (arith, tells.past, some)) ok) in
+      judged_only limit (HasSymbols bytes 0) rows (verdict_of_records q) ((is rows).1 refl) (λ others h. (is others).0 h)
+      (judged_records limit rows begun (symbols_beyond table) (symbols_unread table) q begins (plain_from places.Symbol 0 begun) tells)
 
   export_items_are : (items : List (Result trie.Entry Fault))
       → HasExportItems limit bytes 0 items ↔ AreExportItems limit (trie_or_empty (trie_held m)) (texts m.libs.items) items
@@ -339,7 +398,7 @@ module _ {A : Type 0} (bytes : List ℕ) (m : MachO A) (p : IsImage bytes 0 m) (
       (((segments : List SegmentView) × HasSegments bytes 0 segments × (limit < length (all_sections segments))) ⊎ LongOf limit (HasAllRelocations bytes 0))
       (verdict_of_read parts.sections parts.relocations)
       → Judges ((rows : List (Result (List ℕ × Nlist) Fault)) × HasSymbols bytes 0 rows × IsTrue (are_all_ok rows)) (LongOf limit (HasSymbols bytes 0))
-      (verdict_of parts.symbols)
+      (verdict_of_records parts.symbols)
       → Judges ((list : List trie.Entry) × HasExports bytes 0 list) (LongOf limit (HasExportItems limit bytes 0)) (verdict_of parts.exports)
       → Judges ((list : List Import) × HasImports bytes 0 list) (LongOf limit (HasImportItems bytes 0)) (verdict_of parts.imports)
       → Judges ((items : List (Result Fixup Fault)) × HasFixups bytes 0 items × IsTrue (are_all_ok items)) (LongOf limit (HasFixups bytes 0))

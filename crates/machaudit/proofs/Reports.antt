@@ -1,6 +1,7 @@
 -- What is told of a file, from what is told of its lists.
 use Rattle.std.proofs.Common.{◌≡◌, ◌+◌, ◌++◌, ◌∷◌, ◌∙◌, [], ℕ, zero, suc, List, Some, Result, Ok, Err, refl, sym, ap, subst, arith, inr}
 use Rattle.std.specs.List.{AllZip}
+use Rattle.std.specs.Prelude.{option_map}
 use Rattle.std.proofs.lemmas.Slice.Zip.{all_zipped_more}
 use Rattle.std.specs.Borrow.{Bor}
 use Rattle.mach_base.proofs.Faults.{Stands-in}
@@ -13,11 +14,13 @@ use Rattle.mach_dyld.specs.Imports.{Import}
 use Rattle.mach_chained.specs.Fixups.{Fixup}
 use Rattle.mach_parts.specs.Bindings.{Binding}
 use Rattle.goblin_mach.specs.LayoutFacts.{HasLayoutFaults}
-use Rattle.goblin_mach.proofs.ImageFacts.{facts_are, segments_are, symbols_are}
+use Rattle.mach_parts.specs.SymbolViews.{table_of}
+use Rattle.mach_cli.specs.Bounds.{most_items}
+use Rattle.goblin_mach.proofs.ImageFacts.{facts_are, segments_are, symbol_table_is}
 use Rattle.goblin_mach.specs.Facts.{HasImportItems, HasFixups, HasBindings}
 use Rattle.goblin_mach.specs.Image.{ImageFault, LossyOpens}
 use Rattle.goblin_mach.specs.OpenImage.{IsImage, IsLossyImage, commands_held, segments_held, trie_held, ctx_held, bytes_held}
-use Rattle.goblin_mach.specs.Subjects.{symbols_held, trie_or_empty}
+use Rattle.goblin_mach.specs.Subjects.{trie_or_empty}
 use Rattle.mach_signature.proofs.SignedFacts.{faults_are}
 use Rattle.mach_signature.specs.SignedImages.{image_faults}
 use Rattle.goblin_mach.specs.declared.macho.MachO.{MachO}
@@ -30,8 +33,9 @@ use Rattle.machaudit.proofs.EntryBytes.{image_entry, image_no_fat, same_bytes}
 use Rattle.machaudit.proofs.Goes.{stands_of}
 use Rattle.machaudit.specs.Report.{TellsImage, TellsLossily, IsImageReport, IsEntryReport, IsRefusedFor, reason_of}
 use Rattle.machaudit.specs.Signed.{TellsSignature}
-use Rattle.machaudit.specs.Told.{TellsOf, TellsOfTrie, TellsRelocations, faults_from, section_faults_told, relocation_faults}
-use Rattle.machaudit.specs.Verdicts.{is_clean, verdict_of_image}
+use Rattle.machaudit.specs.Told.{TellsOf, TellsOfTrie, TellsRecords, TellsRelocations, faults_from, section_faults_told, sections_beyond}
+use Rattle.machaudit.specs.Told.{relocation_faults, relocations_past, symbols_unread, symbols_beyond}
+use Rattle.machaudit.specs.Verdicts.{are_clean, verdict_of_image}
 use Rattle.machaudit.specs.declared.report.EntryReport.TheVariants as entries
 use Rattle.machaudit.specs.declared.report.ImageReport.TheVariants as images
 use Rattle.machaudit.specs.declared.report.ImageReport.{ImageReport}
@@ -41,9 +45,10 @@ use Rattle.machaudit.specs.declared.verdict.Verdict.TheVariants.{Faulty}
 
 -- the parts of an image
 pub image_told : {A B : Type 0} (limit : ℕ) (bytes : List ℕ) (m : MachO A) → IsLossyImage bytes 0 m → (q : Parts B)
-    → TellsOf limit (section_faults_told (segments_held m)) q.sections
-    → TellsRelocations limit (relocation_faults (ctx_held m) (bytes_held m) (segments_held m)) (is_clean q.sections) q.relocations
-    → TellsOf limit (faults_from places.Symbol 0 (symbols_held m.symbols)) q.symbols
+    → TellsRecords limit (section_faults_told (segments_held m)) (sections_beyond (segments_held m)) q.sections
+    → TellsRelocations limit (relocation_faults (ctx_held m) (bytes_held m) (segments_held m)) (relocations_past (ctx_held m) (bytes_held m) (segments_held m))
+    (are_clean q.sections) q.relocations
+    → TellsRecords limit (symbols_unread (option_map table_of m.symbols)) (symbols_beyond (option_map table_of m.symbols)) q.symbols
     → TellsOfTrie limit (trie_or_empty (trie_held m)) (texts m.libs.items) q.exports
     → (items : List (Result Import Fault)) × HasImportItems bytes 0 items × TellsOf limit (faults_from places.Import 0 items) q.imports
     → (items : List (Result Fixup Fault)) × HasFixups bytes 0 items × TellsOf limit (faults_from places.Fixup 0 items) q.fixups
@@ -53,8 +58,9 @@ pub image_told : {A B : Type 0} (limit : ℕ) (bytes : List ℕ) (m : MachO A) �
 image_told limit bytes m p q sections relocations symbols exports imports fixups bindings signature layout = record {
   sections = (segments_held m, ((segments_are m).lossy bytes 0 p (segments_held m)).1 refl, sections);
   relocations =
-      (facts_are bytes 0 m p (λ f. TellsRelocations limit (relocation_faults f.ctx f.bytes f.segments) (is_clean q.sections) q.relocations)).1 relocations;
-  symbols = (symbols_held m.symbols, ((symbols_are m).lossy bytes 0 p (symbols_held m.symbols)).1 refl, symbols);
+      (facts_are bytes 0 m p (λ f. TellsRelocations limit (relocation_faults f.ctx f.bytes f.segments) (relocations_past f.ctx f.bytes f.segments)
+      (are_clean q.sections) q.relocations)).1 relocations;
+  symbols = (option_map table_of m.symbols, ((symbol_table_is m).lossy bytes 0 p (option_map table_of m.symbols)).1 refl, symbols);
   exports = (facts_are bytes 0 m p (λ f. TellsOfTrie limit (trie_or_empty f.trie) f.libs q.exports)).1 exports;
   imports = imports;
   fixups = fixups;
@@ -106,7 +112,7 @@ refused_for : {A : Type 0} (limit : ℕ) (bytes : List ℕ) (f : Fault) (e : Err
     → IsTold e → fault_of e ≡ f → TellsLossily limit bytes r → IsRefusedFor f r
 refused_for limit bytes f e (images.Opens parts) none is told fault tells = absurd tells
 refused_for limit bytes f e (images.OpensLossily x parts) none is told fault tells =
-    let wrong : Ok (image bytes) ≡ Err f = sym (image_entry bytes (told_opens limit bytes parts tells)) ∙ none in
+    let wrong : Ok (image bytes) ≡ Err f = sym (image_entry bytes (told_opens (most_items limit bytes) bytes parts tells)) ∙ none in
     absurd (cc)
 refused_for limit bytes f e (images.Refused x) none is told fault tells = let same = same_some is in rw same (told, fault)
 
@@ -125,7 +131,7 @@ entry_refused limit bytes (Err f) e r here is told stands tells =
 
 -- an entry that opens
 pub entry_told : {A B : Type 0} (limit : ℕ) (entry : Result FatEntry Fault) (e : FatEntry) (m : MachO A) (parts : Parts B) → entry ≡ Ok e
-    → IsEntry e (arches.MachO m) → ((bytes : List ℕ) → IsImage bytes 0 m → TellsImage limit bytes parts)
+    → IsEntry e (arches.MachO m) → ((bytes : List ℕ) → IsImage bytes 0 m → TellsImage (most_items limit bytes) bytes parts)
     → IsEntryReport limit entry (entries.Image (images.Opens parts))
 entry_told limit entry (archive slice) m parts is opened told = absurd opened
 entry_told limit entry (image slice) m parts is opened told = rw is ((opened.ctx, commands_held m, opened.opens), told slice opened)

@@ -10,6 +10,7 @@ use Rattle.mach_cli.specs.Cpus.{IsTaken, is_asked, misses}
 use Rattle.mach_cli.specs.Shown.{IsFatTable}
 use Rattle.mach_cli.specs.declared.cpu.Cpu.{Cpu}
 use Rattle.mach_cli.specs.declared.cpu.Cpu.TheVariants.{Any}
+use Rattle.machaudit.specs.Overlaid.{AreOverlaid}
 use Rattle.machaudit.specs.Sound.{IsSound, IsLong}
 use Rattle.machaudit.specs.declared.selection.Asked.{Asked}
 use Rattle.machaudit.specs.declared.selection.Asked.TheVariants.{Whole, Other, Entries}
@@ -52,10 +53,11 @@ pub data IsSoundFor (cpu : Cpu) (bytes : List ℕ) : Type 0 where
   sound_entries : (file : FatFile) (archs : List FatArch) → IsFatTable bytes file archs → misses cpu archs ≡ false → EntriesSound cpu bytes archs
       → IsSoundFor cpu bytes
 
--- It is none, or one of these entries isn't, or a list has more than `limit` items.
+-- It is none, or one of these entries isn't, or a list has more than `limit` items, or these entries have together more bytes than the file.
 pub data FailsFor (cpu : Cpu) (limit : ℕ) (bytes : List ℕ) : Type 0 where
   failing_file : AsksWhole cpu bytes → IsFailing limit bytes → FailsFor cpu limit bytes
   failing_entry : (file : FatFile) (archs : List FatArch) → IsFatTable bytes file archs → EntriesFail cpu limit bytes archs → FailsFor cpu limit bytes
+  overlaid_entries : (file : FatFile) (archs : List FatArch) → IsFatTable bytes file archs → AreOverlaid cpu bytes archs → FailsFor cpu limit bytes
 
 -- Nothing of the file is for the cpu.
 pub data MissesAll (cpu : Cpu) (bytes : List ℕ) : Type 0 where

@@ -1,5 +1,5 @@
 -- What is told of a file: which items of its lists can't be read, by their numbers.
-use Rattle.std.specs.Prelude.{◌≡◌, ℕ, List, [], false, Result, Ok, Err, IsOk, Option, Some, None, min, nat_lt}
+use Rattle.std.specs.Prelude.{◌≡◌, ℕ, List, [], false, Result, Ok, Err, IsOk, Option, Some, None, length, nat_lt}
 use Rattle.std.specs.List.{AllZip}
 use Rattle.mach_base.specs.Answer.{Stands, FailsAs}
 use Rattle.mach_base.specs.Fault.{Fault, fault_of}
@@ -9,24 +9,28 @@ use Rattle.mach_parts.specs.Fat.{part_of}
 use Rattle.mach_parts.specs.declared.fat.FatArch.{FatArch}
 use Rattle.mach_parts.specs.ArchForms.{arch_form_32}
 use Rattle.mach_layout.specs.Containers.{AreContainerFaults}
+use Rattle.mach_cli.specs.Bounds.{most_items}
+use Rattle.mach_cli.specs.declared.cpu.Cpu.TheVariants.{Any}
 use Rattle.mach_dyld.specs.Imports.{Import}
 use Rattle.mach_chained.specs.Fixups.{Fixup}
 use Rattle.mach_parts.specs.Bindings.{Binding}
 use Rattle.mach_parts.specs.Segment.{SegmentView}
-use Rattle.mach_parts.specs.declared.symbols.nlist.Nlist.{Nlist}
+use Rattle.mach_parts.specs.Symbols.{SymbolTable}
 use Rattle.goblin_mach.specs.LayoutFacts.{HasLayoutFaults}
 use Rattle.mach_signature.specs.AsSigned.{SignatureFaultSeen}
 use Rattle.mach_signature.specs.SignedFacts.{HasSignatureFaults}
-use Rattle.goblin_mach.specs.Facts.{OfImage, HasSegments, HasSymbols, HasImportItems, HasFixups, HasBindings}
+use Rattle.goblin_mach.specs.Facts.{OfImage, HasSegments, HasSymbolTable, HasImportItems, HasFixups, HasBindings}
 use Rattle.goblin_mach.specs.Image.{Opens, ImageFault, LossyOpens}
 use Rattle.goblin_mach.specs.Subjects.{lossy_segments_in, libs_in, trie_in, trie_or_empty}
 use Rattle.goblin_mach.specs.FatEntry.{FatEntry, archive, image, entry_at}
 use Rattle.goblin_mach.specs.FatFile.{FatFile, fat_file_in, arches_in}
 use Rattle.goblin_mach.specs.File.{HasFatMagic, MachFault, MachOpens}
 use Rattle.goblin_mach.specs.View.{IsTold}
+use Rattle.machaudit.specs.Overlaid.{AreGoneOver}
 use Rattle.machaudit.specs.Signed.{TellsSignature}
-use Rattle.machaudit.specs.Told.{TellsOf, TellsOfTrie, TellsRelocations, faults_from, section_faults_told, relocation_faults}
-use Rattle.machaudit.specs.Verdicts.{is_clean}
+use Rattle.machaudit.specs.Told.{TellsOf, TellsOfTrie, TellsRecords, TellsRelocations, faults_from, section_faults_told, sections_beyond}
+use Rattle.machaudit.specs.Told.{relocation_faults, relocations_past, symbols_unread, symbols_beyond}
+use Rattle.machaudit.specs.Verdicts.{are_clean}
 use Rattle.machaudit.specs.declared.report.EntryReport.TheVariants as entries
 use Rattle.machaudit.specs.declared.report.EntryReport.{EntryReport}
 use Rattle.machaudit.specs.declared.report.FatReport.{FatReport}
@@ -37,13 +41,16 @@ use Rattle.machaudit.specs.declared.report.Place.TheVariants as places
 use Rattle.machaudit.specs.declared.report.Report.TheVariants as reports
 use Rattle.machaudit.specs.declared.report.Report.{Report}
 
--- Each part tells what can't be read of the first `limit` items of its list, and exactly whether the list has more; that of the signature all that isn't as
--- it was signed; and the layout its faults.
+-- Each part tells what can't be read of the first `limit` items of its list, and exactly whether the list has more. Of records only those that begin within
+-- the bytes are items, and it is told how many more there are said to be. The part of the signature tells all that isn't as it was signed, and the layout
+-- its faults.
 pub record TellsImage {A : Type 0} (limit : ℕ) (bytes : List ℕ) (p : Parts A) : Type 0 where
-  pub sections : (segments : List SegmentView) × HasSegments bytes 0 segments × TellsOf limit (section_faults_told segments) p.sections
+  pub sections : (segments : List SegmentView) × HasSegments bytes 0 segments
+      × TellsRecords limit (section_faults_told segments) (sections_beyond segments) p.sections
   pub relocations : OfImage bytes 0 (λ ctx cs.
-      TellsRelocations limit (relocation_faults ctx bytes (lossy_segments_in ctx bytes cs)) (is_clean p.sections) p.relocations)
-  pub symbols : (rows : List (Result (List ℕ × Nlist) Fault)) × HasSymbols bytes 0 rows × TellsOf limit (faults_from places.Symbol 0 rows) p.symbols
+      TellsRelocations limit (relocation_faults ctx bytes (lossy_segments_in ctx bytes cs)) (relocations_past ctx bytes (lossy_segments_in ctx bytes cs))
+      (are_clean p.sections) p.relocations)
+  pub symbols : (table : Option SymbolTable) × HasSymbolTable bytes 0 table × TellsRecords limit (symbols_unread table) (symbols_beyond table) p.symbols
   pub exports : OfImage bytes 0 (λ ctx cs. TellsOfTrie limit (trie_or_empty (trie_in bytes cs)) (libs_in bytes cs) p.exports)
   pub imports : (items : List (Result Import Fault)) × HasImportItems bytes 0 items × TellsOf limit (faults_from places.Import 0 items) p.imports
   pub fixups : (items : List (Result Fixup Fault)) × HasFixups bytes 0 items × TellsOf limit (faults_from places.Fixup 0 items) p.fixups
@@ -52,10 +59,10 @@ pub record TellsImage {A : Type 0} (limit : ℕ) (bytes : List ℕ) (p : Parts A
   pub layout : HasLayoutFaults bytes p.layout.items
 
 -- What is told of some bytes as an image: of what opens strictly, its parts; of what doesn't, a fault that stands; and the parts that lossy mode reads,
--- exactly where it opens them.
+-- exactly where it opens them. Of no list more items are gone over than there are bytes.
 abbrev pub IsImageReport : {A : Type 0} → ℕ → List ℕ → ImageReport A → Type 0
-IsImageReport limit bytes (images.Opens parts) = Opens bytes 0 × TellsImage limit bytes parts
-IsImageReport limit bytes (images.OpensLossily e parts) = IsTold e × Stands (MachFault ImageFault bytes) e × TellsImage limit bytes parts
+IsImageReport limit bytes (images.Opens parts) = Opens bytes 0 × TellsImage (most_items limit bytes) bytes parts
+IsImageReport limit bytes (images.OpensLossily e parts) = IsTold e × Stands (MachFault ImageFault bytes) e × TellsImage (most_items limit bytes) bytes parts
 IsImageReport limit bytes (images.Refused e) = IsTold e × Stands (MachFault ImageFault bytes) e × ¬ (LossyOpens bytes 0)
 
 -- why some bytes don't open strictly as an image, if they don't
@@ -67,7 +74,7 @@ reason_of (images.Refused e) = Some e
 -- what is told of some bytes by lossy mode: where they open as an image, its parts
 abbrev pub TellsLossily : {A : Type 0} → ℕ → List ℕ → ImageReport A → Type 0
 TellsLossily limit bytes (images.Opens parts) = ⊥
-TellsLossily limit bytes (images.OpensLossily e parts) = TellsImage limit bytes parts
+TellsLossily limit bytes (images.OpensLossily e parts) = TellsImage (most_items limit bytes) bytes parts
 TellsLossily limit bytes (images.Refused e) = MachOpens LossyOpens bytes → HasFatMagic bytes
 
 -- it is told as refused, and for this fault
@@ -91,13 +98,14 @@ abbrev pub named_bytes : List ℕ → Option FatArch → List ℕ
 named_bytes bytes None = []
 named_bytes bytes (Some arch) = part_of bytes arch.offset arch.size
 
--- What is told of a fat file whose table can be read: the faults of the table; each of the first `limit` entries, in order; and exactly whether there
--- are more.
+-- What is told of a fat file whose table can be read: the faults of the table; each of the first `limit` entries, in order, as long as they have together no
+-- more bytes than the file; and exactly whether there are more.
 pub record TellsEntries {A : Type 0} (limit : ℕ) (bytes : List ℕ) (file : FatFile) (r : FatReport A) : Type 0 where
   pub readable : IsOk (arches_in file)
   pub container : AreContainerFaults arch_form_32 bytes r.container.items
-  pub entries : AllZip (IsEntryReport limit) (items_from (entry_at file) 0 (min limit file.narches)) r.entries.items
-  pub cut : r.cut ≡ nat_lt limit file.narches
+  pub gone_over : (archs : List FatArch) × (arches_in file ≡ Ok archs) × AreGoneOver Any limit bytes archs (length r.entries.items)
+  pub entries : AllZip (IsEntryReport limit) (items_from (entry_at file) 0 (length r.entries.items)) r.entries.items
+  pub cut : r.cut ≡ nat_lt (length r.entries.items) file.narches
 
 -- and of one whose table can't be read: why it can't, and nothing else
 pub record TellsNoEntries {A : Type 0} (file : FatFile) (r : FatReport A) (e : Error) : Type 0 where

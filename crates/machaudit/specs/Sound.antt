@@ -18,6 +18,10 @@ use Rattle.mach_parts.specs.declared.symbols.nlist.Nlist.{Nlist}
 use Rattle.mach_parts.specs.ArchForms.{arch_form_32}
 use Rattle.mach_layout.specs.Containers.{AreContainerFaults}
 use Rattle.goblin_mach.specs.LayoutFacts.{HasLayoutFaults}
+use Rattle.mach_cli.specs.Bounds.{most_items}
+use Rattle.mach_cli.specs.declared.cpu.Cpu.TheVariants.{Any}
+use Rattle.mach_parts.specs.declared.fat.FatArch.{FatArch}
+use Rattle.machaudit.specs.Overlaid.{AreOverlaid}
 use Rattle.mach_signature.specs.SignedImages.{signature_place_in, IsImageAsSigned}
 use Rattle.goblin_mach.specs.Facts.{OfImage, HasSegments, HasSymbols, HasExports, HasImports, HasImportItems, HasFixups, HasBindings}
 use Rattle.goblin_mach.specs.FatEntry.{FatEntry, archive, image, entry_at}
@@ -109,10 +113,10 @@ IsSoundEntry (Ok (archive bytes)) = Unit {0}
 IsSoundEntry (Ok (image bytes)) = IsSoundImage bytes
 IsSoundEntry (Err f) = ⊥
 
--- an entry is an image with a list of more than `limit` items
+-- an entry is an image with a list of more than `limit` items, or of more than the image has bytes
 abbrev pub IsLongEntry : ℕ → Result FatEntry Fault → Type 0
 IsLongEntry limit (Ok (archive bytes)) = ⊥
-IsLongEntry limit (Ok (image bytes)) = HasLongList limit bytes
+IsLongEntry limit (Ok (image bytes)) = HasLongList (most_items limit bytes) bytes
 IsLongEntry limit (Err f) = ⊥
 
 -- a fat file has an entry, its table can be read, and all its entries are sound
@@ -121,9 +125,10 @@ pub record IsSoundFat (file : FatFile) : Type 0 where
   pub table : IsOk (arches_in file)
   pub entries : (k : ℕ) → k < file.narches → IsSoundEntry (entry_at file k)
 
--- a fat file has more than `limit` entries, or one of them a list of more items
+-- a fat file has more than `limit` entries, or these have together more bytes than the file, or one of them has a list of more items
 pub data IsLongFat (limit : ℕ) (file : FatFile) : Type 0 where
   of_entries : limit < file.narches → IsLongFat limit file
+  of_overlaid : (archs : List FatArch) → arches_in file ≡ Ok archs → AreOverlaid Any file.bytes archs → IsLongFat limit file
   of_entry : (k : ℕ) → k < file.narches → IsLongEntry limit (entry_at file k) → IsLongFat limit file
 
 -- The file is an image that is sound, or a fat file that is, whose table has no fault.
@@ -131,7 +136,7 @@ pub data IsSound (bytes : List ℕ) : Type 0 where
   one_image : IsSoundImage bytes → IsSound bytes
   fat_file : (file : FatFile) → HasFatMagic bytes → fat_file_in bytes ≡ Ok file → AreContainerFaults arch_form_32 bytes [] → IsSoundFat file → IsSound bytes
 
--- The file has a list of more than `limit` items.
+-- The file has a list of more than `limit` items, or one of its images a list of more than it has bytes.
 pub data IsLong (limit : ℕ) (bytes : List ℕ) : Type 0 where
-  of_image : HasLongList limit bytes → IsLong limit bytes
+  of_image : HasLongList (most_items limit bytes) bytes → IsLong limit bytes
   of_fat : (file : FatFile) → HasFatMagic bytes → fat_file_in bytes ≡ Ok file → IsLongFat limit file → IsLong limit bytes

@@ -1,18 +1,23 @@
 -- What is told of a list: of its first items those that can't be read, each by its place.
 use Rattle.std.specs.Prelude.{◌≡◌, ◌<◌, ◌+◌, ◌-◌, ◌^◌, ◌++◌, ◌∷◌, ℕ, Bool, false, true, List, [], map, take, length, Option, Some, None, Result, Ok, Err}
-use Rattle.std.specs.Prelude.{nat_lt}
-use Rattle.std.specs.List.{filter_map}
+use Rattle.std.specs.Prelude.{min, nat_lt, option_map}
+use Rattle.std.specs.List.{filter_map, sum_by}
 use Rattle.mach_base.specs.Fault.{Fault, fault_of}
+use Rattle.mach_base.specs.Items.{begun_items}
 use Rattle.mach_base.specs.declared.context.Ctx.{Ctx}
 use Rattle.mach_parts.specs.declared.relocation.RelocationInfo.{RelocationInfo}
+use Rattle.mach_parts.specs.declared.segment.section.Section.{Section}
 use Rattle.mach_parts.specs.Segment.{SegmentView, sections_of}
+use Rattle.mach_parts.specs.Symbols.{SymbolTable, begun_of}
 use Rattle.mach_dyld.specs.TrieRange.{TrieRange}
 use Rattle.mach_dyld.specs.Trie as trie
+use Rattle.goblin_mach.specs.Subjects.{symbols_in}
 use Rattle.machaudit.specs.Sound.{relocations_by, AreExportItems}
 use Rattle.machaudit.specs.declared.report.Finding.{Finding}
 use Rattle.machaudit.specs.declared.report.Part.{Part}
 use Rattle.machaudit.specs.declared.report.Place.{Place}
 use Rattle.machaudit.specs.declared.report.Place.TheVariants as places
+use Rattle.machaudit.specs.declared.report.Records.{Records}
 use Rattle.machaudit.specs.declared.tally.Tally.{Tally}
 
 -- where an item stands that can't be read, and why it can't
@@ -34,17 +39,45 @@ abbrev pub faults_each : {X : Type 0} → (ℕ → X → List (Option FaultAt)) 
 faults_each part n [] = []
 faults_each part n (x ∷ xs) = part n x ++ faults_each part (n + 1) xs
 
--- those of the sections of all segments
+-- how many more there are than the first of them
+abbrev pub more_than : {X : Type 0} → (first all : List X) → ℕ
+more_than first all = length all - length first
+
+-- those of the sections of all segments that begin within the bytes
 abbrev pub section_faults_told : List SegmentView → List (Option FaultAt)
-section_faults_told segments = faults_each (λ n s. faults_from (places.Section n) 0 (sections_of s)) 0 segments
+section_faults_told segments = faults_each (λ n s. faults_from (places.Section n) 0 (begun_items (sections_of s))) 0 segments
+
+-- how many more sections the segments say that they have
+abbrev pub sections_beyond : List SegmentView → ℕ
+sections_beyond segments = sum_by (λ s. more_than (begun_items (sections_of s)) (sections_of s)) segments
+
+-- the relocations of a section that begin within the bytes
+abbrev pub begun_relocations : Ctx → List ℕ → Result (Section × List ℕ) Fault → List (Result RelocationInfo Fault)
+begun_relocations ctx bytes s = begun_items (relocations_by ctx bytes s)
 
 -- those of the relocations of the sections of a segment
 abbrev pub relocation_faults_by : {S : Type 0} → (S → List (Result RelocationInfo Fault)) → ℕ → List S → List (Option FaultAt)
 relocation_faults_by relocations n sections = faults_each (λ k s. faults_from (places.Relocation n k) 0 (relocations s)) 0 sections
 
--- and of all segments
+-- and of all segments, of the relocations that begin within the bytes
 abbrev pub relocation_faults : Ctx → List ℕ → List SegmentView → List (Option FaultAt)
-relocation_faults ctx bytes segments = faults_each (λ n s. relocation_faults_by (relocations_by ctx bytes) n (sections_of s)) 0 segments
+relocation_faults ctx bytes segments = faults_each (λ n s. relocation_faults_by (begun_relocations ctx bytes) n (sections_of s)) 0 segments
+
+-- how many more relocations a section says that it has
+abbrev pub relocations_past_of : Ctx → List ℕ → Result (Section × List ℕ) Fault → ℕ
+relocations_past_of ctx bytes s = more_than (begun_relocations ctx bytes s) (relocations_by ctx bytes s)
+
+-- and the sections of all segments
+abbrev pub relocations_past : Ctx → List ℕ → List SegmentView → ℕ
+relocations_past ctx bytes segments = sum_by (λ s. sum_by (relocations_past_of ctx bytes) (sections_of s)) segments
+
+-- those of the symbols of a table, if there is one, that begin within the bytes
+abbrev pub symbols_unread : Option SymbolTable → List (Option FaultAt)
+symbols_unread table = faults_from places.Symbol 0 (symbols_in (option_map begun_of table))
+
+-- how many more symbols the table says that it has
+abbrev pub symbols_beyond : Option SymbolTable → ℕ
+symbols_beyond table = more_than (symbols_in (option_map begun_of table)) (symbols_in table)
 
 -- the faults that stand, in order
 abbrev pub faults_of : List (Option FaultAt) → List FaultAt
@@ -64,6 +97,12 @@ pub record TellsOf {A : Type 0} (limit : ℕ) (items : List (Option FaultAt)) (p
   pub faults : TellsFirstFaults (faults_of (take limit items)) p
   pub cut : p.cut ≡ nat_lt limit (length items)
 
+-- What is told of records: what can't be read of those that begin within the bytes, and how many more there are said to be, or the greatest number where
+-- they are more than that.
+pub record TellsRecords {A : Type 0} (limit : ℕ) (items : List (Option FaultAt)) (more : ℕ) (r : Records A) : Type 0 where
+  pub begun : TellsOf limit items r.begun
+  pub past : r.past ≡ min more (2 ^ 64 - 1)
+
 -- A count has met these items, of which at most `limit` are gone over.
 pub record HasMet {A : Type 0} (limit : ℕ) (items : List (Option FaultAt)) (t : Tally A) : Type 0 where
   pub small : limit < 2 ^ 64
@@ -77,6 +116,6 @@ pub record TellsOfTrie {A : Type 0} (limit : ℕ) (t : TrieRange) (libs : List (
   pub tells : TellsOf limit (faults_from places.Export 0 items) p
 
 -- What is told of the relocations: that they were not read, where the sections have a fault or too many items; else the relocations.
-abbrev pub TellsRelocations : {A : Type 0} → ℕ → List (Option FaultAt) → (clean : Bool) → Option (Part A) → Type 0
-TellsRelocations limit items clean None = clean ≡ false
-TellsRelocations limit items clean (Some p) = (clean ≡ true) × TellsOf limit items p
+abbrev pub TellsRelocations : {A : Type 0} → ℕ → (items : List (Option FaultAt)) → (more : ℕ) → (clean : Bool) → Option (Records A) → Type 0
+TellsRelocations limit items more clean None = clean ≡ false
+TellsRelocations limit items more clean (Some r) = (clean ≡ true) × TellsRecords limit items more r

@@ -8,6 +8,7 @@ use Rattle.machaudit.specs.declared.report.ImageReport.TheVariants as images
 use Rattle.machaudit.specs.declared.report.ImageReport.{ImageReport}
 use Rattle.machaudit.specs.declared.report.Part.{Part}
 use Rattle.machaudit.specs.declared.report.Parts.{Parts}
+use Rattle.machaudit.specs.declared.report.Records.{Records}
 use Rattle.machaudit.specs.declared.report.Report.TheVariants as reports
 use Rattle.machaudit.specs.declared.report.Report.{Report}
 use Rattle.machaudit.specs.declared.report.SignatureReport.{SignatureReport}
@@ -31,10 +32,18 @@ is_clean p = (p.faults == 0) && not p.cut
 abbrev pub verdict_of : {A : Type 0} → Part A → Verdict
 verdict_of p = if p.faults == 0 then (if p.cut then Unended else Sound) else Faulty
 
+-- none of some records is past the end of the bytes, and all items were gone over, and each can be read
+abbrev pub are_clean : {A : Type 0} → Records A → Bool
+are_clean r = (r.past == 0) && is_clean r.begun
+
+-- that of records: some are past the end of the bytes, or that of the others
+abbrev pub verdict_of_records : {A : Type 0} → Records A → Verdict
+verdict_of_records r = if r.past == 0 then verdict_of r.begun else Faulty
+
 -- that of the sections and the relocations, which are not read where a section can't be
-abbrev pub verdict_of_read : {A : Type 0} → Part A → Option (Part A) → Verdict
-verdict_of_read sections None = verdict_of sections
-verdict_of_read sections (Some relocations) = verdict_of_both (verdict_of sections) (verdict_of relocations)
+abbrev pub verdict_of_read : {A : Type 0} → Records A → Option (Records A) → Verdict
+verdict_of_read sections None = verdict_of_records sections
+verdict_of_read sections (Some relocations) = verdict_of_both (verdict_of_records sections) (verdict_of_records relocations)
 
 -- that of faults of layout
 abbrev pub verdict_of_layout : List LayoutFault → Verdict
@@ -51,7 +60,7 @@ verdict_of_signature (signatures.Signed p) = if p.faults == 0 then Sound else Fa
 abbrev pub verdict_of_parts : {A : Type 0} → Parts A → Verdict
 verdict_of_parts p =
     verdict_of_both (verdict_of_both (verdict_of_layout p.layout.items) (verdict_of_signature p.signature))
-    (verdict_of_both (verdict_of_read p.sections p.relocations) (verdict_of_both (verdict_of p.symbols)
+    (verdict_of_both (verdict_of_read p.sections p.relocations) (verdict_of_both (verdict_of_records p.symbols)
     (verdict_of_both (verdict_of p.exports) (verdict_of_both (verdict_of p.imports) (verdict_of_both (verdict_of p.fixups) (verdict_of p.bindings))))))
 
 -- that of an image: one that doesn't open strictly is faulty

@@ -14,22 +14,27 @@ ghost use Rattle.mach_layout.specs.Containers.{AreContainerFaults};
 ghost use Rattle.mach_layout.specs.Faults.{AreLayoutFaults};
 ghost use Rattle.goblin_mach.specs.Held.{laid_held};
 ghost use Rattle.goblin_mach.specs.ListFaults.{AreListFaults};
+ghost use Rattle.mach_cli.specs.Bounds.{most_items};
 ghost use Rattle.machaudit.specs.Report.{IsFileReport, IsEntryReport, IsFatReport, TellsImage, TellsLossily, named_bytes, reason_of};
 ghost use Rattle.machaudit.specs.Sound.{IsSound, IsSoundEntry, IsSoundFat, IsSoundImage, IsLong, IsLongEntry, IsLongFat, HasLongList};
-ghost use Rattle.machaudit.specs.Told.{TellsRelocations, relocation_faults};
-ghost use Rattle.machaudit.specs.Verdicts.{Judges, is_clean, verdict_of_parts, verdict_of_image, verdict_of_entry, verdict_of_fat, verdict_of_report};
+ghost use Rattle.machaudit.specs.Told.{TellsRelocations, relocation_faults, relocations_past};
+ghost use Rattle.machaudit.specs.Verdicts.{Judges, are_clean, verdict_of_parts, verdict_of_image, verdict_of_entry, verdict_of_fat, verdict_of_report};
 ghost use Rattle.machaudit.specs.declared.report.Failure.TheVariants as failures;
 
 use crate::lists::{
     audit_bindings, audit_exports, audit_fixups, audit_imports, audit_relocations, audit_sections,
     audit_symbols,
 };
-use crate::report::{EntryReport, Failure, FatReport, ImageReport, Part, Parts, Report, no_memory};
+use crate::overlaid::entries_within;
+use crate::report::{
+    EntryReport, Failure, FatReport, ImageReport, Parts, Records, Report, no_memory,
+};
 use crate::signed::audit_signature;
 use goblin_mach::fat::FatArch;
 use goblin_mach::layout::layout_faults;
 use goblin_mach::segment::Segment;
 use goblin_mach::{Ctx, Error, Mach, MachO, MultiArch, SingleArch, laws, laws as layout_laws};
+use mach_cli::{Cpu, most_items};
 use mach_layout::{LayoutFault, container_faults};
 use std::alloc::Allocator;
 
@@ -39,10 +44,11 @@ fn audit_relocated<A: Allocator + Clone>(
     bytes: &[u8],
     ctx: Ctx,
     segments: &[Segment<'_>],
-    sections: &Part<A>,
+    sections: &Records<A>,
     limit: usize,
-) -> Result<Option<Part<A>>, Failure>
-    ensures told { IfOk result (TellsRelocations limit (relocation_faults ctx bytes.now (map segment_view segments.now)) (is_clean sections.now)) }
+) -> Result<Option<Records<A>>, Failure>
+    ensures told { let views = map segment_view segments.now in
+        IfOk result (TellsRelocations limit (relocation_faults ctx bytes.now views) (relocations_past ctx bytes.now views) (are_clean sections.now)) }
     ensures memory { IfErr result (λ failure. failure ≡ failures.Memory) }
 {
     if !sections.is_clean() {
@@ -80,22 +86,23 @@ fn audit_container<A: Allocator + Clone>(
     }
 }
 
-// All parts of an image that opened.
+// All parts of an image that opened. Of no list more items are gone over than it has bytes.
 fn audit_parts<A: Allocator, B: Allocator + Clone>(
     alloc: &B,
     image: &MachO<'_, A>,
     limit: usize,
 ) -> Result<Parts<B>, Failure>
-    ensures told { (bytes : List ℕ) → IsLossyImage bytes 0 image.now → IfOk result (TellsImage limit bytes) }
+    ensures told { (bytes : List ℕ) → IsLossyImage bytes 0 image.now → IfOk result (TellsImage (most_items limit bytes) bytes) }
     ensures judged { (bytes : List ℕ) → IsImage bytes 0 image.now
-        → IfOk result (λ p. Judges (IsSoundImage bytes) (HasLongList limit bytes) (verdict_of_parts p)) }
+        → IfOk result (λ p. Judges (IsSoundImage bytes) (HasLongList (most_items limit bytes) bytes) (verdict_of_parts p)) }
     ensures memory { IfErr result (λ failure. failure ≡ failures.Memory) }
 {
     let segments = image.segments.as_slice();
     let (bytes, ctx) = (image.bytes(), image.ctx());
+    let limit = most_items(limit, bytes);
     let sections = audit_sections(alloc.clone()?, segments, limit)?;
     let relocations = audit_relocated(alloc.clone()?, bytes, ctx, segments, &sections, limit)?;
-    let symbols = audit_symbols(alloc.clone()?, image.symbols(), limit)?;
+    let symbols = audit_symbols(alloc.clone()?, image, limit)?;
     let exports = audit_exports(alloc.clone()?, image, limit)?;
     let imports = audit_imports(alloc.clone()?, image.iter_imports(), limit)?;
     let fixups = audit_fixups(alloc.clone()?, image.fixups(), limit)?;
@@ -184,7 +191,7 @@ fn named_bytes<'a>(bytes: &'a [u8], arches: &[FatArch], index: usize) -> &'a [u8
     }
 }
 
-// A fat file: its table, and then its entries. Where the table can't be read none is gone over.
+// A fat file: its table, and then its entries, as long as they have together no more bytes than the file. Where the table can't be read none is gone over.
 fn audit_fat<A: Allocator + Clone>(
     alloc: &A,
     container: &MultiArch<'_, A>,
@@ -211,7 +218,8 @@ fn audit_fat<A: Allocator + Clone>(
         }
     };
     let container_faults = audit_container(alloc.clone()?, bytes)?;
-    for index in 0..count.min(limit) {
+    let most = entries_within(Cpu::Any, limit, container.bytes(), arches.as_slice());
+    for index in 0..most {
         let entry = named_bytes(bytes, arches.as_slice(), index);
         entries.push(audit_entry(alloc, container, index, entry, limit)?)?;
     }
@@ -220,11 +228,12 @@ fn audit_fat<A: Allocator + Clone>(
         table: None,
         container: container_faults,
         entries,
-        cut: limit < count,
+        cut: most < count,
     })
 }
 
-/// What is said of a file. Of each list at most `limit` items are gone over, and of the faults of a part the first ten are told.
+/// What is said of a file. Of each list at most `limit` items are gone over, and of a list of an image no more than the image has bytes; of the faults of a
+/// part the first ten are told.
 pub fn audit<A: Allocator + Clone>(
     alloc: &A,
     bytes: &[u8],

@@ -4,16 +4,18 @@ ghost use Rattle.std.specs.Prelude.{◌≡◌};
 
 use crate::layout_text::Counts;
 use crate::report::{
-    EntryReport, FatReport, Finding, ImageReport, Part, Parts, Report, SignaturePart,
+    EntryReport, FatReport, Finding, ImageReport, Part, Parts, Records, Report, SignaturePart,
     SignatureReport,
 };
 use crate::signature_text::said_of;
 use crate::verdict::Verdict;
 use goblin_mach::{Error, describe};
+use mach_cli::{Failure, JsonString};
 use mach_layout::{Evidence, LayoutFault};
 use mach_signature::{SignatureFault, SlotName};
 use serde_json::{Value, json};
 use std::alloc::{AllocError, Allocator, Global};
+use std::io::Write;
 
 // A fault: what kind it is, where it stands, whose it is, and its words.
 fn fault_value(
@@ -37,18 +39,42 @@ fn error_value(
     fault_value(alloc, "unreadable", place, owner, words.as_str())
 }
 
-// A part with its faults, how many more there are, and whether the limit was met.
+// How much of a part isn't among the faults that are told.
+#[derive(Clone, Copy)]
+struct Untold {
+    // How many more faults there are.
+    more: usize,
+    // How many more records there are said to be, past the end of the bytes.
+    past: usize,
+    // Whether the limit was met.
+    cut: bool,
+}
+
+impl Untold {
+    // So many more faults, and nothing else.
+    fn faults(more: usize) -> Untold {
+        Untold {
+            more,
+            past: 0,
+            cut: false,
+        }
+    }
+}
+
+// A part with its faults, and what isn't among them.
 fn part_value(
     alloc: Global,
     name: &str,
     faults: Vec<Value>,
-    more: usize,
-    cut: bool,
+    untold: Untold,
 ) -> Result<Value, AllocError> {
-    let ok = faults.is_empty() && !cut;
+    let Untold { more, past, cut } = untold;
+    let ok = faults.is_empty() && past == 0 && !cut;
     let faults = Value::Array(faults);
-    let more = more as u64;
-    json!(in alloc; {"part": name, "ok": ok, "faults": faults, "more": more, "limit_met": cut})
+    let (more, past) = (more as u64, past as u64);
+    json!(in alloc; {
+        "part": name, "ok": ok, "faults": faults, "more": more, "past_the_end": past, "limit_met": cut
+    })
 }
 
 // The faults that are told of a part.
@@ -62,18 +88,33 @@ fn findings(alloc: Global, name: &str, told: &[Finding]) -> Result<Vec<Value>, A
     Ok(faults)
 }
 
-// Adds a part of an image.
+// Adds a part of an image, of which so many records are past the end of the bytes.
 fn add_part<A: Allocator>(
     alloc: Global,
     values: &mut Vec<Value>,
     name: &str,
     part: &Part<A>,
+    past: usize,
 ) -> Result<(), AllocError> {
     let told = part.told.as_slice();
     let faults = findings(alloc, name, told)?;
-    let more = part.faults.saturating_sub(told.len());
-    values.push(part_value(alloc, name, faults, more, part.cut)?)?;
+    let untold = Untold {
+        more: part.faults.saturating_sub(told.len()),
+        past,
+        cut: part.cut,
+    };
+    values.push(part_value(alloc, name, faults, untold)?)?;
     Ok(())
+}
+
+// Adds a part of an image that is records.
+fn add_records<A: Allocator>(
+    alloc: Global,
+    values: &mut Vec<Value>,
+    name: &str,
+    records: &Records<A>,
+) -> Result<(), AllocError> {
+    add_part(alloc, values, name, &records.begun, records.past)
 }
 
 // Adds a part that an error alone is said of, if one is.
@@ -87,7 +128,7 @@ fn add_refusal(
     if let Some(error) = error {
         faults.push(error_value(alloc, name, "", error)?)?;
     }
-    values.push(part_value(alloc, name, faults, 0, false)?)?;
+    values.push(part_value(alloc, name, faults, Untold::faults(0))?)?;
     Ok(())
 }
 
@@ -119,8 +160,8 @@ fn add_layout(
             told.push(layout_value(alloc, *fault)?)?;
         }
     }
-    let more = faults.len().saturating_sub(told.len());
-    values.push(part_value(alloc, name, told, more, false)?)?;
+    let untold = Untold::faults(faults.len().saturating_sub(told.len()));
+    values.push(part_value(alloc, name, told, untold)?)?;
     Ok(())
 }
 
@@ -161,8 +202,8 @@ fn add_signed<A: Allocator>(
     for fault in part.told.as_slice() {
         told.push(signature_value(alloc, fault)?)?;
     }
-    let more = part.faults.saturating_sub(told.len());
-    values.push(part_value(alloc, "signature", told, more, false)?)?;
+    let untold = Untold::faults(part.faults.saturating_sub(told.len()));
+    values.push(part_value(alloc, "signature", told, untold)?)?;
     Ok(())
 }
 
@@ -187,15 +228,15 @@ fn add_parts<A: Allocator>(
     values: &mut Vec<Value>,
     parts: &Parts<A>,
 ) -> Result<(), AllocError> {
-    add_part(alloc, values, "sections", &parts.sections)?;
-    if let Some(part) = &parts.relocations {
-        add_part(alloc, values, "relocations", part)?;
+    add_records(alloc, values, "sections", &parts.sections)?;
+    if let Some(records) = &parts.relocations {
+        add_records(alloc, values, "relocations", records)?;
     }
-    add_part(alloc, values, "symbols", &parts.symbols)?;
-    add_part(alloc, values, "exports", &parts.exports)?;
-    add_part(alloc, values, "imports", &parts.imports)?;
-    add_part(alloc, values, "fixups", &parts.fixups)?;
-    add_part(alloc, values, "bindings", &parts.bindings)?;
+    add_records(alloc, values, "symbols", &parts.symbols)?;
+    add_part(alloc, values, "exports", &parts.exports, 0)?;
+    add_part(alloc, values, "imports", &parts.imports, 0)?;
+    add_part(alloc, values, "fixups", &parts.fixups, 0)?;
+    add_part(alloc, values, "bindings", &parts.bindings, 0)?;
     add_signature(alloc, values, &parts.signature)?;
     add_layout(alloc, values, "layout", parts.layout.as_slice())
 }
@@ -256,26 +297,39 @@ fn container<A: Allocator>(alloc: Global, fat: &FatReport<A>) -> Result<Vec<Valu
     if fat.count == 0 {
         faults.push(fault_value(alloc, "empty", "", "entries", "no image")?)?;
     }
-    values.push(part_value(alloc, "entries", faults, 0, fat.cut)?)?;
+    let untold = Untold {
+        more: 0,
+        past: 0,
+        cut: fat.cut,
+    };
+    values.push(part_value(alloc, "entries", faults, untold)?)?;
     Ok(values)
 }
 
-/// The object of a file: its name, whether it is sound, what it is, and what is said of its images.
-pub fn report_value<A: Allocator>(
+/// Prints the object of a file on a line: its name, whether it is sound, what it is, and what is said of its images.
+pub fn print_object<A: Allocator, O: Write>(
     alloc: Global,
     name: &str,
     report: &Report<A>,
-) -> Result<Value, AllocError> {
+    out: &mut O,
+) -> Result<(), Failure> {
     let verdict = report.verdict();
     let sound = verdict == Verdict::Sound;
     let limit_met = verdict == Verdict::Unended;
-    let images = Value::Array(images(alloc, report)?);
+    let images = Value::Array(images(alloc, report)?).to_string(alloc)?;
     let (kind, container) = match report {
         Report::Image(_) => ("image", Vec::new(alloc)),
         Report::Fat(fat) => ("fat file", container(alloc, fat)?),
     };
-    let container = Value::Array(container);
-    json!(in alloc; {
-        "name": name, "sound": sound, "limit_met": limit_met, "kind": kind, "container": container, "images": images
-    })
+    let container = Value::Array(container).to_string(alloc)?;
+    let name = JsonString(name);
+    write!(
+        out,
+        "{{\"container\":{container},\"images\":{images},\"kind\":\"{kind}\""
+    )?;
+    writeln!(
+        out,
+        ",\"limit_met\":{limit_met},\"name\":{name},\"sound\":{sound}}}"
+    )?;
+    Ok(())
 }

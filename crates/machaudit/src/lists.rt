@@ -1,45 +1,54 @@
 //! The lists of an image, one item at a time. None is kept.
 
-ghost use Rattle.std.specs.Prelude.{◌++◌, ℕ, List, Option, IfOk, IfErr, OnOk, map, ◌≡◌};
+ghost use Rattle.std.specs.Prelude.{◌++◌, ◌-◌, ◌<◌, ◌^◌, ℕ, List, Option, IfOk, IfErr, IsTrue, OnOk, map, min, option_map, ◌≡◌};
+ghost use Rattle.std.specs.List.{sum_by};
 ghost use Rattle.mach_dyld.specs.BindLeft.{imports_left};
 ghost use Rattle.mach_base.specs.Text.{texts};
 ghost use Rattle.mach_parts.specs.RelocationItems.{relocations_left};
 ghost use Rattle.mach_parts.specs.SectionItems.{sections_left, section_read};
 ghost use Rattle.mach_parts.specs.Segment.{segment_view};
-ghost use Rattle.mach_parts.specs.SymbolViews.{symbols_left};
+ghost use Rattle.mach_parts.specs.SymbolViews.{symbols_left, table_of};
 ghost use Rattle.goblin_mach.specs.BindingsLeft.{bindings_left};
 ghost use Rattle.goblin_mach.specs.FixupsLeft.{image_fixups_left};
 ghost use Rattle.goblin_mach.specs.OpenImage.{trie_held};
-ghost use Rattle.goblin_mach.specs.Subjects.{trie_or_empty};
-ghost use Rattle.machaudit.specs.Sound.{relocations_by};
-ghost use Rattle.machaudit.specs.Told.{FaultAt, HasMet, TellsOf, TellsOfTrie, faults_from, section_faults_told, relocation_faults, relocation_faults_by};
+ghost use Rattle.goblin_mach.specs.Subjects.{symbols_held, trie_or_empty};
+ghost use Rattle.machaudit.specs.Sound.{are_all_ok};
+ghost use Rattle.machaudit.specs.Told.{FaultAt, HasMet, TellsOf, TellsOfTrie, TellsRecords, faults_from, section_faults_told, sections_beyond};
+ghost use Rattle.machaudit.specs.Told.{begun_relocations, relocation_faults, relocation_faults_by, relocations_past, relocations_past_of};
+ghost use Rattle.machaudit.specs.Told.{symbols_unread, symbols_beyond};
 ghost use Rattle.machaudit.specs.declared.report.Failure.TheVariants as failures;
 ghost use Rattle.machaudit.specs.declared.report.Place.TheVariants as places;
 
-use crate::report::{Failure, Part, Place, no_memory};
+use crate::report::{Failure, Part, Place, Records, no_memory};
 use crate::tally::Tally;
 use goblin_mach::imports::BindIterator;
 use goblin_mach::segment::{RelocationIterator, Section, SectionData, SectionIterator, Segment};
 use goblin_mach::symbols::SymbolIterator;
 use goblin_mach::{BindingIterator, Ctx, FixupIterator, MachO};
+use mach_parts::laws::symbols_past_the_end;
 use std::alloc::Allocator;
 
-/// The sections of all segments, `limit` of them at most.
+/// The sections of all segments, `limit` of those at most that begin within the bytes.
 pub fn audit_sections<A: Allocator>(
     alloc: A,
     segments: &[Segment<'_>],
     limit: usize,
-) -> Result<Part<A>, Failure>
-    ensures told { IfOk result (TellsOf limit (section_faults_told (map segment_view segments.now))) }
+) -> Result<Records<A>, Failure>
+    ensures told { let views = map segment_view segments.now in IfOk result (TellsRecords limit (section_faults_told views) (sections_beyond views)) }
     ensures memory { IfErr result (λ failure. failure ≡ failures.Memory) }
 {
     let mut tally = Tally::new(alloc, limit);
+    let mut past = 0usize;
     let mut number = 0usize;
     for segment in segments {
-        add_sections(number, segment.into_iter(), &mut tally)?;
+        let sections = segment.into_iter();
+        let begun = sections.begun();
+        past = past.saturating_add(sections.len().saturating_sub(begun.len()));
+        add_sections(number, begun, &mut tally)?;
         number = number.saturating_add(1);
     }
-    Ok(tally.part())
+    let begun = tally.part();
+    Ok(Records { begun, past })
 }
 
 // Adds the sections of a segment, which has this number.
@@ -62,24 +71,54 @@ fn add_sections<A: Allocator>(
     Ok(())
 }
 
-/// The relocations of all sections, `limit` of them at most.
+/// The relocations of all sections, `limit` of those at most that begin within the bytes.
 pub fn audit_relocations<A: Allocator>(
     alloc: A,
     bytes: &[u8],
     ctx: Ctx,
     segments: &[Segment<'_>],
     limit: usize,
-) -> Result<Part<A>, Failure>
-    ensures told { IfOk result (TellsOf limit (relocation_faults ctx bytes.now (map segment_view segments.now))) }
+) -> Result<Records<A>, Failure>
+    ensures told { let views = map segment_view segments.now in
+        IfOk result (TellsRecords limit (relocation_faults ctx bytes.now views) (relocations_past ctx bytes.now views)) }
     ensures memory { IfErr result (λ failure. failure ≡ failures.Memory) }
 {
     let mut tally = Tally::new(alloc, limit);
+    let mut past = 0usize;
     let mut number = 0usize;
     for segment in segments {
+        past = past.saturating_add(relocations_past(bytes, ctx, segment.into_iter()));
         add_relocations(bytes, ctx, number, segment.into_iter(), &mut tally)?;
         number = number.saturating_add(1);
     }
-    Ok(tally.part())
+    let begun = tally.part();
+    Ok(Records { begun, past })
+}
+
+// How many more relocations some sections say that they have than begin within the bytes; the greatest number, where they are more than that.
+fn relocations_past(bytes: &[u8], ctx: Ctx, sections: SectionIterator<'_>) -> usize
+    ensures { result ≡ min (sum_by (relocations_past_of ctx bytes.now) (sections_left sections.entry)) (2 ^ 64 - 1) }
+{
+    let mut past = 0usize;
+    'sections: for item in sections {
+        past = past.saturating_add(relocations_past_of(bytes, ctx, &item));
+    }
+    past
+}
+
+// How many more relocations a section says that it has.
+fn relocations_past_of(
+    bytes: &[u8],
+    ctx: Ctx,
+    item: &goblin_mach::Result<(Section, SectionData<'_>)>,
+) -> usize
+    ensures { result ≡ relocations_past_of ctx bytes.now (section_read item.now) }
+{
+    let Ok((section, _)) = item else {
+        return 0;
+    };
+    let relocations = section.iter_relocations(bytes, ctx);
+    relocations.len().saturating_sub(relocations.begun().len())
 }
 
 // Adds the relocations of the sections of a segment, which has this number.
@@ -91,7 +130,7 @@ fn add_relocations<A: Allocator>(
     tally: &mut Tally<A>,
 ) -> Result<(), Failure>
     ensures told { OnOk result ((limit : ℕ) (items : List (Option FaultAt)) → HasMet limit items tally.old
-        → HasMet limit (items ++ relocation_faults_by (relocations_by ctx bytes.now) segment (sections_left sections.entry)) tally.new) }
+        → HasMet limit (items ++ relocation_faults_by (begun_relocations ctx bytes.now) segment (sections_left sections.entry)) tally.new) }
     ensures memory { IfErr result (λ failure. failure ≡ failures.Memory) }
 {
     let mut section = 0usize;
@@ -111,14 +150,14 @@ fn add_relocations_by<A: Allocator>(
     tally: &mut Tally<A>,
 ) -> Result<(), Failure>
     ensures told { OnOk result ((limit : ℕ) (items : List (Option FaultAt)) → HasMet limit items tally.old
-        → HasMet limit (items ++ faults_from (places.Relocation numbers.0 numbers.1) 0 (relocations_by ctx bytes.now (section_read item.now))) tally.new) }
+        → HasMet limit (items ++ faults_from (places.Relocation numbers.0 numbers.1) 0 (begun_relocations ctx bytes.now (section_read item.now))) tally.new) }
     ensures memory { IfErr result (λ failure. failure ≡ failures.Memory) }
 {
     let Ok((section, _)) = item else {
         return Ok(());
     };
     let relocations = section.iter_relocations(bytes, ctx);
-    add_relocations_of(numbers.0, numbers.1, relocations, tally)
+    add_relocations_of(numbers.0, numbers.1, relocations.begun(), tally)
 }
 
 // Adds the relocations of one section.
@@ -179,8 +218,33 @@ pub fn audit_exports<A: Allocator, B: Allocator + Clone>(
     Ok(tally.part())
 }
 
-/// The symbols, `limit` of them at most.
-pub fn audit_symbols<A: Allocator>(
+/// The symbols, `limit` of those at most that begin within the bytes.
+pub fn audit_symbols<A: Allocator, B: Allocator>(
+    alloc: B,
+    image: &MachO<'_, A>,
+    limit: usize,
+) -> Result<Records<B>, Failure>
+    ensures told { let table = option_map table_of image.now.symbols in IfOk result (TellsRecords limit (symbols_unread table) (symbols_beyond table)) }
+    ensures broken { IfOk result (λ records. 0 < records.past → IsTrue (are_all_ok (symbols_held image.now.symbols)) → ⊥) }
+    ensures memory { IfErr result (λ failure. failure ≡ failures.Memory) }
+{
+    match &image.symbols {
+        Some(table) => {
+            symbols_past_the_end();
+            let begun = table.begun();
+            let past = table.len().saturating_sub(begun.len());
+            let begun = audit_table(alloc, begun.iter(), limit)?;
+            Ok(Records { begun, past })
+        }
+        None => {
+            let begun = Tally::new(alloc, limit).part();
+            Ok(Records { begun, past: 0 })
+        }
+    }
+}
+
+// The symbols of a table, `limit` of them at most.
+fn audit_table<A: Allocator>(
     alloc: A,
     symbols: SymbolIterator<'_>,
     limit: usize,

@@ -3,8 +3,8 @@
 
 // The audit of a file: whether it opens, and each part that can't be read or lies where it can't.
 mod audit;
-mod listed;
 mod lists;
+mod overlaid;
 mod report;
 mod selection;
 mod signed;
@@ -12,7 +12,6 @@ mod tally;
 mod verdict;
 
 // What is printed of the audit.
-mod files;
 mod json;
 mod layout_text;
 mod options;
@@ -20,22 +19,25 @@ mod run;
 mod signature_text;
 mod text;
 
-use crate::files::run_files;
-use crate::options::{DEFAULT_LIMIT, Mistake, Options, Words};
-use crate::run::NAME;
-use mach_cli::{ForTerminal, Misuse, Program};
+use crate::options::{DEFAULT_LIMIT, Format, Options, take_format};
+use crate::run::{Call, NAME};
+use crate::selection::run_for;
+use mach_cli::output::failed;
+use mach_cli::{Cpu, Failure, Files, ForTerminal, Misuse, Program, ShowsFile, Titled};
+use std::alloc::{AllocError, Allocator, Global};
 use std::io;
-use std::io::{BufWriter, IsTerminal};
+use std::io::{BufWriter, IsTerminal, Write};
 use std::process::ExitCode;
 
 const PROGRAM: Program = Program {
     name: NAME,
-    usage: "usage: machaudit [--quiet | --json] [--limit N] [--arch NAME | --cputype 0xN] [--names FILE] FILE..
+    usage: "usage: machaudit [--quiet | --json] [--limit N] [--arch NAME | --cputype 0xN] [--names FILE] [-0] FILE..
        machaudit -h | --help | --version
 ",
     version: "machaudit 0.2.0\n",
     has_limit: true,
     has_cpu: true,
+    has_files: true,
     known: &[
         "--arch",
         "--cputype",
@@ -50,40 +52,94 @@ const PROGRAM: Program = Program {
 
 fn main(rt: HostRuntime) -> ExitCode {
     ExitCode::from(match start(&rt) {
-        Ok(status) => status,
-        // Status 1 says that a file isn't sound, so want of memory is 2 here.
-        Err(1) => 2,
-        Err(status) => status,
+        Ok(status) | Err(status) => status,
     })
 }
 
-// Does what the words ask for; the error is the exit status where nothing was audited.
+// Does what the words ask for; the error is the exit status where nothing was audited, or where a write failed.
 fn start(rt: &HostRuntime) -> Result<u8, u8> {
-    let words = match Words::of(rt.alloc(), PROGRAM.words(rt)?) {
-        Ok(words) => words,
-        Err(Mistake::Misuse(misuse)) => return Err(PROGRAM.bad_usage(rt, misuse)),
-        Err(Mistake::Memory) => return Err(PROGRAM.out_of_memory(rt)),
-    };
-    let call = PROGRAM.call(rt, &words.others)?;
-    if call.words.is_empty() && words.lists.is_empty() {
-        return Err(PROGRAM.bad_usage(rt, Misuse::Missing("FILE")));
-    }
-    let options = Options {
-        format: words.format,
-        limit: call.limit.unwrap_or(DEFAULT_LIMIT),
-    };
-    let output = ForTerminal::new(io::writer(rt), rt.stdout().is_terminal());
-    let Ok(mut lines) = BufWriter::new(rt.alloc(), output) else {
+    let words = PROGRAM.words(rt)?;
+    let Ok((format, words)) = take_format(rt.alloc(), words) else {
         return Err(PROGRAM.out_of_memory(rt));
     };
-    Ok(run_files(
-        &PROGRAM,
-        rt,
-        call.cpu,
-        options,
-        &call.words,
-        &words.lists,
-        &mut lines,
-        &mut rt.stderr(),
-    ))
+    let call = PROGRAM.call(rt, &words)?;
+    audit_files(rt, format, &call)
+}
+
+// Audits of the files of a call in order what is for its cpu, and answers the worst status.
+fn audit_files(
+    rt: &HostRuntime,
+    format: Format,
+    call: &mach_cli::Call<'_, Global>,
+) -> Result<u8, u8> {
+    let (files, others) = (&call.words, &call.others);
+    if files.is_empty() && others.is_empty() {
+        return Err(PROGRAM.bad_usage(rt, Misuse::Missing("FILE")));
+    }
+    let Ok(only) = only_of(rt.alloc(), others.are_several(files.len()), files) else {
+        return Err(PROGRAM.out_of_memory(rt));
+    };
+    let audits = Audits {
+        cpu: call.cpu,
+        options: Options {
+            format,
+            limit: call.limit.unwrap_or(DEFAULT_LIMIT),
+        },
+        only,
+    };
+    let output = ForTerminal::new(io::writer(rt), rt.stdout().is_terminal());
+    let Ok(mut lines) = BufWriter::new(rt.alloc(), Titled::new(rt.alloc(), output)) else {
+        return Err(PROGRAM.out_of_memory(rt));
+    };
+    let shown = Files {
+        program: PROGRAM,
+        cpu: call.cpu,
+        has_titles: false,
+        has_parts: true,
+    };
+    shown.show(rt, &audits, files, others, &mut lines)
+}
+
+// The name of the only file of a call; empty, where there may be several.
+fn only_of(alloc: Global, are_several: bool, files: &[&str]) -> Result<String, AllocError> {
+    let mut only = String::new(alloc);
+    if !are_several {
+        'files: for file in files {
+            only.push_str(file)?;
+        }
+    }
+    Ok(only)
+}
+
+// What is shown of each file: a report of what is for a cpu.
+#[derive(Drop)]
+struct Audits {
+    cpu: Cpu,
+    options: Options,
+    // The only file of the call, whose report has no heading; empty, where there may be several.
+    only: String,
+}
+
+impl<W: Write + Drop, B: Allocator> ShowsFile<BufWriter<W, B>> for Audits {
+    fn show(&self, rt: &HostRuntime, name: &str, bytes: &[u8], out: &mut BufWriter<W, B>) -> u8 {
+        let call = Call {
+            options: self.options,
+            name,
+            heading: self.only.as_str() != name,
+        };
+        let mut err = rt.stderr();
+        match run_for(
+            &rt.alloc(),
+            rt.alloc(),
+            self.cpu,
+            call,
+            bytes,
+            out,
+            &mut err,
+        ) {
+            Ok(status) => status,
+            Err(Failure::Memory) => PROGRAM.no_memory_for(rt, name),
+            Err(Failure::Unwritten(error)) => failed(NAME, "", error, &mut err),
+        }
+    }
 }

@@ -1,7 +1,7 @@
 //! What the words of a call ask for, beside what all programs know.
 
-use mach_cli::Misuse;
-use std::alloc::{AllocError, AllocFailed, Global};
+use mach_cli::{Word, takes_word};
+use std::alloc::{AllocError, Allocator};
 
 /// The form in which a file is reported.
 #[derive(Clone, Copy, Debug)]
@@ -26,68 +26,40 @@ pub struct Options {
 /// So many items of one list are gone over where no other limit is given.
 pub const DEFAULT_LIMIT: usize = 10_000_000;
 
-/// The words of a call without `--quiet`, `--json` and `--names`, and what these ask for. Behind `--` no word is an option.
-#[derive(Drop)]
-pub struct Words {
-    pub others: Vec<String>,
-    /// The form that is asked for last.
-    pub format: Format,
-    /// The files behind `--names`, in order.
-    pub lists: Vec<String>,
-}
-
-/// Why words can't be taken apart.
-#[derive(Clone, Copy)]
-pub enum Mistake {
-    /// What is wrong with them.
-    Misuse(Misuse<'static>),
-    /// Memory is refused.
-    Memory,
-}
-
-impl From<AllocError> for Mistake {
-    fn from(_error: AllocError) -> Mistake {
-        Mistake::Memory
+// The form that a word asks for, if it asks for one.
+fn format_of(word: &str) -> Option<Format> {
+    match word {
+        "--quiet" => Some(Format::Quiet),
+        "--json" => Some(Format::Json),
+        _ => None,
     }
 }
 
-impl From<AllocFailed<String>> for Mistake {
-    fn from(_error: AllocFailed<String>) -> Mistake {
-        Mistake::Memory
-    }
-}
-
-impl Words {
-    /// Takes words apart.
-    pub fn of(alloc: Global, words: Vec<String>) -> Result<Words, Mistake> {
-        let mut others = Vec::new(alloc);
-        let mut lists = Vec::new(alloc);
-        let mut format = Format::Text;
-        let mut is_list = false;
-        let mut is_plain = false;
-        'words: for word in words {
-            if is_list {
-                lists.push(word)?;
-                is_list = false;
-                continue;
-            }
-            match word.as_str() {
-                "--quiet" if !is_plain => format = Format::Quiet,
-                "--json" if !is_plain => format = Format::Json,
-                "--names" if !is_plain => is_list = true,
-                other => {
-                    is_plain |= other == "--";
-                    others.push(word)?;
-                }
+/// The form that the words of a call ask for last, and all other words, in order. The first word is the program's name; a word after `--`, or after an option
+/// that takes one, asks for no form.
+pub fn take_format<A: Allocator>(
+    alloc: A,
+    words: Vec<Word>,
+) -> Result<(Format, Vec<Word, A>), AllocError> {
+    let mut format = Format::Text;
+    let mut others = Vec::new(alloc);
+    let mut is_taken = true;
+    let mut is_plain = false;
+    'words: for word in words {
+        let text = word.as_str();
+        if is_taken || is_plain {
+            is_taken = false;
+            others.push(word)?;
+            continue;
+        }
+        match format_of(text) {
+            Some(asked) => format = asked,
+            None => {
+                is_taken = takes_word(text);
+                is_plain = text == "--";
+                others.push(word)?;
             }
         }
-        if is_list {
-            return Err(Mistake::Misuse(Misuse::Missing("FILE behind --names")));
-        }
-        Ok(Words {
-            others,
-            format,
-            lists,
-        })
     }
+    Ok((format, others))
 }

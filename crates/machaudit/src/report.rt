@@ -111,6 +111,15 @@ pub struct Part<A: Allocator = Global> {
     pub cut: bool,
 }
 
+/// What is said of records that stand one after the other.
+#[derive(Drop)]
+pub struct Records<A: Allocator = Global> {
+    /// What is said of those that begin within the bytes.
+    pub begun: Part<A>,
+    /// How many more there are said to be, past the end of the bytes; the greatest number, where they are more than that.
+    pub past: usize,
+}
+
 /// What is said of a signature that can be read.
 #[derive(Drop)]
 pub struct SignaturePart<A: Allocator = Global> {
@@ -135,11 +144,11 @@ pub enum SignatureReport<A: Allocator = Global> {
 #[derive(Drop)]
 pub struct Parts<A: Allocator = Global> {
     /// The sections of all segments.
-    pub sections: Part<A>,
+    pub sections: Records<A>,
     /// The relocations of all sections; none where a section can't be read.
-    pub relocations: Option<Part<A>>,
+    pub relocations: Option<Records<A>>,
     /// The symbols.
-    pub symbols: Part<A>,
+    pub symbols: Records<A>,
     /// The exports of the trie.
     pub exports: Part<A>,
     /// The imports of the opcodes, as a linker lists them.

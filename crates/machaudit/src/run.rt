@@ -1,21 +1,25 @@
 //! What the program prints, and its exit status.
 
 ghost use Rattle.std.specs.Prelude.{◌≡◌, ◌≤◌, ◌⊎◌, [], IfOk, OnOk};
-ghost use Rattle.std.specs.Io.Buffered.{writer_buffer};
+ghost use Rattle.std.specs.Io.Buffered.{writer_buffer, writer_contents};
 ghost use Rattle.std.specs.Io.KnownBytes.{Appends};
 ghost use Rattle.machaudit.specs.Sound.{IsSound, IsLong};
+ghost use Rattle.mach_cli.specs.Escapes.{IsOneLine};
 ghost use Rattle.mach_cli.specs.Foreigners.{refused_kind};
 ghost use Rattle.machaudit.specs.Foreign.{SaysForeign, foreign_said, kind_said, refusal_in};
-ghost use Rattle.machaudit.specs.Verdicts.{status_of};
+ghost use Rattle.machaudit.specs.Quiet.{quiet_line};
+ghost use Rattle.machaudit.specs.Verdicts.{Judges, status_of, verdict_of_report};
+ghost use Rattle.machaudit.specs.declared.options.Format.TheVariants as formats;
+ghost use Rattle.machaudit.specs.declared.verdict.Verdict.{Verdict};
 
 use crate::audit::audit;
-use crate::json::report_value;
+use crate::json::print_object;
 use crate::options::{Format, Options};
 use crate::report::Report;
 use crate::text::print_report;
 use crate::verdict::Verdict;
 use goblin_mach::Error;
-use mach_cli::{Failure, Names, refused_kind};
+use mach_cli::{Escaped, Failure, Names, refused_kind};
 use std::alloc::{Allocator, Global};
 use std::io;
 use std::io::{BufWriter, Write};
@@ -35,8 +39,8 @@ pub struct Call<'a> {
 }
 
 /// Audits the bytes of a file, prints the report, and answers the exit status: 0 where the file is sound, and none of its lists
-/// is longer than the limit; 1 where it is not, or one is. What is printed has left the buffer then. Of a file that doesn't open, and
-/// is none of Mach-O's, `err` has a line that says what it is.
+/// is longer than the limit; 1 where it is not, or one is. What is printed has left the buffer then: with `--quiet` one line, which says the same. Of a file
+/// that doesn't open, and is none of Mach-O's, `err` has a line that says what it is.
 pub fn run<A: Allocator + Clone, W: Write + Drop, B: Allocator, E: Write>(
     alloc: &A,
     json: Global,
@@ -49,14 +53,16 @@ pub fn run<A: Allocator + Clone, W: Write + Drop, B: Allocator, E: Write>(
     ensures sound { IfOk result (λ status. status ≡ 0 → IsSound bytes.now) }
     ensures whole { IfOk result (λ status. status ≡ 0 → IsLong call.entry.options.limit bytes.now → ⊥) }
     ensures faulty { IfOk result (λ status. status ≡ 1 → (IsSound bytes.now → ⊥) ⊎ IsLong call.entry.options.limit bytes.now) }
+    ensures quiet { IfOk result (λ status. call.entry.options.format ≡ formats.Quiet → (v : Verdict) × (status ≡ status_of v)
+        × Judges (IsSound bytes.now) (IsLong call.entry.options.limit bytes.now) v × IsOneLine (quiet_line call.entry.name.now v)
+        × Appends (writer_contents W.contents out.old) (writer_contents W.contents out.new) (quiet_line call.entry.name.now v)) }
     ensures flushed { OnOk result (writer_buffer out.new ≡ []) }
     ensures said { OnOk result (SaysForeign call.entry.name.now bytes.now (E.contents err.old) (E.contents err.new)) }
 {
     let Ok(report) = audit(alloc, bytes, call.options.limit) else {
         return Err(Failure::Memory);
     };
-    print(json, call, &report, out)?;
-    out.flush()?;
+    write_report(json, call, &report, out)?;
     say_refusal(call.name, bytes, &report, err)?;
     Ok(status(report.verdict()))
 }
@@ -100,29 +106,50 @@ fn status(verdict: Verdict) -> u8
     }
 }
 
+// Prints the report of a file, and sees to it that it is written.
+fn write_report<A: Allocator, W: Write + Drop, B: Allocator>(
+    json: Global,
+    call: Call<'_>,
+    report: &Report<A>,
+    out: &mut BufWriter<W, B>,
+) -> Result<(), Failure>
+    ensures quiet { OnOk result (call.entry.options.format ≡ formats.Quiet
+        → Appends (writer_contents W.contents out.old) (writer_contents W.contents out.new) (quiet_line call.entry.name.now (verdict_of_report report.now))) }
+    ensures flushed { OnOk result (writer_buffer out.new ≡ []) }
+{
+    print(json, call, report, out)?;
+    out.flush()?;
+    Ok(())
+}
+
 // Prints the report of a file.
 fn print<A: Allocator, O: Write>(
     json: Global,
     call: Call<'_>,
     report: &Report<A>,
     out: &mut O,
-) -> Result<(), Failure> {
-    let name = call.name;
+) -> Result<(), Failure>
+    ensures { OnOk result (call.entry.options.format ≡ formats.Quiet
+        → Appends (O.contents out.old) (O.contents out.new) (quiet_line call.entry.name.now (verdict_of_report report.now))) }
+{
     match call.options.format {
         Format::Text => {
             if call.heading {
+                let name = Escaped(call.name);
                 writeln!(out, "{name}:")?;
             }
             print_report(report, out)?;
         }
-        Format::Quiet => {
-            let verdict = report.verdict();
-            writeln!(out, "{name}: {verdict}")?;
-        }
-        Format::Json => {
-            let object = report_value(json, name, report)?.to_string(json)?;
-            writeln!(out, "{object}")?;
-        }
+        Format::Quiet => print_verdict(call.name, report.verdict(), out)?,
+        Format::Json => print_object(json, call.name, report, out)?,
     }
     Ok(())
+}
+
+// Prints the line of a file: whether it is sound.
+fn print_verdict<O: Write>(name: &str, verdict: Verdict, out: &mut O) -> io::Result<()>
+    ensures { OnOk result (Appends (O.contents out.old) (O.contents out.new) (quiet_line name.now verdict)) }
+{
+    let name = Escaped(name);
+    writeln!(out, "{name}: {verdict}")
 }

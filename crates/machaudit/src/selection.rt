@@ -1,12 +1,14 @@
 //! What of a file is audited, by the cpu that is asked for.
 
-ghost use Rattle.std.specs.Prelude.{◌≡◌, ◌≤◌, List, ℕ, IfOk, Ok};
+ghost use Rattle.std.specs.Prelude.{◌≡◌, ◌≤◌, ◌⊎◌, List, ℕ, IfOk, Ok};
 ghost use Rattle.goblin_mach.specs.FatFile.{fat_file_in, file_held};
 ghost use Rattle.goblin_mach.specs.File.{HasFatMagic};
 ghost use Rattle.machaudit.specs.Asked.{EntriesFail, EntriesSound, IsFailing, FailsFor, IsAskedFor, IsSoundFor, MissesAll};
+ghost use Rattle.machaudit.specs.Overlaid.{AreOverlaid};
 ghost use Rattle.machaudit.specs.Sound.{IsSound};
 ghost use Rattle.goblin_mach.specs.OpenImage.{IsImage};
 
+use crate::overlaid::entries_within;
 use crate::run::{Call, NAME, run};
 use goblin_mach::fat::FatArch;
 use goblin_mach::{Error, Mach, MachO, MultiArch};
@@ -27,7 +29,7 @@ enum Asked<A: Allocator> {
 
 /// Audits of a file what is asked for by its cpu, prints the reports, and answers the worst exit status: the file, where each image is asked for, where it is
 /// one image that is, or where it doesn't open; else each entry for the cpu, as a file of its own, under the file's name and its index. 0 where each is
-/// sound, and none of its lists is longer than the limit; 1 where one is not, or one is; 2 where nothing is for the cpu, and `err` has a line that says so.
+/// sound, and none of its lists is longer than the limit; 1 where one is not, or one is; and where nothing is for the cpu, and `err` has a line that says so.
 pub fn run_for<A: Allocator + Clone, W: Write + Drop, B: Allocator, E: Write>(
     alloc: &A,
     json: Global,
@@ -37,10 +39,9 @@ pub fn run_for<A: Allocator + Clone, W: Write + Drop, B: Allocator, E: Write>(
     out: &mut BufWriter<W, B>,
     err: &mut E,
 ) -> Result<u8, Failure>
-    ensures bounds { IfOk result (λ status. status ≤ 2) }
+    ensures bounds { IfOk result (λ status. status ≤ 1) }
     ensures sound { IfOk result (λ status. status ≡ 0 → IsSoundFor cpu bytes.now) }
-    ensures faulty { IfOk result (λ status. status ≡ 1 → FailsFor cpu call.entry.options.limit bytes.now) }
-    ensures missed { IfOk result (λ status. status ≡ 2 → MissesAll cpu bytes.now) }
+    ensures faulty { IfOk result (λ status. status ≡ 1 → FailsFor cpu call.entry.options.limit bytes.now ⊎ MissesAll cpu bytes.now) }
 {
     match asked_of(alloc, cpu, bytes)? {
         Asked::Whole => run(alloc, json, call, bytes, out, err),
@@ -49,7 +50,7 @@ pub fn run_for<A: Allocator + Clone, W: Write + Drop, B: Allocator, E: Write>(
             if cpu.misses(&archs) {
                 return Ok(missed(call.name, "no entry of", cpu, err));
             }
-            run_entries(alloc, json, cpu, call, bytes, &archs, out, err)
+            run_within(alloc, json, cpu, call, bytes, &archs, out, err)
         }
     }
 }
@@ -92,6 +93,44 @@ fn asked_entries<A: Allocator + Clone>(
         Err(Error::Memory(_)) => Err(Failure::Memory),
         Err(_) => Ok(Asked::Whole),
     }
+}
+
+// Audits the entries of these records that are for a cpu, as long as they have together no more bytes than the file, and answers the worst status.
+fn run_within<A: Allocator + Clone, W: Write + Drop, B: Allocator, E: Write>(
+    alloc: &A,
+    json: Global,
+    cpu: Cpu,
+    call: Call<'_>,
+    bytes: &[u8],
+    archs: &[FatArch],
+    out: &mut BufWriter<W, B>,
+    err: &mut E,
+) -> Result<u8, Failure>
+    ensures bounds { IfOk result (λ status. status ≤ 1) }
+    ensures sound { IfOk result (λ status. status ≡ 0 → EntriesSound cpu bytes.now archs.now) }
+    ensures faulty { IfOk result (λ status. status ≡ 1 → EntriesFail cpu call.entry.options.limit bytes.now archs.now ⊎ AreOverlaid cpu bytes.now archs.now) }
+{
+    let most = entries_within(cpu, archs.len(), bytes, archs);
+    let status = run_entries(alloc, json, cpu, call, bytes, &archs[..most], out, err)?;
+    if most < archs.len() {
+        return Ok(left_out(call.name, archs.len() - most, err));
+    }
+    Ok(status)
+}
+
+// Says that the last entries of a file are left out, and answers the exit status.
+fn left_out<E: Write>(file: &str, count: usize, err: &mut E) -> u8
+    ensures { result ≡ 1 }
+{
+    let names = Names {
+        program: NAME,
+        file,
+    };
+    let _ = writeln!(
+        err,
+        "{names}: entries lie over each other: the last {count} are left out"
+    );
+    1
 }
 
 // Audits the entries of these records that are for a cpu, and answers the worst status.
@@ -148,13 +187,13 @@ fn entry_name(alloc: Global, file: &str, index: usize) -> Result<String, AllocEr
 }
 
 // Says that nothing of a file is for a cpu, and answers the exit status.
-pub(crate) fn missed<E: Write>(file: &str, words: &str, cpu: Cpu, err: &mut E) -> u8
-    ensures { result ≡ 2 }
+fn missed<E: Write>(file: &str, words: &str, cpu: Cpu, err: &mut E) -> u8
+    ensures { result ≡ 1 }
 {
     let names = Names {
         program: NAME,
         file,
     };
     let _ = writeln!(err, "{names}: {words} {cpu}");
-    2
+    1
 }

@@ -3,7 +3,9 @@
 ghost use Rattle.std.specs.Prelude.{◌≡◌};
 
 use crate::layout_text::print_layout;
-use crate::report::{EntryReport, FatReport, Finding, ImageReport, Part, Parts, Place, Report};
+use crate::report::{
+    EntryReport, FatReport, Finding, ImageReport, Part, Parts, Place, Records, Report,
+};
 use crate::signature_text::print_signature;
 use crate::verdict::Verdict;
 use goblin_mach::{Error, describe};
@@ -33,6 +35,11 @@ impl fmt::Display for Place {
 }
 
 impl fmt::Display for Verdict {
+    ghost use Rattle.std.specs.Prelude.{Some};
+    ghost use Rattle.machaudit.specs.Quiet.{verdict_words};
+
+    ghost output = { λ verdict. Some (verdict_words verdict) };
+
     fn fmt<W: fmt::Write>(&self, f: &mut fmt::Formatter<W>) -> fmt::Result {
         match self {
             Verdict::Sound => write!(f, "sound"),
@@ -67,14 +74,30 @@ fn print_part<A: Allocator, O: Write>(name: &str, part: &Part<A>, out: &mut O) -
     Ok(())
 }
 
+// Prints what is said of records, and how many more there are said to be.
+fn print_records<A: Allocator, O: Write>(
+    name: &str,
+    records: &Records<A>,
+    out: &mut O,
+) -> io::Result<()> {
+    let past = records.past;
+    if past == 0 || !records.begun.is_clean() {
+        print_part(name, &records.begun, out)?;
+    }
+    if past > 0 {
+        writeln!(out, "  {name}: {past} more {name} past the end")?;
+    }
+    Ok(())
+}
+
 // Prints what is said of all parts.
 fn print_parts<A: Allocator, O: Write>(parts: &Parts<A>, out: &mut O) -> io::Result<()> {
-    print_part("sections", &parts.sections, out)?;
+    print_records("sections", &parts.sections, out)?;
     match &parts.relocations {
-        Some(part) => print_part("relocations", part, out)?,
+        Some(part) => print_records("relocations", part, out)?,
         None => writeln!(out, "  relocations: not read, since a section can't be")?,
     }
-    print_part("symbols", &parts.symbols, out)?;
+    print_records("symbols", &parts.symbols, out)?;
     print_part("exports", &parts.exports, out)?;
     print_part("imports", &parts.imports, out)?;
     print_part("fixups", &parts.fixups, out)?;

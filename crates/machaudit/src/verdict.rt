@@ -3,9 +3,11 @@
 ghost use Rattle.std.specs.Prelude.{◌≡◌};
 ghost use Rattle.machaudit.specs.Verdicts.{verdict_of_both, verdict_of, verdict_of_read, verdict_of_entries, is_clean, verdict_of_parts, verdict_of_image};
 ghost use Rattle.machaudit.specs.Verdicts.{verdict_of_entry, verdict_of_fat, verdict_of_table, verdict_of_layout, verdict_of_report};
-ghost use Rattle.machaudit.specs.Verdicts.{verdict_of_signature};
+ghost use Rattle.machaudit.specs.Verdicts.{are_clean, verdict_of_records, verdict_of_signature};
 
-use crate::report::{EntryReport, FatReport, ImageReport, Part, Parts, Report, SignatureReport};
+use crate::report::{
+    EntryReport, FatReport, ImageReport, Part, Parts, Records, Report, SignatureReport,
+};
 use mach_layout::LayoutFault;
 use std::alloc::Allocator;
 
@@ -51,6 +53,26 @@ impl<A: Allocator> Part<A> {
             Verdict::Unended
         } else {
             Verdict::Sound
+        }
+    }
+}
+
+impl<A: Allocator> Records<A> {
+    /// Whether none is past the end of the bytes, and all items were gone over, and each can be read.
+    pub fn is_clean(&self) -> bool
+        ensures { result ≡ are_clean self.now }
+    {
+        self.past == 0 && self.begun.is_clean()
+    }
+
+    // Whether the records are sound.
+    fn verdict(&self) -> Verdict
+        ensures { result ≡ verdict_of_records self.now }
+    {
+        if self.past > 0 {
+            Verdict::Faulty
+        } else {
+            self.begun.verdict()
         }
     }
 }

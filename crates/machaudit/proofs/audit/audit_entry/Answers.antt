@@ -1,8 +1,9 @@
 use Rattle.goblin_mach.specs.FatEntry.{entry_at}
 use Rattle.goblin_mach.specs.FatFile.{file_held}
 use Rattle.goblin_mach.proofs.ImageFacts.{strict-lossy}
-use Rattle.machaudit.proofs.Entries.{no_entry_judged}
+use Rattle.machaudit.proofs.Entries.{entry_judged, no_entry_judged}
 use Rattle.machaudit.proofs.Reports.{archive_told, entry_told, entry_refused, refused_faulty}
+use Rattle.machaudit.specs.Verdicts.{verdict_of_parts}
 use Rattle.machaudit.proofs.audit.audit_entry.Goals as goal
 
 pub returns-in-Ok-Archive-clause-told : goal.returns-in-Ok-Archive-clause-told
@@ -16,6 +17,13 @@ returns-in_ok-parts-in-Ok-MachO-clause-told g c = λ here.
     let opened = rw c.in-Ok-MachO.field-0-is at c.in-Ok-MachO.ensures.opened in
     entry_told c.args.limit (entry_at (file_held c.args.container.now) c.args.index) opened.0 m c.in_ok-parts-in-Ok-MachO.parts opened.1 opened.2
     (λ bytes image. rw c.in_ok-parts-in-Ok-MachO.was at (c.audit_parts.ensures.told bytes (strict-lossy bytes 0 m image)))
+
+pub returns-in_ok-parts-in-Ok-MachO-clause-judged : goal.returns-in_ok-parts-in-Ok-MachO-clause-judged
+returns-in_ok-parts-in-Ok-MachO-clause-judged g c =
+    let m = c.in-Ok-MachO.image in
+    let opened = rw c.in-Ok-MachO.field-0-is at c.in-Ok-MachO.ensures.opened in
+    entry_judged c.args.limit (entry_at (file_held c.args.container.now) c.args.index) opened.0 m (verdict_of_parts c.in_ok-parts-in-Ok-MachO.parts)
+    opened.1 opened.2 (λ slice image. rw c.in_ok-parts-in-Ok-MachO.was at (c.audit_parts.ensures.judged slice image))
 
 pub returns-in_ok-image-in-Err-clause-told : goal.returns-in_ok-image-in-Err-clause-told
 returns-in_ok-image-in-Err-clause-told g c = λ here.

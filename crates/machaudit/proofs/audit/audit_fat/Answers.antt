@@ -1,16 +1,18 @@
-use Rattle.std.proofs.Common.{◌≡◌, ◌<◌, ◌∙◌, ℕ, List, min, nat_lt, slice_get, refl, sym, ap, arith, rules}
-use Rattle.std.specs.Prelude.{IsOk}
+use Rattle.std.proofs.Common.{◌≡◌, ◌<◌, ◌∙◌, ◌∷◌, [], ℕ, List, length, nat_lt, slice_get, refl, sym, ap, arith, rules, subst}
+use Rattle.std.proofs.lemmas.List.{length-append}
 use Rattle.mach_parts.specs.declared.fat.FatArch.{FatArch}
 use Rattle.goblin_mach.specs.FatEntry.{entry_at, fat_entry_of}
-use Rattle.goblin_mach.specs.FatFile.{arches_in, file_held}
+use Rattle.goblin_mach.specs.FatFile.{FatFile, file_held}
 use Rattle.mach_parts.specs.ArchForms.{arch_form_32}
 use Rattle.mach_layout.specs.Containers.{AreContainerFaults}
 use Rattle.mach_layout.proofs.OneListOfSlices.{one_table}
 use Rattle.machaudit.proofs.Entries.{entries_more, no_entries_judged, fat_file_judged, refused_table_judged}
-use Rattle.machaudit.proofs.EntryBytes.{named_entry}
+use Rattle.mach_cli.specs.declared.cpu.Cpu.TheVariants.{Any}
+use Rattle.machaudit.proofs.EntryBytes.{arches_count, named_entry}
 use Rattle.machaudit.proofs.Images.{layout_judged, beside}
 use Rattle.machaudit.proofs.Reports.{one_entry_more}
 use Rattle.machaudit.proofs.Verdicts.{both_judged}
+use Rattle.machaudit.specs.Overlaid.{AreGoneOver}
 use Rattle.machaudit.specs.Report.{IsEntryReport, named_bytes}
 use Rattle.machaudit.specs.Verdicts.{verdict_of_entries}
 use Rattle.machaudit.proofs.audit.audit_fat.Goals as goal
@@ -21,17 +23,24 @@ returns-in-Err-clause-judged g c =
     refused_table_judged _ (file_held c.args.container.now) c.in-Err.error c.in-Err.ensures (rw told.0 at told.1)
 
 pub loop-index-init : goal.loop-index-init
-loop-index-init g c = rw c.new-entries.ensures.items ((λ _. tt), no_entries_judged c.args.limit (file_held c.args.container.now))
+loop-index-init g c = rw c.new-entries.ensures.items ((λ _. tt), no_entries_judged c.args.limit (file_held c.args.container.now), refl)
+
+-- the entries that are gone over, by the file's own bytes and records
+gone_over : (file : FatFile) (limit most : ℕ) (bytes : List ℕ) (archs xs : List FatArch) → bytes ≡ file.bytes → archs ≡ xs
+    → AreGoneOver Any limit bytes archs most → AreGoneOver Any limit file.bytes xs most
+gone_over file limit most bytes archs xs same_bytes same gone =
+    subst (λ (x : List ℕ). AreGoneOver Any limit x xs most) same_bytes (subst (λ (x : List FatArch). AreGoneOver Any limit bytes x most) same gone)
 
 pub loop-index-preserved : goal.loop-index-preserved
 loop-index-preserved g c =
     let file = file_held c.args.container.now in
     let k = c.loop-index.index in
-    let inside : k < file.narches = omega (arith, c.loop-index-test.true, c.min-index-end.ensures) in
     let xs = c.in-Ok.arches.items in
+    let gone = gone_over file c.args.limit c.entries_within-most.result _ _ xs c.bytes.ensures c.as_slice.ensures.value c.entries_within-most.ensures in
+    let inside : k < file.narches = omega (arith, c.loop-index-test.true, gone.few, arches_count file xs c.in-Ok.ensures) in
     let here = λ (same : file.bytes ≡ c.args.bytes.now).
     ap (λ (ys : List ℕ). fat_entry_of ys) (c.named_bytes-entry.ensures
-    ∙ ap (λ (ys : List FatArch). named_bytes c.args.bytes.now (slice_get ys k)) c.as_slice.ensures.value
+    ∙ ap (λ (ys : List FatArch). named_bytes c.args.bytes.now (slice_get ys k)) c.as_slice-in-loop-index.ensures.value
     ∙ ap (λ (ys : List ℕ). named_bytes ys (slice_get xs k)) (sym same))
     ∙ named_entry file k xs inside c.in-Ok.ensures in
     rw c.in_ok-push.ensures.items (
@@ -39,17 +48,19 @@ loop-index-preserved g c =
           (c.loop-index.invariant.0 same) (rw c.in_ok-audit_entry.was at (c.audit_entry.ensures.told (here same)))),
       entries_more c.args.limit file c.loop-index.index c.loop-index.entries.items c.in_ok-audit_entry.field-0 c.loop-index.invariant.1
           c.in_ok-audit_entry.ensures.judged,
+      omega (arith, c.loop-index.invariant.2, length-append c.loop-index.entries.items (c.in_ok-audit_entry.field-0 ∷ [])),
     )
 
 pub returns-clause-judged : goal.returns-clause-judged
 returns-clause-judged g c =
     let file = file_held c.args.container.now in
     let limit = c.args.limit in
-    let all : c.loop-index.index ≡ min file.narches limit =
-    omega (arith, c.loop-index.auto.index-end, c.loop-index-test.false, c.min-index-end.ensures) in
-    let table : IsOk (arches_in file) = rw c.in-Ok.ensures refl in
-    let judged = fat_file_judged limit file c.loop-index.index (nat_lt limit file.narches) (verdict_of_entries c.loop-index.entries.items) table all
-    refl c.loop-index.invariant.1 in
+    let xs = c.in-Ok.arches.items in
+    let most = c.entries_within-most.result in
+    let all : c.loop-index.index ≡ most = omega (arith, c.loop-index.auto.index-end, c.loop-index-test.false) in
+    let gone = gone_over file limit most _ _ xs c.bytes.ensures c.as_slice.ensures.value c.entries_within-most.ensures in
+    let judged = fat_file_judged limit file xs most (nat_lt most file.narches) (verdict_of_entries c.loop-index.entries.items) c.in-Ok.ensures gone
+    refl (rw all at c.loop-index.invariant.1) in
     let bytes = c.args.bytes.now in
     let faults = c.in_ok-container_faults.container_faults in
     let layout = layout_judged (AreContainerFaults arch_form_32 bytes) faults.items c.in_ok-container_faults.ensures.told (one_table _ arch_form_32 bytes) in
@@ -59,15 +70,19 @@ pub returns-clause-told : goal.returns-clause-told
 returns-clause-told g c =
     let file = file_held c.args.container.now in
     let limit = c.args.limit in
-    let all : c.loop-index.index ≡ min limit file.narches =
-    omega (arith, c.loop-index.auto.index-end, c.loop-index-test.false, c.min-index-end.ensures) in
+    let xs = c.in-Ok.arches.items in
+    let most = c.entries_within-most.result in
+    let all : length c.loop-index.entries.items ≡ most =
+    omega (arith, c.loop-index.auto.index-end, c.loop-index-test.false, c.loop-index.invariant.2) in
+    let gone = gone_over file limit most _ _ xs c.bytes.ensures c.as_slice.ensures.value c.entries_within-most.ensures in
     λ same. record {
       count = refl;
       table = record {
         readable = rw c.in-Ok.ensures refl;
         container = c.in_ok-container_faults.ensures.told;
-        entries = rw all at (c.loop-index.invariant.0 same);
-        cut = refl;
+        gone_over = (xs, c.in-Ok.ensures, rw all (subst (λ (x : List ℕ). AreGoneOver Any limit x xs most) same gone));
+        entries = rw c.loop-index.invariant.2 (c.loop-index.invariant.0 same);
+        cut = rw all refl;
       };
     }
 

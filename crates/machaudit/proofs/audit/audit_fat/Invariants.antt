@@ -1,4 +1,4 @@
-use Rattle.std.proofs.Common.{◌≡◌}
+use Rattle.std.proofs.Common.{◌≡◌, length}
 use Rattle.std.specs.List.{AllZip}
 use Rattle.mach_base.specs.Items.{items_from}
 use Rattle.goblin_mach.specs.FatEntry.{entry_at}
@@ -12,3 +12,4 @@ abbrev pub invariant-loop-index : goal.invariant-loop-index
 invariant-loop-index g l =
     ((file_held l.container).bytes ≡ l.bytes → AllZip (IsEntryReport l.limit) (items_from (entry_at (file_held l.container)) 0 l.index) l.entries.items)
     × Judges (AllSound (file_held l.container) l.index) (SomeLong l.limit (file_held l.container) l.index) (verdict_of_entries l.entries.items)
+    × (length l.entries.items ≡ l.index)

@@ -1,4 +1,4 @@
-use Rattle.std.proofs.Common.{map}
+use Rattle.std.proofs.Common.{◌∙◌, ℕ, ap, map, subst}
 use Rattle.mach_parts.specs.Segment.{segment_view}
 use Rattle.mach_dyld.specs.BindLeft.{imports_left}
 use Rattle.goblin_mach.specs.BindingsLeft.{bindings_left}
@@ -9,7 +9,11 @@ use Rattle.machaudit.proofs.Images.{imports_judged, signature_judged, parts_judg
 use Rattle.goblin_mach.specs.LayoutFacts.{HasLayoutFaults}
 use Rattle.machaudit.proofs.Reports.{image_told}
 use Rattle.machaudit.proofs.Told.{plain_from}
-use Rattle.machaudit.specs.Told.{faults_from, relocation_faults}
+use Rattle.mach_cli.specs.Bounds.{most_items}
+use Rattle.machaudit.specs.Report.{TellsImage}
+use Rattle.machaudit.specs.Sound.{IsSoundImage, HasLongList}
+use Rattle.machaudit.specs.Told.{faults_from, relocation_faults, relocations_past}
+use Rattle.machaudit.specs.Verdicts.{Judges, verdict_of_parts}
 use Rattle.machaudit.specs.declared.report.Place.TheVariants as places
 use Rattle.machaudit.specs.declared.report.Parts.{Parts}
 use Rattle.machaudit.proofs.audit.audit_parts.Goals as goal
@@ -17,7 +21,7 @@ use Rattle.machaudit.proofs.audit.audit_parts.Goals as goal
 pub returns-clause-judged : goal.returns-clause-judged
 returns-clause-judged g c = λ bytes image.
     let m = c.args.image.now in
-    let limit = c.args.limit in
+    let limit = c.most_items-limit.result in
     let parts : Parts g.row.B.Denot = record {
       sections = c.in_ok-sections.sections;
       relocations = c.in_ok-relocations.relocations;
@@ -31,18 +35,21 @@ returns-clause-judged g c = λ bytes image.
     } in
     let sections = rw c.as_slice-segments.ensures at c.in_ok-sections.ensures.told in
     let relocations = rw (c.bytes-bytes.ensures, c.ctx-ctx.ensures, c.as_slice-segments.ensures) at c.in_ok-relocations.ensures.told in
-    let faults = relocation_faults m.ctx m.bytes.now (map segment_view m.segments.segments.items) in
-    let read = read_judged limit faults parts.sections parts.relocations relocations (sections_judged bytes m image limit parts.sections sections)
+    let views = map segment_view m.segments.segments.items in
+    let faults = relocation_faults m.ctx m.bytes.now views in
+    let past = relocations_past m.ctx m.bytes.now views in
+    let read = read_judged limit faults past parts.sections parts.relocations relocations (sections_judged bytes m image limit parts.sections sections)
     (λ q tells. relocations_judged bytes m image limit q tells) in
-    let symbols = rw c.symbols.ensures.items at c.in_ok-symbols.ensures.told in
     let items = imports_left c.iter_imports.result in
     let are_items = c.import_items_of_image.ensures.strict bytes 0 image in
     let fixups = image_fixups_left c.fixups.result in
     let has_fixups = (c.fixups_of_image.ensures.strict bytes 0 image fixups).1 c.fixups.ensures in
     let bindings = bindings_left c.bindings.result in
     let has_bindings = (c.bindings_of_image.ensures.strict bytes 0 image bindings).1 c.bindings.ensures in
-    parts_judged bytes m image limit parts read
-    (symbols_judged bytes m image limit parts.symbols symbols)
+    let same = c.most_items-limit.ensures ∙ ap (most_items c.args.limit) (c.bytes-bytes.ensures ∙ image.fields.bytes_is) in
+    subst (λ (n : ℕ). Judges (IsSoundImage bytes) (HasLongList n bytes) (verdict_of_parts parts)) same
+    (parts_judged bytes m image limit parts read
+    (symbols_judged bytes m image limit parts.symbols c.in_ok-symbols.ensures.told c.in_ok-symbols.ensures.broken)
     (exports_judged bytes m image limit parts.exports c.in_ok-exports.ensures.told c.faulty_tries_have_no_list.ensures)
     (imports_judged bytes m image limit items parts.imports c.iter_imports.ensures c.in_ok-imports.ensures.told ((are_items items).1 c.iter_imports.ensures)
     (λ others h. (are_items others).0 h))
@@ -54,12 +61,12 @@ returns-clause-judged g c = λ bytes image.
     (layout_judged (HasLayoutFaults bytes) parts.layout.items ((c.layout_faults_of_image.ensures.strict bytes image parts.layout.items).1
     c.in_ok-layout.ensures.told)
     (λ list others. c.one_list_of_layout_faults.ensures bytes list others))
-    (signature_judged bytes m image limit parts.signature c.in_ok-signature.ensures.told)
+    (signature_judged bytes m image limit parts.signature c.in_ok-signature.ensures.told))
 
 pub returns-clause-told : goal.returns-clause-told
 returns-clause-told g c = λ bytes image.
     let m = c.args.image.now in
-    let limit = c.args.limit in
+    let limit = c.most_items-limit.result in
     let parts : Parts g.row.B.Denot = record {
       sections = c.in_ok-sections.sections;
       relocations = c.in_ok-relocations.relocations;
@@ -74,13 +81,15 @@ returns-clause-told g c = λ bytes image.
     let items = imports_left c.iter_imports.result in
     let fixups = image_fixups_left c.fixups.result in
     let bindings = bindings_left c.bindings.result in
-    image_told limit bytes m image parts
+    let same = c.most_items-limit.ensures ∙ ap (most_items c.args.limit) (c.bytes-bytes.ensures ∙ image.fields.bytes_is) in
+    subst (λ (n : ℕ). TellsImage n bytes parts) same
+    (image_told limit bytes m image parts
     (rw c.as_slice-segments.ensures at c.in_ok-sections.ensures.told)
     (rw (c.bytes-bytes.ensures, c.ctx-ctx.ensures, c.as_slice-segments.ensures) at c.in_ok-relocations.ensures.told)
-    (rw c.symbols.ensures.items at c.in_ok-symbols.ensures.told)
+    c.in_ok-symbols.ensures.told
     c.in_ok-exports.ensures.told
     (items, (c.import_items_of_image.ensures.lossy bytes 0 image items).1 c.iter_imports.ensures, c.in_ok-imports.ensures.told)
     (fixups, (c.fixups_of_image.ensures.lossy bytes 0 image fixups).1 c.fixups.ensures, c.in_ok-fixups.ensures.told)
     (bindings, (c.bindings_of_image.ensures.lossy bytes 0 image bindings).1 c.bindings.ensures, c.in_ok-bindings.ensures.told)
     c.in_ok-signature.ensures.told
-    ((c.layout_faults_of_image.ensures.lossy bytes image parts.layout.items).1 c.in_ok-layout.ensures.told)
+    ((c.layout_faults_of_image.ensures.lossy bytes image parts.layout.items).1 c.in_ok-layout.ensures.told))

@@ -5,8 +5,7 @@ use Rattle.mach_parts.specs.declared.segment.section.Section.{Section}
 use Rattle.mach_parts.specs.Section.{section_item}
 use Rattle.mach_parts.specs.SectionItems.{sections_left, section_read}
 use Rattle.machaudit.proofs.Goes.{each_on, next_number}
-use Rattle.machaudit.specs.Sound.{relocations_by}
-use Rattle.machaudit.specs.Told.{FaultAt, faults_from}
+use Rattle.machaudit.specs.Told.{FaultAt, begun_relocations, faults_from}
 use Rattle.machaudit.specs.declared.report.Place.TheVariants as places
 use Rattle.machaudit.proofs.lists.add_relocations.Goals as goal
 
@@ -14,7 +13,7 @@ pub sections-preserved : goal.sections-preserved
 sections-preserved g c = λ limit items met.
     let all = c.args.sections in
     let part : ℕ → Result (Section × List ℕ) Fault → List (Option FaultAt) = λ k s. faults_from (places.Relocation c.args.segment k) 0
-    (relocations_by c.args.ctx c.args.bytes.now s) in
+    (begun_relocations c.args.ctx c.args.bytes.now s) in
     let n = c.sections.section in
     let m = c.saturating_add-section.result in
     let goes = c.sections.invariant limit items met in

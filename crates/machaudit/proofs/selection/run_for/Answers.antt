@@ -1,8 +1,9 @@
-use Rattle.std.proofs.Common.{◌≡◌, ◌∙◌, List, true, false, sym, subst}
+use Rattle.std.proofs.Common.{◌≡◌, ◌∙◌, ◌⊎◌, List, true, false, sym, subst, inl, inr}
 use Rattle.std.proofs.lemmas.Result.{IfOk-weaker}
 use Rattle.mach_parts.specs.declared.fat.FatArch.{FatArch}
 use Rattle.mach_cli.specs.Cpus.{misses}
-use Rattle.machaudit.specs.Asked.{EntriesFail, EntriesSound, sound_file, sound_entries, failing_file, failing_entry, no_entry}
+use Rattle.machaudit.specs.Asked.{EntriesFail, EntriesSound, sound_file, sound_entries, failing_file, failing_entry, overlaid_entries, no_entry, other_image}
+use Rattle.machaudit.specs.Overlaid.{AreOverlaid}
 use Rattle.machaudit.proofs.selection.run_for.Goals as goal
 
 pub returns-in-Whole-clause-sound : goal.returns-in-Whole-clause-sound
@@ -13,27 +14,34 @@ returns-in-Whole-clause-sound g c =
 pub returns-in-Whole-clause-faulty : goal.returns-in-Whole-clause-faulty
 returns-in-Whole-clause-faulty g c =
     let asks = rw c.in-Whole.is at c.in_ok-asked_of.ensures in
-    IfOk-weaker c.run.result _ _ (λ status told one. failing_file asks (told one)) c.run.ensures.faulty
+    IfOk-weaker c.run.result _ _ (λ status told one. inl (failing_file asks (told one))) c.run.ensures.faulty
 
-pub returns-then-misses-clause-missed : goal.returns-then-misses-clause-missed
-returns-then-misses-clause-missed g c = λ two.
+pub returns-in-Other-clause-faulty : goal.returns-in-Other-clause-faulty
+returns-in-Other-clause-faulty g c = λ one. inr (other_image (rw c.in-Other.is at c.in_ok-asked_of.ensures))
+
+pub returns-then-misses-clause-faulty : goal.returns-then-misses-clause-faulty
+returns-then-misses-clause-faulty g c = λ one.
     let has = rw c.in-Entries.is at c.in_ok-asked_of.ensures in
-    no_entry has.0 c.in-Entries.archs.items has.1
-    (subst (λ (archs : List FatArch). misses c.args.cpu archs ≡ true) c.deref.ensures.value (sym c.misses.ensures ∙ c.if-misses.true))
+    inr (no_entry has.0 c.in-Entries.archs.items has.1
+    (subst (λ (archs : List FatArch). misses c.args.cpu archs ≡ true) c.deref.ensures.value (sym c.misses.ensures ∙ c.if-misses.true)))
 
 pub returns-else-misses-clause-sound : goal.returns-else-misses-clause-sound
 returns-else-misses-clause-sound g c =
     let has = rw c.in-Entries.is at c.in_ok-asked_of.ensures in
     let some = subst (λ (archs : List FatArch). misses c.args.cpu archs ≡ false) c.deref.ensures.value (sym c.misses.ensures ∙ c.if-misses.false) in
-    IfOk-weaker c.run_entries.result _ _
+    IfOk-weaker c.run_within.result _ _
     (λ status told zero. sound_entries has.0 c.in-Entries.archs.items has.1 some
     (subst (EntriesSound c.args.cpu c.args.bytes.now) c.deref-in-Entries.ensures.value (told zero)))
-    c.run_entries.ensures.sound
+    c.run_within.ensures.sound
 
 pub returns-else-misses-clause-faulty : goal.returns-else-misses-clause-faulty
 returns-else-misses-clause-faulty g c =
     let has = rw c.in-Entries.is at c.in_ok-asked_of.ensures in
-    IfOk-weaker c.run_entries.result _ _
-    (λ status told one. failing_entry has.0 c.in-Entries.archs.items has.1
-    (subst (EntriesFail c.args.cpu c.args.call.options.limit c.args.bytes.now) c.deref-in-Entries.ensures.value (told one)))
-    c.run_entries.ensures.faulty
+    let archs = c.in-Entries.archs.items in
+    let fails = EntriesFail c.args.cpu c.args.call.options.limit c.args.bytes.now in
+    let overlaid = AreOverlaid c.args.cpu c.args.bytes.now in
+    IfOk-weaker c.run_within.result _ _
+    (λ status told one. elim (subst (λ (xs : List FatArch). fails xs ⊎ overlaid xs) c.deref-in-Entries.ensures.value (told one)) [
+      | inl failing ↦ inl (failing_entry has.0 archs has.1 failing)
+      | inr over ↦ inl (overlaid_entries has.0 archs has.1 over)
+    ]) c.run_within.ensures.faulty
