@@ -1,5 +1,6 @@
 mod Written
 mod Taken
 mod Keys
-mod JsonLists
+mod AskedLists
+mod SymbolLines
 mod Ends

@@ -1,54 +1,59 @@
--- The lines of a table.
-use Rattle.std.proofs.Common.{◌≡◌, ◌++◌, ◌∷◌, [], ◌∙◌, ◌+◌, ◌<◌, ℕ, List, Option, Bool, Result, take, get_or, length, refl, sym, ap, subst}
-use Rattle.std.proofs.lemmas.List.{append-nil, map-append, take_more}
-use Rattle.std.specs.Prelude.{◌==◌, Some, None, true}
-use Rattle.std.specs.Borrow.{Bor}
+-- The lines and the objects of a table.
+use Rattle.std.proofs.Common.{◌≡◌, ◌++◌, ◌∷◌, ◌∙◌, [], ℕ, List, Option, Bool, Result, Ok, Err, IfOk, refl, sym, ap, subst, take, arith}
+use Rattle.std.proofs.lemmas.Bool.{le-ltb}
+use Rattle.std.proofs.lemmas.List.{take_all}
+use Rattle.std.specs.Prelude.{◌==◌, ◌&&◌, ◌-◌, not, true, false, length, nat_lt}
 use Rattle.std.specs.Io.KnownBytes.{Appends}
-use Rattle.mach_base.proofs.Written.{Appends-both}
+use Rattle.std.specs.List.{list_all}
+use Rattle.std.specs.Result.{is_ok}
+use Rattle.mach_base.proofs.Written.{Appends-both, Appends-none}
 use Rattle.mach_base.specs.Fault.{Fault}
-use Rattle.mach_base.specs.declared.error.Error.{Error}
-use Rattle.mach_parts.specs.SymbolViews.{symbol_read}
-use Rattle.mach_parts.specs.Symbols.{SymbolTable, begun_of, symbol_at}
-use Rattle.mach_parts.specs.declared.symbols.nlist.Nlist.{Nlist}
-use Rattle.mach_cli.proofs.Lines.{no_lines, line_more}
-use Rattle.mach_cli.specs.Lines.{WritesLines}
-use Rattle.machsyms.specs.Lines.{asked_line, past_line, past_the_end, WritesTable}
-use Rattle.machsyms.specs.Order.{symbols_by}
-use Rattle.machsyms.specs.Setting.{SymbolSetting}
-use Rattle.machsyms.specs.declared.selection.Asked.{Asked}
-use Rattle.machsyms.specs.declared.order.SortKey.{SortKey}
+use Rattle.mach_cli.proofs.Arrays.{one_list}
+use Rattle.mach_cli.specs.JsonArrays.{lists_end_past, AreArrayMembers, NamedRows, WritesMember}
+use Rattle.mach_cli.specs.Listings.{cut_line, past_line, WritesFirstLines}
+use Rattle.mach_cli.specs.declared.listing.Told.{Told}
+use Rattle.machsyms.specs.JsonSymbols.{WritesSymbolMembers}
 
-module _ (a : Asked) (w : SymbolSetting) where
-  -- one more of the symbols by their keys
-  pub key_more : (t : SymbolTable) (keys : List SortKey) (i : ℕ) (d : SortKey) (answer : Result (Bor (List ℕ) × Nlist) Error)
-      (old middle new : Option (List ℕ))
-      → i < length keys → WritesLines symbol_read (asked_line a w) (symbols_by (take i keys) t) old middle
-      → symbol_read answer ≡ symbol_at t (get_or keys i d).index → Appends middle new (asked_line a w answer)
-      → WritesLines symbol_read (asked_line a w) (symbols_by (take (i + 1) keys) t) old new
-  key_more t keys i d answer old middle new inside before is written =
-      let more : symbols_by (take i keys) t ++ symbol_read answer ∷ [] ≡ symbols_by (take (i + 1) keys) t =
-      ap (λ item. symbols_by (take i keys) t ++ item ∷ []) is ∙ sym (map-append (λ k. symbol_at t k.index) (take i keys) (get_or keys i d ∷ []))
-      ∙ ap (λ ks. symbols_by ks t) (sym (take_more keys i d inside)) in
-      subst (λ (items : List (Result (List ℕ × Nlist) Fault)). WritesLines symbol_read (asked_line a w) items old new) more
-      (line_more symbol_read (asked_line a w) (symbols_by (take i keys) t) answer old middle new before written)
+-- what holds of a value
+pub ok_more : {X E : Type 0} (P Q : X → Type 0) (r : Result X E) → ((x : X) → P x → Q x) → IfOk r P → IfOk r Q
+ok_more P Q (Ok x) more p = more x p
+ok_more P Q (Err e) more p = p
 
-  module _ (list : SymbolTable → List (Result (List ℕ × Nlist) Fault)) where
-    -- an image without a table
-    pub no_table : (known : Option (List ℕ)) → WritesTable a w list None true known known
-    no_table known =
-        let nothing = no_lines symbol_read (asked_line a w) known in
-        record {
-          text = nothing.text;
-          lines = record { front = nothing.text; lines = nothing.lines; is_text = sym (append-nil nothing.text); is_whole = refl };
-          written = nothing.written;
-        }
+-- no line of no symbols
+pub no_symbols : (word name : List ℕ) (limit left : ℕ) (known : Option (List ℕ)) → WritesFirstLines word limit left [] name 0 true left known known
+no_symbols word name limit left known =
+    let over : nat_lt left 0 ≡ false = le-ltb left 0 (omega arith) in
+    let none : take left [] ≡ [] = take_all left [] (omega arith) in
+    let as_left : left ≡ left - 0 = omega arith in
+    let all : List (Result (List ℕ) Fault) → Bool = λ rows. list_all is_ok rows in
+    record {
+      text = [];
+      lines = record {
+        lines = [];
+        are_lines = record { answers = []; are_items = sym none; is_text = refl };
+        is_text = ap (λ (b : Bool). cut_line limit b ++ past_line name 0) (sym over);
+        is_whole = ap (λ rows. (all rows && not false) && (0 == 0)) (sym none)
+            ∙ ap (λ (b : Bool). (all (take left []) && not b) && (0 == 0)) (sym over);
+        is_rest = as_left;
+      };
+      written = Appends-none known;
+    }
 
-    -- the symbols of a table that begin within the bytes, and then the line of the others
-    pub table_lines : (t : SymbolTable) (whole : Bool) (old middle new : Option (List ℕ))
-        → WritesLines symbol_read (asked_line a w) (list (begun_of t)) old middle → Appends middle new (past_line (past_the_end (Some t)))
-        → whole ≡ (past_the_end (Some t) == 0) → WritesTable a w list (Some t) whole old new
-    table_lines t whole old middle new before last is = record {
-      text = before.text ++ past_line (past_the_end (Some t));
-      lines = record { front = before.text; lines = before.lines; is_text = refl; is_whole = is };
-      written = Appends-both old middle new _ _ before.written last;
+-- the members of one list, and what is said of those past the end
+pub list_and_past : (left : ℕ) (l : NamedRows) (past : ℕ) (t : Told) (whole : Bool) (rest : ℕ) (old middle new : Option (List ℕ))
+    → WritesMember l.name left l.rows old middle t → (whole ≡ ((t.whole && not t.more) && (past == 0))) × (rest ≡ t.left)
+    × Appends middle new (lists_end_past t.more past) → WritesSymbolMembers left (l ∷ []) past whole rest old new
+list_and_past left l past t whole rest old middle new wrote end =
+    let members = one_list left l t old middle wrote in
+    record {
+      text = members.text ++ lists_end_past t.more past;
+      members = record {
+        front = members.text;
+        readable = t.whole;
+        more = t.more;
+        members = subst (λ (n : ℕ). AreArrayMembers left (l ∷ []) members.text t.whole t.more n) (sym end.1) members.members;
+        is_text = refl;
+        is_whole = end.0;
+      };
+      written = Appends-both old middle new members.text (lists_end_past t.more past) members.written end.2;
     }

@@ -1,4 +1,6 @@
+pub mod ShownNames
 pub mod Letters
+pub mod LetterWords
 pub mod Stabs
 pub mod Setting
 pub mod Asked

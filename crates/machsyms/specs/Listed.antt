@@ -1,15 +1,22 @@
 -- What is left of the symbols that are asked for.
-use Rattle.std.specs.Prelude.{ℕ, List, drop, Result}
+use Rattle.std.specs.Prelude.{ℕ, List, drop, map, Result}
+use Rattle.std.specs.List.{filter}
 use Rattle.mach_base.specs.Fault.{Fault}
 use Rattle.mach_parts.specs.SymbolViews.{symbols_left, table_of}
 use Rattle.mach_parts.specs.declared.symbols.nlist.Nlist.{Nlist}
-use Rattle.machsyms.specs.JsonSymbols.{asked_objects, symbol_object}
+use Rattle.mach_cli.specs.Listings.{told_by}
+use Rattle.machsyms.specs.Asked.{takes}
+use Rattle.machsyms.specs.JsonSymbols.{symbol_object, symbol_told}
+use Rattle.machsyms.specs.Lines.{line_text}
 use Rattle.machsyms.specs.Order.{symbols_by}
+use Rattle.machsyms.specs.Setting.{setting_view}
+use Rattle.machsyms.specs.declared.lines.SymbolLines.{SymbolLines}
 use Rattle.machsyms.specs.declared.listed.AskedSymbols.{AskedSymbols}
 use Rattle.machsyms.specs.declared.listed.KeyedSymbols.{KeyedSymbols}
 use Rattle.machsyms.specs.declared.listed.Source.{Source}
 use Rattle.machsyms.specs.declared.listed.SymbolRow.{SymbolRow}
 use Rattle.machsyms.specs.declared.listed.Source.TheVariants.{Table, Keys}
+use Rattle.machsyms.specs.declared.text.SymbolText.{SymbolText}
 
 abbrev pub keyed_left : KeyedSymbols → List (Result (List ℕ × Nlist) Fault)
 keyed_left k = symbols_by (drop k.index k.keys.now) (table_of k.table.now)
@@ -18,10 +25,26 @@ abbrev pub source_left : Source → List (Result (List ℕ × Nlist) Fault)
 source_left (Table symbols) = symbols_left symbols
 source_left (Keys keyed) = keyed_left keyed
 
--- the objects of those that are left
-abbrev pub asked_left : AskedSymbols → List (Result (List ℕ) Fault)
-asked_left s = asked_objects s.asked (source_left s.source)
+-- those that are left
+abbrev pub asked_left : AskedSymbols → List (Result (List ℕ × Nlist) Fault)
+asked_left s = filter (takes s.asked) (source_left s.source)
+
+-- their objects
+abbrev pub symbol_objects_left : AskedSymbols → List (Result (List ℕ) Fault)
+symbol_objects_left s = map symbol_told (asked_left s)
 
 -- the object of a symbol that is there
 abbrev pub symbol_row_text : SymbolRow → List ℕ
 symbol_row_text row = symbol_object row.name.now row.symbol
+
+-- the lines of those that are left
+abbrev pub lines_left : {A : Type 0} → SymbolLines A → List (Result (List ℕ) Fault)
+lines_left l = map (told_by (line_text l.asked (setting_view l.setting.now))) (asked_left l.symbols)
+
+-- how many symbols more begin past the end
+abbrev pub lines_past : {A : Type 0} → SymbolLines A → ℕ
+lines_past l = l.past
+
+-- the line of a symbol that is there
+abbrev pub symbol_line_text : {A : Type 0} → SymbolText A → List ℕ
+symbol_line_text t = line_text t.asked (setting_view t.setting.now) (t.name.now, t.symbol)

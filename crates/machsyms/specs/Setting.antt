@@ -43,9 +43,10 @@ setting_view s =
     }
 
 -- what is said in words of a symbol of this name
-abbrev pub symbol_described : SymbolSetting → List ℕ → Nlist → List ℕ
-symbol_described w name s = symbol_words (section_by w.sections s.n_sect) w.filetype name (origin_said s.n_desc (symbol_provider_of w.flags w.libs s)) s
+abbrev pub symbol_described : (is_raw : Bool) → SymbolSetting → List ℕ → Nlist → List ℕ
+symbol_described is_raw w name s =
+    symbol_words is_raw (section_by w.sections s.n_sect) w.filetype name (origin_said is_raw s.n_desc (symbol_provider_of w.flags w.libs s)) s
 
 -- what the code's words are
 abbrev pub words_shown : SymbolWords → List ℕ
-words_shown t = symbol_words (section_seen t.section) t.filetype t.name.now (origin_text t.origin) t.symbol.now
+words_shown t = symbol_words t.is_raw (section_seen t.section) t.filetype t.name.now (origin_text t.is_raw t.origin) t.symbol.now

@@ -10,6 +10,7 @@ use Rattle.mach_parts.specs.declared.segment.section.Section.{Section}
 use Rattle.mach_parts.specs.Symbols.{type_of}
 use Rattle.mach_parts.specs.declared.symbols.nlist.Nlist.{Nlist}
 use Rattle.machsyms.specs.ShortNames.{short_library_name}
+use Rattle.machsyms.specs.ShownNames.{name_shown}
 use Rattle.machsyms.specs.declared.nm.origin.Origin.{Origin}
 use Rattle.machsyms.specs.declared.nm.origin.Origin.TheVariants.{Unsaid, Executable, Lookup, Library, BadOrdinal}
 
@@ -42,18 +43,19 @@ name_or_mark (Ok name) = name
 name_or_mark (Err f) = codes "?"
 
 -- the names of a section's segment and of the section
-abbrev pub section_text : Option Section → List ℕ
-section_text None = codes "?,?"
-section_text (Some s) = name_or_mark (text_at s.segname 0) ++ (codes "," ++ name_or_mark (text_at s.sectname 0))
+abbrev pub section_text : (is_raw : Bool) → Option Section → List ℕ
+section_text is_raw None = codes "?,?"
+section_text is_raw (Some s) =
+    name_shown is_raw (name_or_mark (text_at s.segname 0)) ++ (codes "," ++ name_shown is_raw (name_or_mark (text_at s.sectname 0)))
 
 -- what a symbol is, by its type: N_UNDF, N_ABS, N_INDR, N_SECT
-abbrev pub kind_words : Option Section → Nlist → List ℕ
-kind_words section s =
+abbrev pub kind_words : (is_raw : Bool) → Option Section → Nlist → List ℕ
+kind_words is_raw section s =
     let kind = type_of s.n_type in
     if kind == 0x0 then (if s.n_value == 0 then undefined_words s.n_desc else codes "(common) " ++ alignment_text (common_alignment s.n_desc))
     else (if kind == 0x2 then codes "(absolute) "
     else (if kind == 0xa then codes "(indirect) "
-    else (if kind == 0xe then codes "(" ++ (section_text section ++ codes ") ")
+    else (if kind == 0xe then codes "(" ++ (section_text is_raw section ++ codes ") ")
     else codes "(?) ")))
 
 -- who knows it: N_EXT and N_PEXT of its type, N_WEAK_REF and N_WEAK_DEF of its flags
@@ -93,31 +95,31 @@ mark_words filetype s =
     ++ marked (has_bits 0x8 s.n_desc) (codes "[Thumb] "))))
 
 -- Which library gives a symbol, if the linker wrote it down: nothing of the image itself.
-abbrev pub giver_said : (desc : ℕ) → Result Provider Fault → List ℕ
-giver_said desc (Ok (of_library ordinal path)) = codes " (from " ++ (short_library_name path ++ codes ")")
-giver_said desc (Ok itself) = []
-giver_said desc (Ok main_executable) = codes " (from executable)"
-giver_said desc (Ok flat) = codes " (dynamically looked up)"
-giver_said desc (Ok weak_lookup) = []
-giver_said desc (Err f) = codes " (from bad library ordinal " ++ (decimal (desc / 256) ++ codes ")")
+abbrev pub giver_said : (is_raw : Bool) → (desc : ℕ) → Result Provider Fault → List ℕ
+giver_said is_raw desc (Ok (of_library ordinal path)) = codes " (from " ++ (name_shown is_raw (short_library_name path) ++ codes ")")
+giver_said is_raw desc (Ok itself) = []
+giver_said is_raw desc (Ok main_executable) = codes " (from executable)"
+giver_said is_raw desc (Ok flat) = codes " (dynamically looked up)"
+giver_said is_raw desc (Ok weak_lookup) = []
+giver_said is_raw desc (Err f) = codes " (from bad library ordinal " ++ (decimal (desc / 256) ++ codes ")")
 
-abbrev pub origin_said : (desc : ℕ) → Option (Result Provider Fault) → List ℕ
-origin_said desc None = []
-origin_said desc (Some giver) = giver_said desc giver
+abbrev pub origin_said : (is_raw : Bool) → (desc : ℕ) → Option (Result Provider Fault) → List ℕ
+origin_said is_raw desc None = []
+origin_said is_raw desc (Some giver) = giver_said is_raw desc giver
 
 -- the same by what the code keeps of it
-abbrev pub origin_text : Origin → List ℕ
-origin_text Unsaid = []
-origin_text Executable = codes " (from executable)"
-origin_text Lookup = codes " (dynamically looked up)"
-origin_text (Library path) = codes " (from " ++ (short_library_name path.now ++ codes ")")
-origin_text (BadOrdinal ordinal) = codes " (from bad library ordinal " ++ (decimal ordinal ++ codes ")")
+abbrev pub origin_text : (is_raw : Bool) → Origin → List ℕ
+origin_text is_raw Unsaid = []
+origin_text is_raw Executable = codes " (from executable)"
+origin_text is_raw Lookup = codes " (dynamically looked up)"
+origin_text is_raw (Library path) = codes " (from " ++ (name_shown is_raw (short_library_name path.now) ++ codes ")")
+origin_text is_raw (BadOrdinal ordinal) = codes " (from bad library ordinal " ++ (decimal ordinal ++ codes ")")
 
 -- what is said of a symbol of this name
-abbrev pub symbol_words : Option Section → (filetype : ℕ) → (name origin : List ℕ) → Nlist → List ℕ
-symbol_words section filetype name origin s =
-    kind_words section s
-    ++ (marked (is_referenced s) (codes "[referenced dynamically] ") ++ (reach_words s ++ (mark_words filetype s ++ (name ++ origin))))
+abbrev pub symbol_words : (is_raw : Bool) → Option Section → (filetype : ℕ) → (name origin : List ℕ) → Nlist → List ℕ
+symbol_words is_raw section filetype name origin s =
+    kind_words is_raw section s
+    ++ (marked (is_referenced s) (codes "[referenced dynamically] ") ++ (reach_words s ++ (mark_words filetype s ++ (name_shown is_raw name ++ origin))))
 
 abbrev pub section_seen : Option (Bor Section) → Option Section
 section_seen section = option_map (λ s. s.now) section

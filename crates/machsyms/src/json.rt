@@ -2,8 +2,9 @@
 
 ghost use Rattle.std.specs.Prelude.{◌≡◌, ◌≤◌, [], codes};
 ghost use Rattle.std.specs.Io.Buffered.{writer_buffer, writer_contents};
+ghost use Rattle.mach_cli.specs.Bounds.{most_items};
 ghost use Rattle.mach_cli.specs.Names.{names_text};
-ghost use Rattle.mach_cli.specs.Shown.{Shown, Writes, without_limit};
+ghost use Rattle.mach_cli.specs.Shown.{Shown, Writes};
 ghost use Rattle.mach_cli.specs.Statuses.{IsStatus, status_by};
 ghost use Rattle.mach_cli.specs.Documents.{IsDocument};
 ghost use Rattle.machsyms.specs.JsonSymbols.{AreImageSymbolMembers};
@@ -12,7 +13,7 @@ use crate::members::write_members;
 use crate::run::{NAME, keys_of_image};
 use crate::selection::Asked;
 use goblin_mach::{MachO, laws};
-use mach_cli::{Cpu, Failure, Heading, Names, Outcome, Shows};
+use mach_cli::{Cpu, Failure, Heading, Names, Outcome, Shows, most_items};
 use std::alloc::Allocator;
 use std::io::{BufWriter, Write};
 
@@ -26,7 +27,7 @@ struct ObjectsOf<'a> {
 impl Shows for ObjectsOf<'_> {
     ghost names = { λ asked. names_text (codes "machsyms") asked.file.now };
 
-    ghost lines = { λ s. without_limit (AreImageSymbolMembers s.asked) };
+    ghost lines = { λ s. AreImageSymbolMembers s.asked };
 
     fn names(&self) -> Names<'_> {
         Names {
@@ -46,17 +47,18 @@ impl Shows for ObjectsOf<'_> {
         laws::facts_of_image(image);
         let keys = keys_of_image(alloc.clone()?, self.asked.sorting, &image.symbols)?;
         write!(out, "{heading}")?;
-        let whole = write_members(&self.asked, &keys, &image.symbols, out)?;
-        Ok(Outcome { whole, left })
+        Ok(write_members(&self.asked, &keys, &image.symbols, left, out)?)
     }
 }
 
 /// Writes of a file as `run` does, but as JSON, an object of the file on a line: with an object for each symbol that is asked for, in the order
-/// that is asked for, and how many are past the end. The form and the name of the file before each line have no part in it.
+/// that is asked for, whether there are more than are left of the limit, and how many are past the end. The form and the name of the file before
+/// each line have no part in it.
 pub fn run_json<A: Allocator + Clone, W: Write + Drop, B: Allocator, E: Write>(
     alloc: A,
     cpu: Cpu,
     asked: Asked<'_>,
+    limit: usize,
     file: &str,
     bytes: &[u8],
     out: &mut BufWriter<W, B>,
@@ -64,11 +66,12 @@ pub fn run_json<A: Allocator + Clone, W: Write + Drop, B: Allocator, E: Write>(
 ) -> u8
     ensures status { IsStatus result }
     ensures shown { result ≤ 1 → (shown : Shown)
-        × IsDocument cpu (names_text (codes "machsyms") file.now) file.now (without_limit (AreImageSymbolMembers asked.entry)) 0 bytes.now shown
+        × IsDocument cpu (names_text (codes "machsyms") file.now) file.now (AreImageSymbolMembers asked.entry) (most_items limit bytes.now) bytes.now shown
         × (result ≡ status_by shown.whole)
         × Writes shown (writer_contents W.contents out.old) (writer_contents W.contents out.new) (E.contents err.old) (E.contents err.new) }
     ensures flushed { result ≤ 1 → writer_buffer out.new ≡ [] }
 {
     let objects = ObjectsOf { file, asked };
-    mach_cli::json::run::run(&objects, file, cpu, 0, &alloc, bytes, out, err)
+    let limit = most_items(limit, bytes);
+    mach_cli::json::run::run(&objects, file, cpu, limit, &alloc, bytes, out, err)
 }

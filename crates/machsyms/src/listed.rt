@@ -1,12 +1,14 @@
 //! The symbols that are asked for, one at a time.
 
-ghost use Rattle.std.specs.Prelude.{◌≡◌, Some, length, OnOk};
+ghost use Rattle.std.specs.Prelude.{◌≡◌, Some, OnOk};
 ghost use Rattle.std.specs.Io.KnownBytes.{Appends};
 ghost use Rattle.std.specs.Iterator.{YieldsFirstBy};
+ghost use Rattle.std.specs.List.{filter};
 ghost use Rattle.mach_base.specs.Items.{read_as};
 ghost use Rattle.mach_parts.specs.SymbolViews.{symbol_read, table_of};
-ghost use Rattle.machsyms.specs.JsonSymbols.{asked_objects, symbol_told};
-ghost use Rattle.machsyms.specs.Listed.{asked_left, keyed_left, source_left, symbol_row_text};
+ghost use Rattle.machsyms.specs.Asked.{takes};
+ghost use Rattle.machsyms.specs.JsonSymbols.{symbol_told};
+ghost use Rattle.machsyms.specs.Listed.{asked_left, keyed_left, symbol_objects_left, source_left, symbol_row_text};
 ghost use Rattle.machsyms.specs.Order.{gone_over};
 
 use crate::order::SortKey;
@@ -120,12 +122,24 @@ pub struct AskedSymbols<'s, 'k, 'a> {
 impl<'s, 'k, 'a> AskedSymbols<'s, 'k, 'a> {
     /// Those of a table, as they stand there or by the keys.
     pub fn of(asked: Asked<'s>, keys: &'k [SortKey<'a>], table: &'k Symbols<'a>) -> Self
-        ensures { asked_left result ≡ asked_objects asked.entry (gone_over asked.entry.sorting keys.now (table_of table.now)) }
+        ensures { asked_left result ≡ filter (takes asked.entry) (gone_over asked.entry.sorting keys.now (table_of table.now)) }
     {
         AskedSymbols {
             asked,
             source: Source::of(asked.sorting, keys, table),
         }
+    }
+
+    /// The next one.
+    pub fn take_next(&mut self) -> Option<goblin_mach::Result<(&'a str, Nlist)>>
+        ensures { YieldsFirstBy symbol_read asked_left self.old result self.new }
+    {
+        'symbols: while let Some(answer) = self.source.take_next() {
+            if self.asked.takes(&answer) {
+                return Some(answer);
+            }
+        }
+        None
     }
 }
 
@@ -134,30 +148,26 @@ impl<'a> Listing for AskedSymbols<'_, '_, 'a> {
 
     ghost text = { symbol_row_text };
 
-    ghost left = { asked_left };
+    ghost left = { symbol_objects_left };
 
     fn next_row(&mut self) -> Option<goblin_mach::Result<SymbolRow<'a>>> {
-        'symbols: while let Some(answer) = self.source.take_next() {
-            if self.asked.takes(&answer) {
-                return Some(row_of(answer));
-            }
+        match self.take_next() {
+            Some(answer) => Some(row_of(answer)),
+            None => None,
         }
-        None
+    }
+
+    fn past(&self) -> usize {
+        0
+    }
+
+    fn past_name(&self) -> &'static str {
+        ""
     }
 
     fn write_row<O: Write>(row: &SymbolRow<'a>, out: &mut O) -> io::Result<()>
         ensures { OnOk result (Appends (O.contents out.old) (O.contents out.new) (symbol_row_text row.now)) }
     {
         write!(out, "{row}")
-    }
-}
-
-/// How many symbols are gone over.
-pub fn count_of(sorting: Option<Sorting>, keys: &[SortKey<'_>], table: &Symbols<'_>) -> usize
-    ensures { result ≡ length (gone_over sorting keys.now (table_of table.now)) }
-{
-    match sorting {
-        None => table.len(),
-        Some(_) => keys.len(),
     }
 }

@@ -16,9 +16,12 @@
 
 // Which symbols are requested and shown, and how.
 mod json;
+mod laws;
 mod letters;
+mod lines;
 mod listed;
 mod members;
+mod names;
 mod order;
 mod print;
 mod run;
@@ -32,10 +35,10 @@ mod words;
 mod nm;
 
 use json::run_json;
-use mach_cli::{Cpu, Files, ForTerminal, Misuse, Program, ShowsFile, take_json};
+use mach_cli::{Call, Cpu, Files, ForTerminal, Misuse, Program, ShowsFile, Titled, take_json};
 use run::{NAME, run};
 use selection::Asked;
-use std::alloc::Allocator;
+use std::alloc::{Allocator, Global};
 use std::io;
 use std::io::{BufWriter, IsTerminal, Write};
 use std::process::ExitCode;
@@ -43,10 +46,12 @@ use words::{Letters, asked_of, names_files, take_letters};
 
 const PROGRAM: Program = Program {
     name: NAME,
-    usage: "usage: machsyms [-AUagjmnoprux] [--json] [--arch NAME | --cputype 0xN] FILE..\n       machsyms -h | --help | --version\n",
+    usage: "usage: machsyms [-AUagjmnoprux] [--raw] [--json] [--limit N] [--arch NAME | --cputype 0xN] \
+        [--names FILE [-0]] FILE..\n       machsyms -h | --help | --version\n",
     version: "machsyms 0.2.0\n",
-    has_limit: false,
+    has_limit: true,
     has_cpu: true,
+    has_files: true,
     known: &[
         "--arch",
         "--cputype",
@@ -57,9 +62,12 @@ const PROGRAM: Program = Program {
         "--format=just-symbols",
         "--help",
         "--json",
+        "--limit",
+        "--names",
         "--no-sort",
         "--numeric-sort",
         "--print-file-name",
+        "--raw",
         "--reverse-sort",
         "--undefined-only",
         "--version",
@@ -78,16 +86,18 @@ fn start(rt: &HostRuntime) -> Result<u8, u8> {
     let Ok((is_json, words)) = take_json(rt.alloc(), words) else {
         return Err(PROGRAM.out_of_memory(rt));
     };
-    let Ok((letters, words)) = take_letters(rt.alloc(), words) else {
+    let Ok((letters, is_raw, words)) = take_letters(rt.alloc(), words) else {
         return Err(PROGRAM.out_of_memory(rt));
     };
     let call = PROGRAM.call(rt, &words)?;
     let symbols = Symbols {
         cpu: call.cpu,
         letters,
+        is_raw,
+        limit: call.limit.unwrap_or(usize::MAX),
         is_json,
     };
-    show_files(rt, symbols, &call.words)
+    show_files(rt, symbols, &call)
 }
 
 // What is shown of each file: lines in some letters, or objects.
@@ -95,34 +105,45 @@ fn start(rt: &HostRuntime) -> Result<u8, u8> {
 struct Symbols {
     cpu: Cpu,
     letters: Option<Letters>,
+    is_raw: bool,
+    limit: usize,
     is_json: bool,
 }
 
 impl<W: Write + Drop, B: Allocator> ShowsFile<BufWriter<W, B>> for Symbols {
     fn show(&self, rt: &HostRuntime, name: &str, bytes: &[u8], out: &mut BufWriter<W, B>) -> u8 {
         let (alloc, err) = (rt.alloc(), &mut rt.stderr());
-        let asked = asked_of(self.letters, name);
-        if self.is_json {
-            run_json(alloc, self.cpu, asked, name, bytes, out, err)
+        let Symbols {
+            cpu,
+            letters,
+            is_raw,
+            limit,
+            is_json,
+        } = *self;
+        let asked = asked_of(letters, is_raw, name);
+        if is_json {
+            run_json(alloc, cpu, asked, limit, name, bytes, out, err)
         } else {
-            run(alloc, self.cpu, asked, name, bytes, out, err)
+            run(alloc, cpu, asked, limit, name, bytes, out, err)
         }
     }
 }
 
 // Shows of files in order the images that are asked for, and answers the worst status.
-fn show_files(rt: &HostRuntime, symbols: Symbols, files: &[&str]) -> Result<u8, u8> {
-    if files.is_empty() {
+fn show_files(rt: &HostRuntime, symbols: Symbols, call: &Call<'_, Global>) -> Result<u8, u8> {
+    let (files, others) = (&call.words, &call.others);
+    if files.is_empty() && others.is_empty() {
         return Err(PROGRAM.bad_usage(rt, Misuse::Missing("FILE")));
     }
     let output = ForTerminal::new(io::writer(rt), rt.stdout().is_terminal());
-    let Ok(mut lines) = BufWriter::new(rt.alloc(), output) else {
+    let Ok(mut lines) = BufWriter::new(rt.alloc(), Titled::new(rt.alloc(), output)) else {
         return Err(PROGRAM.out_of_memory(rt));
     };
     let shown = Files {
         program: PROGRAM,
         cpu: symbols.cpu,
         has_titles: !symbols.is_json && !names_files(symbols.letters),
+        has_parts: true,
     };
-    shown.show(rt, &symbols, files, &mut lines)
+    shown.show(rt, &symbols, files, others, &mut lines)
 }

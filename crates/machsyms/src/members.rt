@@ -1,34 +1,36 @@
 //! The members of the object of an image: its symbols.
 
-ghost use Rattle.std.specs.Prelude.{◌≡◌, Some, None, true, option_map, IfOk, OnOk};
-ghost use Rattle.std.specs.Io.KnownBytes.{Appends};
+ghost use Rattle.std.specs.Prelude.{Some, None, option_map, IfOk};
 ghost use Rattle.mach_parts.specs.SymbolViews.{table_of};
-ghost use Rattle.mach_cli.specs.JsonArrays.{WritesAllRows};
-ghost use Rattle.machsyms.specs.JsonSymbols.{asked_objects, before_symbols, WritesSymbolMembers};
+ghost use Rattle.machsyms.specs.JsonSymbols.{symbol_members, WritesSymbolMembers};
+ghost use Rattle.machsyms.specs.Lines.{past_the_end, symbols_over};
 ghost use Rattle.machsyms.specs.Order.{gone_over};
 
-use crate::listed::{AskedSymbols, count_of};
+use crate::listed::AskedSymbols;
 use crate::order::SortKey;
 use crate::selection::Asked;
 use goblin_mach::symbols::Symbols;
-use mach_cli::print_array;
+use mach_cli::{Outcome, print_empty, print_end_past, print_member};
 use std::io;
 use std::io::Write;
 
 /// Writes the members of an image with the symbols of a table, if there is one: exactly an object for each that is asked for, as they stand there or by
-/// the keys, also for one that can't be read, and how many begin past the end. Answers whether there are none of these.
+/// the keys, also for one that can't be read; of these the first `left`, whether there are more, and how many begin past the end. Answers whether all
+/// were written and can be read, and how many more may be.
 pub fn write_members<'a, O: Write>(
     asked: &Asked<'_>,
     keys: &[SortKey<'a>],
     table: &Option<Symbols<'a>>,
+    left: usize,
     out: &mut O,
-) -> io::Result<bool>
-    ensures { IfOk result (λ whole. WritesSymbolMembers asked.now (gone_over asked.now.sorting keys.now) (option_map table_of table.now)
-        whole (O.contents out.old) (O.contents out.new)) }
+) -> io::Result<Outcome>
+    ensures { IfOk result (λ outcome. WritesSymbolMembers left
+        (symbol_members asked.now (symbols_over (gone_over asked.now.sorting keys.now) (option_map table_of table.now)))
+        (past_the_end (option_map table_of table.now)) outcome.whole outcome.left (O.contents out.old) (O.contents out.new)) }
 {
     match table {
-        Some(table) => write_table(asked, keys, table, out),
-        None => write_none(asked, keys, out),
+        Some(table) => write_table(asked, keys, table, left, out),
+        None => write_none(asked, keys, left, out),
     }
 }
 
@@ -37,50 +39,30 @@ fn write_table<'a, O: Write>(
     asked: &Asked<'_>,
     keys: &[SortKey<'a>],
     table: &Symbols<'a>,
+    left: usize,
     out: &mut O,
-) -> io::Result<bool>
-    ensures { IfOk result (λ whole. WritesSymbolMembers asked.now (gone_over asked.now.sorting keys.now) (Some (table_of table.now))
-        whole (O.contents out.old) (O.contents out.new)) }
+) -> io::Result<Outcome>
+    ensures { IfOk result (λ outcome. WritesSymbolMembers left
+        (symbol_members asked.now (symbols_over (gone_over asked.now.sorting keys.now) (Some (table_of table.now))))
+        (past_the_end (Some (table_of table.now))) outcome.whole outcome.left (O.contents out.old) (O.contents out.new)) }
 {
     let begun = table.begun();
     let past = table.len() - begun.len();
-    write_front(past, out)?;
-    write_listed(asked, keys, &begun, out)?;
-    Ok(past == 0)
+    let mut symbols = AskedSymbols::of(*asked, keys, &begun);
+    let told = print_member("symbols", &mut symbols, left, out)?;
+    print_end_past(told, past, out)
 }
 
 // Writes those of an image without a table.
-fn write_none<O: Write>(asked: &Asked<'_>, keys: &[SortKey<'_>], out: &mut O) -> io::Result<bool>
-    ensures { IfOk result (λ whole. WritesSymbolMembers asked.now (gone_over asked.now.sorting keys.now) None
-        whole (O.contents out.old) (O.contents out.new)) }
-{
-    write_front(0, out)?;
-    write!(out, "[]")?;
-    Ok(true)
-}
-
-// Writes what stands before the symbols, of which so many begin past the end.
-fn write_front<O: Write>(past: usize, out: &mut O) -> io::Result<()>
-    ensures { OnOk result (Appends (O.contents out.old) (O.contents out.new) (before_symbols past)) }
-{
-    write!(
-        out,
-        "\"kind\":\"image\",\"past_the_end\":{past},\"symbols\":"
-    )
-}
-
-// Writes an array of those of a table that are asked for, as they stand there or by the keys.
-fn write_listed<'a, O: Write>(
+fn write_none<O: Write>(
     asked: &Asked<'_>,
-    keys: &[SortKey<'a>],
-    table: &Symbols<'a>,
+    keys: &[SortKey<'_>],
+    left: usize,
     out: &mut O,
-) -> io::Result<()>
-    ensures { OnOk result (WritesAllRows (asked_objects asked.now (gone_over asked.now.sorting keys.now (table_of table.now)))
-        (O.contents out.old) (O.contents out.new)) }
+) -> io::Result<Outcome>
+    ensures { IfOk result (λ outcome. WritesSymbolMembers left (symbol_members asked.now (symbols_over (gone_over asked.now.sorting keys.now) None))
+        (past_the_end None) outcome.whole outcome.left (O.contents out.old) (O.contents out.new)) }
 {
-    let mut symbols = AskedSymbols::of(*asked, keys, table);
-    let count = count_of(asked.sorting, keys, table);
-    print_array(&mut symbols, count, out)?;
-    Ok(())
+    let told = print_empty("symbols", left, out)?;
+    print_end_past(told, 0, out)
 }

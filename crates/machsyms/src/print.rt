@@ -1,39 +1,54 @@
 //! The lines of an image's symbols.
 
-ghost use Rattle.std.specs.Prelude.{Some, option_map, IfOk, OnOk};
-ghost use Rattle.std.specs.Io.KnownBytes.{Appends};
-ghost use Rattle.mach_parts.specs.Symbols.{symbols_of};
-ghost use Rattle.mach_parts.specs.SymbolViews.{symbol_read, table_of};
-ghost use Rattle.mach_cli.specs.Lines.{WritesLines};
-ghost use Rattle.machsyms.specs.Lines.{past_line, asked_line, file_text, WritesTable};
-ghost use Rattle.machsyms.specs.Order.{gone_over, symbols_by};
+ghost use Rattle.std.specs.Prelude.{◌≡◌, Some, codes, option_map, string_bytes, IfOk};
+ghost use Rattle.mach_parts.specs.SymbolViews.{table_of};
+ghost use Rattle.mach_cli.specs.Listings.{WritesFirstLines};
+ghost use Rattle.machsyms.specs.Lines.{asked_lines, past_the_end, symbols_over, unreadable_word};
+ghost use Rattle.machsyms.specs.Order.{gone_over};
 ghost use Rattle.machsyms.specs.Setting.{setting_view};
 
+use crate::lines::SymbolLines;
 use crate::order::SortKey;
 use crate::selection::Asked;
 use crate::setting::Setting;
-use crate::text::{FileText, SymbolText};
-use goblin_mach::describe;
-use goblin_mach::symbols::{Nlist, Symbols};
-use std::alloc::Allocator;
+use crate::text::FileText;
+use goblin_mach::symbols::Symbols;
+use mach_cli::{Outcome, print_listing};
+use std::alloc::{AllocError, Allocator};
 use std::io;
 use std::io::Write;
 
+/// The word before the reason why a symbol can't be read.
+pub fn unreadable_word<A: Allocator>(alloc: A, asked: &Asked<'_>) -> Result<String<A>, AllocError>
+    ensures { IfOk result (λ word. string_bytes word ≡ unreadable_word asked.now) }
+{
+    let file = FileText {
+        file: asked.file,
+        is_raw: asked.is_raw,
+    };
+    format!(in alloc; "{file}unreadable")
+}
+
 /// Prints the symbols of a table, if there is one: exactly a line for each that is asked for, as they stand there or by the keys, also for one
-/// that can't be read, and one line for all whose records begin past the end. Answers whether there are none of these.
+/// that can't be read, behind a word. It prints the first `left` of them, and where there are more, a line that says that `limit` are told; and one line
+/// for all whose records begin past the end. Answers whether there are none of these, all were printed and can be read, and how many lines are left.
 pub fn print_symbols<A: Allocator, O: Write>(
     asked: &Asked<'_>,
     setting: &Setting<'_, '_, A>,
     keys: &[SortKey<'_>],
     table: &Option<Symbols<'_>>,
+    word: &str,
+    limit: usize,
+    left: usize,
     out: &mut O,
-) -> io::Result<bool>
-    ensures { IfOk result (λ whole. WritesTable asked.now (setting_view setting.now) (gone_over asked.now.sorting keys.now) (option_map table_of table.now)
-        whole (O.contents out.old) (O.contents out.new)) }
+) -> io::Result<Outcome>
+    ensures { IfOk result (λ outcome. WritesFirstLines word.now limit left
+        (asked_lines asked.now (setting_view setting.now) (symbols_over (gone_over asked.now.sorting keys.now) (option_map table_of table.now)))
+        (codes "symbols") (past_the_end (option_map table_of table.now)) outcome.whole outcome.left (O.contents out.old) (O.contents out.new)) }
 {
     match table {
-        Some(table) => print_table(asked, setting, keys, table, out),
-        None => Ok(true),
+        Some(table) => print_table(asked, setting, keys, table, word, limit, left, out),
+        None => Ok(Outcome { whole: true, left }),
     }
 }
 
@@ -43,104 +58,17 @@ fn print_table<A: Allocator, O: Write>(
     setting: &Setting<'_, '_, A>,
     keys: &[SortKey<'_>],
     table: &Symbols<'_>,
+    word: &str,
+    limit: usize,
+    left: usize,
     out: &mut O,
-) -> io::Result<bool>
-    ensures { IfOk result (λ whole. WritesTable asked.now (setting_view setting.now) (gone_over asked.now.sorting keys.now) (Some (table_of table.now))
-        whole (O.contents out.old) (O.contents out.new)) }
+) -> io::Result<Outcome>
+    ensures { IfOk result (λ outcome. WritesFirstLines word.now limit left
+        (asked_lines asked.now (setting_view setting.now) (symbols_over (gone_over asked.now.sorting keys.now) (Some (table_of table.now))))
+        (codes "symbols") (past_the_end (Some (table_of table.now))) outcome.whole outcome.left (O.contents out.old) (O.contents out.new)) }
 {
     let begun = table.begun();
-    print_listed(asked, setting, keys, &begun, out)?;
     let past = table.len() - begun.len();
-    print_past(past, out)?;
-    Ok(past == 0)
-}
-
-// Prints how many symbols begin past the end, if any do.
-fn print_past<O: Write>(past: usize, out: &mut O) -> io::Result<()>
-    ensures { OnOk result (Appends (O.contents out.old) (O.contents out.new) (past_line past)) }
-{
-    if past == 0 {
-        return Ok(());
-    }
-    writeln!(out, "{past} more symbols past the end")
-}
-
-// Prints a line for each symbol of a table that is asked for, as they stand there or by the keys.
-fn print_listed<A: Allocator, O: Write>(
-    asked: &Asked<'_>,
-    setting: &Setting<'_, '_, A>,
-    keys: &[SortKey<'_>],
-    table: &Symbols<'_>,
-    out: &mut O,
-) -> io::Result<()>
-    ensures { OnOk result (WritesLines symbol_read (asked_line asked.now (setting_view setting.now))
-        (gone_over asked.now.sorting keys.now (table_of table.now)) (O.contents out.old) (O.contents out.new)) }
-{
-    match asked.sorting {
-        None => print_begun(asked, setting, table, out),
-        Some(_) => print_keys(asked, setting, keys, table, out),
-    }
-}
-
-// Prints a line for each symbol of a table that is asked for, as they stand there.
-fn print_begun<A: Allocator, O: Write>(
-    asked: &Asked<'_>,
-    setting: &Setting<'_, '_, A>,
-    table: &Symbols<'_>,
-    out: &mut O,
-) -> io::Result<()>
-    ensures { OnOk result (WritesLines symbol_read (asked_line asked.now (setting_view setting.now)) (symbols_of (table_of table.now))
-        (O.contents out.old) (O.contents out.new)) }
-{
-    'symbols: for symbol in table {
-        print_symbol(asked, setting, &symbol, out)?;
-    }
-    Ok(())
-}
-
-// Prints a line for each symbol of some keys that is asked for.
-fn print_keys<A: Allocator, O: Write>(
-    asked: &Asked<'_>,
-    setting: &Setting<'_, '_, A>,
-    keys: &[SortKey<'_>],
-    table: &Symbols<'_>,
-    out: &mut O,
-) -> io::Result<()>
-    ensures { OnOk result (WritesLines symbol_read (asked_line asked.now (setting_view setting.now)) (symbols_by keys.now (table_of table.now))
-        (O.contents out.old) (O.contents out.new)) }
-{
-    'keys: for key in keys {
-        print_symbol(asked, setting, &table.get(key.index), out)?;
-    }
-    Ok(())
-}
-
-// Prints the line of a symbol, if it is asked for.
-fn print_symbol<A: Allocator, O: Write>(
-    asked: &Asked<'_>,
-    setting: &Setting<'_, '_, A>,
-    answer: &goblin_mach::Result<(&str, Nlist)>,
-    out: &mut O,
-) -> io::Result<()>
-    ensures { OnOk result (Appends (O.contents out.old) (O.contents out.new) (asked_line asked.now (setting_view setting.now) answer.now)) }
-{
-    if !asked.takes(answer) {
-        return Ok(());
-    }
-    let file = FileText(asked.file);
-    match answer {
-        Ok((name, symbol)) => {
-            let text = SymbolText {
-                form: asked.form,
-                setting,
-                name: *name,
-                symbol,
-            };
-            writeln!(out, "{file}{text}")
-        }
-        Err(error) => {
-            let words = describe(error);
-            writeln!(out, "{file}unreadable: {words}")
-        }
-    }
+    let mut lines = SymbolLines::of(*asked, setting, keys, &begun, past);
+    print_listing(&mut lines, word, limit, left, out)
 }

@@ -3,36 +3,38 @@
 ghost use Rattle.std.specs.Prelude.{◌≡◌, ◌≤◌, [], codes, option_map, IfOk};
 ghost use Rattle.std.specs.Io.Buffered.{writer_buffer, writer_contents};
 ghost use Rattle.mach_parts.specs.SymbolViews.{table_of};
+ghost use Rattle.mach_cli.specs.Bounds.{most_items};
 ghost use Rattle.mach_cli.specs.Names.{names_text};
-ghost use Rattle.mach_cli.specs.Shown.{Shown, ShowsFile, Writes, without_limit};
+ghost use Rattle.mach_cli.specs.Shown.{Shown, ShowsFile, Writes};
 ghost use Rattle.mach_cli.specs.Statuses.{IsStatus, status_by};
 ghost use Rattle.machsyms.specs.ImageLines.{AreImageSymbolLines, AreImageKeys};
 
 use crate::letters::{named_sections, section_letters};
 use crate::order::{SortKey, keys_in_order};
-use crate::print::print_symbols;
+use crate::print::{print_symbols, unreadable_word};
 use crate::selection::{Asked, Sorting};
 use crate::setting::Setting;
 use goblin_mach::symbols::Symbols;
 use goblin_mach::{MachO, laws};
-use mach_cli::{Cpu, Failure, Heading, Names, Outcome, Shows};
+use mach_cli::{Cpu, Failure, Heading, Names, Outcome, Shows, most_items};
 use std::alloc::{AllocError, Allocator};
 use std::io::{BufWriter, Write};
 
 /// The program's name.
 pub const NAME: &str = "machsyms";
 
-// What is asked for of the symbols of the images of a file.
+// What is asked for of the symbols of the images of a file, `limit` lines at most.
 #[derive(Clone, Copy)]
 struct SymbolsOf<'a> {
     file: &'a str,
     asked: Asked<'a>,
+    limit: usize,
 }
 
 impl Shows for SymbolsOf<'_> {
     ghost names = { λ asked. names_text (codes "machsyms") asked.file.now };
 
-    ghost lines = { λ s. without_limit (AreImageSymbolLines s.asked) };
+    ghost lines = { λ s. AreImageSymbolLines s.asked s.limit };
 
     fn names(&self) -> Names<'_> {
         Names {
@@ -53,10 +55,19 @@ impl Shows for SymbolsOf<'_> {
         let sections = named_sections(alloc.clone()?, image)?;
         let letters = section_letters(alloc.clone()?, &sections)?;
         let keys = keys_of_image(alloc.clone()?, self.asked.sorting, &image.symbols)?;
+        let word = unreadable_word(alloc.clone()?, &self.asked)?;
         let setting = Setting::new(image, &sections, &letters);
         write!(out, "{heading}")?;
-        let whole = print_symbols(&self.asked, &setting, &keys, &image.symbols, out)?;
-        Ok(Outcome { whole, left })
+        Ok(print_symbols(
+            &self.asked,
+            &setting,
+            &keys,
+            &image.symbols,
+            word.as_str(),
+            self.limit,
+            left,
+            out,
+        )?)
     }
 }
 
@@ -77,14 +88,15 @@ pub fn keys_of_image<'a, A: Allocator>(
     }
 }
 
-/// Shows what is asked for of the symbols of the images of a file that are asked for, and answers the exit status: 0 where nothing was
-/// refused and no symbol is past the end; 1 where the file or an entry of a fat one was refused, or memory, and then `err` has a line that
-/// says why, or where a table goes past the end of the bytes, and then `out` has a line that says how many symbols do; 2 or 141 where a
-/// write fails, and but for that nothing is left in the buffer. A symbol that can't be read is a line like others.
+/// Shows what is asked for of the symbols of the images of a file that are asked for, at most `limit` lines and no more than the file has bytes, and
+/// answers the exit status: 0 where nothing was refused, each symbol can be read, and all are told; 1 where the file or an entry of a fat one was refused,
+/// or memory, and then `err` has a line that says why, or where a symbol can't be read, and then its line says why, or where there are more than the limit
+/// or a table goes past the end of the bytes, and then a line says so; 2 or 141 where a write fails, and but for that nothing is left in the buffer.
 pub fn run<A: Allocator + Clone, W: Write + Drop, B: Allocator, E: Write>(
     alloc: A,
     cpu: Cpu,
     asked: Asked<'_>,
+    limit: usize,
     file: &str,
     bytes: &[u8],
     out: &mut BufWriter<W, B>,
@@ -92,10 +104,13 @@ pub fn run<A: Allocator + Clone, W: Write + Drop, B: Allocator, E: Write>(
 ) -> u8
     ensures status { IsStatus result }
     ensures shown { result ≤ 1 → (shown : Shown)
-        × ShowsFile cpu (names_text (codes "machsyms") file.now) (without_limit (AreImageSymbolLines asked.entry)) 0 bytes.now shown
+        × ShowsFile cpu (names_text (codes "machsyms") file.now) (AreImageSymbolLines asked.entry (most_items limit bytes.now)) (most_items limit bytes.now)
+        bytes.now shown
         × (result ≡ status_by shown.whole)
         × Writes shown (writer_contents W.contents out.old) (writer_contents W.contents out.new) (E.contents err.old) (E.contents err.new) }
     ensures flushed { result ≤ 1 → writer_buffer out.new ≡ [] }
 {
-    mach_cli::run::run(&SymbolsOf { file, asked }, cpu, 0, &alloc, bytes, out, err)
+    let limit = most_items(limit, bytes);
+    let symbols = SymbolsOf { file, asked, limit };
+    mach_cli::run::run(&symbols, cpu, limit, &alloc, bytes, out, err)
 }

@@ -52,6 +52,8 @@ pub struct Asked<'a> {
     pub form: Form,
     /// The name of the file before each line.
     pub file: Option<&'a str>,
+    /// Names as they are.
+    pub is_raw: bool,
 }
 
 impl Asked<'_> {
@@ -64,6 +66,7 @@ impl Asked<'_> {
         sorting: None,
         form: Form::Letters,
         file: None,
+        is_raw: false,
     };
 
     /// Whether a symbol is asked for. One that can't be read always is.

@@ -41,9 +41,9 @@ impl<'b, 'a, A: Allocator> Setting<'b, 'a, A> {
         }
     }
 
-    /// What is said of a symbol of this name in words.
-    pub fn words<'c>(&'c self, name: &'c str, symbol: &'c Nlist) -> SymbolWords<'c>
-        ensures { words_shown result ≡ symbol_described (setting_view self.now) name.now symbol.now }
+    /// What is said of a symbol of this name in words, with names as they are or on one line.
+    pub fn words<'c>(&'c self, is_raw: bool, name: &'c str, symbol: &'c Nlist) -> SymbolWords<'c>
+        ensures { words_shown result ≡ symbol_described is_raw (setting_view self.now) name.now symbol.now }
     {
         SymbolWords {
             symbol,
@@ -51,6 +51,7 @@ impl<'b, 'a, A: Allocator> Setting<'b, 'a, A> {
             filetype: self.image.header.filetype,
             name,
             origin: origin_of(symbol, self.image.symbol_provider(symbol)),
+            is_raw,
         }
     }
 }

@@ -1,11 +1,13 @@
 //! A symbol as it is printed.
 
 ghost use Rattle.std.specs.Prelude.{◌≡◌, Some};
-ghost use Rattle.machsyms.specs.Lines.{form_text, file_text, letter_text, value_text, value_shown, kind_text, stab_text, padded_hex};
+ghost use Rattle.machsyms.specs.Lines.{file_text, form_text, letter_text, value_text, value_shown, kind_text, stab_text, padded_hex};
 ghost use Rattle.machsyms.specs.Setting.{setting_view};
+ghost use Rattle.machsyms.specs.ShownNames.{name_shown};
 
 use crate::letters::symbol_letter;
-use crate::selection::{Form, is_elsewhere};
+use crate::names::NameText;
+use crate::selection::{Asked, Form, is_elsewhere};
 use crate::setting::Setting;
 use crate::stabs::stab_name;
 use goblin_mach::symbols::Nlist;
@@ -15,35 +17,70 @@ use std::fmt::{Display, Formatter, Write};
 
 /// The name of the file before a line, if it is asked for.
 #[derive(Clone, Copy)]
-pub struct FileText<'a>(pub Option<&'a str>);
+pub struct FileText<'a> {
+    pub file: Option<&'a str>,
+    pub is_raw: bool,
+}
 
 impl<'a> Display for FileText<'a> {
-    ghost output = { λ t. Some (file_text t.0) };
+    ghost output = { λ t. Some (file_text t.is_raw t.file) };
 
     fn fmt<W: Write>(&self, f: &mut Formatter<W>) -> fmt::Result {
-        match self.0 {
-            Some(name) => write!(f, "{name}: "),
+        let is_raw = self.is_raw;
+        match self.file {
+            Some(name) => {
+                let name = NameText { name, is_raw };
+                write!(f, "{name}: ")
+            }
             None => Ok(()),
         }
     }
 }
 
-/// A symbol as it is printed, in a form.
+/// A symbol as it is printed, in the form that is asked for.
 #[derive(Drop)]
-pub struct SymbolText<'c, 'b, 'a, A: Allocator> {
-    pub form: Form,
+pub struct SymbolText<'c, 's, 'b, 'a, A: Allocator> {
+    pub asked: Asked<'s>,
     pub setting: &'c Setting<'b, 'a, A>,
-    pub name: &'c str,
-    pub symbol: &'c Nlist,
+    pub name: &'a str,
+    pub symbol: Nlist,
 }
 
-impl<A: Allocator> Display for SymbolText<'_, '_, '_, A> {
-    ghost output = { λ t. Some (form_text t.form (setting_view t.setting.now) t.name.now t.symbol.now) };
+impl<A: Allocator> Display for SymbolText<'_, '_, '_, '_, A> {
+    ghost use Rattle.machsyms.specs.Lines.{line_text};
+
+    ghost output = { λ t. Some (line_text t.asked (setting_view t.setting.now) (t.name.now, t.symbol)) };
 
     fn fmt<W: Write>(&self, f: &mut Formatter<W>) -> fmt::Result {
-        let (name, symbol) = (self.name, self.symbol);
-        let is_64 = self.setting.image.is_64;
-        match self.form {
+        let Asked { file, is_raw, .. } = self.asked;
+        let file = FileText { file, is_raw };
+        let form = FormText(self);
+        write!(f, "{file}{form}")
+    }
+}
+
+// The same without the name of the file.
+#[derive(Drop)]
+struct FormText<'t, 'c, 's, 'b, 'a, A: Allocator>(&'t SymbolText<'c, 's, 'b, 'a, A>);
+
+impl<A: Allocator> Display for FormText<'_, '_, '_, '_, '_, A> {
+    ghost output = { λ t. Some (form_text t.0.now.asked.form t.0.now.asked.is_raw (setting_view t.0.now.setting.now) t.0.now.name.now t.0.now.symbol) };
+
+    fn fmt<W: Write>(&self, f: &mut Formatter<W>) -> fmt::Result {
+        let SymbolText {
+            asked: Asked { form, is_raw, .. },
+            setting,
+            name: plain,
+            symbol,
+        } = self.0;
+        let (form, is_raw) = (*form, *is_raw);
+        let is_64 = setting.image.is_64;
+        let letters = setting.letters;
+        let name = NameText {
+            name: plain,
+            is_raw,
+        };
+        match form {
             Form::Names => write!(f, "{name}"),
             Form::Hexadecimal => {
                 let value = ValueText {
@@ -56,7 +93,7 @@ impl<A: Allocator> Display for SymbolText<'_, '_, '_, A> {
             Form::Letters => {
                 let text = LetterText {
                     is_64,
-                    letters: self.setting.letters,
+                    letters,
                     name,
                     symbol,
                 };
@@ -65,7 +102,7 @@ impl<A: Allocator> Display for SymbolText<'_, '_, '_, A> {
             Form::Words if symbol.is_stab() => {
                 let text = LetterText {
                     is_64,
-                    letters: self.setting.letters,
+                    letters,
                     name,
                     symbol,
                 };
@@ -76,7 +113,7 @@ impl<A: Allocator> Display for SymbolText<'_, '_, '_, A> {
                     is_64,
                     value: value_shown(symbol),
                 };
-                let words = self.setting.words(name, symbol);
+                let words = setting.words(is_raw, plain, symbol);
                 write!(f, "{value} {words}")
             }
         }
@@ -88,12 +125,12 @@ impl<A: Allocator> Display for SymbolText<'_, '_, '_, A> {
 struct LetterText<'a> {
     is_64: bool,
     letters: &'a [char],
-    name: &'a str,
+    name: NameText<'a>,
     symbol: &'a Nlist,
 }
 
 impl<'a> Display for LetterText<'a> {
-    ghost output = { λ t. Some (letter_text t.is_64 t.letters.now t.name.now t.symbol.now) };
+    ghost output = { λ t. Some (letter_text t.is_64 t.letters.now (name_shown t.name.is_raw t.name.name.now) t.symbol.now) };
 
     fn fmt<W: Write>(&self, f: &mut Formatter<W>) -> fmt::Result {
         let LetterText {

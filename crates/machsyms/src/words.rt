@@ -1,6 +1,10 @@
 //! The words of a call that say what is asked for, as those of `nm`.
 
+ghost use Rattle.std.specs.Prelude.{◌≡◌};
+ghost use Rattle.machsyms.specs.LetterWords as defined;
+
 use crate::selection::{Asked, Form, SortedBy, Sorting};
+use mach_cli::{Word, takes_word};
 use std::alloc::{AllocError, Allocator};
 
 /// What the letters of such words say.
@@ -30,7 +34,9 @@ impl Letters {
     };
 
     // Takes a letter, and answers whether it says something.
-    fn take(&mut self, letter: char) -> bool {
+    fn take(&mut self, letter: char) -> bool
+        ensures { (self.new, result) ≡ defined.letter_taken self.old letter }
+    {
         match letter {
             'a' => self.asked.has_stabs = true,
             'g' => self.asked.is_external = true,
@@ -71,7 +77,9 @@ impl Letters {
     }
 
     // What they ask for of a file.
-    fn asked<'a>(&self, file: &'a str) -> Asked<'a> {
+    fn asked<'a>(&self, is_raw: bool, file: &'a str) -> Asked<'a>
+        ensures { result ≡ defined.asked_by self.now is_raw file.entry }
+    {
         let asked = self.asked;
         Asked {
             sorting: if self.is_plain {
@@ -85,6 +93,7 @@ impl Letters {
                 form => form,
             },
             file: if self.has_file { Some(file) } else { None },
+            is_raw,
             ..asked
         }
     }
@@ -108,10 +117,15 @@ fn letter_named(name: &str) -> Option<char> {
 }
 
 /// What is asked for of a file: all symbols as they stand, where no word says otherwise.
-pub fn asked_of<'a>(letters: Option<Letters>, file: &'a str) -> Asked<'a> {
+pub fn asked_of<'a>(letters: Option<Letters>, is_raw: bool, file: &'a str) -> Asked<'a>
+    ensures { result ≡ defined.asked_of letters is_raw file.entry }
+{
     match letters {
-        Some(letters) => letters.asked(file),
-        None => Asked::ALL,
+        Some(letters) => letters.asked(is_raw, file),
+        None => Asked {
+            is_raw,
+            ..Asked::ALL
+        },
     }
 }
 
@@ -123,28 +137,34 @@ pub fn names_files(letters: Option<Letters>) -> bool {
     }
 }
 
-/// What the words of a call say, if any do, and all other words, in order. The first word is the program's name; a word behind `--`, or behind
+/// What the words of a call say, if any do, whether names are asked for as they are, and all other words, in order. The first word is the program's
+/// name; a word behind `--`, or behind
 /// an option that has one behind it, says nothing of this.
 pub fn take_letters<A: Allocator>(
     alloc: A,
-    words: Vec<String>,
-) -> Result<(Option<Letters>, Vec<String, A>), AllocError> {
+    words: Vec<Word>,
+) -> Result<(Option<Letters>, bool, Vec<Word, A>), AllocError> {
     let mut letters = None;
+    let mut is_raw = false;
     let mut others = Vec::new(alloc);
     let mut is_taken = true;
     let mut is_plain = false;
     'words: for word in words {
         let text = word.as_str();
         if !is_taken && !is_plain {
+            if text == "--raw" {
+                is_raw = true;
+                continue;
+            }
             let before = letters.unwrap_or(Letters::NONE);
             if let Some(more) = before.with(text) {
                 letters = Some(more);
                 continue;
             }
         }
-        is_taken = !is_taken && matches!(text, "--arch" | "--cputype");
+        is_taken = !is_taken && takes_word(text);
         is_plain = is_plain || text == "--";
         others.push(word)?;
     }
-    Ok((letters, others))
+    Ok((letters, is_raw, others))
 }

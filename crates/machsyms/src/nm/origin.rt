@@ -1,10 +1,11 @@
 //! Which library gives a symbol.
 
-ghost use Rattle.std.specs.Prelude.{◌≡◌, option_map, Some};
+ghost use Rattle.std.specs.Prelude.{◌≡◌, Bool, option_map, Some};
 ghost use Rattle.mach_base.specs.Items.{read_as};
 ghost use Rattle.mach_parts.specs.Bindings.{provider_view};
 ghost use Rattle.machsyms.specs.SymbolWords.{origin_said, origin_text};
 
+use crate::names::NameText;
 use crate::nm::library::short_name;
 use mach_base::Result;
 use mach_parts::binding::Provider;
@@ -29,7 +30,7 @@ pub enum Origin<'a> {
 
 /// That of a symbol with this provider, if the linker wrote one down.
 pub fn origin_of<'a>(symbol: &Nlist, provider: Option<Result<Provider<'a>>>) -> Origin<'a>
-    ensures { origin_text result ≡ origin_said symbol.now.n_desc (option_map (read_as provider_view) provider.entry) }
+    ensures { (is_raw : Bool) → origin_text is_raw result ≡ origin_said is_raw symbol.now.n_desc (option_map (read_as provider_view) provider.entry) }
 {
     match provider {
         None => Origin::Unsaid,
@@ -42,16 +43,26 @@ pub fn origin_of<'a>(symbol: &Nlist, provider: Option<Result<Provider<'a>>>) -> 
     }
 }
 
-impl Display for Origin<'_> {
-    ghost output = { λ origin. Some (origin_text origin) };
+/// It as it is printed.
+#[derive(Clone, Copy)]
+pub struct OriginText<'a> {
+    pub origin: Origin<'a>,
+    pub is_raw: bool,
+}
+
+impl Display for OriginText<'_> {
+    ghost output = { λ t. Some (origin_text t.is_raw t.origin) };
 
     fn fmt<W: Write>(&self, f: &mut Formatter<W>) -> fmt::Result {
-        match *self {
+        match self.origin {
             Origin::Unsaid => Ok(()),
             Origin::Executable => write!(f, " (from executable)"),
             Origin::Lookup => write!(f, " (dynamically looked up)"),
             Origin::Library(path) => {
-                let name = short_name(path);
+                let name = NameText {
+                    name: short_name(path),
+                    is_raw: self.is_raw,
+                };
                 write!(f, " (from {name})")
             }
             Origin::BadOrdinal(ordinal) => write!(f, " (from bad library ordinal {ordinal})"),

@@ -5,7 +5,8 @@ ghost use Rattle.mach_base.specs.Items.{read_as};
 ghost use Rattle.machsyms.specs.SymbolWords as defined;
 ghost use Rattle.machsyms.specs.SymbolWords.{alignment_text, kind_words, mark_words, origin_text, section_seen, section_text, symbol_words};
 
-use crate::nm::origin::Origin;
+use crate::names::NameText;
+use crate::nm::origin::{Origin, OriginText};
 use mach_base::Result;
 use mach_parts::segment::Section;
 use mach_parts::symbols::{
@@ -39,10 +40,12 @@ pub struct SymbolWords<'a> {
     pub name: &'a str,
     /// Which library gives it.
     pub origin: Origin<'a>,
+    /// Whether names are printed as they are.
+    pub is_raw: bool,
 }
 
 impl<'a> Display for SymbolWords<'a> {
-    ghost output = { λ t. Some (symbol_words (section_seen t.section) t.filetype t.name.now (origin_text t.origin) t.symbol.now) };
+    ghost output = { λ t. Some (symbol_words t.is_raw (section_seen t.section) t.filetype t.name.now (origin_text t.is_raw t.origin) t.symbol.now) };
 
     fn fmt<W: Write>(&self, f: &mut Formatter<W>) -> fmt::Result {
         let SymbolWords {
@@ -51,8 +54,15 @@ impl<'a> Display for SymbolWords<'a> {
             filetype,
             name,
             origin,
+            is_raw,
         } = *self;
-        let kind = KindWords { section, symbol };
+        let name = NameText { name, is_raw };
+        let origin = OriginText { origin, is_raw };
+        let kind = KindWords {
+            section,
+            symbol,
+            is_raw,
+        };
         let referenced = marked(is_referenced(symbol), "[referenced dynamically] ");
         let reach = reach_words(symbol);
         let marks = MarkWords { filetype, symbol };
@@ -128,17 +138,26 @@ fn readable(name: Result<&str>) -> &str
 
 // The names of a section's segment and of the section.
 #[derive(Clone, Copy)]
-struct SectionText<'a>(Option<&'a Section>);
+struct SectionText<'a> {
+    section: Option<&'a Section>,
+    is_raw: bool,
+}
 
 impl Display for SectionText<'_> {
-    ghost output = { λ t. Some (section_text (section_seen t.0)) };
+    ghost output = { λ t. Some (section_text t.is_raw (section_seen t.section)) };
 
     fn fmt<W: Write>(&self, f: &mut Formatter<W>) -> fmt::Result {
-        let Some(section) = self.0 else {
+        let is_raw = self.is_raw;
+        let Some(section) = self.section else {
             return write!(f, "?,?");
         };
         let segment = readable(section.segname());
+        let segment = NameText {
+            name: segment,
+            is_raw,
+        };
         let name = readable(section.name());
+        let name = NameText { name, is_raw };
         write!(f, "{segment},{name}")
     }
 }
@@ -148,10 +167,11 @@ impl Display for SectionText<'_> {
 struct KindWords<'a> {
     section: Option<&'a Section>,
     symbol: &'a Nlist,
+    is_raw: bool,
 }
 
 impl Display for KindWords<'_> {
-    ghost output = { λ t. Some (kind_words (section_seen t.section) t.symbol.now) };
+    ghost output = { λ t. Some (kind_words t.is_raw (section_seen t.section) t.symbol.now) };
 
     fn fmt<W: Write>(&self, f: &mut Formatter<W>) -> fmt::Result {
         match self.symbol.get_type() {
@@ -166,7 +186,10 @@ impl Display for KindWords<'_> {
             N_ABS => write!(f, "(absolute) "),
             N_INDR => write!(f, "(indirect) "),
             N_SECT => {
-                let section = SectionText(self.section);
+                let section = SectionText {
+                    section: self.section,
+                    is_raw: self.is_raw,
+                };
                 write!(f, "({section}) ")
             }
             _ => write!(f, "(?) "),

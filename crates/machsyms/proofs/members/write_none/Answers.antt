@@ -1,8 +1,11 @@
-use Rattle.machsyms.specs.Order.{gone_over}
-use Rattle.machsyms.proofs.JsonLists.{no_members}
+use Rattle.std.proofs.Common.{[]}
+use Rattle.std.specs.Prelude.{codes}
+use Rattle.mach_cli.specs.JsonArrays.{NamedRows}
+use Rattle.machsyms.proofs.Written.{list_and_past, ok_more}
 use Rattle.machsyms.proofs.members.write_none.Goals as goal
 
 pub returns : goal.returns
 returns g c =
-    let a = c.args.asked.now in
-    no_members a (gone_over a.sorting c.args.keys.now) _ _ _ c.in_ok-write_front.ensures c.in_ok-write.ensures.bytes
+    let list : NamedRows = record { name = codes "symbols"; rows = [] } in
+    ok_more _ _ c.print_end_past.result (λ outcome end.
+    list_and_past c.args.left list 0 c.in_ok-told.told outcome.whole outcome.left _ _ _ c.in_ok-told.ensures end) c.print_end_past.ensures

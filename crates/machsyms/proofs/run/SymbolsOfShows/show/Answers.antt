@@ -1,14 +1,15 @@
-use Rattle.std.proofs.Common.{◌≡◌, ◌∙◌, List, ap, map, subst, sym}
-use Rattle.std.specs.Prelude.{IsTrue, ◌↔◌}
+use Rattle.std.proofs.Common.{◌≡◌, ◌∙◌, ℕ, List, ap, map, subst, sym}
+use Rattle.std.specs.Prelude.{IsTrue, ◌↔◌, codes}
 use Rattle.mach_base.specs.declared.context.Container.TheVariants.{Big}
 use Rattle.mach_base.specs.declared.context.Ctx.{Ctx}
 use Rattle.mach_base.proofs.Written.{Appends-both}
 use Rattle.goblin_mach.specs.ImageFacts.{facts_held}
 use Rattle.goblin_mach.specs.OpenImage.{commands_held}
+use Rattle.mach_cli.specs.Listings.{AreFirstLines}
 use Rattle.machsyms.specs.Letters.{letter_of}
-use Rattle.machsyms.specs.Lines.{AreTableLines}
+use Rattle.machsyms.specs.Lines.{asked_lines, past_the_end, symbols_over, unreadable_word}
 use Rattle.machsyms.specs.Order.{gone_over}
-use Rattle.machsyms.specs.Setting.{SymbolSetting, setting_view}
+use Rattle.machsyms.specs.Setting.{SymbolSetting, setting_of, setting_view}
 use Rattle.machsyms.specs.declared.order.SortKey.{SortKey}
 use Rattle.machsyms.proofs.run.SymbolsOfShows.show.Goals as goal
 
@@ -17,11 +18,17 @@ returns-clause-shown g c = λ bytes opened.
     let m = c.args.image.now in
     let a = c.args.self.now.asked in
     let f = facts_held m in
-    let whole = c.in_ok-whole.whole in
-    let lines = c.in_ok-whole.ensures in
+    let outcome = c.in_ok-print_symbols.field-0 in
+    let lines = c.in_ok-print_symbols.ensures in
     let there = c.deref-2.ensures.value ∙ c.in_ok-sections.ensures in
     let lettered = c.deref-3.ensures.value ∙ c.in_ok-letters.ensures ∙ ap (map letter_of) (c.deref.ensures.value ∙ c.in_ok-sections.ensures) in
-    let set = c.new-setting.ensures there lettered in (
+    let set = c.new-setting.ensures there lettered in
+    let word = c.as_str.ensures.value ∙ c.in_ok-word.ensures in
+    let over = λ (begin : List ℕ) (w : SymbolSetting) (ks : List SortKey). AreFirstLines begin c.args.self.now.limit c.args.left
+    (asked_lines a w (symbols_over (gone_over a.sorting ks) f.symbols)) (codes "symbols") (past_the_end f.symbols) lines.text outcome.whole outcome.left in
+    let seen = setting_view c.new-setting.result in
+    let found = setting_of m.is_64 f in
+    let keys = c.in_ok-keys.keys.items in (
       lines.text,
       record {
         opens = (opened.ctx, commands_held m, opened.opens);
@@ -29,11 +36,10 @@ returns-clause-shown g c = λ bytes opened.
         has_facts = c.facts_of_image.ensures.strict bytes 0 opened;
         is_64 = m.is_64;
         has_width = subst (λ (x : Ctx). IsTrue m.is_64 ↔ (x.container ≡ Big)) (sym opened.fields.ctx_is) opened.fields.is_64;
-        keys = c.in_ok-keys.keys.items;
+        keys = keys;
         in_order = c.in_ok-keys.ensures;
-        lines = subst (λ (w : SymbolSetting). AreTableLines a w (gone_over a.sorting c.in_ok-keys.keys.items) f.symbols lines.text whole) set
-            (subst (λ (ks : List SortKey). AreTableLines a (setting_view c.new-setting.result) (gone_over a.sorting ks) f.symbols lines.text whole)
-            c.deref-4.ensures.value lines.lines);
+        lines = subst (λ (begin : List ℕ). over begin found keys) word (subst (λ (w : SymbolSetting). over c.as_str.result.now w keys) set
+            (subst (λ (ks : List SortKey). over c.as_str.result.now seen ks) c.deref-4.ensures.value lines.lines));
       },
       Appends-both _ _ _ _ lines.text c.in_ok-write.ensures.bytes lines.written,
     )

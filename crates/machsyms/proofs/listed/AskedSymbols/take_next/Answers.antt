@@ -1,9 +1,10 @@
-use Rattle.std.proofs.Common.{◌∷◌, ◌∙◌, sym, ap}
+use Rattle.std.proofs.Common.{◌∙◌, sym, ap}
+use Rattle.std.specs.List.{filter}
 use Rattle.mach_parts.specs.SymbolViews.{symbol_read}
-use Rattle.machsyms.specs.JsonSymbols.{asked_objects}
+use Rattle.machsyms.specs.Asked.{takes}
 use Rattle.machsyms.specs.Listed.{source_left}
-use Rattle.machsyms.proofs.JsonLists.{asked_skips, asked_takes}
-use Rattle.machsyms.proofs.listed.AskedSymbolsListing.next_row.Goals as goal
+use Rattle.machsyms.proofs.AskedLists.{asked_skips, asked_takes}
+use Rattle.machsyms.proofs.listed.AskedSymbols.take_next.Goals as goal
 
 pub symbols-preserved : goal.symbols-preserved
 symbols-preserved c =
@@ -16,7 +17,9 @@ returns-then-takes c =
     c.symbols.invariant
     ∙ asked_takes c.symbols.self.asked (source_left c.symbols.self.source) (symbol_read c.in-Some.answer) (source_left c.take_next.new.self)
     c.in-Some.ensures (sym c.takes.ensures ∙ c.if-takes.true)
-    ∙ ap (λ row. row ∷ asked_objects c.symbols.self.asked (source_left c.take_next.new.self)) (sym c.row_of.ensures)
 
 pub returns : goal.returns
-returns c = c.symbols.invariant ∙ ap (asked_objects c.symbols.self.asked) c.in_default.ensures.0
+returns c =
+    let none = c.in_default.ensures in
+    let asked = c.symbols.self.asked in
+    (c.symbols.invariant ∙ ap (filter (takes asked)) none.0, ap (filter (takes asked)) none.1)

@@ -1,0 +1,89 @@
+//! The lines of the symbols that are asked for, one at a time.
+
+ghost use Rattle.std.specs.Prelude.{◌≡◌, codes, OnOk};
+ghost use Rattle.std.specs.Io.KnownBytes.{Appends};
+ghost use Rattle.mach_parts.specs.SymbolViews.{table_of};
+ghost use Rattle.machsyms.specs.Listed.{lines_left, lines_past, symbol_line_text};
+ghost use Rattle.machsyms.specs.Lines.{asked_lines};
+ghost use Rattle.machsyms.specs.Order.{gone_over};
+ghost use Rattle.machsyms.specs.Setting.{setting_view};
+
+use crate::listed::AskedSymbols;
+use crate::order::SortKey;
+use crate::selection::Asked;
+use crate::setting::Setting;
+use crate::text::SymbolText;
+use goblin_mach::symbols::Symbols;
+use mach_cli::Listing;
+use std::alloc::Allocator;
+use std::io;
+use std::io::Write;
+
+/// The lines of the symbols of a table that are asked for, from one on.
+#[derive(Drop)]
+pub struct SymbolLines<'c, 's, 'k, 'b, 'a, A: Allocator> {
+    asked: Asked<'s>,
+    setting: &'c Setting<'b, 'a, A>,
+    symbols: AskedSymbols<'s, 'k, 'a>,
+    past: usize,
+}
+
+impl<'c, 's, 'k, 'b, 'a, A: Allocator> SymbolLines<'c, 's, 'k, 'b, 'a, A> {
+    /// Those of a table, as they stand there or by the keys, where so many symbols more begin past the end.
+    pub fn of(
+        asked: Asked<'s>,
+        setting: &'c Setting<'b, 'a, A>,
+        keys: &'k [SortKey<'a>],
+        table: &'k Symbols<'a>,
+        past: usize,
+    ) -> Self
+        ensures lines { lines_left result ≡ asked_lines asked.entry (setting_view setting.now) (gone_over asked.entry.sorting keys.now (table_of table.now)) }
+        ensures past { lines_past result ≡ past }
+    {
+        SymbolLines {
+            asked,
+            setting,
+            symbols: AskedSymbols::of(asked, keys, table),
+            past,
+        }
+    }
+}
+
+impl<'c, 's, 'k, 'b, 'a, A: Allocator> Listing for SymbolLines<'c, 's, 'k, 'b, 'a, A> {
+    type Row = SymbolText<'c, 's, 'b, 'a, A>;
+
+    ghost text = { symbol_line_text };
+
+    ghost left = { lines_left };
+
+    ghost past = { lines_past };
+
+    ghost past_name = { λ _. codes "symbols" };
+
+    fn next_row(&mut self) -> Option<goblin_mach::Result<SymbolText<'c, 's, 'b, 'a, A>>> {
+        let (asked, setting) = (self.asked, self.setting);
+        match self.symbols.take_next()? {
+            Ok((name, symbol)) => Some(Ok(SymbolText {
+                asked,
+                setting,
+                name,
+                symbol,
+            })),
+            Err(error) => Some(Err(error)),
+        }
+    }
+
+    fn past(&self) -> usize {
+        self.past
+    }
+
+    fn past_name(&self) -> &'static str {
+        "symbols"
+    }
+
+    fn write_row<O: Write>(row: &SymbolText<'c, 's, 'b, 'a, A>, out: &mut O) -> io::Result<()>
+        ensures { OnOk result (Appends (O.contents out.old) (O.contents out.new) (symbol_line_text row.now)) }
+    {
+        write!(out, "{row}")
+    }
+}
