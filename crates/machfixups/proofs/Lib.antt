@@ -1,3 +1,6 @@
 mod Limit
 mod Facts
 mod JsonMembers
+mod Changes
+mod PartLists
+mod RowLines

@@ -12,10 +12,10 @@ use Rattle.machfixups.specs.Rows.{rows_in_order, readable_table}
 use Rattle.machfixups.specs.declared.rows.Picks.{Picks}
 
 -- The text is the lines of the image at the front of the bytes: one for each rebase of its opcodes, in order, then one for each of their binds,
--- then one for each row of its weak binds, then one for each fixup of its chains, of the lists that are picked, over its segments; of all of
--- them the first ones, as many as are left of the limit, and where there are more, a line that says so. It is whole where there are no more and
--- none is missing. `rest` are left behind it.
-pub record AreImagePointerLines (picks : Picks) (limit left : ℕ) (bytes : List ℕ) (text : List ℕ) (whole : Bool) (rest : ℕ) : Type 0 where
+-- then one for each row of its weak binds, then one for each fixup of its chains, of the lists that are picked, over its segments, which have
+-- room for so many sections; of all of them the first ones, as many as are left of the limit, and where there are more, a line that says so. It is
+-- whole where there are no more and none is missing. `rest` are left behind it.
+pub record AreImagePointerLines (picks : Picks) (limit room left : ℕ) (bytes : List ℕ) (text : List ℕ) (whole : Bool) (rest : ℕ) : Type 0 where
   pub opens : Opens bytes 0
   pub segments : List SegmentView
   pub has_segments : HasSegments bytes 0 segments
@@ -23,4 +23,4 @@ pub record AreImagePointerLines (picks : Picks) (limit left : ℕ) (bytes : List
   pub has_lists : HasPointerLists bytes 0 lists
   pub chained : Result (Option Fixups) Fault
   pub has_chained : HasChainedFixups bytes 0 chained
-  pub lines : AreLinesTo limit left (rows_in_order picks (parts_of segments) (readable_table chained) lists) text whole rest
+  pub lines : AreLinesTo limit left (rows_in_order picks (parts_of room segments) (readable_table chained) lists) text whole rest

@@ -16,10 +16,11 @@ use Rattle.machfixups.specs.declared.rows.Picks.{Picks}
 use Rattle.machfixups.specs.declared.rows.Rows as over
 
 -- The text is the members of the image at the front of the bytes: of the lists that are picked exactly an object for each rebase of its opcodes, in
--- order, for each of their binds, for each row of its weak binds, and for each fixup of its chains, over its segments; of all of them the first
--- ones, as many as are left of the limit, and whether there are more. It is whole where there are no more and none is missing. `rest` are left
+-- order, for each of their binds, for each row of its weak binds, and for each fixup of its chains, over its segments,
+-- which have room for so many sections; of all of them the first ones, as many as are left of the limit, and whether there are more. It is whole
+-- where there are no more and none is missing. `rest` are left
 -- behind it.
-pub record AreImagePointerMembers (picks : Picks) (left : ℕ) (bytes : List ℕ) (text : List ℕ) (whole : Bool) (rest : ℕ) : Type 0 where
+pub record AreImagePointerMembers (picks : Picks) (room left : ℕ) (bytes : List ℕ) (text : List ℕ) (whole : Bool) (rest : ℕ) : Type 0 where
   pub opens : Opens bytes 0
   pub segments : List SegmentView
   pub has_segments : HasSegments bytes 0 segments
@@ -27,7 +28,7 @@ pub record AreImagePointerMembers (picks : Picks) (left : ℕ) (bytes : List ℕ
   pub has_lists : HasPointerLists bytes 0 lists
   pub chained : Result (Option Fixups) Fault
   pub has_chained : HasChainedFixups bytes 0 chained
-  pub members : AreListMembers left (pointer_members picks (parts_of segments) (readable_table chained) lists) text whole rest
+  pub members : AreListMembers left (pointer_members picks (parts_of room segments) (readable_table chained) lists) text whole rest
 
 -- the objects of the rows that are left
 abbrev pub objects_left : {A : Type 0} → over.Rows A → List (Result (List ℕ) Fault)

@@ -1,6 +1,8 @@
+pub mod Stretches
 pub mod Parts
 pub mod Lists
 pub mod Rows
+pub mod PickWords
 pub mod RowsLeft
 pub mod Lines
 pub mod ImageLines

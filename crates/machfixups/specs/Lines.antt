@@ -10,6 +10,7 @@ use Rattle.mach_base.specs.Fault.{Fault}
 use Rattle.mach_base.specs.Words.{words_of}
 use Rattle.mach_base.specs.declared.error.Error.{Error}
 use Rattle.mach_parts.specs.PointerSigning.{Auth}
+use Rattle.mach_cli.specs.Escapes.{escaped_text}
 use Rattle.mach_cli.specs.Lines.{AreLines, WritesLines}
 use Rattle.mach_dyld.specs.declared.rebases.RebaseKind.{RebaseKind}
 use Rattle.mach_dyld.specs.declared.rebases.RebaseKind.TheVariants.{Pointer, TextAbsolute32, TextRelative32}
@@ -24,7 +25,7 @@ hex n = codes "0x" ++ digits 16 false n
 
 -- an address, the name of the segment and that of the section
 abbrev pub pointer_place_text : PointerPlace → List ℕ
-pointer_place_text p = hex p.address ++ codes " " ++ p.segment ++ codes " " ++ p.section
+pointer_place_text p = hex p.address ++ codes " " ++ escaped_text p.segment ++ codes " " ++ escaped_text p.section
 
 -- the keys of arm64e
 abbrev pub key_text : ℕ → List ℕ
@@ -55,7 +56,7 @@ flags_text true true (Some a) = codes "weak,lazy," ++ auth_text a
 
 -- the addend, the flags and the name
 abbrev pub bind_text : PointerBind → List ℕ
-bind_text b = signed_decimal b.addend ++ codes " " ++ flags_text b.is_weak b.is_lazy b.auth ++ codes " " ++ b.name
+bind_text b = signed_decimal b.addend ++ codes " " ++ flags_text b.is_weak b.is_lazy b.auth ++ codes " " ++ escaped_text b.name
 
 -- what is corrected, where it is no pointer
 abbrev pub rebase_kind_text : RebaseKind → List ℕ
@@ -76,7 +77,7 @@ action_text (is_value number) = codes "value " ++ hex number
 
 abbrev pub row_text : PointerRow → List ℕ
 row_text (corrects place action) = pointer_place_text place ++ codes " " ++ action_text action
-row_text (is_strong name) = codes "- - - strong " ++ name
+row_text (is_strong name) = codes "- - - strong " ++ escaped_text name
 
 -- The line of a row as it was answered: the row, or why there is none.
 abbrev pub row_line : Result declared.Row Error → List ℕ

@@ -1,14 +1,16 @@
 -- The segments and the sections in which addresses lie, and their names (`mach-o/loader.h`).
-use Rattle.std.specs.Prelude.{ℕ, ◌+◌, List, [], ◌∷◌, codes, map, Bool, ◌&&◌, Option, Some, None, Result, Ok, Err, nat_le, nat_lt}
+use Rattle.std.specs.Prelude.{ℕ, ◌-◌, List, [], ◌∷◌, codes, map, Option, Some, None, Result, Ok, Err, nat_le}
 use Rattle.std.specs.Prelude.{if◌then◌else◌}
 use Rattle.std.specs.Result.{result_unwrap_or}
 use Rattle.mach_base.specs.Fault.{Fault}
 use Rattle.mach_base.specs.Text.{text_at}
 use Rattle.mach_base.specs.Items.{all_read}
 use Rattle.mach_parts.specs.Segment.{SegmentView, sections_of}
-use Rattle.mach_parts.specs.SectionItems.{section_and_bytes}
 use Rattle.mach_parts.specs.declared.segment.section.Section.{Section}
+use Rattle.machfixups.specs.Stretches.{at_number, first_holder}
 use Rattle.machfixups.specs.declared.section_names.Part as declared
+use Rattle.machfixups.specs.declared.section_names.Parts as over
+use Rattle.machfixups.specs.declared.stretches.Stretch.{Stretch}
 
 -- a name as it is shown: `-` where it is empty or can't be read
 abbrev pub shown_name : Result (List ℕ) Fault → List ℕ
@@ -16,50 +18,48 @@ shown_name (Ok []) = codes "-"
 shown_name (Ok (first ∷ rest)) = first ∷ rest
 shown_name (Err f) = codes "-"
 
--- a segment with its sections: where it lies in memory, and the name that is shown of it
+-- the name that is shown of a segment or a section, `-` where there is none
+abbrev pub stretch_name : Option Stretch → List ℕ
+stretch_name None = codes "-"
+stretch_name (Some s) = shown_name (text_at s.name 0)
+
+-- a segment with its sections: where they lie in memory, and their names
 pub record Part : Type 0 where
-  pub name : List ℕ
-  pub vmaddr : ℕ
-  pub vmsize : ℕ
-  pub sections : List (Section × List ℕ)
+  pub memory : Stretch
+  pub sections : List Stretch
 
--- that of a segment: it has no sections where one of them can't be read
-abbrev pub part_of_segment : SegmentView → Part
-part_of_segment s = record {
-  name = shown_name (text_at s.command.segname 0);
-  vmaddr = s.command.vmaddr;
-  vmsize = s.command.vmsize;
-  sections = result_unwrap_or (all_read (sections_of s)) [];
-}
+abbrev pub memory_of_segment : SegmentView → Stretch
+memory_of_segment s = record { name = s.command.segname; start = s.command.vmaddr; size = s.command.vmsize }
 
--- those of all segments, in order
-abbrev pub parts_of : List SegmentView → List Part
-parts_of segments = map part_of_segment segments
+abbrev pub memory_of_section : Section × List ℕ → Stretch
+memory_of_section s = record { name = s.0.sectname; start = s.0.addr; size = s.0.size }
 
--- whether a stretch of memory holds an address
-abbrev pub holds : (start size address : ℕ) → Bool
-holds start size address = nat_le start address && nat_lt address (start + size)
+-- The sections of a segment, where it claims no more than `room`; none where one of them can't be read.
+abbrev pub sections_within : (room : ℕ) → SegmentView → List Stretch
+sections_within room s = if nat_le s.command.nsects room then map memory_of_section (result_unwrap_or (all_read (sections_of s)) []) else []
+
+-- of so much room what the sections of a segment leave, where they have some
+abbrev pub room_after : (room : ℕ) → SegmentView → ℕ
+room_after room s = if nat_le s.command.nsects room then room - s.command.nsects else room
+
+-- Segments with their sections, in order: all of them claim no more than `room` sections, and one that claims more than is left has none. So sections
+-- whose records lie over each other take no more memory than that.
+abbrev pub parts_of : (room : ℕ) → List SegmentView → List Part
+parts_of room [] = []
+parts_of room (s ∷ ss) = record { memory = memory_of_segment s; sections = sections_within room s } ∷ parts_of (room_after room s) ss
 
 -- the first segment that holds an address
 abbrev pub part_with : ℕ → List Part → Option Part
-part_with address [] = None
-part_with address (p ∷ ps) = if holds p.vmaddr p.vmsize address then Some p else part_with address ps
+part_with address parts = at_number parts (first_holder address 0 (map (λ p. p.memory) parts))
 
 -- the name that is shown of the first section that holds an address, `-` where none does
-abbrev pub section_with : ℕ → List (Section × List ℕ) → List ℕ
-section_with address [] = codes "-"
-section_with address (s ∷ ss) =
-    if holds s.0.addr s.0.size address then shown_name (text_at s.0.sectname 0) else section_with address ss
+abbrev pub section_with : ℕ → List Stretch → List ℕ
+section_with address sections = stretch_name (at_number sections (first_holder address 0 sections))
 
 -- ---- what the code's values stand for
 
 abbrev pub part_view : {A : Type 0} → declared.Part A → Part
-part_view p = record {
-  name = shown_name (text_at p.segname 0);
-  vmaddr = p.vmaddr;
-  vmsize = p.vmsize;
-  sections = map section_and_bytes p.sections.items;
-}
+part_view p = record { memory = p.memory; sections = p.sections.items.items }
 
-abbrev pub parts_seen : {A : Type 0} → List (declared.Part A) → List Part
-parts_seen parts = map part_view parts
+abbrev pub parts_seen : {A : Type 0} → over.Parts A → List Part
+parts_seen parts = map part_view parts.items.items

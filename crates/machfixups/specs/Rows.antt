@@ -19,7 +19,7 @@ use Rattle.mach_dyld.specs.WeakBinds.{WeakBind, strong_name, weakly_bound}
 use Rattle.mach_dyld.specs.declared.rebases.RebaseKind.{RebaseKind}
 use Rattle.mach_dyld.specs.declared.rebases.RebaseKind.TheVariants.{Pointer}
 use Rattle.machfixups.specs.Lists.{PointerLists}
-use Rattle.machfixups.specs.Parts.{Part, part_with, section_with}
+use Rattle.machfixups.specs.Parts.{Part, part_with, section_with, stretch_name}
 use Rattle.machfixups.specs.declared.row.Action as declared_action
 use Rattle.machfixups.specs.declared.row.Action.TheVariants as variants
 use Rattle.machfixups.specs.declared.row.Bind as declared_bind
@@ -59,7 +59,7 @@ pub data PointerRow : Type 0 where
 -- the place of an address in a segment, if there is one
 abbrev pub place_in : Option Part → ℕ → PointerPlace
 place_in None address = record { address = address; segment = codes "-"; section = codes "-" }
-place_in (Some p) address = record { address = address; segment = p.name; section = section_with address p.sections }
+place_in (Some p) address = record { address = address; segment = stretch_name (Some p.memory); section = section_with address p.sections }
 
 -- what is asked for at an address, in the first segment that holds it
 abbrev pub row_by_address : List Part → ℕ → Action → PointerRow

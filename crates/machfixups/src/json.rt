@@ -1,7 +1,8 @@
 //! What the program writes of an image and of a file as JSON, and its exit status.
 
-ghost use Rattle.std.specs.Prelude.{◌≡◌, ◌≤◌, [], codes};
+ghost use Rattle.std.specs.Prelude.{◌≡◌, ◌≤◌, [], codes, length};
 ghost use Rattle.std.specs.Io.Buffered.{writer_buffer, writer_contents};
+ghost use Rattle.mach_cli.specs.Bounds.{most_items};
 ghost use Rattle.mach_cli.specs.Names.{names_text};
 ghost use Rattle.mach_cli.specs.Shown.{Shown, Writes};
 ghost use Rattle.mach_cli.specs.Statuses.{IsStatus, status_by};
@@ -11,9 +12,9 @@ ghost use Rattle.machfixups.specs.JsonImages.{AreImagePointerMembers};
 use crate::members::write_members;
 use crate::rows::Picks;
 use crate::run::NAME;
-use crate::section_names::image_parts;
+use crate::section_names::Parts;
 use goblin_mach::MachO;
-use mach_cli::{Cpu, Failure, Heading, Names, Outcome, Shows};
+use mach_cli::{Cpu, Failure, Heading, Names, Outcome, Shows, most_items};
 use std::alloc::Allocator;
 use std::io::{BufWriter, Write};
 
@@ -22,12 +23,14 @@ use std::io::{BufWriter, Write};
 struct Objects<'a> {
     file: &'a str,
     picks: Picks,
+    // How many sections are looked at, at most.
+    room: usize,
 }
 
 impl Shows for Objects<'_> {
     ghost names = { λ asked. names_text (codes "machfixups") asked.file.now };
 
-    ghost lines = { λ asked. AreImagePointerMembers asked.picks };
+    ghost lines = { λ asked. AreImagePointerMembers asked.picks asked.room };
 
     fn names(&self) -> Names<'_> {
         Names {
@@ -44,7 +47,7 @@ impl Shows for Objects<'_> {
         left: usize,
         out: &mut O,
     ) -> Result<Outcome, Failure> {
-        let parts = image_parts(alloc, image)?;
+        let parts = Parts::of_image(alloc, image, self.room)?;
         write!(out, "{heading}")?;
         Ok(write_members(image, &parts, self.picks, left, out)?)
     }
@@ -64,11 +67,17 @@ pub fn run_json<A: Allocator + Clone, W: Write + Drop, B: Allocator, E: Write>(
 ) -> u8
     ensures status { IsStatus result }
     ensures shown { result ≤ 1 → (shown : Shown)
-        × IsDocument cpu (names_text (codes "machfixups") file.now) file.now (AreImagePointerMembers picks) limit bytes.now shown
+        × IsDocument cpu (names_text (codes "machfixups") file.now) file.now (AreImagePointerMembers picks (length bytes.now)) (most_items limit bytes.now)
+        bytes.now shown
         × (result ≡ status_by shown.whole)
         × Writes shown (writer_contents W.contents out.old) (writer_contents W.contents out.new) (E.contents err.old) (E.contents err.new) }
     ensures flushed { result ≤ 1 → writer_buffer out.new ≡ [] }
 {
-    let objects = Objects { file, picks };
+    let limit = most_items(limit, bytes);
+    let objects = Objects {
+        file,
+        picks,
+        room: bytes.len(),
+    };
     mach_cli::json::run::run(&objects, file, cpu, limit, &alloc, bytes, out, err)
 }

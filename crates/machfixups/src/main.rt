@@ -19,22 +19,25 @@
 #![tactic(auto)]
 
 mod json;
+mod laws;
 mod members;
+mod memory;
 mod object;
 mod print;
 mod row;
 mod rows;
 mod run;
 mod section_names;
+mod stretches;
 mod text;
 mod words;
 
 use json::run_json;
-use mach_cli::{Cpu, Files, ForTerminal, Misuse, Program, ShowsFile, take_json};
+use mach_cli::{Call, Cpu, Files, ForTerminal, Misuse, Program, ShowsFile, Titled, take_json};
 use print::DEFAULT_LIMIT;
 use rows::Picks;
 use run::{NAME, run};
-use std::alloc::Allocator;
+use std::alloc::{Allocator, Global};
 use std::io;
 use std::io::{BufWriter, IsTerminal, Write};
 use std::process::ExitCode;
@@ -42,7 +45,7 @@ use words::take_picks;
 
 const USAGE: &str =
     "usage: machfixups [--rebases] [--binds] [--weak] [--chains] [--json] [--limit N] \
-    [--arch NAME | --cputype 0xN] FILE..\n       machfixups -h | --help | --version\n";
+    [--arch NAME | --cputype 0xN] [--names FILE [-0]] FILE..\n       machfixups -h | --help | --version\n";
 
 const PROGRAM: Program = Program {
     name: NAME,
@@ -50,6 +53,7 @@ const PROGRAM: Program = Program {
     version: "machfixups 0.2.0\n",
     has_limit: true,
     has_cpu: true,
+    has_files: true,
     known: &[
         "--arch",
         "--binds",
@@ -58,6 +62,7 @@ const PROGRAM: Program = Program {
         "--help",
         "--json",
         "--limit",
+        "--names",
         "--rebases",
         "--version",
         "--weak",
@@ -86,7 +91,7 @@ fn start(rt: &HostRuntime) -> Result<u8, u8> {
         limit: call.limit.unwrap_or(DEFAULT_LIMIT),
         is_json,
     };
-    show_files(rt, shown, &call.words)
+    show_files(rt, shown, &call)
 }
 
 // What is shown of each file: the lists that are picked, `limit` lines at most, or objects.
@@ -116,18 +121,20 @@ impl<W: Write + Drop, B: Allocator> ShowsFile<BufWriter<W, B>> for Shown {
 }
 
 // Shows of files in order the images that are asked for, and answers the worst status.
-fn show_files(rt: &HostRuntime, shown: Shown, files: &[&str]) -> Result<u8, u8> {
-    if files.is_empty() {
+fn show_files(rt: &HostRuntime, shown: Shown, call: &Call<'_, Global>) -> Result<u8, u8> {
+    let (files, others) = (&call.words, &call.others);
+    if files.is_empty() && others.is_empty() {
         return Err(PROGRAM.bad_usage(rt, Misuse::Missing("FILE")));
     }
     let output = ForTerminal::new(io::writer(rt), rt.stdout().is_terminal());
-    let Ok(mut lines) = BufWriter::new(rt.alloc(), output) else {
+    let Ok(mut lines) = BufWriter::new(rt.alloc(), Titled::new(rt.alloc(), output)) else {
         return Err(PROGRAM.out_of_memory(rt));
     };
-    let call = Files {
+    let shows = Files {
         program: PROGRAM,
         cpu: shown.cpu,
         has_titles: !shown.is_json,
+        has_parts: true,
     };
-    call.show(rt, &shown, files, &mut lines)
+    shows.show(rt, &shown, files, others, &mut lines)
 }

@@ -18,7 +18,7 @@ use crate::object::PointerObject;
 use crate::print::table_of;
 use crate::row::Row;
 use crate::rows::{Items, Picks, Rows};
-use crate::section_names::Part;
+use crate::section_names::Parts;
 use goblin_mach::chained_fixups::ChainedFixups;
 use goblin_mach::{MachO, laws};
 use mach_cli::{Listing, Outcome, Told, print_empty, print_end, print_member, then};
@@ -40,6 +40,14 @@ impl<'p, 'a, A: Allocator> Listing for Rows<'p, 'a, '_, A> {
         }
     }
 
+    fn past(&self) -> usize {
+        0
+    }
+
+    fn past_name(&self) -> &'static str {
+        ""
+    }
+
     fn write_row<O: Write>(row: &Row<'p, 'a>, out: &mut O) -> io::Result<()>
         ensures { OnOk result (Appends (O.contents out.old) (O.contents out.new) (pointer_row_text row.now)) }
     {
@@ -53,7 +61,7 @@ impl<'p, 'a, A: Allocator> Listing for Rows<'p, 'a, '_, A> {
 /// writes the first `left`, and whether there are more; then they are not all read. Each object is one less that is left for the images behind.
 pub fn write_members<A: Allocator, B: Allocator, O: Write>(
     image: &MachO<'_, A>,
-    parts: &[Part<'_, B>],
+    parts: &Parts<B>,
     picks: Picks,
     left: usize,
     out: &mut O,
@@ -93,7 +101,7 @@ pub fn write_members<A: Allocator, B: Allocator, O: Write>(
 fn write_list<'a, B: Allocator, O: Write>(
     name: &str,
     is_shown: bool,
-    parts: &[Part<'a, B>],
+    parts: &Parts<B>,
     table: &Option<ChainedFixups<'a>>,
     items: Items<'a, '_>,
     limit: usize,

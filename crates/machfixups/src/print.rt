@@ -16,7 +16,7 @@ ghost use Rattle.machfixups.specs.RowsLeft.{rows_left, rows_of_items};
 
 use crate::row::Row;
 use crate::rows::{Items, Picks, Rows};
-use crate::section_names::Part;
+use crate::section_names::Parts;
 use goblin_mach::chained_fixups::ChainedFixups;
 use goblin_mach::{MachO, describe, laws};
 use mach_cli::Outcome;
@@ -79,7 +79,7 @@ impl Told {
 /// `limit` are told; then they are not all read. Each line is one less that is left for the images behind.
 pub fn print_fixups<A: Allocator, B: Allocator, O: Write>(
     image: &MachO<'_, A>,
-    parts: &[Part<'_, B>],
+    parts: &Parts<B>,
     picks: Picks,
     limit: usize,
     left: usize,
@@ -135,7 +135,7 @@ pub fn table_of<'a, A: Allocator>(image: &MachO<'a, A>) -> Option<ChainedFixups<
 // Prints a line for each row of a list, if it is shown, up to the limit.
 fn print_list<'a, B: Allocator, O: Write>(
     is_shown: bool,
-    parts: &[Part<'a, B>],
+    parts: &Parts<B>,
     table: &Option<ChainedFixups<'a>>,
     items: Items<'a, '_>,
     limit: usize,

@@ -14,7 +14,7 @@ ghost use Rattle.machfixups.specs.Rows.{place_in, ordinal_of, bind_of_binding, r
 ghost use Rattle.machfixups.specs.Rows.{row_for_binding, row_for_rebase, row_for_weak, row_for_fixup, place_view, bind_view, action_view, row_view};
 ghost use Rattle.machfixups.specs.Rows.{row_of_fixup, row_read, fixups_table_seen};
 
-use crate::section_names::{Part, part_with};
+use crate::section_names::{Part, Parts};
 use goblin_mach::chained_fixups::{ChainedFixups, ChainedImport, Fixup, FixupKind, PointerAuth};
 use goblin_mach::{Binding, Error, Provider, Rebase, RebaseKind, Result, WeakBind};
 use std::alloc::Allocator;
@@ -71,7 +71,7 @@ pub enum Row<'b, 'a> {
 }
 
 // The place of an address in a segment, if there is one.
-fn place_in<'b, A: Allocator>(part: Option<&'b Part<'_, A>>, address: u64) -> Place<'b>
+fn place_in<'b, A: Allocator>(part: Option<&'b Part<A>>, address: u64) -> Place<'b>
     ensures { place_view result ≡ place_in (option_map (λ p. part_view p.now) part.entry) address }
 {
     match part {
@@ -117,21 +117,21 @@ fn bind_of_binding<'a>(binding: &Binding<'a>) -> Bind<'a>
 
 // What is asked for at an address, in the first segment that holds it.
 fn row_by_address<'b, 'a, A: Allocator>(
-    parts: &'b [Part<'_, A>],
+    parts: &'b Parts<A>,
     address: u64,
     action: Action<'a>,
 ) -> Row<'b, 'a>
     ensures { row_view result ≡ row_by_address (parts_seen parts.now) address (action_view action.entry) }
 {
     Row::At {
-        place: place_in(part_with(address, parts), address),
+        place: place_in(parts.first_with(address), address),
         action,
     }
 }
 
 // What is asked for at an address, in the segment of a number.
 fn row_by_segment<'b, 'a, A: Allocator>(
-    parts: &'b [Part<'_, A>],
+    parts: &'b Parts<A>,
     segment: u32,
     address: u64,
     action: Action<'a>,
@@ -194,7 +194,7 @@ fn action_of<'a>(table: &Option<ChainedFixups<'a>>, fixup: &Fixup) -> Result<Act
 
 // What is shown of a fixup of the chains, in its segment; refused where the import of a bind can't be read.
 fn row_of_fixup<'b, 'a, A: Allocator>(
-    parts: &'b [Part<'_, A>],
+    parts: &'b Parts<A>,
     table: &Option<ChainedFixups<'a>>,
     fixup: &Fixup,
 ) -> Result<Row<'b, 'a>>
@@ -206,7 +206,7 @@ fn row_of_fixup<'b, 'a, A: Allocator>(
 
 /// What is shown of an item of the opcodes that rebase: its place is in its own segment.
 pub fn rebase_row<'b, 'a, A: Allocator>(
-    parts: &'b [Part<'_, A>],
+    parts: &'b Parts<A>,
     item: Result<Rebase>,
 ) -> Result<Row<'b, 'a>>
     ensures { row_read result ≡ row_for_rebase (parts_seen parts.now) (rebase_read item) }
@@ -222,7 +222,7 @@ pub fn rebase_row<'b, 'a, A: Allocator>(
 
 /// What is shown of an item of the opcodes that bind weakly.
 pub fn weak_row<'b, 'a, A: Allocator>(
-    parts: &'b [Part<'_, A>],
+    parts: &'b Parts<A>,
     item: Result<WeakBind<'a>>,
 ) -> Result<Row<'b, 'a>>
     ensures { row_read result ≡ row_for_weak (parts_seen parts.now) (weak_bind_read item.entry) }
@@ -238,7 +238,7 @@ pub fn weak_row<'b, 'a, A: Allocator>(
 
 /// What is shown of an item of the opcodes that bind: its place is in the first segment that holds its address.
 pub fn binding_row<'b, 'a, A: Allocator>(
-    parts: &'b [Part<'_, A>],
+    parts: &'b Parts<A>,
     item: Result<Binding<'a>>,
 ) -> Result<Row<'b, 'a>>
     ensures { row_read result ≡ row_for_binding (parts_seen parts.now) (binding_read item.entry) }
@@ -250,7 +250,7 @@ pub fn binding_row<'b, 'a, A: Allocator>(
 
 /// What is shown of an item of the chains.
 pub fn fixup_row<'b, 'a, A: Allocator>(
-    parts: &'b [Part<'_, A>],
+    parts: &'b Parts<A>,
     table: &Option<ChainedFixups<'a>>,
     item: Result<Fixup>,
 ) -> Result<Row<'b, 'a>>

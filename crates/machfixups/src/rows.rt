@@ -5,7 +5,7 @@ ghost use Rattle.machfixups.specs.Rows.{row_read, shown_picks};
 ghost use Rattle.machfixups.specs.RowsLeft.{rows_left};
 
 use crate::row::{Row, binding_row, fixup_row, rebase_row, weak_row};
-use crate::section_names::Part;
+use crate::section_names::Parts;
 use goblin_mach::chained_fixups::ChainedFixups;
 use goblin_mach::{
     FixupIterator, OpcodeBindingIterator, OpcodeRebaseIterator, Result, WeakBindIterator,
@@ -57,7 +57,7 @@ pub enum Items<'a, 'b> {
 #[derive(Drop)]
 pub struct Rows<'p, 'a, 'b, A: Allocator> {
     /// The segments in which its items lie.
-    pub parts: &'p [Part<'a, A>],
+    pub parts: &'p Parts<A>,
     /// Where the imports of its binds stand.
     pub table: &'p Option<ChainedFixups<'a>>,
     pub items: Items<'a, 'b>,

@@ -1,7 +1,8 @@
 //! What the program shows of an image and of a file, and its exit status.
 
-ghost use Rattle.std.specs.Prelude.{◌≡◌, ◌≤◌, [], codes};
+ghost use Rattle.std.specs.Prelude.{◌≡◌, ◌≤◌, [], codes, length};
 ghost use Rattle.std.specs.Io.Buffered.{writer_buffer, writer_contents};
+ghost use Rattle.mach_cli.specs.Bounds.{most_items};
 ghost use Rattle.mach_cli.specs.Names.{names_text};
 ghost use Rattle.mach_cli.specs.Shown.{Shown, ShowsFile, Writes};
 ghost use Rattle.mach_cli.specs.Statuses.{IsStatus, status_by};
@@ -9,9 +10,9 @@ ghost use Rattle.machfixups.specs.ImageLines.{AreImagePointerLines};
 
 use crate::print::print_fixups;
 use crate::rows::Picks;
-use crate::section_names::image_parts;
+use crate::section_names::Parts;
 use goblin_mach::MachO;
-use mach_cli::{Cpu, Failure, Heading, Names, Outcome, Shows};
+use mach_cli::{Cpu, Failure, Heading, Names, Outcome, Shows, most_items};
 use std::alloc::Allocator;
 use std::io::{BufWriter, Write};
 
@@ -24,12 +25,14 @@ struct Fixups<'a> {
     file: &'a str,
     picks: Picks,
     limit: usize,
+    // How many sections are looked at, at most.
+    room: usize,
 }
 
 impl Shows for Fixups<'_> {
     ghost names = { λ asked. names_text (codes "machfixups") asked.file.now };
 
-    ghost lines = { λ asked. AreImagePointerLines asked.picks asked.limit };
+    ghost lines = { λ asked. AreImagePointerLines asked.picks asked.limit asked.room };
 
     fn names(&self) -> Names<'_> {
         Names {
@@ -46,14 +49,15 @@ impl Shows for Fixups<'_> {
         left: usize,
         out: &mut O,
     ) -> Result<Outcome, Failure> {
-        let parts = image_parts(alloc, image)?;
+        let parts = Parts::of_image(alloc, image, self.room)?;
         write!(out, "{heading}")?;
         Ok(print_fixups(image, &parts, self.picks, self.limit, left, out)?)
     }
 }
 
 /// Shows what dyld corrects of the images of a file that are asked for, of the lists that are picked, of all these together at most `limit` lines, and
-/// answers the exit status: 0 where nothing was refused; 1 where the file or an entry of a fat one was, or memory, and then `err` has a line that says
+/// no more than the file has bytes. Answers the exit status: 0 where nothing was refused; 1 where the file or an entry of a fat one was, or memory,
+/// and then `err` has a line that says
 /// why, or where an item can't be read, and then its line says why, or where an image has more of them than are left of the limit, and then a line
 /// behind them says so; 2 or 141 where a write fails. But for that nothing is left in the buffer.
 pub fn run<A: Allocator + Clone, W: Write + Drop, B: Allocator, E: Write>(
@@ -68,10 +72,17 @@ pub fn run<A: Allocator + Clone, W: Write + Drop, B: Allocator, E: Write>(
 ) -> u8
     ensures status { IsStatus result }
     ensures shown { result ≤ 1 → (shown : Shown)
-        × ShowsFile cpu (names_text (codes "machfixups") file.now) (AreImagePointerLines picks limit) limit bytes.now shown × (result ≡ status_by shown.whole)
+        × ShowsFile cpu (names_text (codes "machfixups") file.now) (AreImagePointerLines picks (most_items limit bytes.now) (length bytes.now))
+        (most_items limit bytes.now) bytes.now shown × (result ≡ status_by shown.whole)
         × Writes shown (writer_contents W.contents out.old) (writer_contents W.contents out.new) (E.contents err.old) (E.contents err.new) }
     ensures flushed { result ≤ 1 → writer_buffer out.new ≡ [] }
 {
-    let asked = Fixups { file, picks, limit };
+    let limit = most_items(limit, bytes);
+    let asked = Fixups {
+        file,
+        picks,
+        limit,
+        room: bytes.len(),
+    };
     mach_cli::run::run(&asked, cpu, limit, &alloc, bytes, out, err)
 }

@@ -1,145 +1,132 @@
 //! The segments of an image with their sections, and the names of those in which addresses lie.
 
-ghost use Rattle.std.specs.Prelude.{◌≡◌, ℕ, List, map, take, option_map, IfOk, OnOk};
-ghost use Rattle.mach_base.specs.Answer.{Gives};
-ghost use Rattle.mach_base.specs.Text.{text_at};
-ghost use Rattle.mach_base.specs.Items.{all_read, read_as};
-ghost use Rattle.mach_parts.specs.Segment.{SegmentView, segment_view, sections_of};
-ghost use Rattle.mach_parts.specs.SectionItems.{section_and_bytes};
-ghost use Rattle.goblin_mach.specs.Facts.{HasSegments};
-ghost use Rattle.goblin_mach.specs.OpenImage.{IsImage, segments_held};
-ghost use Rattle.goblin_mach.specs.View.{IsTold};
-ghost use Rattle.machfixups.specs.Parts.{shown_name, part_of_segment, parts_of, part_with, section_with, holds, part_view, parts_seen};
+ghost use Rattle.std.specs.Prelude.{◌≡◌, map};
 
-use goblin_mach::segment::{Section, SectionData, Segment};
-use goblin_mach::{Error, MachO, laws, read_text};
+use crate::memory::{name_of, room_after, sections_within};
+use crate::stretches::{Stretch, Stretches};
+use goblin_mach::segment::Segment;
+use goblin_mach::{MachO, laws};
 use std::alloc::{AllocError, Allocator};
 
 /// A segment with its sections.
 #[derive(Drop)]
-pub struct Part<'a, A: Allocator> {
-    // The name, with zeros behind it.
-    segname: [u8; 16],
-    // The place in memory.
-    vmaddr: u64,
-    vmsize: u64,
-    // The sections, or none where one of them can't be read.
-    sections: Vec<(Section, SectionData<'a>), A>,
+pub struct Part<A: Allocator> {
+    memory: Stretch,
+    // None where one of them can't be read, or where there is no room for them.
+    sections: Stretches<A>,
 }
 
 /// The segments of an image with their sections, in order.
-pub fn image_parts<'a, A: Allocator, B: Allocator + Clone>(
-    alloc: &B,
-    image: &MachO<'a, A>,
-) -> Result<Vec<Part<'a, B>, B>, AllocError>
-    ensures { (bytes : List ℕ) (o : ℕ) → IsImage bytes o image.now → IfOk result (λ v. (segments : List SegmentView) × HasSegments bytes o segments
-        × (parts_seen v.items ≡ parts_of segments)) }
-{
-    laws::segments_of_image(image);
-    parts_held(alloc, image.segments.as_slice())
+#[derive(Drop)]
+pub struct Parts<A: Allocator> {
+    items: Vec<Part<A>, A>,
+    memory: Stretches<A>,
+    ghost same: { map (λ p. p.memory) items.items ≡ memory.items.items },
 }
 
-// Some segments with their sections, in order.
-fn parts_held<'a, B: Allocator + Clone>(
-    alloc: &B,
-    segments: &[Segment<'a>],
-) -> Result<Vec<Part<'a, B>, B>, AllocError>
-    ensures { IfOk result (λ v. parts_seen v.items ≡ parts_of (map segment_view segments.now)) }
-{
-    let mut parts = Vec::new(alloc.clone()?);
-    'segments: for segment in segments {
-        parts.push(Part::of(alloc, segment)?)?;
-    }
-    Ok(parts)
-}
+impl<A: Allocator + Clone> Part<A> {
+    ghost use Rattle.std.specs.Prelude.{IfOk};
+    ghost use Rattle.mach_parts.specs.Segment.{segment_view};
+    ghost use Rattle.machfixups.specs.Parts.{memory_of_segment, sections_within};
 
-// Nothing, or want of memory where that is the error.
-fn unless_memory(error: Error) -> Result<(), AllocError>
-    ensures { OnOk result (IsTold error) }
-{
-    match error {
-        Error::Memory(refused) => Err(refused),
-        _ => Ok(()),
-    }
-}
-
-impl<'a, A: Allocator + Clone> Part<'a, A> {
-    // A segment with its sections.
-    fn of(alloc: &A, segment: &Segment<'a>) -> Result<Self, AllocError>
-        ensures { IfOk result (λ p. part_view p ≡ part_of_segment (segment_view segment.now)) }
+    // A segment with its sections, where there is room for them.
+    fn of(alloc: &A, segment: &Segment<'_>, room: usize) -> Result<Self, AllocError>
+        ensures memory { IfOk result (λ p. p.memory ≡ memory_of_segment (segment_view segment.now)) }
+        ensures sections { IfOk result (λ p. p.sections.items.items ≡ sections_within room (segment_view segment.now)) }
     {
-        let sections = match segment.sections(alloc.clone()?) {
-            Ok(sections) => sections,
-            Err(error) => {
-                unless_memory(error)?;
-                Vec::new(alloc.clone()?)
-            }
-        };
+        let sections = sections_within(alloc, segment, room)?;
         Ok(Part {
-            segname: segment.segname,
-            vmaddr: segment.vmaddr,
-            vmsize: segment.vmsize,
-            sections,
+            memory: Stretch {
+                name: segment.segname,
+                start: segment.vmaddr,
+                size: segment.vmsize,
+            },
+            sections: Stretches::of(alloc, sections)?,
         })
     }
 }
 
-impl<A: Allocator> Part<'_, A> {
+impl<A: Allocator> Part<A> {
+    ghost use Rattle.std.specs.Prelude.{Some};
+    ghost use Rattle.machfixups.specs.Parts.{part_view, section_with, stretch_name};
+
     /// The name that is shown of the segment.
     pub fn name(&self) -> &str
-        ensures { result.now ≡ shown_name (text_at self.now.segname 0) }
+        ensures { result.now ≡ stretch_name (Some (part_view self.now).memory) }
     {
-        shown_name(read_text(&self.segname, 0))
+        name_of(&self.memory)
     }
 
     /// The name that is shown of the first section that holds an address.
     pub fn section_with(&self, address: u64) -> &str
-        ensures { result.now ≡ section_with address (map section_and_bytes self.now.sections.items) }
+        ensures { result.now ≡ section_with address (part_view self.now).sections }
     {
-        section_with(address, &self.sections)
-    }
-}
-
-// The name that is shown of the first of some sections that holds an address.
-fn section_with<'b>(address: u64, sections: &'b [(Section, SectionData<'_>)]) -> &'b str
-    ensures { result.now ≡ section_with address (map section_and_bytes sections.now) }
-{
-    'sections: for (section, _) in sections {
-        if holds(section.addr, section.size, address) {
-            return shown_name(section.name());
+        match self.sections.first_with(address) {
+            Some(number) => match self.sections.items.get(number) {
+                Some(section) => name_of(section),
+                None => "-",
+            },
+            None => "-",
         }
     }
-    "-"
 }
 
-/// The first segment that holds an address, if one does.
-pub fn part_with<'b, 'a, A: Allocator>(
-    address: u64,
-    parts: &'b [Part<'a, A>],
-) -> Option<&'b Part<'a, A>>
-    ensures { option_map (λ p. part_view p.now) result ≡ part_with address (parts_seen parts.now) }
-{
-    'parts: for part in parts {
-        if holds(part.vmaddr, part.vmsize, address) {
-            return Some(part);
-        }
+impl<B: Allocator + Clone> Parts<B> {
+    ghost use Rattle.std.specs.Prelude.{ℕ, List, IfOk};
+    ghost use Rattle.mach_parts.specs.Segment.{SegmentView, segment_view};
+    ghost use Rattle.goblin_mach.specs.Facts.{HasSegments};
+    ghost use Rattle.goblin_mach.specs.OpenImage.{IsImage};
+    ghost use Rattle.machfixups.specs.Parts.{parts_of, parts_seen};
+
+    /// The segments of an image with their sections, in order, of which there are at most `room` in all.
+    pub fn of_image<A: Allocator>(
+        alloc: &B,
+        image: &MachO<'_, A>,
+        room: usize,
+    ) -> Result<Self, AllocError>
+        ensures { (bytes : List ℕ) (o : ℕ) → IsImage bytes o image.now → IfOk result (λ parts. (segments : List SegmentView)
+            × HasSegments bytes o segments × (parts_seen parts ≡ parts_of room segments)) }
+    {
+        laws::segments_of_image(image);
+        Self::of_segments(alloc, image.segments.as_slice(), room)
     }
-    None
+
+    // Some segments with their sections, in order.
+    fn of_segments(alloc: &B, segments: &[Segment<'_>], room: usize) -> Result<Self, AllocError>
+        ensures { IfOk result (λ parts. parts_seen parts ≡ parts_of room (map segment_view segments.now)) }
+    {
+        let mut items = Vec::new(alloc.clone()?);
+        let mut memory = Vec::new(alloc.clone()?);
+        let mut left = room;
+        'segments: for segment in segments {
+            let part = Part::of(alloc, segment, left)?;
+            memory.push(part.memory)?;
+            items.push(part)?;
+            left = room_after(left, segment);
+        }
+        let memory = Stretches::of(alloc, memory)?;
+        Ok(Parts { items, memory })
+    }
 }
 
-// Whether a stretch of memory holds an address.
-fn holds(start: u64, size: u64, address: u64) -> bool
-    ensures { result ≡ holds start size address }
-{
-    start <= address && address - start < size
-}
+impl<A: Allocator> Parts<A> {
+    ghost use Rattle.std.specs.Prelude.{option_map, slice_get};
+    ghost use Rattle.machfixups.specs.Parts.{part_view, part_with, parts_seen};
 
-// A name as it is shown.
-fn shown_name(name: goblin_mach::Result<&str>) -> &str
-    ensures { result.now ≡ shown_name (read_as (λ text. text.now) name.entry) }
-{
-    match name {
-        Ok(text) if !text.is_empty() => text,
-        _ => "-",
+    /// The segment of a number.
+    pub fn get(&self, number: usize) -> Option<&Part<A>>
+        ensures { option_map (λ p. part_view p.now) result ≡ slice_get (parts_seen self.now) number }
+    {
+        self.items.get(number)
+    }
+
+    /// The first segment that holds an address, if one does.
+    pub fn first_with(&self, address: u64) -> Option<&Part<A>>
+        ensures { option_map (λ p. part_view p.now) result ≡ part_with address (parts_seen self.now) }
+    {
+        match self.memory.first_with(address) {
+            Some(number) => self.get(number),
+            None => None,
+        }
     }
 }

@@ -8,6 +8,7 @@ ghost use Rattle.machfixups.specs.Rows.{place_view, bind_view, action_view, row_
 use crate::row::{Action, Bind, Place, Row};
 use goblin_mach::RebaseKind;
 use goblin_mach::chained_fixups::PointerAuth;
+use mach_cli::Escaped;
 use std::fmt;
 use std::fmt::{Display, Formatter, Write};
 
@@ -15,11 +16,9 @@ impl Display for Place<'_> {
     ghost output = { λ t. Some (pointer_place_text (place_view t)) };
 
     fn fmt<W: Write>(&self, f: &mut Formatter<W>) -> fmt::Result {
-        let Place {
-            address,
-            segment,
-            section,
-        } = *self;
+        let address = self.address;
+        let segment = Escaped(self.segment);
+        let section = Escaped(self.section);
         write!(f, "0x{address:x} {segment} {section}")
     }
 }
@@ -94,13 +93,13 @@ impl Display for Bind<'_> {
     /// The addend, the flags and the name.
     fn fmt<W: Write>(&self, f: &mut Formatter<W>) -> fmt::Result {
         let Bind {
-            name,
             addend,
             is_weak,
             is_lazy,
             auth,
             ..
         } = *self;
+        let name = Escaped(self.name);
         let flags = FlagsText {
             is_weak,
             is_lazy,
@@ -151,7 +150,10 @@ impl Display for Row<'_, '_> {
     fn fmt<W: Write>(&self, f: &mut Formatter<W>) -> fmt::Result {
         match self {
             Row::At { place, action } => write!(f, "{place} {action}"),
-            Row::Strong(name) => write!(f, "- - - strong {name}"),
+            Row::Strong(name) => {
+                let name = Escaped(name);
+                write!(f, "- - - strong {name}")
+            }
         }
     }
 }

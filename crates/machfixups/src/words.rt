@@ -1,11 +1,17 @@
 //! The words of a call that pick lists.
 
+ghost use Rattle.std.specs.Prelude.{◌≡◌};
+ghost use Rattle.machfixups.specs.PickWords.{pick_taken};
+
 use crate::rows::Picks;
+use mach_cli::{Word, takes_word};
 use std::alloc::{AllocError, Allocator};
 
 impl Picks {
     // Takes a word, and answers whether it picks a list.
-    fn take(&mut self, word: &str) -> bool {
+    fn take(&mut self, word: &str) -> bool
+        ensures { (self.new, result) ≡ pick_taken self.old word.now }
+    {
         match word {
             "--rebases" => self.rebases = true,
             "--binds" => self.binds = true,
@@ -21,8 +27,8 @@ impl Picks {
 /// an option that has one behind it, picks none.
 pub fn take_picks<A: Allocator>(
     alloc: A,
-    words: Vec<String>,
-) -> Result<(Picks, Vec<String, A>), AllocError> {
+    words: Vec<Word>,
+) -> Result<(Picks, Vec<Word, A>), AllocError> {
     let mut picks = Picks::NONE;
     let mut others = Vec::new(alloc);
     let mut is_taken = true;
@@ -32,7 +38,7 @@ pub fn take_picks<A: Allocator>(
         if !is_taken && !is_plain && picks.take(text) {
             continue;
         }
-        is_taken = !is_taken && matches!(text, "--limit" | "--arch" | "--cputype");
+        is_taken = !is_taken && takes_word(text);
         is_plain = is_plain || text == "--";
         others.push(word)?;
     }

@@ -1,9 +1,9 @@
-use Rattle.std.proofs.Common.{◌∙◌, List, ap, subst}
+use Rattle.std.proofs.Common.{List, subst}
 use Rattle.mach_base.proofs.Written.{Appends-both}
 use Rattle.goblin_mach.specs.OpenImage.{commands_held}
 use Rattle.mach_cli.specs.JsonArrays.{AreListMembers}
 use Rattle.machfixups.specs.JsonRows.{pointer_members}
-use Rattle.machfixups.specs.Parts.{Part, parts_seen}
+use Rattle.machfixups.specs.Parts.{Part}
 use Rattle.machfixups.specs.Rows.{readable_table}
 use Rattle.machfixups.proofs.json.ObjectsShows.show.Goals as goal
 
@@ -24,7 +24,7 @@ returns-clause-shown g c = λ bytes opened.
         has_lists = listed.1;
         chained = listed.2;
         has_chained = listed.3;
-        members = subst over (ap parts_seen c.deref.ensures.value ∙ known.2) written.members;
+        members = subst over known.2 written.members;
       },
       Appends-both _ _ _ _ written.text c.in_ok-write.ensures.bytes written.written,
     )

@@ -1,8 +1,8 @@
-use Rattle.std.proofs.Common.{◌∙◌, List, ap, subst}
+use Rattle.std.proofs.Common.{List, subst}
 use Rattle.mach_base.proofs.Written.{Appends-both}
 use Rattle.goblin_mach.specs.OpenImage.{commands_held}
 use Rattle.machfixups.specs.Lines.{AreLinesTo}
-use Rattle.machfixups.specs.Parts.{Part, parts_seen}
+use Rattle.machfixups.specs.Parts.{Part}
 use Rattle.machfixups.specs.Rows.{rows_in_order, readable_table}
 use Rattle.machfixups.proofs.run.FixupsShows.show.Goals as goal
 
@@ -24,7 +24,7 @@ returns-clause-shown g c = λ bytes opened.
         has_lists = listed.1;
         chained = listed.2;
         has_chained = listed.3;
-        lines = subst over (ap parts_seen c.deref.ensures.value ∙ known.2) lines.lines;
+        lines = subst over known.2 lines.lines;
       },
       Appends-both _ _ _ _ lines.text c.in_ok-write.ensures.bytes lines.written,
     )

@@ -1,0 +1,12 @@
+-- The words of a call that pick lists.
+use Rattle.std.specs.Prelude.{List, ℕ, codes, bytes_eq, Bool, true, false, if◌then◌else◌}
+use Rattle.machfixups.specs.declared.rows.Picks.{Picks}
+
+-- the lists that are picked with a word more, and whether it is one of these words
+abbrev pub pick_taken : Picks → List ℕ → Picks × Bool
+pick_taken p word =
+    if bytes_eq word (codes "--rebases") then (record p { rebases = true }, true)
+    else (if bytes_eq word (codes "--binds") then (record p { binds = true }, true)
+    else (if bytes_eq word (codes "--weak") then (record p { weak = true }, true)
+    else (if bytes_eq word (codes "--chains") then (record p { chains = true }, true)
+    else (p, false))))
