@@ -13,3 +13,4 @@ pub mod Firsts
 pub mod Printed
 pub mod Reports
 pub mod Counts
+mod AnswerLines

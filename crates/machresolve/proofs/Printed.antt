@@ -4,6 +4,7 @@ use Rattle.std.specs.Prelude.{codes}
 use Rattle.std.proofs.lemmas.List.{append-nil, append_assoc}
 use Rattle.std.specs.Io.KnownBytes.{Appends}
 use Rattle.mach_base.proofs.Written.{Appends-none}
+use Rattle.mach_cli.specs.Escapes.{escaped_text}
 use Rattle.machresolve.specs.Answers.{Answer}
 use Rattle.machresolve.specs.Follow.{not_given}
 use Rattle.machresolve.specs.Note.{Note}
@@ -18,12 +19,15 @@ lines_push (x ∷ xs) a =
 
 -- a gap's text, with its parts bracketed from the right, as they are written
 pub gap_text : (library reexported : List ℕ)
-    → codes "not found; " ++ (library ++ (codes " re-exports " ++ (reexported ++ codes ", which is not given"))) ≡ place_text (not_given library reexported)
+    → codes "not found; " ++ (escaped_text library ++ (codes " re-exports " ++ (escaped_text reexported ++ codes ", which is not given")))
+    ≡ place_text (not_given library reexported)
 gap_text library reexported =
-    let front = codes "not found; " ++ library in
-    let tail = reexported ++ codes ", which is not given" in
-    sym (append_assoc (front ++ codes " re-exports ") reexported (codes ", which is not given")
-    ∙ (append_assoc front (codes " re-exports ") tail ∙ append_assoc (codes "not found; ") library (codes " re-exports " ++ tail)))
+    let of = escaped_text library in
+    let to = escaped_text reexported in
+    let front = codes "not found; " ++ of in
+    let tail = to ++ codes ", which is not given" in
+    sym (append_assoc (front ++ codes " re-exports ") to (codes ", which is not given")
+    ∙ (append_assoc front (codes " re-exports ") tail ∙ append_assoc (codes "not found; ") of (codes " re-exports " ++ tail)))
 
 pub said_push : (call : ResolveCall) (ns : List Note) (n : Note) → said_lines call (ns ++ n ∷ []) ≡ said_lines call ns ++ said_line (note_text call n)
 said_push call [] n = append-nil (said_line (note_text call n))

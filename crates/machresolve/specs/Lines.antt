@@ -3,6 +3,7 @@ use Rattle.std.specs.Prelude.{◌+◌, ℕ, Bool, true, false, List, [], ◌∷�
 use Rattle.std.specs.Fmt.{digits, decimal}
 use Rattle.mach_base.specs.declared.error.Error.{Error}
 use Rattle.mach_parts.specs.Bindings.{Provider, of_library, itself, main_executable, flat, weak_lookup}
+use Rattle.mach_cli.specs.Escapes.{escaped_text}
 use Rattle.machresolve.specs.Follow.{SymbolPlace, found, leads_back, no_library, missing, not_given, not_found, no_main}
 use Rattle.machresolve.specs.Answers.{Answer}
 use Rattle.machresolve.specs.Given.{GivenFile}
@@ -11,7 +12,7 @@ use Rattle.machresolve.specs.Note.{Note, given_before, nothing_for, all_noted}
 use Rattle.machresolve.specs.Report.{Outcome, answered, archive, refused, Report, one, entries, nothing}
 
 abbrev pub provider_text : Provider → List ℕ
-provider_text (of_library ordinal name) = name
+provider_text (of_library ordinal name) = escaped_text name
 provider_text itself = codes "this-image"
 provider_text main_executable = codes "main-executable"
 provider_text flat = codes "flat-namespace"
@@ -19,7 +20,7 @@ provider_text weak_lookup = codes "weak-lookup"
 
 -- an address in a file
 abbrev pub address_in_file_text : ℕ → List ℕ → List ℕ
-address_in_file_text address file = codes "0x" ++ digits 16 false address ++ codes " in " ++ file
+address_in_file_text address file = codes "0x" ++ digits 16 false address ++ codes " in " ++ escaped_text file
 
 abbrev pub found_text : List ℕ → ℕ → Bool → List ℕ
 found_text file address false = address_in_file_text address file
@@ -27,10 +28,11 @@ found_text file address true = codes "absolute " ++ address_in_file_text address
 
 abbrev pub place_text : SymbolPlace → List ℕ
 place_text (found file address is_absolute) = found_text file address is_absolute
-place_text (leads_back library) = codes "leads back to " ++ library
-place_text (no_library library) = codes "no library " ++ library
-place_text (missing library) = codes "missing in " ++ library
-place_text (not_given library reexported) = codes "not found; " ++ library ++ codes " re-exports " ++ reexported ++ codes ", which is not given"
+place_text (leads_back library) = codes "leads back to " ++ escaped_text library
+place_text (no_library library) = codes "no library " ++ escaped_text library
+place_text (missing library) = codes "missing in " ++ escaped_text library
+place_text (not_given library reexported) =
+    codes "not found; " ++ escaped_text library ++ codes " re-exports " ++ escaped_text reexported ++ codes ", which is not given"
 place_text not_found = codes "not found"
 place_text no_main = codes "no main executable"
 
@@ -52,7 +54,7 @@ front_text a = text_before_place a.place a.is_weak
 
 -- the name, who is to give it, and where it is
 abbrev pub answer_text : Answer → List ℕ
-answer_text a = a.name ++ codes " " ++ provider_text a.provider ++ codes " " ++ front_text a ++ place_text a.place
+answer_text a = escaped_text a.name ++ codes " " ++ provider_text a.provider ++ codes " " ++ front_text a ++ place_text a.place
 
 -- a line each, in order
 abbrev pub lines_of : List Answer → List ℕ
@@ -79,17 +81,18 @@ file_at call number = get_or (call.program ∷ call.libraries) number call.progr
 
 -- why a file is refused
 abbrev pub refusal_text : GivenFile → Error → List ℕ
-refusal_text file e = file.path ++ (codes ": " ++ told_words file.bytes e)
+refusal_text file e = escaped_text file.path ++ (codes ": " ++ told_words file.bytes e)
 
 abbrev pub nothing_words : ℕ → List ℕ
 nothing_words cputype = codes "nothing for cputype 0x" ++ digits 16 false cputype
 
 -- a file has nothing for a cpu
 abbrev pub nothing_text : GivenFile → ℕ → List ℕ
-nothing_text file cputype = file.path ++ (codes ": " ++ nothing_words cputype)
+nothing_text file cputype = escaped_text file.path ++ (codes ": " ++ nothing_words cputype)
 
 abbrev pub note_text : ResolveCall → Note → List ℕ
-note_text call (given_before library name) = (file_at call library).path ++ (codes ": " ++ (name ++ codes " is given before"))
+note_text call (given_before library name) =
+    escaped_text (file_at call library).path ++ (codes ": " ++ (escaped_text name ++ codes " is given before"))
 note_text call (nothing_for library cputype) = nothing_text (file_at call library) cputype
 
 -- a line that is said

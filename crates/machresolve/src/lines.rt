@@ -12,6 +12,7 @@ use crate::follow::Place;
 use crate::inputs::Given;
 use crate::note::Note;
 use goblin_mach::Provider;
+use mach_cli::Escaped;
 use std::fmt;
 use std::fmt::{Display, Formatter, Write};
 
@@ -24,7 +25,10 @@ impl<'a> Display for ProviderText<'a> {
 
     fn fmt<W: Write>(&self, f: &mut Formatter<W>) -> fmt::Result {
         match self.0 {
-            Provider::Library { name, .. } => write!(f, "{name}"),
+            Provider::Library { name, .. } => {
+                let name = Escaped(name);
+                write!(f, "{name}")
+            }
             Provider::Itself => write!(f, "this-image"),
             Provider::MainExecutable => write!(f, "main-executable"),
             Provider::Flat => write!(f, "flat-namespace"),
@@ -46,18 +50,36 @@ impl<'a> Display for PlaceText<'a> {
                 file,
                 address,
                 is_absolute: false,
-            } => write!(f, "0x{address:x} in {file}"),
-            Place::Found { file, address, .. } => write!(f, "absolute 0x{address:x} in {file}"),
-            Place::LeadsBack { library } => write!(f, "leads back to {library}"),
-            Place::NoLibrary { library } => write!(f, "no library {library}"),
-            Place::Missing { library } => write!(f, "missing in {library}"),
+            } => {
+                let file = Escaped(file);
+                write!(f, "0x{address:x} in {file}")
+            }
+            Place::Found { file, address, .. } => {
+                let file = Escaped(file);
+                write!(f, "absolute 0x{address:x} in {file}")
+            }
+            Place::LeadsBack { library } => {
+                let library = Escaped(library);
+                write!(f, "leads back to {library}")
+            }
+            Place::NoLibrary { library } => {
+                let library = Escaped(library);
+                write!(f, "no library {library}")
+            }
+            Place::Missing { library } => {
+                let library = Escaped(library);
+                write!(f, "missing in {library}")
+            }
             Place::NotGiven {
                 library,
                 reexported,
-            } => write!(
-                f,
-                "not found; {library} re-exports {reexported}, which is not given"
-            ),
+            } => {
+                let (library, reexported) = (Escaped(library), Escaped(reexported));
+                write!(
+                    f,
+                    "not found; {library} re-exports {reexported}, which is not given"
+                )
+            }
             Place::NotFound => write!(f, "not found"),
             Place::NoMain => write!(f, "no main executable"),
         }
@@ -81,7 +103,7 @@ impl<'a> Display for Answer<'a> {
     ghost output = { λ a. Some (answer_text (answer_seen a)) };
 
     fn fmt<W: Write>(&self, f: &mut Formatter<W>) -> fmt::Result {
-        let name = self.name;
+        let name = Escaped(self.name);
         let provider = ProviderText(self.provider);
         let front = self.front();
         let place = PlaceText(self.place);
@@ -113,7 +135,7 @@ impl Display for NothingText<'_> {
     ghost output = { λ t. Some (nothing_text (given_seen t.file) t.cputype) };
 
     fn fmt<W: Write>(&self, f: &mut Formatter<W>) -> fmt::Result {
-        let path = self.file.path;
+        let path = Escaped(self.file.path);
         let words = NothingWords(self.cputype);
         write!(f, "{path}: {words}")
     }
@@ -132,7 +154,8 @@ impl Display for NoteText<'_, '_> {
     fn fmt<W: Write>(&self, f: &mut Formatter<W>) -> fmt::Result {
         match self.note {
             Note::GivenBefore { library, name } => {
-                let path = self.call.file_at(library).path;
+                let path = Escaped(self.call.file_at(library).path);
+                let name = Escaped(name);
                 write!(f, "{path}: {name} is given before")
             }
             Note::NothingFor { library, cputype } => {

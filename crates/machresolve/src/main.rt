@@ -19,6 +19,7 @@ mod special;
 // What is printed of the answers.
 mod call;
 mod failure;
+mod laws;
 mod lines;
 mod note;
 mod refusal;
@@ -42,15 +43,13 @@ const PROGRAM: Program = Program {
     version: "machresolve 0.2.0\n",
     has_limit: true,
     has_cpu: false,
+    has_files: false,
     known: &["--cputype", "--help", "--limit", "--version"],
 };
 
 fn main(rt: HostRuntime) -> ExitCode {
     ExitCode::from(match start(&rt) {
-        Ok(status) => status,
-        // Status 1 says that a binding isn't settled, so want of memory is 2 here.
-        Err(1) => 2,
-        Err(status) => status,
+        Ok(status) | Err(status) => status,
     })
 }
 

@@ -6,7 +6,7 @@ ghost use Rattle.machresolve.specs.Refusals.{has_table, kind_told};
 use crate::inputs::Given;
 use goblin_mach::fat::{FAT_MAGIC, SIZEOF_FAT_ARCH, SIZEOF_FAT_HEADER};
 use goblin_mach::{Error, describe, peek};
-use mach_cli::{Foreign, refused_kind};
+use mach_cli::{Escaped, Foreign, refused_kind};
 use std::fmt;
 use std::fmt::{Display, Formatter, Write};
 
@@ -50,6 +50,7 @@ impl Display for RefusalText<'_, '_> {
 
     fn fmt<W: Write>(&self, f: &mut Formatter<W>) -> fmt::Result {
         let Given { path, bytes } = self.file;
+        let path = Escaped(path);
         match kind_told(bytes, self.error) {
             Some(kind) => write!(f, "{path}: {kind}"),
             None => {

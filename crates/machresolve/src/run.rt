@@ -1,14 +1,15 @@
 //! What the program prints, and its exit status.
 
-ghost use Rattle.std.specs.Prelude.{◌≡◌, ◌≤◌, ◌++◌, [], map, IfOk, OnOk};
+ghost use Rattle.std.specs.Prelude.{◌≡◌, ◌≤◌, ◌++◌, [], codes, false, map, IfOk, OnOk};
 ghost use Rattle.std.specs.Io.Buffered.{writer_buffer, writer_contents};
 ghost use Rattle.std.specs.Io.KnownBytes.{Appends};
 ghost use Rattle.machresolve.specs.Lines.{lines_of, more_text, resolved_text, entry_text, entry_heading, entries_text, one_text, printed, notes_in};
-ghost use Rattle.machresolve.specs.Lines.{all_notes, said_refusal, said_first, said_lines, said_of_report, notes_of};
+ghost use Rattle.machresolve.specs.Lines.{all_notes, said_refusal, said_first, said_line, said_lines, said_of_report, notes_of};
 ghost use Rattle.machresolve.specs.Note.{all_noted};
 ghost use Rattle.machresolve.specs.Opened.{call_seen, given_seen};
+ghost use Rattle.mach_cli.specs.Bounds.{most_items};
 ghost use Rattle.mach_cli.specs.Statuses.{IsStatus};
-ghost use Rattle.machresolve.specs.Runs.{run_status, Runs};
+ghost use Rattle.machresolve.specs.Runs.{run_status, IsRun};
 ghost use Rattle.machresolve.specs.Seen.{answer_seen, note_seen, outcome_seen, report_seen};
 
 use crate::answers::Answer;
@@ -20,7 +21,7 @@ use crate::refusal::RefusalText;
 use crate::report::{Outcome, Report, report_on};
 use crate::resolve::Resolved;
 use indexmap::IndexSet;
-use mach_cli::Failure;
+use mach_cli::most_items;
 use mach_cli::output::failed;
 use std::alloc::{AllocFailed, Allocator};
 use std::io;
@@ -29,10 +30,10 @@ use std::io::{BufWriter, Write};
 /// The program's name.
 pub const NAME: &str = "machresolve";
 
-/// Resolves a program, or what it has for a cpu that is wanted, of all its images together the first `limit` bindings, and
-/// answers the exit status: 0 where each binding is settled; 1 where one is not, or there are more, or a file is refused; 2 for
-/// want of memory; 2 or 141 where a write fails. But for that nothing is left in the buffer. The lines of one image are written
-/// whole or not at all. Notes, and why nothing is printed, go to `err`.
+/// Resolves a program, or what it has for a cpu that is wanted, of all its images together the first `limit` bindings, no more than the program has
+/// bytes, and answers the exit status: 0 where each binding is settled; 1 where one is not, or there are more, or a file is refused, or memory; 2 or 141
+/// where a write fails. But for that nothing is left in the buffer. The lines of one image are written whole or not at all. Notes, and why nothing is
+/// printed, go to `err`.
 pub fn run<'a, A: Allocator + Copy, W: Write + Drop, B: Allocator, E: Write>(
     alloc: A,
     wanted: Option<u32>,
@@ -43,14 +44,14 @@ pub fn run<'a, A: Allocator + Copy, W: Write + Drop, B: Allocator, E: Write>(
     err: &mut E,
 ) -> u8
     ensures status { IsStatus result }
-    ensures runs { result ≤ 1 → Runs wanted limit (given_seen program.entry) (map given_seen libraries.now) result
+    ensures runs { result ≤ 1 → IsRun wanted (most_items limit program.entry.bytes.now) (given_seen program.entry) (map given_seen libraries.now) result
         (writer_contents W.contents out.old) (writer_contents W.contents out.new) (E.contents err.old) (E.contents err.new) }
     ensures flushed { result ≤ 1 → writer_buffer out.new ≡ [] }
 {
+    let limit = most_items(limit, program.bytes);
     match tell(alloc, wanted, limit, program, libraries, out, err) {
         Ok(whole) => status(whole),
-        Err(Failure::Memory) => out_of_memory(err),
-        Err(Failure::Unwritten(error)) => failed(NAME, "", error, err),
+        Err(error) => failed(NAME, "", error, err),
     }
 }
 
@@ -61,7 +62,7 @@ fn status(whole: bool) -> u8
     if whole { 0 } else { 1 }
 }
 
-// Writes what is told of a program, and answers whether all is settled and nothing refused.
+// Writes what is told of a program, or that memory is refused, and answers whether all is settled and nothing refused.
 fn tell<'a, A: Allocator + Copy, W: Write + Drop, B: Allocator, E: Write>(
     alloc: A,
     wanted: Option<u32>,
@@ -70,8 +71,8 @@ fn tell<'a, A: Allocator + Copy, W: Write + Drop, B: Allocator, E: Write>(
     libraries: &[Given<'a>],
     out: &mut BufWriter<W, B>,
     err: &mut E,
-) -> Result<bool, Failure>
-    ensures runs { IfOk result (λ whole. Runs wanted limit (given_seen program.entry) (map given_seen libraries.now) (run_status whole)
+) -> io::Result<bool>
+    ensures runs { IfOk result (λ whole. IsRun wanted limit (given_seen program.entry) (map given_seen libraries.now) (run_status whole)
         (writer_contents W.contents out.old) (writer_contents W.contents out.new) (E.contents err.old) (E.contents err.new)) }
     ensures flushed { OnOk result (writer_buffer out.new ≡ []) }
 {
@@ -81,10 +82,10 @@ fn tell<'a, A: Allocator + Copy, W: Write + Drop, B: Allocator, E: Write>(
         libraries,
     };
     let Ok(report) = report_on(alloc, wanted, limit, program, libraries) else {
-        return Err(Failure::Memory);
+        return say_memory(out, err);
     };
     let Ok(notes) = notes_in(alloc, &report) else {
-        return Err(Failure::Memory);
+        return say_memory(out, err);
     };
     print_report(&call, &report, out)?;
     say(&call, &report, &notes, err)?;
@@ -330,10 +331,17 @@ fn say_notes<'a, E: Write>(call: &Call<'a, '_>, notes: &[Note<'a>], err: &mut E)
     Ok(())
 }
 
-// The status where memory is refused, of which `err` tells if it can: not 1, which says that a binding isn't settled.
-fn out_of_memory<E: Write>(err: &mut E) -> u8
-    ensures { result ≡ 2 }
+// Says that memory is refused, where nothing is printed.
+fn say_memory<W: Write + Drop, B: Allocator, E: Write>(
+    out: &mut BufWriter<W, B>,
+    err: &mut E,
+) -> io::Result<bool>
+    ensures refused { IfOk result (λ whole. whole ≡ false) }
+    ensures nothing { OnOk result (Appends (writer_contents W.contents out.old) (writer_contents W.contents out.new) []) }
+    ensures said { OnOk result (Appends (E.contents err.old) (E.contents err.new) (said_line (codes "out of memory"))) }
+    ensures flushed { OnOk result (writer_buffer out.new ≡ []) }
 {
-    let _ = writeln!(err, "machresolve: out of memory");
-    2
+    out.flush()?;
+    writeln!(err, "machresolve: out of memory")?;
+    Ok(false)
 }

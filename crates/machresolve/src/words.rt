@@ -1,6 +1,6 @@
 //! What the words of the command line ask for, beside what all programs know.
 
-use mach_cli::{Misuse, cputype_in};
+use mach_cli::{Misuse, Word, cputype_in};
 use std::alloc::{AllocError, AllocFailed, Global};
 
 /// So many bindings are answered where no other limit is given.
@@ -9,7 +9,7 @@ pub const DEFAULT_LIMIT: usize = 10_000_000;
 /// The words of a call without `--cputype` and the cpu behind it, and that cpu; of several the last one counts. Behind `--` no word is an option.
 #[derive(Drop)]
 pub struct Words {
-    pub others: Vec<String>,
+    pub others: Vec<Word>,
     /// The cpu that is wanted, if not all are.
     pub wanted: Option<u32>,
 }
@@ -29,8 +29,8 @@ impl From<AllocError> for Mistake {
     }
 }
 
-impl From<AllocFailed<String>> for Mistake {
-    fn from(_error: AllocFailed<String>) -> Mistake {
+impl From<AllocFailed<Word>> for Mistake {
+    fn from(_error: AllocFailed<Word>) -> Mistake {
         Mistake::Memory
     }
 }
@@ -40,14 +40,14 @@ const NO_CPU: Mistake = Mistake::Misuse(Misuse::Missing("0xN behind --cputype"))
 
 impl Words {
     /// Takes words apart.
-    pub fn of(alloc: Global, words: Vec<String>) -> Result<Words, Mistake> {
+    pub fn of(alloc: Global, words: Vec<Word>) -> Result<Words, Mistake> {
         let mut others = Vec::new(alloc);
         let mut wanted = None;
         let mut is_cpu = false;
         let mut is_plain = false;
         'words: for word in words {
             if is_cpu {
-                let Some(cputype) = cputype_in(&word) else {
+                let Some(cputype) = cputype_in(word.as_str()) else {
                     return Err(NO_CPU);
                 };
                 wanted = Some(cputype);
