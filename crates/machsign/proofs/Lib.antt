@@ -1,5 +1,9 @@
 pub mod Written
+pub mod Rows
+pub mod Slots
+pub mod Told
+pub mod Limited
 pub mod Whole
 pub mod SignedFacts
-pub mod Few
 pub mod Opened
+pub mod Feeds

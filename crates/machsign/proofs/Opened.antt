@@ -1,7 +1,8 @@
--- Images that were opened.
-use Rattle.std.proofs.Common.{◌≡◌, ℕ, List}
-use Rattle.std.specs.Prelude.{Bool}
-use Rattle.mach_base.specs.Answer.{Stands}
+-- Images that were opened, and errors.
+use Rattle.std.proofs.Common.{◌≡◌, ℕ, List, Result, Ok, Err}
+use Rattle.std.specs.Prelude.{Bool, IfErr}
+use Rattle.mach_base.proofs.Faults.{Stands-in}
+use Rattle.mach_base.specs.Answer.{IsOkUnlessMemory, Stands}
 use Rattle.mach_base.specs.Fault.{Fault}
 use Rattle.mach_base.specs.declared.error.Error.{Error}
 use Rattle.mach_base.specs.declared.error.Error.TheVariants as errors
@@ -28,3 +29,8 @@ told_of P (errors.BadMagic n) told h = h
 told_of P (errors.Scroll e) told h = h
 told_of P (errors.BufferTooShort n m) told h = h
 told_of P (errors.Memory e) told h = absurd told
+
+-- want of memory reports any fault
+pub unless_memory : {X : Type 0} (P : Fault → Type 0) (answer : Result X Error) → IsOkUnlessMemory answer → IfErr answer (Stands P)
+unless_memory P (Ok x) only = tt
+unless_memory P (Err e) only = Stands-in (λ _. ⊥) P e (λ f none. absurd none) only

@@ -1,5 +1,5 @@
 -- The signature that an image holds is that of the bytes that it was opened in, and so is whether the image is as it was signed.
-use Rattle.std.proofs.Common.{◌≡◌, ◌∙◌, ℕ, List, Bool, Option, Result, refl, sym}
+use Rattle.std.proofs.Common.{◌≡◌, ◌∙◌, ℕ, List, Bool, false, Option, Result, refl, sym}
 use Rattle.std.specs.Prelude.{◌↔◌, IsTrue}
 use Rattle.mach_base.specs.Fault.{Fault}
 use Rattle.goblin_mach.specs.OpenImage.{IsImage, bytes_held, commands_held, segments_held}
@@ -10,8 +10,8 @@ use Rattle.mach_signature.specs.SignedImages.{image_signature, signature_place_i
 use Rattle.mach_signature.proofs.AsSigned.{as_signed}
 use Rattle.mach_signature.specs.SignedFacts.{HoldsAsSigned}
 use Rattle.machsign.specs.Entitlements.{entitlements_of, HasEntitlements}
-use Rattle.machsign.specs.ImageLines.{image_signed, HasSigned}
-use Rattle.machsign.proofs.Whole.{faults_are_by, is_unfaulted, unfaulted_untold, untold_unfaulted}
+use Rattle.machsign.specs.ImageLines.{image_signed, is_there_cut, HasSigned}
+use Rattle.machsign.proofs.Whole.{faults_are_by, is_unfaulted, is_all_told, and_not, unfaulted_untold, untold_unfaulted}
 
 module _ {A : Type 0} (m : MachO A) (bytes : List ℕ) (p : IsImage bytes 0 m) where
   abbrev pub held : Result (Option SignedImage) Fault
@@ -28,11 +28,13 @@ module _ {A : Type 0} (m : MachO A) (bytes : List ℕ) (p : IsImage bytes 0 m) w
   abbrev held_as_signed : HoldsAsSigned bytes 0 ↔ IsImageAsSigned (bytes_held m) (commands_held m) (segments_held m)
   held_as_signed = facts_are bytes 0 m (strict-lossy bytes 0 m p) (λ f. IsImageAsSigned f.bytes f.commands f.segments)
 
-  -- what is told of it is whole exactly where it is as it was signed
-  pub whole_as_signed : (whole : Bool) → whole ≡ is_unfaulted held → IsTrue whole ↔ HoldsAsSigned bytes 0
-  whole_as_signed whole same =
+  -- what is told of it is whole exactly where it is as it was signed, and all is told
+  pub whole_as_signed : (left : ℕ) (whole : Bool) → whole ≡ is_all_told left held
+      → IsTrue whole ↔ (HoldsAsSigned bytes 0 × (is_there_cut left held ≡ false))
+  whole_as_signed left whole same =
       let faults = faults_are_by (bytes_held m) (segments_held m) (signature_place_in (commands_held m)) in
-      let signed = as_signed (bytes_held m) (commands_held m) (segments_held m) in (
-        (λ h. held_as_signed.1 (signed.0 (faults ∙ unfaulted_untold held (sym same ∙ h)))),
-        (λ h. same ∙ untold_unfaulted held (sym faults ∙ signed.1 (held_as_signed.0 h))),
+      let signed = as_signed (bytes_held m) (commands_held m) (segments_held m) in
+      let parts = and_not (is_unfaulted held) (is_there_cut left held) in (
+        (λ h. let is = parts.0 (sym same ∙ h) in (held_as_signed.1 (signed.0 (faults ∙ unfaulted_untold held is.0)), is.1)),
+        (λ h. same ∙ parts.1 (untold_unfaulted held (sym faults ∙ signed.1 (held_as_signed.0 h.0)), h.1)),
       )

@@ -1,20 +1,16 @@
--- The lines of a signature are whole exactly where it is there and no fault is told of it, and so is its object.
-use Rattle.std.proofs.Common.{◌≡◌, ◌++◌, ◌∷◌, [], ℕ, List, Bool, false, Option, Some, None, Result, Ok, Err, refl, ap}
-use Rattle.std.specs.Prelude.{IsTrue}
+-- The lines of a signature are whole exactly where it is there, no fault is told of it, and all is told; and so is its object.
+use Rattle.std.proofs.Common.{◌≡◌, ◌∷◌, [], ℕ, List, Bool, true, false, Option, Some, None, Result, Ok, Err, refl, ap}
+use Rattle.std.specs.Prelude.{◌↔◌, ◌&&◌, not, IsTrue}
 use Rattle.mach_base.specs.Answer.{◌>>=◌}
 use Rattle.mach_base.specs.Fault.{Fault}
 use Rattle.mach_parts.specs.Segment.{SegmentView}
 use Rattle.mach_signature.specs.AsSigned.{SignedImage, SignatureFaultSeen, signature_faults_of, signature_in}
 use Rattle.mach_signature.specs.SuperBlob.{SuperBlob}
 use Rattle.mach_signature.specs.SignedImages.{plist_of, faults_there}
-use Rattle.machsign.specs.ImageLines.{signed_there}
+use Rattle.machsign.specs.Faults.{has_none}
+use Rattle.machsign.specs.ImageLines.{is_there_cut, signed_there}
 use Rattle.machsign.specs.JsonSignature.{IsSignatureObject, unsigned_object, unreadable_object, signed_object}
-use Rattle.machsign.specs.Signatures.{has_none, AreSignatureLines, unsigned, unreadable, signed}
-
--- no list with one more is empty
-pub has_none-more : {A : Type 0} (xs : List A) (x : A) → has_none (xs ++ x ∷ []) ≡ false
-has_none-more [] x = refl
-has_none-more (y ∷ ys) x = refl
+use Rattle.machsign.specs.Signatures.{AreSignatureLines, unsigned, unreadable, signed}
 
 -- the faults of a signature, if one is there
 abbrev pub faults_by : Result (Option SignedImage) Fault → Result (Option (List SignatureFaultSeen)) Fault
@@ -48,18 +44,28 @@ is_unfaulted (Ok None) = false
 is_unfaulted (Ok (Some x)) = has_none (signature_faults_of x)
 is_unfaulted (Err f) = false
 
--- so lines are whole, and objects
-pub lines_unfaulted : (there : Result (Option SignedImage) Fault) (text : List ℕ) (whole : Bool) → AreSignatureLines there text whole
-    → whole ≡ is_unfaulted there
-lines_unfaulted _ _ _ unsigned = refl
-lines_unfaulted _ _ _ (unreadable e) = refl
-lines_unfaulted _ _ _ (signed x faults whole are) = are.is_whole
+-- and all is told
+abbrev pub is_all_told : (left : ℕ) → Result (Option SignedImage) Fault → Bool
+is_all_told left there = is_unfaulted there && not (is_there_cut left there)
 
-pub object_unfaulted : (there : Result (Option SignedImage) Fault) (text : List ℕ) (whole : Bool) → IsSignatureObject there text whole
-    → whole ≡ is_unfaulted there
-object_unfaulted _ _ _ unsigned_object = refl
-object_unfaulted _ _ _ (unreadable_object e) = refl
-object_unfaulted _ _ _ (signed_object x text whole is) = is.are_faults.is_whole
+-- so lines are whole, and objects
+pub lines_unfaulted : (limit left : ℕ) (there : Result (Option SignedImage) Fault) (text : List ℕ) (whole : Bool) (rest : ℕ)
+    → AreSignatureLines limit left there text whole rest → whole ≡ is_all_told left there
+lines_unfaulted limit left _ _ _ _ unsigned = refl
+lines_unfaulted limit left _ _ _ _ (unreadable e) = refl
+lines_unfaulted limit left _ _ _ _ (signed x text whole rest are) = are.is_whole
+
+pub object_unfaulted : (left : ℕ) (there : Result (Option SignedImage) Fault) (text : List ℕ) (whole : Bool) (rest : ℕ)
+    → IsSignatureObject left there text whole rest → whole ≡ is_all_told left there
+object_unfaulted left _ _ _ _ unsigned_object = refl
+object_unfaulted left _ _ _ _ (unreadable_object e) = refl
+object_unfaulted left _ _ _ _ (signed_object x text whole rest is) = is.is_whole
+
+-- both of two are so
+pub and_not : (a b : Bool) → IsTrue (a && not b) ↔ (IsTrue a × (b ≡ false))
+and_not true true = ((λ h. absurd (cc)), (λ h. absurd (cc)))
+and_not true false = ((λ h. (refl, refl)), (λ h. refl))
+and_not false b = ((λ h. absurd (cc)), (λ h. absurd (cc)))
 
 -- then no fault is told
 pub unfaulted_untold : (there : Result (Option SignedImage) Fault) → IsTrue (is_unfaulted there) → faults_by there ≡ Ok (Some [])

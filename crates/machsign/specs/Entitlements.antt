@@ -1,15 +1,19 @@
 -- The entitlements that the program writes of a file.
-use Rattle.std.specs.Prelude.{◌≡◌, ℕ, List, [], ◌∷◌, Bool, true, false, Option, Some, None, Result, Ok, Err}
+use Rattle.std.specs.Prelude.{◌≡◌, ◌⊎◌, ℕ, List, [], ◌∷◌, codes, Bool, true, false, Option, Some, None, Result, Ok, Err}
+use Rattle.mach_base.specs.Answer.{Stands}
 use Rattle.mach_base.specs.Fault.{Fault}
 use Rattle.mach_base.specs.declared.error.Error.{Error}
 use Rattle.goblin_mach.specs.Facts.{OfImage}
 use Rattle.goblin_mach.specs.Image.{ImageFault}
-use Rattle.goblin_mach.specs.Items.{ContentView, ItemView, content_bytes}
+use Rattle.goblin_mach.specs.Inputs.{InputFault}
+use Rattle.goblin_mach.specs.Items.{ContentView, ItemView, content_bytes, items_in}
 use Rattle.goblin_mach.specs.declared.item.EntryCpu.{EntryCpu}
 use Rattle.mach_signature.specs.SuperBlob.{SuperBlob, content_of}
 use Rattle.mach_signature.specs.SignedImages.{image_signature}
 use Rattle.goblin_mach.specs.View.{Tells}
 use Rattle.mach_cli.specs.Cpus.{IsTaken, is_of_cpu}
+use Rattle.mach_cli.specs.Foreigners.{refused_words}
+use Rattle.mach_cli.specs.Shown.{complaint}
 use Rattle.mach_cli.specs.declared.cpu.Cpu.{Cpu}
 
 -- what is there, if it can be read
@@ -51,3 +55,23 @@ pub data EntitlesItems (cpu : Cpu) : List ItemView → Option (List ℕ) → Typ
   first_entitles : (x : ItemView) (xs : List ItemView) (found : List ℕ) → EntitlesItem cpu x (Some found) → EntitlesItems cpu (x ∷ xs) (Some found)
   later_entitles : (x : ItemView) (xs : List ItemView) (found : Option (List ℕ)) → EntitlesItem cpu x None → EntitlesItems cpu xs found
       → EntitlesItems cpu (x ∷ xs) found
+
+-- ---- why nothing is written
+
+-- an item that is no entry of a fat file and can't be read refuses the file
+abbrev pub RefusesItem : ItemView → Fault → Type 0
+RefusesItem x f = (x.content ≡ Err f) × (x.place.entry ≡ None)
+
+-- the first of some items that refuses the file; none before it has entitlements
+pub data RefusesItems (cpu : Cpu) : List ItemView → Fault → Type 0 where
+  first_refuses : (x : ItemView) (xs : List ItemView) (f : Fault) → RefusesItem x f → RefusesItems cpu (x ∷ xs) f
+  later_refuses : (x : ItemView) (xs : List ItemView) (f : Fault) → EntitlesItem cpu x None → RefusesItems cpu xs f → RefusesItems cpu (x ∷ xs) f
+
+-- a fault of the file itself, or of such an item
+abbrev pub EntitlementFault : Cpu → List ℕ → Fault → Type 0
+EntitlementFault cpu bytes f = InputFault bytes f ⊎ RefusesItems cpu (items_in bytes) f
+
+-- The line says that no image that is asked for has entitlements, or why the file is refused, or that memory is.
+pub data SaysWhyNone (cpu : Cpu) (names bytes : List ℕ) : (said : List ℕ) → Type 0 where
+  none_has_some : EntitlesItems cpu (items_in bytes) None → SaysWhyNone cpu names bytes (complaint names (codes "no entitlements"))
+  file_is_refused : (e : Error) → Stands (EntitlementFault cpu bytes) e → SaysWhyNone cpu names bytes (complaint names (refused_words bytes e))

@@ -1,5 +1,5 @@
 -- The lines that the program shows of an image.
-use Rattle.std.specs.Prelude.{◌≡◌, ◌↔◌, ℕ, List, Bool, IsTrue, Option, Some, None, Result, Ok}
+use Rattle.std.specs.Prelude.{◌≡◌, ◌↔◌, ℕ, List, Bool, false, IsTrue, Option, Some, None, Result, Ok, Err}
 use Rattle.mach_base.specs.Answer.{◌>>=◌}
 use Rattle.mach_base.specs.Fault.{Fault}
 use Rattle.mach_load.specs.Command.{Command}
@@ -10,7 +10,7 @@ use Rattle.goblin_mach.specs.Subjects.{lossy_segments_in}
 use Rattle.mach_signature.specs.AsSigned.{SignedImage, signature_in}
 use Rattle.mach_signature.specs.SignedFacts.{HoldsAsSigned}
 use Rattle.mach_signature.specs.SignedImages.{signature_place_in, plist_of}
-use Rattle.machsign.specs.Signatures.{AreSignatureLines}
+use Rattle.machsign.specs.Signatures.{AreSignatureLines, is_cut}
 
 -- the signature that lies at a place, if one does, with the bytes of its image
 abbrev pub signed_there : List ℕ → Option (ℕ × ℕ) → (plist : Option (List ℕ)) → Result (Option SignedImage) Fault
@@ -26,10 +26,16 @@ image_signed bytes cs segments = signed_there bytes (signature_place_in cs) (pli
 abbrev pub HasSigned : List ℕ → ℕ → Result (Option SignedImage) Fault → Type 0
 HasSigned bytes o there = OfImage bytes o (λ ctx cs. there ≡ image_signed bytes cs (lossy_segments_in ctx bytes cs))
 
--- The text is the lines of the signature of the image at the front of the bytes. It is whole exactly where the image is as it was signed.
-pub record AreImageSignatureLines (bytes : List ℕ) (text : List ℕ) (whole : Bool) : Type 0 where
+-- whether it has more blobs and faults than may be told
+abbrev pub is_there_cut : (left : ℕ) → Result (Option SignedImage) Fault → Bool
+is_there_cut left (Ok (Some x)) = is_cut left x
+is_there_cut left (Ok None) = false
+is_there_cut left (Err f) = false
+
+-- The text is the lines of the signature of the image at the front of the bytes. It is whole exactly where the image is as it was signed, and all is told.
+pub record AreImageSignatureLines (limit left : ℕ) (bytes text : List ℕ) (whole : Bool) (rest : ℕ) : Type 0 where
   pub opens : Opens bytes 0
   pub there : Result (Option SignedImage) Fault
   pub has_signed : HasSigned bytes 0 there
-  pub lines : AreSignatureLines there text whole
-  pub as_signed : IsTrue whole ↔ HoldsAsSigned bytes 0
+  pub lines : AreSignatureLines limit left there text whole rest
+  pub as_signed : IsTrue whole ↔ (HoldsAsSigned bytes 0 × (is_there_cut left there ≡ false))

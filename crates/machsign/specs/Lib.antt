@@ -1,5 +1,10 @@
 pub mod Texts
+pub mod Special
+pub mod SpecialLeft
 pub mod Blocks
+pub mod Blobs
+pub mod BlobsLeft
+pub mod Faults
 pub mod Signatures
 pub mod ImageLines
 pub mod Entitlements

@@ -1,7 +1,6 @@
 -- Hashes, pages, versions and blobs, as they are printed.
 use Rattle.std.specs.Prelude.{◌==◌, ◌/◌, ◌%◌, ◌^◌, ℕ, List, ◌++◌, codes, if◌then◌else◌}
 use Rattle.std.specs.Fmt.{decimal}
-use Rattle.mach_signature.specs.SignWords.{slot_words}
 use Rattle.mach_signature.specs.declared.hash.HashType.{HashType}
 use Rattle.mach_signature.specs.declared.hash.HashType.TheVariants.{Sha1, Sha256, Sha256Truncated, Sha384}
 
@@ -19,8 +18,3 @@ pages_text power = if power == 0 then codes "pages of any size" else codes "page
 abbrev pub runtime_text : ℕ → List ℕ
 runtime_text n =
     decimal (n / 2 ^ 16) ++ (codes "." ++ (decimal (n / 2 ^ 8 % 2 ^ 8) ++ (codes "." ++ decimal (n % 2 ^ 8))))
-
--- what is said of a blob: how many bytes it has behind its head; nothing of a CMS is verified
-abbrev pub blob_text : (slot len : ℕ) → List ℕ
-blob_text slot len =
-    slot_words slot ++ (codes ": " ++ (decimal len ++ (if slot == 0x10000 then codes " bytes, not verified" else codes " bytes")))

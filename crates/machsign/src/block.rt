@@ -1,44 +1,43 @@
 //! The lines of a code directory.
 
-ghost use Rattle.std.specs.Prelude.{◌≡◌, ◌<◌, ◌^◌, ◌++◌, codes, length, OnOk};
+ghost use Rattle.std.specs.Prelude.{◌++◌, codes, OnOk};
 ghost use Rattle.std.specs.Option.{option_map};
 ghost use Rattle.std.specs.Io.KnownBytes.{Appends};
 ghost use Rattle.mach_base.specs.Items.{read_as};
 ghost use Rattle.mach_signature.specs.CodeFaultViews.{code_faults_left};
-ghost use Rattle.mach_signature.specs.CodeFaults.{code_faults_of};
 ghost use Rattle.mach_signature.specs.Directories.{cdhash_of, code_limit_of, identifier_of, team_of};
-ghost use Rattle.mach_signature.specs.DirectoryViews.{directory_view, slot_read};
+ghost use Rattle.mach_signature.specs.DirectoryViews.{directory_view};
 ghost use Rattle.mach_signature.specs.FaultViews.{signed_view};
 ghost use Rattle.machsign.specs.Blocks as defined;
 
-use crate::text::{HeadFront, RuntimeText, SegmentFront, ShapeText, SlotFront};
-use mach_cli::{print_bytes, print_code_flags, print_segment_flags};
-use mach_signature::{
-    CodeDirectory, CodeFault, CodeFaults, ExecutableSegment, RuntimeFields, SignedBytes, component,
-    is_unsealing,
-};
+use crate::form::Form;
+use crate::special::{MOST_SLOTS, SpecialSlots};
+use crate::text::{HeadFront, RuntimeText, SegmentFront, ShapeText};
+use mach_cli::{print_bytes, print_code_flags, print_rows, print_segment_flags};
+use mach_signature::{CodeDirectory, CodeFaults, ExecutableSegment, RuntimeFields, SignedBytes};
 use std::io;
 use std::io::Write;
 
-/// Prints the lines of a code directory of an image.
+/// Prints the lines of the code directory of a slot of an image.
 #[tactic(auto, unfolding(crate::specs::Blocks::directory_lines))]
 pub fn print_directory<O: Write>(
     signed: &SignedBytes<'_>,
+    slot: u32,
     directory: &CodeDirectory<'_>,
     out: &mut O,
 ) -> io::Result<()>
     ensures { OnOk result (Appends (O.contents out.old) (O.contents out.new)
-        (defined.directory_lines (signed_view signed.now) (directory_view directory.now))) }
+        (defined.directory_lines (signed_view signed.now) slot (directory_view directory.now))) }
 {
-    print_naming(directory, out)?;
+    print_naming(slot, directory, out)?;
     print_hashing(signed, directory, out)
 }
 
 // Prints what a directory is called, and what is said of it.
-fn print_naming<O: Write>(directory: &CodeDirectory<'_>, out: &mut O) -> io::Result<()>
-    ensures { OnOk result (Appends (O.contents out.old) (O.contents out.new) (defined.naming_lines (directory_view directory.now))) }
+fn print_naming<O: Write>(slot: u32, directory: &CodeDirectory<'_>, out: &mut O) -> io::Result<()>
+    ensures { OnOk result (Appends (O.contents out.old) (O.contents out.new) (defined.naming_lines slot (directory_view directory.now))) }
 {
-    print_head(directory, out)?;
+    print_head(slot, directory, out)?;
     print_identifier(directory, out)?;
     print_team(directory, out)?;
     print_executable(directory.executable, out)
@@ -59,11 +58,14 @@ fn print_hashing<O: Write>(
     print_special_slots(signed, directory, out)
 }
 
-// Prints the first line of a directory.
-fn print_head<O: Write>(directory: &CodeDirectory<'_>, out: &mut O) -> io::Result<()>
-    ensures { OnOk result (Appends (O.contents out.old) (O.contents out.new) (defined.head_line (directory_view directory.now))) }
+// Prints the first line of a directory, which begins with the name of its slot.
+fn print_head<O: Write>(slot: u32, directory: &CodeDirectory<'_>, out: &mut O) -> io::Result<()>
+    ensures { OnOk result (Appends (O.contents out.old) (O.contents out.new) (defined.head_line slot (directory_view directory.now))) }
 {
-    let front = HeadFront(directory.head.version);
+    let front = HeadFront {
+        slot,
+        version: directory.head.version,
+    };
     write!(out, "{front}")?;
     print_code_flags(directory.head.flags, out)?;
     print_shape(directory, out)
@@ -155,62 +157,14 @@ fn print_cdhash<O: Write>(directory: &CodeDirectory<'_>, out: &mut O) -> io::Res
     writeln!(out)
 }
 
-// How many faults are left.
-fn count_faults(mut faults: CodeFaults<'_>) -> u64
-    requires { length (code_faults_left faults) < 2 ^ 64 }
-    ensures { result ≡ length (code_faults_left faults.entry) }
-{
-    let mut count: u64 = 0;
-    'faults: while let Some(_) = faults.next() {
-        count += 1;
-    }
-    count
-}
-
-// Prints that there are more faults, if there are.
-fn print_more<O: Write>(more: u64, out: &mut O) -> io::Result<()>
-    ensures { OnOk result (Appends (O.contents out.old) (O.contents out.new) (defined.more_faults_text more)) }
-{
-    if more == 0 {
-        return Ok(());
-    }
-    write!(out, ", and {more} more")
-}
-
-// Prints a fault, and how many more there are.
-fn print_first<O: Write>(fault: CodeFault, more: u64, out: &mut O) -> io::Result<()>
-    ensures { OnOk result (Appends (O.contents out.old) (O.contents out.new) (defined.first_text fault more)) }
-{
-    write!(out, "{fault}")?;
-    print_more(more, out)
-}
-
-// Prints the first fault of the code, and how many more there are; or how many pages it has.
+// Prints whether the code is as signed, and how many pages it has then. Which of them are not is told of the faults.
 fn print_code_text<O: Write>(pages: u64, mut faults: CodeFaults<'_>, out: &mut O) -> io::Result<()>
-    requires { length (code_faults_left faults) < 2 ^ 64 }
     ensures { OnOk result (Appends (O.contents out.old) (O.contents out.new) (defined.code_text pages (code_faults_left faults.entry))) }
 {
     match faults.next() {
-        Some(fault) => print_first(fault, count_faults(faults), out),
+        Some(_) => write!(out, "not as signed"),
         None => write!(out, "{pages} pages as signed"),
     }
-}
-
-// How many code slots a directory has.
-fn slot_count(directory: &CodeDirectory<'_>) -> u32
-    ensures value { result ≡ directory.now.head.n_code_slots }
-    ensures bound { result < 2 ^ 32 }
-{
-    directory.head.n_code_slots
-}
-
-// What is wrong with the code, of which there are no more faults than slots.
-fn few_faults<'a>(directory: &CodeDirectory<'a>, image: &'a [u8]) -> CodeFaults<'a>
-    ensures faults { code_faults_left result ≡ code_faults_of (directory_view directory.now) image.now }
-    ensures few { length (code_faults_left result) < 2 ^ 64 }
-{
-    let _slots = slot_count(directory);
-    directory.code_faults(image)
 }
 
 // Prints the line of the code.
@@ -218,96 +172,8 @@ fn print_code<O: Write>(directory: &CodeDirectory<'_>, image: &[u8], out: &mut O
     ensures { OnOk result (Appends (O.contents out.old) (O.contents out.new) (defined.code_line (directory_view directory.now) image.now)) }
 {
     write!(out, "  code: ")?;
-    print_code_text(directory.page_count(), few_faults(directory, image), out)?;
+    print_code_text(directory.page_count(), directory.code_faults(image), out)?;
     writeln!(out)
-}
-
-// Prints that a slot seals another file.
-fn print_other_file<O: Write>(slot: &[u8], out: &mut O) -> io::Result<()>
-    ensures { OnOk result (Appends (O.contents out.old) (O.contents out.new) (defined.other_file_text slot.now)) }
-{
-    write!(out, "of another file, ")?;
-    print_bytes(slot, out)
-}
-
-// Prints what a slot without a fault seals.
-fn print_seal<O: Write>(
-    slot: &[u8],
-    there: mach_base::Result<Option<&[u8]>>,
-    out: &mut O,
-) -> io::Result<()>
-    ensures { OnOk result (Appends (O.contents out.old) (O.contents out.new) (defined.seal_text slot.now (read_as slot_read there.entry))) }
-{
-    match there {
-        Ok(Some(_)) => write!(out, "as signed"),
-        Ok(None) => print_other_file(slot, out),
-        Err(_) => write!(out, "unreadable"),
-    }
-}
-
-// Prints the line of a slot that is not zero.
-fn print_seal_line<O: Write>(
-    number: u32,
-    slot: &[u8],
-    there: mach_base::Result<Option<&[u8]>>,
-    out: &mut O,
-) -> io::Result<()>
-    ensures { OnOk result (Appends (O.contents out.old) (O.contents out.new) (defined.seal_line number slot.now (read_as slot_read there.entry))) }
-{
-    let front = SlotFront(number);
-    write!(out, "{front}")?;
-    print_seal(slot, there, out)?;
-    writeln!(out)
-}
-
-// Prints the line of a slot without a fault, if it seals something.
-fn print_sealed<O: Write>(
-    number: u32,
-    slot: Option<&[u8]>,
-    there: mach_base::Result<Option<&[u8]>>,
-    out: &mut O,
-) -> io::Result<()>
-    ensures { OnOk result (Appends (O.contents out.old) (O.contents out.new)
-        (defined.sealed_line number (slot_read slot.entry) (read_as slot_read there.entry))) }
-{
-    let Some(slot) = slot else {
-        return Ok(());
-    };
-    if is_unsealing(slot) {
-        return Ok(());
-    }
-    print_seal_line(number, slot, there, out)
-}
-
-// Prints the line of a special slot without a fault.
-fn print_unfaulted<O: Write>(
-    signed: &SignedBytes<'_>,
-    directory: &CodeDirectory<'_>,
-    number: u32,
-    out: &mut O,
-) -> io::Result<()>
-    ensures { OnOk result (Appends (O.contents out.old) (O.contents out.new)
-        (defined.unfaulted_line (signed_view signed.now) (directory_view directory.now) number)) }
-{
-    let slot = directory.special_slot(number);
-    let there = component(&signed.signature, signed.plist, number);
-    print_sealed(number, slot, there, out)
-}
-
-// Prints the line of a special slot.
-fn print_special<O: Write>(
-    signed: &SignedBytes<'_>,
-    directory: &CodeDirectory<'_>,
-    number: u32,
-    out: &mut O,
-) -> io::Result<()>
-    ensures { OnOk result (Appends (O.contents out.old) (O.contents out.new)
-        (defined.special_line (signed_view signed.now) (directory_view directory.now) number)) }
-{
-    match directory.special_fault(&signed.signature, signed.plist, number) {
-        Some(fault) => writeln!(out, "  {fault}"),
-        None => print_unfaulted(signed, directory, number, out),
-    }
 }
 
 // Prints the lines of the special slots.
@@ -318,9 +184,7 @@ fn print_special_slots<O: Write>(
 ) -> io::Result<()>
     ensures { OnOk result (Appends (O.contents out.old) (O.contents out.new) (defined.special_lines (signed_view signed.now) (directory_view directory.now))) }
 {
-    let count = directory.head.n_special_slots.min(11);
-    'slots: for before in 0..count {
-        print_special(signed, directory, before + 1, out)?;
-    }
+    let mut slots = SpecialSlots::of(signed, directory, Form::Lines);
+    print_rows(&mut slots, "", MOST_SLOTS, out)?;
     Ok(())
 }

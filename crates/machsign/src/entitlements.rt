@@ -1,18 +1,23 @@
 //! The entitlements of a file.
 
-ghost use Rattle.std.specs.Prelude.{◌≡◌, [], ℕ, List, Some, None, OnOk, IfOk};
+ghost use Rattle.std.specs.Prelude.{◌≡◌, ◌≤◌, [], ℕ, List, codes, Some, None, OnOk, IfOk, IfErr};
 ghost use Rattle.std.specs.Io.Buffered.{writer_buffer, writer_contents};
 ghost use Rattle.std.specs.Io.KnownBytes.{Appends};
 ghost use Rattle.std.specs.Option.{option_map};
+ghost use Rattle.mach_base.specs.Answer.{IsOkUnlessMemory, Stands};
 ghost use Rattle.mach_base.specs.Items.{read_as};
 ghost use Rattle.mach_signature.specs.DirectoryViews.{slot_read};
 ghost use Rattle.mach_signature.specs.SignViews.{signature_view};
+ghost use Rattle.mach_cli.specs.Foreigners.{refused_words};
+ghost use Rattle.mach_cli.specs.Names.{names_text};
+ghost use Rattle.mach_cli.specs.Shown.{complaint};
 ghost use Rattle.mach_cli.specs.Statuses.{IsStatus};
 ghost use Rattle.goblin_mach.specs.View.{IsTold};
 ghost use Rattle.goblin_mach.specs.OpenImage.{IsImage};
 ghost use Rattle.goblin_mach.specs.Items.{content_view, items_in};
 ghost use Rattle.goblin_mach.specs.ItemsLeft.{input_item_read};
 ghost use Rattle.machsign.specs.Entitlements.{entitlements_of, HasEntitlements, EntitlesContent, EntitlesItem, EntitlesItems, IsAskedImage};
+ghost use Rattle.machsign.specs.Entitlements.{RefusesItem, EntitlementFault, SaysWhyNone};
 
 use crate::run::NAME;
 use goblin_mach::{Content, EntryCpu, Error, Input, InputItem, MachO, Result, describe};
@@ -47,7 +52,8 @@ fn of_image<'a, A: Allocator>(image: &MachO<'a, A>) -> Option<&'a [u8]>
 
 // None of what is no image, but for want of memory.
 fn of_refused<'a>(error: Error) -> Result<Option<&'a [u8]>>
-    ensures { IfOk result (λ found. (slot_read found ≡ None) × IsTold error) }
+    ensures none { IfOk result (λ found. (slot_read found ≡ None) × IsTold error) }
+    ensures memory { IsOkUnlessMemory result }
 {
     match error {
         Error::Memory(refused) => Err(Error::Memory(refused)),
@@ -72,7 +78,8 @@ fn of_content<'a, A: Allocator + Clone>(
     entry: Option<EntryCpu>,
     content: Content<'a>,
 ) -> Result<Option<&'a [u8]>>
-    ensures { IfOk result (λ found. EntitlesContent cpu entry (content_view content.entry) (slot_read found)) }
+    ensures found { IfOk result (λ found. EntitlesContent cpu entry (content_view content.entry) (slot_read found)) }
+    ensures memory { IsOkUnlessMemory result }
 {
     match content.open(alloc.clone()?) {
         Ok(image) if is_asked(cpu, entry, &image) => Ok(of_image(&image)),
@@ -87,13 +94,18 @@ fn of_item<'a, A: Allocator + Clone>(
     cpu: Cpu,
     item: InputItem<'a>,
 ) -> Result<Option<&'a [u8]>>
-    ensures { IfOk result (λ found. EntitlesItem cpu (input_item_read item.entry) (slot_read found)) }
+    ensures found { IfOk result (λ found. EntitlesItem cpu (input_item_read item.entry) (slot_read found)) }
+    ensures refused { IfErr result (Stands (RefusesItem (input_item_read item.entry))) }
 {
     let place = item.place;
     match item.content {
         Ok(content) => of_content(alloc, cpu, place.cpu, content),
-        Err(error) if place.entry.is_none() => Err(error),
-        Err(_) => Ok(None),
+        Err(error) => {
+            if place.entry.is_none() {
+                return Err(error);
+            }
+            Ok(None)
+        }
     }
 }
 
@@ -103,7 +115,8 @@ fn first_in<'a, A: Allocator + Clone>(
     cpu: Cpu,
     bytes: &'a [u8],
 ) -> Result<Option<&'a [u8]>>
-    ensures { IfOk result (λ found. EntitlesItems cpu (items_in bytes.now) (slot_read found)) }
+    ensures found { IfOk result (λ found. EntitlesItems cpu (items_in bytes.now) (slot_read found)) }
+    ensures refused { IfErr result (Stands (EntitlementFault cpu bytes.now)) }
 {
     let input = Input::parse(alloc.clone()?, bytes)?;
     'items: for item in input.images() {
@@ -127,37 +140,55 @@ fn put<W: Write + Drop, B: Allocator>(bytes: &[u8], out: &mut BufWriter<W, B>) -
 
 // The status where a file has no entitlements, which is told.
 fn none_there<E: Write>(file: &str, err: &mut E) -> u8
-    ensures { result ≡ 1 }
+    ensures bound { IsStatus result }
+    ensures not_zero { 1 ≤ result }
+    ensures told { result ≡ 1 → Appends (E.contents err.old) (E.contents err.new)
+        (complaint (names_text (codes "machsign") file.now) (codes "no entitlements")) }
 {
     let names = Names {
         program: NAME,
         file,
     };
-    let _ = writeln!(err, "{names}: no entitlements");
-    1
+    match writeln!(err, "{names}: no entitlements") {
+        Ok(()) => 1,
+        Err(error) => failed(NAME, "", error, err),
+    }
 }
 
-// The status of a file that is refused, which is told.
-fn refused<E: Write>(file: &str, bytes: &[u8], error: &Error, err: &mut E) -> u8
-    ensures { result ≡ 1 }
+// Says why a file is refused: what it is, where it is none of Mach-O's.
+fn say_refused<E: Write>(file: &str, bytes: &[u8], error: &Error, err: &mut E) -> io::Result<()>
+    ensures { OnOk result (Appends (E.contents err.old) (E.contents err.new)
+        (complaint (names_text (codes "machsign") file.now) (refused_words bytes.now error.now))) }
 {
     let names = Names {
         program: NAME,
         file,
     };
-    let _ = match refused_kind(bytes, error) {
+    match refused_kind(bytes, error) {
         Some(kind) => writeln!(err, "{names}: {kind}"),
         None => {
             let words = describe(error);
             writeln!(err, "{names}: {words}")
         }
-    };
-    1
+    }
+}
+
+// The status of a file that is refused, which is told.
+fn refused<E: Write>(file: &str, bytes: &[u8], error: &Error, err: &mut E) -> u8
+    ensures bound { IsStatus result }
+    ensures not_zero { 1 ≤ result }
+    ensures told { result ≡ 1 → Appends (E.contents err.old) (E.contents err.new)
+        (complaint (names_text (codes "machsign") file.now) (refused_words bytes.now error.now)) }
+{
+    match say_refused(file, bytes, error, err) {
+        Ok(()) => 1,
+        Err(error) => failed(NAME, "", error, err),
+    }
 }
 
 /// Writes the entitlements of the first image of a file, an archive or a fat file that is asked for and has some, and nothing else, and answers the
-/// exit status: 0; 1 where there
-/// are none, or the file or memory is refused, and then `err` has a line that says why; 2 or 141 where a write fails. At 0 nothing is left in the buffer.
+/// exit status: 0; 1 where there are none, or the file or memory is refused, and then `err` has a line that says why, and `out` nothing; 2 or 141 where a
+/// write fails. At 0 nothing is left in the buffer.
 pub fn run_entitlements<A: Allocator + Clone, W: Write + Drop, B: Allocator, E: Write>(
     alloc: A,
     cpu: Cpu,
@@ -171,6 +202,8 @@ pub fn run_entitlements<A: Allocator + Clone, W: Write + Drop, B: Allocator, E: 
         × Appends (writer_contents W.contents out.old) (writer_contents W.contents out.new) found }
     ensures flushed { result ≡ 0 → writer_buffer out.new ≡ [] }
     ensures nothing { result ≡ 1 → Appends (writer_contents W.contents out.old) (writer_contents W.contents out.new) [] }
+    ensures told { result ≡ 1 → (said : List ℕ) × SaysWhyNone cpu (names_text (codes "machsign") file.now) bytes.now said
+        × Appends (E.contents err.old) (E.contents err.new) said }
 {
     match first_in(&alloc, cpu, bytes) {
         Ok(Some(found)) => match put(found, out) {

@@ -3,7 +3,8 @@
 ghost use Rattle.std.specs.Prelude.{◌≡◌, ◌≤◌, [], codes};
 ghost use Rattle.std.specs.Io.Buffered.{writer_buffer, writer_contents};
 ghost use Rattle.mach_cli.specs.Names.{names_text};
-ghost use Rattle.mach_cli.specs.Shown.{Shown, Writes, without_limit};
+ghost use Rattle.mach_cli.specs.Bounds.{most_items};
+ghost use Rattle.mach_cli.specs.Shown.{Shown, Writes};
 ghost use Rattle.mach_cli.specs.Statuses.{IsStatus, status_by};
 ghost use Rattle.mach_cli.specs.Documents.{IsDocument};
 ghost use Rattle.machsign.specs.JsonSignature.{AreImageSignatureMembers};
@@ -11,7 +12,7 @@ ghost use Rattle.machsign.specs.JsonSignature.{AreImageSignatureMembers};
 use crate::members::write_members;
 use crate::run::NAME;
 use goblin_mach::MachO;
-use mach_cli::{Cpu, Failure, Heading, Names, Outcome, Shows};
+use mach_cli::{Cpu, Failure, Heading, Names, Outcome, Shows, most_items};
 use std::alloc::Allocator;
 use std::io::{BufWriter, Write};
 
@@ -24,7 +25,7 @@ struct ObjectsOf<'a> {
 impl Shows for ObjectsOf<'_> {
     ghost names = { λ asked. names_text (codes "machsign") asked.file.now };
 
-    ghost lines = { λ _. without_limit AreImageSignatureMembers };
+    ghost lines = { λ _. AreImageSignatureMembers };
 
     fn names(&self) -> Names<'_> {
         Names {
@@ -42,16 +43,16 @@ impl Shows for ObjectsOf<'_> {
         out: &mut O,
     ) -> Result<Outcome, Failure> {
         write!(out, "{heading}")?;
-        let whole = write_members(image, out)?;
-        Ok(Outcome { whole, left })
+        Ok(write_members(image, left, out)?)
     }
 }
 
-/// Writes of a file as `run` does, but as JSON, an object of the file on a line: of each image what the code directory of its signature says that counts,
-/// and a string for all that isn't as it was signed.
+/// Writes of a file as `run` does, but as JSON, an object of the file on a line: of each image its blobs, what the code directory of its signature says that
+/// counts, and a string for all that isn't as it was signed.
 pub fn run_json<A: Allocator + Clone, W: Write + Drop, B: Allocator, E: Write>(
     alloc: A,
     cpu: Cpu,
+    limit: usize,
     file: &str,
     bytes: &[u8],
     out: &mut BufWriter<W, B>,
@@ -59,10 +60,20 @@ pub fn run_json<A: Allocator + Clone, W: Write + Drop, B: Allocator, E: Write>(
 ) -> u8
     ensures status { IsStatus result }
     ensures shown { result ≤ 1 → (shown : Shown)
-        × IsDocument cpu (names_text (codes "machsign") file.now) file.now (without_limit AreImageSignatureMembers) 0 bytes.now shown
+        × IsDocument cpu (names_text (codes "machsign") file.now) file.now AreImageSignatureMembers (most_items limit bytes.now) bytes.now shown
         × (result ≡ status_by shown.whole)
         × Writes shown (writer_contents W.contents out.old) (writer_contents W.contents out.new) (E.contents err.old) (E.contents err.new) }
     ensures flushed { result ≤ 1 → writer_buffer out.new ≡ [] }
 {
-    mach_cli::json::run::run(&ObjectsOf { file }, file, cpu, 0, &alloc, bytes, out, err)
+    let limit = most_items(limit, bytes);
+    mach_cli::json::run::run(
+        &ObjectsOf { file },
+        file,
+        cpu,
+        limit,
+        &alloc,
+        bytes,
+        out,
+        err,
+    )
 }

@@ -6,21 +6,27 @@
 //! It says nothing of who signed: a CMS is not verified, and no other file is read.
 #![tactic(auto)]
 
+mod blobs;
 mod block;
 mod entitlements;
+mod form;
 mod json;
+mod laws;
 mod members;
 mod print;
 mod run;
 mod signed;
+mod special;
 mod text;
 mod words;
 
 use entitlements::run_entitlements;
 use json::run_json;
-use mach_cli::{Cpu, Files, ForTerminal, Misuse, Program, ShowsFile, take_json};
+use mach_cli::{
+    Call, Cpu, Files, ForTerminal, Misuse, Others, Program, ShowsFile, Titled, take_json,
+};
 use run::{NAME, run};
-use std::alloc::Allocator;
+use std::alloc::{Allocator, Global};
 use std::io;
 use std::io::{BufWriter, IsTerminal, Write};
 use std::process::ExitCode;
@@ -28,17 +34,21 @@ use words::take_entitlements;
 
 const PROGRAM: Program = Program {
     name: NAME,
-    usage: "usage: machsign [--json] [--arch NAME | --cputype 0xN] FILE..\n       machsign --entitlements [--arch NAME | --cputype 0xN] FILE\n\
-        \x20      machsign -h | --help | --version\n",
+    usage: "usage: machsign [--json] [--limit N] [--arch NAME | --cputype 0xN] [--names FILE] [-0] FILE..\n\
+        \x20      machsign --entitlements [--arch NAME | --cputype 0xN] FILE\n       machsign -h | --help | --version\n",
     version: "machsign 0.2.0\n",
-    has_limit: false,
+    has_limit: true,
     has_cpu: true,
+    has_files: true,
     known: &[
+        "-0",
         "--arch",
         "--cputype",
         "--entitlements",
         "--help",
         "--json",
+        "--limit",
+        "--names",
         "--version",
     ],
 };
@@ -59,14 +69,25 @@ fn start(rt: &HostRuntime) -> Result<u8, u8> {
         return Err(PROGRAM.out_of_memory(rt));
     };
     let call = PROGRAM.call(rt, &words)?;
-    if call.words.is_empty() {
-        return Err(PROGRAM.bad_usage(rt, Misuse::Missing("FILE")));
-    }
+    answer(rt, are_asked, is_json, &call)
+}
+
+// Does what a call asks for: entitlements, or what is shown of each file.
+fn answer(
+    rt: &HostRuntime,
+    are_asked: bool,
+    is_json: bool,
+    call: &Call<'_, Global>,
+) -> Result<u8, u8> {
     if are_asked {
-        write_entitlements(rt, call.cpu, &call.words)
-    } else {
-        show_files(rt, is_json, call.cpu, &call.words)
+        return write_entitlements(rt, call.cpu, &call.words);
     }
+    let shown = Shown {
+        cpu: call.cpu,
+        limit: call.limit.unwrap_or(usize::MAX),
+        is_json,
+    };
+    show_files(rt, shown, &call.words, &call.others)
 }
 
 // Writes the entitlements of the first image of a file that has them, and answers the status.
@@ -81,34 +102,49 @@ fn write_entitlements(rt: &HostRuntime, cpu: Cpu, files: &[&str]) -> Result<u8, 
     Ok(run_entitlements(rt.alloc(), cpu, file, &bytes, &mut out, &mut rt.stderr()))
 }
 
-// What is shown of each file: lines, or an object.
+// What is shown of each file: lines, at most `limit` of them of blobs and faults, or an object.
 #[derive(Clone, Copy)]
 struct Shown {
     cpu: Cpu,
+    limit: usize,
     is_json: bool,
 }
 
 impl<W: Write + Drop, B: Allocator> ShowsFile<BufWriter<W, B>> for Shown {
     fn show(&self, rt: &HostRuntime, name: &str, bytes: &[u8], out: &mut BufWriter<W, B>) -> u8 {
         let (alloc, err) = (rt.alloc(), &mut rt.stderr());
-        if self.is_json {
-            run_json(alloc, self.cpu, name, bytes, out, err)
+        let Shown {
+            cpu,
+            limit,
+            is_json,
+        } = *self;
+        if is_json {
+            run_json(alloc, cpu, limit, name, bytes, out, err)
         } else {
-            run(alloc, self.cpu, name, bytes, out, err)
+            run(alloc, cpu, limit, name, bytes, out, err)
         }
     }
 }
 
 // Shows of files in order the signatures of the images that are asked for, and answers the worst status.
-fn show_files(rt: &HostRuntime, is_json: bool, cpu: Cpu, files: &[&str]) -> Result<u8, u8> {
+fn show_files(
+    rt: &HostRuntime,
+    shown: Shown,
+    files: &[&str],
+    others: &Others<'_, Global>,
+) -> Result<u8, u8> {
+    if files.is_empty() && others.is_empty() {
+        return Err(PROGRAM.bad_usage(rt, Misuse::Missing("FILE")));
+    }
     let output = ForTerminal::new(io::writer(rt), rt.stdout().is_terminal());
-    let Ok(mut lines) = BufWriter::new(rt.alloc(), output) else {
+    let Ok(mut lines) = BufWriter::new(rt.alloc(), Titled::new(rt.alloc(), output)) else {
         return Err(PROGRAM.out_of_memory(rt));
     };
     let call = Files {
         program: PROGRAM,
-        cpu,
-        has_titles: !is_json,
+        cpu: shown.cpu,
+        has_titles: !shown.is_json,
+        has_parts: true,
     };
-    call.show(rt, &Shown { cpu, is_json }, files, &mut lines)
+    call.show(rt, &shown, files, others, &mut lines)
 }

@@ -6,66 +6,89 @@ ghost use Rattle.std.specs.Option.{option_map};
 ghost use Rattle.mach_base.specs.Items.{read_as};
 ghost use Rattle.mach_base.specs.Words.{words_of};
 ghost use Rattle.goblin_mach.specs.OpenImage.{bytes_held, commands_held, segments_held};
-ghost use Rattle.mach_cli.specs.JsonArrays.{comma_before};
+ghost use Rattle.mach_cli.specs.JsonArrays.{comma_before, with_commas};
 ghost use Rattle.mach_cli.specs.JsonText.{json_string};
 ghost use Rattle.mach_signature.specs.DirectoryViews.{directory_view};
 ghost use Rattle.mach_signature.specs.FaultViews.{signed_view, signature_faults_left};
+ghost use Rattle.mach_signature.specs.SignViews.{signature_view};
+ghost use Rattle.machsign.specs.Faults.{WritesFaults, fault_string, fault_strings};
 ghost use Rattle.machsign.specs.ImageLines.{image_signed};
 ghost use Rattle.machsign.specs.JsonSignature as defined;
+ghost use Rattle.machsign.specs.Texts.{runtime_text};
 
+use crate::blobs::OtherBlobs;
+use crate::form::Form;
 use crate::signed::signed_image;
+use crate::special::{MOST_SLOTS, SpecialSlots};
+use crate::text::RuntimeText;
 use goblin_mach::{Error, MachO, Result, describe};
-use mach_cli::{JsonString, print_bytes};
-use mach_signature::{CodeDirectory, SignatureFault, SignatureFaults, SignedBytes};
+use mach_cli::{JsonString, Outcome, Told, print_array, print_bytes};
+use mach_signature::{
+    CodeDirectory, ExecutableSegment, RuntimeFields, SignatureFault, SignatureFaults, SignedBytes,
+};
 use std::alloc::Allocator;
 use std::fmt::{Display, Formatter};
 use std::io::Write;
 use std::{fmt, io};
 
-/// Writes the members of an image, and answers whether it has a signature without a fault.
-pub fn write_members<A: Allocator, O: Write>(image: &MachO<'_, A>, out: &mut O) -> io::Result<bool>
-    ensures { IfOk result (λ whole. defined.WritesSignatureMembers
-        (image_signed (bytes_held image.now) (commands_held image.now) (segments_held image.now)) whole
+/// Writes the members of an image: of the blobs and the faults of its signature together the first `left`. Answers whether it has a signature without a
+/// fault and all were written, and how many are left.
+pub fn write_members<A: Allocator, O: Write>(
+    image: &MachO<'_, A>,
+    left: usize,
+    out: &mut O,
+) -> io::Result<Outcome>
+    ensures { IfOk result (λ outcome. defined.WritesSignatureMembers left
+        (image_signed (bytes_held image.now) (commands_held image.now) (segments_held image.now)) outcome.whole outcome.left
         (O.contents out.old) (O.contents out.new)) }
 {
     write!(out, "\"kind\":\"image\",\"signature\":")?;
     match signed_image(image) {
-        Ok(Some(signed)) => write_signed(&signed, out),
-        Ok(None) => write_unsigned(out),
-        Err(error) => write_refused(&error, out),
+        Ok(Some(signed)) => write_signed(&signed, left, out),
+        Ok(None) => write_unsigned(left, out),
+        Err(error) => write_refused(&error, left, out),
     }
 }
 
 // Writes that there is no signature; so there is none without a fault.
-fn write_unsigned<O: Write>(out: &mut O) -> io::Result<bool>
-    ensures { IfOk result (λ whole. (whole ≡ false) × Appends (O.contents out.old) (O.contents out.new) (codes "null")) }
+fn write_unsigned<O: Write>(left: usize, out: &mut O) -> io::Result<Outcome>
+    ensures { IfOk result (λ outcome. (outcome.whole ≡ false) × (outcome.left ≡ left)
+        × Appends (O.contents out.old) (O.contents out.new) (codes "null")) }
 {
     write!(out, "null")?;
-    Ok(false)
+    Ok(Outcome { whole: false, left })
 }
 
 // Writes why a signature can't be read; so there is none without a fault.
-fn write_refused<O: Write>(error: &Error, out: &mut O) -> io::Result<bool>
-    ensures { IfOk result (λ whole. (whole ≡ false)
+fn write_refused<O: Write>(error: &Error, left: usize, out: &mut O) -> io::Result<Outcome>
+    ensures { IfOk result (λ outcome. (outcome.whole ≡ false) × (outcome.left ≡ left)
         × Appends (O.contents out.old) (O.contents out.new) (defined.refused_object (words_of error.now))) }
 {
     let words = describe(error);
     write!(out, "{{\"error\":\"{words}\"}}")?;
-    Ok(false)
+    Ok(Outcome { whole: false, left })
 }
 
-// Writes the object of a signature that can be read, and answers whether it has no fault.
-fn write_signed<O: Write>(signed: &SignedBytes<'_>, out: &mut O) -> io::Result<bool>
-    ensures { IfOk result (λ whole. defined.WritesSignedObject (signed_view signed.now) whole (O.contents out.old) (O.contents out.new)) }
+// Writes the object of a signature that can be read, up to the limit, and answers whether it has no fault and all were written.
+fn write_signed<O: Write>(signed: &SignedBytes<'_>, left: usize, out: &mut O) -> io::Result<Outcome>
+    ensures { IfOk result (λ outcome. defined.WritesSignedObject left (signed_view signed.now) outcome.whole outcome.left
+        (O.contents out.old) (O.contents out.new)) }
 {
     let directory = signed.signature.directory();
+    write!(out, "{{\"blobs\":")?;
+    let mut rows = OtherBlobs::of(&signed.signature, Form::Objects);
+    let blobs = print_array(&mut rows, left, out)?;
     write_before(&directory, out)?;
-    let whole = write_faults(signed.faults(), out)?;
-    write_behind(&directory, out)?;
-    Ok(whole)
+    let faults = write_faults(signed.faults(), blobs.left, out)?;
+    let more = blobs.more | faults.more;
+    write_after(signed, &directory, more, out)?;
+    Ok(Outcome {
+        whole: faults.whole & !more,
+        left: faults.left,
+    })
 }
 
-// Writes what stands before the faults: the hash of the directory that counts, or why none does.
+// Writes what stands between the blobs and the faults: of the directory that counts, or why none does.
 fn write_before<O: Write>(directory: &Result<CodeDirectory<'_>>, out: &mut O) -> io::Result<()>
     ensures { OnOk result (Appends (O.contents out.old) (O.contents out.new) (defined.before_faults directory.now)) }
 {
@@ -73,39 +96,68 @@ fn write_before<O: Write>(directory: &Result<CodeDirectory<'_>>, out: &mut O) ->
         Ok(directory) => write_cdhash(directory, out),
         Err(error) => {
             let words = describe(error);
-            write!(out, "{{\"error\":\"{words}\",\"faults\":[")
+            write!(out, ",\"error\":\"{words}\",\"faults\":[")
         }
     }
 }
 
-// Writes the hash of a directory, and the front of what stands behind it.
+// Writes the hash of a directory, its executable segment, and the front of the faults.
 fn write_cdhash<O: Write>(directory: &CodeDirectory<'_>, out: &mut O) -> io::Result<()>
-    ensures { OnOk result (Appends (O.contents out.old) (O.contents out.new) (defined.cdhash_member (directory_view directory.now))) }
+    ensures { OnOk result (Appends (O.contents out.old) (O.contents out.new) (defined.cdhash_members (directory_view directory.now))) }
 {
-    write!(out, "{{\"cdhash\":\"")?;
+    write!(out, ",\"cdhash\":\"")?;
     print_bytes(&directory.cdhash(), out)?;
-    write!(out, "\",\"faults\":[")
+    let executable = ExecutableObject(directory.executable);
+    write!(out, "\",\"executable\":{executable},\"faults\":[")
 }
 
-// Writes what stands behind the faults: what the directory that counts says, if one does.
-fn write_behind<O: Write>(directory: &Result<CodeDirectory<'_>>, out: &mut O) -> io::Result<()>
-    ensures { OnOk result (Appends (O.contents out.old) (O.contents out.new) (defined.behind_faults directory.now)) }
+// An executable segment; null where the version has none.
+#[derive(Clone, Copy)]
+struct ExecutableObject(Option<ExecutableSegment>);
+
+impl Display for ExecutableObject {
+    ghost output = { λ t. Some (defined.executable_object t.0) };
+
+    fn fmt<W: fmt::Write>(&self, f: &mut Formatter<W>) -> fmt::Result {
+        let Some(segment) = self.0 else {
+            return f.write_str("null");
+        };
+        let ExecutableSegment { base, limit, flags } = segment;
+        write!(f, "{{\"base\":{base},\"flags\":{flags},\"limit\":{limit}}}")
+    }
+}
+
+// Writes what stands after the faults: of the directory that counts, if one does; and whether there are more than were written.
+fn write_after<O: Write>(
+    signed: &SignedBytes<'_>,
+    directory: &Result<CodeDirectory<'_>>,
+    more: bool,
+    out: &mut O,
+) -> io::Result<()>
+    ensures { OnOk result (Appends (O.contents out.old) (O.contents out.new) (defined.after_faults (signed_view signed.now) more directory.now)) }
 {
     match directory {
-        Ok(directory) => write_fields(directory, out),
-        Err(_) => write!(out, "]}}"),
+        Ok(directory) => write_fields(signed, directory, more, out),
+        Err(_) => write!(out, "],\"limit_met\":{more}}}"),
     }
 }
 
 // Writes what a directory says.
-fn write_fields<O: Write>(directory: &CodeDirectory<'_>, out: &mut O) -> io::Result<()>
-    ensures { OnOk result (Appends (O.contents out.old) (O.contents out.new) (defined.directory_members (directory_view directory.now))) }
+fn write_fields<O: Write>(
+    signed: &SignedBytes<'_>,
+    directory: &CodeDirectory<'_>,
+    more: bool,
+    out: &mut O,
+) -> io::Result<()>
+    ensures { OnOk result (Appends (O.contents out.old) (O.contents out.new)
+        (defined.directory_members (signed_view signed.now) more (directory_view directory.now))) }
 {
     write_hashing(directory, out)?;
     write_identifier(directory, out)?;
-    write_pages(directory, out)?;
-    write_team(directory, out)?;
-    write_version(directory, out)
+    write_pages(directory, more, out)?;
+    write_running(directory, out)?;
+    write_special(signed, directory, out)?;
+    write_naming(directory, out)
 }
 
 // Writes the flags, the kind of hash, and the name of the member behind them.
@@ -119,9 +171,9 @@ fn write_hashing<O: Write>(directory: &CodeDirectory<'_>, out: &mut O) -> io::Re
     )
 }
 
-// Writes what is covered, and the name of the member behind it.
-fn write_pages<O: Write>(directory: &CodeDirectory<'_>, out: &mut O) -> io::Result<()>
-    ensures { OnOk result (Appends (O.contents out.old) (O.contents out.new) (defined.pages_members (directory_view directory.now))) }
+// Writes what is covered, and whether there are more blobs or faults than were written.
+fn write_pages<O: Write>(directory: &CodeDirectory<'_>, more: bool, out: &mut O) -> io::Result<()>
+    ensures { OnOk result (Appends (O.contents out.old) (O.contents out.new) (defined.pages_members more (directory_view directory.now))) }
 {
     let limit = directory.code_limit();
     let pages = directory.page_count();
@@ -130,14 +182,58 @@ fn write_pages<O: Write>(directory: &CodeDirectory<'_>, out: &mut O) -> io::Resu
     };
     write!(
         out,
-        ",\"limit\":{limit},\"page_size\":{size},\"pages\":{pages},\"team\":"
+        ",\"limit\":{limit},\"limit_met\":{more},\"page_size\":{size},\"pages\":{pages}"
     )
 }
 
-// Writes the version, and the end of the object.
-fn write_version<O: Write>(directory: &CodeDirectory<'_>, out: &mut O) -> io::Result<()>
-    ensures { OnOk result (Appends (O.contents out.old) (O.contents out.new) (defined.version_member directory.now.head)) }
+// Writes where it runs: the platform, and the runtime; and the name of the member behind them.
+fn write_running<O: Write>(directory: &CodeDirectory<'_>, out: &mut O) -> io::Result<()>
+    ensures { OnOk result (Appends (O.contents out.old) (O.contents out.new)
+        (defined.running_members directory.now.head.platform directory.now.runtime)) }
 {
+    let platform = directory.head.platform;
+    let runtime = RuntimeObject(directory.runtime);
+    write!(
+        out,
+        ",\"platform\":{platform},\"runtime\":{runtime},\"special_slots\":"
+    )
+}
+
+// The version of a runtime as a string; null where the directory has none.
+#[derive(Clone, Copy)]
+struct RuntimeObject(Option<RuntimeFields>);
+
+impl Display for RuntimeObject {
+    ghost output = { λ t. Some (defined.runtime_object t.0) };
+
+    fn fmt<W: fmt::Write>(&self, f: &mut Formatter<W>) -> fmt::Result {
+        let Some(fields) = self.0 else {
+            return f.write_str("null");
+        };
+        let version = RuntimeText(fields.version);
+        write!(f, "\"{version}\"")
+    }
+}
+
+// Writes an array of the special slots, and the name of the member behind them.
+fn write_special<O: Write>(
+    signed: &SignedBytes<'_>,
+    directory: &CodeDirectory<'_>,
+    out: &mut O,
+) -> io::Result<()>
+    ensures { OnOk result (Appends (O.contents out.old) (O.contents out.new)
+        (defined.special_members (signed_view signed.now) (directory_view directory.now))) }
+{
+    let mut slots = SpecialSlots::of(signed, directory, Form::Objects);
+    print_array(&mut slots, MOST_SLOTS, out)?;
+    write!(out, ",\"team\":")
+}
+
+// Writes the team, the version, and the end of the object.
+fn write_naming<O: Write>(directory: &CodeDirectory<'_>, out: &mut O) -> io::Result<()>
+    ensures { OnOk result (Appends (O.contents out.old) (O.contents out.new) (defined.naming_members (directory_view directory.now))) }
+{
+    write_team(directory, out)?;
     let version = directory.head.version;
     write!(out, ",\"version\":{version}}}")
 }
@@ -197,20 +293,38 @@ fn write_string<O: Write>(text: &str, out: &mut O) -> io::Result<()>
 
 // Writes the words of a fault as a string, behind a comma if it isn't the first.
 fn write_fault<O: Write>(fault: &SignatureFault, is_first: bool, out: &mut O) -> io::Result<()>
-    ensures { OnOk result (Appends (O.contents out.old) (O.contents out.new) (comma_before is_first ++ defined.fault_string fault.now)) }
+    ensures { OnOk result (Appends (O.contents out.old) (O.contents out.new) (comma_before is_first ++ fault_string fault.now)) }
 {
     let comma = if is_first { "" } else { "," };
     write!(out, "{comma}\"{fault}\"")
 }
 
-// Writes the words of each fault, and answers whether there is none.
-fn write_faults<O: Write>(faults: SignatureFaults<'_>, out: &mut O) -> io::Result<bool>
-    ensures { IfOk result (λ whole. defined.WritesFaultStrings (signature_faults_left faults.entry) whole (O.contents out.old) (O.contents out.new)) }
+// Writes the words of each of the first faults, up to a limit.
+fn write_faults<O: Write>(
+    mut faults: SignatureFaults<'_>,
+    limit: usize,
+    out: &mut O,
+) -> io::Result<Told>
+    ensures { IfOk result (WritesFaults fault_strings limit (signature_faults_left faults.entry) (O.contents out.old) (O.contents out.new)) }
 {
-    let mut is_first = true;
-    'faults: for fault in faults {
+    let mut left = limit;
+    let mut whole = true;
+    'faults: while let Some(fault) = faults.next() {
+        let is_first = whole;
+        whole = false;
+        let Some(rest) = left.checked_sub(1) else {
+            return Ok(Told {
+                left: 0,
+                whole,
+                more: true,
+            });
+        };
+        left = rest;
         write_fault(&fault, is_first, out)?;
-        is_first = false;
     }
-    Ok(is_first)
+    Ok(Told {
+        left,
+        whole,
+        more: false,
+    })
 }

@@ -3,13 +3,14 @@
 ghost use Rattle.std.specs.Prelude.{◌≡◌, ◌≤◌, [], codes};
 ghost use Rattle.std.specs.Io.Buffered.{writer_buffer, writer_contents};
 ghost use Rattle.mach_cli.specs.Names.{names_text};
-ghost use Rattle.mach_cli.specs.Shown.{Shown, ShowsFile, Writes, without_limit};
+ghost use Rattle.mach_cli.specs.Bounds.{most_items};
+ghost use Rattle.mach_cli.specs.Shown.{Shown, ShowsFile, Writes};
 ghost use Rattle.mach_cli.specs.Statuses.{IsStatus, status_by};
 ghost use Rattle.machsign.specs.ImageLines.{AreImageSignatureLines};
 
 use crate::print::print_signature;
 use goblin_mach::MachO;
-use mach_cli::{Cpu, Failure, Heading, Names, Outcome, Shows};
+use mach_cli::{Cpu, Failure, Heading, Names, Outcome, Shows, most_items};
 use std::alloc::Allocator;
 use std::io::{BufWriter, Write};
 
@@ -20,12 +21,13 @@ pub const NAME: &str = "machsign";
 #[derive(Clone, Copy)]
 struct SignaturesOf<'a> {
     file: &'a str,
+    limit: usize,
 }
 
 impl Shows for SignaturesOf<'_> {
     ghost names = { λ asked. names_text (codes "machsign") asked.file.now };
 
-    ghost lines = { λ _. without_limit AreImageSignatureLines };
+    ghost lines = { λ asked. AreImageSignatureLines asked.limit };
 
     fn names(&self) -> Names<'_> {
         Names {
@@ -43,27 +45,30 @@ impl Shows for SignaturesOf<'_> {
         out: &mut O,
     ) -> Result<Outcome, Failure> {
         write!(out, "{heading}")?;
-        let whole = print_signature(image, out)?;
-        Ok(Outcome { whole, left })
+        Ok(print_signature(image, self.limit, left, out)?)
     }
 }
 
-/// Shows the signatures of the images of a file that are asked for, and answers the exit status: 0 where nothing was refused and each image is as it was
-/// signed; 1 where the file or an entry of a fat one was refused, or memory, and then `err` has a line that says why, or where an image has no signature,
-/// one that can't be read, or one with a fault, and then its lines say so; 2 or 141 where a write fails. But for that nothing is left in the buffer.
+/// Shows the signatures of the images of a file that are asked for, of their blobs and faults together at most `limit` lines and no more than the file
+/// has bytes. Answers the exit status: 0 where nothing was refused, each image is as it was signed, and no line is left out; 1 where the file or an entry
+/// of a fat one was refused, or memory, and then `err` has a line that says why, or where an image has no signature, one that can't be read, one with a
+/// fault, or more lines than the limit leaves, and then its lines say so; 2 or 141 where a write fails. But for that nothing is left in the buffer.
 pub fn run<A: Allocator + Clone, W: Write + Drop, B: Allocator, E: Write>(
     alloc: A,
     cpu: Cpu,
+    limit: usize,
     file: &str,
     bytes: &[u8],
     out: &mut BufWriter<W, B>,
     err: &mut E,
 ) -> u8
     ensures status { IsStatus result }
-    ensures shown { result ≤ 1 → (shown : Shown)
-        × ShowsFile cpu (names_text (codes "machsign") file.now) (without_limit AreImageSignatureLines) 0 bytes.now shown × (result ≡ status_by shown.whole)
+    ensures shown { result ≤ 1 → (shown : Shown) × ShowsFile cpu (names_text (codes "machsign") file.now)
+        (AreImageSignatureLines (most_items limit bytes.now)) (most_items limit bytes.now) bytes.now shown × (result ≡ status_by shown.whole)
         × Writes shown (writer_contents W.contents out.old) (writer_contents W.contents out.new) (E.contents err.old) (E.contents err.new) }
     ensures flushed { result ≤ 1 → writer_buffer out.new ≡ [] }
 {
-    mach_cli::run::run(&SignaturesOf { file }, cpu, 0, &alloc, bytes, out, err)
+    let limit = most_items(limit, bytes);
+    let asked = SignaturesOf { file, limit };
+    mach_cli::run::run(&asked, cpu, limit, &alloc, bytes, out, err)
 }

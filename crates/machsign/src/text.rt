@@ -1,8 +1,8 @@
 //! What is said of a code directory on its first line, and a version.
 
 ghost use Rattle.std.specs.Prelude.{◌≤◌, Some};
-ghost use Rattle.machsign.specs.Blocks.{head_front, segment_front, shape_text, slot_front};
-ghost use Rattle.machsign.specs.Texts.{blob_text, hash_name, pages_text, runtime_text};
+ghost use Rattle.machsign.specs.Blocks.{head_front, segment_front, shape_text};
+ghost use Rattle.machsign.specs.Texts.{hash_name, pages_text, runtime_text};
 
 use mach_signature::{DirectoryHead, HashType, SlotName};
 use std::fmt;
@@ -44,16 +44,19 @@ impl Display for PagesText {
     }
 }
 
-/// What is said of a directory before its flags: its version.
+/// What is said of a directory before its flags: the name of its slot, and its version.
 #[derive(Clone, Copy)]
-pub struct HeadFront(pub u32);
+pub struct HeadFront {
+    pub slot: u32,
+    pub version: u32,
+}
 
 impl Display for HeadFront {
-    ghost output = { λ t. Some (head_front t.0) };
+    ghost output = { λ t. Some (head_front t.slot t.version) };
 
     fn fmt<W: Write>(&self, f: &mut Formatter<W>) -> fmt::Result {
-        let version = self.0;
-        write!(f, "code directory: version 0x{version:x}, flags ")
+        let (name, version) = (SlotName(self.slot), self.version);
+        write!(f, "{name}: version 0x{version:x}, flags ")
     }
 }
 
@@ -97,39 +100,6 @@ impl Display for ShapeText {
             f,
             ", {hash}, {special} special slots, {slots} code slots, {pages}, limit 0x{limit:x}, platform {platform}"
         )
-    }
-}
-
-/// What stands before what is said of a special slot: its name.
-#[derive(Clone, Copy)]
-pub struct SlotFront(pub u32);
-
-impl Display for SlotFront {
-    ghost output = { λ t. Some (slot_front t.0) };
-
-    fn fmt<W: Write>(&self, f: &mut Formatter<W>) -> fmt::Result {
-        let name = SlotName(self.0);
-        write!(f, "  {name}: ")
-    }
-}
-
-/// A blob that is no directory: its slot, and how many bytes it has behind its head.
-#[derive(Clone, Copy)]
-pub struct BlobText {
-    pub slot: u32,
-    pub len: usize,
-}
-
-impl Display for BlobText {
-    ghost output = { λ t. Some (blob_text t.slot t.len) };
-
-    fn fmt<W: Write>(&self, f: &mut Formatter<W>) -> fmt::Result {
-        let (name, len) = (SlotName(self.slot), self.len);
-        if self.slot == 0x10000 {
-            write!(f, "{name}: {len} bytes, not verified")
-        } else {
-            write!(f, "{name}: {len} bytes")
-        }
     }
 }
 

@@ -1,13 +1,14 @@
 //! The word of a call that asks for entitlements.
 
+use mach_cli::{Word, takes_word};
 use std::alloc::{AllocError, Allocator};
 
 /// Whether the words of a call ask for entitlements, and all other words, in order. The first word is the program's name; a word behind `--`, or
 /// behind an option that has one behind it, asks for none.
 pub fn take_entitlements<A: Allocator>(
     alloc: A,
-    words: Vec<String>,
-) -> Result<(bool, Vec<String, A>), AllocError> {
+    words: Vec<Word>,
+) -> Result<(bool, Vec<Word, A>), AllocError> {
     let mut are_asked = false;
     let mut others = Vec::new(alloc);
     let mut is_taken = true;
@@ -18,7 +19,7 @@ pub fn take_entitlements<A: Allocator>(
             are_asked = true;
             continue;
         }
-        is_taken = !is_taken && matches!(text, "--arch" | "--cputype");
+        is_taken = !is_taken && takes_word(text);
         is_plain = is_plain || text == "--";
         others.push(word)?;
     }

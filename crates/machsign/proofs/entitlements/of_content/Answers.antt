@@ -7,24 +7,24 @@ use Rattle.machsign.proofs.Opened.{told_of}
 use Rattle.machsign.specs.Entitlements.{EntitlesContent, IsAskedImage, asked_entitles, other_entitles, refusal_entitles}
 use Rattle.machsign.proofs.entitlements.of_content.Goals as goal
 
-pub returns-in-Ok : goal.returns-in-Ok
-returns-in-Ok g c =
+pub returns-in-Ok-clause-found : goal.returns-in-Ok-clause-found
+returns-in-Ok-clause-found g c =
     let bytes = content_bytes (content_view c.args.content) in
     let asked = c.is_asked.ensures bytes c.in-Ok.ensures.opened in
     asked_entitles (slot_read c.of_image.result) (subst (λ (t : Bool). IsAskedImage c.args.cpu c.args.entry bytes t) c.if-is_asked.true asked)
     (c.of_image.ensures bytes c.in-Ok.ensures.opened)
 
-pub returns-in-Ok-2 : goal.returns-in-Ok-2
-returns-in-Ok-2 g c =
+pub returns-in-Ok-2-clause-found : goal.returns-in-Ok-2-clause-found
+returns-in-Ok-2-clause-found g c =
     let bytes = content_bytes (content_view c.args.content) in
     let asked = c.is_asked.ensures bytes c.in-Ok.ensures.opened in
     other_entitles (subst (λ (t : Bool). IsAskedImage c.args.cpu c.args.entry bytes t) c.if-is_asked.false asked)
 
-pub returns : goal.returns
-returns g c =
+pub returns-clause-found : goal.returns-clause-found
+returns-clause-found g c =
     let content = content_view c.args.content in
     IfOk-weaker c.of_refused.result _ _
     (λ found told.
     subst (λ (it : Option (List ℕ)). EntitlesContent c.args.cpu c.args.entry content it) (sym told.0)
     (refusal_entitles c.in-Err.error (told_of (ImageFault (content_bytes content) 0) c.in-Err.error told.1 c.in-Err.ensures.refused)))
-    c.of_refused.ensures
+    c.of_refused.ensures.none

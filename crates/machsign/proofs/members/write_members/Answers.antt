@@ -19,9 +19,10 @@ front = codes "\"kind\":\"image\",\"signature\":"
 abbrev held_there : {A : Type 0} → MachO A → Result (Option SignedImage) Fault
 held_there m = image_signed (bytes_held m) (commands_held m) (segments_held m)
 
-of_object : (there : Result (Option SignedImage) Fault) (object : List ℕ) (whole : Bool) (old middle new : Option (List ℕ))
-    → IsSignatureObject there object whole → Appends old middle front → Appends middle new object → WritesSignatureMembers there whole old new
-of_object there object whole old middle new is first last = record {
+of_object : (left : ℕ) (there : Result (Option SignedImage) Fault) (object : List ℕ) (whole : Bool) (rest : ℕ) (old middle new : Option (List ℕ))
+    → IsSignatureObject left there object whole rest → Appends old middle front → Appends middle new object
+    → WritesSignatureMembers left there whole rest old new
+of_object left there object whole rest old middle new is first last = record {
   text = front ++ object;
   members = record { signature = object; is_signature = is; is_text = refl };
   written = Appends-both old middle new front object first last;
@@ -30,28 +31,36 @@ of_object there object whole old middle new is first last = record {
 pub returns-in-Ok-Some : goal.returns-in-Ok-Some
 returns-in-Ok-Some g c =
     let is = rw c.in-Ok-Some.field-0-is at c.in-Ok-Some.ensures in
+    let left = c.args.left in
     IfOk-weaker c.write_signed.result _ _
-    (λ whole told. of_object (held_there c.args.image.now) told.text whole _ _ _
-    (subst (λ (there : Result (Option SignedImage) Fault). IsSignatureObject there told.text whole) (sym is)
-    (signed_object (signed_view c.in-Ok-Some.signed) told.text whole told.object)) c.in_ok-write.ensures.bytes told.written)
+    (λ outcome told. of_object left (held_there c.args.image.now) told.text outcome.whole outcome.left _ _ _
+    (subst (λ (there : Result (Option SignedImage) Fault). IsSignatureObject left there told.text outcome.whole outcome.left) (sym is)
+    (signed_object (signed_view c.in-Ok-Some.signed) told.text outcome.whole outcome.left told.object)) c.in_ok-write.ensures.bytes told.written)
     c.write_signed.ensures
 
 pub returns-in-Ok-None : goal.returns-in-Ok-None
 returns-in-Ok-None g c =
     let is = rw c.in-Ok-None.field-0-is at c.in-Ok-None.ensures in
+    let there = held_there c.args.image.now in
+    let left = c.args.left in
     IfOk-weaker c.write_unsigned.result _ _
-    (λ whole told. of_object (held_there c.args.image.now) (codes "null") whole _ _ _
-    (subst (λ (w : Bool). IsSignatureObject (held_there c.args.image.now) (codes "null") w) (sym told.0)
-    (subst (λ (there : Result (Option SignedImage) Fault). IsSignatureObject there (codes "null") false) (sym is) unsigned_object))
-    c.in_ok-write.ensures.bytes told.1)
+    (λ outcome told. of_object left there (codes "null") outcome.whole outcome.left _ _ _
+    (subst (λ (n : ℕ). IsSignatureObject left there (codes "null") outcome.whole n) (sym told.1)
+    (subst (λ (w : Bool). IsSignatureObject left there (codes "null") w left) (sym told.0)
+    (subst (λ (x : Result (Option SignedImage) Fault). IsSignatureObject left x (codes "null") false left) (sym is) unsigned_object)))
+    c.in_ok-write.ensures.bytes told.2)
     c.write_unsigned.ensures
 
 pub returns-in-Err : goal.returns-in-Err
 returns-in-Err g c =
     let object = refused_object (words_of c.in-Err.error) in
+    let there = held_there c.args.image.now in
+    let left = c.args.left in
     IfOk-weaker c.write_refused.result _ _
-    (λ whole told. of_object (held_there c.args.image.now) object whole _ _ _
-    (subst (λ (w : Bool). IsSignatureObject (held_there c.args.image.now) object w) (sym told.0)
-    (subst (λ (there : Result (Option SignedImage) Fault). IsSignatureObject there object false) (sym c.in-Err.ensures) (unreadable_object c.in-Err.error)))
-    c.in_ok-write.ensures.bytes told.1)
+    (λ outcome told. of_object left there object outcome.whole outcome.left _ _ _
+    (subst (λ (n : ℕ). IsSignatureObject left there object outcome.whole n) (sym told.1)
+    (subst (λ (w : Bool). IsSignatureObject left there object w left) (sym told.0)
+    (subst (λ (x : Result (Option SignedImage) Fault). IsSignatureObject left x object false left) (sym c.in-Err.ensures)
+    (unreadable_object c.in-Err.error))))
+    c.in_ok-write.ensures.bytes told.2)
     c.write_refused.ensures

@@ -12,7 +12,7 @@ returns g c =
     let power = d.head.page_size in
     let old = g.O.Write.contents c.args.out.now in
     let new = g.O.Write.contents c.write.new.self in
-    subst (λ (pages : ℕ). OnOk c.write.result (Appends old new (covered_members (code_limit_of (directory_view d)) power pages)))
+    subst (λ (pages : ℕ). OnOk c.write.result (Appends old new (covered_members c.args.more (code_limit_of (directory_view d)) power pages)))
     c.page_count-pages.ensures
-    (subst (λ (limit : ℕ). OnOk c.write.result (Appends old new (covered_members limit power c.page_count-pages.result)))
+    (subst (λ (limit : ℕ). OnOk c.write.result (Appends old new (covered_members c.args.more limit power c.page_count-pages.result)))
     c.code_limit-limit.ensures c.write.ensures.bytes)

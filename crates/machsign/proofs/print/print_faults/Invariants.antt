@@ -1,11 +1,15 @@
-use Rattle.std.proofs.Common.{◌≡◌, ◌++◌, List}
-use Rattle.mach_signature.specs.AsSigned.{SignatureFaultSeen}
-use Rattle.mach_signature.specs.FaultViews.{signature_fault_view, signature_faults_left}
-use Rattle.mach_cli.specs.Lines.{WritesLines}
-use Rattle.machsign.specs.Signatures.{fault_line, has_none}
+use Rattle.std.proofs.Common.{List, length}
+use Rattle.std.specs.Io.KnownBytes.{Appends}
+use Rattle.mach_signature.specs.FaultViews.{signature_faults_left}
+use Rattle.mach_signature.specs.declared.fault.SignatureFault.{SignatureFault}
+use Rattle.machsign.specs.Faults.{signature_fault_lines}
+use Rattle.machsign.proofs.Told.{Passes}
 use Rattle.machsign.proofs.print.print_faults.Given as goal
 
 abbrev pub invariant-faults : goal.invariant-faults
 invariant-faults g l =
-    (done : List SignatureFaultSeen) × (signature_faults_left l.fn.faults ≡ done ++ signature_faults_left l.fault-iterator)
-    × (l.whole ≡ has_none done) × WritesLines signature_fault_view fault_line done (g.O.Write.contents l.fn.out) (g.O.Write.contents l.out)
+    (done : List SignatureFault) × Passes l.limit (signature_faults_left l.fn.faults) (signature_faults_left l.faults) l.left l.whole done
+    × Appends (g.O.Write.contents l.fn.out) (g.O.Write.contents l.out) (signature_fault_lines done)
+
+abbrev pub decreases-faults : goal.decreases-faults
+decreases-faults g l = length (signature_faults_left l.faults)

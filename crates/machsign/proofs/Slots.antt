@@ -1,0 +1,37 @@
+-- The special slots that are shown are eleven at most, and those that are left are gone over in order.
+use Rattle.std.proofs.Common.{◌≡◌, ◌≤◌, ◌+◌, ◌∙◌, ◌∷◌, [], ℕ, suc, List, Option, Some, None, length, map, take, ap, arith}
+use Rattle.std.proofs.lemmas.List.{take_all}
+use Rattle.std.proofs.lemmas.List.FromFn.{length-range_with_len}
+use Rattle.std.specs.Prelude.{filter_map, min}
+use Rattle.std.specs.List.{range_with_len, cons_option}
+use Rattle.mach_signature.specs.AsSigned.{SignedImage}
+use Rattle.mach_signature.specs.Directories.{Directory}
+use Rattle.machsign.specs.Special.{SlotSeen, shown_slot, shown_slots, slot_told}
+use Rattle.machsign.specs.SpecialLeft.{slots_yet, slot_rows_left}
+use Rattle.machsign.specs.declared.form.Form.{Form}
+use Rattle.machsign.specs.declared.special.SpecialSlots.{SpecialSlots}
+use Rattle.machsign.proofs.Rows.{row}
+
+one_at_most : {V : Type 0} (o : Option V) (ys : List V) (n : ℕ) → length ys ≤ n → length (cons_option o ys) ≤ suc n
+one_at_most None ys n few = omega (arith, few)
+one_at_most (Some y) ys n few = omega (arith, few)
+
+no_more : {V : Type 0} (f : ℕ → Option V) (xs : List ℕ) → length (filter_map f xs) ≤ length xs
+no_more f [] = omega arith
+no_more f (x ∷ xs) = one_at_most (f x) (filter_map f xs) (length xs) (no_more f xs)
+
+pub few_slots : (x : SignedImage) (d : Directory) → length (shown_slots x d) ≤ 11
+few_slots x d =
+    omega (
+      arith,
+      no_more (λ k. shown_slot x d (k + 1)) (range_with_len 0 (min d.head.n_special_slots 11)),
+      length-range_with_len 0 (min d.head.n_special_slots 11),
+    )
+
+pub all_slots : (x : SignedImage) (d : Directory) → take 11 (shown_slots x d) ≡ shown_slots x d
+all_slots x d = take_all 11 (shown_slots x d) (few_slots x d)
+
+-- the rows of slots that are yet to be shown in a form
+pub slot_rows_are : (it : SpecialSlots) (form : Form) (slots : List SlotSeen) → slots_yet it ≡ slots → it.form ≡ form
+    → slot_rows_left it ≡ map (row (slot_told form)) slots
+slot_rows_are it form slots are is = ap (λ (xs : List SlotSeen). map (row (slot_told it.form)) xs) are ∙ ap (λ (f : Form). map (row (slot_told f)) slots) is

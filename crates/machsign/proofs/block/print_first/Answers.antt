@@ -1,7 +1,0 @@
-use Rattle.std.proofs.lemmas.Result.{on_ok_weaker}
-use Rattle.mach_base.proofs.Written.{Appends-both}
-use Rattle.machsign.proofs.block.print_first.Goals as goal
-
-pub returns : goal.returns
-returns g c =
-    on_ok_weaker c.print_more.result (λ last. Appends-both _ _ _ _ _ c.in_ok-write.ensures.bytes last) c.print_more.ensures

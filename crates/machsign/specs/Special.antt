@@ -1,0 +1,100 @@
+-- The special slots of a code directory that seal something, or have a fault, as they are shown.
+use Rattle.std.specs.Prelude.{ℕ, ◌+◌, List, [], ◌++◌, codes, min, map, filter_map, if◌then◌else◌, Option, Some, None, Result, Ok, Err}
+use Rattle.std.specs.Fmt.{decimal}
+use Rattle.std.specs.List.{range_with_len}
+use Rattle.mach_base.specs.Fault.{Fault}
+use Rattle.mach_cli.specs.JsonArrays.{with_commas}
+use Rattle.mach_cli.specs.SignatureNames.{bytes_text}
+use Rattle.mach_signature.specs.AsSigned.{SignedImage}
+use Rattle.mach_signature.specs.Directories.{Directory, special_slot_of}
+use Rattle.mach_signature.specs.SignWords.{slot_words}
+use Rattle.mach_signature.specs.SpecialFaults.{component_of, is_unsealing, special_fault}
+use Rattle.mach_signature.specs.declared.fault.SpecialFault.{SpecialFault}
+use Rattle.mach_signature.specs.declared.fault.SpecialFault.TheVariants as faults
+use Rattle.machsign.specs.declared.form.Form.{Form}
+use Rattle.machsign.specs.declared.form.Form.TheVariants.{Lines, Objects}
+use Rattle.machsign.specs.declared.special.SlotState.{SlotState}
+use Rattle.machsign.specs.declared.special.SlotState.TheVariants.{AsSigned, OtherFile, Unreadable, Unknown, Unsealed, Changed, Absent}
+
+-- what is written in the one form or in the other
+abbrev pub by_form : Form → (line object : List ℕ) → List ℕ
+by_form Lines line object = line
+by_form Objects line object = object
+
+-- ---- what comes of a slot
+
+abbrev pub state_text : SlotState → List ℕ
+state_text AsSigned = codes "as signed"
+state_text OtherFile = codes "of another file"
+state_text Unreadable = codes "unreadable"
+state_text Unknown = codes "not known"
+state_text Unsealed = codes "not sealed"
+state_text Changed = codes "not what was signed"
+state_text Absent = codes "sealed, and absent"
+
+-- without a fault: by what is there
+abbrev pub unfaulted_state : Result (Option (List ℕ)) Fault → SlotState
+unfaulted_state (Ok (Some bytes)) = AsSigned
+unfaulted_state (Ok None) = OtherFile
+unfaulted_state (Err f) = Unreadable
+
+abbrev pub slot_state : Option SpecialFault → Result (Option (List ℕ)) Fault → SlotState
+slot_state None there = unfaulted_state there
+slot_state (Some (faults.Unknown k)) there = Unknown
+slot_state (Some (faults.Unsealed k)) there = Unsealed
+slot_state (Some (faults.Changed k)) there = Changed
+slot_state (Some (faults.Absent k)) there = Absent
+
+-- ---- which slots are shown
+
+-- a slot as it is shown: its number, its hash, and what comes of it
+pub record SlotSeen : Type 0 where
+  pub number : ℕ
+  pub hash : List ℕ
+  pub state : SlotState
+
+abbrev pub seen_slot : ℕ → List ℕ → SlotState → SlotSeen
+seen_slot k hash state = record { number = k; hash = hash; state = state }
+
+-- a slot with a fault, or one that isn't zero
+abbrev pub if_shown : ℕ → List ℕ → Option SpecialFault → Result (Option (List ℕ)) Fault → Option SlotSeen
+if_shown k hash None there = if is_unsealing hash then None else Some (seen_slot k hash (unfaulted_state there))
+if_shown k hash (Some fault) there = Some (seen_slot k hash (slot_state (Some fault) there))
+
+abbrev pub shown_if_any : SignedImage → Directory → ℕ → Option (List ℕ) → Option SlotSeen
+shown_if_any x d k None = None
+shown_if_any x d k (Some hash) = if_shown k hash (special_fault d x.signature x.plist k) (component_of x.signature x.plist k)
+
+abbrev pub shown_slot : SignedImage → Directory → ℕ → Option SlotSeen
+shown_slot x d k = shown_if_any x d k (special_slot_of d k)
+
+-- those of the slots to 11, from 1 on
+abbrev pub shown_slots : SignedImage → Directory → List SlotSeen
+shown_slots x d = filter_map (λ k. shown_slot x d (k + 1)) (range_with_len 0 (min d.head.n_special_slots 11))
+
+-- ---- their texts
+
+-- of a slot that seals another file, its hash
+abbrev pub hash_after : SlotState → List ℕ → List ℕ
+hash_after AsSigned hash = []
+hash_after OtherFile hash = codes ", " ++ bytes_text hash
+hash_after Unreadable hash = []
+hash_after Unknown hash = []
+hash_after Unsealed hash = []
+hash_after Changed hash = []
+hash_after Absent hash = []
+
+abbrev pub slot_line : SlotSeen → List ℕ
+slot_line s = (codes "  " ++ (slot_words s.number ++ (codes ": " ++ state_text s.state))) ++ hash_after s.state s.hash
+
+abbrev pub special_slot_object : SlotSeen → List ℕ
+special_slot_object s =
+    codes "{\"hash\":\"" ++ (bytes_text s.hash ++ (codes "\",\"name\":\"" ++ (slot_words s.number
+    ++ (codes "\",\"slot\":" ++ (decimal s.number ++ (codes ",\"state\":\"" ++ (state_text s.state ++ codes "\"}")))))))
+
+abbrev pub slot_told : Form → SlotSeen → List ℕ
+slot_told form s = by_form form (slot_line s) (special_slot_object s)
+
+-- the array of them
+abbrev pub slots_array : SignedImage → Directory → List ℕ
+slots_array x d = codes "[" ++ (with_commas (map special_slot_object (shown_slots x d)) ++ codes "]")

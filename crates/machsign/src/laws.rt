@@ -1,0 +1,17 @@
+//! What holds of the lines of a signature, whatever the names of its directories are.
+
+ghost use Rattle.std.specs.Prelude.{◌≡◌, ◌++◌, ℕ, List, Option, Result, codes, true};
+ghost use Rattle.mach_base.specs.Fault.{Fault};
+ghost use Rattle.mach_cli.specs.Escapes.{has_no_feed, IsOneLine};
+ghost use Rattle.machsign.specs.Blobs.{blob_told};
+ghost use Rattle.machsign.specs.Blocks.{name_line};
+ghost use Rattle.machsign.specs.Special.{SlotSeen, slot_told};
+ghost use Rattle.machsign.specs.declared.blobs.OtherBlob.{OtherBlob};
+ghost use Rattle.machsign.specs.declared.form.Form.TheVariants.{Lines};
+
+/// Of what is printed of a name, of a special slot and of a blob, each is one line.
+pub fn lines_are_one_each()
+    ensures names { (label : List ℕ) (name : Result (Option (List ℕ)) Fault) → has_no_feed label ≡ true → IsOneLine (name_line label name) }
+    ensures slots { (s : SlotSeen) → IsOneLine (slot_told Lines s ++ codes "\n") }
+    ensures blobs { (b : OtherBlob) → IsOneLine (blob_told Lines b ++ codes "\n") }
+{}

@@ -1,0 +1,236 @@
+//! The special slots of a code directory that seal something, or have a fault.
+
+ghost use Rattle.std.specs.Prelude.{◌≡◌, Some, OnOk};
+ghost use Rattle.std.specs.Option.{option_map};
+ghost use Rattle.std.specs.Io.KnownBytes.{Appends};
+ghost use Rattle.std.specs.Iterator.{YieldsFirstBy};
+ghost use Rattle.mach_base.specs.Items.{read_as};
+ghost use Rattle.mach_signature.specs.DirectoryViews.{directory_view, slot_read};
+ghost use Rattle.mach_signature.specs.FaultViews.{signed_view};
+ghost use Rattle.machsign.specs.Special as defined;
+ghost use Rattle.machsign.specs.SpecialLeft.{slot_row_text, slot_rows_left, special_slot_view, slots_yet};
+
+use crate::form::Form;
+use mach_base::Result;
+use mach_cli::{Listing, print_bytes};
+use mach_signature::{CodeDirectory, SignedBytes, SlotName, SpecialFault, component, is_unsealing};
+use std::fmt::{Display, Formatter};
+use std::io::Write;
+use std::{fmt, io};
+
+/// How many special slots are known.
+pub const MOST_SLOTS: usize = 11;
+
+/// What comes of a special slot.
+#[derive(Clone, Copy)]
+pub enum SlotState {
+    /// What is there is what was signed.
+    AsSigned,
+    /// Nothing is in the image: it seals another file.
+    OtherFile,
+    /// What is there can't be read.
+    Unreadable,
+    /// The faults of a slot.
+    Unknown,
+    Unsealed,
+    Changed,
+    Absent,
+}
+
+impl Display for SlotState {
+    ghost output = { λ state. Some (defined.state_text state) };
+
+    fn fmt<W: fmt::Write>(&self, f: &mut Formatter<W>) -> fmt::Result {
+        f.write_str(match self {
+            SlotState::AsSigned => "as signed",
+            SlotState::OtherFile => "of another file",
+            SlotState::Unreadable => "unreadable",
+            SlotState::Unknown => "not known",
+            SlotState::Unsealed => "not sealed",
+            SlotState::Changed => "not what was signed",
+            SlotState::Absent => "sealed, and absent",
+        })
+    }
+}
+
+// What comes of a slot without a fault.
+fn unfaulted_state(there: Result<Option<&[u8]>>) -> SlotState
+    ensures { result ≡ defined.unfaulted_state (read_as slot_read there.entry) }
+{
+    match there {
+        Ok(Some(_)) => SlotState::AsSigned,
+        Ok(None) => SlotState::OtherFile,
+        Err(_) => SlotState::Unreadable,
+    }
+}
+
+// What comes of a slot with a fault, or without one.
+fn slot_state(fault: Option<SpecialFault>, there: Result<Option<&[u8]>>) -> SlotState
+    ensures { result ≡ defined.slot_state fault (read_as slot_read there.entry) }
+{
+    match fault {
+        Some(SpecialFault::Unknown { .. }) => SlotState::Unknown,
+        Some(SpecialFault::Unsealed { .. }) => SlotState::Unsealed,
+        Some(SpecialFault::Changed { .. }) => SlotState::Changed,
+        Some(SpecialFault::Absent { .. }) => SlotState::Absent,
+        None => unfaulted_state(there),
+    }
+}
+
+/// A special slot that seals something, or has a fault.
+#[derive(Clone, Copy, Drop)]
+pub struct SpecialSlot<'a> {
+    number: u32,
+    hash: &'a [u8],
+    state: SlotState,
+}
+
+// A slot that seals something, or has a fault.
+fn if_shown<'a>(
+    number: u32,
+    hash: &'a [u8],
+    fault: Option<SpecialFault>,
+    there: Result<Option<&[u8]>>,
+) -> Option<SpecialSlot<'a>>
+    ensures { option_map special_slot_view result ≡ defined.if_shown number hash.now fault (read_as slot_read there.entry) }
+{
+    if fault.is_none() && is_unsealing(hash) {
+        return None;
+    }
+    let state = slot_state(fault, there);
+    Some(SpecialSlot {
+        number,
+        hash,
+        state,
+    })
+}
+
+// The slot of a number, if it seals something, or has a fault.
+fn shown_slot<'a>(
+    signed: &SignedBytes<'a>,
+    directory: &CodeDirectory<'a>,
+    number: u32,
+) -> Option<SpecialSlot<'a>>
+    ensures { option_map special_slot_view result ≡ defined.shown_slot (signed_view signed.now) (directory_view directory.now) number }
+{
+    let hash = directory.special_slot(number)?;
+    let fault = directory.special_fault(&signed.signature, signed.plist, number);
+    let there = component(&signed.signature, signed.plist, number);
+    if_shown(number, hash, fault, there)
+}
+
+/// The special slots of a directory that are known, and seal something or have a fault, in order, one at a time.
+#[derive(Clone, Copy)]
+pub struct SpecialSlots<'a> {
+    signed: SignedBytes<'a>,
+    directory: CodeDirectory<'a>,
+    form: Form,
+    // How many slots were gone over.
+    taken: u32,
+}
+
+impl<'a> SpecialSlots<'a> {
+    /// Those of a directory of an image.
+    pub fn of(signed: &SignedBytes<'a>, directory: &CodeDirectory<'a>, form: Form) -> Self
+        ensures slots { slots_yet result ≡ defined.shown_slots (signed_view signed.now) (directory_view directory.now) }
+        ensures form { result.form ≡ form }
+    {
+        SpecialSlots {
+            signed: *signed,
+            directory: *directory,
+            form,
+            taken: 0,
+        }
+    }
+
+    // The next slot.
+    #[tactic(auto, using(mach_signature::proofs::NumberedLists::told_first, mach_signature::proofs::NumberedLists::told_none))]
+    fn take_next(&mut self) -> Option<SpecialSlot<'a>>
+        ensures slot { YieldsFirstBy special_slot_view slots_yet self.old result self.new }
+        ensures form { self.new.form ≡ self.old.form }
+    {
+        let count = self.directory.head.n_special_slots.min(11);
+        'slots: while self.taken < count {
+            self.taken += 1;
+            if let Some(slot) = shown_slot(&self.signed, &self.directory, self.taken) {
+                return Some(slot);
+            }
+        }
+        None
+    }
+}
+
+/// A slot, and how it is written.
+#[derive(Clone, Copy, Drop)]
+pub struct SlotRow<'a> {
+    form: Form,
+    slot: SpecialSlot<'a>,
+}
+
+impl<'a> Listing for SpecialSlots<'a> {
+    type Row = SlotRow<'a>;
+
+    ghost text = { slot_row_text };
+
+    ghost left = { slot_rows_left };
+
+    fn next_row(&mut self) -> Option<Result<SlotRow<'a>>> {
+        let form = self.form;
+        match self.take_next() {
+            Some(slot) => Some(Ok(SlotRow { form, slot })),
+            None => None,
+        }
+    }
+
+    fn past(&self) -> usize {
+        0
+    }
+
+    fn past_name(&self) -> &'static str {
+        ""
+    }
+
+    fn write_row<O: Write>(row: &SlotRow<'a>, out: &mut O) -> io::Result<()>
+        ensures { OnOk result (Appends (O.contents out.old) (O.contents out.new) (slot_row_text row.now)) }
+    {
+        match row.form {
+            Form::Lines => print_line(&row.slot, out),
+            Form::Objects => write_object(&row.slot, out),
+        }
+    }
+}
+
+// Prints what a line says of a slot.
+fn print_line<O: Write>(slot: &SpecialSlot<'_>, out: &mut O) -> io::Result<()>
+    ensures { OnOk result (Appends (O.contents out.old) (O.contents out.new) (defined.slot_line (special_slot_view slot.now))) }
+{
+    let (name, state) = (SlotName(slot.number), slot.state);
+    write!(out, "  {name}: {state}")?;
+    print_hash(state, slot.hash, out)
+}
+
+// Prints the hash of another file.
+fn print_hash<O: Write>(state: SlotState, hash: &[u8], out: &mut O) -> io::Result<()>
+    ensures { OnOk result (Appends (O.contents out.old) (O.contents out.new) (defined.hash_after state hash.now)) }
+{
+    match state {
+        SlotState::OtherFile => {
+            write!(out, ", ")?;
+            print_bytes(hash, out)
+        }
+        _ => Ok(()),
+    }
+}
+
+// Writes the object of a slot.
+fn write_object<O: Write>(slot: &SpecialSlot<'_>, out: &mut O) -> io::Result<()>
+    ensures { OnOk result (Appends (O.contents out.old) (O.contents out.new) (defined.special_slot_object (special_slot_view slot.now))) }
+{
+    let (number, name, state) = (slot.number, SlotName(slot.number), slot.state);
+    write!(out, "{{\"hash\":\"")?;
+    print_bytes(slot.hash, out)?;
+    write!(
+        out,
+        "\",\"name\":\"{name}\",\"slot\":{number},\"state\":\"{state}\"}}"
+    )
+}
