@@ -1,2 +1,4 @@
+pub mod ItemLines
+pub mod Items
 pub mod Told
 pub mod MembersTold

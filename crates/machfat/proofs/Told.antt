@@ -1,19 +1,21 @@
 -- What is said of a file whose entries are refused, and what is told of entries.
-use Rattle.std.proofs.Common.{◌≡◌, ◌++◌, ◌∷◌, [], ℕ, List, Option, Some, None, Result, Bool, true, refl, subst, length}
+use Rattle.std.proofs.Common.{◌≡◌, ◌++◌, ◌∷◌, [], ℕ, List, Option, Some, None, Result, true, refl, subst, length}
 use Rattle.std.specs.Prelude.{◌&&◌}
 use Rattle.std.specs.Io.KnownBytes.{Appends}
 use Rattle.mach_base.specs.Answer.{Stands}
+use Rattle.mach_base.specs.Fault.{Fault}
 use Rattle.mach_base.specs.declared.error.Error.{Error}
 use Rattle.mach_base.specs.declared.error.Error.TheVariants as errors
 use Rattle.mach_base.proofs.Written.{Appends-none, Appends-both}
 use Rattle.mach_fat_writer.specs.Unfit.{RefusesAs, Unfit}
 use Rattle.mach_fat_writer.specs.declared.entry_record.EntryRecord.{EntryRecord}
 use Rattle.mach_fat_writer.specs.declared.refusal.EntryRefusal.{EntryRefusal}
-use Rattle.machfat.specs.Written.{WritesWhole}
 use Rattle.mach_cli.specs.Foreigners.{refused_kind}
 use Rattle.mach_cli.specs.declared.foreign.Foreign.{Foreign}
-use Rattle.machfat.specs.Members.{AreContentLines, AreEntryLines, entry_line, no_entries, one_more}
-use Rattle.machfat.specs.Refusals.{Refuses, kind_by_front, said_by}
+use Rattle.mach_cli.specs.declared.shows.Outcome.{Outcome}
+use Rattle.machfat.specs.Members.{AreContentLines, AreEntryLines, entry_line, no_entries, one_more, stays}
+use Rattle.machfat.specs.Refusals.{FatFault, Refuses, RefusesFaults, RefusesRead, kind_by_front, refused_by, said_by}
+use Rattle.machfat.specs.Written.{WritesAs}
 
 tells_by : {Y : Type 0} (bytes : List ℕ) (why : EntryRefusal) (kind : Option Foreign) (there : Result Y Unfit) → kind_by_front bytes why ≡ kind
     → RefusesAs why there → Refuses bytes there (said_by kind why)
@@ -33,18 +35,35 @@ want_has_no_kind bytes (errors.Scroll e) want = absurd want
 want_has_no_kind bytes (errors.BufferTooShort n m) want = absurd want
 want_has_no_kind bytes (errors.Memory e) want = refl
 
-pub none_told : (bytes : List ℕ) (known : Option (List ℕ)) → WritesWhole (AreEntryLines bytes []) true known known
-none_told bytes known = record { text = []; are_lines = no_entries; written = Appends-none known }
+-- why a file isn't read, by what is said of it
+refuses_by : (faults : Fault → Type 0) (kind : Error → Option Foreign) (known : Option Foreign) (e : Error) → Stands faults e → kind e ≡ known
+    → RefusesRead faults kind (refused_by known e)
+refuses_by faults kind (Some known) e stands is = (e, stands, is)
+refuses_by faults kind None e stands is = (stands, is)
 
--- one entry more, behind its line
-pub entry_more : (bytes : List ℕ) (records : List EntryRecord) (r : EntryRecord) (i : ℕ) (whole one : Bool) (old middle line new : Option (List ℕ))
-    → i ≡ length records → WritesWhole (AreEntryLines bytes records) whole old middle → Appends middle line (entry_line i)
-    → WritesWhole (AreContentLines bytes i r) one line new → WritesWhole (AreEntryLines bytes (records ++ r ∷ [])) (whole && one) old new
-entry_more bytes records r i whole one old middle line new is before titled told =
+pub refuses_read : (faults : Fault → Type 0) (kind : Error → Option Foreign) (e : Error) → Stands faults e
+    → RefusesRead faults kind (refused_by (kind e) e)
+refuses_read faults kind e stands = refuses_by faults kind (kind e) e stands refl
+
+pub refuses_faults : (bytes : List ℕ) (known : Option Foreign) (e : Error) → Stands (FatFault bytes) e → refused_kind bytes e ≡ known
+    → RefusesFaults bytes (refused_by known e)
+refuses_faults bytes (Some known) e stands is = (e, stands, is)
+refuses_faults bytes None e stands is = (stands, is)
+
+pub no_entries_told : (limit : ℕ) (bytes : List ℕ) (known : Option (List ℕ))
+    → WritesAs (AreEntryLines limit bytes []) (stays limit true) known known
+no_entries_told limit bytes known = record { text = []; are_lines = no_entries; written = Appends-none known }
+
+-- one entry more, after its line
+pub entry_more : (limit : ℕ) (bytes : List ℕ) (records : List EntryRecord) (r : EntryRecord) (i : ℕ) (before one : Outcome)
+    (old middle line new : Option (List ℕ)) → i ≡ length records → WritesAs (AreEntryLines limit bytes records) before old middle
+    → Appends middle line (entry_line i) → WritesAs (AreContentLines limit before.left bytes i r) one line new
+    → WritesAs (AreEntryLines limit bytes (records ++ r ∷ [])) (stays one.left (before.whole && one.whole)) old new
+entry_more limit bytes records r i before one old middle line new is front titled told =
     let first = subst (λ (n : ℕ). Appends middle line (entry_line n)) is titled in
-    let behind = subst (λ (n : ℕ). WritesWhole (AreContentLines bytes n r) one line new) is told in record {
-      text = before.text ++ (entry_line (length records) ++ behind.text);
-      are_lines = one_more records r before.text behind.text whole one before.are_lines behind.are_lines;
-      written = Appends-both old middle new before.text _ before.written
-          (Appends-both middle line new (entry_line (length records)) behind.text first behind.written);
+    let last = subst (λ (n : ℕ). WritesAs (AreContentLines limit before.left bytes n r) one line new) is told in record {
+      text = front.text ++ (entry_line (length records) ++ last.text);
+      are_lines = one_more records r front.text last.text before one front.are_lines last.are_lines;
+      written = Appends-both old middle new front.text _ front.written
+          (Appends-both middle line new (entry_line (length records)) last.text first last.written);
     }

@@ -1,16 +1,21 @@
 -- The lines of an archive.
-use Rattle.std.specs.Prelude.{◌≡◌, ◌&&◌, ℕ, List, ◌++◌, codes, Bool, false, Ok, Err}
-use Rattle.mach_base.specs.Fault.{fault_of}
-use Rattle.mach_base.specs.declared.error.Error.{Error}
-use Rattle.mach_archive.specs.Archives.{ArchiveView, archive_in}
+use Rattle.std.specs.Prelude.{◌≡◌, ◌&&◌, ◌||◌, ℕ, List, ◌++◌, not}
+use Rattle.mach_archive.specs.Archives.{ArchiveView}
+use Rattle.mach_cli.specs.Listings.{cut_line}
+use Rattle.mach_cli.specs.declared.listing.Told.{Told}
+use Rattle.mach_cli.specs.declared.shows.Outcome.{Outcome}
 use Rattle.machfat.specs.MemberLines.{AreMemberLines}
-use Rattle.machfat.specs.Names.{refused_line}
 use Rattle.machfat.specs.SymbolLines.{AreIndexLines}
 
--- The text is the lines of an archive: of its members, then of the symbols of its index; or why the bytes are none. It is whole where nothing in it
--- tells a fault.
-pub data AreArchiveLines (bytes : List ℕ) : List ℕ → Bool → Type 0 where
-  no_archive : (e : Error) → archive_in bytes ≡ Err (fault_of e) → AreArchiveLines bytes (refused_line (codes "refused") e) false
-  an_archive : (a : ArchiveView) (members symbols : List ℕ) (are_members are_symbols : Bool) → archive_in bytes ≡ Ok a
-      → AreMemberLines a members are_members → AreIndexLines a symbols are_symbols
-      → AreArchiveLines bytes (members ++ symbols) (are_members && are_symbols)
+-- The text is the lines of an archive: of its members, then of the symbols of its index, together no more than `left`; and where there are more, a line
+-- that says that `limit` are told. It is whole where there are no more, and nothing tells a fault.
+pub record AreArchiveLines (limit left : ℕ) (a : ArchiveView) (text : List ℕ) (o : Outcome) : Type 0 where
+  pub members : List ℕ
+  pub symbols : List ℕ
+  pub first : Told
+  pub second : Told
+  pub are_members : AreMemberLines a left members first
+  pub are_symbols : AreIndexLines a first.left symbols second
+  pub is_text : text ≡ members ++ (symbols ++ cut_line limit (first.more || second.more))
+  pub is_whole : o.whole ≡ ((first.whole && second.whole) && not (first.more || second.more))
+  pub is_left : o.left ≡ second.left

@@ -1,5 +1,5 @@
 -- The lines that are printed of the faults of a fat file's layout.
-use Rattle.std.specs.Prelude.{ℕ, List, [], ◌∷◌, ◌++◌, codes, Bool, true, false, Option}
+use Rattle.std.specs.Prelude.{ℕ, List, [], ◌∷◌, ◌++◌, codes, length, take, nat_lt, Bool, true, false, Option}
 use Rattle.std.specs.Io.KnownBytes.{Appends}
 use Rattle.goblin_mach.specs.File.{HasFatMagic}
 use Rattle.mach_parts.specs.ArchForms.{arch_form_32, arch_form_64}
@@ -7,6 +7,7 @@ use Rattle.mach_parts.specs.FatRecords.{HasFat64Magic}
 use Rattle.mach_layout.specs.Containers.{AreContainerFaults}
 use Rattle.mach_layout.specs.Texts.{fault_text}
 use Rattle.mach_layout.specs.declared.fault.LayoutFault.{LayoutFault}
+use Rattle.mach_cli.specs.Listings.{cut_line}
 
 -- the line of a fault
 abbrev pub table_fault_line : LayoutFault → List ℕ
@@ -27,7 +28,7 @@ pub data HasFatFaults (bytes : List ℕ) (faults : List LayoutFault) : Type 0 wh
   of_32_bits : HasFatMagic bytes → AreContainerFaults arch_form_32 bytes faults → HasFatFaults bytes faults
   of_64_bits : HasFat64Magic bytes → AreContainerFaults arch_form_64 bytes faults → HasFatFaults bytes faults
 
--- Its layout has these faults, and what was written are their lines.
-pub record TellsFatFaults (bytes : List ℕ) (faults : List LayoutFault) (old new : Option (List ℕ)) : Type 0 where
+-- Its layout has these faults, and what was written are the lines of the first ones, no more than a limit, and of more that there are more.
+pub record TellsFatFaults (limit : ℕ) (bytes : List ℕ) (faults : List LayoutFault) (old new : Option (List ℕ)) : Type 0 where
   pub has : HasFatFaults bytes faults
-  pub told : Appends old new (fault_lines faults)
+  pub told : Appends old new (fault_lines (take limit faults) ++ cut_line limit (nat_lt limit (length faults)))

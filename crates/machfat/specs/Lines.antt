@@ -1,10 +1,13 @@
 -- What is printed of the records of a fat file: lines, or an object.
-use Rattle.std.specs.Prelude.{◌==◌, ℕ, ◌+◌, List, [], ◌∷◌, ◌++◌, codes, false, unwrap_or}
+use Rattle.std.specs.Prelude.{◌≡◌, ◌==◌, ℕ, ◌+◌, List, [], ◌∷◌, ◌++◌, codes, length, take, nat_lt, Bool, false, not, Option, Ok, unwrap_or}
 use Rattle.std.specs.Fmt.{decimal, digits}
+use Rattle.std.specs.Io.KnownBytes.{Appends}
+use Rattle.mach_fat_writer.specs.Changes.{fat_records_in}
 use Rattle.mach_fat_writer.specs.EntriesRead.{slice_of}
 use Rattle.mach_fat_writer.specs.declared.entry_record.EntryRecord.{EntryRecord}
 use Rattle.mach_cli.specs.JsonArrays.{comma_before}
-use Rattle.mach_cli.specs.JsonText.{json_string}
+use Rattle.mach_cli.specs.JsonText.{json_bool, json_string}
+use Rattle.mach_cli.specs.Listings.{cut_line}
 use Rattle.machfat.specs.Kinds.{entry_kind}
 use Rattle.machfat.specs.declared.entry.ListForm.{ListForm}
 use Rattle.machfat.specs.declared.entry.ListForm.TheVariants.{Lines, Objects}
@@ -55,12 +58,32 @@ abbrev pub records_from : ListForm → List ℕ → ℕ → List EntryRecord →
 records_from form bytes i [] = []
 records_from form bytes i (r ∷ records) = record_as form bytes i r ++ records_from form bytes (i + 1) records
 
--- the object of a fat file
-abbrev pub document_tail : (file : List ℕ) → List ℕ
-document_tail file = codes "],\"kind\":\"fat file\",\"name\":" ++ (json_string file ++ codes "}\n")
+-- the lines of the first records, no more than a limit, and of more that there are more
+abbrev pub list_text : (limit : ℕ) (bytes : List ℕ) → List EntryRecord → List ℕ
+list_text limit bytes records = records_from Lines bytes 0 (take limit records) ++ cut_line limit (nat_lt limit (length records))
 
-abbrev pub document_text : (file bytes : List ℕ) → List EntryRecord → List ℕ
-document_text file bytes records = codes "{\"entries\":[" ++ (records_from Objects bytes 0 records ++ document_tail file)
+-- the object of a fat file, with those of the first records, no more than a limit, and whether there are more
+abbrev pub document_tail : (more : Bool) (file : List ℕ) → List ℕ
+document_tail more file =
+    codes "],\"kind\":\"fat file\",\"limit_met\":" ++ (json_bool more ++ (codes ",\"name\":" ++ (json_string file ++ codes "}\n")))
+
+abbrev pub document_text : (limit : ℕ) (file bytes : List ℕ) → List EntryRecord → List ℕ
+document_text limit file bytes records =
+    codes "{\"entries\":[" ++ (records_from Objects bytes 0 (take limit records) ++ document_tail (nat_lt limit (length records)) file)
+
+-- What was written is a text of a fat file's records; it is whole where there are no more than a limit.
+pub record TellsFirstRecords (text : List EntryRecord → List ℕ) (limit : ℕ) (bytes : List ℕ) (whole : Bool) (old new : Option (List ℕ)) : Type 0 where
+  pub records : List EntryRecord
+  pub are_records : fat_records_in bytes ≡ Ok records
+  pub is_whole : whole ≡ not (nat_lt limit (length records))
+  pub written : Appends old new (text records)
+
+-- What was written are these lines, or this object.
+abbrev pub TellsList : (limit : ℕ) (bytes : List ℕ) (whole : Bool) (old new : Option (List ℕ)) → Type 0
+TellsList limit bytes whole old new = TellsFirstRecords (list_text limit bytes) limit bytes whole old new
+
+abbrev pub TellsDocument : (limit : ℕ) (file bytes : List ℕ) (whole : Bool) (old new : Option (List ℕ)) → Type 0
+TellsDocument limit file bytes whole old new = TellsFirstRecords (document_text limit file bytes) limit bytes whole old new
 
 -- that of a file that is refused; the words are made of fixed texts and numbers, and stand as they are
 abbrev pub refusal_document : (file words : List ℕ) → List ℕ

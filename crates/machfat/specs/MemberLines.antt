@@ -1,7 +1,6 @@
 -- The lines of an archive's members (`ar.h`, struct ar_hdr).
-use Rattle.std.specs.Prelude.{◌≡◌, ℕ, ◌+◌, List, [], ◌∷◌, ◌++◌, codes, length, Bool, true, false, Option, Some, None, Result, Ok, Err}
+use Rattle.std.specs.Prelude.{ℕ, ◌+◌, List, [], ◌∷◌, ◌++◌, codes, length, Bool, true, false, Option, Some, None, Result, Ok, Err}
 use Rattle.std.specs.Fmt.{decimal, digits}
-use Rattle.std.specs.List.{list_all}
 use Rattle.mach_base.specs.Fault.{Fault, fault_of}
 use Rattle.mach_base.specs.Items.{read_as}
 use Rattle.mach_base.specs.Words.{words_of}
@@ -11,9 +10,10 @@ use Rattle.mach_archive.specs.MemberHeaders.{date_field, gid_field, mode_field, 
 use Rattle.mach_archive.specs.MemberNames.{member_name}
 use Rattle.mach_archive.specs.Members.{AreMembers, MemberView}
 use Rattle.mach_archive.specs.Archives.{ArchiveView}
-use Rattle.mach_cli.specs.Lines.{AreLines}
+use Rattle.mach_cli.specs.declared.listing.Told.{Told}
 use Rattle.machfat.specs.Kinds.{entry_kind}
-use Rattle.machfat.specs.Names.{name_end, refused_line}
+use Rattle.machfat.specs.Names.{name_tail, refused_line}
+use Rattle.machfat.specs.Written.{AreItemLines}
 
 -- a number, or a dash where a field is none
 abbrev pub number_or_dash : Option ℕ → List ℕ
@@ -45,7 +45,7 @@ member_front number m =
 
 -- its name, or why it has none, and the end of the line
 abbrev pub member_name_end : Result (List ℕ) Error → List ℕ
-member_name_end (Ok name) = codes "name " ++ name_end name
+member_name_end (Ok name) = codes "name " ++ name_tail name
 member_name_end (Err e) = codes "name refused: " ++ (words_of e ++ codes "\n")
 
 -- What is told of a place where a member may be: its number, itself, and its name, or why that can't be read; or why there is none, nor any behind it.
@@ -57,6 +57,15 @@ pub data MemberTold (E : Type 0) : Type 0 where
 abbrev pub member_line : MemberTold Error → List ℕ
 member_line (a_member number m name) = member_front number m ++ member_name_end name
 member_line (no_more_members e) = refused_line (codes "refused") e
+
+-- the words of the error that it tells, if it tells one
+abbrev pub name_reason : Result (List ℕ) Error → List ℕ
+name_reason (Ok name) = []
+name_reason (Err e) = words_of e
+
+abbrev pub member_reason : MemberTold Error → List ℕ
+member_reason (a_member number m name) = name_reason name
+member_reason (no_more_members e) = words_of e
 
 -- which faults it tells
 abbrev pub member_faults : MemberTold Error → MemberTold Fault
@@ -82,9 +91,9 @@ abbrev pub is_whole_member : MemberTold Fault → Bool
 is_whole_member (a_member number m name) = is_whole_name name
 is_whole_member (no_more_members f) = false
 
--- The text is a line for each of an archive's members, in order, up to the first fault, and for this; it is whole where none of them tells a fault.
-pub record AreMemberLines (a : ArchiveView) (text : List ℕ) (whole : Bool) : Type 0 where
+-- The text is a line for each of an archive's first members, in order, up to the first fault, and for this, no more than `left`; it is whole where none
+-- of them tells a fault.
+pub record AreMemberLines (a : ArchiveView) (left : ℕ) (text : List ℕ) (t : Told) : Type 0 where
   pub members : List (Result MemberView Fault)
   pub are_members : AreMembers a.bytes a.names a.begin members
-  pub lines : AreLines member_faults member_line (told_members 0 members) text
-  pub is_whole : whole ≡ list_all is_whole_member (told_members 0 members)
+  pub lines : AreItemLines member_faults member_line is_whole_member left (told_members 0 members) text t

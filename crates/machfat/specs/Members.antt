@@ -1,43 +1,58 @@
 -- The lines of the members of an archive, or of those that are the entries of a fat file.
 use Rattle.std.specs.Prelude.{◌≡◌, ◌&&◌, ℕ, List, [], ◌∷◌, ◌++◌, codes, length, Bool, true, false, Some, None, Ok, Err}
 use Rattle.std.specs.Fmt.{decimal}
-use Rattle.mach_base.specs.Fault.{Fault}
+use Rattle.mach_archive.specs.Archives.{ArchiveView, archive_in}
+use Rattle.mach_base.specs.Fault.{Fault, fault_of}
+use Rattle.mach_base.specs.declared.error.Error.{Error}
 use Rattle.mach_fat_writer.specs.EntriesRead.{slice_of}
+use Rattle.mach_fat_writer.specs.FatForms.{FatForm}
 use Rattle.mach_fat_writer.specs.FatTables.{form_in, fat_table_in}
 use Rattle.mach_fat_writer.specs.Unfit.{entry_refusal_words}
 use Rattle.mach_fat_writer.specs.declared.entry_record.EntryRecord.{EntryRecord}
 use Rattle.mach_fat_writer.specs.declared.refusal.EntryRefusal.TheVariants.{OutOfFile}
 use Rattle.mach_parts.specs.Magic.{magic_at}
+use Rattle.mach_cli.specs.declared.shows.Outcome.{Outcome}
 use Rattle.machfat.specs.ArchiveLines.{AreArchiveLines}
 use Rattle.machfat.specs.Kinds.{is_image_magic}
-use Rattle.mach_fat_writer.specs.FatForms.{FatForm}
+use Rattle.machfat.specs.Names.{refused_line}
 
--- The text is what is told of the entry of record i: that it isn't in the file, that it is an image, or else its lines as an archive.
-pub data AreContentLines (bytes : List ℕ) (i : ℕ) (r : EntryRecord) : List ℕ → Bool → Type 0 where
-  out_of_the_file : slice_of bytes r ≡ None → AreContentLines bytes i r (codes "refused: " ++ (entry_refusal_words (OutOfFile i) ++ codes "\n")) false
-  an_image : (slice : List ℕ) → slice_of bytes r ≡ Some slice → is_image_magic (magic_at slice 0) ≡ true → AreContentLines bytes i r (codes "image\n") true
-  no_image : (slice text : List ℕ) (whole : Bool) → slice_of bytes r ≡ Some slice → is_image_magic (magic_at slice 0) ≡ false
-      → AreArchiveLines slice text whole → AreContentLines bytes i r text whole
+-- what is known where no line of a list is told: whether it is whole
+abbrev pub stays : (left : ℕ) → (whole : Bool) → Outcome
+stays left whole = record { whole = whole; left = left }
+
+-- The text is what is told of the entry of record i: that it isn't in the file, that it is an image, why it is no archive, or its lines as one. Of these
+-- there are no more than `left`.
+pub data AreContentLines (limit left : ℕ) (bytes : List ℕ) (i : ℕ) (r : EntryRecord) : List ℕ → Outcome → Type 0 where
+  out_of_the_file : slice_of bytes r ≡ None
+      → AreContentLines limit left bytes i r (codes "refused: " ++ (entry_refusal_words (OutOfFile i) ++ codes "\n")) (stays left false)
+  an_image : (slice : List ℕ) → slice_of bytes r ≡ Some slice → is_image_magic (magic_at slice 0) ≡ true
+      → AreContentLines limit left bytes i r (codes "image\n") (stays left true)
+  no_archive : (slice : List ℕ) (e : Error) → slice_of bytes r ≡ Some slice → is_image_magic (magic_at slice 0) ≡ false
+      → archive_in slice ≡ Err (fault_of e) → AreContentLines limit left bytes i r (refused_line (codes "refused") e) (stays left false)
+  an_archive : (slice text : List ℕ) (a : ArchiveView) (o : Outcome) → slice_of bytes r ≡ Some slice → is_image_magic (magic_at slice 0) ≡ false
+      → archive_in slice ≡ Ok a → AreArchiveLines limit left a text o → AreContentLines limit left bytes i r text o
 
 -- the line before it
 abbrev pub entry_line : ℕ → List ℕ
 entry_line i = codes "arch " ++ (decimal i ++ codes "\n")
 
--- The text is what is told of the entries of the first records, in order, each behind its line; it is whole where that of each is.
-pub data AreEntryLines (bytes : List ℕ) : List EntryRecord → List ℕ → Bool → Type 0 where
-  no_entries : AreEntryLines bytes [] [] true
-  one_more : (records : List EntryRecord) (r : EntryRecord) (front last : List ℕ) (whole one : Bool) → AreEntryLines bytes records front whole
-      → AreContentLines bytes (length records) r last one
-      → AreEntryLines bytes (records ++ r ∷ []) (front ++ (entry_line (length records) ++ last)) (whole && one)
+-- The text is what is told of the entries of the first records, in order, each behind its line; it is whole where that of each is. Of an entry's lines
+-- there are no more than those before it left of the limit.
+pub data AreEntryLines (limit : ℕ) (bytes : List ℕ) : List EntryRecord → List ℕ → Outcome → Type 0 where
+  no_entries : AreEntryLines limit bytes [] [] (stays limit true)
+  one_more : (records : List EntryRecord) (r : EntryRecord) (front last : List ℕ) (before one : Outcome) → AreEntryLines limit bytes records front before
+      → AreContentLines limit before.left bytes (length records) r last one
+      → AreEntryLines limit bytes (records ++ r ∷ []) (front ++ (entry_line (length records) ++ last)) (stays one.left (before.whole && one.whole))
 
--- The text is what is told of a file: of all entries of a fat file of either form, or its lines as an archive.
-pub data AreFileLines (bytes : List ℕ) : List ℕ → Bool → Type 0 where
-  of_fat_file : (form : FatForm) (records : List EntryRecord) (text : List ℕ) (whole : Bool) → form_in bytes ≡ Some form
-      → fat_table_in form bytes ≡ Ok records → AreEntryLines bytes records text whole → AreFileLines bytes text whole
-  of_archive : (text : List ℕ) (whole : Bool) → form_in bytes ≡ None → AreArchiveLines bytes text whole → AreFileLines bytes text whole
+-- The text is what is told of a file, no more than `limit` lines of members and symbols: of all entries of a fat file of either form, or those of an
+-- archive.
+pub data AreFileLines (limit : ℕ) (bytes : List ℕ) : List ℕ → Bool → Type 0 where
+  of_fat_file : (form : FatForm) (records : List EntryRecord) (text : List ℕ) (o : Outcome) → form_in bytes ≡ Some form
+      → fat_table_in form bytes ≡ Ok records → AreEntryLines limit bytes records text o → AreFileLines limit bytes text o.whole
+  of_archive : (a : ArchiveView) (text : List ℕ) (o : Outcome) → form_in bytes ≡ None → archive_in bytes ≡ Ok a
+      → AreArchiveLines limit limit a text o → AreFileLines limit bytes text o.whole
 
--- a fault stands in the table of a fat file
-pub record HasTableFault (bytes : List ℕ) (f : Fault) : Type 0 where
-  pub form : FatForm
-  pub is_form : form_in bytes ≡ Some form
-  pub stands : fat_table_in form bytes ≡ Err f
+-- a fault stands where the members of a file are read: in the table of a fat file, or in the front of an archive
+pub data MembersFault (bytes : List ℕ) : Fault → Type 0 where
+  in_table : (form : FatForm) (f : Fault) → form_in bytes ≡ Some form → fat_table_in form bytes ≡ Err f → MembersFault bytes f
+  in_archive : (f : Fault) → form_in bytes ≡ None → archive_in bytes ≡ Err f → MembersFault bytes f

@@ -2,11 +2,11 @@
 use Rattle.std.specs.Prelude.{ℕ, List, ◌++◌, codes}
 use Rattle.mach_base.specs.Words.{words_of}
 use Rattle.mach_base.specs.declared.error.Error.{Error}
-use Rattle.mach_cli.specs.SignatureNames.{escaped_text}
+use Rattle.mach_cli.specs.Escapes.{escaped_text}
 
 -- a name, of which a control character and a backslash are told in hexadecimal, so that it makes no line, and the end of its line
-abbrev pub name_end : List ℕ → List ℕ
-name_end name = escaped_text name ++ codes "\n"
+abbrev pub name_tail : List ℕ → List ℕ
+name_tail name = escaped_text name ++ codes "\n"
 
 -- the line of what is refused, and why
 abbrev pub refused_line : List ℕ → Error → List ℕ

@@ -1,5 +1,6 @@
 -- Why the program refuses a file or an entry, and what it says of it.
-use Rattle.std.specs.Prelude.{◌≡◌, ℕ, List, codes, Option, Some, None, Result, Ok, Err}
+use Rattle.std.specs.Prelude.{◌≡◌, ℕ, List, [], codes, Option, Some, None, Result, Ok, Err}
+use Rattle.std.specs.Io.KnownBytes.{Appends}
 use Rattle.mach_base.specs.Answer.{Stands}
 use Rattle.mach_base.specs.Fault.{Fault}
 use Rattle.mach_base.specs.Words.{words_of}
@@ -15,7 +16,8 @@ use Rattle.mach_cli.specs.Foreigners.{foreign_words, refused_kind}
 use Rattle.mach_cli.specs.Names.{names_text}
 use Rattle.mach_cli.specs.Shown.{complaint}
 use Rattle.mach_cli.specs.declared.foreign.Foreign as declared
-use Rattle.machfat.specs.Members.{HasTableFault}
+use Rattle.mach_cli.specs.declared.foreign.Foreign.TheVariants.{Archive}
+use Rattle.machfat.specs.Members.{MembersFault}
 use Rattle.machfat.specs.declared.refusal.Failure.TheVariants as failures
 use Rattle.machfat.specs.declared.refusal.Failure.{Failure}
 use Rattle.machfat.specs.declared.refusal.Refusal.TheVariants.{Refused, Foreign, NotFat, Entries}
@@ -36,13 +38,33 @@ pub data FatFault (bytes : List ℕ) : Fault → Type 0 where
   in_header : (f : Fault) → HasFat64Magic bytes → fat_file_in bytes ≡ Err f → FatFault bytes f
   in_view : (f : Fault) → ¬ HasFat64Magic bytes → ViewFault bytes f → FatFault bytes f
 
--- Why the faults of a fat file's layout aren't told: a fault that stands where it is opened, of a file whose first bytes tell what it is, or don't;
--- want of memory; or that it is an image.
+-- what is said of a file that is refused for an error: what it is, where that is known
+abbrev pub refused_by : Option declared.Foreign → Error → Refusal
+refused_by (Some kind) e = Foreign kind
+refused_by None e = Refused e
+
+-- Why a file isn't read: one of these faults that stands there, of a file of which it is known what it is, or isn't; or want of memory.
+abbrev pub RefusesRead : (Fault → Type 0) → (kind : Error → Option declared.Foreign) → Refusal → Type 0
+RefusesRead faults kind (Refused e) = Stands faults e × (kind e ≡ None)
+RefusesRead faults kind (Foreign known) = (e : Error) × Stands faults e × (kind e ≡ Some known)
+RefusesRead faults kind NotFat = ⊥
+RefusesRead faults kind (Entries why) = ⊥
+
+-- Why the faults of a fat file's layout aren't told: a fault stands where it is opened; or it is an image.
 abbrev pub RefusesFaults : List ℕ → Refusal → Type 0
-RefusesFaults bytes (Refused e) = Stands (FatFault bytes) e × (refused_kind bytes e ≡ None)
-RefusesFaults bytes (Foreign kind) = (e : Error) × Stands (FatFault bytes) e × (refused_kind bytes e ≡ Some kind)
+RefusesFaults bytes (Refused e) = RefusesRead (FatFault bytes) (refused_kind bytes) (Refused e)
+RefusesFaults bytes (Foreign kind) = RefusesRead (FatFault bytes) (refused_kind bytes) (Foreign kind)
 RefusesFaults bytes NotFat = Opens bytes 0
 RefusesFaults bytes (Entries why) = ⊥
+
+-- a kind of file, if it is no archive
+abbrev pub but_archive : Option declared.Foreign → Option declared.Foreign
+but_archive (Some Archive) = None
+but_archive kind = kind
+
+-- Why the members of a file aren't told: a fault stands where they are read.
+abbrev pub RefusesMembers : List ℕ → Refusal → Type 0
+RefusesMembers bytes refusal = RefusesRead (MembersFault bytes) (λ e. but_archive (refused_kind bytes e)) refusal
 
 -- the kind that is told of a file whose entries are refused, where its first bytes show it
 abbrev pub kind_by_front : List ℕ → EntryRefusal → Option declared.Foreign
@@ -86,9 +108,13 @@ IsWant (Foreign kind) = ⊥
 IsWant NotFat = ⊥
 IsWant (Entries why) = ⊥
 
--- Why the members aren't told of a fat file: a fault that stands in its table, or want of memory.
-abbrev pub RefusesTable : List ℕ → Refusal → Type 0
-RefusesTable bytes (Refused e) = Stands (HasTableFault bytes) e
-RefusesTable bytes (Foreign kind) = ⊥
-RefusesTable bytes NotFat = ⊥
-RefusesTable bytes (Entries why) = ⊥
+-- It is refused for a reason as P says, and nothing was written till then.
+abbrev pub RefusesUnwritten : (Refusal → Type 0) → (old new : Option (List ℕ)) → Failure → Type 0
+RefusesUnwritten P old new failure = IsRefusal (λ refusal. P refusal × Appends old new []) failure
+
+-- A file is refused for a reason as P says: a line on the error output says why, and nothing was written on the other one.
+pub record RefusesFile (P : Refusal → Type 0) (file : List ℕ) (out_old out_new err_old err_new : Option (List ℕ)) : Type 0 where
+  pub refusal : Refusal
+  pub stands : P refusal
+  pub nothing : Appends out_old out_new []
+  pub said : Appends err_old err_new (refusal_line file refusal)

@@ -1,7 +1,6 @@
 -- The lines of the symbols of an archive's index (`ranlib.h`).
-use Rattle.std.specs.Prelude.{◌≡◌, ℕ, List, [], ◌++◌, codes, map, Bool, true, false, Option, Some, None, Result, Ok, Err}
+use Rattle.std.specs.Prelude.{◌≡◌, ℕ, List, [], ◌++◌, codes, map, Bool, true, false, Some, None, Result, Ok, Err}
 use Rattle.std.specs.Fmt.{decimal}
-use Rattle.std.specs.List.{list_all}
 use Rattle.mach_base.specs.Fault.{Fault, fault_of}
 use Rattle.mach_base.specs.Words.{words_of}
 use Rattle.mach_base.specs.declared.error.Error.{Error}
@@ -10,8 +9,9 @@ use Rattle.mach_archive.specs.IndexSymbols.{AreIndexSymbols, IndexSymbol}
 use Rattle.mach_archive.specs.IndexTables.{IndexTable, archive_table}
 use Rattle.mach_archive.specs.MemberNames.{text_or_fault}
 use Rattle.mach_archive.specs.Members.{MemberView}
-use Rattle.mach_cli.specs.Lines.{AreLines, WritesLines}
-use Rattle.machfat.specs.Names.{name_end, refused_line}
+use Rattle.mach_cli.specs.declared.listing.Told.{Told}
+use Rattle.machfat.specs.Names.{name_tail, refused_line}
+use Rattle.machfat.specs.Written.{AreItemLines}
 
 -- What is told of a place where a symbol may be: that of a member and a name; why no member is there; why the name is no text; or why there is no
 -- symbol, nor any behind it.
@@ -27,10 +27,17 @@ symbol_at_text place = codes "symbol at " ++ decimal place
 
 -- the line of what is told
 abbrev pub symbol_line : SymbolTold Error → List ℕ
-symbol_line (a_symbol place name) = (symbol_at_text place ++ codes ": ") ++ name_end name
-symbol_line (of_no_member place name e) = (symbol_at_text place ++ (codes ", refused: " ++ (words_of e ++ codes ": "))) ++ name_end name
+symbol_line (a_symbol place name) = (symbol_at_text place ++ codes ": ") ++ name_tail name
+symbol_line (of_no_member place name e) = (symbol_at_text place ++ (codes ", refused: " ++ (words_of e ++ codes ": "))) ++ name_tail name
 symbol_line (of_no_name place e) = symbol_at_text place ++ (codes ", name refused: " ++ (words_of e ++ codes "\n"))
 symbol_line (no_more_symbols e) = refused_line (codes "symbol refused") e
+
+-- the words of the error that it tells, if it tells one
+abbrev pub symbol_reason : SymbolTold Error → List ℕ
+symbol_reason (a_symbol place name) = []
+symbol_reason (of_no_member place name e) = words_of e
+symbol_reason (of_no_name place e) = words_of e
+symbol_reason (no_more_symbols e) = words_of e
 
 -- which faults it tells
 abbrev pub told_symbol_faults : SymbolTold Error → SymbolTold Fault
@@ -61,16 +68,15 @@ is_whole_symbol (of_no_member place name f) = false
 is_whole_symbol (of_no_name place f) = false
 is_whole_symbol (no_more_symbols f) = false
 
--- The text is a line for each symbol of an archive's index, in order, up to the first fault, and for this; none, where it has no index; or why the
--- index can't be read. It is whole where nothing tells a fault.
-pub data AreIndexLines (a : ArchiveView) : List ℕ → Bool → Type 0 where
-  no_index : archive_table a ≡ Ok None → AreIndexLines a [] true
-  no_table : (e : Error) → archive_table a ≡ Err (fault_of e) → AreIndexLines a (refused_line (codes "symbols refused") e) false
-  symbols : (t : IndexTable) (items : List (Result IndexSymbol Fault)) (text : List ℕ) → archive_table a ≡ Ok (Some t) → AreIndexSymbols t 0 items
-      → AreLines told_symbol_faults symbol_line (map (symbol_item a) items) text
-      → AreIndexLines a text (list_all is_whole_symbol (map (symbol_item a) items))
+-- what is known of none: whether it is whole
+abbrev pub untold : (left : ℕ) → (whole : Bool) → Told
+untold left whole = record { left = left; whole = whole; more = false }
 
--- What was written is a line for each of these symbols, and it is whole or not.
-pub record WritesItems (a : ArchiveView) (items : List (Result IndexSymbol Fault)) (whole : Bool) (old new : Option (List ℕ)) : Type 0 where
-  pub lines : WritesLines told_symbol_faults symbol_line (map (symbol_item a) items) old new
-  pub is_whole : whole ≡ list_all is_whole_symbol (map (symbol_item a) items)
+-- The text is a line for each of the first symbols of an archive's index, in order, up to the first fault, and for this, no more than `left`; none, where
+-- it has no index; or why the index can't be read. It is whole where nothing tells a fault.
+pub data AreIndexLines (a : ArchiveView) (left : ℕ) : List ℕ → Told → Type 0 where
+  no_index : archive_table a ≡ Ok None → AreIndexLines a left [] (untold left true)
+  no_table : (e : Error) → archive_table a ≡ Err (fault_of e) → AreIndexLines a left (refused_line (codes "symbols refused") e) (untold left false)
+  symbols : (table : IndexTable) (items : List (Result IndexSymbol Fault)) (text : List ℕ) (t : Told) → archive_table a ≡ Ok (Some table)
+      → AreIndexSymbols table 0 items → AreItemLines told_symbol_faults symbol_line is_whole_symbol left (map (symbol_item a) items) text t
+      → AreIndexLines a left text t

@@ -2,9 +2,10 @@
 
 ghost use Rattle.std.specs.Prelude.{◌≡◌, false, IfOk, OnOk};
 ghost use Rattle.std.specs.Io.KnownBytes.{Appends};
+ghost use Rattle.mach_archive.specs.ArchiveViews.{archive_of};
 ghost use Rattle.machfat.specs.ArchiveLines.{AreArchiveLines};
-ghost use Rattle.machfat.specs.Names.{name_end, refused_line};
-ghost use Rattle.machfat.specs.Written.{WritesWhole};
+ghost use Rattle.machfat.specs.Names.{name_tail, refused_line};
+ghost use Rattle.machfat.specs.Written.{WritesAs};
 
 pub mod kind;
 pub mod member;
@@ -14,12 +15,12 @@ use crate::archive::member::print_members;
 use crate::archive::symbol::print_symbols;
 use mach_archive::Archive;
 use mach_base::{Error, describe};
-use mach_cli::print_escaped;
+use mach_cli::{Escaped, Outcome, print_cut};
 use std::io;
 use std::io::Write;
 
 /// Prints the line of what is refused, and why, and answers that nothing is whole then.
-pub(crate) fn print_refused<O: Write>(what: &str, error: &Error, out: &mut O) -> io::Result<bool>
+pub fn print_refused<O: Write>(what: &str, error: &Error, out: &mut O) -> io::Result<bool>
     ensures { IfOk result (λ whole. (whole ≡ false) × Appends (O.contents out.old) (O.contents out.new) (refused_line what.now error.now)) }
 {
     let words = describe(error);
@@ -28,24 +29,29 @@ pub(crate) fn print_refused<O: Write>(what: &str, error: &Error, out: &mut O) ->
 }
 
 /// Prints a name and the end of its line.
-pub(crate) fn print_name_end<O: Write>(name: &str, out: &mut O) -> io::Result<()>
-    ensures { OnOk result (Appends (O.contents out.old) (O.contents out.new) (name_end name.now)) }
+pub fn print_name_end<O: Write>(name: &str, out: &mut O) -> io::Result<()>
+    ensures { OnOk result (Appends (O.contents out.old) (O.contents out.new) (name_tail name.now)) }
 {
-    print_escaped(name, out)?;
-    writeln!(out)
+    let name = Escaped(name);
+    writeln!(out, "{name}")
 }
 
-/// Prints the lines of an archive: of its members, then of the symbols of its index; or why the bytes are none. Answers whether nothing in it tells a
-/// fault.
-pub fn print_archive<O: Write>(bytes: &[u8], out: &mut O) -> io::Result<bool>
-    ensures { IfOk result (λ whole. WritesWhole (AreArchiveLines bytes.now) whole (O.contents out.old) (O.contents out.new)) }
+/// Prints the lines of an archive: of its members, then of the symbols of its index, no more than `left`; where there are more, a line says that `limit` are
+/// told. Answers whether there are no more and nothing tells a fault, and how many lines are left.
+pub fn print_archive<O: Write>(
+    archive: &Archive<'_>,
+    limit: usize,
+    left: usize,
+    out: &mut O,
+) -> io::Result<Outcome>
+    ensures { IfOk result (λ outcome. WritesAs (AreArchiveLines limit left (archive_of archive.now)) outcome (O.contents out.old) (O.contents out.new)) }
 {
-    match Archive::parse(bytes) {
-        Ok(archive) => {
-            let are_read = print_members(&archive, out)?;
-            let are_found = print_symbols(&archive, out)?;
-            Ok(are_read & are_found)
-        }
-        Err(error) => print_refused("refused", &error, out),
-    }
+    let members = print_members(archive, left, out)?;
+    let symbols = print_symbols(archive, members.left, out)?;
+    let more = members.more | symbols.more;
+    print_cut(limit, more, out)?;
+    Ok(Outcome {
+        whole: members.whole & symbols.whole & !more,
+        left: symbols.left,
+    })
 }

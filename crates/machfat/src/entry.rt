@@ -1,18 +1,16 @@
 //! The records and the entries of a fat file.
 
-ghost use Rattle.std.specs.Prelude.{◌≡◌, List, Ok, IfOk, IfErr, OnOk};
+ghost use Rattle.std.specs.Prelude.{◌≡◌, take, Ok, IfOk, IfErr, OnOk};
 ghost use Rattle.std.specs.Io.KnownBytes.{Appends};
 ghost use Rattle.mach_fat_writer.specs.Changes.{fat_records_in, indexed_entry_in};
-ghost use Rattle.mach_fat_writer.specs.declared.entry_record.EntryRecord.{EntryRecord};
-ghost use Rattle.machfat.specs.Lines.{next_object, record_as, record_line, records_from};
-ghost use Rattle.machfat.specs.Refusals.{Refuses, IsRefusal, kind_by_front, said_in};
-ghost use Rattle.machfat.specs.declared.entry.ListForm.TheVariants as forms;
+ghost use Rattle.machfat.specs.Lines.{next_object, record_as, record_line, records_from, TellsList};
+ghost use Rattle.machfat.specs.Refusals.{Refuses, RefusesUnwritten, kind_by_front, said_in};
 
 use crate::refusal::{Failure, Refusal};
 use crate::text::{RecordObject, RecordText};
-use mach_cli::{Foreign, refused_kind};
+use mach_cli::{Foreign, print_cut, refused_kind};
 use mach_fat_writer::{EntryRecord, EntryRefusal, fat_records, indexed_entry};
-use std::alloc::Allocator;
+use std::alloc::{Allocator, Global};
 use std::io;
 use std::io::Write;
 
@@ -115,22 +113,36 @@ fn print_object<O: Write>(
     write!(out, "{comma}{record}")
 }
 
-/// Prints the list of a fat file: a line for each of its records, in order, and nothing else.
-pub fn list<A: Allocator, O: Write>(alloc: A, bytes: &[u8], out: &mut O) -> Result<(), Failure>
-    ensures listed { OnOk result ((records : List EntryRecord) × (fat_records_in bytes.now ≡ Ok records)
-        × Appends (O.contents out.old) (O.contents out.new) (records_from forms.Lines bytes.now 0 records)) }
-    ensures refused { IfErr result (IsRefusal (Refuses bytes.now (fat_records_in bytes.now))) }
+/// The first of some items, no more than a limit.
+pub fn first_of<T>(items: &[T], limit: usize) -> &[T]
+    ensures { result.now ≡ take limit items.now }
+{
+    items.get(..limit).unwrap_or(items)
+}
+
+/// Prints the list of a fat file: a line for each of its first records, in order, no more than a limit, and that there are more, where that is so.
+/// Answers whether there are no more.
+pub fn list<A: Allocator, O: Write>(
+    alloc: A,
+    limit: usize,
+    bytes: &[u8],
+    out: &mut O,
+) -> Result<bool, Failure>
+    ensures listed { IfOk result (λ whole. TellsList limit bytes.now whole (O.contents out.old) (O.contents out.new)) }
+    ensures refused { IfErr result (RefusesUnwritten (Refuses bytes.now (fat_records_in bytes.now)) (O.contents out.old) (O.contents out.new)) }
 {
     let records = records(alloc, bytes)?;
-    print_records(ListForm::Lines, bytes, &records, out)?;
-    Ok(())
+    let more = records.len() > limit;
+    print_records(ListForm::Lines, bytes, first_of(&records, limit), out)?;
+    print_cut(limit, more, out)?;
+    Ok(!more)
 }
 
 /// The bytes of an entry of a fat file of 32 or of 64 bits.
 #[tactic(auto, using(crate::proofs::Told::tells_of))]
-pub fn entry_bytes(bytes: &[u8], index: usize) -> Result<&[u8], Refusal>
+pub fn entry_bytes(alloc: Global, bytes: &[u8], index: usize) -> Result<&[u8], Refusal>
     ensures found { IfOk result (λ entry. indexed_entry_in bytes.now index ≡ Ok entry.now) }
     ensures refused { IfErr result (Refuses bytes.now (indexed_entry_in bytes.now index)) }
 {
-    said(bytes, indexed_entry(bytes, index))
+    said(bytes, indexed_entry(alloc, bytes, index))
 }

@@ -1,51 +1,55 @@
 //! What the program writes of a fat file as JSON, and its exit status.
 
-ghost use Rattle.std.specs.Prelude.{◌≡◌, ◌≤◌, [], List, Ok, OnOk};
+ghost use Rattle.std.specs.Prelude.{◌≡◌, ◌≤◌, ◌⊎◌, [], true, false, length, nat_lt, not, IfOk, OnOk};
 ghost use Rattle.std.specs.Io.Buffered.{writer_buffer, writer_contents};
 ghost use Rattle.std.specs.Io.KnownBytes.{Appends};
 ghost use Rattle.mach_fat_writer.specs.Changes.{fat_records_in};
-ghost use Rattle.mach_fat_writer.specs.declared.entry_record.EntryRecord.{EntryRecord};
+ghost use Rattle.mach_cli.specs.Bounds.{most_items};
 ghost use Rattle.mach_cli.specs.Statuses.{IsStatus};
-ghost use Rattle.machfat.specs.Lines.{document_text, refusal_document, document_tail};
+ghost use Rattle.machfat.specs.Lines.{document_text, refusal_document, document_tail, TellsDocument};
 ghost use Rattle.machfat.specs.Refusals.{Refuses, refusal_line, refusal_words};
 ghost use Rattle.machfat.specs.declared.refusal.Refusal.{Refusal};
 
-use crate::entry::{ListForm, print_records, records};
+use crate::entry::{ListForm, first_of, print_records, records};
 use crate::refusal::Refusal;
 use crate::run::{NAME, refused};
-use mach_cli::JsonString;
 use mach_cli::output::failed;
+use mach_cli::{JsonString, most_items};
 use mach_fat_writer::EntryRecord;
 use std::alloc::Allocator;
 use std::io;
 use std::io::{BufWriter, Write};
 
-/// Writes the object of a fat file of this name on a line, with an object for each of its records, in order, and answers the exit status: 0; 1 where
-/// the file or memory is refused, and then the object has a member `error` and `err` a line that says why; 2 or 141 where a write fails. But for that
-/// nothing is left in the buffer.
+/// Writes the object of a fat file of this name on a line, with an object for each of its first records, in order, no more than a limit, and answers the
+/// exit status: 0; 1 where there are more, or where the file or memory is refused, and then the object has a member `error` and `err` a line that says
+/// why; 2 or 141 where a write fails. But for that nothing is left in the buffer.
 pub fn run_list_json<A: Allocator, W: Write + Drop, B: Allocator, E: Write>(
     alloc: A,
+    limit: usize,
     file: &str,
     bytes: &[u8],
     out: &mut BufWriter<W, B>,
     err: &mut E,
 ) -> u8
     ensures status { IsStatus result }
-    ensures listed { result ≡ 0 → (records : List EntryRecord) × (fat_records_in bytes.now ≡ Ok records)
-        × Appends (writer_contents W.contents out.old) (writer_contents W.contents out.new) (document_text file.now bytes.now records) }
-    ensures refused { result ≡ 1 → (refusal : Refusal) × Refuses bytes.now (fat_records_in bytes.now) refusal
+    ensures listed { result ≡ 0
+        → TellsDocument (most_items limit bytes.now) file.now bytes.now true (writer_contents W.contents out.old) (writer_contents W.contents out.new) }
+    ensures refused { result ≡ 1
+        → TellsDocument (most_items limit bytes.now) file.now bytes.now false (writer_contents W.contents out.old) (writer_contents W.contents out.new)
+        ⊎ ((refusal : Refusal) × Refuses bytes.now (fat_records_in bytes.now) refusal
         × Appends (writer_contents W.contents out.old) (writer_contents W.contents out.new) (refusal_document file.now (refusal_words refusal))
-        × Appends (E.contents err.old) (E.contents err.new) (refusal_line file.now refusal) }
+        × Appends (E.contents err.old) (E.contents err.new) (refusal_line file.now refusal)) }
     ensures flushed { result ≤ 1 → writer_buffer out.new ≡ [] }
 {
     match records(alloc, bytes) {
-        Ok(records) => list_as(file, bytes, &records, out, err),
+        Ok(records) => list_as(most_items(limit, bytes), file, bytes, &records, out, err),
         Err(refusal) => refuse(file, &refusal, out, err),
     }
 }
 
 // The status of a fat file with these records, whose object is written.
 fn list_as<W: Write + Drop, B: Allocator, E: Write>(
+    limit: usize,
     file: &str,
     bytes: &[u8],
     records: &[EntryRecord],
@@ -53,13 +57,15 @@ fn list_as<W: Write + Drop, B: Allocator, E: Write>(
     err: &mut E,
 ) -> u8
     ensures status { IsStatus result }
-    ensures not_one { result ≤ 1 → result ≡ 0 }
-    ensures listed { result ≡ 0 → Appends (writer_contents W.contents out.old) (writer_contents W.contents out.new)
-        (document_text file.now bytes.now records.now) }
-    ensures flushed { result ≡ 0 → writer_buffer out.new ≡ [] }
+    ensures listed { result ≤ 1 → Appends (writer_contents W.contents out.old) (writer_contents W.contents out.new)
+        (document_text limit file.now bytes.now records.now) }
+    ensures whole { result ≡ 0 → true ≡ not (nat_lt limit (length records.now)) }
+    ensures more { result ≡ 1 → false ≡ not (nat_lt limit (length records.now)) }
+    ensures flushed { result ≤ 1 → writer_buffer out.new ≡ [] }
 {
-    match write_document(file, bytes, records, out) {
-        Ok(()) => 0,
+    match write_document(limit, file, bytes, records, out) {
+        Ok(true) => 0,
+        Ok(false) => 1,
         Err(error) => failed(NAME, "", error, err),
     }
 }
@@ -84,41 +90,48 @@ fn refuse<W: Write + Drop, B: Allocator, E: Write>(
     }
 }
 
-// Writes the object of a fat file with these records, and all that was gathered.
+// Writes the object of a fat file with these records, and all that was gathered, and answers whether there are no more than the limit.
 fn write_document<W: Write + Drop, B: Allocator>(
+    limit: usize,
     file: &str,
     bytes: &[u8],
     records: &[EntryRecord],
     out: &mut BufWriter<W, B>,
-) -> io::Result<()>
+) -> io::Result<bool>
     ensures written { OnOk result (Appends (writer_contents W.contents out.old) (writer_contents W.contents out.new)
-        (document_text file.now bytes.now records.now)) }
+        (document_text limit file.now bytes.now records.now)) }
+    ensures whole { IfOk result (λ whole. whole ≡ not (nat_lt limit (length records.now))) }
     ensures flushed { OnOk result (writer_buffer out.new ≡ []) }
 {
-    print_document(file, bytes, records, out)?;
-    out.flush()
+    print_document(limit, file, bytes, records, out)?;
+    out.flush()?;
+    Ok(records.len() <= limit)
 }
 
-// Writes the object of a fat file with these records.
+// Writes the object of a fat file with the first of these records, no more than the limit.
 fn print_document<O: Write>(
+    limit: usize,
     file: &str,
     bytes: &[u8],
     records: &[EntryRecord],
     out: &mut O,
 ) -> io::Result<()>
-    ensures { OnOk result (Appends (O.contents out.old) (O.contents out.new) (document_text file.now bytes.now records.now)) }
+    ensures { OnOk result (Appends (O.contents out.old) (O.contents out.new) (document_text limit file.now bytes.now records.now)) }
 {
     write!(out, "{{\"entries\":[")?;
-    print_records(ListForm::Objects, bytes, records, out)?;
-    print_end(file, out)
+    print_records(ListForm::Objects, bytes, first_of(records, limit), out)?;
+    print_end(records.len() > limit, file, out)
 }
 
 // Writes the end of that object.
-fn print_end<O: Write>(file: &str, out: &mut O) -> io::Result<()>
-    ensures { OnOk result (Appends (O.contents out.old) (O.contents out.new) (document_tail file.now)) }
+fn print_end<O: Write>(more: bool, file: &str, out: &mut O) -> io::Result<()>
+    ensures { OnOk result (Appends (O.contents out.old) (O.contents out.new) (document_tail more file.now)) }
 {
     let name = JsonString(file);
-    writeln!(out, "],\"kind\":\"fat file\",\"name\":{name}}}")
+    writeln!(
+        out,
+        "],\"kind\":\"fat file\",\"limit_met\":{more},\"name\":{name}}}"
+    )
 }
 
 // Writes the object of a file that is refused, and all that was gathered.

@@ -18,6 +18,7 @@ ghost use Rattle.machfat.specs.declared.refusal.Refusal.TheVariants.{Refused};
 use crate::new_file::{first_same, place_file};
 use crate::refusal::Refusal;
 use crate::run::{NAME, refused, status};
+use mach_cli::Escaped;
 use mach_fat_writer::{FileRefusal, Form, MakeRefusal, create, remove, replace};
 use std::alloc::Global;
 use std::io::Write;
@@ -146,6 +147,7 @@ fn given_name<'a>(names: &[&'a str], index: usize) -> &'a str
 pub fn one_file<E: Write>(file: &str, target: &str, err: &mut E) -> u8
     ensures { result ≡ 2 }
 {
+    let (file, target) = (Escaped(file), Escaped(target));
     let _ = writeln!(err, "{NAME}: {file} and {target} are one file");
     2
 }

@@ -10,6 +10,7 @@
 // Fat files: taken apart, made, and listed.
 mod entry;
 mod json;
+mod laws;
 mod made;
 mod members;
 mod new_file;
@@ -22,22 +23,30 @@ mod verify;
 // What is listed of an archive: a line for each member, and one for each symbol of its index.
 mod archive;
 
+ghost use Rattle.std.specs.Prelude.{◌≡◌, if◌then◌else◌};
+ghost use Rattle.mach_fat_writer.specs.declared.form.Form.TheVariants.{Bits32, Bits64};
+
 use json::run_list_json;
-use mach_cli::{Misuse, Program, Round, cputype_in, take_json};
+use mach_cli::{
+    Call, Cpu, Files, Misuse, Others, Program, ShowsFile, Titled, Word, cputype_in, take_json,
+};
 use mach_fat_writer::Form;
 use made::{one_file, run_create, run_remove, run_replace};
 use members::run_members;
 use new_file::is_same_file;
 use run::{NAME, run_extract, run_list};
-use std::alloc::{AllocError, Global};
+use std::alloc::{AllocError, Allocator, Global};
 use std::io;
-use std::io::BufWriter;
+use std::io::{BufWriter, Write};
 use std::process::ExitCode;
 use thin::run_thin;
 use verify::run_verify;
 
 // The option by which a fat file of 64 bits is created.
 const WIDE: &str = "--fat64";
+
+// How many lines of a file are told, where no other limit is given.
+const DEFAULT_LIMIT: usize = 10_000_000;
 
 // What is printed of a file.
 #[derive(Clone, Copy)]
@@ -48,21 +57,29 @@ enum Shown {
     Members,
 }
 
+// What is asked for of each file: what is printed of it, and how many lines at most.
+#[derive(Clone, Copy)]
+struct Asked {
+    shown: Shown,
+    limit: usize,
+}
+
 const PROGRAM: Program = Program {
     name: NAME,
-    usage: "usage: machfat list [--json] FILE..
+    usage: "usage: machfat list [--json] [--limit N] [--names FILE] [-0] FILE..
        machfat extract FILE INDEX OUT
        machfat thin FILE 0xCPUTYPE OUT
-       machfat members FILE..
+       machfat members [--limit N] [--names FILE] [-0] FILE..
        machfat create [--fat64] OUT FILE..
        machfat replace FILE NEW OUT
        machfat remove FILE INDEX OUT
-       machfat verify FILE..
+       machfat verify [--limit N] [--names FILE] [-0] FILE..
        machfat -h | --help | --version
 ",
     version: "machfat 0.2.0\n",
-    has_limit: false,
+    has_limit: true,
     has_cpu: false,
+    has_files: true,
     known: &[
         "list",
         "extract",
@@ -73,8 +90,17 @@ const PROGRAM: Program = Program {
         "remove",
         "verify",
         "--help",
+        "--json",
+        "--limit",
+        "--names",
         "--version",
     ],
+};
+
+// The same for the words that write a file, which know none of its options.
+const FOR_WRITES: Program = Program {
+    known: &[],
+    ..PROGRAM
 };
 
 fn main(rt: HostRuntime) -> ExitCode {
@@ -90,26 +116,61 @@ fn start(rt: &HostRuntime) -> Result<u8, u8> {
     };
     let is_wide = take_option(&mut words);
     let call = PROGRAM.call(rt, &words)?;
-    match call.words.as_slice() {
-        [word, files @ ..] if is_json && *word == "list" && !is_wide => show_files(
+    let [word, given @ ..] = call.words.as_slice() else {
+        return Err(PROGRAM.bad_usage(rt, Misuse::Missing("word")));
+    };
+    match shown_by(word, is_json) {
+        Some(shown) if !is_wide => show_files(
             rt,
-            Shown::Object,
-            files,
+            Asked {
+                shown,
+                limit: call.limit.unwrap_or(DEFAULT_LIMIT),
+            },
+            given,
+            &call.others,
         ),
-        _ if is_json => Err(PROGRAM.bad_usage(rt, Misuse::UnknownOption("--json"))),
-        [word, given @ ..] if *word == "create" => create_file(rt, form_for(is_wide), given),
-        _ if is_wide => Err(PROGRAM.bad_usage(rt, Misuse::UnknownOption(WIDE))),
-        [] => Err(PROGRAM.bad_usage(rt, Misuse::Missing("word"))),
-        [word, files @ ..] if *word == "list" => show_files(rt, Shown::Records, files),
-        [word, files @ ..] if *word == "verify" => show_files(rt, Shown::Faults, files),
-        [word, files @ ..] if *word == "members" => show_files(rt, Shown::Members, files),
-        [word, given @ ..] => write_file(rt, word, given),
+        _ => match misplaced(&call, is_json, is_wide && *word != "create") {
+            Some(misuse) => Err(FOR_WRITES.bad_usage(rt, misuse)),
+            None => write_file(rt, word, form_for(is_wide), given),
+        },
     }
 }
 
-// Writes what a word asks for of a fat file, whose name is the first of those that are given; the last is that of what is written.
-fn write_file(rt: &HostRuntime, word: &str, given: &[&str]) -> Result<u8, u8> {
+// What is shown of files, if a word asks for that.
+fn shown_by(word: &str, is_json: bool) -> Option<Shown> {
     match word {
+        "list" if is_json => Some(Shown::Object),
+        "list" => Some(Shown::Records),
+        "verify" if !is_json => Some(Shown::Faults),
+        "members" if !is_json => Some(Shown::Members),
+        _ => None,
+    }
+}
+
+// An option of a call that the words which write a file don't know, or a word that is no text, if there is one.
+fn misplaced<'a>(call: &Call<'a, Global>, is_json: bool, is_wide: bool) -> Option<Misuse<'a>> {
+    if let Some(word) = call.others.no_texts.first() {
+        return Some(Misuse::NoText(*word));
+    }
+    let options = [
+        (is_json, "--json"),
+        (is_wide, WIDE),
+        (call.limit.is_some(), "--limit"),
+        (!call.others.lists.is_empty(), "--names"),
+        (call.others.ends_with_nul, "-0"),
+    ];
+    for (is_given, option) in options {
+        if is_given {
+            return Some(Misuse::UnknownOption(option));
+        }
+    }
+    None
+}
+
+// Writes what a word asks for. Of all but `create` the first of the names that are given is that of a fat file, and the last that of what is written.
+fn write_file(rt: &HostRuntime, word: &str, form: Form, given: &[&str]) -> Result<u8, u8> {
+    match word {
+        "create" => create_file(rt, form, given),
         "extract" => extract_entry(rt, given),
         "thin" => thin_file(rt, given),
         "replace" => replace_entries(rt, given),
@@ -118,33 +179,43 @@ fn write_file(rt: &HostRuntime, word: &str, given: &[&str]) -> Result<u8, u8> {
     }
 }
 
-// Prints what is asked for of files in order, and answers the worst status.
-fn show_files(rt: &HostRuntime, shown: Shown, files: &[&str]) -> Result<u8, u8> {
-    if files.is_empty() {
-        return Err(PROGRAM.bad_usage(rt, Misuse::Missing("FILE")));
-    }
-    let Ok(mut lines) = BufWriter::new(rt.alloc(), io::writer(rt)) else {
-        return Err(PROGRAM.out_of_memory(rt));
-    };
-    let mut round = Round::new(PROGRAM, files.len());
-    round.is_titled &= !matches!(shown, Shown::Object);
-    for file in files {
-        if let Some(bytes) = round.begin(rt, file, &mut lines)? {
-            let err = &mut rt.stderr();
-            let status = match shown {
-                Shown::Records => run_list(rt.alloc(), file, &bytes, &mut lines, err),
-                Shown::Object => run_list_json(rt.alloc(), file, &bytes, &mut lines, err),
-                Shown::Faults => run_verify(rt.alloc(), file, &bytes, &mut lines, err),
-                Shown::Members => run_members(rt.alloc(), file, &bytes, &mut lines, err),
-            };
-            round.end(status)?;
+impl<W: Write + Drop, B: Allocator> ShowsFile<BufWriter<W, B>> for Asked {
+    fn show(&self, rt: &HostRuntime, name: &str, bytes: &[u8], out: &mut BufWriter<W, B>) -> u8 {
+        let (alloc, limit, err) = (rt.alloc(), self.limit, &mut rt.stderr());
+        match self.shown {
+            Shown::Records => run_list(alloc, limit, name, bytes, out, err),
+            Shown::Object => run_list_json(alloc, limit, name, bytes, out, err),
+            Shown::Faults => run_verify(alloc, limit, name, bytes, out, err),
+            Shown::Members => run_members(alloc, limit, name, bytes, out, err),
         }
     }
-    Ok(round.worst)
+}
+
+// Prints what is asked for of files in order, and answers the worst status.
+fn show_files(
+    rt: &HostRuntime,
+    asked: Asked,
+    files: &[&str],
+    others: &Others<'_, Global>,
+) -> Result<u8, u8> {
+    if files.is_empty() && others.is_empty() {
+        return Err(PROGRAM.bad_usage(rt, Misuse::Missing("FILE")));
+    }
+    let output = Titled::new(rt.alloc(), io::writer(rt));
+    let Ok(mut lines) = BufWriter::new(rt.alloc(), output) else {
+        return Err(PROGRAM.out_of_memory(rt));
+    };
+    let shown = Files {
+        program: PROGRAM,
+        cpu: Cpu::Any,
+        has_titles: !matches!(asked.shown, Shown::Object),
+        has_parts: false,
+    };
+    shown.show(rt, &asked, files, others, &mut lines)
 }
 
 // Takes the option out of a call's words, where it stands before `--`, and answers whether it was there.
-fn take_option(words: &mut Vec<String>) -> bool {
+fn take_option(words: &mut Vec<Word>) -> bool {
     for index in 1..words.len() {
         match words[index].as_str() {
             "--" => return false,
@@ -159,7 +230,9 @@ fn take_option(words: &mut Vec<String>) -> bool {
 }
 
 // The form of a file that is created.
-fn form_for(is_wide: bool) -> Form {
+fn form_for(is_wide: bool) -> Form
+    ensures { result ≡ (if is_wide then Bits64 else Bits32) }
+{
     if is_wide { Form::Bits64 } else { Form::Bits32 }
 }
 

@@ -1,118 +1,146 @@
 //! The members and the symbols of archives, and what the entries of a fat file are.
 
-ghost use Rattle.std.specs.Prelude.{◌≡◌, ◌⊎◌, [], true, false, IfOk, IfErr, OnOk};
+ghost use Rattle.std.specs.Prelude.{◌≡◌, ◌≤◌, ◌⊎◌, [], true, false, Ok, Some, IfOk, IfErr};
 ghost use Rattle.std.specs.Io.Buffered.{writer_buffer, writer_contents};
 ghost use Rattle.std.specs.Io.KnownBytes.{Appends};
-ghost use Rattle.mach_fat_writer.specs.FatTables.{form_of};
+ghost use Rattle.mach_fat_writer.specs.FatTables.{fat_table_in, form_in, form_of};
 ghost use Rattle.mach_fat_writer.specs.Unfit.{entry_refusal_words};
-ghost use Rattle.machfat.specs.Written.{WritesWhole};
+ghost use Rattle.mach_cli.specs.Bounds.{most_items};
+ghost use Rattle.mach_cli.specs.Foreigners.{refused_kind};
 ghost use Rattle.mach_cli.specs.Statuses.{IsStatus};
 ghost use Rattle.machfat.specs.Members.{AreContentLines, AreEntryLines, AreFileLines};
-ghost use Rattle.machfat.specs.Refusals.{IsRefusal, RefusesTable, refusal_line};
-ghost use Rattle.machfat.specs.declared.refusal.Refusal.{Refusal};
+ghost use Rattle.machfat.specs.Refusals.{but_archive, refused_by, RefusesFile, RefusesMembers, RefusesUnwritten};
+ghost use Rattle.machfat.specs.Written.{WritesAs};
 
 use crate::archive::kind::begins_image;
-use crate::archive::print_archive;
-use crate::refusal::{Failure, Refusal};
-use crate::run::status;
+use crate::archive::{print_archive, print_refused};
+use crate::refusal::{Failure, Refusal, refused_by};
+use crate::run::told;
+use mach_archive::Archive;
+use mach_base::Error;
+use mach_cli::{Foreign, Outcome, most_items, refused_kind};
 use mach_fat_writer::{EntryRecord, EntryRefusal, Form};
 use std::alloc::{Allocator, Global};
 use std::io;
 use std::io::{BufWriter, Write};
 
-/// Prints a line for each member of an archive and each symbol of its index, or of each entry of a fat file, and answers the exit status: 0; 1
-/// where a line says that something is refused, or where the table of a fat file or memory is, and then `err` has a line that says why and `out`
-/// nothing; 2 or 141 where a write fails. But for that nothing is left in the buffer.
+/// Prints a line for each member of an archive and each symbol of its index, or of each entry of a fat file, no more than a limit together, and answers the
+/// exit status: 0; 1 where a line says that something is refused, or that there are more, or where the file or memory is refused, and then `err` has a line
+/// that says why and `out` nothing; 2 or 141 where a write fails. But for that nothing is left in the buffer.
 pub fn run_members<W: Write + Drop, B: Allocator, E: Write>(
     alloc: Global,
+    limit: usize,
     file: &str,
     bytes: &[u8],
     out: &mut BufWriter<W, B>,
     err: &mut E,
 ) -> u8
     ensures status { IsStatus result }
-    ensures whole { result ≡ 0 → WritesWhole (AreFileLines bytes.now) true (writer_contents W.contents out.old) (writer_contents W.contents out.new) }
-    ensures flushed { result ≡ 0 → writer_buffer out.new ≡ [] }
-    ensures refused { result ≡ 1 → WritesWhole (AreFileLines bytes.now) false (writer_contents W.contents out.old) (writer_contents W.contents out.new)
-        ⊎ ((refusal : Refusal) × RefusesTable bytes.now refusal × Appends (E.contents err.old) (E.contents err.new) (refusal_line file.now refusal)) }
+    ensures whole { result ≡ 0 → WritesAs (AreFileLines (most_items limit bytes.now) bytes.now) true (writer_contents W.contents out.old)
+        (writer_contents W.contents out.new) }
+    ensures refused { result ≡ 1 → WritesAs (AreFileLines (most_items limit bytes.now) bytes.now) false (writer_contents W.contents out.old)
+        (writer_contents W.contents out.new)
+        ⊎ RefusesFile (RefusesMembers bytes.now) file.now (writer_contents W.contents out.old) (writer_contents W.contents out.new)
+        (E.contents err.old) (E.contents err.new) }
+    ensures flushed { result ≤ 1 → writer_buffer out.new ≡ [] }
 {
-    match print_all(alloc, bytes, out) {
-        Ok(true) => 0,
-        Ok(false) => 1,
-        Err(failure) => status(Err(failure), file, "", err),
-    }
+    let answer = print_file(alloc, most_items(limit, bytes), bytes, out);
+    told(answer, file, out, err)
 }
 
-// Prints what is told of a file, hands on all that was gathered, and answers whether it is whole.
-fn print_all<W: Write + Drop, B: Allocator>(
+// Prints what is told of a file, no more than a limit, and answers whether it is whole.
+fn print_file<O: Write>(
     alloc: Global,
+    limit: usize,
     bytes: &[u8],
-    out: &mut BufWriter<W, B>,
+    out: &mut O,
 ) -> Result<bool, Failure>
-    ensures told { IfOk result (λ whole. WritesWhole (AreFileLines bytes.now) whole (writer_contents W.contents out.old) (writer_contents W.contents out.new)) }
-    ensures flushed { IfOk result (λ whole. writer_buffer out.new ≡ []) }
-    ensures refused { IfErr result (IsRefusal (RefusesTable bytes.now)) }
-{
-    let whole = print_file(alloc, bytes, out)?;
-    out.flush()?;
-    Ok(whole)
-}
-
-// Prints what is told of a file, and answers whether it is whole.
-fn print_file<O: Write>(alloc: Global, bytes: &[u8], out: &mut O) -> Result<bool, Failure>
-    ensures told { IfOk result (λ whole. WritesWhole (AreFileLines bytes.now) whole (O.contents out.old) (O.contents out.new)) }
-    ensures refused { IfErr result (IsRefusal (RefusesTable bytes.now)) }
+    ensures told { IfOk result (λ whole. WritesAs (AreFileLines limit bytes.now) whole (O.contents out.old) (O.contents out.new)) }
+    ensures refused { IfErr result (RefusesUnwritten (RefusesMembers bytes.now) (O.contents out.old) (O.contents out.new)) }
 {
     match Form::of(bytes) {
         Some(form) => {
             let records = table(alloc, form, bytes)?;
-            Ok(print_entries(bytes, &records, out)?)
+            Ok(print_entries(limit, bytes, &records, out)?.whole)
         }
-        None => Ok(print_archive(bytes, out)?),
+        None => match Archive::parse(bytes) {
+            Ok(archive) => Ok(print_archive(&archive, limit, limit, out)?.whole),
+            Err(error) => Err(Failure::Refused(refused(bytes, error))),
+        },
     }
 }
 
 // The records of a fat file of this form.
 fn table(alloc: Global, form: Form, bytes: &[u8]) -> Result<Vec<EntryRecord>, Refusal>
     ensures records { IfOk result (λ v. fat_table_in (form_of form) bytes.now ≡ Ok v.items) }
-    ensures refused { IfErr result (λ refusal. form_in bytes.now ≡ Some (form_of form) → RefusesTable bytes.now refusal) }
+    ensures refused { IfErr result (λ refusal. form_in bytes.now ≡ Some (form_of form) → RefusesMembers bytes.now refusal) }
 {
-    let records = form.records(alloc, bytes)?;
-    Ok(records)
+    match form.records(alloc, bytes) {
+        Ok(records) => Ok(records),
+        Err(error) => Err(refused(bytes, error)),
+    }
 }
 
-// Prints what is told of the entries of some records, in order, and answers whether it is whole.
-fn print_entries<O: Write>(bytes: &[u8], records: &[EntryRecord], out: &mut O) -> io::Result<bool>
-    ensures { IfOk result (λ whole. WritesWhole (AreEntryLines bytes.now records.now) whole (O.contents out.old) (O.contents out.new)) }
+// What is said of a file that is refused for an error: what it is, where its first bytes tell it, and it is no archive.
+fn refused(bytes: &[u8], error: Error) -> Refusal
+    ensures { result ≡ refused_by (but_archive (refused_kind bytes.now error)) error }
 {
-    let mut whole = true;
+    let kind = match refused_kind(bytes, &error) {
+        Some(Foreign::Archive) => None,
+        kind => kind,
+    };
+    refused_by(kind, error)
+}
+
+// Prints what is told of the entries of some records, in order, no more than a limit.
+fn print_entries<O: Write>(
+    limit: usize,
+    bytes: &[u8],
+    records: &[EntryRecord],
+    out: &mut O,
+) -> io::Result<Outcome>
+    ensures { IfOk result (λ outcome. WritesAs (AreEntryLines limit bytes.now records.now) outcome (O.contents out.old) (O.contents out.new)) }
+{
+    let mut outcome = Outcome {
+        whole: true,
+        left: limit,
+    };
     'records: for (index, arch) in records.iter().enumerate() {
         writeln!(out, "arch {index}")?;
-        whole &= print_content(bytes, index, arch, out)?;
+        let one = print_content(limit, outcome.left, bytes, index, arch, out)?;
+        outcome = Outcome {
+            whole: outcome.whole & one.whole,
+            left: one.left,
+        };
     }
-    Ok(whole)
+    Ok(outcome)
 }
 
-// Prints what is told of the entry of a record, and answers whether it is whole.
+// Prints what is told of the entry of a record, no more than is left of a limit.
 fn print_content<O: Write>(
+    limit: usize,
+    left: usize,
     bytes: &[u8],
     index: usize,
     arch: &EntryRecord,
     out: &mut O,
-) -> io::Result<bool>
-    ensures { IfOk result (λ whole. WritesWhole (AreContentLines bytes.now index arch.now) whole (O.contents out.old) (O.contents out.new)) }
+) -> io::Result<Outcome>
+    ensures { IfOk result (λ outcome. WritesAs (AreContentLines limit left bytes.now index arch.now) outcome (O.contents out.old) (O.contents out.new)) }
 {
     let Some(entry) = arch.slice(bytes) else {
         let refusal = EntryRefusal::OutOfFile(index);
         writeln!(out, "refused: {refusal}")?;
-        return Ok(false);
+        return Ok(Outcome { whole: false, left });
     };
     if begins_image(entry) {
         writeln!(out, "image")?;
-        return Ok(true);
+        return Ok(Outcome { whole: true, left });
     }
-    print_archive(entry, out)
+    match Archive::parse(entry) {
+        Ok(archive) => print_archive(&archive, limit, left, out),
+        Err(error) => {
+            let whole = print_refused("refused", &error, out)?;
+            Ok(Outcome { whole, left })
+        }
+    }
 }
-
-ghost use Rattle.mach_fat_writer.specs.FatTables.{fat_table_in, form_in};
-ghost use Rattle.std.specs.Prelude.{Ok, Some};

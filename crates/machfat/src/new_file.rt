@@ -1,8 +1,7 @@
 //! Bytes as a file of their own.
 
-ghost use Rattle.std.specs.Prelude.{◌≡◌, Option, MatchOption, OnOk, IfErr};
-ghost use Rattle.std.specs.Io.KnownBytes.{Appends};
-ghost use Rattle.machfat.specs.Entry.{WasWritten};
+ghost use Rattle.std.specs.Prelude.{◌≡◌, Option, MatchOption, OnOk, IfOk, IfErr};
+ghost use Rattle.machfat.specs.Entry.{Took, TookLast};
 ghost use Rattle.machfat.specs.Refusals.{IsRefusal, IsWant};
 ghost use Rattle.machfat.specs.Same.{is_one_file, is_one_node, AreOther, IsSame};
 
@@ -73,7 +72,7 @@ fn is_one_node(here: Option<Node>, there: Option<Node>) -> bool
     }
 }
 
-/// Writes bytes under another name beside the target, and renames it once it is whole. Until then the
+/// Writes bytes under another name beside the target, and renames it once it is whole; the file is the answer. Until then the
 /// target is as it was, and where a step fails it stays so and nothing is left beside it. No file is made where
 /// something other than a plain file has the target's name.
 pub fn place_file<R: Files>(
@@ -81,8 +80,8 @@ pub fn place_file<R: Files>(
     alloc: Global,
     bytes: &[u8],
     target: &str,
-) -> Result<(), Failure>
-    ensures written { OnOk result (WasWritten R.File.contents bytes.now) }
+) -> Result<R::File, Failure>
+    ensures written { IfOk result (λ file. TookLast R.File.contents file bytes.now) }
     ensures refused { IfErr result (IsRefusal IsWant) }
 {
     if !is_free(files, target) {
@@ -90,7 +89,7 @@ pub fn place_file<R: Files>(
     }
     let (name, file) = new_file(files, alloc, target)?;
     match complete(files, bytes, file, name.as_str(), target) {
-        Ok(()) => Ok(()),
+        Ok(file) => Ok(file),
         Err(failure) => {
             let _ = fs::remove_file(files, name.as_str());
             Err(failure)
@@ -130,7 +129,7 @@ fn taken() -> Failure
 
 // Writes bytes to a file, down to the disk.
 fn fill<F: Write + OpenFile>(bytes: &[u8], file: &mut F) -> Result<(), Failure>
-    ensures written { OnOk result (Appends (F.contents file.old) (F.contents file.new) bytes.now) }
+    ensures written { OnOk result (Took F.contents file.old file.new bytes.now) }
     ensures refused { IfErr result (IsRefusal IsWant) }
 {
     file.write_all(bytes)?;
@@ -139,19 +138,18 @@ fn fill<F: Write + OpenFile>(bytes: &[u8], file: &mut F) -> Result<(), Failure>
     Ok(())
 }
 
-// Writes bytes to a new file, closes it, and gives it the name of the target.
+// Writes bytes to a new file, and nothing else, and gives it the name of the target. The file is the answer.
 fn complete<R: Files>(
     files: &R,
     bytes: &[u8],
     mut file: R::File,
     name: &str,
     target: &str,
-) -> Result<(), Failure>
-    ensures written { OnOk result (WasWritten R.File.contents bytes.now) }
+) -> Result<R::File, Failure>
+    ensures written { IfOk result (λ filled. Took R.File.contents file filled bytes.now) }
     ensures refused { IfErr result (IsRefusal IsWant) }
 {
     fill(bytes, &mut file)?;
-    drop(file);
     fs::rename(files, name, target)?;
-    Ok(())
+    Ok(file)
 }

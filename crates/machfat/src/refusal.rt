@@ -1,6 +1,7 @@
 //! Why an answer is not given.
 
 ghost use Rattle.std.specs.Prelude.{◌≡◌};
+ghost use Rattle.machfat.specs.Refusals.{refused_by};
 ghost use Rattle.machfat.specs.declared.refusal.Refusal.TheVariants as refusals;
 ghost use Rattle.machfat.specs.declared.refusal.Failure.TheVariants as failures;
 
@@ -53,6 +54,16 @@ impl Display for Refusal {
             Refusal::NotFat => write!(f, "not a fat file"),
             Refusal::Entries(refusal) => write!(f, "{refusal}"),
         }
+    }
+}
+
+/// What is said of a file that is refused for an error: what it is, where that is known.
+pub fn refused_by(kind: Option<Foreign>, error: Error) -> Refusal
+    ensures { result ≡ refused_by kind error }
+{
+    match kind {
+        Some(kind) => Refusal::Foreign(kind),
+        None => Refusal::Refused(error),
     }
 }
 

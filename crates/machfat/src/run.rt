@@ -1,23 +1,22 @@
 //! What the program's words do, and its exit status.
 
-ghost use Rattle.std.specs.Prelude.{◌≡◌, ◌≤◌, [], ℕ, List, IsOk, OnOk, IfErr, Ok, Err};
+ghost use Rattle.std.specs.Prelude.{◌≡◌, ◌≤◌, ◌⊎◌, [], ℕ, List, true, false, IsOk, IfOk, IfErr, Ok, Err};
 ghost use Rattle.std.specs.Io.Buffered.{writer_buffer, writer_contents};
-ghost use Rattle.std.specs.Io.KnownBytes.{Appends};
+ghost use Rattle.std.specs.Io.KnownBytes.{Appends, Keeps};
 ghost use Rattle.mach_fat_writer.specs.Changes.{fat_records_in, indexed_entry_in};
-ghost use Rattle.mach_fat_writer.specs.declared.entry_record.EntryRecord.{EntryRecord};
+ghost use Rattle.mach_cli.specs.Bounds.{most_items};
 ghost use Rattle.mach_cli.specs.Statuses.{IsStatus};
-ghost use Rattle.machfat.specs.Entry.{WasWritten};
-ghost use Rattle.machfat.specs.Lines.{records_from};
-ghost use Rattle.machfat.specs.Refusals.{Refuses, IsRefusal, refusal_line};
-ghost use Rattle.machfat.specs.declared.entry.ListForm.TheVariants as forms;
+ghost use Rattle.machfat.specs.Entry.{TookLast, WasWritten};
+ghost use Rattle.machfat.specs.Lines.{TellsList};
+ghost use Rattle.machfat.specs.Refusals.{Refuses, RefusesFile, IsRefusal, refusal_line};
 ghost use Rattle.machfat.specs.declared.refusal.Failure.TheVariants as failures;
 ghost use Rattle.machfat.specs.declared.refusal.Refusal.{Refusal};
 
 use crate::entry::{entry_bytes, list};
 use crate::new_file::place_file;
 use crate::refusal::{Failure, Refusal};
-use mach_cli::Names;
 use mach_cli::output::failed;
+use mach_cli::{Names, most_items};
 use std::alloc::{Allocator, Global};
 use std::io::{BufWriter, Write};
 use std::rt::Files;
@@ -25,39 +24,53 @@ use std::rt::Files;
 /// The program's name.
 pub const NAME: &str = "machfat";
 
-/// Prints the records of a fat file, and answers the exit status: 0; 1 where the file or memory is refused, and
-/// then `err` has a line that says why and `out` nothing; 2 or 141 where a write fails. At 0 nothing is left in the buffer.
+/// Prints the records of a fat file, of which no more than a limit are told, and answers the exit status: 0; 1 where there are more, or where the file or
+/// memory is refused, and then `err` has a line that says why and `out` nothing; 2 or 141 where a write fails. But for that nothing is left in the buffer.
 pub fn run_list<A: Allocator, W: Write + Drop, B: Allocator, E: Write>(
     alloc: A,
+    limit: usize,
     file: &str,
     bytes: &[u8],
     out: &mut BufWriter<W, B>,
     err: &mut E,
 ) -> u8
     ensures status { IsStatus result }
-    ensures listed { result ≡ 0 → (records : List EntryRecord) × (fat_records_in bytes.now ≡ Ok records)
-        × Appends (writer_contents W.contents out.old) (writer_contents W.contents out.new) (records_from forms.Lines bytes.now 0 records) }
-    ensures flushed { result ≡ 0 → writer_buffer out.new ≡ [] }
-    ensures refused { result ≡ 1 → (refusal : Refusal) × Refuses bytes.now (fat_records_in bytes.now) refusal
-        × Appends (E.contents err.old) (E.contents err.new) (refusal_line file.now refusal) }
+    ensures listed { result ≡ 0
+        → TellsList (most_items limit bytes.now) bytes.now true (writer_contents W.contents out.old) (writer_contents W.contents out.new) }
+    ensures refused { result ≡ 1
+        → TellsList (most_items limit bytes.now) bytes.now false (writer_contents W.contents out.old) (writer_contents W.contents out.new)
+        ⊎ RefusesFile (Refuses bytes.now (fat_records_in bytes.now)) file.now (writer_contents W.contents out.old) (writer_contents W.contents out.new)
+        (E.contents err.old) (E.contents err.new) }
+    ensures flushed { result ≤ 1 → writer_buffer out.new ≡ [] }
 {
-    status(list_all(alloc, bytes, out), file, "", err)
+    let answer = list(alloc, most_items(limit, bytes), bytes, out);
+    told(answer, file, out, err)
 }
 
-// Prints the list, and hands on all that was gathered.
-fn list_all<A: Allocator, W: Write + Drop, B: Allocator>(
-    alloc: A,
-    bytes: &[u8],
+/// The exit status of what was told of a file, which is whole or not, or of why it wasn't, which `err` tells. All that was gathered is written
+/// before.
+pub fn told<W: Write + Drop, B: Allocator, E: Write>(
+    answer: Result<bool, Failure>,
+    file: &str,
     out: &mut BufWriter<W, B>,
-) -> Result<(), Failure>
-    ensures listed { OnOk result ((records : List EntryRecord) × (fat_records_in bytes.now ≡ Ok records)
-        × Appends (writer_contents W.contents out.old) (writer_contents W.contents out.new) (records_from forms.Lines bytes.now 0 records)) }
-    ensures flushed { OnOk result (writer_buffer out.new ≡ []) }
-    ensures refused { IfErr result (IsRefusal (Refuses bytes.now (fat_records_in bytes.now))) }
+    err: &mut E,
+) -> u8
+    ensures bound { IsStatus result }
+    ensures whole { result ≡ 0 → answer ≡ Ok true }
+    ensures refused { result ≡ 1 → (answer ≡ Ok false) ⊎ ((refusal : Refusal) × (answer ≡ Err (failures.Refused refusal))
+        × Appends (E.contents err.old) (E.contents err.new) (refusal_line file.now refusal)) }
+    ensures kept { result ≤ 1 → Keeps (writer_contents W.contents out.old) (writer_contents W.contents out.new) }
+    ensures flushed { result ≤ 1 → writer_buffer out.new ≡ [] }
 {
-    list(alloc, bytes, out)?;
-    out.flush()?;
-    Ok(())
+    if let Err(error) = out.flush() {
+        return failed(NAME, "", error, err);
+    }
+    match answer {
+        Ok(true) => 0,
+        Ok(false) => 1,
+        Err(Failure::Refused(refusal)) => refused(file, &refusal, err),
+        Err(Failure::Unwritten(error)) => failed(NAME, "", error, err),
+    }
 }
 
 /// Writes an entry to a file, and answers the exit status: 0; 1 where there is no such entry, or for want of
@@ -85,32 +98,36 @@ pub fn run_extract<R: Files, E: Write>(
     )
 }
 
-// Writes an entry to a file. No file is made where there is no such entry.
+// Writes an entry to a file, which is the answer. No file is made where there is no such entry.
 fn extract<R: Files>(
     files: &R,
     alloc: Global,
     bytes: &[u8],
     index: usize,
     target: &str,
-) -> Result<(), Failure>
-    ensures extracted { OnOk result ((entry : List ℕ) × (indexed_entry_in bytes.now index ≡ Ok entry) × WasWritten R.File.contents entry) }
+) -> Result<R::File, Failure>
+    ensures extracted { IfOk result (λ file. (entry : List ℕ) × (indexed_entry_in bytes.now index ≡ Ok entry)
+        × TookLast R.File.contents file entry) }
     ensures refused { IfErr result (IsRefusal (Refuses bytes.now (indexed_entry_in bytes.now index))) }
 {
-    let entry = entry_bytes(bytes, index)?;
-    place_file(files, alloc, entry, target)?;
-    Ok(())
+    let entry = entry_bytes(alloc, bytes, index)?;
+    place_file(files, alloc, entry, target)
 }
 
-/// The exit status of an answer of a file, whose reason goes to `err`; of a failed write with the name of the target, if it
-/// has one.
-pub fn status<E: Write>(answer: Result<(), Failure>, file: &str, target: &str, err: &mut E) -> u8
+/// The exit status of a file that was written, or of why it wasn't, which goes to `err`: of a failed write with the name of the target.
+pub fn status<F: Drop, E: Write>(
+    answer: Result<F, Failure>,
+    file: &str,
+    target: &str,
+    err: &mut E,
+) -> u8
     ensures bound { IsStatus result }
     ensures only { result ≡ 0 → IsOk answer }
     ensures refused { result ≡ 1 → (refusal : Refusal) × (answer ≡ Err (failures.Refused refusal))
         × Appends (E.contents err.old) (E.contents err.new) (refusal_line file.now refusal) }
 {
     match answer {
-        Ok(()) => 0,
+        Ok(_) => 0,
         Err(Failure::Refused(refusal)) => refused(file, &refusal, err),
         Err(Failure::Unwritten(error)) => failed(NAME, target, error, err),
     }

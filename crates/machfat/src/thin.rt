@@ -1,10 +1,10 @@
 //! An entry of a fat file that is written by its cpu.
 
-ghost use Rattle.std.specs.Prelude.{◌≡◌, ℕ, List, Ok, OnOk, IfOk, IfErr};
+ghost use Rattle.std.specs.Prelude.{◌≡◌, ℕ, List, Ok, IfOk, IfErr};
 ghost use Rattle.std.specs.Io.KnownBytes.{Appends};
 ghost use Rattle.mach_fat_writer.specs.Changes.{thin_entry_in};
 ghost use Rattle.mach_cli.specs.Statuses.{IsStatus};
-ghost use Rattle.machfat.specs.Entry.{WasWritten};
+ghost use Rattle.machfat.specs.Entry.{TookLast, WasWritten};
 ghost use Rattle.machfat.specs.Refusals.{IsRefusal, RefusesPlainly, refusal_line};
 ghost use Rattle.machfat.specs.Same.{IsOther};
 ghost use Rattle.machfat.specs.declared.refusal.Refusal.{Refusal};
@@ -56,18 +56,17 @@ fn entry_of_cpu(alloc: Global, bytes: &[u8], cputype: u32) -> Result<&[u8], Refu
     Ok(entry)
 }
 
-// Writes the first entry of a cputype to a file. No file is made where there is no such entry.
+// Writes the first entry of a cputype to a file, which is the answer. No file is made where there is no such entry.
 fn thin<R: Files>(
     files: &R,
     alloc: Global,
     bytes: &[u8],
     cputype: u32,
     target: &str,
-) -> Result<(), Failure>
-    ensures thinned { OnOk result ((entry : List ℕ) × (thin_entry_in bytes.now cputype ≡ Ok entry) × WasWritten R.File.contents entry) }
+) -> Result<R::File, Failure>
+    ensures thinned { IfOk result (λ file. (entry : List ℕ) × (thin_entry_in bytes.now cputype ≡ Ok entry) × TookLast R.File.contents file entry) }
     ensures refused { IfErr result (IsRefusal (RefusesPlainly (thin_entry_in bytes.now cputype))) }
 {
     let entry = entry_of_cpu(alloc, bytes, cputype)?;
-    place_file(files, alloc, entry, target)?;
-    Ok(())
+    place_file(files, alloc, entry, target)
 }

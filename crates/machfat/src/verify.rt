@@ -1,66 +1,61 @@
 //! The faults of a fat file's layout.
 
-ghost use Rattle.std.specs.Prelude.{◌≡◌, ◌⊎◌, [], ◌∷◌, List, OnOk, IfOk, IfErr};
+ghost use Rattle.std.specs.Prelude.{◌≡◌, ◌≤◌, ◌⊎◌, [], ◌∷◌, List, OnOk, IfOk, IfErr};
 ghost use Rattle.std.specs.Io.Buffered.{writer_buffer, writer_contents};
 ghost use Rattle.std.specs.Io.KnownBytes.{Appends};
-ghost use Rattle.mach_base.specs.Answer.{Stands};
 ghost use Rattle.mach_parts.specs.FatRecords.{HasFat64Magic};
 ghost use Rattle.goblin_mach.specs.File.{HasFatMagic};
 ghost use Rattle.mach_layout.specs.declared.fault.LayoutFault.{LayoutFault};
+ghost use Rattle.mach_cli.specs.Bounds.{most_items};
 ghost use Rattle.mach_cli.specs.Statuses.{IsStatus};
 ghost use Rattle.machfat.specs.Faults.{HasFatFaults, TellsFatFaults, fault_lines, is_faultless, table_fault_line};
-ghost use Rattle.machfat.specs.Refusals.{FatFault, RefusesFaults, IsRefusal, refusal_line};
-ghost use Rattle.machfat.specs.declared.refusal.Refusal.{Refusal};
+ghost use Rattle.machfat.specs.Refusals.{RefusesFaults, RefusesFile, RefusesUnwritten};
 
-use crate::refusal::{Failure, Refusal};
-use crate::run::status;
+use crate::entry::first_of;
+use crate::refusal::{Failure, Refusal, refused_by};
+use crate::run::told;
 use goblin_mach::fat::FatArch;
-use goblin_mach::{Error, Mach, MultiArch64, peek};
-use mach_cli::refused_kind;
+use goblin_mach::{Mach, MultiArch64, peek};
+use mach_cli::{most_items, print_cut, refused_kind};
 use mach_layout::{LayoutFault, container_faults};
 use mach_parts::{FAT_MAGIC_64, FatArch64};
 use std::alloc::{Allocator, Global};
 use std::io;
 use std::io::{BufWriter, Write};
 
-/// Prints the faults of a fat file's layout, a line each, and answers the exit status: 0 where there is none; 1 where there is one, or where
-/// the file or memory is refused, and then `err` has a line that says why and `out` nothing; 2 or 141 where a write fails. At 0 nothing is left
-/// in the buffer.
+/// Prints the faults of a fat file's layout, a line each, of which no more than a limit are told, and answers the exit status: 0 where there is none; 1 where
+/// there is one, or where the file or memory is refused, and then `err` has a line that says why and `out` nothing; 2 or 141 where a write fails. But for
+/// that nothing is left in the buffer.
 pub fn run_verify<W: Write + Drop, B: Allocator, E: Write>(
     alloc: Global,
+    limit: usize,
     file: &str,
     bytes: &[u8],
     out: &mut BufWriter<W, B>,
     err: &mut E,
 ) -> u8
     ensures status { IsStatus result }
-    ensures sound { result ≡ 0 → TellsFatFaults bytes.now [] (writer_contents W.contents out.old) (writer_contents W.contents out.new) }
-    ensures flushed { result ≡ 0 → writer_buffer out.new ≡ [] }
-    ensures faulty { result ≡ 1 → ((fault : LayoutFault) × (faults : List LayoutFault)
-        × TellsFatFaults bytes.now (fault ∷ faults) (writer_contents W.contents out.old) (writer_contents W.contents out.new))
-        ⊎ ((refusal : Refusal) × RefusesFaults bytes.now refusal × Appends (E.contents err.old) (E.contents err.new) (refusal_line file.now refusal)) }
+    ensures sound { result ≡ 0
+        → TellsFatFaults (most_items limit bytes.now) bytes.now [] (writer_contents W.contents out.old) (writer_contents W.contents out.new) }
+    ensures faulty { result ≡ 1 → ((fault : LayoutFault) × (faults : List LayoutFault) × TellsFatFaults (most_items limit bytes.now) bytes.now (fault ∷ faults)
+        (writer_contents W.contents out.old) (writer_contents W.contents out.new))
+        ⊎ RefusesFile (RefusesFaults bytes.now) file.now (writer_contents W.contents out.old) (writer_contents W.contents out.new)
+        (E.contents err.old) (E.contents err.new) }
+    ensures flushed { result ≤ 1 → writer_buffer out.new ≡ [] }
 {
-    match verify(alloc, bytes, out) {
-        Ok(true) => 0,
-        Ok(false) => 1,
-        Err(failure) => status(Err(failure), file, "", err),
-    }
+    let answer = verify(alloc, most_items(limit, bytes), bytes, out);
+    told(answer, file, out, err)
 }
 
-// Prints the faults, hands on all that was gathered, and answers whether there is none.
-fn verify<W: Write + Drop, B: Allocator>(
-    alloc: Global,
-    bytes: &[u8],
-    out: &mut BufWriter<W, B>,
-) -> Result<bool, Failure>
+// Prints the faults, no more than a limit, and answers whether there is none.
+fn verify<O: Write>(alloc: Global, limit: usize, bytes: &[u8], out: &mut O) -> Result<bool, Failure>
     ensures told { IfOk result (λ sound. (faults : List LayoutFault) × (sound ≡ is_faultless faults)
-        × TellsFatFaults bytes.now faults (writer_contents W.contents out.old) (writer_contents W.contents out.new)) }
-    ensures flushed { IfOk result (λ sound. writer_buffer out.new ≡ []) }
-    ensures refused { IfErr result (IsRefusal (RefusesFaults bytes.now)) }
+        × TellsFatFaults limit bytes.now faults (O.contents out.old) (O.contents out.new)) }
+    ensures refused { IfErr result (RefusesUnwritten (RefusesFaults bytes.now) (O.contents out.old) (O.contents out.new)) }
 {
     let faults = fat_faults(alloc, bytes)?;
-    print_faults(&faults, out)?;
-    out.flush()?;
+    print_faults(first_of(&faults, limit), out)?;
+    print_cut(limit, faults.len() > limit, out)?;
     Ok(faults.is_empty())
 }
 
@@ -93,7 +88,7 @@ fn wide_faults(alloc: Global, bytes: &[u8]) -> Result<Vec<LayoutFault>, Refusal>
 {
     match MultiArch64::new(alloc, bytes) {
         Ok(_) => Ok(container_faults::<FatArch64, Global>(alloc, bytes)?),
-        Err(error) => Err(refusal(bytes, error)),
+        Err(error) => Err(refused_by(refused_kind(bytes, &error), error)),
     }
 }
 
@@ -106,17 +101,7 @@ fn test_fat(alloc: Global, bytes: &[u8]) -> Result<(), Refusal>
     match Mach::parse(alloc, bytes) {
         Ok(Mach::Fat(_)) => Ok(()),
         Ok(Mach::Binary(_)) => Err(Refusal::NotFat),
-        Err(error) => Err(refusal(bytes, error)),
-    }
-}
-
-// Why a file that doesn't open for this error is refused.
-fn refusal(bytes: &[u8], error: Error) -> Refusal
-    ensures { Stands (FatFault bytes.now) error → RefusesFaults bytes.now result }
-{
-    match refused_kind(bytes, &error) {
-        Some(kind) => Refusal::Foreign(kind),
-        None => Refusal::Refused(error),
+        Err(error) => Err(refused_by(refused_kind(bytes, &error), error)),
     }
 }
 

@@ -7,12 +7,13 @@ ghost use Rattle.mach_archive.specs.ArchiveViews.{archive_of, member_read, membe
 ghost use Rattle.mach_cli.specs.Listings.{text_answer};
 ghost use Rattle.machfat.specs.MemberLines.{member_faults, member_front, member_item, member_line, member_name_end, member_numbers_text};
 ghost use Rattle.machfat.specs.MemberLines.{member_place_text, number_or_dash, octal_or_dash, is_whole_member, AreMemberLines, MemberTold};
-ghost use Rattle.machfat.specs.Written.{WritesWhole};
+ghost use Rattle.machfat.specs.Written.{WritesAs};
 
 use crate::archive::kind::entry_kind;
 use crate::archive::{print_name_end, print_refused};
 use mach_archive::{Archive, Member};
 use mach_base::{Result, describe};
+use mach_cli::Told;
 use std::fmt::{Display, Formatter, Write};
 use std::{fmt, io};
 
@@ -138,15 +139,31 @@ fn print_answer<O: io::Write>(
     }
 }
 
-/// Prints a line for each of an archive's members, in order, up to the first fault, and for this, and answers whether none of them tells one.
-pub fn print_members<O: io::Write>(archive: &Archive<'_>, out: &mut O) -> io::Result<bool>
-    ensures { IfOk result (λ whole. WritesWhole (AreMemberLines (archive_of archive.now)) whole (O.contents out.old) (O.contents out.new)) }
+/// Prints a line for each of an archive's members, in order, up to the first fault, and for this, no more than `left`; and answers whether none of them
+/// tells one, how many lines are left, and whether there are more.
+pub fn print_members<O: io::Write>(
+    archive: &Archive<'_>,
+    left: usize,
+    out: &mut O,
+) -> io::Result<Told>
+    ensures { IfOk result (λ t. WritesAs (AreMemberLines (archive_of archive.now) left) t (O.contents out.old) (O.contents out.new)) }
 {
     let mut whole = true;
     let mut number = 0;
     'members: for answer in archive.members() {
+        if number == left {
+            return Ok(Told {
+                left: 0,
+                whole,
+                more: true,
+            });
+        }
         whole &= print_answer(number, answer, out)?;
         number += 1;
     }
-    Ok(whole)
+    Ok(Told {
+        left: left - number,
+        whole,
+        more: false,
+    })
 }

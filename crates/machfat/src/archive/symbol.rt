@@ -1,6 +1,6 @@
 //! The lines of the symbols of an archive's index.
 
-ghost use Rattle.std.specs.Prelude.{◌≡◌, Ok, Some, IfOk};
+ghost use Rattle.std.specs.Prelude.{◌≡◌, map, Ok, Some, IfOk};
 ghost use Rattle.std.specs.Io.KnownBytes.{Appends};
 ghost use Rattle.mach_base.specs.Answer.{Reads};
 ghost use Rattle.mach_base.specs.declared.error.Error.{Error};
@@ -9,12 +9,13 @@ ghost use Rattle.mach_archive.specs.ArchiveViews.{archive_of, archive_symbol_rea
 ghost use Rattle.mach_archive.specs.IndexSymbols.{AreIndexSymbols};
 ghost use Rattle.mach_archive.specs.MemberNames.{text_or_fault};
 ghost use Rattle.machfat.specs.SymbolLines.{item_of_member, symbol_at_text, told_symbol_faults, symbol_item, symbol_line, is_whole_symbol};
-ghost use Rattle.machfat.specs.SymbolLines.{AreIndexLines, SymbolTold, WritesItems};
-ghost use Rattle.machfat.specs.Written.{WritesWhole};
+ghost use Rattle.machfat.specs.SymbolLines.{AreIndexLines, SymbolTold};
+ghost use Rattle.machfat.specs.Written.{AreItemLines, WritesAs};
 
 use crate::archive::{print_name_end, print_refused};
 use mach_archive::{Archive, ArchiveSymbol, ArchiveSymbols};
 use mach_base::{Error, Result, ScrollError, describe};
+use mach_cli::Told;
 use std::fmt::{Display, Formatter, Write};
 use std::{fmt, io};
 
@@ -108,29 +109,54 @@ fn print_answer<O: io::Write>(
     }
 }
 
-// Prints a line for each symbol that is left, in order, up to the first fault, and for this, and answers whether none of them tells one.
+// Prints a line for each of the symbols, in order, up to the first fault, and for this, no more than `left`; and answers whether none of them tells one, how
+// many lines are left, and whether there are more.
 fn print_items<O: io::Write>(
     archive: &Archive<'_>,
     symbols: ArchiveSymbols<'_>,
+    left: usize,
     out: &mut O,
-) -> io::Result<bool>
-    ensures { IfOk result (λ whole. WritesItems (archive_of archive.now) (archive_symbols_left symbols.entry) whole (O.contents out.old) (O.contents out.new)) }
+) -> io::Result<Told>
+    ensures { IfOk result (λ t. WritesAs (λ text t. AreItemLines told_symbol_faults symbol_line is_whole_symbol left
+        (map (symbol_item (archive_of archive.now)) (archive_symbols_left symbols.entry)) text t) t (O.contents out.old) (O.contents out.new)) }
 {
     let mut whole = true;
+    let mut number = 0;
     'symbols: for answer in symbols {
+        if number == left {
+            return Ok(Told {
+                left: 0,
+                whole,
+                more: true,
+            });
+        }
         whole &= print_answer(archive, answer, out)?;
+        number += 1;
     }
-    Ok(whole)
+    Ok(Told {
+        left: left - number,
+        whole,
+        more: false,
+    })
 }
 
-/// Prints a line for each symbol of an archive's index, in order, up to the first fault, and for this; none, where it has no index; or why the index
-/// can't be read. Answers whether none of them tells a fault.
-pub fn print_symbols<O: io::Write>(archive: &Archive<'_>, out: &mut O) -> io::Result<bool>
-    ensures { IfOk result (λ whole. WritesWhole (AreIndexLines (archive_of archive.now)) whole (O.contents out.old) (O.contents out.new)) }
+/// Prints a line for each symbol of an archive's index, in order, up to the first fault, and for this, no more than `left`; none, where it has no index;
+/// or why the index can't be read. Answers whether none of them tells a fault, how many lines are left, and whether there are more.
+pub fn print_symbols<O: io::Write>(
+    archive: &Archive<'_>,
+    left: usize,
+    out: &mut O,
+) -> io::Result<Told>
+    ensures { IfOk result (λ t. WritesAs (AreIndexLines (archive_of archive.now) left) t (O.contents out.old) (O.contents out.new)) }
 {
-    match archive.symbols() {
-        Ok(Some(symbols)) => print_items(archive, symbols, out),
-        Ok(None) => Ok(true),
-        Err(error) => print_refused("symbols refused", &error, out),
-    }
+    let whole = match archive.symbols() {
+        Ok(Some(symbols)) => return print_items(archive, symbols, left, out),
+        Ok(None) => true,
+        Err(error) => print_refused("symbols refused", &error, out)?,
+    };
+    Ok(Told {
+        left,
+        whole,
+        more: false,
+    })
 }

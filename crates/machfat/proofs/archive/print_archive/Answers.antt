@@ -1,22 +1,29 @@
-use Rattle.std.proofs.Common.{◌++◌}
-use Rattle.std.proofs.lemmas.Result.{IfOk-weaker}
-use Rattle.mach_archive.specs.ArchiveViews.{archive_of}
+use Rattle.std.proofs.Common.{◌++◌, refl}
+use Rattle.std.specs.Prelude.{◌||◌}
 use Rattle.mach_base.proofs.Written.{Appends-both}
-use Rattle.machfat.specs.ArchiveLines.{an_archive, no_archive}
+use Rattle.mach_cli.specs.Listings.{cut_line}
 use Rattle.machfat.proofs.archive.print_archive.Goals as goal
 
-pub returns-in_ok-are_found-in-Ok : goal.returns-in_ok-are_found-in-Ok
-returns-in_ok-are_found-in-Ok g c =
-    let members = c.in_ok-are_read-in-Ok.ensures in
-    let symbols = c.in_ok-are_found-in-Ok.ensures in
+pub returns : goal.returns
+returns g c =
+    let members = c.in_ok-members.ensures in
+    let symbols = c.in_ok-symbols.ensures in
+    let first = c.in_ok-members.members in
+    let second = c.in_ok-symbols.symbols in
+    let cut = cut_line c.args.limit (first.more || second.more) in
     record {
-      text = members.text ++ symbols.text;
-      are_lines = an_archive (archive_of c.in-Ok.archive) members.text symbols.text _ _ c.in-Ok.ensures members.are_lines symbols.are_lines;
-      written = Appends-both _ _ _ members.text symbols.text members.written symbols.written;
+      text = members.text ++ (symbols.text ++ cut);
+      are_lines = record {
+        members = members.text;
+        symbols = symbols.text;
+        first = first;
+        second = second;
+        are_members = members.are_lines;
+        are_symbols = symbols.are_lines;
+        is_text = refl;
+        is_whole = refl;
+        is_left = refl;
+      };
+      written = Appends-both _ _ _ members.text (symbols.text ++ cut) members.written
+          (Appends-both _ _ _ symbols.text cut symbols.written c.in_ok-print_cut.ensures);
     }
-
-pub returns-in-Err : goal.returns-in-Err
-returns-in-Err g c =
-    IfOk-weaker c.print_refused.result _ _
-    (λ whole said. rw said.0 (record { text = _; are_lines = no_archive c.in-Err.error c.in-Err.ensures; written = said.1 }))
-    c.print_refused.ensures

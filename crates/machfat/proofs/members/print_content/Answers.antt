@@ -1,6 +1,7 @@
 use Rattle.std.proofs.Common.{◌∙◌, sym}
 use Rattle.std.proofs.lemmas.Result.{IfOk-weaker}
-use Rattle.machfat.specs.Members.{an_image, no_image, out_of_the_file}
+use Rattle.mach_archive.specs.ArchiveViews.{archive_of}
+use Rattle.machfat.specs.Members.{an_archive, an_image, no_archive, out_of_the_file}
 use Rattle.machfat.proofs.members.print_content.Goals as goal
 
 pub returns-in_default : goal.returns-in_default
@@ -13,13 +14,23 @@ returns-then-begins_image g c = record {
   written = c.in_ok-writeln-2.ensures.bytes;
 }
 
-pub returns : goal.returns
-returns g c =
+pub returns-in-Ok : goal.returns-in-Ok
+returns-in-Ok g c =
     IfOk-weaker c.print_archive.result _ _
-    (λ whole told. record {
+    (λ outcome told. record {
       text = told.text;
-      are_lines = no_image c.in-Some.entry.now told.text whole (sym c.in-Some.ensures) (sym c.begins_image.ensures ∙ c.if-begins_image.false)
-          told.are_lines;
+      are_lines = an_archive c.in-Some.entry.now told.text (archive_of c.in-Ok.archive) outcome (sym c.in-Some.ensures)
+          (sym c.begins_image.ensures ∙ c.if-begins_image.false) c.in-Ok.ensures told.are_lines;
       written = told.written;
     })
     c.print_archive.ensures
+
+pub returns-in_ok-whole-in-Err : goal.returns-in_ok-whole-in-Err
+returns-in_ok-whole-in-Err g c =
+    let said = c.in_ok-whole-in-Err.ensures in
+    rw said.0 (record {
+      text = _;
+      are_lines = no_archive c.in-Some.entry.now c.in-Err.error (sym c.in-Some.ensures) (sym c.begins_image.ensures ∙ c.if-begins_image.false)
+          c.in-Err.ensures;
+      written = said.1;
+    })

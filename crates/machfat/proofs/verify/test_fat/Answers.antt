@@ -1,7 +1,9 @@
+use Rattle.std.proofs.Common.{subst, sym}
 use Rattle.mach_base.proofs.Faults.{Stands-in}
 use Rattle.goblin_mach.specs.OpenImage.{commands_held}
 use Rattle.goblin_mach.specs.View.{of_file}
-use Rattle.machfat.specs.Refusals.{FatFault, in_view}
+use Rattle.machfat.specs.Refusals.{FatFault, RefusesFaults, in_view}
+use Rattle.machfat.proofs.Told.{refuses_faults}
 use Rattle.machfat.proofs.verify.test_fat.Goals as goal
 
 pub returns-in-Ok-Binary-clause-refused : goal.returns-in-Ok-Binary-clause-refused
@@ -11,5 +13,8 @@ returns-in-Ok-Binary-clause-refused c =
 
 pub returns-clause-refused : goal.returns-clause-refused
 returns-clause-refused c =
-    c.refusal.ensures
-    (Stands-in _ (FatFault c.args.bytes.now) c.in-Err.error (λ f fault. in_view f c.requires (of_file f fault)) c.in-Err.ensures.refused)
+    let bytes = c.args.bytes.now in
+    let e = c.in-Err.error in
+    subst (λ refusal. RefusesFaults bytes refusal) (sym c.refused_by.ensures)
+    (refuses_faults bytes c.refused_kind.result e
+    (Stands-in _ (FatFault bytes) e (λ f fault. in_view f c.requires (of_file f fault)) c.in-Err.ensures.refused) (sym c.refused_kind.ensures))

@@ -15,11 +15,11 @@ returns-in-Ok-Some g c =
     let are = subst (λ (found : Option ArchiveSymbols). IfSome found (λ it. AreIndexSymbols (table_left it) 0 (archive_symbols_left it)))
     c.in-Ok-Some.field-0-is c.in-Ok-Some.ensures.items in
     IfOk-weaker c.print_items.result _ _
-    (λ whole items. rw items.is_whole (record {
-      text = items.lines.text;
-      are_lines = symbols (table_left it) (archive_symbols_left it) items.lines.text table are items.lines.lines;
-      written = items.lines.written;
-    }))
+    (λ t told. record {
+      text = told.text;
+      are_lines = symbols (table_left it) (archive_symbols_left it) told.text t table are told.are_lines;
+      written = told.written;
+    })
     c.print_items.ensures
 
 pub returns-in-Ok-None : goal.returns-in-Ok-None
@@ -27,8 +27,7 @@ returns-in-Ok-None g c =
     let table = c.in-Ok-None.ensures.table ∙ ap (λ (found : Option ArchiveSymbols). Ok (option_map table_left found)) c.in-Ok-None.field-0-is in
     record { text = []; are_lines = no_index table; written = Appends-none (g.O.Write.contents c.args.out.now) }
 
-pub returns-in-Err : goal.returns-in-Err
-returns-in-Err g c =
-    IfOk-weaker c.print_refused.result _ _
-    (λ whole said. rw said.0 (record { text = _; are_lines = no_table c.in-Err.error c.in-Err.ensures.table; written = said.1 }))
-    c.print_refused.ensures
+pub returns-in_ok-whole-in-Err : goal.returns-in_ok-whole-in-Err
+returns-in_ok-whole-in-Err g c =
+    let said = c.in_ok-whole-in-Err.ensures in
+    rw said.0 (record { text = _; are_lines = no_table c.in-Err.error c.in-Err.ensures.table; written = said.1 })

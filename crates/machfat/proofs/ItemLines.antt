@@ -1,0 +1,72 @@
+-- The lines of items are one line each, whatever the names in them are.
+use Rattle.std.proofs.Common.{◌≡◌, ◌++◌, ℕ, List, Result, Option, Some, None, Ok, Err, true, false, codes, arith, refl, rules}
+use Rattle.std.specs.Fmt.{decimal, digits}
+use Rattle.mach_base.specs.Words.{words_of}
+use Rattle.mach_base.specs.declared.error.Error.{Error}
+use Rattle.mach_base.specs.declared.hint.Hint.{Hint}
+use Rattle.mach_base.specs.declared.hint.Hint.TheVariants as hints
+use Rattle.mach_archive.specs.Members.{MemberView}
+use Rattle.mach_cli.proofs.OneLine.{no_feeds, no_feed-printed, printed-digits, line-end, line-more}
+use Rattle.mach_cli.specs.Escapes.{IsOneLine, escaped_text, has_no_feed}
+use Rattle.mach_fat_writer.specs.declared.entry_record.EntryRecord.{EntryRecord}
+use Rattle.machfat.specs.Kinds.{entry_kind, hint_text}
+use Rattle.machfat.specs.Lines.{record_line, record_text}
+use Rattle.machfat.specs.MemberLines.{MemberTold, a_member, member_front, member_line, member_name_end, member_reason, name_reason, no_more_members}
+use Rattle.machfat.specs.MemberLines.{number_or_dash, octal_or_dash}
+use Rattle.machfat.specs.SymbolLines.{SymbolTold, a_symbol, no_more_symbols, of_no_member, of_no_name, symbol_at_text, symbol_line, symbol_reason}
+
+no_feed-hint : (hint : Hint) → has_no_feed (hint_text hint) ≡ true
+no_feed-hint hints.Archive = refl
+no_feed-hint (hints.Mach said) = refl
+no_feed-hint (hints.MachFat count) = refl
+no_feed-hint (hints.Unknown number) = refl
+
+no_feed-kind : (entry : List ℕ) → has_no_feed (entry_kind entry) ≡ true
+no_feed-kind entry = search (no_feeds, no_feed-hint, rules)
+
+no_feed-number : (n : Option ℕ) → has_no_feed (number_or_dash n) ≡ true
+no_feed-number (Some n) = search (no_feeds, rules)
+no_feed-number None = refl
+
+no_feed-digits_8 : (n : ℕ) → has_no_feed (digits 8 false n) ≡ true
+no_feed-digits_8 n = no_feed-printed (digits 8 false n) (printed-digits 8 false n (omega arith) (omega arith))
+
+no_feed-octal : (n : Option ℕ) → has_no_feed (octal_or_dash n) ≡ true
+no_feed-octal (Some n) = search (no_feeds, no_feed-digits_8, rules)
+no_feed-octal None = refl
+
+no_feed-record : (bytes : List ℕ) (r : EntryRecord) → has_no_feed (record_text bytes r) ≡ true
+no_feed-record bytes r = search (no_feeds, no_feed-kind, rules)
+
+no_feed-front : (number : ℕ) (m : MemberView) → has_no_feed (member_front number m) ≡ true
+no_feed-front number m = search (no_feeds, no_feed-kind, no_feed-number, no_feed-octal, rules)
+
+-- words at the end of a line, after others
+words_end : (front words : List ℕ) → has_no_feed front ≡ true → has_no_feed words ≡ true → IsOneLine (front ++ (words ++ codes "\n"))
+words_end front words before h = line-more front (words ++ codes "\n") before (line-end words h)
+
+pub one_record_line : (bytes : List ℕ) (i : ℕ) (r : EntryRecord) → IsOneLine (record_line bytes i r)
+one_record_line bytes i r =
+    line-end (codes "arch " ++ decimal i ++ codes ": " ++ record_text bytes r) (search (no_feeds, no_feed-record, rules))
+
+one_refused_line : (what words : List ℕ) → has_no_feed what ≡ true → has_no_feed words ≡ true → IsOneLine (what ++ (codes ": " ++ (words ++ codes "\n")))
+one_refused_line what words before h = line-more what (codes ": " ++ (words ++ codes "\n")) before (words_end (codes ": ") words refl h)
+
+one_name_end : (name : Result (List ℕ) Error) → has_no_feed (name_reason name) ≡ true → IsOneLine (member_name_end name)
+one_name_end (Ok name) h = words_end (codes "name ") (escaped_text name) refl (search (no_feeds, rules))
+one_name_end (Err e) h = words_end (codes "name refused: ") (words_of e) refl h
+
+pub one_member_line : (told : MemberTold Error) → has_no_feed (member_reason told) ≡ true → IsOneLine (member_line told)
+one_member_line (a_member number m name) h = line-more (member_front number m) (member_name_end name) (no_feed-front number m) (one_name_end name h)
+one_member_line (no_more_members e) h = one_refused_line (codes "refused") (words_of e) refl h
+
+pub one_symbol_line : (told : SymbolTold Error) → has_no_feed (symbol_reason told) ≡ true → IsOneLine (symbol_line told)
+one_symbol_line (a_symbol place name) h =
+    words_end (symbol_at_text place ++ codes ": ") (escaped_text name) (search (no_feeds, rules)) (search (no_feeds, rules))
+one_symbol_line (of_no_member place name e) h =
+    words_end (symbol_at_text place ++ (codes ", refused: " ++ (words_of e ++ codes ": "))) (escaped_text name) (search (no_feeds, h, rules))
+    (search (no_feeds, rules))
+one_symbol_line (of_no_name place e) h =
+    line-more (symbol_at_text place) (codes ", name refused: " ++ (words_of e ++ codes "\n")) (search (no_feeds, rules))
+    (words_end (codes ", name refused: ") (words_of e) refl h)
+one_symbol_line (no_more_symbols e) h = one_refused_line (codes "symbol refused") (words_of e) refl h
