@@ -1,5 +1,6 @@
 /* hostile CALL FILE makes a call of the library on a file as often as its list goes on, up to CALLS times or until SECONDS are over, and
-   prints how many rows it gave. Its caller holds it to a time and to memory. The status is 0, or 1 where the image is refused. */
+   prints how many rows it gave. Its caller holds it to a time and to memory. The status is 0, or 1 where the image is refused.
+   hostile all FILE.. makes all calls on each of these files, each up to FEW_CALLS times, and prints nothing. The status is 0. */
 #define _GNU_SOURCE
 #include "goblin_mach.h"
 #include <stdio.h>
@@ -7,15 +8,15 @@
 #include <string.h>
 #include <time.h>
 
-enum { ROWS = 1000, CALLS = 1000, SECONDS = 2 };
+enum { ROWS = 1000, CALLS = 1000, FEW_CALLS = 10, SECONDS = 2 };
 
 typedef struct { const uint8_t *bytes; size_t len; gm_image image; } given;
 
-static size_t calls;
+static size_t calls, most_calls = CALLS;
 static time_t begun;
 
 /* whether another call is to be made */
-static int goes_on(void) { return calls++ < CALLS && time(NULL) - begun <= SECONDS; }
+static int goes_on(void) { return calls++ < most_calls && time(NULL) - begun <= SECONDS; }
 
 /* the rows of a list that is called by number */
 #define NUMBERED(name, row, call) \
@@ -209,24 +210,48 @@ static const struct { const char *name; size_t (*call)(const given *); } all[] =
     CALL(tree), CALL(fixups), CALL(imports), CALL(bindings), CALL(weak_binds), CALL(rebases), CALL(function_starts), CALL(slots), CALL(slot_at),
     CALL(layout), CALL(signature), CALL(signature_faults)};
 
-int main(int count, char **words) {
-    given g = {0};
-    gm_error e;
-    FILE *file = count == 3 ? fopen(words[2], "rb") : NULL;
-    if (!file) {
-        for (size_t k = 0; count < 3 && k < sizeof all / sizeof *all; k++) puts(all[k].name);
-        return count < 3 ? 0 : 2;
-    }
+/* the bytes of a file, 4 MB of them at most; or none, where it can't be read */
+static int read_file(const char *name, given *g) {
     static uint8_t bytes[1 << 22];
-    g.bytes = bytes;
-    g.len = fread(bytes, 1, sizeof bytes, file);
+    FILE *file = fopen(name, "rb");
+    if (!file) return 0;
+    *g = (given){bytes, fread(bytes, 1, sizeof bytes, file), {0}};
     fclose(file);
+    return 1;
+}
+
+/* makes call k on a file; whether the image opens, where the call is one on images */
+static int make(size_t k, given *g, size_t *found, gm_error *e) {
+    int refused = k >= 8 && gm_open(g->bytes, g->len, 0, GM_STRICT, NULL, &g->image, e) && gm_open(g->bytes, g->len, 0, GM_LOSSY, NULL, &g->image, e);
+    calls = 0;
     begun = time(NULL);
+    if (!refused) *found = all[k].call(g);
+    return !refused;
+}
+
+static int make_all(int count, char **files) {
+    enum { KINDS = sizeof all / sizeof *all };
+    size_t found;
+    given g;
+    gm_error e;
+    most_calls = FEW_CALLS;
+    for (int i = 0; i < count; i++)
+        for (size_t k = 0; read_file(files[i], &g) && k < KINDS; k++) make(k, &g, &found, &e);
+    return 0;
+}
+
+int main(int count, char **words) {
+    given g;
+    gm_error e;
+    size_t found;
+    if (count >= 2 && !strcmp(words[1], "all")) return make_all(count - 2, words + 2);
+    for (size_t k = 0; count < 3 && k < sizeof all / sizeof *all; k++) puts(all[k].name);
+    if (count < 3) return 0;
+    if (count > 3 || !read_file(words[2], &g)) return 2;
     for (size_t k = 0; k < sizeof all / sizeof *all; k++) {
         if (strcmp(words[1], all[k].name)) continue;
-        int refused = k >= 8 && gm_open(g.bytes, g.len, 0, GM_STRICT, NULL, &g.image, &e) && gm_open(g.bytes, g.len, 0, GM_LOSSY, NULL, &g.image, &e);
-        if (refused) return printf("%s\n", e.text), 1;
-        return printf("%zu\n", all[k].call(&g)), 0;
+        if (!make(k, &g, &found, &e)) return printf("%s\n", e.text), 1;
+        return printf("%zu\n", found), 0;
     }
     return 2;
 }

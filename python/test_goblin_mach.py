@@ -68,9 +68,9 @@ def with_shared_node():
 
 
 def many_binds():
-    """An image whose binds have no end in a lifetime: one instruction says 2^55 of them."""
+    """An image whose binds have no end in a lifetime: one instruction says 2^55 of them. The program prints 2^17 at least."""
     count = bytes([0x80] * 7 + [0x40])  # 2^55, as ULEB128
-    return with_binds(b"\x11\x40_far\0\x51\x70\0" + b"\xc0" + count + b"\0" + b"\0")
+    return with_binds(b"\x11\x40_far\0\x51\x70\0" + b"\xc0" + count + b"\0" + bytes(1 << 17))
 
 
 def fat(*entries, count=None):
@@ -381,6 +381,19 @@ class Program(Case):
         for data in (b"", bytes(64), fat(bytes(64))):
             ran = run(["symbols", self.path(data)])
             self.assertEqual((ran.returncode, ran.stdout, ran.stderr.count(b"\n")), (1, b"", 1))
+
+    def test_what_is_past_the_end(self):
+        data = bytearray(with_symbols(b"_a", b"_b"))
+        data[44:48] = struct.pack("<I", (1 << 32) - 1)
+        ran = run(["symbols", self.path(data)])
+        there = len(range(56, len(data), 16))
+        self.assertEqual((ran.returncode, ran.stdout.count(b"\n")), (1, there))
+        self.assertEqual(ran.stderr, b"goblin_mach: %d more symbols past the end\n" % ((1 << 32) - 1 - there))
+
+    def test_more_items_than_bytes(self):
+        data = many_binds()
+        ran = run(["bindings", self.path(data)])
+        self.assertEqual((ran.returncode, ran.stdout.count(b"\n"), ran.stderr.count(b"\n")), (1, len(data), 1))
 
     def test_a_list_that_is_refused(self):
         chains = command(0x80000034, struct.pack("<2I", 0x10000, 8))

@@ -1,6 +1,7 @@
 """Tests of the lists that tables of commands, sections and opcodes have, on the two images that c/tables_image.py writes: `c/check` runs it."""
 
 import os
+import struct
 import subprocess
 import sys
 import tempfile
@@ -85,6 +86,32 @@ class Tables(unittest.TestCase):
         for _, image in self.of_both():
             wanted = [("symbol", 0), ("symbol", 1), ("symbol", 3), ("symbol", 0), ("local", None), ("absolute", None), ("local absolute", None), ("symbol", 2)]
             self.assertEqual(image.indirect_symbols()[:], [IndirectSymbol(kind, symbol, None) for kind, symbol in wanted])
+
+    def test_records_past_the_end(self):
+        many = (1 << 32) - 1
+        for p, image in self.of_both():
+            data, order = bytearray(image.data), "<I" if image.is_little_endian else ">I"
+            tables = [(call, *self.commands(image, number), place, size)
+                      for call, number, place, size in (("symbols", 2, 8, 8 + p), ("indirect_symbols", 0xB, 56, 4), ("data_in_code", 0x29, 8, 8))]
+            starts = {call: struct.unpack_from(order, data, command + place)[0] for call, command, place, _ in tables}
+            for call, command, place, size in tables:
+                struct.pack_into(order, data, command + place + 4, many)
+            one = goblin_mach.Image(bytes(data), 0, goblin_mach.LOSSY)
+            segment = one.segments()[0]._replace(nsects=many)
+            section = one.sections(segment)[0]._replace(reloff=len(data) - 12, nreloc=many)
+            lists = [(getattr(one, call), starts[call], size, many // 8 if call == "data_in_code" else many) for call, _, _, size in tables]
+            lists += [(lambda: one.sections(segment), segment.command + 40 + 4 * p, 56 + 3 * p, many),
+                      (lambda: one.relocations(section), len(data) - 12, 8, many)]
+            for rows, start, size, count in lists:
+                begun, there = rows().begun(), sum(1 for _ in range(start, len(data), size))
+                self.assertEqual((len(rows()), len(begun), len(begun.begun())), (count, there, there))
+                self.assertEqual(list(begun), rows()[:there])
+                past = rows()[there]
+                self.assertEqual((past.error, past in rows(), rows()[-1] == past, None in rows()), (goblin_mach.ERRORS[3], True, True, False))
+                self.assertEqual((begun[-1], begun[there - 1:]), (rows()[there - 1], [rows()[there - 1]]))
+                with self.assertRaises(IndexError):
+                    begun[there]
+            self.assertEqual(len(one.commands().begun()), len(one.commands()))
 
     def test_linker_options(self):
         for _, image in self.of_both():

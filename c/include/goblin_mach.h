@@ -124,6 +124,13 @@ typedef struct gm_image {
 } gm_image;
 enum { GM_STRICT, GM_LOSSY };
 
+/* How many of `count` records begin within `len` bytes, which stand from `start` on and have `size` bytes each. A file may claim any count of records. The
+   rows behind those that begin there can't be read. */
+static inline uint64_t gm_begun(size_t len, uint64_t start, uint64_t size, uint64_t count) {
+    uint64_t begun = start < len && size != 0 ? (len - start - 1) / size + 1 : 0;
+    return begun < count ? begun : count;
+}
+
 /* Opens the image at `offset`. GM_STRICT refuses what can't be read; GM_LOSSY passes over it; another mode is refused as
    GM_MALFORMED. It takes memory while it runs, for the commands. A refusal leaves *image as it was, and GM_OK leaves *error. */
 uint32_t gm_open(const uint8_t *bytes, size_t len, size_t offset, uint32_t mode, const gm_memory *memory, gm_image *image, gm_error *error);

@@ -6,10 +6,12 @@ import io
 import os
 import signal
 import sys
-from typing import Callable, Dict, Iterator, List, Optional
+from itertools import islice
+from typing import Any, Callable, Dict, Iterator, List, Optional, Tuple
 
 import goblin_mach
 
+from ._rows import Rows
 from .errors import Refused, code_of
 from .file import File
 from .image import Image
@@ -27,7 +29,7 @@ def _segments(image: Image) -> Iterator[str]:
 
 
 def _symbols(image: Image) -> Iterator[str]:
-    for s in image.symbols():
+    for s in image.symbols().begun():
         yield f"{s.value:0{16 if image.is_64 else 8}x} {s.n_type:x} {s.section} {s.desc:x} {code_of(s.error)} {s.name}"
 
 
@@ -44,12 +46,12 @@ def _function_starts(image: Image) -> Iterator[str]:
 
 
 def _data_in_code(image: Image) -> Iterator[str]:
-    for d in image.data_in_code():
+    for d in image.data_in_code().begun():
         yield f"{d.offset:x} {d.length} {d.kind} {code_of(d.error)}"
 
 
 def _indirect_symbols(image: Image) -> Iterator[str]:
-    for i in image.indirect_symbols():
+    for i in image.indirect_symbols().begun():
         yield f"{goblin_mach.INDIRECT.index(i.kind)} {i.symbol or 0} {code_of(i.error)}"
 
 
@@ -154,6 +156,24 @@ LINES: Dict[str, Callable[[Image], Iterator[str]]] = {
 }
 """For each word what is printed of an image."""
 
+TABLES: Dict[str, Tuple[str, Callable[[Image], Rows[Any]]]] = {
+    "symbols": ("symbols", Image.symbols),
+    "data_in_code": ("data in code entries", Image.data_in_code),
+    "indirect_symbols": ("indirect symbols", Image.indirect_symbols),
+}
+"""For each word of a table what its records are called, and their list."""
+
+
+def _left_out(image: Image, word: str, lines: Iterator[str]) -> Iterator[str]:
+    """What isn't printed of a list: the records past the end, and the lines that are left."""
+    if word in TABLES:
+        called, table = TABLES[word]
+        past = len(table(image)) - len(table(image).begun())
+        if past:
+            yield f"{past} more {called} past the end"
+    if next(lines, None) is not None:
+        yield f"{len(image.data)} {word.replace('_', ' ')} are printed, and there are more"
+
 
 def _told(*numbers: Optional[int]) -> str:
     return " ".join("-1" if number is None else str(number) for number in numbers)
@@ -193,8 +213,12 @@ def _print(file: File, word: str) -> int:
             print(fault)
     for image in file:
         try:
-            for line in LINES[word](image):
+            lines = LINES[word](image)
+            for line in islice(lines, len(image.data)):
                 print(line)
+            for words in _left_out(image, word, lines):
+                print(f"goblin_mach: {words}", file=sys.stderr)
+                status = 1
         except Refused as why:
             print(f"goblin_mach: {why}", file=sys.stderr)
             status = 1

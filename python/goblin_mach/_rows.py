@@ -18,6 +18,9 @@ BATCH = 1000
 Decode = Callable[[Held, Iterable[Tuple[Any, ...]], int], List[T]]
 """What makes items of rows in some bytes, whose first one has this number in the list."""
 
+Table = Callable[[], Tuple[int, int, int]]
+"""A table as the file has it: where its records begin, how many bytes one has, and how many they are said to be."""
+
 
 class Kind(Generic[T]):
     """A kind of list: the call that writes its rows, the struct of a row, and what makes items of rows."""
@@ -45,16 +48,29 @@ class Rows(Generic[T]):
     """A list whose items stand at numbers of their own. It is an iterator over them, and is gone over once. Beside that `len` says how many there are,
     an index or a slice asks for items anew, wherever the iterator is, and so does `in`."""
 
-    __slots__ = ("_given", "_kind", "_length", "_live", "_walk")
+    __slots__ = ("_end", "_given", "_kind", "_length", "_live", "_table", "_walk")
 
-    def __init__(self, kind: Kind[T], live: Callable[[], Held], given: Sequence[Any] = (), length: Optional[Callable[[], int]] = None) -> None:
-        self._kind, self._live, self._given, self._length = kind, live, given, length
+    def __init__(self, kind: Kind[T], live: Callable[[], Held], given: Sequence[Any] = (), length: Optional[Callable[[], int]] = None,
+                 table: Optional[Table] = None, end: Optional[int] = None) -> None:
+        self._kind, self._live, self._given, self._length, self._table, self._end = kind, live, given, length, table, end
         self._walk = self._items(0, None)
+
+    def begun(self) -> Rows[T]:
+        """Those of them whose record begins within the bytes, as a list of its own. A file may claim 2^32 records, of which it has few. Lists that have no
+        table of records are given whole."""
+        if self._table is None:
+            return Rows(self._kind, self._live, self._given, self._length, None, self._end)
+        held = self._live()
+        start, size, count = self._table()
+        end = min(count, len(range(start, held.len, size)))
+        return Rows(self._kind, self._live, self._given, lambda: end, None, end)
 
     def _items(self, first: int, end: Optional[int]) -> Iterator[T]:
         """The items from a number on, up to `end` if that is said, in batches."""
         kind, held = self._kind, self._live()
-        life, cap = held.life, BATCH if end is None else min(BATCH, end - first)
+        if self._end is not None:
+            end = self._end if end is None else min(end, self._end)
+        life, cap = held.life, BATCH if end is None else max(0, min(BATCH, end - first))
         array = kind.array(cap)
         while cap > 0:
             life.check()
@@ -78,10 +94,14 @@ class Rows(Generic[T]):
 
     def __len__(self) -> int:
         self._live()
+        if self._table is not None:
+            return self._table()[2]
         return sum(1 for _ in self._items(0, None)) if self._length is None else self._length()
 
     def __contains__(self, item: object) -> bool:
-        return any(item == each for each in self._items(0, None))
+        # All items past the end are equal, so one of them is enough.
+        end = None if self._table is None else len(self.begun()) + 1
+        return any(item == each for each in self._items(0, end))
 
     @overload
     def __getitem__(self, index: int) -> T: ...

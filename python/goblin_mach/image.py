@@ -3,6 +3,7 @@
 from __future__ import annotations
 
 import ctypes
+import struct
 from typing import TYPE_CHECKING, Any, Callable, Iterator, List, Optional, Tuple, Union
 
 from . import _exports, _lists
@@ -12,7 +13,7 @@ from ._arch import arch_name
 from ._library import lib, refused
 from ._memory import Held
 from ._rows import Rows, in_growing_batches, rows_behind
-from .enums import CpuSubtype, CpuType, ErrorCode, FileType, HeaderFlags, Mode, cpu_subtype
+from .enums import CpuSubtype, CpuType, ErrorCode, FileType, HeaderFlags, LoadCommand, Mode, cpu_subtype
 from .errors import Refused, again, code_of
 from .items import (
     BuildTool, Command, DataInCode, Export, FatEntry, FunctionStart, IndirectSymbol, LayoutFault, Library, LinkerOption, Note, NumberedSection,
@@ -138,15 +139,19 @@ class Image:
 
     def sections(self, segment: Segment) -> Rows[Section]:
         """The sections of a segment. One that can't be read has an `error`."""
-        return Rows(_lists.SECTIONS, self._live, (self._pointer, segment.command, segment.nsects), lambda: segment.nsects)
+        front, size = (72, 80) if self.is_64 else (56, 68)
+        return Rows(_lists.SECTIONS, self._live, (self._pointer, segment.command, segment.nsects),
+                    table=lambda: (segment.command + front, size, segment.nsects))
 
     def relocations(self, section: Section) -> Rows[Relocation]:
         """The relocations of a section. One that can't be read has an `error`."""
-        return Rows(_lists.RELOCATIONS, self._live, (self._pointer, section.reloff, section.nreloc), lambda: section.nreloc)
+        return Rows(_lists.RELOCATIONS, self._live, (self._pointer, section.reloff, section.nreloc), table=lambda: (section.reloff, 8, section.nreloc))
 
     def symbols(self) -> Rows[Symbol]:
         """Its symbols. One that can't be read has an `error`."""
-        return Rows(_lists.SYMBOLS, self._live, (self._pointer,), lambda: int(self._numbers.symbols))
+        numbers = self._numbers
+        return Rows(_lists.SYMBOLS, self._live, (self._pointer,),
+                    table=lambda: (int(numbers.symbols_at), 16 if self.is_64 else 12, int(numbers.symbols)))
 
     def libraries(self) -> Rows[Library]:
         """The libraries that it brings in: number k has ordinal k + 1."""
@@ -174,11 +179,19 @@ class Image:
 
     def data_in_code(self) -> Rows[DataInCode]:
         """The data among its code (LC_DATA_IN_CODE). An entry that can't be read has an `error`."""
-        return Rows(_lists.DATA_IN_CODE, self._live, (self._pointer,))
+        return Rows(_lists.DATA_IN_CODE, self._live, (self._pointer,), table=lambda: self._table_of(LoadCommand.DATA_IN_CODE, 8, 8, 8))
 
     def indirect_symbols(self) -> Rows[IndirectSymbol]:
         """Its table of indirect symbols. An entry that can't be read has an `error`."""
-        return Rows(_lists.INDIRECT_SYMBOLS, self._live, (self._pointer,))
+        return Rows(_lists.INDIRECT_SYMBOLS, self._live, (self._pointer,), table=lambda: self._table_of(LoadCommand.DYSYMTAB, 56, 4, 1))
+
+    def _table_of(self, command: int, place: int, size: int, unit: int) -> Tuple[int, int, int]:
+        """The table that the last command of a number tells of: at a place of it where the records begin, and then how many units they are."""
+        start = count = 0
+        for each in self.commands():
+            if each.cmd == command:
+                start, count = struct.unpack_from("<2I" if self.is_little_endian else ">2I", self.data, each.offset + place)
+        return start, size, count // unit
 
     def symbol_slots(self) -> Iterator[SymbolSlot]:
         """Its stubs and pointers that stand for symbols, section by section. One that can't be read has an `error`."""

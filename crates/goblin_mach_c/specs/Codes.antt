@@ -1,5 +1,7 @@
 -- The code by which C is told of a fault (`goblin_mach.h`, GM_MALFORMED and those behind it).
-use Rattle.std.specs.Prelude.{◌≡◌, ◌⊎◌, ℕ}
+use Rattle.std.specs.Prelude.{◌≡◌, ◌⊎◌, ℕ, ◌-◌, ◌≤◌, List, [], ◌++◌, length, min, replicate, take}
+use Rattle.mach_base.specs.declared.error.Error.{Error}
+use Rattle.mach_base.specs.declared.error.Error.TheVariants as errors
 use Rattle.mach_base.specs.Fault.{Fault, malformed, bad_magic, bad_offset, too_big, bad_input, too_short, no_memory}
 
 abbrev pub code_of_fault : Fault → ℕ
@@ -16,3 +18,19 @@ pub record IsRefusalCode (IsFault : Fault → Type 0) (code : ℕ) : Type 0 wher
   pub fault : Fault
   pub is_code : code ≡ code_of_fault fault
   pub stands : (fault ≡ no_memory) ⊎ IsFault fault
+
+-- words as a text of 124 bytes: the first of them, 123 at most, and zeros
+abbrev pub error_text : List ℕ → List ℕ
+error_text words = take (min (length words) 123) words ++ replicate (124 - min (length words) 123) 0
+
+-- The text is these words, or empty where there was no room for them.
+abbrev pub HasErrorWords : List ℕ → List ℕ → Type 0
+HasErrorWords words text = (text ≡ error_text words) ⊎ (text ≡ error_text [])
+
+-- A rule is broken, whose words have room in a text behind `malformed: `.
+abbrev pub HasShortRule : Error → Type 0
+HasShortRule (errors.Malformed rule) = length rule.now ≤ 112
+HasShortRule (errors.BadMagic magic) = ⊥
+HasShortRule (errors.Scroll e) = ⊥
+HasShortRule (errors.BufferTooShort count what) = ⊥
+HasShortRule (errors.Memory e) = ⊥

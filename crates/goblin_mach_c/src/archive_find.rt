@@ -34,6 +34,7 @@ pub extern "C" fn gmr_archive_find(
 ) -> u32
     ensures found { result ≡ 0 → FindsMember bytes.now (member_by_symbol bytes.now symbol.now) member.new }
     ensures refused { result ≢ 0 → IsUtf8 symbol.now → IsCodeOf (member_by_symbol bytes.now symbol.now) result }
+    ensures no_text { (IsUtf8 symbol.now → ⊥) → result ≡ 1 }
     ensures kept { result ≢ 0 → member.new ≡ member.old }
     ensures told { result ≢ 0 → error.new.code ≡ result }
     ensures quiet { result ≡ 0 → error.new ≡ error.old }

@@ -1,12 +1,13 @@
 //! Errors: a code and words.
 
-ghost use Rattle.std.specs.Prelude.{◌≡◌, ◌≢◌, Some, slice_get};
+ghost use Rattle.std.specs.Prelude.{◌≡◌, ◌≢◌, [], Some, slice_get, IsOk, OnOk};
 ghost use Rattle.mach_base.specs.Fault.{fault_of};
-ghost use Rattle.goblin_mach_c.specs.Codes.{code_of_fault};
+ghost use Rattle.mach_base.specs.Words.{words_of};
+ghost use Rattle.goblin_mach_c.specs.Codes.{code_of_fault, error_text, HasShortRule, HasErrorWords};
 
 use arrayvec::ArrayString;
 use mach_base::{Error, describe};
-use std::fmt::Write;
+use std::fmt::{self, Write};
 
 /// Everything went well.
 pub const GM_OK: u32 = 0;
@@ -57,15 +58,12 @@ pub struct gm_error {
 
 // Words as a text of 124 bytes, of which the last is 0.
 fn text_of(words: &[u8]) -> [u8; 124]
-    ensures { slice_get result 123 ≡ Some 0 }
+    ensures ended { slice_get result 123 ≡ Some 0 }
+    ensures words { result ≡ error_text words.now }
 {
+    let end = words.len().min(123);
     let mut text = [0; 124];
-    for index in 0..123usize {
-        let Some(byte) = words.get(index) else {
-            return text;
-        };
-        text[index] = *byte;
-    }
+    text[..end].copy_from_slice(&words[..end]);
     text
 }
 
@@ -77,15 +75,41 @@ pub fn refuse(error: &Error, out: &mut gm_error) -> u32
     ensures some { result ≢ 0 }
     ensures told { out.new.code ≡ result }
     ensures ended { slice_get out.new.text 123 ≡ Some 0 }
+    ensures words { HasErrorWords (words_of error.now) out.new.text }
+    ensures rule { HasShortRule error.now → out.new.text ≡ error_text (words_of error.now) }
+{
+    let code = code_of(error);
+    let text = words_text(error);
+    *out = gm_error { code, text };
+    code
+}
+
+// Writes the words of an error into an empty text: surely those of a broken rule that has room.
+fn write_words(error: &Error, words: &mut ArrayString<123>) -> fmt::Result
+    requires { words.old.bytes ≡ [] }
+    ensures written { OnOk result (words.new.bytes ≡ words_of error.now) }
+    ensures rule { HasShortRule error.now → IsOk result }
+{
+    match error {
+        Error::Malformed(rule) => {
+            words.write_str("malformed: ")?;
+            words.write_str(rule)
+        }
+        _ => write!(words, "{}", describe(error)),
+    }
+}
+
+// The words of an error; none, where they have no room.
+fn words_text(error: &Error) -> [u8; 124]
+    ensures ended { slice_get result 123 ≡ Some 0 }
+    ensures words { HasErrorWords (words_of error.now) result }
+    ensures rule { HasShortRule error.now → result ≡ error_text (words_of error.now) }
 {
     let mut words: ArrayString<123> = ArrayString::new();
-    let _written = write!(words, "{}", describe(error));
-    let code = code_of(error);
-    *out = gm_error {
-        code,
-        text: text_of(words.as_str().as_bytes()),
-    };
-    code
+    match write_words(error, &mut words) {
+        Ok(()) => text_of(words.as_str().as_bytes()),
+        Err(_) => text_of(&[]),
+    }
 }
 
 /// Reports that an array has room for no row.
