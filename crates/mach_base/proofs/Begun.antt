@@ -9,14 +9,14 @@ use Rattle.mach_base.specs.Fault.{Fault}
 use Rattle.mach_base.specs.Items.{begun_items, is_past_the_end, items_from}
 use Rattle.mach_base.specs.Number.{bounded}
 
--- two tests that say the same
+-- two tests that agree
 pub same_test : (a b c d : ℕ) → (a ≤ b → c ≤ d) → (b < a → d < c) → nat_le a b ≡ nat_le c d
 same_test a b c d on off = elim (cases_lt b a) [
   | inl less ↦ lt-leb a b less ∙ sym (lt-leb c d (off less))
   | inr more ↦ le-leb a b more ∙ sym (le-leb c d (on more))
 ]
 
--- what is read at a place isn't there exactly if the place is at the end or past it
+-- a bounded read fails because of its place exactly if the place is at or past the end
 pub past_bounded : {A : Type 0} (n : ℕ) (bytes : List ℕ) (s : ℕ) (found : A) → is_past_the_end (bounded n bytes s found) ≡ nat_le (length bytes) s
 past_bounded n bytes s found = elim (cases_lt s (length bytes)) [
   | inr past ↦ let test : nat_le (length bytes) s ≡ true = le-leb (length bytes) s past in rw test refl
@@ -28,7 +28,7 @@ past_bounded n bytes s found = elim (cases_lt s (length bytes)) [
       ]
 ]
 
--- and so it is of what is made of it
+-- the same after a further step that cannot fail
 pub past_after : {A B : Type 0} (found : Result A Fault) (f : A → B) → is_past_the_end (found >>= (λ x. Ok (f x))) ≡ is_past_the_end found
 past_after (Ok x) f = refl
 past_after (Err e) f = refl
@@ -47,14 +47,14 @@ begun_front item first (suc count) begun past = elim (cases_lt first begun) [
       rw (test, none) refl
 ]
 
--- Items that go by their number, of which those in front of a number begin within the bytes: these of those that are left.
+-- Of items given by their number let exactly those below a number begin within the bytes. Then the remaining items that do are these.
 pub begun-items_from : {A : Type 0} (item : ℕ → Result A Fault) (next count begun : ℕ) → ((k : ℕ) → is_past_the_end (item k) ≡ nat_le begun k)
     → items_from item next (min count begun - next) ≡ begun_items (items_from item next (count - next))
 begun-items_from item next count begun past =
     let fewer : min (count - next) (begun - next) ≡ min count begun - next = omega arith in
     sym (begun_front item next (count - next) begun past ∙ rw fewer refl)
 
--- Where fewer items begin than there are, one of them can't be read.
+-- If fewer items begin than there are, one of them cannot be read.
 pub some_past : {A : Type 0} (items : List (Result A Fault)) → length (begun_items items) < length items → list_all is_ok items ≡ false
 some_past [] less = absurd (omega (arith, less))
 some_past (Ok x ∷ items) less = some_past items (omega (arith, less))

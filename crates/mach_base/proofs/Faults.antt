@@ -1,11 +1,11 @@
--- Errors that report a fault that stands.
+-- Errors that report a fault that holds.
 use Rattle.mach_base.specs.declared.error.Error.{Error}
 use Rattle.mach_base.specs.declared.error.Error.TheVariants as errors
 use Rattle.mach_base.specs.Fault.{Fault, malformed, bad_magic, too_short, fault_of, fault_of_scroll}
 use Rattle.mach_base.specs.Answer.{FailsAs, Stands}
 use Rattle.std.proofs.Common.{◌≡◌, Result, Err}
 
--- what an error reports stands
+-- the fault that an error reports holds
 pub Stands-reported : (P : Fault → Type 0) (e : Error) → P (fault_of e) → Stands P e
 Stands-reported P (errors.Malformed m) h = h
 Stands-reported P (errors.BadMagic n) h = h
@@ -21,7 +21,7 @@ Stands-in P Q (errors.Scroll e) to h = to (fault_of_scroll e) h
 Stands-in P Q (errors.BufferTooShort n m) to h = to (too_short n m.now) h
 Stands-in P Q (errors.Memory e) to h = tt
 
--- a read that fails as it says, where memory may run out
+-- an error that reports the fault of a read, if memory may also run out
 pub FailsAs-read : {Y : Type 0} (e : Error) (there : Result Y Fault) → there ≡ Err (fault_of e) → FailsAs e there
 FailsAs-read (errors.Malformed m) there h = h
 FailsAs-read (errors.BadMagic n) there h = h
@@ -29,7 +29,7 @@ FailsAs-read (errors.Scroll e) there h = h
 FailsAs-read (errors.BufferTooShort n m) there h = h
 FailsAs-read (errors.Memory e) there h = tt
 
--- a fault of what is there stands
+-- a fault of what is there holds
 pub Stands-failed : {Y : Type 0} (P : Fault → Type 0) (e : Error) (there : Result Y Fault) → ((f : Fault) → there ≡ Err f → P f) → FailsAs e there → Stands P e
 Stands-failed P (errors.Malformed m) there to h = to malformed h
 Stands-failed P (errors.BadMagic n) there to h = to (bad_magic n) h

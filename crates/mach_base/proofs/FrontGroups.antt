@@ -1,4 +1,4 @@
--- What the first groups of some bytes and a tenth byte say of the spellings there.
+-- From the first groups of some bytes and a tenth byte to the spellings there.
 use Rattle.std.proofs.Common.{◌≡◌, ◌<◌, ◌≤◌, ◌+◌, ◌*◌, ◌^◌, ◌⊎◌, ℕ, ℤ, pos, ◌-ℤ◌, true, false, cond, List, length, take, slice_index, nat_le, inl}
 use Rattle.std.proofs.Common.{inr, refl, ap, ◌∙◌, arith}
 use Rattle.std.proofs.lemmas.Bool.{cases_lt, le-leb, lt-leb}
@@ -9,12 +9,12 @@ use Rattle.mach_base.proofs.Groups.{groups_value-take}
 use Rattle.mach_base.proofs.Unsigned.{IsUleb-front, IsUleb-none}
 use Rattle.mach_base.proofs.Signed.{IsSleb-front, IsSleb-none, signed_value-low, signed_value-high, unsigned_tenth, signed_tenth}
 
--- the number of groups by a test of its sign
+-- the number of the groups, by a test of its sign
 abbrev pub signed_by : Groups → ℤ
 signed_by groups = cond (nat_le 64 groups.last) (pos groups.value -ℤ pos groups.weight) (pos groups.value)
 
 module _ (bytes : List ℕ) (groups : Groups) (first : AreFront bytes groups) where
-  -- where the last ends its number
+  -- if the last group ends the number
   pub IsUleb-short : groups.last < 128 → IsUleb (take (groups.index + 1) bytes) groups.value
   IsUleb-short low =
       IsUleb-front bytes groups.index groups.value first.inside (omega (arith, first.at_most_nine)) first.go_on (rw (← first.last) low)
@@ -50,7 +50,7 @@ module _ (bytes : List ℕ) (groups : Groups) (first : AreFront bytes groups) wh
     nine_weight : groups.weight ≡ 128 ^ 9
     nine_weight = let nine : groups.index + 1 ≡ 9 = omega (arith, first.ninth more) in first.weight ∙ ap (λ (n : ℕ). 128 ^ n) nine
 
-    -- where a tenth byte ends it
+    -- if a tenth byte ends the number
     pub IsUleb-tenth : (v : ℕ) → 9 < length bytes → slice_index bytes 9 ≤ 1 → v ≡ groups.value + slice_index bytes 9 * groups.weight → IsUleb (take 10 bytes) v
     IsUleb-tenth v inside small value =
         let tenth : slice_index bytes 9 * groups.weight ≡ slice_index bytes 9 * 128 ^ 9 = ap (λ (w : ℕ). slice_index bytes 9 * w) nine_weight in
@@ -67,7 +67,7 @@ module _ (bytes : List ℕ) (groups : Groups) (first : AreFront bytes groups) wh
         IsSleb-front bytes 9 z inside (omega arith) nine_go_on (omega (arith, ones)) (λ _. inr ones)
         (value ∙ (ap (λ (w : ℕ). pos groups.value -ℤ pos w) nine_weight ∙ signed_tenth bytes groups.value inside nine_value ones))
 
-    -- where none does
+    -- if no tenth byte ends the number
     pub IsUleb-too_long : (9 < length bytes → 1 < slice_index bytes 9) → (k n : ℕ) → IsUleb (take k bytes) n → ⊥
     IsUleb-too_long long =
         IsUleb-none bytes 9 nine_go_on (λ j le ten inside low tenth. let e : j ≡ 9 = omega arith in omega (arith, tenth e, long (omega (arith, e, inside))))
@@ -76,7 +76,7 @@ module _ (bytes : List ℕ) (groups : Groups) (first : AreFront bytes groups) wh
     IsSleb-too_long long =
         IsSleb-none bytes 9 nine_go_on (λ j le ten inside low tenth. let e : j ≡ 9 = omega arith in long (omega (arith, e, inside)) (tenth e))
 
--- where the bytes end before their number does
+-- if the bytes end before their number does
 pub IsUleb-cut : (bytes : List ℕ) → GoOn bytes (length bytes) → (k n : ℕ) → IsUleb (take k bytes) n → ⊥
 IsUleb-cut bytes on = IsUleb-none bytes (length bytes) on (λ j le ten inside low tenth. omega arith)
 

@@ -1,4 +1,4 @@
--- What stands from an offset on, and the record there.
+-- The bytes from an offset on, and the record there.
 use Rattle.std.proofs.Common.{◌≡◌, ℕ, ◌+◌, ◌-◌, ◌<◌, true, false, List, length, drop, Ok, nat_le, inl, inr, refl, sym, ap, ◌∙◌, arith}
 use Rattle.std.proofs.lemmas.Bool.{cases_lt, lt-leb, le-leb}
 use Rattle.std.proofs.lemmas.List.{length-drop}
@@ -9,7 +9,7 @@ use Rattle.mach_base.specs.Record.{Field, size, record_at}
 use Rattle.mach_base.proofs.Binds.{same_ok}
 use Rattle.mach_base.proofs.Spelled.{values_in-front}
 
--- bytes that stand from an offset on
+-- the bytes from an offset on
 pub rest_from-ok : (bytes rest : List ℕ) (s : ℕ) → rest_from bytes s ≡ Ok rest → (s < length bytes) × (rest ≡ drop s bytes)
 rest_from-ok bytes rest s e = elim (cases_lt s (length bytes)) [
   | inl inside ↦ (inside, sym (same_ok (let test : nat_le (length bytes) s ≡ false = lt-leb (length bytes) s inside in rw test at e)))
@@ -21,11 +21,11 @@ rest_from-inside bytes rest s inside is =
     let test : nat_le (length bytes) s ≡ false = lt-leb (length bytes) s inside in
     rw (test, is) refl
 
--- how many they are
+-- their number
 pub length-rest_from : (bytes rest : List ℕ) (s : ℕ) → rest_from bytes s ≡ Ok rest → length bytes - s ≡ length rest
 length-rest_from bytes rest s e = sym (ap length (rest_from-ok bytes rest s e).1 ∙ length-drop s bytes)
 
--- what `pread_with` finds of a record is the record there
+-- what `pread_with` reads for a record is the record there
 pub record_at_offset : (le : Endian) (fields : List Field) (bytes : List ℕ) (s : ℕ)
     → value_of (front_at (record_front le fields) bytes s) ≡ record_at le fields bytes s
 record_at_offset le fields bytes s = elim (cases_lt s (length bytes)) [

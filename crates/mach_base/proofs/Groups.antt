@@ -1,4 +1,4 @@
--- Groups of seven bits: what they make, and where they end.
+-- Groups of seven bits: their number, and where they end.
 use Rattle.std.proofs.Common.{◌≡◌, ℕ, zero, suc, ◌+◌, ◌-◌, ◌*◌, ◌%◌, ◌^◌, ◌<◌, ◌≤◌, true, false, Bool, List, [], ◌∷◌, ◌++◌, length, take, drop}
 use Rattle.std.proofs.Common.{get_or, Option, Some, None, option_map, Ok, Err, nat_le, nat_lt, inl, inr, refl, sym, ap, subst, ◌∙◌, arith}
 use Rattle.std.proofs.lemmas.Bool.{cases_lt, cases_Bool, lt-ltb, le-ltb, lt-leb, le-leb}
@@ -25,7 +25,7 @@ groups_value-take xs i lt =
     ap groups_value (take_more xs i 0 lt) ∙ groups_value-push (take i xs) (get_or xs i 0) ∙
     ap (λ (n : ℕ). groups_value (take i xs) + (get_or xs i 0 % 128) * 128 ^ n) len
 
--- what the groups so far and one more are below
+-- a bound for the groups so far and one more
 pub group_below : (v b w : ℕ) → v < w → v + (b % 128) * w < w * 128
 group_below v b w lt =
     let top : (b % 128) * w ≤ 127 * w = mul-le-mul_right w (omega arith) in
@@ -36,7 +36,7 @@ weight_below i w e lt =
     let p : 128 ^ i ≤ 128 ^ 8 = (let eight : i ≤ 8 = omega arith in let some : 0 < 128 = omega arith in pow-le-pow_right some eight) in
     omega arith
 
--- bytes that go on, and one that does not
+-- bytes with bit 7 set, followed by one with bit 7 clear
 pub IsGroups-from : (xs : List ℕ) (i : ℕ) → length xs ≡ i + 1 → ((k : ℕ) → k < i → 128 ≤ get_or xs k 0) → get_or xs i 0 < 128 → IsGroups xs
 IsGroups-from [] i len on last = absurd (omega arith)
 IsGroups-from (b ∷ []) zero len on last = last
@@ -53,7 +53,7 @@ IsGroups-last (b ∷ c ∷ bs) h =
     let r = IsGroups-last (c ∷ bs) h.1 in
     (suc r.0, omega (arith, r.1), r.2)
 
--- groups at the front of some bytes end at the first byte below 128
+-- groups with which some bytes begin end at the first byte below 128
 pub groups_end : (xs : List ℕ) (i k : ℕ) → ((j : ℕ) → j < i → 128 ≤ get_or xs j 0) → IsGroups (take k xs)
     → (j : ℕ) × (i ≤ j) × (length (take k xs) ≡ j + 1) × (j < length xs) × (get_or xs j 0 < 128)
 groups_end xs i k on groups =
@@ -65,7 +65,7 @@ groups_end xs i k on groups =
     let from : i ≤ j = elim (cases_lt j i) [ inl below ↦ absurd (omega (arith, on j below, low)) | inr le ↦ le ] in
     (j, from, last.1, omega (arith, shown, last.1), low)
 
--- groups with which some bytes begin are the first groups of them
+-- groups with which some bytes begin are their first groups
 pub first_groups-front : (spelled xs : List ℕ) → IsGroups spelled → take (length spelled) xs ≡ spelled → first_groups xs ≡ Some spelled
 first_groups-front [] xs h e = absurd h
 first_groups-front (b ∷ []) [] h e = absurd (cc)
@@ -106,7 +106,7 @@ first_groups-is (x ∷ xs) g e = elim (cases_lt x 128) [
 ]
 
 module _ {V : Type 0} (short : List ℕ → Bool) (value : List ℕ → V) (bytes : List ℕ) (s : ℕ) where
-  -- the value of the groups that stand at s
+  -- the value of the groups that lie at s
   pub leb_at-here : (spelled : List ℕ) → s < length bytes → take (length spelled) (drop s bytes) ≡ spelled → IsGroups spelled → short spelled ≡ true
       → leb_at short value bytes s ≡ Ok (value spelled, s + length spelled)
   leb_at-here spelled inside here groups fits =
@@ -124,7 +124,7 @@ module _ {V : Type 0} (short : List ℕ → Bool) (value : List ℕ → V) (byte
     | inr long ↦ rw long refl
   ]
 
-  -- the fault where none stand there
+  -- the fault if there are none
   pub leb_at-none : s < length bytes → ((k : ℕ) → IsGroups (take k (drop s bytes)) → short (take k (drop s bytes)) ≡ true → ⊥)
       → leb_at short value bytes s ≡ Err (bad_input (length bytes - s))
   leb_at-none inside none =

@@ -1,4 +1,4 @@
--- From the mask of 32 bytes to the first at which a run of ASCII ends, and the text before it.
+-- From the mask of 32 bytes to the first byte that ends a run of ASCII, and to the text before it.
 use Rattle.std.proofs.Common.{◌≡◌, ℕ, ◌+◌, ◌%◌, ◌^◌, ◌<◌, ◌≤◌, Bool, true, false, ◌||◌, cond, eqb, leb, List, map, length, take, get_or, replicate, bit_or}
 use Rattle.std.proofs.Common.{w64, inl, inr, refl, sym, ap, subst, ◌∙◌, arith}
 use Rattle.std.proofs.lemmas.Bool.{cases_lt, leb-false, eq-eqb}
@@ -25,7 +25,7 @@ neither : (a b : Bool) → (a || b) ≡ false → (a ≡ false) × (b ≡ false)
 neither true b h = absurd (let wrong = h in cc)
 neither false b h = (refl, h)
 
--- the lanes that are zero or not ASCII, as a mask
+-- the mask of the lanes that are zero or not ASCII
 pub mask_of_stops : (v : List ℕ) → length v ≡ 32
     → mask_l (map (top 7) (zip2 bit_or (zip2 (λ a b. cond (eqb a b) 255 0) v (replicate 32 0)) (zip2 (λ a b. cond (leb a b) 255 0) (replicate 32 128) v)))
     % 2 ^ 64 ≡ mask_l (map is_stop v)
@@ -73,12 +73,12 @@ module _ (xs : List ℕ) (n : ℕ) (inside : n ≤ length xs) (is : n ≡ positi
   no_stop : (k : ℕ) → k < n → is_stop (get_or xs k 0) ≡ false
   no_stop k l = fails_before_first is_stop xs k 0 (subst (λ m. k < m) is l)
 
-  -- all before the first stop is ASCII
+  -- all bytes before the first stop are ASCII
   pub plain_before : IsAscii (take n xs)
   plain_before = IsAscii-from_reads (take n xs) n (let long = length-take-le n xs inside in omega arith)
       (λ k l. rw (get_or-take n xs k 0 l) (leb-false 128 _ (neither _ _ (no_stop k l)).1))
 
-  -- and is the run before the first zero, where no other byte ends it
+  -- they are the run before the first zero byte, if no other byte ends it
   pub run_before : (n < length xs → get_or xs n 0 ≡ 0) → take n xs ≡ before_first is_zero xs
   run_before at = ap (λ m. take m xs) (sym (position_or_len_is is_zero xs n 0 inside (λ k l. (neither _ _ (no_stop k l)).0) (λ l. eq-eqb _ _ (at l))))
 

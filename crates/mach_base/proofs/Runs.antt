@@ -27,7 +27,7 @@ not_utf8_by : (bs : List ℕ) (b : Bool) → is_utf8 bs ≡ b → ¬ IsUtf8 bs �
 not_utf8_by bs true e n = absurd (n (IsUtf8-from_is_utf8 bs e))
 not_utf8_by bs false e n = e
 
--- the text where the run is UTF-8
+-- the text, if the run is UTF-8
 pub good_text : (bytes rest : List ℕ) (s : ℕ) (run : List ℕ) → rest_from bytes s ≡ Ok rest → run ≡ before_first is_zero rest → IsUtf8 run
     → text_at bytes s ≡ Ok run
 unfolding text_at
@@ -37,7 +37,7 @@ good_text bytes rest s run e is u =
     let same : run ≡ run_at bytes s = is ∙ ap (before_first is_zero) inside.1 in
     let good = is_utf8-from_IsUtf8 run u in rw (test, ← same, good) refl
 
--- the fault where it is not
+-- the fault, if it is not
 pub bad_text : (bytes rest : List ℕ) (s : ℕ) (run : List ℕ) → rest_from bytes s ≡ Ok rest → run ≡ before_first is_zero rest → ¬ IsUtf8 run
     → text_at bytes s ≡ Err (bad_input (length rest))
 unfolding text_at
@@ -47,7 +47,7 @@ bad_text bytes rest s run e is u =
     let same : run ≡ run_at bytes s = is ∙ ap (before_first is_zero) inside.1 in
     let bad = not_utf8_by run (is_utf8 run) refl u in rw (test, ← same, bad, length-rest_from bytes rest s e) refl
 
--- what a text is read as, or why it isn't
+-- the text that is read, or that there is none
 pub text_found : (bytes rest : List ℕ) (s : ℕ) (run : List ℕ) (r : Option (Bor (List ℕ))) → rest_from bytes s ≡ Ok rest
     → run ≡ before_first is_zero rest → MatchOption r (¬ IsUtf8 run) (λ text. (text.now ≡ run) × IsUtf8 run)
     → MatchOption r (IsErr (text_at bytes s)) (λ text. text_at bytes s ≡ Ok text.now)

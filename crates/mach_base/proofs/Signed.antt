@@ -1,4 +1,4 @@
--- SLEB128: the definition by groups and the relation say the same.
+-- SLEB128: the function and the relation agree.
 use Rattle.std.proofs.Common.{◌≡◌, ◌==◌, ℕ, ℤ, pos, ◌-ℤ◌, ◌+◌, ◌-◌, ◌<◌, ◌≤◌, ◌*◌, ◌^◌, ◌||◌, ◌⊎◌, true, false, List, length, drop, take, get_or}
 use Rattle.std.proofs.Common.{slice_index, Ok, Err, nat_le, nat_lt, inl, inr, refl, sym, ap, subst, ◌∙◌, arith}
 use Rattle.std.proofs.lemmas.Bool.{cases_lt, le-leb, lt-ltb, le-ltb, leb-true, eqb-true, and_from, and_parts, or_cases}
@@ -11,7 +11,7 @@ use Rattle.mach_base.proofs.Fronts.{rest_from-ok, length-rest_from}
 use Rattle.mach_base.proofs.Groups.{groups_value-take, IsGroups-from, groups_end, leb_at-here, leb_at-none, leb_at-read}
 use Rattle.mach_base.proofs.Spellings.{groups_unique, groups_inside}
 
--- the tenth group, or 0 where there is none
+-- the tenth group, or 0 if there is none
 abbrev IsSign : ℕ → Type 0
 IsSign b = (b ≡ 0) ⊎ (b ≡ 127)
 
@@ -35,7 +35,7 @@ last_group-take xs i lt =
     let len : length (take (i + 1) xs) - 1 ≡ i = omega (arith, length-take-le (i + 1) xs (omega arith)) in
     rw (len, get_or-take (i + 1) xs i 0 (omega arith)) refl
 
--- what groups make that end at a place below 64, and at one from there on
+-- the number of groups whose last byte is below 64, and of those whose last is not
 pub signed_value-low : (xs : List ℕ) (i : ℕ) → i < length xs → get_or xs i 0 < 64 → signed_value (take (i + 1) xs) ≡ pos (groups_value (take (i + 1) xs))
 signed_value-low xs i lt low =
     let test : nat_lt (last_group (take (i + 1) xs)) 64 ≡ true = lt-ltb _ 64 (omega (arith, last_group-take xs i lt)) in
@@ -64,7 +64,7 @@ IsSleb-front xs i z lt le on last tenth value =
       value = value;
     }
 
--- nine groups of a number that go on, and a tenth
+-- nine groups with bit 7 set, and a tenth
 pub signed_tenth : (xs : List ℕ) (v : ℕ) → 9 < length xs → v ≡ groups_value (take 9 xs) → get_or xs 9 0 ≡ 127
     → pos v -ℤ pos (128 ^ 9) ≡ signed_value (take 10 xs)
 signed_tenth xs v lt value is =
@@ -78,7 +78,7 @@ unsigned_tenth xs v lt value is =
     let same : v ≡ groups_value (take 10 xs) = omega (arith, value, is, groups_value-take xs 9 lt) in
     ap pos same ∙ sym (signed_value-low xs 9 lt (omega (arith, is)))
 
--- where the bytes below i go on and none from i on ends a spelling, there is none
+-- if the bytes below i go on and no byte from i on ends a spelling, there is none
 pub IsSleb-none : (xs : List ℕ) (i : ℕ) → ((k : ℕ) → k < i → 128 ≤ get_or xs k 0)
     → ((j : ℕ) → i ≤ j → j < 10 → j < length xs → get_or xs j 0 < 128 → (j ≡ 9 → IsSign (get_or xs 9 0)) → ⊥) → (k : ℕ) (z : ℤ) → IsSleb (take k xs) z → ⊥
 IsSleb-none xs i on none k z u =
@@ -86,14 +86,14 @@ IsSleb-none xs i on none k z u =
     let j = end.0 in
     none j end.1 (omega (arith, end.2, u.at_most_ten)) end.3 end.4 (λ e. rw (← get_or-take k xs 9 0 (omega (arith, length-take k xs, end.2, e))) u.tenth)
 
--- the number where one is spelled
+-- the number, if one is spelled
 sleb_at-spelled : (bytes : List ℕ) (s : ℕ) (spelled : List ℕ) (z : ℤ) → take (length spelled) (drop s bytes) ≡ spelled → IsSleb spelled z
     → sleb_at bytes s ≡ Ok (z, s + length spelled)
 unfolding sleb_at
 sleb_at-spelled bytes s spelled z here u =
     rw u.value (leb_at-here is_short_signed signed_value bytes s spelled (groups_inside bytes s spelled here u.groups) here u.groups (short spelled z u))
 
--- the same for a front of what stands from s on
+-- the same for a prefix of the bytes from s on
 pub sleb_at-front : (bytes rest : List ℕ) (s k : ℕ) (z : ℤ) → rest_from bytes s ≡ Ok rest → k ≤ length rest → IsSleb (take k rest) z
     → sleb_at bytes s ≡ Ok (z, s + k)
 sleb_at-front bytes rest s k z e within u =
@@ -110,7 +110,7 @@ sleb_at-no_front bytes rest s e none =
     (leb_at-none is_short_signed signed_value bytes s inside.0
     (λ k groups fits. none k (signed_value (take k (drop s bytes))) (rw inside.1 (IsSleb-from_short (take k (drop s bytes)) groups fits))))
 
--- the law
+-- the law: at most one spelling
 pub SpellsSigned-unique : (bytes : List ℕ) (s : ℕ) (xs ys : List ℕ) (y z : ℤ) → SpellsSigned bytes s xs y → SpellsSigned bytes s ys z → (xs ≡ ys) × (y ≡ z)
 SpellsSigned-unique bytes s xs ys y z a b =
     let same = groups_unique (drop s bytes) xs ys a.here a.sleb.groups b.here b.sleb.groups in

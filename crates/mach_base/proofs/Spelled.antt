@@ -1,4 +1,4 @@
--- A record read where it was written is the record that was written.
+-- A record that is read where it was written is the record that was written.
 use Rattle.std.proofs.Common.{◌≡◌, ℕ, ◌+◌, ◌^◌, ◌<◌, ◌≤◌, true, false, leb, List, [], ◌∷◌, ◌++◌, length, drop, Ok, refl, sym, ap, ◌∙◌, append_assoc, arith}
 use Rattle.std.proofs.lemmas.List.{drop-drop, take_at, drop_at, append-nil, length-append}
 use Rattle.std.proofs.lemmas.Bool.{lt-leb, le-leb}
@@ -9,7 +9,7 @@ use Rattle.mach_base.specs.Number.{number, number_bytes}
 use Rattle.mach_base.specs.Record.{Field, num, arr, Value, number_is, bytes_are, width, size, value_in, values_in, field_bytes, spelling}
 use Rattle.mach_base.specs.Record.{spelled_after, Fits, AllFit, record_at}
 
--- the values at a later place are those at the front of what stands there
+-- the values at a later place are those at the start of the bytes from there on
 pub values_in-drop : (le : Endian) (fs : List Field) (s p : ℕ) (bytes : List ℕ) → values_in le fs (s + p) bytes ≡ values_in le fs p (drop s bytes)
 values_in-drop le [] s p bytes = refl
 values_in-drop le (f ∷ fs) s p bytes =
@@ -22,7 +22,7 @@ values_in-front le fs s bytes =
     let e : s ≡ s + 0 = omega arith in
     ap (λ (p : ℕ). values_in le fs p bytes) e ∙ values_in-drop le fs s 0 bytes
 
--- a number has as many bytes as asked for
+-- a number has the requested number of bytes
 length-number_bytes : (le : Endian) (n x : ℕ) → length (number_bytes le n x) ≡ n
 length-number_bytes Little n x = length-bytes_low_first 0 n x
 length-number_bytes Big n x = length-bytes_high_first n x
@@ -81,7 +81,7 @@ record_at-ok le fs bytes s vs inside room e =
     let u : leb (s + size fs) (length bytes) ≡ true = le-leb (s + size fs) (length bytes) room in
     rw (t, u, values_in-front le fs s bytes, e) refl
 
--- the record that stands where it was written
+-- the record at the place where it was written
 pub record_at-spelling : (le : Endian) (fs : List Field) (vs : List Value) (s : ℕ) (front rest : List ℕ) → length front ≡ s → AllFit fs vs → 0 < size fs
     → record_at le fs (front ++ (spelling le fs vs ++ rest)) s ≡ Ok vs
 record_at-spelling le fs vs s front rest len fit some =

@@ -1,4 +1,4 @@
--- ULEB128: the definition by groups and the relation say the same.
+-- ULEB128: the function and the relation agree.
 use Rattle.std.proofs.Common.{◌≡◌, ℕ, ◌+◌, ◌<◌, ◌≤◌, true, List, [], ◌∷◌, length, drop, take, get_or, slice_index, Ok, Err, IsErr, nat_le, inl, inr}
 use Rattle.std.proofs.Common.{refl, sym, ap, subst, ◌∙◌, arith}
 use Rattle.std.proofs.lemmas.Bool.{cases_lt, le-leb, leb-true, and_from, and_parts}
@@ -36,7 +36,7 @@ IsUleb-front xs i v lt le on last tenth value =
       value = value;
     }
 
--- where the bytes below i go on and none from i on ends a spelling, there is none
+-- if the bytes below i go on and no byte from i on ends a spelling, there is none
 pub IsUleb-none : (xs : List ℕ) (i : ℕ) → ((k : ℕ) → k < i → 128 ≤ get_or xs k 0)
     → ((j : ℕ) → i ≤ j → j < 10 → j < length xs → get_or xs j 0 < 128 → (j ≡ 9 → get_or xs 9 0 ≤ 1) → ⊥) → (k n : ℕ) → IsUleb (take k xs) n → ⊥
 IsUleb-none xs i on none k n u =
@@ -44,14 +44,14 @@ IsUleb-none xs i on none k n u =
     let j = end.0 in
     none j end.1 (omega (arith, end.2, u.at_most_ten)) end.3 end.4 (λ e. rw (← get_or-take k xs 9 0 (omega (arith, length-take k xs, end.2, e))) u.tenth)
 
--- the number where one is spelled
+-- the number, if one is spelled
 uleb_at-spelled : (bytes : List ℕ) (s : ℕ) (spelled : List ℕ) (n : ℕ) → take (length spelled) (drop s bytes) ≡ spelled → IsUleb spelled n
     → uleb_at bytes s ≡ Ok (n, s + length spelled)
 unfolding uleb_at
 uleb_at-spelled bytes s spelled n here u =
     rw u.value (leb_at-here is_short groups_value bytes s spelled (groups_inside bytes s spelled here u.groups) here u.groups (short spelled n u))
 
--- the same for a front of what stands from s on
+-- the same for a prefix of the bytes from s on
 pub uleb_at-front : (bytes rest : List ℕ) (s k n : ℕ) → rest_from bytes s ≡ Ok rest → k ≤ length rest → IsUleb (take k rest) n → uleb_at bytes s ≡ Ok (n, s + k)
 uleb_at-front bytes rest s k n e within u =
     let len : length (take k rest) ≡ k = length-take-le k rest within in
@@ -67,7 +67,7 @@ uleb_at-no_front bytes rest s e none =
     (leb_at-none is_short groups_value bytes s inside.0
     (λ k groups fits. none k (groups_value (take k (drop s bytes))) (rw inside.1 (IsUleb-from_short (take k (drop s bytes)) groups fits))))
 
--- the law
+-- the law: at most one spelling
 pub Spells-unique : (bytes : List ℕ) (s : ℕ) (xs ys : List ℕ) (m n : ℕ) → Spells bytes s xs m → Spells bytes s ys n → (xs ≡ ys) × (m ≡ n)
 Spells-unique bytes s xs ys m n a b =
     let same = groups_unique (drop s bytes) xs ys a.here a.uleb.groups b.here b.uleb.groups in
@@ -88,14 +88,14 @@ groups_some : (spelled : List ℕ) → IsGroups spelled → 0 < length spelled
 groups_some [] h = absurd h
 groups_some (b ∷ bs) h = omega arith
 
--- a number ends behind its place
+-- a number ends after its place
 pub uleb_at-moves : (bytes : List ℕ) (s n after : ℕ) → uleb_at bytes s ≡ Ok (n, after) → s < after
 uleb_at-moves bytes s n after e =
     let read = Spells-from_read bytes s n after e in
     let some = groups_some read.0 read.1.uleb.groups in
     omega (arith, read.2)
 
--- none stands past the end
+-- no number lies past the end
 pub uleb_at-outside : (bytes : List ℕ) (s : ℕ) → length bytes ≤ s → IsErr (uleb_at bytes s)
 unfolding uleb_at
 uleb_at-outside bytes s out =

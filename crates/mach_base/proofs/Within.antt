@@ -1,4 +1,4 @@
--- A text that begins within a text ends where that one ends.
+-- A text that begins within another text ends where that one ends.
 use Rattle.std.proofs.Common.{◌≡◌, ℕ, ◌+◌, ◌-◌, ◌<◌, ◌≤◌, Bool, true, false, List, length, take, drop, get_or, Ok, inl, inr, refl, sym, ap, ◌∙◌, arith}
 use Rattle.std.proofs.Common.{if◌then◌else◌, nat_le, Err, min, not}
 use Rattle.std.proofs.lemmas.Bool.{cases_lt, lt-leb, le-leb}
@@ -24,7 +24,7 @@ text_is bytes text s e = elim (cases_lt s (length bytes)) [
     by true is = sym (same_ok is)
     by false is = absurd (cc)
 
--- what a run is that begins within a run
+-- a run that begins within another run
 run_within : (xs : List ℕ) (k : ℕ) → k ≤ position_or_len is_zero xs → position_or_len is_zero xs ≤ length xs
     → before_first is_zero (drop k xs) ≡ drop k (before_first is_zero xs)
 run_within xs k le whole =
@@ -37,7 +37,7 @@ run_within xs k le whole =
     (λ lt. ap is_zero (get_or-drop k xs (p - k) 0) ∙ ap (λ n. is_zero (get_or xs n 0)) on ∙ passes_at_first is_zero xs 0 (omega (arith, lt, len, le))) in
     ap (λ n. take n (drop k xs)) first ∙ sym (drop-take k (p - k) xs) ∙ ap (λ n. drop k (take n xs)) on
 
--- the text that begins so far within another one
+-- the text that begins within another text
 pub text_within : (bytes text : List ℕ) (start from : ℕ) → text_at bytes start ≡ Ok text → from < length text → IsUtf8 (drop from text)
     → text_at bytes (start + from) ≡ Ok (drop from text)
 text_within bytes text start from e lt good =

@@ -1,4 +1,4 @@
--- What is written in parts.
+-- Output that is written in parts.
 use Rattle.std.proofs.Common.{◌++◌, [], ◌∙◌, ℕ, List, Option, Some, None, sym, ap}
 use Rattle.std.proofs.lemmas.List.{append-nil, append_assoc}
 use Rattle.std.specs.Io.KnownBytes.{Appends, Keeps}

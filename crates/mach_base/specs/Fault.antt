@@ -1,4 +1,4 @@
--- What is wrong with some bytes: the kind of an error with its numbers, its wording left out.
+-- What is wrong with some bytes: the kind of an error and its numbers, without its message.
 use Rattle.std.specs.Prelude.{ℕ, List, [], ◌∷◌, Bool, true, false, Option, Some, None, Result, Err}
 use Rattle.mach_base.specs.declared.error.ScrollError.{ScrollError}
 use Rattle.mach_base.specs.declared.error.ScrollError.TheVariants as scroll
@@ -14,7 +14,7 @@ pub data Fault : Type 0 where
   too_short : (count : ℕ) (what : List ℕ) → Fault
   no_memory : Fault
 
--- something was to be read at the end of the bytes or past it
+-- a read at or past the end of the bytes
 abbrev pub is_bad_offset : Fault → Bool
 is_bad_offset malformed = false
 is_bad_offset (bad_magic magic) = false
@@ -37,7 +37,7 @@ fault_of (errors.Scroll e) = fault_of_scroll e
 fault_of (errors.BufferTooShort count what) = too_short count what.now
 fault_of (errors.Memory e) = no_memory
 
--- a fault as an item, where there is one
+-- the fault as an item, if there is one
 abbrev pub fault_item : {A : Type 0} → Option Fault → List (Result A Fault)
 fault_item None = []
 fault_item (Some f) = Err f ∷ []

@@ -1,4 +1,4 @@
--- The groups with which some bytes begin, as far as nine: what two kinds of LEB128 numbers share.
+-- The leading groups of some bytes, at most nine: the common part of both kinds of LEB128 numbers.
 use Rattle.std.specs.Prelude.{◌≡◌, ℕ, ◌+◌, ◌^◌, ◌<◌, ◌≤◌, List, length, take, slice_index}
 use Rattle.mach_base.specs.declared.leb128.Groups.{Groups}
 use Rattle.mach_base.specs.Leb128.{groups_value}

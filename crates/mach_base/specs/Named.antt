@@ -1,4 +1,4 @@
--- Names of numbers, as tables.
+-- Tables of numbers and their names.
 use Rattle.std.specs.Prelude.{◌==◌, ℕ, List, [], ◌∷◌, if◌then◌else◌}
 
 -- a number and its name
@@ -6,7 +6,7 @@ pub record Named : Type 0 where
   pub number : ℕ
   pub name : List ℕ
 
--- the name of a number in a table, or another one where the table doesn't have it
+-- the name of a number in a table, or the other one if the table does not have it
 abbrev pub name_or : List ℕ → List Named → ℕ → List ℕ
 name_or other [] n = other
 name_or other (x ∷ xs) n = if n == x.number then x.name else name_or other xs n

@@ -1,4 +1,4 @@
--- Texts: bytes up to a zero, as names stand in load commands, string tables and tries.
+-- Texts: bytes up to a zero byte, as in load commands, string tables and tries.
 use Rattle.std.specs.Prelude.{◌==◌, ◌||◌, ℕ, ◌-◌, Bool, List, length, drop, map, Result, Ok, Err, nat_le, if◌then◌else◌}
 use Rattle.std.specs.List.{before_first}
 use Rattle.std.specs.Str.{is_utf8}
@@ -16,7 +16,7 @@ is_stop b = is_zero b || nat_le 128 b
 abbrev pub run_at : List ℕ → ℕ → List ℕ
 run_at bytes s = before_first is_zero (drop s bytes)
 
--- the text at s: the run there, where s lies in the bytes and the run is UTF-8; else why not
+-- the text at s: the run there if s lies in the bytes and the run is UTF-8, or else the reason why not
 unfoldable pub text_at : List ℕ → ℕ → Result (List ℕ) Fault
 text_at bytes s =
     if nat_le (length bytes) s then Err (bad_offset s)

@@ -1,4 +1,4 @@
--- The words of an error, with its place and numbers.
+-- The message of an error, with its place and numbers.
 use Rattle.std.specs.Prelude.{ℕ, List, ◌++◌, false, codes}
 use Rattle.std.specs.Fmt.{decimal, digits}
 use Rattle.mach_base.specs.declared.error.ScrollError.{ScrollError}
@@ -7,7 +7,7 @@ use Rattle.mach_base.specs.declared.error.Error.{Error}
 use Rattle.mach_base.specs.declared.error.Error.TheVariants as errors
 use Rattle.mach_base.specs.declared.error.Description.{Description}
 
--- the error that a description is of
+-- the error that a description describes
 abbrev pub described : Description → Error
 described d = d.error.now
 

@@ -1,8 +1,8 @@
-//! Bytes as Debug shows them.
+//! Byte strings as `Debug` shows them.
 
 use std::fmt;
 
-/// Bytes of which Debug shows how many there are, and not the bytes.
+/// Bytes of which `Debug` shows only the number.
 #[derive(Clone, Copy)]
 pub struct ByteCount<'a>(pub &'a [u8]);
 

@@ -1,4 +1,4 @@
-//! Byte orders, the width of an image, and both together.
+//! The byte order and the width of an image.
 
 ghost use Rattle.std.specs.Prelude.{◌≡◌, ◌≤◌, ◌+◌, length, drop, IsTrue, ◌↔◌, if◌then◌else◌};
 ghost use Rattle.mach_base.specs.declared.context.Endian.TheVariants.{Little, Big};
@@ -17,23 +17,23 @@ pub enum Endian {
     Big,
 }
 
-/// The lowest byte first.
+/// Little-endian.
 pub const LE: Endian = Endian::Little;
 
-/// The highest byte first.
+/// Big-endian.
 pub const BE: Endian = Endian::Big;
 
 impl From<bool> for Endian {
     ghost from_gives = { λ little le. le ≡ (if little then Little else Big) };
 
-    /// `true` is little-endian.
+    /// Returns little-endian for `true`.
     fn from(little: bool) -> Endian {
         if little { Endian::Little } else { Endian::Big }
     }
 }
 
 impl Endian {
-    /// Whether the lowest byte stands first.
+    /// Whether the lowest byte comes first.
     pub fn is_little(&self) -> bool
         ensures { IsTrue result ↔ (self.now ≡ Little) }
     {
@@ -70,7 +70,7 @@ impl Endian {
         }
     }
 
-    /// The byte at a place.
+    /// Returns the byte at `place`.
     pub fn u8_at(self, bytes: &[u8], place: usize) -> u8
         requires { place + 1 ≤ length bytes.now }
         ensures { result ≡ number self 1 (drop place bytes.now) }
@@ -78,7 +78,7 @@ impl Endian {
         bytes[place]
     }
 
-    /// The number of two bytes at a place.
+    /// Reads the two-byte number at `place`.
     pub fn u16_at(self, bytes: &[u8], place: usize) -> u16
         requires { place + 2 ≤ length bytes.now }
         ensures { result ≡ number self 2 (drop place bytes.now) }
@@ -86,7 +86,7 @@ impl Endian {
         self.u16(&bytes[place..])
     }
 
-    /// The number of four bytes at a place.
+    /// Reads the four-byte number at `place`.
     pub fn u32_at(self, bytes: &[u8], place: usize) -> u32
         requires { place + 4 ≤ length bytes.now }
         ensures { result ≡ number self 4 (drop place bytes.now) }
@@ -94,7 +94,7 @@ impl Endian {
         self.u32(&bytes[place..])
     }
 
-    /// The number of eight bytes at a place.
+    /// Reads the eight-byte number at `place`.
     pub fn u64_at(self, bytes: &[u8], place: usize) -> u64
         requires { place + 8 ≤ length bytes.now }
         ensures { result ≡ number self 8 (drop place bytes.now) }
@@ -129,7 +129,7 @@ pub struct Ctx {
 }
 
 impl Ctx {
-    /// The context of a width and a byte order.
+    /// Builds the context of a width and a byte order.
     pub fn new(container: Container, le: Endian) -> Self
         ensures { result ≡ record { container = container; le = le } }
     {
@@ -143,7 +143,7 @@ impl Ctx {
         self.container.is_big()
     }
 
-    /// How many bytes a pointer has: 4 or 8.
+    /// Returns the size of a pointer in bytes: 4 or 8.
     pub fn size(self) -> usize
         ensures { result ≡ pointer_size self.container }
     {
@@ -157,7 +157,7 @@ impl Ctx {
 impl Default for Ctx {
     ghost is_default = { λ c. c ≡ record { container = width.Big; le = Little } };
 
-    /// 64 bits, little-endian.
+    /// Returns 64 bits, little-endian.
     fn default() -> Self {
         Ctx {
             container: Container::Big,

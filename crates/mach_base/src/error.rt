@@ -7,14 +7,14 @@ ghost use Rattle.mach_base.specs.Words.{described};
 use std::alloc::{AllocError, AllocFailed};
 use std::fmt;
 
-/// A read or a write that failed at its place.
+/// A read or a write that failed at an offset.
 #[derive(Debug, Drop)]
 pub enum ScrollError {
-    /// The offset lies at or past the end of the bytes.
+    /// The offset is at or past the end of the bytes.
     BadOffset(usize),
-    /// `size` bytes were asked for, and only `len` are left.
+    /// `size` bytes were requested, but only `len` are left.
     TooBig { size: usize, len: usize },
-    /// The bytes that are left, `size` of them, begin with no such value.
+    /// The remaining bytes, `size` of them, do not begin with such a value.
     BadInput { size: usize, msg: &'static str },
 }
 
@@ -23,13 +23,13 @@ pub enum ScrollError {
 pub enum Error {
     /// The bytes break a rule of the format.
     Malformed(&'static str),
-    /// The magic number is none of those that are read.
+    /// The magic number is none of the supported ones.
     BadMagic(u64),
-    /// A read or a write failed at its place.
+    /// A read or a write failed at an offset.
     Scroll(ScrollError),
-    /// So many of the things named cannot lie in the bytes.
+    /// The bytes cannot hold that many of the named things.
     BufferTooShort(usize, &'static str),
-    /// Memory was refused.
+    /// An allocation was refused.
     Memory(AllocError),
 }
 
@@ -61,13 +61,13 @@ impl<T: Drop> From<AllocFailed<T>> for Error {
     }
 }
 
-/// An error that is written in words.
+/// An error with its message.
 #[derive(Clone, Copy, Debug)]
 pub struct Description<'a> {
     error: &'a Error,
 }
 
-/// The words of an error, with its place and numbers: one line, to be written by `{}`.
+/// Describes an error in one line, with its offset and numbers. Print it by `{}`.
 pub fn describe(error: &Error) -> Description<'_>
     ensures { described result ≡ error.now }
 {

@@ -1,4 +1,4 @@
-//! Texts that end together are sought once.
+//! A reader of texts that searches only once for the common end of several texts.
 
 ghost use Rattle.std.specs.Prelude.{◌≡◌, ◌<◌, ◌+◌, length, Ok, IfSome};
 ghost use Rattle.mach_base.specs.Text.{text_at};
@@ -7,17 +7,17 @@ ghost use Rattle.mach_base.specs.Answer.{Reads};
 use crate::error::Result;
 use crate::texts::read_text;
 
-// How long a text is at least that is kept: shorter ones cost little.
+// The shortest text that is kept, in bytes. Shorter ones are cheap to read again.
 const LONG: usize = 256;
 
-/// Reads texts at places of some bytes, and keeps the last long one: a text that begins within it ends where it ends, and is not
-/// sought again. So names that all run on to one far zero byte cost one search, and not one each.
+/// Reads texts at places of some bytes and keeps the last long one. A text that begins within the kept one ends where
+/// that one ends, so its end is not searched again. Names that all run to one distant zero byte cost one search together.
 #[derive(Clone, Copy)]
 pub struct KeptText<'a> {
     bytes: &'a [u8],
-    /// Where the text that is kept begins.
+    /// Where the kept text begins.
     start: usize,
-    /// It, empty where none is.
+    /// The kept text, or empty if there is none.
     text: &'a str,
     ghost there: { 0 < length text.now → text_at bytes.now start ≡ Ok text.now },
 }
@@ -25,7 +25,7 @@ pub struct KeptText<'a> {
 impl<'a> KeptText<'a> {
     ghost use Rattle.mach_base.specs.KeptText.{kept_bytes};
 
-    /// A reader of these bytes, which keeps no text yet.
+    /// Builds a reader of these bytes. It keeps no text yet.
     pub fn new(bytes: &'a [u8]) -> KeptText<'a>
         ensures { kept_bytes result ≡ bytes.now }
     {
@@ -36,7 +36,7 @@ impl<'a> KeptText<'a> {
         }
     }
 
-    // The text at a place within the one that is kept, if a character begins there.
+    // Returns the text at `place` if that lies within the kept text and a character begins there.
     #[inline(always)]
     fn within(&self, place: usize) -> Option<&'a str>
         ensures { IfSome result (λ text. text_at (kept_bytes self.now) place ≡ Ok text.now) }
@@ -47,7 +47,7 @@ impl<'a> KeptText<'a> {
         self.cut(place - self.start)
     }
 
-    // What is left of the kept text from a character on.
+    // Returns the rest of the kept text from `from` on, if a character begins there.
     #[cold]
     #[inline(never)]
     fn cut(&self, from: usize) -> Option<&'a str>
@@ -60,7 +60,7 @@ impl<'a> KeptText<'a> {
         Some(&self.text[from..])
     }
 
-    /// The text at a place: it runs to the first zero byte or to the end, and is UTF-8.
+    /// Reads the text at `place`. It runs to the first zero byte, or to the end, and is UTF-8.
     #[inline(always)]
     pub fn read(&mut self, place: usize) -> Result<&'a str>
         ensures text { Reads (λ text. text.now) result (text_at (kept_bytes self.old) place) }

@@ -1,4 +1,4 @@
-//! LEB128: numbers in groups of seven bits, the lowest first.
+//! LEB128: numbers in groups of seven bits, the lowest group first.
 
 ghost use Rattle.std.specs.Prelude.{◌≡◌, ◌<◌, ◌≤◌, ◌+◌, ◌^◌, ◌-ℤ◌, ℕ, ℤ, pos, length, take, Ok, IfOk, IfSome, IfNone, OnErr, IsErr, MatchOption, if◌then◌else◌};
 ghost use Rattle.mach_base.specs.Leb128.{IsUleb, IsSleb, uleb_at, sleb_at, uleb_number, uleb_size, sleb_number, sleb_size};
@@ -8,7 +8,7 @@ ghost use Rattle.mach_base.specs.Answer.{Reads};
 use crate::error::{Error, Result, ScrollError};
 use crate::numbers::{rest_at, try_rest_at};
 
-/// A number without a sign, and how many bytes spell it.
+/// An unsigned number and the length of its spelling.
 #[derive(Clone, Copy, Debug, PartialEq)]
 pub struct Uleb128 {
     value: u64,
@@ -16,8 +16,7 @@ pub struct Uleb128 {
 }
 
 impl Uleb128 {
-    /// The number spelled at the offset, which moves behind its one to ten bytes. A refused read
-    /// leaves the offset.
+    /// Reads the number at the offset and moves the offset past its one to ten bytes. On an error the offset is unchanged.
     pub fn read(bytes: &[u8], offset: &mut usize) -> Result<u64>
         ensures value { Reads (λ n. (n, offset.new)) result (uleb_at bytes.now offset.old) }
         ensures refused { OnErr result (offset.new ≡ offset.old) }
@@ -27,7 +26,7 @@ impl Uleb128 {
         Ok(value)
     }
 
-    /// The number spelled at the offset.
+    /// Reads the number at the offset.
     pub fn parse(bytes: &[u8], offset: usize) -> Result<Self>
         ensures { Reads (λ u. (uleb_number u, offset + uleb_size u)) result (uleb_at bytes.now offset) }
     {
@@ -38,7 +37,7 @@ impl Uleb128 {
         })
     }
 
-    /// How many bytes spell the number.
+    /// Returns how many bytes spell the number.
     pub fn size(&self) -> usize
         ensures { result ≡ uleb_size self.now }
     {
@@ -54,7 +53,7 @@ impl From<Uleb128> for u64 {
     }
 }
 
-/// A number with a sign, and how many bytes spell it.
+/// A signed number and the length of its spelling.
 #[derive(Clone, Copy, Debug, PartialEq)]
 pub struct Sleb128 {
     value: i64,
@@ -62,8 +61,7 @@ pub struct Sleb128 {
 }
 
 impl Sleb128 {
-    /// The signed number spelled at the offset, which moves behind its one to ten bytes. A refused
-    /// read leaves the offset.
+    /// Reads the signed number at the offset and moves the offset past its one to ten bytes. On an error the offset is unchanged.
     pub fn read(bytes: &[u8], offset: &mut usize) -> Result<i64>
         ensures value { Reads (λ z. (z, offset.new)) result (sleb_at bytes.now offset.old) }
         ensures refused { OnErr result (offset.new ≡ offset.old) }
@@ -73,7 +71,7 @@ impl Sleb128 {
         Ok(value)
     }
 
-    /// The signed number spelled at the offset.
+    /// Reads the signed number at the offset.
     pub fn parse(bytes: &[u8], offset: usize) -> Result<Self>
         ensures { Reads (λ u. (sleb_number u, offset + sleb_size u)) result (sleb_at bytes.now offset) }
     {
@@ -84,7 +82,7 @@ impl Sleb128 {
         })
     }
 
-    /// How many bytes spell the number.
+    /// Returns how many bytes spell the number.
     pub fn size(&self) -> usize
         ensures { result ≡ sleb_size self.now }
     {
@@ -100,19 +98,19 @@ impl From<Sleb128> for i64 {
     }
 }
 
-// The groups with which some bytes begin: up to the last of their number, or nine of them.
+// The leading groups of some bytes: up to the last group of the number, at most nine.
 #[derive(Clone, Copy)]
 struct Groups {
     value: u64,
-    // 128 to the power of how many they are
+    // 128 to the power of the number of groups
     weight: u64,
-    // the place of the last, and that byte
+    // the place of the last group, and its byte
     index: usize,
     last: u8,
 }
 
 impl Groups {
-    // The number of the groups, less their weight where it is negative.
+    // Returns the number of the groups. If it is negative, their weight is subtracted.
     fn signed(self, negative: bool) -> i64
         requires below { self.value < self.weight }
         requires fits { self.weight ≤ 2 ^ 63 }
@@ -126,7 +124,7 @@ impl Groups {
     }
 }
 
-// The groups with which the bytes begin.
+// Reads the leading groups of the bytes. `None` if the bytes end before the number and before the ninth group.
 fn front_groups(bytes: &[u8]) -> Option<Groups>
     ensures found { IfSome result (AreFront bytes.now) }
     ensures cut { IfNone result (length bytes.now < 9) }
@@ -158,7 +156,7 @@ fn front_groups(bytes: &[u8]) -> Option<Groups>
     })
 }
 
-// The number with which the bytes begin, and how many bytes spell it.
+// Reads the number with which the bytes begin, and its length in bytes.
 fn uleb_front(bytes: &[u8]) -> Option<(u64, usize)>
     ensures found { IfSome result (λ found. IsUleb (take found.1 bytes.now) found.0) }
     ensures within { IfSome result (λ found. found.1 ≤ length bytes.now) }
@@ -174,7 +172,7 @@ fn uleb_front(bytes: &[u8]) -> Option<(u64, usize)>
     Some((groups.value + u64::from(bytes[9]) * groups.weight, 10))
 }
 
-// The number with which the bytes begin, and how many bytes spell it, where they are at most four.
+// Reads the number with which the bytes begin, and its length in bytes, if it has at most four.
 #[inline(always)]
 fn short_front(bytes: &[u8]) -> Option<(u64, usize)>
     ensures found { IfSome result (λ found. IsUleb (take found.1 bytes.now) found.0) }
@@ -207,7 +205,7 @@ fn short_front(bytes: &[u8]) -> Option<(u64, usize)>
     Some((three + u64::from(bytes[3]) * 2_097_152, 4))
 }
 
-// The signed number with which the bytes begin, and how many bytes spell it.
+// Reads the signed number with which the bytes begin, and its length in bytes.
 fn sleb_front(bytes: &[u8]) -> Option<(i64, usize)>
     ensures found { IfSome result (λ found. IsSleb (take found.1 bytes.now) found.0) }
     ensures within { IfSome result (λ found. found.1 ≤ length bytes.now) }
@@ -227,7 +225,7 @@ fn sleb_front(bytes: &[u8]) -> Option<(i64, usize)>
     }
 }
 
-/// The ULEB128 number at a place, and the place after its one to ten bytes.
+/// Reads the ULEB128 number at `place`, and returns it with the place after its one to ten bytes.
 #[tactic(auto, unfolding(crate::specs::Leb128::uleb_at))]
 pub fn uleb(bytes: &[u8], place: usize) -> Result<(u64, usize)>
     ensures value { Reads (λ found. found) result (uleb_at bytes.now place) }
@@ -244,7 +242,7 @@ pub fn uleb(bytes: &[u8], place: usize) -> Result<(u64, usize)>
     }
 }
 
-// What `uleb` finds, or 0 as the place after it: two numbers, which are handed over in registers.
+// Like `uleb`, but returns 0 as the place after if there is no number. Two numbers are returned in registers.
 #[cold]
 #[inline(never)]
 fn long_uleb(bytes: &[u8], place: usize) -> (u64, usize)
@@ -259,8 +257,7 @@ fn long_uleb(bytes: &[u8], place: usize) -> (u64, usize)
     }
 }
 
-/// The ULEB128 number at a place, and the place after it, wherever `uleb` finds one: a number of at
-/// most four bytes with no call.
+/// Like `uleb`, but returns `None` if there is no number. A number of at most four bytes is read without a call.
 #[inline(always)]
 pub fn quick_uleb(bytes: &[u8], place: usize) -> Option<(u64, usize)>
     ensures value { MatchOption result (IsErr (uleb_at bytes.now place)) (λ found. uleb_at bytes.now place ≡ Ok found) }
@@ -280,7 +277,7 @@ pub fn quick_uleb(bytes: &[u8], place: usize) -> Option<(u64, usize)>
     Some((value, after))
 }
 
-/// The SLEB128 number at a place, and the place after its one to ten bytes.
+/// Reads the SLEB128 number at `place`, and returns it with the place after its one to ten bytes.
 #[tactic(auto, unfolding(crate::specs::Leb128::sleb_at))]
 pub fn sleb(bytes: &[u8], place: usize) -> Result<(i64, usize)>
     ensures value { Reads (λ found. found) result (sleb_at bytes.now place) }

@@ -1,4 +1,4 @@
-//! What every reader stands on: errors, byte orders, numbers, texts, LEB128, records, a count of reads.
+//! What all readers build on: errors, byte orders, numbers, texts, LEB128, records, a count of reads.
 #![tactic(auto)]
 
 mod byte_count;

@@ -1,8 +1,8 @@
-//! The low bits of a number, where a narrower field takes it.
+//! The low bits of a number, for a field that is narrower.
 
 ghost use Rattle.std.specs.Prelude.{◌≡◌, ◌%◌, ◌^◌};
 
-/// The low 32 bits of a number.
+/// Returns the low 32 bits of a number.
 pub fn low_bits(x: u64) -> u32
     ensures { result ≡ x % 2 ^ 32 }
 {

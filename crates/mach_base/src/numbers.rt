@@ -1,4 +1,4 @@
-//! The bounded read, and numbers at a place.
+//! Bounded reads, and numbers at an offset.
 
 ghost use Rattle.std.specs.Prelude.{◌≡◌, ◌≤◌, ◌+◌, length, drop, take};
 ghost use Rattle.mach_base.specs.Number.{number_at, slice_at, rest_from};
@@ -7,7 +7,7 @@ ghost use Rattle.mach_base.specs.Answer.{Reads};
 use crate::context::Endian;
 use crate::error::{Error, Result, ScrollError};
 
-/// The bytes from a place on.
+/// Returns the bytes from `offset` on.
 pub fn rest_at(bytes: &[u8], offset: usize) -> &[u8]
     requires { offset ≤ length bytes.now }
     ensures { result.now ≡ drop offset bytes.now }
@@ -15,7 +15,7 @@ pub fn rest_at(bytes: &[u8], offset: usize) -> &[u8]
     &bytes[offset..]
 }
 
-/// The bytes from a place on, where it lies in the bytes.
+/// Returns the bytes from `offset` on. Fails if the offset is at or past the end.
 pub fn try_rest_at(bytes: &[u8], offset: usize) -> Result<&[u8]>
     ensures { Reads (λ rest. rest.now) result (rest_from bytes.now offset) }
 {
@@ -25,7 +25,7 @@ pub fn try_rest_at(bytes: &[u8], offset: usize) -> Result<&[u8]>
     Ok(rest_at(bytes, offset))
 }
 
-/// The `n` bytes at a place.
+/// Returns the `n` bytes at `offset`.
 pub fn bytes_at(bytes: &[u8], offset: usize, n: usize) -> Result<&[u8]>
     ensures { Reads (λ found. found.now) result (slice_at n bytes.now offset) }
 {
@@ -39,14 +39,14 @@ pub fn bytes_at(bytes: &[u8], offset: usize, n: usize) -> Result<&[u8]>
     Ok(&rest[..n])
 }
 
-/// The number of four bytes at a place.
+/// Reads the four-byte number at `offset`.
 pub fn read_u32(bytes: &[u8], offset: usize, le: Endian) -> Result<u32>
     ensures { Reads (λ n. n) result (number_at le 4 bytes.now offset) }
 {
     Ok(le.u32_at(bytes_at(bytes, offset, 4)?, 0))
 }
 
-/// The `N` bytes at a place.
+/// Copies the `N` bytes at `place`.
 pub fn array_at<const N: usize>(bytes: &[u8], place: usize) -> [u8; N]
     requires { place + N ≤ length bytes.now }
     ensures { result ≡ take N (drop place bytes.now) }

@@ -1,4 +1,4 @@
-//! Values at an offset: reading, reading on, and writing.
+//! Reads and writes values at an offset.
 
 ghost use Rattle.std.specs.Prelude.{◌≡◌, length, OnErr, OnOk};
 ghost use Rattle.mach_base.specs.Answer.{Reads, ReadsBy};
@@ -10,7 +10,7 @@ use crate::error::{Error, Result, ScrollError};
 use crate::numbers::try_rest_at;
 use crate::traits::{TryFromCtx, TryIntoCtx};
 
-/// The value at an offset.
+/// Reads the value at an offset.
 pub fn pread_with<'a, T: TryFromCtx<'a, C>, C: Drop>(
     bytes: &'a [u8],
     offset: usize,
@@ -23,8 +23,8 @@ pub fn pread_with<'a, T: TryFromCtx<'a, C>, C: Drop>(
     Ok(value)
 }
 
-/// The value at an offset, which moves behind it. A refused read leaves the offset; a move past
-/// 64 bits is refused as `Malformed`.
+/// Reads the value at the offset and moves the offset past it. On an error the
+/// offset is unchanged. Fails as `Malformed` if the new offset would exceed 64 bits.
 pub fn gread_with<'a, T: TryFromCtx<'a, C> + Drop, C: Drop>(
     bytes: &'a [u8],
     offset: &mut usize,
@@ -43,8 +43,7 @@ pub fn gread_with<'a, T: TryFromCtx<'a, C> + Drop, C: Drop>(
     Ok(value)
 }
 
-/// Writes a value at an offset, and answers how many bytes it has. A refused write leaves the
-/// bytes.
+/// Writes a value at an offset and returns its number of bytes. On an error the bytes are unchanged.
 pub fn pwrite_with<T: TryIntoCtx<C> + Drop, C: Drop>(
     bytes: &mut [u8],
     value: T,

@@ -1,4 +1,4 @@
-//! Records: fields one after the other, in one byte order.
+//! Records: fields one after another, in one byte order.
 
 ghost use Rattle.std.specs.Prelude.{◌≡◌, ◌<◌, ◌≤◌, ◌+◌, ℕ, List, length, drop, take, ◌++◌, ◌∷◌, [], IfOk, IfErr, OnOk, IsOk, ◌↔◌, Ok, Err};
 ghost use Rattle.mach_base.specs.Number.{number_bytes};
@@ -12,7 +12,7 @@ use crate::error::{Error, Result, ScrollError};
 use byteorder::{BigEndian, ByteOrder, LittleEndian};
 use std::marker::Model;
 
-/// The bytes of a record, which are at most 80.
+/// The bytes of a record, at most 80.
 #[derive(Drop)]
 pub struct RecordBytes {
     buffer: [u8; 80],
@@ -46,7 +46,7 @@ impl RecordBytes {
         self.len = end;
     }
 
-    /// The bytes with one byte after them.
+    /// Appends one byte.
     pub fn u8(mut self, le: Endian, x: u8) -> Self
         requires { length self + 1 ≤ 80 }
         ensures { result ≡ self ++ number_bytes le 1 x }
@@ -55,7 +55,7 @@ impl RecordBytes {
         self
     }
 
-    /// The bytes with a number of two bytes after them.
+    /// Appends a two-byte number.
     pub fn u16(mut self, le: Endian, x: u16) -> Self
         requires { length self + 2 ≤ 80 }
         ensures { result ≡ self ++ number_bytes le 2 x }
@@ -69,7 +69,7 @@ impl RecordBytes {
         self
     }
 
-    /// The bytes with a number of four bytes after them.
+    /// Appends a four-byte number.
     pub fn u32(mut self, le: Endian, x: u32) -> Self
         requires { length self + 4 ≤ 80 }
         ensures { result ≡ self ++ number_bytes le 4 x }
@@ -83,7 +83,7 @@ impl RecordBytes {
         self
     }
 
-    /// The bytes with a number of eight bytes after them.
+    /// Appends an eight-byte number.
     pub fn u64(mut self, le: Endian, x: u64) -> Self
         requires { length self + 8 ≤ 80 }
         ensures { result ≡ self ++ number_bytes le 8 x }
@@ -97,7 +97,7 @@ impl RecordBytes {
         self
     }
 
-    /// The bytes with others after them.
+    /// Appends `bytes`.
     pub fn bytes(mut self, bytes: &[u8]) -> Self
         requires { length self + length bytes.now ≤ 80 }
         ensures { result ≡ self ++ bytes.now }
@@ -113,7 +113,7 @@ impl RecordBytes {
     }
 }
 
-/// How many records of `size` bytes, one after the other from `start` on, begin within the bytes. No byte of the others is there.
+/// Counts the records of `size` bytes that begin within the bytes, one after another from `start` on. No byte of any later record exists.
 #[inline(always)]
 pub fn records_begun(bytes: &[u8], start: usize, size: usize) -> usize
     requires { 0 < size }
@@ -122,33 +122,33 @@ pub fn records_begun(bytes: &[u8], start: usize, size: usize) -> usize
     bytes.len().saturating_sub(start).div_ceil(size)
 }
 
-/// Fields one after the other, all in one byte order.
+/// Fields one after another, all in one byte order.
 pub trait Record: Copy {
-    /// How many bytes the record has.
+    /// The size of the record in bytes.
     const SIZE: usize;
 
     ghost SIZE: { ℕ };
 
-    // The fields, from the first.
+    // The fields, in order.
     ghost fields: { List Field };
 
     // The value of each field.
     ghost values: { Self → List Value };
 
-    /// The record at the front of some bytes.
+    /// Loads the record with which the bytes begin.
     fn load(bytes: &[u8], le: Endian) -> Self
         requires { SIZE ≤ length bytes.now }
         ensures { values result ≡ values_in le fields 0 bytes.now };
 
-    /// The bytes of the record.
+    /// Returns the bytes of the record.
     fn store(self, le: Endian) -> RecordBytes
         ensures spelled { result ≡ spelled_after le [] fields (values self) }
         ensures fits { AllFit fields (values self) };
 
-    // The size is that of the fields, no record is empty, and no other one has the same values.
+    // `SIZE` is the size of the fields together, no record is empty, and two records with the same values are equal.
     ghost lawful: { IsRecord SIZE fields values };
 
-    /// The record at a place.
+    /// Reads the record at `offset`.
     #[inline(always)]
     final fn read(bytes: &[u8], offset: usize, le: Endian) -> Result<Self>
         ensures { Reads values result (record_at le fields bytes.now offset) }
@@ -166,7 +166,7 @@ pub trait Record: Copy {
         Ok(Self::load(rest, le))
     }
 
-    /// Writes the record at a place. A refused write leaves the bytes.
+    /// Writes the record at `offset` and returns its size. On an error the bytes are unchanged.
     final fn write(&self, bytes: &mut [u8], offset: usize, le: Endian) -> Result<usize>
         ensures written { IfOk result (λ n. (n ≡ SIZE) × IsWritten bytes.old bytes.new offset (spelling le fields (values self.now))) }
         ensures room { IsOk result ↔ (offset + SIZE ≤ length bytes.old) }
@@ -191,7 +191,7 @@ pub trait Record: Copy {
     }
 }
 
-/// Writes a record, and reads it again: it is the same. A refused write leaves the bytes.
+/// Writes a record and reads it back: it is the same. On an error the bytes are unchanged.
 pub fn written_and_read<R: Record>(
     held: R,
     bytes: &mut [u8],
@@ -207,7 +207,7 @@ pub fn written_and_read<R: Record>(
     R::read(bytes, offset, le)
 }
 
-// The bytes of a record, as one list after the other.
+// Returns the bytes of a record as one list.
 fn bytes_of<R: Record>(held: R, le: Endian) -> RecordBytes
     ensures spelled { result ≡ spelling le R.fields (R.values held) }
     ensures fits { AllFit R.fields (R.values held) }

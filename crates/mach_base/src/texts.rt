@@ -1,4 +1,4 @@
-//! Texts at a place.
+//! Reads texts at an offset.
 
 ghost use Rattle.std.specs.Prelude.{◌≡◌, ◌≤◌, ◌+◌, length, map, Ok, IfOk, IfSome, IsErr, MatchOption};
 ghost use Rattle.std.specs.Str.{IsUtf8, IsAscii};
@@ -12,10 +12,10 @@ use crate::numbers::{rest_at, try_rest_at};
 use memchr::memchr;
 use std::simd::prelude::*;
 
-// How many bytes are looked at together.
+// How many bytes are tested at once.
 const LANES: usize = 32;
 
-// How many bytes stand before the first zero byte.
+// Returns the number of bytes before the first zero byte.
 fn len_before_zero(bytes: &[u8]) -> usize
     ensures value { result ≡ position_or_len is_zero bytes.now }
     ensures within { result ≤ length bytes.now }
@@ -23,7 +23,7 @@ fn len_before_zero(bytes: &[u8]) -> usize
     memchr(0, bytes).unwrap_or(bytes.len())
 }
 
-// The bytes up to the first zero byte.
+// Returns the bytes before the first zero byte.
 fn run_at_front(bytes: &[u8]) -> &[u8]
     ensures run { result.now ≡ before_first is_zero bytes.now }
     ensures within { length result.now ≤ length bytes.now }
@@ -31,7 +31,7 @@ fn run_at_front(bytes: &[u8]) -> &[u8]
     &bytes[..len_before_zero(bytes)]
 }
 
-// Bytes that are all ASCII, as a text.
+// Returns ASCII bytes as a text.
 fn ascii_text(bytes: &[u8]) -> &str
     requires { IsAscii bytes.now }
     ensures { result.now ≡ bytes.now }
@@ -39,7 +39,7 @@ fn ascii_text(bytes: &[u8]) -> &str
     unsafe { str::from_utf8_unchecked(bytes) }
 }
 
-// The text at the front, if it is UTF-8, ASCII or not.
+// Returns the text with which the bytes begin if it is UTF-8, ASCII or not.
 #[cold]
 #[inline(never)]
 fn utf8_at_front(bytes: &[u8]) -> Option<&str>
@@ -61,7 +61,7 @@ fn is_stop(byte: u8) -> bool
     byte == 0 || byte >= 0x80
 }
 
-// Bit k stands for the byte k places on, and is set where that one is zero or not ASCII.
+// Tests `LANES` bytes at `place`. Bit k is set if the byte k places further on is zero or not ASCII.
 #[inline(always)]
 fn stops_at(bytes: &[u8], place: usize) -> u64
     requires { place + LANES ≤ length bytes.now }
@@ -71,7 +71,7 @@ fn stops_at(bytes: &[u8], place: usize) -> u64
     (lanes.simd_eq(u8x32::splat(0)) | lanes.simd_ge(u8x32::splat(0x80))).to_bitmask()
 }
 
-// How many bytes stand before the first that is zero or not ASCII.
+// Returns the number of bytes before the first that is zero or not ASCII.
 #[inline(always)]
 fn plain_len(bytes: &[u8]) -> usize
     ensures value { result ≡ position_or_len is_stop bytes.now }
@@ -91,7 +91,7 @@ fn plain_len(bytes: &[u8]) -> usize
     len
 }
 
-// The text at the front, if it is UTF-8. Most are ASCII, and for those one search does.
+// Returns the text with which the bytes begin, if it is UTF-8. Most texts are ASCII and need only one search.
 #[inline(always)]
 fn text_at_front(bytes: &[u8]) -> Option<&str>
     ensures text { MatchOption result (¬ (IsUtf8 (before_first is_zero bytes.now)))
@@ -105,7 +105,7 @@ fn text_at_front(bytes: &[u8]) -> Option<&str>
     Some(ascii_text(&bytes[..len]))
 }
 
-/// The text at a place, wherever `read_text` finds one.
+/// Like `read_text`, but returns `None` if there is no text.
 #[tactic(auto, unfolding(crate::specs::Text::text_at))]
 #[inline(always)]
 pub fn quick_text(bytes: &[u8], place: usize) -> Option<&str>
@@ -118,7 +118,7 @@ pub fn quick_text(bytes: &[u8], place: usize) -> Option<&str>
     text_at_front(rest_at(bytes, place))
 }
 
-/// The text at a place: it runs to the first zero byte or to the end, and is UTF-8.
+/// Reads the text at `offset`. It runs to the first zero byte, or to the end, and is UTF-8.
 #[tactic(auto, unfolding(crate::specs::Text::text_at))]
 #[inline(always)]
 pub fn read_text(bytes: &[u8], offset: usize) -> Result<&str>

@@ -1,4 +1,4 @@
-//! Values that are read and written in a context: a byte order, a width, or both.
+//! Traits of values that are read and written in a context: a byte order, a width, or both.
 
 ghost use Rattle.std.specs.Prelude.{◌≡◌, ◌<◌, ◌≤◌, ℕ, List, length, OnErr, OnOk};
 ghost use Rattle.mach_base.specs.Answer.{Reads, ReadsBy};
@@ -11,9 +11,9 @@ use crate::context::Endian;
 use crate::error::{Error, Result};
 use crate::record::Record;
 
-/// A value that is read from the front of some bytes, and may borrow them.
+/// A value that is read from the start of some bytes, and may borrow them.
 pub trait TryFromCtx<'a, C>: Sized {
-    /// Why there is no value: `Error`, at each type of these crates.
+    /// The reason why there is no value: `Error` for each type of these crates.
     type Error: From<Error>;
 
     // The fault that an error reports.
@@ -24,26 +24,25 @@ pub trait TryFromCtx<'a, C>: Sized {
 
     ghost view: { Self → View };
 
-    // The value at the front of some bytes and how many bytes wide it is, or why there is none.
+    // The value at the start of some bytes and its width in bytes, or the reason why there is none.
     ghost front: { C → List ℕ → Found View };
 
-    /// The value at the front of the bytes, and how many bytes wide it is.
+    /// Reads the value at the start of the bytes, and returns it with its width in bytes.
     fn try_from_ctx(bytes: &'a [u8], ctx: C) -> std::result::Result<(Self, usize), Self::Error>
         ensures { ReadsBy fault (λ found. (view found.0, found.1)) result (front ctx bytes.now) };
 
-    // An error that is made of one of these crates reports its fault.
+    // An error that is converted from an `Error` reports the same fault.
     ghost keeps_fault: { KeepsFault Self.Error.from_gives fault };
 }
 
-/// A value that is written at the front of some bytes, where it fits.
+/// A value that can be written at the start of some bytes if it fits.
 pub trait TryIntoCtx<C>: Sized {
-    // The bytes of a value, and how many they are.
+    // The bytes of a value, and their number.
     ghost spelled: { C → Self → List ℕ };
 
     ghost width: { C → Self → ℕ };
 
-    /// Writes the value at the front of the bytes, and answers how many bytes it has. A refused
-    /// write leaves the bytes.
+    /// Writes the value at the start of the bytes and returns its number of bytes. On an error the bytes are unchanged.
     fn try_into_ctx(self, bytes: &mut [u8], ctx: C) -> Result<usize>
         ensures answer { Reads (λ n. n) result (room_at (width ctx self) bytes.old 0) }
         ensures written { OnOk result (IsWritten bytes.old bytes.new 0 (spelled ctx self)) }
@@ -54,9 +53,9 @@ pub trait TryIntoCtx<C>: Sized {
     ghost not_empty: { (ctx : C) (value : Self) → 0 < width ctx value };
 }
 
-/// A value that is written at the front of bytes that hold it. `try_into_ctx` is the test.
+/// A value that is written into bytes that are known to hold it. `try_into_ctx` tests that.
 pub trait IntoCtx<C>: TryIntoCtx<C> {
-    /// Writes the value at the front of the bytes.
+    /// Writes the value at the start of the bytes.
     fn into_ctx(self, bytes: &mut [u8], ctx: C)
         requires { Self.width ctx self ≤ length bytes.old }
         ensures { IsWritten bytes.old bytes.new 0 (Self.spelled ctx self) }
@@ -65,11 +64,11 @@ pub trait IntoCtx<C>: TryIntoCtx<C> {
     }
 }
 
-/// A type whose values are all of one width in a context.
+/// A type whose values all have the same width in a context.
 pub trait SizeWith<C> {
     ghost size: { C → ℕ };
 
-    /// How many bytes a value has.
+    /// Returns the width of a value in bytes.
     fn size_with(ctx: &C) -> usize
         ensures { result ≡ size ctx.now };
 }

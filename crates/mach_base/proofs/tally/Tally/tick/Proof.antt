@@ -1,4 +1,4 @@
--- `tick` sets the ghost field to one more; nothing happens at run time.
+-- `tick` adds one to the ghost field; nothing happens at run time.
 use mathlib.Core.Path.{refl, sym, subst}
 use mathlib.Core.List.{List, [], ◌∷◌}
 use Prim.Native.Nat.{◌+◌}
