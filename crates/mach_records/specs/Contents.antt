@@ -1,5 +1,5 @@
--- What else an image says of itself (`mach-o/loader.h`).
--- Of each record: its fields, from the first, and what they hold.
+-- Further facts about an image (`mach-o/loader.h`).
+-- For each record: its fields in order, and their values.
 use Rattle.std.specs.Prelude.{List, [], ◌∷◌}
 use Rattle.mach_base.specs.Record.{Field, num, arr, Value, number_is, bytes_are}
 use Rattle.mach_records.specs.declared.contents.UuidCommand.{UuidCommand}

@@ -1,5 +1,5 @@
 -- Libraries that an image is or uses (`mach-o/loader.h`).
--- Of each record: its fields, from the first, and what they hold.
+-- For each record: its fields in order, and their values.
 use Rattle.std.specs.Prelude.{List, [], ◌∷◌}
 use Rattle.mach_base.specs.Record.{Field, num, Value, number_is}
 use Rattle.mach_records.specs.declared.libraries.Dylib.{Dylib}

@@ -1,5 +1,5 @@
--- What stands in the link-edit segment, and what is encrypted (`mach-o/loader.h`).
--- Of each record: its fields, from the first, and what they hold.
+-- The tables of the link-edit segment, and encrypted bytes (`mach-o/loader.h`).
+-- For each record: its fields in order, and their values.
 use Rattle.std.specs.Prelude.{List, [], ◌∷◌}
 use Rattle.mach_base.specs.Record.{Field, num, Value, number_is}
 use Rattle.mach_records.specs.declared.linkedit.LinkeditDataCommand.{LinkeditDataCommand}

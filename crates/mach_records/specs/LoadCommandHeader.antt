@@ -1,5 +1,4 @@
--- The header of a load command (`mach-o/loader.h`): its fields, what they hold, and the line that shows
--- it.
+-- The header of a load command (`mach-o/loader.h`): its fields, their values, and the line that prints it.
 use Rattle.std.specs.Prelude.{ℕ, List, [], ◌∷◌, ◌++◌, codes}
 use Rattle.std.specs.Fmt.{decimal}
 use Rattle.mach_base.specs.Record.{Field, num, Value, number_is}
@@ -13,6 +12,6 @@ header_fields = num 4 ∷ num 4 ∷ []
 abbrev pub header_values : LoadCommandHeader → List Value
 header_values h = number_is h.cmd ∷ number_is h.cmdsize ∷ []
 
--- the line that Display writes
+-- the line that `Display` writes
 abbrev pub header_text : LoadCommandHeader → List ℕ
 header_text h = codes "LoadCommandHeader: " ++ command_name h.cmd ++ codes " size: " ++ decimal h.cmdsize

@@ -1,5 +1,5 @@
--- Tables of a dynamic library that is made of modules (`mach-o/loader.h`).
--- Of each record: its fields, from the first, and what they hold.
+-- Tables of a dynamic library that consists of modules (`mach-o/loader.h`).
+-- For each record: its fields in order, and their values.
 use Rattle.std.specs.Prelude.{List, [], ◌∷◌}
 use Rattle.mach_base.specs.Record.{Field, num, arr, Value, number_is, bytes_are}
 use Rattle.mach_records.specs.declared.modules.DylibTableOfContents.{DylibTableOfContents}

@@ -16,7 +16,7 @@ platform_cmd Watchos = 0x30
 abbrev pub IsPlatformCmd : ℕ → Type 0
 IsPlatformCmd cmd = (platform : Platform) × (cmd ≡ platform_cmd platform)
 
--- the platform of this number, or malformed where no platform has it
+-- the platform of this number, or malformed if no platform has it
 abbrev pub GivesPlatform : ℕ → Result Platform Error → Type 0
 GivesPlatform cmd (Ok platform) = cmd ≡ platform_cmd platform
 GivesPlatform cmd (Err e) = (fault_of e ≡ malformed) × ((platform : Platform) → cmd ≢ platform_cmd platform)

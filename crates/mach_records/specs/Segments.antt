@@ -1,5 +1,5 @@
 -- Segments and their sections (`mach-o/loader.h`).
--- Of each record: its fields, from the first, and what they hold.
+-- For each record: its fields in order, and their values.
 use Rattle.std.specs.Prelude.{List, [], ◌∷◌}
 use Rattle.mach_base.specs.Record.{Field, num, arr, Value, number_is, bytes_are, number_among, bytes_among}
 use Rattle.mach_records.specs.declared.segments.Section32.{Section32}

@@ -1,5 +1,5 @@
 -- The symbol table, and the tables that order it (`mach-o/loader.h`).
--- Of each record: its fields, from the first, and what they hold.
+-- For each record: its fields in order, and their values.
 use Rattle.std.specs.Prelude.{List, [], ◌∷◌}
 use Rattle.mach_base.specs.Record.{Field, num, arr, Value, number_is, bytes_are, number_among}
 use Rattle.mach_records.specs.declared.command_name.TheConstants.{LC_SYMTAB, LC_DYSYMTAB}
@@ -30,7 +30,7 @@ symtab_command_of_values vs =
       strsize = number_among vs 5;
     }
 
--- the command of a table with no symbols
+-- the command of a table without symbols
 abbrev pub new_symtab : SymtabCommand
 new_symtab =
     record {
@@ -57,7 +57,7 @@ dysymtab_command_values r =
     ∷ number_is r.indirectsymoff ∷ number_is r.nindirectsyms ∷ number_is r.extreloff
     ∷ number_is r.nextrel ∷ number_is r.locreloff ∷ number_is r.nlocrel ∷ []
 
--- the command of tables with no entries
+-- the command of tables without entries
 abbrev pub new_dysymtab : DysymtabCommand
 new_dysymtab =
     record {

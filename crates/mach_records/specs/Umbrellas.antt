@@ -1,5 +1,5 @@
--- Frameworks and libraries that stand for others (`mach-o/loader.h`).
--- Of each record: its fields, from the first, and what they hold.
+-- Umbrella frameworks and libraries, and their parts (`mach-o/loader.h`).
+-- For each record: its fields in order, and their values.
 use Rattle.std.specs.Prelude.{List, [], ◌∷◌}
 use Rattle.mach_base.specs.Record.{Field, num, Value, number_is}
 use Rattle.mach_records.specs.declared.umbrellas.SubFrameworkCommand.{SubFrameworkCommand}

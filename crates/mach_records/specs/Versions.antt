@@ -1,5 +1,5 @@
--- What an image was built for, and with (`mach-o/loader.h`).
--- Of each record: its fields, from the first, and what they hold.
+-- The platform, the tools and the sources of an image (`mach-o/loader.h`).
+-- For each record: its fields in order, and their values.
 use Rattle.std.specs.Prelude.{List, [], ◌∷◌}
 use Rattle.mach_base.specs.Record.{Field, num, Value, number_is}
 use Rattle.mach_records.specs.declared.versions.VersionMinCommand.{VersionMinCommand}

@@ -3,7 +3,7 @@
 ghost use Rattle.std.specs.Prelude.{◌≡◌};
 ghost use Rattle.mach_records.specs.CommandName.{command_name};
 
-/// The bit of a command that the dynamic linker has to understand.
+/// The bit of a command number that the dynamic linker must understand.
 pub const LC_REQ_DYLD: u32 = 0x8000_0000;
 
 pub const LC_SEGMENT: u32 = 0x1;
@@ -114,7 +114,7 @@ pub const LC_DYLD_CHAINED_FIXUPS: u32 = 0x8000_0034;
 
 pub const LC_FILESET_ENTRY: u32 = 0x8000_0035;
 
-/// The name of a command's constant, or `LC_UNKNOWN`.
+/// Returns the name of a command's constant, or `LC_UNKNOWN`.
 pub fn cmd_to_str(cmd: u32) -> &'static str
     ensures { result.now ≡ command_name cmd }
 {

@@ -1,4 +1,4 @@
-//! Constants of cpus and of sections.
+//! Constants of CPUs and of sections.
 
 pub mod cputype;
 
@@ -8,8 +8,8 @@ pub const SECTION_TYPE: u32 = 0xff;
 /// The type of a section of zeros, which takes no bytes of the file.
 pub const S_ZEROFILL: u32 = 0x1;
 
-/// The type of a section of zeros that may have more than 4 gigabytes.
+/// The type of a section of zeros that may be larger than 4 gigabytes.
 pub const S_GB_ZEROFILL: u32 = 0xc;
 
-/// The type of a section of zeros that every thread has for itself.
+/// The type of a section of zeros of which each thread has its own copy.
 pub const S_THREAD_LOCAL_ZEROFILL: u32 = 0x12;

@@ -1,9 +1,9 @@
-//! What else an image says of itself (`mach-o/loader.h`).
+//! Further facts about an image (`mach-o/loader.h`).
 
 use crate::load_command_header::LcStr;
 use mach_base::{Endian, Record, RecordBytes, array_at};
 
-/// The number that tells the image from all others (struct uuid_command, by `LC_UUID`).
+/// The unique number of the image (struct uuid_command, `LC_UUID`).
 #[derive(Clone, Copy, Debug)]
 pub struct UuidCommand {
     pub cmd: u32,
@@ -43,14 +43,14 @@ impl Record for UuidCommand {
     }
 }
 
-/// Where a program begins (struct entry_point_command, by `LC_MAIN`).
+/// Where a program begins (struct entry_point_command, `LC_MAIN`).
 #[derive(Clone, Copy, Debug)]
 pub struct EntryPointCommand {
     pub cmd: u32,
     pub cmdsize: u32,
-    /// The place of its first instruction in the file.
+    /// The file offset of its first instruction.
     pub entryoff: u64,
-    /// How many bytes its first stack has; 0 for the usual.
+    /// The initial stack size in bytes; 0 for the default.
     pub stacksize: u64,
 }
 
@@ -88,14 +88,14 @@ impl Record for EntryPointCommand {
     }
 }
 
-/// An image inside a set of images (struct fileset_entry_command, by `LC_FILESET_ENTRY`).
+/// An image within a file set (struct fileset_entry_command, `LC_FILESET_ENTRY`).
 #[derive(Clone, Copy, Debug)]
 pub struct FilesetEntryCommand {
     pub cmd: u32,
     pub cmdsize: u32,
     /// Its address in memory.
     pub vmaddr: u64,
-    /// Its place in the file.
+    /// Its file offset.
     pub fileoff: u64,
     /// Its name.
     pub entry_id: LcStr,
@@ -138,16 +138,16 @@ impl Record for FilesetEntryCommand {
     }
 }
 
-/// A run of bytes that a tool has put into the file (struct note_command, by `LC_NOTE`).
+/// Bytes that a tool has added to the file (struct note_command, `LC_NOTE`).
 #[derive(Clone, Copy, Debug)]
 pub struct NoteCommand {
     pub cmd: u32,
     pub cmdsize: u32,
-    /// The name of the tool, with zeros behind it.
+    /// The name of the tool, padded with zeros.
     pub data_owner: [u8; 16],
-    /// Their place in the file.
+    /// Their file offset.
     pub offset: u64,
-    /// How many there are.
+    /// Their number.
     pub size: u64,
 }
 
@@ -185,13 +185,12 @@ impl Record for NoteCommand {
     }
 }
 
-/// A check of the image as it was before it was bound (struct prebind_cksum_command, by
-/// `LC_PREBIND_CKSUM`).
+/// The checksum of the image before prebinding (struct prebind_cksum_command, `LC_PREBIND_CKSUM`).
 #[derive(Clone, Copy, Debug)]
 pub struct PrebindCksumCommand {
     pub cmd: u32,
     pub cmdsize: u32,
-    /// The check sum, or 0 where none was taken.
+    /// The checksum, or 0 if none was computed.
     pub cksum: u32,
 }
 
@@ -225,13 +224,12 @@ impl Record for PrebindCksumCommand {
     }
 }
 
-/// Options that an object file has for the linker (struct linker_option_command, by
-/// `LC_LINKER_OPTION`).
+/// Options of an object file for the linker (struct linker_option_command, `LC_LINKER_OPTION`).
 #[derive(Clone, Copy, Debug)]
 pub struct LinkerOptionCommand {
     pub cmd: u32,
     pub cmdsize: u32,
-    /// How many texts stand behind this record, each ended by a zero.
+    /// How many texts follow this record, each ended by a zero byte.
     pub count: u32,
 }
 
@@ -267,7 +265,7 @@ impl Record for LinkerOptionCommand {
     }
 }
 
-/// Texts that stand behind this record, which is obsolete (struct ident_command, by `LC_IDENT`).
+/// Texts that follow this record; obsolete (struct ident_command, `LC_IDENT`).
 #[derive(Clone, Copy, Debug)]
 pub struct IdentCommand {
     pub cmd: u32,

@@ -31,7 +31,7 @@ pub use crate::command_name::{
     LC_VERSION_MIN_MACOSX, LC_VERSION_MIN_TVOS, LC_VERSION_MIN_WATCHOS, cmd_to_str,
 };
 
-// Records, and how many bytes each has.
+// Records, and the size of each in bytes.
 pub use crate::contents::{
     EntryPointCommand, FilesetEntryCommand, IdentCommand, LinkerOptionCommand, NoteCommand,
     PrebindCksumCommand, SIZEOF_ENTRY_POINT_COMMAND, SIZEOF_IDENT_COMMAND,

@@ -1,4 +1,4 @@
-//! Libraries that an image is or uses, and where they are sought (`mach-o/loader.h`).
+//! Libraries that an image is or uses, and where they are searched for (`mach-o/loader.h`).
 
 use crate::load_command_header::LcStr;
 use mach_base::{Endian, Record, RecordBytes};
@@ -12,7 +12,7 @@ pub struct Dylib {
     pub timestamp: u32,
     /// Its version, X.Y.Z in 16, 8 and 8 bits.
     pub current_version: u32,
-    /// The oldest version that it can stand in for, X.Y.Z in 16, 8 and 8 bits.
+    /// The oldest version with which it is compatible, X.Y.Z in 16, 8 and 8 bits.
     pub compatibility_version: u32,
 }
 
@@ -50,8 +50,7 @@ impl Record for Dylib {
     }
 }
 
-/// A dynamic library that the image uses, or is (struct dylib_command, by `LC_LOAD_DYLIB` and its
-/// kin, or `LC_ID_DYLIB`).
+/// A dynamic library that the image uses or is (struct dylib_command, `LC_LOAD_DYLIB` and related commands, or `LC_ID_DYLIB`).
 #[derive(Clone, Copy, Debug)]
 pub struct DylibCommand {
     pub cmd: u32,
@@ -99,8 +98,7 @@ impl Record for DylibCommand {
     }
 }
 
-/// A library that the image was bound to when it was built (struct prebound_dylib_command, by
-/// `LC_PREBOUND_DYLIB`).
+/// A library that the image was bound to when it was built (struct prebound_dylib_command, `LC_PREBOUND_DYLIB`).
 #[derive(Clone, Copy, Debug)]
 pub struct PreboundDylibCommand {
     pub cmd: u32,
@@ -109,7 +107,7 @@ pub struct PreboundDylibCommand {
     pub name: LcStr,
     /// How many modules it has.
     pub nmodules: u32,
-    /// Where a bit for each module begins, from bit 0 of the first byte: 1 where it is bound.
+    /// The place of a bit for each module, from bit 0 of the first byte: 1 if the module is bound.
     pub linked_modules: LcStr,
 }
 
@@ -149,8 +147,8 @@ impl Record for PreboundDylibCommand {
     }
 }
 
-/// The dynamic linker that the image wants or is, or a setting for it (struct dylinker_command, by
-/// `LC_LOAD_DYLINKER`, `LC_ID_DYLINKER` or `LC_DYLD_ENVIRONMENT`).
+/// The dynamic linker that the image requires or is, or a setting for it (struct
+/// dylinker_command, `LC_LOAD_DYLINKER`, `LC_ID_DYLINKER` or `LC_DYLD_ENVIRONMENT`).
 #[derive(Clone, Copy, Debug)]
 pub struct DylinkerCommand {
     pub cmd: u32,
@@ -191,7 +189,7 @@ impl Record for DylinkerCommand {
     }
 }
 
-/// A path to put for `@rpath` where libraries are sought (struct rpath_command, by `LC_RPATH`).
+/// A path to substitute for `@rpath` when libraries are searched for (struct rpath_command, `LC_RPATH`).
 #[derive(Clone, Copy, Debug)]
 pub struct RpathCommand {
     pub cmd: u32,
@@ -231,7 +229,7 @@ impl Record for RpathCommand {
     }
 }
 
-/// A library at a fixed address, which is obsolete (struct fvmlib).
+/// A library at a fixed address; obsolete (struct fvmlib).
 #[derive(Clone, Copy, Debug)]
 pub struct Fvmlib {
     /// Its path.
@@ -273,8 +271,7 @@ impl Record for Fvmlib {
     }
 }
 
-/// A fixed library that the image uses, or is (struct fvmlib_command, by `LC_LOADFVMLIB` or
-/// `LC_IDFVMLIB`).
+/// A library at a fixed address that the image uses or is (struct fvmlib_command, `LC_LOADFVMLIB` or `LC_IDFVMLIB`).
 #[derive(Clone, Copy, Debug)]
 pub struct FvmlibCommand {
     pub cmd: u32,
@@ -320,7 +317,7 @@ impl Record for FvmlibCommand {
     }
 }
 
-/// A file to load at a fixed address (struct fvmfile_command, by `LC_FVMFILE`).
+/// A file to load at a fixed address (struct fvmfile_command, `LC_FVMFILE`).
 #[derive(Clone, Copy, Debug)]
 pub struct FvmfileCommand {
     pub cmd: u32,

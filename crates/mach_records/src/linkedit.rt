@@ -1,17 +1,17 @@
-//! What stands in the link-edit segment, and what is encrypted (`mach-o/loader.h`).
+//! The tables of the link-edit segment, and encrypted bytes (`mach-o/loader.h`).
 
 use crate::numbers::u32s;
 use mach_base::{Endian, Record, RecordBytes};
 
-/// Where a table of the link-edit segment stands (struct linkedit_data_command, by
+/// The place of a table of the link-edit segment (struct linkedit_data_command,
 /// `LC_CODE_SIGNATURE`, `LC_FUNCTION_STARTS`, `LC_DYLD_EXPORTS_TRIE` and others).
 #[derive(Clone, Copy, Debug, Default)]
 pub struct LinkeditDataCommand {
     pub cmd: u32,
     pub cmdsize: u32,
-    /// Its place in the file.
+    /// Its file offset.
     pub dataoff: u32,
-    /// How many bytes it has.
+    /// Its size in bytes.
     pub datasize: u32,
 }
 
@@ -49,25 +49,25 @@ impl Record for LinkeditDataCommand {
     }
 }
 
-/// Where the streams of the dynamic linker stand: places in the file, sizes in bytes (struct
-/// dyld_info_command, by `LC_DYLD_INFO` or `LC_DYLD_INFO_ONLY`).
+/// The places of the dynamic linker's streams: file offsets, and sizes in
+/// bytes (struct dyld_info_command, `LC_DYLD_INFO` or `LC_DYLD_INFO_ONLY`).
 #[derive(Clone, Copy, Debug, Default)]
 pub struct DyldInfoCommand {
     pub cmd: u32,
     pub cmdsize: u32,
-    /// The pointers that move with the image.
+    /// The rebases: pointers that move with the image.
     pub rebase_off: u32,
     pub rebase_size: u32,
-    /// The binds to make at loading.
+    /// The binds at loading.
     pub bind_off: u32,
     pub bind_size: u32,
-    /// The binds whose symbols several images may define.
+    /// The weak binds, whose symbols several images may define.
     pub weak_bind_off: u32,
     pub weak_bind_size: u32,
-    /// The binds to make at first use.
+    /// The lazy binds, at first use.
     pub lazy_bind_off: u32,
     pub lazy_bind_size: u32,
-    /// The trie of what the image exports.
+    /// The trie of the exports.
     pub export_off: u32,
     pub export_size: u32,
 }
@@ -130,11 +130,11 @@ impl Record for DyldInfoCommand {
 /// A run of data inside code (struct data_in_code_entry).
 #[derive(Clone, Copy, Debug)]
 pub struct DataInCodeEntry {
-    /// Its place, counted from the header of the image.
+    /// Its offset from the header of the image.
     pub offset: u32,
-    /// How many bytes it has.
+    /// Its size in bytes.
     pub length: u16,
-    /// What it is, one of the `DICE_KIND_` numbers.
+    /// Its kind, one of the `DICE_KIND_` numbers.
     pub kind: u16,
 }
 
@@ -168,17 +168,16 @@ impl Record for DataInCodeEntry {
     }
 }
 
-/// Which bytes of a 32-bit image are encrypted (struct encryption_info_command, by
-/// `LC_ENCRYPTION_INFO`).
+/// The encrypted bytes of a 32-bit image (struct encryption_info_command, `LC_ENCRYPTION_INFO`).
 #[derive(Clone, Copy, Debug)]
 pub struct EncryptionInfoCommand32 {
     pub cmd: u32,
     pub cmdsize: u32,
-    /// Their place in the file.
+    /// Their file offset.
     pub cryptoff: u32,
-    /// How many there are.
+    /// Their number.
     pub cryptsize: u32,
-    /// The way of encryption; 0 where they are not encrypted yet.
+    /// The method of encryption; 0 if they are not encrypted yet.
     pub cryptid: u32,
 }
 
@@ -218,17 +217,16 @@ impl Record for EncryptionInfoCommand32 {
     }
 }
 
-/// Which bytes of a 64-bit image are encrypted (struct encryption_info_command_64, by
-/// `LC_ENCRYPTION_INFO_64`).
+/// The encrypted bytes of a 64-bit image (struct encryption_info_command_64, `LC_ENCRYPTION_INFO_64`).
 #[derive(Clone, Copy, Debug)]
 pub struct EncryptionInfoCommand64 {
     pub cmd: u32,
     pub cmdsize: u32,
-    /// Their place in the file.
+    /// Their file offset.
     pub cryptoff: u32,
-    /// How many there are.
+    /// Their number.
     pub cryptsize: u32,
-    /// The way of encryption; 0 where they are not encrypted yet.
+    /// The method of encryption; 0 if they are not encrypted yet.
     pub cryptid: u32,
     pub pad: u32,
 }

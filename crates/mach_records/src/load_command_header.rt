@@ -4,20 +4,19 @@ use crate::command_name::cmd_to_str;
 use mach_base::{Endian, Record, RecordBytes};
 use std::fmt;
 
-/// Where a text of a command begins, counted in bytes from the command's first byte.
+/// The offset of a text of a command, in bytes from the start of the command.
 pub type LcStr = u32;
 
 pub const SIZEOF_LC_STR: usize = 4;
 
 const _: () = prove!(SIZEOF_LC_STR == size_of::<LcStr>());
 
-/// What a command is, and how many bytes it takes (struct load_command). Every record whose name
-/// ends in `Command` begins with these two fields.
+/// The number and the size of a load command (struct load_command). Every record whose name ends in `Command` begins with these two fields.
 #[derive(Clone, Copy, Debug)]
 pub struct LoadCommandHeader {
     /// The command's number, one of the `LC_` constants.
     pub cmd: u32,
-    /// How many bytes lie between this command's place and the next one's.
+    /// The distance in bytes from this command to the next one.
     pub cmdsize: u32,
 }
 

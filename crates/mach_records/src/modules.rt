@@ -1,4 +1,4 @@
-//! Tables of a dynamic library that is made of modules (`mach-o/loader.h`).
+//! Tables of a dynamic library that consists of modules (`mach-o/loader.h`).
 
 use crate::numbers::u32s;
 use mach_base::{Endian, Record, RecordBytes, array_at};
@@ -43,7 +43,7 @@ impl Record for DylibTableOfContents {
 /// A module of a 32-bit library (struct dylib_module).
 #[derive(Clone, Copy, Debug)]
 pub struct DylibModule {
-    /// Its name: a place among the texts of the symbol table.
+    /// Its name: an offset into the string table.
     pub module_name: u32,
     /// The index of the first external symbol that it defines.
     pub iextdefsym: u32,
@@ -61,13 +61,13 @@ pub struct DylibModule {
     pub iextrel: u32,
     /// How many external relocations it has.
     pub nextrel: u32,
-    /// The index of its first initializer in the low 16 bits, of its first terminator above them.
+    /// The index of its first initializer in the low 16 bits, that of its first terminator in the high 16 bits.
     pub iinit_iterm: u32,
-    /// How many of these it has, in the same bits.
+    /// Their numbers, in the same bits.
     pub ninit_nterm: u32,
-    /// The address of its bytes in `__OBJC,__module_info`.
+    /// The address of its part of `__OBJC,__module_info`.
     pub objc_module_info_addr: u32,
-    /// How many bytes these are.
+    /// Their number.
     pub objc_module_info_size: u32,
 }
 
@@ -129,7 +129,7 @@ impl Record for DylibModule {
 /// A module of a 64-bit library (struct dylib_module_64).
 #[derive(Clone, Copy, Debug)]
 pub struct DylibModule64 {
-    /// Its name: a place among the texts of the symbol table.
+    /// Its name: an offset into the string table.
     pub module_name: u32,
     /// The index of the first external symbol that it defines.
     pub iextdefsym: u32,
@@ -147,13 +147,13 @@ pub struct DylibModule64 {
     pub iextrel: u32,
     /// How many external relocations it has.
     pub nextrel: u32,
-    /// The index of its first initializer in the low 16 bits, of its first terminator above them.
+    /// The index of its first initializer in the low 16 bits, that of its first terminator in the high 16 bits.
     pub iinit_iterm: u32,
-    /// How many of these it has, in the same bits.
+    /// Their numbers, in the same bits.
     pub ninit_nterm: u32,
-    /// How many bytes it has in `__OBJC,__module_info`.
+    /// The size of its part of `__OBJC,__module_info`, in bytes.
     pub objc_module_info_size: u32,
-    /// The address of these bytes.
+    /// The address of this part.
     pub objc_module_info_addr: u64,
 }
 
@@ -207,13 +207,12 @@ impl Record for DylibModule64 {
     }
 }
 
-/// A symbol that a module refers to (struct dylib_reference, whose 24 and 8 bits are kept in 24 and
-/// 8 bytes).
+/// A symbol that a module refers to (struct dylib_reference). The 24-bit and 8-bit fields of the C struct take 24 and 8 bytes here.
 #[derive(Clone, Copy, Debug)]
 pub struct DylibReference {
     /// The index of the symbol.
     pub isym: [u8; 24],
-    /// How it is referred to, one of the `REFERENCE_FLAG_` constants.
+    /// The kind of the reference, one of the `REFERENCE_FLAG_` constants.
     pub flags: u64,
 }
 
@@ -243,8 +242,7 @@ impl Record for DylibReference {
     }
 }
 
-/// The routine that a 32-bit library runs before all others (struct routines_command, by
-/// `LC_ROUTINES`).
+/// The routine that a 32-bit library runs before all others (struct routines_command, `LC_ROUTINES`).
 #[derive(Clone, Copy, Debug)]
 pub struct RoutinesCommand32 {
     pub cmd: u32,
@@ -310,8 +308,7 @@ impl Record for RoutinesCommand32 {
     }
 }
 
-/// The routine that a 64-bit library runs before all others (struct routines_command_64, by
-/// `LC_ROUTINES_64`).
+/// The routine that a 64-bit library runs before all others (struct routines_command_64, `LC_ROUTINES_64`).
 #[derive(Clone, Copy, Debug)]
 pub struct RoutinesCommand64 {
     pub cmd: u32,

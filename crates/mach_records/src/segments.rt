@@ -5,7 +5,7 @@ ghost use Rattle.mach_base.specs.Text.{text_at};
 
 use mach_base::{Endian, Record, RecordBytes, Result, array_at, read_text};
 
-// The text with which the 16 bytes of a name begin.
+// Reads the text with which the 16 bytes of a name begin.
 fn name_in(bytes: &[u8; 16]) -> Result<&str>
     ensures { Reads (λ name. name.now) result (text_at bytes.now 0) }
 {
@@ -15,27 +15,27 @@ fn name_in(bytes: &[u8; 16]) -> Result<&str>
 /// A part of a segment of a 32-bit image (struct section).
 #[derive(Clone, Copy, Debug)]
 pub struct Section32 {
-    /// Its name, with zeros behind it.
+    /// Its name, padded with zeros.
     pub sectname: [u8; 16],
-    /// The name of its segment, with zeros behind it.
+    /// The name of its segment, padded with zeros.
     pub segname: [u8; 16],
     /// Its address in memory.
     pub addr: u32,
-    /// How many bytes it has in memory.
+    /// Its size in memory, in bytes.
     pub size: u32,
-    /// Its place in the file.
+    /// Its file offset.
     pub offset: u32,
-    /// Its address is a multiple of 2 to this power.
+    /// Its alignment, as a power of 2.
     pub align: u32,
-    /// The place of its relocations in the file.
+    /// The file offset of its relocations.
     pub reloff: u32,
     /// How many relocations it has.
     pub nreloc: u32,
-    /// Its type in the low 8 bits, its attributes above them.
+    /// Its type in the low 8 bits, its attributes in the others.
     pub flags: u32,
-    /// Of pointers and stubs: the index of their first indirect symbol.
+    /// For pointers and stubs: the index of their first indirect symbol.
     pub reserved1: u32,
-    /// Of stubs: how many bytes one has.
+    /// For stubs: the size of one in bytes.
     pub reserved2: u32,
 }
 
@@ -90,27 +90,27 @@ impl Record for Section32 {
 /// A part of a segment of a 64-bit image (struct section_64).
 #[derive(Clone, Copy, Debug)]
 pub struct Section64 {
-    /// Its name, with zeros behind it.
+    /// Its name, padded with zeros.
     pub sectname: [u8; 16],
-    /// The name of its segment, with zeros behind it.
+    /// The name of its segment, padded with zeros.
     pub segname: [u8; 16],
     /// Its address in memory.
     pub addr: u64,
-    /// How many bytes it has in memory.
+    /// Its size in memory, in bytes.
     pub size: u64,
-    /// Its place in the file.
+    /// Its file offset.
     pub offset: u32,
-    /// Its address is a multiple of 2 to this power.
+    /// Its alignment, as a power of 2.
     pub align: u32,
-    /// The place of its relocations in the file.
+    /// The file offset of its relocations.
     pub reloff: u32,
     /// How many relocations it has.
     pub nreloc: u32,
-    /// Its type in the low 8 bits, its attributes above them.
+    /// Its type in the low 8 bits, its attributes in the others.
     pub flags: u32,
-    /// Of pointers and stubs: the index of their first indirect symbol.
+    /// For pointers and stubs: the index of their first indirect symbol.
     pub reserved1: u32,
-    /// Of stubs: how many bytes one has.
+    /// For stubs: the size of one in bytes.
     pub reserved2: u32,
     pub reserved3: u32,
 }
@@ -165,29 +165,28 @@ impl Record for Section64 {
     }
 }
 
-/// A part of the file that a 32-bit image has mapped into memory (struct segment_command, by
-/// `LC_SEGMENT`).
+/// A part of the file that is mapped into the memory of a 32-bit image (struct segment_command, `LC_SEGMENT`).
 #[derive(Clone, Copy, Debug)]
 pub struct SegmentCommand32 {
     pub cmd: u32,
     pub cmdsize: u32,
-    /// Its name, with zeros behind it.
+    /// Its name, padded with zeros.
     pub segname: [u8; 16],
     /// Its address in memory.
     pub vmaddr: u32,
-    /// How many bytes it has in memory.
+    /// Its size in memory, in bytes.
     pub vmsize: u32,
-    /// Its place in the file.
+    /// Its file offset.
     pub fileoff: u32,
-    /// How many bytes it has in the file; in memory zeros stand behind them.
+    /// Its size in the file, in bytes. Zeros fill the rest of its memory.
     pub filesize: u32,
-    /// What its memory may ever allow: bit 0 reading, bit 1 writing, bit 2 running.
+    /// The maximum protection of its memory: bit 0 read, bit 1 write, bit 2 execute.
     pub maxprot: u32,
-    /// What its memory allows at first, in the same bits.
+    /// The initial protection of its memory, in the same bits.
     pub initprot: u32,
-    /// How many sections stand behind this record.
+    /// How many sections follow this record.
     pub nsects: u32,
-    /// One bit for each `SG_` flag.
+    /// The `SG_` flags.
     pub flags: u32,
 }
 
@@ -240,7 +239,7 @@ impl Record for SegmentCommand32 {
 }
 
 impl SegmentCommand32 {
-    /// The segment's name: the text with which `segname` begins.
+    /// Reads the segment's name: the text with which `segname` begins.
     pub fn name(&self) -> Result<&str>
         ensures { Reads (λ name. name.now) result (text_at self.now.segname 0) }
     {
@@ -248,29 +247,28 @@ impl SegmentCommand32 {
     }
 }
 
-/// A part of the file that a 64-bit image has mapped into memory (struct segment_command_64, by
-/// `LC_SEGMENT_64`).
+/// A part of the file that is mapped into the memory of a 64-bit image (struct segment_command_64, `LC_SEGMENT_64`).
 #[derive(Clone, Copy, Debug)]
 pub struct SegmentCommand64 {
     pub cmd: u32,
     pub cmdsize: u32,
-    /// Its name, with zeros behind it.
+    /// Its name, padded with zeros.
     pub segname: [u8; 16],
     /// Its address in memory.
     pub vmaddr: u64,
-    /// How many bytes it has in memory.
+    /// Its size in memory, in bytes.
     pub vmsize: u64,
-    /// Its place in the file.
+    /// Its file offset.
     pub fileoff: u64,
-    /// How many bytes it has in the file; in memory zeros stand behind them.
+    /// Its size in the file, in bytes. Zeros fill the rest of its memory.
     pub filesize: u64,
-    /// What its memory may ever allow: bit 0 reading, bit 1 writing, bit 2 running.
+    /// The maximum protection of its memory: bit 0 read, bit 1 write, bit 2 execute.
     pub maxprot: u32,
-    /// What its memory allows at first, in the same bits.
+    /// The initial protection of its memory, in the same bits.
     pub initprot: u32,
-    /// How many sections stand behind this record.
+    /// How many sections follow this record.
     pub nsects: u32,
-    /// One bit for each `SG_` flag.
+    /// The `SG_` flags.
     pub flags: u32,
 }
 
@@ -323,7 +321,7 @@ impl Record for SegmentCommand64 {
 }
 
 impl SegmentCommand64 {
-    /// The segment's name: the text with which `segname` begins.
+    /// Reads the segment's name: the text with which `segname` begins.
     pub fn name(&self) -> Result<&str>
         ensures { Reads (λ name. name.now) result (text_at self.now.segname 0) }
     {

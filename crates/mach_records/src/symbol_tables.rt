@@ -6,18 +6,18 @@ use crate::command_name::{LC_DYSYMTAB, LC_SYMTAB};
 use crate::numbers::u32s;
 use mach_base::{Endian, Record, RecordBytes, array_at};
 
-/// Where the symbols and their texts stand (struct symtab_command, by `LC_SYMTAB`).
+/// The places of the symbols and of the string table (struct symtab_command, `LC_SYMTAB`).
 #[derive(Clone, Copy, Debug)]
 pub struct SymtabCommand {
     pub cmd: u32,
     pub cmdsize: u32,
-    /// The place of the first symbol in the file.
+    /// The file offset of the first symbol.
     pub symoff: u32,
     /// How many symbols there are.
     pub nsyms: u32,
-    /// The place of the texts in the file.
+    /// The file offset of the string table.
     pub stroff: u32,
-    /// How many bytes the texts have.
+    /// The size of the string table in bytes.
     pub strsize: u32,
 }
 
@@ -62,7 +62,7 @@ impl Record for SymtabCommand {
 impl SymtabCommand {
     ghost use Rattle.mach_records.specs.SymbolTables.{new_symtab};
 
-    /// The command of a table with no symbols.
+    /// Builds the command of a table without symbols.
     pub fn new() -> Self
         ensures { result ≡ new_symtab }
     {
@@ -87,8 +87,7 @@ impl Default for SymtabCommand {
     }
 }
 
-/// How the symbols are ordered, and where the tables of the dynamic linker stand (struct
-/// dysymtab_command, by `LC_DYSYMTAB`).
+/// The order of the symbols, and the places of the dynamic linker's tables (struct dysymtab_command, `LC_DYSYMTAB`).
 #[derive(Clone, Copy, Debug)]
 pub struct DysymtabCommand {
     pub cmd: u32,
@@ -99,35 +98,35 @@ pub struct DysymtabCommand {
     pub nlocalsym: u32,
     /// The index of the first external symbol that the image defines.
     pub iextdefsym: u32,
-    /// How many of these there are.
+    /// Their number.
     pub nextdefsym: u32,
     /// The index of the first symbol that the image leaves undefined.
     pub iundefsym: u32,
-    /// How many of these there are.
+    /// Their number.
     pub nundefsym: u32,
-    /// The place of the table of contents in the file.
+    /// The file offset of the table of contents.
     pub tocoff: u32,
     /// How many entries it has.
     pub ntoc: u32,
-    /// The place of the module table in the file.
+    /// The file offset of the module table.
     pub modtaboff: u32,
     /// How many modules it has.
     pub nmodtab: u32,
-    /// The place of the reference table in the file.
+    /// The file offset of the reference table.
     pub extrefsymoff: u32,
     /// How many references it has.
     pub nextrefsyms: u32,
-    /// The place of the indirect symbols in the file, each the index of a symbol.
+    /// The file offset of the indirect symbols. Each is the index of a symbol.
     pub indirectsymoff: u32,
     /// How many indirect symbols there are.
     pub nindirectsyms: u32,
-    /// The place of the external relocations in the file.
+    /// The file offset of the external relocations.
     pub extreloff: u32,
-    /// How many of these there are.
+    /// Their number.
     pub nextrel: u32,
-    /// The place of the local relocations in the file.
+    /// The file offset of the local relocations.
     pub locreloff: u32,
-    /// How many of these there are.
+    /// Their number.
     pub nlocrel: u32,
 }
 
@@ -205,7 +204,7 @@ impl Record for DysymtabCommand {
 impl DysymtabCommand {
     ghost use Rattle.mach_records.specs.SymbolTables.{new_dysymtab};
 
-    /// The command of tables with no entries.
+    /// Builds the command of tables without entries.
     pub fn new() -> Self
         ensures { result ≡ new_dysymtab }
     {
@@ -244,13 +243,12 @@ impl Default for DysymtabCommand {
     }
 }
 
-/// Where the hints of a two-level namespace stand (struct twolevel_hints_command, by
-/// `LC_TWOLEVEL_HINTS`).
+/// The place of the hints of a two-level namespace (struct twolevel_hints_command, `LC_TWOLEVEL_HINTS`).
 #[derive(Clone, Copy, Debug)]
 pub struct TwolevelHintsCommand {
     pub cmd: u32,
     pub cmdsize: u32,
-    /// The place of the first hint in the file.
+    /// The file offset of the first hint.
     pub offset: u32,
     /// How many hints there are.
     pub nhints: u32,
@@ -288,11 +286,11 @@ impl Record for TwolevelHintsCommand {
     }
 }
 
-/// Where to begin to look for an undefined symbol (struct twolevel_hint, whose 8 and 24 bits are
-/// kept in 8 and 24 bytes).
+/// Where the search for an undefined symbol begins (struct twolevel_hint).
+/// The 8-bit and 24-bit fields of the C struct take 8 and 24 bytes here.
 #[derive(Clone, Copy, Debug)]
 pub struct TwolevelHint {
-    /// 0 for the library itself, else the number of a part of it, from 1.
+    /// 0 for the library itself, or else the number of a part of it, from 1.
     pub isub_image: u64,
     /// An index into the table of contents.
     pub itoc: [u8; 24],
@@ -326,14 +324,14 @@ impl Record for TwolevelHint {
     }
 }
 
-/// A symbol segment of the old GNU form, which is obsolete (struct symseg_command, by `LC_SYMSEG`).
+/// A symbol segment of the old GNU form; obsolete (struct symseg_command, `LC_SYMSEG`).
 #[derive(Clone, Copy, Debug)]
 pub struct SymsegCommand {
     pub cmd: u32,
     pub cmdsize: u32,
-    /// Its place in the file.
+    /// Its file offset.
     pub offset: u32,
-    /// How many bytes it has.
+    /// Its size in bytes.
     pub size: u32,
 }
 

@@ -1,9 +1,9 @@
-//! Frameworks and libraries that stand for others (`mach-o/loader.h`).
+//! Umbrella frameworks and libraries, and their parts (`mach-o/loader.h`).
 
 use crate::load_command_header::LcStr;
 use mach_base::{Endian, Record, RecordBytes};
 
-/// The umbrella that the image is a part of (struct sub_framework_command, by `LC_SUB_FRAMEWORK`).
+/// The umbrella that the image is a part of (struct sub_framework_command, `LC_SUB_FRAMEWORK`).
 #[derive(Clone, Copy, Debug)]
 pub struct SubFrameworkCommand {
     pub cmd: u32,
@@ -44,8 +44,7 @@ impl Record for SubFrameworkCommand {
     }
 }
 
-/// A client that may link to the image, though it is a part of an umbrella (struct
-/// sub_client_command, by `LC_SUB_CLIENT`).
+/// A client that may link to the image, although the image is a part of an umbrella (struct sub_client_command, `LC_SUB_CLIENT`).
 #[derive(Clone, Copy, Debug)]
 pub struct SubClientCommand {
     pub cmd: u32,
@@ -86,8 +85,7 @@ impl Record for SubClientCommand {
     }
 }
 
-/// An umbrella framework whose symbols the image passes on (struct sub_umbrella_command, by
-/// `LC_SUB_UMBRELLA`).
+/// An umbrella framework whose symbols the image re-exports (struct sub_umbrella_command, `LC_SUB_UMBRELLA`).
 #[derive(Clone, Copy, Debug)]
 pub struct SubUmbrellaCommand {
     pub cmd: u32,
@@ -128,7 +126,7 @@ impl Record for SubUmbrellaCommand {
     }
 }
 
-/// A library whose symbols the image passes on (struct sub_library_command, by `LC_SUB_LIBRARY`).
+/// A library whose symbols the image re-exports (struct sub_library_command, `LC_SUB_LIBRARY`).
 #[derive(Clone, Copy, Debug)]
 pub struct SubLibraryCommand {
     pub cmd: u32,

@@ -1,4 +1,4 @@
-//! What an image was built for, and with (`mach-o/loader.h`).
+//! The platform, the tools and the sources of an image (`mach-o/loader.h`).
 
 ghost use Rattle.std.specs.Prelude.{◌≡◌};
 
@@ -7,7 +7,7 @@ use crate::command_name::{
 };
 use mach_base::{Endian, Error, Record, RecordBytes};
 
-/// A system that a `LC_VERSION_MIN_` command names by its number.
+/// A system that the number of a `LC_VERSION_MIN_` command names.
 #[derive(Clone, Copy, Debug)]
 pub enum Platform {
     Macos = LC_VERSION_MIN_MACOSX as isize,
@@ -23,7 +23,7 @@ impl TryFrom<u32> for Platform {
 
     ghost try_from_gives = { GivesPlatform };
 
-    /// The platform that a command's number names.
+    /// Returns the platform that a command number names.
     fn try_from(cmd: u32) -> Result<Platform, Error> {
         match cmd {
             LC_VERSION_MIN_MACOSX => Ok(Platform::Macos),
@@ -35,15 +35,14 @@ impl TryFrom<u32> for Platform {
     }
 }
 
-/// The oldest system that the image runs on (struct version_min_command, by the four
-/// `LC_VERSION_MIN_` commands).
+/// The oldest system that the image runs on (struct version_min_command, the four `LC_VERSION_MIN_` commands).
 #[derive(Clone, Copy, Debug)]
 pub struct VersionMinCommand {
     pub cmd: u32,
     pub cmdsize: u32,
     /// The version of the system, X.Y.Z in 16, 8 and 8 bits.
     pub version: u32,
-    /// The version of the kit it was built with, X.Y.Z in 16, 8 and 8 bits.
+    /// The version of the SDK it was built with, X.Y.Z in 16, 8 and 8 bits.
     pub sdk: u32,
 }
 
@@ -84,7 +83,7 @@ impl Record for VersionMinCommand {
 impl VersionMinCommand {
     ghost use Rattle.mach_records.specs.Platform.{IsPlatformCmd, platform_cmd};
 
-    /// The command that names a platform; its versions are 0.
+    /// Builds the command that names a platform. Its versions are 0.
     pub fn new(platform: Platform) -> Self
         ensures { result ≡ record { cmd = platform_cmd platform; cmdsize = SIZEOF_VERSION_MIN_COMMAND; version = 0; sdk = 0 } }
     {
@@ -96,7 +95,7 @@ impl VersionMinCommand {
         }
     }
 
-    /// The platform that the command names. `Platform::try_from` of `cmd` is the test.
+    /// Returns the platform that the command names. `Platform::try_from` tests whether `cmd` names one.
     pub fn platform(&self) -> Platform
         requires { IsPlatformCmd self.now.cmd }
         ensures { self.now.cmd ≡ platform_cmd result }
@@ -105,7 +104,7 @@ impl VersionMinCommand {
     }
 }
 
-/// The platform that the image was built for (struct build_version_command, by `LC_BUILD_VERSION`).
+/// The platform that the image was built for (struct build_version_command, `LC_BUILD_VERSION`).
 #[derive(Clone, Copy, Debug)]
 pub struct BuildVersionCommand {
     pub cmd: u32,
@@ -114,9 +113,9 @@ pub struct BuildVersionCommand {
     pub platform: u32,
     /// The oldest version of the system, X.Y.Z in 16, 8 and 8 bits.
     pub minos: u32,
-    /// The version of the kit it was built with, X.Y.Z in 16, 8 and 8 bits.
+    /// The version of the SDK it was built with, X.Y.Z in 16, 8 and 8 bits.
     pub sdk: u32,
-    /// How many records of tools stand behind this one.
+    /// How many records of tools follow this one.
     pub ntools: u32,
 }
 
@@ -185,7 +184,7 @@ pub const PLATFORM_VISIONOSSIMULATOR: u32 = 12;
 pub struct BuildToolVersion {
     /// One of the `TOOL_` constants.
     pub tool: u32,
-    /// X.Y.Z in 16, 8 and 8 bits.
+    /// Its version, X.Y.Z in 16, 8 and 8 bits.
     pub version: u32,
 }
 
@@ -223,8 +222,7 @@ pub const TOOL_LD: u32 = 3;
 
 pub const TOOL_LLD: u32 = 4;
 
-/// The version of the sources that the image was built from (struct source_version_command, by
-/// `LC_SOURCE_VERSION`).
+/// The version of the sources that the image was built from (struct source_version_command, `LC_SOURCE_VERSION`).
 #[derive(Clone, Copy, Debug)]
 pub struct SourceVersionCommand {
     pub cmd: u32,

@@ -1,15 +1,15 @@
-//! The numbers of cpus (`mach/machine.h`).
+//! The numbers of CPUs (`mach/machine.h`).
 
-/// The number of a cpu, one of the `CPU_TYPE_` constants.
+/// A CPU type: one of the `CPU_TYPE_` constants.
 pub type CpuType = u32;
 
-/// The number of a cpu's kind, and its capabilities in the top 8 bits.
+/// A CPU subtype, with capabilities in the top 8 bits.
 pub type CpuSubType = u32;
 
-/// The bits of a cpu's kind that hold its capabilities.
+/// The bits of a CPU subtype that hold its capabilities.
 pub const CPU_SUBTYPE_MASK: u32 = 0xff00_0000;
 
-/// The bit of a cpu whose addresses have 64 bits.
+/// The bit of a CPU type whose addresses have 64 bits.
 pub const CPU_ARCH_ABI64: u32 = 0x0100_0000;
 
 pub const CPU_TYPE_X86: u32 = 0x7;
