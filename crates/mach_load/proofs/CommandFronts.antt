@@ -1,4 +1,4 @@
--- The command at the front of what stands at a place is the command there.
+-- The command at the start of the bytes from a place on is the command at that place.
 use Rattle.std.proofs.Common.{◌≡◌, ℕ, zero, suc, ◌+◌, ◌-◌, ◌*◌, ◌<◌, ◌≤◌, ltb, leb, false, List, length, drop, Result, Ok, Err, inl, inr, refl, sym}
 use Rattle.std.proofs.Common.{ap, ◌∙◌, arith}
 use Rattle.std.proofs.lemmas.Bool.{cases_lt, le-leb, lt-leb, le-ltb}
@@ -26,7 +26,7 @@ same_after : {A B : Type 0} (r : Result A Fault) (f g : A → Result B Fault) �
 same_after (Ok x) f g same = same x
 same_after (Err e) f g same = refl
 
--- the command that some values make
+-- the command with these values
 abbrev made : Kind → ℕ → List Value → Result Command Fault
 made kind s vs = Ok (record { offset = s; kind = kind; values = vs })
 
@@ -68,7 +68,7 @@ module _ (le : Endian) (bytes : List ℕ) (s : ℕ) (inside : s < length bytes) 
       rw (record_there thread_fields) (same_after (record_at le thread_fields bytes s) (state_behind le (drop s bytes) 0) (state_behind le bytes s)
       (λ (head : List Value). rw (room_there (4 * number_among head 3), words_there 16 (number_among head 3)) refl))
 
-  -- a command whose record stands at the front of the bytes from s on, and one that is refused there
+  -- if the record is at the start of the bytes from s on, the command is the one at s; if it is refused there, so is the one at s
   pub by_there : (row : CommandRow) (v : CommandVariant) → command_by row le (drop s bytes) 0 ≡ Ok (command_of (record { offset = 0; command = v }))
       → command_by row le bytes s ≡ Ok (command_of (record { offset = s; command = v }))
   by_there row v e = rw (← body_there row.body) (moved row.kind s v (body_at row.body le (drop s bytes) 0) e)

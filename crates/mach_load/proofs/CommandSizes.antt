@@ -12,7 +12,7 @@ use Rattle.mach_load.specs.Commands.{Body, by_fields, by_thread, CommandRow, com
 use Rattle.mach_load.specs.ThreadState.{thread_fields, state_at, state_behind, thread_at}
 use Rattle.mach_load.specs.Command.{Command, cmdsize_of, body_at, command_by}
 
--- what a bounded read found is what was asked for
+-- what a bounded read returns is what was to be read
 bounded_ok : {A : Type 0} (n : ℕ) (bytes : List ℕ) (s : ℕ) (x y : A) → bounded n bytes s x ≡ Ok y → x ≡ y
 bounded_ok n bytes s x y e =
     elim (chosen (leb (length bytes) s) (Err (bad_offset s)) (cond (leb (s + n) (length bytes)) (Ok x) (Err (too_big n (length bytes - s)))) (Ok y) e) [

@@ -1,4 +1,4 @@
--- The command at the front of some bytes, by the size of its record.
+-- The command at the start of some bytes, by the size of its record.
 use Rattle.std.proofs.Common.{◌≡◌, ◌≢◌, ℕ, ◌+◌, ◌<◌, ◌≤◌, Bool, true, cond, ◌&&◌, ◌||◌, eqb, leb, List, [], ◌∷◌, length, Err, inl, inr}
 use Rattle.std.proofs.Common.{sym, ap, subst, refl, ◌∙◌, arith}
 use Rattle.std.proofs.lemmas.Bool.{cases_Bool, lt-leb, leb-true, eqb-true, or_cases}
@@ -18,7 +18,7 @@ module _ (le : Endian) (bytes : List ℕ) (some : 0 < length bytes) where
   body_refused n (by_fields fields) is short = rw is (record_refused fields (omega (arith, is)))
   body_refused n by_thread is short = absurd is
 
-  -- fewer bytes than the record has are refused
+  -- bytes that are fewer than the record are refused
   pub command_refused : (n : ℕ) (row : CommandRow) → IsSizeOf n row.body → length bytes < n
       → command_by row le bytes 0 ≡ Err (too_big n (length bytes))
   command_refused n row is short = rw (body_refused n row.body is short) refl
@@ -27,7 +27,7 @@ more_held : (n len : ℕ) (body : Body) → IsHeldBy n body → n ≤ len → Is
 more_held n len (by_fields fields) held room = omega (arith, held)
 more_held n len by_thread held room = absurd held
 
--- a record of a row has at most so many bytes, or the row has a thread's number
+-- the record of a row has at most n bytes, or the row has a thread's number
 abbrev is_short : ℕ → Body → ℕ → Bool
 is_short n (by_fields fields) cmd = leb (size fields) n
 is_short n by_thread cmd = eqb 4 cmd || eqb 5 cmd

@@ -1,4 +1,4 @@
--- What commands list, command by command.
+-- The items of commands, command by command.
 use Rattle.std.proofs.Common.{◌≡◌, ℕ, ◌+◌, ◌<◌, ◌≤◌, List, [], length, map, drop, get_or, Result}
 use Rattle.std.proofs.lemmas.List.{at_drop_more, at_drop_all}
 use Rattle.mach_base.specs.Fault.{Fault}
@@ -8,7 +8,7 @@ use Rattle.mach_load.specs.declared.load_command.LoadCommand.{LoadCommand}
 use Rattle.mach_load.specs.CommandLists.{followed_by, listed_by}
 
 module _ {V : Type 0} (lists : ℕ → Command → List (Result V Fault)) (cs : List LoadCommand) where
-  -- what those from a number on list
+  -- the items of the commands from a number on
   abbrev pub lists_from : ℕ → List (Result V Fault)
   lists_from i = listed_by lists i (map command_of (drop i cs))
 

@@ -25,14 +25,14 @@ text_is_run bytes s text e =
           ]
     ]
 
--- items by the numbers behind the first
+-- items by the numbers after the first
 pub items_behind : {A : Type 0} (item : ℕ → A) (first count : ℕ) → items_from item (first + 1) count ≡ items_from (λ k. item (suc k)) first count
 items_behind item first zero = refl
 items_behind item first (suc count) =
     ap (λ (n : ℕ). item n ∷ items_from item (first + 1 + 1) count) (add-one first)
     ∙ ap (λ items. item (suc first) ∷ items) (items_behind item (first + 1) count)
 
--- what is left behind a text
+-- the remaining texts after one was read
 abbrev pub texts_behind : OptionTexts → List ℕ → OptionTexts
 texts_behind t text = record { bytes = t.bytes; place = t.place + (length text + 1); count = t.count - 1 }
 
@@ -44,7 +44,7 @@ texts_first bytes place count =
     (items_behind (λ k. option_at bytes (option_place bytes place k)) 0 count)
 
 module _ (bytes : List ℕ) (cs : List LoadCommand) where
-  -- what is left where these are the texts left of the command of a number, and the next one has another number
+  -- what is left, if these texts of command `number` remain, and then the commands from `next` on
   abbrev pub options_from : (number next : ℕ) → OptionTexts → List (Result (ℕ × List ℕ) Fault)
   options_from number next t = followed_by (numbered_options number t) (lists_from (options_of bytes) cs next)
 

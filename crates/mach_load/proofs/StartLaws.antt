@@ -1,4 +1,4 @@
--- Laws of functions' starts.
+-- Laws of function starts.
 use Rattle.std.proofs.Common.{◌≡◌, ℕ, zero, suc, ◌+◌, ◌-◌, ◌<◌, ◌≤◌, List, [], ◌∷◌, length, take, Some, Result, Ok, Err, slice_get}
 use Rattle.std.proofs.Common.{inl, inr, refl, ap, ◌∙◌, subst, arith}
 use Rattle.std.specs.List.{sum, fold}
@@ -7,7 +7,7 @@ use Rattle.mach_load.specs.FunctionStarts.{StartRange, AreStartsBehind, AreFunct
 use Rattle.mach_load.specs.StartNumbers.{AreDistances, AreSums}
 use Rattle.mach_load.proofs.StartsRead.{number_of, goes_on}
 
--- nothing stands in a list that has none
+-- an empty list has no item
 nothing_in : {A : Type 0} (xs : List A) (k : ℕ) (x : A) → xs ≡ [] → slice_get xs k ≡ Some x → ⊥
 nothing_in [] zero x none e = absurd (cc)
 nothing_in [] (suc k) x none e = absurd (cc)
@@ -55,7 +55,7 @@ module _ (bytes : List ℕ) (upto : ℕ) where
       let first : a ≡ b = ap (λ (s : ℕ × ℕ). s.0) same in
       ap (λ (x : ℕ). Ok x ∷ xs) first ∙ ap (λ (items : List (Result ℕ Fault)). Ok b ∷ items) others
 
-  -- each lies behind the address
+  -- each start is greater than the address
   above : (place address : ℕ) (items : List (Result ℕ Fault)) → Are place address items
       → (k a : ℕ) → slice_get items k ≡ Some (Ok a) → address < a
   above place address [] p k a e = absurd (nothing_in [] k (Ok a) refl e)
@@ -87,7 +87,7 @@ module _ (bytes : List ℕ) (upto : ℕ) where
       let on = (goes_on bytes place address s p.1.0 p.1.1).0 in
       omega (arith, inside, on, few p.1.0 s items p.1.2)
 
-  -- the sums of one number more
+  -- the sums with one more number
   one_more : (address n : ℕ) (ns : List ℕ) (items : List (Result ℕ Fault)) (s : ℕ) → s ≡ address + n → AreSums s ns items
       → AreSums address (n ∷ ns) (Ok s ∷ items)
   one_more address n ns items s is sums zero start e = let same : s ≡ start = cc in (omega arith, omega (arith, is, same))

@@ -14,7 +14,7 @@ use Rattle.mach_load.specs.FunctionStarts.{start_behind, function_start_at, star
 same_pair : (a b c d : ℕ) → ◌≡◌ {A = Option (ℕ × ℕ)} (Some (a, c)) (Some (b, d)) → (a ≡ b) × (c ≡ d)
 same_pair a b c d e = (ap (λ (o : Option (ℕ × ℕ)). (unwrap_or o (0, 0)).0) e, ap (λ (o : Option (ℕ × ℕ)). (unwrap_or o (0, 0)).1) e)
 
--- a number that isn't 0 stands there, and the start is its sum with the address
+-- a number other than 0 is there, and the start is the address plus this number
 pub number_of : (bytes : List ℕ) (place address start next : ℕ) → function_start_at bytes place address ≡ Ok (Some (start, next))
     → (n : ℕ) × (uleb_at bytes place ≡ Ok (n, next)) × (n ≢ 0) × (start ≡ address + n)
 unfolding function_start_at
@@ -42,7 +42,7 @@ number_of bytes place address start next e =
           ]
     ]
 
--- so it goes on, in the bytes and in memory
+-- so the place and the address grow
 pub goes_on : (bytes : List ℕ) (place address start next : ℕ) → function_start_at bytes place address ≡ Ok (Some (start, next))
     → (place < next) × (address < start)
 goes_on bytes place address start next e =
@@ -58,20 +58,20 @@ goes_on bytes place address start next e =
     )
 
 module _ (bytes : List ℕ) (upto : ℕ) where
-  -- behind the end there is none
+  -- after the end there is none
   pub starts_from-past : (most place address : ℕ) → upto ≤ place → starts_from bytes upto most place address ≡ []
   unfolding starts_from
   starts_from-past zero place address past = refl
   starts_from-past (suc most) place address past = let test : nat_le upto place ≡ true = le-leb upto place past in rw test refl
 
-  -- before it there is what the first number says
+  -- before the end they are those that the first number gives
   pub starts_from-first : (most place address : ℕ) → place < upto
       → starts_from bytes upto (suc most) place address
       ≡ start_then (function_start_at bytes place address) (λ start. starts_from bytes upto most start.1 start.0)
   unfolding starts_from
   starts_from-first most place address inside = let test : nat_le upto place ≡ false = lt-leb upto place inside in rw test refl
 
-  -- a start, and lists behind it that are the same
+  -- a start, followed by equal lists
   same_behind : (place address m n : ℕ)
       → ((k a : ℕ) → place < k → starts_from bytes upto m k a ≡ starts_from bytes upto n k a)
       → (r : Result (Option (ℕ × ℕ)) Fault) → function_start_at bytes place address ≡ r
@@ -81,7 +81,7 @@ module _ (bytes : List ℕ) (upto : ℕ) where
   same_behind place address m n same (Ok (Some start)) e =
       ap (λ (items : List (Result ℕ Fault)). Ok start.0 ∷ items) (same start.1 start.0 (goes_on bytes place address start.0 start.1 e).0)
 
-  -- how many are asked for says nothing, where they are enough
+  -- the bound does not matter if it is large enough
   pub starts_from-enough : (m n place address : ℕ) → upto - place ≤ m → upto - place ≤ n
       → starts_from bytes upto m place address ≡ starts_from bytes upto n place address
   starts_from-enough zero n place address a b =
@@ -99,7 +99,7 @@ module _ (bytes : List ℕ) (upto : ℕ) where
             ∙ (same_behind place address m n same (function_start_at bytes place address) refl ∙ sym (starts_from-first n place address inside))
       ]
 
-  -- a start, and those behind it
+  -- a start, followed by the others
   are_behind : (place address most : ℕ) → place < upto
       → ((k a : ℕ) → place < k → AreStartsBehind bytes upto k a (starts_from bytes upto most k a))
       → (r : Result (Option (ℕ × ℕ)) Fault) → function_start_at bytes place address ≡ r
@@ -158,6 +158,6 @@ module _ (bytes : List ℕ) (upto : ℕ) where
       ∙ (ap (λ (r : Result (Option (ℕ × ℕ)) Fault). start_then r (λ s. starts_from bytes upto (upto - place - 1) s.1 s.0)) e
       ∙ ap (λ (items : List (Result ℕ Fault)). Err f ∷ items) (sym (none_left upto address (omega arith))))
 
--- behind the first there are fewer
+-- after the first there are fewer
 pub fewer_behind : {A : Type 0} (x : A) (xs ys : List A) → xs ≡ x ∷ ys → length ys < length xs
 fewer_behind x xs ys e = omega (arith, ap length e)

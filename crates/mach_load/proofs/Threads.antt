@@ -1,4 +1,4 @@
--- Which commands are threads, and where there is no other.
+-- Which commands are threads, and which places have no other command.
 use Rattle.std.proofs.Common.{◌≡◌, ◌≢◌, ℕ, ◌-◌, ◌<◌, ◌≤◌, Bool, true, false, cond, not, ◌&&◌, ◌||◌, eqb, ltb, List, [], ◌∷◌, length, drop, ◌⊎◌, inl}
 use Rattle.std.proofs.Common.{inr, Result, Ok, Err, refl, sym, ap, subst, ◌∙◌, arith}
 use Rattle.std.proofs.lemmas.Bool.{cases_Bool, le-leb, lt-ltb, eqb-true, or_cases}
@@ -82,7 +82,7 @@ thread_row cmd is = elim is [
   | inr five ↦ inr (ap (λ (n : ℕ). (row_of n).kind) five)
 ]
 
--- nothing stands past the end
+-- no command lies past the end
 pub refused_outside : (le : Endian) (bytes : List ℕ) (s : ℕ) → length bytes ≤ s → IsThreadOrRefused (command_at le bytes s)
 refused_outside le bytes s out = rw (le-leb (length bytes) s out) tt
 
@@ -102,7 +102,7 @@ module _ (le : Endian) (bytes rest : List ℕ) (s : ℕ) (inside : s < length by
         rw (header_there, first) (unless_refused (ltb (length bytes - s) header.cmdsize) (command_by row le bytes s)
         (of_kind row.kind s (body_at row.body le bytes s) (thread_row header.cmd number)))
 
-    -- a command that passes the end is refused
+    -- a command that exceeds the bytes is refused
     pub refused_size : length rest < header.cmdsize → IsThreadOrRefused (command_at le bytes s)
     refused_size long =
         let test : ltb (length bytes - s) header.cmdsize ≡ true = lt-ltb (length bytes - s) header.cmdsize (omega (arith, ap length is, length-drop s bytes)) in

@@ -10,7 +10,7 @@ use Rattle.mach_load.specs.BuildTools.{ToolTable, tool_at, numbered_tools, tools
 use Rattle.mach_load.proofs.ListsRead.{lists_from, lists_end}
 
 module _ (le : Endian) (bytes : List ℕ) (cs : List LoadCommand) where
-  -- what is left where the tools from `index` on are left of the command of a number, and the next one has another number
+  -- what is left, if the tools of command `number` from `index` on remain, and then the commands from `next` on
   abbrev pub tools_from : (number next : ℕ) → ToolTable → (index : ℕ) → List (Result (ℕ × BuildToolVersion) Fault)
   tools_from number next t index =
       followed_by (numbered_tools le bytes number t index (t.count - index)) (lists_from (tools_of le bytes) cs next)

@@ -1,4 +1,4 @@
--- Which record each load command is read as: the command table (`mach-o/loader.h`).
+-- The command table: which record each load command is read as (`mach-o/loader.h`).
 use Rattle.std.specs.Prelude.{◌==◌, ℕ, List, [], ◌∷◌, if◌then◌else◌, Bool, true, false}
 use Rattle.mach_base.specs.Record.{Field}
 use Rattle.mach_records.specs.Contents.{entry_point_command_fields, fileset_entry_command_fields, ident_command_fields, note_command_fields}
@@ -14,7 +14,7 @@ use Rattle.mach_records.specs.SymbolTables.{dysymtab_command_fields, symseg_comm
 use Rattle.mach_records.specs.Umbrellas.{sub_client_command_fields, sub_framework_command_fields, sub_library_command_fields, sub_umbrella_command_fields}
 use Rattle.mach_records.specs.Versions.{build_version_command_fields, source_version_command_fields, version_min_command_fields}
 
--- what a load command is; of an unimplemented one the header alone is read
+-- the kind of a load command; of an unimplemented one only the header is read
 pub data Kind : Type 0 where
   segment32 : Kind
   symtab : Kind
@@ -77,7 +77,7 @@ pub data Body : Type 0 where
   by_fields : List Field → Body
   by_thread : Body
 
--- a command's number, what it is, and how it is read
+-- a command's number, its kind, and how it is read
 pub record CommandRow : Type 0 where
   pub cmd : ℕ
   pub kind : Kind
@@ -145,7 +145,7 @@ abbrev pub row_among : List CommandRow → ℕ → CommandRow
 row_among [] cmd = record { cmd = cmd; kind = unimplemented; body = by_fields header_fields }
 row_among (row ∷ rows) cmd = if cmd == row.cmd then row else row_among rows cmd
 
--- the row of a command, closed so that no fact holds the whole table
+-- The row of a command. It is closed, so that no fact contains the whole table.
 unfoldable pub row_of : ℕ → CommandRow
 row_of cmd = row_among command_rows cmd
 

@@ -1,5 +1,4 @@
--- Options for the linker (`mach-o/loader.h`, struct linker_option_command): texts behind the record, each behind the zero
--- byte of the one before.
+-- Options for the linker (`mach-o/loader.h`, struct linker_option_command): texts after the record, each ended by a zero byte.
 use Rattle.std.specs.Prelude.{ℕ, zero, suc, ◌+◌, List, map, length, take, Result, Ok, Err, nat_le, nat_lt, if◌then◌else◌}
 use Rattle.mach_base.specs.Answer.{◌>>=◌}
 use Rattle.mach_base.specs.Fault.{Fault, malformed}
@@ -11,18 +10,18 @@ use Rattle.mach_load.specs.Command.{Command, cmdsize_of}
 use Rattle.mach_load.specs.Commands.{Kind, linker_option}
 use Rattle.mach_load.specs.CommandLists.{with_number, listed_by}
 
--- the text at a place, which ends with a zero byte; the bytes are those up to the command's end
+-- the text at a place, which must end with a zero byte; the bytes are those before the command's end
 unfoldable pub option_at : List ℕ → ℕ → Result (List ℕ) Fault
 option_at bytes s =
     if nat_le (length bytes) s then Err malformed
     else text_at bytes s >>= (λ text. if nat_lt (s + length text) (length bytes) then Ok text else Err malformed)
 
--- where text k stands, the first of them at a place
+-- the place of text k, if text 0 is at a place
 abbrev pub option_place : List ℕ → (s k : ℕ) → ℕ
 option_place bytes s zero = s
 option_place bytes s (suc k) = option_place bytes (s + (length (run_at bytes s) + 1)) k
 
--- Texts: the bytes that they are read in, the place of the first, and how many they are.
+-- Texts: the bytes that hold them, the place of the first, and their number.
 pub record OptionTexts : Type 0 where
   pub bytes : List ℕ
   pub place : ℕ
@@ -31,12 +30,12 @@ pub record OptionTexts : Type 0 where
 abbrev pub texts_of_options : OptionTexts → List (Result (List ℕ) Fault)
 texts_of_options t = items_from (λ k. option_at t.bytes (option_place t.bytes t.place k)) 0 t.count
 
--- how many texts a command has
+-- how many texts a command claims to have
 abbrev pub option_count : Kind → List Value → ℕ
 option_count linker_option values = number_among values 2
 option_count _ values = 0
 
--- those of a command: behind its record, and within the command
+-- the texts of a command: after its record, and within the command
 abbrev pub option_texts : List ℕ → Command → OptionTexts
 option_texts bytes c =
     record {

@@ -1,4 +1,4 @@
--- Notes (`mach-o/loader.h`, struct note_command): bytes of some tool's own.
+-- Notes (`mach-o/loader.h`, struct note_command): bytes that belong to some tool.
 use Rattle.std.specs.Prelude.{◌==◌, ℕ, List, [], Option, Some, None, Result, Ok, if◌then◌else◌}
 use Rattle.std.specs.List.{filter_map}
 use Rattle.mach_base.specs.Answer.{◌>>=◌}
@@ -9,27 +9,27 @@ use Rattle.mach_base.specs.Text.{text_at}
 use Rattle.mach_load.specs.Command.{Command}
 use Rattle.mach_load.specs.Commands.{Kind, note}
 
--- A note: who wrote it, and what it is.
+-- A note: its owner and its bytes.
 pub record NoteView : Type 0 where
   pub owner : List ℕ
   pub data_bytes : List ℕ
 
--- the owner's name: the text that 16 bytes begin with
+-- the owner's name: the text with which 16 bytes begin
 abbrev pub note_owner_at : List ℕ → ℕ → Result (List ℕ) Fault
 note_owner_at bytes s = slice_at 16 bytes s >>= (λ field. text_at field 0)
 
--- the bytes of a note; of none it isn't asked where they are
+-- the bytes of a note; the place of an empty one is not tested
 abbrev pub note_bytes : List ℕ → (offset size : ℕ) → Result (List ℕ) Fault
 note_bytes bytes offset size = if size == 0 then Ok [] else slice_at size bytes offset
 
--- the note of a command at a place, whose bytes are these
+-- the note of the command at `place`
 unfoldable pub note_at : List ℕ → (place offset size : ℕ) → Result NoteView Fault
 note_at bytes place offset size = do
   owner ← note_owner_at bytes (place_after place 8)
   found ← note_bytes bytes offset size
   Ok (record { owner = owner; data_bytes = found })
 
--- the place and the size of the bytes that a command brings, if it brings any
+-- the place and the size of the bytes of a command, if it is a note
 abbrev pub note_range : Kind → List Value → Option (ℕ × ℕ)
 note_range note values = Some (number_among values 3, number_among values 4)
 note_range _ values = None
@@ -38,7 +38,7 @@ abbrev pub note_in : List ℕ → ℕ → Option (ℕ × ℕ) → Option (Result
 note_in bytes place None = None
 note_in bytes place (Some range) = Some (note_at bytes place range.0 range.1)
 
--- the note that a command brings, if it is one
+-- the note of a command, if it is one
 abbrev pub note_by : List ℕ → Command → Option (Result NoteView Fault)
 note_by bytes c = note_in bytes c.offset (note_range c.kind c.values)
 

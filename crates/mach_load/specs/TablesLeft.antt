@@ -1,4 +1,4 @@
--- What contracts see of tables, and what is left to the iterators over them.
+-- What contracts see of the tables, and what is left of the iterators over them.
 use Rattle.std.specs.Prelude.{ℕ, ◌-◌, List, map, drop, Result}
 use Rattle.std.specs.Borrow.{Bor}
 use Rattle.std.specs.Slice.Iter.{iter_rest}
@@ -29,7 +29,7 @@ use Rattle.mach_load.specs.declared.notes.NoteIterator.{NoteIterator}
 abbrev pub start_range_of : FunctionStarts → StartRange
 start_range_of s = record { bytes = s.bytes.now; from = s.start; upto = s.end }
 
--- a start, as it was answered
+-- a start, as it was returned
 abbrev pub start_read : Result ℕ Error → Result ℕ Fault
 start_read item = read_as (λ address. address) item
 
@@ -46,7 +46,7 @@ data_in_code_left it = items_from (data_in_code_item it.le it.bytes.now it.start
 
 -- ---- options
 
--- the texts of one command that are left
+-- the remaining texts of one command
 abbrev pub texts_view : Texts → OptionTexts
 texts_view t = record { bytes = t.bytes.now; place = t.place; count = t.count }
 

@@ -1,5 +1,5 @@
--- The state of a thread (`mach-o/loader.h`, struct thread_command; the registers are those of
--- `mach/i386/thread_status.h` and its like for other cpus).
+-- The state of a thread (`mach-o/loader.h`, struct thread_command). The registers are
+-- those of `mach/i386/thread_status.h` and of the corresponding headers for other CPUs.
 use Rattle.std.specs.Prelude.{◌==◌, ℕ, zero, suc, ◌+◌, ◌-◌, ◌*◌, ◌^◌, List, [], ◌∷◌, ◌++◌, map, length, drop, replicate, slice_index, Result, Ok, Err}
 use Rattle.std.specs.Prelude.{nat_lt, nat_le, if◌then◌else◌}
 use Rattle.mach_base.specs.declared.context.Endian.{Endian}
@@ -9,7 +9,7 @@ use Rattle.mach_base.specs.Number.{number}
 use Rattle.mach_base.specs.Record.{Field, num, Value, number_is, bytes_are, number_among, record_at}
 use Rattle.mach_load.specs.declared.thread.ThreadCommand.{ThreadCommand}
 
--- cmd, cmdsize, flavor and count, which stand before the words
+-- cmd, cmdsize, flavor and count, which come before the words
 abbrev pub thread_fields : List Field
 thread_fields = num 4 ∷ num 4 ∷ num 4 ∷ num 4 ∷ []
 
@@ -18,7 +18,7 @@ abbrev pub words_at : Endian → List ℕ → ℕ → ℕ → List ℕ
 words_at le bytes place zero = []
 words_at le bytes place (suc n) = words_at le bytes place n ++ number le 4 (drop (place + 4 * n) bytes) ∷ []
 
--- the seventy words that are held: those that stand from a place on, and zeros
+-- seventy words: the first `count` from a place on, and zeros
 abbrev pub state_at : Endian → List ℕ → ℕ → ℕ → List ℕ
 state_at le bytes place count = words_at le bytes place count ++ replicate (70 - count) 0
 
@@ -29,26 +29,26 @@ abbrev pub number_of : Value → ℕ
 number_of (number_is n) = n
 number_of (bytes_are bs) = 0
 
--- the words of a thread's state, which stand after cmd, cmdsize, flavor and count
+-- the words of a thread's state, which follow cmd, cmdsize, flavor and count
 abbrev pub state_words : List Value → List ℕ
 state_words values = map number_of (drop 4 values)
 
--- the state behind its head, which says how many words stand there
+-- the state that follows its head; the head says how many words there are
 abbrev pub state_behind : Endian → List ℕ → ℕ → List Value → Result (List Value) Fault
 state_behind le bytes s head =
     if nat_lt 70 (number_among head 3) then Err malformed
     else (if nat_le (s + 16 + 4 * number_among head 3) (length bytes)
     then Ok (head ++ map number_is (state_at le bytes (s + 16) (number_among head 3))) else Err malformed)
 
--- the thread command at s, or why there is none
+-- the thread command at s, or the reason why there is none
 unfoldable pub thread_at : Endian → List ℕ → ℕ → Result (List Value) Fault
 thread_at le bytes s = record_at le thread_fields bytes s >>= state_behind le bytes s
 
--- the thread command at the front of some bytes and its cmdsize, which is how wide it is
+-- the thread command at the start of some bytes, and its width, which is its cmdsize
 abbrev pub thread_front : Endian → List ℕ → Result (List Value × ℕ) Fault
 thread_front le bytes = thread_at le bytes 0 >>= λ values. Ok (values, number_among values 1)
 
--- the instruction pointer among the words of a state, by the cpu (`mach/machine.h`)
+-- the instruction pointer among the words of a state, by the CPU type (`mach/machine.h`)
 abbrev pub pointer_in : List ℕ → ℕ → Result ℕ Fault
 pointer_in words cputype =
     if cputype == 7 then Ok (slice_index words 10)

@@ -1,4 +1,4 @@
--- What a caller sees of load commands as they were read.
+-- What a caller sees of load commands that were read.
 use Rattle.std.specs.Prelude.{List}
 use Rattle.mach_base.specs.Record.{Value}
 use Rattle.mach_records.specs.Contents.{entry_point_command_values, fileset_entry_command_values, ident_command_values, note_command_values}
@@ -21,7 +21,7 @@ use Rattle.mach_load.specs.declared.variant.CommandVariant.{CommandVariant}
 use Rattle.mach_load.specs.declared.variant.CommandVariant.TheVariants as v
 use Rattle.mach_load.specs.declared.load_command.LoadCommand.{LoadCommand}
 
--- the values of the record held
+-- the values of its record
 abbrev pub variant_values : CommandVariant → List Value
 variant_values (v.Segment32 c) = segment_command32_values c
 variant_values (v.Symtab c) = symtab_command_values c
@@ -79,7 +79,7 @@ variant_values (v.DyldChainedFixups c) = linkedit_data_command_values c
 variant_values (v.FilesetEntry c) = fileset_entry_command_values c
 variant_values (v.Unimplemented c) = header_values c
 
--- what the command is
+-- its kind
 abbrev pub kind_in : CommandVariant → Kind
 kind_in (v.Segment32 c) = kind.segment32
 kind_in (v.Symtab c) = kind.symtab
@@ -137,6 +137,6 @@ kind_in (v.DyldChainedFixups c) = kind.dyld_chained_fixups
 kind_in (v.FilesetEntry c) = kind.fileset_entry
 kind_in (v.Unimplemented c) = kind.unimplemented
 
--- a load command as it was read
+-- a load command that was read
 abbrev pub command_of : LoadCommand → Command
 command_of c = record { offset = c.offset; kind = kind_in c.command; values = variant_values c.command }

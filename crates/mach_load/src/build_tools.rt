@@ -1,4 +1,4 @@
-//! The tools that an image was built with.
+//! The tools that an image was built with (`LC_BUILD_VERSION`).
 
 ghost use Rattle.std.specs.Prelude.{◌≡◌, ◌≤◌, [], map};
 ghost use Rattle.mach_base.specs.Answer.{Reads};
@@ -13,17 +13,17 @@ use mach_base::{ByteCount, Endian, Error, LE, Record, Result};
 use mach_records::{BuildToolVersion, BuildVersionCommand};
 use std::fmt;
 
-// The tools of one command, and how many of them were given.
+// The tools of one command, and how many of them were already returned.
 #[derive(Clone, Copy, Default)]
 struct Tools {
-    // The command's.
+    // The place and the size of the command.
     place: usize,
     size: usize,
     index: u32,
     count: u32,
 }
 
-// How many tools a command is said to have.
+// Returns how many tools a command claims to have.
 #[inline(always)]
 fn tool_count(command: &LoadCommand) -> u32
     ensures { let c = command_of command.now in result ≡ tool_count c.kind c.values }
@@ -35,7 +35,7 @@ fn tool_count(command: &LoadCommand) -> u32
 }
 
 impl Tools {
-    // Those of a command; none of another kind.
+    // Returns the tools of a command. A command of another kind has none.
     fn of(command: &LoadCommand) -> Self
         ensures table { tools_view result ≡ tool_table (command_of command.now) }
         ensures first { result.index ≡ 0 }
@@ -48,7 +48,7 @@ impl Tools {
         }
     }
 
-    // The next one.
+    // Reads the next tool.
     #[tactic(auto, unfolding(crate::specs::BuildTools::tool_at))]
     #[inline(always)]
     fn read(self, bytes: &[u8], le: Endian) -> Result<BuildToolVersion>
@@ -62,8 +62,8 @@ impl Tools {
     }
 }
 
-/// The tools that commands say an image was built with, in order, each with the number of its command, up to the first that
-/// doesn't lie inside its command; then the error; then nothing more.
+/// An iterator over the tools of some commands, in order, each with the number of its
+/// command. It ends at the first tool that does not lie inside its command, after that error.
 #[derive(Clone, Copy)]
 pub struct BuildToolIterator<'a, 'b> {
     bytes: &'a [u8],
@@ -71,13 +71,13 @@ pub struct BuildToolIterator<'a, 'b> {
     commands: &'b [LoadCommand],
     // The number of the next command.
     next: usize,
-    // Those of one before it, and its number.
+    // The tools of the command before it, and its number.
     tools: Tools,
     number: usize,
 }
 
 impl<'a, 'b> BuildToolIterator<'a, 'b> {
-    /// The tools of these commands (`LC_BUILD_VERSION`), which stand in these bytes.
+    /// Builds an iterator over the tools of these commands of the image `bytes`. Commands other than `LC_BUILD_VERSION` have none.
     pub fn new(bytes: &'a [u8], commands: &'b [LoadCommand], le: Endian) -> Self
         ensures { build_tools_left result ≡ build_tools_in le bytes.now (map command_of commands.now) }
     {
@@ -91,7 +91,7 @@ impl<'a, 'b> BuildToolIterator<'a, 'b> {
         }
     }
 
-    // Goes to the next command that has tools, where none is left of the last.
+    // Goes on to the next command that has tools if the current one has none left.
     fn seek(&mut self)
         ensures same { build_tools_left self.new ≡ build_tools_left self.old }
         ensures ended { self.new.tools.count ≤ self.new.tools.index → build_tools_left self.new ≡ [] }
@@ -135,14 +135,14 @@ impl<'a, 'b> Iterator for BuildToolIterator<'a, 'b> {
 impl<'a, 'b> Default for BuildToolIterator<'a, 'b> {
     ghost is_default = { λ it. build_tools_left it ≡ [] };
 
-    /// No tools.
+    /// Returns an iterator without tools.
     fn default() -> Self {
         BuildToolIterator::new(&[], &[], LE)
     }
 }
 
 impl fmt::Debug for BuildToolIterator<'_, '_> {
-    /// How far it has come; of the bytes only how many they are.
+    /// Prints how far it has come, and only the number of the bytes.
     fn fmt<W: fmt::Write>(&self, f: &mut fmt::Formatter<W>) -> fmt::Result {
         f.debug_struct("BuildToolIterator")
             .field("bytes", &ByteCount(self.bytes))

@@ -1,4 +1,4 @@
-//! Data among code.
+//! Data in code (`LC_DATA_IN_CODE`).
 
 ghost use Rattle.std.specs.Prelude.{◌≡◌, []};
 ghost use Rattle.mach_base.specs.Items.{begun_items};
@@ -10,8 +10,8 @@ use mach_base::{ByteCount, Endian, LE, Record, Result, records_begun};
 use mach_records::{DataInCodeEntry, LinkeditDataCommand};
 use std::fmt;
 
-/// The entries of a table of data among code: exactly as many items as it has room for, each the entry at its own place or
-/// the error of the read there. Where an entry lies isn't tested.
+/// An iterator over the entries of a data-in-code table. It has exactly as many items as the table has room for. Each
+/// is the entry at its own place, or the error of that read. Whether an entry's range lies in the image is not tested.
 #[derive(Clone, Copy)]
 pub struct DataInCodeIterator<'a> {
     bytes: &'a [u8],
@@ -21,7 +21,7 @@ pub struct DataInCodeIterator<'a> {
     count: u32,
 }
 
-// The entry at a place.
+// Reads the entry at a place.
 #[inline(always)]
 fn entry_at(bytes: &[u8], place: usize, le: Endian) -> Result<DataInCodeEntry>
     ensures { Reads (λ entry. entry) result (data_in_code_at le bytes.now place) }
@@ -30,7 +30,7 @@ fn entry_at(bytes: &[u8], place: usize, le: Endian) -> Result<DataInCodeEntry>
 }
 
 impl<'a> DataInCodeIterator<'a> {
-    /// The entries that a command places (`LC_DATA_IN_CODE`).
+    /// Builds an iterator over the entries of the table that `command` places (`LC_DATA_IN_CODE`).
     pub fn new(bytes: &'a [u8], command: &LinkeditDataCommand, le: Endian) -> Self
         ensures { data_in_code_left result ≡ data_in_code_in le bytes.now command.now.dataoff command.now.datasize }
     {
@@ -43,7 +43,7 @@ impl<'a> DataInCodeIterator<'a> {
         }
     }
 
-    /// Those of them that begin within the bytes. Of no entry after these a byte can be read.
+    /// Restricts it to the entries that begin within the bytes. No byte of any later entry can be read.
     pub fn begun(&self) -> Self
         ensures { data_in_code_left result ≡ begun_items (data_in_code_left self.now) }
     {
@@ -76,7 +76,7 @@ impl<'a> Iterator for DataInCodeIterator<'a> {
         Some(entry_at(self.bytes, place, self.le))
     }
 
-    /// How many items are left, exactly.
+    /// Returns the exact number of items left, as both bounds.
     fn size_hint(&self) -> (usize, Option<usize>)
         ensures lower { IsWithinCount result.0 (item_count data_in_code_left self.now) }
         ensures upper { IfSome result.1 (UpTo (item_count data_in_code_left self.now)) }
@@ -88,7 +88,7 @@ impl<'a> Iterator for DataInCodeIterator<'a> {
 }
 
 impl<'a> ExactSizeIterator for DataInCodeIterator<'a> {
-    /// How many items are left.
+    /// Returns the number of items left.
     fn len(&self) -> usize {
         self.count.saturating_sub(self.index) as usize
     }
@@ -97,7 +97,7 @@ impl<'a> ExactSizeIterator for DataInCodeIterator<'a> {
 impl<'a> Default for DataInCodeIterator<'a> {
     ghost is_default = { λ it. data_in_code_left it ≡ [] };
 
-    /// No entries.
+    /// Returns an iterator without entries.
     fn default() -> Self {
         DataInCodeIterator {
             bytes: &[],
@@ -110,7 +110,7 @@ impl<'a> Default for DataInCodeIterator<'a> {
 }
 
 impl fmt::Debug for DataInCodeIterator<'_> {
-    /// Where the entries begin, and how far it has come; of the bytes only how many they are.
+    /// Prints where the entries begin and how far it has come, and only the number of the bytes.
     fn fmt<W: fmt::Write>(&self, f: &mut fmt::Formatter<W>) -> fmt::Result {
         f.debug_struct("DataInCodeIterator")
             .field("bytes", &ByteCount(self.bytes))

@@ -1,4 +1,4 @@
-//! Where functions begin.
+//! Function starts (`LC_FUNCTION_STARTS`).
 
 ghost use Rattle.std.specs.Prelude.{◌≡◌, ◌<◌, [], Ok, IfOk, IfSome};
 ghost use Rattle.mach_base.specs.Answer.{Reads};
@@ -11,17 +11,17 @@ use mach_base::{ByteCount, Error, Result, quick_uleb, uleb};
 use mach_records::LinkeditDataCommand;
 use std::fmt;
 
-/// The numbers that say where functions begin: a range of some bytes.
+/// The numbers from which the starts of functions are computed: a range of some bytes.
 #[derive(Clone, Copy)]
 pub struct FunctionStarts<'a> {
-    // Those before the range's end.
+    // The bytes before the range's end.
     bytes: &'a [u8],
     start: usize,
     end: usize,
 }
 
 impl<'a> FunctionStarts<'a> {
-    /// The numbers that a command places (`LC_FUNCTION_STARTS`). Nothing of them is tested.
+    /// Selects the range that `command` places (`LC_FUNCTION_STARTS`). Nothing is tested.
     pub fn new(bytes: &'a [u8], command: &LinkeditDataCommand) -> Self
         ensures { start_range_of result ≡ start_range_at bytes.now command.now.dataoff command.now.datasize }
     {
@@ -34,7 +34,7 @@ impl<'a> FunctionStarts<'a> {
         }
     }
 
-    /// The addresses of the functions, in an image whose first byte has the address `base`.
+    /// Returns an iterator over the addresses of the functions, for an image whose first byte has the address `base`.
     pub fn iter(&self, base: u64) -> FunctionStartIterator<'a>
         ensures { AreFunctionStarts (start_range_of self.now) base (starts_left result) }
     {
@@ -48,7 +48,7 @@ impl<'a> FunctionStarts<'a> {
 }
 
 impl fmt::Debug for FunctionStarts<'_> {
-    /// Where the numbers stand; of the bytes only how many they are.
+    /// Prints the range, and only the number of the bytes.
     fn fmt<W: fmt::Write>(&self, f: &mut fmt::Formatter<W>) -> fmt::Result {
         f.debug_struct("FunctionStarts")
             .field("bytes", &ByteCount(self.bytes))
@@ -58,21 +58,21 @@ impl fmt::Debug for FunctionStarts<'_> {
     }
 }
 
-/// The addresses of functions, before sliding, one at a time, up to the first number with a fault; then its error; then
-/// nothing more. It is made from numbers, and these are its numbers: one of the same numbers gives the same.
+/// An iterator over the addresses of functions, before sliding. It ends at the first faulty number,
+/// after its error. Its fields determine it: one with the same fields returns the same items.
 #[derive(Clone, Copy)]
 pub struct FunctionStartIterator<'a> {
-    /// The bytes in which the numbers are read.
+    /// The bytes that hold the numbers.
     pub bytes: &'a [u8],
     /// The place of the next number.
     pub place: usize,
     /// Where the numbers end.
     pub upto: usize,
-    /// The address from which the next one counts.
+    /// The address to which the next number is added.
     pub address: u64,
 }
 
-// The number at a place, and the place after it.
+// Reads the number at a place, and returns it with the place after it.
 #[inline(always)]
 fn number_at(bytes: &[u8], place: usize) -> Result<(u64, usize)>
     ensures { Reads (λ found. found) result (uleb_at bytes.now place) }
@@ -83,7 +83,7 @@ fn number_at(bytes: &[u8], place: usize) -> Result<(u64, usize)>
     }
 }
 
-// The same, where the number is long or can't be read.
+// Does the same for a number that is long or cannot be read.
 #[inline(always)]
 fn rare_number(bytes: &[u8], place: usize) -> Result<(u64, usize)>
     ensures { Reads (λ found. found) result (uleb_at bytes.now place) }
@@ -91,7 +91,8 @@ fn rare_number(bytes: &[u8], place: usize) -> Result<(u64, usize)>
     uleb(bytes, place)
 }
 
-// The function behind an address, by the number at a place, and the place after that; none behind a 0.
+// Reads the number at `place` and returns the function that lies so far after
+// `address`, with the place after the number. Returns `None` if the number is 0.
 #[tactic(auto, unfolding(crate::specs::FunctionStarts::function_start_at))]
 #[inline(always)]
 fn start_at(bytes: &[u8], place: usize, address: u64) -> Result<Option<(u64, usize)>>
@@ -142,7 +143,7 @@ impl<'a> Iterator for FunctionStartIterator<'a> {
 impl<'a> Default for FunctionStartIterator<'a> {
     ghost is_default = { λ it. starts_left it ≡ [] };
 
-    /// No functions.
+    /// Returns an iterator without functions.
     fn default() -> Self {
         FunctionStartIterator {
             bytes: &[],
@@ -154,7 +155,7 @@ impl<'a> Default for FunctionStartIterator<'a> {
 }
 
 impl fmt::Debug for FunctionStartIterator<'_> {
-    /// How far it has come; of the bytes only how many they are.
+    /// Prints how far it has come, and only the number of the bytes.
     fn fmt<W: fmt::Write>(&self, f: &mut fmt::Formatter<W>) -> fmt::Result {
         f.debug_struct("FunctionStartIterator")
             .field("bytes", &ByteCount(self.bytes))

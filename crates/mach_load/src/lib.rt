@@ -1,7 +1,7 @@
-//! Load commands (`mach-o/loader.h`): which record each is read as, and what the record says.
+//! Load commands (`mach-o/loader.h`): which record each is read as, and what the record holds.
 //!
-//! Beside them the tables that a command holds, or whose place it gives: where functions begin, data in code, options for
-//! the linker, build tools and notes. Reading a table takes no memory.
+//! Also the tables that a command holds or places: function starts, data in code,
+//! options for the linker, build tools and notes. Reading a table allocates no memory.
 #![tactic(auto)]
 
 // Load commands, and the record of each.
@@ -9,7 +9,7 @@ mod load_command;
 mod thread;
 mod variant;
 
-// Tables that a command holds, or whose place it gives.
+// Tables that a command holds or places.
 mod build_tools;
 mod data_in_code;
 mod function_starts;

@@ -1,4 +1,4 @@
-//! Options for the linker.
+//! Options for the linker (`LC_LINKER_OPTION`).
 
 ghost use Rattle.std.specs.Prelude.{◌≡◌, ◌+◌, ◌<◌, [], length, map, IfOk};
 ghost use Rattle.mach_base.specs.Answer.{Reads};
@@ -15,7 +15,7 @@ use mach_base::{ByteCount, Error, Result, read_text};
 use mach_records::SIZEOF_LINKER_OPTION_COMMAND;
 use std::fmt;
 
-// The texts of one command that are left.
+// The remaining texts of one command.
 #[derive(Clone, Copy)]
 struct Texts<'a> {
     // The bytes before the command's end.
@@ -24,19 +24,19 @@ struct Texts<'a> {
     count: u32,
 }
 
-// How many texts a command has, and its size.
+// Returns how many texts a command claims to have.
 #[inline(always)]
 fn option_count(command: &LoadCommand) -> u32
     ensures { let c = command_of command.now in result ≡ option_count c.kind c.values }
 {
     match &command.command {
-        // The number of texts stands where other commands of this size have the place of their data.
+        // The number of texts is at the place where other commands of this size hold the place of their data.
         CommandVariant::LinkerOption(c) => c.dataoff,
         _ => 0,
     }
 }
 
-// The text at a place, which ends with a zero before the bytes end.
+// Reads the text at a place. A zero byte must end it before the bytes end.
 #[tactic(auto, unfolding(crate::specs::LinkerOptions::option_at))]
 #[inline(always)]
 fn option_at(bytes: &[u8], place: usize) -> Result<&str>
@@ -54,7 +54,7 @@ fn option_at(bytes: &[u8], place: usize) -> Result<&str>
 }
 
 impl<'a> Texts<'a> {
-    // Those of a command; none of another kind.
+    // Returns the texts of a command. A command of another kind has none.
     fn of(bytes: &'a [u8], command: &LoadCommand) -> Self
         ensures { texts_view result ≡ option_texts bytes.now (command_of command.now) }
     {
@@ -67,21 +67,21 @@ impl<'a> Texts<'a> {
     }
 }
 
-/// The options that commands have for the linker, in order, each with the number of its command, up to the first that
-/// doesn't end inside its command; then the error; then nothing more.
+/// An iterator over the linker options of some commands, in order, each with the number of its
+/// command. It ends at the first option that does not end inside its command, after that error.
 #[derive(Clone, Copy)]
 pub struct LinkerOptionIterator<'a, 'b> {
     bytes: &'a [u8],
     commands: &'b [LoadCommand],
     // The number of the next command.
     next: usize,
-    // What is left of one before it, and its number.
+    // The remaining texts of the command before it, and its number.
     texts: Texts<'a>,
     number: usize,
 }
 
 impl<'a, 'b> LinkerOptionIterator<'a, 'b> {
-    /// The options of these commands (`LC_LINKER_OPTION`), which stand in these bytes.
+    /// Builds an iterator over the options of these commands of the image `bytes`. Commands other than `LC_LINKER_OPTION` have none.
     pub fn new(bytes: &'a [u8], commands: &'b [LoadCommand]) -> Self
         ensures { options_left result ≡ linker_options_in bytes.now (map command_of commands.now) }
     {
@@ -98,7 +98,7 @@ impl<'a, 'b> LinkerOptionIterator<'a, 'b> {
         }
     }
 
-    // Goes to the next command that has texts, where none is left of the last.
+    // Goes on to the next command that has texts if the current one has none left.
     fn seek(&mut self)
         ensures same { options_left self.new ≡ options_left self.old }
         ensures ended { self.new.texts.count ≡ 0 → options_left self.new ≡ [] }
@@ -143,14 +143,14 @@ impl<'a, 'b> Iterator for LinkerOptionIterator<'a, 'b> {
 impl<'a, 'b> Default for LinkerOptionIterator<'a, 'b> {
     ghost is_default = { λ it. options_left it ≡ [] };
 
-    /// No options.
+    /// Returns an iterator without options.
     fn default() -> Self {
         LinkerOptionIterator::new(&[], &[])
     }
 }
 
 impl fmt::Debug for LinkerOptionIterator<'_, '_> {
-    /// How far it has come; of the bytes only how many they are.
+    /// Prints how far it has come, and only the number of the bytes.
     fn fmt<W: fmt::Write>(&self, f: &mut fmt::Formatter<W>) -> fmt::Result {
         f.debug_struct("LinkerOptionIterator")
             .field("bytes", &ByteCount(self.bytes))

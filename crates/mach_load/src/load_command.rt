@@ -1,4 +1,4 @@
-//! Load commands, one after the other.
+//! Reads load commands, one after another.
 
 ghost use Rattle.std.specs.Prelude.{◌≡◌, ◌+◌, Ok, IfOk, IfErr, IfSome, IfNone};
 ghost use Rattle.mach_base.specs.Answer.{Reads};
@@ -9,16 +9,16 @@ use crate::variant::{CommandVariant, record};
 use mach_base::{Endian, Error, Record, Result, TryFromCtx, rest_at};
 use mach_records::{LC_THREAD, LC_UNIXTHREAD, LoadCommandHeader};
 
-/// A load command and where it stands.
+/// A load command and its place.
 #[derive(Clone, Copy, Debug)]
 pub struct LoadCommand {
-    /// The place of its first byte, counted from byte 0.
+    /// The offset of its first byte, counted from byte 0.
     pub offset: usize,
     pub command: CommandVariant,
 }
 
 impl LoadCommand {
-    /// Reads the load command at a place and moves the place by its `cmdsize`. A refusal leaves the place.
+    /// Reads the load command at `offset` and moves the offset by its `cmdsize`. On an error the offset is unchanged.
     pub fn parse(bytes: &[u8], offset: &mut usize, le: Endian) -> Result<LoadCommand>
         ensures found { Reads command_of result (command_at le bytes.now offset.old) }
         ensures offset { IfOk result (λ c. c.offset ≡ offset.old) }
@@ -39,7 +39,7 @@ impl LoadCommand {
         })
     }
 
-    /// The same, where the command can be read and is no thread. Else None, which leaves the place.
+    /// Does the same as `parse` for a command that can be read and is no thread. Otherwise returns `None` and leaves the offset unchanged.
     #[inline(always)]
     pub fn quick(bytes: &[u8], offset: &mut usize, le: Endian) -> Option<LoadCommand>
         ensures found { IfSome result (λ c. command_at le bytes.now offset.old ≡ Ok (command_of c)) }
@@ -91,7 +91,7 @@ impl<'a> TryFromCtx<'a, Endian> for CommandVariant {
 
     ghost front = { command_front };
 
-    /// The load command at the front, which is as wide as its `cmdsize` says.
+    /// Reads the load command at the start of the bytes. Its width is its `cmdsize`.
     fn try_from_ctx(bytes: &'a [u8], le: Endian) -> Result<(Self, usize)> {
         let mut width = 0;
         let command = LoadCommand::parse(bytes, &mut width, le)?;

@@ -1,4 +1,4 @@
-//! Notes: bytes of some tool's own.
+//! Notes: bytes that belong to some tool (`LC_NOTE`).
 
 ghost use Rattle.std.specs.Prelude.{◌≡◌, ◌∷◌, [], map, option_map};
 ghost use Rattle.mach_base.specs.Answer.{Reads};
@@ -13,7 +13,7 @@ use mach_base::{ByteCount, Result, bytes_at, read_text};
 use std::fmt;
 use std::slice::Iter;
 
-/// What some tool has put into the file for itself (struct note_command).
+/// Data that a tool has added to the file (struct note_command).
 #[derive(Clone, Copy, Debug)]
 pub struct Note<'a> {
     /// The tool's name.
@@ -22,7 +22,7 @@ pub struct Note<'a> {
     pub data: &'a [u8],
 }
 
-// The place and the size of the bytes that a command brings, if it is a note.
+// Returns the place and the size of a command's bytes if it is a note.
 #[inline(always)]
 fn range_of(command: &LoadCommand) -> Option<(u64, u64)>
     ensures { let c = command_of command.now in result ≡ note_range c.kind c.values }
@@ -33,14 +33,14 @@ fn range_of(command: &LoadCommand) -> Option<(u64, u64)>
     }
 }
 
-// The owner's name in its 16 bytes.
+// Reads the owner's name from its 16 bytes.
 fn owner_at(bytes: &[u8], place: usize) -> Result<&str>
     ensures { Reads (λ text. text.now) result (note_owner_at bytes.now place) }
 {
     read_text(bytes_at(bytes, place, 16)?, 0)
 }
 
-// The bytes of a note, wherever those of an empty one are said to be.
+// Returns the bytes of a note. The place of an empty one is not tested.
 fn bytes_of(bytes: &[u8], offset: u64, size: u64) -> Result<&[u8]>
     ensures { Reads (λ found. found.now) result (note_bytes bytes.now offset size) }
 {
@@ -50,7 +50,7 @@ fn bytes_of(bytes: &[u8], offset: u64, size: u64) -> Result<&[u8]>
     bytes_at(bytes, offset as usize, size as usize)
 }
 
-// The note of a command at a place.
+// Reads the note of the command at `place`.
 #[tactic(auto, unfolding(crate::specs::Notes::note_at))]
 fn note_at(bytes: &[u8], place: usize, offset: u64, size: u64) -> Result<Note<'_>>
     ensures { Reads note_view result (defined.note_at bytes.now place offset size) }
@@ -60,7 +60,7 @@ fn note_at(bytes: &[u8], place: usize, offset: u64, size: u64) -> Result<Note<'_
     Ok(Note { owner, data })
 }
 
-/// The notes that commands bring, in order; in the place of one that can't be read its error.
+/// An iterator over the notes of some commands, in order. A note that cannot be read is an error, and the iterator goes on.
 #[derive(Clone, Drop)]
 pub struct NoteIterator<'a, 'b> {
     bytes: &'a [u8],
@@ -68,7 +68,7 @@ pub struct NoteIterator<'a, 'b> {
 }
 
 impl<'a, 'b> NoteIterator<'a, 'b> {
-    /// The notes of these commands (`LC_NOTE`), which stand in these bytes.
+    /// Builds an iterator over the notes of these commands of the image `bytes`. Commands other than `LC_NOTE` have none.
     pub fn new(bytes: &'a [u8], commands: &'b [LoadCommand]) -> Self
         ensures { notes_left result ≡ notes_of_commands bytes.now (map command_of commands.now) }
     {
@@ -105,14 +105,14 @@ impl<'a, 'b> Iterator for NoteIterator<'a, 'b> {
 impl<'a, 'b> Default for NoteIterator<'a, 'b> {
     ghost is_default = { λ it. notes_left it ≡ [] };
 
-    /// No notes.
+    /// Returns an iterator without notes.
     fn default() -> Self {
         NoteIterator::new(&[], &[])
     }
 }
 
 impl fmt::Debug for NoteIterator<'_, '_> {
-    /// How many commands are left; of the bytes only how many they are.
+    /// Prints how many commands are left, and only the number of the bytes.
     fn fmt<W: fmt::Write>(&self, f: &mut fmt::Formatter<W>) -> fmt::Result {
         f.debug_struct("NoteIterator")
             .field("bytes", &ByteCount(self.bytes))

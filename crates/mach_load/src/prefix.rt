@@ -1,8 +1,8 @@
-//! The front of some bytes.
+//! A prefix of some bytes.
 
 ghost use Rattle.std.specs.Prelude.{◌≡◌, take};
 
-/// The bytes before a place; all of them where there are no more.
+/// Returns the bytes before `end`, or all of them if there are not that many.
 #[inline(always)]
 pub fn front(bytes: &[u8], end: usize) -> &[u8]
     ensures { result.now ≡ take end bytes.now }

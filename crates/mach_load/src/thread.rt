@@ -10,20 +10,20 @@ use mach_records::cputype::{
     CPU_TYPE_X86_64,
 };
 
-/// The state of a thread: at most 70 words, those past `count` 0 (struct thread_command).
+/// The state of a thread: at most 70 words, and zeros after the first `count` (struct thread_command).
 #[derive(Clone, Copy, Debug)]
 pub struct ThreadCommand {
     pub cmd: u32,
     pub cmdsize: u32,
-    /// Which registers the words are, by the cpu.
+    /// Which registers the words are. Its meaning depends on the CPU.
     pub flavor: u32,
-    /// How many words stand in the file.
+    /// How many words are in the file.
     pub count: u32,
-    /// The registers, a word each or two.
+    /// The registers, of one or two words each.
     pub thread_state: [u32; 70],
 }
 
-// What stands before the words.
+// The fields before the words.
 #[derive(Clone, Copy, Debug)]
 struct ThreadHead {
     cmd: u32,
@@ -66,7 +66,7 @@ impl Record for ThreadHead {
     }
 }
 
-// So many words from a place on, and zeros.
+// Reads `count` words from `place` on, and fills the rest with zeros.
 fn state(bytes: &[u8], place: usize, count: usize, le: Endian) -> [u32; 70]
     requires held { count ≤ 70 }
     requires there { place + 4 * count ≤ length bytes.now }
@@ -80,7 +80,7 @@ fn state(bytes: &[u8], place: usize, count: usize, le: Endian) -> [u32; 70]
 }
 
 impl ThreadCommand {
-    /// Reads the thread command at a place.
+    /// Reads the thread command at `offset`.
     #[tactic(auto, unfolding(crate::specs::ThreadState::thread_at))]
     #[inline(never)]
     pub(crate) fn read(bytes: &[u8], offset: usize, le: Endian) -> Result<Self>
@@ -103,7 +103,7 @@ impl ThreadCommand {
         })
     }
 
-    /// The address at which the thread goes on, by the cpu; `flavor` and `count` aren't looked at.
+    /// Returns the address at which the thread continues, for the given CPU type. `flavor` and `count` are not tested.
     pub fn instruction_pointer(&self, cputype: u32) -> Result<u64>
         ensures { Reads (λ pointer. pointer) result (pointer_in self.now.thread_state cputype) }
     {
@@ -138,14 +138,14 @@ impl<'a> TryFromCtx<'a, Endian> for ThreadCommand {
 
     ghost front = { thread_front };
 
-    /// The thread command at the front, which is as wide as its `cmdsize` says.
+    /// Reads the thread command at the start of the bytes. Its width is its `cmdsize`.
     fn try_from_ctx(bytes: &'a [u8], le: Endian) -> Result<(Self, usize)> {
         let thread = ThreadCommand::read(bytes, 0, le)?;
         Ok((thread, thread.cmdsize as usize))
     }
 }
 
-// The number of two words, the low one first.
+// Joins two words to one number, the low word first.
 fn joined(low: u32, high: u32) -> u64
     ensures { result ≡ low + 2 ^ 32 * high }
 {

@@ -1,4 +1,4 @@
-//! What a load command says, by its number.
+//! The records of load commands, by the command's number.
 
 ghost use Rattle.std.specs.Prelude.{◌≡◌, ◌<◌, ◌≤◌, ◌^◌, length, Ok, Err, IfOk, IfErr, IfSome, IfNone};
 ghost use Rattle.mach_base.specs.Answer.{Reads};
@@ -34,7 +34,7 @@ use mach_records::{
     VersionMinCommand,
 };
 
-/// What a load command says, by its number.
+/// The record of a load command, by its number.
 #[derive(Clone, Copy)]
 pub enum CommandVariant {
     /// A segment of a 32-bit image.
@@ -45,7 +45,7 @@ pub enum CommandVariant {
     Symseg(SymsegCommand),
     /// The state of a thread.
     Thread(ThreadCommand),
-    /// The state of a thread with a stack, at whose instruction pointer an old image begins.
+    /// The state of a thread with a stack. An old program starts at its instruction pointer.
     Unixthread(ThreadCommand),
     /// A library at a fixed address that the image needs (obsolete).
     LoadFvmlib(FvmlibCommand),
@@ -55,7 +55,7 @@ pub enum CommandVariant {
     Ident(IdentCommand),
     /// A file at a fixed address.
     Fvmfile(FvmfileCommand),
-    /// Pages to be read ahead.
+    /// Pages to read ahead.
     Prepage(LoadCommandHeader),
     /// The symbols that the dynamic linker needs.
     Dysymtab(DysymtabCommand),
@@ -63,7 +63,7 @@ pub enum CommandVariant {
     LoadDylib(DylibCommand),
     /// The name by which the image itself is known as a library.
     IdDylib(DylibCommand),
-    /// The dynamic linker that the image asks for.
+    /// The dynamic linker that the image requires.
     LoadDylinker(DylinkerCommand),
     /// The name of the image as a dynamic linker.
     IdDylinker(DylinkerCommand),
@@ -79,7 +79,7 @@ pub enum CommandVariant {
     SubClient(SubClientCommand),
     /// A library within this umbrella.
     SubLibrary(SubLibraryCommand),
-    /// Hints for looking names up in two levels.
+    /// Hints for name lookup in a two-level namespace.
     TwolevelHints(TwolevelHintsCommand),
     /// The checksum of prebinding.
     PrebindCksum(PrebindCksumCommand),
@@ -87,37 +87,37 @@ pub enum CommandVariant {
     Segment64(SegmentCommand64),
     /// The initialization routine of a 64-bit library.
     Routines64(RoutinesCommand64),
-    /// The number that tells this image from others.
+    /// The unique number of the image.
     Uuid(UuidCommand),
-    /// Where the code signature lies.
+    /// The place of the code signature.
     CodeSignature(LinkeditDataCommand),
-    /// Where the information for splitting segments lies.
+    /// The place of the information for splitting segments.
     SegmentSplitInfo(LinkeditDataCommand),
     /// A library that is loaded at its first use.
     LazyLoadDylib(DylibCommand),
     /// The encrypted range of a 32-bit image.
     EncryptionInfo32(EncryptionInfoCommand32),
-    /// Where the information of the dynamic linker lies.
+    /// The places of the dynamic linker's information.
     DyldInfo(DyldInfoCommand),
     /// The oldest macOS that the image runs on.
     VersionMinMacosx(VersionMinCommand),
     /// The oldest iOS.
     VersionMinIphoneos(VersionMinCommand),
-    /// Where the starts of functions are listed.
+    /// The place of the function starts.
     FunctionStarts(LinkeditDataCommand),
     /// An environment variable for the dynamic linker.
     DyldEnvironment(DylinkerCommand),
-    /// Where data among code is listed.
+    /// The place of the data-in-code table.
     DataInCode(LinkeditDataCommand),
     /// The version of the sources.
     SourceVersion(SourceVersionCommand),
-    /// Where the requirements on the signatures of libraries lie.
+    /// The place of the requirements on the signatures of libraries.
     DylibCodeSignDrs(LinkeditDataCommand),
     /// The encrypted range of a 64-bit image.
     EncryptionInfo64(EncryptionInfoCommand64),
     /// Options for the linker, in an object file.
     LinkerOption(LinkeditDataCommand),
-    /// Where the hints for the linker lie.
+    /// The place of the hints for the linker.
     LinkerOptimizationHint(LinkeditDataCommand),
     /// The oldest tvOS.
     VersionMinTvos(VersionMinCommand),
@@ -125,32 +125,32 @@ pub enum CommandVariant {
     VersionMinWatchos(VersionMinCommand),
     /// Data of an arbitrary owner.
     Note(NoteCommand),
-    /// The system and the tools that the image was built for and with.
+    /// The system that the image was built for, and the tools that it was built with.
     BuildVersion(BuildVersionCommand),
     /// A library that may be missing.
     LoadWeakDylib(DylibCommand),
-    /// A path in which libraries are looked for.
+    /// A path in which libraries are searched for.
     Rpath(RpathCommand),
-    /// A library whose symbols the image hands on as its own.
+    /// A library whose symbols the image re-exports.
     ReexportDylib(DylibCommand),
-    /// The information of the dynamic linker, in an image that has no other.
+    /// The dynamic linker's information, in an image that has no other.
     DyldInfoOnly(DyldInfoCommand),
     /// A library that itself needs the image.
     LoadUpwardDylib(DylibCommand),
     /// Where the program begins.
     Main(EntryPointCommand),
-    /// Where the export trie lies.
+    /// The place of the exports trie.
     DyldExportsTrie(LinkeditDataCommand),
-    /// Where chained fixups lie.
+    /// The place of the chained fixups.
     DyldChainedFixups(LinkeditDataCommand),
-    /// An image within a set of images.
+    /// An image within a file set.
     FilesetEntry(FilesetEntryCommand),
-    /// A command of another number, of which only the header is read.
+    /// A command with another number. Only its header is read.
     Unimplemented(LoadCommandHeader),
 }
 
 impl CommandVariant {
-    // The command's number, and how many bytes lie between its offset and the next one's.
+    // Returns the command's number and its `cmdsize`.
     fn header(&self) -> (u32, u32)
         ensures number { result.0 ≡ number_among (variant_values self.now) 0 }
         ensures size { result.1 ≡ number_among (variant_values self.now) 1 }
@@ -210,14 +210,14 @@ impl CommandVariant {
         }
     }
 
-    /// The command's number, one of the `LC_` constants.
+    /// Returns the command's number, one of the `LC_` constants.
     pub fn cmd(&self) -> u32
         ensures { result ≡ number_among (variant_values self.now) 0 }
     {
         self.header().0
     }
 
-    /// How many bytes lie between this command's offset and the next one's.
+    /// Returns the distance in bytes from this command to the next one.
     pub fn cmdsize(&self) -> usize
         ensures value { result ≡ number_among (variant_values self.now) 1 }
         ensures fits { result < 2 ^ 32 }
@@ -225,7 +225,7 @@ impl CommandVariant {
         self.header().1 as usize
     }
 
-    /// Reads the record that a command's number says, at the command's place, where its header is this one.
+    /// Reads the record of the command at `offset`, whose header was already read.
     #[tactic(auto, unfolding(crate::specs::Commands::row_of))]
     pub(crate) fn read(
         bytes: &[u8],
@@ -253,8 +253,8 @@ impl CommandVariant {
         }
     }
 
-    /// The same, of a command at the front of some bytes that is no thread; or None, and how many bytes its record
-    /// has, where they are fewer.
+    /// Does the same for a command at the start of some bytes that is no thread. If
+    /// the record does not fit, returns `None` and stores its size in `lacking`.
     #[tactic(auto, unfolding(crate::specs::Commands::row_of))]
     #[inline(always)]
     pub(crate) fn quick(
@@ -331,10 +331,10 @@ impl CommandVariant {
     }
 }
 
-// The record of each command that is no thread has at most so many bytes.
+// The most bytes that the record of a command has that is no thread.
 const LONGEST_RECORD: usize = 80;
 
-// Answers how many bytes the record of a command that is no thread has, if `len` bytes are fewer.
+// Returns the size of the record of a command that is no thread, if `len` bytes are fewer.
 #[inline(always)]
 fn lacking_size(cmd: u32, len: usize) -> Option<usize>
     requires no_thread { (4 ≡ cmd → ⊥) × (5 ≡ cmd → ⊥) }
@@ -348,7 +348,7 @@ fn lacking_size(cmd: u32, len: usize) -> Option<usize>
     if len < size { Some(size) } else { None }
 }
 
-// Answers how many bytes the record of a command that is no thread has.
+// Returns the size of the record of a command that is no thread.
 #[tactic(auto, unfolding(crate::specs::Commands::row_of))]
 #[cold]
 #[inline(never)]
@@ -408,7 +408,7 @@ fn record_size(cmd: u32) -> usize
     }
 }
 
-/// The record at the front of the bytes; or None, and how many bytes it has, where they are fewer.
+/// Reads the record at the start of the bytes. If it does not fit, returns `None` and stores its size in `lacking`.
 #[inline(always)]
 pub(crate) fn record<R: Record>(rest: &[u8], le: Endian, lacking: &mut usize) -> Option<R>
     requires { 0 < length rest.now }
@@ -422,7 +422,7 @@ pub(crate) fn record<R: Record>(rest: &[u8], le: Endian, lacking: &mut usize) ->
     Some(held(rest, le))
 }
 
-// Reads the record at the front of bytes that hold it.
+// Reads the record at the start of bytes that hold it.
 #[inline(always)]
 fn held<R: Record>(rest: &[u8], le: Endian) -> R
     requires some { 0 < length rest.now }

@@ -1,9 +1,9 @@
-//! What is printed of a load command for programmers.
+//! How `Debug` prints a load command.
 
 use crate::variant::CommandVariant;
 use std::fmt;
 
-// A variant: its name, and its record in brackets.
+// Prints a variant: its name, and its record in brackets.
 fn shown<T: fmt::Debug, W: fmt::Write>(
     f: &mut fmt::Formatter<W>,
     name: &str,
@@ -13,7 +13,7 @@ fn shown<T: fmt::Debug, W: fmt::Write>(
 }
 
 impl CommandVariant {
-    // The variant.
+    // Prints the variant.
     fn show<W: fmt::Write>(&self, f: &mut fmt::Formatter<W>) -> fmt::Result {
         match self {
             CommandVariant::Segment32(c) => shown(f, "Segment32", c),
